@@ -1,0 +1,21 @@
+-- The ranges of the identifiers.
+use Rattle.std.specs.Prelude.{ℕ, ◌≤◌}
+
+-- clients are 1 to 64
+pub record IsClient (n : ℕ) : Type 0 where
+  pub some : 1 ≤ n
+  pub most : n ≤ 64
+
+-- trees are 1 to 16
+pub record IsTree (n : ℕ) : Type 0 where
+  pub some : 1 ≤ n
+  pub most : n ≤ 16
+
+-- pages are 1 and above
+abbrev pub IsPage : ℕ → Type 0
+IsPage n = 1 ≤ n
+
+-- sessions that lines name are 1 to 16
+pub record IsSession (n : ℕ) : Type 0 where
+  pub some : 1 ≤ n
+  pub most : n ≤ 16

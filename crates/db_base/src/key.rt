@@ -1,0 +1,116 @@
+ghost use Rattle.std.specs.Prelude.{◌≡◌, ℕ, ◌<◌, ◌≤◌, ◌↔◌, List, length, IfOk, IfErr, ◌⊎◌};
+ghost use Rattle.db_base.specs.Key.{IsKey, IsPayload};
+
+use crate::refusal::{Refusal, Refused};
+use std::alloc::{AllocError, Global};
+use std::marker::Model;
+
+/// The most bytes that a key has.
+pub const MAX_KEY: usize = 64;
+
+/// The most bytes that a payload has.
+pub const MAX_PAYLOAD: usize = 1024;
+
+/// The key of a record: 1 to 64 bytes, ordered as bytes.
+#[derive(Debug, Drop)]
+pub struct Key {
+    bytes: Vec<u8>,
+}
+
+impl Model for Key {
+    ghost use Rattle.std.specs.Prelude.{List, ℕ};
+    ghost use Rattle.db_base.specs.Key.{IsKey};
+
+    ghost Value = { List ℕ };
+
+    ghost view = { λ k. k.bytes.items };
+
+    ghost invariant = { λ k. IsKey k.bytes.items };
+}
+
+impl Key {
+    /// A copy of the bytes as a key.
+    pub fn new(alloc: Global, bytes: &[u8]) -> Result<Key, Refused>
+        ensures ok { IfOk result (λ k. (k ≡ bytes.now) × IsKey bytes.now) }
+        ensures empty { (result ≡ Err (Refused.Rule Refusal.EmptyKey)) ↔ (length bytes.now ≡ 0) }
+        ensures long { (result ≡ Err (Refused.Rule Refusal.LongKey)) ↔ (64 < length bytes.now) }
+        ensures only { IfErr result (λ e. (e ≡ Refused.Rule Refusal.EmptyKey) ⊎ ((e ≡ Refused.Rule Refusal.LongKey) ⊎ (e ≡ Refused.Memory))) }
+    {
+        if bytes.is_empty() {
+            return Err(Refused::Rule(Refusal::EmptyKey));
+        }
+        if bytes.len() > MAX_KEY {
+            return Err(Refused::Rule(Refusal::LongKey));
+        }
+        match bytes.to_vec(alloc) {
+            Ok(bytes) => Ok(Key { bytes }),
+            Err(_) => Err(Refused::Memory),
+        }
+    }
+
+    /// The bytes, of which there are 1 to 64.
+    pub fn as_slice(&self) -> &[u8]
+        ensures bytes { result.now ≡ self.now }
+        ensures is_key { IsKey self.now }
+    {
+        self.bytes.as_slice()
+    }
+
+    /// A copy.
+    pub fn copied(&self, alloc: Global) -> Result<Key, AllocError>
+        ensures { IfOk result (λ k. k ≡ self.now) }
+    {
+        let bytes = self.bytes.as_slice().to_vec(alloc)?;
+        Ok(Key { bytes })
+    }
+}
+
+/// The payload of a record: 0 to 1,024 bytes.
+#[derive(Debug, Drop)]
+pub struct Payload {
+    bytes: Vec<u8>,
+}
+
+impl Model for Payload {
+    ghost use Rattle.std.specs.Prelude.{List, ℕ};
+    ghost use Rattle.db_base.specs.Key.{IsPayload};
+
+    ghost Value = { List ℕ };
+
+    ghost view = { λ p. p.bytes.items };
+
+    ghost invariant = { λ p. IsPayload p.bytes.items };
+}
+
+impl Payload {
+    /// A copy of the bytes as a payload.
+    pub fn new(alloc: Global, bytes: &[u8]) -> Result<Payload, Refused>
+        ensures ok { IfOk result (λ p. (p ≡ bytes.now) × IsPayload bytes.now) }
+        ensures long { (result ≡ Err (Refused.Rule Refusal.LongPayload)) ↔ (1024 < length bytes.now) }
+        ensures only { IfErr result (λ e. (e ≡ Refused.Rule Refusal.LongPayload) ⊎ (e ≡ Refused.Memory)) }
+    {
+        if bytes.len() > MAX_PAYLOAD {
+            return Err(Refused::Rule(Refusal::LongPayload));
+        }
+        match bytes.to_vec(alloc) {
+            Ok(bytes) => Ok(Payload { bytes }),
+            Err(_) => Err(Refused::Memory),
+        }
+    }
+
+    /// The bytes, of which there are at most 1,024.
+    pub fn as_slice(&self) -> &[u8]
+        ensures bytes { result.now ≡ self.now }
+        ensures is_payload { IsPayload self.now }
+    {
+        self.bytes.as_slice()
+    }
+
+    /// A copy.
+    pub fn copied(&self, alloc: Global) -> Result<Payload, AllocError>
+        ensures { IfOk result (λ p. p ≡ self.now) }
+    {
+        let bytes = self.bytes.as_slice().to_vec(alloc)?;
+        Ok(Payload { bytes })
+    }
+}

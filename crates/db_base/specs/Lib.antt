@@ -1,3 +1,6 @@
+pub mod Change
+pub mod Cursor
 pub mod Ids
 pub mod Key
 pub mod Refusal
+pub mod Wish

@@ -2,8 +2,13 @@
 #![tactic(auto)]
 
 pub mod blob;
+pub mod change;
+pub mod cursor;
 pub mod ids;
 pub mod key;
 pub mod names;
+pub mod pair;
 pub mod refusal;
 pub mod text;
+pub mod trouble;
+pub mod wish;

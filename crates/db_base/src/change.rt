@@ -1,0 +1,85 @@
+ghost use Rattle.std.specs.Prelude.{◌≡◌, ℕ, List, Option, IfOk};
+ghost use Rattle.std.specs.Option.{option_copied};
+ghost use Rattle.db_base.specs.Change.{key_of, act, net};
+
+use crate::key::{Key, Payload};
+use std::alloc::{AllocError, Global};
+
+/// A change of one record. Changes are blind: they do not depend on a read.
+#[derive(Debug, Drop)]
+pub enum Change {
+    /// Sets the payload, whether or not the key is there.
+    Insert { key: Key, payload: Payload },
+    /// Sets the payload only where the key is there.
+    Update { key: Key, payload: Payload },
+    /// Removes the record where it is there.
+    Delete { key: Key },
+}
+
+impl Change {
+    ghost use Rattle.db_base.specs.Change.{key_of};
+
+    /// The key of the record that it changes.
+    pub fn key(&self) -> &Key
+        ensures { result.now ≡ key_of self.now }
+    {
+        match self {
+            Change::Insert { key, .. } => key,
+            Change::Update { key, .. } => key,
+            Change::Delete { key } => key,
+        }
+    }
+
+    /// A copy.
+    pub fn copied(&self, alloc: Global) -> Result<Change, AllocError>
+        ensures { IfOk result (λ c. c ≡ self.now) }
+    {
+        Ok(match self {
+            Change::Insert { key, payload } => Change::Insert {
+                key: key.copied(alloc)?,
+                payload: payload.copied(alloc)?,
+            },
+            Change::Update { key, payload } => Change::Update {
+                key: key.copied(alloc)?,
+                payload: payload.copied(alloc)?,
+            },
+            Change::Delete { key } => Change::Delete {
+                key: key.copied(alloc)?,
+            },
+        })
+    }
+}
+
+/// The payload of the change's key after it, from the payload before. Takes no memory.
+pub fn act<'a>(old: Option<&'a [u8]>, change: &'a Change) -> Option<&'a [u8]>
+    ensures { option_copied result ≡ act (option_copied old.entry) change.now }
+{
+    match change {
+        Change::Insert { payload, .. } => Some(payload.as_slice()),
+        Change::Update { payload, .. } => match old {
+            Some(_) => Some(payload.as_slice()),
+            None => None,
+        },
+        Change::Delete { .. } => None,
+    }
+}
+
+/// The one change with the effect of both in order, of two changes of one key. Takes no memory.
+pub fn net(first: Change, second: Change) -> Change
+    requires { key_of first ≡ key_of second }
+    ensures { result ≡ net first second }
+{
+    match second {
+        Change::Update { key, payload } => match first {
+            Change::Insert { .. } => Change::Insert { key, payload },
+            Change::Update { .. } => Change::Update { key, payload },
+            Change::Delete { key } => Change::Delete { key },
+        },
+        other => other,
+    }
+}
+
+/// Two changes of one key act as their net change.
+pub fn net_acts_as_both()
+    ensures { (old : Option (List ℕ)) (first second : Change) → act (act old first) second ≡ act old (net first second) }
+{}

@@ -1,0 +1,5 @@
+//! The head of a client: its epoch, its commit record, its counters and its pending entries.
+#![tactic(auto)]
+
+pub mod head;
+pub mod lists;

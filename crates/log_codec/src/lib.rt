@@ -1,0 +1,4 @@
+//! Log records: what a commit sends to the ATOMIC queue of its client and to the pending update queues.
+#![tactic(auto)]
+
+pub mod record;

@@ -1,0 +1,49 @@
+use db_base::change::Change;
+use db_base::ids::{ClientId, MsgId, TreeId};
+
+/// A record of a commit as it stands in the ATOMIC queue of its client.
+#[derive(Debug, Drop)]
+pub struct AtomicRec {
+    /// Whose commit it is.
+    pub client: ClientId,
+    /// The epoch of the client, at least 1.
+    pub epoch: u64,
+    /// The transaction within the epoch, at least 1.
+    pub txn: u64,
+    /// The place of the record within the transaction, from 1.
+    pub index: u8,
+    /// How many records the transaction has, at most 200.
+    pub count: u8,
+    /// The tree of the record's pending update queue.
+    pub tree: TreeId,
+    /// The leaf of that queue, 0 for the tree queue.
+    pub page: u64,
+    /// The number of the record in that queue, counted by client from 1.
+    pub number: u64,
+    /// What it changes.
+    pub change: Change,
+}
+
+/// A record of a commit as it stands in a pending update queue.
+#[derive(Debug, Drop)]
+pub struct PuRec {
+    /// Whose commit it is.
+    pub client: ClientId,
+    /// The epoch of the client, at least 1.
+    pub epoch: u64,
+    /// The transaction within the epoch, at least 1.
+    pub txn: u64,
+    /// The number of the record in its queue, counted by client from 1.
+    pub number: u64,
+    /// What it changes.
+    pub change: Change,
+}
+
+/// A pending update record as it was received.
+#[derive(Debug, Drop)]
+pub struct PuItem {
+    /// The message.
+    pub id: MsgId,
+    /// Its record.
+    pub rec: PuRec,
+}

@@ -1,0 +1,20 @@
+use crate::entry_log::EntryLog;
+use crate::pair_list::PairList;
+use db_base::ids::TreeId;
+
+/// What is committed, applied and left in a tree.
+#[derive(Debug, Drop)]
+pub struct Report {
+    /// The tree.
+    pub tree: TreeId,
+    /// What is committed, in the order of commit.
+    pub committed: EntryLog,
+    /// What is applied to pages, in the order of application.
+    pub order: EntryLog,
+    /// The records of its leaves, in the order of their keys.
+    pub contents: PairList,
+    /// How many heads are open with a committed entry of this tree.
+    pub heads: u64,
+    /// How many messages of its queues are not deleted.
+    pub messages: u64,
+}

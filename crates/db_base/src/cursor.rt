@@ -1,7 +1,7 @@
-ghost use Rattle.std.specs.Prelude.{◌≡◌, ℕ, List, [], OnOk, OnErr, IfErr};
+ghost use Rattle.std.specs.Prelude.{◌≡◌, ℕ, List, [], OnOk, OnErr, IfOk, IfErr};
 ghost use Rattle.std.specs.Ordering.{nat_cmp};
 ghost use Rattle.std.specs.BTreeMap.{insert_entry};
-ghost use Rattle.db_base.specs.Cursor.{number_of};
+ghost use Rattle.db_base.specs.Cursor.{number_of, SetsNumber};
 
 use crate::ids::ClientId;
 use crate::refusal::Refused;
@@ -36,6 +36,7 @@ impl Cursor {
     /// Sets a client's number. Refused for memory alone, and then nothing changes.
     pub fn set(&mut self, client: ClientId, number: u64) -> Result<(), Refused>
         ensures ok { OnOk result (self.new ≡ insert_entry nat_cmp self.old client number) }
+        ensures numbers { OnOk result (SetsNumber self.old self.new client number) }
         ensures err { OnErr result (self.new ≡ self.old) }
         ensures memory { IfErr result (λ e. e ≡ Refused.Memory) }
     {
@@ -50,5 +51,16 @@ impl Cursor {
         ensures { result ≡ number_of self.now client }
     {
         self.numbers.get(&client.get()).copied().unwrap_or(0)
+    }
+
+    /// A copy. Refused for memory alone.
+    pub fn copied(&self) -> Result<Cursor, Refused>
+        ensures ok { IfOk result (λ c. c ≡ self.now) }
+        ensures memory { IfErr result (λ e. e ≡ Refused.Memory) }
+    {
+        match self.numbers.clone() {
+            Ok(numbers) => Ok(Cursor { numbers }),
+            Err(_) => Err(Refused::Memory),
+        }
     }
 }

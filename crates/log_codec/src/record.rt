@@ -1,5 +1,8 @@
+ghost use Rattle.std.specs.Prelude.{◌≡◌, IfOk};
+
 use db_base::change::Change;
 use db_base::ids::{ClientId, MsgId, TreeId};
+use std::alloc::{AllocError, Global};
 
 /// A record of a commit as it stands in the ATOMIC queue of its client.
 #[derive(Debug, Drop)]
@@ -46,4 +49,31 @@ pub struct PuItem {
     pub id: MsgId,
     /// Its record.
     pub rec: PuRec,
+}
+
+impl PuRec {
+    /// A copy. Fails for memory alone.
+    pub fn copied(&self, alloc: Global) -> Result<PuRec, AllocError>
+        ensures { IfOk result (λ r. r ≡ self.now) }
+    {
+        Ok(PuRec {
+            client: self.client,
+            epoch: self.epoch,
+            txn: self.txn,
+            number: self.number,
+            change: self.change.copied(alloc)?,
+        })
+    }
+}
+
+impl PuItem {
+    /// A copy. Fails for memory alone.
+    pub fn copied(&self, alloc: Global) -> Result<PuItem, AllocError>
+        ensures { IfOk result (λ x. x ≡ self.now) }
+    {
+        Ok(PuItem {
+            id: self.id,
+            rec: self.rec.copied(alloc)?,
+        })
+    }
 }

@@ -1,0 +1,5 @@
+pub mod Steps
+pub mod Fields
+pub mod Exact
+pub mod Lists
+pub mod Wholes

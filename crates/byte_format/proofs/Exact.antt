@@ -1,10 +1,10 @@
 -- Each combinator of exact formats is exact.
-use Rattle.std.proofs.Common.{◌≡◌, ℕ, zero, suc, ◌+◌, ◌<◌, ◌≤◌, Bool, true, false, cond, eqb, List, [], ◌∷◌, ◌++◌, length, Option, Some, None, Result, Ok, Err, refl, sym, ap, subst, ◌∙◌, append_assoc, arith, inl, inr}
+use Rattle.std.proofs.Common.{◌≡◌, ℕ, ◌≤◌, Bool, true, false, cond, eqb, List, [], ◌∷◌, ◌++◌, length, Option, Some, None, Ok, Err, refl, sym, ap, subst, ◌∙◌, append_assoc, arith, inl, inr}
 use Rattle.std.specs.Prelude.{◌&&◌}
 use Rattle.std.proofs.lemmas.Bool.{and_parts, and_from, eqb-true, eq-eqb}
 use Rattle.std.proofs.lemmas.List.{length-append}
 use Rattle.byte_format.specs.Format.{Reading, ◌>>=◌, Format, guarded, ruled, ◌then◌, mark_at, behind, option_fits, option_spelling, option_at, only_where, seen_as}
-use Rattle.byte_format.specs.Whole.{IsBytes, IsExact}
+use Rattle.byte_format.specs.Whole.{IsExact}
 use Rattle.byte_format.proofs.Steps.{bind_ok, bind_err, ok_is, never_err, guarded_ok, guarded_err, IsBytes-along, IsBytes-behind, IsBytes-rest}
 
 pub ruled_exact : {A : Type 0} (rule : A → Bool) (f : Format A) → IsExact f → IsExact (ruled rule f)

@@ -1,13 +1,13 @@
 -- Numbers and texts are exact.
 use Rattle.std.specs.Prelude.{nat_le}
-use Rattle.std.proofs.Common.{◌≡◌, ℕ, ◌+◌, ◌^◌, ◌<◌, ◌≤◌, Bool, true, false, List, [], ◌∷◌, ◌++◌, length, take, drop, Result, Ok, Err, refl, sym, ap, subst, ◌∙◌, append_assoc, arith, inl, inr, ⊎_elim}
+use Rattle.std.proofs.Common.{◌≡◌, ℕ, ◌^◌, ◌<◌, ◌≤◌, true, List, [], ◌∷◌, ◌++◌, length, take, drop, Ok, Err, refl, sym, ap, subst, ◌∙◌, append_assoc, arith, inl, inr}
 use Rattle.std.specs.Int.{Width, w8, w16, w64, byte_len, from_be_bytes, to_be_bytes}
-use Rattle.std.proofs.lemmas.Bool.{leb-true, le-leb, and_parts, and_from}
+use Rattle.std.proofs.lemmas.Bool.{leb-true, le-leb, and_parts}
 use Rattle.std.proofs.lemmas.List.{take_at, drop_at, take-append-drop, length-append, length-take}
 use Rattle.std.proofs.lemmas.Nat.{be_bytes_2, be_bytes_8, from_be_bytes-to_be_bytes_2, from_be_bytes-to_be_bytes_8}
-use Rattle.byte_format.specs.Format.{Reading, ◌>>=◌, Format, guarded, in_range, unsigned_at, number_at, number, text_at, text}
+use Rattle.byte_format.specs.Format.{guarded, in_range, unsigned_at, number_at, number, text_at, text}
 use Rattle.byte_format.specs.Whole.{IsBytes, IsExact}
-use Rattle.byte_format.proofs.Steps.{bind_ok, bind_err, ok_is, guarded_ok, guarded_err, IsBytes-drop, IsBytes-take, IsBytes-along, IsBytes-behind}
+use Rattle.byte_format.proofs.Steps.{bind_ok, bind_err, guarded_ok, guarded_err, IsBytes-take}
 
 -- what the conversion of a width does, both ways
 pub record IsWide (w : Width) (limit : ℕ) : Type 0 where
@@ -100,3 +100,20 @@ text_exact w limit wide least most below = record {
   again = λ v rest ok. text_again w limit wide least most v rest below ok;
   within = λ bytes left fits e. omega (arith, text_within w least most bytes left e);
 }
+
+-- ---- at the widths in use
+
+pub u8_exact : (least most : ℕ) → most < 2 ^ 8 → IsExact (number w8 least most)
+u8_exact least most below = number_exact w8 (2 ^ 8) wide8 least most below
+
+pub u16_exact : (least most : ℕ) → most < 2 ^ 16 → IsExact (number w16 least most)
+u16_exact least most below = number_exact w16 (2 ^ 16) wide16 least most below
+
+pub u64_exact : (least most : ℕ) → most < 2 ^ 64 → IsExact (number w64 least most)
+u64_exact least most below = number_exact w64 (2 ^ 64) wide64 least most below
+
+pub text8_exact : (least most : ℕ) → most < 2 ^ 8 → IsExact (text w8 least most)
+text8_exact least most below = text_exact w8 (2 ^ 8) wide8 least most below
+
+pub text16_exact : (least most : ℕ) → most < 2 ^ 16 → IsExact (text w16 least most)
+text16_exact least most below = text_exact w16 (2 ^ 16) wide16 least most below

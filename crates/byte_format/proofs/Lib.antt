@@ -3,3 +3,4 @@ pub mod Fields
 pub mod Exact
 pub mod Lists
 pub mod Wholes
+pub mod Loops

@@ -1,5 +1,5 @@
 -- Lists of exact items are exact.
-use Rattle.std.proofs.Common.{◌≡◌, ℕ, zero, suc, ◌+◌, ◌<◌, ◌≤◌, Bool, true, false, cond, eqb, List, [], ◌∷◌, ◌++◌, length, Option, Some, None, Result, Ok, Err, refl, sym, ap, subst, ◌∙◌, append_assoc, arith, inl, inr}
+use Rattle.std.proofs.Common.{◌≡◌, ℕ, zero, suc, ◌<◌, ◌≤◌, Bool, true, false, cond, eqb, List, [], ◌∷◌, ◌++◌, length, Option, Some, Ok, Err, refl, sym, ap, subst, ◌∙◌, append_assoc, arith, inl, inr}
 use Rattle.std.specs.Prelude.{◌&&◌}
 use Rattle.std.proofs.lemmas.Bool.{and_parts, and_from, eqb-true}
 use Rattle.std.proofs.lemmas.List.{length-append}
@@ -134,3 +134,29 @@ list_exact may_end item before each = record {
   again = λ v rest h. list_again item each v (suc (length (list_spelling item before v ++ rest))) may_end before rest (omega (arith, length-list_spelling item before v, length-append (list_spelling item before v) rest)) h;
   within = λ bytes left fits h. list_within item each (suc (length bytes)) may_end before bytes left fits h;
 }
+
+-- ---- a list under weaker rules
+
+-- g takes what f takes, and spells it alike
+pub record IsWider {A : Type 0} (f g : Format A) : Type 0 where
+  pub fits : (x : A) → f.fits x ≡ true → g.fits x ≡ true
+  pub alike : (x : A) → f.spelling x ≡ g.spelling x
+
+pub list_fits-wider : {A : Type 0} (f g : Option A → Format A) → ((b : Option A) → IsWider (f b) (g b)) → (may_end : Bool) (before : Option A) (xs : List A) → list_fits may_end f before xs ≡ true → list_fits true g before xs ≡ true
+list_fits-wider f g wider may_end before [] h = refl
+list_fits-wider f g wider may_end before (x ∷ xs) h =
+    let p = and_parts ((f before).fits x) (list_fits true f (Some x) xs) h in
+    and_from _ _ ((wider before).fits x p.0) (list_fits-wider f g wider true (Some x) xs p.1)
+
+pub list_spelling-wider : {A : Type 0} (f g : Option A → Format A) → ((b : Option A) → IsWider (f b) (g b)) → (before : Option A) (xs : List A) → list_spelling f before xs ≡ list_spelling g before xs
+list_spelling-wider f g wider before [] = refl
+list_spelling-wider f g wider before (x ∷ xs) =
+    ap (λ (s : List ℕ). 1 ∷ s ++ list_spelling f (Some x) xs) ((wider before).alike x) ∙ ap (λ (s : List ℕ). 1 ∷ (g before).spelling x ++ s) (list_spelling-wider f g wider (Some x) xs)
+
+-- so what is read under the one is read under the other
+pub list_at-wider : {A : Type 0} (f g : Option A → Format A) → ((b : Option A) → IsExact (f b)) → ((b : Option A) → IsExact (g b)) → ((b : Option A) → IsWider (f b) (g b)) → (may_end : Bool) (before : Option A) (bytes : List ℕ) (x : List A × List ℕ)
+    → IsBytes bytes → list_at may_end f before bytes ≡ Ok x → list_at true g before bytes ≡ Ok x
+list_at-wider f g exact_f exact_g wider may_end before bytes x fits h =
+    let p = (list_exact may_end f before exact_f).takes bytes x fits h in
+    let is : bytes ≡ list_spelling g before x.0 ++ x.1 = p.1 ∙ ap (λ (s : List ℕ). s ++ x.1) (list_spelling-wider f g wider before x.0) in
+    ap (list_at true g before) is ∙ (list_exact true g before exact_g).again x.0 x.1 (list_fits-wider f g wider may_end before x.0 p.0)

@@ -1,11 +1,10 @@
 -- All of the bytes: what is read is a spelling, and a spelling is read.
-use Rattle.std.proofs.Common.{◌≡◌, ℕ, ◌≤◌, Bool, true, false, cond, eqb, IsTrue, List, [], ◌∷◌, ◌++◌, length, Result, Ok, Err, refl, sym, ap, subst, ◌∙◌, arith, inl, inr}
-use Rattle.std.specs.Prelude.{IfOk, OnOk}
+use Rattle.std.proofs.Common.{◌≡◌, ℕ, Bool, true, false, cond, eqb, List, [], ◌++◌, length, Ok, Err, refl, sym, ap, subst, ◌∙◌}
 use Rattle.std.proofs.lemmas.Bool.{eqb-true}
 use Rattle.std.proofs.lemmas.List.{append-nil, nil_from_length}
-use Rattle.byte_format.specs.Format.{Reading, ◌>>=◌, Format}
+use Rattle.byte_format.specs.Format.{Format}
 use Rattle.byte_format.specs.Whole.{whole, IsSpelling, IsBytes, IsExact}
-use Rattle.byte_format.proofs.Steps.{bind_ok, bind_err, ok_is, IsBytes-along, IsBytes-behind}
+use Rattle.byte_format.proofs.Steps.{bind_ok, ok_is}
 
 ended : {A : Type 0} (b : Bool) (x : A) (left : ℕ) (v : A) → cond b (Ok x) (Err left) ≡ Ok v → (b ≡ true) × (x ≡ v)
 ended true x left v e = (refl, cc)

@@ -1,9 +1,9 @@
 -- What a writer appends.
-use Rattle.std.specs.Prelude.{◌≡◌, ℕ, List, ◌++◌}
+use Rattle.std.specs.Prelude.{◌≡◌, ◌≤◌, ℕ, List, ◌++◌}
 use Rattle.std.specs.Global.{Vec}
 use Rattle.std.specs.Vec.{vec_capacity}
 
--- bytes are appended in the room that was there
+-- bytes are appended, and the room is no less than it was
 pub record Adds (old new : Vec ℕ) (bytes : List ℕ) : Type 0 where
   pub items : new.items ≡ old.items ++ bytes
-  pub capacity : vec_capacity new ≡ vec_capacity old
+  pub capacity : vec_capacity old ≤ vec_capacity new

@@ -1,6 +1,6 @@
 -- Formats of bytes: which values fit, the one spelling of each, and how a spelling is read from the front of bytes.
 -- A codec's specification is a table of these combinators, in the order of its fields.
-use Rattle.std.specs.Prelude.{ℕ, zero, suc, Bool, true, false, not, ◌&&◌, List, [], ◌∷◌, ◌++◌, length, take, drop, Option, Some, None, Result, Ok, Err, nat_lt, nat_le, ◌==◌, if◌then◌else◌}
+use Rattle.std.specs.Prelude.{ℕ, zero, suc, Bool, true, false, ◌&&◌, List, [], ◌∷◌, ◌++◌, length, take, drop, Option, Some, None, Result, Ok, Err, nat_le, ◌==◌, if◌then◌else◌}
 use Rattle.std.specs.Int.{Width, byte_len, to_be_bytes, from_be_bytes}
 
 -- what a step read and the bytes behind it, or how many bytes were left where the failing field begins
@@ -26,6 +26,10 @@ abbrev pub in_range : ℕ → ℕ → ℕ → Bool
 in_range least most n = nat_le least n && nat_le n most
 
 -- ---- numbers, most significant byte first
+
+-- the greatest number of 64 bits
+abbrev pub greatest : ℕ
+greatest = 18446744073709551615
 
 abbrev pub unsigned_at : Width → List ℕ → Reading ℕ
 unsigned_at w bytes = guarded (nat_le (byte_len w) (length bytes)) bytes (from_be_bytes w (take (byte_len w) bytes), drop (byte_len w) bytes)

@@ -1,6 +1,6 @@
 -- The order of bytes, as std's: the first byte that differs decides, and a front of a list stands before the list.
-use Rattle.std.specs.Prelude.{ℕ, Bool, true, false, not, List, Option, Some, None}
-use Rattle.std.specs.Ordering.{nat_cmp, is_lt, is_eq}
+use Rattle.std.specs.Prelude.{ℕ, Bool, true, List, Option, Some, None}
+use Rattle.std.specs.Ordering.{nat_cmp, is_lt}
 use Rattle.std.specs.Cmp.Lexicographic.{slice_cmp}
 
 abbrev pub bytes_below : List ℕ → List ℕ → Bool

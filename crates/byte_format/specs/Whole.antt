@@ -1,5 +1,5 @@
 -- All of the bytes as one spelling, and what makes a format exact.
-use Rattle.std.specs.Prelude.{◌≡◌, ℕ, ◌-◌, ◌<◌, ◌≤◌, Bool, true, IsTrue, List, ◌++◌, length, slice_index, Result, Ok, Err, ◌==◌, if◌then◌else◌}
+use Rattle.std.specs.Prelude.{◌≡◌, ℕ, ◌-◌, ◌<◌, ◌≤◌, true, IsTrue, List, ◌++◌, length, slice_index, Result, Ok, Err, ◌==◌, if◌then◌else◌}
 use Rattle.byte_format.specs.Format.{◌>>=◌, Format}
 
 -- the value of the bytes where nothing follows it, or the bytes left at the first field that fails

@@ -4,10 +4,19 @@
 mod list;
 mod mark;
 mod number;
+mod order;
+mod owned;
+mod spare;
 mod stop;
 mod text;
+mod writing;
 
+pub use list::{Rules, skip_list};
 pub use mark::{mark_at, more_at};
 pub use number::{u8_at, u16_at, u64_at};
+pub use order::{is_below, is_below_bound};
+pub use owned::{OwnedRules, owned_list};
+pub use spare::{add, add_text8, add_text16, add_u8, add_u16, add_u64};
 pub use stop::{ReadFault, Stop};
 pub use text::{text8_at, text16_at};
+pub use writing::{try_add, try_add_text8, try_add_text16, try_add_u8, try_add_u16, try_add_u64};

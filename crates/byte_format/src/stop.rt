@@ -1,6 +1,6 @@
 //! Where reading stopped.
 
-ghost use Rattle.std.specs.Prelude.{◌≡◌};
+ghost use Rattle.std.specs.Prelude.{◌≡◌, ◌-◌, length};
 ghost use Rattle.byte_format.specs.declared.stop.ReadFault.TheVariants.{Stopped, Memory};
 
 use std::alloc::{AllocError, AllocFailed};
@@ -10,6 +10,22 @@ use std::alloc::{AllocError, AllocFailed};
 pub struct Stop {
     /// How many bytes are left from the first byte of that field on.
     pub left: usize,
+}
+
+impl Stop {
+    /// At the field that begins where `bytes` do.
+    pub fn at(bytes: &[u8]) -> Stop
+        ensures { result.left ≡ length bytes.now }
+    {
+        Stop { left: bytes.len() }
+    }
+
+    /// The place of the field in the whole of the bytes that were read.
+    pub fn offset(self, bytes: &[u8]) -> u64
+        ensures { result ≡ length bytes.now - self.left }
+    {
+        bytes.len().saturating_sub(self.left) as u64
+    }
 }
 
 /// Why bytes were not read into memory of their own.

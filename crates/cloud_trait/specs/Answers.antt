@@ -1,0 +1,37 @@
+-- What the results of the calls answer.
+use Rattle.std.specs.Prelude.{Result, Ok, Err}
+use Rattle.cloud_trait.specs.declared.fault.CloudFault.{CloudFault}
+use Rattle.cloud_trait.specs.declared.fault.CloudFault.TheVariants as cloud
+use Rattle.cloud_trait.specs.declared.fault.HeldFault.{HeldFault}
+use Rattle.cloud_trait.specs.declared.fault.HeldFault.TheVariants as held
+use Rattle.cloud_trait.specs.declared.grant.Grant.{Grant}
+use Rattle.cloud_trait.specs.declared.grant.Grant.TheVariants as grant
+use Rattle.cloud_trait.specs.declared.answer.Answer.{Answer}
+use Rattle.cloud_trait.specs.declared.answer.Answer.TheVariants as answer
+use Rattle.cloud_trait.specs.Claim.{Claim}
+
+-- the answer that a result is, by what its value answers
+abbrev pub answer_of : {A : Type 0} → (A → Answer) → Result A CloudFault → Answer
+answer_of f (Ok x) = f x
+answer_of f (Err cloud.Failed) = answer.Failed
+answer_of f (Err cloud.Memory) = answer.Memory
+
+-- the same of a call under a lease
+abbrev pub held_answer_of : {A : Type 0} → (A → Answer) → Result A HeldFault → Answer
+held_answer_of f (Ok x) = f x
+held_answer_of f (Err held.Failed) = answer.Failed
+held_answer_of f (Err (held.Late e n)) = answer.Late e n
+held_answer_of f (Err held.Memory) = answer.Memory
+
+-- nothing but that it was done
+abbrev pub done_by : {A : Type 0} → A → Answer
+done_by x = answer.Done
+
+-- what a grant answers
+abbrev pub granted_by : Grant → Answer
+granted_by (grant.Given l) = answer.Given l
+granted_by (grant.Held until) = answer.Held until
+
+-- what a renewal answers that left the lease so
+abbrev pub renewed_by : {A : Type 0} → Claim → A → Answer
+renewed_by l x = answer.Renewed l.end

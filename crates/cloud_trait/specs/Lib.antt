@@ -1,0 +1,10 @@
+pub mod Answers
+pub mod Ask
+pub mod Bench
+pub mod Call
+pub mod Caller
+pub mod Claim
+pub mod Delivery
+pub mod Names
+pub mod State
+pub mod Weather

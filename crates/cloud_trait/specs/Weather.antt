@@ -1,0 +1,94 @@
+-- What each service call may answer, and what it leaves: one table.
+use Rattle.std.specs.Prelude.{ℕ, ◌≡◌, ◌+◌, ◌≤◌, ◌<◌, ◌⊎◌, length, Option, Some, All, IsSomeAnd}
+use Rattle.cloud_trait.specs.declared.answer.Answer.{Answer}
+use Rattle.cloud_trait.specs.declared.answer.Answer.TheVariants.{Got, Sent, Received, Done, Given, Held, Renewed, Late, Failed, Memory}
+use Rattle.cloud_trait.specs.Caller.{Caller}
+use Rattle.cloud_trait.specs.Claim.{Claim, Lasts, IsOver, extended}
+use Rattle.cloud_trait.specs.State.{CloudState, Counts, newest, version_at, called, end_after, lease_given}
+use Rattle.cloud_trait.specs.Delivery.{WasSent, IsDelivering}
+use Rattle.cloud_trait.specs.Ask.{Ask, Get, GetHeld, PutHeld, Send, Receive, Delete, Take, Renew, Release, Lands}
+
+-- a count rose
+abbrev pub Rose : ℕ → ℕ → Type 0
+Rose before after = before < after
+
+-- no count falls
+pub record Rises (c d : Counts) : Type 0 where
+  pub faults : c.faults ≤ d.faults
+  pub withheld : c.withheld ≤ d.withheld
+  pub stale : c.stale ≤ d.stale
+  pub dark : c.dark ≤ d.dark
+
+-- the first lease that is over has this end
+abbrev pub FirstOver : ℕ → Claim → Option Claim → ℕ → Type 0
+FirstOver now one two end =
+    (IsOver now one × (end ≡ one.end)) ⊎ (Lasts now one × IsSomeAnd two (λ l. IsOver now l × (end ≡ l.end)))
+
+-- what a call may answer and leave, from the state that differs from the one before in the clock, the
+-- newest call and the wish alone
+abbrev pub Weather : Caller → Ask → Answer → Counts → Counts → CloudState → CloudState → Type 0
+Weather who ask Failed c d b t = (t ≡ b) ⊎ Lands who ask b t
+Weather who ask Memory c d b t = t ≡ b
+Weather who (Get name) (Got v) c d b t =
+    (t ≡ b) × ((k : ℕ) × (v ≡ version_at (b.versions name) k)) × ((v ≡ newest b name) ⊎ Rose c.stale d.stale)
+Weather who (GetHeld name l) (Got v) c d b t = (t ≡ b) × Lasts b.now l × (v ≡ newest b name)
+Weather who (GetHeld name l) (Late e n) c d b t = (t ≡ b) × IsOver b.now l × (e ≡ l.end) × (n ≡ b.now)
+Weather who (PutHeld name bytes one two) Done c d b t = Lands who (PutHeld name bytes one two) b t
+Weather who (PutHeld name bytes one two) (Late e n) c d b t = (t ≡ b) × FirstOver b.now one two e × (n ≡ b.now)
+Weather who (Send queue bytes) (Sent id) c d b t = Lands who (Send queue bytes) b t × (id ≡ length (b.messages queue) + 1)
+Weather who (Receive queue most) (Received ms) c d b t =
+    (t ≡ b) × All (WasSent (b.messages queue)) ms × (IsDelivering (b.messages queue) most ms ⊎ Rose c.withheld d.withheld)
+Weather who (Delete queue id) Done c d b t = Lands who (Delete queue id) b t
+Weather who (Take lock ticks) (Given l) c d b t = Lands who (Take lock ticks) b t × (l ≡ lease_given lock ticks b)
+Weather who (Take lock ticks) (Held until) c d b t =
+    (t ≡ b) × (((until ≡ (b.locks lock).until) × (b.now < until)) ⊎ Rose c.withheld d.withheld)
+Weather who (Renew l ticks) (Renewed e) c d b t = Lands who (Renew l ticks) b t × (e ≡ end_after b.now ticks)
+Weather who (Renew l ticks) (Late e n) c d b t = (t ≡ b) × IsOver b.now l × (e ≡ l.end) × (n ≡ b.now)
+Weather who (Release l) Done c d b t = Lands who (Release l) b t
+Weather who ask answer c d b t = ⊥
+
+-- what holds of an answer also over a cloud that tells no state
+abbrev pub Fits : Ask → Answer → Type 0
+Fits ask Failed = Unit {0}
+Fits ask Memory = Unit {0}
+Fits (Get name) (Got v) = Unit {0}
+Fits (GetHeld name l) (Got v) = Unit {0}
+Fits (GetHeld name l) (Late e n) = IsOver n l × (e ≡ l.end)
+Fits (PutHeld name bytes one two) Done = Unit {0}
+Fits (PutHeld name bytes one two) (Late e n) = FirstOver n one two e
+Fits (Send queue bytes) (Sent id) = Unit {0}
+Fits (Receive queue most) (Received ms) = length ms ≤ most
+Fits (Delete queue id) Done = Unit {0}
+Fits (Take lock ticks) (Given l) = l.lock ≡ lock
+Fits (Take lock ticks) (Held until) = Unit {0}
+Fits (Renew l ticks) (Renewed e) = Unit {0}
+Fits (Renew l ticks) (Late e n) = IsOver n l × (e ≡ l.end)
+Fits (Release l) Done = Unit {0}
+Fits ask answer = ⊥
+
+-- what a call leaves of a told state: the clock does not fall, and the table's row holds
+pub record Leaves (who : Caller) (ask : Ask) (answer : Answer) (c d : Counts) (s : CloudState) (new : Option CloudState) : Type 0 where
+  pub after : CloudState
+  pub told : new ≡ Some after
+  pub later : s.now ≤ after.now
+  pub row : Weather who ask answer c d (called who after.now s) after
+
+-- what one service call is, by what it asked and answered
+pub record Makes (who : Caller) (ask : Ask) (answer : Answer) (c d : Counts) (old new : Option CloudState) : Type 0 where
+  pub fits : Fits ask answer
+  pub counts : Rises c d
+  pub dark : d.dark ≡ c.dark
+  pub failed : answer ≡ Failed → Rose c.faults d.faults
+  pub state : (s : CloudState) → old ≡ Some s → Leaves who ask answer c d s new
+
+-- what a failed renewal leaves of a told state and of the lease: both as they were, or both renewed
+abbrev pub RenewsBoth : Caller → ℕ → Claim → Claim → CloudState → CloudState → Type 0
+RenewsBoth who ticks l m b t =
+    ((t ≡ b) × (m ≡ l)) ⊎ (Lands who (Renew l ticks) b t × (m ≡ extended l (end_after b.now ticks)))
+
+-- what a renewal leaves of the lease
+abbrev pub RenewsLease : Caller → ℕ → Claim → Claim → Answer → Option CloudState → Option CloudState → Type 0
+RenewsLease who ticks l m (Renewed e) old new = m ≡ extended l e
+RenewsLease who ticks l m Failed old new =
+    (m ≡ extended l m.end) × ((s t : CloudState) → old ≡ Some s → new ≡ Some t → RenewsBoth who ticks l m (called who t.now s) t)
+RenewsLease who ticks l m answer old new = m ≡ l

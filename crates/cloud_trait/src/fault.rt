@@ -1,0 +1,31 @@
+use thiserror::Error;
+
+/// Why a call did not answer.
+#[derive(Clone, Copy, Debug, PartialEq, Eq, Error)]
+pub enum CloudFault {
+    /// The call failed. Its effect may have landed.
+    #[error("the call failed")]
+    Failed,
+    /// Memory ran out. Nothing landed.
+    #[error("memory ran out")]
+    Memory,
+}
+
+/// Why a call under a lease did not answer.
+#[derive(Clone, Copy, Debug, PartialEq, Eq, Error)]
+pub enum HeldFault {
+    /// The call failed. Its effect may have landed.
+    #[error("the call failed")]
+    Failed,
+    /// A named lease was over: its end and the clock, in ticks. Nothing landed.
+    #[error("the lease ended at {end} and it is {now}")]
+    Late {
+        /// The end of the lease.
+        end: u64,
+        /// The clock.
+        now: u64,
+    },
+    /// Memory ran out. Nothing landed.
+    #[error("memory ran out")]
+    Memory,
+}

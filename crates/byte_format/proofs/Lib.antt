@@ -4,3 +4,5 @@ pub mod Exact
 pub mod Lists
 pub mod Wholes
 pub mod Loops
+pub mod Plain
+pub mod OrderLemmas

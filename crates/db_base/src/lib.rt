@@ -9,6 +9,8 @@ pub mod key;
 pub mod names;
 pub mod pair;
 pub mod refusal;
+#[cfg(test)]
+mod tests;
 pub mod text;
 pub mod trouble;
 pub mod wish;

@@ -1,0 +1,12 @@
+//! Where bytes come from and go to: a source and a sink, in memory and over std's reader and writer.
+#![tactic(auto)]
+
+pub mod fault;
+pub mod memory_sink;
+pub mod memory_source;
+pub mod sink;
+pub mod source;
+pub mod std_sink;
+pub mod std_source;
+#[cfg(test)]
+mod tests;

@@ -17,7 +17,7 @@ pub enum Change {
 }
 
 impl Change {
-    ghost use Rattle.db_base.specs.Change.{key_of};
+    ghost use Rattle.db_base.specs.Change.{key_of, net};
 
     /// The key of the record that it changes.
     pub fn key(&self) -> &Key
@@ -27,6 +27,21 @@ impl Change {
             Change::Insert { key, .. } => key,
             Change::Update { key, .. } => key,
             Change::Delete { key } => key,
+        }
+    }
+
+    /// The one change with the effect of an earlier change of the same key and then this one. Takes no memory.
+    pub fn after(self, first: &Change) -> Change
+        requires { key_of first.now ≡ key_of self }
+        ensures { result ≡ net first.now self }
+    {
+        match self {
+            Change::Update { key, payload } => match first {
+                Change::Insert { .. } => Change::Insert { key, payload },
+                Change::Update { .. } => Change::Update { key, payload },
+                Change::Delete { .. } => Change::Delete { key },
+            },
+            other => other,
         }
     }
 
@@ -69,14 +84,7 @@ pub fn net(first: Change, second: Change) -> Change
     requires { key_of first ≡ key_of second }
     ensures { result ≡ net first second }
 {
-    match second {
-        Change::Update { key, payload } => match first {
-            Change::Insert { .. } => Change::Insert { key, payload },
-            Change::Update { .. } => Change::Update { key, payload },
-            Change::Delete { key } => Change::Delete { key },
-        },
-        other => other,
-    }
+    second.after(&first)
 }
 
 /// Two changes of one key act as their net change.

@@ -1,0 +1,4 @@
+pub mod Numerals
+pub mod Hexadecimal
+pub mod Splitting
+pub mod Shapes

@@ -1,0 +1,10 @@
+use Rattle.std.proofs.Common.{rules, tests}
+use Rattle.std.proofs.lemmas.Iterator.{YieldsList-from_slice}
+use Rattle.std.proofs.lemmas.Iterator.Search.{all_from_yields_List}
+use Rattle.words.specs.Word.{is_lower_digit}
+use Rattle.words.proofs.bytes.are_lower_digits.Goals as goal
+
+pub returns : goal.returns
+returns c =
+    let xs = c.args.word.now in
+    all_from_yields_List is_lower_digit _ _ _ c.all.ensures.ran (YieldsList-from_slice xs cc) (λ x b q k. search (rules, tests))

@@ -10,18 +10,26 @@ use Rattle.cloud_trait.specs.declared.answer.Answer.{Answer}
 use Rattle.cloud_trait.specs.declared.answer.Answer.TheVariants as answer
 use Rattle.cloud_trait.specs.Claim.{Claim}
 
+-- the answer that a fault is
+abbrev pub fault_answer : CloudFault → Answer
+fault_answer cloud.Failed = answer.Failed
+fault_answer cloud.Memory = answer.Memory
+
+-- the same of a call under a lease
+abbrev pub held_fault_answer : HeldFault → Answer
+held_fault_answer held.Failed = answer.Failed
+held_fault_answer (held.Late e n) = answer.Late e n
+held_fault_answer held.Memory = answer.Memory
+
 -- the answer that a result is, by what its value answers
 abbrev pub answer_of : {A : Type 0} → (A → Answer) → Result A CloudFault → Answer
 answer_of f (Ok x) = f x
-answer_of f (Err cloud.Failed) = answer.Failed
-answer_of f (Err cloud.Memory) = answer.Memory
+answer_of f (Err e) = fault_answer e
 
 -- the same of a call under a lease
 abbrev pub held_answer_of : {A : Type 0} → (A → Answer) → Result A HeldFault → Answer
 held_answer_of f (Ok x) = f x
-held_answer_of f (Err held.Failed) = answer.Failed
-held_answer_of f (Err (held.Late e n)) = answer.Late e n
-held_answer_of f (Err held.Memory) = answer.Memory
+held_answer_of f (Err e) = held_fault_answer e
 
 -- nothing but that it was done
 abbrev pub done_by : {A : Type 0} → A → Answer

@@ -46,3 +46,27 @@ Permits (Release l) s = Unit {0}
 -- the call landed
 abbrev pub Lands : Caller → Ask → CloudState → CloudState → Type 0
 Lands who ask b t = (t ≡ effect who ask b) × Permits ask b
+
+-- the call moves no lock
+abbrev pub MovesNoLock : Ask → Type 0
+MovesNoLock (Take lock ticks) = ⊥
+MovesNoLock (Renew l ticks) = ⊥
+MovesNoLock (Release l) = ⊥
+MovesNoLock ask = Unit {0}
+
+-- the call puts no version
+abbrev pub PutsNothing : Ask → Type 0
+PutsNothing (PutHeld name bytes one two) = ⊥
+PutsNothing ask = Unit {0}
+
+-- the call touches no message
+abbrev pub TouchesNoMessage : Ask → Type 0
+TouchesNoMessage (Send queue bytes) = ⊥
+TouchesNoMessage (Delete queue id) = ⊥
+TouchesNoMessage ask = Unit {0}
+
+-- the call leaves no row in the trace
+abbrev pub LandsNoRow : Ask → Type 0
+LandsNoRow (PutHeld name bytes one two) = ⊥
+LandsNoRow (Send queue bytes) = ⊥
+LandsNoRow ask = Unit {0}

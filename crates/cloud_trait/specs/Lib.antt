@@ -5,6 +5,10 @@ pub mod Call
 pub mod Caller
 pub mod Claim
 pub mod Delivery
+pub mod Growth
+pub mod Machine
 pub mod Names
 pub mod State
+pub mod Upto
+pub mod Views
 pub mod Weather

@@ -1,7 +1,11 @@
+ghost use Rattle.std.specs.Prelude.{◌≡◌};
+
 use crate::lease::Lease;
 use crate::message::MessageList;
 use db_base::blob::Blob;
 use db_base::ids::MsgId;
+use db_base::names::Lock;
+use db_base::trouble::Trouble;
 
 /// What a service call answered, whatever the call.
 #[derive(Debug, Drop)]
@@ -31,4 +35,80 @@ pub enum Answer {
     Failed,
     /// Memory ran out. Nothing landed.
     Memory,
+}
+
+impl Answer {
+    ghost use Rattle.cloud_trait.specs.Views.{trouble_of, got_of, sent_of, received_of, done_of, given_of, renewed_of};
+
+    /// The trouble of an answer that brought no value.
+    pub fn trouble(self) -> Trouble
+        ensures { result ≡ trouble_of self }
+    {
+        match self {
+            Answer::Late { end, now } => Trouble::Late { end, now },
+            Answer::Memory => Trouble::Memory,
+            _ => Trouble::Failed,
+        }
+    }
+
+    /// The bytes of a get, or the trouble.
+    pub fn got(self) -> Result<Option<Blob>, Trouble>
+        ensures { result ≡ got_of self }
+    {
+        match self {
+            Answer::Got(bytes) => Ok(bytes),
+            other => Err(other.trouble()),
+        }
+    }
+
+    /// The sent message, or the trouble.
+    pub fn sent(self) -> Result<MsgId, Trouble>
+        ensures { result ≡ sent_of self }
+    {
+        match self {
+            Answer::Sent(id) => Ok(id),
+            other => Err(other.trouble()),
+        }
+    }
+
+    /// The messages of a receive, or the trouble.
+    pub fn received(self) -> Result<MessageList, Trouble>
+        ensures { result ≡ received_of self }
+    {
+        match self {
+            Answer::Received(messages) => Ok(messages),
+            other => Err(other.trouble()),
+        }
+    }
+
+    /// That a put, a deletion or a release was done, or the trouble.
+    pub fn done(self) -> Result<(), Trouble>
+        ensures { result ≡ done_of self }
+    {
+        match self {
+            Answer::Done => Ok(()),
+            other => Err(other.trouble()),
+        }
+    }
+
+    /// The lease of a take of this lock, or the trouble: Busy where it is held.
+    pub fn given(self, lock: Lock) -> Result<Lease, Trouble>
+        ensures { result ≡ given_of lock self }
+    {
+        match self {
+            Answer::Given(lease) => Ok(lease),
+            Answer::Held(until) => Err(Trouble::Busy { lock, until }),
+            other => Err(other.trouble()),
+        }
+    }
+
+    /// The new end of a lease, or the trouble.
+    pub fn renewed(self) -> Result<u64, Trouble>
+        ensures { result ≡ renewed_of self }
+    {
+        match self {
+            Answer::Renewed(end) => Ok(end),
+            other => Err(other.trouble()),
+        }
+    }
 }

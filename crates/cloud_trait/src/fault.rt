@@ -1,3 +1,6 @@
+ghost use Rattle.std.specs.Prelude.{◌≡◌};
+
+use crate::answer::Answer;
 use thiserror::Error;
 
 /// Why a call did not answer.
@@ -9,6 +12,20 @@ pub enum CloudFault {
     /// Memory ran out. Nothing landed.
     #[error("memory ran out")]
     Memory,
+}
+
+impl CloudFault {
+    ghost use Rattle.cloud_trait.specs.Answers.{fault_answer};
+
+    /// The answer that the fault is.
+    pub fn answer(self) -> Answer
+        ensures { result ≡ fault_answer self }
+    {
+        match self {
+            CloudFault::Failed => Answer::Failed,
+            CloudFault::Memory => Answer::Memory,
+        }
+    }
 }
 
 /// Why a call under a lease did not answer.
@@ -28,4 +45,19 @@ pub enum HeldFault {
     /// Memory ran out. Nothing landed.
     #[error("memory ran out")]
     Memory,
+}
+
+impl HeldFault {
+    ghost use Rattle.cloud_trait.specs.Answers.{held_fault_answer};
+
+    /// The answer that the fault is.
+    pub fn answer(self) -> Answer
+        ensures { result ≡ held_fault_answer self }
+    {
+        match self {
+            HeldFault::Failed => Answer::Failed,
+            HeldFault::Late { end, now } => Answer::Late { end, now },
+            HeldFault::Memory => Answer::Memory,
+        }
+    }
 }

@@ -6,7 +6,6 @@ ghost use Rattle.cloud_trait.specs.Weather.{Makes, RenewsLease};
 use crate::answer::Answer;
 use crate::call::Call;
 use crate::cloud::Cloud;
-use crate::fault::{CloudFault, HeldFault};
 use crate::grant::Grant;
 use crate::lease::Lease;
 use crate::message::MessageList;
@@ -20,43 +19,34 @@ pub fn perform<C: Cloud>(cloud: &mut C, who: Who, call: &Call<'_>) -> Answer
     match call {
         Call::Get(name) => match cloud.get(who, *name) {
             Ok(bytes) => Answer::Got(bytes),
-            Err(CloudFault::Failed) => Answer::Failed,
-            Err(CloudFault::Memory) => Answer::Memory,
+            Err(fault) => fault.answer(),
         },
         Call::GetHeld(name, lease) => match cloud.get_held(who, *name, lease) {
             Ok(bytes) => Answer::Got(bytes),
-            Err(HeldFault::Failed) => Answer::Failed,
-            Err(HeldFault::Late { end, now }) => Answer::Late { end, now },
-            Err(HeldFault::Memory) => Answer::Memory,
+            Err(fault) => fault.answer(),
         },
         Call::PutHeld(name, bytes, first, second) => match cloud.put_held(
             who, *name, bytes, first, *second,
         ) {
             Ok(()) => Answer::Done,
-            Err(HeldFault::Failed) => Answer::Failed,
-            Err(HeldFault::Late { end, now }) => Answer::Late { end, now },
-            Err(HeldFault::Memory) => Answer::Memory,
+            Err(fault) => fault.answer(),
         },
         Call::Send(queue, bytes) => match cloud.send(who, *queue, bytes) {
             Ok(id) => Answer::Sent(id),
-            Err(CloudFault::Failed) => Answer::Failed,
-            Err(CloudFault::Memory) => Answer::Memory,
+            Err(fault) => fault.answer(),
         },
         Call::Receive(queue, most) => match cloud.receive(who, *queue, *most) {
             Ok(messages) => Answer::Received(MessageList::of(messages)),
-            Err(CloudFault::Failed) => Answer::Failed,
-            Err(CloudFault::Memory) => Answer::Memory,
+            Err(fault) => fault.answer(),
         },
         Call::Delete(queue, id) => match cloud.delete(who, *queue, *id) {
             Ok(()) => Answer::Done,
-            Err(CloudFault::Failed) => Answer::Failed,
-            Err(CloudFault::Memory) => Answer::Memory,
+            Err(fault) => fault.answer(),
         },
         Call::Take(lock, ticks) => match cloud.take(who, *lock, *ticks) {
             Ok(Grant::Given(lease)) => Answer::Given(lease),
             Ok(Grant::Held(until)) => Answer::Held(until),
-            Err(CloudFault::Failed) => Answer::Failed,
-            Err(CloudFault::Memory) => Answer::Memory,
+            Err(fault) => fault.answer(),
         },
         Call::Renew(_, _) => unreachable!(),
         Call::Release(_) => unreachable!(),
@@ -69,8 +59,7 @@ pub fn let_go<C: Cloud>(cloud: &mut C, who: Who, lease: Lease) -> Answer
 {
     match cloud.release(who, lease) {
         Ok(()) => Answer::Done,
-        Err(CloudFault::Failed) => Answer::Failed,
-        Err(CloudFault::Memory) => Answer::Memory,
+        Err(fault) => fault.answer(),
     }
 }
 
@@ -81,8 +70,6 @@ pub fn renew<C: Cloud>(cloud: &mut C, who: Who, lease: &mut Lease, ticks: u64) -
 {
     match cloud.renew(who, lease, ticks) {
         Ok(()) => Answer::Renewed(lease.end()),
-        Err(HeldFault::Failed) => Answer::Failed,
-        Err(HeldFault::Late { end, now }) => Answer::Late { end, now },
-        Err(HeldFault::Memory) => Answer::Memory,
+        Err(fault) => fault.answer(),
     }
 }

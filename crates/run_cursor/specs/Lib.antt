@@ -1,0 +1,3 @@
+pub mod Chosen
+pub mod Covered
+pub mod Run

@@ -1,0 +1,75 @@
+ghost use Rattle.std.specs.Prelude.{◌≡◌, IfOk};
+
+use crate::chosen::choose;
+use crate::order::compare;
+use crate::top::top_of;
+use db_base::cursor::Cursor;
+use log_codec::record::PuItem;
+use std::alloc::{AllocError, AllocFailed, Global};
+use std::marker::Model;
+
+/// Why no run was taken.
+#[derive(Clone, Copy, Debug, PartialEq, Eq)]
+pub enum RunFault {
+    /// Memory ran out.
+    Memory,
+}
+
+impl From<AllocError> for RunFault {
+    fn from(_error: AllocError) -> Self {
+        RunFault::Memory
+    }
+}
+
+impl<T: Drop> From<AllocFailed<T>> for RunFault {
+    fn from(_error: AllocFailed<T>) -> Self {
+        RunFault::Memory
+    }
+}
+
+/// The records of a queue that are applied next, for each client the longest list of consecutive numbers
+/// behind the cursor, in the order in which they are applied: by key, then client, then number.
+#[derive(Debug, Drop)]
+pub struct Run {
+    items: Vec<PuItem>,
+    top: Cursor,
+}
+
+impl Model for Run {
+    ghost use Rattle.run_cursor.specs.Run.{Taken};
+
+    ghost Value = { Taken };
+
+    ghost view = { λ r. record { items = r.items.items; top = r.top } };
+}
+
+impl Run {
+    /// The items, in the order in which they are applied.
+    pub fn items(&self) -> &[PuItem]
+        ensures { result.now ≡ self.now.items }
+    {
+        self.items.as_slice()
+    }
+
+    /// For each client the last number of the run, or the cursor's.
+    pub fn top(&self) -> &Cursor
+        ensures { result.now ≡ self.now.top }
+    {
+        &self.top
+    }
+}
+
+ghost use Rattle.run_cursor.specs.Run.{IsRun};
+
+/// The run of a queue behind a cursor, among the received items. The one fault is want of memory.
+pub fn take_run(alloc: Global, cursor: &Cursor, items: &[PuItem]) -> Result<Run, RunFault>
+    ensures { IfOk result (λ run. IsRun cursor.now items.now run.items run.top) }
+{
+    let top = top_of(cursor, items)?;
+    let mut kept = choose(alloc, cursor, &top, items)?;
+    kept.sort_by(compare)?;
+    Ok(Run { items: kept, top })
+}
+
+#[cfg(test)]
+mod tests;

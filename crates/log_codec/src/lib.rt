@@ -1,4 +1,6 @@
 //! Log records: what a commit sends to the ATOMIC queue of its client and to the pending update queues.
 #![tactic(auto)]
 
+pub mod fault;
+pub mod pu;
 pub mod record;

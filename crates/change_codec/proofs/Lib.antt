@@ -1,0 +1,4 @@
+pub mod Changes
+pub mod Decoding
+pub mod Numbers
+pub mod Appends

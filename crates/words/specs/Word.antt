@@ -1,5 +1,5 @@
 -- Single words: decimal numbers and bytes in hexadecimal, each read by spelling it again.
-use Rattle.std.specs.Prelude.{ℕ, ◌^◌, ◌<◌, ◌≡◌, Bool, true, false, ◌&&◌, ◌||◌, not, nat_le, nat_lt, ◌==◌, if◌then◌else◌, List, [], ◌∷◌, Option, Some, None, Result, Ok, Err, slice_index}
+use Rattle.std.specs.Prelude.{◌⊎◌, ℕ, ◌^◌, ◌<◌, ◌≡◌, Bool, true, false, ◌&&◌, ◌||◌, not, nat_le, nat_lt, ◌==◌, if◌then◌else◌, List, [], ◌∷◌, Option, Some, None, Result, Ok, Err, slice_index}
 use Rattle.std.specs.List.{list_all}
 use Rattle.std.specs.Result.{result_ok}
 use Rattle.std.specs.Str.{bytes_eq, all_ascii_digits}
@@ -62,3 +62,7 @@ AreBytes bytes = (i : ℕ) → slice_index bytes i < 256
 abbrev pub AreNumbers : List ℕ → Type 0
 AreNumbers [] = Unit {0}
 AreNumbers (n ∷ numbers) = (n < 2 ^ 64) × AreNumbers numbers
+
+-- the value is read, unless memory runs out
+abbrev pub IsReadTo : {A : Type 0} → Result A TextFault → A → Type 0
+IsReadTo result x = (result ≡ Ok x) ⊎ (result ≡ Err Memory)

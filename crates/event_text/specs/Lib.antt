@@ -1,0 +1,3 @@
+pub mod Keyword
+pub mod Event
+pub mod Reading

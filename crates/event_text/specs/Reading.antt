@@ -1,0 +1,93 @@
+-- How a line is read, word by word.
+use Rattle.std.specs.Prelude.{ℕ, ◌≡◌, ◌&&◌, nat_le, Bool, true, false, List, [], ◌∷◌, ◌++◌, length, map, codes, Option, Some, None, option_map, if◌then◌else◌}
+use Rattle.std.specs.Str.{bytes_eq}
+use Rattle.db_base.specs.declared.wish.Wish.{Wish}
+use Rattle.db_base.specs.declared.wish.Wish.TheVariants.{Plain, Fail, Lost, Hide, Old, Give}
+use Rattle.words.specs.Line.{◌>>=◌, parts_of, word_at, number_at, end_at, numbers_of, one_of, two_of, place_of, record_of}
+use Rattle.event_text.specs.declared.event.Event.{Event}
+use Rattle.event_text.specs.declared.event.Event.TheVariants as event
+use Rattle.event_text.specs.declared.keyword.Keyword.{Keyword}
+use Rattle.event_text.specs.declared.keyword.Keyword.TheVariants.{Open, Close, Renew, Insert, Update, Delete, Commit, Abort, Read, Scan, Page, Tree, Step, Run, Crash, Wait, Report, Settle}
+use Rattle.event_text.specs.Keyword.{keyword_of, is_shell}
+
+-- a value where nothing is left
+unfoldable pub alone : {A : Type 0} → A → List (List ℕ) → Option A
+alone x words = do
+  end ← end_at words
+  Some x
+
+-- 1 to 256 positions
+unfoldable pub positions_of : List (List ℕ) → Option (List ℕ)
+positions_of words = do
+  positions ← numbers_of words
+  if nat_le 1 (length positions) && nat_le (length positions) 256 then Some positions else None
+
+-- the wish that a word begins
+unfoldable pub wish_by : List ℕ → List (List ℕ) → Option Wish
+wish_by kind words =
+    if bytes_eq kind (codes "plain") then alone Plain words
+    else if bytes_eq kind (codes "fail") then alone Fail words
+    else if bytes_eq kind (codes "lost") then alone Lost words
+    else if bytes_eq kind (codes "hide") then alone Hide words
+    else if bytes_eq kind (codes "old") then option_map Old (one_of words)
+    else if bytes_eq kind (codes "give") then option_map Give (positions_of words)
+    else None
+
+-- the wish of words
+unfoldable pub wish_of : List (List ℕ) → Option Wish
+wish_of words = do
+  kind ← word_at words
+  wish_by kind.0 kind.1
+
+-- whether `done` stands alone, or nothing
+unfoldable pub done_of : List (List ℕ) → Option Bool
+done_of [] = Some false
+done_of (word ∷ words) = if bytes_eq word (codes "done") then alone true words else None
+
+-- the event of a session that a keyword begins
+unfoldable pub event_by : Keyword → ℕ → List (List ℕ) → Option Event
+event_by Open session words = option_map (event.Open session) (one_of words)
+event_by Close session words = alone (event.Close session) words
+event_by Renew session words = alone (event.Renew session) words
+event_by Insert session words = option_map (λ x. event.Insert session x.0 x.1 x.2) (record_of words)
+event_by Update session words = option_map (λ x. event.Update session x.0 x.1 x.2) (record_of words)
+event_by Delete session words = option_map (λ x. event.Delete session x.0 x.1) (place_of words)
+event_by Commit session words = alone (event.Commit session) words
+event_by Abort session words = alone (event.Abort session) words
+event_by Read session words = option_map (λ x. event.Read session x.0 x.1) (place_of words)
+event_by Scan session words = option_map (λ x. event.Scan session x.0 x.1 x.2) (record_of words)
+event_by Page session words = option_map (λ x. event.Page session x.0 x.1) (two_of words)
+event_by Tree session words = option_map (event.Tree session) (one_of words)
+event_by Step session words = option_map (event.Step session) (wish_of words)
+event_by Run session words = alone (event.Run session) words
+event_by Crash session words = option_map (event.Crash session) (done_of words)
+event_by Wait session words = None
+event_by Report session words = None
+event_by Settle session words = None
+
+-- the event of a session's line behind its keyword
+unfoldable pub session_event : Keyword → List (List ℕ) → Option Event
+session_event keyword words = do
+  session ← number_at words
+  event_by keyword session.0 session.1
+
+-- the event of a line behind its keyword
+unfoldable pub event_behind : Keyword → List (List ℕ) → Option Event
+event_behind Wait words = option_map event.Wait (one_of words)
+event_behind Report words = option_map event.Report (one_of words)
+event_behind Settle words = alone event.Settle words
+event_behind keyword words = session_event keyword words
+
+-- the event of the words of a line
+unfoldable pub event_of_words : List (List ℕ) → Option Event
+event_of_words words = do
+  first ← word_at words
+  keyword ← keyword_of first.0
+  event_behind keyword first.1
+
+-- the event of session 1 of the words of a shell's line
+unfoldable pub shell_event_of_words : List (List ℕ) → Option Event
+shell_event_of_words words = do
+  first ← word_at words
+  keyword ← keyword_of first.0
+  if is_shell keyword then event_by keyword 1 first.1 else None

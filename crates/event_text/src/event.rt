@@ -1,0 +1,96 @@
+use db_base::blob::Blob;
+use db_base::wish::Wish;
+
+/// What a line of a schedule says, before any check of range. Sessions, clients, trees and pages are as they were written.
+#[derive(Debug, Drop)]
+pub enum Event {
+    /// Begins opening a session for a client.
+    Open {
+        session: u64,
+        client: u64,
+    },
+    /// Begins closing a session.
+    Close {
+        session: u64,
+    },
+    /// Begins renewing the lease of a session's client.
+    Renew {
+        session: u64,
+    },
+    /// Notes an insert.
+    Insert {
+        session: u64,
+        tree: u64,
+        key: Blob,
+        payload: Blob,
+    },
+    /// Notes an update.
+    Update {
+        session: u64,
+        tree: u64,
+        key: Blob,
+        payload: Blob,
+    },
+    /// Notes a deletion.
+    Delete {
+        session: u64,
+        tree: u64,
+        key: Blob,
+    },
+    /// Begins a commit.
+    Commit {
+        session: u64,
+    },
+    /// Drops the buffer of a session.
+    Abort {
+        session: u64,
+    },
+    /// Begins a read.
+    Read {
+        session: u64,
+        tree: u64,
+        key: Blob,
+    },
+    /// Begins a scan from one key on and below another; no byte is no bound.
+    Scan {
+        session: u64,
+        tree: u64,
+        from: Blob,
+        to: Blob,
+    },
+    /// Begins a checkpoint of a page.
+    Page {
+        session: u64,
+        tree: u64,
+        page: u64,
+    },
+    /// Begins a checkpoint of a tree.
+    Tree {
+        session: u64,
+        tree: u64,
+    },
+    /// Makes one service call of a session under a wish.
+    Step {
+        session: u64,
+        wish: Wish,
+    },
+    /// Makes plain steps until the answer.
+    Run {
+        session: u64,
+    },
+    /// Ends a session without an answer; done where the call in hand is made first.
+    Crash {
+        session: u64,
+        done: bool,
+    },
+    /// Moves the clock on, in ticks.
+    Wait {
+        ticks: u64,
+    },
+    /// Asks for the report of a tree.
+    Report {
+        tree: u64,
+    },
+    /// Makes a whole settling.
+    Settle,
+}

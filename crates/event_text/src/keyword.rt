@@ -1,0 +1,117 @@
+ghost use Rattle.std.specs.Prelude.{◌≡◌};
+
+/// The first word of a line.
+#[derive(Clone, Copy, Debug, PartialEq, Eq)]
+pub enum Keyword {
+    /// `open`
+    Open,
+    /// `close`
+    Close,
+    /// `renew`
+    Renew,
+    /// `insert`
+    Insert,
+    /// `update`
+    Update,
+    /// `delete`
+    Delete,
+    /// `commit`
+    Commit,
+    /// `abort`
+    Abort,
+    /// `read`
+    Read,
+    /// `scan`
+    Scan,
+    /// `page`
+    Page,
+    /// `tree`
+    Tree,
+    /// `step`
+    Step,
+    /// `run`
+    Run,
+    /// `crash`
+    Crash,
+    /// `wait`
+    Wait,
+    /// `report`
+    Report,
+    /// `settle`
+    Settle,
+}
+
+/// All keywords.
+const KEYWORDS: [Keyword; 18] = [
+    Keyword::Open,
+    Keyword::Close,
+    Keyword::Renew,
+    Keyword::Insert,
+    Keyword::Update,
+    Keyword::Delete,
+    Keyword::Commit,
+    Keyword::Abort,
+    Keyword::Read,
+    Keyword::Scan,
+    Keyword::Page,
+    Keyword::Tree,
+    Keyword::Step,
+    Keyword::Run,
+    Keyword::Crash,
+    Keyword::Wait,
+    Keyword::Report,
+    Keyword::Settle,
+];
+
+impl Keyword {
+    ghost use Rattle.event_text.specs.Keyword.{keyword_of, keyword_text, is_shell};
+
+    /// The word.
+    pub fn text(self) -> &'static str
+        ensures { result.now ≡ keyword_text self }
+    {
+        match self {
+            Keyword::Open => "open",
+            Keyword::Close => "close",
+            Keyword::Renew => "renew",
+            Keyword::Insert => "insert",
+            Keyword::Update => "update",
+            Keyword::Delete => "delete",
+            Keyword::Commit => "commit",
+            Keyword::Abort => "abort",
+            Keyword::Read => "read",
+            Keyword::Scan => "scan",
+            Keyword::Page => "page",
+            Keyword::Tree => "tree",
+            Keyword::Step => "step",
+            Keyword::Run => "run",
+            Keyword::Crash => "crash",
+            Keyword::Wait => "wait",
+            Keyword::Report => "report",
+            Keyword::Settle => "settle",
+        }
+    }
+
+    /// The keyword that a word spells, where it is one. Takes no memory.
+    pub fn of(word: &[u8]) -> Option<Keyword>
+        ensures { result ≡ keyword_of word.now }
+    {
+        KEYWORDS
+            .iter()
+            .find(|k| k.text().as_bytes() == word)
+            .copied()
+    }
+
+    /// Whether a shell's line may begin with it. Takes no memory.
+    pub fn is_shell(self) -> bool
+        ensures { result ≡ is_shell self }
+    {
+        match self {
+            Keyword::Insert | Keyword::Update | Keyword::Delete | Keyword::Commit => true,
+            Keyword::Abort | Keyword::Read | Keyword::Scan | Keyword::Page => true,
+            Keyword::Tree | Keyword::Renew => true,
+            Keyword::Open | Keyword::Close | Keyword::Step | Keyword::Run => false,
+            Keyword::Crash | Keyword::Wait | Keyword::Report | Keyword::Settle => false,
+        }
+    }
+}

@@ -1,0 +1,5 @@
+//! The lines of a schedule.
+#![tactic(auto)]
+
+pub mod event;
+pub mod keyword;

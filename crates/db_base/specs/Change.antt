@@ -1,5 +1,6 @@
 -- What a change does to a payload, and two changes in one.
-use Rattle.std.specs.Prelude.{ℕ, List, Option, Some, None, ◌≡◌, refl}
+use Rattle.std.specs.Prelude.{ℕ, List, [], Option, Some, None, ◌≡◌, refl}
+use Rattle.db_base.specs.Key.{IsKey, IsPayload}
 use Rattle.db_base.specs.declared.change.Change.{Change}
 use Rattle.db_base.specs.declared.change.Change.TheVariants.{Insert, Update, Delete}
 
@@ -8,6 +9,17 @@ abbrev pub key_of : Change → List ℕ
 key_of (Insert key payload) = key
 key_of (Update key payload) = key
 key_of (Delete key) = key
+
+-- the payload that a change may set, empty for a deletion
+abbrev pub payload_set_by : Change → List ℕ
+payload_set_by (Insert key payload) = payload
+payload_set_by (Update key payload) = payload
+payload_set_by (Delete key) = []
+
+-- a change's key is a key, and its payload a payload
+pub record IsChange (c : Change) : Type 0 where
+  pub key : IsKey (key_of c)
+  pub payload : IsPayload (payload_set_by c)
 
 -- the payload after a change, from the payload before, where there is one
 abbrev pub act : Option (List ℕ) → Change → Option (List ℕ)

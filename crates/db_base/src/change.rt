@@ -1,6 +1,6 @@
 ghost use Rattle.std.specs.Prelude.{◌≡◌, ℕ, List, Option, IfOk};
 ghost use Rattle.std.specs.Option.{option_copied};
-ghost use Rattle.db_base.specs.Change.{key_of, act, net};
+ghost use Rattle.db_base.specs.Change.{key_of, act, net, IsChange};
 
 use crate::key::{Key, Payload};
 use std::alloc::{AllocError, Global};
@@ -47,7 +47,8 @@ impl Change {
 
     /// A copy.
     pub fn copied(&self, alloc: Global) -> Result<Change, AllocError>
-        ensures { IfOk result (λ c. c ≡ self.now) }
+        ensures same { IfOk result (λ c. c ≡ self.now) }
+        ensures is_change { IfOk result (λ _. IsChange self.now) }
     {
         Ok(match self {
             Change::Insert { key, payload } => Change::Insert {

@@ -58,7 +58,8 @@ impl Key {
 
     /// A copy.
     pub fn copied(&self, alloc: Global) -> Result<Key, AllocError>
-        ensures { IfOk result (λ k. k ≡ self.now) }
+        ensures same { IfOk result (λ k. k ≡ self.now) }
+        ensures is_key { IfOk result (λ _. IsKey self.now) }
     {
         let bytes = self.bytes.as_slice().to_vec(alloc)?;
         Ok(Key { bytes })
@@ -108,7 +109,8 @@ impl Payload {
 
     /// A copy.
     pub fn copied(&self, alloc: Global) -> Result<Payload, AllocError>
-        ensures { IfOk result (λ p. p ≡ self.now) }
+        ensures same { IfOk result (λ p. p ≡ self.now) }
+        ensures is_payload { IfOk result (λ _. IsPayload self.now) }
     {
         let bytes = self.bytes.as_slice().to_vec(alloc)?;
         Ok(Payload { bytes })

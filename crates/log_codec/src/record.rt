@@ -1,4 +1,5 @@
 ghost use Rattle.std.specs.Prelude.{◌≡◌, IfOk};
+ghost use Rattle.db_base.specs.Change.{IsChange};
 
 use db_base::change::Change;
 use db_base::ids::{ClientId, MsgId, TreeId};
@@ -54,7 +55,8 @@ pub struct PuItem {
 impl PuRec {
     /// A copy. Fails for memory alone.
     pub fn copied(&self, alloc: Global) -> Result<PuRec, AllocError>
-        ensures { IfOk result (λ r. r ≡ self.now) }
+        ensures same { IfOk result (λ r. r ≡ self.now) }
+        ensures is_change { IfOk result (λ _. IsChange self.now.change) }
     {
         Ok(PuRec {
             client: self.client,
@@ -69,7 +71,8 @@ impl PuRec {
 impl PuItem {
     /// A copy. Fails for memory alone.
     pub fn copied(&self, alloc: Global) -> Result<PuItem, AllocError>
-        ensures { IfOk result (λ x. x ≡ self.now) }
+        ensures same { IfOk result (λ x. x ≡ self.now) }
+        ensures is_change { IfOk result (λ _. IsChange self.now.rec.change) }
     {
         Ok(PuItem {
             id: self.id,

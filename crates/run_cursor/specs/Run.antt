@@ -1,10 +1,11 @@
 -- The run of a queue: the records that may be applied next, and how far they lead.
-use Rattle.std.specs.Prelude.{ℕ, ◌≡◌, ◌≢◌, ◌+◌, ◌<◌, ◌≤◌, ◌==◌, ◌&&◌, Bool, false, List, Option, Some, find, All, IsSorted, true, count_by}
+use Rattle.std.specs.Prelude.{ℕ, ◌≡◌, ◌≢◌, ◌+◌, ◌<◌, ◌≤◌, ◌^◌, ◌==◌, ◌&&◌, Bool, false, List, Option, Some, find, All, IsSorted, true, count_by}
 use Rattle.std.specs.declared.cmp.Ordering.{Ordering}
 use Rattle.std.specs.List.{list_any}
 use Rattle.std.specs.Ordering.{nat_cmp, ordering_then}
 use Rattle.std.specs.Cmp.Lexicographic.{slice_cmp}
-use Rattle.db_base.specs.Change.{key_of}
+use Rattle.db_base.specs.Change.{key_of, IsChange}
+use Rattle.db_base.specs.Ids.{IsClient}
 use Rattle.db_base.specs.Cursor.{number_of}
 use Rattle.log_codec.specs.declared.record.PuItem.{PuItem}
 
@@ -42,6 +43,17 @@ pub record IsWithin (cursor top : List (ℕ × ℕ)) (client number : ℕ) : Typ
 pub record Taken : Type 0 where
   pub items : List PuItem
   pub top : List (ℕ × ℕ)
+
+-- what every item of a queue is, by its types
+pub record IsItem (x : PuItem) : Type 0 where
+  pub change : IsChange x.rec.change
+  pub client : IsClient x.rec.client
+  pub number : x.rec.number < 2 ^ 64
+
+-- items in the order in which a leaf takes them
+pub record IsOrdered (run : List PuItem) : Type 0 where
+  pub sorted : IsSorted item_cmp run
+  pub items : All IsItem run
 
 -- For each client the longest list of numbers behind the cursor that is among the items, each number once.
 pub record IsRun (cursor : List (ℕ × ℕ)) (received : List PuItem) (run : List PuItem) (top : List (ℕ × ℕ)) : Type 0 where

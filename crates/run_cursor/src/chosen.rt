@@ -1,4 +1,5 @@
-ghost use Rattle.std.specs.Prelude.{◌≡◌, [], IfOk};
+ghost use Rattle.std.specs.Prelude.{◌≡◌, [], ◌∷◌, ◌++◌, All, IfOk};
+ghost use Rattle.run_cursor.specs.Run.{IsItem};
 ghost use Rattle.run_cursor.specs.Chosen.{chosen, is_wanted};
 
 use crate::run::RunFault;
@@ -16,6 +17,17 @@ fn wants(cursor: &Cursor, top: &Cursor, kept: &[PuItem], x: &PuItem) -> bool
     cursor.get(client) < number && number <= top.get(client) && !has(kept, client, number)
 }
 
+/// Adds a copy of the item.
+fn keep(alloc: Global, kept: &mut Vec<PuItem>, x: &PuItem) -> Result<(), RunFault>
+    ensures kept { IfOk result (λ _. kept.new.items ≡ kept.old.items ++ x.now ∷ []) }
+    ensures item { IfOk result (λ _. IsItem x.now) }
+{
+    let _client = x.rec.client.get();
+    let _number = x.rec.number;
+    kept.push(x.copied(alloc)?)?;
+    Ok(())
+}
+
 /// Copies of the items behind the cursor and up to the top, in order of receipt, each number once.
 pub(crate) fn choose(
     alloc: Global,
@@ -23,13 +35,14 @@ pub(crate) fn choose(
     top: &Cursor,
     items: &[PuItem],
 ) -> Result<Vec<PuItem>, RunFault>
-    ensures { IfOk result (λ kept. kept.items ≡ chosen cursor.now top.now [] items.now) }
+    ensures chosen { IfOk result (λ kept. kept.items ≡ chosen cursor.now top.now [] items.now) }
+    ensures items { IfOk result (λ kept. All IsItem kept.items) }
 {
     let mut kept = Vec::new(alloc);
     let mut left = items;
     while let Some((x, rest)) = left.split_first() {
         if wants(cursor, top, kept.as_slice(), x) {
-            kept.push(x.copied(alloc)?)?;
+            keep(alloc, &mut kept, x)?;
         }
         left = rest;
     }

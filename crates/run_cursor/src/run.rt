@@ -36,17 +36,22 @@ pub struct Run {
 }
 
 impl Model for Run {
-    ghost use Rattle.run_cursor.specs.Run.{Taken};
+    ghost use Rattle.run_cursor.specs.Run.{Taken, IsOrdered};
 
     ghost Value = { Taken };
 
     ghost view = { λ r. record { items = r.items.items; top = r.top } };
+
+    ghost invariant = { λ r. IsOrdered r.items.items };
 }
 
 impl Run {
+    ghost use Rattle.run_cursor.specs.Run.{IsOrdered};
+
     /// The items, in the order in which they are applied.
     pub fn items(&self) -> &[PuItem]
-        ensures { result.now ≡ self.now.items }
+        ensures items { result.now ≡ self.now.items }
+        ensures ordered { IsOrdered self.now.items }
     {
         self.items.as_slice()
     }

@@ -1,9 +1,17 @@
 use Rattle.std.proofs.Common.{rules}
+use Rattle.std.proofs.lemmas.List.Sorted.{All-permutation}
 use Rattle.run_cursor.proofs.Choice.{run-from_chosen}
 use Rattle.run_cursor.proofs.ItemOrder.{sorted_items}
+use Rattle.run_cursor.specs.Run.{IsItem}
 use Rattle.run_cursor.proofs.run.take_run.Goals as goal
+
+pub invariant_of-result : goal.invariant_of-result
+invariant_of-result c = record {
+  sorted = sorted_items _ c.in_ok-sort_by.ensures.sorted (λ f a r f' k. search rules);
+  items = All-permutation IsItem _ _ c.in_ok-sort_by.ensures.permutation c.in_ok-kept.ensures.items;
+}
 
 pub returns : goal.returns
 returns c =
-    run-from_chosen _ _ _ _ _ c.in_ok-top.ensures c.in_ok-kept.ensures c.in_ok-sort_by.ensures.permutation
+    run-from_chosen _ _ _ _ _ c.in_ok-top.ensures c.in_ok-kept.ensures.chosen c.in_ok-sort_by.ensures.permutation
     (sorted_items _ c.in_ok-sort_by.ensures.sorted (λ f a r f' k. search rules))

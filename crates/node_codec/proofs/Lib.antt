@@ -1,0 +1,3 @@
+pub mod PlainLemmas
+pub mod NodeLemmas
+pub mod TreeLemmas

@@ -1,0 +1,80 @@
+-- Roots are exact.
+use Rattle.std.proofs.Common.{◌≡◌, ℕ, ◌+◌, ◌-◌, ◌^◌, ◌<◌, ◌≤◌, Bool, true, false, cond, List, [], ◌∷◌, ◌++◌, length, Option, Some, None, Result, Ok, Err, refl, sym, ap, subst, ◌∙◌, arith}
+use Rattle.std.specs.Prelude.{◌&&◌, IsTrue, IsSome}
+use Rattle.std.specs.Int.{w8, w64}
+use Rattle.std.proofs.lemmas.Bool.{and_parts, and_from}
+use Rattle.byte_format.specs.Format.{Format, in_range, number, behind, ◌then◌, list_of, list_fits}
+use Rattle.byte_format.specs.Whole.{IsBytes, IsExact, IsSpelling, whole}
+use Rattle.byte_format.proofs.Fields.{wide8, number_exact}
+use Rattle.byte_format.proofs.Exact.{behind_exact, then_exact, seen_as_exact}
+use Rattle.byte_format.proofs.Lists.{list_exact}
+use Rattle.byte_format.proofs.Wholes.{whole_found}
+use Rattle.node_codec.specs.Node.{Entry, greatest, entry, plain_entry, client_number, plain_number, child_of}
+use Rattle.node_codec.specs.Plain.{items_of, plain_list, IsWholeList}
+use Rattle.node_codec.specs.Tree.{Tree, TreeFields, tree_of_fields, fields_of_tree, tree_fields, tree_format, tree_in, HasTreeSpelling, AreTreeParts}
+use Rattle.node_codec.proofs.NodeLemmas.{entry_exact, client_number_exact, whole_number_exact, has_child, not_below_empty}
+use Rattle.node_codec.proofs.PlainLemmas.{whole_list_read}
+
+-- the parts of the table, from its end on
+abbrev numbers_format : Format (List (ℕ × ℕ))
+numbers_format = list_of true client_number None
+
+abbrev entries_format : ℕ → Format (List Entry)
+entries_format next = list_of false (entry [] None (next - 1)) None
+
+abbrev lists_format : ℕ → Format (List (ℕ × ℕ) × List Entry)
+lists_format next = numbers_format then λ _. entries_format next
+
+abbrev level_format : ℕ → Format (ℕ × (List (ℕ × ℕ) × List Entry))
+level_format next = number w8 1 255 then λ _. lists_format next
+
+lists_exact : (next : ℕ) → IsExact (lists_format next)
+lists_exact next = then_exact numbers_format (λ _. entries_format next) (list_exact true client_number None client_number_exact) (λ _. list_exact false (entry [] None (next - 1)) None (entry_exact [] None (next - 1)))
+
+level_exact : (next : ℕ) → IsExact (level_format next)
+level_exact next = then_exact (number w8 1 255) (λ _. lists_format next) (number_exact w8 (2 ^ 8) wide8 1 255 (omega arith)) (λ _. lists_exact next)
+
+tree_fields_exact : IsExact tree_fields
+tree_fields_exact =
+    let numbers = number w64 2 greatest then level_format in
+    let inner = number w64 1 greatest then λ _. numbers in
+    behind_exact 0x54 (behind 1 inner)
+    (behind_exact 1 inner (then_exact (number w64 1 greatest) (λ _. numbers) (whole_number_exact 1) (λ _. then_exact (number w64 2 greatest) level_format (whole_number_exact 2) level_exact)))
+
+pub tree_exact : IsExact tree_format
+tree_exact = seen_as_exact tree_of_fields fields_of_tree tree_fields tree_fields_exact (λ x _. refl) (λ y _. refl)
+
+-- what was read whole are the parts of a tree
+pub parts_of_whole : (version next level : ℕ) (cursor entries rest bytes : List ℕ) → IsBytes bytes → whole tree_format bytes ≡ Ok (tree_in version next level cursor entries)
+    → IsWholeList plain_number cursor → plain_list plain_entry entries ≡ Ok (items_of plain_entry entries, rest) → rest ≡ [] → AreTreeParts next level cursor entries
+parts_of_whole version next level cursor entries rest bytes fits h numbers listed nothing =
+    let s = whole_found tree_format tree_exact bytes (tree_in version next level cursor entries) fits h in
+    record {
+      cursor_list = numbers;
+      entry_list = whole_list_read plain_entry entries (items_of plain_entry entries) (listed ∙ ap (λ (r : List ℕ). Ok (items_of plain_entry entries, r)) nothing);
+      fits = (and_parts _ _ s.fits).1;
+    }
+
+-- each field of a tree that has a spelling is in its range
+pub record TreeFits (t : Tree) : Type 0 where
+  pub version : in_range 1 greatest t.version ≡ true
+  pub next : in_range 2 greatest t.next ≡ true
+  pub level : in_range 1 255 t.level ≡ true
+  pub cursor : list_fits true client_number None t.cursor ≡ true
+  pub entries : list_fits false (entry [] None (t.next - 1)) None t.entries ≡ true
+
+pub tree_fits : (t : Tree) → HasTreeSpelling t → TreeFits t
+tree_fits t h =
+    let a = and_parts (in_range 1 greatest t.version) _ h in
+    let b = and_parts (in_range 2 greatest t.next) _ a.1 in
+    let d = and_parts (in_range 1 255 t.level) _ b.1 in
+    let e = and_parts (list_fits true client_number None t.cursor) (list_fits false (entry [] None (t.next - 1)) None t.entries) d.1 in
+    record { version = a.0; next = b.0; level = d.0; cursor = e.0; entries = e.1 }
+
+pub fit_tree : (t : Tree) → TreeFits t → HasTreeSpelling t
+fit_tree t f = and_from _ _ f.version (and_from _ _ f.next (and_from _ _ f.level (and_from _ _ f.cursor f.entries)))
+
+pub tree_has_child : (next level : ℕ) (cursor entries key : List ℕ) → AreTreeParts next level cursor entries → IsSome (child_of key (items_of plain_entry entries))
+tree_has_child next level cursor entries key p =
+    let f = tree_fits (tree_in 1 next level cursor entries) p.fits in
+    has_child key [] None (next - 1) (items_of plain_entry entries) f.entries (not_below_empty key)

@@ -1,0 +1,14 @@
+//! The codecs of a tree's root and of its inner nodes: views into their bytes, and buffers that are edited and written.
+#![tactic(auto)]
+
+mod client_number;
+mod entries;
+mod entry;
+mod entry_rules;
+mod raised;
+mod tree_buf;
+mod tree_view;
+
+pub use entries::Entries;
+pub use tree_buf::TreeBuf;
+pub use tree_view::{NotTree, TreeView};

@@ -1,0 +1,157 @@
+//! A root as it stands in its bytes.
+
+ghost use Rattle.std.specs.Prelude.{◌≡◌, Ok, Some, IfOk, IfErr, IsOkAnd};
+ghost use Rattle.byte_format.specs.Gives.{Gives};
+ghost use Rattle.byte_format.specs.Whole.{whole, offset};
+ghost use Rattle.db_base.specs.Cursor.{number_of};
+ghost use Rattle.node_codec.specs.Node.{child_of};
+ghost use Rattle.node_codec.specs.Tree.{Tree, empty_tree, tree_format, tree_in, IsTree, AreTreeParts};
+
+use crate::client_number::{number_in, split_numbers};
+use crate::entries::Entries;
+use crate::entry::child_in;
+use crate::entry_rules::skip_entries;
+use byte_format::{Stop, mark_at, u8_at, u64_at};
+use db_base::ids::{ClientId, PageId};
+use std::marker::Model;
+
+/// The bytes are no root.
+#[derive(Clone, Copy, Debug, PartialEq, Eq)]
+pub struct NotTree {
+    /// Where the first field begins that is cut short or breaks its rule, or the place behind the last field where bytes follow it.
+    pub offset: u64,
+}
+
+// A list of no numbers.
+static NO_NUMBERS: [u8; 1] = [0];
+
+// A list of the one entry from the empty key to page 1.
+static FIRST_PAGE: [u8; 11] = [1, 0, 0, 0, 0, 0, 0, 0, 0, 1, 0];
+
+/// The root of a tree, read in place. Its calls take no memory.
+#[derive(Drop)]
+pub struct TreeView<'a> {
+    version: u64,
+    next: u64,
+    level: u8,
+    // The list of numbers by client.
+    cursor: &'a [u8],
+    // The list of entries.
+    entries: &'a [u8],
+}
+
+impl<'a> Model for TreeView<'a> {
+    ghost use Rattle.node_codec.specs.Tree.{Tree, tree_in, AreTreeParts};
+
+    ghost Value = { Tree };
+
+    ghost view = { λ v. tree_in v.version v.next v.level v.cursor.now v.entries.now };
+
+    ghost invariant = { λ v. AreTreeParts v.next v.level v.cursor.now v.entries.now };
+}
+
+/// The root that the bytes spell.
+fn tree_at(bytes: &[u8]) -> Result<TreeView<'_>, Stop>
+    ensures { Gives (λ v. v) result (whole tree_format bytes.now) }
+{
+    let rest = mark_at(bytes, 0x54)?;
+    let rest = mark_at(rest, 1)?;
+    let (version, rest) = u64_at(rest, 1, u64::MAX)?;
+    let (next, rest) = u64_at(rest, 2, u64::MAX)?;
+    let (level, rest) = u8_at(rest, 1, 255)?;
+    let (cursor, entries) = split_numbers(rest)?;
+    let rest = skip_entries(&[], None, next - 1, entries)?;
+    if !rest.is_empty() {
+        return Err(Stop::at(rest));
+    }
+    Ok(TreeView {
+        version,
+        next,
+        level,
+        cursor,
+        entries,
+    })
+}
+
+impl<'a> TreeView<'a> {
+    /// The root that all of the bytes spell.
+    pub fn read(bytes: &'a [u8]) -> Result<TreeView<'a>, NotTree>
+        // What is read is spelled so.
+        ensures found { IfOk result (λ v. IsTree bytes.now v) }
+        // What is spelled so is read.
+        ensures only { (t : Tree) → IsTree bytes.now t → IsOkAnd result (λ v. v ≡ t) }
+        ensures offset { IfErr result (λ e. e.offset ≡ offset tree_format bytes.now) }
+    {
+        match tree_at(bytes) {
+            Ok(view) => Ok(view),
+            Err(stop) => Err(NotTree {
+                offset: stop.offset(bytes),
+            }),
+        }
+    }
+
+    /// How often the root was put; 0 where it never was.
+    pub fn version(&self) -> u64
+        ensures { result ≡ self.now.version }
+    {
+        self.version
+    }
+
+    /// The least page number that is free.
+    pub fn next(&self) -> u64
+        ensures { result ≡ self.now.next }
+    {
+        self.next
+    }
+
+    /// How many levels there are above the leaves, from 1.
+    pub fn level(&self) -> u8
+        ensures { result ≡ self.now.level }
+    {
+        self.level
+    }
+
+    /// The number up to which the client's records of the tree's queue are applied.
+    #[tactic(auto, using(crate::proofs::PlainLemmas::list_from_whole))]
+    pub fn cursor(&self, client: ClientId) -> u64
+        ensures { result ≡ number_of self.now.cursor client }
+    {
+        number_in(self.cursor, client)
+    }
+
+    /// The entry with the greatest low key that is at most the key.
+    pub fn child(&self, key: &[u8]) -> (&'a [u8], PageId)
+        ensures { child_of key.now self.now.entries ≡ Some (result.0.now, result.1) }
+    {
+        child_in(self.entries, key)
+    }
+
+    /// The entries, in the order of keys.
+    #[tactic(auto, using(crate::proofs::PlainLemmas::list_from_whole))]
+    pub fn entries(&self) -> Entries<'a>
+        ensures { result ≡ self.now.entries }
+    {
+        Entries::of(self.entries)
+    }
+
+    /// The root of a tree that was never put.
+    pub fn empty() -> TreeView<'a>
+        ensures { result ≡ empty_tree }
+    {
+        TreeView {
+            version: 0,
+            next: 2,
+            level: 1,
+            cursor: &NO_NUMBERS,
+            entries: &FIRST_PAGE,
+        }
+    }
+
+    /// The bytes of the numbers by client and of the entries.
+    pub(crate) fn lists(&self) -> (&'a [u8], &'a [u8])
+        ensures parts { AreTreeParts self.now.next self.now.level result.0.now result.1.now }
+        ensures value { self.now ≡ tree_in self.now.version self.now.next self.now.level result.0.now result.1.now }
+    {
+        (self.cursor, self.entries)
+    }
+}

@@ -1,18 +1,19 @@
 -- Entries and numbers by client are exact, and their rules only narrow them.
-use Rattle.std.proofs.Common.{◌≡◌, ℕ, zero, suc, ◌+◌, ◌-◌, ◌^◌, ◌<◌, ◌≤◌, Bool, true, false, cond, List, [], ◌∷◌, ◌++◌, length, Option, Some, None, Result, Ok, Err, refl, sym, ap, subst, ◌∙◌, append_assoc, add-one, arith, inl, inr}
+use Rattle.std.proofs.Common.{◌≡◌, ℕ, zero, suc, ◌+◌, ◌-◌, ◌^◌, ◌<◌, ◌≤◌, Bool, true, false, cond, List, [], ◌∷◌, ◌++◌, length, Option, Some, None, Ok, refl, sym, ap, subst, ◌∙◌, append_assoc, add-one, arith, inl, inr}
 use Rattle.std.specs.Prelude.{◌&&◌, ◌==◌, max, nat_le, IsSome, if◌then◌else◌}
 use Rattle.std.specs.Int.{Width, w8, w64, to_be_bytes}
 use Rattle.std.proofs.lemmas.Bool.{and_parts, and_from, leb-true, le-leb, eqb-false, cases_lt}
 use Rattle.db_base.specs.Cursor.{number_of}
-use Rattle.byte_format.specs.Format.{Reading, ◌>>=◌, Format, guarded, in_range, unsigned_at, number_at, number, text_at, text, ruled, ◌then◌, list_fits, list_spelling}
+use Rattle.byte_format.specs.Format.{Reading, ◌>>=◌, Format, guarded, in_range, unsigned_at, number_at, number, text, ruled, ◌then◌, list_fits, list_spelling}
 use Rattle.byte_format.specs.Order.{bytes_below, bytes_same, below_bound}
 use Rattle.byte_format.proofs.OrderLemmas.{same_is}
-use Rattle.byte_format.specs.Whole.{IsBytes, IsExact}
+use Rattle.byte_format.specs.Whole.{IsExact}
 use Rattle.byte_format.proofs.Steps.{bind_ok, guarded_ok}
 use Rattle.byte_format.proofs.Fields.{wide8, wide64, number_exact, text_exact}
 use Rattle.byte_format.proofs.Exact.{ruled_exact, then_exact}
 use Rattle.node_codec.specs.Node.{Entry, greatest, plain_entry, may_stand, entry, plain_number, least_client, client_number, later_of, child_of, pairs_from, pairs_of, raised, number_bytes}
-use Rattle.node_codec.proofs.PlainLemmas.{Loosens}
+use Rattle.node_codec.specs.Plain.{plain_list}
+use Rattle.node_codec.proofs.PlainLemmas.{Loosens, spelling_read}
 
 pub low_exact : IsExact (text w8 0 64)
 low_exact = text_exact w8 (2 ^ 8) wide8 0 64 (omega arith)
@@ -182,14 +183,25 @@ pub raised_goes_on : (numbers others : List (ℕ × ℕ)) (c n : ℕ) (out : Lis
 raised_goes_on numbers others c n out r below is small =
     let left : 65 - c ≡ suc (65 - (c + 1)) = omega arith in
     let step : list_spelling (λ _. plain_number) None (pairs_from (greater_of numbers others) c (65 - c)) ≡ number_bytes c n ++ list_spelling (λ _. plain_number) None (pairs_from (greater_of numbers others) (c + 1) (65 - (c + 1))) =
-        ap (λ k. list_spelling (λ _. plain_number) None (pairs_from (greater_of numbers others) c k)) left ∙ spelling-pairs_from (greater_of numbers others) c (65 - (c + 1))
-        ∙ ap (λ k. number_bytes c k ++ list_spelling (λ _. plain_number) None (pairs_from (greater_of numbers others) (suc c) (65 - (c + 1)))) (sym is)
-        ∙ ap (λ k. number_bytes c n ++ list_spelling (λ _. plain_number) None (pairs_from (greater_of numbers others) k (65 - (c + 1)))) (sym (add-one c)) in
+    ap (λ k. list_spelling (λ _. plain_number) None (pairs_from (greater_of numbers others) c k)) left ∙ spelling-pairs_from (greater_of numbers others) c (65 - (c + 1))
+    ∙ ap (λ k. number_bytes c k ++ list_spelling (λ _. plain_number) None (pairs_from (greater_of numbers others) (suc c) (65 - (c + 1)))) (sym is)
+    ∙ ap (λ k. number_bytes c n ++ list_spelling (λ _. plain_number) None (pairs_from (greater_of numbers others) k (65 - (c + 1)))) (sym (add-one c)) in
     record {
       same = append_assoc out (number_bytes c n) _ ∙ ap (λ s. out ++ s) (sym step) ∙ r.same;
       small = λ k less some. elim (cases_lt k c) [ inl lt ↦ r.small k lt some | inr le ↦ let e : k ≡ c = omega arith in rw (e, ← is) small ];
     }
 
-pub raised_ends : (numbers others : List (ℕ × ℕ)) (out : List ℕ) → IsRaisedTo numbers others 65 out → (out ++ 0 ∷ [] ≡ list_spelling (λ _. plain_number) None (raised numbers others)) × (list_fits true client_number None (raised numbers others) ≡ true)
+-- what was written is the list
+pub record IsRaised (numbers others : List (ℕ × ℕ)) (out : List ℕ) : Type 0 where
+  pub reads : plain_list plain_number out ≡ Ok (raised numbers others, [])
+  pub fits : list_fits true client_number None (raised numbers others) ≡ true
+
+pub raised_ends : (numbers others : List (ℕ × ℕ)) (c : ℕ) (out all : List ℕ) → IsRaisedTo numbers others c out → c ≡ 65 → all ≡ out ++ 0 ∷ [] → IsRaised numbers others all
 unfolding raised pairs_from
-raised_ends numbers others out r = (r.same, pairs_of_fit (greater_of numbers others) r.small)
+raised_ends numbers others c out all r is whole =
+    let s = subst (λ (k : ℕ). IsRaisedTo numbers others k out) is r in
+    let fits = pairs_of_fit (greater_of numbers others) s.small in
+    record {
+      reads = spelling_read plain_number plain_number_exact all (raised numbers others) (numbers_plain_fit (raised numbers others) fits) (whole ∙ s.same);
+      fits = fits;
+    }

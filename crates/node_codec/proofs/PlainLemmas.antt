@@ -1,15 +1,15 @@
 -- Lists whose items ask for nothing of the item before them: item after item, and as what is left of lists with rules.
-use Rattle.std.proofs.Common.{◌≡◌, ℕ, zero, suc, ◌+◌, ◌<◌, ◌≤◌, Bool, true, false, cond, eqb, List, [], ◌∷◌, ◌++◌, length, take, ◌-◌, Option, Some, None, Result, Ok, Err, refl, sym, ap, subst, ◌∙◌, arith, inl, inr}
+use Rattle.std.proofs.Common.{◌≡◌, ℕ, zero, suc, ◌≤◌, Bool, true, false, cond, eqb, List, [], ◌∷◌, ◌++◌, length, take, ◌-◌, Option, Some, None, Result, Ok, Err, refl, sym, ap, ◌∙◌, arith}
 use Rattle.std.specs.Prelude.{◌&&◌}
-use Rattle.byte_format.specs.Format.{Reading, ◌>>=◌, Format, more_at, list_fits, list_spelling, list_from, list_at, list_of}
+use Rattle.byte_format.specs.Format.{Reading, ◌>>=◌, Format, more_at, list_fits, list_spelling, list_from, list_at}
 use Rattle.byte_format.specs.Whole.{IsBytes, IsExact}
 use Rattle.std.specs.Prelude.{IfOk}
 use Rattle.std.proofs.lemmas.List.{length-append, append-nil, take_at}
 use Rattle.std.specs.Borrow.{Bor}
 use Rattle.byte_format.specs.declared.stop.Stop.{Stop}
 use Rattle.byte_format.specs.Gives.{Gives, behind_it}
-use Rattle.byte_format.proofs.Steps.{bind_ok, bind_err, ok_is, never_err, IsBytes-along, IsBytes-behind, IsBytes-rest}
-use Rattle.byte_format.proofs.Lists.{continuation, more_takes, list_next, list_behind, list_from-suc, list_takes, list_exact}
+use Rattle.byte_format.proofs.Steps.{bind_ok, ok_is, never_err, IsBytes-along, IsBytes-behind, IsBytes-rest}
+use Rattle.byte_format.proofs.Lists.{more_takes, list_next, list_behind, list_from-suc, list_takes, list_exact}
 use Rattle.node_codec.specs.Plain.{plain_list, items_read, rest_read, items_of, behind_of, IsList, IsWholeList, IsFirst}
 
 -- ---- what is read is the list

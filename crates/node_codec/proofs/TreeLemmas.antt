@@ -1,19 +1,19 @@
 -- Roots are exact.
-use Rattle.std.proofs.Common.{◌≡◌, ℕ, ◌+◌, ◌-◌, ◌^◌, ◌<◌, ◌≤◌, Bool, true, false, cond, List, [], ◌∷◌, ◌++◌, length, Option, Some, None, Result, Ok, Err, refl, sym, ap, subst, ◌∙◌, arith}
-use Rattle.std.specs.Prelude.{◌&&◌, IsTrue, IsSome}
-use Rattle.std.specs.Int.{w8, w64}
+use Rattle.std.proofs.Common.{◌≡◌, ℕ, ◌-◌, ◌^◌, ◌≤◌, true, false, List, [], ◌∷◌, ◌++◌, None, Ok, refl, sym, ap, ◌∙◌, arith}
+use Rattle.std.specs.Prelude.{IsSome}
+use Rattle.std.specs.Int.{w8, w64, to_be_bytes}
 use Rattle.std.proofs.lemmas.Bool.{and_parts, and_from}
-use Rattle.byte_format.specs.Format.{Format, in_range, number, behind, ◌then◌, list_of, list_fits}
-use Rattle.byte_format.specs.Whole.{IsBytes, IsExact, IsSpelling, whole}
+use Rattle.byte_format.specs.Format.{Format, in_range, number, behind, ◌then◌, list_of, list_fits, list_spelling}
+use Rattle.byte_format.specs.Whole.{IsBytes, IsExact, whole}
 use Rattle.byte_format.proofs.Fields.{wide8, number_exact}
 use Rattle.byte_format.proofs.Exact.{behind_exact, then_exact, seen_as_exact}
 use Rattle.byte_format.proofs.Lists.{list_exact}
 use Rattle.byte_format.proofs.Wholes.{whole_found}
 use Rattle.node_codec.specs.Node.{Entry, greatest, entry, plain_entry, client_number, plain_number, child_of}
 use Rattle.node_codec.specs.Plain.{items_of, plain_list, IsWholeList}
-use Rattle.node_codec.specs.Tree.{Tree, TreeFields, tree_of_fields, fields_of_tree, tree_fields, tree_format, tree_in, HasTreeSpelling, AreTreeParts}
-use Rattle.node_codec.proofs.NodeLemmas.{entry_exact, client_number_exact, whole_number_exact, has_child, not_below_empty}
-use Rattle.node_codec.proofs.PlainLemmas.{whole_list_read}
+use Rattle.node_codec.specs.Tree.{Tree, tree_of_fields, fields_of_tree, tree_fields, tree_format, tree_in, HasTreeSpelling, AreTreeParts, AreWrittenParts, IsTree}
+use Rattle.node_codec.proofs.NodeLemmas.{entry_exact, plain_entry_exact, client_number_exact, plain_number_exact, whole_number_exact, spelling_loosened, in_range_from, in_range_parts, has_child, not_below_empty}
+use Rattle.node_codec.proofs.PlainLemmas.{whole_list_read, whole_list_is}
 
 -- the parts of the table, from its end on
 abbrev numbers_format : Format (List (ℕ × ℕ))
@@ -78,3 +78,38 @@ pub tree_has_child : (next level : ℕ) (cursor entries key : List ℕ) → AreT
 tree_has_child next level cursor entries key p =
     let f = tree_fits (tree_in 1 next level cursor entries) p.fits in
     has_child key [] None (next - 1) (items_of plain_entry entries) f.entries (not_below_empty key)
+
+-- ---- buffers
+
+-- the parts with other numbers by client
+pub parts_with_numbers : (version next level : ℕ) (cursor entries numbers : List ℕ) → AreWrittenParts version next level cursor entries → IsWholeList plain_number numbers → list_fits true client_number None (items_of plain_number numbers) ≡ true → AreWrittenParts version next level numbers entries
+parts_with_numbers version next level cursor entries numbers w listed fits =
+    let f = tree_fits (tree_in 1 next level cursor entries) w.parts.fits in
+    record {
+      some = w.some;
+      parts = record {
+        cursor_list = listed;
+        entry_list = w.parts.entry_list;
+        fits = fit_tree (tree_in 1 next level numbers entries) (record { version = f.version; next = f.next; level = f.level; cursor = fits; entries = f.entries });
+      };
+    }
+
+-- a byte is spelled as itself
+byte_is : (n : ℕ) → n ≤ 255 → to_be_bytes w8 n ≡ n ∷ []
+byte_is n le = ap (λ (k : ℕ). k ∷ []) (omega arith)
+
+-- the bytes of the fields one after another are the spelling
+pub tree_written : (version next level : ℕ) (cursor entries out : List ℕ) → IsBytes cursor → IsBytes entries → version ≤ greatest → AreWrittenParts version next level cursor entries
+    → out ≡ (((((0x54 ∷ 1 ∷ []) ++ to_be_bytes w64 version) ++ to_be_bytes w64 next) ++ level ∷ []) ++ cursor) ++ entries → IsTree out (tree_in version next level cursor entries)
+tree_written version next level cursor entries out cursor_fits entries_fit most w is =
+    let f = tree_fits (tree_in 1 next level cursor entries) w.parts.fits in
+    let numbers : cursor ≡ list_spelling client_number None (items_of plain_number cursor) =
+    whole_list_is plain_number plain_number_exact cursor cursor_fits w.parts.cursor_list ∙ sym (spelling_loosened client_number plain_number (λ _ _. refl) None None (items_of plain_number cursor)) in
+    let listed : entries ≡ list_spelling (entry [] None (next - 1)) None (items_of plain_entry entries) =
+    whole_list_is plain_entry plain_entry_exact entries entries_fit w.parts.entry_list ∙ sym (spelling_loosened (entry [] None (next - 1)) plain_entry (λ _ _. refl) None None (items_of plain_entry entries)) in
+    record {
+      fits = fit_tree (tree_in version next level cursor entries) (record { version = in_range_from 1 greatest version w.some most; next = f.next; level = f.level; cursor = f.cursor; entries = f.entries });
+      is = is ∙ ap (λ (l : List ℕ). (((((0x54 ∷ 1 ∷ []) ++ to_be_bytes w64 version) ++ to_be_bytes w64 next) ++ l) ++ cursor) ++ entries) (sym (byte_is level (in_range_parts 1 255 level f.level).1))
+          ∙ ap (λ (c : List ℕ). (((((0x54 ∷ 1 ∷ []) ++ to_be_bytes w64 version) ++ to_be_bytes w64 next) ++ to_be_bytes w8 level) ++ c) ++ entries) numbers
+          ∙ ap (λ (e : List ℕ). (((((0x54 ∷ 1 ∷ []) ++ to_be_bytes w64 version) ++ to_be_bytes w64 next) ++ to_be_bytes w8 level) ++ list_spelling client_number None (items_of plain_number cursor)) ++ e) listed;
+    }

@@ -1,5 +1,5 @@
 -- Lists whose items ask for nothing of the item before them.
-use Rattle.std.specs.Prelude.{◌≡◌, ℕ, true, List, [], ◌∷◌, Result, Ok, Err, None}
+use Rattle.std.specs.Prelude.{◌≡◌, ℕ, true, List, [], ◌∷◌, Ok, Err, None}
 use Rattle.byte_format.specs.Format.{Reading, Format, list_at}
 
 -- a list at the front of bytes

@@ -1,5 +1,5 @@
 -- Roots.
-use Rattle.std.specs.Prelude.{◌≡◌, ℕ, ◌-◌, ◌≤◌, Bool, true, false, IsTrue, List, [], ◌∷◌, Option, None}
+use Rattle.std.specs.Prelude.{ℕ, ◌-◌, ◌≤◌, true, false, IsTrue, List, [], ◌∷◌, Option, None}
 use Rattle.std.specs.Result.{result_ok}
 use Rattle.std.specs.Int.{w8, w64}
 use Rattle.byte_format.specs.Format.{Format, number, behind, ◌then◌, list_of, seen_as}
@@ -65,5 +65,5 @@ pub record AreTreeParts (next level : ℕ) (cursor entries : List ℕ) : Type 0 
 
 -- the parts are those of a tree that has a spelling
 pub record AreWrittenParts (version next level : ℕ) (cursor entries : List ℕ) : Type 0 where
-  pub version : 1 ≤ version
+  pub some : 1 ≤ version
   pub parts : AreTreeParts next level cursor entries

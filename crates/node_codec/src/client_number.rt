@@ -74,9 +74,7 @@ pub(crate) fn first_number(bytes: &[u8]) -> Option<(ClientNumber, &[u8])>
 
 /// The rules of the numbers of a root.
 #[derive(Drop)]
-struct NumberRules {
-
-}
+struct NumberRules {}
 
 fn least_behind(before: Option<&ClientNumber>) -> u8
     ensures least { result ≡ least_client (option_copied before.entry) }
@@ -93,7 +91,11 @@ impl<'a> Rules<'a> for NumberRules {
 
     ghost item_format = { λ _ before. client_number before };
 
-    fn item(&self, before: Option<&ClientNumber>, bytes: &'a [u8]) -> Result<(ClientNumber, &'a [u8]), Stop> {
+    fn item(
+        &self,
+        before: Option<&ClientNumber>,
+        bytes: &'a [u8],
+    ) -> Result<(ClientNumber, &'a [u8]), Stop> {
         number_from(least_behind(before), bytes)
     }
 }

@@ -78,7 +78,11 @@ pub(crate) fn first_entry(bytes: &[u8]) -> Option<(Entry<'_>, &[u8])>
 fn later<'a>(key: &[u8], entry: Entry<'a>, best: Option<Entry<'a>>) -> Option<Entry<'a>>
     ensures { result ≡ later_of best.entry (if bytes_below key.now entry.entry.0 then None else Some entry.entry) }
 {
-    if is_below(key, entry.low()) { best } else { Some(entry) }
+    if is_below(key, entry.low()) {
+        best
+    } else {
+        Some(entry)
+    }
 }
 
 /// The last entry of a list whose low key is at most the key.

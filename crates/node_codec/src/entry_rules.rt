@@ -39,7 +39,11 @@ impl<'a, 'r> Rules<'a> for EntryRules<'r> {
 
     ghost item_format = { λ r before. entry r.low.now (option_copied r.high) r.last before };
 
-    fn item(&self, before: Option<&Entry<'a>>, bytes: &'a [u8]) -> Result<(Entry<'a>, &'a [u8]), Stop> {
+    fn item(
+        &self,
+        before: Option<&Entry<'a>>,
+        bytes: &'a [u8],
+    ) -> Result<(Entry<'a>, &'a [u8]), Stop> {
         let (low, behind) = text8_at(bytes, 0, 64)?;
         if !stands(self.low, self.high, before, low) {
             return Err(Stop::at(bytes));
@@ -56,7 +60,12 @@ impl<'a, 'r> Rules<'a> for EntryRules<'r> {
 }
 
 /// The bytes behind the list of entries of such a node.
-pub(crate) fn skip_entries<'a>(low: &[u8], high: Option<&[u8]>, last: u64, bytes: &'a [u8]) -> Result<&'a [u8], Stop>
+pub(crate) fn skip_entries<'a>(
+    low: &[u8],
+    high: Option<&[u8]>,
+    last: u64,
+    bytes: &'a [u8],
+) -> Result<&'a [u8], Stop>
     ensures gives { Gives (λ rest. (items_of plain_entry bytes.now, rest.now)) result (list_at false (entry low.now (option_copied high.entry) last) None bytes.now) }
     ensures listed { IfOk result (λ rest. plain_list plain_entry bytes.now ≡ Ok (items_of plain_entry bytes.now, rest.now)) }
 {

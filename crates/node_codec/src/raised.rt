@@ -50,7 +50,11 @@ pub(crate) fn raised_numbers(
 {
     let mut out = Vec::new(alloc);
     for client in 1..65u8 {
-        push_number(&mut out, client, greater_number(numbers, cursor, client as u64))?;
+        push_number(
+            &mut out,
+            client,
+            greater_number(numbers, cursor, client as u64),
+        )?;
     }
     try_add_u8(&mut out, 0)?;
     Ok(out)

@@ -65,7 +65,8 @@ impl TreeBuf {
         ensures err { OnErr result (self.new ≡ self.old) }
         ensures memory { IfErr result (λ e. e ≡ EditFault.Memory) }
     {
-        self.cursor = raised_numbers(self.alloc, self.cursor.as_slice(), cursor)?;
+        let numbers = self.cursor.as_slice();
+        self.cursor = raised_numbers(self.alloc, numbers, cursor)?;
         Ok(())
     }
 
@@ -74,14 +75,20 @@ impl TreeBuf {
         ensures ok { IfOk result (λ b. IsTree b self.now) }
         ensures memory { IfErr result (λ e. e ≡ EditFault.Memory) }
     {
-        let mut out = Vec::with_capacity(alloc, self.cursor.len().saturating_add(self.entries.len()).saturating_add(19))?;
+        let cursor = self.cursor.as_slice();
+        let entries = self.entries.as_slice();
+        let room = cursor
+            .len()
+            .saturating_add(entries.len())
+            .saturating_add(19);
+        let mut out = Vec::with_capacity(alloc, room)?;
         try_add_u8(&mut out, 0x54)?;
         try_add_u8(&mut out, 1)?;
         try_add_u64(&mut out, self.version)?;
         try_add_u64(&mut out, self.next)?;
         try_add_u8(&mut out, self.level)?;
-        try_add(&mut out, self.cursor.as_slice())?;
-        try_add(&mut out, self.entries.as_slice())?;
+        try_add(&mut out, cursor)?;
+        try_add(&mut out, entries)?;
         Ok(Blob::of(out))
     }
 }

@@ -1,7 +1,6 @@
-use Rattle.std.proofs.Common.{◌≡◌, List, [], Ok, sym, ap, ◌∙◌, ℕ, ◌<◌, arith}
-use Rattle.byte_format.specs.Whole.{IsBytes}
+use Rattle.std.proofs.Common.{List, [], Ok, sym, ap, ◌∙◌, arith}
 use Rattle.node_codec.specs.Node.{plain_number}
-use Rattle.node_codec.specs.Plain.{items_of, plain_list}
+use Rattle.node_codec.specs.Plain.{items_of}
 use Rattle.node_codec.proofs.PlainLemmas.{rest_no_longer, list_alone, items_of-read, whole_list_read}
 use Rattle.node_codec.proofs.NodeLemmas.{plain_number_exact}
 use Rattle.node_codec.proofs.client_number.split_numbers.Goals as goal

@@ -2,7 +2,7 @@ ghost use Rattle.std.specs.Prelude.{◌≡◌, [], ◌+◌, ◌^◌, ◌-◌, On
 ghost use Rattle.head_codec.specs.Head.{empty_head, next_head};
 
 use crate::lists::{CounterList, PendingList};
-use std::alloc::Global;
+use std::alloc::{AllocError, Global};
 
 /// Whether a commit of the client is under way.
 #[derive(Clone, Copy, Debug, PartialEq, Eq)]
@@ -37,6 +37,17 @@ pub enum HeadFault {
     Exhausted,
     /// Memory ran out.
     Memory,
+}
+
+impl From<AllocError> for HeadFault {
+    ghost use Rattle.std.specs.Prelude.{◌≡◌};
+    ghost use Rattle.head_codec.specs.declared.head.HeadFault.TheVariants.{Memory};
+
+    ghost from_gives = { λ _ e. e ≡ Memory };
+
+    fn from(_error: AllocError) -> Self {
+        HeadFault::Memory
+    }
 }
 
 impl Head {

@@ -1,0 +1,3 @@
+pub mod ListSpelling
+pub mod HeadLaws
+pub mod Keeping

@@ -1,0 +1,70 @@
+//! Pending entries read from bytes and written to them.
+
+ghost use Rattle.std.specs.Prelude.{◌≡◌, ◌++◌, None, OnOk};
+ghost use Rattle.std.specs.List.{AllByRecursion};
+ghost use Rattle.std.specs.Option.{option_copied};
+ghost use Rattle.byte_format.specs.Format.{list_spelling};
+ghost use Rattle.byte_format.specs.Gives.{GivesOwned};
+ghost use Rattle.head_codec.specs.Pending.{pending_entry};
+ghost use Rattle.head_codec.specs.Spelling.{FitsPending};
+
+use crate::lists::Pending;
+use byte_format::{OwnedRules, ReadFault, try_add_u8, try_add_u64, u8_at, u64_at};
+use change_codec::{add_change, read_change, tree_of};
+use std::alloc::{AllocError, Global};
+
+/// What a pending entry may be, whatever the one before it.
+pub struct PendingRules;
+
+impl OwnedRules for PendingRules {
+    type Item = Pending;
+
+    ghost item_format = { λ _ before. pending_entry before };
+
+    fn item<'b>(
+        &self,
+        alloc: Global,
+        _before: Option<&Pending>,
+        bytes: &'b [u8],
+    ) -> Result<(Pending, &'b [u8]), ReadFault> {
+        let (tree, rest) = u8_at(bytes, 1, 16)?;
+        let (page, rest) = u64_at(rest, 0, u64::MAX)?;
+        let (number, rest) = u64_at(rest, 1, u64::MAX)?;
+        let (change, rest) = read_change(alloc, rest)?;
+        Ok((
+            Pending {
+                tree: tree_of(tree),
+                page,
+                number,
+                change,
+            },
+            rest,
+        ))
+    }
+}
+
+/// Appends the spelling of a pending entry.
+fn add_entry(out: &mut Vec<u8>, entry: &Pending) -> Result<(), AllocError>
+    ensures spelling { OnOk result (out.new.items ≡ out.old.items ++ (pending_entry None).spelling entry.now) }
+    ensures valid { OnOk result (FitsPending entry.now) }
+{
+    try_add_u8(out, entry.tree.get() as u8)?;
+    try_add_u64(out, entry.page)?;
+    try_add_u64(out, entry.number)?;
+    add_change(out, &entry.change)?;
+    Ok(())
+}
+
+/// Appends the spelling of pending entries.
+pub fn add_pending(out: &mut Vec<u8>, entries: &[Pending]) -> Result<(), AllocError>
+    ensures spelling { OnOk result (out.new.items ≡ out.old.items ++ list_spelling pending_entry None entries.now) }
+    ensures valid { OnOk result (AllByRecursion FitsPending entries.now) }
+{
+    let mut left = entries;
+    while let Some((entry, rest)) = left.split_first() {
+        try_add_u8(out, 1)?;
+        add_entry(out, entry)?;
+        left = rest;
+    }
+    try_add_u8(out, 0)
+}

@@ -13,7 +13,7 @@ read_ok : {A : Type 0} (r : Reading A) → IsOk r → (x : A × List ℕ) × (r 
 read_ok (Ok x) h = (x, refl)
 read_ok (Err d) h = absurd cc
 
-listed_of : {A : Type 0} (f : Format A) (bytes : List ℕ) (x : List A × List ℕ) → list_at true (λ _. f) None bytes ≡ Ok x → IsListed f bytes × (items_in f bytes ≡ x.0)
+pub listed_of : {A : Type 0} (f : Format A) (bytes : List ℕ) (x : List A × List ℕ) → list_at true (λ _. f) None bytes ≡ Ok x → IsListed f bytes × (items_in f bytes ≡ x.0)
 listed_of f bytes x h = (ap is_ok h, ap items_of h)
 
 -- the first item and the rest of a list
@@ -65,3 +65,17 @@ split_of {A = A} f exact bytes behind fits listed h =
       listed = l.0;
       items = whole.1 ∙ ap (λ (y : List A × List ℕ). y.0) (sym (ok_is made r.0 b.2)) ∙ ap (λ (ys : List A). a.0.0 ∷ ys) (sym l.1);
     }
+
+-- a first item that was read
+pub split_is : {A : Type 0} (f : Format A) → IsExact f → (bytes behind : List ℕ) (x : A × List ℕ) → IsBytes bytes → IsListed f bytes → more_at true bytes ≡ Ok (true, behind) → f.reading behind ≡ Ok x → IsListed f x.1 × (items_in f bytes ≡ x.0 ∷ items_in f x.1)
+split_is {A = A} f exact bytes behind x fits listed h read =
+    let s = split_of f exact bytes behind fits listed h in
+    let made : A × List ℕ = (s.item, s.rest) in
+    subst (λ (y : A × List ℕ). IsListed f y.1 × (items_in f bytes ≡ y.0 ∷ items_in f y.1)) (ok_is made x (sym s.read ∙ read)) (s.listed, s.items)
+
+-- an item can be read
+pub item_of : {A : Type 0} (f : Format A) → IsExact f → (bytes behind : List ℕ) (left : ℕ) → IsBytes bytes → IsListed f bytes → more_at true bytes ≡ Ok (true, behind) → f.reading behind ≡ Err left → ⊥
+item_of {A = A} f exact bytes behind left fits listed h read =
+    let s = split_of f exact bytes behind fits listed h in
+    let made : A × List ℕ = (s.item, s.rest) in
+    never_err made left (sym s.read ∙ read)

@@ -1,0 +1,4 @@
+pub mod Exactness
+pub mod Split
+pub mod Reading
+pub mod PartsLemmas

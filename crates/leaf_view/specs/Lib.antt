@@ -1,0 +1,6 @@
+pub mod Leaf
+pub mod Fits
+pub mod Lookup
+pub mod Parts
+pub mod Shown
+pub mod Sound

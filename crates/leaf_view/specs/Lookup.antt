@@ -1,0 +1,28 @@
+-- What is found in a leaf.
+use Rattle.std.specs.Prelude.{ℕ, zero, suc, Bool, not, ◌&&◌, List, [], ◌∷◌, Option, Some, None, ◌==◌, if◌then◌else◌}
+use Rattle.byte_format.specs.Order.{bytes_below, bytes_same, below_bound}
+use Rattle.leaf_view.specs.declared.done.Done.{Done}
+use Rattle.leaf_view.specs.Leaf.{Entry, Leaf}
+
+-- the keys of a leaf are from its low key on and below its high key
+abbrev pub holds : Leaf → List ℕ → Bool
+holds l key = not (bytes_below key l.low) && below_bound key l.high
+
+-- the payload of the record with this key
+abbrev pub payload_of : List ℕ → List Entry → Option (List ℕ)
+payload_of key [] = None
+payload_of key (e ∷ es) = if bytes_same e.key key then Some e.payload else payload_of key es
+
+-- the number of the entry of a queue and client, 0 where there is none
+abbrev pub number_of : List Done → ℕ → ℕ → ℕ
+number_of [] queue client = 0
+number_of (d ∷ ds) queue client = if (d.queue == queue) && (d.client == client) then d.number else number_of ds queue client
+
+-- the right page, where there is one
+abbrev pub page_at : ℕ → Option ℕ
+page_at zero = None
+page_at (suc n) = Some (suc n)
+
+-- the page 1 that was never put
+abbrev pub empty_leaf : Leaf
+empty_leaf = record { version = 0; low = []; right = 0; high = None; done = []; records = [] }

@@ -1,0 +1,21 @@
+//! Leaves, borrowed from the bytes that spell them.
+#![tactic(auto)]
+
+mod done;
+mod done_list;
+mod done_rules;
+mod entry;
+mod head;
+mod laws;
+mod record_rules;
+mod records;
+mod view;
+
+pub use done::Done;
+pub use done_list::DoneList;
+pub use laws::parts_lie_in_the_bytes;
+pub use records::Records;
+pub use view::{LeafView, NotLeaf};
+
+#[cfg(test)]
+mod tests;

@@ -1,0 +1,74 @@
+//! The records of a leaf, in key order.
+
+use crate::entry::split_entry;
+use std::marker::Model;
+
+/// Records where they lie, in key order: pairs of key and payload.
+#[derive(Drop)]
+pub struct Records<'a> {
+    rest: &'a [u8],
+}
+
+impl<'a> Model for Records<'a> {
+    ghost use Rattle.std.specs.Prelude.{List};
+    ghost use Rattle.byte_format.specs.Plain.{items_in, IsListed};
+    ghost use Rattle.leaf_view.specs.Leaf.{Entry, plain_entry};
+
+    ghost Value = { List Entry };
+
+    ghost view = { λ r. items_in plain_entry r.rest.now };
+
+    ghost invariant = { λ r. IsListed plain_entry r.rest.now };
+}
+
+impl<'a> Records<'a> {
+    ghost use Rattle.std.specs.Prelude.{◌≡◌, [], ◌∷◌, MatchOption};
+    ghost use Rattle.byte_format.specs.Plain.{items_in, IsListed};
+    ghost use Rattle.leaf_view.specs.Leaf.{plain_entry};
+    ghost use Rattle.leaf_view.specs.Shown.{shown};
+
+    pub(crate) fn of(rest: &'a [u8]) -> Records<'a>
+        requires { IsListed plain_entry rest.now }
+        ensures { result ≡ items_in plain_entry rest.now }
+    {
+        Records { rest }
+    }
+
+    /// The same records from here on.
+    pub fn again(&self) -> Records<'a>
+        ensures { result ≡ self.now }
+    {
+        Records { rest: self.rest }
+    }
+
+    /// The first record, and those behind it.
+    pub fn split(self) -> Option<((&'a [u8], &'a [u8]), Records<'a>)>
+        ensures { MatchOption result (self.entry ≡ []) (λ x. self.entry ≡ shown x.0 ∷ x.1) }
+    {
+        match split_entry(self.rest) {
+            Some((key, payload, rest)) => Some(((key, payload), Records { rest })),
+            None => None,
+        }
+    }
+}
+
+impl<'a> Iterator for Records<'a> {
+    ghost use Rattle.std.specs.Iterator.{YieldsFirstBy, item_count};
+    ghost use Rattle.leaf_view.specs.Shown.{shown};
+
+    type Item = (&'a [u8], &'a [u8]);
+
+    ghost next_gives = { YieldsFirstBy shown (λ s. s) };
+
+    ghost remaining = { item_count (λ s. s) };
+
+    fn next(&mut self) -> Option<(&'a [u8], &'a [u8])> {
+        match split_entry(self.rest) {
+            Some((key, payload, rest)) => {
+                self.rest = rest;
+                Some((key, payload))
+            }
+            None => None,
+        }
+    }
+}

@@ -29,11 +29,11 @@ pub trait Cloud {
 
     /// The clock, in ticks.
     fn now(&self) -> u64
-        ensures { (s : CloudState) → state self.now ≡ Some s → result ≡ s.now };
+        ensures told { (s : CloudState) → state self.now ≡ Some s → result ≡ s.now };
 
     /// Reads some version of an object, or none.
     fn get(&mut self, who: Who, name: ObjName) -> Result<Option<Blob>, CloudFault>
-        ensures { Makes who (Get name) (answer_of Got result) (counts self.old) (counts self.new) (state self.old) (state self.new) };
+        ensures made { Makes who (Get name) (answer_of Got result) (counts self.old) (counts self.new) (state self.old) (state self.new) };
 
     /// Reads the newest version of an object under a lease, or none.
     fn get_held(
@@ -42,7 +42,7 @@ pub trait Cloud {
         name: ObjName,
         lease: &Lease,
     ) -> Result<Option<Blob>, HeldFault>
-        ensures { Makes who (GetHeld name lease.now) (held_answer_of Got result) (counts self.old) (counts self.new) (state self.old) (state self.new) };
+        ensures made { Makes who (GetHeld name lease.now) (held_answer_of Got result) (counts self.old) (counts self.new) (state self.old) (state self.new) };
 
     /// Puts a version of an object under one or two leases, which are checked in order.
     fn put_held(
@@ -53,23 +53,23 @@ pub trait Cloud {
         first: &Lease,
         second: Option<&Lease>,
     ) -> Result<(), HeldFault>
-        ensures { Makes who (PutHeld name bytes.now first.now (option_copied second.entry)) (held_answer_of done_by result) (counts self.old) (counts self.new) (state self.old) (state self.new) };
+        ensures made { Makes who (PutHeld name bytes.now first.now (option_copied second.entry)) (held_answer_of done_by result) (counts self.old) (counts self.new) (state self.old) (state self.new) };
 
     /// Sends a message.
     fn send(&mut self, who: Who, queue: QueueName, bytes: &[u8]) -> Result<MsgId, CloudFault>
-        ensures { Makes who (Send queue bytes.now) (answer_of Sent result) (counts self.old) (counts self.new) (state self.old) (state self.new) };
+        ensures made { Makes who (Send queue bytes.now) (answer_of Sent result) (counts self.old) (counts self.new) (state self.old) (state self.new) };
 
     /// Receives at most `max` of the messages that were ever sent to a queue.
     fn receive(&mut self, who: Who, queue: QueueName, max: u16) -> Result<Vec<Message>, CloudFault>
-        ensures { Makes who (Receive queue max) (answer_of (λ ms. Received ms.items) result) (counts self.old) (counts self.new) (state self.old) (state self.new) };
+        ensures made { Makes who (Receive queue max) (answer_of (λ ms. Received ms.items) result) (counts self.old) (counts self.new) (state self.old) (state self.new) };
 
     /// Deletes a message. To delete one again, or one that the queue never had, changes nothing.
     fn delete(&mut self, who: Who, queue: QueueName, id: MsgId) -> Result<(), CloudFault>
-        ensures { Makes who (Delete queue id) (answer_of done_by result) (counts self.old) (counts self.new) (state self.old) (state self.new) };
+        ensures made { Makes who (Delete queue id) (answer_of done_by result) (counts self.old) (counts self.new) (state self.old) (state self.new) };
 
     /// Takes a lock for some ticks.
     fn take(&mut self, who: Who, lock: Lock, ticks: u64) -> Result<Grant, CloudFault>
-        ensures { Makes who (Take lock ticks) (answer_of granted_by result) (counts self.old) (counts self.new) (state self.old) (state self.new) };
+        ensures made { Makes who (Take lock ticks) (answer_of granted_by result) (counts self.old) (counts self.new) (state self.old) (state self.new) };
 
     /// Moves the end of a lease and its lock to some ticks from now.
     fn renew(&mut self, who: Who, lease: &mut Lease, ticks: u64) -> Result<(), HeldFault>
@@ -78,7 +78,7 @@ pub trait Cloud {
 
     /// Gives a lease back.
     fn release(&mut self, who: Who, lease: Lease) -> Result<(), CloudFault>
-        ensures { Makes who (Release lease) (answer_of done_by result) (counts self.old) (counts self.new) (state self.old) (state self.new) };
+        ensures made { Makes who (Release lease) (answer_of done_by result) (counts self.old) (counts self.new) (state self.old) (state self.new) };
 }
 
 /// What a replay has besides: the schedule's wishes and waits, and the looks of reports and audits. None

@@ -1,6 +1,7 @@
 ghost use Rattle.std.specs.Prelude.{◌≡◌};
 
 use crate::answer::Answer;
+use std::alloc::{AllocError, AllocFailed};
 use thiserror::Error;
 
 /// Why a call did not answer.
@@ -59,5 +60,49 @@ impl HeldFault {
             HeldFault::Late { end, now } => Answer::Late { end, now },
             HeldFault::Memory => Answer::Memory,
         }
+    }
+}
+
+impl From<AllocError> for CloudFault {
+    ghost use Rattle.std.specs.Prelude.{◌≡◌};
+    ghost use Rattle.cloud_trait.specs.declared.fault.CloudFault.TheVariants.{Memory};
+
+    ghost from_gives = { λ _ e. e ≡ Memory };
+
+    fn from(_error: AllocError) -> Self {
+        CloudFault::Memory
+    }
+}
+
+impl<T: Drop> From<AllocFailed<T>> for CloudFault {
+    ghost use Rattle.std.specs.Prelude.{◌≡◌};
+    ghost use Rattle.cloud_trait.specs.declared.fault.CloudFault.TheVariants.{Memory};
+
+    ghost from_gives = { λ _ e. e ≡ Memory };
+
+    fn from(_error: AllocFailed<T>) -> Self {
+        CloudFault::Memory
+    }
+}
+
+impl From<AllocError> for HeldFault {
+    ghost use Rattle.std.specs.Prelude.{◌≡◌};
+    ghost use Rattle.cloud_trait.specs.declared.fault.HeldFault.TheVariants.{Memory};
+
+    ghost from_gives = { λ _ e. e ≡ Memory };
+
+    fn from(_error: AllocError) -> Self {
+        HeldFault::Memory
+    }
+}
+
+impl<T: Drop> From<AllocFailed<T>> for HeldFault {
+    ghost use Rattle.std.specs.Prelude.{◌≡◌};
+    ghost use Rattle.cloud_trait.specs.declared.fault.HeldFault.TheVariants.{Memory};
+
+    ghost from_gives = { λ _ e. e ≡ Memory };
+
+    fn from(_error: AllocFailed<T>) -> Self {
+        HeldFault::Memory
     }
 }

@@ -1,0 +1,236 @@
+-- What the cloud in memory does is a row of the table.
+use Rattle.std.proofs.Common.{◌≡◌, ◌<◌, ◌≤◌, ◌+◌, ◌-◌, ◌++◌, ◌⊎◌, ℕ, zero, suc, List, [], ◌∷◌, length, take, Option, Some, None, refl, ap, sym, ◌∙◌, subst, inl, inr, arith, Bool, true, false, cond, not, ◌&&◌, rules}
+use Rattle.std.specs.Prelude.{nat_le, nat_lt, min, All, IsPermutation}
+use Rattle.std.proofs.lemmas.Bool.{leb-true}
+use Rattle.std.proofs.lemmas.Bool.Decides.{leb_tells, eqb_tells}
+use Rattle.std.proofs.lemmas.List.{append_assoc, length-append, length-take}
+use Rattle.std.proofs.lemmas.List.Sorted.{IsPermutation-refl}
+use Rattle.std.specs.Bool.{◌==◌}
+use Rattle.std.specs.Prelude.{slice_get}
+use Rattle.std.specs.Option.{option_map_or}
+use Rattle.std.specs.Prelude.{is_none}
+use Rattle.std.proofs.lemmas.List.Elements.{All-nil, All-cons, All-take}
+use Rattle.db_base.specs.declared.names.ObjName.{ObjName}
+use Rattle.db_base.specs.declared.names.QueueName.{QueueName}
+use Rattle.db_base.specs.declared.names.Lock.{Lock}
+use Rattle.cloud_trait.specs.declared.answer.Answer.{Answer}
+use Rattle.cloud_trait.specs.declared.answer.Answer.TheVariants.{Got, Sent, Received, Done, Given, Held, Renewed, Late, Failed, Memory}
+use Rattle.cloud_trait.specs.declared.state.Posted.{Posted}
+use Rattle.cloud_trait.specs.declared.state.Version.{Version}
+use Rattle.cloud_trait.specs.declared.state.Hold.{Hold}
+use Rattle.cloud_trait.specs.declared.message.Message.{Message}
+use Rattle.cloud_trait.specs.Caller.{Caller}
+use Rattle.cloud_trait.specs.Claim.{Claim}
+use Rattle.cloud_trait.specs.State.{CloudState, Counts, greatest, newest, newest_of, version_at, end_after, lease_given, message_at, called, landed, taken}
+use Rattle.cloud_trait.specs.Delivery.{unmarked, unmarked_from, WasSent}
+use Rattle.cloud_trait.specs.Ask.{Ask, Get, GetHeld, PutHeld, Send, Receive, Delete, Take, Renew, Release, effect, Permits, Lands}
+use Rattle.cloud_trait.specs.Weather.{Weather, FirstOver, Fits, Makes, Leaves, Rises}
+use Rattle.cloud_trait.proofs.RowLemmas.{row_rest}
+use Rattle.memory_cloud.specs.Choice.{chosen}
+use Rattle.memory_cloud.specs.Outcome.{late, is_free, is_spent, may_land, plain_answer, in_time, old_version, positions_of, answer_in, state_in, counts_in, one_fault, one_withheld, one_stale, end_if_over, end_of_first, end_of_second, Obeys}
+use Rattle.memory_cloud.specs.declared.mood.Mood.{Mood}
+use Rattle.memory_cloud.specs.declared.mood.Mood.TheVariants as mood
+
+-- the two cases of a lease, or of a lock
+over_cases : (P : Bool → Type 0) (end now : ℕ) → (end ≤ now → P true) → (now < end → P false) → P (nat_le end now)
+over_cases P end now over lasts = elim (leb_tells end now) [ inl w ↦ subst P (sym w.0) (over w.1) | inr w ↦ subst P (sym w.0) (lasts w.1) ]
+
+-- a row of the table, with all that a call says beside it
+record IsRow (who : Caller) (ask : Ask) (a : Answer) (c d : Counts) (b t : CloudState) : Type 0 where
+  fits : Fits ask a
+  counts : Rises c d
+  dark : d.dark ≡ c.dark
+  failed : a ≡ Failed → c.faults < d.faults
+  row : Weather who ask a c d b t
+
+-- a row that raises no count
+quiet : (who : Caller) (ask : Ask) (a : Answer) (c : Counts) (b t : CloudState) → Fits ask a → (a ≡ Failed → ⊥) → Weather who ask a c c b t → IsRow who ask a c c b t
+quiet who ask a c b t fits never row = record {
+  fits = fits;
+  counts = record { faults = omega arith; withheld = omega arith; stale = omega arith; dark = omega arith };
+  dark = refl;
+  failed = λ e. absurd (never e);
+  row = row
+}
+
+-- a row that failed
+failing : (who : Caller) (ask : Ask) (c : Counts) (b t : CloudState) → (t ≡ b) ⊎ Lands who ask b t → IsRow who ask Failed c (one_fault c) b t
+failing who ask c b t row = record {
+  fits = tt;
+  counts = record { faults = omega arith; withheld = omega arith; stale = omega arith; dark = omega arith };
+  dark = refl;
+  failed = λ e. omega arith;
+  row = row
+}
+
+-- a row that withheld something
+withholding : (who : Caller) (ask : Ask) (a : Answer) (c : Counts) (b t : CloudState) → Fits ask a → (a ≡ Failed → ⊥) → Weather who ask a c (one_withheld c) b t → IsRow who ask a c (one_withheld c) b t
+withholding who ask a c b t fits never row = record {
+  fits = fits;
+  counts = record { faults = omega arith; withheld = omega arith; stale = omega arith; dark = omega arith };
+  dark = refl;
+  failed = λ e. absurd (never e);
+  row = row
+}
+
+-- a row that is stale
+staling : (who : Caller) (ask : Ask) (a : Answer) (c : Counts) (b t : CloudState) → Fits ask a → (a ≡ Failed → ⊥) → Weather who ask a c (one_stale c) b t → IsRow who ask a c (one_stale c) b t
+staling who ask a c b t fits never row = record {
+  fits = fits;
+  counts = record { faults = omega arith; withheld = omega arith; stale = omega arith; dark = omega arith };
+  dark = refl;
+  failed = λ e. absurd (never e);
+  row = row
+}
+
+-- a successor is not 0
+suc-eqb-zero : (n : ℕ) → (suc n == 0) ≡ false
+suc-eqb-zero n = elim (eqb_tells (suc n) 0) [ inl w ↦ absurd (omega (arith, w.1)) | inr w ↦ w.0 ]
+
+-- the newest version is the last one
+newest_of-version_at : (vs : List Version) → newest_of vs ≡ version_at vs (length vs)
+newest_of-version_at [] = refl
+newest_of-version_at (v ∷ vs) = rw (suc-eqb-zero (length vs))
+
+slice_get-append : (front : List Posted) (m : Posted) (ms : List Posted) → slice_get (front ++ m ∷ ms) (length front) ≡ Some m
+slice_get-append [] m ms = refl
+slice_get-append (x ∷ front) m ms = slice_get-append front m ms
+
+-- a message stands under its number behind a front
+message_at-append : (front : List Posted) (m : Posted) (ms : List Posted) (n : ℕ) → n ≡ length front + 1 → message_at (front ++ m ∷ ms) n ≡ Some m.bytes
+message_at-append front m ms n e =
+    let z : (n == 0) ≡ false = elim (eqb_tells n 0) [ inl w ↦ absurd (omega (arith, w.1)) | inr w ↦ w.0 ] in
+    let f : n - 1 ≡ length front = omega arith in
+    rw (z, f, slice_get-append front m ms)
+
+-- what is not deleted was sent
+unmarked_from-sent : (front ms all : List Posted) (n : ℕ) → n ≡ length front + 1 → all ≡ front ++ ms → All (WasSent all) (unmarked_from n ms)
+unmarked_from-sent front [] all n e a = All-nil (WasSent all)
+unmarked_from-sent front (m ∷ ms) all n e a = on m.deleted (unmarked_from-sent (front ++ m ∷ []) ms all (n + 1) (omega (arith, length-append front (m ∷ []))) (a ∙ sym (append_assoc front (m ∷ []) ms))) where
+  on : (c : Bool) → All (WasSent all) (unmarked_from (n + 1) ms) → All (WasSent all) (cond c (unmarked_from (n + 1) ms) (record { id = n; bytes = m.bytes } ∷ unmarked_from (n + 1) ms))
+  on true h = h
+  on false h = All-cons (WasSent all) (record { id = n; bytes = m.bytes }) (unmarked_from (n + 1) ms) (rw a (message_at-append front m ms n e)) h
+
+-- what is chosen was sent
+chosen-sent : (ms : List Posted) (ps : List ℕ) → All (WasSent ms) (chosen ms ps)
+chosen-sent ms [] = All-nil (WasSent ms)
+chosen-sent ms (p ∷ ps) = on (message_at ms p) refl (chosen-sent ms ps) where
+  on : (o : Option (List ℕ)) → message_at ms p ≡ o → All (WasSent ms) (chosen ms ps) → All (WasSent ms) (option_map_or (λ bytes. record { id = p; bytes = bytes } ∷ chosen ms ps) o (chosen ms ps))
+  on None e h = h
+  on (Some bytes) e h = All-cons (WasSent ms) (record { id = p; bytes = bytes }) (chosen ms ps) e h
+
+-- a put whose first lease lasts
+put_plain : (who : Caller) (name : ObjName) (bytes : List ℕ) (one : Claim) (two : Option Claim) (b : CloudState) (c : Counts) → b.now < one.end → IsRow who (PutHeld name bytes one two) (in_time (end_of_second b.now two) b.now Done) c c b (cond (is_none (end_of_second b.now two)) (landed who name bytes b) b)
+put_plain who name bytes one None b c lasts = quiet who (PutHeld name bytes one None) Done c b (landed who name bytes b) tt (λ e. absurd (cc)) (refl, (lasts, tt))
+put_plain who name bytes one (Some l) b c lasts = over_cases (λ o. IsRow who (PutHeld name bytes one (Some l)) (in_time (cond o (Some l.end) None) b.now Done) c c b (cond (is_none (cond o (Some l.end) None)) (landed who name bytes b) b)) l.end b.now
+    (λ over. quiet who (PutHeld name bytes one (Some l)) (Late l.end b.now) c b b (inr (lasts, (over, refl))) (λ e. absurd (cc)) (refl, inr (lasts, (over, refl)), refl))
+    (λ second. quiet who (PutHeld name bytes one (Some l)) Done c b (landed who name bytes b) tt (λ e. absurd (cc)) (refl, (lasts, second)))
+
+-- a take of a lock whose end is over or not, and whose generation can rise or not
+take_plain : (who : Caller) (lock : Lock) (ticks : ℕ) (b : CloudState) (c : Counts) (rises : Bool) → IsRow who (Take lock ticks) (cond (nat_le (b.locks lock).until b.now && rises) (Given (lease_given lock ticks b)) (Held (b.locks lock).until)) c (cond (nat_le (b.locks lock).until b.now && not rises) (one_withheld c) c) b (cond (nat_le (b.locks lock).until b.now && rises) (taken lock ticks b) b)
+take_plain who lock ticks b c rises = over_cases (λ o. IsRow who (Take lock ticks) (cond (o && rises) (Given (lease_given lock ticks b)) (Held (b.locks lock).until)) c (cond (o && not rises) (one_withheld c) c) b (cond (o && rises) (taken lock ticks b) b)) (b.locks lock).until b.now
+    (λ over. on over rises)
+    (λ held. quiet who (Take lock ticks) (Held (b.locks lock).until) c b b tt (λ e. absurd (cc)) (refl, inl (refl, held)))
+  where
+  on : (b.locks lock).until ≤ b.now → (g : Bool) → IsRow who (Take lock ticks) (cond g (Given (lease_given lock ticks b)) (Held (b.locks lock).until)) c (cond (not g) (one_withheld c) c) b (cond g (taken lock ticks b) b)
+  on over true = quiet who (Take lock ticks) (Given (lease_given lock ticks b)) c b (taken lock ticks b) refl (λ e. absurd (cc)) ((refl, over), refl)
+  on over false = withholding who (Take lock ticks) (Held (b.locks lock).until) c b b tt (λ e. absurd (cc)) (refl, inr (omega arith))
+
+-- what is taken is no longer than wanted
+take-short : {X : Type 0} (n : ℕ) (xs : List X) → length (take n xs) ≤ n
+take-short n xs = omega (arith, length-take n xs)
+
+-- a plain call
+plain : (who : Caller) (ask : Ask) (b : CloudState) (c : Counts) → IsRow who ask (in_time (late ask b) b.now (plain_answer ask b)) c (counts_in mood.Plain ask b c) b (cond (may_land ask b) (effect who ask b) b)
+plain who (Get name) b c = quiet who (Get name) _ c b b tt (λ e. absurd (cc)) (refl, (length (b.versions name), newest_of-version_at (b.versions name)), inl refl)
+plain who (GetHeld name l) b c = over_cases (λ o. IsRow who (GetHeld name l) (in_time (cond o (Some l.end) None) b.now (Got (newest b name))) c c b (cond (is_none (cond o (Some l.end) None)) b b)) l.end b.now
+    (λ over. quiet who (GetHeld name l) (Late l.end b.now) c b b (over, refl) (λ e. absurd (cc)) (refl, over, refl, refl))
+    (λ lasts. quiet who (GetHeld name l) (Got (newest b name)) c b b tt (λ e. absurd (cc)) (refl, lasts, refl))
+plain who (PutHeld name bytes one two) b c = over_cases (λ o. IsRow who (PutHeld name bytes one two) (in_time (cond o (Some one.end) (end_of_second b.now two)) b.now Done) c c b (cond (is_none (cond o (Some one.end) (end_of_second b.now two))) (landed who name bytes b) b)) one.end b.now
+    (λ over. quiet who (PutHeld name bytes one two) (Late one.end b.now) c b b (inl (over, refl)) (λ e. absurd (cc)) (refl, inl (over, refl), refl))
+    (λ lasts. put_plain who name bytes one two b c lasts)
+plain who (Send queue bytes) b c = quiet who (Send queue bytes) _ c b (effect who (Send queue bytes) b) tt (λ e. absurd (cc)) ((refl, tt), refl)
+plain who (Receive queue most) b c = quiet who (Receive queue most) _ c b b (take-short most (unmarked (b.messages queue))) (λ e. absurd (cc)) (refl, All-take (WasSent (b.messages queue)) most (unmarked (b.messages queue)) (unmarked_from-sent [] (b.messages queue) (b.messages queue) 1 refl refl), inl (IsPermutation-refl (take most (unmarked (b.messages queue)))))
+plain who (Delete queue id) b c = quiet who (Delete queue id) Done c b (effect who (Delete queue id) b) tt (λ e. absurd (cc)) (refl, tt)
+plain who (Take lock ticks) b c = take_plain who lock ticks b c (nat_lt (b.locks lock).generation greatest)
+plain who (Renew l ticks) b c = over_cases (λ o. IsRow who (Renew l ticks) (in_time (cond o (Some l.end) None) b.now (Renewed (end_after b.now ticks))) c c b (cond (is_none (cond o (Some l.end) None)) (effect who (Renew l ticks) b) b)) l.end b.now
+    (λ over. quiet who (Renew l ticks) (Late l.end b.now) c b b (over, refl) (λ e. absurd (cc)) (refl, over, refl, refl))
+    (λ lasts. quiet who (Renew l ticks) (Renewed (end_after b.now ticks)) c b (effect who (Renew l ticks) b) tt (λ e. absurd (cc)) ((refl, lasts), refl))
+plain who (Release l) b c = quiet who (Release l) Done c b (effect who (Release l) b) tt (λ e. absurd (cc)) (refl, tt)
+
+-- a put that is lost, whose first lease lasts
+put_lost : (who : Caller) (name : ObjName) (bytes : List ℕ) (one : Claim) (two : Option Claim) (b : CloudState) (c : Counts) → b.now < one.end → IsRow who (PutHeld name bytes one two) (in_time (end_of_second b.now two) b.now Failed) c (cond (is_none (end_of_second b.now two)) (one_fault c) c) b (cond (is_none (end_of_second b.now two)) (landed who name bytes b) b)
+put_lost who name bytes one None b c lasts = failing who (PutHeld name bytes one None) c b (landed who name bytes b) (inr (refl, (lasts, tt)))
+put_lost who name bytes one (Some l) b c lasts = over_cases (λ o. IsRow who (PutHeld name bytes one (Some l)) (in_time (cond o (Some l.end) None) b.now Failed) c (cond (is_none (cond o (Some l.end) None)) (one_fault c) c) b (cond (is_none (cond o (Some l.end) None)) (landed who name bytes b) b)) l.end b.now
+    (λ over. quiet who (PutHeld name bytes one (Some l)) (Late l.end b.now) c b b (inr (lasts, (over, refl))) (λ e. absurd (cc)) (refl, inr (lasts, (over, refl)), refl))
+    (λ second. failing who (PutHeld name bytes one (Some l)) c b (landed who name bytes b) (inr (refl, (lasts, second))))
+
+-- a take that is lost
+take_lost : (who : Caller) (lock : Lock) (ticks : ℕ) (b : CloudState) (c : Counts) (rises : Bool) → IsRow who (Take lock ticks) Failed c (one_fault c) b (cond (nat_le (b.locks lock).until b.now && rises) (taken lock ticks b) b)
+take_lost who lock ticks b c rises = over_cases (λ o. IsRow who (Take lock ticks) Failed c (one_fault c) b (cond (o && rises) (taken lock ticks b) b)) (b.locks lock).until b.now
+    (λ over. on over rises)
+    (λ held. failing who (Take lock ticks) c b b (inl refl))
+  where
+  on : (b.locks lock).until ≤ b.now → (g : Bool) → IsRow who (Take lock ticks) Failed c (one_fault c) b (cond g (taken lock ticks b) b)
+  on over true = failing who (Take lock ticks) c b (taken lock ticks b) (inr (refl, over))
+  on over false = failing who (Take lock ticks) c b b (inl refl)
+
+-- a call that is lost
+lost : (who : Caller) (ask : Ask) (b : CloudState) (c : Counts) → IsRow who ask (in_time (late ask b) b.now Failed) c (counts_in mood.Lost ask b c) b (cond (may_land ask b) (effect who ask b) b)
+lost who (Get name) b c = failing who (Get name) c b b (inl refl)
+lost who (GetHeld name l) b c = over_cases (λ o. IsRow who (GetHeld name l) (in_time (cond o (Some l.end) None) b.now Failed) c (cond (is_none (cond o (Some l.end) None)) (one_fault c) c) b (cond (is_none (cond o (Some l.end) None)) b b)) l.end b.now
+    (λ over. quiet who (GetHeld name l) (Late l.end b.now) c b b (over, refl) (λ e. absurd (cc)) (refl, over, refl, refl))
+    (λ lasts. failing who (GetHeld name l) c b b (inl refl))
+lost who (PutHeld name bytes one two) b c = over_cases (λ o. IsRow who (PutHeld name bytes one two) (in_time (cond o (Some one.end) (end_of_second b.now two)) b.now Failed) c (cond (is_none (cond o (Some one.end) (end_of_second b.now two))) (one_fault c) c) b (cond (is_none (cond o (Some one.end) (end_of_second b.now two))) (landed who name bytes b) b)) one.end b.now
+    (λ over. quiet who (PutHeld name bytes one two) (Late one.end b.now) c b b (inl (over, refl)) (λ e. absurd (cc)) (refl, inl (over, refl), refl))
+    (λ lasts. put_lost who name bytes one two b c lasts)
+lost who (Send queue bytes) b c = failing who (Send queue bytes) c b (effect who (Send queue bytes) b) (inr (refl, tt))
+lost who (Receive queue most) b c = failing who (Receive queue most) c b b (inl refl)
+lost who (Delete queue id) b c = failing who (Delete queue id) c b (effect who (Delete queue id) b) (inr (refl, tt))
+lost who (Take lock ticks) b c = take_lost who lock ticks b c (nat_lt (b.locks lock).generation greatest)
+lost who (Renew l ticks) b c = over_cases (λ o. IsRow who (Renew l ticks) (in_time (cond o (Some l.end) None) b.now Failed) c (cond (is_none (cond o (Some l.end) None)) (one_fault c) c) b (cond (is_none (cond o (Some l.end) None)) (effect who (Renew l ticks) b) b)) l.end b.now
+    (λ over. quiet who (Renew l ticks) (Late l.end b.now) c b b (over, refl) (λ e. absurd (cc)) (refl, over, refl, refl))
+    (λ lasts. failing who (Renew l ticks) c b (effect who (Renew l ticks) b) (inr (refl, lasts)))
+lost who (Release l) b c = failing who (Release l) c b (effect who (Release l) b) (inr (refl, tt))
+
+-- what a call does is a row of the table, in every mood
+row_in : (m : Mood) (who : Caller) (ask : Ask) (b : CloudState) (c : Counts) → IsRow who ask (answer_in m ask b) c (counts_in m ask b c) b (state_in m who ask b)
+row_in mood.Plain who (Take lock ticks) b c = plain who (Take lock ticks) b c
+row_in mood.Fail who ask b c = failing who ask c b b (inl refl)
+row_in mood.Lost who ask b c = lost who ask b c
+row_in mood.Hide who (Receive queue most) b c = withholding who (Receive queue most) (Received []) c b b (omega arith) (λ e. absurd (cc)) (refl, All-nil (WasSent (b.messages queue)), inr (omega arith))
+row_in mood.Hide who (Take lock ticks) b c = withholding who (Take lock ticks) (Held b.now) c b b tt (λ e. absurd (cc)) (refl, inr (omega arith))
+row_in (mood.Old n) who (Get name) b c = staling who (Get name) (Got (old_version (b.versions name) n)) c b b tt (λ e. absurd (cc)) (refl, (min n (length (b.versions name)), refl), inr (omega arith))
+row_in mood.Give who (Receive queue most) b c =
+    withholding who (Receive queue most) (Received (take most (chosen (b.messages queue) (positions_of b.last)))) c b b (take-short most (chosen (b.messages queue) (positions_of b.last))) (λ e. absurd (cc))
+    (refl, All-take (WasSent (b.messages queue)) most (chosen (b.messages queue) (positions_of b.last)) (chosen-sent (b.messages queue) (positions_of b.last)), inr (omega arith))
+row_in m who ask b c = plain who ask b c
+
+-- a call that obeys its mood is a row
+obeys_row : (m : Mood) (who : Caller) (ask : Ask) (a : Answer) (c d : Counts) (b t : CloudState) → Obeys m who ask a c d b t → IsRow who ask a c d b t
+obeys_row m who ask a c d b t (inl o) =
+    let P : Answer → Type 0 = λ x. IsRow who ask x c d b t in
+    let Q : CloudState → Type 0 = λ x. IsRow who ask (answer_in m ask b) c d b x in
+    let R : Counts → Type 0 = λ x. IsRow who ask (answer_in m ask b) c x b (state_in m who ask b) in
+    subst P (sym o.0) (subst Q (sym o.1) (subst R (sym o.2) (row_in m who ask b c)))
+obeys_row m who ask a c d b t (inr o) =
+    let P : Answer → Type 0 = λ x. IsRow who ask x c d b t in
+    let Q : CloudState → Type 0 = λ x. IsRow who ask Memory c d b x in
+    let R : Counts → Type 0 = λ x. IsRow who ask Memory c x b b in
+    subst P (sym o.0) (subst Q (sym o.1) (subst R (sym o.2) (quiet who ask Memory c b b tt (λ e. absurd (cc)) refl)))
+
+-- and so is what a service call is
+pub obeys_makes : (m : Mood) (who : Caller) (ask : Ask) (a : Answer) (c d : Counts) (s t : CloudState) → Obeys m who ask a c d (called who s.now s) t → Makes who ask a c d (Some s) (Some t)
+obeys_makes m who ask a c d s t o =
+    let r = obeys_row m who ask a c d (called who s.now s) t o in
+    let still : t.now ≡ s.now = (row_rest who ask a c d (called who s.now s) t r.row).now in
+    let P : ℕ → Type 0 = λ n. Weather who ask a c d (called who n s) t in
+    let leaves : Leaves who ask a c d s (Some t) = record { after = t; told = refl; later = omega arith; row = subst P (sym still) r.row } in
+    let Q : CloudState → Type 0 = λ u. Leaves who ask a c d u (Some t) in
+    record {
+      fits = r.fits;
+      counts = r.counts;
+      dark = r.dark;
+      failed = r.failed;
+      state = λ u e. (let same : s ≡ u = cc in subst Q same leaves)
+    }

@@ -1,0 +1,5 @@
+pub mod Choice
+pub mod Maps
+pub mod Memory
+pub mod Mood
+pub mod Outcome

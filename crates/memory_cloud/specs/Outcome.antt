@@ -1,0 +1,124 @@
+-- What the cloud in memory answers and leaves, exactly.
+use Rattle.std.specs.Prelude.{ℕ, ◌≡◌, ◌+◌, ◌&&◌, ◌⊎◌, Bool, true, cond, not, nat_le, nat_lt, min, List, [], length, take, Option, Some, None, is_none}
+use Rattle.db_base.specs.declared.wish.Wish.{Wish}
+use Rattle.db_base.specs.declared.wish.Wish.TheVariants.{Give}
+use Rattle.cloud_trait.specs.declared.answer.Answer.{Answer}
+use Rattle.cloud_trait.specs.declared.answer.Answer.TheVariants.{Got, Sent, Received, Done, Given, Held, Renewed, Late, Failed, Memory}
+use Rattle.cloud_trait.specs.declared.state.Version.{Version}
+use Rattle.cloud_trait.specs.declared.state.Hold.{Hold}
+use Rattle.cloud_trait.specs.Caller.{Caller}
+use Rattle.cloud_trait.specs.Claim.{Claim}
+use Rattle.cloud_trait.specs.State.{CloudState, Counts, greatest, newest, version_at, end_after, lease_given}
+use Rattle.cloud_trait.specs.Delivery.{unmarked}
+use Rattle.cloud_trait.specs.Ask.{Ask, Get, GetHeld, PutHeld, Send, Receive, Delete, Take, Renew, Release, effect}
+use Rattle.memory_cloud.specs.Choice.{chosen}
+use Rattle.memory_cloud.specs.declared.mood.Mood.{Mood}
+use Rattle.memory_cloud.specs.declared.mood.Mood.TheVariants as mood
+
+-- the end of the lease, where it is over
+abbrev pub end_if_over : ℕ → Claim → Option ℕ
+end_if_over now l = cond (nat_le l.end now) (Some l.end) None
+
+-- the end of the second lease, where there is one and it is over
+abbrev pub end_of_second : ℕ → Option Claim → Option ℕ
+end_of_second now None = None
+end_of_second now (Some l) = end_if_over now l
+
+-- the end of the first lease that is over
+abbrev pub end_of_first : ℕ → Claim → Option Claim → Option ℕ
+end_of_first now one two = cond (nat_le one.end now) (Some one.end) (end_of_second now two)
+
+-- the end of the first lease that the call names and that is over
+abbrev pub late : Ask → CloudState → Option ℕ
+late (GetHeld name l) b = end_if_over b.now l
+late (PutHeld name bytes one two) b = end_of_first b.now one two
+late (Renew l ticks) b = end_if_over b.now l
+late ask b = None
+
+-- a lock can be given: it is not held, and its generation can rise
+abbrev pub is_free : Hold → ℕ → Bool
+is_free h now = nat_le h.until now && nat_lt h.generation greatest
+
+-- a lock that is not held, and whose generation cannot rise
+abbrev pub is_spent : Hold → ℕ → Bool
+is_spent h now = nat_le h.until now && not (nat_lt h.generation greatest)
+
+-- the call may land
+abbrev pub may_land : Ask → CloudState → Bool
+may_land (Take lock ticks) b = is_free (b.locks lock) b.now
+may_land ask b = is_none (late ask b)
+
+-- what a call under leases that last answers
+abbrev pub plain_answer : Ask → CloudState → Answer
+plain_answer (Get name) b = Got (newest b name)
+plain_answer (GetHeld name l) b = Got (newest b name)
+plain_answer (PutHeld name bytes one two) b = Done
+plain_answer (Send queue bytes) b = Sent (length (b.messages queue) + 1)
+plain_answer (Receive queue most) b = Received (take most (unmarked (b.messages queue)))
+plain_answer (Delete queue id) b = Done
+plain_answer (Take lock ticks) b = cond (is_free (b.locks lock) b.now) (Given (lease_given lock ticks b)) (Held (b.locks lock).until)
+plain_answer (Renew l ticks) b = Renewed (end_after b.now ticks)
+plain_answer (Release l) b = Done
+
+-- Late where a lease is over
+abbrev pub in_time : Option ℕ → ℕ → Answer → Answer
+in_time None now a = a
+in_time (Some e) now a = Late e now
+
+-- the n-th version, none for 0, the newest where n is too large
+abbrev pub old_version : List Version → ℕ → Option (List ℕ)
+old_version vs n = version_at vs (min n (length vs))
+
+-- the positions that a wish gives
+abbrev pub positions_in : Wish → List ℕ
+positions_in (Give ps) = ps
+positions_in w = []
+
+-- the positions that the wish of the newest call gives
+abbrev pub positions_of : Option (Caller × Wish) → List ℕ
+positions_of None = []
+positions_of (Some l) = positions_in l.1
+
+-- what the call answers
+abbrev pub answer_in : Mood → Ask → CloudState → Answer
+answer_in mood.Fail ask b = Failed
+answer_in mood.Lost ask b = in_time (late ask b) b.now Failed
+answer_in mood.Hide (Receive queue most) b = Received []
+answer_in mood.Hide (Take lock ticks) b = Held b.now
+answer_in (mood.Old n) (Get name) b = Got (old_version (b.versions name) n)
+answer_in mood.Give (Receive queue most) b = Received (take most (chosen (b.messages queue) (positions_of b.last)))
+answer_in m ask b = in_time (late ask b) b.now (plain_answer ask b)
+
+-- what the call leaves
+abbrev pub state_in : Mood → Caller → Ask → CloudState → CloudState
+state_in mood.Fail who ask b = b
+state_in mood.Hide who (Take lock ticks) b = b
+state_in m who ask b = cond (may_land ask b) (effect who ask b) b
+
+-- one failure more
+abbrev pub one_fault : Counts → Counts
+one_fault c = record c { faults = c.faults + 1 }
+
+-- one withheld message or lock more
+abbrev pub one_withheld : Counts → Counts
+one_withheld c = record c { withheld = c.withheld + 1 }
+
+-- one stale get more
+abbrev pub one_stale : Counts → Counts
+one_stale c = record c { stale = c.stale + 1 }
+
+-- what the call leaves of the counts
+abbrev pub counts_in : Mood → Ask → CloudState → Counts → Counts
+counts_in mood.Fail ask b c = one_fault c
+counts_in mood.Lost ask b c = cond (is_none (late ask b)) (one_fault c) c
+counts_in mood.Hide (Receive queue most) b c = one_withheld c
+counts_in mood.Hide (Take lock ticks) b c = one_withheld c
+counts_in (mood.Old n) (Get name) b c = one_stale c
+counts_in mood.Give (Receive queue most) b c = one_withheld c
+counts_in m (Take lock ticks) b c = cond (is_spent (b.locks lock) b.now) (one_withheld c) c
+counts_in m ask b c = c
+
+-- a call did what its mood says, or memory ran out and it did nothing
+abbrev pub Obeys : Mood → Caller → Ask → Answer → Counts → Counts → CloudState → CloudState → Type 0
+Obeys m who ask a c d b t =
+    ((a ≡ answer_in m ask b) × (t ≡ state_in m who ask b) × (d ≡ counts_in m ask b c)) ⊎ ((a ≡ Memory) × (t ≡ b) × (d ≡ c))

@@ -1,0 +1,95 @@
+ghost use Rattle.std.specs.Prelude.{◌≡◌, ◌++◌, take, OnOk, IfOk};
+ghost use Rattle.std.specs.Option.{option_copied};
+ghost use Rattle.cloud_trait.specs.State.{newest_of, version_at, message_at};
+ghost use Rattle.memory_cloud.specs.Choice.{chosen, chosen_at};
+ghost use Rattle.memory_cloud.specs.Outcome.{old_version};
+
+use cloud_trait::message::Message;
+use cloud_trait::state::{Posted, Version};
+use db_base::blob::Blob;
+use db_base::ids::MsgId;
+use std::alloc::{AllocError, Global};
+
+/// The bytes of the n-th version, from 1.
+pub fn version_bytes(versions: &[Version], n: u64) -> Option<&[u8]>
+    ensures { option_copied result ≡ version_at versions.now n }
+{
+    if n == 0 {
+        return None;
+    }
+    match versions.get((n - 1) as usize) {
+        Some(version) => Some(version.bytes.as_slice()),
+        None => None,
+    }
+}
+
+/// The bytes of the message of this number, from 1.
+pub fn message_bytes(messages: &[Posted], id: u64) -> Option<&[u8]>
+    ensures { option_copied result ≡ message_at messages.now id }
+{
+    if id == 0 {
+        return None;
+    }
+    match messages.get((id - 1) as usize) {
+        Some(message) => Some(message.bytes.as_slice()),
+        None => None,
+    }
+}
+
+/// A copy of bytes, where there are some.
+fn copied(alloc: Global, bytes: Option<&[u8]>) -> Result<Option<Blob>, AllocError>
+    ensures { IfOk result (λ v. v ≡ option_copied bytes.entry) }
+{
+    match bytes {
+        Some(bytes) => Ok(Some(Blob::copy_of(alloc, bytes)?)),
+        None => Ok(None),
+    }
+}
+
+/// A copy of the newest version's bytes.
+pub fn copy_newest(alloc: Global, versions: &[Version]) -> Result<Option<Blob>, AllocError>
+    ensures { IfOk result (λ v. v ≡ newest_of versions.now) }
+{
+    match versions.last() {
+        Some(version) => Ok(Some(Blob::copy_of(alloc, version.bytes.as_slice())?)),
+        None => Ok(None),
+    }
+}
+
+/// A copy of the n-th version's bytes, or of the newest where n is too large.
+pub fn copy_old(alloc: Global, versions: &[Version], n: u64) -> Result<Option<Blob>, AllocError>
+    ensures { IfOk result (λ v. v ≡ old_version versions.now n) }
+{
+    let n = n.min(versions.len() as u64);
+    copied(alloc, version_bytes(versions, n))
+}
+
+/// Copies of the first so many messages at these positions.
+pub fn copy_chosen(alloc: Global, messages: &[Posted], positions: &[u64], most: usize) -> Result<Vec<Message>, AllocError>
+    ensures { IfOk result (λ v. v.items ≡ take most (chosen messages.now positions.now)) }
+{
+    let mut out = Vec::new(alloc);
+    let mut left = positions;
+    while let Some((position, rest)) = left.split_first() {
+        if out.len() >= most {
+            break;
+        }
+        push_chosen(alloc, &mut out, messages, *position)?;
+        left = rest;
+    }
+    Ok(out)
+}
+
+// Adds a copy of the message at a position, if there is one.
+fn push_chosen(alloc: Global, out: &mut Vec<Message>, messages: &[Posted], position: u64) -> Result<(), AllocError>
+    ensures { OnOk result (out.new.items ≡ out.old.items ++ chosen_at messages.now position) }
+{
+    if let Some(bytes) = message_bytes(messages, position) {
+        let bytes = Blob::copy_of(alloc, bytes)?;
+        out.push(Message {
+            id: MsgId::new(position),
+            bytes,
+        })?;
+    }
+    Ok(())
+}

@@ -1,0 +1,10 @@
+//! The cloud in memory, which tells its state and obeys the schedule's wishes.
+#![tactic(auto)]
+
+mod copies;
+mod locks;
+mod memory;
+pub mod mood;
+mod objects;
+mod queue;
+mod queues;

@@ -1,1 +1,2 @@
+pub mod AtomicLaws
 pub mod PuLaws

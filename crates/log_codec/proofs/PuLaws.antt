@@ -76,3 +76,11 @@ pu_of-spelling bytes r s = decoded-spelling pu_record pu_exact bytes r s
 pub pu_bytes-fields : (r : PuRec) → r.client < 256 → (80 ∷ 1 ∷ r.client ∷ []) ++ (to_be_bytes w64 r.epoch ++ (to_be_bytes w64 r.txn ++ (to_be_bytes w64 r.number ++ change_bytes r.change))) ≡ pu_bytes r
 unfolding pu_bytes
 pu_bytes-fields r small = ap (λ (client : List ℕ). 80 ∷ 1 ∷ client ++ (to_be_bytes w64 r.epoch ++ (to_be_bytes w64 r.txn ++ (to_be_bytes w64 r.number ++ change_bytes r.change)))) (sym (to_be_bytes-byte r.client small))
+
+-- a record that is written is read again
+pub pu_of-bytes : (r : PuRec) → IsPuRecord r → pu_of (pu_bytes r) ≡ Some r
+pu_of-bytes r is = pu_of-spelling (pu_bytes r) r (pu_spells r (pu_bytes r) is refl)
+
+-- what is decoded is a record, and the bytes are its spelling
+pub pu_of-some : (bytes : List ℕ) (r : PuRec) → pu_of bytes ≡ Some r → IsPuRecord r × (bytes ≡ pu_bytes r)
+pu_of-some bytes r e = let s = pu_of_spells bytes r e in (IsPuRecord-fits r s.fits, s.is)

@@ -19,7 +19,7 @@ const FORMAT: u8 = 1;
 
 /// The record at the front of bytes, and the bytes behind it.
 #[tactic(auto, unfolding(crate::specs::Pu::pu_at))]
-fn record_at(alloc: Global, bytes: &[u8]) -> Result<(PuRec, &[u8]), ReadFault>
+fn front_record(alloc: Global, bytes: &[u8]) -> Result<(PuRec, &[u8]), ReadFault>
     ensures { GivesOwned (λ x. (x.0, x.1.now)) result (pu_at bytes.now) }
 {
     let rest = mark_at(bytes, MARK)?;
@@ -42,10 +42,10 @@ fn record_at(alloc: Global, bytes: &[u8]) -> Result<(PuRec, &[u8]), ReadFault>
 }
 
 /// The record that all of the bytes spell.
-fn record_of(alloc: Global, bytes: &[u8]) -> Result<PuRec, ReadFault>
+fn whole_record(alloc: Global, bytes: &[u8]) -> Result<PuRec, ReadFault>
     ensures { GivesOwned (λ r. r) result (whole pu_record bytes.now) }
 {
-    let (rec, rest) = record_at(alloc, bytes)?;
+    let (rec, rest) = front_record(alloc, bytes)?;
     if !rest.is_empty() {
         return Err(ReadFault::Stopped(Stop::at(rest)));
     }
@@ -78,7 +78,7 @@ impl PuRec {
         ensures offset { IfErr result (λ e. IsAt e (pu_offset bytes.now)) }
         ensures decoded { Decodes result (pu_of bytes.now) }
     {
-        match record_of(alloc, bytes) {
+        match whole_record(alloc, bytes) {
             Ok(rec) => Ok(rec),
             Err(ReadFault::Stopped(stop)) => Err(RecFault::NotRecord {
                 offset: stop.offset(bytes),

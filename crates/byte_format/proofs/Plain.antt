@@ -7,7 +7,7 @@ use Rattle.byte_format.specs.Format.{Reading, ◌>>=◌, Format, more_at, list_f
 use Rattle.byte_format.specs.Whole.{IsBytes, IsExact}
 use Rattle.byte_format.specs.Plain.{plain_list, items_of, items_in, IsListed}
 use Rattle.byte_format.proofs.Steps.{bind_ok, bind_err, ok_is, never_err, IsBytes-along, IsBytes-behind, IsBytes-rest}
-use Rattle.byte_format.proofs.Lists.{continuation, more_takes, list_next, list_behind, list_from-suc, list_takes, list_exact}
+use Rattle.byte_format.proofs.Lists.{continuation, more_takes, list_next, list_behind, list_from-suc, list_takes, list_exact, length-list_spelling}
 
 read_ok : {A : Type 0} (r : Reading A) → IsOk r → (x : A × List ℕ) × (r ≡ Ok x)
 read_ok (Ok x) h = (x, refl)
@@ -79,3 +79,11 @@ item_of {A = A} f exact bytes behind left fits listed h read =
     let s = split_of f exact bytes behind fits listed h in
     let made : A × List ℕ = (s.item, s.rest) in
     never_err made left (sym s.read ∙ read)
+
+-- each item takes a byte
+pub length-items_in : {A : Type 0} (f : Format A) → IsExact f → (bytes : List ℕ) → IsBytes bytes → IsListed f bytes → length (items_in f bytes) < length bytes
+length-items_in {A = A} f exact bytes fits listed =
+    let r = read_ok (list_at true (λ _. f) None bytes) listed in
+    let l = listed_of f bytes r.0 r.1 in
+    let p = (list_exact true (λ (_ : Option A). f) None (λ _. exact)).takes bytes r.0 fits r.1 in
+    omega (arith, ap length l.1, ap length p.1, length-append (list_spelling (λ _. f) None r.0.0) r.0.1, length-list_spelling (λ (_ : Option A). f) None r.0.0)

@@ -1,6 +1,6 @@
 //! A record where it lies.
 
-ghost use Rattle.std.specs.Prelude.{◌≡◌, [], ◌∷◌, MatchOption};
+ghost use Rattle.std.specs.Prelude.{◌≡◌, [], ◌∷◌, length, MatchOption};
 ghost use Rattle.byte_format.specs.Plain.{items_in, IsListed};
 ghost use Rattle.leaf_view.specs.Leaf.{entry_of, plain_entry};
 ghost use Rattle.byte_format.specs.Gives.{Gives};
@@ -64,4 +64,18 @@ pub(crate) fn split_entry(bytes: &[u8]) -> Option<(&[u8], &[u8], &[u8])>
         return None;
     };
     Some((key, payload, rest))
+}
+
+/// How many records a list has that was checked.
+pub(crate) fn count_entries(bytes: &[u8]) -> usize
+    requires { IsListed plain_entry bytes.now }
+    ensures { result ≡ length (items_in plain_entry bytes.now) }
+{
+    let mut count = 0;
+    let mut left = bytes;
+    while let Some((_, _, rest)) = split_entry(left) {
+        count += 1;
+        left = rest;
+    }
+    count
 }

@@ -1,6 +1,6 @@
 //! The records of a leaf, in key order.
 
-use crate::entry::split_entry;
+use crate::entry::{count_entries, split_entry};
 use std::marker::Model;
 
 /// Records where they lie, in key order: pairs of key and payload.
@@ -22,7 +22,7 @@ impl<'a> Model for Records<'a> {
 }
 
 impl<'a> Records<'a> {
-    ghost use Rattle.std.specs.Prelude.{◌≡◌, [], ◌∷◌, MatchOption};
+    ghost use Rattle.std.specs.Prelude.{◌≡◌, [], ◌∷◌, length, ◌==◌, MatchOption};
     ghost use Rattle.byte_format.specs.Plain.{items_in, IsListed};
     ghost use Rattle.leaf_view.specs.Leaf.{plain_entry};
     ghost use Rattle.leaf_view.specs.Shown.{shown};
@@ -39,6 +39,20 @@ impl<'a> Records<'a> {
         ensures { result ≡ self.now }
     {
         Records { rest: self.rest }
+    }
+
+    /// How many records.
+    pub fn len(&self) -> usize
+        ensures { result ≡ length self.now }
+    {
+        count_entries(self.rest)
+    }
+
+    /// Whether there is no record.
+    pub fn is_empty(&self) -> bool
+        ensures { result ≡ (length self.now == 0) }
+    {
+        split_entry(self.rest).is_none()
     }
 
     /// The first record, and those behind it.

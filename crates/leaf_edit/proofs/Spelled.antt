@@ -1,0 +1,14 @@
+-- Bytes that spell a leaf.
+use Rattle.std.proofs.Common.{◌≡◌, ℕ, List, Ok, Err, sym, ap, subst}
+use Rattle.byte_format.specs.Whole.{whole}
+use Rattle.byte_format.proofs.Wholes.{whole_only}
+use Rattle.leaf_view.specs.Leaf.{Leaf, IsLeaf, leaf}
+use Rattle.leaf_view.proofs.Exactness.{leaf_exact}
+use Rattle.leaf_edit.specs.Buffer.{leaf_from, leaf_in}
+
+pub leaf_in_is : (bytes : List ℕ) (l : Leaf) → IsLeaf bytes l → leaf_in bytes ≡ l
+leaf_in_is bytes l is = ap leaf_from (whole_only leaf leaf_exact bytes l is)
+
+-- they spell the leaf in them
+pub spells_it : (bytes : List ℕ) (l : Leaf) → IsLeaf bytes l → IsLeaf bytes (leaf_in bytes)
+spells_it bytes l is = subst (IsLeaf bytes) (sym (leaf_in_is bytes l is)) is

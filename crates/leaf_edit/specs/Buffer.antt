@@ -1,0 +1,13 @@
+-- A leaf that is its bytes.
+use Rattle.std.specs.Prelude.{ℕ, List, Result, Ok, Err}
+use Rattle.byte_format.specs.Whole.{whole}
+use Rattle.leaf_view.specs.Leaf.{Leaf, leaf}
+use Rattle.leaf_view.specs.Lookup.{empty_leaf}
+
+abbrev pub leaf_from : Result Leaf ℕ → Leaf
+leaf_from (Ok l) = l
+leaf_from (Err left) = empty_leaf
+
+-- the leaf that the bytes spell
+abbrev pub leaf_in : List ℕ → Leaf
+leaf_in bytes = leaf_from (whole leaf bytes)

@@ -1,0 +1,189 @@
+-- The list of noted changes, and the map of a buffer that is seen as it.
+use Rattle.std.proofs.Common.{◌≡◌, ℕ, ◌+◌, ◌≤◌, ◌<◌, Bool, true, false, ◌&&◌, cond, nat_eq, List, [], ◌∷◌, length, map, Option, Some, None, is_some, refl, sym, ap, ◌∙◌, subst, rules, arith}
+use Rattle.std.specs.Str.{bytes_eq}
+use Rattle.std.specs.Bool.{Decides}
+use Rattle.std.specs.Map.{lookup}
+use Rattle.std.proofs.lemmas.List.{length-map}
+use Rattle.std.proofs.lemmas.Bool.Decides.{Decides-and, Decides-eqb}
+use Rattle.std.proofs.lemmas.Slice.Eq.{bytes_eq-Decides}
+use Rattle.indexmap.specs.IndexMap.{insert_entry}
+use Rattle.db_base.specs.Change.{key_of, net}
+use Rattle.db_base.specs.declared.change.Change.{Change}
+use Rattle.db_base.specs.declared.change.Change.TheVariants.{Insert, Update, Delete}
+use Rattle.txn_buffer.specs.Noted.{Noted, is_of, found_in, noted_in, AreDistinct, AreNoted}
+use Rattle.txn_buffer.specs.Kept.{noted_of, KeyMatches, KeysMatch, IsKept, joined_to}
+use Rattle.txn_buffer.specs.declared.noted_key.NotedKey.{NotedKey}
+
+-- a test of tree and key says that both are the entry's
+pub is_of-Decides : (tree : ℕ) (key : List ℕ) (entry : Noted) → Decides (is_of tree key entry) ((tree ≡ entry.tree) × (key ≡ key_of entry.change))
+is_of-Decides tree key entry = Decides-and _ _ (Decides-eqb tree entry.tree) (bytes_eq-Decides key (key_of entry.change))
+
+-- a net change is of the key of both
+pub key_of-net : (first second : Change) → key_of first ≡ key_of second → key_of (net first second) ≡ key_of second
+key_of-net first (Insert key payload) h = refl
+key_of-net (Insert old other) (Update key payload) h = refl
+key_of-net (Update old other) (Update key payload) h = refl
+key_of-net (Delete old) (Update key payload) h = h
+key_of-net first (Delete key) h = refl
+
+-- what is found is of the key
+pub key_of-found : (list : List Noted) (tree : ℕ) (key : List ℕ) (change : Change) → found_in list tree key ≡ Some change → key_of change ≡ key
+key_of-found [] tree key change h = cc
+key_of-found (entry ∷ rest) tree key change h = on (is_of tree key entry) refl h (key_of-found rest tree key change)
+  where
+    on : (b : Bool) → is_of tree key entry ≡ b → cond b (Some entry.change) (found_in rest tree key) ≡ Some change
+        → (found_in rest tree key ≡ Some change → key_of change ≡ key) → key_of change ≡ key
+    on true here same later =
+        let is : entry.change ≡ change = cc in
+        ap key_of (sym is) ∙ sym ((is_of-Decides tree key entry).0 here).1
+    on false here same later = later same
+
+-- what is not found is not at the front, and not behind it
+not_found : (entry : Noted) (rest : List Noted) (tree : ℕ) (key : List ℕ) → found_in (entry ∷ rest) tree key ≡ None
+    → (is_of tree key entry ≡ false) × (found_in rest tree key ≡ None)
+not_found entry rest tree key h = on (is_of tree key entry) refl h
+  where
+    on : (b : Bool) → is_of tree key entry ≡ b → cond b (Some entry.change) (found_in rest tree key) ≡ None
+        → (is_of tree key entry ≡ false) × (found_in rest tree key ≡ None)
+    on true here none = cc
+    on false here none = (here, none)
+
+-- an entry that is not of this tree and key is passed over
+passes : (entry : Noted) (rest : List Noted) (tree : ℕ) (key : List ℕ) → ((tree ≡ entry.tree) × (key ≡ key_of entry.change) → ⊥)
+    → found_in rest tree key ≡ None → found_in (entry ∷ rest) tree key ≡ None
+passes entry rest tree key other later = on (is_of tree key entry) refl
+  where
+    on : (b : Bool) → is_of tree key entry ≡ b → cond b (Some entry.change) (found_in rest tree key) ≡ None
+    on true here = absurd (other ((is_of-Decides tree key entry).0 here))
+    on false here = later
+
+-- noting one tree and key brings no other
+stays_new : (list : List Noted) (tree : ℕ) (change : Change) (other : ℕ) (key : List ℕ) → ((other ≡ tree) × (key ≡ key_of change) → ⊥)
+    → found_in list other key ≡ None → found_in (noted_in list tree change) other key ≡ None
+stays_new [] tree change other key apart none = passes (record { tree = tree; change = change }) [] other key apart refl
+stays_new (entry ∷ rest) tree change other key apart none =
+    let parts = not_found entry rest other key none in
+    on (is_of tree (key_of change) entry) refl parts (stays_new rest tree change other key apart parts.1)
+  where
+    on : (b : Bool) → is_of tree (key_of change) entry ≡ b
+        → (is_of other key entry ≡ false) × (found_in rest other key ≡ None)
+        → found_in (noted_in rest tree change) other key ≡ None
+        → found_in (cond b (record { tree = entry.tree; change = net entry.change change } ∷ rest) (entry ∷ noted_in rest tree change)) other key ≡ None
+    on true here parts later =
+        let same = (is_of-Decides tree (key_of change) entry).0 here in
+        passes (record { tree = entry.tree; change = net entry.change change }) rest other key
+        (λ h. apart (h.0 ∙ sym same.0, h.1 ∙ key_of-net entry.change change (sym same.1))) parts.1
+    on false here parts later = ap (λ (b : Bool). cond b (Some entry.change) (found_in (noted_in rest tree change) other key)) parts.0 ∙ later
+
+-- noting keeps trees and keys apart
+pub AreDistinct-noted : (list : List Noted) (tree : ℕ) (change : Change) → AreDistinct list → AreDistinct (noted_in list tree change)
+AreDistinct-noted [] tree change apart = (refl, tt)
+AreDistinct-noted (entry ∷ rest) tree change apart = on (is_of tree (key_of change) entry) refl (AreDistinct-noted rest tree change apart.1)
+  where
+    on : (b : Bool) → is_of tree (key_of change) entry ≡ b → AreDistinct (noted_in rest tree change)
+        → AreDistinct (cond b (record { tree = entry.tree; change = net entry.change change } ∷ rest) (entry ∷ noted_in rest tree change))
+    on true here later =
+        let same = (is_of-Decides tree (key_of change) entry).0 here in
+        let key : key_of (net entry.change change) ≡ key_of entry.change = key_of-net entry.change change (sym same.1) ∙ same.1 in
+        (ap (found_in rest entry.tree) key ∙ apart.0, apart.1)
+    on false here later =
+        let other : (entry.tree ≡ tree) × (key_of entry.change ≡ key_of change) → ⊥ =
+        λ h. let bad : true ≡ false = sym ((is_of-Decides tree (key_of change) entry).1 (sym h.0, sym h.1)) ∙ here in cc in
+        (stays_new rest tree change entry.tree (key_of entry.change) other apart.0, later)
+
+-- noting adds an entry exactly where its tree and key are new
+pub length-noted : (list : List Noted) (tree : ℕ) (change : Change)
+    → length (noted_in list tree change) ≡ cond (is_some (found_in list tree (key_of change))) (length list) (length list + 1)
+length-noted [] tree change = refl
+length-noted (entry ∷ rest) tree change = on (is_of tree (key_of change) entry) (found_in rest tree (key_of change)) (length-noted rest tree change)
+  where
+    on : (b : Bool) (o : Option Change) → length (noted_in rest tree change) ≡ cond (is_some o) (length rest) (length rest + 1)
+        → length (cond b (record { tree = entry.tree; change = net entry.change change } ∷ rest) (entry ∷ noted_in rest tree change))
+        ≡ cond (is_some (cond b (Some entry.change) o)) (length (entry ∷ rest)) (length (entry ∷ rest) + 1)
+    on true o later = refl
+    on false None later = omega arith
+    on false (Some first) later = omega arith
+
+-- noting where there is room, or where the tree and key are there, keeps a buffer's list
+pub AreNoted-noted : (list : List Noted) (tree : ℕ) (change : Change) → AreNoted list
+    → (found_in list tree (key_of change) ≡ None → length list < 200) → AreNoted (noted_in list tree change)
+AreNoted-noted list tree change noted room = record {
+  most = on (found_in list tree (key_of change)) refl (length-noted list tree change);
+  distinct = AreDistinct-noted list tree change noted.distinct;
+}
+  where
+    on : (o : Option Change) → found_in list tree (key_of change) ≡ o
+        → length (noted_in list tree change) ≡ cond (is_some o) (length list) (length list + 1) → length (noted_in list tree change) ≤ 200
+    on None none long = let few : length list < 200 = room none in omega arith
+    on (Some first) there long = let few : length list ≤ 200 = noted.most in omega arith
+
+-- whether two keys of the map are one
+abbrev pub same_key : NotedKey → NotedKey → Bool
+same_key one two = nat_eq one.tree two.tree && bytes_eq one.key.items two.key.items
+
+-- a key of the map tests an entry as its tree and key test the noted change
+same_is_of : (k : NotedKey) (e : NotedKey × Change) → e.0.key.items ≡ key_of e.1 → same_key k e.0 ≡ is_of k.tree k.key.items (noted_of e)
+same_is_of k e key = ap (λ (bytes : List ℕ). nat_eq k.tree e.0.tree && bytes_eq k.key.items bytes) key
+
+-- a look-up in the map is the look-up in the list
+pub found : (k : NotedKey) (es : List (NotedKey × Change)) → KeysMatch es → lookup (same_key k) es ≡ found_in (map noted_of es) k.tree k.key.items
+found k [] keys = refl
+found k (e ∷ es) keys =
+    ap (λ (b : Bool). cond b (Some e.1) (lookup (same_key k) es)) (same_is_of k e keys.0.0)
+    ∙ ap (λ (o : Option Change). cond (is_of k.tree k.key.items (noted_of e)) (Some e.1) o) (found k es keys.1)
+
+-- bytes that are too long for a key are not found
+pub too_long : (tree : ℕ) (key : List ℕ) (es : List (NotedKey × Change)) → KeysMatch es → 64 < length key → found_in (map noted_of es) tree key ≡ None
+too_long tree key [] keys long = refl
+too_long tree key (e ∷ es) keys long =
+    passes (noted_of e) (map noted_of es) tree key
+    (λ h. let same : length key ≡ length e.0.key.items = ap length (h.1 ∙ sym keys.0.0) in let short : length e.0.key.items ≤ 64 = keys.0.1 in absurd (omega arith))
+    (too_long tree key es keys.1 long)
+
+-- storing the joined change in the map is noting it in the list
+pub inserted : (k : NotedKey) (es : List (NotedKey × Change)) (change : Change) → KeysMatch es → k.key.items ≡ key_of change
+    → map noted_of (insert_entry same_key es k (joined_to (found_in (map noted_of es) k.tree (key_of change)) change)) ≡ noted_in (map noted_of es) k.tree change
+inserted k [] change keys key = refl
+inserted k (e ∷ es) change keys key =
+    on (is_of k.tree (key_of change) (noted_of e)) (same_key k e.0)
+    (same_is_of k e keys.0.0 ∙ ap (λ (bytes : List ℕ). is_of k.tree bytes (noted_of e)) key) (inserted k es change keys.1 key)
+  where
+    on : (b s : Bool) → s ≡ b
+        → map noted_of (insert_entry same_key es k (joined_to (found_in (map noted_of es) k.tree (key_of change)) change)) ≡ noted_in (map noted_of es) k.tree change
+        → map noted_of (cond s ((e.0, joined_to (cond b (Some e.1) (found_in (map noted_of es) k.tree (key_of change))) change) ∷ es)
+        (e ∷ insert_entry same_key es k (joined_to (cond b (Some e.1) (found_in (map noted_of es) k.tree (key_of change))) change)))
+        ≡ cond b (record { tree = e.0.tree; change = net e.1 change } ∷ map noted_of es) (noted_of e ∷ noted_in (map noted_of es) k.tree change)
+    on true true same rest = refl
+    on false false same rest = ap (λ (l : List Noted). noted_of e ∷ l) rest
+    on true false same rest = cc
+    on false true same rest = cc
+
+-- a stored change of its key keeps each entry's key that of its change
+pub KeysMatch-inserted : (k : NotedKey) (es : List (NotedKey × Change)) (v : Change) → KeysMatch es → KeyMatches k v → KeysMatch (insert_entry same_key es k v)
+KeysMatch-inserted k [] v keys key = (key, tt)
+KeysMatch-inserted k (e ∷ es) v keys key = on (same_key k e.0) refl (KeysMatch-inserted k es v keys.1 key)
+  where
+    on : (s : Bool) → same_key k e.0 ≡ s → KeysMatch (insert_entry same_key es k v)
+        → KeysMatch (cond s ((e.0, v) ∷ es) (e ∷ insert_entry same_key es k v))
+    on true same rest =
+        let bytes : k.key.items ≡ e.0.key.items = ((Decides-and _ _ (Decides-eqb k.tree e.0.tree) (bytes_eq-Decides k.key.items e.0.key.items)).0 same).1 in
+        ((sym bytes ∙ key.0, keys.0.1), keys.1)
+    on false same rest = (keys.0, rest)
+
+-- the joined change is of the key
+pub key_of-joined : (list : List Noted) (tree : ℕ) (change : Change) → key_of (joined_to (found_in list tree (key_of change)) change) ≡ key_of change
+key_of-joined list tree change = on (found_in list tree (key_of change)) refl
+  where
+    on : (o : Option Change) → found_in list tree (key_of change) ≡ o → key_of (joined_to o change) ≡ key_of change
+    on None none = refl
+    on (Some first) there = key_of-net first change (key_of-found list tree (key_of change) first there)
+
+-- the map after a note is a buffer's map
+pub IsKept-inserted : (k : NotedKey) (es : List (NotedKey × Change)) (change : Change) → IsKept es → k.key.items ≡ key_of change → length k.key.items ≤ 64
+    → (found_in (map noted_of es) k.tree (key_of change) ≡ None → length es < 200)
+    → IsKept (insert_entry same_key es k (joined_to (found_in (map noted_of es) k.tree (key_of change)) change))
+IsKept-inserted k es change kept key short room = record {
+  keys = KeysMatch-inserted k es (joined_to (found_in (map noted_of es) k.tree (key_of change)) change) kept.keys
+      (key ∙ sym (key_of-joined (map noted_of es) k.tree change), short);
+  noted = subst AreNoted (sym (inserted k es change kept.keys key)) (AreNoted-noted (map noted_of es) k.tree change kept.noted (λ none. rw length-map (room none)));
+}

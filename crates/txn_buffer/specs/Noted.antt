@@ -1,0 +1,35 @@
+-- The changes of a transaction: one net change for each tree and key, in the order in which the trees and keys were first noted.
+use Rattle.std.specs.Prelude.{◌≡◌, ℕ, ◌≤◌, Bool, ◌&&◌, nat_eq, if◌then◌else◌, List, [], ◌∷◌, length, Option, Some, None, ⊤}
+use Rattle.std.specs.Str.{bytes_eq}
+use Rattle.db_base.specs.Change.{key_of, net}
+use Rattle.db_base.specs.declared.change.Change.{Change}
+
+-- a change of a tree
+pub record Noted : Type 0 where
+  pub tree : ℕ
+  pub change : Change
+
+-- whether an entry is of this tree and key
+abbrev pub is_of : ℕ → List ℕ → Noted → Bool
+is_of tree key entry = nat_eq tree entry.tree && bytes_eq key (key_of entry.change)
+
+-- the change of this tree and key, where there is one
+abbrev pub found_in : List Noted → ℕ → List ℕ → Option Change
+found_in [] tree key = None
+found_in (entry ∷ rest) tree key = if is_of tree key entry then Some entry.change else found_in rest tree key
+
+-- the entries after one more change: the net change in its place where its tree and key are there, else the change at the end
+abbrev pub noted_in : List Noted → ℕ → Change → List Noted
+noted_in [] tree change = record { tree = tree; change = change } ∷ []
+noted_in (entry ∷ rest) tree change =
+    if is_of tree (key_of change) entry then record { tree = entry.tree; change = net entry.change change } ∷ rest else entry ∷ noted_in rest tree change
+
+-- no two entries are of one tree and key
+abbrev pub AreDistinct : List Noted → Type 0
+AreDistinct [] = ⊤
+AreDistinct (entry ∷ rest) = (found_in rest entry.tree (key_of entry.change) ≡ None) × AreDistinct rest
+
+-- the entries of a buffer: at most 200, each of a tree and key of its own
+pub record AreNoted (list : List Noted) : Type 0 where
+  pub most : length list ≤ 200
+  pub distinct : AreDistinct list

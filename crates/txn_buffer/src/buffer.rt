@@ -1,0 +1,161 @@
+ghost use Rattle.std.specs.Prelude.{◌≡◌, ℕ, ◌≤◌, ◌<◌, ◌↔◌, List, [], length, slice_get, IfOk, OnOk, OnErr, IfErr, IsTrue, None, Some, ◌⊎◌, map};
+ghost use Rattle.std.specs.Option.{option_copied, option_map};
+ghost use Rattle.db_base.specs.Change.{key_of, net};
+ghost use Rattle.txn_buffer.specs.Noted.{Noted, found_in, noted_in, AreNoted};
+ghost use Rattle.txn_buffer.specs.Kept.{noted_of, KeysMatch, IsKept, joined_to};
+
+use crate::noted_key::NotedKey;
+use db_base::change::Change;
+use db_base::ids::TreeId;
+use db_base::refusal::{Refusal, Refused};
+use indexmap::IndexMap;
+use std::alloc::Global;
+use std::marker::Model;
+use std::mem;
+
+/// The most changes that a transaction has, each of a tree and key of its own.
+pub const MAX_CHANGES: usize = 200;
+
+/// The changes of a transaction, one net change for each tree and key, in the order of first noting.
+#[derive(Drop)]
+pub struct TxnBuffer {
+    changes: IndexMap<NotedKey, Change>,
+    alloc: Global,
+}
+
+impl Model for TxnBuffer {
+    ghost use Rattle.std.specs.Prelude.{List, map};
+    ghost use Rattle.txn_buffer.specs.Noted.{Noted};
+
+    ghost Value = { List Noted };
+
+    ghost use Rattle.txn_buffer.specs.Kept.{noted_of, IsKept};
+
+    ghost view = { λ b. map noted_of b.changes.entries };
+
+    ghost invariant = { λ b. IsKept b.changes.entries };
+}
+
+/// The change at a key of the map.
+fn lookup<'a>(changes: &'a IndexMap<NotedKey, Change>, key: &NotedKey) -> Option<&'a Change>
+    requires { KeysMatch changes.now.entries }
+    ensures { option_copied result ≡ found_in (map noted_of changes.now.entries) key.now.tree key.now.key.items }
+{
+    changes.get(key)
+}
+
+/// The change to store: the net change where one of its tree and key is there.
+fn joined(changes: &IndexMap<NotedKey, Change>, key: &NotedKey, change: Change) -> Change
+    requires keys { KeysMatch changes.now.entries }
+    requires of { key.now.key.items ≡ key_of change }
+    ensures { result ≡ joined_to (found_in (map noted_of changes.now.entries) key.now.tree (key_of change)) change }
+{
+    match lookup(changes, key) {
+        Some(first) => change.after(first),
+        None => change,
+    }
+}
+
+/// Stores a change, joined to the one at its key where there is one.
+fn store(
+    changes: &mut IndexMap<NotedKey, Change>,
+    key: NotedKey,
+    change: Change,
+) -> Result<(), Refused>
+    requires kept { IsKept changes.old.entries }
+    requires of { key.key.items ≡ key_of change }
+    requires short { length key.key.items ≤ 64 }
+    requires room { found_in (map noted_of changes.old.entries) key.tree (key_of change) ≡ None → length changes.old.entries < 200 }
+    ensures ok { OnOk result (map noted_of changes.new.entries ≡ noted_in (map noted_of changes.old.entries) key.tree change) }
+    ensures err { OnErr result (changes.new.entries ≡ changes.old.entries) }
+    ensures memory { IfErr result (λ e. e ≡ Refused.Memory) }
+    ensures kept { IsKept changes.new.entries }
+{
+    let change = joined(changes, &key, change);
+    match changes.insert(key, change) {
+        Ok(_) => Ok(()),
+        Err(_) => Err(Refused::Memory),
+    }
+}
+
+impl TxnBuffer {
+    /// A buffer without changes. Refused for memory alone.
+    pub fn new(alloc: Global) -> Result<TxnBuffer, Refused>
+        ensures ok { IfOk result (λ b. b ≡ []) }
+        ensures memory { IfErr result (λ e. e ≡ Refused.Memory) }
+    {
+        Ok(TxnBuffer {
+            changes: IndexMap::new(alloc),
+            alloc,
+        })
+    }
+
+    /// Notes a change: where its tree and key are there, the net change takes its place; else it goes last.
+    /// TooManyChanges exactly where it would be the 201st tree and key. A refusal changes nothing.
+    pub fn note(&mut self, tree: TreeId, change: Change) -> Result<(), Refused>
+        ensures ok { OnOk result (self.new ≡ noted_in self.old tree change) }
+        ensures err { OnErr result (self.new ≡ self.old) }
+        ensures many { (result ≡ Err (Refused.Rule Refusal.TooManyChanges)) ↔ ((found_in self.old tree (key_of change) ≡ None) × (200 ≤ length self.old)) }
+        ensures only { IfErr result (λ e. (e ≡ Refused.Rule Refusal.TooManyChanges) ⊎ (e ≡ Refused.Memory)) }
+    {
+        let key = NotedKey::of_change(tree, &change);
+        let is_new = lookup(&self.changes, &key).is_none();
+        if is_new && self.changes.len() >= MAX_CHANGES {
+            return Err(Refused::Rule(Refusal::TooManyChanges));
+        }
+        store(&mut self.changes, key, change)
+    }
+
+    /// How many changes, at most 200, each of a tree and key of its own.
+    pub fn len(&self) -> usize
+        ensures is { result ≡ length self.now }
+        ensures few { length self.now ≤ 200 }
+        ensures noted { AreNoted self.now }
+    {
+        self.changes.len()
+    }
+
+    /// Whether there is no change.
+    pub fn is_empty(&self) -> bool
+        ensures { IsTrue result ↔ (self.now ≡ []) }
+    {
+        self.changes.is_empty()
+    }
+
+    /// The change at an index with its tree, in the order of first noting. Takes no memory.
+    pub fn at(&self, index: usize) -> Option<(TreeId, &Change)>
+        ensures { option_map (λ p. record { tree = p.0; change = p.1.now }) result ≡ slice_get self.now index }
+    {
+        let (key, change) = self.changes.get_index(index)?;
+        Some((key.tree, change))
+    }
+
+    /// The change of a tree and key. Takes no memory.
+    pub fn find(&self, tree: TreeId, key: &[u8]) -> Option<&Change>
+        ensures { option_copied result ≡ found_in self.now tree key.now }
+    {
+        let changes = &self.changes;
+        match NotedKey::of(tree, key) {
+            Some(key) => lookup(changes, &key),
+            None => None,
+        }
+    }
+
+    /// Forgets all changes. Takes no memory.
+    pub fn clear(&mut self)
+        ensures { self.new ≡ [] }
+    {
+        self.changes.clear();
+    }
+
+    /// Moves the changes out, and is empty from then on. Takes no memory.
+    pub fn take(&mut self) -> TxnBuffer
+        ensures taken { result ≡ self.old }
+        ensures empty { self.new ≡ [] }
+    {
+        TxnBuffer {
+            changes: mem::replace(&mut self.changes, IndexMap::new(self.alloc)),
+            alloc: self.alloc,
+        }
+    }
+}

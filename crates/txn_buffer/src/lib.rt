@@ -1,0 +1,7 @@
+//! The buffer of a transaction's changes.
+#![tactic(auto)]
+
+pub mod buffer;
+mod noted_key;
+#[cfg(test)]
+mod tests;

@@ -1,5 +1,5 @@
 -- How a map from trees and keys to changes is seen as the list of noted changes.
-use Rattle.std.specs.Prelude.{◌≡◌, ℕ, ◌≤◌, List, [], ◌∷◌, length, Option, Some, None, ⊤, map}
+use Rattle.std.specs.Prelude.{◌≡◌, ◌≤◌, List, [], ◌∷◌, length, Option, Some, None, ⊤, map}
 use Rattle.db_base.specs.Change.{key_of, net}
 use Rattle.db_base.specs.declared.change.Change.{Change}
 use Rattle.txn_buffer.specs.Noted.{Noted, AreNoted}

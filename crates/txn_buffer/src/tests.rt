@@ -19,34 +19,47 @@ fn delete(alloc: Global, key: &[u8]) -> Result<Change, Refused> {
     })
 }
 
+/// Whether the entry at the index is of this tree and key.
+fn is_at(buffer: &TxnBuffer, index: usize, tree: u64, key: &str) -> bool {
+    match buffer.at(index) {
+        Some((found, change)) => {
+            found.get() == tree && change.key().as_slice() == key.as_bytes()
+        }
+        None => false,
+    }
+}
+
+/// Whether the change of the tree and key deletes.
+fn deletes(buffer: &TxnBuffer, tree: TreeId, key: &[u8]) -> Option<bool> {
+    match buffer.find(tree, key)? {
+        Change::Delete { .. } => Some(true),
+        _ => Some(false),
+    }
+}
+
 #[test]
 fn notes_in_order_with_net_changes(rt: HostRuntime) -> Result<(), Fail> {
     let alloc = rt.alloc();
-    let one = TreeId::new(1)?;
-    let two = TreeId::new(2)?;
     let mut buffer = TxnBuffer::new(alloc)?;
     assert_eq!(rt; buffer.is_empty(), true);
-    buffer.note(one, insert(alloc, b"b", b"x")?)?;
-    buffer.note(two, insert(alloc, b"b", b"y")?)?;
-    buffer.note(one, insert(alloc, b"a", b"z")?)?;
-    buffer.note(one, delete(alloc, b"b")?)?;
+    let noted = [(1, "b"), (2, "b"), (1, "a")];
+    for (tree, key) in noted {
+        let change = insert(alloc, key.as_bytes(), b"x")?;
+        buffer.note(TreeId::new(tree)?, change)?;
+    }
+    let one = TreeId::new(1)?;
+    let change = delete(alloc, b"b")?;
+    buffer.note(one, change)?;
     assert_eq!(rt; buffer.len(), 3);
-    for (index, tree, key) in [(0, one, "b"), (1, two, "b"), (2, one, "a")] {
-        let (found, change) = buffer.at(index).ok_or("no entry")?;
-        assert_eq!(rt; found, tree);
-        assert_eq!(rt; change.key().as_slice(), key.as_bytes());
+    for (index, (tree, key)) in noted.iter().enumerate() {
+        assert_eq!(rt; is_at(&buffer, index, *tree, key), true);
     }
     assert_eq!(rt; buffer.at(3).is_none(), true);
-    assert_eq!(rt;
-        matches!(buffer.find(one, b"b"), Some(Change::Delete { .. })),
-        true
-    );
-    assert_eq!(rt;
-        matches!(buffer.find(two, b"b"), Some(Change::Insert { .. })),
-        true
-    );
-    assert_eq!(rt; buffer.find(two, b"a").is_none(), true);
-    assert_eq!(rt; buffer.find(one, &[98; 65]).is_none(), true);
+    let two = TreeId::new(2)?;
+    assert_eq!(rt; deletes(&buffer, one, b"b"), Some(true));
+    assert_eq!(rt; deletes(&buffer, two, b"b"), Some(false));
+    assert_eq!(rt; deletes(&buffer, two, b"a"), None);
+    assert_eq!(rt; deletes(&buffer, one, &[98; 65]), None);
     let mut taken = buffer.take();
     assert_eq!(rt; (buffer.len(), taken.len()), (0, 3));
     taken.clear();

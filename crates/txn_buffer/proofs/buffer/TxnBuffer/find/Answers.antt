@@ -1,5 +1,4 @@
-use Rattle.std.proofs.Common.{sym, ◌∙◌, ap}
-use Rattle.txn_buffer.specs.Noted.{Noted, found_in}
+use Rattle.std.proofs.Common.{sym}
 use Rattle.txn_buffer.proofs.NotedLemmas.{too_long}
 use Rattle.txn_buffer.proofs.buffer.TxnBuffer.find.Goals as goal
 

@@ -1,0 +1,4 @@
+pub mod Heads
+pub mod Queue
+pub mod Record
+pub mod Route

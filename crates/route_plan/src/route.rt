@@ -1,0 +1,129 @@
+ghost use Rattle.std.specs.Prelude.{◌≡◌, ◌⊎◌, [], ◌∷◌, ◌++◌, length, ◌≤◌, ◌+◌, ◌<◌, ◌^◌, IfOk, IfErr, OnOk, MatchOption};
+ghost use Rattle.txn_buffer.specs.Noted.{Noted};
+ghost use Rattle.route_plan.specs.Queue.{queue_of};
+ghost use Rattle.route_plan.specs.Route.{next_number, record_behind, routed, AllFit, PassesGreatest};
+
+use crate::queue::{number_of_queue, queue_of};
+use db_base::change::Change;
+use db_base::ids::{ClientId, PageId, TreeId};
+use db_base::trouble::{Counter, Trouble};
+use head_codec::head::Head;
+use log_codec::record::AtomicRec;
+use std::alloc::Global;
+use txn_buffer::buffer::TxnBuffer;
+
+/// What the records of a commit have in common.
+#[derive(Drop)]
+struct Commit {
+    client: ClientId,
+    epoch: u64,
+    txn: u64,
+    count: u8,
+}
+
+/// The number of the next record of a queue behind the earlier records of the commit; nothing where it would pass the greatest u64.
+fn next_number(head: &Head, earlier: &[AtomicRec], tree: TreeId, page: u64) -> Option<u64>
+    requires { length earlier.now ≤ 200 }
+    ensures { MatchOption result (2 ^ 64 ≤ next_number head.now earlier.now tree page)
+        (λ n. (n < 2 ^ 64) × (n ≡ next_number head.now earlier.now tree page)) }
+{
+    let last = number_of_queue(head.counters.as_slice(), tree, page);
+    let before = earlier
+        .iter()
+        .filter(|r| r.tree.get() == tree.get() && r.page == page)
+        .count();
+    last.checked_add(1 + before as u64)
+}
+
+/// The record of a change behind the earlier ones of its commit.
+fn record_behind(
+    alloc: Global,
+    commit: &Commit,
+    head: &Head,
+    earlier: &[AtomicRec],
+    tree: TreeId,
+    change: &Change,
+    leaf: PageId,
+) -> Result<AtomicRec, Trouble>
+    requires { length earlier.now < 200 }
+    ensures ok { IfOk result (λ r. r ≡ record_behind commit.now.client commit.now.epoch commit.now.txn commit.now.count head.now earlier.now (record { tree = tree; change = change.now }) leaf) }
+    ensures fits { IfOk result (λ r. r.number < 2 ^ 64) }
+    ensures err { IfErr result (λ e. (e ≡ Trouble.Memory) ⊎ ((e ≡ Trouble.Exhausted Counter.Number)
+        × (2 ^ 64 ≤ next_number head.now earlier.now tree (queue_of head.now.pending tree change.now leaf)))) }
+{
+    let page = queue_of(head.pending.as_slice(), tree, change, leaf);
+    let number = match next_number(head, earlier, tree, page) {
+        Some(number) => number,
+        None => {
+            return Err(Trouble::Exhausted {
+                what: Counter::Number,
+            });
+        }
+    };
+    match change.copied(alloc) {
+        Ok(change) => Ok(AtomicRec {
+            client: commit.client,
+            epoch: commit.epoch,
+            txn: commit.txn,
+            index: earlier.len() as u8 + 1,
+            count: commit.count,
+            tree,
+            page,
+            number,
+            change,
+        }),
+        Err(_) => Err(Trouble::Memory),
+    }
+}
+
+/// Adds a record at the end.
+fn push(records: &mut Vec<AtomicRec>, next: AtomicRec) -> Result<(), Trouble>
+    ensures ok { OnOk result (records.new.items ≡ records.old.items ++ next ∷ []) }
+    ensures err { IfErr result (λ e. e ≡ Trouble.Memory) }
+{
+    match records.push(next) {
+        Ok(()) => Ok(()),
+        Err(_) => Err(Trouble::Memory),
+    }
+}
+
+/// The records of a commit's changes; `leaves` has for each change the leaf that the client's walk to its key came to.
+/// A change goes to the queue of the last pending entry of its tree and key. Where there is none, an update goes to its leaf's queue
+/// and an insert or delete to the tree queue. Exhausted where a number would pass the greatest u64; else the one error is want of memory.
+pub fn route(
+    alloc: Global,
+    client: ClientId,
+    epoch: u64,
+    txn: u64,
+    head: &Head,
+    changes: &TxnBuffer,
+    leaves: &[PageId],
+) -> Result<Vec<AtomicRec>, Trouble>
+    requires { length leaves.now ≡ length changes.now }
+    ensures ok { IfOk result (λ records. records.items ≡ routed client epoch txn head.now changes.now leaves.now) }
+    ensures fits { OnOk result (AllFit (routed client epoch txn head.now changes.now leaves.now)) }
+    ensures err { IfErr result (λ e. (e ≡ Trouble.Memory) ⊎ ((e ≡ Trouble.Exhausted Counter.Number)
+        × PassesGreatest (routed client epoch txn head.now changes.now leaves.now))) }
+{
+    let commit = Commit {
+        client,
+        epoch,
+        txn,
+        count: changes.len() as u8,
+    };
+    let mut records: Vec<AtomicRec> = Vec::new(alloc);
+    while let Some(noted) = changes.at(records.len()) {
+        let leaf = leaves[records.len()];
+        let next = record_behind(
+            alloc,
+            &commit,
+            head,
+            records.as_slice(),
+            noted.0,
+            noted.1,
+            leaf,
+        )?;
+        push(&mut records, next)?;
+    }
+    Ok(records)
+}

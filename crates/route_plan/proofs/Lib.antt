@@ -1,3 +1,5 @@
+pub mod CommitLaws
+pub mod CounterLaws
 pub mod Counters
 pub mod Places
 pub mod Routes

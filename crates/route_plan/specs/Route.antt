@@ -1,5 +1,5 @@
 -- The records of a commit.
-use Rattle.std.specs.Prelude.{ℕ, ◌+◌, ◌^◌, ◌<◌, ◌≤◌, ◌==◌, ◌&&◌, Bool, List, [], ◌∷◌, ◌++◌, length, count_by, All, Any}
+use Rattle.std.specs.Prelude.{ℕ, ◌+◌, ◌^◌, ◌<◌, ◌≤◌, ◌==◌, ◌&&◌, Bool, List, [], ◌∷◌, ◌++◌, length, count_by, All, Any, if◌then◌else◌}
 use Rattle.head_codec.specs.declared.head.Head.{Head}
 use Rattle.log_codec.specs.declared.record.AtomicRec.{AtomicRec}
 use Rattle.txn_buffer.specs.Noted.{Noted}
@@ -38,3 +38,8 @@ PassesGreatest records = Any (λ r. 2 ^ 64 ≤ r.number) records
 -- every number is a u64
 abbrev pub AllFit : List AtomicRec → Type 0
 AllFit records = All (λ r. r.number < 2 ^ 64) records
+
+-- the number of the last record of a queue, or the one before where there is none
+abbrev pub last_number : ℕ → ℕ → ℕ → List AtomicRec → ℕ
+last_number tree page before [] = before
+last_number tree page before (r ∷ records) = last_number tree page (if goes_to tree page r then r.number else before) records

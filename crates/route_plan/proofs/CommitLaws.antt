@@ -55,7 +55,7 @@ length-routed client epoch txn head changes leaves same = length-routed_behind c
 pub routed_behind-at : (client epoch txn count : ℕ) (head : Head) (earlier : List AtomicRec) (changes : List Noted) (leaves : List ℕ) (i : ℕ) (noted : Noted) (leaf : ℕ)
     → slice_get changes i ≡ Some noted → slice_get leaves i ≡ Some leaf
     → slice_get (routed_behind client epoch txn count head earlier changes leaves) i
-      ≡ Some (record_behind client epoch txn count head (earlier ++ take i (routed_behind client epoch txn count head earlier changes leaves)) noted leaf)
+    ≡ Some (record_behind client epoch txn count head (earlier ++ take i (routed_behind client epoch txn count head earlier changes leaves)) noted leaf)
 routed_behind-at client epoch txn count head earlier [] leaves i noted leaf here at = absurd (cc)
 routed_behind-at client epoch txn count head earlier (first ∷ changes) [] i noted leaf here at = absurd (cc)
 routed_behind-at client epoch txn count head earlier (first ∷ changes) (to ∷ leaves) zero noted leaf here at =
@@ -74,10 +74,11 @@ pub HasPlace-routed_behind : (client epoch txn count : ℕ) (head : Head) (earli
     → AllByRecursion HasPlace (routed_behind client epoch txn count head earlier changes leaves)
 HasPlace-routed_behind client epoch txn count head earlier [] leaves e t all few = tt
 HasPlace-routed_behind client epoch txn count head earlier (noted ∷ changes) [] e t all few = tt
-HasPlace-routed_behind client epoch txn count head earlier (noted ∷ changes) (leaf ∷ leaves) e t all few =
-    (record { epoch = e; txn = t; position = record { some = omega arith; within = omega arith; few = few }; number = omega arith },
-     HasPlace-routed_behind client epoch txn count head (earlier ++ record_behind client epoch txn count head earlier noted leaf ∷ []) changes leaves e t
-        (omega (arith, length-append earlier (record_behind client epoch txn count head earlier noted leaf ∷ []))) few)
+HasPlace-routed_behind client epoch txn count head earlier (noted ∷ changes) (leaf ∷ leaves) e t all few = (
+  record { epoch = e; txn = t; position = record { some = omega arith; within = omega arith; few = few }; number = omega arith },
+  HasPlace-routed_behind client epoch txn count head (earlier ++ record_behind client epoch txn count head earlier noted leaf ∷ []) changes leaves e t
+      (omega (arith, length-append earlier (record_behind client epoch txn count head earlier noted leaf ∷ []))) few,
+)
 
 pub HasPlace-routed : (client epoch txn : ℕ) (head : Head) (changes : List Noted) (leaves : List ℕ)
     → 1 ≤ epoch → 1 ≤ txn → length changes ≤ 200 → AllByRecursion HasPlace (routed client epoch txn head changes leaves)
@@ -98,13 +99,13 @@ goes_to-page tree page r e = grind (arith, nat_tests)
 -- the next record of a queue is one behind the last
 next-number : (head : Head) (earlier : List AtomicRec) (r : AtomicRec) (tree page : ℕ) → r.number ≡ next_number head earlier r.tree r.page
     → cond (goes_to tree page r) r.number (number_of_queue head.counters tree page + count_by (goes_to tree page) earlier)
-      ≡ number_of_queue head.counters tree page + count_by (goes_to tree page) (earlier ++ r ∷ [])
+    ≡ number_of_queue head.counters tree page + count_by (goes_to tree page) (earlier ++ r ∷ [])
 next-number head earlier r tree page is =
     on (goes_to tree page r) refl ∙ sym (ap (λ n. number_of_queue head.counters tree page + n) (sum_by_push (λ y. cond (goes_to tree page y) 1 0) earlier r))
   where
     on : (b : Bool) → goes_to tree page r ≡ b
         → cond b r.number (number_of_queue head.counters tree page + count_by (goes_to tree page) earlier)
-          ≡ number_of_queue head.counters tree page + (count_by (goes_to tree page) earlier + cond b 1 0)
+        ≡ number_of_queue head.counters tree page + (count_by (goes_to tree page) earlier + cond b 1 0)
     on false e = sym (ap (λ n. number_of_queue head.counters tree page + n) (add-zero (count_by (goes_to tree page) earlier)))
     on true e =
         is ∙ (ap (λ t. next_number head earlier t r.page) (goes_to-tree tree page r e)
@@ -113,22 +114,22 @@ next-number head earlier r tree page is =
 -- the last number of a queue in the records of a commit: each of its records of that queue adds one
 pub last_number-routed_behind : (client epoch txn count : ℕ) (head : Head) (earlier : List AtomicRec) (changes : List Noted) (leaves : List ℕ) (tree page : ℕ)
     → last_number tree page (number_of_queue head.counters tree page + count_by (goes_to tree page) earlier) (routed_behind client epoch txn count head earlier changes leaves)
-      ≡ number_of_queue head.counters tree page + count_by (goes_to tree page) (earlier ++ routed_behind client epoch txn count head earlier changes leaves)
+    ≡ number_of_queue head.counters tree page + count_by (goes_to tree page) (earlier ++ routed_behind client epoch txn count head earlier changes leaves)
 last_number-routed_behind client epoch txn count head earlier [] leaves tree page =
     ap (λ l. number_of_queue head.counters tree page + count_by (goes_to tree page) l) (sym (append-nil earlier))
 last_number-routed_behind client epoch txn count head earlier (noted ∷ changes) [] tree page =
     ap (λ l. number_of_queue head.counters tree page + count_by (goes_to tree page) l) (sym (append-nil earlier))
 last_number-routed_behind client epoch txn count head earlier (noted ∷ changes) (leaf ∷ leaves) tree page =
     ap (λ n. last_number tree page n (routed_behind client epoch txn count head (earlier ++ record_behind client epoch txn count head earlier noted leaf ∷ []) changes leaves))
-        (next-number head earlier (record_behind client epoch txn count head earlier noted leaf) tree page refl)
+    (next-number head earlier (record_behind client epoch txn count head earlier noted leaf) tree page refl)
     ∙ (last_number-routed_behind client epoch txn count head (earlier ++ record_behind client epoch txn count head earlier noted leaf ∷ []) changes leaves tree page
     ∙ ap (λ l. number_of_queue head.counters tree page + count_by (goes_to tree page) l)
-        (append_assoc earlier (record_behind client epoch txn count head earlier noted leaf ∷ []) (routed_behind client epoch txn count head (earlier ++ record_behind client epoch txn count head earlier noted leaf ∷ []) changes leaves)))
+    (append_assoc earlier (record_behind client epoch txn count head earlier noted leaf ∷ []) (routed_behind client epoch txn count head (earlier ++ record_behind client epoch txn count head earlier noted leaf ∷ []) changes leaves)))
 
 -- the counters of the head that commits: each record of a queue raises the queue's counter by one
 pub number_of_queue-opened_head : (client epoch txn : ℕ) (head : Head) (changes : List Noted) (leaves : List ℕ) (tree page : ℕ)
     → number_of_queue (raised_by head.counters (routed client epoch txn head changes leaves)) tree page
-      ≡ number_of_queue head.counters tree page + count_by (goes_to tree page) (routed client epoch txn head changes leaves)
+    ≡ number_of_queue head.counters tree page + count_by (goes_to tree page) (routed client epoch txn head changes leaves)
 number_of_queue-opened_head client epoch txn head changes leaves tree page =
     number_of_queue-raised_by head.counters (routed client epoch txn head changes leaves) tree page
     ∙ (ap (λ n. last_number tree page n (routed client epoch txn head changes leaves)) (omega arith)

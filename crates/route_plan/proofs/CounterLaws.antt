@@ -86,14 +86,16 @@ number_of_queue-with_counter (d ∷ counters) c tree page =
         → cond b c.number (number_of_queue counters tree page) ≡ cond b c.number (cond (is_counter_of tree page d) d.number (number_of_queue counters tree page))
     equal true e = refl
     equal false e = sym (ap (λ b. cond b d.number (number_of_queue counters tree page)) e)
+
     greater : (b p : Bool) (n : ℕ) → (b ≡ true → p ≡ true → ⊥) → cond p d.number (cond b c.number n) ≡ cond b c.number (cond p d.number n)
     greater true true n not_ = absurd (not_ refl refl)
     greater true false n not_ = refl
     greater false p n not_ = refl
+
     on : (o : Ordering) → MatchOrdering o (IsBehind (Some c) d) (AreOfOneQueue c d) (IsBehind (Some d) c)
         → number_of_queue (with_counter counters c) tree page ≡ cond (is_counter_of tree page c) c.number (number_of_queue counters tree page)
         → number_of_queue (put_counter o c d counters (with_counter counters c)) tree page
-            ≡ cond (is_counter_of tree page c) c.number (number_of_queue (d ∷ counters) tree page)
+        ≡ cond (is_counter_of tree page c) c.number (number_of_queue (d ∷ counters) tree page)
     on Less b again = number_of_queue-cons c (d ∷ counters) tree page
     on Equal same again =
         number_of_queue-cons c counters tree page

@@ -2,6 +2,7 @@
 #![tactic(auto)]
 
 pub mod heads;
+pub mod laws;
 pub mod queue;
 pub mod record;
 pub mod route;

@@ -3,3 +3,7 @@
 
 pub mod event;
 pub mod keyword;
+pub mod read;
+#[cfg(test)]
+mod tests;
+pub mod write;

@@ -1,0 +1,271 @@
+ghost use Rattle.std.specs.Prelude.{◌≡◌, ◌≢◌, ℕ, List, [], ◌∷◌, ◌++◌, IfOk, IfSome, IfNone};
+ghost use Rattle.words.specs.Word.{Reads, IsReadTo};
+ghost use Rattle.words.specs.Line.{parts_of};
+ghost use Rattle.event_text.specs.Reading.{alone, positions_of, wish_by, wish_of, done_of, event_by, session_event, event_behind, event_of_words, shell_event_of_words};
+ghost use Rattle.event_text.specs.Event.{IsEvent, IsShellLine};
+
+use crate::event::Event;
+use crate::keyword::Keyword;
+use db_base::refusal::Refused;
+use db_base::wish::{Positions, Wish};
+use std::alloc::Global;
+use words::fault::TextFault;
+use words::parts::Parts;
+
+/// The text before the line feed that ends a line.
+fn text_before_line_feed(line: &[u8]) -> Option<&[u8]>
+    ensures some { IfSome result (λ text. line.now ≡ text.now ++ 10 ∷ []) }
+    ensures none { IfNone result ((text : List ℕ) → line.now ≢ text ++ 10 ∷ []) }
+{
+    line.strip_suffix(b"\n")
+}
+
+/// The positions of a `give`, 1 to 256 numbers.
+#[tactic(auto, unfolding(crate::specs::Reading::positions_of))]
+fn positions(alloc: Global, words: Parts<'_>) -> Result<Positions, TextFault>
+    ensures { Reads result (positions_of words.entry) }
+{
+    let numbers = words.numbers(alloc)?;
+    match Positions::new(alloc, numbers.as_slice()) {
+        Ok(positions) => Ok(positions),
+        Err(Refused::Rule(_)) => Err(TextFault::NotInGrammar),
+        Err(Refused::Memory) => Err(TextFault::Memory),
+    }
+}
+
+/// The wish that a word begins.
+#[tactic(auto, unfolding(crate::specs::Reading::wish_by, crate::specs::Reading::alone))]
+fn wish_by(alloc: Global, kind: &[u8], words: Parts<'_>) -> Result<Wish, TextFault>
+    ensures { Reads result (wish_by kind.now words.entry) }
+{
+    if kind == b"plain".as_slice() {
+        words.end()?;
+        Ok(Wish::Plain)
+    } else if kind == b"fail".as_slice() {
+        words.end()?;
+        Ok(Wish::Fail)
+    } else if kind == b"lost".as_slice() {
+        words.end()?;
+        Ok(Wish::Lost)
+    } else if kind == b"hide".as_slice() {
+        words.end()?;
+        Ok(Wish::Hide)
+    } else if kind == b"old".as_slice() {
+        Ok(Wish::Old(words.one_number()?))
+    } else if kind == b"give".as_slice() {
+        Ok(Wish::Give(positions(alloc, words)?))
+    } else {
+        Err(TextFault::NotInGrammar)
+    }
+}
+
+/// The wish of a step.
+#[tactic(auto, unfolding(crate::specs::Reading::wish_of))]
+fn wish(alloc: Global, words: Parts<'_>) -> Result<Wish, TextFault>
+    ensures { Reads result (wish_of words.entry) }
+{
+    let (kind, words) = words.word()?;
+    wish_by(alloc, kind, words)
+}
+
+/// Whether `done` stands alone, or nothing.
+#[tactic(auto, unfolding(crate::specs::Reading::done_of, crate::specs::Reading::alone))]
+fn done(words: Parts<'_>) -> Result<bool, TextFault>
+    ensures { Reads result (done_of words.entry) }
+{
+    let mut words = words;
+    match words.next() {
+        None => Ok(false),
+        Some(word) => {
+            if word != b"done".as_slice() {
+                return Err(TextFault::NotInGrammar);
+            }
+            words.end()?;
+            Ok(true)
+        }
+    }
+}
+
+/// The event of a session that a keyword begins.
+#[tactic(auto, unfolding(crate::specs::Reading::event_by, crate::specs::Reading::alone))]
+fn event_by(
+    alloc: Global,
+    keyword: Keyword,
+    session: u64,
+    words: Parts<'_>,
+) -> Result<Event, TextFault>
+    ensures { Reads result (event_by keyword session words.entry) }
+{
+    match keyword {
+        Keyword::Open => {
+            let client = words.one_number()?;
+            Ok(Event::Open { session, client })
+        }
+        Keyword::Close => {
+            words.end()?;
+            Ok(Event::Close { session })
+        }
+        Keyword::Renew => {
+            words.end()?;
+            Ok(Event::Renew { session })
+        }
+        Keyword::Insert => {
+            let (tree, key, payload) = words.record(alloc)?;
+            Ok(Event::Insert {
+                session,
+                tree,
+                key,
+                payload,
+            })
+        }
+        Keyword::Update => {
+            let (tree, key, payload) = words.record(alloc)?;
+            Ok(Event::Update {
+                session,
+                tree,
+                key,
+                payload,
+            })
+        }
+        Keyword::Delete => {
+            let (tree, key) = words.place(alloc)?;
+            Ok(Event::Delete { session, tree, key })
+        }
+        Keyword::Commit => {
+            words.end()?;
+            Ok(Event::Commit { session })
+        }
+        Keyword::Abort => {
+            words.end()?;
+            Ok(Event::Abort { session })
+        }
+        Keyword::Read => {
+            let (tree, key) = words.place(alloc)?;
+            Ok(Event::Read { session, tree, key })
+        }
+        Keyword::Scan => {
+            let (tree, from, to) = words.record(alloc)?;
+            Ok(Event::Scan {
+                session,
+                tree,
+                from,
+                to,
+            })
+        }
+        Keyword::Page => {
+            let (tree, page) = words.two_numbers()?;
+            Ok(Event::Page {
+                session,
+                tree,
+                page,
+            })
+        }
+        Keyword::Tree => {
+            let tree = words.one_number()?;
+            Ok(Event::Tree { session, tree })
+        }
+        Keyword::Step => {
+            let wish = wish(alloc, words)?;
+            Ok(Event::Step { session, wish })
+        }
+        Keyword::Run => {
+            words.end()?;
+            Ok(Event::Run { session })
+        }
+        Keyword::Crash => {
+            let done = done(words)?;
+            Ok(Event::Crash { session, done })
+        }
+        Keyword::Wait => Err(TextFault::NotInGrammar),
+        Keyword::Report => Err(TextFault::NotInGrammar),
+        Keyword::Settle => Err(TextFault::NotInGrammar),
+    }
+}
+
+/// The event of a session's line behind its keyword.
+#[tactic(auto, unfolding(crate::specs::Reading::session_event))]
+fn session_event(alloc: Global, keyword: Keyword, words: Parts<'_>) -> Result<Event, TextFault>
+    ensures { Reads result (session_event keyword words.entry) }
+{
+    let (session, words) = words.number()?;
+    event_by(alloc, keyword, session, words)
+}
+
+/// The event of a line behind its keyword.
+#[tactic(auto, unfolding(crate::specs::Reading::event_behind, crate::specs::Reading::alone))]
+fn event_behind(alloc: Global, keyword: Keyword, words: Parts<'_>) -> Result<Event, TextFault>
+    ensures { Reads result (event_behind keyword words.entry) }
+{
+    match keyword {
+        Keyword::Wait => {
+            let ticks = words.one_number()?;
+            Ok(Event::Wait { ticks })
+        }
+        Keyword::Report => {
+            let tree = words.one_number()?;
+            Ok(Event::Report { tree })
+        }
+        Keyword::Settle => {
+            words.end()?;
+            Ok(Event::Settle)
+        }
+        other => session_event(alloc, other, words),
+    }
+}
+
+/// The event of the words of a line.
+#[tactic(auto, unfolding(crate::specs::Reading::event_of_words))]
+fn event_of_words(alloc: Global, words: Parts<'_>) -> Result<Event, TextFault>
+    ensures { Reads result (event_of_words words.entry) }
+{
+    let (first, words) = words.word()?;
+    match Keyword::of(first) {
+        Some(keyword) => event_behind(alloc, keyword, words),
+        None => Err(TextFault::NotInGrammar),
+    }
+}
+
+/// The event of session 1 of the words of a shell's line.
+#[tactic(auto, unfolding(crate::specs::Reading::shell_event_of_words))]
+fn shell_event_of_words(alloc: Global, words: Parts<'_>) -> Result<Event, TextFault>
+    ensures { Reads result (shell_event_of_words words.entry) }
+{
+    let (first, words) = words.word()?;
+    match Keyword::of(first) {
+        Some(keyword) => {
+            if !keyword.is_shell() {
+                return Err(TextFault::NotInGrammar);
+            }
+            event_by(alloc, keyword, 1, words)
+        }
+        None => Err(TextFault::NotInGrammar),
+    }
+}
+
+impl Event {
+    /// The event that a line spells, its line feed included; NotInGrammar exactly where it spells none.
+    pub fn read(alloc: Global, line: &[u8]) -> Result<Event, TextFault>
+        // What is read is spelled so.
+        ensures found { IfOk result (IsEvent line.now) }
+        // What is spelled so is read, unless memory runs out.
+        ensures only { (event : Event) → IsEvent line.now event → IsReadTo result event }
+    {
+        match text_before_line_feed(line) {
+            Some(text) => event_of_words(alloc, Parts::of(b' ', text)),
+            None => Err(TextFault::NotInGrammar),
+        }
+    }
+
+    /// The event of session 1 that a shell's line spells, its line feed included; NotInGrammar exactly where it spells none.
+    pub fn read_shell(alloc: Global, line: &[u8]) -> Result<Event, TextFault>
+        // What is read is spelled so.
+        ensures found { IfOk result (IsShellLine line.now) }
+        // What is spelled so is read, unless memory runs out.
+        ensures only { (event : Event) → IsShellLine line.now event → IsReadTo result event }
+    {
+        match text_before_line_feed(line) {
+            Some(text) => shell_event_of_words(alloc, Parts::of(b' ', text)),
+            None => Err(TextFault::NotInGrammar),
+        }
+    }
+}

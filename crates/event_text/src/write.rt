@@ -1,0 +1,189 @@
+ghost use Rattle.std.specs.Prelude.{◌≡◌, ℕ, List, [], ◌∷◌, ◌++◌, IfOk, IfErr, map, codes};
+ghost use Rattle.std.specs.Fmt.{decimal};
+ghost use Rattle.std.specs.String.{string_bytes};
+ghost use Rattle.words.specs.Word.{hexadecimal};
+ghost use Rattle.event_text.specs.Event.{wish_words, line_of, spelling};
+
+use crate::event::Event;
+use db_base::blob::Blob;
+use db_base::wish::Wish;
+use std::alloc::{AllocError, Global};
+use words::bytes::hexadecimal;
+use words::fault::TextFault;
+
+/// The line of a keyword and a number.
+fn number_line(alloc: Global, keyword: &str, number: u64) -> Result<String, AllocError>
+    ensures { IfOk result (λ line. string_bytes line ≡ line_of (keyword.now ∷ decimal number ∷ [])) }
+{
+    let line = format!(in alloc; "{keyword} {number}\n")?;
+    Ok(line)
+}
+
+/// The line of a keyword and two numbers.
+fn two_numbers_line(
+    alloc: Global,
+    keyword: &str,
+    first: u64,
+    second: u64,
+) -> Result<String, AllocError>
+    ensures { IfOk result (λ line. string_bytes line ≡ line_of (keyword.now ∷ decimal first ∷ decimal second ∷ [])) }
+{
+    let line = format!(in alloc; "{keyword} {first} {second}\n")?;
+    Ok(line)
+}
+
+/// The line of a keyword and three numbers.
+fn three_numbers_line(
+    alloc: Global,
+    keyword: &str,
+    first: u64,
+    second: u64,
+    third: u64,
+) -> Result<String, AllocError>
+    ensures { IfOk result (λ line. string_bytes line ≡ line_of (keyword.now ∷ decimal first ∷ decimal second ∷ decimal third ∷ [])) }
+{
+    let line = format!(in alloc; "{keyword} {first} {second} {third}\n")?;
+    Ok(line)
+}
+
+/// The line of a keyword, a number and a word.
+fn word_line(alloc: Global, keyword: &str, number: u64, word: &str) -> Result<String, AllocError>
+    ensures { IfOk result (λ line. string_bytes line ≡ line_of (keyword.now ∷ decimal number ∷ word.now ∷ [])) }
+{
+    let line = format!(in alloc; "{keyword} {number} {word}\n")?;
+    Ok(line)
+}
+
+/// The line of a step under a wish for a landed version.
+fn old_line(alloc: Global, session: u64, version: u64) -> Result<String, AllocError>
+    ensures { IfOk result (λ line. string_bytes line ≡ line_of (codes "step" ∷ decimal session ∷ codes "old" ∷ decimal version ∷ [])) }
+{
+    let line = format!(in alloc; "step {session} old {version}\n")?;
+    Ok(line)
+}
+
+/// The line of a keyword, a session, a tree and a key.
+fn place_line(
+    alloc: Global,
+    keyword: &str,
+    session: u64,
+    tree: u64,
+    key: &Blob,
+) -> Result<String, AllocError>
+    ensures { IfOk result (λ line. string_bytes line ≡ line_of (keyword.now ∷ decimal session ∷ decimal tree ∷ hexadecimal key.now ∷ [])) }
+{
+    let key = hexadecimal(alloc, key.as_slice())?;
+    let line = format!(in alloc; "{keyword} {session} {tree} {key}\n")?;
+    Ok(line)
+}
+
+/// The line of a keyword, a session, a tree and bytes twice.
+fn record_line(
+    alloc: Global,
+    keyword: &str,
+    session: u64,
+    tree: u64,
+    first: &Blob,
+    second: &Blob,
+) -> Result<String, AllocError>
+    ensures { IfOk result (λ line. string_bytes line ≡ line_of (keyword.now ∷ decimal session ∷ decimal tree ∷ hexadecimal first.now ∷ hexadecimal second.now ∷ [])) }
+{
+    let first = hexadecimal(alloc, first.as_slice())?;
+    let second = hexadecimal(alloc, second.as_slice())?;
+    let line = format!(in alloc; "{keyword} {session} {tree} {first} {second}\n")?;
+    Ok(line)
+}
+
+/// The line of a step under a wish that names positions.
+fn give_line(alloc: Global, session: u64, positions: &[u64]) -> Result<String, AllocError>
+    ensures { IfOk result (λ line. string_bytes line ≡ line_of (codes "step" ∷ decimal session ∷ codes "give" ∷ map decimal positions.now)) }
+{
+    let mut line = format!(in alloc; "step {session} give")?;
+    let mut left = positions;
+    while let Some((position, rest)) = left.split_first() {
+        let word = format!(in alloc; " {position}")?;
+        line.push_str(word.as_str())?;
+        left = rest;
+    }
+    line.push('\n')?;
+    Ok(line)
+}
+
+/// The line of a step.
+fn step_line(alloc: Global, session: u64, wish: &Wish) -> Result<String, AllocError>
+    ensures { IfOk result (λ line. string_bytes line ≡ line_of (codes "step" ∷ decimal session ∷ wish_words wish.now)) }
+{
+    match wish {
+        Wish::Plain => word_line(alloc, "step", session, "plain"),
+        Wish::Fail => word_line(alloc, "step", session, "fail"),
+        Wish::Lost => word_line(alloc, "step", session, "lost"),
+        Wish::Hide => word_line(alloc, "step", session, "hide"),
+        Wish::Old(version) => old_line(alloc, session, *version),
+        Wish::Give(positions) => give_line(alloc, session, positions.as_slice()),
+    }
+}
+
+impl Event {
+    /// The line of the event.
+    fn line(&self, alloc: Global) -> Result<String, AllocError>
+        ensures { IfOk result (λ line. string_bytes line ≡ spelling self.now) }
+    {
+        match self {
+            Event::Open { session, client } => two_numbers_line(alloc, "open", *session, *client),
+            Event::Close { session } => number_line(alloc, "close", *session),
+            Event::Renew { session } => number_line(alloc, "renew", *session),
+            Event::Insert {
+                session,
+                tree,
+                key,
+                payload,
+            } => record_line(alloc, "insert", *session, *tree, key, payload),
+            Event::Update {
+                session,
+                tree,
+                key,
+                payload,
+            } => record_line(alloc, "update", *session, *tree, key, payload),
+            Event::Delete { session, tree, key } => place_line(
+                alloc, "delete", *session, *tree, key,
+            ),
+            Event::Commit { session } => number_line(alloc, "commit", *session),
+            Event::Abort { session } => number_line(alloc, "abort", *session),
+            Event::Read { session, tree, key } => place_line(alloc, "read", *session, *tree, key),
+            Event::Scan {
+                session,
+                tree,
+                from,
+                to,
+            } => record_line(alloc, "scan", *session, *tree, from, to),
+            Event::Page {
+                session,
+                tree,
+                page,
+            } => three_numbers_line(alloc, "page", *session, *tree, *page),
+            Event::Tree { session, tree } => two_numbers_line(alloc, "tree", *session, *tree),
+            Event::Step { session, wish } => step_line(alloc, *session, wish),
+            Event::Run { session } => number_line(alloc, "run", *session),
+            Event::Crash {
+                session,
+                done: true,
+            } => word_line(alloc, "crash", *session, "done"),
+            Event::Crash {
+                session,
+                done: false,
+            } => number_line(alloc, "crash", *session),
+            Event::Wait { ticks } => number_line(alloc, "wait", *ticks),
+            Event::Report { tree } => number_line(alloc, "report", *tree),
+            Event::Settle => String::from_str(alloc, "settle\n"),
+        }
+    }
+
+    /// The one line that spells the event, its line feed included. Memory is the one refusal.
+    pub fn write(&self, alloc: Global) -> Result<Blob, TextFault>
+        ensures ok { IfOk result (λ line. line ≡ spelling self.now) }
+        ensures memory { IfErr result (λ e. e ≡ TextFault.Memory) }
+    {
+        let line = self.line(alloc)?;
+        Ok(Blob::of(line.into_bytes()))
+    }
+}

@@ -1,7 +1,6 @@
 -- What the cloud in memory does is a row of the table.
-use Rattle.std.proofs.Common.{◌≡◌, ◌<◌, ◌≤◌, ◌+◌, ◌-◌, ◌++◌, ◌⊎◌, ℕ, zero, suc, List, [], ◌∷◌, length, take, Option, Some, None, refl, ap, sym, ◌∙◌, subst, inl, inr, arith, Bool, true, false, cond, not, ◌&&◌, rules}
-use Rattle.std.specs.Prelude.{nat_le, nat_lt, min, All, IsPermutation}
-use Rattle.std.proofs.lemmas.Bool.{leb-true}
+use Rattle.std.proofs.Common.{◌≡◌, ◌<◌, ◌≤◌, ◌+◌, ◌-◌, ◌++◌, ◌⊎◌, ℕ, suc, List, [], ◌∷◌, length, take, Option, Some, None, Result, Ok, Err, refl, sym, ◌∙◌, subst, inl, inr, arith, Bool, true, false, cond, not, ◌&&◌}
+use Rattle.std.specs.Prelude.{nat_le, nat_lt, min, All}
 use Rattle.std.proofs.lemmas.Bool.Decides.{leb_tells, eqb_tells}
 use Rattle.std.proofs.lemmas.List.{append_assoc, length-append, length-take}
 use Rattle.std.proofs.lemmas.List.Sorted.{IsPermutation-refl}
@@ -11,23 +10,23 @@ use Rattle.std.specs.Option.{option_map_or}
 use Rattle.std.specs.Prelude.{is_none}
 use Rattle.std.proofs.lemmas.List.Elements.{All-nil, All-cons, All-take}
 use Rattle.db_base.specs.declared.names.ObjName.{ObjName}
-use Rattle.db_base.specs.declared.names.QueueName.{QueueName}
 use Rattle.db_base.specs.declared.names.Lock.{Lock}
 use Rattle.cloud_trait.specs.declared.answer.Answer.{Answer}
-use Rattle.cloud_trait.specs.declared.answer.Answer.TheVariants.{Got, Sent, Received, Done, Given, Held, Renewed, Late, Failed, Memory}
+use Rattle.cloud_trait.specs.declared.answer.Answer.TheVariants.{Got, Received, Done, Given, Held, Renewed, Late, Failed, Memory}
 use Rattle.cloud_trait.specs.declared.state.Posted.{Posted}
 use Rattle.cloud_trait.specs.declared.state.Version.{Version}
-use Rattle.cloud_trait.specs.declared.state.Hold.{Hold}
-use Rattle.cloud_trait.specs.declared.message.Message.{Message}
+use Rattle.cloud_trait.specs.declared.fault.HeldFault.{HeldFault}
+use Rattle.cloud_trait.specs.declared.fault.HeldFault.TheVariants as held
+use Rattle.cloud_trait.specs.Answers.{held_answer_of, renewed_by}
 use Rattle.cloud_trait.specs.Caller.{Caller}
-use Rattle.cloud_trait.specs.Claim.{Claim}
-use Rattle.cloud_trait.specs.State.{CloudState, Counts, greatest, newest, newest_of, version_at, end_after, lease_given, message_at, called, landed, taken}
+use Rattle.cloud_trait.specs.Claim.{Claim, extended}
+use Rattle.cloud_trait.specs.State.{CloudState, Counts, greatest, newest, newest_of, version_at, end_after, lease_given, message_at, called, landed, taken, renewed}
 use Rattle.cloud_trait.specs.Delivery.{unmarked, unmarked_from, WasSent}
-use Rattle.cloud_trait.specs.Ask.{Ask, Get, GetHeld, PutHeld, Send, Receive, Delete, Take, Renew, Release, effect, Permits, Lands}
-use Rattle.cloud_trait.specs.Weather.{Weather, FirstOver, Fits, Makes, Leaves, Rises}
+use Rattle.cloud_trait.specs.Ask.{Ask, Get, GetHeld, PutHeld, Send, Receive, Delete, Take, Renew, Release, effect, Lands}
+use Rattle.cloud_trait.specs.Weather.{Weather, Fits, Makes, Leaves, Rises, RenewsBoth, RenewsLease}
 use Rattle.cloud_trait.proofs.RowLemmas.{row_rest}
 use Rattle.memory_cloud.specs.Choice.{chosen}
-use Rattle.memory_cloud.specs.Outcome.{late, is_free, is_spent, may_land, plain_answer, in_time, old_version, positions_of, answer_in, state_in, counts_in, one_fault, one_withheld, one_stale, end_if_over, end_of_first, end_of_second, Obeys}
+use Rattle.memory_cloud.specs.Outcome.{late, may_land, plain_answer, in_time, old_version, positions_of, answer_in, state_in, counts_in, one_fault, one_withheld, one_stale, end_if_over, end_of_second, Obeys, lease_in}
 use Rattle.memory_cloud.specs.declared.mood.Mood.{Mood}
 use Rattle.memory_cloud.specs.declared.mood.Mood.TheVariants as mood
 
@@ -50,7 +49,7 @@ quiet who ask a c b t fits never row = record {
   counts = record { faults = omega arith; withheld = omega arith; stale = omega arith; dark = omega arith };
   dark = refl;
   failed = λ e. absurd (never e);
-  row = row
+  row = row;
 }
 
 -- a row that failed
@@ -60,7 +59,7 @@ failing who ask c b t row = record {
   counts = record { faults = omega arith; withheld = omega arith; stale = omega arith; dark = omega arith };
   dark = refl;
   failed = λ e. omega arith;
-  row = row
+  row = row;
 }
 
 -- a row that withheld something
@@ -70,7 +69,7 @@ withholding who ask a c b t fits never row = record {
   counts = record { faults = omega arith; withheld = omega arith; stale = omega arith; dark = omega arith };
   dark = refl;
   failed = λ e. absurd (never e);
-  row = row
+  row = row;
 }
 
 -- a row that is stale
@@ -80,7 +79,7 @@ staling who ask a c b t fits never row = record {
   counts = record { faults = omega arith; withheld = omega arith; stale = omega arith; dark = omega arith };
   dark = refl;
   failed = λ e. absurd (never e);
-  row = row
+  row = row;
 }
 
 -- a successor is not 0
@@ -132,9 +131,9 @@ take_plain who lock ticks b c rises = over_cases (λ o. IsRow who (Take lock tic
     (λ over. on over rises)
     (λ held. quiet who (Take lock ticks) (Held (b.locks lock).until) c b b tt (λ e. absurd (cc)) (refl, inl (refl, held)))
   where
-  on : (b.locks lock).until ≤ b.now → (g : Bool) → IsRow who (Take lock ticks) (cond g (Given (lease_given lock ticks b)) (Held (b.locks lock).until)) c (cond (not g) (one_withheld c) c) b (cond g (taken lock ticks b) b)
-  on over true = quiet who (Take lock ticks) (Given (lease_given lock ticks b)) c b (taken lock ticks b) refl (λ e. absurd (cc)) ((refl, over), refl)
-  on over false = withholding who (Take lock ticks) (Held (b.locks lock).until) c b b tt (λ e. absurd (cc)) (refl, inr (omega arith))
+    on : (b.locks lock).until ≤ b.now → (g : Bool) → IsRow who (Take lock ticks) (cond g (Given (lease_given lock ticks b)) (Held (b.locks lock).until)) c (cond (not g) (one_withheld c) c) b (cond g (taken lock ticks b) b)
+    on over true = quiet who (Take lock ticks) (Given (lease_given lock ticks b)) c b (taken lock ticks b) refl (λ e. absurd (cc)) ((refl, over), refl)
+    on over false = withholding who (Take lock ticks) (Held (b.locks lock).until) c b b tt (λ e. absurd (cc)) (refl, inr (omega arith))
 
 -- what is taken is no longer than wanted
 take-short : {X : Type 0} (n : ℕ) (xs : List X) → length (take n xs) ≤ n
@@ -171,9 +170,9 @@ take_lost who lock ticks b c rises = over_cases (λ o. IsRow who (Take lock tick
     (λ over. on over rises)
     (λ held. failing who (Take lock ticks) c b b (inl refl))
   where
-  on : (b.locks lock).until ≤ b.now → (g : Bool) → IsRow who (Take lock ticks) Failed c (one_fault c) b (cond g (taken lock ticks b) b)
-  on over true = failing who (Take lock ticks) c b (taken lock ticks b) (inr (refl, over))
-  on over false = failing who (Take lock ticks) c b b (inl refl)
+    on : (b.locks lock).until ≤ b.now → (g : Bool) → IsRow who (Take lock ticks) Failed c (one_fault c) b (cond g (taken lock ticks b) b)
+    on over true = failing who (Take lock ticks) c b (taken lock ticks b) (inr (refl, over))
+    on over false = failing who (Take lock ticks) c b b (inl refl)
 
 -- a call that is lost
 lost : (who : Caller) (ask : Ask) (b : CloudState) (c : Counts) → IsRow who ask (in_time (late ask b) b.now Failed) c (counts_in mood.Lost ask b c) b (cond (may_land ask b) (effect who ask b) b)
@@ -232,5 +231,71 @@ obeys_makes m who ask a c d s t o =
       counts = r.counts;
       dark = r.dark;
       failed = r.failed;
-      state = λ u e. (let same : s ≡ u = cc in subst Q same leaves)
+      state = λ u e. (let same : s ≡ u = cc in subst Q same leaves);
     }
+
+-- what a renewal leaves of the lease, by what it answered
+abbrev RenewsRow : Caller → ℕ → Claim → Claim → Answer → CloudState → CloudState → Type 0
+RenewsRow who ticks l m (Renewed e) b t = m ≡ extended l e
+RenewsRow who ticks l m Failed b t = (m ≡ extended l m.end) × RenewsBoth who ticks l m b t
+RenewsRow who ticks l m a b t = m ≡ l
+
+renews_plain : (who : Caller) (l : Claim) (ticks : ℕ) (b : CloudState) → RenewsRow who ticks l (cond (nat_le l.end b.now) l (extended l (end_after b.now ticks))) (in_time (end_if_over b.now l) b.now (Renewed (end_after b.now ticks))) b (cond (is_none (end_if_over b.now l)) (renewed l ticks b) b)
+renews_plain who l ticks b = over_cases (λ o. RenewsRow who ticks l (cond o l (extended l (end_after b.now ticks))) (in_time (cond o (Some l.end) None) b.now (Renewed (end_after b.now ticks))) b (cond (is_none (cond o (Some l.end) None)) (renewed l ticks b) b)) l.end b.now
+    (λ over. refl) (λ lasts. refl)
+
+renews_lost : (who : Caller) (l : Claim) (ticks : ℕ) (b : CloudState) → RenewsRow who ticks l (cond (nat_le l.end b.now) l (extended l (end_after b.now ticks))) (in_time (end_if_over b.now l) b.now Failed) b (cond (is_none (end_if_over b.now l)) (renewed l ticks b) b)
+renews_lost who l ticks b = over_cases (λ o. RenewsRow who ticks l (cond o l (extended l (end_after b.now ticks))) (in_time (cond o (Some l.end) None) b.now Failed) b (cond (is_none (cond o (Some l.end) None)) (renewed l ticks b) b)) l.end b.now
+    (λ over. refl) (λ lasts. (refl, inr ((refl, lasts), refl)))
+
+renews_in : (m : Mood) (who : Caller) (l : Claim) (ticks : ℕ) (b : CloudState) → RenewsRow who ticks l (lease_in m l ticks b) (answer_in m (Renew l ticks) b) b (state_in m who (Renew l ticks) b)
+renews_in mood.Fail who l ticks b = (refl, inl (refl, refl))
+renews_in mood.Lost who l ticks b = renews_lost who l ticks b
+renews_in m who l ticks b = renews_plain who l ticks b
+
+-- the same between the states that are told
+renews_told : (who : Caller) (ticks : ℕ) (l m : Claim) (a : Answer) (s t : CloudState) → t.now ≡ s.now → RenewsRow who ticks l m a (called who s.now s) t → RenewsLease who ticks l m a (Some s) (Some t)
+renews_told who ticks l m (Renewed e) s t n r = r
+renews_told who ticks l m Failed s t n r = (
+  r.0,
+  λ u v e f. (
+      let p : s ≡ u = cc in
+      let q : t ≡ v = cc in
+      let P : CloudState → Type 0 = λ x. RenewsBoth who ticks l m (called who v.now x) v in
+      let Q : CloudState → Type 0 = λ x. RenewsBoth who ticks l m (called who x.now s) x in
+      let R : ℕ → Type 0 = λ k. RenewsBoth who ticks l m (called who k s) t in
+      subst P p (subst Q q (subst R (sym n) r.1))),
+)
+renews_told who ticks l m a s t n r = r
+
+-- a renewal that obeys its mood leaves the lease as a renewal does
+pub obeys_renews : (m : Mood) (who : Caller) (l n : Claim) (ticks : ℕ) (a : Answer) (c d : Counts) (s t : CloudState) → Obeys m who (Renew l ticks) a c d (called who s.now s) t → (a ≡ Memory → ⊥) → n ≡ lease_in m l ticks (called who s.now s) → RenewsLease who ticks l n a (Some s) (Some t)
+obeys_renews m who l n ticks a c d s t (inr o) never e = absurd (never o.0)
+obeys_renews m who l n ticks a c d s t (inl o) never e =
+    let r = obeys_row m who (Renew l ticks) a c d (called who s.now s) t (inl o) in
+    let still : t.now ≡ s.now = (row_rest who (Renew l ticks) a c d (called who s.now s) t r.row).now in
+    let P : Claim → Type 0 = λ x. RenewsRow who ticks l x a (called who s.now s) t in
+    let Q : Answer → Type 0 = λ x. RenewsRow who ticks l (lease_in m l ticks (called who s.now s)) x (called who s.now s) t in
+    let R : CloudState → Type 0 = λ x. RenewsRow who ticks l (lease_in m l ticks (called who s.now s)) (answer_in m (Renew l ticks) (called who s.now s)) (called who s.now s) x in
+    renews_told who ticks l n a s t still (subst P (sym e) (subst Q (sym o.0) (subst R (sym o.1) (renews_in m who l ticks (called who s.now s)))))
+
+-- the same of a call that has begun
+pub begun_makes : (m : Mood) (who : Caller) (ask : Ask) (a : Answer) (c e d : Counts) (s b t : CloudState) → b ≡ called who s.now s → e ≡ c → Obeys m who ask a e d b t → Makes who ask a c d (Some s) (Some t)
+begun_makes m who ask a c e d s b t is same o =
+    let P : CloudState → Type 0 = λ x. Obeys m who ask a e d x t in
+    let Q : Counts → Type 0 = λ x. Obeys m who ask a x d (called who s.now s) t in
+    obeys_makes m who ask a c d s t (subst Q same (subst P is o))
+
+pub begun_renews : (m : Mood) (who : Caller) (l n : Claim) (ticks : ℕ) (a : Answer) (c e d : Counts) (s b t : CloudState) → b ≡ called who s.now s → e ≡ c → Obeys m who (Renew l ticks) a e d b t → (a ≡ Memory → ⊥) → n ≡ lease_in m l ticks b → RenewsLease who ticks l n a (Some s) (Some t)
+begun_renews m who l n ticks a c e d s b t is same o never lease =
+    let P : CloudState → Type 0 = λ x. Obeys m who (Renew l ticks) a e d x t in
+    let Q : Counts → Type 0 = λ x. Obeys m who (Renew l ticks) a x d (called who s.now s) t in
+    let R : CloudState → Type 0 = λ x. n ≡ lease_in m l ticks x in
+    obeys_renews m who l n ticks a c d s t (subst Q same (subst P is o)) never (subst R is lease)
+
+-- a renewal that does not answer want of memory
+pub not_memory : {A : Type 0} (l : Claim) (r : Result A HeldFault) → (r ≡ Err held.Memory → ⊥) → held_answer_of (renewed_by l) r ≡ Memory → ⊥
+not_memory l (Ok x) never e = cc
+not_memory l (Err held.Failed) never e = cc
+not_memory l (Err (held.Late i j)) never e = cc
+not_memory l (Err held.Memory) never e = never refl

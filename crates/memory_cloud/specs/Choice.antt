@@ -1,5 +1,5 @@
 -- The messages that a wish names.
-use Rattle.std.specs.Prelude.{ℕ, List, [], ◌∷◌, Bool, true, cond, ◌≡◌, take}
+use Rattle.std.specs.Prelude.{ℕ, List, [], ◌∷◌, Bool, cond}
 use Rattle.std.specs.List.{list_all}
 use Rattle.std.specs.Option.{option_map_or}
 use Rattle.cloud_trait.specs.declared.state.Posted.{Posted}

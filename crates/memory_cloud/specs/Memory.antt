@@ -1,5 +1,5 @@
 -- What the cloud in memory tells of itself.
-use Rattle.std.specs.Prelude.{ℕ, ◌+◌, min, List, Option}
+use Rattle.std.specs.Prelude.{ℕ, ◌+◌, min, List}
 use Rattle.std.specs.Option.{option_map}
 use Rattle.cloud_trait.specs.State.{CloudState, Counts, greatest}
 use Rattle.memory_cloud.specs.Maps.{versions_in, messages_in, hold_in}
@@ -18,7 +18,7 @@ state_of c = record {
   waits = c.waits;
   trace = c.trace.items;
   wish = c.wish;
-  last = option_map (λ (l : Last). (l.who, l.wish)) c.last
+  last = option_map (λ (l : Last). (l.who, l.wish)) c.last;
 }
 
 -- its counts; it never fails to look

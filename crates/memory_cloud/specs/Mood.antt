@@ -1,5 +1,5 @@
 -- How the cloud in memory takes a call: by the wish that was set, and by the calls that are to fail.
-use Rattle.std.specs.Prelude.{ℕ, ◌+◌, ◌<◌, ◌==◌, ◌&&◌, Bool, cond, nat_lt, min, List}
+use Rattle.std.specs.Prelude.{ℕ, ◌<◌, ◌==◌, ◌&&◌, Bool, cond, nat_lt, List}
 use Rattle.std.specs.List.{list_any}
 use Rattle.db_base.specs.declared.wish.Wish.{Wish}
 use Rattle.db_base.specs.declared.wish.Wish.TheVariants as wish

@@ -1,5 +1,5 @@
 -- What the cloud in memory answers and leaves, exactly.
-use Rattle.std.specs.Prelude.{ℕ, ◌≡◌, ◌+◌, ◌&&◌, ◌⊎◌, Bool, true, cond, not, nat_le, nat_lt, min, List, [], length, take, Option, Some, None, is_none}
+use Rattle.std.specs.Prelude.{ℕ, ◌≡◌, ◌+◌, ◌&&◌, ◌⊎◌, Bool, cond, not, nat_le, nat_lt, min, List, [], length, take, Option, Some, None, is_none}
 use Rattle.db_base.specs.declared.wish.Wish.{Wish}
 use Rattle.db_base.specs.declared.wish.Wish.TheVariants.{Give}
 use Rattle.cloud_trait.specs.declared.answer.Answer.{Answer}
@@ -7,7 +7,7 @@ use Rattle.cloud_trait.specs.declared.answer.Answer.TheVariants.{Got, Sent, Rece
 use Rattle.cloud_trait.specs.declared.state.Version.{Version}
 use Rattle.cloud_trait.specs.declared.state.Hold.{Hold}
 use Rattle.cloud_trait.specs.Caller.{Caller}
-use Rattle.cloud_trait.specs.Claim.{Claim}
+use Rattle.cloud_trait.specs.Claim.{Claim, extended}
 use Rattle.cloud_trait.specs.State.{CloudState, Counts, greatest, newest, version_at, end_after, lease_given}
 use Rattle.cloud_trait.specs.Delivery.{unmarked}
 use Rattle.cloud_trait.specs.Ask.{Ask, Get, GetHeld, PutHeld, Send, Receive, Delete, Take, Renew, Release, effect}
@@ -122,3 +122,8 @@ counts_in m ask b c = c
 abbrev pub Obeys : Mood → Caller → Ask → Answer → Counts → Counts → CloudState → CloudState → Type 0
 Obeys m who ask a c d b t =
     ((a ≡ answer_in m ask b) × (t ≡ state_in m who ask b) × (d ≡ counts_in m ask b c)) ⊎ ((a ≡ Memory) × (t ≡ b) × (d ≡ c))
+
+-- what a renewal leaves of the lease
+abbrev pub lease_in : Mood → Claim → ℕ → CloudState → Claim
+lease_in mood.Fail l ticks b = l
+lease_in m l ticks b = cond (nat_le l.end b.now) l (extended l (end_after b.now ticks))

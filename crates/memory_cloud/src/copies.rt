@@ -65,7 +65,12 @@ pub fn copy_old(alloc: Global, versions: &[Version], n: u64) -> Result<Option<Bl
 }
 
 /// Copies of the first so many messages at these positions.
-pub fn copy_chosen(alloc: Global, messages: &[Posted], positions: &[u64], most: usize) -> Result<Vec<Message>, AllocError>
+pub fn copy_chosen(
+    alloc: Global,
+    messages: &[Posted],
+    positions: &[u64],
+    most: usize,
+) -> Result<Vec<Message>, AllocError>
     ensures { IfOk result (λ v. v.items ≡ take most (chosen messages.now positions.now)) }
 {
     let mut out = Vec::new(alloc);
@@ -81,7 +86,12 @@ pub fn copy_chosen(alloc: Global, messages: &[Posted], positions: &[u64], most: 
 }
 
 // Adds a copy of the message at a position, if there is one.
-fn push_chosen(alloc: Global, out: &mut Vec<Message>, messages: &[Posted], position: u64) -> Result<(), AllocError>
+fn push_chosen(
+    alloc: Global,
+    out: &mut Vec<Message>,
+    messages: &[Posted],
+    position: u64,
+) -> Result<(), AllocError>
     ensures { OnOk result (out.new.items ≡ out.old.items ++ chosen_at messages.now position) }
 {
     if let Some(bytes) = message_bytes(messages, position) {

@@ -1,10 +1,12 @@
 //! The cloud in memory, which tells its state and obeys the schedule's wishes.
 #![tactic(auto)]
 
+mod calls;
 mod copies;
 mod locks;
-mod memory;
+pub mod memory;
 pub mod mood;
 mod objects;
 mod queue;
 mod queues;
+mod service;

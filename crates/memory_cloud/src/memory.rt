@@ -1,13 +1,12 @@
-ghost use Rattle.std.specs.Prelude.{◌≡◌, ◌+◌, ◌<◌, ◌∷◌, [], OnOk, OnErr, IfOk, length};
+ghost use Rattle.std.specs.Prelude.{◌≡◌, ◌+◌, ◌<◌, ◌∷◌, [], OnOk, OnErr, IfOk, IfErr, length};
+ghost use Rattle.std.specs.Option.{option_copied};
 ghost use Rattle.memory_cloud.specs.Outcome.{positions_in};
 
-use crate::locks;
 use crate::locks::Locks;
 use crate::mood::Mood;
-use crate::objects;
 use crate::objects::Objects;
-use crate::queues;
 use crate::queues::Queues;
+use crate::{copies, locks, objects, queues};
 use cloud_trait::fault::CloudFault;
 use cloud_trait::lease::Lease;
 use cloud_trait::state::{Hold, Landing, Posted, Site, Version};
@@ -84,6 +83,41 @@ impl MemoryCloud {
         }
     }
 
+    /// An empty cloud at clock 0 whose service calls of these numbers, from 1, fail with no effect.
+    pub fn with_failures(alloc: Global, calls: &[u64]) -> Result<MemoryCloud, CloudFault>
+        ensures empty { IfOk result (λ c. IsEmptyCloud (state_of c)) }
+        ensures clock { IfOk result (λ c. (state_of c).now ≡ 0) }
+        ensures waits { IfOk result (λ c. (state_of c).waits ≡ 0) }
+        ensures wish { IfOk result (λ c. (state_of c).wish ≡ Plain) }
+        ensures last { IfOk result (λ c. (state_of c).last ≡ None) }
+        ensures counts { IfOk result (λ c. counts_of c ≡ record { faults = 0; withheld = 0; stale = 0; dark = 0 }) }
+        ensures failing { IfOk result (λ c. failing_calls c ≡ calls.now) }
+        ensures first { IfOk result (λ c. next_call c ≡ 1) }
+        ensures memory { IfErr result (λ e. e ≡ CloudFault.Memory) }
+    {
+        let failing = match calls.to_vec(alloc) {
+            Ok(failing) => failing,
+            Err(_) => return Err(CloudFault::Memory),
+        };
+        let mut cloud = MemoryCloud::new(alloc);
+        cloud.failing = failing;
+        Ok(cloud)
+    }
+
+    /// The bytes of the n-th version of an object, from 1; none for 0 and past the newest.
+    pub fn version(&self, name: ObjName, n: u64) -> Option<&[u8]>
+        ensures { option_copied result ≡ version_at ((state_of self.now).versions name) n }
+    {
+        copies::version_bytes(objects::versions(&self.objects, &name), n)
+    }
+
+    /// The bytes of a message of a queue, deleted or not.
+    pub fn message(&self, queue: QueueName, id: MsgId) -> Option<&[u8]>
+        ensures { option_copied result ≡ message_at ((state_of self.now).messages queue) id }
+    {
+        copies::message_bytes(queues::messages(&self.queues, &queue), id.get())
+    }
+
     // Begins a service call: it spends the wish, and says how the call goes.
     pub(crate) fn begin(&mut self, who: Who) -> Mood
         ensures state { state_of self.new ≡ called who (state_of self.old).now (state_of self.old) }
@@ -138,7 +172,12 @@ impl MemoryCloud {
     }
 
     // Lands a message at the end of a queue, and gives its number.
-    pub(crate) fn post(&mut self, who: Who, queue: &QueueName, bytes: &[u8]) -> Result<MsgId, AllocError>
+    pub(crate) fn post(
+        &mut self,
+        who: Who,
+        queue: &QueueName,
+        bytes: &[u8],
+    ) -> Result<MsgId, AllocError>
         ensures ok { OnOk result (state_of self.new ≡ sent who queue.now bytes.now (state_of self.old)) }
         ensures id { IfOk result (λ id. id ≡ length ((state_of self.old).messages queue.now) + 1) }
         ensures err { OnErr result (state_of self.new ≡ state_of self.old) }

@@ -23,7 +23,12 @@ pub fn versions<'a>(objects: &'a Objects, name: &ObjName) -> &'a [Version]
 }
 
 /// Adds a version at the end of an object's.
-pub fn add_version(alloc: Global, objects: &mut Objects, name: &ObjName, version: Version) -> Result<(), AllocError>
+pub fn add_version(
+    alloc: Global,
+    objects: &mut Objects,
+    name: &ObjName,
+    version: Version,
+) -> Result<(), AllocError>
     ensures ok { (q : ObjName) → OnOk result (versions_in objects.new q ≡ put_at object_cmp (versions_in objects.old) name.now (versions_in objects.old name.now ++ version ∷ []) q) }
     ensures err { (q : ObjName) → OnErr result (versions_in objects.new q ≡ versions_in objects.old q) }
 {

@@ -99,7 +99,12 @@ fn first_kept(messages: &[Posted], from: usize) -> usize
 }
 
 // Adds a copy of the message, unless it is deleted.
-fn push_kept(alloc: Global, out: &mut Vec<Message>, id: u64, message: &Posted) -> Result<(), AllocError>
+fn push_kept(
+    alloc: Global,
+    out: &mut Vec<Message>,
+    id: u64,
+    message: &Posted,
+) -> Result<(), AllocError>
     ensures { OnOk result (out.new.items ≡ out.old.items ++ open_at id message.now) }
 {
     if message.deleted {
@@ -114,7 +119,12 @@ fn push_kept(alloc: Global, out: &mut Vec<Message>, id: u64, message: &Posted) -
 }
 
 // Copies of the first so many messages that are not deleted, of a list whose first has this number.
-fn copies_kept(alloc: Global, messages: &[Posted], next: u64, most: usize) -> Result<Vec<Message>, AllocError>
+fn copies_kept(
+    alloc: Global,
+    messages: &[Posted],
+    next: u64,
+    most: usize,
+) -> Result<Vec<Message>, AllocError>
     requires { next + length messages.now < 2 ^ 64 }
     ensures { IfOk result (λ v. v.items ≡ take most (unmarked_from next messages.now)) }
 {

@@ -27,7 +27,12 @@ pub fn messages<'a>(queues: &'a Queues, name: &QueueName) -> &'a [Posted]
 }
 
 /// Adds a message at the end of a queue.
-pub fn add_message(alloc: Global, queues: &mut Queues, name: &QueueName, message: Posted) -> Result<(), AllocError>
+pub fn add_message(
+    alloc: Global,
+    queues: &mut Queues,
+    name: &QueueName,
+    message: Posted,
+) -> Result<(), AllocError>
     ensures ok { (q : QueueName) → OnOk result (messages_in queues.new q ≡ put_at queue_cmp (messages_in queues.old) name.now (messages_in queues.old name.now ++ message ∷ []) q) }
     ensures err { (q : QueueName) → OnErr result (messages_in queues.new q ≡ messages_in queues.old q) }
 {
@@ -51,7 +56,12 @@ pub fn mark_message(queues: &mut Queues, name: &QueueName, id: MsgId)
 }
 
 /// Copies of the first so many messages of a queue that are not deleted.
-pub fn first_messages(alloc: Global, queues: &Queues, name: &QueueName, most: usize) -> Result<Vec<Message>, AllocError>
+pub fn first_messages(
+    alloc: Global,
+    queues: &Queues,
+    name: &QueueName,
+    most: usize,
+) -> Result<Vec<Message>, AllocError>
     ensures { IfOk result (λ v. v.items ≡ take most (unmarked (messages_in queues.now name.now))) }
 {
     match queues.get(name) {

@@ -1,4 +1,4 @@
-use Rattle.std.proofs.Common.{arith, ap, length, rules, ◌≡◌, ◌∙◌, ◌∷◌, ◌++◌, ◌<◌}
+use Rattle.std.proofs.Common.{arith, length, rules, ◌≡◌, ◌∙◌, ◌∷◌, ◌++◌, ◌<◌}
 use Rattle.memory_cloud.specs.Choice.{chosen_at}
 use Rattle.memory_cloud.proofs.QueueLemmas.{choose-step}
 use Rattle.memory_cloud.proofs.copies.copy_chosen.Goals as goal

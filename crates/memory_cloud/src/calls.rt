@@ -1,0 +1,489 @@
+ghost use Rattle.std.specs.Prelude.{◌≡◌, ◌<◌, ℕ, Some, Err, OnOk, OnErr, IfOk, IsTrue, true, if◌then◌else◌};
+ghost use Rattle.cloud_trait.specs.State.{greatest, taken, renewed, lease_given, end_after};
+ghost use Rattle.cloud_trait.specs.Claim.{extended};
+ghost use Rattle.std.specs.Option.{option_copied};
+ghost use Rattle.cloud_trait.specs.declared.answer.Answer.TheVariants.{Got, Sent, Received};
+ghost use Rattle.cloud_trait.specs.Answers.{answer_of, held_answer_of, done_by, granted_by, renewed_by};
+ghost use Rattle.cloud_trait.specs.Caller.{Caller};
+ghost use Rattle.cloud_trait.specs.Ask.{Get, GetHeld, PutHeld, Send, Receive, Delete, Take, Renew, Release};
+ghost use Rattle.memory_cloud.specs.Memory.{state_of, counts_of};
+ghost use Rattle.memory_cloud.specs.Mood.{HasRoom};
+ghost use Rattle.memory_cloud.specs.Outcome.{Obeys, end_if_over, end_of_first, is_free, is_spent, lease_in};
+
+use crate::memory::MemoryCloud;
+use crate::mood::Mood;
+use crate::{copies, locks, objects, queues};
+use cloud_trait::fault::{CloudFault, HeldFault};
+use cloud_trait::grant::Grant;
+use cloud_trait::lease::Lease;
+use cloud_trait::message::Message;
+use cloud_trait::state::Hold;
+use cloud_trait::who::Who;
+use db_base::blob::Blob;
+use db_base::ids::MsgId;
+use db_base::names::{Lock, ObjName, QueueName};
+use std::alloc::AllocError;
+
+// The end of the lease, where it is over.
+fn end_if_over(now: u64, lease: &Lease) -> Option<u64>
+    ensures { result ≡ end_if_over now lease.now }
+{
+    if lease.end() <= now {
+        Some(lease.end())
+    } else {
+        None
+    }
+}
+
+// The end of the first lease that is over.
+fn end_of_first(now: u64, first: &Lease, second: Option<&Lease>) -> Option<u64>
+    ensures { result ≡ end_of_first now first.now (option_copied second.entry) }
+{
+    if first.end() <= now {
+        return Some(first.end());
+    }
+    match second {
+        Some(second) => end_if_over(now, second),
+        None => None,
+    }
+}
+
+// Whether a lock can be given.
+fn is_free(hold: Hold, now: u64) -> bool
+    ensures value { result ≡ is_free hold now }
+    ensures room { IsTrue result → hold.generation < greatest }
+{
+    hold.until <= now && hold.generation < u64::MAX
+}
+
+// Whether a lock is not held, and its generation cannot rise.
+fn is_spent(hold: Hold, now: u64) -> bool
+    ensures { result ≡ is_spent hold now }
+{
+    hold.until <= now && hold.generation == u64::MAX
+}
+
+impl MemoryCloud {
+    // A get that has begun.
+    pub(crate) fn get_begun(
+        &mut self,
+        mood: Mood,
+        name: &ObjName,
+    ) -> Result<Option<Blob>, CloudFault>
+        requires { HasRoom mood (counts_of self.old) }
+        ensures { (who : Caller) → Obeys mood who (Get name.now) (answer_of Got result) (counts_of self.old) (counts_of self.new) (state_of self.old) (state_of self.new) }
+    {
+        match mood {
+            Mood::Fail | Mood::Lost => {
+                self.fault();
+                Err(CloudFault::Failed)
+            }
+            Mood::Old(n) => self.get_old(name, n),
+            Mood::Plain | Mood::Hide | Mood::Give => self.get_newest(name),
+        }
+    }
+
+    fn get_old(&mut self, name: &ObjName, n: u64) -> Result<Option<Blob>, CloudFault>
+        requires { (counts_of self.old).stale < greatest }
+        ensures { (who : Caller) → Obeys (Mood.Old n) who (Get name.now) (answer_of Got result) (counts_of self.old) (counts_of self.new) (state_of self.old) (state_of self.new) }
+    {
+        match copies::copy_old(self.alloc, objects::versions(&self.objects, name), n) {
+            Ok(bytes) => {
+                self.stain();
+                Ok(bytes)
+            }
+            Err(_) => Err(CloudFault::Memory),
+        }
+    }
+
+    fn get_newest(&self, name: &ObjName) -> Result<Option<Blob>, CloudFault>
+        ensures { (who : Caller) → Obeys Mood.Plain who (Get name.now) (answer_of Got result) (counts_of self.now) (counts_of self.now) (state_of self.now) (state_of self.now) }
+    {
+        Ok(copies::copy_newest(self.alloc, objects::versions(&self.objects, name))?)
+    }
+
+    // A get under a lease that has begun.
+    pub(crate) fn get_held_begun(
+        &mut self,
+        mood: Mood,
+        name: &ObjName,
+        lease: &Lease,
+    ) -> Result<Option<Blob>, HeldFault>
+        requires { HasRoom mood (counts_of self.old) }
+        ensures { (who : Caller) → Obeys mood who (GetHeld name.now lease.now) (held_answer_of Got result) (counts_of self.old) (counts_of self.new) (state_of self.old) (state_of self.new) }
+    {
+        match mood {
+            Mood::Fail => {
+                self.fault();
+                Err(HeldFault::Failed)
+            }
+            Mood::Lost => self.get_held_lost(name, lease),
+            Mood::Plain | Mood::Hide | Mood::Old(_) | Mood::Give => self.get_held_plain(
+                name, lease,
+            ),
+        }
+    }
+
+    fn get_held_lost(&mut self, name: &ObjName, lease: &Lease) -> Result<Option<Blob>, HeldFault>
+        requires { (counts_of self.old).faults < greatest }
+        ensures { (who : Caller) → Obeys Mood.Lost who (GetHeld name.now lease.now) (held_answer_of Got result) (counts_of self.old) (counts_of self.new) (state_of self.old) (state_of self.new) }
+    {
+        let now = self.clock;
+        if let Some(end) = end_if_over(now, lease) {
+            return Err(HeldFault::Late { end, now });
+        }
+        self.fault();
+        Err(HeldFault::Failed)
+    }
+
+    fn get_held_plain(&self, name: &ObjName, lease: &Lease) -> Result<Option<Blob>, HeldFault>
+        ensures { (who : Caller) → Obeys Mood.Plain who (GetHeld name.now lease.now) (held_answer_of Got result) (counts_of self.now) (counts_of self.now) (state_of self.now) (state_of self.now) }
+    {
+        let now = self.clock;
+        if let Some(end) = end_if_over(now, lease) {
+            return Err(HeldFault::Late { end, now });
+        }
+        Ok(copies::copy_newest(self.alloc, objects::versions(&self.objects, name))?)
+    }
+
+    // A put that has begun.
+    pub(crate) fn put_held_begun(
+        &mut self,
+        mood: Mood,
+        who: Who,
+        name: &ObjName,
+        bytes: &[u8],
+        first: &Lease,
+        second: Option<&Lease>,
+    ) -> Result<(), HeldFault>
+        requires { HasRoom mood (counts_of self.old) }
+        ensures { Obeys mood who (PutHeld name.now bytes.now first.now (option_copied second.entry)) (held_answer_of done_by result) (counts_of self.old) (counts_of self.new) (state_of self.old) (state_of self.new) }
+    {
+        match mood {
+            Mood::Fail => {
+                self.fault();
+                Err(HeldFault::Failed)
+            }
+            Mood::Lost => self.put_held_lost(who, name, bytes, first, second),
+            Mood::Plain | Mood::Hide | Mood::Old(_) | Mood::Give => self.put_held_plain(
+                who, name, bytes, first, second,
+            ),
+        }
+    }
+
+    fn put_held_lost(
+        &mut self,
+        who: Who,
+        name: &ObjName,
+        bytes: &[u8],
+        first: &Lease,
+        second: Option<&Lease>,
+    ) -> Result<(), HeldFault>
+        requires { (counts_of self.old).faults < greatest }
+        ensures { Obeys Mood.Lost who (PutHeld name.now bytes.now first.now (option_copied second.entry)) (held_answer_of done_by result) (counts_of self.old) (counts_of self.new) (state_of self.old) (state_of self.new) }
+    {
+        let now = self.clock;
+        if let Some(end) = end_of_first(now, first, second) {
+            return Err(HeldFault::Late { end, now });
+        }
+        self.land(who, name, bytes)?;
+        self.fault();
+        Err(HeldFault::Failed)
+    }
+
+    fn put_held_plain(
+        &mut self,
+        who: Who,
+        name: &ObjName,
+        bytes: &[u8],
+        first: &Lease,
+        second: Option<&Lease>,
+    ) -> Result<(), HeldFault>
+        ensures { Obeys Mood.Plain who (PutHeld name.now bytes.now first.now (option_copied second.entry)) (held_answer_of done_by result) (counts_of self.old) (counts_of self.new) (state_of self.old) (state_of self.new) }
+    {
+        let now = self.clock;
+        if let Some(end) = end_of_first(now, first, second) {
+            return Err(HeldFault::Late { end, now });
+        }
+        self.land(who, name, bytes)?;
+        Ok(())
+    }
+
+    // A send that has begun.
+    pub(crate) fn send_begun(
+        &mut self,
+        mood: Mood,
+        who: Who,
+        queue: &QueueName,
+        bytes: &[u8],
+    ) -> Result<MsgId, CloudFault>
+        requires { HasRoom mood (counts_of self.old) }
+        ensures { Obeys mood who (Send queue.now bytes.now) (answer_of Sent result) (counts_of self.old) (counts_of self.new) (state_of self.old) (state_of self.new) }
+    {
+        match mood {
+            Mood::Fail => {
+                self.fault();
+                Err(CloudFault::Failed)
+            }
+            Mood::Lost => self.send_lost(who, queue, bytes),
+            Mood::Plain | Mood::Hide | Mood::Old(_) | Mood::Give => self.send_plain(
+                who, queue, bytes,
+            ),
+        }
+    }
+
+    fn send_lost(&mut self, who: Who, queue: &QueueName, bytes: &[u8]) -> Result<MsgId, CloudFault>
+        requires { (counts_of self.old).faults < greatest }
+        ensures { Obeys Mood.Lost who (Send queue.now bytes.now) (answer_of Sent result) (counts_of self.old) (counts_of self.new) (state_of self.old) (state_of self.new) }
+    {
+        let _id = self.post(who, queue, bytes)?;
+        self.fault();
+        Err(CloudFault::Failed)
+    }
+
+    fn send_plain(&mut self, who: Who, queue: &QueueName, bytes: &[u8]) -> Result<MsgId, CloudFault>
+        ensures { Obeys Mood.Plain who (Send queue.now bytes.now) (answer_of Sent result) (counts_of self.old) (counts_of self.new) (state_of self.old) (state_of self.new) }
+    {
+        let id = self.post(who, queue, bytes)?;
+        Ok(id)
+    }
+
+    // A receive that has begun.
+    pub(crate) fn receive_begun(
+        &mut self,
+        mood: Mood,
+        queue: &QueueName,
+        max: u16,
+    ) -> Result<Vec<Message>, CloudFault>
+        requires { HasRoom mood (counts_of self.old) }
+        ensures { (who : Caller) → Obeys mood who (Receive queue.now max) (answer_of (λ ms. Received ms.items) result) (counts_of self.old) (counts_of self.new) (state_of self.old) (state_of self.new) }
+    {
+        match mood {
+            Mood::Fail | Mood::Lost => {
+                self.fault();
+                Err(CloudFault::Failed)
+            }
+            Mood::Hide => {
+                self.withhold();
+                Ok(Vec::new(self.alloc))
+            }
+            Mood::Give => self.receive_chosen(queue, max),
+            Mood::Plain | Mood::Old(_) => self.receive_plain(queue, max),
+        }
+    }
+
+    fn receive_chosen(&mut self, queue: &QueueName, max: u16) -> Result<Vec<Message>, CloudFault>
+        requires { (counts_of self.old).withheld < greatest }
+        ensures { (who : Caller) → Obeys Mood.Give who (Receive queue.now max) (answer_of (λ ms. Received ms.items) result) (counts_of self.old) (counts_of self.new) (state_of self.old) (state_of self.new) }
+    {
+        let messages = queues::messages(&self.queues, queue);
+        match copies::copy_chosen(self.alloc, messages, self.positions(), max as usize) {
+            Ok(chosen) => {
+                self.withhold();
+                Ok(chosen)
+            }
+            Err(_) => Err(CloudFault::Memory),
+        }
+    }
+
+    fn receive_plain(&self, queue: &QueueName, max: u16) -> Result<Vec<Message>, CloudFault>
+        ensures { (who : Caller) → Obeys Mood.Plain who (Receive queue.now max) (answer_of (λ ms. Received ms.items) result) (counts_of self.now) (counts_of self.now) (state_of self.now) (state_of self.now) }
+    {
+        Ok(queues::first_messages(self.alloc, &self.queues, queue, max as usize)?)
+    }
+
+    // A deletion that has begun. Takes no memory.
+    pub(crate) fn delete_begun(
+        &mut self,
+        mood: Mood,
+        queue: &QueueName,
+        id: MsgId,
+    ) -> Result<(), CloudFault>
+        requires { HasRoom mood (counts_of self.old) }
+        ensures obeys { (who : Caller) → Obeys mood who (Delete queue.now id) (answer_of done_by result) (counts_of self.old) (counts_of self.new) (state_of self.old) (state_of self.new) }
+        ensures no_memory { result ≡ Err CloudFault.Memory → ⊥ }
+    {
+        match mood {
+            Mood::Fail => {
+                self.fault();
+                Err(CloudFault::Failed)
+            }
+            Mood::Lost => {
+                self.mark(queue, id);
+                self.fault();
+                Err(CloudFault::Failed)
+            }
+            Mood::Plain | Mood::Hide | Mood::Old(_) | Mood::Give => {
+                self.mark(queue, id);
+                Ok(())
+            }
+        }
+    }
+
+    // A take that has begun.
+    pub(crate) fn take_begun(
+        &mut self,
+        mood: Mood,
+        lock: &Lock,
+        ticks: u64,
+    ) -> Result<Grant, CloudFault>
+        requires { HasRoom mood (counts_of self.old) }
+        ensures { (who : Caller) → Obeys mood who (Take lock.now ticks) (answer_of granted_by result) (counts_of self.old) (counts_of self.new) (state_of self.old) (state_of self.new) }
+    {
+        match mood {
+            Mood::Fail => {
+                self.fault();
+                Err(CloudFault::Failed)
+            }
+            Mood::Hide => {
+                self.withhold();
+                Ok(Grant::Held(self.clock))
+            }
+            Mood::Lost => self.take_lost(lock, ticks),
+            Mood::Plain | Mood::Old(_) | Mood::Give => self.take_plain(lock, ticks),
+        }
+    }
+
+    fn take_lost(&mut self, lock: &Lock, ticks: u64) -> Result<Grant, CloudFault>
+        requires { (counts_of self.old).faults < greatest }
+        ensures { (who : Caller) → Obeys Mood.Lost who (Take lock.now ticks) (answer_of granted_by result) (counts_of self.old) (counts_of self.new) (state_of self.old) (state_of self.new) }
+    {
+        match self.give_if_free(lock, ticks) {
+            Ok(_) => {
+                self.fault();
+                Err(CloudFault::Failed)
+            }
+            Err(_) => Err(CloudFault::Memory),
+        }
+    }
+
+    fn take_plain(&mut self, lock: &Lock, ticks: u64) -> Result<Grant, CloudFault>
+        ensures { (who : Caller) → Obeys Mood.Plain who (Take lock.now ticks) (answer_of granted_by result) (counts_of self.old) (counts_of self.new) (state_of self.old) (state_of self.new) }
+    {
+        let hold = locks::hold(&self.locks, lock);
+        if is_spent(hold, self.clock) {
+            return self.take_spent(lock, hold.until);
+        }
+        match self.give_if_free(lock, ticks) {
+            Ok(Some(lease)) => Ok(Grant::Given(lease)),
+            Ok(None) => Ok(Grant::Held(hold.until)),
+            Err(_) => Err(CloudFault::Memory),
+        }
+    }
+
+    // A take of a lock whose generation cannot rise.
+    fn take_spent(&mut self, lock: &Lock, until: u64) -> Result<Grant, CloudFault>
+        requires spent { is_spent ((state_of self.old).locks lock.now) (state_of self.old).now ≡ true }
+        requires until { until ≡ ((state_of self.old).locks lock.now).until }
+        ensures { (who : Caller) (ticks : ℕ) → Obeys Mood.Plain who (Take lock.now ticks) (answer_of granted_by result) (counts_of self.old) (counts_of self.new) (state_of self.old) (state_of self.new) }
+    {
+        if self.withheld == u64::MAX {
+            return Err(CloudFault::Memory);
+        }
+        self.withhold();
+        Ok(Grant::Held(until))
+    }
+
+    // Gives a lock anew, where it is free.
+    fn give_if_free(&mut self, lock: &Lock, ticks: u64) -> Result<Option<Lease>, AllocError>
+        ensures ok { OnOk result (state_of self.new ≡ (if is_free ((state_of self.old).locks lock.now) (state_of self.old).now then taken lock.now ticks (state_of self.old) else state_of self.old)) }
+        ensures lease { IfOk result (λ l. l ≡ (if is_free ((state_of self.old).locks lock.now) (state_of self.old).now then Some (lease_given lock.now ticks (state_of self.old)) else None)) }
+        ensures err { OnErr result (state_of self.new ≡ state_of self.old) }
+        ensures counts { counts_of self.new ≡ counts_of self.old }
+    {
+        let hold = locks::hold(&self.locks, lock);
+        if !is_free(hold, self.clock) {
+            return Ok(None);
+        }
+        let next = Hold {
+            generation: hold.generation + 1,
+            until: self.clock.saturating_add(ticks),
+        };
+        self.hold(lock, next)?;
+        Ok(Some(Lease::given(*lock, next.generation, next.until)))
+    }
+
+    // A renewal that has begun. Takes no memory.
+    pub(crate) fn renew_begun(
+        &mut self,
+        mood: Mood,
+        lease: &mut Lease,
+        ticks: u64,
+    ) -> Result<(), HeldFault>
+        requires { HasRoom mood (counts_of self.old) }
+        ensures obeys { (who : Caller) → Obeys mood who (Renew lease.old ticks) (held_answer_of (renewed_by lease.new) result) (counts_of self.old) (counts_of self.new) (state_of self.old) (state_of self.new) }
+        ensures lease { lease.new ≡ lease_in mood lease.old ticks (state_of self.old) }
+        ensures no_memory { result ≡ Err HeldFault.Memory → ⊥ }
+    {
+        match mood {
+            Mood::Fail => {
+                self.fault();
+                Err(HeldFault::Failed)
+            }
+            Mood::Lost => self.renew_lost(lease, ticks),
+            Mood::Plain | Mood::Hide | Mood::Old(_) | Mood::Give => self.renew_plain(lease, ticks),
+        }
+    }
+
+    fn renew_lost(&mut self, lease: &mut Lease, ticks: u64) -> Result<(), HeldFault>
+        requires { (counts_of self.old).faults < greatest }
+        ensures obeys { (who : Caller) → Obeys Mood.Lost who (Renew lease.old ticks) (held_answer_of (renewed_by lease.new) result) (counts_of self.old) (counts_of self.new) (state_of self.old) (state_of self.new) }
+        ensures lease { lease.new ≡ lease_in Mood.Lost lease.old ticks (state_of self.old) }
+        ensures no_memory { result ≡ Err HeldFault.Memory → ⊥ }
+    {
+        let now = self.clock;
+        if let Some(end) = end_if_over(now, lease) {
+            return Err(HeldFault::Late { end, now });
+        }
+        self.lengthen(lease, ticks);
+        self.fault();
+        Err(HeldFault::Failed)
+    }
+
+    fn renew_plain(&mut self, lease: &mut Lease, ticks: u64) -> Result<(), HeldFault>
+        ensures obeys { (who : Caller) → Obeys Mood.Plain who (Renew lease.old ticks) (held_answer_of (renewed_by lease.new) result) (counts_of self.old) (counts_of self.new) (state_of self.old) (state_of self.new) }
+        ensures lease { lease.new ≡ lease_in Mood.Plain lease.old ticks (state_of self.old) }
+        ensures no_memory { result ≡ Err HeldFault.Memory → ⊥ }
+    {
+        let now = self.clock;
+        if let Some(end) = end_if_over(now, lease) {
+            return Err(HeldFault::Late { end, now });
+        }
+        self.lengthen(lease, ticks);
+        Ok(())
+    }
+
+    // Moves the end of a lease and of its lock to some ticks from now.
+    fn lengthen(&mut self, lease: &mut Lease, ticks: u64)
+        ensures state { state_of self.new ≡ renewed lease.old ticks (state_of self.old) }
+        ensures lease { lease.new ≡ extended lease.old (end_after (state_of self.old).now ticks) }
+        ensures counts { counts_of self.new ≡ counts_of self.old }
+    {
+        let until = self.clock.saturating_add(ticks);
+        self.move_lock(lease, until);
+        lease.extend(until);
+    }
+
+    // A release that has begun. Takes no memory.
+    pub(crate) fn release_begun(&mut self, mood: Mood, lease: Lease) -> Result<(), CloudFault>
+        requires { HasRoom mood (counts_of self.old) }
+        ensures obeys { (who : Caller) → Obeys mood who (Release lease) (answer_of done_by result) (counts_of self.old) (counts_of self.new) (state_of self.old) (state_of self.new) }
+        ensures no_memory { result ≡ Err CloudFault.Memory → ⊥ }
+    {
+        match mood {
+            Mood::Fail => {
+                self.fault();
+                Err(CloudFault::Failed)
+            }
+            Mood::Lost => {
+                self.end_lock(&lease);
+                self.fault();
+                Err(CloudFault::Failed)
+            }
+            Mood::Plain | Mood::Hide | Mood::Old(_) | Mood::Give => {
+                self.end_lock(&lease);
+                Ok(())
+            }
+        }
+    }
+}

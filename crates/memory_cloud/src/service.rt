@@ -1,0 +1,173 @@
+ghost use Rattle.std.specs.Prelude.{◌≡◌, ◌≢◌, ℕ, Some, Err, Option, length, IfOk, min, ◌+◌};
+ghost use Rattle.std.specs.Option.{option_copied};
+ghost use Rattle.cloud_trait.specs.declared.answer.Answer.TheVariants.{Got, Sent, Received};
+ghost use Rattle.cloud_trait.specs.Answers.{answer_of, held_answer_of, done_by, granted_by, renewed_by};
+ghost use Rattle.cloud_trait.specs.Ask.{Get, GetHeld, PutHeld, Send, Receive, Delete, Take, Renew, Release};
+ghost use Rattle.cloud_trait.specs.State.{CloudState, Counts, called, newest, end_after, greatest};
+ghost use Rattle.cloud_trait.specs.Delivery.{unmarked};
+ghost use Rattle.cloud_trait.specs.Weather.{Makes, RenewsLease, Rose};
+ghost use Rattle.cloud_trait.specs.Bench.{Waits, Looks};
+ghost use Rattle.cloud_trait.specs.declared.fault.CloudFault.{CloudFault};
+ghost use Rattle.memory_cloud.specs.Memory.{state_of, counts_of, next_mood, next_call, failing_calls};
+ghost use Rattle.memory_cloud.specs.Outcome.{Obeys, lease_in};
+
+use crate::memory::MemoryCloud;
+use crate::{copies, objects, queues};
+use cloud_trait::cloud::{Bench, Cloud};
+use cloud_trait::fault::{CloudFault, HeldFault};
+use cloud_trait::grant::Grant;
+use cloud_trait::lease::Lease;
+use cloud_trait::message::Message;
+use cloud_trait::who::Who;
+use db_base::blob::Blob;
+use db_base::ids::MsgId;
+use db_base::names::{Lock, ObjName, QueueName};
+use db_base::wish::Wish;
+
+impl Cloud for MemoryCloud {
+    ghost state = { λ c. Some (state_of c) };
+
+    ghost counts = { λ c. counts_of c };
+
+    fn now(&self) -> u64
+        ensures told { (s : CloudState) → Some (state_of self.now) ≡ Some s → result ≡ s.now }
+        ensures clock { result ≡ (state_of self.now).now }
+    {
+        self.clock
+    }
+
+    fn get(&mut self, who: Who, name: ObjName) -> Result<Option<Blob>, CloudFault>
+        ensures made { Makes who (Get name) (answer_of Got result) (counts_of self.old) (counts_of self.new) (Some (state_of self.old)) (Some (state_of self.new)) }
+        ensures obeys { Obeys (next_mood self.old) who (Get name) (answer_of Got result) (counts_of self.old) (counts_of self.new) (called who (state_of self.old).now (state_of self.old)) (state_of self.new) }
+    {
+        let mood = self.begin(who);
+        self.get_begun(mood, &name)
+    }
+
+    fn get_held(
+        &mut self,
+        who: Who,
+        name: ObjName,
+        lease: &Lease,
+    ) -> Result<Option<Blob>, HeldFault>
+        ensures made { Makes who (GetHeld name lease.now) (held_answer_of Got result) (counts_of self.old) (counts_of self.new) (Some (state_of self.old)) (Some (state_of self.new)) }
+        ensures obeys { Obeys (next_mood self.old) who (GetHeld name lease.now) (held_answer_of Got result) (counts_of self.old) (counts_of self.new) (called who (state_of self.old).now (state_of self.old)) (state_of self.new) }
+    {
+        let mood = self.begin(who);
+        self.get_held_begun(mood, &name, lease)
+    }
+
+    fn put_held(
+        &mut self,
+        who: Who,
+        name: ObjName,
+        bytes: &[u8],
+        first: &Lease,
+        second: Option<&Lease>,
+    ) -> Result<(), HeldFault>
+        ensures made { Makes who (PutHeld name bytes.now first.now (option_copied second.entry)) (held_answer_of done_by result) (counts_of self.old) (counts_of self.new) (Some (state_of self.old)) (Some (state_of self.new)) }
+        ensures obeys { Obeys (next_mood self.old) who (PutHeld name bytes.now first.now (option_copied second.entry)) (held_answer_of done_by result) (counts_of self.old) (counts_of self.new) (called who (state_of self.old).now (state_of self.old)) (state_of self.new) }
+    {
+        let mood = self.begin(who);
+        self.put_held_begun(mood, who, &name, bytes, first, second)
+    }
+
+    fn send(&mut self, who: Who, queue: QueueName, bytes: &[u8]) -> Result<MsgId, CloudFault>
+        ensures made { Makes who (Send queue bytes.now) (answer_of Sent result) (counts_of self.old) (counts_of self.new) (Some (state_of self.old)) (Some (state_of self.new)) }
+        ensures obeys { Obeys (next_mood self.old) who (Send queue bytes.now) (answer_of Sent result) (counts_of self.old) (counts_of self.new) (called who (state_of self.old).now (state_of self.old)) (state_of self.new) }
+    {
+        let mood = self.begin(who);
+        self.send_begun(mood, who, &queue, bytes)
+    }
+
+    fn receive(&mut self, who: Who, queue: QueueName, max: u16) -> Result<Vec<Message>, CloudFault>
+        ensures made { Makes who (Receive queue max) (answer_of (λ ms. Received ms.items) result) (counts_of self.old) (counts_of self.new) (Some (state_of self.old)) (Some (state_of self.new)) }
+        ensures obeys { Obeys (next_mood self.old) who (Receive queue max) (answer_of (λ ms. Received ms.items) result) (counts_of self.old) (counts_of self.new) (called who (state_of self.old).now (state_of self.old)) (state_of self.new) }
+    {
+        let mood = self.begin(who);
+        self.receive_begun(mood, &queue, max)
+    }
+
+    fn delete(&mut self, who: Who, queue: QueueName, id: MsgId) -> Result<(), CloudFault>
+        ensures made { Makes who (Delete queue id) (answer_of done_by result) (counts_of self.old) (counts_of self.new) (Some (state_of self.old)) (Some (state_of self.new)) }
+        ensures obeys { Obeys (next_mood self.old) who (Delete queue id) (answer_of done_by result) (counts_of self.old) (counts_of self.new) (called who (state_of self.old).now (state_of self.old)) (state_of self.new) }
+        ensures no_memory { result ≡ Err CloudFault.Memory → ⊥ }
+    {
+        let mood = self.begin(who);
+        self.delete_begun(mood, &queue, id)
+    }
+
+    fn take(&mut self, who: Who, lock: Lock, ticks: u64) -> Result<Grant, CloudFault>
+        ensures made { Makes who (Take lock ticks) (answer_of granted_by result) (counts_of self.old) (counts_of self.new) (Some (state_of self.old)) (Some (state_of self.new)) }
+        ensures obeys { Obeys (next_mood self.old) who (Take lock ticks) (answer_of granted_by result) (counts_of self.old) (counts_of self.new) (called who (state_of self.old).now (state_of self.old)) (state_of self.new) }
+    {
+        let mood = self.begin(who);
+        self.take_begun(mood, &lock, ticks)
+    }
+
+    fn renew(&mut self, who: Who, lease: &mut Lease, ticks: u64) -> Result<(), HeldFault>
+        ensures made { Makes who (Renew lease.old ticks) (held_answer_of (renewed_by lease.new) result) (counts_of self.old) (counts_of self.new) (Some (state_of self.old)) (Some (state_of self.new)) }
+        ensures lease { RenewsLease who ticks lease.old lease.new (held_answer_of (renewed_by lease.new) result) (Some (state_of self.old)) (Some (state_of self.new)) }
+        ensures leased { lease.new ≡ lease_in (next_mood self.old) lease.old ticks (called who (state_of self.old).now (state_of self.old)) }
+        ensures obeys { Obeys (next_mood self.old) who (Renew lease.old ticks) (held_answer_of (renewed_by lease.new) result) (counts_of self.old) (counts_of self.new) (called who (state_of self.old).now (state_of self.old)) (state_of self.new) }
+        ensures no_memory { result ≡ Err HeldFault.Memory → ⊥ }
+    {
+        let mood = self.begin(who);
+        self.renew_begun(mood, lease, ticks)
+    }
+
+    fn release(&mut self, who: Who, lease: Lease) -> Result<(), CloudFault>
+        ensures made { Makes who (Release lease) (answer_of done_by result) (counts_of self.old) (counts_of self.new) (Some (state_of self.old)) (Some (state_of self.new)) }
+        ensures obeys { Obeys (next_mood self.old) who (Release lease) (answer_of done_by result) (counts_of self.old) (counts_of self.new) (called who (state_of self.old).now (state_of self.old)) (state_of self.new) }
+        ensures no_memory { result ≡ Err CloudFault.Memory → ⊥ }
+    {
+        let mood = self.begin(who);
+        self.release_begun(mood, lease)
+    }
+}
+
+impl Bench for MemoryCloud {
+    fn wish(&mut self, wish: Wish)
+        ensures counts { counts_of self.new ≡ counts_of self.old }
+        ensures set { (s : CloudState) → Some (state_of self.old) ≡ Some s → Some (state_of self.new) ≡ Some (record s { wish = wish }) }
+        ensures call { next_call self.new ≡ next_call self.old }
+        ensures failing { failing_calls self.new ≡ failing_calls self.old }
+    {
+        self.wish = wish;
+    }
+
+    fn wait(&mut self, ticks: u64)
+        ensures counts { counts_of self.new ≡ counts_of self.old }
+        ensures waited { (s : CloudState) → Some (state_of self.old) ≡ Some s → Waits ticks s (Some (state_of self.new)) }
+        ensures exactly { state_of self.new ≡ record (state_of self.old) { now = end_after (state_of self.old).now ticks; waits = min ((state_of self.old).waits + 1) greatest } }
+        ensures call { next_call self.new ≡ next_call self.old }
+        ensures failing { failing_calls self.new ≡ failing_calls self.old }
+    {
+        self.clock = self.clock.saturating_add(ticks);
+        self.waits = self.waits.saturating_add(1);
+    }
+
+    fn peek(&mut self, name: ObjName) -> Result<Option<Blob>, CloudFault>
+        ensures counts { Looks (counts_of self.old) (counts_of self.new) }
+        ensures failed { result ≡ Err CloudFault.Failed → Rose (counts_of self.old).dark (counts_of self.new).dark }
+        ensures stays { (s : CloudState) → Some (state_of self.old) ≡ Some s → Some (state_of self.new) ≡ Some s }
+        ensures newest { (s : CloudState) → Some (state_of self.old) ≡ Some s → IfOk result (λ v. v ≡ newest s name) }
+        ensures call { next_call self.new ≡ next_call self.old }
+    {
+        match copies::copy_newest(self.alloc, objects::versions(&self.objects, &name)) {
+            Ok(bytes) => Ok(bytes),
+            Err(_) => Err(CloudFault::Memory),
+        }
+    }
+
+    fn backlog(&mut self, queue: QueueName) -> Result<u64, CloudFault>
+        ensures counts { Looks (counts_of self.old) (counts_of self.new) }
+        ensures failed { result ≡ Err CloudFault.Failed → Rose (counts_of self.old).dark (counts_of self.new).dark }
+        ensures stays { (s : CloudState) → Some (state_of self.old) ≡ Some s → Some (state_of self.new) ≡ Some s }
+        ensures length { (s : CloudState) → Some (state_of self.old) ≡ Some s → IfOk result (λ n. n ≡ length (unmarked (s.messages queue))) }
+        ensures no_memory { (e : CloudFault) → result ≢ Err e }
+        ensures call { next_call self.new ≡ next_call self.old }
+    {
+        Ok(queues::count_messages(&self.queues, &queue))
+    }
+}

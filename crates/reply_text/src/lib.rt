@@ -1,0 +1,5 @@
+//! The replies of a replay.
+#![tactic(auto)]
+
+pub mod name;
+pub mod reply;

@@ -1,3 +1,5 @@
 pub mod PlainLemmas
 pub mod NodeLemmas
 pub mod TreeLemmas
+pub mod InnerLemmas
+pub mod EntryLemmas

@@ -3,15 +3,19 @@ use Rattle.std.proofs.Common.{◌≡◌, ℕ, zero, suc, ◌+◌, ◌-◌, ◌^�
 use Rattle.std.specs.Prelude.{◌&&◌, ◌==◌, max, nat_le, IsSome, if◌then◌else◌}
 use Rattle.std.specs.Int.{Width, w8, w64, to_be_bytes}
 use Rattle.std.proofs.lemmas.Bool.{and_parts, and_from, leb-true, le-leb, eqb-false, cases_lt}
+use Rattle.std.specs.Ordering.{nat_cmp}
+use Rattle.std.specs.declared.cmp.Ordering.TheVariants.{Greater}
+use Rattle.std.specs.BTreeMap.{insert_entry}
+use Rattle.std.specs.Cmp.{nat_cmp_is}
 use Rattle.db_base.specs.Cursor.{number_of}
-use Rattle.byte_format.specs.Format.{Reading, ◌>>=◌, Format, guarded, in_range, unsigned_at, number_at, number, text, ruled, ◌then◌, list_fits, list_spelling}
+use Rattle.byte_format.specs.Format.{greatest, Reading, ◌>>=◌, Format, guarded, in_range, unsigned_at, number_at, number, text, ruled, ◌then◌, list_fits, list_spelling}
 use Rattle.byte_format.specs.Order.{bytes_below, bytes_same, below_bound}
 use Rattle.byte_format.proofs.OrderLemmas.{same_is}
 use Rattle.byte_format.specs.Whole.{IsExact}
 use Rattle.byte_format.proofs.Steps.{bind_ok, guarded_ok}
 use Rattle.byte_format.proofs.Fields.{wide8, wide64, number_exact, text_exact}
 use Rattle.byte_format.proofs.Exact.{ruled_exact, then_exact}
-use Rattle.node_codec.specs.Node.{Entry, greatest, plain_entry, may_stand, entry, plain_number, least_client, client_number, later_of, child_of, pairs_from, pairs_of, raised, number_bytes}
+use Rattle.node_codec.specs.Node.{Entry, plain_entry, may_stand, entry, plain_number, least_client, client_number, later_of, child_of, pairs_from, pairs_of, raised, number_bytes}
 use Rattle.node_codec.specs.Plain.{plain_list}
 use Rattle.node_codec.proofs.PlainLemmas.{Loosens, spelling_read}
 
@@ -205,3 +209,36 @@ raised_ends numbers others c out all r is whole =
       reads = spelling_read plain_number plain_number_exact all (raised numbers others) (numbers_plain_fit (raised numbers others) fits) (whole ∙ s.same);
       fits = fits;
     }
+
+-- ---- a list of numbers, one after another, is a cursor
+
+-- each client of the list is below c
+abbrev pub AreBelow : List (ℕ × ℕ) → ℕ → Type 0
+AreBelow [] c = Unit {0}
+AreBelow (x ∷ xs) c = (x.0 < c) × AreBelow xs c
+
+first_below : (x : ℕ × ℕ) (front : List (ℕ × ℕ)) (y : ℕ × ℕ) (rest : List (ℕ × ℕ)) → list_fits true client_number (Some x) (front ++ y ∷ rest) ≡ true → x.0 < y.0
+first_below x [] y rest h =
+    let a = and_parts ((client_number (Some x)).fits y) (list_fits true client_number (Some y) rest) h in
+    let b = and_parts (in_range (x.0 + 1) 64 y.0) _ a.0 in
+    omega (arith, in_range_parts (x.0 + 1) 64 y.0 b.0)
+first_below x (f ∷ fs) y rest h =
+    let a = and_parts ((client_number (Some x)).fits f) (list_fits true client_number (Some f) (fs ++ y ∷ rest)) h in
+    let b = and_parts (in_range (x.0 + 1) 64 f.0) _ a.0 in
+    omega (arith, in_range_parts (x.0 + 1) 64 f.0 b.0, first_below f fs y rest a.1)
+
+front_below : (before : Option (ℕ × ℕ)) (front : List (ℕ × ℕ)) (y : ℕ × ℕ) (rest : List (ℕ × ℕ)) → list_fits true client_number before (front ++ y ∷ rest) ≡ true → AreBelow front y.0
+front_below before [] y rest h = tt
+front_below before (x ∷ xs) y rest h =
+    let a = and_parts ((client_number before).fits x) (list_fits true client_number (Some x) (xs ++ y ∷ rest)) h in
+    (first_below x xs y rest a.1, front_below (Some x) xs y rest a.1)
+
+insert_last : (front : List (ℕ × ℕ)) (c n : ℕ) → AreBelow front c → insert_entry nat_cmp front c n ≡ front ++ (c, n) ∷ []
+insert_last [] c n h = refl
+insert_last (x ∷ xs) c n h = rw (← nat_cmp_is c x.0 Greater h.0, insert_last xs c n h.1) refl
+
+-- what the next number adds to the cursor
+pub insert_next : (front : List (ℕ × ℕ)) (c n : ℕ) (rest all : List (ℕ × ℕ)) → list_fits true client_number None all ≡ true → front ++ (c, n) ∷ rest ≡ all → insert_entry nat_cmp front c n ++ rest ≡ all
+insert_next front c n rest all fits is =
+    let ordered = subst (λ (xs : List (ℕ × ℕ)). list_fits true client_number None xs ≡ true) (sym is) fits in
+    ap (λ xs. xs ++ rest) (insert_last front c n (front_below None front (c, n) rest ordered)) ∙ append_assoc front ((c, n) ∷ []) rest ∙ is

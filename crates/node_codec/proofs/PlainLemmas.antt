@@ -1,5 +1,5 @@
 -- Lists whose items ask for nothing of the item before them: item after item, and as what is left of lists with rules.
-use Rattle.std.proofs.Common.{◌≡◌, ℕ, zero, suc, ◌≤◌, Bool, true, false, cond, eqb, List, [], ◌∷◌, ◌++◌, length, take, ◌-◌, Option, Some, None, Result, Ok, Err, refl, sym, ap, ◌∙◌, arith}
+use Rattle.std.proofs.Common.{◌≡◌, ℕ, zero, suc, ◌<◌, ◌≤◌, Bool, true, false, cond, eqb, List, [], ◌∷◌, ◌++◌, length, take, ◌-◌, Option, Some, None, Result, Ok, Err, refl, sym, ap, ◌∙◌, arith}
 use Rattle.std.specs.Prelude.{◌&&◌}
 use Rattle.byte_format.specs.Format.{Reading, ◌>>=◌, Format, more_at, list_fits, list_spelling, list_from, list_at}
 use Rattle.byte_format.specs.Whole.{IsBytes, IsExact}
@@ -9,7 +9,7 @@ use Rattle.std.specs.Borrow.{Bor}
 use Rattle.byte_format.specs.declared.stop.Stop.{Stop}
 use Rattle.byte_format.specs.Gives.{Gives, behind_it}
 use Rattle.byte_format.proofs.Steps.{bind_ok, ok_is, never_err, IsBytes-along, IsBytes-behind, IsBytes-rest}
-use Rattle.byte_format.proofs.Lists.{more_takes, list_next, list_behind, list_from-suc, list_takes, list_exact}
+use Rattle.byte_format.proofs.Lists.{more_takes, list_next, list_behind, list_from-suc, list_takes, length-list_spelling, list_exact}
 use Rattle.node_codec.specs.Plain.{plain_list, items_read, rest_read, items_of, behind_of, IsList, IsWholeList, IsFirst}
 
 -- ---- what is read is the list
@@ -70,6 +70,7 @@ first_item {A = A} f e bytes behind x after fits l more read =
       items = items_of-read f bytes (x ∷ b.0.0) b.0.1 whole ∙ ap (λ (xs : List A). x ∷ xs) (sym (items_of-read f after b.0.0 b.0.1 r));
       behind = behind_of-read f bytes (x ∷ b.0.0) b.0.1 whole ∙ sym (behind_of-read f after b.0.0 b.0.1 r);
       list = list_read f after b.0.0 b.0.1 r;
+      fits = after_fits;
     }
 
 pub no_item : {A : Type 0} (f : Format A) (bytes behind : List ℕ) → more_at true bytes ≡ Ok (false, behind) → items_of f bytes ≡ []
@@ -182,6 +183,20 @@ whole_list_is f e bytes fits w =
 pub spelling_read : {A : Type 0} (f : Format A) → IsExact f → (bytes : List ℕ) (xs : List A) → list_fits true (λ _. f) None xs ≡ true → bytes ≡ list_spelling (λ _. f) None xs → plain_list f bytes ≡ Ok (xs, [])
 spelling_read f e bytes xs fits is =
     ap (plain_list f) (is ∙ sym (append-nil (list_spelling (λ _. f) None xs))) ∙ (list_exact true (λ _. f) None (λ _. e)).again xs [] fits
+
+pub whole_from_list : {A : Type 0} (f : Format A) (bytes : List ℕ) → IsList f bytes → behind_of f bytes ≡ [] → IsWholeList f bytes
+whole_from_list f bytes l nothing = record { reads = l.reads ∙ ap (λ (r : List ℕ). Ok (items_of f bytes, r)) nothing }
+
+pub behind_whole : {A : Type 0} (f : Format A) (bytes : List ℕ) → IsWholeList f bytes → behind_of f bytes ≡ []
+behind_whole f bytes w = behind_of-read f bytes (items_of f bytes) [] w.reads
+
+-- the list behind the first item of a whole list
+pub whole_behind : {A : Type 0} (f : Format A) (bytes : List ℕ) (x : A) (after : List ℕ) → IsWholeList f bytes → IsFirst f bytes x after → IsWholeList f after
+whole_behind f bytes x after w first = whole_from_list f after first.list (sym first.behind ∙ behind_whole f bytes w)
+
+-- a list has fewer items than bytes
+pub fewer_items : {A : Type 0} (f : Format A) → IsExact f → (bytes : List ℕ) → IsBytes bytes → IsWholeList f bytes → length (items_of f bytes) < length bytes
+fewer_items f e bytes fits w = omega (arith, length-list_spelling (λ _. f) None (items_of f bytes), ap length (whole_list_is f e bytes fits w))
 
 -- what a function that skips a list returns
 pub skip_gives : {A : Type 0} (item : Option A → Format A) (f : Format A) → Loosens item f → (may_end : Bool) (bytes : List ℕ) (r : Result (Bor (List ℕ)) Stop)

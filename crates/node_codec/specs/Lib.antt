@@ -1,3 +1,4 @@
 pub mod Plain
 pub mod Node
 pub mod Tree
+pub mod Inner

@@ -1,13 +1,9 @@
 -- The entries of roots and inner nodes, and the numbers by client of a root.
-use Rattle.std.specs.Prelude.{ℕ, zero, suc, max, ◌==◌, ◌+◌, ◌-◌, ◌^◌, Bool, false, List, [], ◌∷◌, ◌++◌, Option, Some, None, nat_le, if◌then◌else◌}
+use Rattle.std.specs.Prelude.{◌≡◌, ℕ, zero, suc, max, ◌==◌, ◌+◌, ◌-◌, ◌^◌, Bool, false, List, [], ◌∷◌, ◌++◌, length, Option, Some, None, nat_le, if◌then◌else◌}
 use Rattle.std.specs.Int.{w8, w64, to_be_bytes}
-use Rattle.byte_format.specs.Format.{Format, number, text, ruled, ◌then◌}
+use Rattle.byte_format.specs.Format.{Format, greatest, number, text, ruled, ◌then◌}
 use Rattle.db_base.specs.Cursor.{number_of}
 use Rattle.byte_format.specs.Order.{bytes_below, bytes_same, below_bound}
-
--- the greatest number of 64 bits
-abbrev pub greatest : ℕ
-greatest = 2 ^ 64 - 1
 
 -- a low key, and the page that holds the keys from it on
 abbrev pub Entry : Type 0
@@ -69,3 +65,20 @@ raised numbers others = pairs_of (λ c. max (number_of numbers c) (number_of oth
 -- what a client's number adds to the bytes of a list
 abbrev pub number_bytes : ℕ → ℕ → List ℕ
 number_bytes c n = if n == 0 then [] else 1 ∷ to_be_bytes w8 c ++ to_be_bytes w64 n
+
+-- the page that a number names, 0 for none
+abbrev pub page_at : ℕ → Option ℕ
+page_at n = if n == 0 then None else Some n
+
+-- part stands somewhere in the bytes
+abbrev pub LiesIn : List ℕ → List ℕ → Type 0
+LiesIn part bytes = (front : List ℕ) × (back : List ℕ) × (bytes ≡ front ++ part ++ back)
+
+-- the entries with one more in its place; as they are where its low key is there
+abbrev pub with_entry : List ℕ → ℕ → List Entry → List Entry
+with_entry low page [] = (low, page) ∷ []
+with_entry low page (e ∷ es) = if bytes_below low e.0 then (low, page) ∷ e ∷ es else (if bytes_same low e.0 then e ∷ es else e ∷ with_entry low page es)
+
+-- what an entry adds to the bytes of a list
+abbrev pub entry_bytes : List ℕ → ℕ → List ℕ
+entry_bytes low page = 1 ∷ (to_be_bytes w8 (length low) ++ low) ++ to_be_bytes w64 page

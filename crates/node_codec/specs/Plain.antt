@@ -1,6 +1,7 @@
 -- Lists whose items ask for nothing of the item before them.
 use Rattle.std.specs.Prelude.{◌≡◌, ℕ, true, List, [], ◌∷◌, Ok, Err, None}
 use Rattle.byte_format.specs.Format.{Reading, Format, list_at}
+use Rattle.byte_format.specs.Whole.{IsBytes}
 
 -- a list at the front of bytes
 abbrev pub plain_list : {A : Type 0} → Format A → List ℕ → Reading (List A)
@@ -35,3 +36,4 @@ pub record IsFirst {A : Type 0} (f : Format A) (bytes : List ℕ) (x : A) (after
   pub items : items_of f bytes ≡ x ∷ items_of f after
   pub behind : behind_of f bytes ≡ behind_of f after
   pub list : IsList f after
+  pub fits : IsBytes after

@@ -1,10 +1,10 @@
 -- Roots.
-use Rattle.std.specs.Prelude.{ℕ, ◌-◌, ◌≤◌, true, false, IsTrue, List, [], ◌∷◌, Option, None}
+use Rattle.std.specs.Prelude.{ℕ, ◌-◌, ◌≤◌, true, false, IsTrue, List, [], ◌∷◌, Option, None, ◌+◌, nat_lt, if◌then◌else◌}
 use Rattle.std.specs.Result.{result_ok}
 use Rattle.std.specs.Int.{w8, w64}
-use Rattle.byte_format.specs.Format.{Format, number, behind, ◌then◌, list_of, seen_as}
+use Rattle.byte_format.specs.Format.{greatest, Format, number, behind, ◌then◌, list_of, seen_as}
 use Rattle.byte_format.specs.Whole.{IsSpelling, whole}
-use Rattle.node_codec.specs.Node.{Entry, greatest, entry, plain_entry, client_number, plain_number}
+use Rattle.node_codec.specs.Node.{Entry, entry, plain_entry, client_number, plain_number, with_entry}
 use Rattle.node_codec.specs.Plain.{items_of, IsWholeList}
 
 -- the root of a tree: the next free page, the level above the leaves, for each client the number up to which the records
@@ -45,6 +45,10 @@ IsTree bytes t = IsSpelling tree_format bytes t
 abbrev pub HasTreeSpelling : Tree → Type 0
 HasTreeSpelling t = IsTrue (tree_format.fits t)
 
+-- the tree has a spelling once its version is above 0
+abbrev pub IsSoundTree : Tree → Type 0
+IsSoundTree t = HasTreeSpelling (record t { version = 1 })
+
 -- the spelling of a tree
 unfoldable pub tree_bytes : Tree → List ℕ
 tree_bytes t = tree_format.spelling t
@@ -66,4 +70,13 @@ pub record AreTreeParts (next level : ℕ) (cursor entries : List ℕ) : Type 0 
 -- the parts are those of a tree that has a spelling
 pub record AreWrittenParts (version next level : ℕ) (cursor entries : List ℕ) : Type 0 where
   pub some : 1 ≤ version
+  pub most : version ≤ greatest
   pub parts : AreTreeParts next level cursor entries
+
+-- a root that names one page, one level higher
+abbrev pub raised_root : ℕ → Tree → Tree
+raised_root page t = record t { level = t.level + 1; entries = ([], page) ∷ [] }
+
+-- the root with one more entry; as it is where the page is not reserved or the low key is there
+abbrev pub with_child : List ℕ → ℕ → Tree → Tree
+with_child low page t = if nat_lt page t.next then record t { entries = with_entry low page t.entries } else t

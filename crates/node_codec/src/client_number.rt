@@ -1,16 +1,19 @@
 //! A client's number in a root.
 
-ghost use Rattle.std.specs.Prelude.{◌≡◌, true, None, Ok, IfOk, [], ◌≤◌, MatchOption};
+ghost use Rattle.std.specs.Prelude.{◌≡◌, true, None, Ok, IfOk, IfErr, [], ◌≤◌, MatchOption};
 ghost use Rattle.std.specs.Option.{option_copied};
 ghost use Rattle.byte_format.specs.Gives.{Gives};
 ghost use Rattle.std.specs.Int.{w8, w64};
-ghost use Rattle.byte_format.specs.Format.{list_at, number, ◌then◌};
+ghost use Rattle.byte_format.specs.Format.{greatest, list_at, list_fits, number, ◌then◌};
 ghost use Rattle.db_base.specs.Cursor.{number_of};
-ghost use Rattle.node_codec.specs.Node.{plain_number, client_number, least_client, greatest};
+ghost use Rattle.node_codec.specs.Node.{plain_number, client_number, least_client};
 ghost use Rattle.node_codec.specs.Plain.{items_of, plain_list, IsList, IsWholeList, IsFirst};
 
 use byte_format::{Rules, Stop, more_at, skip_list, u8_at, u64_at};
+use db_base::cursor::Cursor;
 use db_base::ids::ClientId;
+use db_base::refusal::Refused;
+use std::alloc::Global;
 use std::marker::Model;
 
 /// A client and the number up to which its records are applied.
@@ -131,4 +134,20 @@ pub(crate) fn number_in(numbers: &[u8], client: ClientId) -> u64
         rest = behind;
     }
     0
+}
+
+/// The numbers of a list as a cursor. Refused for memory alone.
+pub(crate) fn cursor_of(alloc: Global, numbers: &[u8]) -> Result<Cursor, Refused>
+    requires listed { IsList plain_number numbers.now }
+    requires fits { list_fits true client_number None (items_of plain_number numbers.now) ≡ true }
+    ensures ok { IfOk result (λ c. c ≡ items_of plain_number numbers.now) }
+    ensures memory { IfErr result (λ e. e ≡ Refused.Memory) }
+{
+    let mut cursor = Cursor::new(alloc);
+    let mut rest = numbers;
+    'numbers: while let Some((first, behind)) = first_number(rest) {
+        cursor.set(first.client(), first.number())?;
+        rest = behind;
+    }
+    Ok(cursor)
 }

@@ -1,6 +1,6 @@
 //! An entry of a root or an inner node.
 
-ghost use Rattle.std.specs.Prelude.{◌≡◌, [], None, Some, IsSome, MatchOption, if◌then◌else◌};
+ghost use Rattle.std.specs.Prelude.{◌≡◌, ◌≤◌, length, [], None, Some, IsSome, MatchOption, if◌then◌else◌};
 ghost use Rattle.byte_format.specs.Gives.{Gives};
 ghost use Rattle.byte_format.specs.Order.{bytes_below};
 ghost use Rattle.node_codec.specs.Node.{plain_entry, later_of, child_of};
@@ -18,22 +18,26 @@ pub(crate) struct Entry<'a> {
 }
 
 impl<'a> Model for Entry<'a> {
-    ghost use Rattle.std.specs.Prelude.{List, ℕ};
+    ghost use Rattle.std.specs.Prelude.{List, ℕ, ◌≤◌, length};
 
     ghost Value = { List ℕ × ℕ };
 
     ghost view = { λ e. (e.low.now, e.page) };
+
+    ghost invariant = { λ e. length e.low.now ≤ 64 };
 }
 
 impl<'a> Entry<'a> {
     pub(crate) fn new(low: &'a [u8], page: PageId) -> Entry<'a>
+        requires { length low.now ≤ 64 }
         ensures { result ≡ (low.now, page) }
     {
         Entry { low, page }
     }
 
     pub(crate) fn low(&self) -> &'a [u8]
-        ensures { result.now ≡ self.now.0 }
+        ensures value { result.now ≡ self.now.0 }
+        ensures short { length result.now ≤ 64 }
     {
         self.low
     }

@@ -4,11 +4,16 @@
 mod client_number;
 mod entries;
 mod entry;
+mod entry_list;
 mod entry_rules;
+mod inner_buf;
+mod inner_view;
 mod raised;
 mod tree_buf;
 mod tree_view;
 
 pub use entries::Entries;
+pub use inner_buf::InnerBuf;
+pub use inner_view::{InnerView, NotInner};
 pub use tree_buf::TreeBuf;
 pub use tree_view::{NotTree, TreeView};

@@ -5,14 +5,17 @@ ghost use Rattle.byte_format.specs.Gives.{Gives};
 ghost use Rattle.byte_format.specs.Whole.{whole, offset};
 ghost use Rattle.db_base.specs.Cursor.{number_of};
 ghost use Rattle.node_codec.specs.Node.{child_of};
-ghost use Rattle.node_codec.specs.Tree.{Tree, empty_tree, tree_format, tree_in, IsTree, AreTreeParts};
+ghost use Rattle.node_codec.specs.Tree.{Tree, empty_tree, tree_format, tree_in, IsTree, IsSoundTree, AreTreeParts};
 
-use crate::client_number::{number_in, split_numbers};
+use crate::client_number::{cursor_of, number_in, split_numbers};
 use crate::entries::Entries;
 use crate::entry::child_in;
 use crate::entry_rules::skip_entries;
 use byte_format::{Stop, mark_at, u8_at, u64_at};
+use db_base::cursor::Cursor;
 use db_base::ids::{ClientId, PageId};
+use db_base::refusal::Refused;
+use std::alloc::Global;
 use std::marker::Model;
 
 /// The bytes are no root.
@@ -92,7 +95,8 @@ impl<'a> TreeView<'a> {
 
     /// How often the root was put; 0 where it never was.
     pub fn version(&self) -> u64
-        ensures { result ≡ self.now.version }
+        ensures value { result ≡ self.now.version }
+        ensures sound { IsSoundTree self.now }
     {
         self.version
     }
@@ -117,6 +121,14 @@ impl<'a> TreeView<'a> {
         ensures { result ≡ number_of self.now.cursor client }
     {
         number_in(self.cursor, client)
+    }
+
+    /// The numbers of all clients. Refused for memory alone.
+    pub fn whole_cursor(&self, alloc: Global) -> Result<Cursor, Refused>
+        ensures ok { IfOk result (λ c. c ≡ self.now.cursor) }
+        ensures memory { IfErr result (λ e. e ≡ Refused.Memory) }
+    {
+        cursor_of(alloc, self.cursor)
     }
 
     /// The entry with the greatest low key that is at most the key.

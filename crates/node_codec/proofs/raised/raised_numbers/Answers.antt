@@ -1,6 +1,6 @@
 use Rattle.std.proofs.Common.{◌≤◌, [], true, None, ap, ◌∙◌, arith}
-use Rattle.byte_format.specs.Format.{list_fits}
-use Rattle.node_codec.specs.Node.{plain_number, client_number, greatest}
+use Rattle.byte_format.specs.Format.{greatest, list_fits}
+use Rattle.node_codec.specs.Node.{plain_number, client_number}
 use Rattle.node_codec.specs.Plain.{items_of}
 use Rattle.node_codec.proofs.PlainLemmas.{whole_list_read, items_of-read}
 use Rattle.node_codec.proofs.NodeLemmas.{raised_begins, raised_goes_on, raised_ends}

@@ -1,0 +1,132 @@
+//! Lists of entries that are counted, added to and cut.
+
+ghost use Rattle.std.specs.Prelude.{◌≡◌, ◌≤◌, ◌<◌, ◌++◌, ◌∷◌, [], None, take, drop, length, unwrap_or, IfOk, OnOk};
+ghost use Rattle.byte_format.specs.Format.{list_spelling};
+ghost use Rattle.node_codec.specs.Node.{plain_entry, entry_bytes, with_entry};
+ghost use Rattle.node_codec.specs.Plain.{items_of, IsWholeList};
+ghost use Rattle.node_codec.specs.Inner.{first_low_of};
+
+use crate::entries::Entries;
+use crate::entry::first_entry;
+use byte_format::{is_below, is_same, try_add, try_add_text8, try_add_u8, try_add_u64};
+use std::alloc::{AllocError, Global};
+
+/// How many entries there are.
+#[tactic(auto, using(crate::proofs::PlainLemmas::list_from_whole))]
+pub(crate) fn count_entries(entries: &[u8]) -> usize
+    requires { IsWholeList plain_entry entries.now }
+    ensures { result ≡ length (items_of plain_entry entries.now) }
+{
+    let most = entries.len();
+    let count = Entries::of(entries).count();
+    prove!(count < most);
+    count
+}
+
+/// Appends an entry to a list that goes on.
+pub(crate) fn push_entry(out: &mut Vec<u8>, low: &[u8], page: u64) -> Result<(), AllocError>
+    requires { length low.now ≤ 64 }
+    ensures { OnOk result (out.new.items ≡ out.old.items ++ entry_bytes low.now page) }
+{
+    try_add_u8(out, 1)?;
+    try_add_text8(out, low)?;
+    try_add_u64(out, page)
+}
+
+/// Appends an entry, and the rest of the list behind it.
+fn push_last(out: &mut Vec<u8>, low: &[u8], page: u64, rest: &[u8]) -> Result<(), AllocError>
+    requires { length low.now ≤ 64 }
+    ensures { OnOk result (out.new.items ≡ (out.old.items ++ entry_bytes low.now page) ++ rest.now) }
+{
+    push_entry(out, low, page)?;
+    try_add(out, rest)
+}
+
+/// The entries with one more in its place; as they are where its low key is there.
+#[tactic(auto, using(crate::proofs::PlainLemmas::list_from_whole))]
+pub(crate) fn with_one_more(
+    alloc: Global,
+    entries: &[u8],
+    low: &[u8],
+    page: u64,
+) -> Result<Vec<u8>, AllocError>
+    requires listed { IsWholeList plain_entry entries.now }
+    requires short { length low.now ≤ 64 }
+    ensures { IfOk result (λ v. v.items ≡ list_spelling (λ _. plain_entry) None (with_entry low.now page (items_of plain_entry entries.now))) }
+{
+    let mut out = Vec::new(alloc);
+    let mut rest = entries;
+    'entries: while let Some((entry, behind)) = first_entry(rest) {
+        let next = entry.low();
+        if is_below(low, next) {
+            push_last(&mut out, low, page, rest)?;
+            return Ok(out);
+        }
+        if is_same(low, next) {
+            try_add(&mut out, rest)?;
+            return Ok(out);
+        }
+        push_entry(&mut out, next, entry.page().get())?;
+        rest = behind;
+    }
+    push_last(&mut out, low, page, rest)?;
+    Ok(out)
+}
+
+/// The entries of the front as a list that ends there, and the rest as a list.
+fn parted(alloc: Global, front: Vec<u8>, rest: &[u8]) -> Result<(Vec<u8>, Vec<u8>), AllocError>
+    ensures front { IfOk result (λ v. v.0.items ≡ front.items ++ 0 ∷ []) }
+    ensures back { IfOk result (λ v. v.1.items ≡ rest.now) }
+{
+    let mut front = front;
+    try_add_u8(&mut front, 0)?;
+    let back = rest.to_vec(alloc)?;
+    Ok((front, back))
+}
+
+/// The first `count` entries, and the others.
+#[tactic(auto, using(crate::proofs::PlainLemmas::list_from_whole))]
+pub(crate) fn cut_entries(
+    alloc: Global,
+    entries: &[u8],
+    count: usize,
+) -> Result<(Vec<u8>, Vec<u8>), AllocError>
+    requires { IsWholeList plain_entry entries.now }
+    ensures front { IfOk result (λ v. v.0.items ≡ list_spelling (λ _. plain_entry) None (take count (items_of plain_entry entries.now))) }
+    ensures back { IfOk result (λ v. v.1.items ≡ list_spelling (λ _. plain_entry) None (drop count (items_of plain_entry entries.now))) }
+{
+    let mut front = Vec::new(alloc);
+    let mut left = count;
+    let mut rest = entries;
+    'entries: while let Some((entry, behind)) = first_entry(rest) {
+        if left == 0 {
+            return parted(alloc, front, rest);
+        }
+        push_entry(&mut front, entry.low(), entry.page().get())?;
+        left -= 1;
+        rest = behind;
+    }
+    parted(alloc, front, rest)
+}
+
+/// A list of one entry, from the empty key to the page.
+pub(crate) fn one_entry(alloc: Global, page: u64) -> Result<Vec<u8>, AllocError>
+    ensures { IfOk result (λ v. v.items ≡ list_spelling (λ _. plain_entry) None (([], page) ∷ [])) }
+{
+    let mut out = Vec::new(alloc);
+    push_entry(&mut out, &[], page)?;
+    try_add_u8(&mut out, 0)?;
+    Ok(out)
+}
+
+/// The low key of the first entry; empty where there is none.
+#[tactic(auto, using(crate::proofs::PlainLemmas::list_from_whole))]
+pub(crate) fn first_low(entries: &[u8]) -> &[u8]
+    requires { IsWholeList plain_entry entries.now }
+    ensures { result.now ≡ unwrap_or (first_low_of (items_of plain_entry entries.now)) [] }
+{
+    match first_entry(entries) {
+        Some((entry, _rest)) => entry.low(),
+        None => &[],
+    }
+}

@@ -1,0 +1,6 @@
+//! Whole inputs, their lines, and texts that are written.
+#![tactic(auto)]
+
+pub mod input;
+pub mod lines;
+pub mod output;

@@ -1,13 +1,12 @@
 -- A list that was checked, read again item by item.
-use Rattle.std.proofs.Common.{◌≡◌, ℕ, zero, suc, ◌+◌, ◌<◌, ◌≤◌, Bool, true, false, List, [], ◌∷◌, ◌++◌, length, Option, Some, None, Result, Ok, Err, refl, sym, ap, subst, ◌∙◌, arith}
-use Rattle.std.specs.Prelude.{IsOk, is_ok, ◌&&◌}
-use Rattle.std.proofs.lemmas.Bool.{and_parts}
+use Rattle.std.proofs.Common.{◌≡◌, ℕ, suc, ◌<◌, true, false, List, [], ◌∷◌, ◌++◌, length, Option, Some, None, Ok, Err, refl, sym, ap, subst, ◌∙◌, arith}
+use Rattle.std.specs.Prelude.{IsOk, is_ok}
 use Rattle.std.proofs.lemmas.List.{length-append}
-use Rattle.byte_format.specs.Format.{Reading, ◌>>=◌, Format, more_at, list_fits, list_spelling, list_from, list_at, list_of}
+use Rattle.byte_format.specs.Format.{Reading, ◌>>=◌, Format, more_at, list_fits, list_spelling, list_from, list_at}
 use Rattle.byte_format.specs.Whole.{IsBytes, IsExact}
-use Rattle.byte_format.specs.Plain.{plain_list, items_of, items_in, IsListed}
-use Rattle.byte_format.proofs.Steps.{bind_ok, bind_err, ok_is, never_err, IsBytes-along, IsBytes-behind, IsBytes-rest}
-use Rattle.byte_format.proofs.Lists.{continuation, more_takes, list_next, list_behind, list_from-suc, list_takes, list_exact, length-list_spelling}
+use Rattle.byte_format.specs.Plain.{items_of, items_in, IsListed}
+use Rattle.byte_format.proofs.Steps.{bind_ok, ok_is, never_err, IsBytes-along, IsBytes-behind, IsBytes-rest}
+use Rattle.byte_format.proofs.Lists.{more_takes, list_next, list_from-suc, list_takes, list_exact, length-list_spelling}
 
 read_ok : {A : Type 0} (r : Reading A) → IsOk r → (x : A × List ℕ) × (r ≡ Ok x)
 read_ok (Ok x) h = (x, refl)

@@ -1,5 +1,5 @@
 -- Lists whose items are not told of one another, as a view reads them again once they were checked.
-use Rattle.std.specs.Prelude.{ℕ, Bool, true, List, [], ◌∷◌, Option, None, Result, Ok, Err, IsOk}
+use Rattle.std.specs.Prelude.{ℕ, true, List, [], None, Ok, Err, IsOk}
 use Rattle.byte_format.specs.Format.{Reading, Format, list_at, list_of}
 
 abbrev pub plain_list : {A : Type 0} → Format A → Format (List A)

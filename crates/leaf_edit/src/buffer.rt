@@ -40,6 +40,14 @@ impl LeafBuf {
         Ok(LeafBuf { bytes })
     }
 
+    /// The leaf of bytes that spell one.
+    pub(crate) fn of(bytes: Vec<u8>) -> LeafBuf
+        requires { IsLeaf bytes.items (leaf_in bytes.items) }
+        ensures { result ≡ leaf_in bytes.items }
+    {
+        LeafBuf { bytes }
+    }
+
     /// The leaf, borrowed.
     pub fn view(&self) -> LeafView<'_>
         ensures { result ≡ self.now }

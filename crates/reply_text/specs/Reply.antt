@@ -112,11 +112,11 @@ section_lines name words items = (name ∷ decimal (length items) ∷ []) ∷ ma
 -- the lines of a report
 abbrev pub report_lines : Report → List (List (List ℕ))
 report_lines report =
-    (codes "report" ∷ decimal report.tree ∷ []) ∷ []
-    ++ section_lines (codes "committed") entry_words report.committed
-    ++ section_lines (codes "order") entry_words report.order
-    ++ section_lines (codes "contents") pair_words report.contents
-    ++ (codes "left" ∷ decimal report.heads ∷ decimal report.messages ∷ []) ∷ []
+    (codes "report" ∷ decimal report.tree ∷ [])
+    ∷ (section_lines (codes "committed") entry_words report.committed
+    ++ (section_lines (codes "order") entry_words report.order
+    ++ (section_lines (codes "contents") pair_words report.contents
+    ++ (codes "left" ∷ decimal report.heads ∷ decimal report.messages ∷ []) ∷ [])))
 
 -- the lines of a reply
 abbrev pub reply_lines : Reply → List (List (List ℕ))
@@ -165,3 +165,8 @@ ReplyHasText (reply.Settled calls) = Unit {0}
 ReplyHasText (reply.NotSettled trouble) = HasText trouble
 ReplyHasText (reply.Trouble trouble) = HasText trouble
 ReplyHasText (reply.Report report) = Unit {0}
+
+-- texts with a separator before each
+abbrev pub behind_each : ℕ → List (List ℕ) → List ℕ
+behind_each separator [] = []
+behind_each separator (text ∷ texts) = separator ∷ (text ++ behind_each separator texts)

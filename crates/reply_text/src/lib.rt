@@ -3,3 +3,4 @@
 
 pub mod name;
 pub mod reply;
+pub mod write;

@@ -1,0 +1,392 @@
+ghost use Rattle.std.specs.Prelude.{◌≡◌, ℕ, List, [], ◌∷◌, ◌++◌, IfOk, IfErr, OnOk, map, codes, length};
+ghost use Rattle.std.specs.Fmt.{decimal};
+ghost use Rattle.std.specs.String.{string_bytes};
+ghost use Rattle.words.specs.Word.{hexadecimal};
+ghost use Rattle.words.specs.Line.{text_of};
+ghost use Rattle.db_base.specs.Refusal.{number_of_refusal};
+ghost use Rattle.reply_text.specs.Reply.{refusal_word, counter_word, trouble_words, HasText, behind_each, pair_word, pair_words, entry_words, change_words, commit_words, CommitHasText, report_lines, reply_text, ReplyHasText};
+
+use crate::name::{lock_word, place_word};
+use crate::reply::Reply;
+use db_base::blob::Blob;
+use db_base::change::Change;
+use db_base::pair::Pair;
+use db_base::refusal::Refusal;
+use db_base::trouble::{CommitAnswer, Counter, Trouble};
+use report_types::entry::Entry;
+use report_types::report::Report;
+use std::alloc::{AllocError, Global};
+use words::bytes::hexadecimal;
+use words::fault::TextFault;
+
+/// A kind and a number.
+fn number_text(alloc: Global, kind: &str, number: u64) -> Result<String, AllocError>
+    ensures { IfOk result (λ text. string_bytes text ≡ text_of 32 (kind.now ∷ decimal number ∷ [])) }
+{
+    let text = format!(in alloc; "{kind} {number}")?;
+    Ok(text)
+}
+
+/// A kind and two numbers.
+fn two_numbers_text(
+    alloc: Global,
+    kind: &str,
+    first: u64,
+    second: u64,
+) -> Result<String, AllocError>
+    ensures { IfOk result (λ text. string_bytes text ≡ text_of 32 (kind.now ∷ decimal first ∷ decimal second ∷ [])) }
+{
+    let text = format!(in alloc; "{kind} {first} {second}")?;
+    Ok(text)
+}
+
+/// A kind and three numbers.
+fn three_numbers_text(
+    alloc: Global,
+    kind: &str,
+    first: u64,
+    second: u64,
+    third: u64,
+) -> Result<String, AllocError>
+    ensures { IfOk result (λ text. string_bytes text ≡ text_of 32 (kind.now ∷ decimal first ∷ decimal second ∷ decimal third ∷ [])) }
+{
+    let text = format!(in alloc; "{kind} {first} {second} {third}")?;
+    Ok(text)
+}
+
+/// A kind and a word.
+fn word_text(alloc: Global, kind: &str, word: &str) -> Result<String, AllocError>
+    ensures { IfOk result (λ text. string_bytes text ≡ text_of 32 (kind.now ∷ word.now ∷ [])) }
+{
+    let text = format!(in alloc; "{kind} {word}")?;
+    Ok(text)
+}
+
+/// A kind, a word and a number.
+fn place_text(alloc: Global, kind: &str, word: &str, number: u64) -> Result<String, AllocError>
+    ensures { IfOk result (λ text. string_bytes text ≡ text_of 32 (kind.now ∷ word.now ∷ decimal number ∷ [])) }
+{
+    let text = format!(in alloc; "{kind} {word} {number}")?;
+    Ok(text)
+}
+
+/// A kind and bytes.
+fn bytes_text(alloc: Global, kind: &str, bytes: &[u8]) -> Result<String, AllocError>
+    ensures { IfOk result (λ text. string_bytes text ≡ text_of 32 (kind.now ∷ hexadecimal bytes.now ∷ [])) }
+{
+    let word = hexadecimal(alloc, bytes)?;
+    let text = format!(in alloc; "{kind} {word}")?;
+    Ok(text)
+}
+
+/// A kind, a key and a payload.
+fn record_text(alloc: Global, kind: &str, key: &[u8], payload: &[u8]) -> Result<String, AllocError>
+    ensures { IfOk result (λ text. string_bytes text ≡ text_of 32 (kind.now ∷ hexadecimal key.now ∷ hexadecimal payload.now ∷ [])) }
+{
+    let key = hexadecimal(alloc, key)?;
+    let payload = hexadecimal(alloc, payload)?;
+    let text = format!(in alloc; "{kind} {key} {payload}")?;
+    Ok(text)
+}
+
+/// A low key that differs from what led to it.
+fn fence_text(alloc: Global, page: u64, expected: &Blob, found: &Blob) -> Result<String, AllocError>
+    ensures { IfOk result (λ text. string_bytes text ≡ text_of 32 (codes "bad-fence" ∷ decimal page ∷ hexadecimal expected.now ∷ hexadecimal found.now ∷ [])) }
+{
+    let expected = hexadecimal(alloc, expected.as_slice())?;
+    let found = hexadecimal(alloc, found.as_slice())?;
+    let text = format!(in alloc; "bad-fence {page} {expected} {found}")?;
+    Ok(text)
+}
+
+/// The word of a rule.
+fn refusal_word(refusal: Refusal) -> &'static str
+    ensures { result.now ≡ refusal_word refusal }
+{
+    match refusal {
+        Refusal::EmptyKey => "empty-key",
+        Refusal::LongKey => "long-key",
+        Refusal::LongPayload => "long-payload",
+        Refusal::TooManyChanges => "too-many",
+        Refusal::BadNumber => "bad-number",
+        Refusal::NotOpen => "not-open",
+        Refusal::AtWork => "at-work",
+        Refusal::Broken => "broken",
+        Refusal::AlreadyOpen => "already-open",
+        Refusal::NotWorking => "not-working",
+        Refusal::NotBuilt => "not-built",
+    }
+}
+
+/// The word of a counter.
+fn counter_word(counter: Counter) -> &'static str
+    ensures { result.now ≡ counter_word counter }
+{
+    match counter {
+        Counter::Epoch => "epoch",
+        Counter::Txn => "txn",
+        Counter::Number => "number",
+        Counter::Version => "version",
+        Counter::Pages => "pages",
+    }
+}
+
+/// A rule's number and word.
+fn refused_text(alloc: Global, refusal: Refusal) -> Result<String, AllocError>
+    ensures { IfOk result (λ text. string_bytes text ≡ text_of 32 (codes "refused" ∷ decimal (number_of_refusal refusal) ∷ refusal_word refusal ∷ [])) }
+{
+    let number = refusal.number();
+    let word = refusal_word(refusal);
+    let text = format!(in alloc; "refused {number} {word}")?;
+    Ok(text)
+}
+
+/// The text of a trouble. Want of memory has none, and is answered as such.
+pub fn trouble_text(alloc: Global, trouble: &Trouble) -> Result<String, TextFault>
+    ensures ok { IfOk result (λ text. string_bytes text ≡ text_of 32 (trouble_words trouble.now)) }
+    ensures some { OnOk result (HasText trouble.now) }
+    ensures memory { IfErr result (λ e. e ≡ TextFault.Memory) }
+{
+    match trouble {
+        Trouble::Failed => Ok(String::from_str(alloc, "failed")?),
+        Trouble::Late { end, now } => Ok(two_numbers_text(alloc, "late", *end, *now)?),
+        Trouble::Busy { lock, until } => {
+            let word = lock_word(alloc, lock)?;
+            Ok(place_text(alloc, "busy", word.as_str(), *until)?)
+        }
+        Trouble::Waiting { have, need } => Ok(two_numbers_text(alloc, "waiting", *have, *need)?),
+        Trouble::Stale { page, least, got } => Ok(three_numbers_text(
+            alloc,
+            "stale",
+            page.get(),
+            *least,
+            *got,
+        )?),
+        Trouble::Absent { page } => Ok(number_text(alloc, "absent", page.get())?),
+        Trouble::NotALeaf { page } => Ok(number_text(alloc, "not-leaf", page.get())?),
+        Trouble::Damaged { place, offset } => {
+            let word = place_word(alloc, place)?;
+            Ok(place_text(alloc, "damaged", word.as_str(), *offset)?)
+        }
+        Trouble::BadFence {
+            page,
+            expected,
+            found,
+        } => Ok(fence_text(alloc, page.get(), expected, found)?),
+        Trouble::Loop { page } => Ok(number_text(alloc, "loop", page.get())?),
+        Trouble::Exhausted { what } => Ok(word_text(alloc, "exhausted", counter_word(*what))?),
+        Trouble::Memory => Err(TextFault::Memory),
+    }
+}
+
+/// A kind with a trouble behind it.
+#[tactic(auto, using(crate::proofs::Texts::text_of_trouble))]
+fn stopped_text(alloc: Global, kind: &str, trouble: &Trouble) -> Result<String, TextFault>
+    ensures ok { IfOk result (λ text. string_bytes text ≡ text_of 32 (kind.now ∷ trouble_words trouble.now)) }
+    ensures some { OnOk result (HasText trouble.now) }
+    ensures memory { IfErr result (λ e. e ≡ TextFault.Memory) }
+{
+    let trouble = trouble_text(alloc, trouble)?;
+    let text = format!(in alloc; "{kind} {trouble}")?;
+    Ok(text)
+}
+
+/// How a commit ended.
+fn commit_text(alloc: Global, answer: &CommitAnswer) -> Result<String, TextFault>
+    ensures ok { IfOk result (λ text. string_bytes text ≡ text_of 32 (commit_words answer.now)) }
+    ensures some { OnOk result (CommitHasText answer.now) }
+    ensures memory { IfErr result (λ e. e ≡ TextFault.Memory) }
+{
+    match answer {
+        CommitAnswer::Committed { txn } => Ok(number_text(alloc, "committed", *txn)?),
+        CommitAnswer::NotCommitted(trouble) => stopped_text(alloc, "not-committed", trouble),
+        CommitAnswer::InDoubt => Ok(String::from_str(alloc, "in-doubt")?),
+        CommitAnswer::CommittedOpen(trouble) => stopped_text(alloc, "committed-open", trouble),
+    }
+}
+
+/// A record as one word.
+fn pair_word(alloc: Global, pair: &Pair) -> Result<String, AllocError>
+    ensures { IfOk result (λ text. string_bytes text ≡ pair_word pair.now) }
+{
+    let key = hexadecimal(alloc, pair.key.as_slice())?;
+    let payload = hexadecimal(alloc, pair.payload.as_slice())?;
+    let text = format!(in alloc; "{key}={payload}")?;
+    Ok(text)
+}
+
+/// A record as a line.
+fn pair_text(alloc: Global, pair: &Pair) -> Result<String, AllocError>
+    ensures { IfOk result (λ text. string_bytes text ≡ text_of 32 (pair_words pair.now)) }
+{
+    let key = hexadecimal(alloc, pair.key.as_slice())?;
+    let payload = hexadecimal(alloc, pair.payload.as_slice())?;
+    let text = format!(in alloc; "{key} {payload}")?;
+    Ok(text)
+}
+
+/// A change.
+fn change_text(alloc: Global, change: &Change) -> Result<String, AllocError>
+    ensures { IfOk result (λ text. string_bytes text ≡ text_of 32 (change_words change.now)) }
+{
+    match change {
+        Change::Insert { key, payload } => record_text(
+            alloc,
+            "insert",
+            key.as_slice(),
+            payload.as_slice(),
+        ),
+        Change::Update { key, payload } => record_text(
+            alloc,
+            "update",
+            key.as_slice(),
+            payload.as_slice(),
+        ),
+        Change::Delete { key } => bytes_text(alloc, "delete", key.as_slice()),
+    }
+}
+
+/// An entry of a report.
+#[tactic(auto, using(crate::proofs::Texts::text_of_entry))]
+fn entry_text(alloc: Global, entry: &Entry) -> Result<String, AllocError>
+    ensures { IfOk result (λ text. string_bytes text ≡ text_of 32 (entry_words entry.now)) }
+{
+    let change = change_text(alloc, &entry.change)?;
+    let client = entry.client.get();
+    let epoch = entry.epoch;
+    let txn = entry.txn;
+    let text = format!(in alloc; "{client} {epoch} {txn} {change}")?;
+    Ok(text)
+}
+
+/// Adds a text with a separator before it.
+fn add_text(text: &mut String, separator: &str, more: &str) -> Result<(), AllocError>
+    ensures { OnOk result (string_bytes text.new ≡ string_bytes text.old ++ (separator.now ++ more.now)) }
+{
+    text.push_str(separator)?;
+    text.push_str(more)?;
+    Ok(())
+}
+
+/// Adds each record as a word behind a space.
+fn add_pair_words(alloc: Global, text: &mut String, pairs: &[Pair]) -> Result<(), AllocError>
+    ensures { OnOk result (string_bytes text.new ≡ string_bytes text.old ++ behind_each 32 (map pair_word pairs.now)) }
+{
+    let mut left = pairs;
+    while let Some((pair, rest)) = left.split_first() {
+        let word = pair_word(alloc, pair)?;
+        add_text(text, " ", word.as_str())?;
+        left = rest;
+    }
+    Ok(())
+}
+
+/// Adds each record as a line behind a line feed.
+fn add_pairs(alloc: Global, text: &mut String, pairs: &[Pair]) -> Result<(), AllocError>
+    ensures { OnOk result (string_bytes text.new ≡ string_bytes text.old ++ behind_each 10 (map (λ pair. text_of 32 (pair_words pair)) pairs.now)) }
+{
+    let mut left = pairs;
+    while let Some((pair, rest)) = left.split_first() {
+        let line = pair_text(alloc, pair)?;
+        add_text(text, "\n", line.as_str())?;
+        left = rest;
+    }
+    Ok(())
+}
+
+/// Adds each entry as a line behind a line feed.
+fn add_entries(alloc: Global, text: &mut String, entries: &[Entry]) -> Result<(), AllocError>
+    ensures { OnOk result (string_bytes text.new ≡ string_bytes text.old ++ behind_each 10 (map (λ entry. text_of 32 (entry_words entry)) entries.now)) }
+{
+    let mut left = entries;
+    while let Some((entry, rest)) = left.split_first() {
+        let line = entry_text(alloc, entry)?;
+        add_text(text, "\n", line.as_str())?;
+        left = rest;
+    }
+    Ok(())
+}
+
+/// Adds the line of a list's name and length behind a line feed.
+fn add_count(alloc: Global, text: &mut String, name: &str, count: usize) -> Result<(), AllocError>
+    ensures { OnOk result (string_bytes text.new ≡ string_bytes text.old ++ (10 ∷ text_of 32 (name.now ∷ decimal count ∷ []))) }
+{
+    let count = count as u64;
+    let line = number_text(alloc, name, count)?;
+    add_text(text, "\n", line.as_str())
+}
+
+/// The lines of a report.
+fn report_text(alloc: Global, report: &Report) -> Result<String, AllocError>
+    ensures { IfOk result (λ text. string_bytes text ≡ text_of 10 (map (text_of 32) (report_lines report.now))) }
+{
+    let mut text = number_text(alloc, "report", report.tree.get())?;
+    add_count(alloc, &mut text, "committed", report.committed.len())?;
+    add_entries(alloc, &mut text, report.committed.as_slice())?;
+    add_count(alloc, &mut text, "order", report.order.len())?;
+    add_entries(alloc, &mut text, report.order.as_slice())?;
+    add_count(alloc, &mut text, "contents", report.contents.len())?;
+    add_pairs(alloc, &mut text, report.contents.as_slice())?;
+    let left = two_numbers_text(alloc, "left", report.heads, report.messages)?;
+    add_text(&mut text, "\n", left.as_str())?;
+    Ok(text)
+}
+
+/// The records of a scan.
+#[tactic(auto, using(crate::proofs::Texts::text_of_scan))]
+fn scan_text(alloc: Global, pairs: &[Pair]) -> Result<String, AllocError>
+    ensures { IfOk result (λ text. string_bytes text ≡ text_of 32 (codes "scan" ∷ decimal (length pairs.now) ∷ map pair_word pairs.now)) }
+{
+    let count = pairs.len() as u64;
+    let mut text = number_text(alloc, "scan", count)?;
+    add_pair_words(alloc, &mut text, pairs)?;
+    Ok(text)
+}
+
+impl Reply {
+    /// The text of the reply.
+    fn text(&self, alloc: Global) -> Result<String, TextFault>
+        ensures ok { IfOk result (λ text. string_bytes text ≡ reply_text self.now) }
+        ensures some { OnOk result (ReplyHasText self.now) }
+        ensures memory { IfErr result (λ e. e ≡ TextFault.Memory) }
+    {
+        match self {
+            Reply::Begun => Ok(String::from_str(alloc, "begun")?),
+            Reply::Called => Ok(String::from_str(alloc, "called")?),
+            Reply::Noted => Ok(String::from_str(alloc, "noted")?),
+            Reply::Aborted => Ok(String::from_str(alloc, "aborted")?),
+            Reply::Crashed => Ok(String::from_str(alloc, "crashed")?),
+            Reply::Waited => Ok(String::from_str(alloc, "waited")?),
+            Reply::Refused(refusal) => Ok(refused_text(alloc, *refusal)?),
+            Reply::Opened { epoch } => Ok(number_text(alloc, "opened", *epoch)?),
+            Reply::Closed => Ok(String::from_str(alloc, "closed")?),
+            Reply::Renewed { end } => Ok(number_text(alloc, "renewed", *end)?),
+            Reply::Commit(answer) => commit_text(alloc, answer),
+            Reply::Done(answer) => Ok(three_numbers_text(
+                alloc,
+                "done",
+                answer.applied,
+                answer.deleted,
+                answer.left,
+            )?),
+            Reply::Value(payload) => Ok(bytes_text(alloc, "value", payload.as_slice())?),
+            Reply::NoValue => Ok(String::from_str(alloc, "none")?),
+            Reply::Scan(pairs) => Ok(scan_text(alloc, pairs.as_slice())?),
+            Reply::Settled { calls } => Ok(number_text(alloc, "settled", *calls)?),
+            Reply::NotSettled(trouble) => stopped_text(alloc, "not-settled", trouble),
+            Reply::Trouble(trouble) => trouble_text(alloc, trouble),
+            Reply::Report(report) => Ok(report_text(alloc, report)?),
+        }
+    }
+
+    /// The one text that spells the reply, without its event's number and without a line feed at its end. Memory is the
+    /// one refusal, and the one answer to a reply that shows want of memory, which has no text.
+    pub fn write(&self, alloc: Global) -> Result<Blob, TextFault>
+        ensures ok { IfOk result (λ text. text ≡ reply_text self.now) }
+        ensures some { OnOk result (ReplyHasText self.now) }
+        ensures memory { IfErr result (λ e. e ≡ TextFault.Memory) }
+    {
+        let text = self.text(alloc)?;
+        Ok(Blob::of(text.into_bytes()))
+    }
+}

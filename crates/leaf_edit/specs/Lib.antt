@@ -1,1 +1,7 @@
+pub mod Applied
 pub mod Buffer
+pub mod Edited
+pub mod Lacked
+pub mod Merging
+pub mod Raised
+pub mod Spelled

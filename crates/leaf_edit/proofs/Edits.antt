@@ -1,0 +1,115 @@
+-- What a change leaves of records in order.
+use Rattle.std.proofs.Common.{◌≡◌, ℕ, Bool, true, false, List, [], ◌∷◌, ◌++◌, Option, Some, None, refl, sym, ap, subst, ◌∙◌}
+use Rattle.std.specs.Prelude.{IsTrue}
+use Rattle.std.specs.List.{AllByRecursion}
+use Rattle.std.specs.declared.cmp.Ordering.{Ordering}
+use Rattle.std.specs.declared.cmp.Ordering.TheVariants.{Less, Equal, Greater}
+use Rattle.std.specs.Ordering.{ordering_reverse}
+use Rattle.std.proofs.lemmas.Cmp.{nat_list_cmp_total, tied_itself}
+use Rattle.db_base.specs.Change.{key_of, act, payload_set_by}
+use Rattle.db_base.specs.declared.change.Change.{Change}
+use Rattle.db_base.specs.declared.change.Change.TheVariants.{Insert, Update, Delete}
+use Rattle.byte_format.specs.Order.{bytes_cmp, bytes_below}
+use Rattle.leaf_view.specs.Leaf.{Entry}
+use Rattle.leaf_view.specs.Fits.{Behind, Ascend, entry_below}
+use Rattle.log_codec.specs.declared.record.PuItem.{PuItem}
+use Rattle.leaf_edit.specs.Edited.{with_payload, edited_at, edited, edited_by}
+use Rattle.leaf_edit.specs.Merging.{KeyBefore}
+use Rattle.leaf_edit.proofs.Ascends.{below_less, greater_below, equal_same, KeyBehind, Ascend-behind, Ascend-skip, Ascend-first, KeyBehind-entry, entry-KeyBehind}
+
+-- ---- order
+
+with_payload-ascends : (before : Option Entry) (key : List ℕ) (payload : Option (List ℕ)) (es : List Entry) (other : Option Entry)
+    → Ascend entry_below other es → KeyBehind before key → KeyBefore key es → Ascend entry_below before (with_payload key payload es)
+with_payload-ascends before key None es other h behind first = Ascend-skip before key es other h behind first
+with_payload-ascends before key (Some payload) es other h behind first =
+    (entry-KeyBehind before (record { key = key; payload = payload }) behind, Ascend-behind (record { key = key; payload = payload }) es other h first)
+
+-- a change keeps records in order
+pub edited-ascends : (before : Option Entry) (es : List Entry) (c : Change) → Ascend entry_below before es → KeyBehind before (key_of c)
+    → Ascend entry_below before (edited es c)
+edited-ascends before [] c h behind = with_payload-ascends before (key_of c) (act None c) [] None tt behind tt
+edited-ascends before (e ∷ es) c h behind = on (bytes_cmp e.key (key_of c)) refl (edited-ascends (Some e) es c h.1)
+  where
+    on : (o : Ordering) → bytes_cmp e.key (key_of c) ≡ o
+        → (IsTrue (bytes_below e.key (key_of c)) → Ascend entry_below (Some e) (edited es c))
+        → Ascend entry_below before (edited_at o e es (edited es c) c)
+    on Less is again = (h.0, again (rw is refl))
+    on Equal is again =
+        with_payload-ascends before (key_of c) (act (Some e.payload) c) es (Some e) h.1 behind
+            (subst (λ k. KeyBefore k es) (equal_same e.key (key_of c) is) (Ascend-first e es h.1))
+    on Greater is again = with_payload-ascends before (key_of c) (act None c) (e ∷ es) before h behind (greater_below e.key (key_of c) is)
+
+-- ---- each record
+
+-- what a change sets is its own payload
+pub act-sets : (old : Option (List ℕ)) (c : Change) (p : List ℕ) → act old c ≡ Some p → p ≡ payload_set_by c
+act-sets old (Insert key payload) p h = cc
+act-sets None (Update key payload) p h = absurd cc
+act-sets (Some q) (Update key payload) p h = cc
+act-sets old (Delete key) p h = absurd cc
+
+with_payload-all : (P : Entry → Type 0) (c : Change) (old : Option (List ℕ)) (es : List Entry)
+    → P (record { key = key_of c; payload = payload_set_by c }) → AllByRecursion P es → AllByRecursion P (with_payload (key_of c) (act old c) es)
+with_payload-all P c old es here all = on (act old c) refl
+  where
+    on : (o : Option (List ℕ)) → act old c ≡ o → AllByRecursion P (with_payload (key_of c) o es)
+    on None e = all
+    on (Some p) e = (subst (λ q. P (record { key = key_of c; payload = q })) (sym (act-sets old c p e)) here, all)
+
+-- what holds of each record, and of the one that a change sets, holds of each behind it
+pub edited-all : (P : Entry → Type 0) (es : List Entry) (c : Change)
+    → P (record { key = key_of c; payload = payload_set_by c }) → AllByRecursion P es → AllByRecursion P (edited es c)
+edited-all P [] c here all = with_payload-all P c None [] here tt
+edited-all P (e ∷ es) c here all = on (bytes_cmp e.key (key_of c)) (edited-all P es c here all.1)
+  where
+    on : (o : Ordering) → AllByRecursion P (edited es c) → AllByRecursion P (edited_at o e es (edited es c) c)
+    on Less again = (all.0, again)
+    on Equal again = with_payload-all P c (Some e.payload) es here all.1
+    on Greater again = with_payload-all P c None (e ∷ es) here all
+
+-- ---- a run of changes
+
+pub edited_by-ascends : (es : List Entry) (xs : List PuItem) → Ascend entry_below None es → Ascend entry_below None (edited_by es xs)
+edited_by-ascends es [] h = h
+edited_by-ascends es (x ∷ xs) h = edited_by-ascends (edited es x.rec.change) xs (edited-ascends None es x.rec.change h tt)
+
+abbrev pub Sets : (Entry → Type 0) → PuItem → Type 0
+Sets P x = P (record { key = key_of x.rec.change; payload = payload_set_by x.rec.change })
+
+pub edited_by-all : (P : Entry → Type 0) (es : List Entry) (xs : List PuItem) → AllByRecursion (Sets P) xs → AllByRecursion P es → AllByRecursion P (edited_by es xs)
+edited_by-all P es [] here all = all
+edited_by-all P es (x ∷ xs) here all = edited_by-all P (edited es x.rec.change) xs here.1 (edited-all P es x.rec.change here.0 all)
+
+-- ---- as it is merged
+
+-- a record whose key is below those of all changes stays in front
+pub passes : (e : Entry) (es : List Entry) (xs : List PuItem) → AllByRecursion (λ x. IsTrue (bytes_below e.key (key_of x.rec.change))) xs
+    → edited_by (e ∷ es) xs ≡ e ∷ edited_by es xs
+passes e es [] all = refl
+passes e es (x ∷ xs) all = ap (λ l. edited_by l xs) (front (bytes_cmp e.key (key_of x.rec.change)) (below_less e.key (key_of x.rec.change) all.0)) ∙ passes e (edited es x.rec.change) xs all.1
+  where
+    front : (o : Ordering) → o ≡ Less → edited_at o e es (edited es x.rec.change) x.rec.change ≡ e ∷ edited es x.rec.change
+    front Less h = refl
+    front Equal h = absurd cc
+    front Greater h = absurd cc
+
+-- a change at the key in front acts on its payload
+pub acts : (key : List ℕ) (old : Option (List ℕ)) (es : List Entry) (c : Change) → key ≡ key_of c → KeyBefore key es
+    → edited (with_payload key old es) c ≡ with_payload key (act old c) es
+acts key (Some p) es c same first = front (bytes_cmp key (key_of c)) (ap (λ k. bytes_cmp key k) (sym same) ∙ tied_itself nat_list_cmp_total key) ∙ ap (λ k. with_payload k (act (Some p) c) es) (sym same)
+  where
+    front : (o : Ordering) → o ≡ Equal
+        → edited_at o (record { key = key; payload = p }) es (edited es c) c ≡ with_payload (key_of c) (act (Some p) c) es
+    front Less h = absurd cc
+    front Equal h = refl
+    front Greater h = absurd cc
+acts key None [] c same first = ap (λ k. with_payload k (act None c) []) (sym same)
+acts key None (e ∷ es) c same first =
+    front (bytes_cmp e.key (key_of c)) (ap (λ k. bytes_cmp e.key k) (sym same) ∙ (nat_list_cmp_total.antisymm e.key key ∙ ap ordering_reverse (below_less key e.key first)))
+        ∙ ap (λ k. with_payload k (act None c) (e ∷ es)) (sym same)
+  where
+    front : (o : Ordering) → o ≡ Greater → edited_at o e es (edited es c) c ≡ with_payload (key_of c) (act None c) (e ∷ es)
+    front Less h = absurd cc
+    front Equal h = absurd cc
+    front Greater h = refl

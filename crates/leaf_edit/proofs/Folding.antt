@@ -1,0 +1,71 @@
+-- The changes of one key, one after another.
+use Rattle.std.proofs.Common.{◌≡◌, ℕ, suc, ◌+◌, ◌<◌, ◌≤◌, Bool, true, false, List, [], ◌∷◌, ◌++◌, length, Option, Some, None, refl, sym, ap, subst, ◌∙◌, arith}
+use Rattle.std.specs.Prelude.{IsTrue}
+use Rattle.std.specs.List.{AllByRecursion}
+use Rattle.std.specs.Option.{IfSome}
+use Rattle.std.specs.declared.cmp.Ordering.{Ordering}
+use Rattle.std.specs.declared.cmp.Ordering.TheVariants.{Less, Equal, Greater}
+use Rattle.std.specs.Ordering.{is_lt, is_eq}
+use Rattle.db_base.specs.Key.{IsPayload}
+use Rattle.db_base.specs.Change.{key_of, act, payload_set_by}
+use Rattle.db_base.specs.declared.change.Change.{Change}
+use Rattle.byte_format.specs.Order.{bytes_cmp, bytes_below, bytes_same}
+use Rattle.byte_format.proofs.OrderLemmas.{same_is}
+use Rattle.leaf_view.specs.Leaf.{Entry}
+use Rattle.log_codec.specs.declared.record.PuItem.{PuItem}
+use Rattle.leaf_edit.specs.Edited.{with_payload, edited_by}
+use Rattle.leaf_edit.specs.Merging.{KeyBefore, AreChanges, AllFrom, AllAbove, Folds}
+use Rattle.leaf_edit.proofs.Ascends.{greater_below}
+use Rattle.leaf_edit.proofs.InOrder.{above-from}
+use Rattle.leaf_edit.proofs.Edits.{acts, act-sets}
+
+-- so far the changes of the key made `new` of `old`, and `rest` are left, none at a key below it
+pub record IsFolding (key : List ℕ) (old : Option (List ℕ)) (xs : List PuItem) (new : Option (List ℕ)) (rest : List PuItem) : Type 0 where
+  pub is : (es : List Entry) → KeyBefore key es → edited_by (with_payload key old es) xs ≡ edited_by (with_payload key new es) rest
+  pub from : AllFrom key rest
+  pub changes : AreChanges rest
+  pub shorter : length rest ≤ length xs
+  pub payload : IfSome new IsPayload
+
+pub start : (key : List ℕ) (old : Option (List ℕ)) (xs : List PuItem) → AreChanges xs → AllFrom key xs → IfSome old IsPayload → IsFolding key old xs old xs
+start key old xs changes from payload = record { is = λ es first. refl; from = from; changes = changes; shorter = omega arith; payload = payload }
+
+pub act-payload : (old : Option (List ℕ)) (c : Change) → IsPayload (payload_set_by c) → IfSome (act old c) IsPayload
+act-payload old c h = on (act old c) refl
+  where
+    on : (o : Option (List ℕ)) → act old c ≡ o → IfSome o IsPayload
+    on None e = tt
+    on (Some p) e = subst IsPayload (sym (act-sets old c p e)) h
+
+pub step : (key : List ℕ) (old : Option (List ℕ)) (xs : List PuItem) (new : Option (List ℕ)) (x : PuItem) (rest : List PuItem)
+    → IsFolding key old xs new (x ∷ rest) → bytes_same (key_of x.rec.change) key ≡ true → IsFolding key old xs (act new x.rec.change) rest
+step key old xs new x rest h same = record {
+  is = λ es first. h.is es first ∙ ap (λ l. edited_by l rest) (acts key new es x.rec.change (sym (same_is _ _ same)) first);
+  from = h.from.1;
+  changes = record { rise = h.changes.rise.1; items = h.changes.items.1 };
+  shorter = omega (arith, h.shorter);
+  payload = act-payload new x.rec.change h.changes.items.0.change.payload;
+}
+
+-- a key that is not below and not the same is above
+above : (a b : List ℕ) → bytes_below a b ≡ false → bytes_same a b ≡ false → bytes_below b a ≡ true
+above a b p q = on (bytes_cmp a b) refl
+  where
+    on : (o : Ordering) → bytes_cmp a b ≡ o → bytes_below b a ≡ true
+    on Less e = absurd (let f : is_lt Less ≡ false = sym (ap is_lt e) ∙ p in cc)
+    on Equal e = absurd (let f : is_eq Equal ≡ false = sym (ap is_eq e) ∙ q in cc)
+    on Greater e = greater_below a b e
+
+pub end : (key : List ℕ) (old : Option (List ℕ)) (xs : List PuItem) (new : Option (List ℕ)) (x : PuItem) (rest : List PuItem)
+    → IsFolding key old xs new (x ∷ rest) → bytes_same (key_of x.rec.change) key ≡ false → Folds key old xs new (x ∷ rest)
+end key old xs new x rest h other = record {
+  is = h.is;
+  above = let here = above (key_of x.rec.change) key h.from.0 other in (here, above-from key (key_of x.rec.change) rest here h.changes.rise.0);
+  changes = h.changes;
+  shorter = h.shorter;
+  payload = h.payload;
+}
+
+pub none : (key : List ℕ) (old : Option (List ℕ)) (xs : List PuItem) (new : Option (List ℕ))
+    → IsFolding key old xs new [] → Folds key old xs new []
+none key old xs new h = record { is = h.is; above = tt; changes = h.changes; shorter = h.shorter; payload = h.payload }

@@ -1,0 +1,26 @@
+use Rattle.std.proofs.Common.{◌≡◌, ◌∷◌, List, sym, ◌∙◌}
+use Rattle.leaf_view.specs.Leaf.{Entry}
+use Rattle.leaf_view.specs.Shown.{shown}
+use Rattle.leaf_edit.proofs.Stepping.{tail-of, before-equal, before-greater, steps-less, steps-equal}
+use Rattle.leaf_edit.proofs.step.at_change.Goals as goal
+
+pub folded-requires-in-Equal-clause-records : goal.folded-requires-in-Equal-clause-records
+folded-requires-in-Equal-clause-records c = tail-of _ (shown c.in-Some.record) _ (sym c.again.ensures ∙ c.in-Some.ensures) c.requires.records
+
+pub folded-requires-in-Equal-clause-before : goal.folded-requires-in-Equal-clause-before
+folded-requires-in-Equal-clause-before c =
+    before-equal _ (shown c.in-Some.record) _ _ _ (sym c.again.ensures ∙ c.in-Some.ensures) c.requires.records c.key_at.ensures.key c.in-Equal.ensures
+
+pub folded-requires-in-Greater-clause-before : goal.folded-requires-in-Greater-clause-before
+folded-requires-in-Greater-clause-before c =
+    before-greater _ (shown c.in-Some.record) _ _ _ (sym c.again.ensures ∙ c.in-Some.ensures) c.key_at.ensures.key c.in-Greater.ensures
+
+pub returns-in-Less : goal.returns-in-Less
+returns-in-Less c =
+    steps-less _ (shown c.in-Some.record) _ _ c.args.x.now _ _ (sym c.again.ensures ∙ c.in-Some.ensures) c.requires.records c.requires.split
+        c.requires.changes c.key_at.ensures.key c.in-Less.ensures
+
+pub returns-in-Equal : goal.returns-in-Equal
+returns-in-Equal c =
+    steps-equal _ (shown c.in-Some.record) _ _ _ _ _ _ _ _ (sym c.again.ensures ∙ c.in-Some.ensures) c.requires.split c.key_at.ensures.key
+        c.in-Equal.ensures c.folded-in-Equal.ensures

@@ -1,0 +1,15 @@
+-- A leaf with a run applied.
+use Rattle.std.specs.Prelude.{ℕ, ◌+◌, List}
+use Rattle.leaf_view.specs.Leaf.{Leaf}
+use Rattle.log_codec.specs.declared.record.PuItem.{PuItem}
+use Rattle.leaf_edit.specs.Edited.{edited_by}
+use Rattle.leaf_edit.specs.Lacked.{lacked}
+use Rattle.leaf_edit.specs.Raised.{raised}
+
+-- The next version: the records after the lacked items, what is done raised by the run, the fences and the right page as before.
+abbrev pub applied : Leaf → ℕ → List PuItem → Leaf
+applied l queue run = record l {
+  version = l.version + 1;
+  done = raised l.done queue run;
+  records = edited_by l.records (lacked l queue run);
+}

@@ -1,0 +1,152 @@
+//! Records and changes merged, one record at a time.
+
+ghost use Rattle.std.specs.Prelude.{◌≡◌, [], ◌∷◌, IfSome, MatchOption};
+ghost use Rattle.std.specs.Option.{option_copied, option_map};
+ghost use Rattle.db_base.specs.Key.{IsKey, IsPayload};
+ghost use Rattle.db_base.specs.Change.{key_of, act, payload_set_by};
+ghost use Rattle.byte_format.specs.Order.{bytes_same};
+ghost use Rattle.leaf_view.specs.Shown.{shown};
+ghost use Rattle.leaf_edit.specs.Edited.{edited_by, with_payload};
+ghost use Rattle.leaf_edit.specs.Merging.{AllFrom, AreChanges, AreRecords, entry_at, Folds, KeyBefore, Steps};
+
+use crate::changes::Changes;
+use byte_format::is_same;
+use db_base::change::{Change, act};
+use leaf_view::Records;
+use log_codec::record::PuItem;
+use std::cmp::Ordering;
+
+/// Whether the item changes the record of this key.
+fn is_at(x: &PuItem, key: &[u8]) -> bool
+    ensures { result ≡ bytes_same (key_of x.now.rec.change) key.now }
+{
+    is_same(key_at(x), key)
+}
+
+/// The payload of the key behind the changes of it that come first, and the changes behind those.
+fn fold_key<'a>(
+    key: &[u8],
+    old: Option<&'a [u8]>,
+    changes: Changes<'a>,
+) -> (Option<&'a [u8]>, Changes<'a>)
+    requires changes { AreChanges changes }
+    requires from { AllFrom key.now changes }
+    requires payload { IfSome (option_copied old) IsPayload }
+    ensures { Folds key.now (option_copied old.entry) changes.entry (option_copied result.0) result.1 }
+{
+    let mut payload = old;
+    let mut left = changes;
+    while let Some((x, rest)) = left.again().split() {
+        if !is_at(x, key) {
+            return (payload, left);
+        }
+        payload = act(payload, &x.rec.change);
+        left = rest;
+    }
+    (payload, left)
+}
+
+/// What comes next, unless a change removed it, and what is left of the records and of the changes.
+#[derive(Drop)]
+pub(crate) struct Step<'a> {
+    pub(crate) record: Option<(&'a [u8], &'a [u8])>,
+    pub(crate) records: Records<'a>,
+    pub(crate) changes: Changes<'a>,
+}
+
+/// The step at a key, from its payload, its first change and those behind that, and the records behind the key.
+fn folded<'a>(
+    x: &'a PuItem,
+    old: Option<&'a [u8]>,
+    rest: Changes<'a>,
+    records: Records<'a>,
+) -> Step<'a>
+    requires records { AreRecords records }
+    requires changes { AreChanges (x.now ∷ rest) }
+    requires before { KeyBefore (key_of x.now.rec.change) records }
+    requires payload { IfSome (option_copied old) IsPayload }
+    ensures { Steps (with_payload (key_of x.now.rec.change) (option_copied old.entry) records.entry) (x.now ∷ rest.entry)
+        (option_map shown result.record) result.records result.changes }
+{
+    let key = key_at(x);
+    let payload = act_sized(old, &x.rec.change);
+    let (payload, changes) = fold_key(key, payload, rest);
+    Step {
+        record: entry_at(key, payload),
+        records,
+        changes,
+    }
+}
+
+/// The key that an item changes.
+fn key_at(x: &PuItem) -> &[u8]
+    ensures key { result.now ≡ key_of x.now.rec.change }
+    ensures is_key { IsKey (key_of x.now.rec.change) }
+{
+    x.rec.change.key().as_slice()
+}
+
+/// The record of a key, where there is a payload.
+fn entry_at<'a>(key: &'a [u8], payload: Option<&'a [u8]>) -> Option<(&'a [u8], &'a [u8])>
+    ensures { option_map shown result ≡ entry_at key.now (option_copied payload.entry) }
+{
+    match payload {
+        Some(payload) => Some((key, payload)),
+        None => None,
+    }
+}
+
+/// The payload after a change, which is a payload where the one before is.
+fn act_sized<'a>(old: Option<&'a [u8]>, change: &'a Change) -> Option<&'a [u8]>
+    requires payload { IsPayload (payload_set_by change.now) }
+    ensures act { option_copied result ≡ act (option_copied old.entry) change.now }
+    ensures payload { IfSome (option_copied result) IsPayload }
+{
+    act(old, change)
+}
+
+/// The step at the first change, and at the first record where there is one.
+fn at_change<'a>(
+    x: &'a PuItem,
+    rest: Changes<'a>,
+    changes: Changes<'a>,
+    records: Records<'a>,
+) -> Step<'a>
+    requires records { AreRecords records }
+    requires split { changes ≡ x.now ∷ rest }
+    requires changes { AreChanges changes }
+    ensures { Steps records.entry changes.entry (option_map shown result.record) result.records result.changes }
+{
+    match records.again().split() {
+        None => folded(x, None, rest, records),
+        Some((record, behind)) => match record.0.cmp(key_at(x)) {
+            Ordering::Less => Step {
+                record: Some(record),
+                records: behind,
+                changes,
+            },
+            Ordering::Equal => folded(x, Some(record.1), rest, behind),
+            Ordering::Greater => folded(x, None, rest, records),
+        },
+    }
+}
+
+/// The step at records and changes; none where both are at their ends.
+pub(crate) fn next_step<'a>(records: Records<'a>, changes: Changes<'a>) -> Option<Step<'a>>
+    requires records { AreRecords records }
+    requires changes { AreChanges changes }
+    ensures { MatchOption result (edited_by records.entry changes.entry ≡ [])
+        (λ s. Steps records.entry changes.entry (option_map shown s.record) s.records s.changes) }
+{
+    match changes.again().split() {
+        None => match records.split() {
+            None => None,
+            Some((record, behind)) => Some(Step {
+                record: Some(record),
+                records: behind,
+                changes,
+            }),
+        },
+        Some((x, rest)) => Some(at_change(x, rest, changes, records)),
+    }
+}

@@ -37,7 +37,7 @@ edited-ascends before (e ∷ es) c h behind = on (bytes_cmp e.key (key_of c)) re
     on Less is again = (h.0, again (rw is refl))
     on Equal is again =
         with_payload-ascends before (key_of c) (act (Some e.payload) c) es (Some e) h.1 behind
-            (subst (λ k. KeyBefore k es) (equal_same e.key (key_of c) is) (Ascend-first e es h.1))
+        (subst (λ k. KeyBefore k es) (equal_same e.key (key_of c) is) (Ascend-first e es h.1))
     on Greater is again = with_payload-ascends before (key_of c) (act None c) (e ∷ es) before h behind (greater_below e.key (key_of c) is)
 
 -- ---- each record
@@ -107,7 +107,7 @@ acts key (Some p) es c same first = front (bytes_cmp key (key_of c)) (ap (λ k. 
 acts key None [] c same first = ap (λ k. with_payload k (act None c) []) (sym same)
 acts key None (e ∷ es) c same first =
     front (bytes_cmp e.key (key_of c)) (ap (λ k. bytes_cmp e.key k) (sym same) ∙ (nat_list_cmp_total.antisymm e.key key ∙ ap ordering_reverse (below_less key e.key first)))
-        ∙ ap (λ k. with_payload k (act None c) (e ∷ es)) (sym same)
+    ∙ ap (λ k. with_payload k (act None c) (e ∷ es)) (sym same)
   where
     front : (o : Ordering) → o ≡ Greater → edited_at o e es (edited es c) c ≡ with_payload (key_of c) (act None c) (e ∷ es)
     front Less h = absurd cc

@@ -1,8 +1,11 @@
 pub mod Ascends
+pub mod DoneBytes
 pub mod Edits
 pub mod Folding
+pub mod HeadBytes
 pub mod InOrder
 pub mod Spelled
 pub mod Spellings
 pub mod Stepping
-pub mod Table
+pub mod TableFits
+pub mod Whole

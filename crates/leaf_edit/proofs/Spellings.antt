@@ -21,5 +21,5 @@ pub leaf-spelled : (l : Leaf) → leaf.spelling l
 unfolding leaf
 leaf-spelled l =
     ap (λ bytes. leaf_head.spelling (record { version = l.version; low = l.low; right = l.right; high = l.high }) ++ bytes)
-        (dones-spelled None l.done (list_spelling (record_item l.low l.high) None l.records)
-            ∙ ap (λ bytes. dones_before l.done (0 ∷ bytes)) (entries-spelled l.low l.high None l.records))
+    (dones-spelled None l.done (list_spelling (record_item l.low l.high) None l.records)
+    ∙ ap (λ bytes. dones_before l.done (0 ∷ bytes)) (entries-spelled l.low l.high None l.records))

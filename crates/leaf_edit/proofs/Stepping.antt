@@ -50,12 +50,15 @@ step-folded old es x xs new rest records before is_key h = record {
   where
     key : List ℕ
     key = key_of x.rec.change
+
     front : (new : Option (List ℕ)) → edited_by (with_payload key new es) rest ≡ option_to_list (entry_at key new) ++ edited_by es rest
     front None = refl
     front (Some p) = passes (record { key = key; payload = p }) es rest h.above
+
     sized : (new : Option (List ℕ)) → IfSome new IsPayload → IfSome (entry_at key new) IsSized
     sized None is = tt
     sized (Some p) is = record { key = is_key; payload = is }
+
     shorter : (old : Option (List ℕ)) → length es + length rest < length (with_payload key old es) + length (x ∷ xs)
     shorter None = omega (arith, h.shorter)
     shorter (Some p) = omega (arith, h.shorter)

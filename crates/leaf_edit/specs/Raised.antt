@@ -4,10 +4,14 @@ use Rattle.leaf_view.specs.declared.done.Done.{Done}
 use Rattle.leaf_view.specs.Lookup.{number_of}
 use Rattle.log_codec.specs.declared.record.PuItem.{PuItem}
 
+-- an item's number where it is the client's, else 0
+abbrev pub number_in : PuItem → ℕ → ℕ
+number_in x client = if x.rec.client == client then x.rec.number else 0
+
 -- the client's greatest number in the run, 0 where it has none
 abbrev pub greatest_of : List PuItem → ℕ → ℕ
 greatest_of [] client = 0
-greatest_of (x ∷ xs) client = if x.rec.client == client then max x.rec.number (greatest_of xs client) else greatest_of xs client
+greatest_of (x ∷ xs) client = max (number_in x client) (greatest_of xs client)
 
 -- what is done of a client's records behind the run
 abbrev pub raised_number : List Done → ℕ → List PuItem → ℕ → ℕ

@@ -1,8 +1,17 @@
 -- The parts of a leaf's spelling.
-use Rattle.std.specs.Prelude.{ℕ, List, [], ◌∷◌, ◌++◌, length}
+use Rattle.std.specs.Prelude.{ℕ, Bool, nat_lt, List, [], ◌∷◌, ◌++◌, length, Option, Some, None, if◌then◌else◌}
 use Rattle.std.specs.Int.{w8, w16, w64, to_be_bytes}
 use Rattle.leaf_view.specs.declared.done.Done.{Done}
-use Rattle.leaf_view.specs.Leaf.{Entry}
+use Rattle.leaf_view.specs.Leaf.{Entry, Leaf}
+
+-- a key with its length before it, where there is one
+abbrev pub high_bytes : Option (List ℕ) → List ℕ
+high_bytes None = []
+high_bytes (Some key) = to_be_bytes w8 (length key) ++ key
+
+-- all that stands before the two lists, under this version
+abbrev pub head_bytes : Leaf → ℕ → List ℕ
+head_bytes l version = 76 ∷ 1 ∷ (to_be_bytes w64 version ++ ((to_be_bytes w8 (length l.low) ++ l.low) ++ (to_be_bytes w64 l.right ++ high_bytes l.high)))
 
 -- an entry of the table, with the byte that says that it is there
 abbrev pub done_bytes : Done → List ℕ
@@ -13,9 +22,18 @@ abbrev pub dones_before : List Done → List ℕ → List ℕ
 dones_before [] rest = rest
 dones_before (d ∷ ds) rest = done_bytes d ++ dones_before ds rest
 
+-- whether a queue is on this side of another, above it or below it
+abbrev pub is_beside : Bool → ℕ → Done → Bool
+is_beside above queue d = if above then nat_lt queue d.queue else nat_lt d.queue queue
+
 -- a record, with the byte that says that it is there
 abbrev pub entry_bytes : Entry → List ℕ
 entry_bytes e = 1 ∷ ((to_be_bytes w8 (length e.key) ++ e.key) ++ (to_be_bytes w16 (length e.payload) ++ e.payload))
+
+-- nothing, where there is no record
+abbrev pub entry_bytes_of : Option Entry → List ℕ
+entry_bytes_of None = []
+entry_bytes_of (Some e) = entry_bytes e
 
 -- records, and the byte that says that there is none behind them
 abbrev pub entries_bytes : List Entry → List ℕ

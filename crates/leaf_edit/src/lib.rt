@@ -4,11 +4,14 @@
 mod buffer;
 mod changes;
 mod count;
+mod merge;
 mod spell;
 mod step;
+mod table;
 
 pub use buffer::LeafBuf;
 pub use count::fresh;
+pub use merge::apply;
 
 #[cfg(test)]
 mod tests;

@@ -1,4 +1,11 @@
 use super::*;
+use db_base::change::Change;
+use db_base::cursor::Cursor;
+use db_base::ids::{ClientId, MsgId};
+use db_base::key::{Key, Payload};
+use leaf_view::LeafView;
+use log_codec::record::{PuItem, PuRec};
+use run_cursor::run::take_run;
 use std::test::Fail;
 
 /// Version 1, no fence, one entry of what is done and one record.
@@ -21,5 +28,38 @@ fn page_one(rt: HostRuntime) -> Result<(), Fail> {
         .err()
         .ok_or("no leaf")?;
     assert_eq!(rt; refused.offset, 44);
+    Ok(())
+}
+
+/// The page behind an update of its record, number 1 of client 1 in the queue of page 1.
+const APPLIED: [u8; 64] = [
+    0x4c, 1, 0, 0, 0, 0, 0, 0, 0, 2, 0, 0, 0, 0, 0, 0, 0, 0, 0, 1, 0, 0, 0, 0, 0, 0, 0, 0, 1, 0, 0,
+    0, 0, 0, 0, 0, 1, 1, 0, 0, 0, 0, 0, 0, 0, 1, 1, 0, 0, 0, 0, 0, 0, 0, 1, 0, 1, 1, 0x6b, 0, 2,
+    0x77, 0x78, 0,
+];
+
+#[test]
+fn a_run_is_applied(rt: HostRuntime) -> Result<(), Fail> {
+    let mut items = Vec::new(rt.alloc());
+    items.push(PuItem {
+        id: MsgId::new(1),
+        rec: PuRec {
+            client: ClientId::new(1)?,
+            epoch: 1,
+            txn: 1,
+            number: 1,
+            change: Change::Update {
+                key: Key::new(rt.alloc(), b"k")?,
+                payload: Payload::new(rt.alloc(), b"wx")?,
+            },
+        },
+    })?;
+    let cursor = Cursor::new(rt.alloc());
+    let run = take_run(rt.alloc(), &cursor, items.as_slice())?;
+    let page = LeafView::read(PAGE.as_slice())?;
+    assert_eq!(rt; fresh(&page, 1, run.items()), 1);
+    let applied = apply(rt.alloc(), &page, 1, run.items())?;
+    assert_eq!(rt; fresh(&applied.view(), 1, run.items()), 0);
+    assert_eq!(rt; applied.into_blob().as_slice(), APPLIED.as_slice());
     Ok(())
 }

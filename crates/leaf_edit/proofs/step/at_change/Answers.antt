@@ -18,9 +18,9 @@ folded-requires-in-Greater-clause-before c =
 pub returns-in-Less : goal.returns-in-Less
 returns-in-Less c =
     steps-less _ (shown c.in-Some.record) _ _ c.args.x.now _ _ (sym c.again.ensures ∙ c.in-Some.ensures) c.requires.records c.requires.split
-        c.requires.changes c.key_at.ensures.key c.in-Less.ensures
+    c.requires.changes c.key_at.ensures.key c.in-Less.ensures
 
 pub returns-in-Equal : goal.returns-in-Equal
 returns-in-Equal c =
     steps-equal _ (shown c.in-Some.record) _ _ _ _ _ _ _ _ (sym c.again.ensures ∙ c.in-Some.ensures) c.requires.split c.key_at.ensures.key
-        c.in-Equal.ensures c.folded-in-Equal.ensures
+    c.in-Equal.ensures c.folded-in-Equal.ensures

@@ -26,10 +26,10 @@ below_is : (b d : Done) → done_below b d ≡ true → IsBelow b.queue b.client
 below_is b d h = elim (or_cases (nat_lt b.queue d.queue) (eqb b.queue d.queue && nat_lt b.client d.client) h) [
   | inl lt ↦ let l = ltb-true b.queue d.queue lt in record { queue = omega arith; client = λ e. absurd (omega arith) }
   | inr both ↦
-    let p = and_parts (eqb b.queue d.queue) (nat_lt b.client d.client) both in
-    let e = eqb-true b.queue d.queue p.0 in
-    let l = ltb-true b.client d.client p.1 in
-    record { queue = omega arith; client = λ _. l }
+      let p = and_parts (eqb b.queue d.queue) (nat_lt b.client d.client) both in
+      let e = eqb-true b.queue d.queue p.0 in
+      let l = ltb-true b.client d.client p.1 in
+      record { queue = omega arith; client = λ _. l }
 ]
 
 is_below : (b d : Done) → IsBelow b.queue b.client d.queue d.client → done_below b d ≡ true
@@ -102,10 +102,11 @@ own-ascend queue number (suc left) before small h =
     on : (n : ℕ) → ((b : Option Done) → IsBeforeOwn queue left b → Ascend done_below b (own_entries queue number left))
         → Ascend done_below before (with_done queue (64 - left) n (own_entries queue number left))
     on zero again = again before (λ d same large. h d same (omega arith))
-    on (suc n) again =
-        (h (record { queue = queue; client = 64 - left; number = suc n }) refl (omega arith),
-          again (Some (record { queue = queue; client = 64 - left; number = suc n }))
-            (λ d same large. is_below (record { queue = queue; client = 64 - left; number = suc n }) d (record { queue = omega (arith, same); client = λ _. omega arith })))
+    on (suc n) again = (
+      h (record { queue = queue; client = 64 - left; number = suc n }) refl (omega arith),
+      again (Some (record { queue = queue; client = 64 - left; number = suc n }))
+          (λ d same large. is_below (record { queue = queue; client = 64 - left; number = suc n }) d (record { queue = omega (arith, same); client = λ _. omega arith })),
+    )
 
 own-all : (P : Done → Type 0) (queue : ℕ) (number : ℕ → ℕ) (left : ℕ) → left ≤ 64
     → ((c n : ℕ) → IsClient c → number c ≡ suc n → P (record { queue = queue; client = c; number = suc n }))
@@ -125,21 +126,25 @@ own-all P queue number (suc left) small h =
 pub raised-ascends : (ds : List Done) (queue : ℕ) (run : List PuItem) → Ascend done_below None ds → Ascend done_below None (raised ds queue run)
 raised-ascends ds queue run h =
     Ascend-append (λ d. d.queue < queue) None (filter (λ d. nat_lt d.queue queue) ds) (own ++ higher) tt
-        (All-weaker (λ d. nat_lt d.queue queue ≡ true) (λ d. d.queue < queue) (filter (λ d. nat_lt d.queue queue) ds) (λ d. ltb-true d.queue queue) (filter-all (λ d. nat_lt d.queue queue) ds))
-        (Ascend-filter (λ d. nat_lt d.queue queue) None ds h)
-        (λ b is. Ascend-append (λ d. d.queue ≤ queue) b own higher (upto b is) (own-all (λ d. d.queue ≤ queue) queue (raised_number ds queue run) 64 (omega arith) (λ c n is e. omega arith))
-          (own-ascend queue (raised_number ds queue run) 64 b (omega arith) (lower b is)) behind)
+    (All-weaker (λ d. nat_lt d.queue queue ≡ true) (λ d. d.queue < queue) (filter (λ d. nat_lt d.queue queue) ds) (λ d. ltb-true d.queue queue) (filter-all (λ d. nat_lt d.queue queue) ds))
+    (Ascend-filter (λ d. nat_lt d.queue queue) None ds h)
+    (λ b is. Ascend-append (λ d. d.queue ≤ queue) b own higher (upto b is) (own-all (λ d. d.queue ≤ queue) queue (raised_number ds queue run) 64 (omega arith) (λ c n is e. omega arith))
+    (own-ascend queue (raised_number ds queue run) 64 b (omega arith) (lower b is)) behind)
   where
     own : List Done
     own = own_entries queue (raised_number ds queue run) 64
+
     higher : List Done
     higher = filter (λ d. nat_lt queue d.queue) ds
+
     upto : (b : Option Done) → OptionIs (λ d. d.queue < queue) b → OptionIs (λ d. d.queue ≤ queue) b
     upto None is = tt
     upto (Some b) is = omega arith
+
     lower : (b : Option Done) → OptionIs (λ d. d.queue < queue) b → IsBeforeOwn queue 64 b
     lower None is d same large = tt
     lower (Some b) is d same large = is_below b d (record { queue = omega (arith, same, is); client = λ e. absurd (omega (arith, same, is)) })
+
     behind : (b : Option Done) → OptionIs (λ d. d.queue ≤ queue) b → Ascend done_below b higher
     behind b is = on b is higher (Ascend-filter (λ d. nat_lt queue d.queue) None ds h) (filter-all (λ d. nat_lt queue d.queue) ds)
       where
@@ -160,11 +165,11 @@ number_of-most (d ∷ ds) queue client h = on ((d.queue == queue) && (d.client =
 
 greatest_of-most : (run : List PuItem) (client : ℕ) → AllByRecursion IsItem run → greatest_of run client ≤ greatest
 greatest_of-most [] client h = omega arith
-greatest_of-most (x ∷ xs) client h = on (x.rec.client == client) (greatest_of-most xs client h.1)
+greatest_of-most (x ∷ xs) client h = omega (arith, on (x.rec.client == client), greatest_of-most xs client h.1)
   where
-    on : (b : Bool) → greatest_of xs client ≤ greatest → cond b (max x.rec.number (greatest_of xs client)) (greatest_of xs client) ≤ greatest
-    on true again = omega (arith, h.0.number)
-    on false again = again
+    on : (b : Bool) → cond b x.rec.number 0 ≤ greatest
+    on true = omega (arith, h.0.number)
+    on false = omega arith
 
 pub raised_number-most : (ds : List Done) (queue : ℕ) (run : List PuItem) (client : ℕ) → AllByRecursion IsDone ds → AllByRecursion IsItem run
     → raised_number ds queue run client ≤ greatest
@@ -174,7 +179,7 @@ pub raised-all : (ds : List Done) (queue : ℕ) (run : List PuItem) → queue �
     → AllByRecursion IsDone (raised ds queue run)
 raised-all ds queue run small h all =
     All-append IsDone (filter (λ d. nat_lt d.queue queue) ds) _ (all-filter IsDone (λ d. nat_lt d.queue queue) ds h)
-        (All-append IsDone (own_entries queue (raised_number ds queue run) 64) _
-            (own-all IsDone queue (raised_number ds queue run) 64 (omega arith)
-                (λ c n is e. record { queue = small; client = is; some = omega arith; most = omega (arith, e, raised_number-most ds queue run c h all) }))
-            (all-filter IsDone (λ d. nat_lt queue d.queue) ds h))
+    (All-append IsDone (own_entries queue (raised_number ds queue run) 64) _
+    (own-all IsDone queue (raised_number ds queue run) 64 (omega arith)
+    (λ c n is e. record { queue = small; client = is; some = omega arith; most = omega (arith, e, raised_number-most ds queue run c h all) }))
+    (all-filter IsDone (λ d. nat_lt queue d.queue) ds h))

@@ -1,0 +1,13 @@
+use Rattle.std.proofs.Common.{◌≡◌, ◌≤◌, ◌++◌, []}
+use Rattle.leaf_edit.specs.Raised.{own_entries, raised_number}
+use Rattle.leaf_edit.specs.Spelled.{dones_before}
+use Rattle.leaf_edit.proofs.table.add_own.Given as goal
+
+abbrev pub invariant-loop-left : goal.invariant-loop-left
+invariant-loop-left l =
+    (l.left ≤ 64)
+    × (l.out.items ++ dones_before (own_entries l.queue (raised_number l.leaf.done l.queue l.run) l.left) []
+    ≡ l.initial.out.items ++ dones_before (own_entries l.queue (raised_number l.leaf.done l.queue l.run) 64) [])
+
+abbrev pub decreases-loop-left : goal.decreases-loop-left
+decreases-loop-left l = l.left

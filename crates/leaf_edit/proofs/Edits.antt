@@ -1,5 +1,5 @@
 -- What a change leaves of records in order.
-use Rattle.std.proofs.Common.{◌≡◌, ℕ, Bool, true, false, List, [], ◌∷◌, ◌++◌, Option, Some, None, refl, sym, ap, subst, ◌∙◌}
+use Rattle.std.proofs.Common.{◌≡◌, ℕ, List, [], ◌∷◌, Option, Some, None, refl, sym, ap, subst, ◌∙◌}
 use Rattle.std.specs.Prelude.{IsTrue}
 use Rattle.std.specs.List.{AllByRecursion}
 use Rattle.std.specs.declared.cmp.Ordering.{Ordering}
@@ -11,11 +11,11 @@ use Rattle.db_base.specs.declared.change.Change.{Change}
 use Rattle.db_base.specs.declared.change.Change.TheVariants.{Insert, Update, Delete}
 use Rattle.byte_format.specs.Order.{bytes_cmp, bytes_below}
 use Rattle.leaf_view.specs.Leaf.{Entry}
-use Rattle.leaf_view.specs.Fits.{Behind, Ascend, entry_below}
+use Rattle.leaf_view.specs.Fits.{Ascend, entry_below}
 use Rattle.log_codec.specs.declared.record.PuItem.{PuItem}
 use Rattle.leaf_edit.specs.Edited.{with_payload, edited_at, edited, edited_by}
 use Rattle.leaf_edit.specs.Merging.{KeyBefore}
-use Rattle.leaf_edit.proofs.Ascends.{below_less, greater_below, equal_same, KeyBehind, Ascend-behind, Ascend-skip, Ascend-first, KeyBehind-entry, entry-KeyBehind}
+use Rattle.leaf_edit.proofs.Ascends.{below_less, greater_below, equal_same, KeyBehind, Ascend-behind, Ascend-skip, Ascend-first, entry-KeyBehind}
 
 -- ---- order
 

@@ -1,7 +1,5 @@
 -- The changes of one key, one after another.
-use Rattle.std.proofs.Common.{◌≡◌, ℕ, suc, ◌+◌, ◌<◌, ◌≤◌, Bool, true, false, List, [], ◌∷◌, ◌++◌, length, Option, Some, None, refl, sym, ap, subst, ◌∙◌, arith}
-use Rattle.std.specs.Prelude.{IsTrue}
-use Rattle.std.specs.List.{AllByRecursion}
+use Rattle.std.proofs.Common.{◌≡◌, ℕ, ◌≤◌, true, false, List, [], ◌∷◌, length, Option, Some, None, refl, sym, ap, subst, ◌∙◌, arith}
 use Rattle.std.specs.Option.{IfSome}
 use Rattle.std.specs.declared.cmp.Ordering.{Ordering}
 use Rattle.std.specs.declared.cmp.Ordering.TheVariants.{Less, Equal, Greater}
@@ -14,7 +12,7 @@ use Rattle.byte_format.proofs.OrderLemmas.{same_is}
 use Rattle.leaf_view.specs.Leaf.{Entry}
 use Rattle.log_codec.specs.declared.record.PuItem.{PuItem}
 use Rattle.leaf_edit.specs.Edited.{with_payload, edited_by}
-use Rattle.leaf_edit.specs.Merging.{KeyBefore, AreChanges, AllFrom, AllAbove, Folds}
+use Rattle.leaf_edit.specs.Merging.{KeyBefore, AreChanges, AllFrom, Folds}
 use Rattle.leaf_edit.proofs.Ascends.{greater_below}
 use Rattle.leaf_edit.proofs.InOrder.{above-from}
 use Rattle.leaf_edit.proofs.Edits.{acts, act-sets}

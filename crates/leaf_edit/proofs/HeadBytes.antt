@@ -1,5 +1,5 @@
 -- How the bytes before the lists grow.
-use Rattle.std.proofs.Common.{◌≡◌, ℕ, List, [], ◌∷◌, ◌++◌, Option, refl, sym, ap, ◌∙◌, append_assoc, length}
+use Rattle.std.proofs.Common.{◌≡◌, ℕ, List, [], ◌∷◌, ◌++◌, Option, ap, ◌∙◌, append_assoc, length}
 use Rattle.std.specs.Int.{w8, w64, to_be_bytes}
 use Rattle.leaf_view.specs.Leaf.{Leaf}
 use Rattle.leaf_edit.specs.Spelled.{head_bytes, high_bytes}

@@ -1,6 +1,5 @@
 -- Bytes that spell a leaf.
-use Rattle.std.proofs.Common.{◌≡◌, ℕ, List, Ok, Err, sym, ap, subst}
-use Rattle.byte_format.specs.Whole.{whole}
+use Rattle.std.proofs.Common.{◌≡◌, ℕ, List, sym, ap, subst}
 use Rattle.byte_format.proofs.Wholes.{whole_only}
 use Rattle.leaf_view.specs.Leaf.{Leaf, IsLeaf, leaf}
 use Rattle.leaf_view.proofs.Exactness.{leaf_exact}

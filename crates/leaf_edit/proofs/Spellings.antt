@@ -1,8 +1,8 @@
 -- A leaf is spelled by its parts.
-use Rattle.std.proofs.Common.{◌≡◌, ℕ, List, [], ◌∷◌, ◌++◌, Option, None, Some, refl, sym, ap, ◌∙◌, append_assoc}
+use Rattle.std.proofs.Common.{◌≡◌, ℕ, List, [], ◌∷◌, ◌++◌, Option, None, Some, refl, ap, ◌∙◌, append_assoc}
 use Rattle.byte_format.specs.Format.{list_spelling}
 use Rattle.leaf_view.specs.declared.done.Done.{Done}
-use Rattle.leaf_view.specs.Leaf.{Entry, Head, Leaf, leaf, leaf_head, done_item, record_item}
+use Rattle.leaf_view.specs.Leaf.{Entry, Leaf, leaf, leaf_head, done_item, record_item}
 use Rattle.leaf_edit.specs.Spelled.{done_bytes, dones_before, entry_bytes, entries_bytes}
 
 dones-spelled : (before : Option Done) (ds : List Done) (rest : List ℕ) → list_spelling done_item before ds ++ rest ≡ dones_before ds (0 ∷ rest)

@@ -1,15 +1,12 @@
 -- One step of the merge.
-use Rattle.std.proofs.Common.{◌≡◌, ℕ, suc, ◌+◌, ◌<◌, ◌≤◌, Bool, true, false, List, [], ◌∷◌, ◌++◌, length, Option, Some, None, refl, sym, ap, subst, ◌∙◌, arith}
-use Rattle.std.specs.Prelude.{IsTrue}
-use Rattle.std.specs.List.{AllByRecursion}
-use Rattle.std.specs.Option.{IfSome, option_to_list, option_map}
+use Rattle.std.proofs.Common.{◌≡◌, ℕ, ◌+◌, ◌<◌, true, List, [], ◌∷◌, ◌++◌, length, Option, Some, None, refl, sym, ap, subst, ◌∙◌, arith}
+use Rattle.std.specs.Option.{IfSome, option_to_list}
 use Rattle.std.specs.declared.cmp.Ordering.TheVariants.{Less, Equal, Greater}
 use Rattle.std.specs.Ordering.{is_lt}
 use Rattle.db_base.specs.Key.{IsKey, IsPayload}
 use Rattle.db_base.specs.Change.{key_of, act}
-use Rattle.byte_format.specs.Order.{bytes_below, bytes_same, bytes_cmp}
+use Rattle.byte_format.specs.Order.{bytes_below, bytes_cmp}
 use Rattle.leaf_view.specs.Leaf.{Entry}
-use Rattle.leaf_view.specs.Fits.{Ascend, entry_below}
 use Rattle.log_codec.specs.declared.record.PuItem.{PuItem}
 use Rattle.leaf_edit.specs.Edited.{with_payload, edited_by}
 use Rattle.leaf_edit.specs.Merging.{KeyBefore, entry_at, IsSized, AreRecords, AreChanges, AllAbove, Folds, Steps}

@@ -1,16 +1,15 @@
 -- The bytes of an applied leaf are its spelling.
-use Rattle.std.proofs.Common.{◌≡◌, ℕ, ◌+◌, ◌<◌, ◌≤◌, ◌^◌, Bool, true, false, cond, List, [], ◌∷◌, ◌++◌, Option, refl, sym, ap, ◌∙◌, arith, append_assoc}
-use Rattle.std.specs.Prelude.{◌&&◌, nat_lt, filter}
+use Rattle.std.proofs.Common.{◌≡◌, ℕ, ◌+◌, ◌<◌, ◌≤◌, ◌^◌, Bool, true, false, cond, List, [], ◌∷◌, ◌++◌, refl, sym, ap, ◌∙◌, arith, append_assoc}
+use Rattle.std.specs.Prelude.{nat_lt}
 use Rattle.std.specs.List.{AllByRecursion}
 use Rattle.std.proofs.lemmas.Bool.{and_parts}
 use Rattle.std.proofs.lemmas.List.Elements.{recursion_from_All}
 use Rattle.db_base.specs.Change.{key_of}
 use Rattle.byte_format.specs.Format.{greatest}
-use Rattle.byte_format.specs.Whole.{IsSpelling}
-use Rattle.byte_format.specs.Order.{bytes_below, below_bound}
+use Rattle.byte_format.specs.Order.{below_bound}
 use Rattle.leaf_view.specs.declared.done.Done.{Done}
-use Rattle.leaf_view.specs.Leaf.{Entry, Leaf, leaf, leaf_head, IsLeaf}
-use Rattle.leaf_view.specs.Fits.{IsWellFormed, IsVersion, IsEntryIn}
+use Rattle.leaf_view.specs.Leaf.{Entry, Leaf, leaf_head, IsLeaf}
+use Rattle.leaf_view.specs.Fits.{IsWellFormed, IsEntryIn}
 use Rattle.leaf_view.specs.Lookup.{holds, number_of}
 use Rattle.leaf_view.proofs.Split.{fits_leaf}
 use Rattle.log_codec.specs.declared.record.PuItem.{PuItem}

@@ -1,5 +1,5 @@
 -- The table of what is done, after a run.
-use Rattle.std.specs.Prelude.{ℕ, zero, suc, ◌-◌, ◌==◌, ◌||◌, ◌&&◌, Bool, nat_lt, max, List, [], ◌∷◌, ◌++◌, filter, if◌then◌else◌}
+use Rattle.std.specs.Prelude.{ℕ, zero, suc, ◌-◌, ◌==◌, nat_lt, max, List, [], ◌∷◌, ◌++◌, filter, if◌then◌else◌}
 use Rattle.leaf_view.specs.declared.done.Done.{Done}
 use Rattle.leaf_view.specs.Lookup.{number_of}
 use Rattle.log_codec.specs.declared.record.PuItem.{PuItem}

@@ -1,4 +1,4 @@
-use Rattle.std.proofs.Common.{List, sym, subst, arith}
+use Rattle.std.proofs.Common.{sym, subst, arith}
 use Rattle.leaf_view.specs.Leaf.{IsLeaf}
 use Rattle.leaf_edit.specs.Applied.{applied}
 use Rattle.leaf_edit.specs.Merging.{AreChanges}

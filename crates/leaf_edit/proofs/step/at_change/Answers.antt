@@ -1,5 +1,4 @@
-use Rattle.std.proofs.Common.{◌≡◌, ◌∷◌, List, sym, ◌∙◌}
-use Rattle.leaf_view.specs.Leaf.{Entry}
+use Rattle.std.proofs.Common.{sym, ◌∙◌}
 use Rattle.leaf_view.specs.Shown.{shown}
 use Rattle.leaf_edit.proofs.Stepping.{tail-of, before-equal, before-greater, steps-less, steps-equal}
 use Rattle.leaf_edit.proofs.step.at_change.Goals as goal

@@ -8,4 +8,5 @@ pub mod Spelled
 pub mod Spellings
 pub mod Stepping
 pub mod TableFits
+pub mod TableNumbers
 pub mod Whole

@@ -73,7 +73,7 @@ All-append : (P : Done → Type 0) (xs ys : List Done) → AllByRecursion P xs �
 All-append P [] ys a b = b
 All-append P (x ∷ xs) ys a b = (a.0, All-append P xs ys a.1 b)
 
-filter-all : (p : Done → Bool) (ds : List Done) → AllByRecursion (λ d. p d ≡ true) (filter p ds)
+pub filter-all : (p : Done → Bool) (ds : List Done) → AllByRecursion (λ d. p d ≡ true) (filter p ds)
 filter-all p [] = tt
 filter-all p (d ∷ ds) = on (p d) refl (filter-all p ds)
   where
@@ -107,7 +107,7 @@ own-ascend queue number (suc left) before small h =
           (λ d same large. is_below (record { queue = queue; client = 64 - left; number = suc n }) d (record { queue = omega (arith, same); client = λ _. omega arith })),
     )
 
-own-all : (P : Done → Type 0) (queue : ℕ) (number : ℕ → ℕ) (left : ℕ) → left ≤ 64
+pub own-all : (P : Done → Type 0) (queue : ℕ) (number : ℕ → ℕ) (left : ℕ) → left ≤ 64
     → ((c n : ℕ) → IsClient c → number c ≡ suc n → P (record { queue = queue; client = c; number = suc n }))
     → AllByRecursion P (own_entries queue number left)
 unfolding own_entries

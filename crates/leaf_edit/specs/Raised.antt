@@ -1,5 +1,6 @@
 -- The table of what is done, after a run.
-use Rattle.std.specs.Prelude.{ℕ, zero, suc, ◌-◌, ◌==◌, nat_lt, max, List, [], ◌∷◌, ◌++◌, filter, if◌then◌else◌}
+use Rattle.std.specs.Prelude.{◌≡◌, ℕ, zero, suc, ◌-◌, ◌==◌, nat_lt, max, List, [], ◌∷◌, ◌++◌, filter, if◌then◌else◌}
+use Rattle.db_base.specs.Ids.{IsClient}
 use Rattle.leaf_view.specs.declared.done.Done.{Done}
 use Rattle.leaf_view.specs.Lookup.{number_of}
 use Rattle.log_codec.specs.declared.record.PuItem.{PuItem}
@@ -31,3 +32,8 @@ own_entries queue number (suc left) = with_done queue (64 - left) (number (64 - 
 abbrev pub raised : List Done → ℕ → List PuItem → List Done
 raised ds queue run =
     filter (λ d. nat_lt d.queue queue) ds ++ (own_entries queue (raised_number ds queue run) 64 ++ filter (λ d. nat_lt queue d.queue) ds)
+
+-- of the run's queue each client's number is raised to its greatest in the run, and the numbers of other queues stay
+abbrev pub RaisesNumbers : List Done → List Done → ℕ → List PuItem → Type 0
+RaisesNumbers old new queue run =
+    (q c : ℕ) → IsClient c → number_of new q c ≡ (if q == queue then max (number_of old q c) (greatest_of run c) else number_of old q c)

@@ -9,6 +9,7 @@ ghost use Rattle.run_cursor.specs.Run.{IsOrdered};
 ghost use Rattle.leaf_edit.specs.Applied.{applied};
 ghost use Rattle.leaf_edit.specs.Edited.{edited_by};
 ghost use Rattle.leaf_edit.specs.Merging.{AreChanges, AreRecords, IsSized};
+ghost use Rattle.leaf_edit.specs.Raised.{RaisesNumbers};
 ghost use Rattle.leaf_edit.specs.Spelled.{entries_bytes, entry_bytes_of};
 
 use crate::buffer::LeafBuf;
@@ -76,6 +77,7 @@ fn spelled(
 /// The next version of a leaf, with those items of a run applied that it lacks, in the run's order.
 ///
 /// What is done of the queue is raised to each client's greatest number in the run; fences and right page stay.
+#[tactic(auto, using(crate::proofs::TableNumbers::raises))]
 pub fn apply(
     alloc: Global,
     leaf: &LeafView<'_>,
@@ -84,6 +86,7 @@ pub fn apply(
 ) -> Result<LeafBuf, EditFault>
     requires { IsOrdered run.now }
     ensures ok { IfOk result (λ new. new ≡ applied leaf.now queue run.now) }
+    ensures done { IfOk result (λ new. RaisesNumbers leaf.now.done new.done queue run.now) }
     ensures exhausted { (result ≡ Err EditFault.Exhausted) ↔ (leaf.now.version ≡ 18446744073709551615) }
 {
     if leaf.version() == u64::MAX {

@@ -3,3 +3,4 @@ pub mod NodeLemmas
 pub mod TreeLemmas
 pub mod InnerLemmas
 pub mod EntryLemmas
+pub mod SpellingLaws

@@ -1,0 +1,33 @@
+//! Laws of roots and inner nodes, and of their spellings.
+
+ghost use Rattle.std.specs.Prelude.{◌≡◌, ℕ, List, Some, max};
+ghost use Rattle.std.specs.List.{AllByRecursion};
+ghost use Rattle.db_base.specs.Cursor.{number_of};
+ghost use Rattle.db_base.specs.Ids.{IsClient};
+ghost use Rattle.byte_format.specs.Whole.{IsBytes};
+ghost use Rattle.node_codec.specs.Node.{LiesIn, raised};
+ghost use Rattle.node_codec.specs.Tree.{Tree, IsTree, HasTreeSpelling, tree_bytes, tree_of};
+ghost use Rattle.node_codec.specs.Inner.{Inner, IsInner, HasInnerSpelling, inner_bytes, inner_of};
+
+/// The spelling of a root is read as the root, and bytes that are read are the spelling of what they are read as.
+pub fn tree_laws()
+    ensures again { (t : Tree) → HasTreeSpelling t → tree_of (tree_bytes t) ≡ Some t }
+    ensures only { (bytes : List ℕ) (t : Tree) → IsTree bytes t → tree_of bytes ≡ Some t }
+    ensures found { (bytes : List ℕ) (t : Tree) → IsBytes bytes → tree_of bytes ≡ Some t → IsTree bytes t }
+    // Each low key lies in the bytes.
+    ensures parts { (bytes : List ℕ) (t : Tree) → IsTree bytes t → AllByRecursion (λ e. LiesIn e.0 bytes) t.entries }
+{}
+
+/// The same of inner nodes.
+pub fn inner_laws()
+    ensures again { (n : Inner) → HasInnerSpelling n → inner_of (inner_bytes n) ≡ Some n }
+    ensures only { (bytes : List ℕ) (n : Inner) → IsInner bytes n → inner_of bytes ≡ Some n }
+    ensures found { (bytes : List ℕ) (n : Inner) → IsBytes bytes → inner_of bytes ≡ Some n → IsInner bytes n }
+    // Each low key lies in the bytes.
+    ensures parts { (bytes : List ℕ) (n : Inner) → IsInner bytes n → AllByRecursion (λ e. LiesIn e.0 bytes) n.entries }
+{}
+
+/// A client has the greater of its two numbers once they are raised.
+pub fn raised_law()
+    ensures { (numbers others : List (ℕ × ℕ)) (c : ℕ) → IsClient c → number_of (raised numbers others) c ≡ max (number_of numbers c) (number_of others c) }
+{}

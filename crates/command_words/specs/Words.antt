@@ -1,0 +1,44 @@
+-- The shapes of a command line: the command, and then its values.
+use Rattle.std.specs.Prelude.{◌≡◌, ℕ, Bool, true, false, ◌&&◌, not, nat_eq, nat_le, if◌then◌else◌, List, [], ◌∷◌, Option, Some, None, Result, Ok, Err, codes, ⊤}
+use Rattle.std.specs.Str.{bytes_eq}
+use Rattle.words.specs.Word.{number_of}
+use Rattle.command_words.specs.declared.shape.Shape.{Shape}
+use Rattle.command_words.specs.declared.shape.Shape.TheVariants.{Replay, Gen, Shell, Settle}
+use Rattle.command_words.specs.declared.shape.WordsFault.{WordsFault}
+use Rattle.command_words.specs.declared.shape.WordsFault.TheVariants.{BadWords, Memory}
+
+-- a word that names a folder does not begin with a hyphen; it may be empty
+abbrev pub is_folder : List ℕ → Bool
+is_folder [] = true
+is_folder (byte ∷ rest) = not (nat_eq byte 45)
+
+-- the number of what is generated, and how much of it: at most 10,000 events
+abbrev pub generated : Option ℕ → Option ℕ → Option Shape
+generated None count = None
+generated (Some number) None = None
+generated (Some number) (Some count) = if nat_le count 10000 then Some (Gen number count) else None
+
+-- a shell of a client, 1 to 64, over a folder
+abbrev pub shell_over : Option ℕ → List ℕ → Option Shape
+shell_over None dir = None
+shell_over (Some client) dir = if nat_le 1 client && (nat_le client 64 && is_folder dir) then Some (Shell client dir) else None
+
+-- a settling of a folder
+abbrev pub settling_of : List ℕ → Option Shape
+settling_of dir = if is_folder dir then Some (Settle dir) else None
+
+-- the shape of a command line's words, where they are of one
+abbrev pub shape_of : List (List ℕ) → Option Shape
+shape_of [] = None
+shape_of (command ∷ []) = if bytes_eq command (codes "replay") then Some Replay else None
+shape_of (command ∷ dir ∷ []) = if bytes_eq command (codes "settle") then settling_of dir else None
+shape_of (command ∷ one ∷ two ∷ []) =
+    if bytes_eq command (codes "gen") then generated (number_of one) (number_of two)
+    else (if bytes_eq command (codes "shell") then shell_over (number_of one) two else None)
+shape_of (command ∷ one ∷ two ∷ three ∷ rest) = None
+
+-- an answer is the shape, or that the words are of none; want of memory tells nothing
+abbrev pub Answers : Result Shape WordsFault → Option Shape → Type 0
+Answers (Ok shape) read = read ≡ Some shape
+Answers (Err BadWords) read = read ≡ None
+Answers (Err Memory) read = ⊤

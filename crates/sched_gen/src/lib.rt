@@ -1,0 +1,7 @@
+//! The generator of schedules.
+#![tactic(auto)]
+
+pub mod draws;
+pub mod make;
+#[cfg(test)]
+mod tests;

@@ -1,4 +1,6 @@
 pub mod Heads
+pub mod Prune
 pub mod Queue
 pub mod Record
 pub mod Route
+pub mod Seen

@@ -2,10 +2,13 @@ ghost use Rattle.std.specs.Prelude.{◌≡◌, ℕ, ◌+◌, ◌≤◌, List, le
 ghost use Rattle.std.specs.List.{AllByRecursion};
 ghost use Rattle.head_codec.specs.Spelling.{HasSpelling};
 ghost use Rattle.head_codec.specs.declared.head.Head.{Head};
+ghost use Rattle.leaf_view.specs.Leaf.{Leaf};
 ghost use Rattle.log_codec.specs.Atomic.{HasPlace};
 ghost use Rattle.log_codec.specs.declared.record.AtomicRec.{AtomicRec};
+ghost use Rattle.node_codec.specs.Tree.{Tree};
 ghost use Rattle.txn_buffer.specs.Noted.{Noted};
 ghost use Rattle.route_plan.specs.Heads.{opened_head, raised_by, settled_head};
+ghost use Rattle.route_plan.specs.Prune.{pruned_by_leaf, pruned_by_tree};
 ghost use Rattle.route_plan.specs.Queue.{number_of_queue};
 ghost use Rattle.route_plan.specs.Route.{goes_to, record_behind, routed};
 
@@ -34,4 +37,6 @@ pub fn a_commit_has_spellings()
         1 ≤ length records → length records ≤ 200 → AllByRecursion HasPlace records → HasSpelling (opened_head head txn records) }
     ensures settled { (head : Head) (records : List AtomicRec) → HasSpelling head →
         AllByRecursion HasPlace records → HasSpelling (settled_head head records) }
+    ensures pruned_by_leaf { (head : Head) (client tree : ℕ) (leaf : Leaf) → HasSpelling head → HasSpelling (pruned_by_leaf head client tree leaf) }
+    ensures pruned_by_tree { (head : Head) (client tree : ℕ) (root : Tree) → HasSpelling head → HasSpelling (pruned_by_tree head client tree root) }
 {}

@@ -7,3 +7,5 @@ pub mod head;
 pub mod laws;
 pub mod lists;
 mod pending;
+#[cfg(test)]
+mod tests;

@@ -6,3 +6,5 @@ pub mod fault;
 pub mod laws;
 pub mod pu;
 pub mod record;
+#[cfg(test)]
+mod tests;

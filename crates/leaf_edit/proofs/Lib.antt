@@ -1,4 +1,6 @@
 pub mod Ascends
+pub mod CutFits
+pub mod CutSpelled
 pub mod DoneBytes
 pub mod Edits
 pub mod Folding

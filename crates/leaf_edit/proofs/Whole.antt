@@ -9,7 +9,7 @@ use Rattle.byte_format.specs.Format.{greatest}
 use Rattle.byte_format.specs.Order.{below_bound}
 use Rattle.leaf_view.specs.declared.done.Done.{Done}
 use Rattle.leaf_view.specs.Leaf.{Entry, Leaf, leaf_head, IsLeaf}
-use Rattle.leaf_view.specs.Fits.{IsWellFormed, IsEntryIn}
+use Rattle.leaf_view.specs.Fits.{IsWellFormed, IsVersion, IsEntryIn}
 use Rattle.leaf_view.specs.Lookup.{holds, number_of}
 use Rattle.leaf_view.proofs.Split.{fits_leaf}
 use Rattle.log_codec.specs.declared.record.PuItem.{PuItem}
@@ -103,3 +103,19 @@ spelled-is l queue run o a b c d version rs cs small h ordered room ho hversion 
     applied-spelled l queue run a b c d small h ordered room
     (ha ∙ (ap (λ o. o ++ head_bytes l (version + 1)) ho ∙ ap (λ v. head_bytes l (v + 1)) hversion)) hb hc
     (hd ∙ (ap (λ rs. c ++ entries_bytes (edited_by rs cs)) hrs ∙ ap (λ cs. c ++ entries_bytes (edited_by l.records cs)) hcs))
+
+-- a leaf of its parts
+pub parts-spell : (l : Leaf) (o a b c d : List ℕ) → IsVersion l.version → IsWellFormed l
+    → o ≡ [] → a ≡ o ++ head_bytes l l.version → b ≡ a ++ dones_before l.done [] → c ≡ b ++ 0 ∷ []
+    → d ≡ c ++ entries_bytes l.records → IsLeaf d l
+parts-spell l o a b c d version h ho ha hb hc hd = record {
+  fits = fits_leaf l version h;
+  is = hd ∙ (ap (λ x. x ++ entries_bytes l.records) (hc ∙ ap (λ x. x ++ 0 ∷ []) (hb ∙ ap (λ x. x ++ dones_before l.done []) (ha ∙ ap (λ o. o ++ head_bytes l l.version) ho))) ∙ (parts ∙ sym (leaf-spelled l)));
+}
+  where
+    parts : (((([] ++ head_bytes l l.version)) ++ dones_before l.done []) ++ 0 ∷ []) ++ entries_bytes l.records
+        ≡ leaf_head.spelling (record { version = l.version; low = l.low; right = l.right; high = l.high }) ++ dones_before l.done (0 ∷ entries_bytes l.records)
+    parts = append_assoc (head_bytes l l.version ++ dones_before l.done []) (0 ∷ []) (entries_bytes l.records)
+        ∙ (append_assoc (head_bytes l l.version) (dones_before l.done []) (0 ∷ entries_bytes l.records)
+        ∙ (ap (λ x. head_bytes l l.version ++ x) (sym (dones_before-rest l.done (0 ∷ entries_bytes l.records)))
+        ∙ ap (λ x. x ++ dones_before l.done (0 ∷ entries_bytes l.records)) (head-is l l.version)))

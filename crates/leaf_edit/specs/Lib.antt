@@ -1,5 +1,6 @@
 pub mod Applied
 pub mod Buffer
+pub mod Cut
 pub mod Edited
 pub mod Lacked
 pub mod Merging

@@ -9,9 +9,13 @@ abbrev pub high_bytes : Option (List ℕ) → List ℕ
 high_bytes None = []
 high_bytes (Some key) = to_be_bytes w8 (length key) ++ key
 
--- all that stands before the two lists, under this version
+-- version, low key, right page and high key, behind the mark and the format
+abbrev pub fields_bytes : ℕ → List ℕ → ℕ → Option (List ℕ) → List ℕ
+fields_bytes version low right high = 76 ∷ 1 ∷ (to_be_bytes w64 version ++ ((to_be_bytes w8 (length low) ++ low) ++ (to_be_bytes w64 right ++ high_bytes high)))
+
+-- all that stands before the two lists of a leaf, under this version
 abbrev pub head_bytes : Leaf → ℕ → List ℕ
-head_bytes l version = 76 ∷ 1 ∷ (to_be_bytes w64 version ++ ((to_be_bytes w8 (length l.low) ++ l.low) ++ (to_be_bytes w64 l.right ++ high_bytes l.high)))
+head_bytes l version = fields_bytes version l.low l.right l.high
 
 -- an entry of the table, with the byte that says that it is there
 abbrev pub done_bytes : Done → List ℕ

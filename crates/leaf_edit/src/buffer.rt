@@ -27,6 +27,7 @@ impl LeafBuf {
     ghost use Rattle.std.specs.Prelude.{◌≡◌, ℕ, length, Ok, IfOk, IfErr};
     ghost use Rattle.byte_format.specs.Whole.{offset};
     ghost use Rattle.leaf_view.specs.Leaf.{Leaf, IsLeaf, leaf};
+    ghost use Rattle.leaf_view.specs.Fits.{IsVersion};
     ghost use Rattle.leaf_edit.specs.Buffer.{leaf_in};
     ghost use Rattle.db_base.specs.declared.pair.EditFault.TheVariants.{Memory};
 
@@ -50,7 +51,8 @@ impl LeafBuf {
 
     /// The leaf, borrowed.
     pub fn view(&self) -> LeafView<'_>
-        ensures { result ≡ self.now }
+        ensures view { result ≡ self.now }
+        ensures version { IsVersion self.now.version }
     {
         match LeafView::read(&self.bytes) {
             Ok(view) => view,

@@ -4,6 +4,7 @@
 mod buffer;
 mod changes;
 mod count;
+mod cut;
 mod merge;
 mod spell;
 mod step;

@@ -1,7 +1,7 @@
 use super::*;
 use db_base::change::Change;
 use db_base::cursor::Cursor;
-use db_base::ids::{ClientId, MsgId};
+use db_base::ids::{ClientId, MsgId, PageId};
 use db_base::key::{Key, Payload};
 use leaf_view::LeafView;
 use log_codec::record::{PuItem, PuRec};
@@ -61,5 +61,24 @@ fn a_run_is_applied(rt: HostRuntime) -> Result<(), Fail> {
     let applied = apply(rt.alloc(), &page, 1, run.items())?;
     assert_eq!(rt; fresh(&applied.view(), 1, run.items()), 0);
     assert_eq!(rt; applied.into_blob().as_slice(), APPLIED.as_slice());
+    Ok(())
+}
+
+#[test]
+fn a_leaf_is_cut(rt: HostRuntime) -> Result<(), Fail> {
+    // Records a and b, the table of `PAGE`.
+    let mut bytes = PAGE[..40].to_vec(rt.alloc())?;
+    bytes.extend_from_slice(b"a\x00\x01v\x01\x01b\x00\x00\x00")?;
+    let page = LeafBuf::read(bytes)?;
+    assert_eq!(rt; page.len(), 2);
+    let (left, right) = page.cut_at(rt.alloc(), 1, PageId::new(2)?)?;
+    let (left, right) = (left.view(), right.view());
+    assert_eq!(rt; left.version(), 1);
+    assert_eq!(rt; left.high(), Some(b"b".as_slice()));
+    assert_eq!(rt; left.records().len(), 1);
+    assert_eq!(rt; right.version(), 1);
+    assert_eq!(rt; right.low(), b"b".as_slice());
+    assert_eq!(rt; right.done(0, ClientId::new(1)?), 1);
+    assert_eq!(rt; right.records().len(), 1);
     Ok(())
 }

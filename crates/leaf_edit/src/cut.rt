@@ -1,0 +1,155 @@
+//! A leaf cut in two.
+
+ghost use Rattle.std.specs.Prelude.{◌≡◌, [], ◌++◌, ◌<◌, ◌≤◌, ◌-◌, IfErr, IfOk, length, MatchOption, OnOk, take, drop};
+ghost use Rattle.db_base.specs.Key.{IsKey};
+ghost use Rattle.leaf_view.specs.Leaf.{IsLeaf};
+ghost use Rattle.leaf_view.specs.Fits.{IsVersion};
+ghost use Rattle.leaf_view.specs.Shown.{shown};
+ghost use Rattle.leaf_edit.specs.Buffer.{leaf_in};
+ghost use Rattle.leaf_edit.specs.Cut.{first_key, left_part, right_part, TakesNone, TakesOne};
+ghost use Rattle.leaf_edit.specs.Merging.{AreRecords};
+ghost use Rattle.leaf_edit.specs.Spelled.{dones_before, entries_bytes};
+
+use crate::buffer::LeafBuf;
+use crate::spell::{add_done, add_entry, add_fields, right_of};
+use byte_format::try_add_u8;
+use db_base::ids::PageId;
+use db_base::pair::EditFault;
+use leaf_view::{DoneList, LeafView, Records};
+use std::alloc::{AllocError, Global};
+
+/// The first record, where `more` of the first ones are left, and those behind it.
+fn next_of<'a>(records: Records<'a>, more: usize) -> Option<((&'a [u8], &'a [u8]), Records<'a>)>
+    ensures { MatchOption result (TakesNone more records.entry) (λ x. TakesOne more records.entry (shown x.0) x.1) }
+{
+    if more == 0 {
+        return None;
+    }
+    match records.split() {
+        Some(first) => Some(first),
+        None => None,
+    }
+}
+
+/// The records behind the first n.
+fn skip<'a>(records: Records<'a>, n: usize) -> Records<'a>
+    ensures { result ≡ drop n records.entry }
+{
+    let mut left = records;
+    let mut more = n;
+    while let Some((_, rest)) = next_of(left.again(), more) {
+        left = rest;
+        more -= 1;
+    }
+    left
+}
+
+/// Appends the first n records as a list.
+fn add_front<'a>(out: &mut Vec<u8>, records: Records<'a>, n: usize) -> Result<(), AllocError>
+    requires { AreRecords records }
+    ensures { OnOk result (out.new.items ≡ out.old.items ++ entries_bytes (take n records.entry)) }
+{
+    let mut left = records;
+    let mut more = n;
+    while let Some(((key, payload), rest)) = next_of(left.again(), more) {
+        add_entry(out, key, payload)?;
+        left = rest;
+        more -= 1;
+    }
+    try_add_u8(out, 0)
+}
+
+/// Appends all entries of a table.
+fn add_dones<'a>(out: &mut Vec<u8>, list: DoneList<'a>) -> Result<(), AllocError>
+    ensures { OnOk result (out.new.items ≡ out.old.items ++ dones_before list.entry []) }
+{
+    let mut left = list;
+    while let Some((entry, rest)) = left.again().split() {
+        add_done(out, &entry)?;
+        left = rest;
+    }
+    Ok(())
+}
+
+/// The key of the first record.
+fn first_key<'a>(records: &Records<'a>) -> &'a [u8]
+    ensures { result.now ≡ first_key records.now }
+{
+    match records.again().split() {
+        Some(((key, _), _)) => key,
+        None => &[],
+    }
+}
+
+/// The spelling of the left part.
+fn left_bytes(
+    alloc: Global,
+    leaf: &LeafView<'_>,
+    n: usize,
+    right: PageId,
+) -> Result<Vec<u8>, AllocError>
+    requires version { IsVersion leaf.now.version }
+    requires some { 0 < n }
+    requires less { n < length leaf.now.records }
+    ensures spells { IfOk result (λ v. IsLeaf v.items (leaf_in v.items)) }
+    ensures part { IfOk result (λ v. leaf_in v.items ≡ left_part n right leaf.now) }
+{
+    let key = first_key(&skip(leaf.records(), n));
+    let mut out = Vec::new(alloc);
+    add_fields(&mut out, leaf.version(), leaf.low(), right.get(), Some(key))?;
+    add_dones(&mut out, leaf.done_list())?;
+    try_add_u8(&mut out, 0)?;
+    add_front(&mut out, leaf.records(), n)?;
+    Ok(out)
+}
+
+/// The spelling of the right part.
+fn right_bytes(alloc: Global, leaf: &LeafView<'_>, n: usize) -> Result<Vec<u8>, AllocError>
+    requires { n < length leaf.now.records }
+    ensures spells { IfOk result (λ v. IsLeaf v.items (leaf_in v.items)) }
+    ensures part { IfOk result (λ v. leaf_in v.items ≡ right_part n leaf.now) }
+{
+    let rest = skip(leaf.records(), n);
+    let mut out = Vec::new(alloc);
+    add_fields(&mut out, 1, first_key(&rest), right_of(leaf), leaf.high())?;
+    add_dones(&mut out, leaf.done_list())?;
+    try_add_u8(&mut out, 0)?;
+    add_rest(&mut out, rest)?;
+    Ok(out)
+}
+
+/// Appends the records as a list.
+fn add_rest<'a>(out: &mut Vec<u8>, records: Records<'a>) -> Result<(), AllocError>
+    requires { AreRecords records }
+    ensures { OnOk result (out.new.items ≡ out.old.items ++ entries_bytes records.entry) }
+{
+    let mut left = records;
+    while let Some(((key, payload), rest)) = left.again().split() {
+        add_entry(out, key, payload)?;
+        left = rest;
+    }
+    try_add_u8(out, 0)
+}
+
+impl LeafBuf {
+    /// The leaf cut behind its first n records: the left part, and the right one as version 1 of the page `right`.
+    ///
+    /// Both have the whole table of what is done. Refused for memory alone.
+    pub fn cut_at(
+        self,
+        alloc: Global,
+        n: usize,
+        right: PageId,
+    ) -> Result<(LeafBuf, LeafBuf), EditFault>
+        requires some { 0 < n }
+        requires less { n < length self.records }
+        ensures left { IfOk result (λ parts. parts.0 ≡ left_part n right self) }
+        ensures right { IfOk result (λ parts. parts.1 ≡ right_part n self) }
+        ensures err { IfErr result (λ e. e ≡ EditFault.Memory) }
+    {
+        let view = self.view();
+        let left = left_bytes(alloc, &view, n, right)?;
+        let rest = right_bytes(alloc, &view, n)?;
+        Ok((LeafBuf::of(left), LeafBuf::of(rest)))
+    }
+}

@@ -10,5 +10,7 @@ pub mod lease;
 pub mod message;
 pub mod perform;
 pub mod state;
+#[cfg(test)]
+mod tests;
 pub mod turn;
 pub mod who;

@@ -10,3 +10,5 @@ mod objects;
 mod queue;
 mod queues;
 mod service;
+#[cfg(test)]
+mod tests;

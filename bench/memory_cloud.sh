@@ -10,7 +10,7 @@ mkdir -p "$work/crates/rounds/src"
 for crate in db_base cloud_trait memory_cloud; do
     mkdir -p "$work/crates/$crate"
     for part in src specs proofs; do
-        cp -r "$top/crates/$crate/$part" "$work/crates/$crate/"
+        if [ -d "$top/crates/$crate/$part" ]; then cp -r "$top/crates/$crate/$part" "$work/crates/$crate/"; fi
     done
 done
 grep -E '^(db_base|cloud_trait|memory_cloud):' "$top/crates.txt" > "$work/crates.txt"

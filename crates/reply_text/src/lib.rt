@@ -3,4 +3,6 @@
 
 pub mod name;
 pub mod reply;
+#[cfg(test)]
+mod tests;
 pub mod write;

@@ -1,0 +1,143 @@
+-- How a session stands.
+use Rattle.std.specs.Prelude.{ℕ, ◌≡◌, ◌≤◌, ◌⊎◌, Bool, true, false, List, [], length, Option, Some, None, Result, Ok, Err}
+use Rattle.db_base.specs.declared.refusal.Refusal.{Refusal}
+use Rattle.db_base.specs.declared.refusal.Refusal.TheVariants as rule
+use Rattle.head_codec.specs.Spelling.{HasSpelling}
+use Rattle.txn_buffer.specs.Noted.{Noted}
+use Rattle.db_base.specs.declared.refusal.Refused.{Refused}
+use Rattle.db_base.specs.declared.refusal.Refused.TheVariants as refused
+use Rattle.db_base.specs.declared.trouble.Trouble.TheVariants as trouble
+use Rattle.db_base.specs.declared.trouble.CommitAnswer.{CommitAnswer}
+use Rattle.db_base.specs.declared.trouble.CommitAnswer.TheVariants.{Committed, NotCommitted, InDoubt, CommittedOpen}
+use Rattle.cloud_trait.specs.Caller.{Caller}
+use Rattle.cloud_trait.specs.State.{CloudState, Counts}
+use Rattle.cloud_trait.specs.Machine.{Goes, Ends, Steps}
+use Rattle.cloud_trait.specs.declared.turn.Turn.{Turn}
+use Rattle.cloud_trait.specs.declared.turn.Turn.TheVariants.{More, Ended, Stopped}
+use Rattle.recover_run.specs.declared.home.Home.{Home}
+use Rattle.recover_run.specs.declared.recover.RecoverAnswer.TheVariants.{Opened}
+use Rattle.recover_run.specs.Recovery.{Recovery, new_recovery, recovery_ask, recovery_next, home_of}
+use Rattle.commit_run.specs.Commit.{Commit, Readies, new_commit, commit_ask, commit_next}
+use Rattle.client_session.specs.declared.session.Answer.{Answer}
+use Rattle.client_session.specs.declared.session.Answer.TheVariants as answer
+use Rattle.client_session.specs.declared.session.Begun.{Begun}
+use Rattle.client_session.specs.declared.session.Begun.TheVariants.{Working, Answered}
+use Rattle.client_session.specs.declared.session.Op.{Op}
+use Rattle.client_session.specs.declared.session.Op.TheVariants as op
+use Rattle.client_session.specs.declared.session.Work.{Work}
+use Rattle.client_session.specs.declared.session.Work.TheVariants.{Closed, Idle, Opening, Committing, Broken}
+
+-- a session: the changes that it noted, and what it has in hand
+pub record Acting : Type 0 where
+  pub buffer : List Noted
+  pub work : Work
+
+abbrev pub closed_session : Acting
+closed_session = record { buffer = []; work = Closed }
+
+-- an open client's head has a spelling
+abbrev pub IsKept : Work → Type 0
+IsKept (Idle home) = HasSpelling home.head
+IsKept Closed = Unit {0}
+IsKept (Opening m) = Unit {0}
+IsKept (Committing m) = Unit {0}
+IsKept Broken = Unit {0}
+
+-- the rule that refuses an operation of an open client, where one does
+abbrev pub rule_of : Work → Option Refusal
+rule_of Closed = Some rule.NotOpen
+rule_of (Idle home) = None
+rule_of (Opening m) = Some rule.AtWork
+rule_of (Committing m) = Some rule.AtWork
+rule_of Broken = Some rule.Broken
+
+-- ---- what a begin does
+
+-- the rule that refuses an opening, where one does
+abbrev pub opening_rule_of : Work → Option Refusal
+opening_rule_of Closed = None
+opening_rule_of (Idle home) = Some rule.AlreadyOpen
+opening_rule_of (Opening m) = Some rule.AtWork
+opening_rule_of (Committing m) = Some rule.AtWork
+opening_rule_of Broken = Some rule.NotBuilt
+
+-- a closed session begins opening a client, and has noted nothing; another is refused and stays
+abbrev pub BeginsOpening : ℕ → Acting → Acting → Result Begun Refused → Type 0
+BeginsOpening client old new (Ok Working) = (opening_rule_of old.work ≡ None) × (new ≡ record { buffer = []; work = Opening (new_recovery client) })
+BeginsOpening client old new (Ok (Answered answer)) = ⊥
+BeginsOpening client old new (Err (refused.Rule r)) = (opening_rule_of old.work ≡ Some r) × (new ≡ old)
+BeginsOpening client old new (Err refused.Memory) = ⊥
+
+-- a commit of what was noted by a home: it is in hand, or it is answered at once and the home stays; the buffer is empty
+abbrev pub CommitsOf : Home → Acting → Acting → Begun → Type 0
+CommitsOf home old new Working = (c : Commit) × Readies (new_commit home old.buffer) (Goes c) × (new ≡ record { buffer = []; work = Committing c })
+CommitsOf home old new (Answered (answer.Commit a)) = (c : Commit) × Readies (new_commit home old.buffer) (Ends c a) × (new ≡ record { buffer = []; work = Idle c.home })
+CommitsOf home old new (Answered (answer.Opened epoch)) = ⊥
+CommitsOf home old new (Answered (answer.Trouble t)) = (t ≡ trouble.Memory) × (new ≡ record { buffer = []; work = Broken })
+
+-- nothing is noted and the commit is answered at once, or the home commits what was noted
+abbrev pub CommitsNoted : Work → Acting → Acting → Begun → Type 0
+CommitsNoted (Idle home) old new begun =
+    ((old.buffer ≡ []) × (new ≡ old) × (begun ≡ Answered (answer.Commit (Committed 0)))) ⊎ ((1 ≤ length old.buffer) × CommitsOf home old new begun)
+CommitsNoted Closed old new begun = ⊥
+CommitsNoted (Opening m) old new begun = ⊥
+CommitsNoted (Committing m) old new begun = ⊥
+CommitsNoted Broken old new begun = ⊥
+
+abbrev pub BeginsCommit : Acting → Acting → Result Begun Refused → Type 0
+BeginsCommit old new (Ok begun) = CommitsNoted old.work old new begun
+BeginsCommit old new (Err (refused.Rule r)) = (rule_of old.work ≡ Some r) × (new ≡ old)
+BeginsCommit old new (Err refused.Memory) = ⊥
+
+abbrev pub Begins : Op → Acting → Acting → Result Begun Refused → Type 0
+Begins (op.Open client) old new result = BeginsOpening client old new result
+Begins op.Commit old new result = BeginsCommit old new result
+
+-- ---- what a step does
+
+abbrev pub opened_work : Option Home → Work
+opened_work (Some home) = Idle home
+opened_work None = Closed
+
+abbrev pub committed_work : CommitAnswer → Home → Work
+committed_work InDoubt home = Broken
+committed_work (CommittedOpen t) home = Broken
+committed_work (Committed txn) home = Idle home
+committed_work (NotCommitted t) home = Idle home
+
+-- one step of an opening, and what it leaves in hand
+abbrev pub StepsOpening : Caller → Counts → Counts → Option CloudState → Option CloudState → Recovery → Work → Turn Answer → Type 0
+StepsOpening who c d s t old work More = (r : Recovery) × Steps recovery_ask recovery_next who c d s t old r More × (work ≡ Opening r)
+StepsOpening who c d s t old work (Ended (answer.Opened epoch)) =
+    (r : Recovery) × Steps recovery_ask recovery_next who c d s t old r (Ended (Opened epoch)) × (work ≡ opened_work (home_of r))
+StepsOpening who c d s t old work (Ended (answer.Commit a)) = ⊥
+StepsOpening who c d s t old work (Ended (answer.Trouble k)) = (r : Recovery) × Steps recovery_ask recovery_next who c d s t old r (Stopped k) × (work ≡ Closed)
+StepsOpening who c d s t old work (Stopped k) = ⊥
+
+-- one step of a commit, and what it leaves in hand
+abbrev pub StepsCommit : Caller → Counts → Counts → Option CloudState → Option CloudState → Commit → Work → Turn Answer → Type 0
+StepsCommit who c d s t old work More = (m : Commit) × Steps commit_ask commit_next who c d s t old m More × (work ≡ Committing m)
+StepsCommit who c d s t old work (Ended (answer.Opened epoch)) = ⊥
+StepsCommit who c d s t old work (Ended (answer.Commit a)) = (m : Commit) × Steps commit_ask commit_next who c d s t old m (Ended a) × (work ≡ committed_work a m.home)
+StepsCommit who c d s t old work (Ended (answer.Trouble k)) = (m : Commit) × Steps commit_ask commit_next who c d s t old m (Stopped k) × (work ≡ Broken)
+StepsCommit who c d s t old work (Stopped k) = ⊥
+
+abbrev pub StepsWork : Caller → Counts → Counts → Option CloudState → Option CloudState → Work → Acting → Turn Answer → Type 0
+StepsWork who c d s t (Opening m) new turn = StepsOpening who c d s t m new.work turn
+StepsWork who c d s t (Committing m) new turn = StepsCommit who c d s t m new.work turn
+StepsWork who c d s t Closed new turn = ⊥
+StepsWork who c d s t (Idle home) new turn = ⊥
+StepsWork who c d s t Broken new turn = ⊥
+
+abbrev pub is_working : Work → Bool
+is_working (Opening m) = true
+is_working (Committing m) = true
+is_working Closed = false
+is_working (Idle home) = false
+is_working Broken = false
+
+-- one step of the operation at work; without one it is refused and changes nothing
+abbrev pub StepsSession : Caller → Counts → Counts → Option CloudState → Option CloudState → Acting → Acting → Result (Turn Answer) Refused → Type 0
+StepsSession who c d s t old new (Ok turn) = (new.buffer ≡ old.buffer) × StepsWork who c d s t old.work new turn
+StepsSession who c d s t old new (Err (refused.Rule r)) = (r ≡ rule.NotWorking) × (is_working old.work ≡ false) × (new ≡ old) × (c ≡ d) × (s ≡ t)
+StepsSession who c d s t old new (Err refused.Memory) = ⊥

@@ -1,0 +1,4 @@
+//! A session of a client: it notes changes and works on one operation at a time.
+#![tactic(auto)]
+
+pub mod session;

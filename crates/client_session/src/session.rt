@@ -1,0 +1,295 @@
+ghost use Rattle.std.specs.Prelude.{◌≡◌, ℕ, ◌≤◌, [], length, IfOk, IfErr, OnOk, OnErr};
+ghost use Rattle.head_codec.specs.Spelling.{HasSpelling};
+ghost use Rattle.txn_buffer.specs.Noted.{noted_in};
+ghost use Rattle.recover_run.specs.Recovery.{home_of};
+ghost use Rattle.client_session.specs.Session.{IsKept, opened_work, committed_work};
+
+use cloud_trait::cloud::Cloud;
+use cloud_trait::turn::Turn;
+use cloud_trait::who::Who;
+use commit_run::commit::CommitRun;
+use db_base::change::Change;
+use db_base::ids::{ClientId, TreeId};
+use db_base::refusal::{Refusal, Refused};
+use db_base::trouble::{CommitAnswer, Trouble};
+use recover_run::home::Home;
+use recover_run::recover::{RecoverAnswer, RecoverRun};
+use std::alloc::Global;
+use std::marker::Model;
+use std::mem;
+use txn_buffer::buffer::TxnBuffer;
+
+/// What a session has in hand.
+#[derive(Drop)]
+pub enum Work {
+    /// Nothing: no client is open.
+    Closed,
+    /// An open client.
+    Idle(Home),
+    /// An opening under way.
+    Opening(RecoverRun),
+    /// A commit under way.
+    Committing(CommitRun),
+    /// A client whose newest operation left it in doubt.
+    Broken,
+}
+
+/// An operation that a session can begin.
+#[derive(Clone, Copy, Debug, PartialEq, Eq)]
+pub enum Op {
+    /// Opens a client.
+    Open(ClientId),
+    /// Commits the noted changes.
+    Commit,
+}
+
+/// What the begin of an operation answers.
+#[derive(Debug, Drop)]
+pub enum Begun {
+    /// The operation has a call in hand.
+    Working,
+    /// It is answered at once, without a call.
+    Answered(Answer),
+}
+
+/// What an operation answers.
+#[derive(Debug, Drop)]
+pub enum Answer {
+    /// The client is open in this epoch.
+    Opened { epoch: u64 },
+    /// How a commit ended.
+    Commit(CommitAnswer),
+    /// Why the operation stopped.
+    Trouble(Trouble),
+}
+
+/// A session of a client. It is closed at first.
+#[derive(Drop)]
+pub struct Session {
+    buffer: TxnBuffer,
+    work: Work,
+}
+
+impl Model for Session {
+    ghost use Rattle.client_session.specs.Session.{Acting, IsKept};
+
+    ghost Value = { Acting };
+
+    ghost view = { λ s. record { buffer = s.buffer; work = s.work } };
+
+    ghost invariant = { λ s. IsKept s.work };
+}
+
+impl Session {
+    ghost use Rattle.client_session.specs.Session.{Acting, closed_session, rule_of, Begins, BeginsOpening, BeginsCommit, CommitsOf, StepsSession, StepsOpening, StepsCommit};
+
+    /// A closed session without changes. Refused for memory alone.
+    pub fn new(alloc: Global) -> Result<Session, Refused>
+        ensures ok { IfOk result (λ s. s ≡ closed_session) }
+        ensures memory { IfErr result (λ e. e ≡ Refused.Memory) }
+    {
+        Ok(Session {
+            buffer: TxnBuffer::new(alloc)?,
+            work: Work::Closed,
+        })
+    }
+
+    /// The rule that keeps an open client's operation from beginning.
+    fn rule(&self) -> Option<Refusal>
+        ensures { result ≡ rule_of self.now.work }
+    {
+        match &self.work {
+            Work::Closed => Some(Refusal::NotOpen),
+            Work::Idle(_) => None,
+            Work::Opening(_) => Some(Refusal::AtWork),
+            Work::Committing(_) => Some(Refusal::AtWork),
+            Work::Broken => Some(Refusal::Broken),
+        }
+    }
+
+    /// Notes a change of an open client. A refusal changes nothing.
+    pub fn note(&mut self, tree: TreeId, change: Change) -> Result<(), Refused>
+        ensures ok { OnOk result ((self.new ≡ record self.old { buffer = noted_in self.old.buffer tree change }) × (rule_of self.old.work ≡ None)) }
+        ensures err { OnErr result (self.new ≡ self.old) }
+    {
+        if let Some(rule) = self.rule() {
+            return Err(Refused::Rule(rule));
+        }
+        self.buffer.note(tree, change)
+    }
+
+    /// Drops the changes of an open client. A refusal changes nothing.
+    pub fn abort(&mut self) -> Result<(), Refused>
+        ensures ok { OnOk result ((self.new ≡ record self.old { buffer = [] }) × (rule_of self.old.work ≡ None)) }
+        ensures err { OnErr result (self.new ≡ self.old) }
+    {
+        if let Some(rule) = self.rule() {
+            return Err(Refused::Rule(rule));
+        }
+        self.buffer.clear();
+        Ok(())
+    }
+
+    /// Begins an operation. A refusal changes nothing.
+    pub fn begin(&mut self, alloc: Global, op: Op) -> Result<Begun, Refused>
+        ensures { Begins op self.old self.new result }
+    {
+        match op {
+            Op::Open(client) => self.begin_opening(alloc, client),
+            Op::Commit => self.begin_commit(alloc),
+        }
+    }
+
+    /// Begins opening a client, in a closed session alone. It drops what was noted.
+    fn begin_opening(&mut self, alloc: Global, client: ClientId) -> Result<Begun, Refused>
+        ensures { BeginsOpening client self.old self.new result }
+    {
+        match &self.work {
+            Work::Closed => {}
+            Work::Idle(_) => return Err(Refused::Rule(Refusal::AlreadyOpen)),
+            Work::Opening(_) => return Err(Refused::Rule(Refusal::AtWork)),
+            Work::Committing(_) => return Err(Refused::Rule(Refusal::AtWork)),
+            Work::Broken => return Err(Refused::Rule(Refusal::NotBuilt)),
+        }
+        self.buffer.clear();
+        self.work = Work::Opening(RecoverRun::new(alloc, client));
+        Ok(Begun::Working)
+    }
+
+    /// Begins the commit of what was noted; that of nothing is answered at once.
+    fn begin_commit(&mut self, alloc: Global) -> Result<Begun, Refused>
+        ensures { BeginsCommit self.old self.new result }
+    {
+        if let Some(rule) = self.rule() {
+            return Err(Refused::Rule(rule));
+        }
+        if self.buffer.is_empty() {
+            return Ok(Begun::Answered(Answer::Commit(CommitAnswer::Committed { txn: 0 })));
+        }
+        match mem::replace(&mut self.work, Work::Broken) {
+            Work::Idle(home) => Ok(self.commit_of(alloc, home)),
+            other => {
+                self.work = other;
+                Err(Refused::Rule(Refusal::NotOpen))
+            }
+        }
+    }
+
+    /// Begins the commit of what was noted by a home.
+    fn commit_of(&mut self, alloc: Global, home: Home) -> Begun
+        requires spelled { HasSpelling home.head }
+        requires some { 1 ≤ length self.old.buffer }
+        ensures { CommitsOf home self.old self.new result }
+    {
+        let mut commit = CommitRun::new(alloc, home, self.buffer.take());
+        match commit.ready(alloc) {
+            Turn::More => {
+                self.work = Work::Committing(commit);
+                Begun::Working
+            }
+            Turn::Ended(answer) => {
+                self.work = Work::Idle(commit.finish());
+                Begun::Answered(Answer::Commit(answer))
+            }
+            Turn::Stopped(trouble) => {
+                self.work = Work::Broken;
+                Begun::Answered(Answer::Trouble(trouble))
+            }
+        }
+    }
+
+    /// Makes the call in hand of the operation at work, and does the local work up to the next one.
+    pub fn step<C: Cloud>(
+        &mut self,
+        alloc: Global,
+        cloud: &mut C,
+        who: Who,
+    ) -> Result<Turn<Answer>, Refused>
+        ensures { StepsSession who (C.counts cloud.old) (C.counts cloud.new) (C.state cloud.old) (C.state cloud.new) self.old self.new result }
+    {
+        match mem::replace(&mut self.work, Work::Closed) {
+            Work::Opening(machine) => Ok(self.step_opening(alloc, cloud, who, machine)),
+            Work::Committing(machine) => Ok(self.step_commit(alloc, cloud, who, machine)),
+            other => {
+                self.work = other;
+                Err(Refused::Rule(Refusal::NotWorking))
+            }
+        }
+    }
+
+    fn step_opening<C: Cloud>(
+        &mut self,
+        alloc: Global,
+        cloud: &mut C,
+        who: Who,
+        mut machine: RecoverRun,
+    ) -> Turn<Answer>
+        ensures buffer { self.new.buffer ≡ self.old.buffer }
+        ensures steps { StepsOpening who (C.counts cloud.old) (C.counts cloud.new) (C.state cloud.old) (C.state cloud.new) machine self.new.work result }
+    {
+        match machine.step(alloc, cloud, who) {
+            Turn::More => {
+                self.work = Work::Opening(machine);
+                Turn::More
+            }
+            Turn::Ended(RecoverAnswer::Opened { epoch }) => {
+                self.work = opened(machine);
+                Turn::Ended(Answer::Opened { epoch })
+            }
+            Turn::Stopped(trouble) => {
+                self.work = Work::Closed;
+                Turn::Ended(Answer::Trouble(trouble))
+            }
+        }
+    }
+
+    fn step_commit<C: Cloud>(
+        &mut self,
+        alloc: Global,
+        cloud: &mut C,
+        who: Who,
+        mut machine: CommitRun,
+    ) -> Turn<Answer>
+        ensures buffer { self.new.buffer ≡ self.old.buffer }
+        ensures steps { StepsCommit who (C.counts cloud.old) (C.counts cloud.new) (C.state cloud.old) (C.state cloud.new) machine self.new.work result }
+    {
+        match machine.step(alloc, cloud, who) {
+            Turn::More => {
+                self.work = Work::Committing(machine);
+                Turn::More
+            }
+            Turn::Ended(answer) => {
+                self.work = committed(&answer, machine);
+                Turn::Ended(Answer::Commit(answer))
+            }
+            Turn::Stopped(trouble) => {
+                self.work = Work::Broken;
+                Turn::Ended(Answer::Trouble(trouble))
+            }
+        }
+    }
+}
+
+/// An open client after its opening.
+fn opened(machine: RecoverRun) -> Work
+    ensures work { result ≡ opened_work (home_of machine) }
+    ensures kept { IsKept result }
+{
+    match machine.finish() {
+        Some(home) => Work::Idle(home),
+        None => Work::Closed,
+    }
+}
+
+/// A client after its commit: in doubt where it is not known whether the commit or all of its records landed.
+fn committed(answer: &CommitAnswer, machine: CommitRun) -> Work
+    ensures work { result ≡ committed_work answer.now machine.home }
+    ensures kept { IsKept result }
+{
+    match answer {
+        CommitAnswer::InDoubt => Work::Broken,
+        CommitAnswer::CommittedOpen(_) => Work::Broken,
+        CommitAnswer::Committed { .. } => Work::Idle(machine.finish()),
+        CommitAnswer::NotCommitted(_) => Work::Idle(machine.finish()),
+    }
+}

@@ -1,0 +1,4 @@
+//! The world of a replay: it handles one line after another.
+#![tactic(auto)]
+
+pub mod world;

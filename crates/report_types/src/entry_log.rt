@@ -1,4 +1,4 @@
-ghost use Rattle.std.specs.Prelude.{◌≡◌, [], ◌∷◌, ◌++◌, length, OnOk, OnErr};
+ghost use Rattle.std.specs.Prelude.{◌≡◌, [], ◌∷◌, ◌++◌, length, take, OnOk, OnErr};
 
 use crate::entry::Entry;
 use std::alloc::{AllocError, Global};
@@ -43,6 +43,13 @@ impl EntryLog {
     {
         self.entries.push(entry)?;
         Ok(())
+    }
+
+    /// Keeps the first entries alone, at most so many. Takes no memory.
+    pub fn truncate(&mut self, len: usize)
+        ensures { self.new ≡ take len self.old }
+    {
+        self.entries.truncate(len);
     }
 
     /// The entries.

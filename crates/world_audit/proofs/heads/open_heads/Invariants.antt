@@ -1,0 +1,7 @@
+use Rattle.std.proofs.Common.{◌≤◌}
+use Rattle.world_audit.specs.Look.{Looked}
+use Rattle.world_audit.proofs.heads.open_heads.Given as goal
+
+abbrev pub invariant-loop-number : goal.invariant-loop-number
+invariant-loop-number g l =
+    Looked (g.C.Cloud.counts l.fn.cloud) (g.C.Cloud.counts l.cloud) (g.C.Cloud.state l.fn.cloud) (g.C.Cloud.state l.cloud) × (l.heads ≤ l.number)

@@ -1,0 +1,56 @@
+//! The messages of a tree's queues.
+
+ghost use Rattle.std.specs.Prelude.{◌≡◌, IfErr};
+ghost use Rattle.world_audit.specs.Look.{Looked, FailsDark};
+
+use crate::look::{backlog, peek};
+use cloud_trait::cloud::Bench;
+use db_base::ids::{PageId, TreeId};
+use db_base::names::{ObjName, Place, QueueName};
+use db_base::trouble::Trouble;
+use node_codec::TreeView;
+
+/// The least free page of the tree that the bytes spell.
+fn next_of(tree: TreeId, bytes: &[u8]) -> Result<u64, Trouble>
+    ensures { IfErr result (λ e. e ≡ Trouble.Failed → ⊥) }
+{
+    match TreeView::read(bytes) {
+        Ok(root) => Ok(root.next()),
+        Err(fault) => Err(Trouble::Damaged {
+            place: Place::Object(ObjName::Tree(tree)),
+            offset: fault.offset,
+        }),
+    }
+}
+
+/// The least free page of a tree by its newest root, 2 where there is none.
+fn next_page<C: Bench>(cloud: &mut C, tree: TreeId) -> Result<u64, Trouble>
+    ensures looked { Looked (C.counts cloud.old) (C.counts cloud.new) (C.state cloud.old) (C.state cloud.new) }
+    ensures failed { FailsDark result (C.counts cloud.old) (C.counts cloud.new) }
+{
+    match peek(cloud, ObjName::Tree(tree))? {
+        Some(bytes) => next_of(tree, bytes.as_slice()),
+        None => Ok(2),
+    }
+}
+
+/// The queue of a page, and for page 0 that of the tree.
+fn queue_at(tree: TreeId, page: u64) -> QueueName {
+    match PageId::new(page) {
+        Ok(page) => QueueName::PagePu(tree, page),
+        Err(_) => QueueName::TreePu(tree),
+    }
+}
+
+/// How many messages are not deleted of the tree's queue and of those of its pages. The sum stops at the greatest u64.
+pub(crate) fn messages<C: Bench>(cloud: &mut C, tree: TreeId) -> Result<u64, Trouble>
+    ensures looked { Looked (C.counts cloud.old) (C.counts cloud.new) (C.state cloud.old) (C.state cloud.new) }
+    ensures failed { FailsDark result (C.counts cloud.old) (C.counts cloud.new) }
+{
+    let next = next_page(cloud, tree)?;
+    let mut sum = 0u64;
+    for page in 0..next {
+        sum = sum.saturating_add(backlog(cloud, queue_at(tree, page))?);
+    }
+    Ok(sum)
+}

@@ -1,0 +1,81 @@
+//! Heads that are open with a committed entry of a tree.
+
+ghost use Rattle.std.specs.Prelude.{◌≡◌, ◌≤◌, IfOk, IfErr};
+ghost use Rattle.world_audit.specs.Look.{Looked, FailsDark};
+
+use crate::look::peek;
+use cloud_trait::cloud::Bench;
+use db_base::ids::{ClientId, TreeId};
+use db_base::names::{ObjName, Place};
+use db_base::trouble::Trouble;
+use head_codec::head::{Head, HeadFault, Phase};
+use report_types::entry::Entry;
+use std::alloc::Global;
+
+/// The head that the bytes spell.
+fn head_of(alloc: Global, client: ClientId, bytes: &[u8]) -> Result<Head, Trouble>
+    ensures { IfErr result (λ e. e ≡ Trouble.Failed → ⊥) }
+{
+    match Head::read(alloc, bytes) {
+        Ok(head) => Ok(head),
+        Err(HeadFault::NotHead { offset }) => Err(Trouble::Damaged {
+            place: Place::Object(ObjName::Head(client)),
+            offset,
+        }),
+        Err(HeadFault::Exhausted) => unreachable!(),
+        Err(HeadFault::Memory) => Err(Trouble::Memory),
+    }
+}
+
+/// Whether the head is open, and its transaction has a committed entry of the tree.
+fn is_open_in(head: &Head, client: ClientId, tree: TreeId, committed: &[Entry]) -> bool {
+    head.phase != Phase::Settled
+        && committed.iter().any(|entry| entry.client.get() == client.get()
+            && entry.epoch == head.epoch
+            && entry.txn == head.txn
+            && entry.tree.get() == tree.get())
+}
+
+/// 1 where the client's newest head is open with a committed entry of the tree, else 0.
+fn open_head<C: Bench>(
+    alloc: Global,
+    cloud: &mut C,
+    client: ClientId,
+    tree: TreeId,
+    committed: &[Entry],
+) -> Result<u64, Trouble>
+    ensures looked { Looked (C.counts cloud.old) (C.counts cloud.new) (C.state cloud.old) (C.state cloud.new) }
+    ensures failed { FailsDark result (C.counts cloud.old) (C.counts cloud.new) }
+    ensures most { IfOk result (λ n. n ≤ 1) }
+{
+    let Some(bytes) = peek(cloud, ObjName::Head(client))? else {
+        return Ok(0);
+    };
+    let head = head_of(alloc, client, bytes.as_slice())?;
+    if is_open_in(&head, client, tree, committed) {
+        Ok(1)
+    } else {
+        Ok(0)
+    }
+}
+
+/// How many heads are open with a committed entry of the tree.
+pub(crate) fn open_heads<C: Bench>(
+    alloc: Global,
+    cloud: &mut C,
+    tree: TreeId,
+    committed: &[Entry],
+) -> Result<u64, Trouble>
+    ensures looked { Looked (C.counts cloud.old) (C.counts cloud.new) (C.state cloud.old) (C.state cloud.new) }
+    ensures failed { FailsDark result (C.counts cloud.old) (C.counts cloud.new) }
+    ensures most { IfOk result (λ n. n ≤ 64) }
+{
+    let mut heads = 0u64;
+    for number in 0..64u64 {
+        if let Ok(client) = ClientId::new(number + 1) {
+            let here = open_head(alloc, cloud, client, tree, committed)?;
+            heads += here;
+        }
+    }
+    Ok(heads)
+}

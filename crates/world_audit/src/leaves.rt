@@ -1,0 +1,185 @@
+//! The leaves of a tree, from the left.
+
+ghost use Rattle.std.specs.Prelude.{◌≡◌, [], ◌∷◌, ◌++◌, ◌⊎◌, map, Some, IfOk, IfErr, OnOk};
+ghost use Rattle.cloud_trait.specs.State.{CloudState, newest};
+ghost use Rattle.db_base.specs.Ids.{IsPage};
+ghost use Rattle.db_base.specs.declared.names.ObjName.TheVariants.{Page};
+ghost use Rattle.world_audit.specs.Look.{Looked, FailsDark};
+ghost use Rattle.world_audit.specs.Chain.{IsReadAs, Adds, Walked, pair_of};
+
+use crate::look::peek;
+use cloud_trait::cloud::Bench;
+use db_base::blob::Blob;
+use db_base::ids::{PageId, TreeId};
+use db_base::names::{ObjName, Place};
+use db_base::pair::Pair;
+use db_base::trouble::Trouble;
+use leaf_view::{LeafView, Records};
+use report_types::pair_list::PairList;
+use std::alloc::Global;
+
+/// The leaf that the newest version of a page spells.
+fn leaf_at<'a>(tree: TreeId, page: PageId, bytes: &'a Option<Blob>) -> Result<LeafView<'a>, Trouble>
+    ensures { IsReadAs tree page bytes.now result }
+{
+    match bytes {
+        Some(bytes) => match LeafView::read(bytes.as_slice()) {
+            Ok(leaf) => Ok(leaf),
+            Err(fault) => Err(Trouble::Damaged {
+                place: Place::Object(ObjName::Page(tree, page)),
+                offset: fault.offset,
+            }),
+        },
+        None => {
+            if page.get() == 1 {
+                Ok(LeafView::empty())
+            } else {
+                Err(Trouble::Absent { page })
+            }
+        }
+    }
+}
+
+/// A copy of the bytes. Fails for memory alone.
+fn copy_of(alloc: Global, bytes: &[u8]) -> Result<Blob, Trouble>
+    ensures ok { IfOk result (λ b. b ≡ bytes.now) }
+    ensures memory { IfErr result (λ e. e ≡ Trouble.Memory) }
+{
+    match Blob::copy_of(alloc, bytes) {
+        Ok(copy) => Ok(copy),
+        Err(_) => Err(Trouble::Memory),
+    }
+}
+
+/// Refuses a low key that is not the one that led to the page.
+fn check_low(alloc: Global, page: PageId, expected: &[u8], low: &[u8]) -> Result<(), Trouble>
+    ensures ok { OnOk result (expected.now ≡ low.now) }
+    ensures err { IfErr result (λ e. (e ≡ Trouble.Memory) ⊎ ((e ≡ Trouble.BadFence page expected.now low.now) × (expected.now ≡ low.now → ⊥))) }
+{
+    if expected == low {
+        return Ok(());
+    }
+    Err(Trouble::BadFence {
+        page,
+        expected: copy_of(alloc, expected)?,
+        found: copy_of(alloc, low)?,
+    })
+}
+
+/// Adds a record. Fails for memory alone.
+fn add_record(
+    alloc: Global,
+    contents: &mut PairList,
+    key: &[u8],
+    payload: &[u8],
+) -> Result<(), Trouble>
+    ensures ok { OnOk result (contents.new ≡ contents.old ++ (record { key = key.now; payload = payload.now }) ∷ []) }
+    ensures memory { IfErr result (λ e. e ≡ Trouble.Memory) }
+{
+    let pair = Pair {
+        key: copy_of(alloc, key)?,
+        payload: copy_of(alloc, payload)?,
+    };
+    match contents.push(pair) {
+        Ok(()) => Ok(()),
+        Err(_) => Err(Trouble::Memory),
+    }
+}
+
+/// Adds records in their order. Fails for memory alone.
+fn add_records(alloc: Global, contents: &mut PairList, records: Records<'_>) -> Result<(), Trouble>
+    ensures ok { OnOk result (contents.new ≡ contents.old ++ map pair_of records.entry) }
+    ensures memory { IfErr result (λ e. e ≡ Trouble.Memory) }
+{
+    let mut left = records;
+    while let Some(((key, payload), rest)) = left.split() {
+        add_record(alloc, contents, key, payload)?;
+        left = rest;
+    }
+    Ok(())
+}
+
+/// What the walk knows of the page that it comes to next.
+#[derive(Drop)]
+struct Walk {
+    // the low key that it must have
+    low: Blob,
+    contents: PairList,
+    visited: Vec<u64>,
+}
+
+/// Notes the page as visited: Loop where it was, and Memory.
+fn note_visit(visited: &mut Vec<u64>, page: PageId) -> Result<(), Trouble>
+    ensures page { OnOk result (IsPage page) }
+    ensures err { IfErr result (λ e. (e ≡ Trouble.Memory) ⊎ (e ≡ Trouble.Loop page)) }
+{
+    if visited.as_slice().contains(&page.get()) {
+        return Err(Trouble::Loop { page });
+    }
+    match visited.push(page.get()) {
+        Ok(()) => Ok(()),
+        Err(_) => Err(Trouble::Memory),
+    }
+}
+
+/// Adds the records of the leaf of a page, and says which page is the next.
+fn add_leaf(
+    alloc: Global,
+    tree: TreeId,
+    page: PageId,
+    bytes: &Option<Blob>,
+    walk: &mut Walk,
+) -> Result<Option<PageId>, Trouble>
+    ensures ok { IfOk result (λ next. Adds bytes.now tree page walk.old.contents walk.new.contents next) }
+    ensures err { IfErr result (λ e. e ≡ Trouble.Failed → ⊥) }
+{
+    let leaf = leaf_at(tree, page, bytes)?;
+    note_visit(&mut walk.visited, page)?;
+    check_low(alloc, page, walk.low.as_slice(), leaf.low())?;
+    add_records(alloc, &mut walk.contents, leaf.records())?;
+    if let Some(high) = leaf.high() {
+        walk.low = copy_of(alloc, high)?;
+    }
+    Ok(leaf.right())
+}
+
+/// Looks at a page, adds the records of its leaf, and says which page is the next.
+fn visit<C: Bench>(
+    alloc: Global,
+    cloud: &mut C,
+    tree: TreeId,
+    page: PageId,
+    walk: &mut Walk,
+) -> Result<Option<PageId>, Trouble>
+    ensures looked { Looked (C.counts cloud.old) (C.counts cloud.new) (C.state cloud.old) (C.state cloud.new) }
+    ensures failed { FailsDark result (C.counts cloud.old) (C.counts cloud.new) }
+    ensures ok { (s : CloudState) → C.state cloud.old ≡ Some s → IfOk result (λ next. Adds (newest s (Page tree page)) tree page walk.old.contents walk.new.contents next) }
+{
+    let bytes = peek(cloud, ObjName::Page(tree, page))?;
+    add_leaf(alloc, tree, page, &bytes, walk)
+}
+
+/// The records of the leaves of a tree, in their order: from page 1 along right pages.
+pub(crate) fn contents<C: Bench>(
+    alloc: Global,
+    cloud: &mut C,
+    tree: TreeId,
+) -> Result<PairList, Trouble>
+    ensures looked { Looked (C.counts cloud.old) (C.counts cloud.new) (C.state cloud.old) (C.state cloud.new) }
+    ensures failed { FailsDark result (C.counts cloud.old) (C.counts cloud.new) }
+    ensures ok { (s : CloudState) → C.state cloud.old ≡ Some s → IfOk result (λ records. Walked s tree 0 records) }
+{
+    let mut page = PageId::first();
+    let mut walk = Walk {
+        low: Blob::new(alloc),
+        contents: PairList::new(alloc),
+        visited: Vec::new(alloc),
+    };
+    for _turn in 0..u64::MAX {
+        match visit(alloc, cloud, tree, page, &mut walk)? {
+            Some(next) => page = next,
+            None => return Ok(walk.contents),
+        }
+    }
+    Err(Trouble::Loop { page })
+}

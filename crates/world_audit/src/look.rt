@@ -1,0 +1,38 @@
+//! Looks at a cloud.
+
+ghost use Rattle.std.specs.Prelude.{◌≡◌, Some, length, IfOk};
+ghost use Rattle.cloud_trait.specs.State.{CloudState, newest};
+ghost use Rattle.cloud_trait.specs.Delivery.{unmarked};
+ghost use Rattle.world_audit.specs.Look.{Looked, FailsDark};
+
+use cloud_trait::cloud::Bench;
+use cloud_trait::fault::CloudFault;
+use db_base::blob::Blob;
+use db_base::names::{ObjName, QueueName};
+use db_base::trouble::Trouble;
+
+/// The newest version of an object. Failed or Memory.
+pub(crate) fn peek<C: Bench>(cloud: &mut C, name: ObjName) -> Result<Option<Blob>, Trouble>
+    ensures looked { Looked (C.counts cloud.old) (C.counts cloud.new) (C.state cloud.old) (C.state cloud.new) }
+    ensures failed { FailsDark result (C.counts cloud.old) (C.counts cloud.new) }
+    ensures newest { (s : CloudState) → C.state cloud.old ≡ Some s → IfOk result (λ v. v ≡ newest s name) }
+{
+    match cloud.peek(name) {
+        Ok(bytes) => Ok(bytes),
+        Err(CloudFault::Failed) => Err(Trouble::Failed),
+        Err(CloudFault::Memory) => Err(Trouble::Memory),
+    }
+}
+
+/// How many messages of a queue are not deleted. Failed or Memory.
+pub(crate) fn backlog<C: Bench>(cloud: &mut C, queue: QueueName) -> Result<u64, Trouble>
+    ensures looked { Looked (C.counts cloud.old) (C.counts cloud.new) (C.state cloud.old) (C.state cloud.new) }
+    ensures failed { FailsDark result (C.counts cloud.old) (C.counts cloud.new) }
+    ensures length { (s : CloudState) → C.state cloud.old ≡ Some s → IfOk result (λ n. n ≡ length (unmarked (s.messages queue))) }
+{
+    match cloud.backlog(queue) {
+        Ok(count) => Ok(count),
+        Err(CloudFault::Failed) => Err(Trouble::Failed),
+        Err(CloudFault::Memory) => Err(Trouble::Memory),
+    }
+}

@@ -1,3 +1,4 @@
 pub mod Lists
 pub mod Looks
 pub mod Chains
+pub mod Totals

@@ -1,3 +1,4 @@
 pub mod Audited
 pub mod Look
 pub mod Chain
+pub mod Counts

@@ -1,6 +1,9 @@
 //! The messages of a tree's queues.
 
-ghost use Rattle.std.specs.Prelude.{◌≡◌, IfErr};
+ghost use Rattle.std.specs.Prelude.{◌≡◌, Some, IfOk, IfErr};
+ghost use Rattle.cloud_trait.specs.State.{CloudState, newest};
+ghost use Rattle.db_base.specs.declared.names.ObjName.TheVariants.{Tree};
+ghost use Rattle.world_audit.specs.Counts.{IsNextPage, AreWaiting, queue_at};
 ghost use Rattle.world_audit.specs.Look.{Looked, FailsDark};
 
 use crate::look::{backlog, peek};
@@ -12,7 +15,8 @@ use node_codec::TreeView;
 
 /// The least free page of the tree that the bytes spell.
 fn next_of(tree: TreeId, bytes: &[u8]) -> Result<u64, Trouble>
-    ensures { IfErr result (λ e. e ≡ Trouble.Failed → ⊥) }
+    ensures ok { IfOk result (λ n. IsNextPage (Some bytes.now) n) }
+    ensures err { IfErr result (λ e. e ≡ Trouble.Failed → ⊥) }
 {
     match TreeView::read(bytes) {
         Ok(root) => Ok(root.next()),
@@ -27,6 +31,7 @@ fn next_of(tree: TreeId, bytes: &[u8]) -> Result<u64, Trouble>
 fn next_page<C: Bench>(cloud: &mut C, tree: TreeId) -> Result<u64, Trouble>
     ensures looked { Looked (C.counts cloud.old) (C.counts cloud.new) (C.state cloud.old) (C.state cloud.new) }
     ensures failed { FailsDark result (C.counts cloud.old) (C.counts cloud.new) }
+    ensures ok { (s : CloudState) → C.state cloud.old ≡ Some s → IfOk result (λ n. IsNextPage (newest s (Tree tree)) n) }
 {
     match peek(cloud, ObjName::Tree(tree))? {
         Some(bytes) => next_of(tree, bytes.as_slice()),
@@ -35,7 +40,9 @@ fn next_page<C: Bench>(cloud: &mut C, tree: TreeId) -> Result<u64, Trouble>
 }
 
 /// The queue of a page, and for page 0 that of the tree.
-fn queue_at(tree: TreeId, page: u64) -> QueueName {
+fn queue_at(tree: TreeId, page: u64) -> QueueName
+    ensures { result ≡ queue_at tree page }
+{
     match PageId::new(page) {
         Ok(page) => QueueName::PagePu(tree, page),
         Err(_) => QueueName::TreePu(tree),
@@ -46,11 +53,13 @@ fn queue_at(tree: TreeId, page: u64) -> QueueName {
 pub(crate) fn messages<C: Bench>(cloud: &mut C, tree: TreeId) -> Result<u64, Trouble>
     ensures looked { Looked (C.counts cloud.old) (C.counts cloud.new) (C.state cloud.old) (C.state cloud.new) }
     ensures failed { FailsDark result (C.counts cloud.old) (C.counts cloud.new) }
+    ensures ok { (s : CloudState) → C.state cloud.old ≡ Some s → IfOk result (λ n. AreWaiting s tree n) }
 {
     let next = next_page(cloud, tree)?;
     let mut sum = 0u64;
     for page in 0..next {
-        sum = sum.saturating_add(backlog(cloud, queue_at(tree, page))?);
+        let more = backlog(cloud, queue_at(tree, page))?;
+        sum = sum.saturating_add(more);
     }
     Ok(sum)
 }

@@ -1,6 +1,10 @@
 //! Heads that are open with a committed entry of a tree.
 
-ghost use Rattle.std.specs.Prelude.{◌≡◌, ◌≤◌, IfOk, IfErr};
+ghost use Rattle.std.specs.Prelude.{◌≡◌, ◌≤◌, Some, IfOk, IfErr};
+ghost use Rattle.std.specs.List.{list_any};
+ghost use Rattle.cloud_trait.specs.State.{CloudState};
+ghost use Rattle.head_codec.specs.Spelling.{head_of};
+ghost use Rattle.world_audit.specs.Counts.{is_under_way, is_of, is_open_in, open_at, heads_upto};
 ghost use Rattle.world_audit.specs.Look.{Looked, FailsDark};
 
 use crate::look::peek;
@@ -14,7 +18,8 @@ use std::alloc::Global;
 
 /// The head that the bytes spell.
 fn head_of(alloc: Global, client: ClientId, bytes: &[u8]) -> Result<Head, Trouble>
-    ensures { IfErr result (λ e. e ≡ Trouble.Failed → ⊥) }
+    ensures ok { IfOk result (λ h. head_of bytes.now ≡ Some h) }
+    ensures err { IfErr result (λ e. e ≡ Trouble.Failed → ⊥) }
 {
     match Head::read(alloc, bytes) {
         Ok(head) => Ok(head),
@@ -27,13 +32,31 @@ fn head_of(alloc: Global, client: ClientId, bytes: &[u8]) -> Result<Head, Troubl
     }
 }
 
+/// Whether a commit is under way.
+fn is_under_way(phase: Phase) -> bool
+    ensures { result ≡ is_under_way phase }
+{
+    match phase {
+        Phase::Settled => false,
+        Phase::Open(_) => true,
+    }
+}
+
+/// Whether an entry of the tree is of the head's transaction.
+fn has_entry(head: &Head, client: ClientId, tree: TreeId, committed: &[Entry]) -> bool
+    ensures { result ≡ list_any (is_of client tree head.now) committed.now }
+{
+    committed.iter().any(|entry| entry.client.get() == client.get()
+        && entry.epoch == head.epoch
+        && entry.txn == head.txn
+        && entry.tree.get() == tree.get())
+}
+
 /// Whether the head is open, and its transaction has a committed entry of the tree.
-fn is_open_in(head: &Head, client: ClientId, tree: TreeId, committed: &[Entry]) -> bool {
-    head.phase != Phase::Settled
-        && committed.iter().any(|entry| entry.client.get() == client.get()
-            && entry.epoch == head.epoch
-            && entry.txn == head.txn
-            && entry.tree.get() == tree.get())
+fn is_open_in(head: &Head, client: ClientId, tree: TreeId, committed: &[Entry]) -> bool
+    ensures { result ≡ is_open_in client tree committed.now head.now }
+{
+    is_under_way(head.phase) && has_entry(head, client, tree, committed)
 }
 
 /// 1 where the client's newest head is open with a committed entry of the tree, else 0.
@@ -47,6 +70,7 @@ fn open_head<C: Bench>(
     ensures looked { Looked (C.counts cloud.old) (C.counts cloud.new) (C.state cloud.old) (C.state cloud.new) }
     ensures failed { FailsDark result (C.counts cloud.old) (C.counts cloud.new) }
     ensures most { IfOk result (λ n. n ≤ 1) }
+    ensures ok { (s : CloudState) → C.state cloud.old ≡ Some s → IfOk result (λ n. n ≡ open_at s client tree committed.now) }
 {
     let Some(bytes) = peek(cloud, ObjName::Head(client))? else {
         return Ok(0);
@@ -69,13 +93,15 @@ pub(crate) fn open_heads<C: Bench>(
     ensures looked { Looked (C.counts cloud.old) (C.counts cloud.new) (C.state cloud.old) (C.state cloud.new) }
     ensures failed { FailsDark result (C.counts cloud.old) (C.counts cloud.new) }
     ensures most { IfOk result (λ n. n ≤ 64) }
+    ensures ok { (s : CloudState) → C.state cloud.old ≡ Some s → IfOk result (λ n. n ≡ heads_upto s tree committed.now 64) }
 {
     let mut heads = 0u64;
     for number in 0..64u64 {
-        if let Ok(client) = ClientId::new(number + 1) {
-            let here = open_head(alloc, cloud, client, tree, committed)?;
-            heads += here;
-        }
+        let Ok(client) = ClientId::new(number + 1) else {
+            unreachable!();
+        };
+        let here = open_head(alloc, cloud, client, tree, committed)?;
+        heads += here;
     }
     Ok(heads)
 }

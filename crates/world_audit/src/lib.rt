@@ -7,3 +7,5 @@ mod entries;
 mod heads;
 mod leaves;
 mod look;
+#[cfg(test)]
+mod tests;

@@ -1,0 +1,61 @@
+-- What a run says of its words, its input and its output.
+use Rattle.std.specs.Prelude.{ℕ, ◌≡◌, ◌<◌, List, length, Option, Some, Result, Ok, Err, ◌∷◌, ◌++◌}
+use Rattle.db_io.specs.Content.{Takes}
+use Rattle.event_text.specs.declared.event.Event.{Event}
+use Rattle.event_text.specs.Event.{IsEvent}
+use Rattle.line_io.specs.Lines.{lines_of}
+use Rattle.s3db.specs.declared.status.Status.{Status}
+use Rattle.s3db.specs.declared.status.Status.TheVariants as status
+use Rattle.s3db.specs.declared.replay.LineFault.{LineFault}
+use Rattle.s3db.specs.declared.replay.LineFault.TheVariants.{BadLine, WriteFault, Memory, CloudFault}
+use Rattle.command_words.specs.Words.{shape_of}
+use Rattle.command_words.specs.declared.shape.Shape.TheVariants.{Replay}
+
+-- a line of the text spells no event
+pub record HasBadLine (text : List ℕ) : Type 0 where
+  pub earlier : List (List ℕ)
+  pub line : List ℕ
+  pub later : List (List ℕ)
+  pub at : lines_of text ≡ earlier ++ line ∷ later
+  pub bad : (event : Event) → IsEvent line event → ⊥
+
+-- so many lines of the text stand before the rest
+pub record IsBehind (text rest : List ℕ) (n : ℕ) : Type 0 where
+  pub earlier : List (List ℕ)
+  pub at : lines_of text ≡ earlier ++ lines_of rest
+  pub count : length earlier ≡ n
+
+-- some bytes were read, and more than an input has
+pub record WasTooLong (left rest : Option (List ℕ)) : Type 0 where
+  pub bytes : List ℕ
+  pub taken : Takes left rest bytes
+  pub long : 262144 < length bytes
+
+-- some bytes were read, and a line of them spells no event
+pub record WasBad (left rest : Option (List ℕ)) : Type 0 where
+  pub bytes : List ℕ
+  pub taken : Takes left rest bytes
+  pub bad : HasBadLine bytes
+
+-- the words ask for a replay
+abbrev pub AskReplay : List (List ℕ) → Type 0
+AskReplay words = shape_of words ≡ Some Replay
+
+-- the status of a run whose lines ended so
+abbrev pub status_of : Result (Unit {0}) LineFault → Status
+status_of (Ok done) = status.Done
+status_of (Err BadLine) = status.BadLine
+status_of (Err WriteFault) = status.WriteFault
+status_of (Err Memory) = status.Memory
+status_of (Err CloudFault) = status.CloudFault
+
+-- a status that the lines of an input lead to
+abbrev pub IsOfLines : Status → Type 0
+IsOfLines status.Done = Unit {0}
+IsOfLines status.BadLine = Unit {0}
+IsOfLines status.WriteFault = Unit {0}
+IsOfLines status.Memory = Unit {0}
+IsOfLines status.CloudFault = Unit {0}
+IsOfLines status.BadWords = ⊥
+IsOfLines status.ReadFault = ⊥
+IsOfLines status.TooLong = ⊥

@@ -1,0 +1,182 @@
+ghost use Rattle.std.specs.Prelude.{◌≡◌, ℕ, ◌<◌, ◌≤◌, ◌++◌, [], ◌∷◌, Err, IfOk, OnOk, OnErr};
+ghost use Rattle.db_io.specs.Content.{Adds, AddsPrefix};
+ghost use Rattle.std.specs.Fmt.{decimal};
+ghost use Rattle.reply_text.specs.Reply.{reply_text};
+ghost use Rattle.s3db.specs.Replay.{HasBadLine, IsOfLines, status_of};
+ghost use Rattle.event_text.specs.declared.event.Event.{Event};
+ghost use Rattle.event_text.specs.Event.{IsEvent};
+
+use crate::status::Status;
+use cloud_trait::cloud::Bench;
+use db_base::blob::Blob;
+use db_base::refusal::Refused;
+use db_io::sink::Sink;
+use event_text::event::Event;
+use line_io::lines::next_line;
+use line_io::output::{OutputFault, write_text};
+use reply_text::reply::Reply;
+use std::alloc::Global;
+use words::fault::TextFault;
+use world_core::world::{World, WorldFault};
+
+/// Replays the lines of an input: one reply a line, in one write each.
+pub fn replay_lines<O: Sink, C: Bench>(
+    alloc: Global,
+    input: &[u8],
+    sink: &mut O,
+    cloud: &mut C,
+) -> Status
+    ensures bad_line { result ≡ Status.BadLine → HasBadLine input.now }
+    ensures write_fault { result ≡ Status.WriteFault → O.faults sink.old < O.faults sink.new }
+    ensures only { IsOfLines result }
+{
+    match World::new(alloc) {
+        Ok(mut world) => status_of(go_on(alloc, &mut world, input, sink, cloud)),
+        Err(_) => Status::Memory,
+    }
+}
+
+/// The status of a run whose lines ended so.
+fn status_of(ended: Result<(), LineFault>) -> Status
+    ensures { result ≡ status_of ended }
+{
+    match ended {
+        Ok(()) => Status::Done,
+        Err(LineFault::BadLine) => Status::BadLine,
+        Err(LineFault::WriteFault) => Status::WriteFault,
+        Err(LineFault::Memory) => Status::Memory,
+        Err(LineFault::CloudFault) => Status::CloudFault,
+    }
+}
+
+/// Handles the lines of an input, up to the first that ends the run.
+fn go_on<O: Sink, C: Bench>(
+    alloc: Global,
+    world: &mut World,
+    input: &[u8],
+    sink: &mut O,
+    cloud: &mut C,
+) -> Result<(), LineFault>
+    ensures bad_line { result ≡ Err LineFault.BadLine → HasBadLine input.now }
+    ensures write_fault { result ≡ Err LineFault.WriteFault → O.faults sink.old < O.faults sink.new }
+{
+    let mut rest = input;
+    let mut n: u64 = 0;
+    while !rest.is_empty() {
+        let (line, behind) = next_line(rest);
+        n = match n.checked_add(1) {
+            Some(n) => n,
+            None => return Err(LineFault::Memory),
+        };
+        match replay_line(alloc, world, sink, cloud, n, line) {
+            Ok(()) => rest = behind,
+            Err(fault) => return Err(fault),
+        }
+    }
+    Ok(())
+}
+
+/// Why a line ends the run.
+#[derive(Clone, Copy, Debug, PartialEq, Eq)]
+pub(crate) enum LineFault {
+    BadLine,
+    WriteFault,
+    Memory,
+    CloudFault,
+}
+
+/// Handles one line, and writes its reply.
+fn replay_line<O: Sink, C: Bench>(
+    alloc: Global,
+    world: &mut World,
+    sink: &mut O,
+    cloud: &mut C,
+    n: u64,
+    line: &[u8],
+) -> Result<(), LineFault>
+    ensures bad_line { result ≡ Err LineFault.BadLine → (event : Event) → IsEvent line.now event → ⊥ }
+    ensures write_fault { result ≡ Err LineFault.WriteFault → O.faults sink.old < O.faults sink.new }
+    ensures faults { O.faults sink.old ≤ O.faults sink.new }
+{
+    let event = match Event::read(alloc, line) {
+        Ok(event) => event,
+        Err(TextFault::NotInGrammar) => {
+            return match refuse(alloc, sink, n) {
+                Ok(()) => Err(LineFault::BadLine),
+                Err(fault) => Err(fault),
+            };
+        }
+        Err(TextFault::Memory) => return Err(LineFault::Memory),
+    };
+    match world.event(alloc, cloud, n, &event) {
+        Ok(reply) => write_reply(alloc, sink, n, &reply),
+        Err(WorldFault::Cloud) => Err(LineFault::CloudFault),
+        Err(WorldFault::Memory) => Err(LineFault::Memory),
+    }
+}
+
+/// Writes that a line is in no grammar.
+fn refuse<O: Sink>(alloc: Global, sink: &mut O, n: u64) -> Result<(), LineFault>
+    ensures bad_line { result ≡ Err LineFault.BadLine → ⊥ }
+    ensures write_fault { result ≡ Err LineFault.WriteFault → O.faults sink.old < O.faults sink.new }
+    ensures faults { O.faults sink.old ≤ O.faults sink.new }
+{
+    match format!(in alloc; "bad line {n}\n") {
+        Ok(text) => write(sink, text.as_bytes()),
+        Err(_) => Err(LineFault::Memory),
+    }
+}
+
+/// Writes the reply to a line, under the line's number.
+fn write_reply<O: Sink>(alloc: Global, sink: &mut O, n: u64, reply: &Reply) -> Result<(), LineFault>
+    ensures bad_line { result ≡ Err LineFault.BadLine → ⊥ }
+    ensures write_fault { result ≡ Err LineFault.WriteFault → O.faults sink.old < O.faults sink.new }
+    ensures faults { O.faults sink.old ≤ O.faults sink.new }
+{
+    match reply_line(alloc, n, reply) {
+        Ok(text) => write(sink, text.as_slice()),
+        Err(_) => Err(LineFault::Memory),
+    }
+}
+
+/// The line of a reply: the number, a space, the text, a line feed.
+fn reply_line(alloc: Global, n: u64, reply: &Reply) -> Result<Blob, Refused>
+    ensures { IfOk result (λ line. line ≡ decimal n ++ 32 ∷ reply_text reply.now ++ 10 ∷ []) }
+{
+    let text = match reply.write(alloc) {
+        Ok(text) => text,
+        Err(_) => return Err(Refused::Memory),
+    };
+    let number = number_text(alloc, n)?;
+    let mut line = Blob::new(alloc);
+    line.add(number.as_slice())?;
+    line.add(b" ")?;
+    line.add(text.as_slice())?;
+    line.add(b"\n")?;
+    Ok(line)
+}
+
+/// The decimal digits of a number.
+fn number_text(alloc: Global, n: u64) -> Result<Blob, Refused>
+    ensures { IfOk result (λ text. text ≡ decimal n) }
+{
+    match format!(in alloc; "{n}") {
+        Ok(text) => Ok(Blob::of(text.into_bytes())),
+        Err(_) => Err(Refused::Memory),
+    }
+}
+
+/// Writes a text in one write.
+fn write<O: Sink>(sink: &mut O, text: &[u8]) -> Result<(), LineFault>
+    ensures written { OnOk result (Adds (O.written sink.old) (O.written sink.new) text.now) }
+    ensures front { OnErr result (AddsPrefix (O.written sink.old) (O.written sink.new) text.now) }
+    ensures bad_line { result ≡ Err LineFault.BadLine → ⊥ }
+    ensures write_fault { result ≡ Err LineFault.WriteFault → O.faults sink.old < O.faults sink.new }
+    ensures faults { O.faults sink.old ≤ O.faults sink.new }
+{
+    match write_text(sink, text) {
+        Ok(()) => Ok(()),
+        Err(OutputFault::WriteFault) => Err(LineFault::WriteFault),
+        Err(OutputFault::Memory) => Err(LineFault::Memory),
+    }
+}

@@ -1,0 +1,63 @@
+ghost use Rattle.std.specs.Prelude.{◌≡◌, ◌<◌, ℕ, map, string_bytes};
+ghost use Rattle.s3db.specs.Replay.{AskReplay, WasBad, WasTooLong};
+
+use crate::replay::replay_lines;
+use crate::status::Status;
+use cloud_trait::cloud::Bench;
+use command_words::read::shape;
+use command_words::shape::{Shape, WordsFault};
+use db_io::sink::Sink;
+use db_io::source::Source;
+use line_io::input::{InputFault, read_whole};
+use std::alloc::Global;
+
+/// Runs the command that the words ask for: a replay of the lines of the source over the cloud, one reply a line.
+pub fn run<I: Source, O: Sink, C: Bench>(
+    alloc: Global,
+    words: &[String],
+    source: &mut I,
+    sink: &mut O,
+    cloud: &mut C,
+) -> Status
+    ensures bad_words { result ≡ Status.BadWords → AskReplay (map string_bytes words.now) → ⊥ }
+    ensures unread { result ≡ Status.BadWords → (I.left source.new ≡ I.left source.old) × (O.written sink.new ≡ O.written sink.old) }
+    ensures words_stay { result ≡ Status.BadWords → (C.state cloud.new ≡ C.state cloud.old) × (C.counts cloud.new ≡ C.counts cloud.old) }
+    ensures read_fault { result ≡ Status.ReadFault → I.faults source.old < I.faults source.new }
+    ensures read_stays { result ≡ Status.ReadFault → (C.state cloud.new ≡ C.state cloud.old) × (C.counts cloud.new ≡ C.counts cloud.old) }
+    ensures too_long { result ≡ Status.TooLong → WasTooLong (I.left source.old) (I.left source.new) }
+    ensures long_stays { result ≡ Status.TooLong → (C.state cloud.new ≡ C.state cloud.old) × (C.counts cloud.new ≡ C.counts cloud.old) }
+    ensures bad_line { result ≡ Status.BadLine → WasBad (I.left source.old) (I.left source.new) }
+    ensures write_fault { result ≡ Status.WriteFault → O.faults sink.old < O.faults sink.new }
+{
+    match shape(alloc, words) {
+        Ok(Shape::Replay) => replay(alloc, source, sink, cloud),
+        Ok(Shape::Gen { .. }) => Status::BadWords,
+        Ok(Shape::Shell { .. }) => Status::BadWords,
+        Ok(Shape::Settle { .. }) => Status::BadWords,
+        Err(WordsFault::BadWords) => Status::BadWords,
+        Err(WordsFault::Memory) => Status::Memory,
+    }
+}
+
+/// Replays the lines of the source.
+fn replay<I: Source, O: Sink, C: Bench>(
+    alloc: Global,
+    source: &mut I,
+    sink: &mut O,
+    cloud: &mut C,
+) -> Status
+    ensures not_words { result ≡ Status.BadWords → ⊥ }
+    ensures read_fault { result ≡ Status.ReadFault → I.faults source.old < I.faults source.new }
+    ensures read_stays { result ≡ Status.ReadFault → (C.state cloud.new ≡ C.state cloud.old) × (C.counts cloud.new ≡ C.counts cloud.old) }
+    ensures too_long { result ≡ Status.TooLong → WasTooLong (I.left source.old) (I.left source.new) }
+    ensures long_stays { result ≡ Status.TooLong → (C.state cloud.new ≡ C.state cloud.old) × (C.counts cloud.new ≡ C.counts cloud.old) }
+    ensures bad_line { result ≡ Status.BadLine → WasBad (I.left source.old) (I.left source.new) }
+    ensures write_fault { result ≡ Status.WriteFault → O.faults sink.old < O.faults sink.new }
+{
+    match read_whole(alloc, source) {
+        Ok(input) => replay_lines(alloc, input.as_slice(), sink, cloud),
+        Err(InputFault::ReadFault) => Status::ReadFault,
+        Err(InputFault::TooLong) => Status::TooLong,
+        Err(InputFault::Memory) => Status::Memory,
+    }
+}

@@ -1,0 +1,41 @@
+ghost use Rattle.std.specs.Prelude.{◌≡◌};
+ghost use Rattle.s3db.specs.Status.{code_of};
+
+/// How a run ended. Its number is the program's exit status.
+#[derive(Clone, Copy, Debug, PartialEq, Eq)]
+pub enum Status {
+    /// The input was read to its end, and every line has its reply in the sink.
+    Done,
+    /// A line is not in the grammar. What ran before it stands.
+    BadLine,
+    /// The words of the command line are of no shape that is built.
+    BadWords,
+    /// A read of the input failed. Nothing ran.
+    ReadFault,
+    /// A write failed. A prefix of the text is written.
+    WriteFault,
+    /// The input is too long. Nothing ran.
+    TooLong,
+    /// Memory ran out.
+    Memory,
+    /// An operation met a trouble of the cloud, which has no reply yet.
+    CloudFault,
+}
+
+impl Status {
+    /// The exit status.
+    pub fn code(self) -> u8
+        ensures { result ≡ code_of self }
+    {
+        match self {
+            Status::Done => 0,
+            Status::BadLine => 1,
+            Status::BadWords => 2,
+            Status::ReadFault => 3,
+            Status::WriteFault => 4,
+            Status::TooLong => 6,
+            Status::Memory => 9,
+            Status::CloudFault => 10,
+        }
+    }
+}

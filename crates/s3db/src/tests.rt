@@ -1,0 +1,78 @@
+use crate::run::run;
+use crate::status::Status;
+use db_io::memory_sink::MemorySink;
+use db_io::memory_source::MemorySource;
+use memory_cloud::memory::MemoryCloud;
+use std::alloc::Global;
+use std::test::Fail;
+
+/// What a replay of the input writes over an empty cloud, and how it ends; these reads and writes fail.
+fn replayed(
+    alloc: Global,
+    input: &[u8],
+    reads: &[u64],
+    writes: &[u64],
+) -> Result<(Status, MemorySink), Fail> {
+    let words = vec![in alloc; String::from_str(alloc, "replay")?]?;
+    let mut source = MemorySource::new(alloc, input, reads)?;
+    let mut sink = MemorySink::new(alloc, writes)?;
+    let mut cloud = MemoryCloud::new(alloc);
+    let status = run(alloc, words.as_slice(), &mut source, &mut sink, &mut cloud);
+    Ok((status, sink))
+}
+
+const FIRST: &[u8] = b"open 1 1\nrun 1\ninsert 1 1 6b 76\ncommit 1\nrun 1\n";
+
+#[test]
+fn replays_commits(rt: HostRuntime) -> Result<(), Fail> {
+    let (status, sink) = replayed(rt.alloc(), FIRST, &[], &[])?;
+    assert_eq!(rt; status, Status::Done);
+    assert_eq!(rt;
+        sink.written(),
+        b"1 begun\n2 opened 1\n3 noted\n4 begun\n5 committed 1\n".as_slice()
+    );
+    Ok(())
+}
+
+#[test]
+fn replays_rows(rt: HostRuntime) -> Result<(), Fail> {
+    for (input, status, output) in [
+        (b"".as_slice(), Status::Done, b"".as_slice()),
+        (
+            b"open 1 1\nrun 1\ncommit 1\nrun 1\n".as_slice(),
+            Status::Done,
+            b"1 begun\n2 opened 1\n3 committed 0\n4 refused 10 not-working\n".as_slice(),
+        ),
+        (
+            b"open 1 65\nopen 1 1\nopen 1 1\nrun 1\nopen 1 1\n".as_slice(),
+            Status::Done,
+            b"1 refused 5 bad-number\n2 begun\n3 refused 7 at-work\n4 opened 1\n5 refused 9 already-open\n".as_slice(),
+        ),
+        (
+            b"insert 1 1 6b 76\nfoo\nreport 1\n".as_slice(),
+            Status::BadLine,
+            b"1 refused 6 not-open\nbad line 2\n".as_slice(),
+        ),
+        (
+            b"report 1\nwait 01\n".as_slice(),
+            Status::BadLine,
+            b"1 refused 99 not-built\nbad line 2\n".as_slice(),
+        ),
+    ] {
+        let (ended, sink) = replayed(rt.alloc(), input, &[], &[])?;
+        assert_eq!(rt; ended, status);
+        assert_eq!(rt; sink.written(), output);
+    }
+    Ok(())
+}
+
+#[test]
+fn ends_that_fail(rt: HostRuntime) -> Result<(), Fail> {
+    let (status, sink) = replayed(rt.alloc(), FIRST, &[1], &[])?;
+    assert_eq!(rt; status, Status::ReadFault);
+    assert_eq!(rt; sink.written(), b"".as_slice());
+    let (status, sink) = replayed(rt.alloc(), FIRST, &[], &[2])?;
+    assert_eq!(rt; status, Status::WriteFault);
+    assert_eq!(rt; sink.written(), b"1 begun\n".as_slice());
+    Ok(())
+}

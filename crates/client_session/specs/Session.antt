@@ -17,6 +17,9 @@ use Rattle.cloud_trait.specs.declared.turn.Turn.TheVariants.{More, Ended, Stoppe
 use Rattle.recover_run.specs.declared.home.Home.{Home}
 use Rattle.recover_run.specs.declared.recover.RecoverAnswer.TheVariants.{Opened}
 use Rattle.recover_run.specs.Recovery.{Recovery, new_recovery, recovery_ask, recovery_next, home_of}
+use Rattle.log_codec.specs.declared.record.PuItem.{PuItem}
+use Rattle.cloud_trait.specs.Ask.{Ask}
+use Rattle.tree_ckpt.specs.Folding.{new_folding, folding_ask, FoldsOne, Folding as Fold}
 use Rattle.commit_run.specs.Commit.{Commit, Readies, new_commit, commit_ask, commit_next}
 use Rattle.client_session.specs.declared.session.Answer.{Answer}
 use Rattle.client_session.specs.declared.session.Answer.TheVariants as answer
@@ -25,7 +28,7 @@ use Rattle.client_session.specs.declared.session.Begun.TheVariants.{Working, Ans
 use Rattle.client_session.specs.declared.session.Op.{Op}
 use Rattle.client_session.specs.declared.session.Op.TheVariants as op
 use Rattle.client_session.specs.declared.session.Work.{Work}
-use Rattle.client_session.specs.declared.session.Work.TheVariants.{Closed, Idle, Opening, Committing, Broken}
+use Rattle.client_session.specs.declared.session.Work.TheVariants.{Closed, Idle, Opening, Committing, Folding, Broken}
 
 -- a session: the changes that it noted, and what it has in hand
 pub record Acting : Type 0 where
@@ -41,6 +44,7 @@ IsKept (Idle home) = HasSpelling home.head
 IsKept Closed = Unit {0}
 IsKept (Opening m) = Unit {0}
 IsKept (Committing m) = Unit {0}
+IsKept (Folding home m) = HasSpelling home.head
 IsKept Broken = Unit {0}
 
 -- the rule that refuses an operation of an open client, where one does
@@ -49,6 +53,7 @@ rule_of Closed = Some rule.NotOpen
 rule_of (Idle home) = None
 rule_of (Opening m) = Some rule.AtWork
 rule_of (Committing m) = Some rule.AtWork
+rule_of (Folding home m) = Some rule.AtWork
 rule_of Broken = Some rule.Broken
 
 -- ---- what a begin does
@@ -59,6 +64,7 @@ opening_rule_of Closed = None
 opening_rule_of (Idle home) = Some rule.AlreadyOpen
 opening_rule_of (Opening m) = Some rule.AtWork
 opening_rule_of (Committing m) = Some rule.AtWork
+opening_rule_of (Folding home m) = Some rule.AtWork
 opening_rule_of Broken = Some rule.NotBuilt
 
 -- a closed session begins opening a client, and has noted nothing; another is refused and stays
@@ -73,6 +79,7 @@ abbrev pub CommitsOf : Home → Acting → Acting → Begun → Type 0
 CommitsOf home old new Working = (c : Commit) × Readies (new_commit home old.buffer) (Goes c) × (new ≡ record { buffer = []; work = Committing c })
 CommitsOf home old new (Answered (answer.Commit a)) = (c : Commit) × Readies (new_commit home old.buffer) (Ends c a) × (new ≡ record { buffer = []; work = Idle c.home })
 CommitsOf home old new (Answered (answer.Opened epoch)) = ⊥
+CommitsOf home old new (Answered (answer.Done n)) = ⊥
 CommitsOf home old new (Answered (answer.Trouble t)) = (t ≡ trouble.Memory) × (new ≡ record { buffer = []; work = Broken })
 
 -- nothing is noted and the commit is answered at once, or the home commits what was noted
@@ -82,6 +89,7 @@ CommitsNoted (Idle home) old new begun =
 CommitsNoted Closed old new begun = ⊥
 CommitsNoted (Opening m) old new begun = ⊥
 CommitsNoted (Committing m) old new begun = ⊥
+CommitsNoted (Folding home m) old new begun = ⊥
 CommitsNoted Broken old new begun = ⊥
 
 abbrev pub BeginsCommit : Acting → Acting → Result Begun Refused → Type 0
@@ -89,9 +97,25 @@ BeginsCommit old new (Ok begun) = CommitsNoted old.work old new begun
 BeginsCommit old new (Err (refused.Rule r)) = (rule_of old.work ≡ Some r) × (new ≡ old)
 BeginsCommit old new (Err refused.Memory) = ⊥
 
+-- an open client's checkpoint is in hand
+abbrev pub FoldsFor : ℕ → Work → Acting → Acting → Type 0
+FoldsFor tree (Idle home) old new = new ≡ record old { work = Folding home (new_folding tree) }
+FoldsFor tree Closed old new = ⊥
+FoldsFor tree (Opening m) old new = ⊥
+FoldsFor tree (Committing m) old new = ⊥
+FoldsFor tree (Folding home m) old new = ⊥
+FoldsFor tree Broken old new = ⊥
+
+abbrev pub BeginsTree : ℕ → Acting → Acting → Result Begun Refused → Type 0
+BeginsTree tree old new (Ok Working) = FoldsFor tree old.work old new
+BeginsTree tree old new (Ok (Answered answer)) = ⊥
+BeginsTree tree old new (Err (refused.Rule r)) = (rule_of old.work ≡ Some r) × (new ≡ old)
+BeginsTree tree old new (Err refused.Memory) = ⊥
+
 abbrev pub Begins : Op → Acting → Acting → Result Begun Refused → Type 0
 Begins (op.Open client) old new result = BeginsOpening client old new result
 Begins op.Commit old new result = BeginsCommit old new result
+Begins (op.Tree tree) old new result = BeginsTree tree old new result
 
 -- ---- what a step does
 
@@ -111,6 +135,7 @@ StepsOpening who c d s t old work More = (r : Recovery) × Steps recovery_ask re
 StepsOpening who c d s t old work (Ended (answer.Opened epoch)) =
     (r : Recovery) × Steps recovery_ask recovery_next who c d s t old r (Ended (Opened epoch)) × (work ≡ opened_work (home_of r))
 StepsOpening who c d s t old work (Ended (answer.Commit a)) = ⊥
+StepsOpening who c d s t old work (Ended (answer.Done n)) = ⊥
 StepsOpening who c d s t old work (Ended (answer.Trouble k)) = (r : Recovery) × Steps recovery_ask recovery_next who c d s t old r (Stopped k) × (work ≡ Closed)
 StepsOpening who c d s t old work (Stopped k) = ⊥
 
@@ -118,13 +143,24 @@ StepsOpening who c d s t old work (Stopped k) = ⊥
 abbrev pub StepsCommit : Caller → Counts → Counts → Option CloudState → Option CloudState → Commit → Work → Turn Answer → Type 0
 StepsCommit who c d s t old work More = (m : Commit) × Steps commit_ask commit_next who c d s t old m More × (work ≡ Committing m)
 StepsCommit who c d s t old work (Ended (answer.Opened epoch)) = ⊥
+StepsCommit who c d s t old work (Ended (answer.Done n)) = ⊥
 StepsCommit who c d s t old work (Ended (answer.Commit a)) = (m : Commit) × Steps commit_ask commit_next who c d s t old m (Ended a) × (work ≡ committed_work a m.home)
 StepsCommit who c d s t old work (Ended (answer.Trouble k)) = (m : Commit) × Steps commit_ask commit_next who c d s t old m (Stopped k) × (work ≡ Broken)
 StepsCommit who c d s t old work (Stopped k) = ⊥
 
+-- one step of a checkpoint, and what it leaves in hand
+abbrev pub StepsFolding : Home → Caller → Counts → Counts → Option CloudState → Option CloudState → Fold → Work → Turn Answer → Type 0
+StepsFolding home who c d s t old work More = (f : Fold) × FoldsOne who c d s t old f More × (work ≡ Folding home f)
+StepsFolding home who c d s t old work (Ended (answer.Done n)) = (f : Fold) × FoldsOne who c d s t old f (Ended n) × (work ≡ Idle home)
+StepsFolding home who c d s t old work (Ended (answer.Opened epoch)) = ⊥
+StepsFolding home who c d s t old work (Ended (answer.Commit a)) = ⊥
+StepsFolding home who c d s t old work (Ended (answer.Trouble k)) = (f : Fold) × FoldsOne who c d s t old f (Stopped k) × (work ≡ Idle home)
+StepsFolding home who c d s t old work (Stopped k) = ⊥
+
 abbrev pub StepsWork : Caller → Counts → Counts → Option CloudState → Option CloudState → Work → Acting → Turn Answer → Type 0
 StepsWork who c d s t (Opening m) new turn = StepsOpening who c d s t m new.work turn
 StepsWork who c d s t (Committing m) new turn = StepsCommit who c d s t m new.work turn
+StepsWork who c d s t (Folding home m) new turn = StepsFolding home who c d s t m new.work turn
 StepsWork who c d s t Closed new turn = ⊥
 StepsWork who c d s t (Idle home) new turn = ⊥
 StepsWork who c d s t Broken new turn = ⊥
@@ -132,6 +168,7 @@ StepsWork who c d s t Broken new turn = ⊥
 abbrev pub is_working : Work → Bool
 is_working (Opening m) = true
 is_working (Committing m) = true
+is_working (Folding home m) = true
 is_working Closed = false
 is_working (Idle home) = false
 is_working Broken = false
@@ -141,3 +178,30 @@ abbrev pub StepsSession : Caller → Counts → Counts → Option CloudState →
 StepsSession who c d s t old new (Ok turn) = (new.buffer ≡ old.buffer) × StepsWork who c d s t old.work new turn
 StepsSession who c d s t old new (Err (refused.Rule r)) = (r ≡ rule.NotWorking) × (is_working old.work ≡ false) × (new ≡ old) × (c ≡ d) × (s ≡ t)
 StepsSession who c d s t old new (Err refused.Memory) = ⊥
+
+-- the call in hand, where something is at work
+abbrev pub ask_of_work : Work → Option Ask
+ask_of_work (Opening m) = Some (recovery_ask m)
+ask_of_work (Committing m) = Some (commit_ask m)
+ask_of_work (Folding home m) = Some (folding_ask m)
+ask_of_work Closed = None
+ask_of_work (Idle home) = None
+ask_of_work Broken = None
+
+-- the changes of the commit at work
+abbrev pub committing_of : Work → Option (List Noted)
+committing_of (Committing m) = Some m.changes
+committing_of (Opening m) = None
+committing_of (Folding home m) = None
+committing_of Closed = None
+committing_of (Idle home) = None
+committing_of Broken = None
+
+-- the items that the put in hand applies
+abbrev pub applying_of : Work → List PuItem
+applying_of (Folding home m) = m.applying
+applying_of (Committing m) = []
+applying_of (Opening m) = []
+applying_of Closed = []
+applying_of (Idle home) = []
+applying_of Broken = []

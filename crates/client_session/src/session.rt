@@ -1,22 +1,27 @@
 ghost use Rattle.std.specs.Prelude.{◌≡◌, ℕ, ◌≤◌, [], length, IfOk, IfErr, OnOk, OnErr};
+ghost use Rattle.std.specs.Option.{option_map, option_copied};
+ghost use Rattle.cloud_trait.specs.Call.{ask_of};
 ghost use Rattle.head_codec.specs.Spelling.{HasSpelling};
 ghost use Rattle.txn_buffer.specs.Noted.{noted_in};
 ghost use Rattle.recover_run.specs.Recovery.{home_of};
 ghost use Rattle.client_session.specs.Session.{IsKept, opened_work, committed_work};
 
+use cloud_trait::call::Call;
 use cloud_trait::cloud::Cloud;
-use cloud_trait::turn::Turn;
+use cloud_trait::turn::{CkptAnswer, Turn};
 use cloud_trait::who::Who;
 use commit_run::commit::CommitRun;
 use db_base::change::Change;
 use db_base::ids::{ClientId, TreeId};
 use db_base::refusal::{Refusal, Refused};
 use db_base::trouble::{CommitAnswer, Trouble};
+use log_codec::record::PuItem;
 use recover_run::home::Home;
 use recover_run::recover::{RecoverAnswer, RecoverRun};
 use std::alloc::Global;
 use std::marker::Model;
 use std::mem;
+use tree_ckpt::checkpoint::TreeCkpt;
 use txn_buffer::buffer::TxnBuffer;
 
 /// What a session has in hand.
@@ -30,6 +35,8 @@ pub enum Work {
     Opening(RecoverRun),
     /// A commit under way.
     Committing(CommitRun),
+    /// A tree checkpoint under way, beside the open client.
+    Folding(Home, TreeCkpt),
     /// A client whose newest operation left it in doubt.
     Broken,
 }
@@ -41,6 +48,8 @@ pub enum Op {
     Open(ClientId),
     /// Commits the noted changes.
     Commit,
+    /// Checkpoints a tree.
+    Tree(TreeId),
 }
 
 /// What the begin of an operation answers.
@@ -59,6 +68,8 @@ pub enum Answer {
     Opened { epoch: u64 },
     /// How a commit ended.
     Commit(CommitAnswer),
+    /// What a checkpoint did.
+    Done(CkptAnswer),
     /// Why the operation stopped.
     Trouble(Trouble),
 }
@@ -81,7 +92,7 @@ impl Model for Session {
 }
 
 impl Session {
-    ghost use Rattle.client_session.specs.Session.{Acting, closed_session, rule_of, Begins, BeginsOpening, BeginsCommit, CommitsOf, StepsSession, StepsOpening, StepsCommit};
+    ghost use Rattle.client_session.specs.Session.{Acting, closed_session, rule_of, Begins, BeginsOpening, BeginsCommit, BeginsTree, CommitsOf, StepsSession, StepsOpening, StepsCommit, StepsFolding, ask_of_work, committing_of, applying_of};
 
     /// A closed session without changes. Refused for memory alone.
     pub fn new(alloc: Global) -> Result<Session, Refused>
@@ -103,6 +114,7 @@ impl Session {
             Work::Idle(_) => None,
             Work::Opening(_) => Some(Refusal::AtWork),
             Work::Committing(_) => Some(Refusal::AtWork),
+            Work::Folding(_, _) => Some(Refusal::AtWork),
             Work::Broken => Some(Refusal::Broken),
         }
     }
@@ -137,6 +149,7 @@ impl Session {
         match op {
             Op::Open(client) => self.begin_opening(alloc, client),
             Op::Commit => self.begin_commit(alloc),
+            Op::Tree(tree) => self.begin_tree(alloc, tree),
         }
     }
 
@@ -149,6 +162,7 @@ impl Session {
             Work::Idle(_) => return Err(Refused::Rule(Refusal::AlreadyOpen)),
             Work::Opening(_) => return Err(Refused::Rule(Refusal::AtWork)),
             Work::Committing(_) => return Err(Refused::Rule(Refusal::AtWork)),
+            Work::Folding(_, _) => return Err(Refused::Rule(Refusal::AtWork)),
             Work::Broken => return Err(Refused::Rule(Refusal::NotBuilt)),
         }
         self.buffer.clear();
@@ -168,6 +182,25 @@ impl Session {
         }
         match mem::replace(&mut self.work, Work::Broken) {
             Work::Idle(home) => Ok(self.commit_of(alloc, home)),
+            other => {
+                self.work = other;
+                Err(Refused::Rule(Refusal::NotOpen))
+            }
+        }
+    }
+
+    /// Begins a checkpoint of a tree.
+    fn begin_tree(&mut self, alloc: Global, tree: TreeId) -> Result<Begun, Refused>
+        ensures { BeginsTree tree self.old self.new result }
+    {
+        if let Some(rule) = self.rule() {
+            return Err(Refused::Rule(rule));
+        }
+        match mem::replace(&mut self.work, Work::Broken) {
+            Work::Idle(home) => {
+                self.work = Work::Folding(home, TreeCkpt::new(alloc, tree));
+                Ok(Begun::Working)
+            }
             other => {
                 self.work = other;
                 Err(Refused::Rule(Refusal::NotOpen))
@@ -210,6 +243,7 @@ impl Session {
         match mem::replace(&mut self.work, Work::Closed) {
             Work::Opening(machine) => Ok(self.step_opening(alloc, cloud, who, machine)),
             Work::Committing(machine) => Ok(self.step_commit(alloc, cloud, who, machine)),
+            Work::Folding(home, machine) => Ok(self.step_folding(alloc, cloud, who, home, machine)),
             other => {
                 self.work = other;
                 Err(Refused::Rule(Refusal::NotWorking))
@@ -266,6 +300,76 @@ impl Session {
                 self.work = Work::Broken;
                 Turn::Ended(Answer::Trouble(trouble))
             }
+        }
+    }
+
+    fn step_folding<C: Cloud>(
+        &mut self,
+        alloc: Global,
+        cloud: &mut C,
+        who: Who,
+        home: Home,
+        mut machine: TreeCkpt,
+    ) -> Turn<Answer>
+        requires { HasSpelling home.head }
+        ensures buffer { self.new.buffer ≡ self.old.buffer }
+        ensures steps { StepsFolding home who (C.counts cloud.old) (C.counts cloud.new) (C.state cloud.old) (C.state cloud.new) machine self.new.work result }
+    {
+        match machine.step(alloc, cloud, who) {
+            Turn::More => {
+                self.work = Work::Folding(home, machine);
+                Turn::More
+            }
+            Turn::Ended(answer) => {
+                self.work = Work::Idle(home);
+                Turn::Ended(Answer::Done(answer))
+            }
+            Turn::Stopped(trouble) => {
+                self.work = Work::Idle(home);
+                Turn::Ended(Answer::Trouble(trouble))
+            }
+        }
+    }
+
+    /// The service call that the next step makes; none where nothing is at work.
+    pub fn in_hand(&self) -> Option<Call<'_>>
+        ensures { option_map ask_of result ≡ ask_of_work self.now.work }
+    {
+        match &self.work {
+            Work::Opening(machine) => Some(machine.in_hand()),
+            Work::Committing(machine) => Some(machine.in_hand()),
+            Work::Folding(_, machine) => Some(machine.in_hand()),
+            Work::Closed => None,
+            Work::Idle(_) => None,
+            Work::Broken => None,
+        }
+    }
+
+    /// The changes of the commit at work; none where none is.
+    pub fn committing(&self) -> Option<&TxnBuffer>
+        ensures { option_copied result ≡ committing_of self.now.work }
+    {
+        match &self.work {
+            Work::Committing(machine) => Some(machine.changes()),
+            Work::Opening(_) => None,
+            Work::Folding(_, _) => None,
+            Work::Closed => None,
+            Work::Idle(_) => None,
+            Work::Broken => None,
+        }
+    }
+
+    /// The items that the put in hand of a checkpoint applies.
+    pub fn applying(&self) -> &[PuItem]
+        ensures { result.now ≡ applying_of self.now.work }
+    {
+        match &self.work {
+            Work::Folding(_, machine) => machine.applying(),
+            Work::Committing(_) => &[],
+            Work::Opening(_) => &[],
+            Work::Closed => &[],
+            Work::Idle(_) => &[],
+            Work::Broken => &[],
         }
     }
 }

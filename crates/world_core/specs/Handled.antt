@@ -58,6 +58,7 @@ abbrev pub BegunReply : Result Begun Refused → Result Reply WorldFault → Typ
 BegunReply (Ok Working) result = result ≡ Ok reply.Begun
 BegunReply (Ok (Answered (answer.Commit a))) result = result ≡ Ok (reply.Commit a)
 BegunReply (Ok (Answered (answer.Opened epoch))) result = result ≡ Ok (reply.Opened epoch)
+BegunReply (Ok (Answered (answer.Done n))) result = result ≡ Ok (reply.Done n)
 BegunReply (Ok (Answered (answer.Trouble t))) (Ok r) = ⊥
 BegunReply (Ok (Answered (answer.Trouble t))) (Err fault) = Unit {0}
 BegunReply (Err (refused.Rule r)) result = result ≡ Ok (reply.Refused r)
@@ -68,6 +69,11 @@ BegunReply (Err refused.Memory) (Err fault) = Unit {0}
 pub record Opens (client : ℕ) (old new : Acting) (result : Result Reply WorldFault) : Type 0 where
   pub no_client : (IsClient client → ⊥) → (new ≡ old) × (result ≡ Ok (reply.Refused rule.BadNumber))
   pub opening : IsClient client → (begun : Result Begun Refused) × Begins (op.Open client) old new begun × BegunReply begun result
+
+-- a checkpoint of a tree; a number that is no tree's is refused and changes nothing
+pub record Folds (tree : ℕ) (old new : Acting) (result : Result Reply WorldFault) : Type 0 where
+  pub no_tree : (IsTree tree → ⊥) → (new ≡ old) × (result ≡ Ok (reply.Refused rule.BadNumber))
+  pub folding : IsTree tree → (begun : Result Begun Refused) × Begins (op.Tree tree) old new begun × BegunReply begun result
 
 -- a commit
 pub record Commits (old new : Acting) (result : Result Reply WorldFault) : Type 0 where
@@ -100,6 +106,7 @@ Aborts old new (Err fault) = new ≡ old
 -- the reply to the answer of an operation; a trouble, and a commit that is in doubt or open, have none yet
 abbrev pub Replies : Answer → Result Reply WorldFault → Type 0
 Replies (answer.Opened epoch) result = result ≡ Ok (reply.Opened epoch)
+Replies (answer.Done n) result = result ≡ Ok (reply.Done n)
 Replies (answer.Commit (Committed txn)) result = result ≡ Ok (reply.Commit (Committed txn))
 Replies (answer.Commit a) (Ok r) = ⊥
 Replies (answer.Commit a) (Err fault) = Unit {0}
@@ -153,7 +160,7 @@ Handled n (event.Delete session tree key) c d s t old new result = IsUnbuilt c d
 Handled n (event.Read session tree key) c d s t old new result = IsUnbuilt c d s t old new result
 Handled n (event.Scan session tree from to) c d s t old new result = IsUnbuilt c d s t old new result
 Handled n (event.Page session tree page) c d s t old new result = IsUnbuilt c d s t old new result
-Handled n (event.Tree session tree) c d s t old new result = IsUnbuilt c d s t old new result
+Handled n (event.Tree session tree) c d s t old new result = MakesNoCall c d s t × Folds tree old new result
 Handled n (event.Step session wish) c d s t old new result = IsUnbuilt c d s t old new result
 Handled n (event.Crash session done) c d s t old new result = IsUnbuilt c d s t old new result
 Handled n (event.Wait ticks) c d s t old new result = ⊥

@@ -33,7 +33,7 @@ pub struct World {
 
 impl World {
     ghost use Rattle.client_session.specs.Session.{closed_session};
-    ghost use Rattle.world_core.specs.Handled.{Handled, IsUnbuilt, Opens, Inserts, Commits, Aborts, Runs};
+    ghost use Rattle.world_core.specs.Handled.{Handled, IsUnbuilt, Opens, Folds, Inserts, Commits, Aborts, Runs};
 
     /// A world whose session is closed. Refused for memory alone.
     pub fn new(alloc: Global) -> Result<World, Refused>
@@ -78,7 +78,7 @@ impl World {
             Event::Read { .. } => Ok(Reply::Refused(Refusal::NotBuilt)),
             Event::Scan { .. } => Ok(Reply::Refused(Refusal::NotBuilt)),
             Event::Page { .. } => Ok(Reply::Refused(Refusal::NotBuilt)),
-            Event::Tree { .. } => Ok(Reply::Refused(Refusal::NotBuilt)),
+            Event::Tree { tree, .. } => self.tree(alloc, *tree),
             Event::Step { .. } => Ok(Reply::Refused(Refusal::NotBuilt)),
             Event::Crash { .. } => Ok(Reply::Refused(Refusal::NotBuilt)),
             Event::Wait { .. } => Ok(Reply::Refused(Refusal::NotBuilt)),
@@ -95,6 +95,16 @@ impl World {
             Err(rule) => return Ok(Reply::Refused(rule)),
         };
         begun(self.session.begin(alloc, Op::Open(client)))
+    }
+
+    fn tree(&mut self, alloc: Global, tree: u64) -> Result<Reply, WorldFault>
+        ensures { Folds tree self.old.session self.new.session result }
+    {
+        let tree = match TreeId::new(tree) {
+            Ok(tree) => tree,
+            Err(rule) => return Ok(Reply::Refused(rule)),
+        };
+        begun(self.session.begin(alloc, Op::Tree(tree)))
     }
 
     fn commit(&mut self, alloc: Global) -> Result<Reply, WorldFault>
@@ -190,6 +200,7 @@ fn begun(begun: Result<Begun, Refused>) -> Result<Reply, WorldFault>
         Ok(Begun::Working) => Ok(Reply::Begun),
         Ok(Begun::Answered(Answer::Commit(answer))) => Ok(Reply::Commit(answer)),
         Ok(Begun::Answered(Answer::Opened { epoch })) => Ok(Reply::Opened { epoch }),
+        Ok(Begun::Answered(Answer::Done(answer))) => Ok(Reply::Done(answer)),
         Ok(Begun::Answered(Answer::Trouble(Trouble::Memory))) => Err(WorldFault::Memory),
         Ok(Begun::Answered(Answer::Trouble(_))) => Err(WorldFault::Cloud),
         Err(Refused::Rule(rule)) => Ok(Reply::Refused(rule)),
@@ -203,6 +214,7 @@ fn reply_of(answer: Answer) -> Result<Reply, WorldFault>
 {
     match answer {
         Answer::Opened { epoch } => Ok(Reply::Opened { epoch }),
+        Answer::Done(answer) => Ok(Reply::Done(answer)),
         Answer::Commit(CommitAnswer::Committed { txn }) => Ok(Reply::Commit(
             CommitAnswer::Committed { txn },
         )),

@@ -2,6 +2,7 @@
 use Rattle.std.specs.Prelude.{ℕ, ◌≡◌, ◌≤◌, ◌⊎◌, Bool, true, false, List, [], length, Option, Some, None, Result, Ok, Err}
 use Rattle.db_base.specs.declared.refusal.Refusal.{Refusal}
 use Rattle.db_base.specs.declared.refusal.Refusal.TheVariants as rule
+use Rattle.head_codec.specs.declared.head.Head.{Head}
 use Rattle.head_codec.specs.Spelling.{HasSpelling}
 use Rattle.txn_buffer.specs.Noted.{Noted}
 use Rattle.db_base.specs.declared.refusal.Refused.{Refused}
@@ -16,11 +17,11 @@ use Rattle.cloud_trait.specs.declared.turn.Turn.{Turn}
 use Rattle.cloud_trait.specs.declared.turn.Turn.TheVariants.{More, Ended, Stopped}
 use Rattle.recover_run.specs.declared.home.Home.{Home}
 use Rattle.recover_run.specs.declared.recover.RecoverAnswer.TheVariants.{Opened}
-use Rattle.recover_run.specs.Recovery.{Recovery, new_recovery, recovery_ask, recovery_next, home_of}
+use Rattle.recover_run.specs.Recovery.{Recovery, new_recovery, recovery_ask, recovery_next, home_of, IsSound as IsSoundOpening}
 use Rattle.log_codec.specs.declared.record.PuItem.{PuItem}
 use Rattle.cloud_trait.specs.Ask.{Ask}
 use Rattle.tree_ckpt.specs.Folding.{new_folding, folding_ask, FoldsOne, Folding as Fold}
-use Rattle.commit_run.specs.Commit.{Commit, Readies, new_commit, commit_ask, commit_next}
+use Rattle.commit_run.specs.Commit.{Commit, Readies, new_commit, commit_ask, commit_next, opens_at, IsSound as IsSoundCommit}
 use Rattle.client_session.specs.declared.session.Answer.{Answer}
 use Rattle.client_session.specs.declared.session.Answer.TheVariants as answer
 use Rattle.client_session.specs.declared.session.Begun.{Begun}
@@ -38,12 +39,12 @@ pub record Acting : Type 0 where
 abbrev pub closed_session : Acting
 closed_session = record { buffer = []; work = Closed }
 
--- an open client's head has a spelling
+-- an open client's head has a spelling, and the bytes in hand are those of the call that they are for
 abbrev pub IsKept : Work → Type 0
 IsKept (Idle home) = HasSpelling home.head
 IsKept Closed = Unit {0}
-IsKept (Opening m) = Unit {0}
-IsKept (Committing m) = Unit {0}
+IsKept (Opening m) = IsSoundOpening m
+IsKept (Committing m) = IsSoundCommit m
 IsKept (Folding home m) = HasSpelling home.head
 IsKept Broken = Unit {0}
 
@@ -196,6 +197,15 @@ committing_of (Folding home m) = None
 committing_of Closed = None
 committing_of (Idle home) = None
 committing_of Broken = None
+
+-- the head that the put in hand opens, where it commits
+abbrev pub opens_of : Work → Option Head
+opens_of (Committing m) = opens_at m.stage m
+opens_of (Opening m) = None
+opens_of (Folding home m) = None
+opens_of Closed = None
+opens_of (Idle home) = None
+opens_of Broken = None
 
 -- the items that the put in hand applies
 abbrev pub applying_of : Work → List PuItem

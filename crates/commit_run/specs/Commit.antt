@@ -152,6 +152,14 @@ next_at Finished c a = Stops c trouble.Failed
 abbrev pub commit_next : Commit → Answer → Next Commit CommitAnswer
 commit_next c a = next_at c.stage c a
 
+-- the head that the put in hand opens, where it is the one that commits
+abbrev pub opens_at : Stage → Commit → Option Head
+opens_at PuttingOpen c = Some c.home.head
+opens_at Ready c = None
+opens_at Sending c = None
+opens_at PuttingSettled c = None
+opens_at Finished c = None
+
 -- ---- the local work before the first call
 
 -- the records of the home's next attempt

@@ -1,0 +1,176 @@
+-- What holds after every line of a replay, of the cloud and of the session, and what the session knows of the cloud at each of its calls.
+use Rattle.std.specs.Prelude.{ℕ, ◌+◌, ◌≡◌, ◌≤◌, Bool, true, false, not, ◌&&◌, if◌then◌else◌, List, [], ◌∷◌, ◌++◌, length, map, Option, Some, None, Ok, All}
+use Rattle.std.specs.Option.{IfSome}
+use Rattle.std.specs.Str.{bytes_eq}
+use Rattle.db_base.specs.declared.names.ObjName.{ObjName}
+use Rattle.db_base.specs.declared.names.ObjName.TheVariants as object
+use Rattle.cloud_trait.specs.Ask.{Ask, PutHeld}
+use Rattle.cloud_trait.specs.State.{CloudState, newest}
+use Rattle.cloud_trait.specs.Upto.{IsUpto}
+use Rattle.cloud_trait.specs.declared.state.Landing.{Landing}
+use Rattle.cloud_trait.specs.declared.state.Site.{Site}
+use Rattle.cloud_trait.specs.declared.state.Site.TheVariants.{Object, Queue}
+use Rattle.head_codec.specs.declared.head.Head.{Head}
+use Rattle.head_codec.specs.declared.head.Phase.TheVariants as phase
+use Rattle.head_codec.specs.Spelling.{head_of}
+use Rattle.history.specs.Fold.{fold}
+use Rattle.leaf_view.specs.Leaf.{Leaf, IsLeaf}
+use Rattle.leaf_view.specs.Lookup.{payload_of}
+use Rattle.leaf_edit.specs.Applied.{applied}
+use Rattle.leaf_edit.specs.Lacked.{lacked}
+use Rattle.node_codec.specs.Tree.{Tree, IsTree}
+use Rattle.report_types.specs.declared.entry.Entry.{Entry}
+use Rattle.txn_buffer.specs.Noted.{Noted}
+use Rattle.recover_run.specs.declared.home.Home.{Home}
+use Rattle.recover_run.specs.declared.recover.Stage.{Stage as OpeningStage}
+use Rattle.recover_run.specs.declared.recover.Stage.TheVariants as opening
+use Rattle.recover_run.specs.Recovery.{Recovery}
+use Rattle.commit_run.specs.declared.commit.Stage.{Stage as CommitStage}
+use Rattle.commit_run.specs.declared.commit.Stage.TheVariants as commit
+use Rattle.commit_run.specs.Commit.{Commit}
+use Rattle.tree_ckpt.specs.declared.stage.Stage.{Stage as FoldingStage}
+use Rattle.tree_ckpt.specs.declared.stage.Stage.TheVariants as folding
+use Rattle.tree_ckpt.specs.Folding.{Folding, is_lone_root, is_lone_leaf}
+use Rattle.client_session.specs.declared.session.Work.{Work}
+use Rattle.client_session.specs.declared.session.Work.TheVariants as work
+use Rattle.client_session.specs.Session.{Acting, IsKept}
+use Rattle.world_audit.specs.Audited.{Audited}
+use Rattle.world_audit.specs.Chain.{IsReadAs}
+use Rattle.replay_model.specs.Standing.{Line, Task, Posture, Closed, Idle, Working, Opening, Committing, Other, Standing, standing}
+use Rattle.replay_model.specs.Committed.{committed}
+use Rattle.replay_model.specs.Index.{IsRootIn}
+use Rattle.replay_model.specs.Noting.{Newest}
+
+-- ---- what holds of a cloud
+
+-- a tree of one leaf, whose records are what the order comes to
+pub record TreeStands (look : Newest) (order : List Entry) (tree : ℕ) : Type 0 where
+  pub root : Tree
+  pub is_root : IsRootIn (look (object.Tree tree)) root
+  pub lone_root : is_lone_root root ≡ true
+  pub leaf : Leaf
+  pub is_leaf : IsReadAs tree 1 (look (object.Page tree 1)) (Ok leaf)
+  pub lone_leaf : is_lone_leaf leaf ≡ true
+  pub folds : (key : List ℕ) → payload_of key leaf.records ≡ fold order tree key
+
+-- a row of the trace names a version that is there
+abbrev pub IsPlacedAt : CloudState → ℕ → Site → Type 0
+IsPlacedAt t position (Object name) = position ≤ length (t.versions name)
+IsPlacedAt t position (Queue queue) = Unit {0}
+
+abbrev pub IsPlaced : CloudState → Landing → Type 0
+IsPlaced t row = IsPlacedAt t row.position row.site
+
+-- ---- what a session knows
+
+-- the newest head of a client is this one
+pub record HeadIs (look : Newest) (client : ℕ) (head : Head) : Type 0 where
+  pub bytes : List ℕ
+  pub newest : look (object.Head client) ≡ Some bytes
+  pub spells : head_of bytes ≡ Some head
+
+-- the newest head of a home is its head in memory, and is settled
+pub record HomeStands (look : Newest) (home : Home) : Type 0 where
+  pub head : HeadIs look home.client home.head
+  pub settled : home.head.phase ≡ phase.Settled
+
+-- a head that is put by an opening is settled
+abbrev pub OpeningStands : OpeningStage → Recovery → Type 0
+OpeningStands opening.Putting r = r.head.phase ≡ phase.Settled
+OpeningStands opening.Taking r = Unit {0}
+OpeningStands opening.Getting r = Unit {0}
+OpeningStands opening.Releasing r = Unit {0}
+OpeningStands opening.Finished r = Unit {0}
+
+-- the put that commits opens a head whose newest version is settled
+pub record OpensHead (look : Newest) (c : Commit) : Type 0 where
+  pub before : Head
+  pub newest : HeadIs look c.home.client before
+  pub settled : before.phase ≡ phase.Settled
+  pub opens : c.home.head.phase ≡ phase.Open (length c.records)
+
+abbrev pub CommitStands : Newest → CommitStage → Commit → Type 0
+CommitStands look commit.PuttingOpen c = OpensHead look c
+CommitStands look commit.Sending c = Unit {0}
+CommitStands look commit.PuttingSettled c = c.home.head.phase ≡ phase.Settled
+CommitStands look commit.Ready c = ⊥
+CommitStands look commit.Finished c = ⊥
+
+-- the put of the leaf applies the run to the newest leaf
+pub record AppliesRun (look : Newest) (f : Folding) : Type 0 where
+  pub leaf : Leaf
+  pub is_leaf : IsReadAs f.tree 1 (look (object.Page f.tree 1)) (Ok leaf)
+  pub lone : is_lone_leaf leaf ≡ true
+  pub puts : IsLeaf f.out (applied leaf 0 f.run.items)
+  pub applies : f.applying ≡ lacked leaf 0 f.run.items
+
+-- the put of the root is one of a root of one leaf
+pub record PutsRoot (f : Folding) : Type 0 where
+  pub root : Tree
+  pub puts : IsTree f.out root
+  pub lone : is_lone_root root ≡ true
+
+abbrev pub FoldingPuts : Newest → FoldingStage → Folding → Type 0
+FoldingPuts look folding.PuttingPage f = AppliesRun look f
+FoldingPuts look folding.PuttingTree f = PutsRoot f
+FoldingPuts look folding.TakingTree f = Unit {0}
+FoldingPuts look folding.GettingTree f = Unit {0}
+FoldingPuts look folding.Receiving f = Unit {0}
+FoldingPuts look folding.TakingPage f = Unit {0}
+FoldingPuts look folding.GettingPage f = Unit {0}
+FoldingPuts look folding.ReleasingPage f = Unit {0}
+FoldingPuts look folding.Deleting f = Unit {0}
+FoldingPuts look folding.ReleasingTree f = Unit {0}
+FoldingPuts look folding.StoppingPage f = Unit {0}
+FoldingPuts look folding.StoppingTree f = Unit {0}
+FoldingPuts look folding.Finished f = Unit {0}
+
+pub record FoldingStands (look : Newest) (f : Folding) : Type 0 where
+  pub root : IfSome f.root (λ r. is_lone_root r ≡ true)
+  pub puts : FoldingPuts look f.stage f
+
+-- what a session knows of the newest objects, by what it has in hand
+abbrev pub Knows : Newest → Work → Type 0
+Knows look work.Closed = Unit {0}
+Knows look (work.Idle home) = HomeStands look home
+Knows look (work.Opening r) = OpeningStands r.stage r
+Knows look (work.Committing c) = CommitStands look c.stage c
+Knows look (work.Folding home f) = HomeStands look home × FoldingStands look f
+Knows look work.Broken = Unit {0}
+
+-- ---- how a session stands by the lines
+
+-- a session's work is what the lines say that it has in hand
+abbrev pub WorksAs : Work → Standing → Type 0
+WorksAs work.Closed s = s.posture ≡ Closed
+WorksAs (work.Idle home) s = (s.posture ≡ Idle) × (s.client ≡ home.client)
+WorksAs (work.Opening r) s = (s.posture ≡ Working Opening) × (s.client ≡ r.client)
+WorksAs (work.Committing c) s = (s.posture ≡ Working (Committing c.changes)) × (s.client ≡ c.home.client)
+WorksAs (work.Folding home f) s = (s.posture ≡ Working Other) × (s.client ≡ home.client)
+WorksAs work.Broken s = ⊥
+
+pub record ActsAs (session : Acting) (s : Standing) : Type 0 where
+  pub buffer : session.buffer ≡ s.buffer
+  pub work : WorksAs session.work s
+
+-- ---- what holds of a session, an audit and a cloud after lines
+
+-- before a line is through, when what landed may be of that line
+pub record GoesOn (lines : List Line) (session : Acting) (a : Audited) (t : CloudState) : Type 0 where
+  pub trees : (tree : ℕ) → TreeStands (newest t) a.order tree
+  pub placed : All (IsPlaced t) t.trace
+  pub upto : IsUpto (length lines + 1) t
+  pub committed : a.committed ≡ committed lines t
+  pub knows : Knows (newest t) session.work
+  pub kept : IsKept session.work
+  pub acts : ActsAs session (standing lines 1)
+
+-- after lines
+pub record Stands (lines : List Line) (session : Acting) (a : Audited) (t : CloudState) : Type 0 where
+  pub trees : (tree : ℕ) → TreeStands (newest t) a.order tree
+  pub placed : All (IsPlaced t) t.trace
+  pub upto : IsUpto (length lines) t
+  pub committed : a.committed ≡ committed lines t
+  pub knows : Knows (newest t) session.work
+  pub kept : IsKept session.work
+  pub acts : ActsAs session (standing lines 1)

@@ -155,22 +155,25 @@ pub record ActsAs (session : Acting) (s : Standing) : Type 0 where
 
 -- ---- what holds of a session, an audit and a cloud after lines
 
--- before a line is through, when what landed may be of that line
-pub record GoesOn (lines : List Line) (session : Acting) (a : Audited) (t : CloudState) : Type 0 where
+-- each tree is one leaf of what its order comes to, and the audit has what the lines committed; all that landed did so up to event n
+pub record CloudStands (n : ℕ) (lines : List Line) (a : Audited) (t : CloudState) : Type 0 where
   pub trees : (tree : ℕ) → TreeStands (newest t) a.order tree
   pub placed : All (IsPlaced t) t.trace
-  pub upto : IsUpto (length lines + 1) t
+  pub upto : IsUpto n t
   pub committed : a.committed ≡ committed lines t
+
+-- a session knows what it has to, has the bytes that it is to put in hand, and stands as the lines say
+pub record SessionStands (lines : List Line) (session : Acting) (t : CloudState) : Type 0 where
   pub knows : Knows (newest t) session.work
   pub kept : IsKept session.work
   pub acts : ActsAs session (standing lines 1)
 
 -- after lines
 pub record Stands (lines : List Line) (session : Acting) (a : Audited) (t : CloudState) : Type 0 where
-  pub trees : (tree : ℕ) → TreeStands (newest t) a.order tree
-  pub placed : All (IsPlaced t) t.trace
-  pub upto : IsUpto (length lines) t
-  pub committed : a.committed ≡ committed lines t
-  pub knows : Knows (newest t) session.work
-  pub kept : IsKept session.work
-  pub acts : ActsAs session (standing lines 1)
+  pub cloud : CloudStands (length lines) lines a t
+  pub session : SessionStands lines session t
+
+-- within the line behind these, when what landed may be of that line
+pub record GoesOn (lines : List Line) (session : Acting) (a : Audited) (t : CloudState) : Type 0 where
+  pub cloud : CloudStands (length lines + 1) lines a t
+  pub session : SessionStands lines session t

@@ -37,7 +37,7 @@ use Rattle.client_session.specs.Session.{Acting, IsKept}
 use Rattle.world_audit.specs.Audited.{Audited}
 use Rattle.world_audit.specs.Chain.{IsReadAs}
 use Rattle.replay_model.specs.Standing.{Line, Task, Posture, Closed, Idle, Working, Opening, Committing, Other, Standing, standing}
-use Rattle.replay_model.specs.Committed.{committed}
+use Rattle.replay_model.specs.Committed.{Versions, committed}
 use Rattle.replay_model.specs.Index.{IsRootIn}
 use Rattle.replay_model.specs.Noting.{Newest}
 
@@ -54,12 +54,12 @@ pub record TreeStands (look : Newest) (order : List Entry) (tree : ℕ) : Type 0
   pub folds : (key : List ℕ) → payload_of key leaf.records ≡ fold order tree key
 
 -- a row of the trace names a version that is there
-abbrev pub IsPlacedAt : CloudState → ℕ → Site → Type 0
-IsPlacedAt t position (Object name) = position ≤ length (t.versions name)
-IsPlacedAt t position (Queue queue) = Unit {0}
+abbrev pub IsPlacedAt : Versions → ℕ → Site → Type 0
+IsPlacedAt versions position (Object name) = position ≤ length (versions name)
+IsPlacedAt versions position (Queue queue) = Unit {0}
 
-abbrev pub IsPlaced : CloudState → Landing → Type 0
-IsPlaced t row = IsPlacedAt t row.position row.site
+abbrev pub IsPlaced : Versions → Landing → Type 0
+IsPlaced versions row = IsPlacedAt versions row.position row.site
 
 -- ---- what a session knows
 
@@ -158,7 +158,7 @@ pub record ActsAs (session : Acting) (s : Standing) : Type 0 where
 -- each tree is one leaf of what its order comes to, and the audit has what the lines committed; all that landed did so up to event n
 pub record CloudStands (n : ℕ) (lines : List Line) (a : Audited) (t : CloudState) : Type 0 where
   pub trees : (tree : ℕ) → TreeStands (newest t) a.order tree
-  pub placed : All (IsPlaced t) t.trace
+  pub placed : All (IsPlaced t.versions) t.trace
   pub upto : IsUpto n t
   pub committed : a.committed ≡ committed lines t
 

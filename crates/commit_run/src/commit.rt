@@ -1,5 +1,6 @@
 ghost use Rattle.std.specs.Prelude.{◌≡◌, ℕ, ◌<◌, ◌≤◌, ◌-◌, ◌^◌, ◌+◌, ◌⊎◌, length, slice_get, replicate, None, Some, IfOk, IfErr, OnOk, List};
 ghost use Rattle.std.specs.List.{AllByRecursion};
+ghost use Rattle.std.specs.Option.{option_copied};
 ghost use Rattle.head_codec.specs.Spelling.{HasSpelling, head_bytes, head_of};
 ghost use Rattle.log_codec.specs.Atomic.{HasPlace};
 ghost use Rattle.log_codec.specs.Pu.{pu_bytes, pu_of};
@@ -81,7 +82,7 @@ impl Model for CommitRun {
 }
 
 impl CommitRun {
-    ghost use Rattle.commit_run.specs.Commit.{Commit, new_commit, commit_ask, commit_next, opened_by, sent_by, settled_by, send_at, settling, left_open, closed_again, finished, Readies, TookReady, TookOpening, opening, with_attempt, next_records, records_of, IsSoundAfter, restored};
+    ghost use Rattle.commit_run.specs.Commit.{Commit, new_commit, commit_ask, commit_next, opened_by, sent_by, settled_by, send_at, settling, left_open, closed_again, finished, Readies, TookReady, TookOpening, opening, with_attempt, next_records, records_of, IsSoundAfter, restored, opens_at};
 
     /// The commit of changes by a home.
     pub fn new(alloc: Global, home: Home, changes: TxnBuffer) -> CommitRun
@@ -110,6 +111,19 @@ impl CommitRun {
         ensures { result.now ≡ self.now.changes }
     {
         &self.changes
+    }
+
+    /// The head that the put in hand opens, where it is the one that commits.
+    pub fn opens(&self) -> Option<&Head>
+        ensures { option_copied result ≡ opens_at self.now.stage self.now }
+    {
+        match self.stage {
+            Stage::PuttingOpen => Some(&self.home.head),
+            Stage::Ready => None,
+            Stage::Sending => None,
+            Stage::PuttingSettled => None,
+            Stage::Finished => None,
+        }
     }
 
     /// The home, with the head as the commit left it.

@@ -1,1 +1,2 @@
-
+pub mod CommittedLemmas
+pub mod UptoRight

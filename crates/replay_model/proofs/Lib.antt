@@ -1,2 +1,11 @@
 pub mod CommittedLemmas
 pub mod UptoRight
+pub mod EditLemmas
+pub mod TreeLemmas
+pub mod CloudLemmas
+pub mod OpeningLemmas
+pub mod CommitLemmas
+pub mod FoldingLemmas
+pub mod SessionLemmas
+pub mod LineLemmas
+pub mod StartLemmas

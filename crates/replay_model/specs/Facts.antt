@@ -169,11 +169,11 @@ pub record SessionStands (lines : List Line) (session : Acting) (t : CloudState)
   pub acts : ActsAs session (standing lines 1)
 
 -- after lines
-pub record Stands (lines : List Line) (session : Acting) (a : Audited) (t : CloudState) : Type 0 where
+pub record Stands (lines : List Line) (acting : Acting) (a : Audited) (t : CloudState) : Type 0 where
   pub cloud : CloudStands (length lines) lines a t
-  pub session : SessionStands lines session t
+  pub session : SessionStands lines acting t
 
 -- within the line behind these, when what landed may be of that line
-pub record GoesOn (lines : List Line) (session : Acting) (a : Audited) (t : CloudState) : Type 0 where
+pub record GoesOn (lines : List Line) (acting : Acting) (a : Audited) (t : CloudState) : Type 0 where
   pub cloud : CloudStands (length lines + 1) lines a t
-  pub session : SessionStands lines session t
+  pub session : SessionStands lines acting t

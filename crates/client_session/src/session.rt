@@ -15,6 +15,7 @@ use db_base::change::Change;
 use db_base::ids::{ClientId, TreeId};
 use db_base::refusal::{Refusal, Refused};
 use db_base::trouble::{CommitAnswer, Trouble};
+use head_codec::head::Head;
 use log_codec::record::PuItem;
 use recover_run::home::Home;
 use recover_run::recover::{RecoverAnswer, RecoverRun};
@@ -92,11 +93,12 @@ impl Model for Session {
 }
 
 impl Session {
-    ghost use Rattle.client_session.specs.Session.{Acting, closed_session, rule_of, Begins, BeginsOpening, BeginsCommit, BeginsTree, CommitsOf, StepsSession, StepsOpening, StepsCommit, StepsFolding, ask_of_work, committing_of, applying_of};
+    ghost use Rattle.client_session.specs.Session.{Acting, closed_session, rule_of, Begins, BeginsOpening, BeginsCommit, BeginsTree, CommitsOf, StepsSession, StepsOpening, StepsCommit, StepsFolding, ask_of_work, committing_of, opens_of, applying_of};
 
     /// A closed session without changes. Refused for memory alone.
     pub fn new(alloc: Global) -> Result<Session, Refused>
         ensures ok { IfOk result (λ s. s ≡ closed_session) }
+        ensures kept { IfOk result (λ s. IsKept s.work) }
         ensures memory { IfErr result (λ e. e ≡ Refused.Memory) }
     {
         Ok(Session {
@@ -107,7 +109,8 @@ impl Session {
 
     /// The rule that keeps an open client's operation from beginning.
     fn rule(&self) -> Option<Refusal>
-        ensures { result ≡ rule_of self.now.work }
+        ensures rule { result ≡ rule_of self.now.work }
+        ensures kept { IsKept self.now.work }
     {
         match &self.work {
             Work::Closed => Some(Refusal::NotOpen),
@@ -123,6 +126,7 @@ impl Session {
     pub fn note(&mut self, tree: TreeId, change: Change) -> Result<(), Refused>
         ensures ok { OnOk result ((self.new ≡ record self.old { buffer = noted_in self.old.buffer tree change }) × (rule_of self.old.work ≡ None)) }
         ensures err { OnErr result (self.new ≡ self.old) }
+        ensures kept { IsKept self.new.work }
     {
         if let Some(rule) = self.rule() {
             return Err(Refused::Rule(rule));
@@ -134,6 +138,7 @@ impl Session {
     pub fn abort(&mut self) -> Result<(), Refused>
         ensures ok { OnOk result ((self.new ≡ record self.old { buffer = [] }) × (rule_of self.old.work ≡ None)) }
         ensures err { OnErr result (self.new ≡ self.old) }
+        ensures kept { IsKept self.new.work }
     {
         if let Some(rule) = self.rule() {
             return Err(Refused::Rule(rule));
@@ -144,6 +149,15 @@ impl Session {
 
     /// Begins an operation. A refusal changes nothing.
     pub fn begin(&mut self, alloc: Global, op: Op) -> Result<Begun, Refused>
+        ensures begins { Begins op self.old self.new result }
+        ensures kept { IsKept self.new.work }
+    {
+        let begun = self.begin_op(alloc, op);
+        let _ = &self.work;
+        begun
+    }
+
+    fn begin_op(&mut self, alloc: Global, op: Op) -> Result<Begun, Refused>
         ensures { Begins op self.old self.new result }
     {
         match op {
@@ -233,6 +247,20 @@ impl Session {
 
     /// Makes the call in hand of the operation at work, and does the local work up to the next one.
     pub fn step<C: Cloud>(
+        &mut self,
+        alloc: Global,
+        cloud: &mut C,
+        who: Who,
+    ) -> Result<Turn<Answer>, Refused>
+        ensures steps { StepsSession who (C.counts cloud.old) (C.counts cloud.new) (C.state cloud.old) (C.state cloud.new) self.old self.new result }
+        ensures kept { IsKept self.new.work }
+    {
+        let turn = self.step_work(alloc, cloud, who);
+        let _ = &self.work;
+        turn
+    }
+
+    fn step_work<C: Cloud>(
         &mut self,
         alloc: Global,
         cloud: &mut C,
@@ -333,7 +361,8 @@ impl Session {
 
     /// The service call that the next step makes; none where nothing is at work.
     pub fn in_hand(&self) -> Option<Call<'_>>
-        ensures { option_map ask_of result ≡ ask_of_work self.now.work }
+        ensures call { option_map ask_of result ≡ ask_of_work self.now.work }
+        ensures kept { IsKept self.now.work }
     {
         match &self.work {
             Work::Opening(machine) => Some(machine.in_hand()),
@@ -351,6 +380,20 @@ impl Session {
     {
         match &self.work {
             Work::Committing(machine) => Some(machine.changes()),
+            Work::Opening(_) => None,
+            Work::Folding(_, _) => None,
+            Work::Closed => None,
+            Work::Idle(_) => None,
+            Work::Broken => None,
+        }
+    }
+
+    /// The head that the put in hand opens, where it is the one that commits.
+    pub fn opens(&self) -> Option<&Head>
+        ensures { option_copied result ≡ opens_of self.now.work }
+    {
+        match &self.work {
+            Work::Committing(machine) => machine.opens(),
             Work::Opening(_) => None,
             Work::Folding(_, _) => None,
             Work::Closed => None,

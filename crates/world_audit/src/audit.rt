@@ -1,4 +1,4 @@
-ghost use Rattle.std.specs.Prelude.{◌≡◌, ◌++◌, map, [], Some, IfOk, IfErr, OnOk, OnErr};
+ghost use Rattle.std.specs.Prelude.{◌≡◌, ◌++◌, map, take, length, [], Some, IfOk, IfErr, OnOk, OnErr};
 ghost use Rattle.cloud_trait.specs.State.{CloudState};
 ghost use Rattle.history.specs.Fold.{of_tree};
 ghost use Rattle.world_audit.specs.Audited.{committed_entry, applied_entry};
@@ -10,6 +10,7 @@ use crate::backlogs::messages;
 use crate::entries::{add_applied, add_committed, of_tree};
 use crate::heads::open_heads;
 use crate::leaves::contents;
+use crate::mark::Mark;
 use cloud_trait::cloud::Bench;
 use db_base::ids::{ClientId, TreeId};
 use db_base::refusal::Refused;
@@ -111,6 +112,25 @@ impl Audit {
                 Err(Refused::Memory)
             }
         }
+    }
+
+    /// How far it has come.
+    pub fn mark(&self) -> Mark
+        ensures committed { result.committed ≡ length self.now.committed }
+        ensures order { result.order ≡ length self.now.order }
+    {
+        Mark {
+            committed: self.committed.len(),
+            order: self.order.len(),
+        }
+    }
+
+    /// Takes back what was noted since the mark. Takes no memory.
+    pub fn withdraw(&mut self, mark: Mark)
+        ensures { self.new ≡ record { committed = take mark.committed self.old.committed; order = take mark.order self.old.order } }
+    {
+        self.committed.truncate(mark.committed);
+        self.order.truncate(mark.order);
     }
 
     /// What is committed, in the order of commit.

@@ -7,5 +7,6 @@ mod entries;
 mod heads;
 mod leaves;
 mod look;
+pub mod mark;
 #[cfg(test)]
 mod tests;

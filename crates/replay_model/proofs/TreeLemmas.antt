@@ -1,6 +1,6 @@
 -- What landed puts leave of the trees, and what stands at a report.
-use Rattle.std.proofs.Common.{◌≡◌, ℕ, zero, suc, ◌+◌, ◌≤◌, Bool, true, false, cond, eqb, List, [], ◌∷◌, ◌++◌, Option, Some, None, Ok, refl, sym, ap, subst, ◌∙◌, arith}
-use Rattle.std.specs.Prelude.{map, IsTrue, ◌&&◌, not}
+use Rattle.std.proofs.Common.{◌≡◌, ℕ, ◌+◌, Bool, true, false, cond, eqb, List, [], ◌∷◌, ◌++◌, Option, Some, None, Ok, refl, sym, ap, subst, ◌∙◌, arith}
+use Rattle.std.specs.Prelude.{map, not}
 use Rattle.std.specs.Str.{bytes_eq}
 use Rattle.std.specs.declared.cmp.Ordering.{Ordering}
 use Rattle.std.specs.declared.cmp.Ordering.TheVariants.{Less, Equal, Greater}
@@ -18,10 +18,10 @@ use Rattle.head_codec.specs.Spelling.{head_of}
 use Rattle.cloud_trait.specs.Names.{object_cmp}
 use Rattle.cloud_trait.specs.State.{CloudState, newest}
 use Rattle.cloud_trait.proofs.NameLemmas.{object_cmp-equal}
-use Rattle.report_types.specs.declared.entry.Entry.{Entry as Noted}
+use Rattle.report_types.specs.declared.entry.Entry.{Entry as OrderEntry}
 use Rattle.history.specs.Fold.{Records, fold, of_tree}
 use Rattle.history.proofs.FoldLemmas.{fold_onto-of_tree}
-use Rattle.leaf_view.specs.Leaf.{Entry, Leaf, IsLeaf, leaf}
+use Rattle.leaf_view.specs.Leaf.{Entry, Leaf, leaf}
 use Rattle.leaf_view.specs.Fits.{Ascend, entry_below, IsHigh}
 use Rattle.leaf_view.specs.Lookup.{payload_of, empty_leaf}
 use Rattle.leaf_view.proofs.Exactness.{leaf_exact}
@@ -29,17 +29,17 @@ use Rattle.leaf_view.proofs.Split.{leaf_fits}
 use Rattle.leaf_edit.specs.Applied.{applied}
 use Rattle.leaf_edit.specs.Lacked.{lacked}
 use Rattle.node_codec.specs.Node.{child_of}
-use Rattle.node_codec.specs.Tree.{Tree, empty_tree}
+use Rattle.node_codec.specs.Tree.{empty_tree}
 use Rattle.node_codec.proofs.NodeLemmas.{not_below_empty}
 use Rattle.commit_run.specs.Commit.{Commit}
-use Rattle.tree_ckpt.specs.Folding.{Folding, is_first_alone, is_lone_root, is_lone_leaf}
+use Rattle.tree_ckpt.specs.Folding.{Folding, is_first_alone}
 use Rattle.log_codec.specs.declared.record.PuItem.{PuItem}
 use Rattle.world_audit.specs.Audited.{applied_entry}
 use Rattle.world_audit.specs.Chain.{IsReadAs, IsNewestLeaf, Leads, AreLeaves, Walked, pair_of, records_of}
 use Rattle.replay_model.specs.Index.{IsWithin, IsRootIn, Finds, ends}
 use Rattle.replay_model.specs.Right.{payload_at}
 use Rattle.replay_model.specs.Noting.{Newest, has_bytes}
-use Rattle.replay_model.specs.Facts.{TreeStands, HeadIs, OpensHead, AppliesRun, PutsRoot}
+use Rattle.replay_model.specs.Facts.{TreeStands, OpensHead, AppliesRun, PutsRoot}
 use Rattle.replay_model.proofs.EditLemmas.{fold-applied, fold-elsewhere}
 
 -- ---- names and bytes
@@ -103,7 +103,7 @@ read_high tree page (Some bytes) l is = (leaf_fits l is.fits).1.high
 -- ---- what a landed put leaves of the trees
 
 -- a tree stands as before where its root and its leaf are as before and the order comes to the same in it
-stands_as : (look after : Newest) (order later : List Noted) (tree : ℕ) → after (object.Tree tree) ≡ look (object.Tree tree) → after (object.Page tree 1) ≡ look (object.Page tree 1)
+stands_as : (look after : Newest) (order later : List OrderEntry) (tree : ℕ) → after (object.Tree tree) ≡ look (object.Tree tree) → after (object.Page tree 1) ≡ look (object.Page tree 1)
     → ((key : List ℕ) → fold later tree key ≡ fold order tree key) → TreeStands look order tree → TreeStands after later tree
 stands_as look after order later tree root page same s = record {
   root = s.root;
@@ -116,7 +116,7 @@ stands_as look after order later tree root page same s = record {
 }
 
 -- the tree whose leaf landed
-leaf_lands_here : (look after : Newest) (order : List Noted) (f : Folding) → TreeStands look order f.tree → AppliesRun look f
+leaf_lands_here : (look after : Newest) (order : List OrderEntry) (f : Folding) → TreeStands look order f.tree → AppliesRun look f
     → after (object.Page f.tree 1) ≡ Some f.out → after (object.Tree f.tree) ≡ look (object.Tree f.tree)
     → TreeStands after (order ++ map (applied_entry f.tree) f.applying) f.tree
 leaf_lands_here look after order f s a landed root = record {
@@ -133,7 +133,7 @@ leaf_lands_here look after order f s a landed root = record {
 }
 
 -- a leaf with a run landed: its tree is what the order with the run comes to, and the others stand as before
-pub leaf_lands : (look after : Newest) (order : List Noted) (f : Folding) → ((tree : ℕ) → TreeStands look order tree) → AppliesRun look f
+pub leaf_lands : (look after : Newest) (order : List OrderEntry) (f : Folding) → ((tree : ℕ) → TreeStands look order tree) → AppliesRun look f
     → after (object.Page f.tree 1) ≡ Some f.out → ((name : ObjName) → is_eq (object_cmp (object.Page f.tree 1) name) ≡ false → after name ≡ look name)
     → (tree : ℕ) → TreeStands after (order ++ map (applied_entry f.tree) f.applying) tree
 leaf_lands look after order f stands a landed others tree = on (eqb f.tree tree) refl
@@ -151,7 +151,7 @@ leaf_lands look after order f stands a landed others tree = on (eqb f.tree tree)
         (fold-elsewhere order f.tree tree f.applying e) (stands tree)
 
 -- the tree whose root landed
-root_lands_here : (look after : Newest) (order : List Noted) (f : Folding) → TreeStands look order f.tree → PutsRoot f
+root_lands_here : (look after : Newest) (order : List OrderEntry) (f : Folding) → TreeStands look order f.tree → PutsRoot f
     → after (object.Tree f.tree) ≡ Some f.out → after (object.Page f.tree 1) ≡ look (object.Page f.tree 1) → TreeStands after order f.tree
 root_lands_here look after order f s p landed page = record {
   root = p.root;
@@ -164,7 +164,7 @@ root_lands_here look after order f s p landed page = record {
 }
 
 -- a root of one leaf landed
-pub root_lands : (look after : Newest) (order : List Noted) (f : Folding) → ((tree : ℕ) → TreeStands look order tree) → PutsRoot f
+pub root_lands : (look after : Newest) (order : List OrderEntry) (f : Folding) → ((tree : ℕ) → TreeStands look order tree) → PutsRoot f
     → after (object.Tree f.tree) ≡ Some f.out → ((name : ObjName) → is_eq (object_cmp (object.Tree f.tree) name) ≡ false → after name ≡ look name)
     → (tree : ℕ) → TreeStands after order tree
 root_lands look after order f stands p landed others tree = on (eqb f.tree tree) refl
@@ -179,7 +179,7 @@ root_lands look after order f stands p landed others tree = on (eqb f.tree tree)
         (stands tree)
 
 -- a head landed
-pub head_lands : (look after : Newest) (order : List Noted) (client : ℕ) → ((tree : ℕ) → TreeStands look order tree)
+pub head_lands : (look after : Newest) (order : List OrderEntry) (client : ℕ) → ((tree : ℕ) → TreeStands look order tree)
     → ((name : ObjName) → is_eq (object_cmp (object.Head client) name) ≡ false → after name ≡ look name) → (tree : ℕ) → TreeStands after order tree
 head_lands look after order client stands others tree =
     stands_as look after order order tree
@@ -234,7 +234,7 @@ nothing_stands tree = record {
 -- ---- a report
 
 -- the records of a report are those of the chain of leaves, of the index, and of the order
-pub record Reported (t : CloudState) (tree : ℕ) (order : List Noted) (contents : List Pair) : Type 0 where
+pub record Reported (t : CloudState) (tree : ℕ) (order : List OrderEntry) (contents : List Pair) : Type 0 where
   pub leaves : List Leaf
   pub chain : AreLeaves t tree leaves
   pub contents_are : contents ≡ records_of leaves
@@ -275,14 +275,14 @@ lone_child (e ∷ []) key h =
     ap (λ (b : Bool). cond b None (Some e)) from ∙ (λ i. Some (low i, page i))
 lone_child (e ∷ d ∷ es) key h = absurd cc
 
-pub report_of : (t : CloudState) (tree : ℕ) (order : List Noted) (contents : List Pair) → TreeStands (newest t) order tree → Walked t tree 0 contents → Reported t tree order contents
+pub report_of : (t : CloudState) (tree : ℕ) (order : List OrderEntry) (contents : List Pair) → TreeStands (newest t) order tree → Walked t tree 0 contents → Reported t tree order contents
 report_of t tree order contents s w =
     let alone = and_parts (bytes_eq s.leaf.low []) (eqb s.leaf.right 0) s.lone_leaf in
     let none : s.leaf.right ≡ 0 = eqb-true s.leaf.right 0 alone.1 in
     let top = and_parts (eqb s.root.level 1) (is_first_alone s.root.entries) s.lone_root in
     let chain : w.leaves ≡ s.leaf ∷ [] = one_chain t tree w.leaves s.leaf s.is_leaf none w.lead in
     let shown : (key : List ℕ) → payload_at key contents ≡ payload_of key s.leaf.records =
-        λ key. ap (λ (ps : List Pair). payload_at key ps) (w.are ∙ ap records_of chain) ∙ payload_at-shown key s.leaf.records in
+    λ key. ap (λ (ps : List Pair). payload_at key ps) (w.are ∙ ap records_of chain) ∙ payload_at-shown key s.leaf.records in
     record {
       leaves = w.leaves;
       chain = w.lead;

@@ -1,4 +1,4 @@
--- One more step of a session.
+-- One more step of a world.
 use Rattle.std.proofs.Common.{◌≡◌, Option, Result, Ok, subst}
 use Rattle.db_base.specs.declared.refusal.Refused.{Refused}
 use Rattle.cloud_trait.specs.Caller.{Caller}
@@ -6,12 +6,12 @@ use Rattle.cloud_trait.specs.State.{CloudState, Counts}
 use Rattle.cloud_trait.specs.declared.turn.Turn.{Turn}
 use Rattle.cloud_trait.specs.declared.turn.Turn.TheVariants.{More}
 use Rattle.client_session.specs.declared.session.Answer.{Answer}
-use Rattle.client_session.specs.Session.{Acting, StepsSession}
-use Rattle.world_core.specs.Handled.{Went, further}
+use Rattle.world_core.specs.declared.world.World.{World}
+use Rattle.world_core.specs.Handled.{Went, StepsLooked, further}
 
-pub went_further : (who w : Caller) (c d e : Counts) (s t u : Option CloudState) (old mid new : Acting) (r : Result (Turn Answer) Refused)
-    → w ≡ who → r ≡ Ok More → Went who c s old d t mid → StepsSession w d e t u mid new r → Went who c s old e u new
+pub went_further : (who w : Caller) (c d e : Counts) (s t u : Option CloudState) (old mid new : World) (r : Result (Turn Answer) Refused)
+    → w ≡ who → r ≡ Ok More → Went who c s old d t mid → StepsLooked w d e t u mid new r → Went who c s old e u new
 went_further who w c d e s t u old mid new r same more went step =
-    let Step : Caller → Type 0 = λ v. StepsSession v d e t u mid new (Ok More) in
-    let At : Result (Turn Answer) Refused → Type 0 = λ x. StepsSession w d e t u mid new x in
+    let Step : Caller → Type 0 = λ v. StepsLooked v d e t u mid new (Ok More) in
+    let At : Result (Turn Answer) Refused → Type 0 = λ x. StepsLooked w d e t u mid new x in
     further d e t u mid new went (subst Step same (subst At more step))

@@ -1,5 +1,5 @@
--- What a line does to the session, and its reply.
-use Rattle.std.specs.Prelude.{ℕ, ◌≡◌, ◌<◌, List, [], length, Option, Result, Ok, Err}
+-- What a line does to the world, and its reply.
+use Rattle.std.specs.Prelude.{ℕ, ◌≡◌, ◌<◌, ◌==◌, List, [], length, Option, Some, Result, Ok, Err, MatchBool}
 use Rattle.db_base.specs.Ids.{IsClient, IsTree}
 use Rattle.db_base.specs.Key.{IsKey, IsPayload}
 use Rattle.db_base.specs.declared.change.Change.{Change}
@@ -11,10 +11,11 @@ use Rattle.db_base.specs.declared.trouble.CommitAnswer.TheVariants.{Committed}
 use Rattle.txn_buffer.specs.Noted.{noted_in}
 use Rattle.event_text.specs.declared.event.Event.{Event}
 use Rattle.event_text.specs.declared.event.Event.TheVariants as event
+use Rattle.report_types.specs.declared.report.Report.{Report}
 use Rattle.reply_text.specs.declared.reply.Reply.{Reply}
 use Rattle.reply_text.specs.declared.reply.Reply.TheVariants as reply
 use Rattle.cloud_trait.specs.Caller.{Caller}
-use Rattle.cloud_trait.specs.State.{CloudState, Counts}
+use Rattle.cloud_trait.specs.State.{CloudState, Counts, newest}
 use Rattle.cloud_trait.specs.declared.turn.Turn.{Turn}
 use Rattle.cloud_trait.specs.declared.turn.Turn.TheVariants.{More, Ended, Stopped}
 use Rattle.client_session.specs.declared.session.Answer.{Answer}
@@ -22,34 +23,21 @@ use Rattle.client_session.specs.declared.session.Answer.TheVariants as answer
 use Rattle.client_session.specs.declared.session.Begun.{Begun}
 use Rattle.client_session.specs.declared.session.Begun.TheVariants.{Working, Answered}
 use Rattle.client_session.specs.declared.session.Op.TheVariants as op
-use Rattle.client_session.specs.Session.{Acting, Begins, StepsSession}
+use Rattle.client_session.specs.Session.{Acting, Begins, StepsSession, IsKept}
+use Rattle.history.specs.Fold.{of_tree}
+use Rattle.world_audit.specs.Audited.{Audited}
+use Rattle.world_audit.specs.Look.{Looked}
+use Rattle.world_audit.specs.Chain.{Walked}
+use Rattle.world_audit.specs.Counts.{heads_upto, AreWaiting}
+use Rattle.replay_model.specs.Standing.{session_of}
+use Rattle.replay_model.specs.Noting.{audited}
+use Rattle.world_core.specs.declared.world.World.{World}
 use Rattle.world_core.specs.declared.world.WorldFault.{WorldFault}
 
--- the session that a line names, 0 where it names none
-abbrev pub session_of : Event → ℕ
-session_of (event.Open session client) = session
-session_of (event.Close session) = session
-session_of (event.Renew session) = session
-session_of (event.Insert session tree key payload) = session
-session_of (event.Update session tree key payload) = session
-session_of (event.Delete session tree key) = session
-session_of (event.Commit session) = session
-session_of (event.Abort session) = session
-session_of (event.Read session tree key) = session
-session_of (event.Scan session tree from to) = session
-session_of (event.Page session tree page) = session
-session_of (event.Tree session tree) = session
-session_of (event.Step session wish) = session
-session_of (event.Run session) = session
-session_of (event.Crash session done) = session
-session_of (event.Wait ticks) = 0
-session_of (event.Report tree) = 0
-session_of event.Settle = 0
-
--- a line that is not served yet is refused, and changes neither the session nor the cloud
-pub record IsUnbuilt (c d : Counts) (s t : Option CloudState) (old new : Acting) (result : Result Reply WorldFault) : Type 0 where
+-- a line that is not served yet is refused, and changes neither the world nor the cloud
+pub record IsUnbuilt (c d : Counts) (s t : Option CloudState) (old new : World) (result : Result Reply WorldFault) : Type 0 where
   pub reply : result ≡ Ok (reply.Refused rule.NotBuilt)
-  pub session : new ≡ old
+  pub world : new ≡ old
   pub counts : d ≡ c
   pub state : t ≡ s
 
@@ -113,10 +101,22 @@ Replies (answer.Commit a) (Err fault) = Unit {0}
 Replies (answer.Trouble t) (Ok r) = ⊥
 Replies (answer.Trouble t) (Err fault) = Unit {0}
 
--- a session went on by some steps, each one service call
-pub data Went (who : Caller) (c : Counts) (s : Option CloudState) (old : Acting) : Counts → Option CloudState → Acting → Type 0 where
+-- one step of the session between two looks: the audit takes what the put in hand commits or applies where it was seen to land
+pub record StepsLooked (who : Caller) (c f : Counts) (s v : Option CloudState) (old new : World) (r : Result (Turn Answer) Refused) : Type 0 where
+  pub d : Counts
+  pub e : Counts
+  pub t : Option CloudState
+  pub u : Option CloudState
+  pub before : Looked c d s t
+  pub steps : StepsSession who d e t u old.session new.session r
+  pub kept : IsKept new.session.work
+  pub after : Looked e f u v
+  pub audit : (x y : CloudState) → s ≡ Some x → u ≡ Some y → new.audit ≡ audited (newest x) (newest y) old.session.work old.audit
+
+-- the world went on by some steps, each one service call
+pub data Went (who : Caller) (c : Counts) (s : Option CloudState) (old : World) : Counts → Option CloudState → World → Type 0 where
   start : Went who c s old c s old
-  further : (d e : Counts) (t u : Option CloudState) (mid new : Acting) → Went who c s old d t mid → StepsSession who d e t u mid new (Ok More) → Went who c s old e u new
+  further : (d e : Counts) (t u : Option CloudState) (mid new : World) → Went who c s old d t mid → StepsLooked who d e t u mid new (Ok More) → Went who c s old e u new
 
 -- the last step of a run: an answer, or there was nothing to work on
 abbrev pub RunReply : Result (Turn Answer) Refused → Result Reply WorldFault → Type 0
@@ -127,42 +127,90 @@ RunReply (Err (refused.Rule r)) result = result ≡ Ok (reply.Refused r)
 RunReply (Err refused.Memory) result = ⊥
 
 -- plain steps of session 1 up to the first answer
-pub record RunsTo (n : ℕ) (c d : Counts) (s t : Option CloudState) (old new : Acting) (result : Result Reply WorldFault) : Type 0 where
+pub record RunsTo (n : ℕ) (c d : Counts) (s t : Option CloudState) (old new : World) (result : Result Reply WorldFault) : Type 0 where
   pub counts : Counts
   pub state : Option CloudState
-  pub session : Acting
-  pub went : Went (record { session = 1; event = n }) c s old counts state session
+  pub world : World
+  pub went : Went (record { session = 1; event = n }) c s old counts state world
   pub last : Result (Turn Answer) Refused
-  pub steps : StepsSession (record { session = 1; event = n }) counts d state t session new last
+  pub steps : StepsLooked (record { session = 1; event = n }) counts d state t world new last
   pub replies : RunReply last result
 
 -- a run that has a reply made its steps
-abbrev pub Runs : ℕ → Counts → Counts → Option CloudState → Option CloudState → Acting → Acting → Result Reply WorldFault → Type 0
+abbrev pub Runs : ℕ → Counts → Counts → Option CloudState → Option CloudState → World → World → Result Reply WorldFault → Type 0
 Runs n c d s t old new (Ok r) = RunsTo n c d s t old new (Ok r)
 Runs n c d s t old new (Err fault) = Unit {0}
 
--- no call is made
-pub record MakesNoCall (c d : Counts) (s t : Option CloudState) : Type 0 where
+-- a report shows the tree's part of the audit, the records of its newest leaves, its open heads, and the messages that wait for it
+pub record Shows (tree : ℕ) (s : Option CloudState) (audit : Audited) (r : Report) : Type 0 where
+  pub tree_is : r.tree ≡ tree
+  pub committed : r.committed ≡ of_tree tree audit.committed
+  pub order : r.order ≡ of_tree tree audit.order
+  pub contents : (x : CloudState) → s ≡ Some x → Walked x tree 0 r.contents
+  pub heads : (x : CloudState) → s ≡ Some x → r.heads ≡ heads_upto x tree (of_tree tree audit.committed) 64
+  pub messages : (x : CloudState) → s ≡ Some x → AreWaiting x tree r.messages
+
+-- the reply to the report of a tree; a number that is no tree's is refused
+abbrev pub ReportReply : ℕ → Option CloudState → Audited → Result Reply WorldFault → Type 0
+ReportReply tree s audit (Ok (reply.Report r)) = Shows tree s audit r
+ReportReply tree s audit (Ok (reply.Refused r)) = (r ≡ rule.BadNumber) × (IsTree tree → ⊥)
+ReportReply tree s audit (Ok r) = ⊥
+ReportReply tree s audit (Err fault) = Unit {0}
+
+-- a report looks alone, and leaves the world as it is
+pub record Reports (tree : ℕ) (c d : Counts) (s t : Option CloudState) (old new : World) (result : Result Reply WorldFault) : Type 0 where
+  pub world : new ≡ old
+  pub looked : Looked c d s t
+  pub reply : ReportReply tree s old.audit result
+
+-- no call is made, and the audit stays
+pub record MakesNoCall (c d : Counts) (s t : Option CloudState) (old new : World) : Type 0 where
   pub counts : d ≡ c
   pub state : t ≡ s
+  pub audit : new.audit ≡ old.audit
 
 -- what a line of session 1 does
-abbrev pub Handled : ℕ → Event → Counts → Counts → Option CloudState → Option CloudState → Acting → Acting → Result Reply WorldFault → Type 0
-Handled n (event.Open session client) c d s t old new result = MakesNoCall c d s t × Opens client old new result
-Handled n (event.Insert session tree key payload) c d s t old new result = MakesNoCall c d s t × Inserts tree key payload old new result
-Handled n (event.Commit session) c d s t old new result = MakesNoCall c d s t × Commits old new result
-Handled n (event.Abort session) c d s t old new result = MakesNoCall c d s t × Aborts old new result
-Handled n (event.Run session) c d s t old new result = Runs n c d s t old new result
-Handled n (event.Close session) c d s t old new result = IsUnbuilt c d s t old new result
-Handled n (event.Renew session) c d s t old new result = IsUnbuilt c d s t old new result
-Handled n (event.Update session tree key payload) c d s t old new result = IsUnbuilt c d s t old new result
-Handled n (event.Delete session tree key) c d s t old new result = IsUnbuilt c d s t old new result
-Handled n (event.Read session tree key) c d s t old new result = IsUnbuilt c d s t old new result
-Handled n (event.Scan session tree from to) c d s t old new result = IsUnbuilt c d s t old new result
-Handled n (event.Page session tree page) c d s t old new result = IsUnbuilt c d s t old new result
-Handled n (event.Tree session tree) c d s t old new result = MakesNoCall c d s t × Folds tree old new result
-Handled n (event.Step session wish) c d s t old new result = IsUnbuilt c d s t old new result
-Handled n (event.Crash session done) c d s t old new result = IsUnbuilt c d s t old new result
-Handled n (event.Wait ticks) c d s t old new result = ⊥
-Handled n (event.Report tree) c d s t old new result = ⊥
-Handled n event.Settle c d s t old new result = ⊥
+abbrev pub HandledFirst : ℕ → Event → Counts → Counts → Option CloudState → Option CloudState → World → World → Result Reply WorldFault → Type 0
+HandledFirst n (event.Open session client) c d s t old new result = MakesNoCall c d s t old new × Opens client old.session new.session result
+HandledFirst n (event.Insert session tree key payload) c d s t old new result = MakesNoCall c d s t old new × Inserts tree key payload old.session new.session result
+HandledFirst n (event.Commit session) c d s t old new result = MakesNoCall c d s t old new × Commits old.session new.session result
+HandledFirst n (event.Abort session) c d s t old new result = MakesNoCall c d s t old new × Aborts old.session new.session result
+HandledFirst n (event.Run session) c d s t old new result = Runs n c d s t old new result
+HandledFirst n (event.Tree session tree) c d s t old new result = MakesNoCall c d s t old new × Folds tree old.session new.session result
+HandledFirst n (event.Close session) c d s t old new result = IsUnbuilt c d s t old new result
+HandledFirst n (event.Renew session) c d s t old new result = IsUnbuilt c d s t old new result
+HandledFirst n (event.Update session tree key payload) c d s t old new result = IsUnbuilt c d s t old new result
+HandledFirst n (event.Delete session tree key) c d s t old new result = IsUnbuilt c d s t old new result
+HandledFirst n (event.Read session tree key) c d s t old new result = IsUnbuilt c d s t old new result
+HandledFirst n (event.Scan session tree from to) c d s t old new result = IsUnbuilt c d s t old new result
+HandledFirst n (event.Page session tree page) c d s t old new result = IsUnbuilt c d s t old new result
+HandledFirst n (event.Step session wish) c d s t old new result = IsUnbuilt c d s t old new result
+HandledFirst n (event.Crash session done) c d s t old new result = IsUnbuilt c d s t old new result
+HandledFirst n (event.Wait ticks) c d s t old new result = IsUnbuilt c d s t old new result
+HandledFirst n (event.Report tree) c d s t old new result = IsUnbuilt c d s t old new result
+HandledFirst n event.Settle c d s t old new result = IsUnbuilt c d s t old new result
+
+-- what any other line does: a report is served, and the rest is not yet
+abbrev pub HandledOther : Event → Counts → Counts → Option CloudState → Option CloudState → World → World → Result Reply WorldFault → Type 0
+HandledOther (event.Report tree) c d s t old new result = Reports tree c d s t old new result
+HandledOther (event.Open session client) c d s t old new result = IsUnbuilt c d s t old new result
+HandledOther (event.Insert session tree key payload) c d s t old new result = IsUnbuilt c d s t old new result
+HandledOther (event.Commit session) c d s t old new result = IsUnbuilt c d s t old new result
+HandledOther (event.Abort session) c d s t old new result = IsUnbuilt c d s t old new result
+HandledOther (event.Run session) c d s t old new result = IsUnbuilt c d s t old new result
+HandledOther (event.Tree session tree) c d s t old new result = IsUnbuilt c d s t old new result
+HandledOther (event.Close session) c d s t old new result = IsUnbuilt c d s t old new result
+HandledOther (event.Renew session) c d s t old new result = IsUnbuilt c d s t old new result
+HandledOther (event.Update session tree key payload) c d s t old new result = IsUnbuilt c d s t old new result
+HandledOther (event.Delete session tree key) c d s t old new result = IsUnbuilt c d s t old new result
+HandledOther (event.Read session tree key) c d s t old new result = IsUnbuilt c d s t old new result
+HandledOther (event.Scan session tree from to) c d s t old new result = IsUnbuilt c d s t old new result
+HandledOther (event.Page session tree page) c d s t old new result = IsUnbuilt c d s t old new result
+HandledOther (event.Step session wish) c d s t old new result = IsUnbuilt c d s t old new result
+HandledOther (event.Crash session done) c d s t old new result = IsUnbuilt c d s t old new result
+HandledOther (event.Wait ticks) c d s t old new result = IsUnbuilt c d s t old new result
+HandledOther event.Settle c d s t old new result = IsUnbuilt c d s t old new result
+
+-- what a line does
+abbrev pub Handled : ℕ → Event → Counts → Counts → Option CloudState → Option CloudState → World → World → Result Reply WorldFault → Type 0
+Handled n event c d s t old new result = MatchBool (session_of event == 1) (HandledFirst n event c d s t old new result) (HandledOther event c d s t old new result)

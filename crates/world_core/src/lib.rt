@@ -1,4 +1,6 @@
 //! The world of a replay: it handles one line after another.
 #![tactic(auto)]
 
+mod noting;
+mod put;
 pub mod world;

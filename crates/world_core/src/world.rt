@@ -1,8 +1,13 @@
-ghost use Rattle.std.specs.Prelude.{◌≡◌, ◌≢◌, ℕ, IfOk, IfErr};
-ghost use Rattle.world_core.specs.Handled.{session_of, BegunReply, InsertOf, Replies};
+ghost use Rattle.std.specs.Prelude.{◌≡◌, ℕ, [], IfOk, IfErr};
+ghost use Rattle.client_session.specs.Session.{IsKept};
+ghost use Rattle.replay_model.specs.Standing.{session_of};
+ghost use Rattle.world_core.specs.Put.{put_of};
+ghost use Rattle.world_core.specs.Handled.{BegunReply, InsertOf, Replies};
 
+use crate::noting::{keep_landed, note_put};
+use crate::put::{Put, is_newest, put_in_hand};
 use client_session::session::{Answer, Begun, Op, Session};
-use cloud_trait::cloud::Cloud;
+use cloud_trait::cloud::Bench;
 use cloud_trait::turn::Turn;
 use cloud_trait::who::Who;
 use db_base::blob::Blob;
@@ -14,6 +19,7 @@ use db_base::trouble::{CommitAnswer, Trouble};
 use event_text::event::Event;
 use reply_text::reply::Reply;
 use std::alloc::Global;
+use world_audit::audit::Audit;
 
 /// Why a line has no reply.
 #[derive(Clone, Copy, Debug, PartialEq, Eq)]
@@ -24,42 +30,73 @@ pub enum WorldFault {
     Memory,
 }
 
-/// The sessions of a replay. One is served yet.
+/// The sessions of a replay, of which one is served yet, and what was seen of them.
 #[derive(Drop)]
 pub struct World {
     /// Session 1.
     pub session: Session,
+    /// What was seen to commit and to be applied.
+    pub audit: Audit,
 }
 
 impl World {
     ghost use Rattle.client_session.specs.Session.{closed_session};
-    ghost use Rattle.world_core.specs.Handled.{Handled, IsUnbuilt, Opens, Folds, Inserts, Commits, Aborts, Runs};
+    ghost use Rattle.world_core.specs.Handled.{Handled, HandledFirst, HandledOther, IsUnbuilt, Opens, Folds, Inserts, Commits, Aborts, Runs, StepsLooked, Reports};
 
-    /// A world whose session is closed. Refused for memory alone.
+    /// A world whose session is closed, and that saw nothing. Refused for memory alone.
     pub fn new(alloc: Global) -> Result<World, Refused>
-        ensures ok { IfOk result (λ w. w.session ≡ closed_session) }
+        ensures session { IfOk result (λ w. w.session ≡ closed_session) }
+        ensures audit { IfOk result (λ w. w.audit ≡ record { committed = []; order = [] }) }
         ensures memory { IfErr result (λ e. e ≡ Refused.Memory) }
     {
         Ok(World {
             session: Session::new(alloc)?,
+            audit: Audit::new(alloc),
         })
     }
 
-    /// Handles the line of a number: what it does to the session, and the reply. A line of another session than the
-    /// first, and one that is not served yet, is refused and changes nothing.
-    pub fn event<C: Cloud>(
+    /// Handles the line of a number: what it does to the world, and the reply. Lines of session 1 and reports are
+    /// served. A line that is not served yet is refused and changes nothing.
+    pub fn event<C: Bench>(
         &mut self,
         alloc: Global,
         cloud: &mut C,
         n: u64,
         event: &Event,
     ) -> Result<Reply, WorldFault>
-        ensures unbuilt { session_of event.now ≢ 1 → IsUnbuilt (C.counts cloud.old) (C.counts cloud.new) (C.state cloud.old) (C.state cloud.new) self.old.session self.new.session result }
-        ensures handled { session_of event.now ≡ 1 → Handled n event.now (C.counts cloud.old) (C.counts cloud.new) (C.state cloud.old) (C.state cloud.new) self.old.session self.new.session result }
+        ensures handled { Handled n event.now (C.counts cloud.old) (C.counts cloud.new) (C.state cloud.old) (C.state cloud.new) self.old self.new result }
+        ensures kept { IsKept self.new.session.work }
     {
-        if session_of(event) != 1 {
-            return Ok(Reply::Refused(Refusal::NotBuilt));
+        let reply = self.handle(alloc, cloud, n, event);
+        let _ = self.session.in_hand();
+        reply
+    }
+
+    fn handle<C: Bench>(
+        &mut self,
+        alloc: Global,
+        cloud: &mut C,
+        n: u64,
+        event: &Event,
+    ) -> Result<Reply, WorldFault>
+        ensures { Handled n event.now (C.counts cloud.old) (C.counts cloud.new) (C.state cloud.old) (C.state cloud.new) self.old self.new result }
+    {
+        if session_of(event) == 1 {
+            return self.first(alloc, cloud, n, event);
         }
+        self.other(alloc, cloud, event)
+    }
+
+    /// Handles a line of session 1.
+    fn first<C: Bench>(
+        &mut self,
+        alloc: Global,
+        cloud: &mut C,
+        n: u64,
+        event: &Event,
+    ) -> Result<Reply, WorldFault>
+        ensures { HandledFirst n event.now (C.counts cloud.old) (C.counts cloud.new) (C.state cloud.old) (C.state cloud.new) self.old self.new result }
+    {
         match event {
             Event::Open { client, .. } => self.open(alloc, *client),
             Event::Insert {
@@ -71,24 +108,56 @@ impl World {
             Event::Commit { .. } => self.commit(alloc),
             Event::Abort { .. } => self.abort(),
             Event::Run { .. } => self.run(alloc, cloud, n),
-            Event::Close { .. } => Ok(Reply::Refused(Refusal::NotBuilt)),
-            Event::Renew { .. } => Ok(Reply::Refused(Refusal::NotBuilt)),
-            Event::Update { .. } => Ok(Reply::Refused(Refusal::NotBuilt)),
-            Event::Delete { .. } => Ok(Reply::Refused(Refusal::NotBuilt)),
-            Event::Read { .. } => Ok(Reply::Refused(Refusal::NotBuilt)),
-            Event::Scan { .. } => Ok(Reply::Refused(Refusal::NotBuilt)),
-            Event::Page { .. } => Ok(Reply::Refused(Refusal::NotBuilt)),
             Event::Tree { tree, .. } => self.tree(alloc, *tree),
-            Event::Step { .. } => Ok(Reply::Refused(Refusal::NotBuilt)),
-            Event::Crash { .. } => Ok(Reply::Refused(Refusal::NotBuilt)),
-            Event::Wait { .. } => Ok(Reply::Refused(Refusal::NotBuilt)),
-            Event::Report { .. } => Ok(Reply::Refused(Refusal::NotBuilt)),
-            Event::Settle => Ok(Reply::Refused(Refusal::NotBuilt)),
+            Event::Close { .. } => unbuilt(),
+            Event::Renew { .. } => unbuilt(),
+            Event::Update { .. } => unbuilt(),
+            Event::Delete { .. } => unbuilt(),
+            Event::Read { .. } => unbuilt(),
+            Event::Scan { .. } => unbuilt(),
+            Event::Page { .. } => unbuilt(),
+            Event::Step { .. } => unbuilt(),
+            Event::Crash { .. } => unbuilt(),
+            Event::Wait { .. } => unbuilt(),
+            Event::Report { .. } => unbuilt(),
+            Event::Settle => unbuilt(),
+        }
+    }
+
+    /// Handles a line of no session, or of another one.
+    fn other<C: Bench>(
+        &mut self,
+        alloc: Global,
+        cloud: &mut C,
+        event: &Event,
+    ) -> Result<Reply, WorldFault>
+        ensures { HandledOther event.now (C.counts cloud.old) (C.counts cloud.new) (C.state cloud.old) (C.state cloud.new) self.old self.new result }
+    {
+        match event {
+            Event::Report { tree } => self.report(alloc, cloud, *tree),
+            Event::Open { .. } => unbuilt(),
+            Event::Insert { .. } => unbuilt(),
+            Event::Commit { .. } => unbuilt(),
+            Event::Abort { .. } => unbuilt(),
+            Event::Run { .. } => unbuilt(),
+            Event::Tree { .. } => unbuilt(),
+            Event::Close { .. } => unbuilt(),
+            Event::Renew { .. } => unbuilt(),
+            Event::Update { .. } => unbuilt(),
+            Event::Delete { .. } => unbuilt(),
+            Event::Read { .. } => unbuilt(),
+            Event::Scan { .. } => unbuilt(),
+            Event::Page { .. } => unbuilt(),
+            Event::Step { .. } => unbuilt(),
+            Event::Crash { .. } => unbuilt(),
+            Event::Wait { .. } => unbuilt(),
+            Event::Settle => unbuilt(),
         }
     }
 
     fn open(&mut self, alloc: Global, client: u64) -> Result<Reply, WorldFault>
-        ensures { Opens client self.old.session self.new.session result }
+        ensures session { Opens client self.old.session self.new.session result }
+        ensures audit { self.new.audit ≡ self.old.audit }
     {
         let client = match ClientId::new(client) {
             Ok(client) => client,
@@ -98,7 +167,8 @@ impl World {
     }
 
     fn tree(&mut self, alloc: Global, tree: u64) -> Result<Reply, WorldFault>
-        ensures { Folds tree self.old.session self.new.session result }
+        ensures session { Folds tree self.old.session self.new.session result }
+        ensures audit { self.new.audit ≡ self.old.audit }
     {
         let tree = match TreeId::new(tree) {
             Ok(tree) => tree,
@@ -108,13 +178,15 @@ impl World {
     }
 
     fn commit(&mut self, alloc: Global) -> Result<Reply, WorldFault>
-        ensures { Commits self.old.session self.new.session result }
+        ensures session { Commits self.old.session self.new.session result }
+        ensures audit { self.new.audit ≡ self.old.audit }
     {
         begun(self.session.begin(alloc, Op::Commit))
     }
 
     fn abort(&mut self) -> Result<Reply, WorldFault>
-        ensures { Aborts self.old.session self.new.session result }
+        ensures session { Aborts self.old.session self.new.session result }
+        ensures audit { self.new.audit ≡ self.old.audit }
     {
         match self.session.abort() {
             Ok(()) => Ok(Reply::Aborted),
@@ -130,7 +202,8 @@ impl World {
         key: &Blob,
         payload: &Blob,
     ) -> Result<Reply, WorldFault>
-        ensures { Inserts tree key.now payload.now self.old.session self.new.session result }
+        ensures session { Inserts tree key.now payload.now self.old.session self.new.session result }
+        ensures audit { self.new.audit ≡ self.old.audit }
     {
         let tree = match TreeId::new(tree) {
             Ok(tree) => tree,
@@ -149,12 +222,13 @@ impl World {
     }
 
     /// Makes plain steps until the answer.
-    fn run<C: Cloud>(&mut self, alloc: Global, cloud: &mut C, n: u64) -> Result<Reply, WorldFault>
-        ensures { Runs n (C.counts cloud.old) (C.counts cloud.new) (C.state cloud.old) (C.state cloud.new) self.old.session self.new.session result }
+    fn run<C: Bench>(&mut self, alloc: Global, cloud: &mut C, n: u64) -> Result<Reply, WorldFault>
+        ensures { Runs n (C.counts cloud.old) (C.counts cloud.new) (C.state cloud.old) (C.state cloud.new) self.old self.new result }
     {
         let who = first_session(n);
         'steps: for _ in 0..u64::MAX {
-            match self.session.step(alloc, cloud, who) {
+            let turn = self.step(alloc, cloud, who)?;
+            match turn {
                 Ok(Turn::More) => {}
                 Ok(Turn::Ended(answer)) => return reply_of(answer),
                 Ok(Turn::Stopped(_)) => return Err(WorldFault::Cloud),
@@ -164,6 +238,67 @@ impl World {
         }
         Err(WorldFault::Cloud)
     }
+
+    /// Makes a step of the session, between two looks where it is a put.
+    fn step<C: Bench>(
+        &mut self,
+        alloc: Global,
+        cloud: &mut C,
+        who: Who,
+    ) -> Result<Result<Turn<Answer>, Refused>, WorldFault>
+        ensures { IfOk result (λ turn. StepsLooked who (C.counts cloud.old) (C.counts cloud.new) (C.state cloud.old) (C.state cloud.new) self.old self.new turn) }
+    {
+        match put_in_hand(alloc, &self.session) {
+            Ok(Some(put)) => self.step_put(alloc, cloud, who, &put),
+            Ok(None) => Ok(self.session.step(alloc, cloud, who)),
+            Err(_) => Err(WorldFault::Memory),
+        }
+    }
+
+    /// Makes a step that is a put, and notes what it commits or applies where it is seen to land.
+    fn step_put<C: Bench>(
+        &mut self,
+        alloc: Global,
+        cloud: &mut C,
+        who: Who,
+        put: &Put,
+    ) -> Result<Result<Turn<Answer>, Refused>, WorldFault>
+        requires { put_of self.old.session.work ≡ Some put.now }
+        ensures { IfOk result (λ turn. StepsLooked who (C.counts cloud.old) (C.counts cloud.new) (C.state cloud.old) (C.state cloud.new) self.old self.new turn) }
+    {
+        let before = is_newest(cloud, put)?;
+        let mark = self.audit.mark();
+        match note_put(alloc, &mut self.audit, &self.session, put.name) {
+            Ok(()) => {}
+            Err(_) => return Err(WorldFault::Memory),
+        }
+        let turn = self.session.step(alloc, cloud, who);
+        let after = is_newest(cloud, put)?;
+        keep_landed(&mut self.audit, mark, before, after);
+        Ok(turn)
+    }
+
+    /// Reports on a tree.
+    fn report<C: Bench>(&self, alloc: Global, cloud: &mut C, tree: u64) -> Result<Reply, WorldFault>
+        ensures { Reports tree (C.counts cloud.old) (C.counts cloud.new) (C.state cloud.old) (C.state cloud.new) self.now self.now result }
+    {
+        let tree = match TreeId::new(tree) {
+            Ok(tree) => tree,
+            Err(rule) => return Ok(Reply::Refused(rule)),
+        };
+        match self.audit.report(alloc, cloud, tree) {
+            Ok(report) => Ok(Reply::Report(report)),
+            Err(Trouble::Memory) => Err(WorldFault::Memory),
+            Err(_) => Err(WorldFault::Cloud),
+        }
+    }
+}
+
+/// The reply to a line that is not served yet.
+fn unbuilt() -> Result<Reply, WorldFault>
+    ensures { result ≡ Ok (Reply.Refused Refusal.NotBuilt) }
+{
+    Ok(Reply::Refused(Refusal::NotBuilt))
 }
 
 /// The session that a line names, 0 where it names none.

@@ -11,5 +11,5 @@ steps-preserved g c =
     went_further (record { session = 1; event = c.args.n }) c.first_session-who.result
     (g.C.Cloud.counts c.args.cloud.now) (g.C.Cloud.counts c.steps.cloud) (g.C.Cloud.counts c.step.new.cloud)
     (g.C.Cloud.state c.args.cloud.now) (g.C.Cloud.state c.steps.cloud) (g.C.Cloud.state c.step.new.cloud)
-    c.args.self.now.session c.steps.self.session c.step.new.self c.step.result
-    c.first_session-who.ensures (c.in-Ok-More.is ∙ ap Ok c.in-Ok-More.field-0-is) c.steps.invariant c.step.ensures
+    c.args.self.now c.steps.self c.step.new.self c.in_ok-turn.turn
+    c.first_session-who.ensures (c.in-Ok-More.is ∙ ap Ok c.in-Ok-More.field-0-is) c.steps.invariant c.in_ok-turn.ensures

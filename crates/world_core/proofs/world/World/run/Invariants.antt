@@ -6,4 +6,4 @@ abbrev pub invariant-steps : goal.invariant-steps
 invariant-steps g l =
     let counts = g.C.Cloud.counts in
     let state = g.C.Cloud.state in
-    Went (record { session = 1; event = l.fn.n }) (counts l.fn.cloud) (state l.fn.cloud) l.fn.self.session (counts l.cloud) (state l.cloud) l.self.session
+    Went (record { session = 1; event = l.fn.n }) (counts l.fn.cloud) (state l.fn.cloud) l.fn.self (counts l.cloud) (state l.cloud) l.self

@@ -1,0 +1,18 @@
+use Rattle.cloud_trait.specs.State.{newest}
+use Rattle.world_core.proofs.Landing.{audited_put}
+use Rattle.world_core.proofs.world.World.step_put.Goals as goal
+
+pub returns : goal.returns
+returns g c = record {
+  d = g.C.Cloud.counts c.is_newest.new.cloud;
+  e = g.C.Cloud.counts c.step-turn.new.cloud;
+  t = g.C.Cloud.state c.is_newest.new.cloud;
+  u = g.C.Cloud.state c.step-turn.new.cloud;
+  before = c.is_newest.ensures.looked;
+  steps = c.step-turn.ensures.steps;
+  kept = c.step-turn.ensures.kept;
+  after = c.is_newest-2.ensures.looked;
+  audit = λ x y first second. audited_put (newest x) (newest y) c.args.self.now.session.work c.args.self.now.audit c.note_put.new.audit c.keep_landed.new.audit
+      c.mark-mark.result c.args.put.now c.in_ok-before.before c.in_ok-after.after c.requires (c.in_ok-before.ensures.newest x first) (c.in_ok-after.ensures.newest y second)
+      c.mark-mark.ensures.committed c.mark-mark.ensures.order c.in-Ok.ensures c.keep_landed.ensures;
+}

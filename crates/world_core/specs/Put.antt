@@ -1,0 +1,42 @@
+-- A put that a session has in hand, and what the audit keeps of it.
+use Rattle.std.specs.Prelude.{Bool, not, ◌&&◌, ◌++◌, map, take, if◌then◌else◌, Option, Some, None}
+use Rattle.db_base.specs.declared.names.ObjName.{ObjName}
+use Rattle.db_base.specs.declared.names.ObjName.TheVariants as object
+use Rattle.cloud_trait.specs.Ask.{Ask, PutHeld}
+use Rattle.client_session.specs.declared.session.Work.{Work}
+use Rattle.client_session.specs.Session.{ask_of_work, committing_of, opens_of, applying_of}
+use Rattle.world_audit.specs.Audited.{Audited, applied_entry}
+use Rattle.world_audit.specs.declared.mark.Mark.{Mark}
+use Rattle.replay_model.specs.Noting.{Newest, noted_head, has_bytes}
+use Rattle.world_core.specs.declared.put.Put.{Put}
+
+-- the object and bytes of a call that is a put
+abbrev pub put_of_ask : Ask → Option Put
+put_of_ask (PutHeld name bytes one two) = Some (record { name = name; bytes = bytes })
+put_of_ask ask = None
+
+abbrev pub put_of_hand : Option Ask → Option Put
+put_of_hand (Some ask) = put_of_ask ask
+put_of_hand None = None
+
+-- the put that the work has in hand
+abbrev pub put_of : Work → Option Put
+put_of w = put_of_hand (ask_of_work w)
+
+-- the newest version of the put's object has its bytes
+abbrev pub is_newest : Newest → Put → Bool
+is_newest look put = has_bytes (look put.name) put.bytes
+
+-- the audit with what a put of the object by the work commits or applies
+abbrev pub noted_put : ObjName → Work → Audited → Audited
+noted_put (object.Head client) w a = noted_head client (opens_of w) (committing_of w) a
+noted_put (object.Page tree page) w a = record a { order = a.order ++ map (applied_entry tree) (applying_of w) }
+noted_put (object.Tree tree) w a = a
+
+-- the audit as it was at a mark
+abbrev pub back_at : Mark → Audited → Audited
+back_at mark a = record { committed = take mark.committed a.committed; order = take mark.order a.order }
+
+-- what was noted of a put stays where the put was seen to land: its bytes were not the newest, and are
+abbrev pub kept_of : Bool → Bool → Mark → Audited → Audited
+kept_of before after mark a = if not before && after then a else back_at mark a

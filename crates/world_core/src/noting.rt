@@ -1,0 +1,57 @@
+//! What the audit takes of a put that a session has in hand.
+
+ghost use Rattle.std.specs.Prelude.{◌≡◌, Some, OnOk};
+ghost use Rattle.client_session.specs.Session.{opens_of, committing_of};
+ghost use Rattle.replay_model.specs.Noting.{noted_head};
+ghost use Rattle.world_core.specs.Put.{noted_put, kept_of};
+
+use client_session::session::Session;
+use db_base::ids::ClientId;
+use db_base::names::ObjName;
+use db_base::refusal::Refused;
+use std::alloc::Global;
+use world_audit::audit::Audit;
+use world_audit::mark::Mark;
+
+/// Notes what a put of the object by the session commits or applies. Refused for memory alone.
+pub(crate) fn note_put(
+    alloc: Global,
+    audit: &mut Audit,
+    session: &Session,
+    name: ObjName,
+) -> Result<(), Refused>
+    ensures { OnOk result (audit.new ≡ noted_put name session.now.work audit.old) }
+{
+    match name {
+        ObjName::Head(client) => note_head(alloc, audit, session, client),
+        ObjName::Page(tree, _) => audit.page_landed(alloc, tree, session.applying()),
+        ObjName::Tree(_) => Ok(()),
+    }
+}
+
+/// Notes the changes that a put of the client's head commits, where it opens a head.
+fn note_head(
+    alloc: Global,
+    audit: &mut Audit,
+    session: &Session,
+    client: ClientId,
+) -> Result<(), Refused>
+    ensures { OnOk result (audit.new ≡ noted_head client (opens_of session.now.work) (committing_of session.now.work) audit.old) }
+{
+    match session.opens() {
+        Some(head) => match session.committing() {
+            Some(changes) => audit.head_landed(alloc, client, head, changes),
+            None => Ok(()),
+        },
+        None => Ok(()),
+    }
+}
+
+/// Keeps what was noted since the mark where the put landed: its bytes were not the newest, and are.
+pub(crate) fn keep_landed(audit: &mut Audit, mark: Mark, before: bool, after: bool)
+    ensures { audit.new ≡ kept_of before after mark audit.old }
+{
+    if before || !after {
+        audit.withdraw(mark);
+    }
+}

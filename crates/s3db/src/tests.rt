@@ -54,15 +54,36 @@ fn replays_rows(rt: HostRuntime) -> Result<(), Fail> {
             b"1 refused 6 not-open\nbad line 2\n".as_slice(),
         ),
         (
-            b"report 1\nwait 01\n".as_slice(),
+            b"report 1\n".as_slice(),
+            Status::Done,
+            b"1 report 1\ncommitted 0\norder 0\ncontents 0\nleft 0 0\n".as_slice(),
+        ),
+        (
+            b"report 17\nwait 1\nwait 01\n".as_slice(),
             Status::BadLine,
-            b"1 refused 99 not-built\nbad line 2\n".as_slice(),
+            b"1 refused 5 bad-number\n2 refused 99 not-built\nbad line 3\n".as_slice(),
         ),
     ] {
         let (ended, sink) = replayed(rt.alloc(), input, &[], &[])?;
         assert_eq!(rt; ended, status);
         assert_eq!(rt; sink.written(), output);
     }
+    Ok(())
+}
+
+const SECOND: &[u8] = b"insert 1 1 6c 75\ncommit 1\nrun 1\ntree 1 1\nrun 1\nreport 1\n";
+
+#[test]
+fn reports_two_commits(rt: HostRuntime) -> Result<(), Fail> {
+    let mut input = Vec::new(rt.alloc());
+    input.extend_from_slice(FIRST)?;
+    input.extend_from_slice(SECOND)?;
+    let (status, sink) = replayed(rt.alloc(), input.as_slice(), &[], &[])?;
+    assert_eq!(rt; status, Status::Done);
+    assert_eq!(rt;
+        sink.written(),
+        b"1 begun\n2 opened 1\n3 noted\n4 begun\n5 committed 1\n6 noted\n7 begun\n8 committed 2\n9 begun\n10 done 2 2 0\n11 report 1\ncommitted 2\n1 1 1 insert 6b 76\n1 1 2 insert 6c 75\norder 2\n1 1 1 insert 6b 76\n1 1 2 insert 6c 75\ncontents 2\n6b 76\n6c 75\nleft 0 0\n".as_slice()
+    );
     Ok(())
 }
 

@@ -1,2 +1,4 @@
 pub mod Going
 pub mod Landing
+pub mod StandsLemmas
+pub mod GrowthLemmas

@@ -1,4 +1,5 @@
-ghost use Rattle.std.specs.Prelude.{◌≡◌, ℕ, [], IfOk, IfErr};
+ghost use Rattle.std.specs.Prelude.{◌≡◌, ℕ, [], Some, IfOk, IfErr};
+ghost use Rattle.cloud_trait.specs.State.{CloudState};
 ghost use Rattle.client_session.specs.Session.{IsKept};
 ghost use Rattle.replay_model.specs.Standing.{session_of};
 ghost use Rattle.world_core.specs.Put.{put_of};
@@ -41,6 +42,7 @@ pub struct World {
 
 impl World {
     ghost use Rattle.client_session.specs.Session.{closed_session};
+    ghost use Rattle.world_core.specs.Stands.{StandsOn, Grows};
     ghost use Rattle.world_core.specs.Handled.{Handled, HandledFirst, HandledOther, IsUnbuilt, Opens, Folds, Inserts, Commits, Aborts, Runs, StepsLooked, Reports};
 
     /// A world whose session is closed, and that saw nothing. Refused for memory alone.
@@ -65,6 +67,8 @@ impl World {
         event: &Event,
     ) -> Result<Reply, WorldFault>
         ensures handled { Handled n event.now (C.counts cloud.old) (C.counts cloud.new) (C.state cloud.old) (C.state cloud.new) self.old self.new result }
+        ensures stands { StandsOn n event.now (C.state cloud.old) (C.state cloud.new) self.old self.new result }
+        ensures grows { Grows n (C.state cloud.old) (C.state cloud.new) }
         ensures kept { IsKept self.new.session.work }
     {
         let reply = self.handle(alloc, cloud, n, event);
@@ -72,6 +76,7 @@ impl World {
         reply
     }
 
+    #[tactic(auto, using(crate::proofs::GrowthLemmas::grows_not))]
     fn handle<C: Bench>(
         &mut self,
         alloc: Global,
@@ -79,7 +84,8 @@ impl World {
         n: u64,
         event: &Event,
     ) -> Result<Reply, WorldFault>
-        ensures { Handled n event.now (C.counts cloud.old) (C.counts cloud.new) (C.state cloud.old) (C.state cloud.new) self.old self.new result }
+        ensures handled { Handled n event.now (C.counts cloud.old) (C.counts cloud.new) (C.state cloud.old) (C.state cloud.new) self.old self.new result }
+        ensures grows { Grows n (C.state cloud.old) (C.state cloud.new) }
     {
         if session_of(event) == 1 {
             return self.first(alloc, cloud, n, event);
@@ -95,7 +101,8 @@ impl World {
         n: u64,
         event: &Event,
     ) -> Result<Reply, WorldFault>
-        ensures { HandledFirst n event.now (C.counts cloud.old) (C.counts cloud.new) (C.state cloud.old) (C.state cloud.new) self.old self.new result }
+        ensures handled { HandledFirst n event.now (C.counts cloud.old) (C.counts cloud.new) (C.state cloud.old) (C.state cloud.new) self.old self.new result }
+        ensures grows { Grows n (C.state cloud.old) (C.state cloud.new) }
     {
         match event {
             Event::Open { client, .. } => self.open(alloc, *client),
@@ -131,7 +138,8 @@ impl World {
         cloud: &mut C,
         event: &Event,
     ) -> Result<Reply, WorldFault>
-        ensures { HandledOther event.now (C.counts cloud.old) (C.counts cloud.new) (C.state cloud.old) (C.state cloud.new) self.old self.new result }
+        ensures handled { HandledOther event.now (C.counts cloud.old) (C.counts cloud.new) (C.state cloud.old) (C.state cloud.new) self.old self.new result }
+        ensures stays { (x : CloudState) → C.state cloud.old ≡ Some x → C.state cloud.new ≡ Some x }
     {
         match event {
             Event::Report { tree } => self.report(alloc, cloud, *tree),
@@ -223,7 +231,8 @@ impl World {
 
     /// Makes plain steps until the answer.
     fn run<C: Bench>(&mut self, alloc: Global, cloud: &mut C, n: u64) -> Result<Reply, WorldFault>
-        ensures { Runs n (C.counts cloud.old) (C.counts cloud.new) (C.state cloud.old) (C.state cloud.new) self.old self.new result }
+        ensures runs { Runs n (C.counts cloud.old) (C.counts cloud.new) (C.state cloud.old) (C.state cloud.new) self.old self.new result }
+        ensures grows { Grows n (C.state cloud.old) (C.state cloud.new) }
     {
         let who = first_session(n);
         'steps: for _ in 0..u64::MAX {
@@ -246,7 +255,8 @@ impl World {
         cloud: &mut C,
         who: Who,
     ) -> Result<Result<Turn<Answer>, Refused>, WorldFault>
-        ensures { IfOk result (λ turn. StepsLooked who (C.counts cloud.old) (C.counts cloud.new) (C.state cloud.old) (C.state cloud.new) self.old self.new turn) }
+        ensures looked { IfOk result (λ turn. StepsLooked who (C.counts cloud.old) (C.counts cloud.new) (C.state cloud.old) (C.state cloud.new) self.old self.new turn) }
+        ensures grows { Grows who.event (C.state cloud.old) (C.state cloud.new) }
     {
         match put_in_hand(alloc, &self.session) {
             Ok(Some(put)) => self.step_put(alloc, cloud, who, &put),
@@ -264,7 +274,8 @@ impl World {
         put: &Put,
     ) -> Result<Result<Turn<Answer>, Refused>, WorldFault>
         requires { put_of self.old.session.work ≡ Some put.now }
-        ensures { IfOk result (λ turn. StepsLooked who (C.counts cloud.old) (C.counts cloud.new) (C.state cloud.old) (C.state cloud.new) self.old self.new turn) }
+        ensures looked { IfOk result (λ turn. StepsLooked who (C.counts cloud.old) (C.counts cloud.new) (C.state cloud.old) (C.state cloud.new) self.old self.new turn) }
+        ensures grows { Grows who.event (C.state cloud.old) (C.state cloud.new) }
     {
         let before = is_newest(cloud, put)?;
         let mark = self.audit.mark();

@@ -1,9 +1,13 @@
 use Rattle.world_core.specs.Handled.{Went}
+use Rattle.world_core.specs.Stands.{Grows}
 use Rattle.world_core.proofs.world.World.run.Given as goal
 
--- the steps so far
+-- the steps so far, and what they leave of earlier lines
 abbrev pub invariant-steps : goal.invariant-steps
 invariant-steps g l =
     let counts = g.C.Cloud.counts in
     let state = g.C.Cloud.state in
-    Went (record { session = 1; event = l.fn.n }) (counts l.fn.cloud) (state l.fn.cloud) l.fn.self (counts l.cloud) (state l.cloud) l.self
+    record {
+      went : Went (record { session = 1; event = l.fn.n }) (counts l.fn.cloud) (state l.fn.cloud) l.fn.self (counts l.cloud) (state l.cloud) l.self;
+      grows : Grows l.fn.n (state l.fn.cloud) (state l.cloud);
+    }

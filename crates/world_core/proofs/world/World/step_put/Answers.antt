@@ -1,9 +1,10 @@
 use Rattle.cloud_trait.specs.State.{newest}
+use Rattle.world_core.proofs.GrowthLemmas.{grows_between}
 use Rattle.world_core.proofs.Landing.{audited_put}
 use Rattle.world_core.proofs.world.World.step_put.Goals as goal
 
-pub returns : goal.returns
-returns g c = record {
+pub returns-clause-looked : goal.returns-clause-looked
+returns-clause-looked g c = record {
   d = g.C.Cloud.counts c.is_newest.new.cloud;
   e = g.C.Cloud.counts c.step-turn.new.cloud;
   t = g.C.Cloud.state c.is_newest.new.cloud;
@@ -16,3 +17,9 @@ returns g c = record {
       c.mark-mark.result c.args.put.now c.in_ok-before.before c.in_ok-after.after c.requires (c.in_ok-before.ensures.newest x first) (c.in_ok-after.ensures.newest y second)
       c.mark-mark.ensures.committed c.mark-mark.ensures.order c.in-Ok.ensures c.keep_landed.ensures;
 }
+
+pub returns-clause-grows : goal.returns-clause-grows
+returns-clause-grows g c = grows_between _ _ _ _ _ _ _ _ _ _ _ _ c.is_newest.ensures.looked c.step-turn.ensures.steps c.is_newest-2.ensures.looked
+
+pub returns-in_err-after-clause-grows : goal.returns-in_err-after-clause-grows
+returns-in_err-after-clause-grows g c = grows_between _ _ _ _ _ _ _ _ _ _ _ _ c.is_newest.ensures.looked c.step-turn.ensures.steps c.is_newest-2.ensures.looked

@@ -1,0 +1,529 @@
+-- A line keeps what stands.
+use Rattle.std.proofs.Common.{◌≡◌, ◌<◌, ◌≤◌, ◌+◌, ◌⊎◌, ℕ, List, [], ◌∷◌, ◌++◌, length, Option, Some, None, Result, Ok, Err, refl, sym, ap, subst, ◌∙◌, inl, inr, Bool, true, false, cond, arith}
+use Rattle.std.proofs.lemmas.Bool.{cases_lt, eqb-true}
+use Rattle.std.specs.Prelude.{◌==◌, MatchBool}
+use Rattle.db_base.specs.Ids.{IsClient, IsTree}
+use Rattle.db_base.specs.declared.change.Change.{Change}
+use Rattle.db_base.specs.declared.change.Change.TheVariants.{Insert}
+use Rattle.db_base.specs.declared.refusal.Refusal.{Refusal}
+use Rattle.db_base.specs.declared.refusal.Refused.{Refused}
+use Rattle.db_base.specs.declared.refusal.Refused.TheVariants as refused
+use Rattle.db_base.specs.declared.blob.Blob.{Blob}
+use Rattle.db_base.specs.declared.trouble.Trouble.{Trouble}
+use Rattle.db_base.specs.declared.trouble.Trouble.TheVariants as trouble
+use Rattle.db_base.specs.declared.trouble.Counter.TheVariants as counter
+use Rattle.db_base.specs.declared.trouble.CommitAnswer.{CommitAnswer}
+use Rattle.db_base.specs.declared.trouble.CommitAnswer.TheVariants.{Committed, NotCommitted, InDoubt, CommittedOpen}
+use Rattle.event_text.specs.declared.event.Event.{Event}
+use Rattle.event_text.specs.declared.event.Event.TheVariants as event
+use Rattle.reply_text.specs.declared.reply.Reply.{Reply}
+use Rattle.reply_text.specs.declared.reply.Reply.TheVariants as reply
+use Rattle.report_types.specs.declared.report.Report.{Report}
+use Rattle.txn_buffer.specs.Noted.{Noted, noted_in}
+use Rattle.recover_run.specs.declared.home.Home.{Home}
+use Rattle.commit_run.specs.Commit.{Commit, Readies, new_commit, with_attempt, next_records, opening, finished}
+use Rattle.cloud_trait.specs.Machine.{Goes, Ends}
+use Rattle.cloud_trait.specs.Caller.{Caller}
+use Rattle.cloud_trait.specs.State.{CloudState, Counts, newest}
+use Rattle.cloud_trait.specs.declared.turn.Turn.{Turn}
+use Rattle.cloud_trait.specs.declared.turn.Turn.TheVariants.{More, Ended, Stopped}
+use Rattle.client_session.specs.declared.session.Answer.{Answer}
+use Rattle.client_session.specs.declared.session.Answer.TheVariants as answer
+use Rattle.client_session.specs.declared.session.Begun.{Begun}
+use Rattle.client_session.specs.declared.session.Begun.TheVariants.{Working, Answered}
+use Rattle.client_session.specs.declared.session.Work.{Work}
+use Rattle.client_session.specs.declared.session.Work.TheVariants as work
+use Rattle.client_session.specs.Session.{Acting, IsKept, BeginsOpening, BeginsTree, FoldsFor, BeginsCommit, CommitsNoted, CommitsOf, is_working}
+use Rattle.history.specs.Fold.{fold, of_tree}
+use Rattle.world_audit.specs.Audited.{Audited}
+use Rattle.world_audit.specs.Chain.{AreLeaves}
+use Rattle.world_audit.specs.Counts.{heads_upto, AreWaiting}
+use Rattle.replay_model.specs.Standing.{Line, Standing, Working as WorkingOn, Committing as Noting, standing, after_line, after_own, session_of}
+use Rattle.replay_model.specs.Committed.{committed}
+use Rattle.replay_model.specs.Index.{Finds}
+use Rattle.replay_model.specs.Noting.{Newest, audited}
+use Rattle.replay_model.specs.Right.{ReportIsRight, IsRight, payload_at}
+use Rattle.replay_model.specs.Facts.{HomeStands, CommitStands, Knows, ActsAs, WorksAs, CloudStands, Stands, GoesOn}
+use Rattle.replay_model.proofs.LineLemmas.{begins_line, line_through, own_line, other_line}
+use Rattle.replay_model.proofs.TreeLemmas.{report_of}
+use Rattle.replay_model.proofs.SessionLemmas.{IsReplyTo, step_goes_on, step_ends}
+use Rattle.world_core.specs.declared.world.World.{World}
+use Rattle.world_core.specs.declared.world.WorldFault.{WorldFault}
+use Rattle.world_core.specs.Handled.{IsUnbuilt, MakesNoCall, BegunReply, Opens, Folds, Inserts, Aborts, Handled, HandledFirst, HandledOther, Replies, StepsLooked, Went, start, further, RunReply, RunsTo, Shows, Reports}
+use Rattle.world_core.specs.Stands.{StandsFor, StandsOn, IsLeft, LeftIsRight}
+
+-- a line has this reply
+abbrev IsOk : Result Reply WorldFault → Reply → Type 0
+IsOk result r = result ≡ Ok r
+
+-- the line with its reply
+abbrev line_of : Event → Reply → Line
+line_of event r = record { event = event; reply = r }
+
+-- a line that makes no call stands where the session that it leaves does
+no_call : (lines : List Line) (event : Event) (r : Reply) (s u : Option CloudState) (old new : World) (t : CloudState)
+    → u ≡ s → new.audit ≡ old.audit → s ≡ Some t → Stands lines old.session old.audit t
+    → Knows (newest t) new.session.work → IsKept new.session.work → ActsAs new.session (after_line 1 (standing lines 1) (line_of event r))
+    → ReportIsRight (lines ++ line_of event r ∷ []) t r → LeftIsRight t r → StandsFor (lines ++ line_of event r ∷ []) new u r
+no_call lines event r s u old new t same audit told stands knows kept acts right left = record {
+  after = t;
+  told = same ∙ told;
+  stands = line_through lines (line_of event r) new.session new.audit t
+      (subst (λ a. CloudStands (length lines + 1) lines a t) (sym audit) (begins_line lines old.session old.audit t stands).cloud) knows kept acts;
+  right = right;
+  left = left;
+}
+
+-- a line that leaves the session too
+leaves_all : (lines : List Line) (event : Event) (r : Reply) (s u : Option CloudState) (old new : World) (t : CloudState)
+    → u ≡ s → new ≡ old → s ≡ Some t → Stands lines old.session old.audit t → IsKept new.session.work
+    → after_line 1 (standing lines 1) (line_of event r) ≡ standing lines 1
+    → ReportIsRight (lines ++ line_of event r ∷ []) t r → LeftIsRight t r → StandsFor (lines ++ line_of event r ∷ []) new u r
+leaves_all lines event r s u old new t same world told stands kept stays right left =
+    no_call lines event r s u old new t same (ap (λ (w : World). w.audit) world) told stands
+        (subst (λ (w : World). Knows (newest t) w.session.work) (sym world) stands.session.knows) kept
+        (subst (λ z. ActsAs new.session z) (sym stays) (subst (λ (w : World). ActsAs w.session (standing lines 1)) (sym world) stands.session.acts)) right left
+
+-- a refusal changes nothing of how a session stands
+refused_own : (event : Event) (rule : Refusal) (s : Standing) → after_own event (reply.Refused rule) s ≡ s
+refused_own (event.Open session client) rule s = refl
+refused_own (event.Close session) rule s = refl
+refused_own (event.Renew session) rule s = refl
+refused_own (event.Insert session tree key payload) rule s = refl
+refused_own (event.Update session tree key payload) rule s = refl
+refused_own (event.Delete session tree key) rule s = refl
+refused_own (event.Commit session) rule s = refl
+refused_own (event.Abort session) rule s = refl
+refused_own (event.Read session tree key) rule s = refl
+refused_own (event.Scan session tree from to) rule s = refl
+refused_own (event.Page session tree page) rule s = refl
+refused_own (event.Tree session tree) rule s = refl
+refused_own (event.Step session wish) rule s = refl
+refused_own (event.Run session) rule s = refl
+refused_own (event.Crash session done) rule s = refl
+refused_own (event.Wait ticks) rule s = refl
+refused_own (event.Report tree) rule s = refl
+refused_own event.Settle rule s = refl
+
+refused_line : (event : Event) (rule : Refusal) (s : Standing) → after_line 1 s (line_of event (reply.Refused rule)) ≡ s
+refused_line event rule s = on (session_of event == 1) where
+  on : (b : Bool) → cond b (after_own event (reply.Refused rule) s) s ≡ s
+  on true = refused_own event rule s
+  on false = refl
+
+-- a line that is refused leaves all
+refuses : (lines : List Line) (event : Event) (r : Reply) (rule : Refusal) (s u : Option CloudState) (old new : World) (t : CloudState)
+    → IsOk (Ok r) (reply.Refused rule) → u ≡ s → new ≡ old → s ≡ Some t → Stands lines old.session old.audit t → IsKept new.session.work
+    → StandsFor (lines ++ line_of event r ∷ []) new u r
+refuses lines event r rule s u old new t is same world told stands kept =
+    let e : r ≡ reply.Refused rule = cc in
+    let P : Reply → Type 0 = λ z. StandsFor (lines ++ line_of event z ∷ []) new u z in
+    subst P (sym e) (leaves_all lines event (reply.Refused rule) s u old new t same world told stands kept (refused_line event rule (standing lines 1)) tt tt)
+
+unbuilt : (lines : List Line) (event : Event) (r : Reply) (c d : Counts) (s u : Option CloudState) (old new : World) (t : CloudState)
+    → IsUnbuilt c d s u old new (Ok r) → s ≡ Some t → Stands lines old.session old.audit t → IsKept new.session.work → StandsFor (lines ++ line_of event r ∷ []) new u r
+unbuilt lines event r c d s u old new t is told stands kept = refuses lines event r _ s u old new t is.reply is.state is.world told stands kept
+
+-- ---- small facts
+
+-- what a session works on does not look at its buffer
+works_with : (w : Work) (s : Standing) (buffer : List Noted) → WorksAs w s → WorksAs w (record s { buffer = buffer })
+works_with work.Closed s buffer h = h
+works_with (work.Idle home) s buffer h = h
+works_with (work.Opening m) s buffer h = h
+works_with (work.Committing m) s buffer h = h
+works_with (work.Folding home m) s buffer h = h
+works_with work.Broken s buffer h = h
+
+-- where nothing is at work the audit stays
+idle_audit : (before after : Newest) (w : Work) (a : Audited) → is_working w ≡ false → audited before after w a ≡ a
+idle_audit before after work.Closed a e = refl
+idle_audit before after (work.Idle home) a e = refl
+idle_audit before after work.Broken a e = refl
+idle_audit before after (work.Opening m) a e = absurd (cc)
+idle_audit before after (work.Committing m) a e = absurd (cc)
+idle_audit before after (work.Folding home m) a e = absurd (cc)
+
+-- an answer is no report
+answer_no_report : (lines : List Line) (t : CloudState) (a : Answer) (r : Reply) → IsReplyTo a r → ReportIsRight lines t r
+answer_no_report lines t (answer.Opened epoch) r is = subst (λ z. ReportIsRight lines t z) (sym is) tt
+answer_no_report lines t (answer.Done n) r is = subst (λ z. ReportIsRight lines t z) (sym is) tt
+answer_no_report lines t (answer.Commit (Committed txn)) r is = subst (λ z. ReportIsRight lines t z) (sym is) tt
+answer_no_report lines t (answer.Commit (NotCommitted z)) r is = absurd is
+answer_no_report lines t (answer.Commit InDoubt) r is = absurd is
+answer_no_report lines t (answer.Commit (CommittedOpen z)) r is = absurd is
+answer_no_report lines t (answer.Trouble z) r is = absurd is
+
+answer_no_left : (t : CloudState) (a : Answer) (r : Reply) → IsReplyTo a r → LeftIsRight t r
+answer_no_left t (answer.Opened epoch) r is = subst (λ z. LeftIsRight t z) (sym is) tt
+answer_no_left t (answer.Done n) r is = subst (λ z. LeftIsRight t z) (sym is) tt
+answer_no_left t (answer.Commit (Committed txn)) r is = subst (λ z. LeftIsRight t z) (sym is) tt
+answer_no_left t (answer.Commit (NotCommitted z)) r is = absurd is
+answer_no_left t (answer.Commit InDoubt) r is = absurd is
+answer_no_left t (answer.Commit (CommittedOpen z)) r is = absurd is
+answer_no_left t (answer.Trouble z) r is = absurd is
+
+-- ---- lines that begin an operation
+
+is_client : (n : ℕ) → IsClient n ⊎ (IsClient n → ⊥)
+is_client n = on (cases_lt 0 n) (cases_lt 64 n) where
+  on : (0 < n) ⊎ (n ≤ 0) → (64 < n) ⊎ (n ≤ 64) → IsClient n ⊎ (IsClient n → ⊥)
+  on (inl a) (inr b) = inl (record { some = omega arith; most = b })
+  on (inr a) b = inr (λ i. let h : 1 ≤ n = i.some in omega arith)
+  on (inl a) (inl b) = inr (λ i. let h : n ≤ 64 = i.most in omega arith)
+
+is_tree : (n : ℕ) → IsTree n ⊎ (IsTree n → ⊥)
+is_tree n = on (cases_lt 0 n) (cases_lt 16 n) where
+  on : (0 < n) ⊎ (n ≤ 0) → (16 < n) ⊎ (n ≤ 16) → IsTree n ⊎ (IsTree n → ⊥)
+  on (inl a) (inr b) = inl (record { some = omega arith; most = b })
+  on (inr a) b = inr (λ i. let h : 1 ≤ n = i.some in omega arith)
+  on (inl a) (inl b) = inr (λ i. let h : n ≤ 16 = i.most in omega arith)
+
+-- what is known of a line that makes no call, before its session is looked at
+pub record Ready (lines : List Line) (event : Event) (s u : Option CloudState) (old new : World) (t : CloudState) : Type 0 where
+  pub own : session_of event ≡ 1
+  pub same : u ≡ s
+  pub audit : new.audit ≡ old.audit
+  pub told : s ≡ Some t
+  pub stands : Stands lines old.session old.audit t
+  pub kept : IsKept new.session.work
+
+-- the session that a line of its own leaves stands as the line and its reply say
+leaves_session : (lines : List Line) (event : Event) (r : Reply) (s u : Option CloudState) (old new : World) (t : CloudState) → Ready lines event s u old new t
+    → Knows (newest t) new.session.work → ActsAs new.session (after_own event r (standing lines 1)) → ReportIsRight (lines ++ line_of event r ∷ []) t r → LeftIsRight t r
+    → StandsFor (lines ++ line_of event r ∷ []) new u r
+leaves_session lines event r s u old new t ready knows acts right left =
+    no_call lines event r s u old new t ready.same ready.audit ready.told ready.stands knows ready.kept
+        (subst (λ z. ActsAs new.session z) (sym (own_line event r (standing lines 1) ready.own)) acts) right left
+
+-- a line that is refused leaves its session
+refuses_session : (lines : List Line) (event : Event) (r : Reply) (rule : Refusal) (s u : Option CloudState) (old new : World) (t : CloudState) → Ready lines event s u old new t
+    → IsOk (Ok r) (reply.Refused rule) → new.session ≡ old.session → StandsFor (lines ++ line_of event r ∷ []) new u r
+refuses_session lines event r rule s u old new t ready is same =
+    let e : r ≡ reply.Refused rule = cc in
+    let P : Reply → Type 0 = λ z. StandsFor (lines ++ line_of event z ∷ []) new u z in
+    subst P (sym e) (leaves_session lines event (reply.Refused rule) s u old new t ready
+        (subst (λ (x : Acting). Knows (newest t) x.work) (sym same) ready.stands.session.knows)
+        (subst (λ z. ActsAs new.session z) (sym (refused_own event rule (standing lines 1))) (subst (λ x. ActsAs x (standing lines 1)) (sym same) ready.stands.session.acts))
+        tt tt)
+
+-- an operation that begins has its first call in hand
+begins_session : (lines : List Line) (event : Event) (r : Reply) (s u : Option CloudState) (old new : World) (t : CloudState) (session : Acting) → Ready lines event s u old new t
+    → IsOk (Ok r) reply.Begun → new.session ≡ session → Knows (newest t) session.work → ActsAs session (after_own event reply.Begun (standing lines 1))
+    → StandsFor (lines ++ line_of event r ∷ []) new u r
+begins_session lines event r s u old new t session ready is same knows acts =
+    let e : r ≡ reply.Begun = cc in
+    let P : Reply → Type 0 = λ z. StandsFor (lines ++ line_of event z ∷ []) new u z in
+    subst P (sym e) (leaves_session lines event reply.Begun s u old new t ready
+        (subst (λ (x : Acting). Knows (newest t) x.work) (sym same) knows)
+        (subst (λ x. ActsAs x (after_own event reply.Begun (standing lines 1))) (sym same) acts)
+        tt tt)
+
+opening_begun : (lines : List Line) (k client : ℕ) (r : Reply) (s u : Option CloudState) (old new : World) (t : CloudState) (begun : Result Begun Refused)
+    → Ready lines (event.Open k client) s u old new t → BeginsOpening client old.session new.session begun → BegunReply begun (Ok r)
+    → StandsFor (lines ++ line_of (event.Open k client) r ∷ []) new u r
+opening_begun lines k client r s u old new t (Ok Working) ready begins replies =
+    begins_session lines (event.Open k client) r s u old new t _ ready replies begins.1 tt (record { buffer = refl; work = (refl, refl) })
+opening_begun lines k client r s u old new t (Ok (Answered a)) ready begins replies = absurd begins
+opening_begun lines k client r s u old new t (Err (refused.Rule rule)) ready begins replies = refuses_session lines (event.Open k client) r rule s u old new t ready replies begins.1
+opening_begun lines k client r s u old new t (Err refused.Memory) ready begins replies = absurd begins
+
+opens : (lines : List Line) (k client : ℕ) (r : Reply) (s u : Option CloudState) (old new : World) (t : CloudState)
+    → Ready lines (event.Open k client) s u old new t → Opens client old.session new.session (Ok r) → StandsFor (lines ++ line_of (event.Open k client) r ∷ []) new u r
+opens lines k client r s u old new t ready h = on (is_client client) where
+  on : IsClient client ⊎ (IsClient client → ⊥) → StandsFor (lines ++ line_of (event.Open k client) r ∷ []) new u r
+  on (inl is) = let o = h.opening is in opening_begun lines k client r s u old new t o.0 ready o.1 o.2
+  on (inr no_client) = let o = h.no_client no_client in refuses_session lines (event.Open k client) r _ s u old new t ready o.1 o.0
+
+-- a checkpoint begins beside an open client
+folding_begins : (lines : List Line) (k tree : ℕ) (r : Reply) (s u : Option CloudState) (buffer : List Noted) (w : Work) (audit : Audited) (new : World) (t : CloudState)
+    → Ready lines (event.Tree k tree) s u (record { session = record { buffer = buffer; work = w }; audit = audit }) new t
+    → FoldsFor tree w (record { buffer = buffer; work = w }) new.session → IsOk (Ok r) reply.Begun
+    → StandsFor (lines ++ line_of (event.Tree k tree) r ∷ []) new u r
+folding_begins lines k tree r s u buffer (work.Idle home) audit new t ready folds replies =
+    let acts = ready.stands.session.acts in
+    begins_session lines (event.Tree k tree) r s u _ new t _ ready replies folds (ready.stands.session.knows, record { root = tt; puts = tt })
+        (record { buffer = acts.buffer; work = (refl, acts.work.1) })
+folding_begins lines k tree r s u buffer work.Closed audit new t ready folds replies = absurd folds
+folding_begins lines k tree r s u buffer (work.Opening m) audit new t ready folds replies = absurd folds
+folding_begins lines k tree r s u buffer (work.Committing m) audit new t ready folds replies = absurd folds
+folding_begins lines k tree r s u buffer (work.Folding home m) audit new t ready folds replies = absurd folds
+folding_begins lines k tree r s u buffer work.Broken audit new t ready folds replies = absurd folds
+
+folding_begun : (lines : List Line) (k tree : ℕ) (r : Reply) (s u : Option CloudState) (old new : World) (t : CloudState) (begun : Result Begun Refused)
+    → Ready lines (event.Tree k tree) s u old new t → BeginsTree tree old.session new.session begun → BegunReply begun (Ok r)
+    → StandsFor (lines ++ line_of (event.Tree k tree) r ∷ []) new u r
+folding_begun lines k tree r s u old new t (Ok Working) ready begins replies = folding_begins lines k tree r s u old.session.buffer old.session.work old.audit new t ready begins replies
+folding_begun lines k tree r s u old new t (Ok (Answered a)) ready begins replies = absurd begins
+folding_begun lines k tree r s u old new t (Err (refused.Rule rule)) ready begins replies = refuses_session lines (event.Tree k tree) r rule s u old new t ready replies begins.1
+folding_begun lines k tree r s u old new t (Err refused.Memory) ready begins replies = absurd begins
+
+folds : (lines : List Line) (k tree : ℕ) (r : Reply) (s u : Option CloudState) (old new : World) (t : CloudState)
+    → Ready lines (event.Tree k tree) s u old new t → Folds tree old.session new.session (Ok r) → StandsFor (lines ++ line_of (event.Tree k tree) r ∷ []) new u r
+folds lines k tree r s u old new t ready h = on (is_tree tree) where
+  on : IsTree tree ⊎ (IsTree tree → ⊥) → StandsFor (lines ++ line_of (event.Tree k tree) r ∷ []) new u r
+  on (inl is) = let o = h.folding is in folding_begun lines k tree r s u old new t o.0 ready o.1 o.2
+  on (inr no_tree) = let o = h.no_tree no_tree in refuses_session lines (event.Tree k tree) r _ s u old new t ready o.1 o.0
+
+-- ---- commits
+
+-- the put that commits opens a head that was settled
+opens_head : (look : Newest) (home : Home) (changes : List Noted) (c : Commit) → HomeStands look home → Readies (new_commit home changes) (Goes c)
+    → CommitStands look c.stage c × (c.changes ≡ changes) × (c.home.client ≡ home.client)
+opens_head look home changes c stands (inl spent) = absurd (cc (spent.is))
+opens_head look home changes c stands (inr (inl full)) = absurd (cc (full.is))
+opens_head look home changes c stands (inr (inr ready)) =
+    let e : c ≡ opening (new_commit home changes) (with_attempt home) (next_records (new_commit home changes)) = cc (ready.is) in
+    let P : Commit → Type 0 = λ z. CommitStands look z.stage z × (z.changes ≡ changes) × (z.home.client ≡ home.client) in
+    subst P (sym e) (record { before = home.head; newest = stands.head; settled = stands.settled; opens = refl }, refl, refl)
+
+-- a commit that is answered at once leaves the home with its head
+home_left : (look : Newest) (home : Home) (changes : List Noted) (c : Commit) (a : CommitAnswer) → HomeStands look home → Readies (new_commit home changes) (Ends c a)
+    → HomeStands look c.home × (c.home.client ≡ home.client) × ((t : Trouble) × (a ≡ NotCommitted t))
+home_left look home changes c a stands (inl spent) =
+    let e : c ≡ finished (new_commit home changes) = cc (spent.is) in
+    let f : a ≡ NotCommitted (trouble.Exhausted counter.Txn) = cc (spent.is) in
+    (subst (λ (z : Commit). HomeStands look z.home) (sym e) stands, ap (λ (z : Commit). z.home.client) e, (_, f))
+home_left look home changes c a stands (inr (inl full)) =
+    let e : c ≡ finished (record (new_commit home changes) { home = with_attempt home }) = cc (full.is) in
+    let f : a ≡ NotCommitted (trouble.Exhausted counter.Number) = cc (full.is) in
+    let left : HomeStands look (with_attempt home) = record { head = record { bytes = stands.head.bytes; newest = stands.head.newest; spells = stands.head.spells }; settled = stands.settled } in
+    (subst (λ (z : Commit). HomeStands look z.home) (sym e) left, ap (λ (z : Commit). z.home.client) e, (_, f))
+home_left look home changes c a stands (inr (inr ready)) = absurd (cc (ready.is))
+
+-- a commit of what was noted by a home
+commit_of : (lines : List Line) (k : ℕ) (r : Reply) (s u : Option CloudState) (buffer : List Noted) (home : Home) (audit : Audited) (new : World) (t : CloudState) (begun : Begun)
+    → Ready lines (event.Commit k) s u (record { session = record { buffer = buffer; work = work.Idle home }; audit = audit }) new t
+    → CommitsOf home (record { buffer = buffer; work = work.Idle home }) new.session begun → BegunReply (Ok begun) (Ok r)
+    → StandsFor (lines ++ line_of (event.Commit k) r ∷ []) new u r
+commit_of lines k r s u buffer home audit new t Working ready commits replies =
+    let acts = ready.stands.session.acts in
+    let o = opens_head (newest t) home buffer commits.0 ready.stands.session.knows commits.1 in
+    begins_session lines (event.Commit k) r s u _ new t _ ready replies commits.2 o.0
+        (record { buffer = refl; work = (ap (λ cs. WorkingOn (Noting cs)) (sym acts.buffer ∙ sym o.1), acts.work.1 ∙ sym o.2) })
+commit_of lines k r s u buffer home audit new t (Answered (answer.Commit a)) ready commits replies =
+    let acts = ready.stands.session.acts in
+    let o = home_left (newest t) home buffer commits.0 a ready.stands.session.knows commits.1 in
+    let f : r ≡ reply.Commit a = cc in
+    let e : r ≡ reply.Commit (NotCommitted o.2.0) = f ∙ ap (λ z. reply.Commit z) o.2.1 in
+    let P : Reply → Type 0 = λ z. StandsFor (lines ++ line_of (event.Commit k) z ∷ []) new u z in
+    subst P (sym e) (leaves_session lines (event.Commit k) (reply.Commit (NotCommitted o.2.0)) s u _ new t ready
+        (subst (λ (x : Acting). Knows (newest t) x.work) (sym commits.2) o.0)
+        (subst (λ x. ActsAs x (record (standing lines 1) { buffer = [] })) (sym commits.2) (record { buffer = refl; work = (acts.work.0, acts.work.1 ∙ sym o.1) }))
+        tt tt)
+commit_of lines k r s u buffer home audit new t (Answered (answer.Opened epoch)) ready commits replies = absurd commits
+commit_of lines k r s u buffer home audit new t (Answered (answer.Done n)) ready commits replies = absurd commits
+commit_of lines k r s u buffer home audit new t (Answered (answer.Trouble z)) ready commits replies = absurd replies
+
+-- nothing was noted, or the home commits what was
+commit_noted : (lines : List Line) (k : ℕ) (r : Reply) (s u : Option CloudState) (buffer : List Noted) (w : Work) (audit : Audited) (new : World) (t : CloudState) (begun : Begun)
+    → Ready lines (event.Commit k) s u (record { session = record { buffer = buffer; work = w }; audit = audit }) new t
+    → CommitsNoted w (record { buffer = buffer; work = w }) new.session begun → BegunReply (Ok begun) (Ok r)
+    → StandsFor (lines ++ line_of (event.Commit k) r ∷ []) new u r
+commit_noted lines k r s u buffer (work.Idle home) audit new t begun ready (inl none) replies =
+    let answered : BegunReply (Ok (Answered (answer.Commit (Committed 0)))) (Ok r) = subst (λ b. BegunReply (Ok b) (Ok r)) none.2 replies in
+    let e : r ≡ reply.Commit (Committed 0) = cc in
+    let P : Reply → Type 0 = λ z. StandsFor (lines ++ line_of (event.Commit k) z ∷ []) new u z in
+    subst P (sym e) (leaves_session lines (event.Commit k) (reply.Commit (Committed 0)) s u _ new t ready
+        (subst (λ (x : Acting). Knows (newest t) x.work) (sym none.1) ready.stands.session.knows)
+        (subst (λ x. ActsAs x (standing lines 1)) (sym none.1) ready.stands.session.acts)
+        tt tt)
+commit_noted lines k r s u buffer (work.Idle home) audit new t begun ready (inr some) replies = commit_of lines k r s u buffer home audit new t begun ready some.1 replies
+commit_noted lines k r s u buffer work.Closed audit new t begun ready commits replies = absurd commits
+commit_noted lines k r s u buffer (work.Opening m) audit new t begun ready commits replies = absurd commits
+commit_noted lines k r s u buffer (work.Committing m) audit new t begun ready commits replies = absurd commits
+commit_noted lines k r s u buffer (work.Folding home m) audit new t begun ready commits replies = absurd commits
+commit_noted lines k r s u buffer work.Broken audit new t begun ready commits replies = absurd commits
+
+commit_begun : (lines : List Line) (k : ℕ) (r : Reply) (s u : Option CloudState) (old new : World) (t : CloudState) (begun : Result Begun Refused)
+    → Ready lines (event.Commit k) s u old new t → BeginsCommit old.session new.session begun → BegunReply begun (Ok r)
+    → StandsFor (lines ++ line_of (event.Commit k) r ∷ []) new u r
+commit_begun lines k r s u old new t (Ok begun) ready begins replies = commit_noted lines k r s u old.session.buffer old.session.work old.audit new t begun ready begins replies
+commit_begun lines k r s u old new t (Err (refused.Rule rule)) ready begins replies = refuses_session lines (event.Commit k) r rule s u old new t ready replies begins.1
+commit_begun lines k r s u old new t (Err refused.Memory) ready begins replies = absurd begins
+
+-- ---- lines that note and drop
+
+inserts : (lines : List Line) (k tree : ℕ) (key payload : Blob) (r : Reply) (s u : Option CloudState) (old new : World) (t : CloudState)
+    → Ready lines (event.Insert k tree key payload) s u old new t → Inserts tree key payload old.session new.session (Ok r)
+    → StandsFor (lines ++ line_of (event.Insert k tree key payload) r ∷ []) new u r
+inserts lines k tree key payload reply.Noted s u old new t ready h =
+    let acts = ready.stands.session.acts in
+    leaves_session lines (event.Insert k tree key payload) reply.Noted s u old new t ready
+        (subst (λ (x : Acting). Knows (newest t) x.work) (sym h.0) ready.stands.session.knows)
+        (subst (λ x. ActsAs x (after_own (event.Insert k tree key payload) reply.Noted (standing lines 1))) (sym h.0)
+            (record { buffer = ap (λ b. noted_in b tree (Insert key payload)) acts.buffer; work = works_with old.session.work (standing lines 1) _ acts.work }))
+        tt tt
+inserts lines k tree key payload (reply.Refused rule) s u old new t ready h = refuses_session lines (event.Insert k tree key payload) (reply.Refused rule) rule s u old new t ready refl h
+inserts lines k tree key payload r s u old new t ready h = absurd h
+
+aborts : (lines : List Line) (k : ℕ) (r : Reply) (s u : Option CloudState) (old new : World) (t : CloudState)
+    → Ready lines (event.Abort k) s u old new t → Aborts old.session new.session (Ok r) → StandsFor (lines ++ line_of (event.Abort k) r ∷ []) new u r
+aborts lines k reply.Aborted s u old new t ready h =
+    let acts = ready.stands.session.acts in
+    leaves_session lines (event.Abort k) reply.Aborted s u old new t ready
+        (subst (λ (x : Acting). Knows (newest t) x.work) (sym h) ready.stands.session.knows)
+        (subst (λ x. ActsAs x (record (standing lines 1) { buffer = [] })) (sym h) (record { buffer = refl; work = works_with old.session.work (standing lines 1) [] acts.work }))
+        tt tt
+aborts lines k (reply.Refused rule) s u old new t ready h = refuses_session lines (event.Abort k) (reply.Refused rule) rule s u old new t ready refl h
+aborts lines k r s u old new t ready h = absurd h
+
+-- ---- a line that runs
+
+replies_to : (a : Answer) (r : Reply) → Replies a (Ok r) → IsReplyTo a r
+replies_to (answer.Opened epoch) r h = cc
+replies_to (answer.Done n) r h = cc
+replies_to (answer.Commit (Committed txn)) r h = cc
+replies_to (answer.Commit (NotCommitted t)) r h = absurd h
+replies_to (answer.Commit InDoubt) r h = absurd h
+replies_to (answer.Commit (CommittedOpen t)) r h = absurd h
+replies_to (answer.Trouble t) r h = absurd h
+
+-- where a session is after some steps
+pub record IsUnderWay (lines : List Line) (world : World) (state : Option CloudState) : Type 0 where
+  pub after : CloudState
+  pub told : state ≡ Some after
+  pub goes : GoesOn lines world.session world.audit after
+
+step_more : (lines : List Line) (who : Caller) (c f : Counts) (s v : Option CloudState) (old new : World) → who.session ≡ 1 → who.event ≡ length lines + 1
+    → IsUnderWay lines old s → StepsLooked who c f s v old new (Ok More) → IsUnderWay lines new v
+step_more lines who c f s v old new session event way step =
+    let k = step_goes_on lines who step.d step.e way.after step.t step.u old.session new.session old.audit new.audit session event
+        (step.before.stays way.after way.told) way.goes step.steps step.kept (λ y. step.audit way.after y way.told) in
+    record { after = k.0; told = step.after.stays k.0 k.1; goes = k.2 }
+
+went_on : (lines : List Line) (who : Caller) (c : Counts) (s : Option CloudState) (old : World) (d : Counts) (t : Option CloudState) (new : World) → who.session ≡ 1 → who.event ≡ length lines + 1
+    → IsUnderWay lines old s → Went who c s old d t new → IsUnderWay lines new t
+went_on lines who c s old d t new session number way start = way
+went_on lines who c s old d t new session number way (further e _ v _ mid _ went step) =
+    step_more lines who e d v t mid new session number (went_on lines who c s old e v mid session number way went) step
+
+-- the last step of a run
+ends_run : (lines : List Line) (k : ℕ) (who : Caller) (c f : Counts) (s v : Option CloudState) (old new : World) (last : Result (Turn Answer) Refused) (r : Reply)
+    → k ≡ 1 → who.session ≡ 1 → who.event ≡ length lines + 1 → IsUnderWay lines old s → StepsLooked who c f s v old new last → RunReply last (Ok r)
+    → StandsFor (lines ++ line_of (event.Run k) r ∷ []) new v r
+ends_run lines k who c f s v old new (Ok (Ended a)) r own session number way step replies =
+    let is = replies_to a r replies in
+    let k' = step_ends lines who step.d step.e way.after step.t step.u old.session new.session old.audit new.audit a r session number
+        (step.before.stays way.after way.told) way.goes step.steps is (λ y. step.audit way.after y way.told) in
+    record {
+      after = k'.after;
+      told = step.after.stays k'.after k'.told;
+      stands = line_through lines (line_of (event.Run k) r) new.session new.audit k'.after k'.cloud k'.knows step.kept
+          (subst (λ z. ActsAs new.session z) (sym (own_line (event.Run k) r (standing lines 1) own)) k'.acts);
+      right = answer_no_report (lines ++ line_of (event.Run k) r ∷ []) k'.after a r is;
+      left = answer_no_left k'.after a r is;
+    }
+ends_run lines k who c f s v old new (Err (refused.Rule rule)) r own session number way step replies =
+    let e : r ≡ reply.Refused rule = cc in
+    let P : Reply → Type 0 = λ z. StandsFor (lines ++ line_of (event.Run k) z ∷ []) new v z in
+    let told : step.u ≡ Some way.after = sym step.steps.4 ∙ step.before.stays way.after way.told in
+    let audit : new.audit ≡ old.audit = step.audit way.after way.after way.told told ∙ idle_audit (newest way.after) (newest way.after) old.session.work old.audit step.steps.1 in
+    subst P (sym e) (record {
+      after = way.after;
+      told = step.after.stays way.after told;
+      stands = line_through lines (line_of (event.Run k) (reply.Refused rule)) new.session new.audit way.after
+          (subst (λ a. CloudStands (length lines + 1) lines a way.after) (sym audit) way.goes.cloud)
+          (subst (λ (x : Acting). Knows (newest way.after) x.work) (sym step.steps.2) way.goes.session.knows)
+          step.kept
+          (subst (λ z. ActsAs new.session z) (sym (refused_line (event.Run k) rule (standing lines 1))) (subst (λ x. ActsAs x (standing lines 1)) (sym step.steps.2) way.goes.session.acts));
+      right = tt;
+      left = tt;
+    })
+ends_run lines k who c f s v old new (Ok More) r own session number way step replies = absurd replies
+ends_run lines k who c f s v old new (Ok (Stopped t)) r own session number way step replies = absurd replies
+ends_run lines k who c f s v old new (Err refused.Memory) r own session number way step replies = absurd replies
+
+runs : (lines : List Line) (k n : ℕ) (r : Reply) (c d : Counts) (s u : Option CloudState) (old new : World) (t : CloudState)
+    → k ≡ 1 → length lines + 1 ≡ n → s ≡ Some t → Stands lines old.session old.audit t → RunsTo n c d s u old new (Ok r)
+    → StandsFor (lines ++ line_of (event.Run k) r ∷ []) new u r
+runs lines k n r c d s u old new t own at told stands run =
+    let who : Caller = record { session = 1; event = n } in
+    let way : IsUnderWay lines old s = record { after = t; told = told; goes = begins_line lines old.session old.audit t stands } in
+    ends_run lines k who run.counts d run.state u run.world new run.last r own refl (sym at)
+        (went_on lines who c s old run.counts run.state run.world refl (sym at) way run.went) run.steps run.replies
+
+-- ---- reports
+
+-- a report by the audit and by looks is right
+right_of : (lines : List Line) (tree : ℕ) (audit : Audited) (s : Option CloudState) (t : CloudState) (r : Report) → CloudStands (length lines) lines audit t → Shows tree s audit r → s ≡ Some t → IsRight lines t r
+right_of lines tree audit s t r stands shows told =
+    let found = report_of t tree audit.order r.contents (stands.trees tree) (shows.contents t told) in
+    let at : tree ≡ r.tree = sym shows.tree_is in
+    record {
+      committed = shows.committed ∙ ap (λ es. of_tree tree es) stands.committed ∙ ap (λ k. of_tree k (committed lines t)) at;
+      leaves = found.leaves;
+      chain = subst (λ k. AreLeaves t k found.leaves) at found.chain;
+      contents = found.contents_are;
+      found = λ key. subst (λ k. Finds t k key (payload_at key r.contents)) at (found.found key);
+      folded = λ key. found.folded_own key ∙ ap (λ es. fold es tree key) (sym shows.order) ∙ ap (λ k. fold r.order k key) at;
+    }
+
+-- and so are its two numbers
+left_of : (tree : ℕ) (audit : Audited) (s : Option CloudState) (t : CloudState) (r : Report) → Shows tree s audit r → s ≡ Some t → IsLeft t r
+left_of tree audit s t r shows told =
+    let at : tree ≡ r.tree = sym shows.tree_is in
+    record {
+      heads = shows.heads t told ∙ ap (λ es. heads_upto t tree es 64) (sym shows.committed) ∙ ap (λ k. heads_upto t k r.committed 64) at;
+      messages = subst (λ k. AreWaiting t k r.messages) at (shows.messages t told);
+    }
+
+reports : (lines : List Line) (tree : ℕ) (r : Reply) (c d : Counts) (s u : Option CloudState) (old new : World) (t : CloudState)
+    → s ≡ Some t → Stands lines old.session old.audit t → IsKept new.session.work → Reports tree c d s u old new (Ok r)
+    → StandsFor (lines ++ line_of (event.Report tree) r ∷ []) new u r
+reports lines tree (reply.Report r) c d s u old new t told stands kept h =
+    let line : Line = line_of (event.Report tree) (reply.Report r) in
+    let stood : Stands (lines ++ line ∷ []) new.session new.audit t =
+        line_through lines line new.session new.audit t
+            (subst (λ (w : World). CloudStands (length lines + 1) lines w.audit t) (sym h.world) (begins_line lines old.session old.audit t stands).cloud)
+            (subst (λ (w : World). Knows (newest t) w.session.work) (sym h.world) stands.session.knows)
+            kept
+            (subst (λ (w : World). ActsAs w.session (standing lines 1)) (sym h.world) stands.session.acts) in
+    let shows : Shows tree s new.audit r = subst (λ (w : World). Shows tree s w.audit r) (sym h.world) h.reply in
+    record { after = t; told = h.looked.stays t told; stands = stood; right = right_of (lines ++ line ∷ []) tree new.audit s t r stood.cloud shows told; left = left_of tree new.audit s t r shows told }
+reports lines tree (reply.Refused rule) c d s u old new t told stands kept h =
+    let line : Line = line_of (event.Report tree) (reply.Refused rule) in
+    let stood : Stands (lines ++ line ∷ []) new.session new.audit t =
+        line_through lines line new.session new.audit t
+            (subst (λ (w : World). CloudStands (length lines + 1) lines w.audit t) (sym h.world) (begins_line lines old.session old.audit t stands).cloud)
+            (subst (λ (w : World). Knows (newest t) w.session.work) (sym h.world) stands.session.knows)
+            kept
+            (subst (λ (w : World). ActsAs w.session (standing lines 1)) (sym h.world) stands.session.acts) in
+    record { after = t; told = h.looked.stays t told; stands = stood; right = tt; left = tt }
+reports lines tree r c d s u old new t told stands kept h = absurd h.reply
+
+-- ---- every line
+
+ready_of : (lines : List Line) (event : Event) (c d : Counts) (s u : Option CloudState) (old new : World) (t : CloudState)
+    → session_of event ≡ 1 → MakesNoCall c d s u old new → s ≡ Some t → Stands lines old.session old.audit t → IsKept new.session.work → Ready lines event s u old new t
+ready_of lines event c d s u old new t own none told stands kept =
+    record { own = own; same = none.state; audit = none.audit; told = told; stands = stands; kept = kept }
+
+first_stands : (n : ℕ) (event : Event) (c d : Counts) (s u : Option CloudState) (old new : World) (r : Reply) (lines : List Line) (t : CloudState)
+    → session_of event ≡ 1 → HandledFirst n event c d s u old new (Ok r) → IsKept new.session.work → length lines + 1 ≡ n → s ≡ Some t → Stands lines old.session old.audit t
+    → StandsFor (lines ++ line_of event r ∷ []) new u r
+first_stands n (event.Open k client) c d s u old new r lines t own h kept at told stands = opens lines k client r s u old new t (ready_of lines _ c d s u old new t own h.0 told stands kept) h.1
+first_stands n (event.Insert k tree key payload) c d s u old new r lines t own h kept at told stands = inserts lines k tree key payload r s u old new t (ready_of lines _ c d s u old new t own h.0 told stands kept) h.1
+first_stands n (event.Commit k) c d s u old new r lines t own h kept at told stands = commit_begun lines k r s u old new t h.1.begun (ready_of lines _ c d s u old new t own h.0 told stands kept) h.1.begins h.1.replies
+first_stands n (event.Abort k) c d s u old new r lines t own h kept at told stands = aborts lines k r s u old new t (ready_of lines _ c d s u old new t own h.0 told stands kept) h.1
+first_stands n (event.Tree k tree) c d s u old new r lines t own h kept at told stands = folds lines k tree r s u old new t (ready_of lines _ c d s u old new t own h.0 told stands kept) h.1
+first_stands n (event.Run k) c d s u old new r lines t own h kept at told stands = runs lines k n r c d s u old new t own at told stands h
+first_stands n event c d s u old new r lines t own h kept at told stands = unbuilt lines event r c d s u old new t h told stands kept
+
+other_stands : (event : Event) (c d : Counts) (s u : Option CloudState) (old new : World) (r : Reply) (lines : List Line) (t : CloudState)
+    → HandledOther event c d s u old new (Ok r) → IsKept new.session.work → s ≡ Some t → Stands lines old.session old.audit t
+    → StandsFor (lines ++ line_of event r ∷ []) new u r
+other_stands (event.Report tree) c d s u old new r lines t h kept told stands = reports lines tree r c d s u old new t told stands kept h
+other_stands event c d s u old new r lines t h kept told stands = unbuilt lines event r c d s u old new t h told stands kept
+
+handled_stands : (n : ℕ) (event : Event) (c d : Counts) (s u : Option CloudState) (old new : World) (r : Reply) → Handled n event c d s u old new (Ok r) → IsKept new.session.work
+    → (lines : List Line) (t : CloudState) → length lines + 1 ≡ n → s ≡ Some t → Stands lines old.session old.audit t → StandsFor (lines ++ line_of event r ∷ []) new u r
+handled_stands n event c d s u old new r h kept lines t at told stands = on (session_of event == 1) refl h where
+  on : (b : Bool) → (session_of event == 1) ≡ b → MatchBool b (HandledFirst n event c d s u old new (Ok r)) (HandledOther event c d s u old new (Ok r)) → StandsFor (lines ++ line_of event r ∷ []) new u r
+  on true e first = first_stands n event c d s u old new r lines t (eqb-true (session_of event) 1 e) first kept at told stands
+  on false e other = other_stands event c d s u old new r lines t other kept told stands
+
+pub stands_after : (n : ℕ) (event : Event) (c d : Counts) (s u : Option CloudState) (old new : World) (result : Result Reply WorldFault)
+    → Handled n event c d s u old new result → IsKept new.session.work → StandsOn n event s u old new result
+stands_after n event c d s u old new (Ok r) h kept = λ lines t at told stands. handled_stands n event c d s u old new r h kept lines t at told stands
+stands_after n event c d s u old new (Err fault) h kept = tt

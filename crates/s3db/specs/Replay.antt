@@ -19,12 +19,6 @@ pub record HasBadLine (text : List ℕ) : Type 0 where
   pub at : lines_of text ≡ earlier ++ line ∷ later
   pub bad : (event : Event) → IsEvent line event → ⊥
 
--- so many lines of the text stand before the rest
-pub record IsBehind (text rest : List ℕ) (n : ℕ) : Type 0 where
-  pub earlier : List (List ℕ)
-  pub at : lines_of text ≡ earlier ++ lines_of rest
-  pub count : length earlier ≡ n
-
 -- some bytes were read, and more than an input has
 pub record WasTooLong (left rest : Option (List ℕ)) : Type 0 where
   pub bytes : List ℕ

@@ -1,10 +1,12 @@
-ghost use Rattle.std.specs.Prelude.{◌≡◌, ℕ, ◌<◌, ◌≤◌, ◌++◌, [], ◌∷◌, Err, IfOk, OnOk, OnErr};
-ghost use Rattle.db_io.specs.Content.{Adds, AddsPrefix};
+ghost use Rattle.std.specs.Prelude.{◌≡◌, ℕ, ◌<◌, ◌≤◌, [], Err, IfOk, OnOk, OnErr};
 ghost use Rattle.std.specs.Fmt.{decimal};
-ghost use Rattle.reply_text.specs.Reply.{reply_text};
-ghost use Rattle.s3db.specs.Replay.{HasBadLine, IsOfLines, status_of};
+ghost use Rattle.client_session.specs.Session.{closed_session};
+ghost use Rattle.db_io.specs.Content.{Adds, AddsPrefix};
 ghost use Rattle.event_text.specs.declared.event.Event.{Event};
 ghost use Rattle.event_text.specs.Event.{IsEvent};
+ghost use Rattle.world_core.specs.Stands.{Grows};
+ghost use Rattle.s3db.specs.Replay.{HasBadLine, IsOfLines, status_of};
+ghost use Rattle.s3db.specs.Replayed.{reply_line, bad_line, LineWent, LineHandled, WentThrough, WentBy};
 
 use crate::status::Status;
 use cloud_trait::cloud::Bench;
@@ -29,6 +31,7 @@ pub fn replay_lines<O: Sink, C: Bench>(
     ensures bad_line { result ≡ Status.BadLine → HasBadLine input.now }
     ensures write_fault { result ≡ Status.WriteFault → O.faults sink.old < O.faults sink.new }
     ensures only { IsOfLines result }
+    ensures went { WentBy result input.now (O.written sink.old) (O.written sink.new) (C.state cloud.old) (C.state cloud.new) }
 {
     match World::new(alloc) {
         Ok(mut world) => status_of(go_on(alloc, &mut world, input, sink, cloud)),
@@ -49,7 +52,7 @@ fn status_of(ended: Result<(), LineFault>) -> Status
     }
 }
 
-/// Handles the lines of an input, up to the first that ends the run.
+/// Handles the lines of an input in a new world, up to the first that ends the run.
 fn go_on<O: Sink, C: Bench>(
     alloc: Global,
     world: &mut World,
@@ -57,6 +60,9 @@ fn go_on<O: Sink, C: Bench>(
     sink: &mut O,
     cloud: &mut C,
 ) -> Result<(), LineFault>
+    requires closed { world.old.session ≡ closed_session }
+    requires empty { world.old.audit ≡ record { committed = []; order = [] } }
+    ensures went { WentThrough input.now result (O.written sink.old) (O.written sink.new) (C.state cloud.old) (C.state cloud.new) }
     ensures bad_line { result ≡ Err LineFault.BadLine → HasBadLine input.now }
     ensures write_fault { result ≡ Err LineFault.WriteFault → O.faults sink.old < O.faults sink.new }
 {
@@ -94,21 +100,37 @@ fn replay_line<O: Sink, C: Bench>(
     n: u64,
     line: &[u8],
 ) -> Result<(), LineFault>
+    ensures went { LineWent result n line.now (O.written sink.old) (O.written sink.new) (C.state cloud.old) (C.state cloud.new) world.old world.new }
+    ensures grows { Grows n (C.state cloud.old) (C.state cloud.new) }
     ensures bad_line { result ≡ Err LineFault.BadLine → (event : Event) → IsEvent line.now event → ⊥ }
     ensures write_fault { result ≡ Err LineFault.WriteFault → O.faults sink.old < O.faults sink.new }
     ensures faults { O.faults sink.old ≤ O.faults sink.new }
 {
-    let event = match Event::read(alloc, line) {
-        Ok(event) => event,
-        Err(TextFault::NotInGrammar) => {
-            return match refuse(alloc, sink, n) {
-                Ok(()) => Err(LineFault::BadLine),
-                Err(fault) => Err(fault),
-            };
-        }
-        Err(TextFault::Memory) => return Err(LineFault::Memory),
-    };
-    match world.event(alloc, cloud, n, &event) {
+    match Event::read(alloc, line) {
+        Ok(event) => handle(alloc, world, sink, cloud, n, &event),
+        Err(TextFault::NotInGrammar) => match refuse(alloc, sink, n) {
+            Ok(()) => Err(LineFault::BadLine),
+            Err(fault) => Err(fault),
+        },
+        Err(TextFault::Memory) => Err(LineFault::Memory),
+    }
+}
+
+/// Handles the event of a line, and writes its reply.
+fn handle<O: Sink, C: Bench>(
+    alloc: Global,
+    world: &mut World,
+    sink: &mut O,
+    cloud: &mut C,
+    n: u64,
+    event: &Event,
+) -> Result<(), LineFault>
+    ensures handled { LineHandled result n event.now (O.written sink.old) (O.written sink.new) (C.state cloud.old) (C.state cloud.new) world.old world.new }
+    ensures grows { Grows n (C.state cloud.old) (C.state cloud.new) }
+    ensures write_fault { result ≡ Err LineFault.WriteFault → O.faults sink.old < O.faults sink.new }
+    ensures faults { O.faults sink.old ≤ O.faults sink.new }
+{
+    match world.event(alloc, cloud, n, event) {
         Ok(reply) => write_reply(alloc, sink, n, &reply),
         Err(WorldFault::Cloud) => Err(LineFault::CloudFault),
         Err(WorldFault::Memory) => Err(LineFault::Memory),
@@ -117,6 +139,8 @@ fn replay_line<O: Sink, C: Bench>(
 
 /// Writes that a line is in no grammar.
 fn refuse<O: Sink>(alloc: Global, sink: &mut O, n: u64) -> Result<(), LineFault>
+    ensures written { OnOk result (Adds (O.written sink.old) (O.written sink.new) (bad_line n)) }
+    ensures front { OnErr result (AddsPrefix (O.written sink.old) (O.written sink.new) (bad_line n)) }
     ensures bad_line { result ≡ Err LineFault.BadLine → ⊥ }
     ensures write_fault { result ≡ Err LineFault.WriteFault → O.faults sink.old < O.faults sink.new }
     ensures faults { O.faults sink.old ≤ O.faults sink.new }
@@ -129,6 +153,8 @@ fn refuse<O: Sink>(alloc: Global, sink: &mut O, n: u64) -> Result<(), LineFault>
 
 /// Writes the reply to a line, under the line's number.
 fn write_reply<O: Sink>(alloc: Global, sink: &mut O, n: u64, reply: &Reply) -> Result<(), LineFault>
+    ensures written { OnOk result (Adds (O.written sink.old) (O.written sink.new) (reply_line n reply.now)) }
+    ensures front { OnErr result (AddsPrefix (O.written sink.old) (O.written sink.new) (reply_line n reply.now)) }
     ensures bad_line { result ≡ Err LineFault.BadLine → ⊥ }
     ensures write_fault { result ≡ Err LineFault.WriteFault → O.faults sink.old < O.faults sink.new }
     ensures faults { O.faults sink.old ≤ O.faults sink.new }
@@ -141,7 +167,7 @@ fn write_reply<O: Sink>(alloc: Global, sink: &mut O, n: u64, reply: &Reply) -> R
 
 /// The line of a reply: the number, a space, the text, a line feed.
 fn reply_line(alloc: Global, n: u64, reply: &Reply) -> Result<Blob, Refused>
-    ensures { IfOk result (λ line. line ≡ decimal n ++ 32 ∷ reply_text reply.now ++ 10 ∷ []) }
+    ensures { IfOk result (λ line. line ≡ reply_line n reply.now) }
 {
     let text = match reply.write(alloc) {
         Ok(text) => text,

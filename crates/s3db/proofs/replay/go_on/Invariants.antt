@@ -1,11 +1,11 @@
 use Rattle.std.proofs.Common.{◌≤◌, length}
-use Rattle.s3db.specs.Replay.{IsBehind}
+use Rattle.s3db.specs.Replayed.{IsAt}
 use Rattle.s3db.proofs.replay.go_on.Given as goal
 
--- the lines so far stand before the rest; the count of failed writes has not fallen
+-- the lines so far stand before the rest and were handled; the count of failed writes has not fallen
 abbrev pub invariant-loop-rest : goal.invariant-loop-rest
 invariant-loop-rest g l = record {
-  behind : IsBehind l.fn.input l.rest l.n;
+  at : IsAt l.fn.input l.rest l.n (g.O.Sink.written l.fn.sink) (g.O.Sink.written l.sink) (g.C.Cloud.state l.fn.cloud) (g.C.Cloud.state l.cloud) l.world;
   faults : g.O.Sink.faults l.fn.sink ≤ g.O.Sink.faults l.sink;
 }
 

@@ -1,12 +1,10 @@
 -- What one call leaves of what holds of a cloud.
-use Rattle.std.proofs.Common.{◌≡◌, ◌≤◌, ◌⊎◌, ℕ, List, [], ◌∷◌, ◌++◌, Option, Some, None, Ok, refl, sym, ap, subst, ◌∙◌, inl, inr, Bool, true, false, cond}
+use Rattle.std.proofs.Common.{◌≡◌, ◌≤◌, ◌⊎◌, ℕ, List, [], ◌++◌, Option, Some, Ok, refl, sym, ap, subst, ◌∙◌, inl, inr, Bool, true, false, cond}
 use Rattle.std.specs.Prelude.{All, not, ◌&&◌, map}
 use Rattle.std.specs.Ordering.{is_eq}
 use Rattle.std.proofs.lemmas.List.{append-nil}
 use Rattle.db_base.specs.declared.names.ObjName.{ObjName}
-use Rattle.db_base.specs.declared.names.ObjName.TheVariants as object
 use Rattle.head_codec.specs.declared.head.Head.{Head}
-use Rattle.head_codec.specs.declared.head.Phase.{Phase}
 use Rattle.head_codec.specs.declared.head.Phase.TheVariants as phase
 use Rattle.head_codec.specs.Spelling.{head_of}
 use Rattle.report_types.specs.declared.entry.Entry.{Entry}
@@ -18,14 +16,11 @@ use Rattle.cloud_trait.specs.Claim.{Claim}
 use Rattle.cloud_trait.specs.Names.{object_cmp}
 use Rattle.cloud_trait.specs.State.{CloudState, Counts, called, landed, newest, newest_of}
 use Rattle.cloud_trait.specs.Ask.{Ask, Get, GetHeld, PutHeld, Send, Receive, Delete, Take, Renew, Release, PutsNothing, effect}
-use Rattle.cloud_trait.specs.Upto.{IsUpto}
 use Rattle.cloud_trait.specs.Weather.{Leaves}
 use Rattle.cloud_trait.specs.Views.{done_of}
-use Rattle.cloud_trait.proofs.EffectLemmas.{effect_versions}
-use Rattle.cloud_trait.proofs.RowLemmas.{lands_or_not, row_by, row_versions, leaves_upto}
+use Rattle.cloud_trait.proofs.RowLemmas.{row_by, row_versions, leaves_upto}
 use Rattle.cloud_trait.proofs.StateLemmas.{landed_newest, landed_other}
 use Rattle.cloud_trait.proofs.UptoLemmas.{effect_upto}
-use Rattle.cloud_trait.proofs.ViewLemmas.{done_of-ok}
 use Rattle.world_audit.specs.Audited.{Audited, committed_entry}
 use Rattle.replay_model.specs.Standing.{Line}
 use Rattle.replay_model.specs.Committed.{Versions, committed, entries_of_bytes, entries_of_head, entries_of_phase}
@@ -69,7 +64,7 @@ quiet n lines a who ask answer c d x u l event nothing stands =
     let Committed : CloudState → Type 0 = λ t. a.committed ≡ committed lines t in
     let placed : All (IsPlaced b.versions) b.trace = stands.placed in
     let there : a.committed ≡ committed lines (effect who ask b) =
-        nothing_more a.committed (committed lines b) _ (put_entries lines who ask) stands.committed (committed_effect lines who ask b placed) (quiet_entries lines who ask nothing) in
+    nothing_more a.committed (committed lines b) _ (put_entries lines who ask) stands.committed (committed_effect lines who ask b placed) (quiet_entries lines who ask nothing) in
     record {
       trees = subst Trees (sym (row_versions who ask answer c d b l.after l.row nothing)) stands.trees;
       placed = row_by Placed who ask answer c d b l.after l.row placed (placed_effect who ask b placed);
@@ -106,7 +101,7 @@ put_keeps n lines a more who name bytes one two answer c d x u l event stands ne
     let same : At b = subst (λ z. CloudStands n lines z b) (sym (never_new p more a)) begun in
     let e : has_bytes (newest (landed who name bytes b) name) bytes ≡ true = ap (λ v. has_bytes v bytes) (landed_newest who name bytes b) ∙ has_own_bytes bytes in
     let taken : cond (not p && has_bytes (newest (landed who name bytes b) name) bytes) more a ≡ more =
-        on new (has_bytes (newest (landed who name bytes b) name) bytes) e in
+    on new (has_bytes (newest (landed who name bytes b) name) bytes) e in
     let there : CloudStands n lines more (landed who name bytes b) = record {
       trees = trees (newest (landed who name bytes b)) (landed_newest who name bytes b) (landed_other who name bytes b);
       placed = placed_effect who ask b begun.placed;
@@ -115,9 +110,9 @@ put_keeps n lines a more who name bytes one two answer c d x u l event stands ne
     } in
     row_by At who ask answer c d b l.after l.row same (subst (λ z. CloudStands n lines z (landed who name bytes b)) (sym taken) there)
   where
-  on : ((has_bytes (newest x name) bytes ≡ false) ⊎ (more ≡ a)) → (q : Bool) → q ≡ true → cond (not (has_bytes (newest x name) bytes) && q) more a ≡ more
-  on (inl differs) q f = is_new (has_bytes (newest x name) bytes) q more a differs f
-  on (inr same) q f = both_same (not (has_bytes (newest x name) bytes) && q) more a same
+    on : ((has_bytes (newest x name) bytes ≡ false) ⊎ (more ≡ a)) → (q : Bool) → q ≡ true → cond (not (has_bytes (newest x name) bytes) && q) more a ≡ more
+    on (inl differs) q f = is_new (has_bytes (newest x name) bytes) q more a differs f
+    on (inr same) q f = both_same (not (has_bytes (newest x name) bytes) && q) more a same
 
 -- a put that was done is the newest
 pub put_done : (who : Caller) (name : ObjName) (bytes : List ℕ) (one : Claim) (two : Option Claim) (answer : Answer) (c d : Counts) (x : CloudState) (u : Option CloudState)

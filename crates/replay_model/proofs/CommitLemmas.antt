@@ -1,5 +1,5 @@
 -- What a call of a commit leaves of the cloud, and what the session knows after it.
-use Rattle.std.proofs.Common.{◌≡◌, ◌≤◌, ◌+◌, ℕ, List, [], ◌∷◌, ◌++◌, length, Option, Some, None, Result, Ok, Err, refl, sym, ap, subst, ◌∙◌, inl, inr, cond}
+use Rattle.std.proofs.Common.{◌≡◌, ◌≤◌, ◌+◌, ℕ, List, [], ◌++◌, length, Option, Some, None, Result, Ok, Err, refl, sym, ap, subst, ◌∙◌, inl, inr, cond}
 use Rattle.std.specs.Prelude.{map, slice_get}
 use Rattle.std.proofs.lemmas.List.{append-nil}
 use Rattle.db_base.specs.declared.names.ObjName.TheVariants as object
@@ -7,8 +7,6 @@ use Rattle.db_base.specs.declared.trouble.Trouble.{Trouble}
 use Rattle.db_base.specs.declared.trouble.Trouble.TheVariants as trouble
 use Rattle.db_base.specs.declared.trouble.CommitAnswer.{CommitAnswer}
 use Rattle.db_base.specs.declared.trouble.CommitAnswer.TheVariants.{Committed, NotCommitted, InDoubt, CommittedOpen}
-use Rattle.head_codec.specs.declared.head.Phase.TheVariants as phase
-use Rattle.head_codec.specs.Spelling.{head_of}
 use Rattle.report_types.specs.declared.entry.Entry.{Entry}
 use Rattle.log_codec.specs.declared.record.AtomicRec.{AtomicRec}
 use Rattle.cloud_trait.specs.declared.answer.Answer.{Answer}
@@ -18,16 +16,15 @@ use Rattle.cloud_trait.specs.Ask.{PutHeld}
 use Rattle.cloud_trait.specs.Machine.{Next, Goes, Ends, Stops}
 use Rattle.cloud_trait.specs.Views.{done_of, sent_of}
 use Rattle.cloud_trait.specs.Weather.{Leaves}
-use Rattle.recover_run.specs.declared.home.Home.{Home}
 use Rattle.commit_run.specs.declared.commit.Stage.{Stage}
 use Rattle.commit_run.specs.declared.commit.Stage.TheVariants.{Ready, PuttingOpen, Sending, PuttingSettled, Finished}
-use Rattle.commit_run.specs.Commit.{Commit, ask_at, send_ask, next_at, opens_at, IsSoundAt, SendsRecord, opened_by, not_opened, sent_by, settled_by, send_at, send_or_settle}
+use Rattle.commit_run.specs.Commit.{Commit, ask_at, send_ask, next_at, IsSoundAt, SendsRecord, opened_by, not_opened, sent_by, settled_by, send_or_settle}
 use Rattle.client_session.specs.declared.session.Work.TheVariants.{Committing}
 use Rattle.world_audit.specs.Audited.{Audited, committed_entry}
 use Rattle.replay_model.specs.Standing.{Line}
 use Rattle.replay_model.specs.Committed.{entries_of_bytes}
 use Rattle.replay_model.specs.Noting.{Newest, noted_at, has_landed}
-use Rattle.replay_model.specs.Facts.{OpensHead, CommitStands, HomeStands, CloudStands}
+use Rattle.replay_model.specs.Facts.{CommitStands, HomeStands, CloudStands}
 use Rattle.replay_model.proofs.TreeLemmas.{head_lands, head_differs}
 use Rattle.replay_model.proofs.CommittedLemmas.{put_entries}
 use Rattle.replay_model.proofs.CloudLemmas.{quiet, put_keeps, put_done, settled_entries, opened_entries}
@@ -55,17 +52,17 @@ commit_cloud n lines a who answer c d x u m PuttingOpen l event stands knows sou
     let es : List Entry = map (committed_entry m.home.client m.home.head.epoch m.home.head.txn) m.changes in
     let more : Audited = record a { committed = a.committed ++ es } in
     let are : es ≡ put_entries lines who (PutHeld (object.Head m.home.client) m.out m.home.lease None) =
-        sym (commits.entries ∙ opened_entries m.home.client m.out m.home.head (length m.records) m.changes sound knows.opens) in
+    sym (commits.entries ∙ opened_entries m.home.client m.out m.home.head (length m.records) m.changes sound knows.opens) in
     put_keeps n lines a more who (object.Head m.home.client) m.out m.home.lease None answer c d x u l event stands (inl (head_differs (newest x) m knows sound))
-        (λ after here there. head_lands (newest x) after a.order m.home.client stands.trees there)
-        (ap (λ es. a.committed ++ es) are)
+    (λ after here there. head_lands (newest x) after a.order m.home.client stands.trees there)
+    (ap (λ es. a.committed ++ es) are)
 commit_cloud n lines a who answer c d x u m Sending l event stands knows sound commits = sends n lines a who answer c d x u m (slice_get m.records m.sent) l event stands sound
 commit_cloud n lines a who answer c d x u m PuttingSettled l event stands knows sound commits =
     let none : put_entries lines who (PutHeld (object.Head m.home.client) m.out m.home.lease None) ≡ [] =
-        commits.entries ∙ settled_entries m.home.client m.out m.home.head m.changes sound knows in
+    commits.entries ∙ settled_entries m.home.client m.out m.home.head m.changes sound knows in
     put_keeps n lines a a who (object.Head m.home.client) m.out m.home.lease None answer c d x u l event stands (inr refl)
-        (λ after here there. head_lands (newest x) after a.order m.home.client stands.trees there)
-        (sym (append-nil a.committed) ∙ ap (λ es. a.committed ++ es) (sym none))
+    (λ after here there. head_lands (newest x) after a.order m.home.client stands.trees there)
+    (sym (append-nil a.committed) ∙ ap (λ es. a.committed ++ es) (sym none))
 commit_cloud n lines a who answer c d x u m Ready l event stands knows sound commits = absurd knows
 commit_cloud n lines a who answer c d x u m Finished l event stands knows sound commits = absurd knows
 

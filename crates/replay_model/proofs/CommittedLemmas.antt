@@ -66,7 +66,7 @@ kept_version : (who : Caller) (name : ObjName) (bytes : List ℕ) (b : CloudStat
     → version_at ((landed who name bytes b).versions q) position ≡ version_at (b.versions q) position
 kept_version who name bytes b position q =
     put_at_by (λ p vs. position ≤ length (b.versions p) → version_at vs position ≡ version_at (b.versions p) position) object_cmp object_cmp-equal b.versions name (b.versions name ++ record { who = who; bytes = bytes } ∷ [])
-        (version_at-push_old (b.versions name) (record { who = who; bytes = bytes }) position) (λ p h. refl) q
+    (version_at-push_old (b.versions name) (record { who = who; bytes = bytes }) position) (λ p h. refl) q
 
 -- ---- lists
 
@@ -108,8 +108,8 @@ committed_kept : (lines : List Line) (who : Caller) (name : ObjName) (bytes : Li
     → committed_by lines (landed who name bytes b).versions rows ≡ committed_by lines b.versions rows
 committed_kept lines who name bytes b rows h =
     flat_map-agree (row_entries lines (landed who name bytes b).versions) (row_entries lines b.versions) rows
-        (All-weaker (IsPlaced b.versions) (λ row. row_entries lines (landed who name bytes b).versions row ≡ row_entries lines b.versions row)
-            (λ row g. site_entries_kept (changes_of_row lines row) who name bytes b row.position row.site g) rows h)
+    (All-weaker (IsPlaced b.versions) (λ row. row_entries lines (landed who name bytes b).versions row ≡ row_entries lines b.versions row)
+    (λ row g. site_entries_kept (changes_of_row lines row) who name bytes b row.position row.site g) rows h)
 
 -- what the new row commits
 new_entries : (lines : List Line) (who : Caller) (name : ObjName) (bytes : List ℕ) (one : Claim) (two : Option Claim) (b : CloudState)
@@ -148,13 +148,13 @@ placed_called who t s h = placed_same s (called who t s) s.trace refl h
 placed_at_kept : (who : Caller) (name : ObjName) (bytes : List ℕ) (b : CloudState) (position : ℕ) (site : Site) → IsPlacedAt b.versions position site → IsPlacedAt (landed who name bytes b).versions position site
 placed_at_kept who name bytes b position (Object q) h =
     put_at_by (λ p vs. position ≤ length (b.versions p) → position ≤ length vs) object_cmp object_cmp-equal b.versions name (b.versions name ++ record { who = who; bytes = bytes } ∷ [])
-        (λ g. omega (arith, length-append (b.versions name) (record { who = who; bytes = bytes } ∷ []))) (λ p g. g) q h
+    (λ g. omega (arith, length-append (b.versions name) (record { who = who; bytes = bytes } ∷ []))) (λ p g. g) q h
 placed_at_kept who name bytes b position (Queue queue) h = tt
 
 new_placed : (who : Caller) (name : ObjName) (bytes : List ℕ) (b : CloudState) → length (b.versions name) + 1 ≤ length ((landed who name bytes b).versions name)
 new_placed who name bytes b =
     let e : length ((landed who name bytes b).versions name) ≡ length (b.versions name ++ record { who = who; bytes = bytes } ∷ []) =
-        ap length (put_at_same object_cmp object_cmp-total b.versions name (b.versions name ++ record { who = who; bytes = bytes } ∷ [])) in
+    ap length (put_at_same object_cmp object_cmp-total b.versions name (b.versions name ++ record { who = who; bytes = bytes } ∷ [])) in
     omega (arith, length-append (b.versions name) (record { who = who; bytes = bytes } ∷ []))
 
 -- a call that puts nothing and leaves no row
@@ -165,11 +165,11 @@ placed_rest who ask b p r h =
 pub placed_effect : (who : Caller) (ask : Ask) (b : CloudState) → All (IsPlaced b.versions) b.trace → All (IsPlaced (effect who ask b).versions) (effect who ask b).trace
 placed_effect who (PutHeld name bytes one two) b h =
     All-push (IsPlaced (landed who name bytes b).versions) b.trace (record { who = who; site = Object name; position = length (b.versions name) + 1 })
-        (All-weaker (IsPlaced b.versions) (IsPlaced (landed who name bytes b).versions) (λ row. placed_at_kept who name bytes b row.position row.site) b.trace h)
-        (new_placed who name bytes b)
+    (All-weaker (IsPlaced b.versions) (IsPlaced (landed who name bytes b).versions) (λ row. placed_at_kept who name bytes b row.position row.site) b.trace h)
+    (new_placed who name bytes b)
 placed_effect who (Send queue bytes) b h =
     All-push (IsPlaced (sent who queue bytes b).versions) b.trace (record { who = who; site = Queue queue; position = length (b.messages queue) + 1 })
-        (placed_same b (sent who queue bytes b) b.trace refl h) tt
+    (placed_same b (sent who queue bytes b) b.trace refl h) tt
 placed_effect who (Get name) b h = h
 placed_effect who (GetHeld name l) b h = h
 placed_effect who (Receive queue most) b h = h
@@ -196,7 +196,7 @@ row_more lines more versions row h =
 pub committed_more : (lines more : List Line) (t : CloudState) → All (λ (r : Landing). r.who.event ≤ length lines + 1) t.trace → committed (lines ++ more) t ≡ committed lines t
 committed_more lines more t h =
     flat_map-agree (row_entries (lines ++ more) t.versions) (row_entries lines t.versions) t.trace
-        (All-weaker (λ r. r.who.event ≤ length lines + 1) (λ r. row_entries (lines ++ more) t.versions r ≡ row_entries lines t.versions r) (λ r g. row_more lines more t.versions r g) t.trace h)
+    (All-weaker (λ r. r.who.event ≤ length lines + 1) (λ r. row_entries (lines ++ more) t.versions r ≡ row_entries lines t.versions r) (λ r g. row_more lines more t.versions r g) t.trace h)
 
 pub committed_line : (lines : List Line) (line : Line) (t : CloudState) → All (λ (r : Landing). r.who.event ≤ length lines + 1) t.trace → committed (lines ++ line ∷ []) t ≡ committed lines t
 committed_line lines line t h = committed_more lines (line ∷ []) t h

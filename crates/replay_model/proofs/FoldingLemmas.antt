@@ -1,38 +1,32 @@
 -- What a call of a tree checkpoint leaves of the cloud, and what the session knows after it.
-use Rattle.std.proofs.Common.{◌≡◌, ◌≢◌, ◌≤◌, ◌+◌, ◌⊎◌, ℕ, List, [], ◌∷◌, ◌++◌, length, Option, Some, None, Result, Ok, Err, refl, sym, ap, subst, ◌∙◌, inl, inr, Bool, true, false, cond}
-use Rattle.std.specs.Prelude.{map, ◌==◌, ◌^◌, ◌-◌, ◌&&◌}
+use Rattle.std.proofs.Common.{◌≡◌, ◌≤◌, ◌+◌, ℕ, List, [], ◌∷◌, ◌++◌, Option, Some, None, Result, Ok, Err, refl, sym, ap, subst, ◌∙◌, inl, inr, Bool, true, false, cond}
+use Rattle.std.specs.Prelude.{map, ◌==◌, ◌^◌, ◌-◌}
 use Rattle.std.specs.Option.{IfSome}
 use Rattle.std.proofs.lemmas.List.{append-nil}
-use Rattle.byte_format.specs.Whole.{offset}
 use Rattle.db_base.specs.declared.names.Lock.TheVariants as lock
 use Rattle.db_base.specs.declared.names.ObjName.TheVariants as object
-use Rattle.db_base.specs.declared.names.QueueName.TheVariants as queue
 use Rattle.db_base.specs.declared.trouble.Trouble.{Trouble}
-use Rattle.db_base.specs.declared.trouble.Trouble.TheVariants as trouble
-use Rattle.db_base.specs.declared.trouble.Counter.TheVariants as counter
-use Rattle.leaf_view.specs.Leaf.{Leaf, IsLeaf, leaf}
+use Rattle.leaf_view.specs.Leaf.{Leaf}
 use Rattle.leaf_view.specs.Lookup.{empty_leaf}
 use Rattle.leaf_edit.specs.Lacked.{lacked}
 use Rattle.log_codec.specs.declared.record.PuItem.{PuItem}
-use Rattle.node_codec.specs.Tree.{Tree, IsTree, empty_tree, tree_format}
+use Rattle.node_codec.specs.Tree.{Tree, empty_tree}
 use Rattle.run_cursor.specs.Run.{Taken}
 use Rattle.run_cursor.specs.Covered.{covered_ids}
 use Rattle.cloud_trait.specs.declared.answer.Answer.{Answer}
 use Rattle.cloud_trait.specs.declared.answer.Answer.TheVariants.{Got}
 use Rattle.cloud_trait.specs.declared.message.Message.{Message}
-use Rattle.cloud_trait.specs.declared.turn.CkptAnswer.{CkptAnswer}
 use Rattle.cloud_trait.specs.Caller.{Caller}
 use Rattle.cloud_trait.specs.Claim.{Claim}
-use Rattle.cloud_trait.specs.State.{CloudState, Counts, newest, called}
+use Rattle.cloud_trait.specs.State.{CloudState, Counts, newest}
 use Rattle.cloud_trait.specs.Ask.{Ask, Get, GetHeld, PutHeld, Send, Receive, Delete, Take, Renew, Release, PutsNothing}
-use Rattle.cloud_trait.specs.Machine.{Next, Goes, Ends, Stops}
+use Rattle.cloud_trait.specs.Machine.{Goes, Ends, Stops}
 use Rattle.cloud_trait.specs.Views.{given_of, got_of, received_of, done_of}
 use Rattle.cloud_trait.specs.Weather.{Fits, Leaves}
-use Rattle.cloud_trait.proofs.ViewLemmas.{got_of-ok}
 use Rattle.recover_run.specs.declared.home.Home.{Home}
 use Rattle.tree_ckpt.specs.declared.stage.Stage.{Stage}
 use Rattle.tree_ckpt.specs.declared.stage.Stage.TheVariants.{TakingTree, GettingTree, Receiving, TakingPage, GettingPage, PuttingPage, ReleasingPage, PuttingTree, Deleting, ReleasingTree, StoppingPage, StoppingTree, Finished}
-use Rattle.tree_ckpt.specs.Folding.{Folding, Step, ask_at, under_tree, under_page, delete_next, without_page, LeadsAt, tree_taken_by, root_read, next_root, is_lone_root, is_lone_leaf, RootGot, RootRead, stopping_tree, damaged_tree, ReceivedBy, Received, items_of, run_taken, run_started, has_items, deleting, page_taken_by, PageGot, PageRead, LeafRead, LeafReadBy, LeafPut, page_put_by, PageReleased, RootRaised, raised_tree, root_put_by, deleted_by, one_deleted, one_left, rest_of}
+use Rattle.tree_ckpt.specs.Folding.{Folding, Step, ask_at, under_tree, under_page, delete_next, LeadsAt, tree_taken_by, root_read, next_root, is_lone_root, is_lone_leaf, RootGot, stopping_tree, damaged_tree, ReceivedBy, Received, items_of, run_taken, has_items, deleting, page_taken_by, PageGot, LeafReadBy, LeafPut, page_put_by, RootRaised, raised_tree, root_put_by, deleted_by, one_deleted, one_left, rest_of}
 use Rattle.client_session.specs.declared.session.Work.TheVariants.{Folding as AtFolding}
 use Rattle.world_audit.specs.Audited.{Audited, applied_entry}
 use Rattle.world_audit.specs.Chain.{IsReadAs}
@@ -40,7 +34,6 @@ use Rattle.replay_model.specs.Standing.{Line}
 use Rattle.replay_model.specs.Noting.{Newest, noted_at, has_landed}
 use Rattle.replay_model.specs.Facts.{AppliesRun, PutsRoot, FoldingPuts, FoldingStands, CloudStands}
 use Rattle.replay_model.proofs.TreeLemmas.{leaf_lands, leaf_differs, root_lands}
-use Rattle.replay_model.proofs.CommittedLemmas.{put_entries}
 use Rattle.replay_model.proofs.CloudLemmas.{quiet, put_keeps}
 
 -- the same checkpoint at another stage
@@ -55,23 +48,23 @@ none_more xs = sym (append-nil xs)
 page_cloud : (n : ℕ) (lines : List Line) (a : Audited) (who : Caller) (answer : Answer) (c d : Counts) (x : CloudState) (u : Option CloudState) (home : Home) (f : Folding) (lease : Option Claim)
     → (l : Leaves who (under_tree f lease (λ k. PutHeld (object.Page f.tree 1) f.out k f.page_lease)) answer c d x u) → who.event ≤ n → CloudStands n lines a x → AppliesRun (newest x) f
     → CloudStands n lines (cond (has_landed (newest x) (newest l.after) (Some (under_tree f lease (λ k. PutHeld (object.Page f.tree 1) f.out k f.page_lease))))
-        (noted_at (AtFolding home f) (under_tree f lease (λ k. PutHeld (object.Page f.tree 1) f.out k f.page_lease)) a) a) l.after
+    (noted_at (AtFolding home f) (under_tree f lease (λ k. PutHeld (object.Page f.tree 1) f.out k f.page_lease)) a) a) l.after
 page_cloud n lines a who answer c d x u home f (Some k) l event stands puts =
     put_keeps n lines a (record a { order = a.order ++ map (applied_entry f.tree) f.applying }) who (object.Page f.tree 1) f.out k f.page_lease answer c d x u l event stands
-        (inl (leaf_differs (newest x) f puts))
-        (λ after here there. leaf_lands (newest x) after a.order f stands.trees puts here there)
-        (none_more a.committed)
+    (inl (leaf_differs (newest x) f puts))
+    (λ after here there. leaf_lands (newest x) after a.order f stands.trees puts here there)
+    (none_more a.committed)
 page_cloud n lines a who answer c d x u home f None l event stands puts = quiet n lines a who _ answer c d x u l event tt stands
 
 -- the put of the root
 root_cloud : (n : ℕ) (lines : List Line) (a : Audited) (who : Caller) (answer : Answer) (c d : Counts) (x : CloudState) (u : Option CloudState) (home : Home) (f : Folding) (lease : Option Claim)
     → (l : Leaves who (under_tree f lease (λ k. PutHeld (object.Tree f.tree) f.out k None)) answer c d x u) → who.event ≤ n → CloudStands n lines a x → PutsRoot f
     → CloudStands n lines (cond (has_landed (newest x) (newest l.after) (Some (under_tree f lease (λ k. PutHeld (object.Tree f.tree) f.out k None))))
-        (noted_at (AtFolding home f) (under_tree f lease (λ k. PutHeld (object.Tree f.tree) f.out k None)) a) a) l.after
+    (noted_at (AtFolding home f) (under_tree f lease (λ k. PutHeld (object.Tree f.tree) f.out k None)) a) a) l.after
 root_cloud n lines a who answer c d x u home f (Some k) l event stands puts =
     put_keeps n lines a a who (object.Tree f.tree) f.out k None answer c d x u l event stands (inr refl)
-        (λ after here there. root_lands (newest x) after a.order f stands.trees puts here there)
-        (none_more a.committed)
+    (λ after here there. root_lands (newest x) after a.order f stands.trees puts here there)
+    (none_more a.committed)
 root_cloud n lines a who answer c d x u home f None l event stands puts = quiet n lines a who _ answer c d x u l event tt stands
 
 -- a call under a lease that puts nothing
@@ -161,6 +154,7 @@ run_stays : (look : Newest) (f : Folding) (items : List PuItem) (run : Taken) �
 run_stays look f items run r = on (has_items run.items) where
   ids : List ℕ
   ids = covered_ids run.top items
+
   on : (b : Bool) → Stays look (cond b (Goes (record f { stage = TakingPage; run = run; ids = ids })) (deleting (record f { run = run }) ids))
   on true = record { root = r; puts = tt }
   on false = deleting_stays look (record f { run = run }) ids r
@@ -182,7 +176,7 @@ leaf_put_stays : (look : Newest) (f : Folding) (next : Step) (l : Leaf) (items :
 leaf_put_stays look f next l items r is_leaf lone are (inl p) = subst (Stays look) (sym p.1) (record { root = r; puts = tt })
 leaf_put_stays look f next l items r is_leaf lone are (inr p) =
     let puts : AppliesRun look (record f { stage = PuttingPage; applying = items; out = p.1.0 }) =
-        record { leaf = l; is_leaf = is_leaf; lone = lone; puts = p.1.1; applies = are } in
+    record { leaf = l; is_leaf = is_leaf; lone = lone; puts = p.1.1; applies = are } in
     subst (Stays look) (sym p.1.2) (record { root = r; puts = puts })
 
 leaf_by_stays : (look : Newest) (f : Folding) (next : Step) (l : Leaf) (b : Bool) (items : List PuItem) → KeepsRoot f.root
@@ -210,7 +204,7 @@ raised_stays : (look : Newest) (f : Folding) (next : Step) (root : Option Tree) 
 raised_stays look f next None r lone e = subst (Stays look) (sym e) (record { root = r; puts = tt })
 raised_stays look f next (Some t) r lone p =
     let puts : PutsRoot (record f { stage = PuttingTree; page_lease = None; root = Some (raised_tree t f.run.top); out = p.0 }) =
-        record { root = raised_tree t f.run.top; puts = p.1; lone = lone } in
+    record { root = raised_tree t f.run.top; puts = p.1; lone = lone } in
     subst (Stays look) (sym p.2) (record { root = lone; puts = puts })
 
 root_put_stays : (look : Newest) (f : Folding) (g : Result (Unit {0}) Trouble) → KeepsRoot f.root → Stays look (root_put_by f g)

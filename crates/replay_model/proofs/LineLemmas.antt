@@ -1,15 +1,13 @@
 -- One line more.
-use Rattle.std.proofs.Common.{◌≡◌, ◌≤◌, ◌+◌, ℕ, List, [], ◌∷◌, ◌++◌, length, Option, Some, None, Result, Ok, Err, refl, sym, ap, subst, ◌∙◌, arith, length-append, cond, true, false, Bool}
+use Rattle.std.proofs.Common.{◌≡◌, ◌+◌, List, [], ◌∷◌, ◌++◌, length, sym, ap, subst, ◌∙◌, arith, length-append, cond, false}
 use Rattle.std.specs.Prelude.{◌==◌}
 use Rattle.cloud_trait.specs.State.{CloudState, newest}
-use Rattle.cloud_trait.specs.Upto.{IsUpto}
 use Rattle.event_text.specs.declared.event.Event.{Event}
 use Rattle.reply_text.specs.declared.reply.Reply.{Reply}
 use Rattle.client_session.specs.Session.{Acting, IsKept}
 use Rattle.world_audit.specs.Audited.{Audited}
 use Rattle.replay_model.specs.Standing.{Line, Standing, standing, after_line, after_own, session_of}
-use Rattle.replay_model.specs.Committed.{committed}
-use Rattle.replay_model.specs.Facts.{Knows, ActsAs, CloudStands, SessionStands, Stands, GoesOn}
+use Rattle.replay_model.specs.Facts.{Knows, ActsAs, CloudStands, Stands, GoesOn}
 use Rattle.replay_model.proofs.CommittedLemmas.{committed_line, standing_line, upto_more}
 
 -- what stands after lines goes on within the next

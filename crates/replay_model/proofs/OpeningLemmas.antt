@@ -1,5 +1,5 @@
 -- What a call of an opening leaves of the cloud, and what the session knows after it.
-use Rattle.std.proofs.Common.{◌≡◌, ◌≤◌, ◌+◌, ℕ, List, [], ◌∷◌, ◌++◌, length, Option, Some, None, Result, Ok, Err, refl, sym, ap, subst, ◌∙◌, inl, inr, Bool, true, false, cond}
+use Rattle.std.proofs.Common.{◌≡◌, ◌≤◌, ℕ, List, [], ◌++◌, Option, Some, None, Result, Ok, Err, refl, sym, ap, subst, ◌∙◌, inr, Bool, true, false, cond}
 use Rattle.std.specs.Prelude.{◌==◌, ◌^◌, ◌-◌}
 use Rattle.std.proofs.lemmas.List.{append-nil}
 use Rattle.db_base.specs.declared.names.Lock.TheVariants as lock
@@ -11,7 +11,7 @@ use Rattle.head_codec.specs.declared.head.Head.{Head}
 use Rattle.head_codec.specs.declared.head.Phase.{Phase}
 use Rattle.head_codec.specs.declared.head.Phase.TheVariants as phase
 use Rattle.head_codec.specs.Head.{empty_head}
-use Rattle.head_codec.specs.Spelling.{HasSpelling, head_of}
+use Rattle.head_codec.specs.Spelling.{head_of}
 use Rattle.cloud_trait.specs.declared.answer.Answer.{Answer}
 use Rattle.cloud_trait.specs.declared.answer.Answer.TheVariants.{Done}
 use Rattle.cloud_trait.specs.Caller.{Caller}
@@ -27,13 +27,12 @@ use Rattle.recover_run.specs.declared.recover.Stage.{Stage}
 use Rattle.recover_run.specs.declared.recover.Stage.TheVariants.{Taking, Getting, Putting, Releasing, Finished}
 use Rattle.recover_run.specs.declared.recover.RecoverAnswer.{RecoverAnswer}
 use Rattle.recover_run.specs.declared.recover.RecoverAnswer.TheVariants.{Opened}
-use Rattle.recover_run.specs.Recovery.{Recovery, ask_at, next_at, home_of, home_with, IsSoundAt, taken_by, got_by, head_read, phase_read, bytes_read, put_by, releasing, putting}
+use Rattle.recover_run.specs.Recovery.{Recovery, ask_at, next_at, home_of, home_with, IsSoundAt, taken_by, got_by, head_read, phase_read, bytes_read, put_by, releasing}
 use Rattle.client_session.specs.declared.session.Work.TheVariants.{Opening}
-use Rattle.client_session.specs.Session.{opened_work}
 use Rattle.world_audit.specs.Audited.{Audited}
 use Rattle.replay_model.specs.Standing.{Line}
 use Rattle.replay_model.specs.Noting.{noted_at, has_landed}
-use Rattle.replay_model.specs.Facts.{OpeningStands, HomeStands, Knows, CloudStands}
+use Rattle.replay_model.specs.Facts.{OpeningStands, HomeStands, CloudStands}
 use Rattle.replay_model.proofs.TreeLemmas.{head_lands}
 use Rattle.replay_model.proofs.CommittedLemmas.{put_entries}
 use Rattle.replay_model.proofs.CloudLemmas.{quiet, put_keeps, put_done, settled_entries}
@@ -45,8 +44,8 @@ pub opening_cloud : (n : ℕ) (lines : List Line) (a : Audited) (who : Caller) (
 opening_cloud n lines a who answer c d x u r Putting (Some k) l event stands settled sound =
     let none : put_entries lines who (PutHeld (object.Head r.client) r.out k None) ≡ [] = settled_entries r.client r.out r.head _ sound.1 settled in
     put_keeps n lines a a who (object.Head r.client) r.out k None answer c d x u l event stands (inr refl)
-        (λ after here there. head_lands (newest x) after a.order r.client stands.trees there)
-        (sym (append-nil a.committed) ∙ ap (λ es. a.committed ++ es) (sym none))
+    (λ after here there. head_lands (newest x) after a.order r.client stands.trees there)
+    (sym (append-nil a.committed) ∙ ap (λ es. a.committed ++ es) (sym none))
 opening_cloud n lines a who answer c d x u r Putting None l event stands settled sound = quiet n lines a who _ answer c d x u l event tt stands
 opening_cloud n lines a who answer c d x u r Taking lease l event stands settled sound = quiet n lines a who _ answer c d x u l event tt stands
 opening_cloud n lines a who answer c d x u r Getting (Some k) l event stands settled sound = quiet n lines a who _ answer c d x u l event tt stands
@@ -117,10 +116,11 @@ put_home : (who : Caller) (answer : Answer) (c d : Counts) (x : CloudState) (u :
     → (l : Leaves who (ask_at Putting lease r) answer c d x u) → Fits (ask_at Putting lease r) answer → done_of answer ≡ Ok tt → r.head.phase ≡ phase.Settled → head_of r.out ≡ Some r.head
     → (home : Home) × (home_with (record r { stage = Finished }) lease ≡ Some home) × HomeStands (newest l.after) home × (home.client ≡ r.client)
 put_home who answer c d x u r (Some k) l fits done settled spells = (
-    record { client = r.client; lease = k; head = r.head; attempt = 0 },
-    refl,
-    record { head = record { bytes = r.out; newest = put_done who (object.Head r.client) r.out k None answer c d x u l done; spells = spells }; settled = settled },
-    refl)
+  record { client = r.client; lease = k; head = r.head; attempt = 0 },
+  refl,
+  record { head = record { bytes = r.out; newest = put_done who (object.Head r.client) r.out k None answer c d x u l done; spells = spells }; settled = settled },
+  refl,
+)
 put_home who answer c d x u r None l fits done settled spells = absurd (never (done_of-ok answer done) fits) where
   never : answer ≡ Done → Fits (ask_at Putting None r) answer → ⊥
   never e f = subst (Fits (ask_at Putting None r)) e f

@@ -1,5 +1,5 @@
 -- One step of the session, with the looks about it, keeps what goes on; and what its answer leaves.
-use Rattle.std.proofs.Common.{◌≡◌, ◌≤◌, ◌+◌, ℕ, List, [], ◌∷◌, ◌++◌, length, Option, Some, None, Result, Ok, Err, refl, sym, ap, subst, ◌∙◌, cond, false, arith}
+use Rattle.std.proofs.Common.{◌≡◌, ◌+◌, ℕ, List, [], ◌∷◌, length, Option, Some, None, Ok, refl, sym, ap, subst, ◌∙◌, false, arith}
 use Rattle.std.specs.Ordering.{is_eq}
 use Rattle.db_base.specs.declared.names.ObjName.{ObjName}
 use Rattle.db_base.specs.declared.names.ObjName.TheVariants as object
@@ -21,7 +21,7 @@ use Rattle.txn_buffer.specs.Noted.{Noted as NotedChange}
 use Rattle.reply_text.specs.declared.reply.Reply.{Reply}
 use Rattle.reply_text.specs.declared.reply.Reply.TheVariants as reply
 use Rattle.recover_run.specs.declared.home.Home.{Home}
-use Rattle.recover_run.specs.Recovery.{Recovery, recovery_ask, home_of}
+use Rattle.recover_run.specs.Recovery.{recovery_ask}
 use Rattle.commit_run.specs.Commit.{Commit, commit_ask}
 use Rattle.tree_ckpt.specs.declared.stage.Stage.{Stage}
 use Rattle.tree_ckpt.specs.declared.stage.Stage.TheVariants.{TakingTree, GettingTree, Receiving, TakingPage, GettingPage, PuttingPage, ReleasingPage, PuttingTree, Deleting, ReleasingTree, StoppingPage, StoppingTree, Finished}
@@ -35,8 +35,8 @@ use Rattle.world_audit.specs.Audited.{Audited}
 use Rattle.replay_model.specs.Standing.{Line, Standing, Posture, Working, Idle as Idled, Opening as OpeningTask, Committing as Noted, Other, standing, steps, answered, idle}
 use Rattle.replay_model.specs.Committed.{changes_at, entries_of_bytes}
 use Rattle.replay_model.specs.Noting.{audited}
-use Rattle.replay_model.specs.Facts.{HomeStands, Knows, ActsAs, WorksAs, CloudStands, SessionStands, GoesOn}
-use Rattle.replay_model.proofs.CommittedLemmas.{put_entries, now_entries}
+use Rattle.replay_model.specs.Facts.{HomeStands, Knows, ActsAs, WorksAs, CloudStands, GoesOn}
+use Rattle.replay_model.proofs.CommittedLemmas.{now_entries}
 use Rattle.replay_model.proofs.OpeningLemmas.{opening_cloud, opening_goes, opening_opens}
 use Rattle.replay_model.proofs.CommitLemmas.{CommitsChanges, commit_cloud, commit_goes, commit_ends}
 use Rattle.replay_model.proofs.FoldingLemmas.{folding_cloud, folding_goes, page_seen}
@@ -150,31 +150,37 @@ goes_work lines who c d x t u (Opening m) new a b session event told cloud knows
     let l : Leaves who (recovery_ask m) p.1.answer c d x u = p.1.made.state x told in
     let goes = opening_goes m p.0 m.stage p.1.answer p.1.took in
     let after : CloudStands (length lines + 1) lines (audited (newest x) (newest l.after) (Opening m) a) l.after =
-        opening_cloud (length lines + 1) lines a who p.1.answer c d x u m m.stage m.lease l (omega arith) cloud knows kept in
-    (l.after, l.told,
-        subst (λ z. CloudStands (length lines + 1) lines z l.after) (sym (audit l.after l.told)) after,
-        subst (λ w. Knows (newest l.after) w) (sym p.2) goes.stands,
-        subst (λ w. WorksAs w (standing lines 1)) (sym p.2) (acts.0, acts.1 ∙ sym goes.client))
+    opening_cloud (length lines + 1) lines a who p.1.answer c d x u m m.stage m.lease l (omega arith) cloud knows kept in (
+      l.after,
+      l.told,
+      subst (λ z. CloudStands (length lines + 1) lines z l.after) (sym (audit l.after l.told)) after,
+      subst (λ w. Knows (newest l.after) w) (sym p.2) goes.stands,
+      subst (λ w. WorksAs w (standing lines 1)) (sym p.2) (acts.0, acts.1 ∙ sym goes.client),
+    )
 goes_work lines who c d x t u (Committing m) new a b session event told cloud knows kept acts p audit =
     let l : Leaves who (commit_ask m) p.1.answer c d x u = p.1.made.state x told in
     let goes = commit_goes m p.0 m.stage p.1.answer p.1.took in
     let after : CloudStands (length lines + 1) lines (audited (newest x) (newest l.after) (Committing m) a) l.after =
-        commit_cloud (length lines + 1) lines a who p.1.answer c d x u m m.stage l (omega arith) cloud knows kept
-            (commits_noted lines who m (standing lines 1) session event refl acts) in
-    (l.after, l.told,
-        subst (λ z. CloudStands (length lines + 1) lines z l.after) (sym (audit l.after l.told)) after,
-        subst (λ w. Knows (newest l.after) w) (sym p.2) (goes.stands (newest l.after)),
-        subst (λ w. WorksAs w (standing lines 1)) (sym p.2) (acts.0 ∙ ap (λ cs. Working (Noted cs)) (sym goes.changes), acts.1 ∙ sym goes.client))
+    commit_cloud (length lines + 1) lines a who p.1.answer c d x u m m.stage l (omega arith) cloud knows kept
+    (commits_noted lines who m (standing lines 1) session event refl acts) in (
+      l.after,
+      l.told,
+      subst (λ z. CloudStands (length lines + 1) lines z l.after) (sym (audit l.after l.told)) after,
+      subst (λ w. Knows (newest l.after) w) (sym p.2) (goes.stands (newest l.after)),
+      subst (λ w. WorksAs w (standing lines 1)) (sym p.2) (acts.0 ∙ ap (λ cs. Working (Noted cs)) (sym goes.changes), acts.1 ∙ sym goes.client),
+    )
 goes_work lines who c d x t u (Folding home f) new a b session event told cloud knows kept acts p audit =
     let l : Leaves who (folding_ask f) p.1.answer c d x u = p.1.made.state x told in
     let after : CloudStands (length lines + 1) lines (audited (newest x) (newest l.after) (Folding home f) a) l.after =
-        folding_cloud (length lines + 1) lines a who p.1.answer c d x u home f f.stage l (omega arith) cloud knows.1.puts in
+    folding_cloud (length lines + 1) lines a who p.1.answer c d x u home f f.stage l (omega arith) cloud knows.1.puts in
     let sees : f.stage ≡ GettingPage → (v : Option (List ℕ)) → got_of p.1.answer ≡ Ok v → v ≡ newest l.after (object.Page f.tree 1) =
-        stage_seen who p.1.answer c d x u f f.stage l p.1.made.fits in
-    (l.after, l.told,
-        subst (λ z. CloudStands (length lines + 1) lines z l.after) (sym (audit l.after l.told)) after,
-        subst (λ w. Knows (newest l.after) w) (sym p.2) (home_stays who p.1.answer c d x u home f l knows.0, folding_goes (newest l.after) f p.0 f.stage p.1.answer knows.1.root sees p.1.took),
-        subst (λ w. WorksAs w (standing lines 1)) (sym p.2) acts)
+    stage_seen who p.1.answer c d x u f f.stage l p.1.made.fits in (
+      l.after,
+      l.told,
+      subst (λ z. CloudStands (length lines + 1) lines z l.after) (sym (audit l.after l.told)) after,
+      subst (λ w. Knows (newest l.after) w) (sym p.2) (home_stays who p.1.answer c d x u home f l knows.0, folding_goes (newest l.after) f p.0 f.stage p.1.answer knows.1.root sees p.1.took),
+      subst (λ w. WorksAs w (standing lines 1)) (sym p.2) acts,
+    )
 goes_work lines who c d x t u Closed new a b session event told cloud knows kept acts p audit = absurd p
 goes_work lines who c d x t u (Idle home) new a b session event told cloud knows kept acts p audit = absurd p
 goes_work lines who c d x t u Broken new a b session event told cloud knows kept acts p audit = absurd p
@@ -185,11 +191,14 @@ pub step_goes_on : (lines : List Line) (who : Caller) (c d : Counts) (x : CloudS
     → StepsSession who c d t u old new (Ok More) → IsKept new.work → ((y : CloudState) → u ≡ Some y → b ≡ audited (newest x) (newest y) old.work a)
     → (y : CloudState) × (u ≡ Some y) × GoesOn lines new b y
 step_goes_on lines who c d x t u old new a b session event told goes p kept audit =
-    let k = goes_work lines who c d x t u old.work new a b session event told goes.cloud goes.session.knows goes.session.kept goes.session.acts.work p.1 audit in
-    (k.0, k.1, record {
-      cloud = k.2;
-      session = record { knows = k.3; kept = kept; acts = record { buffer = p.0 ∙ goes.session.acts.buffer; work = k.4 } };
-    })
+    let k = goes_work lines who c d x t u old.work new a b session event told goes.cloud goes.session.knows goes.session.kept goes.session.acts.work p.1 audit in (
+      k.0,
+      k.1,
+      record {
+        cloud = k.2;
+        session = record { knows = k.3; kept = kept; acts = record { buffer = p.0 ∙ goes.session.acts.buffer; work = k.4 } };
+      },
+    )
 
 -- ---- a step that ends
 
@@ -230,13 +239,16 @@ ends_work lines who c d x t u (Opening m) new a b (answer.Opened epoch) r sessio
     let opens = opening_opens who p.1.answer c d x u m p.0 epoch m.stage l p.1.made.fits p.1.took knows kept in
     let work : new.work ≡ Idle opens.0 = p.2 ∙ ap opened_work opens.1 in
     let after : CloudStands (length lines + 1) lines (audited (newest x) (newest l.after) (Opening m) a) l.after =
-        opening_cloud (length lines + 1) lines a who p.1.answer c d x u m m.stage m.lease l (omega arith) cloud knows kept in
+    opening_cloud (length lines + 1) lines a who p.1.answer c d x u m m.stage m.lease l (omega arith) cloud knows kept in
     let s : Standing = standing lines 1 in
-    let same : steps r s ≡ idle s = ap (λ z. steps z s) is ∙ opened_steps s epoch acts.0 in
-    (l.after, l.told,
-        subst (λ z. CloudStands (length lines + 1) lines z l.after) (sym (audit l.after l.told)) after,
-        subst (λ w. Knows (newest l.after) w) (sym work) opens.2,
-        idle_works s opens.0 m.client r new.work same work opens.3 acts.1, same)
+    let same : steps r s ≡ idle s = ap (λ z. steps z s) is ∙ opened_steps s epoch acts.0 in (
+      l.after,
+      l.told,
+      subst (λ z. CloudStands (length lines + 1) lines z l.after) (sym (audit l.after l.told)) after,
+      subst (λ w. Knows (newest l.after) w) (sym work) opens.2,
+      idle_works s opens.0 m.client r new.work same work opens.3 acts.1,
+      same,
+    )
 ends_work lines who c d x t u (Opening m) new a b (answer.Commit k) r session event told cloud knows kept acts p is audit = absurd p
 ends_work lines who c d x t u (Opening m) new a b (answer.Done n) r session event told cloud knows kept acts p is audit = absurd p
 ends_work lines who c d x t u (Opening m) new a b (answer.Trouble k) r session event told cloud knows kept acts p is audit = absurd is
@@ -244,14 +256,17 @@ ends_work lines who c d x t u (Committing m) new a b (answer.Commit (Committed t
     let l : Leaves who (commit_ask m) p.1.answer c d x u = p.1.made.state x told in
     let ends = commit_ends who p.1.answer c d x u m p.0 txn m.stage l p.1.took knows kept in
     let after : CloudStands (length lines + 1) lines (audited (newest x) (newest l.after) (Committing m) a) l.after =
-        commit_cloud (length lines + 1) lines a who p.1.answer c d x u m m.stage l (omega arith) cloud knows kept
-            (commits_noted lines who m (standing lines 1) session event refl acts) in
+    commit_cloud (length lines + 1) lines a who p.1.answer c d x u m m.stage l (omega arith) cloud knows kept
+    (commits_noted lines who m (standing lines 1) session event refl acts) in
     let s : Standing = standing lines 1 in
-    let same : steps r s ≡ idle s = ap (λ z. steps z s) is ∙ committed_steps s txn m.changes acts.0 in
-    (l.after, l.told,
-        subst (λ z. CloudStands (length lines + 1) lines z l.after) (sym (audit l.after l.told)) after,
-        subst (λ w. Knows (newest l.after) w) (sym p.2) ends.0,
-        idle_works s p.0.home m.home.client r new.work same p.2 ends.1 acts.1, same)
+    let same : steps r s ≡ idle s = ap (λ z. steps z s) is ∙ committed_steps s txn m.changes acts.0 in (
+      l.after,
+      l.told,
+      subst (λ z. CloudStands (length lines + 1) lines z l.after) (sym (audit l.after l.told)) after,
+      subst (λ w. Knows (newest l.after) w) (sym p.2) ends.0,
+      idle_works s p.0.home m.home.client r new.work same p.2 ends.1 acts.1,
+      same,
+    )
 ends_work lines who c d x t u (Committing m) new a b (answer.Commit (NotCommitted k)) r session event told cloud knows kept acts p is audit = absurd is
 ends_work lines who c d x t u (Committing m) new a b (answer.Commit InDoubt) r session event told cloud knows kept acts p is audit = absurd is
 ends_work lines who c d x t u (Committing m) new a b (answer.Commit (CommittedOpen k)) r session event told cloud knows kept acts p is audit = absurd is
@@ -261,13 +276,16 @@ ends_work lines who c d x t u (Committing m) new a b (answer.Trouble k) r sessio
 ends_work lines who c d x t u (Folding home f) new a b (answer.Done n) r session event told cloud knows kept acts p is audit =
     let l : Leaves who (folding_ask f) p.1.answer c d x u = p.1.made.state x told in
     let after : CloudStands (length lines + 1) lines (audited (newest x) (newest l.after) (Folding home f) a) l.after =
-        folding_cloud (length lines + 1) lines a who p.1.answer c d x u home f f.stage l (omega arith) cloud knows.1.puts in
+    folding_cloud (length lines + 1) lines a who p.1.answer c d x u home f f.stage l (omega arith) cloud knows.1.puts in
     let s : Standing = standing lines 1 in
-    let same : steps r s ≡ idle s = ap (λ z. steps z s) is ∙ done_steps s n acts.0 in
-    (l.after, l.told,
-        subst (λ z. CloudStands (length lines + 1) lines z l.after) (sym (audit l.after l.told)) after,
-        subst (λ w. Knows (newest l.after) w) (sym p.2) (home_stays who p.1.answer c d x u home f l knows.0),
-        idle_works s home home.client r new.work same p.2 refl acts.1, same)
+    let same : steps r s ≡ idle s = ap (λ z. steps z s) is ∙ done_steps s n acts.0 in (
+      l.after,
+      l.told,
+      subst (λ z. CloudStands (length lines + 1) lines z l.after) (sym (audit l.after l.told)) after,
+      subst (λ w. Knows (newest l.after) w) (sym p.2) (home_stays who p.1.answer c d x u home f l knows.0),
+      idle_works s home home.client r new.work same p.2 refl acts.1,
+      same,
+    )
 ends_work lines who c d x t u (Folding home f) new a b (answer.Opened epoch) r session event told cloud knows kept acts p is audit = absurd p
 ends_work lines who c d x t u (Folding home f) new a b (answer.Commit k) r session event told cloud knows kept acts p is audit = absurd p
 ends_work lines who c d x t u (Folding home f) new a b (answer.Trouble k) r session event told cloud knows kept acts p is audit = absurd is

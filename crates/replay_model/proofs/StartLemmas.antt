@@ -1,5 +1,5 @@
 -- What stands before the first line.
-use Rattle.std.proofs.Common.{◌≡◌, ℕ, List, [], Option, None, refl, sym, ap, subst}
+use Rattle.std.proofs.Common.{◌≡◌, ℕ, [], None, refl, sym, ap, subst}
 use Rattle.db_base.specs.declared.names.ObjName.{ObjName}
 use Rattle.cloud_trait.specs.State.{CloudState, IsEmptyCloud, newest, newest_of}
 use Rattle.client_session.specs.Session.{closed_session}

@@ -1,5 +1,5 @@
 -- What was committed, by the schedule's lines: each landed put of an open head commits the changes on which its session stood.
-use Rattle.std.specs.Prelude.{ℕ, ◌-◌, ◌≤◌, List, [], ◌∷◌, map, take, length, Option, Some, None}
+use Rattle.std.specs.Prelude.{ℕ, ◌-◌, List, [], map, take, Option, Some, None}
 use Rattle.std.specs.List.{flat_map}
 use Rattle.db_base.specs.declared.names.ObjName.{ObjName}
 use Rattle.db_base.specs.declared.names.ObjName.TheVariants as object

@@ -1,10 +1,7 @@
 -- What holds after every line of a replay, of the cloud and of the session, and what the session knows of the cloud at each of its calls.
-use Rattle.std.specs.Prelude.{ℕ, ◌+◌, ◌≡◌, ◌≤◌, Bool, true, false, not, ◌&&◌, if◌then◌else◌, List, [], ◌∷◌, ◌++◌, length, map, Option, Some, None, Ok, All}
+use Rattle.std.specs.Prelude.{ℕ, ◌+◌, ◌≡◌, ◌≤◌, true, List, length, Some, Ok, All}
 use Rattle.std.specs.Option.{IfSome}
-use Rattle.std.specs.Str.{bytes_eq}
-use Rattle.db_base.specs.declared.names.ObjName.{ObjName}
 use Rattle.db_base.specs.declared.names.ObjName.TheVariants as object
-use Rattle.cloud_trait.specs.Ask.{Ask, PutHeld}
 use Rattle.cloud_trait.specs.State.{CloudState, newest}
 use Rattle.cloud_trait.specs.Upto.{IsUpto}
 use Rattle.cloud_trait.specs.declared.state.Landing.{Landing}
@@ -20,7 +17,6 @@ use Rattle.leaf_edit.specs.Applied.{applied}
 use Rattle.leaf_edit.specs.Lacked.{lacked}
 use Rattle.node_codec.specs.Tree.{Tree, IsTree}
 use Rattle.report_types.specs.declared.entry.Entry.{Entry}
-use Rattle.txn_buffer.specs.Noted.{Noted}
 use Rattle.recover_run.specs.declared.home.Home.{Home}
 use Rattle.recover_run.specs.declared.recover.Stage.{Stage as OpeningStage}
 use Rattle.recover_run.specs.declared.recover.Stage.TheVariants as opening
@@ -36,7 +32,7 @@ use Rattle.client_session.specs.declared.session.Work.TheVariants as work
 use Rattle.client_session.specs.Session.{Acting, IsKept}
 use Rattle.world_audit.specs.Audited.{Audited}
 use Rattle.world_audit.specs.Chain.{IsReadAs}
-use Rattle.replay_model.specs.Standing.{Line, Task, Posture, Closed, Idle, Working, Opening, Committing, Other, Standing, standing}
+use Rattle.replay_model.specs.Standing.{Line, Closed, Idle, Working, Opening, Committing, Other, Standing, standing}
 use Rattle.replay_model.specs.Committed.{Versions, committed}
 use Rattle.replay_model.specs.Index.{IsRootIn}
 use Rattle.replay_model.specs.Noting.{Newest}

@@ -1,10 +1,10 @@
 -- What is found through the index of a tree, from its root down and to the right.
-use Rattle.std.specs.Prelude.{ℕ, suc, ◌≡◌, ◌≢◌, List, Option, Some, None, IsTrue, not}
+use Rattle.std.specs.Prelude.{ℕ, suc, ◌≡◌, List, Option, Some, None, IsTrue, not}
 use Rattle.byte_format.specs.Order.{bytes_below}
 use Rattle.db_base.specs.declared.names.ObjName.TheVariants as object
 use Rattle.cloud_trait.specs.State.{CloudState, newest}
 use Rattle.leaf_view.specs.Leaf.{Leaf}
-use Rattle.leaf_view.specs.Lookup.{holds, payload_of}
+use Rattle.leaf_view.specs.Lookup.{payload_of}
 use Rattle.node_codec.specs.Node.{child_of}
 use Rattle.node_codec.specs.Tree.{Tree, IsTree, empty_tree}
 use Rattle.node_codec.specs.Inner.{Inner, IsInner}

@@ -1,13 +1,12 @@
 -- The lines of a replay, one after another.
-use Rattle.std.proofs.Common.{suc, ◌≡◌, ◌<◌, ◌≤◌, ◌+◌, ◌⊎◌, ℕ, List, [], ◌∷◌, ◌++◌, length, take, Option, Some, None, Result, Ok, Err, refl, sym, ap, subst, ◌∙◌, inl, inr, append_assoc, arith, length-append}
+use Rattle.std.proofs.Common.{suc, ◌≡◌, ◌<◌, ◌≤◌, ◌+◌, ◌⊎◌, ℕ, List, [], ◌∷◌, ◌++◌, length, take, Option, Some, Result, Ok, Err, refl, sym, ap, subst, ◌∙◌, inl, inr, append_assoc, arith, length-append}
 use Rattle.std.specs.Prelude.{slice_get, OnOk, OnErr}
 use Rattle.std.proofs.lemmas.List.{append-nil, take-append-le, take_all, get_or_append_left}
 use Rattle.std.proofs.lemmas.Option.{slice_get_within, slice_get-get_or}
 use Rattle.std.proofs.lemmas.Bool.{cases_lt}
-use Rattle.cloud_trait.specs.State.{CloudState, IsEmptyCloud}
+use Rattle.cloud_trait.specs.State.{CloudState}
 use Rattle.cloud_trait.specs.Upto.{upto, AgreeUpto, IsUpto}
 use Rattle.db_base.specs.declared.names.ObjName.{ObjName}
-use Rattle.report_types.specs.declared.report.Report.{Report}
 use Rattle.client_session.specs.Session.{closed_session}
 use Rattle.cloud_trait.proofs.StateLemmas.{slice_get-push}
 use Rattle.cloud_trait.proofs.UptoLemmas.{versions_upto-all, trace_upto-all}
@@ -26,7 +25,7 @@ use Rattle.world_core.specs.declared.world.World.{World}
 use Rattle.world_core.specs.Stands.{StandsOn, Grows}
 use Rattle.s3db.specs.declared.replay.LineFault.{LineFault}
 use Rattle.s3db.specs.declared.replay.LineFault.TheVariants.{BadLine, WriteFault, Memory, CloudFault}
-use Rattle.s3db.specs.Replayed.{AreSpelled, reply_line, replies_from, replies, bad_line, ReportsAreRight, KeepsTheTheorem, Handles, BeginsBad, WroteFront, WroteSo, WentThrough, IsAt, LineStands, LineFront, nothing, reply_front, refusal_front, LineHandled, LineWent, WentAsFar}
+use Rattle.s3db.specs.Replayed.{AreSpelled, reply_line, replies_from, replies, bad_line, ReportsAreRight, KeepsTheTheorem, Handles, WroteFront, WentThrough, IsAt, LineStands, LineFront, nothing, reply_front, refusal_front, LineHandled, LineWent, WentAsFar}
 
 -- ---- content that is written
 
@@ -89,7 +88,7 @@ reports_more lines line u v agree all so new k l at = on (cases_lt k (length lin
       let front : take (k + 1) (lines ++ line ∷ []) ≡ take (k + 1) lines = take-append-le (k + 1) lines (line ∷ []) (omega arith) in
       let a : AgreeUpto (k + 1) u v = agree (k + 1) (omega arith) in
       subst (λ ls. ReportIsRight ls (upto v (k + 1)) l.reply) (sym front)
-          (report_same (take (k + 1) lines) (upto u (k + 1)) (upto v (k + 1)) l.reply a.versions a.trace (so k l old))
+      (report_same (take (k + 1) lines) (upto u (k + 1)) (upto v (k + 1)) l.reply a.versions a.trace (so k l old))
   on (inr more) =
       let within : k < length (lines ++ line ∷ []) = slice_get_within (lines ++ line ∷ []) k l at in
       let e : k ≡ length lines = omega (arith, length-append lines (line ∷ [])) in
@@ -99,10 +98,10 @@ reports_more lines line u v agree all so new k l at = on (cases_lt k (length lin
       let n : k + 1 ≡ length lines + 1 = omega arith in
       let upto_all : IsUpto (k + 1) v = subst (λ m. IsUpto m v) (sym n) all in
       subst (λ ls. ReportIsRight ls (upto v (k + 1)) l.reply) (sym whole)
-          (report_same (lines ++ line ∷ []) v (upto v (k + 1)) l.reply
-              (λ name. versions_upto-all (k + 1) (v.versions name) (upto_all.versions name))
-              (trace_upto-all (k + 1) v.trace upto_all.trace)
-              (subst (λ (x : Line). ReportIsRight (lines ++ line ∷ []) v x.reply) is new))
+      (report_same (lines ++ line ∷ []) v (upto v (k + 1)) l.reply
+      (λ name. versions_upto-all (k + 1) (v.versions name) (upto_all.versions name))
+      (trace_upto-all (k + 1) v.trace upto_all.trace)
+      (subst (λ (x : Line). ReportIsRight (lines ++ line ∷ []) v x.reply) is new))
 
 -- ---- one line more
 
@@ -147,9 +146,12 @@ at_start text w s world session audit = record {
     lines = [];
     spelled = tt;
     wrote = adds_nothing w;
-    stands = λ t told empty. (t, told,
-        subst (λ x. Stands [] x world.audit t) (sym session) (subst (λ a. Stands [] closed_session a t) (sym audit) (nothing_stands_yet t empty)),
-        λ k line at. absurd (cc));
+    stands = λ t told empty. (
+      t,
+      told,
+      subst (λ x. Stands [] x world.audit t) (sym session) (subst (λ a. Stands [] closed_session a t) (sym audit) (nothing_stands_yet t empty)),
+      λ k line at. absurd (cc),
+    );
   };
 }
 
@@ -169,11 +171,14 @@ keeps : (texts : List (List ℕ)) (n : ℕ) (w v : Option (List ℕ)) (s t z : O
 keeps texts n w v s t z world count h grows x told empty =
     let o = h.stands x told empty in
     let g = grows o.0 o.1 in
-    let m : length h.lines ≡ length texts = spelled_length texts h.lines h.spelled in
-    (g.0, g.1, λ k line at.
-        let within : k < length h.lines = slice_get_within h.lines k line at in
-        let a : AgreeUpto (k + 1) o.0 g.0 = g.2 (k + 1) (omega arith) in
-        report_same (take (k + 1) h.lines) (upto o.0 (k + 1)) (upto g.0 (k + 1)) line.reply a.versions a.trace (o.3 k line at))
+    let m : length h.lines ≡ length texts = spelled_length texts h.lines h.spelled in (
+      g.0,
+      g.1,
+      λ k line at.
+          let within : k < length h.lines = slice_get_within h.lines k line at in
+          let a : AgreeUpto (k + 1) o.0 g.0 = g.2 (k + 1) (omega arith) in
+          report_same (take (k + 1) h.lines) (upto o.0 (k + 1)) (upto g.0 (k + 1)) line.reply a.versions a.trace (o.3 k line at),
+    )
 
 pub at_end : (text rest : List ℕ) (n : ℕ) (w v : Option (List ℕ)) (s t : Option CloudState) (world : World) → IsAt text rest n w v s t world → rest ≡ [] → WentThrough text (Ok tt) w v s t
 at_end text rest n w v s t world is none = record {
@@ -208,30 +213,43 @@ front_went : (text rest behind line : List ℕ) (n m : ℕ) (w v u : Option (Lis
     → IsAt text rest n w v s t old → lines_of rest ≡ line ∷ lines_of behind → m ≡ n + 1 → LineFront m line v u t z old new → Grows m t z
     → (lines : List Line) × (earlier : List (List ℕ)) × (later : List (List ℕ)) × (lines_of text ≡ earlier ++ later) × AreSpelled earlier lines × WroteFront lines later w u × KeepsTheTheorem lines s z
 front_went text rest behind line n m w v u s t z old new is split next (nothing same) grows =
-    let c : length is.earlier ≡ n = is.count in
-    (is.handles.lines, is.earlier, line ∷ lines_of behind, is.at ∙ ap (λ ls. is.earlier ++ ls) split, is.handles.spelled,
-        inl (subst (λ o. AddsPrefix w o (replies is.handles.lines)) (sym same) (prefix_all w v (replies is.handles.lines) is.handles.wrote)),
-        keeps is.earlier m w v s t z old (omega arith) is.handles grows)
+    let c : length is.earlier ≡ n = is.count in (
+      is.handles.lines,
+      is.earlier,
+      line ∷ lines_of behind,
+      is.at ∙ ap (λ ls. is.earlier ++ ls) split,
+      is.handles.spelled,
+      inl (subst (λ o. AddsPrefix w o (replies is.handles.lines)) (sym same) (prefix_all w v (replies is.handles.lines) is.handles.wrote)),
+      keeps is.earlier m w v s t z old (omega arith) is.handles grows,
+    )
 front_went text rest behind line n m w v u s t z old new is split next (reply_front reply l front) grows =
     let c : length is.earlier ≡ n = is.count in
     let h = is.handles in
     let k : length h.lines ≡ length is.earlier = spelled_length is.earlier h.lines h.spelled in
-    let one : Line = record { event = l.event; reply = reply } in
-    (h.lines ++ one ∷ [], is.earlier ++ line ∷ [], lines_of behind,
-        is.at ∙ ap (λ ls. is.earlier ++ ls) split ∙ sym (append_assoc is.earlier (line ∷ []) (lines_of behind)),
-        spelled_more is.earlier h.lines line one h.spelled l.spells,
-        inl (subst (λ xs. AddsPrefix w u xs) (sym (replies_more 1 m h.lines one (omega arith))) (prefix_more w v u (replies h.lines) (reply_line m reply) h.wrote front)),
-        λ x told empty.
-            let o = h.stands x told empty in
-            let p = stands_more h.lines m line t z old new reply (omega arith) l grows o.0 o.1 o.2 o.3 in
-            (p.0, p.1, p.3))
+    let one : Line = record { event = l.event; reply = reply } in (
+      h.lines ++ one ∷ [],
+      is.earlier ++ line ∷ [],
+      lines_of behind,
+      is.at ∙ ap (λ ls. is.earlier ++ ls) split ∙ sym (append_assoc is.earlier (line ∷ []) (lines_of behind)),
+      spelled_more is.earlier h.lines line one h.spelled l.spells,
+      inl (subst (λ xs. AddsPrefix w u xs) (sym (replies_more 1 m h.lines one (omega arith))) (prefix_more w v u (replies h.lines) (reply_line m reply) h.wrote front)),
+      λ x told empty.
+          let o = h.stands x told empty in
+          let p = stands_more h.lines m line t z old new reply (omega arith) l grows o.0 o.1 o.2 o.3 in
+          (p.0, p.1, p.3),
+    )
 front_went text rest behind line n m w v u s t z old new is split next (refusal_front bad front) grows =
     let c : length is.earlier ≡ n = is.count in
     let k : length is.handles.lines ≡ length is.earlier = spelled_length is.earlier is.handles.lines is.handles.spelled in
-    let at : m ≡ length is.handles.lines + 1 = omega arith in
-    (is.handles.lines, is.earlier, line ∷ lines_of behind, is.at ∙ ap (λ ls. is.earlier ++ ls) split, is.handles.spelled,
-        inr (bad, subst (λ j. AddsPrefix w u (replies is.handles.lines ++ bad_line j)) at (prefix_more w v u (replies is.handles.lines) (bad_line m) is.handles.wrote front)),
-        keeps is.earlier m w v s t z old (omega arith) is.handles grows)
+    let at : m ≡ length is.handles.lines + 1 = omega arith in (
+      is.handles.lines,
+      is.earlier,
+      line ∷ lines_of behind,
+      is.at ∙ ap (λ ls. is.earlier ++ ls) split,
+      is.handles.spelled,
+      inr (bad, subst (λ j. AddsPrefix w u (replies is.handles.lines ++ bad_line j)) at (prefix_more w v u (replies is.handles.lines) (bad_line m) is.handles.wrote front)),
+      keeps is.earlier m w v s t z old (omega arith) is.handles grows,
+    )
 
 pub at_fault : (text rest behind line : List ℕ) (n m : ℕ) (w v u : Option (List ℕ)) (s t z : Option CloudState) (old new : World) (fault : LineFault)
     → IsAt text rest n w v s t old → lines_of rest ≡ line ∷ lines_of behind → m ≡ n + 1 → LineWent (Err fault) m line v u t z old new → Grows m t z → WentThrough text (Err fault) w u s z

@@ -1,9 +1,8 @@
 -- A line keeps what stands.
-use Rattle.std.proofs.Common.{◌≡◌, ◌<◌, ◌≤◌, ◌+◌, ◌⊎◌, ℕ, List, [], ◌∷◌, ◌++◌, length, Option, Some, None, Result, Ok, Err, refl, sym, ap, subst, ◌∙◌, inl, inr, Bool, true, false, cond, arith}
+use Rattle.std.proofs.Common.{◌≡◌, ◌<◌, ◌≤◌, ◌+◌, ◌⊎◌, ℕ, List, [], ◌∷◌, ◌++◌, length, Option, Some, Result, Ok, Err, refl, sym, ap, subst, ◌∙◌, inl, inr, Bool, true, false, cond, arith}
 use Rattle.std.proofs.lemmas.Bool.{cases_lt, eqb-true}
 use Rattle.std.specs.Prelude.{◌==◌, MatchBool}
 use Rattle.db_base.specs.Ids.{IsClient, IsTree}
-use Rattle.db_base.specs.declared.change.Change.{Change}
 use Rattle.db_base.specs.declared.change.Change.TheVariants.{Insert}
 use Rattle.db_base.specs.declared.refusal.Refusal.{Refusal}
 use Rattle.db_base.specs.declared.refusal.Refused.{Refused}
@@ -44,7 +43,7 @@ use Rattle.replay_model.specs.Index.{Finds}
 use Rattle.replay_model.specs.Noting.{Newest, audited}
 use Rattle.replay_model.specs.Right.{ReportIsRight, IsRight, payload_at}
 use Rattle.replay_model.specs.Facts.{HomeStands, CommitStands, Knows, ActsAs, WorksAs, CloudStands, Stands, GoesOn}
-use Rattle.replay_model.proofs.LineLemmas.{begins_line, line_through, own_line, other_line}
+use Rattle.replay_model.proofs.LineLemmas.{begins_line, line_through, own_line}
 use Rattle.replay_model.proofs.TreeLemmas.{report_of}
 use Rattle.replay_model.proofs.SessionLemmas.{IsReplyTo, step_goes_on, step_ends}
 use Rattle.world_core.specs.declared.world.World.{World}
@@ -81,8 +80,8 @@ leaves_all : (lines : List Line) (event : Event) (r : Reply) (s u : Option Cloud
     → ReportIsRight (lines ++ line_of event r ∷ []) t r → LeftIsRight t r → StandsFor (lines ++ line_of event r ∷ []) new u r
 leaves_all lines event r s u old new t same world told stands kept stays right left =
     no_call lines event r s u old new t same (ap (λ (w : World). w.audit) world) told stands
-        (subst (λ (w : World). Knows (newest t) w.session.work) (sym world) stands.session.knows) kept
-        (subst (λ z. ActsAs new.session z) (sym stays) (subst (λ (w : World). ActsAs w.session (standing lines 1)) (sym world) stands.session.acts)) right left
+    (subst (λ (w : World). Knows (newest t) w.session.work) (sym world) stands.session.knows) kept
+    (subst (λ z. ActsAs new.session z) (sym stays) (subst (λ (w : World). ActsAs w.session (standing lines 1)) (sym world) stands.session.acts)) right left
 
 -- a refusal changes nothing of how a session stands
 refused_own : (event : Event) (rule : Refusal) (s : Standing) → after_own event (reply.Refused rule) s ≡ s
@@ -194,7 +193,7 @@ leaves_session : (lines : List Line) (event : Event) (r : Reply) (s u : Option C
     → StandsFor (lines ++ line_of event r ∷ []) new u r
 leaves_session lines event r s u old new t ready knows acts right left =
     no_call lines event r s u old new t ready.same ready.audit ready.told ready.stands knows ready.kept
-        (subst (λ z. ActsAs new.session z) (sym (own_line event r (standing lines 1) ready.own)) acts) right left
+    (subst (λ z. ActsAs new.session z) (sym (own_line event r (standing lines 1) ready.own)) acts) right left
 
 -- a line that is refused leaves its session
 refuses_session : (lines : List Line) (event : Event) (r : Reply) (rule : Refusal) (s u : Option CloudState) (old new : World) (t : CloudState) → Ready lines event s u old new t
@@ -203,9 +202,9 @@ refuses_session lines event r rule s u old new t ready is same =
     let e : r ≡ reply.Refused rule = cc in
     let P : Reply → Type 0 = λ z. StandsFor (lines ++ line_of event z ∷ []) new u z in
     subst P (sym e) (leaves_session lines event (reply.Refused rule) s u old new t ready
-        (subst (λ (x : Acting). Knows (newest t) x.work) (sym same) ready.stands.session.knows)
-        (subst (λ z. ActsAs new.session z) (sym (refused_own event rule (standing lines 1))) (subst (λ x. ActsAs x (standing lines 1)) (sym same) ready.stands.session.acts))
-        tt tt)
+    (subst (λ (x : Acting). Knows (newest t) x.work) (sym same) ready.stands.session.knows)
+    (subst (λ z. ActsAs new.session z) (sym (refused_own event rule (standing lines 1))) (subst (λ x. ActsAs x (standing lines 1)) (sym same) ready.stands.session.acts))
+    tt tt)
 
 -- an operation that begins has its first call in hand
 begins_session : (lines : List Line) (event : Event) (r : Reply) (s u : Option CloudState) (old new : World) (t : CloudState) (session : Acting) → Ready lines event s u old new t
@@ -215,9 +214,9 @@ begins_session lines event r s u old new t session ready is same knows acts =
     let e : r ≡ reply.Begun = cc in
     let P : Reply → Type 0 = λ z. StandsFor (lines ++ line_of event z ∷ []) new u z in
     subst P (sym e) (leaves_session lines event reply.Begun s u old new t ready
-        (subst (λ (x : Acting). Knows (newest t) x.work) (sym same) knows)
-        (subst (λ x. ActsAs x (after_own event reply.Begun (standing lines 1))) (sym same) acts)
-        tt tt)
+    (subst (λ (x : Acting). Knows (newest t) x.work) (sym same) knows)
+    (subst (λ x. ActsAs x (after_own event reply.Begun (standing lines 1))) (sym same) acts)
+    tt tt)
 
 opening_begun : (lines : List Line) (k client : ℕ) (r : Reply) (s u : Option CloudState) (old new : World) (t : CloudState) (begun : Result Begun Refused)
     → Ready lines (event.Open k client) s u old new t → BeginsOpening client old.session new.session begun → BegunReply begun (Ok r)
@@ -243,7 +242,7 @@ folding_begins : (lines : List Line) (k tree : ℕ) (r : Reply) (s u : Option Cl
 folding_begins lines k tree r s u buffer (work.Idle home) audit new t ready folds replies =
     let acts = ready.stands.session.acts in
     begins_session lines (event.Tree k tree) r s u _ new t _ ready replies folds (ready.stands.session.knows, record { root = tt; puts = tt })
-        (record { buffer = acts.buffer; work = (refl, acts.work.1) })
+    (record { buffer = acts.buffer; work = (refl, acts.work.1) })
 folding_begins lines k tree r s u buffer work.Closed audit new t ready folds replies = absurd folds
 folding_begins lines k tree r s u buffer (work.Opening m) audit new t ready folds replies = absurd folds
 folding_begins lines k tree r s u buffer (work.Committing m) audit new t ready folds replies = absurd folds
@@ -300,7 +299,7 @@ commit_of lines k r s u buffer home audit new t Working ready commits replies =
     let acts = ready.stands.session.acts in
     let o = opens_head (newest t) home buffer commits.0 ready.stands.session.knows commits.1 in
     begins_session lines (event.Commit k) r s u _ new t _ ready replies commits.2 o.0
-        (record { buffer = refl; work = (ap (λ cs. WorkingOn (Noting cs)) (sym acts.buffer ∙ sym o.1), acts.work.1 ∙ sym o.2) })
+    (record { buffer = refl; work = (ap (λ cs. WorkingOn (Noting cs)) (sym acts.buffer ∙ sym o.1), acts.work.1 ∙ sym o.2) })
 commit_of lines k r s u buffer home audit new t (Answered (answer.Commit a)) ready commits replies =
     let acts = ready.stands.session.acts in
     let o = home_left (newest t) home buffer commits.0 a ready.stands.session.knows commits.1 in
@@ -308,9 +307,9 @@ commit_of lines k r s u buffer home audit new t (Answered (answer.Commit a)) rea
     let e : r ≡ reply.Commit (NotCommitted o.2.0) = f ∙ ap (λ z. reply.Commit z) o.2.1 in
     let P : Reply → Type 0 = λ z. StandsFor (lines ++ line_of (event.Commit k) z ∷ []) new u z in
     subst P (sym e) (leaves_session lines (event.Commit k) (reply.Commit (NotCommitted o.2.0)) s u _ new t ready
-        (subst (λ (x : Acting). Knows (newest t) x.work) (sym commits.2) o.0)
-        (subst (λ x. ActsAs x (record (standing lines 1) { buffer = [] })) (sym commits.2) (record { buffer = refl; work = (acts.work.0, acts.work.1 ∙ sym o.1) }))
-        tt tt)
+    (subst (λ (x : Acting). Knows (newest t) x.work) (sym commits.2) o.0)
+    (subst (λ x. ActsAs x (record (standing lines 1) { buffer = [] })) (sym commits.2) (record { buffer = refl; work = (acts.work.0, acts.work.1 ∙ sym o.1) }))
+    tt tt)
 commit_of lines k r s u buffer home audit new t (Answered (answer.Opened epoch)) ready commits replies = absurd commits
 commit_of lines k r s u buffer home audit new t (Answered (answer.Done n)) ready commits replies = absurd commits
 commit_of lines k r s u buffer home audit new t (Answered (answer.Trouble z)) ready commits replies = absurd replies
@@ -325,9 +324,9 @@ commit_noted lines k r s u buffer (work.Idle home) audit new t begun ready (inl 
     let e : r ≡ reply.Commit (Committed 0) = cc in
     let P : Reply → Type 0 = λ z. StandsFor (lines ++ line_of (event.Commit k) z ∷ []) new u z in
     subst P (sym e) (leaves_session lines (event.Commit k) (reply.Commit (Committed 0)) s u _ new t ready
-        (subst (λ (x : Acting). Knows (newest t) x.work) (sym none.1) ready.stands.session.knows)
-        (subst (λ x. ActsAs x (standing lines 1)) (sym none.1) ready.stands.session.acts)
-        tt tt)
+    (subst (λ (x : Acting). Knows (newest t) x.work) (sym none.1) ready.stands.session.knows)
+    (subst (λ x. ActsAs x (standing lines 1)) (sym none.1) ready.stands.session.acts)
+    tt tt)
 commit_noted lines k r s u buffer (work.Idle home) audit new t begun ready (inr some) replies = commit_of lines k r s u buffer home audit new t begun ready some.1 replies
 commit_noted lines k r s u buffer work.Closed audit new t begun ready commits replies = absurd commits
 commit_noted lines k r s u buffer (work.Opening m) audit new t begun ready commits replies = absurd commits
@@ -350,10 +349,10 @@ inserts : (lines : List Line) (k tree : ℕ) (key payload : Blob) (r : Reply) (s
 inserts lines k tree key payload reply.Noted s u old new t ready h =
     let acts = ready.stands.session.acts in
     leaves_session lines (event.Insert k tree key payload) reply.Noted s u old new t ready
-        (subst (λ (x : Acting). Knows (newest t) x.work) (sym h.0) ready.stands.session.knows)
-        (subst (λ x. ActsAs x (after_own (event.Insert k tree key payload) reply.Noted (standing lines 1))) (sym h.0)
-            (record { buffer = ap (λ b. noted_in b tree (Insert key payload)) acts.buffer; work = works_with old.session.work (standing lines 1) _ acts.work }))
-        tt tt
+    (subst (λ (x : Acting). Knows (newest t) x.work) (sym h.0) ready.stands.session.knows)
+    (subst (λ x. ActsAs x (after_own (event.Insert k tree key payload) reply.Noted (standing lines 1))) (sym h.0)
+    (record { buffer = ap (λ b. noted_in b tree (Insert key payload)) acts.buffer; work = works_with old.session.work (standing lines 1) _ acts.work }))
+    tt tt
 inserts lines k tree key payload (reply.Refused rule) s u old new t ready h = refuses_session lines (event.Insert k tree key payload) (reply.Refused rule) rule s u old new t ready refl h
 inserts lines k tree key payload r s u old new t ready h = absurd h
 
@@ -362,9 +361,9 @@ aborts : (lines : List Line) (k : ℕ) (r : Reply) (s u : Option CloudState) (ol
 aborts lines k reply.Aborted s u old new t ready h =
     let acts = ready.stands.session.acts in
     leaves_session lines (event.Abort k) reply.Aborted s u old new t ready
-        (subst (λ (x : Acting). Knows (newest t) x.work) (sym h) ready.stands.session.knows)
-        (subst (λ x. ActsAs x (record (standing lines 1) { buffer = [] })) (sym h) (record { buffer = refl; work = works_with old.session.work (standing lines 1) [] acts.work }))
-        tt tt
+    (subst (λ (x : Acting). Knows (newest t) x.work) (sym h) ready.stands.session.knows)
+    (subst (λ x. ActsAs x (record (standing lines 1) { buffer = [] })) (sym h) (record { buffer = refl; work = works_with old.session.work (standing lines 1) [] acts.work }))
+    tt tt
 aborts lines k (reply.Refused rule) s u old new t ready h = refuses_session lines (event.Abort k) (reply.Refused rule) rule s u old new t ready refl h
 aborts lines k r s u old new t ready h = absurd h
 
@@ -389,7 +388,7 @@ step_more : (lines : List Line) (who : Caller) (c f : Counts) (s v : Option Clou
     → IsUnderWay lines old s → StepsLooked who c f s v old new (Ok More) → IsUnderWay lines new v
 step_more lines who c f s v old new session event way step =
     let k = step_goes_on lines who step.d step.e way.after step.t step.u old.session new.session old.audit new.audit session event
-        (step.before.stays way.after way.told) way.goes step.steps step.kept (λ y. step.audit way.after y way.told) in
+    (step.before.stays way.after way.told) way.goes step.steps step.kept (λ y. step.audit way.after y way.told) in
     record { after = k.0; told = step.after.stays k.0 k.1; goes = k.2 }
 
 went_on : (lines : List Line) (who : Caller) (c : Counts) (s : Option CloudState) (old : World) (d : Counts) (t : Option CloudState) (new : World) → who.session ≡ 1 → who.event ≡ length lines + 1
@@ -405,7 +404,7 @@ ends_run : (lines : List Line) (k : ℕ) (who : Caller) (c f : Counts) (s v : Op
 ends_run lines k who c f s v old new (Ok (Ended a)) r own session number way step replies =
     let is = replies_to a r replies in
     let k' = step_ends lines who step.d step.e way.after step.t step.u old.session new.session old.audit new.audit a r session number
-        (step.before.stays way.after way.told) way.goes step.steps is (λ y. step.audit way.after y way.told) in
+    (step.before.stays way.after way.told) way.goes step.steps is (λ y. step.audit way.after y way.told) in
     record {
       after = k'.after;
       told = step.after.stays k'.after k'.told;
@@ -441,7 +440,7 @@ runs lines k n r c d s u old new t own at told stands run =
     let who : Caller = record { session = 1; event = n } in
     let way : IsUnderWay lines old s = record { after = t; told = told; goes = begins_line lines old.session old.audit t stands } in
     ends_run lines k who run.counts d run.state u run.world new run.last r own refl (sym at)
-        (went_on lines who c s old run.counts run.state run.world refl (sym at) way run.went) run.steps run.replies
+    (went_on lines who c s old run.counts run.state run.world refl (sym at) way run.went) run.steps run.replies
 
 -- ---- reports
 
@@ -474,21 +473,21 @@ reports : (lines : List Line) (tree : ℕ) (r : Reply) (c d : Counts) (s u : Opt
 reports lines tree (reply.Report r) c d s u old new t told stands kept h =
     let line : Line = line_of (event.Report tree) (reply.Report r) in
     let stood : Stands (lines ++ line ∷ []) new.session new.audit t =
-        line_through lines line new.session new.audit t
-            (subst (λ (w : World). CloudStands (length lines + 1) lines w.audit t) (sym h.world) (begins_line lines old.session old.audit t stands).cloud)
-            (subst (λ (w : World). Knows (newest t) w.session.work) (sym h.world) stands.session.knows)
-            kept
-            (subst (λ (w : World). ActsAs w.session (standing lines 1)) (sym h.world) stands.session.acts) in
+    line_through lines line new.session new.audit t
+    (subst (λ (w : World). CloudStands (length lines + 1) lines w.audit t) (sym h.world) (begins_line lines old.session old.audit t stands).cloud)
+    (subst (λ (w : World). Knows (newest t) w.session.work) (sym h.world) stands.session.knows)
+    kept
+    (subst (λ (w : World). ActsAs w.session (standing lines 1)) (sym h.world) stands.session.acts) in
     let shows : Shows tree s new.audit r = subst (λ (w : World). Shows tree s w.audit r) (sym h.world) h.reply in
     record { after = t; told = h.looked.stays t told; stands = stood; right = right_of (lines ++ line ∷ []) tree new.audit s t r stood.cloud shows told; left = left_of tree new.audit s t r shows told }
 reports lines tree (reply.Refused rule) c d s u old new t told stands kept h =
     let line : Line = line_of (event.Report tree) (reply.Refused rule) in
     let stood : Stands (lines ++ line ∷ []) new.session new.audit t =
-        line_through lines line new.session new.audit t
-            (subst (λ (w : World). CloudStands (length lines + 1) lines w.audit t) (sym h.world) (begins_line lines old.session old.audit t stands).cloud)
-            (subst (λ (w : World). Knows (newest t) w.session.work) (sym h.world) stands.session.knows)
-            kept
-            (subst (λ (w : World). ActsAs w.session (standing lines 1)) (sym h.world) stands.session.acts) in
+    line_through lines line new.session new.audit t
+    (subst (λ (w : World). CloudStands (length lines + 1) lines w.audit t) (sym h.world) (begins_line lines old.session old.audit t stands).cloud)
+    (subst (λ (w : World). Knows (newest t) w.session.work) (sym h.world) stands.session.knows)
+    kept
+    (subst (λ (w : World). ActsAs w.session (standing lines 1)) (sym h.world) stands.session.acts) in
     record { after = t; told = h.looked.stays t told; stands = stood; right = tt; left = tt }
 reports lines tree r c d s u old new t told stands kept h = absurd h.reply
 

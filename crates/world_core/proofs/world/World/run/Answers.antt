@@ -10,10 +10,10 @@ steps-init g c = record { went = start; grows = grows_same _ _ _ refl }
 pub steps-preserved : goal.steps-preserved
 steps-preserved g c = record {
   went = went_further (record { session = 1; event = c.args.n }) c.first_session-who.result
-    (g.C.Cloud.counts c.args.cloud.now) (g.C.Cloud.counts c.steps.cloud) (g.C.Cloud.counts c.step.new.cloud)
-    (g.C.Cloud.state c.args.cloud.now) (g.C.Cloud.state c.steps.cloud) (g.C.Cloud.state c.step.new.cloud)
-    c.args.self.now c.steps.self c.step.new.self c.in_ok-turn.turn
-    c.first_session-who.ensures (c.in-Ok-More.is ∙ ap Ok c.in-Ok-More.field-0-is) c.steps.invariant.went c.in_ok-turn.ensures.looked;
+      (g.C.Cloud.counts c.args.cloud.now) (g.C.Cloud.counts c.steps.cloud) (g.C.Cloud.counts c.step.new.cloud)
+      (g.C.Cloud.state c.args.cloud.now) (g.C.Cloud.state c.steps.cloud) (g.C.Cloud.state c.step.new.cloud)
+      c.args.self.now c.steps.self c.step.new.self c.in_ok-turn.turn
+      c.first_session-who.ensures (c.in-Ok-More.is ∙ ap Ok c.in-Ok-More.field-0-is) c.steps.invariant.went c.in_ok-turn.ensures.looked;
   grows = grows_with _ (record { session = 1; event = c.args.n }) c.first_session-who.result _ _ _ c.first_session-who.ensures refl c.steps.invariant.grows c.step.ensures.grows;
 }
 

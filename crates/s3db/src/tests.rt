@@ -21,6 +21,18 @@ fn replayed(
     Ok((status, sink))
 }
 
+/// How a run of these words over an empty input ends.
+fn status_of(alloc: Global, words: &[&str]) -> Result<Status, Fail> {
+    let mut list = Vec::new(alloc);
+    for word in words {
+        list.push(String::from_str(alloc, word)?)?;
+    }
+    let mut source = MemorySource::new(alloc, b"", &[])?;
+    let mut sink = MemorySink::new(alloc, &[])?;
+    let mut cloud = MemoryCloud::new(alloc);
+    Ok(run(alloc, list.as_slice(), &mut source, &mut sink, &mut cloud))
+}
+
 const FIRST: &[u8] = b"open 1 1\nrun 1\ninsert 1 1 6b 76\ncommit 1\nrun 1\n";
 
 #[test]
@@ -95,5 +107,96 @@ fn ends_that_fail(rt: HostRuntime) -> Result<(), Fail> {
     let (status, sink) = replayed(rt.alloc(), FIRST, &[], &[2])?;
     assert_eq!(rt; status, Status::WriteFault);
     assert_eq!(rt; sink.written(), b"1 begun\n".as_slice());
+    Ok(())
+}
+
+#[test]
+fn ends_by_its_words(rt: HostRuntime) -> Result<(), Fail> {
+    assert_eq!(rt; status_of(rt.alloc(), &["replay"])?, Status::Done);
+    assert_eq!(rt; status_of(rt.alloc(), &[])?, Status::BadWords);
+    assert_eq!(rt; status_of(rt.alloc(), &["replay", "x"])?, Status::BadWords);
+    assert_eq!(rt;
+        status_of(rt.alloc(), &["gen", "1", "10001"])?,
+        Status::BadWords
+    );
+    Ok(())
+}
+
+#[test]
+fn ends_by_its_length(rt: HostRuntime) -> Result<(), Fail> {
+    let input = vec![in rt.alloc(); b'x'; 262_145]?;
+    let (status, sink) = replayed(rt.alloc(), input.as_slice(), &[], &[])?;
+    assert_eq!(rt; status, Status::TooLong);
+    assert_eq!(rt; sink.written(), b"".as_slice());
+    let (status, sink) = replayed(rt.alloc(), &input[1..], &[], &[])?;
+    assert_eq!(rt; status, Status::BadLine);
+    assert_eq!(rt; sink.written(), b"bad line 1\n".as_slice());
+    Ok(())
+}
+
+#[test]
+fn stops_at_a_bad_line(rt: HostRuntime) -> Result<(), Fail> {
+    let mut input = Vec::new(rt.alloc());
+    input.extend_from_slice(FIRST)?;
+    input.extend_from_slice(b"tree 1 1\nfoo\n")?;
+    let (status, sink) = replayed(rt.alloc(), input.as_slice(), &[], &[])?;
+    assert_eq!(rt; status, Status::BadLine);
+    assert_eq!(rt;
+        sink.written(),
+        b"1 begun\n2 opened 1\n3 noted\n4 begun\n5 committed 1\n6 begun\nbad line 7\n".as_slice()
+    );
+    Ok(())
+}
+
+/// Adds an insert of a key and a payload of so many bytes.
+fn add_insert(input: &mut Vec<u8>, key: usize, payload: usize) -> Result<(), Fail> {
+    input.extend_from_slice(b"insert 1 1 ")?;
+    for _ in 0..key {
+        input.extend_from_slice(b"61")?;
+    }
+    input.extend_from_slice(b" ")?;
+    for _ in 0..payload {
+        input.extend_from_slice(b"62")?;
+    }
+    input.extend_from_slice(b"\n")?;
+    Ok(())
+}
+
+#[test]
+fn keeps_the_sizes(rt: HostRuntime) -> Result<(), Fail> {
+    let mut input = Vec::new(rt.alloc());
+    input.extend_from_slice(b"open 1 1\nrun 1\n")?;
+    add_insert(&mut input, 64, 1_024)?;
+    add_insert(&mut input, 65, 1)?;
+    add_insert(&mut input, 1, 1_025)?;
+    input.extend_from_slice(b"insert 1 1 - 76\ninsert 1 17 61 76\ncommit 1\ncommit 1\n")?;
+    let (status, sink) = replayed(rt.alloc(), input.as_slice(), &[], &[])?;
+    assert_eq!(rt; status, Status::Done);
+    assert_eq!(rt;
+        sink.written(),
+        b"1 begun\n2 opened 1\n3 noted\n4 refused 2 long-key\n5 refused 3 long-payload\n6 refused 1 empty-key\n7 refused 5 bad-number\n8 begun\n9 refused 7 at-work\n".as_slice()
+    );
+    Ok(())
+}
+
+/// Adds inserts of the keys 1000, 1001 and so on, whose digits are read as hexadecimal.
+fn add_inserts(alloc: Global, input: &mut Vec<u8>, count: u64) -> Result<(), Fail> {
+    for i in 0..count {
+        let line = format!(in alloc; "insert 1 1 {} 76\n", 1_000 + i)?;
+        input.extend_from_slice(line.as_bytes())?;
+    }
+    Ok(())
+}
+
+#[test]
+fn keeps_the_count(rt: HostRuntime) -> Result<(), Fail> {
+    let mut input = Vec::new(rt.alloc());
+    input.extend_from_slice(b"open 1 1\nrun 1\n")?;
+    add_inserts(rt.alloc(), &mut input, 201)?;
+    add_inserts(rt.alloc(), &mut input, 1)?;
+    let (status, sink) = replayed(rt.alloc(), input.as_slice(), &[], &[])?;
+    assert_eq!(rt; status, Status::Done);
+    let written = sink.written();
+    assert!(rt; written.ends_with(b"202 noted\n203 refused 4 too-many\n204 noted\n"));
     Ok(())
 }

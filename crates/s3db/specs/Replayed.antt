@@ -6,6 +6,7 @@ use Rattle.cloud_trait.specs.Upto.{upto}
 use Rattle.db_io.specs.Content.{Takes, Adds, AddsPrefix}
 use Rattle.event_text.specs.declared.event.Event.{Event}
 use Rattle.event_text.specs.Event.{IsEvent}
+use Rattle.line_io.specs.Input.{AreAll}
 use Rattle.line_io.specs.Lines.{lines_of}
 use Rattle.reply_text.specs.declared.reply.Reply.{Reply}
 use Rattle.reply_text.specs.Reply.{reply_text}
@@ -125,10 +126,11 @@ LineWent (Err CloudFault) n text written now_written start now old new = LineFro
 
 -- ---- a run
 
--- a part of the source was read, and handled line by line up to this end
+-- the source was read to its end, and handled line by line up to this end
 pub record ReadAndWent (ended : Result (Unit {0}) LineFault) (left rest written now_written : Option (List ℕ)) (start now : Option CloudState) : Type 0 where
   pub bytes : List ℕ
   pub taken : Takes left rest bytes
+  pub all : AreAll left bytes
   pub went : WentThrough bytes ended written now_written start now
 
 -- where memory ran out: the first part of the replies of some lines is written, and their reports are right

@@ -1,4 +1,4 @@
-ghost use Rattle.std.specs.Prelude.{◌≡◌, ◌<◌, ℕ, map, string_bytes};
+ghost use Rattle.std.specs.Prelude.{◌≡◌, ◌<◌, ◌⊎◌, ℕ, map, string_bytes};
 ghost use Rattle.s3db.specs.Replay.{AskReplay, WasBad, WasTooLong};
 ghost use Rattle.s3db.specs.Replayed.{Ran};
 
@@ -21,6 +21,7 @@ pub fn run<I: Source, O: Sink, C: Bench>(
     cloud: &mut C,
 ) -> Status
     ensures bad_words { result ≡ Status.BadWords → AskReplay (map string_bytes words.now) → ⊥ }
+    ensures no_replay { (AskReplay (map string_bytes words.now) → ⊥) → (result ≡ Status.BadWords) ⊎ (result ≡ Status.Memory) }
     ensures unread { result ≡ Status.BadWords → (I.left source.new ≡ I.left source.old) × (O.written sink.new ≡ O.written sink.old) }
     ensures words_stay { result ≡ Status.BadWords → (C.state cloud.new ≡ C.state cloud.old) × (C.counts cloud.new ≡ C.counts cloud.old) }
     ensures read_fault { result ≡ Status.ReadFault → I.faults source.old < I.faults source.new }

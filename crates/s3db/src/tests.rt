@@ -179,10 +179,10 @@ fn keeps_the_sizes(rt: HostRuntime) -> Result<(), Fail> {
     Ok(())
 }
 
-/// Adds inserts of the keys 1000, 1001 and so on, whose digits are read as hexadecimal.
-fn add_inserts(alloc: Global, input: &mut Vec<u8>, count: u64) -> Result<(), Fail> {
-    for i in 0..count {
-        let line = format!(in alloc; "insert 1 1 {} 76\n", 1_000 + i)?;
+/// Adds inserts of the keys 1000, 1001 and so on, whose digits are read as hexadecimal, up to a bound.
+fn add_inserts(alloc: Global, input: &mut Vec<u8>, bound: u64) -> Result<(), Fail> {
+    for key in 1_000..bound {
+        let line = format!(in alloc; "insert 1 1 {key} 76\n")?;
         input.extend_from_slice(line.as_bytes())?;
     }
     Ok(())
@@ -192,8 +192,8 @@ fn add_inserts(alloc: Global, input: &mut Vec<u8>, count: u64) -> Result<(), Fai
 fn keeps_the_count(rt: HostRuntime) -> Result<(), Fail> {
     let mut input = Vec::new(rt.alloc());
     input.extend_from_slice(b"open 1 1\nrun 1\n")?;
-    add_inserts(rt.alloc(), &mut input, 201)?;
-    add_inserts(rt.alloc(), &mut input, 1)?;
+    add_inserts(rt.alloc(), &mut input, 1_201)?;
+    add_inserts(rt.alloc(), &mut input, 1_001)?;
     let (status, sink) = replayed(rt.alloc(), input.as_slice(), &[], &[])?;
     assert_eq!(rt; status, Status::Done);
     let written = sink.written();

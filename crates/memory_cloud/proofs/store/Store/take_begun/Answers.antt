@@ -1,5 +1,5 @@
 use Rattle.std.proofs.Common.{inl, inr}
-use Rattle.memory_cloud.proofs.memory.MemoryCloud.take_begun.Goals as goal
+use Rattle.memory_cloud.proofs.store.Store.take_begun.Goals as goal
 
 pub returns-in-Lost : goal.returns-in-Lost
 returns-in-Lost c = λ who. rw c.in-Lost.is (c.take_lost.ensures who)

@@ -1,5 +1,5 @@
 use Rattle.std.proofs.Common.{inl, inr}
-use Rattle.memory_cloud.proofs.memory.MemoryCloud.receive_begun.Goals as goal
+use Rattle.memory_cloud.proofs.store.Store.receive_begun.Goals as goal
 
 pub returns-in-Give : goal.returns-in-Give
 returns-in-Give c = λ who. rw c.in-Give.is (c.receive_chosen.ensures who)

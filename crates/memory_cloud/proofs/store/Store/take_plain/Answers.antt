@@ -1,5 +1,5 @@
 use Rattle.std.proofs.Common.{inr, refl, rules}
-use Rattle.memory_cloud.proofs.memory.MemoryCloud.take_plain.Goals as goal
+use Rattle.memory_cloud.proofs.store.Store.take_plain.Goals as goal
 
 pub returns-then-is_spent : goal.returns-then-is_spent
 returns-then-is_spent c = λ who. c.take_spent.ensures who c.args.ticks

@@ -1,5 +1,5 @@
 use Rattle.std.proofs.Common.{inl, inr}
-use Rattle.memory_cloud.proofs.memory.MemoryCloud.renew_begun.Goals as goal
+use Rattle.memory_cloud.proofs.store.Store.renew_begun.Goals as goal
 
 pub returns-in-Lost-clause-obeys : goal.returns-in-Lost-clause-obeys
 returns-in-Lost-clause-obeys c = λ who. rw c.in-Lost.is (c.renew_lost.ensures.obeys who)

@@ -1,5 +1,5 @@
 use Rattle.std.proofs.Common.{inl, inr}
-use Rattle.memory_cloud.proofs.memory.MemoryCloud.get_begun.Goals as goal
+use Rattle.memory_cloud.proofs.store.Store.get_begun.Goals as goal
 
 pub returns-in-Old : goal.returns-in-Old
 returns-in-Old c = λ who. rw c.in-Old.is (c.get_old.ensures who)

@@ -10,3 +10,5 @@ pub mod plan;
 pub mod put_list;
 pub mod root;
 mod sizes;
+#[cfg(test)]
+mod tests;

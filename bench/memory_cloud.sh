@@ -2,8 +2,8 @@
 # Times the cloud in memory: rounds of take, get, put, send, receive, delete and release of one name each.
 # usage: bench/memory_cloud.sh [ROUNDS..]   (10000 and 100000 if none are given)
 # It makes a program beside copies of the crates, with what their checks kept, under /tmp, proves and builds it, and
-# times the program alone: the least of nine runs for each number of rounds, less that of a run of no round. A call is
-# to take as long after many rounds as after few, so the last line compares the rates: they should be within 1.5.
+# times the program alone: the processor's time of a run, as the mean of fifty, less that of a run of no round. A call
+# is to take as long after many rounds as after few, so the last line compares the rates: they should be within 1.5.
 set -euo pipefail
 top=$(cd "$(dirname "$0")/.." && pwd)
 work=$(mktemp -d /tmp/memory_cloud_bench.XXXXXX)
@@ -69,18 +69,15 @@ fn main(rt: HostRuntime) -> io::Result<()> {
 END
 rt run -- 1 > rounds.log 2>&1 || { cat rounds.log; exit 1; }
 if [ $# -eq 0 ]; then set -- 10000 100000; fi
+TIMEFORMAT='%U %S'
 for rounds in 0 "$@"; do
-    least=
-    for _ in 1 2 3 4 5 6 7 8 9; do
-        start=$(date +%s%N)
+    spent=$( { time for _ in {1..50}; do
         said=$(./out/rounds "$rounds")
-        took=$(($(date +%s%N) - start))
-        if [ "$said" != "$rounds rounds" ]; then echo "of $rounds rounds went well: $said"; exit 1; fi
-        if [ -z "$least" ] || [ "$took" -lt "$least" ]; then least=$took; fi
-    done
-    echo "$rounds $least"
-done | awk 'NR == 1 { start = $2; next } {
-    seconds = ($2 - start) / 1e9
+        if [ "$said" != "$rounds rounds" ]; then exit 1; fi
+    done; } 2>&1 )
+    echo "$rounds $spent"
+done | awk 'NR == 1 { start = ($2 + $3) / 50; next } {
+    seconds = ($2 + $3) / 50 - start
     rate = $1 / seconds
     printf "%d rounds in %.4f s: %.0f rounds a second\n", $1, seconds, rate
     if (NR == 2 || rate > most) most = rate

@@ -3,3 +3,5 @@
 
 pub mod read;
 pub mod shape;
+#[cfg(test)]
+mod tests;

@@ -82,3 +82,15 @@ table-end ds l l' queue run out a b c same same' first own last =
     ++ dones_before (filter (is_beside true queue) l') []) same
     ∙ (ap (λ l. ((out ++ dones_before (filter (is_beside false queue) ds) []) ++ dones_before (own_entries queue (raised_number ds queue run) 64) [])
     ++ dones_before (filter (is_beside true queue) l) []) same' ∙ raised-bytes ds queue run out))))
+
+-- the next of the queue's own entries, at the client and number that were found for it
+pub next-own : (queue : ℕ) (number : ℕ → ℕ) (left client n : ℕ) → client ≡ 64 - left → n ≡ number client
+    → with_done queue client n [] ≡ with_done queue (64 - left) (number (64 - left)) []
+next-own queue number left client n hc hn = ap (λ n. with_done queue client n []) hn ∙ ap (λ c. with_done queue c (number c) []) hc
+
+pub own-step-at : (out new start : List ℕ) (queue : ℕ) (number : ℕ → ℕ) (left left' client n : ℕ) → left ≡ left' + 1 → client ≡ 64 - left' → n ≡ number client
+    → out ++ dones_before (own_entries queue number left) [] ≡ start
+    → new ≡ out ++ dones_before (with_done queue client n []) []
+    → new ++ dones_before (own_entries queue number left') [] ≡ start
+own-step-at out new start queue number left left' client n e hc hn before appended =
+    own-step out new start queue number left left' e before (appended ∙ ap (λ ds. out ++ dones_before ds []) (next-own queue number left' client n hc hn))

@@ -66,7 +66,7 @@ applied-formed l queue run small h ordered =
       records_ascend = edited_by-ascends l.records (lacked l queue run) h.records_ascend;
     }
 
-head-is : (l : Leaf) (version : ℕ) → head_bytes l version ≡ leaf_head.spelling (record { version = version; low = l.low; right = l.right; high = l.high })
+pub head-is : (l : Leaf) (version : ℕ) → head_bytes l version ≡ leaf_head.spelling (record { version = version; low = l.low; right = l.right; high = l.high })
 unfolding leaf_head
 head-is l version = refl
 

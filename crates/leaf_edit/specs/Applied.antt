@@ -1,6 +1,6 @@
 -- A leaf with a run applied.
-use Rattle.std.specs.Prelude.{ℕ, ◌+◌, List}
-use Rattle.leaf_view.specs.Leaf.{Leaf}
+use Rattle.std.specs.Prelude.{ℕ, ◌+◌, List, length}
+use Rattle.leaf_view.specs.Leaf.{Leaf, leaf}
 use Rattle.log_codec.specs.declared.record.PuItem.{PuItem}
 use Rattle.leaf_edit.specs.Edited.{edited_by}
 use Rattle.leaf_edit.specs.Lacked.{lacked}
@@ -13,3 +13,7 @@ applied l queue run = record l {
   done = raised l.done queue run;
   records = edited_by l.records (lacked l queue run);
 }
+
+-- how many bytes spell it
+abbrev pub applied_length : Leaf → ℕ → List PuItem → ℕ
+applied_length l queue run = length (leaf.spelling (applied l queue run))

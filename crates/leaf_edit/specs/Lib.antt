@@ -5,4 +5,5 @@ pub mod Edited
 pub mod Lacked
 pub mod Merging
 pub mod Raised
+pub mod Sizes
 pub mod Spelled

@@ -11,7 +11,7 @@ ghost use Rattle.leaf_edit.specs.Merging.{AreRecords};
 ghost use Rattle.leaf_edit.specs.Spelled.{dones_before, entries_bytes};
 
 use crate::buffer::LeafBuf;
-use crate::spell::{add_done, add_entry, add_fields, right_of};
+use crate::spell::{right_of, try_add_done, try_add_entry, try_add_fields};
 use byte_format::try_add_u8;
 use db_base::ids::PageId;
 use db_base::pair::EditFault;
@@ -52,7 +52,7 @@ fn add_front<'a>(out: &mut Vec<u8>, records: Records<'a>, n: usize) -> Result<()
     let mut left = records;
     let mut more = n;
     while let Some(((key, payload), rest)) = next_of(left.again(), more) {
-        add_entry(out, key, payload)?;
+        try_add_entry(out, key, payload)?;
         left = rest;
         more -= 1;
     }
@@ -65,7 +65,7 @@ fn add_dones<'a>(out: &mut Vec<u8>, list: DoneList<'a>) -> Result<(), AllocError
 {
     let mut left = list;
     while let Some((entry, rest)) = left.again().split() {
-        add_done(out, &entry)?;
+        try_add_done(out, &entry)?;
         left = rest;
     }
     Ok(())
@@ -96,7 +96,7 @@ fn left_bytes(
 {
     let key = first_key(&skip(leaf.records(), n));
     let mut out = Vec::new(alloc);
-    add_fields(&mut out, leaf.version(), leaf.low(), right.get(), Some(key))?;
+    try_add_fields(&mut out, leaf.version(), leaf.low(), right.get(), Some(key))?;
     add_dones(&mut out, leaf.done_list())?;
     try_add_u8(&mut out, 0)?;
     add_front(&mut out, leaf.records(), n)?;
@@ -111,7 +111,7 @@ fn right_bytes(alloc: Global, leaf: &LeafView<'_>, n: usize) -> Result<Vec<u8>, 
 {
     let rest = skip(leaf.records(), n);
     let mut out = Vec::new(alloc);
-    add_fields(&mut out, 1, first_key(&rest), right_of(leaf), leaf.high())?;
+    try_add_fields(&mut out, 1, first_key(&rest), right_of(leaf), leaf.high())?;
     add_dones(&mut out, leaf.done_list())?;
     try_add_u8(&mut out, 0)?;
     add_rest(&mut out, rest)?;
@@ -125,7 +125,7 @@ fn add_rest<'a>(out: &mut Vec<u8>, records: Records<'a>) -> Result<(), AllocErro
 {
     let mut left = records;
     while let Some(((key, payload), rest)) = left.again().split() {
-        add_entry(out, key, payload)?;
+        try_add_entry(out, key, payload)?;
         left = rest;
     }
     try_add_u8(out, 0)

@@ -1,18 +1,20 @@
 //! New leaves, made from old ones: the records of a run applied, a leaf cut in two.
 #![tactic(auto)]
 
+mod applying;
 mod buffer;
 mod changes;
 mod count;
 mod cut;
-mod merge;
+mod merging;
 mod spell;
 mod step;
 mod table;
 
+pub use applying::apply;
 pub use buffer::LeafBuf;
 pub use count::fresh;
-pub use merge::apply;
+pub use merging::{VersionSpent, merge, need};
 
 #[cfg(test)]
 mod tests;

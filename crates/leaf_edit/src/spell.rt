@@ -1,15 +1,20 @@
-//! The parts of a leaf's spelling, appended.
+//! The parts of a leaf's spelling, appended: into room that is there, or, by the names with `try`, into room that is made.
 
-ghost use Rattle.std.specs.Prelude.{◌++◌, ◌≡◌, OnOk};
+ghost use Rattle.std.specs.Prelude.{◌++◌, ◌≡◌, ◌+◌, ◌≤◌, IfSome, OnOk, length, vec_len};
+ghost use Rattle.std.specs.Option.{option_copied};
+ghost use Rattle.std.specs.Vec.{vec_capacity};
+ghost use Rattle.byte_format.specs.Adds.{Adds};
 ghost use Rattle.leaf_view.specs.Leaf.{entry_of};
 ghost use Rattle.leaf_edit.specs.Merging.{IsSized};
-ghost use Rattle.leaf_edit.specs.Spelled.{done_bytes, entry_bytes, fields_bytes, head_bytes, high_bytes};
-ghost use Rattle.std.specs.Option.{option_copied};
-ghost use Rattle.std.specs.Prelude.{IfSome, ◌≤◌, length};
+ghost use Rattle.leaf_edit.specs.Sizes.{entry_size, fields_size, high_size};
+ghost use Rattle.leaf_edit.specs.Spelled.{done_bytes, entry_bytes, fields_bytes, high_bytes};
 
-use byte_format::{try_add_text8, try_add_text16, try_add_u8, try_add_u64};
+use byte_format::{add_text8, add_text16, add_u8, add_u64};
 use leaf_view::{Done, LeafView};
 use std::alloc::AllocError;
+
+/// How many bytes an entry of the table has, with the byte that says that it is there.
+pub(crate) const DONE_LEN: usize = 18;
 
 /// The number of the page to the right, 0 where there is none.
 pub(crate) fn right_of(leaf: &LeafView<'_>) -> u64
@@ -21,14 +26,36 @@ pub(crate) fn right_of(leaf: &LeafView<'_>) -> u64
     }
 }
 
-/// Appends the high key, where there is one.
-fn add_high(out: &mut Vec<u8>, high: Option<&[u8]>) -> Result<(), AllocError>
+/// How many bytes the high key has, with its length before it, where there is one.
+fn high_len(high: Option<&[u8]>) -> usize
     requires { IfSome (option_copied high) (λ key. length key ≤ 64) }
-    ensures { OnOk result (out.new.items ≡ out.old.items ++ high_bytes (option_copied high.entry)) }
+    ensures { result ≡ high_size (option_copied high.entry) }
 {
     match high {
-        Some(key) => try_add_text8(out, key),
-        None => Ok(()),
+        Some(key) => 1 + key.len(),
+        None => 0,
+    }
+}
+
+/// How many bytes stand before the lists of a leaf.
+pub(crate) fn fields_len(low: &[u8], high: Option<&[u8]>) -> usize
+    requires low { length low.now ≤ 64 }
+    requires high { IfSome (option_copied high) (λ key. length key ≤ 64) }
+    ensures size { result ≡ fields_size low.now (option_copied high.entry) }
+    ensures short { result ≤ 148 }
+{
+    19 + low.len() + high_len(high)
+}
+
+/// Appends the high key, where there is one.
+fn add_high(out: &mut Vec<u8>, high: Option<&[u8]>)
+    requires short { IfSome (option_copied high) (λ key. length key ≤ 64) }
+    requires room { vec_len out.old + high_size (option_copied high) ≤ vec_capacity out.old }
+    ensures { Adds out.old out.new (high_bytes (option_copied high.entry)) }
+{
+    match high {
+        Some(key) => add_text8(out, key),
+        None => (),
     }
 }
 
@@ -39,47 +66,82 @@ pub(crate) fn add_fields(
     low: &[u8],
     right: u64,
     high: Option<&[u8]>,
+)
+    requires low { length low.now ≤ 64 }
+    requires high { IfSome (option_copied high) (λ key. length key ≤ 64) }
+    requires room { vec_len out.old + fields_size low.now (option_copied high) ≤ vec_capacity out.old }
+    ensures { Adds out.old out.new (fields_bytes version low.now right (option_copied high.entry)) }
+{
+    add_u8(out, 76);
+    add_u8(out, 1);
+    add_u64(out, version);
+    add_text8(out, low);
+    add_u64(out, right);
+    add_high(out, high);
+}
+
+/// Appends an entry of the table, with the byte that says that it is there.
+pub(crate) fn add_done(out: &mut Vec<u8>, entry: &Done)
+    requires { vec_len out.old + 18 ≤ vec_capacity out.old }
+    ensures { Adds out.old out.new (done_bytes entry.now) }
+{
+    add_u8(out, 1);
+    add_u64(out, entry.queue);
+    add_u8(out, entry.client.get() as u8);
+    add_u64(out, entry.number);
+}
+
+/// How many bytes a record has, with the byte that says that it is there.
+pub(crate) fn entry_len(key: &[u8], payload: &[u8]) -> usize
+    requires { IsSized (entry_of (key.now, payload.now)) }
+    ensures { result ≡ entry_size (entry_of (key.now, payload.now)) }
+{
+    4 + key.len() + payload.len()
+}
+
+/// Appends a record, with the byte that says that it is there.
+pub(crate) fn add_entry(out: &mut Vec<u8>, key: &[u8], payload: &[u8])
+    requires sized { IsSized (entry_of (key.now, payload.now)) }
+    requires room { vec_len out.old + entry_size (entry_of (key.now, payload.now)) ≤ vec_capacity out.old }
+    ensures { Adds out.old out.new (entry_bytes (entry_of (key.now, payload.now))) }
+{
+    add_u8(out, 1);
+    add_text8(out, key);
+    add_text16(out, payload);
+}
+
+/// Appends what stands before the lists of a leaf.
+pub(crate) fn try_add_fields(
+    out: &mut Vec<u8>,
+    version: u64,
+    low: &[u8],
+    right: u64,
+    high: Option<&[u8]>,
 ) -> Result<(), AllocError>
     requires low { length low.now ≤ 64 }
     requires high { IfSome (option_copied high) (λ key. length key ≤ 64) }
     ensures { OnOk result (out.new.items ≡ out.old.items ++ fields_bytes version low.now right (option_copied high.entry)) }
 {
-    try_add_u8(out, 76)?;
-    try_add_u8(out, 1)?;
-    try_add_u64(out, version)?;
-    try_add_text8(out, low)?;
-    try_add_u64(out, right)?;
-    add_high(out, high)?;
+    out.reserve(fields_len(low, high))?;
+    add_fields(out, version, low, right, high);
     Ok(())
 }
 
-/// Appends all that stands before the lists of a leaf, under another version.
-pub(crate) fn add_head(
-    out: &mut Vec<u8>,
-    leaf: &LeafView<'_>,
-    version: u64,
-) -> Result<(), AllocError>
-    ensures { OnOk result (out.new.items ≡ out.old.items ++ head_bytes leaf.now version) }
-{
-    add_fields(out, version, leaf.low(), right_of(leaf), leaf.high())
-}
-
 /// Appends an entry of the table, with the byte that says that it is there.
-pub(crate) fn add_done(out: &mut Vec<u8>, entry: &Done) -> Result<(), AllocError>
+pub(crate) fn try_add_done(out: &mut Vec<u8>, entry: &Done) -> Result<(), AllocError>
     ensures { OnOk result (out.new.items ≡ out.old.items ++ done_bytes entry.now) }
 {
-    try_add_u8(out, 1)?;
-    try_add_u64(out, entry.queue)?;
-    try_add_u8(out, entry.client.get() as u8)?;
-    try_add_u64(out, entry.number)
+    out.reserve(DONE_LEN)?;
+    add_done(out, entry);
+    Ok(())
 }
 
 /// Appends a record, with the byte that says that it is there.
-pub(crate) fn add_entry(out: &mut Vec<u8>, key: &[u8], payload: &[u8]) -> Result<(), AllocError>
+pub(crate) fn try_add_entry(out: &mut Vec<u8>, key: &[u8], payload: &[u8]) -> Result<(), AllocError>
     requires { IsSized (entry_of (key.now, payload.now)) }
     ensures { OnOk result (out.new.items ≡ out.old.items ++ entry_bytes (entry_of (key.now, payload.now))) }
 {
-    try_add_u8(out, 1)?;
-    try_add_text8(out, key)?;
-    try_add_text16(out, payload)
+    out.reserve(entry_len(key, payload))?;
+    add_entry(out, key, payload);
+    Ok(())
 }

@@ -1,15 +1,17 @@
 //! The table of what is done, raised by a run.
 
-ghost use Rattle.std.specs.Prelude.{◌≡◌, [], ◌∷◌, ◌++◌, OnOk, filter};
+ghost use Rattle.std.specs.Prelude.{◌≡◌, ◌+◌, ◌≤◌, [], ◌∷◌, filter, vec_len};
+ghost use Rattle.std.specs.Vec.{vec_capacity};
 ghost use Rattle.db_base.specs.Ids.{IsClient};
+ghost use Rattle.byte_format.specs.Adds.{Adds};
 ghost use Rattle.leaf_edit.specs.Raised.{greatest_of, number_in, own_entries, raised, raised_number, with_done};
+ghost use Rattle.leaf_edit.specs.Sizes.{dones_size, IsSize};
 ghost use Rattle.leaf_edit.specs.Spelled.{dones_before, is_beside};
 
-use crate::spell::add_done;
+use crate::spell::{DONE_LEN, add_done};
 use db_base::ids::ClientId;
 use leaf_view::{Done, DoneList, LeafView};
 use log_codec::record::PuItem;
-use std::alloc::AllocError;
 
 /// The item's number where it is the client's, else 0.
 fn number_in(x: &PuItem, client: ClientId) -> u64
@@ -42,23 +44,31 @@ fn raised_number(leaf: &LeafView<'_>, queue: u64, run: &[PuItem], client: Client
     leaf.done(queue, client).max(greatest_of(run, client))
 }
 
-/// Appends the queue's entry of one client, where something of it is done.
-fn add_client(
-    out: &mut Vec<u8>,
-    leaf: &LeafView<'_>,
-    queue: u64,
-    run: &[PuItem],
-    client: u64,
-) -> Result<(), AllocError>
-    requires { IsClient client }
-    ensures { OnOk result (out.new.items ≡ out.old.items ++ dones_before (with_done queue client (raised_number leaf.now.done queue run.now client) []) []) }
+/// The client of a number.
+fn client_at(number: u64) -> ClientId
+    requires { IsClient number }
+    ensures { result ≡ number }
 {
-    let Ok(client) = ClientId::new(client) else {
+    let Ok(client) = ClientId::new(number) else {
         unreachable!()
     };
-    let number = raised_number(leaf, queue, run, client);
+    client
+}
+
+/// How many bytes an entry has, where something is done.
+fn done_len(queue: u64, client: ClientId, number: u64) -> usize
+    ensures { result ≡ dones_size (with_done queue client number []) }
+{
+    if number == 0 { 0 } else { DONE_LEN }
+}
+
+/// Appends an entry, where something is done.
+fn add_if_done(out: &mut Vec<u8>, queue: u64, client: ClientId, number: u64)
+    requires { vec_len out.old + dones_size (with_done queue client number []) ≤ vec_capacity out.old }
+    ensures { Adds out.old out.new (dones_before (with_done queue client number []) []) }
+{
     if number == 0 {
-        return Ok(());
+        return;
     }
     add_done(
         out,
@@ -67,24 +77,36 @@ fn add_client(
             client,
             number,
         },
-    )
+    );
+}
+
+/// So many bytes, and those of the queue's entries by client.
+fn own_len(total: usize, leaf: &LeafView<'_>, queue: u64, run: &[PuItem]) -> Option<usize>
+    ensures { IsSize result (total + dones_size (own_entries queue (raised_number leaf.now.done queue run.now) 64)) }
+{
+    let mut sum = total;
+    let mut left: u64 = 64;
+    while left > 0 {
+        left -= 1;
+        let client = client_at(64 - left);
+        let number = raised_number(leaf, queue, run, client);
+        sum = sum.checked_add(done_len(queue, client, number))?;
+    }
+    Some(sum)
 }
 
 /// Appends the queue's entries by client.
-fn add_own(
-    out: &mut Vec<u8>,
-    leaf: &LeafView<'_>,
-    queue: u64,
-    run: &[PuItem],
-) -> Result<(), AllocError>
-    ensures { OnOk result (out.new.items ≡ out.old.items ++ dones_before (own_entries queue (raised_number leaf.now.done queue run.now) 64) []) }
+fn add_own(out: &mut Vec<u8>, leaf: &LeafView<'_>, queue: u64, run: &[PuItem])
+    requires { vec_len out.old + dones_size (own_entries queue (raised_number leaf.now.done queue run.now) 64) ≤ vec_capacity out.old }
+    ensures { Adds out.old out.new (dones_before (own_entries queue (raised_number leaf.now.done queue run.now) 64) []) }
 {
     let mut left: u64 = 64;
     while left > 0 {
         left -= 1;
-        add_client(out, leaf, queue, run, 64 - left)?;
+        let client = client_at(64 - left);
+        let number = raised_number(leaf, queue, run, client);
+        add_if_done(out, queue, client, number);
     }
-    Ok(())
 }
 
 /// Whether the entry's queue is on this side of another, above it or below it.
@@ -98,44 +120,72 @@ fn is_beside(above: bool, queue: u64, entry: &Done) -> bool
     }
 }
 
-/// Appends the entry where its queue is on this side.
-fn add_if_beside(out: &mut Vec<u8>, above: bool, queue: u64, entry: &Done) -> Result<(), AllocError>
-    ensures { OnOk result (out.new.items ≡ out.old.items ++ dones_before (filter (is_beside above queue) (entry.now ∷ [])) []) }
+/// How many bytes the entry has, where its queue is on this side.
+fn beside_len(above: bool, queue: u64, entry: &Done) -> usize
+    ensures { result ≡ dones_size (filter (is_beside above queue) (entry.now ∷ [])) }
 {
     if is_beside(above, queue, entry) {
-        return add_done(out, entry);
+        DONE_LEN
+    } else {
+        0
     }
-    Ok(())
+}
+
+/// Appends the entry where its queue is on this side.
+fn add_if_beside(out: &mut Vec<u8>, above: bool, queue: u64, entry: &Done)
+    requires { vec_len out.old + dones_size (filter (is_beside above queue) (entry.now ∷ [])) ≤ vec_capacity out.old }
+    ensures { Adds out.old out.new (dones_before (filter (is_beside above queue) (entry.now ∷ [])) []) }
+{
+    if is_beside(above, queue, entry) {
+        add_done(out, entry);
+    }
+}
+
+/// So many bytes, and those of the entries of the queues on this side.
+fn others_len(total: usize, above: bool, queue: u64, list: DoneList<'_>) -> Option<usize>
+    ensures { IsSize result (total + dones_size (filter (is_beside above queue) list.entry)) }
+{
+    let mut sum = total;
+    let mut left = list;
+    while let Some((entry, rest)) = left.again().split() {
+        sum = sum.checked_add(beside_len(above, queue, &entry))?;
+        left = rest;
+    }
+    Some(sum)
 }
 
 /// Appends the entries of the queues on this side.
-fn add_others(
-    out: &mut Vec<u8>,
-    above: bool,
-    queue: u64,
-    list: DoneList<'_>,
-) -> Result<(), AllocError>
-    ensures { OnOk result (out.new.items ≡ out.old.items ++ dones_before (filter (is_beside above queue) list.entry) []) }
+fn add_others(out: &mut Vec<u8>, above: bool, queue: u64, list: DoneList<'_>)
+    requires { vec_len out.old + dones_size (filter (is_beside above queue) list) ≤ vec_capacity out.old }
+    ensures { Adds out.old out.new (dones_before (filter (is_beside above queue) list.entry) []) }
 {
     let mut left = list;
     while let Some((entry, rest)) = left.again().split() {
-        add_if_beside(out, above, queue, &entry)?;
+        add_if_beside(out, above, queue, &entry);
         left = rest;
     }
-    Ok(())
 }
 
-/// Appends the table behind the run.
-pub(crate) fn add_table(
-    out: &mut Vec<u8>,
+/// So many bytes, and those of the table behind the run.
+pub(crate) fn table_len(
+    total: usize,
     leaf: &LeafView<'_>,
     queue: u64,
     run: &[PuItem],
-) -> Result<(), AllocError>
-    ensures { OnOk result (out.new.items ≡ out.old.items ++ dones_before (raised leaf.now.done queue run.now) []) }
+) -> Option<usize>
+    ensures { IsSize result (total + dones_size (raised leaf.now.done queue run.now)) }
 {
-    add_others(out, false, queue, leaf.done_list())?;
-    add_own(out, leaf, queue, run)?;
-    add_others(out, true, queue, leaf.done_list())?;
-    Ok(())
+    let lower = others_len(total, false, queue, leaf.done_list())?;
+    let own = own_len(lower, leaf, queue, run)?;
+    others_len(own, true, queue, leaf.done_list())
+}
+
+/// Appends the table behind the run.
+pub(crate) fn add_table(out: &mut Vec<u8>, leaf: &LeafView<'_>, queue: u64, run: &[PuItem])
+    requires { vec_len out.old + dones_size (raised leaf.now.done queue run.now) ≤ vec_capacity out.old }
+    ensures { Adds out.old out.new (dones_before (raised leaf.now.done queue run.now) []) }
+{
+    add_others(out, false, queue, leaf.done_list());
+    add_own(out, leaf, queue, run);
+    add_others(out, true, queue, leaf.done_list());
 }

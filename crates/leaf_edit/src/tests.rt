@@ -5,7 +5,8 @@ use db_base::ids::{ClientId, MsgId, PageId};
 use db_base::key::{Key, Payload};
 use leaf_view::LeafView;
 use log_codec::record::{PuItem, PuRec};
-use run_cursor::run::take_run;
+use run_cursor::run::{Run, take_run};
+use std::alloc::Global;
 use std::test::Fail;
 
 /// Version 1, no fence, one entry of what is done and one record.
@@ -38,9 +39,9 @@ const APPLIED: [u8; 64] = [
     0x77, 0x78, 0,
 ];
 
-#[test]
-fn a_run_is_applied(rt: HostRuntime) -> Result<(), Fail> {
-    let mut items = Vec::new(rt.alloc());
+/// The run of that one update.
+fn one_update(alloc: Global) -> Result<Run, Fail> {
+    let mut items = Vec::new(alloc);
     items.push(PuItem {
         id: MsgId::new(1),
         rec: PuRec {
@@ -49,18 +50,43 @@ fn a_run_is_applied(rt: HostRuntime) -> Result<(), Fail> {
             txn: 1,
             number: 1,
             change: Change::Update {
-                key: Key::new(rt.alloc(), b"k")?,
-                payload: Payload::new(rt.alloc(), b"wx")?,
+                key: Key::new(alloc, b"k")?,
+                payload: Payload::new(alloc, b"wx")?,
             },
         },
     })?;
-    let cursor = Cursor::new(rt.alloc());
-    let run = take_run(rt.alloc(), &cursor, items.as_slice())?;
+    let cursor = Cursor::new(alloc);
+    Ok(take_run(alloc, &cursor, items.as_slice())?)
+}
+
+#[test]
+fn a_run_is_applied(rt: HostRuntime) -> Result<(), Fail> {
+    let run = one_update(rt.alloc())?;
     let page = LeafView::read(PAGE.as_slice())?;
     assert_eq!(rt; fresh(&page, 1, run.items()), 1);
     let applied = apply(rt.alloc(), &page, 1, run.items())?;
     assert_eq!(rt; fresh(&applied.view(), 1, run.items()), 0);
     assert_eq!(rt; applied.into_blob().as_slice(), APPLIED.as_slice());
+    Ok(())
+}
+
+#[test]
+fn a_run_is_merged(rt: HostRuntime) -> Result<(), Fail> {
+    let run = one_update(rt.alloc())?;
+    let page = LeafView::read(PAGE.as_slice())?;
+    let length = need(&page, 1, run.items()).ok_or("a length")?;
+    assert_eq!(rt; length, 64);
+    let mut out = Vec::with_capacity(rt.alloc(), length)?;
+    assert!(rt; merge(&page, 1, run.items(), &mut out).is_ok());
+    assert_eq!(rt; out.as_slice(), APPLIED.as_slice());
+    // With the greatest version there is no next one.
+    let mut last = PAGE;
+    last[2..10].fill(0xff);
+    let page = LeafView::read(last.as_slice())?;
+    let length = need(&page, 1, run.items()).ok_or("a length")?;
+    let mut out = Vec::with_capacity(rt.alloc(), length)?;
+    assert_eq!(rt; merge(&page, 1, run.items(), &mut out), Err(VersionSpent));
+    assert!(rt; out.as_slice().is_empty());
     Ok(())
 }
 

@@ -1,5 +1,6 @@
 use super::*;
 use db_base::ids::ClientId;
+use std::alloc::{AllocError, Global};
 use std::test::Fail;
 
 /// Version 1, no fence, one entry of what is done and one record.
@@ -16,7 +17,7 @@ const FENCED: [u8; 89] = [
 ];
 
 /// How many bytes of the fenced leaf are kept, which of them is changed to what, and the offset of the refusal.
-const REFUSED: [(usize, usize, u8, u64); 31] = [
+const REFUSED: [(usize, usize, u8, u64); 33] = [
     // cut short: at the begin, in each field, before a continuation
     (0, 0, 0, 0),
     (1, 0, 0x4c, 1),
@@ -35,9 +36,11 @@ const REFUSED: [(usize, usize, u8, u64); 31] = [
     (89, 0, 0x49, 0),
     (89, 1, 3, 1),
     (89, 9, 0, 2),
-    // fences: a long low key, no right page, a high key at the low key
+    // fences: a long low key, no right page, no high key, a long one, one at the low key
     (89, 10, 65, 10),
     (89, 19, 0, 29),
+    (89, 20, 0, 20),
+    (89, 20, 65, 20),
     (89, 21, b'b', 20),
     // a continuation that is none
     (89, 22, 2, 22),
@@ -70,12 +73,34 @@ fn refused(rt: HostRuntime) -> Result<(), Fail> {
     Ok(())
 }
 
+/// The same of the page without a fence; place 45 is behind its end.
+const REFUSED_PAGES: [(usize, usize, u8, u64); 5] = [
+    (0, 0, 0x4c, 0),
+    (2, 1, 3, 1),
+    (45, 9, 0, 2),
+    (44, 0, 0x4c, 44),
+    (46, 45, 0, 45),
+];
+
+/// The bytes with one of them changed, or added behind the end.
+fn changed(alloc: Global, bytes: &[u8], at: usize, byte: u8) -> Result<Vec<u8>, AllocError> {
+    let mut changed = bytes.to_vec(alloc)?;
+    if at < changed.len() {
+        changed[at] = byte;
+    } else {
+        changed.push(byte)?;
+    }
+    Ok(changed)
+}
+
 #[test]
-fn behind_the_end(rt: HostRuntime) -> Result<(), Fail> {
-    let mut bytes = PAGE.to_vec(rt.alloc())?;
-    bytes.push(0)?;
-    let refused = LeafView::read(&bytes).err().ok_or("no leaf")?;
-    assert_eq!(rt; refused.offset, 45);
+fn refused_pages(rt: HostRuntime) -> Result<(), Fail> {
+    for (kept, at, byte, offset) in REFUSED_PAGES {
+        let bytes = changed(rt.alloc(), &PAGE, at, byte)?;
+        let front = bytes.as_slice().get(..kept).ok_or("the front")?;
+        let refused = LeafView::read(front).err().ok_or("no leaf")?;
+        assert_eq!(rt; refused.offset, offset);
+    }
     Ok(())
 }
 

@@ -1,4 +1,5 @@
 pub mod Choice
+pub mod Keeping
 pub mod Maps
 pub mod Memory
 pub mod Mood

@@ -1,29 +1,36 @@
 -- What the cloud in memory tells of itself.
-use Rattle.std.specs.Prelude.{ℕ, ◌+◌, min, List}
+use Rattle.std.specs.Prelude.{ℕ, ◌≡◌, ◌+◌, min, List}
 use Rattle.std.specs.Option.{option_map}
 use Rattle.cloud_trait.specs.State.{CloudState, Counts, greatest}
 use Rattle.memory_cloud.specs.Maps.{versions_in, messages_in, hold_in}
 use Rattle.memory_cloud.specs.Mood.{mood_at}
 use Rattle.memory_cloud.specs.declared.mood.Mood.{Mood}
-use Rattle.memory_cloud.specs.declared.memory.Last.{Last}
+use Rattle.memory_cloud.specs.declared.store.Last.{Last}
+use Rattle.memory_cloud.specs.declared.store.Store.{Store}
 use Rattle.memory_cloud.specs.declared.memory.MemoryCloud.{MemoryCloud}
 
--- its state
-abbrev pub state_of : MemoryCloud → CloudState
-state_of c = record {
-  versions = λ name. versions_in c.objects name;
-  messages = λ queue. messages_in c.queues queue;
-  locks = λ lock. hold_in c.locks lock;
-  now = c.clock;
-  waits = c.waits;
-  trace = c.trace.items;
-  wish = c.wish;
-  last = option_map (λ (l : Last). (l.who, l.wish)) c.last;
+-- the state that it holds
+abbrev pub store_state : Store → CloudState
+store_state s = record {
+  versions = λ name. versions_in s.objects name;
+  messages = λ queue. messages_in s.queues queue;
+  locks = λ lock. hold_in s.locks lock;
+  now = s.clock;
+  waits = s.waits;
+  trace = s.trace.items;
+  wish = s.wish;
+  last = option_map (λ (l : Last). (l.who, l.wish)) s.last;
 }
 
 -- its counts; it never fails to look
+abbrev pub store_counts : Store → Counts
+store_counts s = record { faults = s.faults; withheld = s.withheld; stale = s.stale; dark = 0 }
+
+abbrev pub state_of : MemoryCloud → CloudState
+state_of c = store_state c.store
+
 abbrev pub counts_of : MemoryCloud → Counts
-counts_of c = record { faults = c.faults; withheld = c.withheld; stale = c.stale; dark = 0 }
+counts_of c = store_counts c.store
 
 -- the number of its next service call, from 1
 abbrev pub next_call : MemoryCloud → ℕ
@@ -35,4 +42,9 @@ failing_calls c = c.failing.items
 
 -- how its next service call goes
 abbrev pub next_mood : MemoryCloud → Mood
-next_mood c = mood_at (counts_of c) (failing_calls c) (next_call c) c.wish
+next_mood c = mood_at (counts_of c) (failing_calls c) (next_call c) c.store.wish
+
+-- one service call more was made, and those that fail are as they were
+pub record CountsCall (old new : MemoryCloud) : Type 0 where
+  pub next : next_call new ≡ min (next_call old + 1) greatest
+  pub failing : failing_calls new ≡ failing_calls old

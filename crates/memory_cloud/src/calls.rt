@@ -6,12 +6,12 @@ ghost use Rattle.cloud_trait.specs.declared.answer.Answer.TheVariants.{Got, Sent
 ghost use Rattle.cloud_trait.specs.Answers.{answer_of, held_answer_of, done_by, granted_by, renewed_by};
 ghost use Rattle.cloud_trait.specs.Caller.{Caller};
 ghost use Rattle.cloud_trait.specs.Ask.{Get, GetHeld, PutHeld, Send, Receive, Delete, Take, Renew, Release};
-ghost use Rattle.memory_cloud.specs.Memory.{state_of, counts_of};
+ghost use Rattle.memory_cloud.specs.Memory.{store_state, store_counts};
 ghost use Rattle.memory_cloud.specs.Mood.{HasRoom};
 ghost use Rattle.memory_cloud.specs.Outcome.{Obeys, end_if_over, end_of_first, is_free, is_spent, lease_in};
 
-use crate::memory::MemoryCloud;
 use crate::mood::Mood;
+use crate::store::Store;
 use crate::{copies, locks, objects, queues};
 use cloud_trait::fault::{CloudFault, HeldFault};
 use cloud_trait::grant::Grant;
@@ -63,15 +63,11 @@ fn is_spent(hold: Hold, now: u64) -> bool
     hold.until <= now && hold.generation == u64::MAX
 }
 
-impl MemoryCloud {
+impl Store {
     // A get that has begun.
-    pub(crate) fn get_begun(
-        &mut self,
-        mood: Mood,
-        name: &ObjName,
-    ) -> Result<Option<Blob>, CloudFault>
-        requires { HasRoom mood (counts_of self.old) }
-        ensures { (who : Caller) → Obeys mood who (Get name.now) (answer_of Got result) (counts_of self.old) (counts_of self.new) (state_of self.old) (state_of self.new) }
+    pub fn get_begun(&mut self, mood: Mood, name: &ObjName) -> Result<Option<Blob>, CloudFault>
+        requires { HasRoom mood (store_counts self.old) }
+        ensures { (who : Caller) → Obeys mood who (Get name.now) (answer_of Got result) (store_counts self.old) (store_counts self.new) (store_state self.old) (store_state self.new) }
     {
         match mood {
             Mood::Fail | Mood::Lost => {
@@ -84,8 +80,8 @@ impl MemoryCloud {
     }
 
     fn get_old(&mut self, name: &ObjName, n: u64) -> Result<Option<Blob>, CloudFault>
-        requires { (counts_of self.old).stale < greatest }
-        ensures { (who : Caller) → Obeys (Mood.Old n) who (Get name.now) (answer_of Got result) (counts_of self.old) (counts_of self.new) (state_of self.old) (state_of self.new) }
+        requires { (store_counts self.old).stale < greatest }
+        ensures { (who : Caller) → Obeys (Mood.Old n) who (Get name.now) (answer_of Got result) (store_counts self.old) (store_counts self.new) (store_state self.old) (store_state self.new) }
     {
         match copies::copy_old(self.alloc, objects::versions(&self.objects, name), n) {
             Ok(bytes) => {
@@ -97,20 +93,20 @@ impl MemoryCloud {
     }
 
     fn get_newest(&self, name: &ObjName) -> Result<Option<Blob>, CloudFault>
-        ensures { (who : Caller) → Obeys Mood.Plain who (Get name.now) (answer_of Got result) (counts_of self.now) (counts_of self.now) (state_of self.now) (state_of self.now) }
+        ensures { (who : Caller) → Obeys Mood.Plain who (Get name.now) (answer_of Got result) (store_counts self.now) (store_counts self.now) (store_state self.now) (store_state self.now) }
     {
         Ok(copies::copy_newest(self.alloc, objects::versions(&self.objects, name))?)
     }
 
     // A get under a lease that has begun.
-    pub(crate) fn get_held_begun(
+    pub fn get_held_begun(
         &mut self,
         mood: Mood,
         name: &ObjName,
         lease: &Lease,
     ) -> Result<Option<Blob>, HeldFault>
-        requires { HasRoom mood (counts_of self.old) }
-        ensures { (who : Caller) → Obeys mood who (GetHeld name.now lease.now) (held_answer_of Got result) (counts_of self.old) (counts_of self.new) (state_of self.old) (state_of self.new) }
+        requires { HasRoom mood (store_counts self.old) }
+        ensures { (who : Caller) → Obeys mood who (GetHeld name.now lease.now) (held_answer_of Got result) (store_counts self.old) (store_counts self.new) (store_state self.old) (store_state self.new) }
     {
         match mood {
             Mood::Fail => {
@@ -125,8 +121,8 @@ impl MemoryCloud {
     }
 
     fn get_held_lost(&mut self, name: &ObjName, lease: &Lease) -> Result<Option<Blob>, HeldFault>
-        requires { (counts_of self.old).faults < greatest }
-        ensures { (who : Caller) → Obeys Mood.Lost who (GetHeld name.now lease.now) (held_answer_of Got result) (counts_of self.old) (counts_of self.new) (state_of self.old) (state_of self.new) }
+        requires { (store_counts self.old).faults < greatest }
+        ensures { (who : Caller) → Obeys Mood.Lost who (GetHeld name.now lease.now) (held_answer_of Got result) (store_counts self.old) (store_counts self.new) (store_state self.old) (store_state self.new) }
     {
         let now = self.clock;
         if let Some(end) = end_if_over(now, lease) {
@@ -137,7 +133,7 @@ impl MemoryCloud {
     }
 
     fn get_held_plain(&self, name: &ObjName, lease: &Lease) -> Result<Option<Blob>, HeldFault>
-        ensures { (who : Caller) → Obeys Mood.Plain who (GetHeld name.now lease.now) (held_answer_of Got result) (counts_of self.now) (counts_of self.now) (state_of self.now) (state_of self.now) }
+        ensures { (who : Caller) → Obeys Mood.Plain who (GetHeld name.now lease.now) (held_answer_of Got result) (store_counts self.now) (store_counts self.now) (store_state self.now) (store_state self.now) }
     {
         let now = self.clock;
         if let Some(end) = end_if_over(now, lease) {
@@ -147,7 +143,7 @@ impl MemoryCloud {
     }
 
     // A put that has begun.
-    pub(crate) fn put_held_begun(
+    pub fn put_held_begun(
         &mut self,
         mood: Mood,
         who: Who,
@@ -156,8 +152,8 @@ impl MemoryCloud {
         first: &Lease,
         second: Option<&Lease>,
     ) -> Result<(), HeldFault>
-        requires { HasRoom mood (counts_of self.old) }
-        ensures { Obeys mood who (PutHeld name.now bytes.now first.now (option_copied second.entry)) (held_answer_of done_by result) (counts_of self.old) (counts_of self.new) (state_of self.old) (state_of self.new) }
+        requires { HasRoom mood (store_counts self.old) }
+        ensures { Obeys mood who (PutHeld name.now bytes.now first.now (option_copied second.entry)) (held_answer_of done_by result) (store_counts self.old) (store_counts self.new) (store_state self.old) (store_state self.new) }
     {
         match mood {
             Mood::Fail => {
@@ -179,8 +175,8 @@ impl MemoryCloud {
         first: &Lease,
         second: Option<&Lease>,
     ) -> Result<(), HeldFault>
-        requires { (counts_of self.old).faults < greatest }
-        ensures { Obeys Mood.Lost who (PutHeld name.now bytes.now first.now (option_copied second.entry)) (held_answer_of done_by result) (counts_of self.old) (counts_of self.new) (state_of self.old) (state_of self.new) }
+        requires { (store_counts self.old).faults < greatest }
+        ensures { Obeys Mood.Lost who (PutHeld name.now bytes.now first.now (option_copied second.entry)) (held_answer_of done_by result) (store_counts self.old) (store_counts self.new) (store_state self.old) (store_state self.new) }
     {
         let now = self.clock;
         if let Some(end) = end_of_first(now, first, second) {
@@ -199,7 +195,7 @@ impl MemoryCloud {
         first: &Lease,
         second: Option<&Lease>,
     ) -> Result<(), HeldFault>
-        ensures { Obeys Mood.Plain who (PutHeld name.now bytes.now first.now (option_copied second.entry)) (held_answer_of done_by result) (counts_of self.old) (counts_of self.new) (state_of self.old) (state_of self.new) }
+        ensures { Obeys Mood.Plain who (PutHeld name.now bytes.now first.now (option_copied second.entry)) (held_answer_of done_by result) (store_counts self.old) (store_counts self.new) (store_state self.old) (store_state self.new) }
     {
         let now = self.clock;
         if let Some(end) = end_of_first(now, first, second) {
@@ -210,15 +206,15 @@ impl MemoryCloud {
     }
 
     // A send that has begun.
-    pub(crate) fn send_begun(
+    pub fn send_begun(
         &mut self,
         mood: Mood,
         who: Who,
         queue: &QueueName,
         bytes: &[u8],
     ) -> Result<MsgId, CloudFault>
-        requires { HasRoom mood (counts_of self.old) }
-        ensures { Obeys mood who (Send queue.now bytes.now) (answer_of Sent result) (counts_of self.old) (counts_of self.new) (state_of self.old) (state_of self.new) }
+        requires { HasRoom mood (store_counts self.old) }
+        ensures { Obeys mood who (Send queue.now bytes.now) (answer_of Sent result) (store_counts self.old) (store_counts self.new) (store_state self.old) (store_state self.new) }
     {
         match mood {
             Mood::Fail => {
@@ -233,8 +229,8 @@ impl MemoryCloud {
     }
 
     fn send_lost(&mut self, who: Who, queue: &QueueName, bytes: &[u8]) -> Result<MsgId, CloudFault>
-        requires { (counts_of self.old).faults < greatest }
-        ensures { Obeys Mood.Lost who (Send queue.now bytes.now) (answer_of Sent result) (counts_of self.old) (counts_of self.new) (state_of self.old) (state_of self.new) }
+        requires { (store_counts self.old).faults < greatest }
+        ensures { Obeys Mood.Lost who (Send queue.now bytes.now) (answer_of Sent result) (store_counts self.old) (store_counts self.new) (store_state self.old) (store_state self.new) }
     {
         let _id = self.post(who, queue, bytes)?;
         self.fault();
@@ -242,21 +238,21 @@ impl MemoryCloud {
     }
 
     fn send_plain(&mut self, who: Who, queue: &QueueName, bytes: &[u8]) -> Result<MsgId, CloudFault>
-        ensures { Obeys Mood.Plain who (Send queue.now bytes.now) (answer_of Sent result) (counts_of self.old) (counts_of self.new) (state_of self.old) (state_of self.new) }
+        ensures { Obeys Mood.Plain who (Send queue.now bytes.now) (answer_of Sent result) (store_counts self.old) (store_counts self.new) (store_state self.old) (store_state self.new) }
     {
         let id = self.post(who, queue, bytes)?;
         Ok(id)
     }
 
     // A receive that has begun.
-    pub(crate) fn receive_begun(
+    pub fn receive_begun(
         &mut self,
         mood: Mood,
         queue: &QueueName,
         max: u16,
     ) -> Result<Vec<Message>, CloudFault>
-        requires { HasRoom mood (counts_of self.old) }
-        ensures { (who : Caller) → Obeys mood who (Receive queue.now max) (answer_of (λ ms. Received ms.items) result) (counts_of self.old) (counts_of self.new) (state_of self.old) (state_of self.new) }
+        requires { HasRoom mood (store_counts self.old) }
+        ensures { (who : Caller) → Obeys mood who (Receive queue.now max) (answer_of (λ ms. Received ms.items) result) (store_counts self.old) (store_counts self.new) (store_state self.old) (store_state self.new) }
     {
         match mood {
             Mood::Fail | Mood::Lost => {
@@ -273,8 +269,8 @@ impl MemoryCloud {
     }
 
     fn receive_chosen(&mut self, queue: &QueueName, max: u16) -> Result<Vec<Message>, CloudFault>
-        requires { (counts_of self.old).withheld < greatest }
-        ensures { (who : Caller) → Obeys Mood.Give who (Receive queue.now max) (answer_of (λ ms. Received ms.items) result) (counts_of self.old) (counts_of self.new) (state_of self.old) (state_of self.new) }
+        requires { (store_counts self.old).withheld < greatest }
+        ensures { (who : Caller) → Obeys Mood.Give who (Receive queue.now max) (answer_of (λ ms. Received ms.items) result) (store_counts self.old) (store_counts self.new) (store_state self.old) (store_state self.new) }
     {
         let messages = queues::messages(&self.queues, queue);
         match copies::copy_chosen(self.alloc, messages, self.positions(), max as usize) {
@@ -287,20 +283,20 @@ impl MemoryCloud {
     }
 
     fn receive_plain(&self, queue: &QueueName, max: u16) -> Result<Vec<Message>, CloudFault>
-        ensures { (who : Caller) → Obeys Mood.Plain who (Receive queue.now max) (answer_of (λ ms. Received ms.items) result) (counts_of self.now) (counts_of self.now) (state_of self.now) (state_of self.now) }
+        ensures { (who : Caller) → Obeys Mood.Plain who (Receive queue.now max) (answer_of (λ ms. Received ms.items) result) (store_counts self.now) (store_counts self.now) (store_state self.now) (store_state self.now) }
     {
         Ok(queues::first_messages(self.alloc, &self.queues, queue, max as usize)?)
     }
 
     // A deletion that has begun. Takes no memory.
-    pub(crate) fn delete_begun(
+    pub fn delete_begun(
         &mut self,
         mood: Mood,
         queue: &QueueName,
         id: MsgId,
     ) -> Result<(), CloudFault>
-        requires { HasRoom mood (counts_of self.old) }
-        ensures obeys { (who : Caller) → Obeys mood who (Delete queue.now id) (answer_of done_by result) (counts_of self.old) (counts_of self.new) (state_of self.old) (state_of self.new) }
+        requires { HasRoom mood (store_counts self.old) }
+        ensures obeys { (who : Caller) → Obeys mood who (Delete queue.now id) (answer_of done_by result) (store_counts self.old) (store_counts self.new) (store_state self.old) (store_state self.new) }
         ensures no_memory { result ≡ Err CloudFault.Memory → ⊥ }
     {
         match mood {
@@ -321,14 +317,9 @@ impl MemoryCloud {
     }
 
     // A take that has begun.
-    pub(crate) fn take_begun(
-        &mut self,
-        mood: Mood,
-        lock: &Lock,
-        ticks: u64,
-    ) -> Result<Grant, CloudFault>
-        requires { HasRoom mood (counts_of self.old) }
-        ensures { (who : Caller) → Obeys mood who (Take lock.now ticks) (answer_of granted_by result) (counts_of self.old) (counts_of self.new) (state_of self.old) (state_of self.new) }
+    pub fn take_begun(&mut self, mood: Mood, lock: &Lock, ticks: u64) -> Result<Grant, CloudFault>
+        requires { HasRoom mood (store_counts self.old) }
+        ensures { (who : Caller) → Obeys mood who (Take lock.now ticks) (answer_of granted_by result) (store_counts self.old) (store_counts self.new) (store_state self.old) (store_state self.new) }
     {
         match mood {
             Mood::Fail => {
@@ -345,8 +336,8 @@ impl MemoryCloud {
     }
 
     fn take_lost(&mut self, lock: &Lock, ticks: u64) -> Result<Grant, CloudFault>
-        requires { (counts_of self.old).faults < greatest }
-        ensures { (who : Caller) → Obeys Mood.Lost who (Take lock.now ticks) (answer_of granted_by result) (counts_of self.old) (counts_of self.new) (state_of self.old) (state_of self.new) }
+        requires { (store_counts self.old).faults < greatest }
+        ensures { (who : Caller) → Obeys Mood.Lost who (Take lock.now ticks) (answer_of granted_by result) (store_counts self.old) (store_counts self.new) (store_state self.old) (store_state self.new) }
     {
         match self.give_if_free(lock, ticks) {
             Ok(_) => {
@@ -358,7 +349,7 @@ impl MemoryCloud {
     }
 
     fn take_plain(&mut self, lock: &Lock, ticks: u64) -> Result<Grant, CloudFault>
-        ensures { (who : Caller) → Obeys Mood.Plain who (Take lock.now ticks) (answer_of granted_by result) (counts_of self.old) (counts_of self.new) (state_of self.old) (state_of self.new) }
+        ensures { (who : Caller) → Obeys Mood.Plain who (Take lock.now ticks) (answer_of granted_by result) (store_counts self.old) (store_counts self.new) (store_state self.old) (store_state self.new) }
     {
         let hold = locks::hold(&self.locks, lock);
         if is_spent(hold, self.clock) {
@@ -373,9 +364,9 @@ impl MemoryCloud {
 
     // A take of a lock whose generation cannot rise.
     fn take_spent(&mut self, lock: &Lock, until: u64) -> Result<Grant, CloudFault>
-        requires spent { is_spent ((state_of self.old).locks lock.now) (state_of self.old).now ≡ true }
-        requires until { until ≡ ((state_of self.old).locks lock.now).until }
-        ensures { (who : Caller) (ticks : ℕ) → Obeys Mood.Plain who (Take lock.now ticks) (answer_of granted_by result) (counts_of self.old) (counts_of self.new) (state_of self.old) (state_of self.new) }
+        requires spent { is_spent ((store_state self.old).locks lock.now) (store_state self.old).now ≡ true }
+        requires until { until ≡ ((store_state self.old).locks lock.now).until }
+        ensures { (who : Caller) (ticks : ℕ) → Obeys Mood.Plain who (Take lock.now ticks) (answer_of granted_by result) (store_counts self.old) (store_counts self.new) (store_state self.old) (store_state self.new) }
     {
         if self.withheld == u64::MAX {
             return Err(CloudFault::Memory);
@@ -386,10 +377,10 @@ impl MemoryCloud {
 
     // Gives a lock anew, where it is free.
     fn give_if_free(&mut self, lock: &Lock, ticks: u64) -> Result<Option<Lease>, AllocError>
-        ensures ok { OnOk result (state_of self.new ≡ (if is_free ((state_of self.old).locks lock.now) (state_of self.old).now then taken lock.now ticks (state_of self.old) else state_of self.old)) }
-        ensures lease { IfOk result (λ l. l ≡ (if is_free ((state_of self.old).locks lock.now) (state_of self.old).now then Some (lease_given lock.now ticks (state_of self.old)) else None)) }
-        ensures err { OnErr result (state_of self.new ≡ state_of self.old) }
-        ensures counts { counts_of self.new ≡ counts_of self.old }
+        ensures ok { OnOk result (store_state self.new ≡ (if is_free ((store_state self.old).locks lock.now) (store_state self.old).now then taken lock.now ticks (store_state self.old) else store_state self.old)) }
+        ensures lease { IfOk result (λ l. l ≡ (if is_free ((store_state self.old).locks lock.now) (store_state self.old).now then Some (lease_given lock.now ticks (store_state self.old)) else None)) }
+        ensures err { OnErr result (store_state self.new ≡ store_state self.old) }
+        ensures counts { store_counts self.new ≡ store_counts self.old }
     {
         let hold = locks::hold(&self.locks, lock);
         if !is_free(hold, self.clock) {
@@ -404,15 +395,15 @@ impl MemoryCloud {
     }
 
     // A renewal that has begun. Takes no memory.
-    pub(crate) fn renew_begun(
+    pub fn renew_begun(
         &mut self,
         mood: Mood,
         lease: &mut Lease,
         ticks: u64,
     ) -> Result<(), HeldFault>
-        requires { HasRoom mood (counts_of self.old) }
-        ensures obeys { (who : Caller) → Obeys mood who (Renew lease.old ticks) (held_answer_of (renewed_by lease.new) result) (counts_of self.old) (counts_of self.new) (state_of self.old) (state_of self.new) }
-        ensures lease { lease.new ≡ lease_in mood lease.old ticks (state_of self.old) }
+        requires { HasRoom mood (store_counts self.old) }
+        ensures obeys { (who : Caller) → Obeys mood who (Renew lease.old ticks) (held_answer_of (renewed_by lease.new) result) (store_counts self.old) (store_counts self.new) (store_state self.old) (store_state self.new) }
+        ensures lease { lease.new ≡ lease_in mood lease.old ticks (store_state self.old) }
         ensures no_memory { result ≡ Err HeldFault.Memory → ⊥ }
     {
         match mood {
@@ -426,9 +417,9 @@ impl MemoryCloud {
     }
 
     fn renew_lost(&mut self, lease: &mut Lease, ticks: u64) -> Result<(), HeldFault>
-        requires { (counts_of self.old).faults < greatest }
-        ensures obeys { (who : Caller) → Obeys Mood.Lost who (Renew lease.old ticks) (held_answer_of (renewed_by lease.new) result) (counts_of self.old) (counts_of self.new) (state_of self.old) (state_of self.new) }
-        ensures lease { lease.new ≡ lease_in Mood.Lost lease.old ticks (state_of self.old) }
+        requires { (store_counts self.old).faults < greatest }
+        ensures obeys { (who : Caller) → Obeys Mood.Lost who (Renew lease.old ticks) (held_answer_of (renewed_by lease.new) result) (store_counts self.old) (store_counts self.new) (store_state self.old) (store_state self.new) }
+        ensures lease { lease.new ≡ lease_in Mood.Lost lease.old ticks (store_state self.old) }
         ensures no_memory { result ≡ Err HeldFault.Memory → ⊥ }
     {
         let now = self.clock;
@@ -441,8 +432,8 @@ impl MemoryCloud {
     }
 
     fn renew_plain(&mut self, lease: &mut Lease, ticks: u64) -> Result<(), HeldFault>
-        ensures obeys { (who : Caller) → Obeys Mood.Plain who (Renew lease.old ticks) (held_answer_of (renewed_by lease.new) result) (counts_of self.old) (counts_of self.new) (state_of self.old) (state_of self.new) }
-        ensures lease { lease.new ≡ lease_in Mood.Plain lease.old ticks (state_of self.old) }
+        ensures obeys { (who : Caller) → Obeys Mood.Plain who (Renew lease.old ticks) (held_answer_of (renewed_by lease.new) result) (store_counts self.old) (store_counts self.new) (store_state self.old) (store_state self.new) }
+        ensures lease { lease.new ≡ lease_in Mood.Plain lease.old ticks (store_state self.old) }
         ensures no_memory { result ≡ Err HeldFault.Memory → ⊥ }
     {
         let now = self.clock;
@@ -455,9 +446,9 @@ impl MemoryCloud {
 
     // Moves the end of a lease and of its lock to some ticks from now.
     fn lengthen(&mut self, lease: &mut Lease, ticks: u64)
-        ensures state { state_of self.new ≡ renewed lease.old ticks (state_of self.old) }
-        ensures lease { lease.new ≡ extended lease.old (end_after (state_of self.old).now ticks) }
-        ensures counts { counts_of self.new ≡ counts_of self.old }
+        ensures state { store_state self.new ≡ renewed lease.old ticks (store_state self.old) }
+        ensures lease { lease.new ≡ extended lease.old (end_after (store_state self.old).now ticks) }
+        ensures counts { store_counts self.new ≡ store_counts self.old }
     {
         let until = self.clock.saturating_add(ticks);
         self.move_lock(lease, until);
@@ -465,9 +456,9 @@ impl MemoryCloud {
     }
 
     // A release that has begun. Takes no memory.
-    pub(crate) fn release_begun(&mut self, mood: Mood, lease: Lease) -> Result<(), CloudFault>
-        requires { HasRoom mood (counts_of self.old) }
-        ensures obeys { (who : Caller) → Obeys mood who (Release lease) (answer_of done_by result) (counts_of self.old) (counts_of self.new) (state_of self.old) (state_of self.new) }
+    pub fn release_begun(&mut self, mood: Mood, lease: Lease) -> Result<(), CloudFault>
+        requires { HasRoom mood (store_counts self.old) }
+        ensures obeys { (who : Caller) → Obeys mood who (Release lease) (answer_of done_by result) (store_counts self.old) (store_counts self.new) (store_state self.old) (store_state self.new) }
         ensures no_memory { result ≡ Err CloudFault.Memory → ⊥ }
     {
         match mood {

@@ -10,5 +10,6 @@ mod objects;
 mod queue;
 mod queues;
 mod service;
+mod store;
 #[cfg(test)]
 mod tests;

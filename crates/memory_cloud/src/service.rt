@@ -8,7 +8,7 @@ ghost use Rattle.cloud_trait.specs.Delivery.{unmarked};
 ghost use Rattle.cloud_trait.specs.Weather.{Makes, RenewsLease, Rose};
 ghost use Rattle.cloud_trait.specs.Bench.{Waits, Looks};
 ghost use Rattle.cloud_trait.specs.declared.fault.CloudFault.{CloudFault};
-ghost use Rattle.memory_cloud.specs.Memory.{state_of, counts_of, next_mood, next_call, failing_calls};
+ghost use Rattle.memory_cloud.specs.Memory.{state_of, counts_of, next_mood, next_call, failing_calls, CountsCall};
 ghost use Rattle.memory_cloud.specs.Outcome.{Obeys, lease_in};
 
 use crate::memory::MemoryCloud;
@@ -33,15 +33,16 @@ impl Cloud for MemoryCloud {
         ensures told { (s : CloudState) → Some (state_of self.now) ≡ Some s → result ≡ s.now }
         ensures clock { result ≡ (state_of self.now).now }
     {
-        self.clock
+        self.store.clock
     }
 
     fn get(&mut self, who: Who, name: ObjName) -> Result<Option<Blob>, CloudFault>
         ensures made { Makes who (Get name) (answer_of Got result) (counts_of self.old) (counts_of self.new) (Some (state_of self.old)) (Some (state_of self.new)) }
         ensures obeys { Obeys (next_mood self.old) who (Get name) (answer_of Got result) (counts_of self.old) (counts_of self.new) (called who (state_of self.old).now (state_of self.old)) (state_of self.new) }
+        ensures counted { CountsCall self.old self.new }
     {
         let mood = self.begin(who);
-        self.get_begun(mood, &name)
+        self.store.get_begun(mood, &name)
     }
 
     fn get_held(
@@ -52,9 +53,10 @@ impl Cloud for MemoryCloud {
     ) -> Result<Option<Blob>, HeldFault>
         ensures made { Makes who (GetHeld name lease.now) (held_answer_of Got result) (counts_of self.old) (counts_of self.new) (Some (state_of self.old)) (Some (state_of self.new)) }
         ensures obeys { Obeys (next_mood self.old) who (GetHeld name lease.now) (held_answer_of Got result) (counts_of self.old) (counts_of self.new) (called who (state_of self.old).now (state_of self.old)) (state_of self.new) }
+        ensures counted { CountsCall self.old self.new }
     {
         let mood = self.begin(who);
-        self.get_held_begun(mood, &name, lease)
+        self.store.get_held_begun(mood, &name, lease)
     }
 
     fn put_held(
@@ -67,42 +69,48 @@ impl Cloud for MemoryCloud {
     ) -> Result<(), HeldFault>
         ensures made { Makes who (PutHeld name bytes.now first.now (option_copied second.entry)) (held_answer_of done_by result) (counts_of self.old) (counts_of self.new) (Some (state_of self.old)) (Some (state_of self.new)) }
         ensures obeys { Obeys (next_mood self.old) who (PutHeld name bytes.now first.now (option_copied second.entry)) (held_answer_of done_by result) (counts_of self.old) (counts_of self.new) (called who (state_of self.old).now (state_of self.old)) (state_of self.new) }
+        ensures counted { CountsCall self.old self.new }
     {
         let mood = self.begin(who);
-        self.put_held_begun(mood, who, &name, bytes, first, second)
+        self.store
+            .put_held_begun(mood, who, &name, bytes, first, second)
     }
 
     fn send(&mut self, who: Who, queue: QueueName, bytes: &[u8]) -> Result<MsgId, CloudFault>
         ensures made { Makes who (Send queue bytes.now) (answer_of Sent result) (counts_of self.old) (counts_of self.new) (Some (state_of self.old)) (Some (state_of self.new)) }
         ensures obeys { Obeys (next_mood self.old) who (Send queue bytes.now) (answer_of Sent result) (counts_of self.old) (counts_of self.new) (called who (state_of self.old).now (state_of self.old)) (state_of self.new) }
+        ensures counted { CountsCall self.old self.new }
     {
         let mood = self.begin(who);
-        self.send_begun(mood, who, &queue, bytes)
+        self.store.send_begun(mood, who, &queue, bytes)
     }
 
     fn receive(&mut self, who: Who, queue: QueueName, max: u16) -> Result<Vec<Message>, CloudFault>
         ensures made { Makes who (Receive queue max) (answer_of (λ ms. Received ms.items) result) (counts_of self.old) (counts_of self.new) (Some (state_of self.old)) (Some (state_of self.new)) }
         ensures obeys { Obeys (next_mood self.old) who (Receive queue max) (answer_of (λ ms. Received ms.items) result) (counts_of self.old) (counts_of self.new) (called who (state_of self.old).now (state_of self.old)) (state_of self.new) }
+        ensures counted { CountsCall self.old self.new }
     {
         let mood = self.begin(who);
-        self.receive_begun(mood, &queue, max)
+        self.store.receive_begun(mood, &queue, max)
     }
 
     fn delete(&mut self, who: Who, queue: QueueName, id: MsgId) -> Result<(), CloudFault>
         ensures made { Makes who (Delete queue id) (answer_of done_by result) (counts_of self.old) (counts_of self.new) (Some (state_of self.old)) (Some (state_of self.new)) }
         ensures obeys { Obeys (next_mood self.old) who (Delete queue id) (answer_of done_by result) (counts_of self.old) (counts_of self.new) (called who (state_of self.old).now (state_of self.old)) (state_of self.new) }
+        ensures counted { CountsCall self.old self.new }
         ensures no_memory { result ≡ Err CloudFault.Memory → ⊥ }
     {
         let mood = self.begin(who);
-        self.delete_begun(mood, &queue, id)
+        self.store.delete_begun(mood, &queue, id)
     }
 
     fn take(&mut self, who: Who, lock: Lock, ticks: u64) -> Result<Grant, CloudFault>
         ensures made { Makes who (Take lock ticks) (answer_of granted_by result) (counts_of self.old) (counts_of self.new) (Some (state_of self.old)) (Some (state_of self.new)) }
         ensures obeys { Obeys (next_mood self.old) who (Take lock ticks) (answer_of granted_by result) (counts_of self.old) (counts_of self.new) (called who (state_of self.old).now (state_of self.old)) (state_of self.new) }
+        ensures counted { CountsCall self.old self.new }
     {
         let mood = self.begin(who);
-        self.take_begun(mood, &lock, ticks)
+        self.store.take_begun(mood, &lock, ticks)
     }
 
     fn renew(&mut self, who: Who, lease: &mut Lease, ticks: u64) -> Result<(), HeldFault>
@@ -110,19 +118,21 @@ impl Cloud for MemoryCloud {
         ensures lease { RenewsLease who ticks lease.old lease.new (held_answer_of (renewed_by lease.new) result) (Some (state_of self.old)) (Some (state_of self.new)) }
         ensures leased { lease.new ≡ lease_in (next_mood self.old) lease.old ticks (called who (state_of self.old).now (state_of self.old)) }
         ensures obeys { Obeys (next_mood self.old) who (Renew lease.old ticks) (held_answer_of (renewed_by lease.new) result) (counts_of self.old) (counts_of self.new) (called who (state_of self.old).now (state_of self.old)) (state_of self.new) }
+        ensures counted { CountsCall self.old self.new }
         ensures no_memory { result ≡ Err HeldFault.Memory → ⊥ }
     {
         let mood = self.begin(who);
-        self.renew_begun(mood, lease, ticks)
+        self.store.renew_begun(mood, lease, ticks)
     }
 
     fn release(&mut self, who: Who, lease: Lease) -> Result<(), CloudFault>
         ensures made { Makes who (Release lease) (answer_of done_by result) (counts_of self.old) (counts_of self.new) (Some (state_of self.old)) (Some (state_of self.new)) }
         ensures obeys { Obeys (next_mood self.old) who (Release lease) (answer_of done_by result) (counts_of self.old) (counts_of self.new) (called who (state_of self.old).now (state_of self.old)) (state_of self.new) }
+        ensures counted { CountsCall self.old self.new }
         ensures no_memory { result ≡ Err CloudFault.Memory → ⊥ }
     {
         let mood = self.begin(who);
-        self.release_begun(mood, lease)
+        self.store.release_begun(mood, lease)
     }
 }
 
@@ -133,7 +143,7 @@ impl Bench for MemoryCloud {
         ensures call { next_call self.new ≡ next_call self.old }
         ensures failing { failing_calls self.new ≡ failing_calls self.old }
     {
-        self.wish = wish;
+        self.store.wish = wish;
     }
 
     fn wait(&mut self, ticks: u64)
@@ -143,8 +153,8 @@ impl Bench for MemoryCloud {
         ensures call { next_call self.new ≡ next_call self.old }
         ensures failing { failing_calls self.new ≡ failing_calls self.old }
     {
-        self.clock = self.clock.saturating_add(ticks);
-        self.waits = self.waits.saturating_add(1);
+        self.store.clock = self.store.clock.saturating_add(ticks);
+        self.store.waits = self.store.waits.saturating_add(1);
     }
 
     fn peek(&mut self, name: ObjName) -> Result<Option<Blob>, CloudFault>
@@ -153,8 +163,12 @@ impl Bench for MemoryCloud {
         ensures stays { (s : CloudState) → Some (state_of self.old) ≡ Some s → Some (state_of self.new) ≡ Some s }
         ensures newest { (s : CloudState) → Some (state_of self.old) ≡ Some s → IfOk result (λ v. v ≡ newest s name) }
         ensures call { next_call self.new ≡ next_call self.old }
+        ensures failing { failing_calls self.new ≡ failing_calls self.old }
     {
-        match copies::copy_newest(self.alloc, objects::versions(&self.objects, &name)) {
+        match copies::copy_newest(
+            self.store.alloc,
+            objects::versions(&self.store.objects, &name),
+        ) {
             Ok(bytes) => Ok(bytes),
             Err(_) => Err(CloudFault::Memory),
         }
@@ -167,7 +181,8 @@ impl Bench for MemoryCloud {
         ensures length { (s : CloudState) → Some (state_of self.old) ≡ Some s → IfOk result (λ n. n ≡ length (unmarked (s.messages queue))) }
         ensures no_memory { (e : CloudFault) → result ≢ Err e }
         ensures call { next_call self.new ≡ next_call self.old }
+        ensures failing { failing_calls self.new ≡ failing_calls self.old }
     {
-        Ok(queues::count_messages(&self.queues, &queue))
+        Ok(queues::count_messages(&self.store.queues, &queue))
     }
 }

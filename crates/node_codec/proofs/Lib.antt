@@ -4,3 +4,4 @@ pub mod TreeLemmas
 pub mod InnerLemmas
 pub mod EntryLemmas
 pub mod SpellingLaws
+pub mod ChildLemmas

@@ -1,6 +1,6 @@
 -- Laws that crates above use: spellings and what they are read as, parts that lie in the bytes, raised numbers.
 use Rattle.std.proofs.Common.{◌≡◌, ℕ, zero, suc, ◌+◌, ◌-◌, ◌<◌, ◌≤◌, Bool, true, false, cond, eqb, List, [], ◌∷◌, ◌++◌, length, Option, Some, None, Result, Ok, Err, refl, sym, ap, subst, ◌∙◌, append_assoc, arith, inl, inr}
-use Rattle.std.specs.Prelude.{max, unwrap_or}
+use Rattle.std.specs.Prelude.{max, unwrap_or, IfSome}
 use Rattle.std.specs.List.{AllByRecursion}
 use Rattle.std.specs.Result.{result_ok}
 use Rattle.std.specs.Int.{w8, w64, to_be_bytes}
@@ -88,6 +88,37 @@ inner_parts_lie bytes n s =
   where
     regroup : (a b c d e f : List ℕ) → ((((a ++ b) ++ c) ++ d) ++ e) ++ f ≡ a ++ (b ++ (c ++ (d ++ (e ++ f))))
     regroup a b c d e f = simp append_assoc
+
+-- a high key, where there is one, lies behind what stands before it
+high_lies : (front rest bytes : List ℕ) (high : Option (List ℕ)) → bytes ≡ front ++ (option_spelling (text w8 1 64) high ++ rest) → IfSome high (λ k. LiesIn k bytes)
+high_lies front rest bytes None is = tt
+high_lies front rest bytes (Some k) is = (front ++ to_be_bytes w8 (length k), rest, is ∙ regroup front (to_be_bytes w8 (length k)) k rest)
+  where
+    regroup : (a b c d : List ℕ) → a ++ ((b ++ c) ++ d) ≡ ((a ++ b) ++ c) ++ d
+    regroup a b c d = simp append_assoc
+
+pub inner_low_lies : (bytes : List ℕ) (n : Inner) → IsInner bytes n → LiesIn n.low bytes
+inner_low_lies bytes n s =
+    let front = 0x49 ∷ 1 ∷ to_be_bytes w64 n.version in
+    let level = to_be_bytes w8 n.level in
+    let size = to_be_bytes w8 (length n.low) in
+    let rest = to_be_bytes w64 n.right ++ (option_spelling (text w8 1 64) n.high ++ list_spelling (entry n.low n.high greatest) None n.entries) in
+    ((front ++ level) ++ size, rest, s.is ∙ regroup front level size n.low rest)
+  where
+    regroup : (a b c d e : List ℕ) → a ++ (b ++ ((c ++ d) ++ e)) ≡ (((a ++ b) ++ c) ++ d) ++ e
+    regroup a b c d e = simp append_assoc
+
+pub inner_high_lies : (bytes : List ℕ) (n : Inner) → IsInner bytes n → IfSome n.high (λ k. LiesIn k bytes)
+inner_high_lies bytes n s =
+    let front = 0x49 ∷ 1 ∷ to_be_bytes w64 n.version in
+    let level = to_be_bytes w8 n.level in
+    let low = to_be_bytes w8 (length n.low) ++ n.low in
+    let right = to_be_bytes w64 n.right in
+    let listed = list_spelling (entry n.low n.high greatest) None n.entries in
+    high_lies (((front ++ level) ++ low) ++ right) listed bytes n.high (s.is ∙ regroup front level low right (option_spelling (text w8 1 64) n.high ++ listed))
+  where
+    regroup : (a b c d e : List ℕ) → a ++ (b ++ (c ++ (d ++ e))) ≡ (((a ++ b) ++ c) ++ d) ++ e
+    regroup a b c d e = simp append_assoc
 
 -- ---- raised numbers
 

@@ -2,3 +2,4 @@ pub mod Plain
 pub mod Node
 pub mod Tree
 pub mod Inner
+pub mod Greatest

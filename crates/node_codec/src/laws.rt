@@ -1,12 +1,13 @@
 //! Laws of roots and inner nodes, and of their spellings.
 
-ghost use Rattle.std.specs.Prelude.{◌≡◌, ℕ, List, Some, max};
+ghost use Rattle.std.specs.Prelude.{◌≡◌, ℕ, List, Some, IfSome, max};
 ghost use Rattle.std.specs.List.{AllByRecursion};
 ghost use Rattle.db_base.specs.Cursor.{number_of};
 ghost use Rattle.db_base.specs.Ids.{IsClient};
 ghost use Rattle.byte_format.specs.Whole.{IsBytes};
-ghost use Rattle.node_codec.specs.Node.{LiesIn, raised};
-ghost use Rattle.node_codec.specs.Tree.{Tree, IsTree, HasTreeSpelling, tree_bytes, tree_of};
+ghost use Rattle.node_codec.specs.Node.{Entry, LiesIn, child_of, raised};
+ghost use Rattle.node_codec.specs.Greatest.{IsGreatestAtMost};
+ghost use Rattle.node_codec.specs.Tree.{Tree, IsTree, IsSoundTree, HasTreeSpelling, tree_bytes, tree_of};
 ghost use Rattle.node_codec.specs.Inner.{Inner, IsInner, HasInnerSpelling, inner_bytes, inner_of};
 
 /// The spelling of a root is read as the root, and bytes that are read are the spelling of what they are read as.
@@ -25,6 +26,15 @@ pub fn inner_laws()
     ensures found { (bytes : List ℕ) (n : Inner) → IsBytes bytes → inner_of bytes ≡ Some n → IsInner bytes n }
     // Each low key lies in the bytes.
     ensures parts { (bytes : List ℕ) (n : Inner) → IsInner bytes n → AllByRecursion (λ e. LiesIn e.0 bytes) n.entries }
+    // So does the node's own low key, and its high key, where there is one.
+    ensures low { (bytes : List ℕ) (n : Inner) → IsInner bytes n → LiesIn n.low bytes }
+    ensures high { (bytes : List ℕ) (n : Inner) → IsInner bytes n → IfSome n.high (λ k. LiesIn k bytes) }
+{}
+
+/// The child of a key is the entry with the greatest low key that is at most the key.
+pub fn child_law()
+    ensures root { (t : Tree) (key : List ℕ) (e : Entry) → IsSoundTree t → child_of key t.entries ≡ Some e → IsGreatestAtMost key e t.entries }
+    ensures node { (n : Inner) (key : List ℕ) (e : Entry) → HasInnerSpelling n → child_of key n.entries ≡ Some e → IsGreatestAtMost key e n.entries }
 {}
 
 /// A client has the greater of its two numbers once they are raised.

@@ -16,6 +16,9 @@ mod tree_view;
 pub use entries::Entries;
 pub use inner_buf::InnerBuf;
 pub use inner_view::{InnerView, NotInner};
-pub use laws::{inner_laws, raised_law, tree_laws};
+pub use laws::{child_law, inner_laws, raised_law, tree_laws};
 pub use tree_buf::TreeBuf;
 pub use tree_view::{NotTree, TreeView};
+
+#[cfg(test)]
+mod tests;

@@ -1,5 +1,5 @@
 -- Texts of words that are joined.
-use Rattle.std.proofs.Common.{◌≡◌, ℕ, List, [], ◌∷◌, ◌++◌, map, refl, sym, ap, ◌∙◌, append_assoc, append-nil, length, arith}
+use Rattle.std.proofs.Common.{◌≡◌, ℕ, List, [], ◌∷◌, ◌++◌, map, refl, sym, ap, ◌∙◌, append_assoc, append-nil, length}
 use Rattle.std.specs.Fmt.{decimal}
 use Rattle.words.specs.Line.{text_of}
 use Rattle.db_base.specs.declared.change.Change.{Change}
@@ -8,7 +8,6 @@ use Rattle.db_base.specs.declared.trouble.Trouble.{Trouble}
 use Rattle.db_base.specs.declared.trouble.Trouble.TheVariants.{Failed, Late, Busy, Waiting, Stale, Absent, NotALeaf, Damaged, BadFence, Loop, Exhausted, Memory}
 use Rattle.report_types.specs.declared.entry.Entry.{Entry}
 use Rattle.std.specs.Prelude.{codes}
-use Rattle.std.proofs.lemmas.List.{map-append}
 use Rattle.report_types.specs.declared.report.Report.{Report}
 use Rattle.reply_text.specs.Reply.{trouble_words, HasText, behind_each, change_words, entry_words, pair_words, report_lines, section_lines}
 

@@ -1,5 +1,5 @@
 -- The text of a reply: lines parted by line feeds, each of words parted by one space.
-use Rattle.std.specs.Prelude.{ℕ, ◌≡◌, ◌<◌, ◌^◌, List, [], ◌∷◌, ◌++◌, map, length, codes}
+use Rattle.std.specs.Prelude.{ℕ, List, [], ◌∷◌, ◌++◌, map, length, codes}
 use Rattle.std.specs.Fmt.{decimal}
 use Rattle.words.specs.Word.{hexadecimal}
 use Rattle.words.specs.Line.{text_of}

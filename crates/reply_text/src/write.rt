@@ -100,7 +100,7 @@ fn fence_text(alloc: Global, page: u64, expected: &Blob, found: &Blob) -> Result
 }
 
 /// The word of a rule.
-fn refusal_word(refusal: Refusal) -> &'static str
+pub fn refusal_word(refusal: Refusal) -> &'static str
     ensures { result.now ≡ refusal_word refusal }
 {
     match refusal {
@@ -119,7 +119,7 @@ fn refusal_word(refusal: Refusal) -> &'static str
 }
 
 /// The word of a counter.
-fn counter_word(counter: Counter) -> &'static str
+pub fn counter_word(counter: Counter) -> &'static str
     ensures { result.now ≡ counter_word counter }
 {
     match counter {

@@ -2,7 +2,7 @@ use crate::make::make;
 use std::test::Fail;
 
 /// The first lines of the schedule of number 7.
-const FIRST_LINES: [&str; 17] = [
+const FIRST_LINES: [&str; 34] = [
     "open 1 1\n",
     "run 1\n",
     "open 2 2\n",
@@ -20,6 +20,23 @@ const FIRST_LINES: [&str; 17] = [
     "insert 1 1 0814 0000000000000003\n",
     "commit 1\n",
     "run 1\n",
+    "insert 3 1 0603 0000000000000004\n",
+    "commit 3\n",
+    "run 3\n",
+    "update 1 1 0470 0000000000000005\n",
+    "commit 1\n",
+    "run 1\n",
+    "insert 3 1 03fd 0000000000000006\n",
+    "commit 3\n",
+    "run 3\n",
+    "insert 1 1 089f 0000000000000007\n",
+    "commit 1\n",
+    "run 1\n",
+    "insert 2 1 0636 0000000000000008\n",
+    "commit 2\n",
+    "run 2\n",
+    "page 2 1 30\n",
+    "run 2\n",
 ];
 
 #[test]

@@ -17,7 +17,7 @@ is c =
     right-spelled c.args.leaf.now c.args.n _ _ _ _ _ _ _ _ _ _ c.records.ensures.formed c.requires c.new-out.ensures.items
     (c.first_key.ensures ∙ ap first_key (c.skip-rest.ensures ∙ ap (drop c.args.n) c.records.ensures.records)) c.right_of.ensures
     c.high.ensures.high c.done_list.ensures.done (c.skip-rest.ensures ∙ ap (drop c.args.n) c.records.ensures.records)
-    c.in_ok-add_fields.ensures c.in_ok-add_dones.ensures c.in_ok-try_add_u8.ensures c.in_ok-add_rest.ensures
+    c.in_ok-try_add_fields.ensures c.in_ok-add_dones.ensures c.in_ok-try_add_u8.ensures c.in_ok-add_rest.ensures
 
 pub returns-clause-spells : goal.returns-clause-spells
 returns-clause-spells c = spells_it _ _ (is c)

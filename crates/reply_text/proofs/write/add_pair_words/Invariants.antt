@@ -1,6 +1,5 @@
 use Rattle.std.proofs.Common.{◌≡◌, ◌++◌, length, map}
 use Rattle.std.specs.String.{string_bytes}
-use Rattle.words.specs.Line.{text_of}
 use Rattle.reply_text.specs.Reply.{behind_each, pair_word}
 use Rattle.reply_text.proofs.write.add_pair_words.Given as goal
 

@@ -1,6 +1,6 @@
 use Rattle.memory_cloud.proofs.OutcomeLemmas.{begun_makes, begun_renews, not_memory}
 use Rattle.cloud_trait.specs.Answers.{held_answer_of, renewed_by}
-use Rattle.memory_cloud.specs.Memory.{state_of, counts_of}
+use Rattle.memory_cloud.specs.Memory.{state_of, counts_of, store_state, store_counts}
 use Rattle.memory_cloud.proofs.service.MemoryCloudCloud.renew.Goals as goal
 
 pub returns-clause-made : goal.returns-clause-made
@@ -8,5 +8,5 @@ returns-clause-made c = begun_makes c.begin-mood.result _ _ _ _ _ _ _ _ _ c.begi
 
 pub returns-clause-lease : goal.returns-clause-lease
 returns-clause-lease c =
-    begun_renews c.begin-mood.result c.args.who c.args.lease.now c.renew_begun.new.lease c.args.ticks (held_answer_of (renewed_by c.renew_begun.new.lease) c.renew_begun.result) (counts_of c.args.self.now) (counts_of c.begin-mood.new.self) (counts_of c.renew_begun.new.self) (state_of c.args.self.now) (state_of c.begin-mood.new.self) (state_of c.renew_begun.new.self)
+    begun_renews c.begin-mood.result c.args.who c.args.lease.now c.renew_begun.new.lease c.args.ticks (held_answer_of (renewed_by c.renew_begun.new.lease) c.renew_begun.result) (counts_of c.args.self.now) (counts_of c.begin-mood.new.self) (store_counts c.renew_begun.new.self) (state_of c.args.self.now) (state_of c.begin-mood.new.self) (store_state c.renew_begun.new.self)
     c.begin-mood.ensures.state c.begin-mood.ensures.counts (c.renew_begun.ensures.obeys c.args.who) (not_memory c.renew_begun.new.lease c.renew_begun.result c.renew_begun.ensures.no_memory) c.renew_begun.ensures.lease

@@ -1,0 +1,116 @@
+#!/bin/bash
+# Times `merge`: a leaf of 64 records of 1,024 bytes, a run of 64 updates, one for each record.
+# usage: bench/leaf_edit.sh [MERGES]   (100000 if none is given)
+# It makes a program beside copies of the crates in a folder of its own under /tmp, proves and builds it, and
+# times the program alone. A merge is to take a few tens of microseconds at most: the leaf is copied once.
+set -eu
+top=$(cd "$(dirname "$0")/.." && pwd)
+merges=${1:-100000}
+work=$(mktemp -d -t leaf_edit_bench.XXXXXX)
+trap 'rm -rf "$work"' EXIT
+for crate in db_base byte_format leaf_view change_codec log_codec run_cursor leaf_edit; do
+    mkdir -p "$work/crates/$crate"
+    for part in src specs proofs; do
+        if [ -d "$top/crates/$crate/$part" ]; then cp -r "$top/crates/$crate/$part" "$work/crates/$crate/"; fi
+    done
+    grep -E "^$crate:" "$top/crates.txt" >> "$work/crates.txt"
+done
+echo 'merges: leaf_edit leaf_view run_cursor log_codec db_base' >> "$work/crates.txt"
+mkdir -p "$work/crates/merges/src" "$work/crates/merges/proofs/merges"
+cat > "$work/crates/merges/src/main.rt" <<RT
+#![tactic(auto)]
+
+ghost use Rattle.std.specs.Prelude.{◌≤◌};
+ghost use Rattle.std.specs.Vec.{vec_capacity};
+ghost use Rattle.leaf_edit.specs.Applied.{applied_length};
+ghost use Rattle.run_cursor.specs.Run.{IsOrdered};
+
+use db_base::change::Change;
+use db_base::cursor::Cursor;
+use db_base::ids::{ClientId, MsgId};
+use db_base::key::{Key, Payload};
+use leaf_edit::{LeafBuf, apply, merge, need};
+use leaf_view::LeafView;
+use log_codec::record::{PuItem, PuRec};
+use run_cursor::run::{Run, take_run};
+use std::alloc::Global;
+use std::io;
+
+const MERGES: u64 = $merges;
+
+fn item_of(alloc: Global, n: u8, is_new: bool) -> Option<PuItem> {
+    let key = Key::new(alloc, &[n]).ok()?;
+    let payload = Payload::new(alloc, &[n; 1024]).ok()?;
+    let change = if is_new {
+        Change::Insert { key, payload }
+    } else {
+        Change::Update { key, payload }
+    };
+    let client = ClientId::new(u64::from(n % 8) + 1).ok()?;
+    let number = u64::from(n / 8) + 1;
+    let rec = PuRec { client, epoch: 1, txn: 1, number, change };
+    Some(PuItem { id: MsgId::new(u64::from(n)), rec })
+}
+
+fn run_of(alloc: Global, is_new: bool) -> Option<Run> {
+    let mut items = Vec::new(alloc);
+    for n in 0..64u8 {
+        items.push(item_of(alloc, n, is_new)?).ok()?;
+    }
+    take_run(alloc, &Cursor::new(alloc), items.as_slice()).ok()
+}
+
+fn leaf_of(alloc: Global) -> Option<LeafBuf> {
+    let run = run_of(alloc, true)?;
+    apply(alloc, &LeafView::empty(), 0, run.items()).ok()
+}
+
+fn merges(leaf: &LeafView<'_>, run: &[PuItem], out: &mut Vec<u8>) -> u64
+    requires ordered { IsOrdered run.now }
+    requires room { applied_length leaf.now 1 run.now ≤ vec_capacity out.old }
+{
+    let mut right = 0u64;
+    for n in 0..MERGES {
+        out.clear();
+        if merge(leaf, 1, run, out).is_ok() {
+            right = right.saturating_add(1);
+        }
+    }
+    right
+}
+
+fn timed(alloc: Global) -> Option<(u64, usize)> {
+    let leaf = leaf_of(alloc)?;
+    let leaf = leaf.view();
+    let run = run_of(alloc, false)?;
+    let items = run.items();
+    let length = need(&leaf, 1, items)?;
+    let mut out = Vec::with_capacity(alloc, length).ok()?;
+    let right = merges(&leaf, items, &mut out);
+    Some((right, out.len()))
+}
+
+fn main(rt: HostRuntime) -> io::Result<()> {
+    match timed(rt.alloc()) {
+        Some((right, length)) => println!(rt; "{right} merges of {length} bytes"),
+        None => println!(rt; "out of memory"),
+    }
+}
+RT
+cat > "$work/crates/merges/proofs/Lib.antt" <<'ANTT'
+ANTT
+cat > "$work/crates/merges/proofs/merges/Invariants.antt" <<'ANTT'
+use Rattle.std.proofs.Common.{◌≤◌}
+use Rattle.std.specs.Vec.{vec_capacity}
+use Rattle.leaf_edit.specs.Applied.{applied_length}
+use Rattle.merges.proofs.merges.Given as goal
+
+abbrev pub invariant-loop-n : goal.invariant-loop-n
+invariant-loop-n l = applied_length l.leaf 1 l.run ≤ vec_capacity l.out
+ANTT
+cd "$work/crates/merges"
+rt run > /dev/null
+start=$(date +%s%N)
+./out/merges
+end=$(date +%s%N)
+awk -v n="$merges" -v ns=$((end - start)) 'BEGIN { printf "%.1f microseconds a merge\n", ns / n / 1000 }'

@@ -1,0 +1,37 @@
+-- How many bytes the parts of a leaf's spelling have.
+use Rattle.std.specs.Prelude.{◌≡◌, ◌≤◌, ℕ, ◌+◌, ◌^◌, List, [], ◌∷◌, length, Option, Some, None, MatchOption}
+use Rattle.leaf_view.specs.declared.done.Done.{Done}
+use Rattle.leaf_view.specs.Leaf.{Entry, Leaf}
+
+abbrev pub high_size : Option (List ℕ) → ℕ
+high_size None = 0
+high_size (Some key) = 1 + length key
+
+-- mark, format, version, low key, right page, high key
+abbrev pub fields_size : List ℕ → Option (List ℕ) → ℕ
+fields_size low high = 19 + length low + high_size high
+
+-- entries of the table: the byte that says that one is there, queue, client, number
+abbrev pub dones_size : List Done → ℕ
+dones_size [] = 0
+dones_size (d ∷ ds) = 18 + dones_size ds
+
+-- a record: the byte that says that it is there, key, payload
+abbrev pub entry_size : Entry → ℕ
+entry_size e = 4 + length e.key + length e.payload
+
+abbrev pub entry_size_of : Option Entry → ℕ
+entry_size_of None = 0
+entry_size_of (Some e) = entry_size e
+
+-- records, and the byte that says that there is none behind them
+abbrev pub entries_size : List Entry → ℕ
+entries_size [] = 1
+entries_size (e ∷ es) = entry_size e + entries_size es
+
+abbrev pub leaf_size : Leaf → ℕ
+leaf_size l = fields_size l.low l.high + dones_size l.done + 1 + entries_size l.records
+
+-- a number of bytes; none where it is above the greatest usize
+abbrev pub IsSize : Option ℕ → ℕ → Type 0
+IsSize size n = MatchOption size (2 ^ 64 ≤ n) (λ m. m ≡ n)

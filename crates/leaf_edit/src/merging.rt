@@ -1,0 +1,129 @@
+//! A run merged into a leaf, straight from bytes to bytes.
+
+ghost use Rattle.std.specs.Prelude.{◌≡◌, ◌+◌, ◌≤◌, ◌↔◌, [], IfSome, IsErr, OnErr, OnOk, vec_len};
+ghost use Rattle.std.specs.Option.{option_map};
+ghost use Rattle.std.specs.Vec.{vec_capacity};
+ghost use Rattle.byte_format.specs.Adds.{Adds};
+ghost use Rattle.leaf_view.specs.Shown.{shown};
+ghost use Rattle.leaf_view.specs.Leaf.{IsLeaf};
+ghost use Rattle.run_cursor.specs.Run.{IsOrdered};
+ghost use Rattle.leaf_edit.specs.Applied.{applied, applied_length};
+ghost use Rattle.leaf_edit.specs.Edited.{edited_by};
+ghost use Rattle.leaf_edit.specs.Merging.{AreChanges, AreRecords, IsSized};
+ghost use Rattle.leaf_edit.specs.Sizes.{entries_size, entry_size_of, fields_size, IsSize};
+ghost use Rattle.leaf_edit.specs.Spelled.{entries_bytes, entry_bytes_of, head_bytes};
+
+use crate::changes::Changes;
+use crate::spell::{add_entry, add_fields, entry_len, fields_len, right_of};
+use crate::step::next_step;
+use crate::table::{add_table, table_len};
+use byte_format::add_u8;
+use leaf_view::{LeafView, Records};
+use log_codec::record::PuItem;
+
+/// A leaf has no next version: its own is the greatest u64.
+#[derive(Clone, Copy, Debug, PartialEq, Eq)]
+pub struct VersionSpent;
+
+/// Appends all that stands before the lists of a leaf, under another version.
+fn add_head(out: &mut Vec<u8>, leaf: &LeafView<'_>, version: u64)
+    requires { vec_len out.old + fields_size leaf.now.low leaf.now.high ≤ vec_capacity out.old }
+    ensures { Adds out.old out.new (head_bytes leaf.now version) }
+{
+    add_fields(out, version, leaf.low(), right_of(leaf), leaf.high());
+}
+
+/// How many bytes a record has, where there is one.
+fn record_len(next: Option<(&[u8], &[u8])>) -> usize
+    requires { IfSome (option_map shown next) IsSized }
+    ensures { result ≡ entry_size_of (option_map shown next.entry) }
+{
+    match next {
+        Some((key, payload)) => entry_len(key, payload),
+        None => 0,
+    }
+}
+
+/// Appends a record, where there is one.
+fn add_record(out: &mut Vec<u8>, next: Option<(&[u8], &[u8])>)
+    requires sized { IfSome (option_map shown next) IsSized }
+    requires room { vec_len out.old + entry_size_of (option_map shown next) ≤ vec_capacity out.old }
+    ensures { Adds out.old out.new (entry_bytes_of (option_map shown next.entry)) }
+{
+    match next {
+        Some((key, payload)) => add_entry(out, key, payload),
+        None => (),
+    }
+}
+
+/// So many bytes, and those of the records under the changes as a list.
+fn records_len<'a>(total: usize, records: Records<'a>, changes: Changes<'a>) -> Option<usize>
+    requires records { AreRecords records }
+    requires changes { AreChanges changes }
+    ensures { IsSize result (total + entries_size (edited_by records.entry changes.entry)) }
+{
+    let mut sum = total;
+    let mut left = records;
+    let mut coming = changes;
+    while let Some(step) = next_step(left.again(), coming.again()) {
+        sum = sum.checked_add(record_len(step.record))?;
+        left = step.records;
+        coming = step.changes;
+    }
+    sum.checked_add(1)
+}
+
+/// Appends the records under the changes as a list.
+fn add_records<'a>(out: &mut Vec<u8>, records: Records<'a>, changes: Changes<'a>)
+    requires records { AreRecords records }
+    requires changes { AreChanges changes }
+    requires room { vec_len out.old + entries_size (edited_by records changes) ≤ vec_capacity out.old }
+    ensures { Adds out.old out.new (entries_bytes (edited_by records.entry changes.entry)) }
+{
+    let mut left = records;
+    let mut coming = changes;
+    while let Some(step) = next_step(left.again(), coming.again()) {
+        add_record(out, step.record);
+        left = step.records;
+        coming = step.changes;
+    }
+    add_u8(out, 0);
+}
+
+/// How many bytes `merge` needs: the length of the leaf behind the run. `None` where it is above the greatest usize.
+/// Takes no memory.
+pub fn need(leaf: &LeafView<'_>, queue: u64, run: &[PuItem]) -> Option<usize>
+    requires { IsOrdered run.now }
+    ensures { IsSize result (applied_length leaf.now queue run.now) }
+{
+    let fields = fields_len(leaf.low(), leaf.high());
+    let table = table_len(fields + 1, leaf, queue, run)?;
+    records_len(table, leaf.records(), Changes::of(leaf, queue, run))
+}
+
+/// Writes the leaf behind a run, the one that `apply` gives, into room that is there. Takes no memory.
+///
+/// Where the leaf has no next version, nothing changes.
+pub fn merge(
+    leaf: &LeafView<'_>,
+    queue: u64,
+    run: &[PuItem],
+    out: &mut Vec<u8>,
+) -> Result<(), VersionSpent>
+    requires ordered { IsOrdered run.now }
+    requires empty { out.old.items ≡ [] }
+    requires room { applied_length leaf.now queue run.now ≤ vec_capacity out.old }
+    ensures spelled { OnOk result (IsLeaf out.new.items (applied leaf.now queue run.now)) }
+    ensures spent { IsErr result ↔ (leaf.now.version ≡ 18446744073709551615) }
+    ensures unchanged { OnErr result (out.new ≡ out.old) }
+    ensures room { vec_capacity out.old ≤ vec_capacity out.new }
+{
+    if leaf.version() == u64::MAX {
+        return Err(VersionSpent);
+    }
+    add_head(out, leaf, leaf.version() + 1);
+    add_table(out, leaf, queue, run);
+    add_u8(out, 0);
+    add_records(out, leaf.records(), Changes::of(leaf, queue, run));
+    Ok(())
+}

@@ -1,8 +1,0 @@
-use Rattle.std.proofs.Common.{inr, refl, rules}
-use Rattle.memory_cloud.proofs.memory.MemoryCloud.take_plain.Goals as goal
-
-pub returns-then-is_spent : goal.returns-then-is_spent
-returns-then-is_spent c = λ who. c.take_spent.ensures who c.args.ticks
-
-pub returns-in-Err : goal.returns-in-Err
-returns-in-Err c = λ who. inr (refl, search rules, c.give_if_free.ensures.counts)

@@ -1,0 +1,204 @@
+ghost use Rattle.std.specs.Prelude.{◌≡◌, ◌+◌, ◌<◌, ◌∷◌, [], OnOk, OnErr, IfOk, length};
+ghost use Rattle.memory_cloud.specs.Outcome.{positions_in};
+
+use crate::locks::Locks;
+use crate::objects::Objects;
+use crate::queues::Queues;
+use crate::{locks, objects, queues};
+use cloud_trait::lease::Lease;
+use cloud_trait::state::{Hold, Landing, Posted, Site, Version};
+use cloud_trait::who::Who;
+use db_base::blob::Blob;
+use db_base::ids::MsgId;
+use db_base::names::{Lock, ObjName, QueueName};
+use db_base::wish::Wish;
+use std::alloc::{AllocError, Global};
+use std::collections::BTreeMap;
+
+/// The newest service call: who made it, and under which wish.
+#[derive(Debug, Drop)]
+pub struct Last {
+    /// Who made it.
+    pub who: Who,
+    /// The wish that was set for it.
+    pub wish: Wish,
+}
+
+/// What a cloud in memory holds: all that it tells of itself.
+#[derive(Drop)]
+pub struct Store {
+    pub alloc: Global,
+    pub objects: Objects,
+    pub queues: Queues,
+    pub locks: Locks,
+    pub trace: Vec<Landing>,
+    pub clock: u64,
+    pub waits: u64,
+    pub wish: Wish,
+    pub last: Option<Last>,
+    pub faults: u64,
+    pub withheld: u64,
+    pub stale: u64,
+}
+
+impl Store {
+    ghost use Rattle.db_base.specs.declared.wish.Wish.TheVariants.{Plain};
+    ghost use Rattle.cloud_trait.specs.State.{IsEmptyCloud, landed, sent, deleted, held_so, moved, released, greatest};
+    ghost use Rattle.memory_cloud.specs.Outcome.{one_fault, one_withheld, one_stale, positions_of};
+    ghost use Rattle.memory_cloud.specs.Memory.{store_state, store_counts};
+
+    /// Nothing, at clock 0. Takes no memory.
+    pub fn new(alloc: Global) -> Store
+        ensures empty { IsEmptyCloud (store_state result) }
+        ensures clock { (store_state result).now ≡ 0 }
+        ensures waits { (store_state result).waits ≡ 0 }
+        ensures wish { (store_state result).wish ≡ Plain }
+        ensures last { (store_state result).last ≡ None }
+        ensures counts { store_counts result ≡ record { faults = 0; withheld = 0; stale = 0; dark = 0 } }
+    {
+        Store {
+            alloc,
+            objects: BTreeMap::new(alloc),
+            queues: BTreeMap::new(alloc),
+            locks: BTreeMap::new(alloc),
+            trace: Vec::new(alloc),
+            clock: 0,
+            waits: 0,
+            wish: Wish::Plain,
+            last: None,
+            faults: 0,
+            withheld: 0,
+            stale: 0,
+        }
+    }
+
+    /// Lands bytes as the newest version of an object.
+    pub fn land(&mut self, who: Who, name: &ObjName, bytes: &[u8]) -> Result<(), AllocError>
+        ensures ok { OnOk result (store_state self.new ≡ landed who name.now bytes.now (store_state self.old)) }
+        ensures err { OnErr result (store_state self.new ≡ store_state self.old) }
+        ensures counts { store_counts self.new ≡ store_counts self.old }
+    {
+        let position = objects::versions(&self.objects, name).len() as u64 + 1;
+        let bytes = Blob::copy_of(self.alloc, bytes)?;
+        self.trace.reserve(1)?;
+        objects::add_version(self.alloc, &mut self.objects, name, Version { who, bytes })?;
+        self.trace.push_reserved(Landing {
+            who,
+            site: Site::Object(*name),
+            position,
+        });
+        Ok(())
+    }
+
+    /// Lands a message at the end of a queue, and gives its number.
+    pub fn post(&mut self, who: Who, queue: &QueueName, bytes: &[u8]) -> Result<MsgId, AllocError>
+        ensures ok { OnOk result (store_state self.new ≡ sent who queue.now bytes.now (store_state self.old)) }
+        ensures id { IfOk result (λ id. id ≡ length ((store_state self.old).messages queue.now) + 1) }
+        ensures err { OnErr result (store_state self.new ≡ store_state self.old) }
+        ensures counts { store_counts self.new ≡ store_counts self.old }
+    {
+        let position = queues::messages(&self.queues, queue).len() as u64 + 1;
+        let bytes = Blob::copy_of(self.alloc, bytes)?;
+        self.trace.reserve(1)?;
+        let message = Posted {
+            who,
+            bytes,
+            deleted: false,
+        };
+        queues::add_message(self.alloc, &mut self.queues, queue, message)?;
+        self.trace.push_reserved(Landing {
+            who,
+            site: Site::Queue(*queue),
+            position,
+        });
+        Ok(MsgId::new(position))
+    }
+
+    /// Marks a message as deleted. Takes no memory.
+    pub fn mark(&mut self, queue: &QueueName, id: MsgId)
+        ensures state { store_state self.new ≡ deleted queue.now id (store_state self.old) }
+        ensures counts { store_counts self.new ≡ store_counts self.old }
+    {
+        queues::mark_message(&mut self.queues, queue, id);
+    }
+
+    /// Sets how a lock stands.
+    pub fn hold(&mut self, lock: &Lock, hold: Hold) -> Result<(), AllocError>
+        ensures ok { OnOk result (store_state self.new ≡ held_so lock.now hold (store_state self.old)) }
+        ensures err { OnErr result (store_state self.new ≡ store_state self.old) }
+        ensures counts { store_counts self.new ≡ store_counts self.old }
+    {
+        locks::set_hold(&mut self.locks, lock, hold)?;
+        Ok(())
+    }
+
+    /// Moves the end of the lock of a lease, where the lease is of its generation. Takes no memory.
+    pub fn move_lock(&mut self, lease: &Lease, until: u64)
+        ensures state { store_state self.new ≡ moved lease.now until (store_state self.old) }
+        ensures counts { store_counts self.new ≡ store_counts self.old }
+    {
+        let lock = lease.lock();
+        locks::move_hold(&mut self.locks, &lock, lease.generation(), until);
+    }
+
+    /// Ends the lock of a lease that is not over, where the lease is of its generation. Takes no memory.
+    pub fn end_lock(&mut self, lease: &Lease)
+        ensures state { store_state self.new ≡ released lease.now (store_state self.old) }
+        ensures counts { store_counts self.new ≡ store_counts self.old }
+    {
+        if self.clock < lease.end() {
+            self.move_lock(lease, self.clock);
+        }
+    }
+
+    /// Counts a failure.
+    pub fn fault(&mut self)
+        requires { (store_counts self.old).faults < greatest }
+        ensures state { store_state self.new ≡ store_state self.old }
+        ensures counts { store_counts self.new ≡ one_fault (store_counts self.old) }
+    {
+        self.faults += 1;
+    }
+
+    /// Counts something withheld.
+    pub fn withhold(&mut self)
+        requires { (store_counts self.old).withheld < greatest }
+        ensures state { store_state self.new ≡ store_state self.old }
+        ensures counts { store_counts self.new ≡ one_withheld (store_counts self.old) }
+    {
+        self.withheld += 1;
+    }
+
+    /// Counts a stale get.
+    pub fn stain(&mut self)
+        requires { (store_counts self.old).stale < greatest }
+        ensures state { store_state self.new ≡ store_state self.old }
+        ensures counts { store_counts self.new ≡ one_stale (store_counts self.old) }
+    {
+        self.stale += 1;
+    }
+
+    /// The positions that the wish of the newest call gives.
+    pub fn positions(&self) -> &[u64]
+        ensures { result.now ≡ positions_of (store_state self.now).last }
+    {
+        match &self.last {
+            Some(last) => positions_in(&last.wish),
+            None => &[],
+        }
+    }
+}
+
+// The positions that a wish gives.
+fn positions_in(wish: &Wish) -> &[u64]
+    ensures { result.now ≡ positions_in wish.now }
+{
+    match wish {
+        Wish::Give(positions) => positions.as_slice(),
+        Wish::Plain => &[],
+        Wish::Fail => &[],
+        Wish::Lost => &[],
+        Wish::Hide => &[],
+        Wish::Old(_) => &[],
+    }
+}

@@ -1,0 +1,127 @@
+-- The grammar of replies: which values have a text, and that a text spells a value.
+use Rattle.std.specs.Prelude.{ℕ, ◌≡◌, ◌<◌, ◌^◌, List, [], ◌∷◌, length}
+use Rattle.db_base.specs.Ids.{IsClient, IsTree, IsPage}
+use Rattle.db_base.specs.Key.{IsKey, IsPayload}
+use Rattle.db_base.specs.declared.change.Change.{Change}
+use Rattle.db_base.specs.declared.change.Change.TheVariants.{Insert, Update, Delete}
+use Rattle.db_base.specs.declared.names.Lock.{Lock}
+use Rattle.db_base.specs.declared.names.Lock.TheVariants as lock
+use Rattle.db_base.specs.declared.names.ObjName.{ObjName}
+use Rattle.db_base.specs.declared.names.ObjName.TheVariants as object
+use Rattle.db_base.specs.declared.names.QueueName.{QueueName}
+use Rattle.db_base.specs.declared.names.QueueName.TheVariants.{Atomic, TreePu, PagePu}
+use Rattle.db_base.specs.declared.names.Place.{Place}
+use Rattle.db_base.specs.declared.names.Place.TheVariants.{Object, Message}
+use Rattle.db_base.specs.declared.pair.Pair.{Pair}
+use Rattle.db_base.specs.declared.trouble.CommitAnswer.{CommitAnswer}
+use Rattle.db_base.specs.declared.trouble.CommitAnswer.TheVariants.{Committed, NotCommitted, InDoubt, CommittedOpen}
+use Rattle.db_base.specs.declared.trouble.Trouble.{Trouble}
+use Rattle.db_base.specs.declared.trouble.Trouble.TheVariants.{Failed, Late, Busy, Waiting, Stale, Absent, NotALeaf, Damaged, BadFence, Loop, Exhausted, Memory}
+use Rattle.report_types.specs.declared.entry.Entry.{Entry}
+use Rattle.report_types.specs.declared.report.Report.{Report}
+use Rattle.words.specs.Word.{AreBytes}
+use Rattle.reply_text.specs.declared.reply.Reply.{Reply}
+use Rattle.reply_text.specs.declared.reply.Reply.TheVariants as reply
+use Rattle.reply_text.specs.Reply.{reply_text}
+
+-- each item of a list is as it should be
+abbrev pub AreAll : {A : Type 0} → (A → Type 0) → List A → Type 0
+AreAll Is [] = Unit {0}
+AreAll Is (x ∷ items) = Is x × AreAll Is items
+
+-- a page's number
+abbrev pub IsPageNumber : ℕ → Type 0
+IsPageNumber page = IsPage page × (page < 2 ^ 64)
+
+-- names of clients 1 to 64, of trees 1 to 16, of pages from 1 on
+abbrev pub IsLock : Lock → Type 0
+IsLock (lock.Client client) = IsClient client
+IsLock (lock.Tree tree) = IsTree tree
+IsLock (lock.Page tree page) = IsTree tree × IsPageNumber page
+
+abbrev pub IsObject : ObjName → Type 0
+IsObject (object.Head client) = IsClient client
+IsObject (object.Tree tree) = IsTree tree
+IsObject (object.Page tree page) = IsTree tree × IsPageNumber page
+
+abbrev pub IsQueue : QueueName → Type 0
+IsQueue (Atomic client) = IsClient client
+IsQueue (TreePu tree) = IsTree tree
+IsQueue (PagePu tree page) = IsTree tree × IsPageNumber page
+
+abbrev pub IsPlace : Place → Type 0
+IsPlace (Object name) = IsObject name
+IsPlace (Message queue id) = IsQueue queue × (id < 2 ^ 64)
+
+-- want of memory has no text
+abbrev pub IsTrouble : Trouble → Type 0
+IsTrouble Failed = Unit {0}
+IsTrouble (Late end now) = (end < 2 ^ 64) × (now < 2 ^ 64)
+IsTrouble (Busy lock until) = IsLock lock × (until < 2 ^ 64)
+IsTrouble (Waiting have need) = (have < 2 ^ 64) × (need < 2 ^ 64)
+IsTrouble (Stale page least got) = IsPageNumber page × (least < 2 ^ 64) × (got < 2 ^ 64)
+IsTrouble (Absent page) = IsPageNumber page
+IsTrouble (NotALeaf page) = IsPageNumber page
+IsTrouble (Damaged place offset) = IsPlace place × (offset < 2 ^ 64)
+IsTrouble (BadFence page expected found) = IsPageNumber page × AreBytes expected × AreBytes found
+IsTrouble (Loop page) = IsPageNumber page
+IsTrouble (Exhausted what) = Unit {0}
+IsTrouble Memory = ⊥
+
+abbrev pub IsCommit : CommitAnswer → Type 0
+IsCommit (Committed txn) = txn < 2 ^ 64
+IsCommit (NotCommitted trouble) = IsTrouble trouble
+IsCommit InDoubt = Unit {0}
+IsCommit (CommittedOpen trouble) = IsTrouble trouble
+
+abbrev pub IsRecord : Pair → Type 0
+IsRecord pair = AreBytes pair.key × AreBytes pair.payload
+
+-- a change of a key of 1 to 64 bytes, with a payload of at most 1,024
+abbrev pub IsBlindChange : Change → Type 0
+IsBlindChange (Insert key payload) = (IsKey key × AreBytes key) × (IsPayload payload × AreBytes payload)
+IsBlindChange (Update key payload) = (IsKey key × AreBytes key) × (IsPayload payload × AreBytes payload)
+IsBlindChange (Delete key) = IsKey key × AreBytes key
+
+-- an entry of the tree that is reported
+abbrev pub IsEntryOf : ℕ → Entry → Type 0
+IsEntryOf tree entry = IsClient entry.client × (entry.epoch < 2 ^ 64) × (entry.txn < 2 ^ 64) × (entry.tree ≡ tree) × IsBlindChange entry.change
+
+-- a list that a line with its length goes before
+abbrev pub IsListOf : {A : Type 0} → (A → Type 0) → List A → Type 0
+IsListOf Is items = AreAll Is items × (length items < 2 ^ 64)
+
+pub record IsReport (report : Report) : Type 0 where
+  pub tree : IsTree report.tree
+  pub committed : IsListOf (IsEntryOf report.tree) report.committed
+  pub order : IsListOf (IsEntryOf report.tree) report.order
+  pub contents : IsListOf IsRecord report.contents
+  pub heads : report.heads < 2 ^ 64
+  pub messages : report.messages < 2 ^ 64
+
+-- numbers, bytes and names are in their ranges; the entries of a report are of its tree
+abbrev pub IsInRange : Reply → Type 0
+IsInRange reply.Begun = Unit {0}
+IsInRange reply.Called = Unit {0}
+IsInRange reply.Noted = Unit {0}
+IsInRange reply.Aborted = Unit {0}
+IsInRange reply.Crashed = Unit {0}
+IsInRange reply.Waited = Unit {0}
+IsInRange (reply.Refused refusal) = Unit {0}
+IsInRange (reply.Opened epoch) = epoch < 2 ^ 64
+IsInRange reply.Closed = Unit {0}
+IsInRange (reply.Renewed end) = end < 2 ^ 64
+IsInRange (reply.Commit answer) = IsCommit answer
+IsInRange (reply.Done answer) = (answer.applied < 2 ^ 64) × (answer.deleted < 2 ^ 64) × (answer.left < 2 ^ 64)
+IsInRange (reply.Value payload) = AreBytes payload
+IsInRange reply.NoValue = Unit {0}
+IsInRange (reply.Scan pairs) = IsListOf IsRecord pairs
+IsInRange (reply.Settled calls) = calls < 2 ^ 64
+IsInRange (reply.NotSettled trouble) = IsTrouble trouble
+IsInRange (reply.Trouble trouble) = IsTrouble trouble
+IsInRange (reply.Report report) = IsReport report
+
+-- a text that spells a reply
+pub record IsReply (text : List ℕ) (reply : Reply) : Type 0 where
+  pub in_range : IsInRange reply
+  pub is : text ≡ reply_text reply

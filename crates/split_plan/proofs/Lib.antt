@@ -1,0 +1,5 @@
+pub mod Buffers
+pub mod Counting
+pub mod Cutting
+pub mod Rooting
+pub mod Underway

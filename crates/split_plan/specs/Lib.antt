@@ -1,0 +1,4 @@
+pub mod Cut
+pub mod Part
+pub mod Plan
+pub mod Sizes

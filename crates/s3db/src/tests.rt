@@ -1,5 +1,7 @@
 use crate::run::run;
 use crate::status::Status;
+use db_base::ids::{ClientId, MsgId, PageId, TreeId};
+use db_base::names::{ObjName, QueueName};
 use db_io::memory_sink::MemorySink;
 use db_io::memory_source::MemorySource;
 use memory_cloud::memory::MemoryCloud;
@@ -198,5 +200,54 @@ fn keeps_the_count(rt: HostRuntime) -> Result<(), Fail> {
     assert_eq!(rt; status, Status::Done);
     let written = sink.written();
     assert!(rt; written.ends_with(b"202 noted\n203 refused 4 too-many\n204 noted\n"));
+    Ok(())
+}
+
+/// Page 1 of tree 1 after the first worked example.
+const PAGE: [u8; 45] = [
+    0x4c, 1, 0, 0, 0, 0, 0, 0, 0, 1, 0, 0, 0, 0, 0, 0, 0, 0, 0, 1, 0, 0, 0, 0, 0, 0, 0, 0, 1, 0, 0,
+    0, 0, 0, 0, 0, 1, 0, 1, 1, 0x6b, 0, 1, 0x76, 0,
+];
+
+/// The root of tree 1 after it.
+const ROOT: [u8; 41] = [
+    0x54, 1, 0, 0, 0, 0, 0, 0, 0, 1, 0, 0, 0, 0, 0, 0, 0, 2, 1, 1, 1, 0, 0, 0, 0, 0, 0, 0, 1, 0, 1,
+    0, 0, 0, 0, 0, 0, 0, 0, 1, 0,
+];
+
+/// The head of client 1 after it.
+const HEAD: [u8; 63] = [
+    0x48, 1, 0, 0, 0, 0, 0, 0, 0, 1, 0, 0, 0, 0, 0, 0, 0, 1, 0, 1, 1, 0, 0, 0, 0, 0, 0, 0, 0, 0, 0,
+    0, 0, 0, 0, 0, 1, 0, 1, 1, 0, 0, 0, 0, 0, 0, 0, 0, 0, 0, 0, 0, 0, 0, 0, 1, 1, 1, 0x6b, 0, 1,
+    0x76, 0,
+];
+
+/// The message that its commit sent to the tree's queue.
+const MESSAGE: [u8; 33] = [
+    0x50, 1, 1, 0, 0, 0, 0, 0, 0, 0, 1, 0, 0, 0, 0, 0, 0, 0, 1, 0, 0, 0, 0, 0, 0, 0, 1, 1, 1, 0x6b,
+    0, 1, 0x76,
+];
+
+#[test]
+fn leaves_these_bytes(rt: HostRuntime) -> Result<(), Fail> {
+    let alloc = rt.alloc();
+    let tree = TreeId::new(1)?;
+    let mut input = Vec::new(alloc);
+    input.extend_from_slice(FIRST)?;
+    input.extend_from_slice(b"tree 1 1\nrun 1\n")?;
+    let words = vec![in alloc; String::from_str(alloc, "replay")?]?;
+    let mut source = MemorySource::new(alloc, input.as_slice(), &[])?;
+    let mut sink = MemorySink::new(alloc, &[])?;
+    let mut cloud = MemoryCloud::new(alloc);
+    let status = run(alloc, words.as_slice(), &mut source, &mut sink, &mut cloud);
+    assert_eq!(rt; status, Status::Done);
+    let page = cloud.version(ObjName::Page(tree, PageId::first()), 1);
+    assert!(rt; page == Some(PAGE.as_slice()));
+    let root = cloud.version(ObjName::Tree(tree), 1);
+    assert!(rt; root == Some(ROOT.as_slice()));
+    let head = cloud.version(ObjName::Head(ClientId::new(1)?), 3);
+    assert!(rt; head == Some(HEAD.as_slice()));
+    let message = cloud.message(QueueName::TreePu(tree), MsgId::new(1));
+    assert!(rt; message == Some(MESSAGE.as_slice()));
     Ok(())
 }

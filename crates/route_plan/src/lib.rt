@@ -9,3 +9,5 @@ pub mod queue;
 pub mod record;
 pub mod route;
 pub mod seen;
+#[cfg(test)]
+mod tests;

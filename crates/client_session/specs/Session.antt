@@ -4,7 +4,9 @@ use Rattle.db_base.specs.declared.refusal.Refusal.{Refusal}
 use Rattle.db_base.specs.declared.refusal.Refusal.TheVariants as rule
 use Rattle.head_codec.specs.declared.head.Head.{Head}
 use Rattle.head_codec.specs.Spelling.{HasSpelling}
-use Rattle.txn_buffer.specs.Noted.{Noted}
+use Rattle.db_base.specs.Change.{key_of}
+use Rattle.db_base.specs.declared.change.Change.{Change}
+use Rattle.txn_buffer.specs.Noted.{Noted, found_in}
 use Rattle.db_base.specs.declared.refusal.Refused.{Refused}
 use Rattle.db_base.specs.declared.refusal.Refused.TheVariants as refused
 use Rattle.db_base.specs.declared.trouble.Trouble.TheVariants as trouble
@@ -56,6 +58,20 @@ rule_of (Opening m) = Some rule.AtWork
 rule_of (Committing m) = Some rule.AtWork
 rule_of (Folding home m) = Some rule.AtWork
 rule_of Broken = Some rule.Broken
+
+-- ---- what is refused
+
+-- why a change is not noted: the rule of what is in hand, or one change too many of an open client; or want of memory
+abbrev pub NoteRefused : Acting → ℕ → Change → Refused → Type 0
+NoteRefused s tree change (refused.Rule r) =
+    (rule_of s.work ≡ Some r)
+    ⊎ ((rule_of s.work ≡ None) × (r ≡ rule.TooManyChanges) × (found_in s.buffer tree (key_of change) ≡ None) × (200 ≤ length s.buffer))
+NoteRefused s tree change refused.Memory = Unit {0}
+
+-- why changes are not dropped: the rule of what is in hand
+abbrev pub AbortRefused : Acting → Refused → Type 0
+AbortRefused s (refused.Rule r) = rule_of s.work ≡ Some r
+AbortRefused s refused.Memory = ⊥
 
 -- ---- what a begin does
 

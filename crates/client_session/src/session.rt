@@ -93,7 +93,7 @@ impl Model for Session {
 }
 
 impl Session {
-    ghost use Rattle.client_session.specs.Session.{Acting, closed_session, rule_of, Begins, BeginsOpening, BeginsCommit, BeginsTree, CommitsOf, StepsSession, StepsOpening, StepsCommit, StepsFolding, ask_of_work, committing_of, opens_of, applying_of};
+    ghost use Rattle.client_session.specs.Session.{Acting, closed_session, rule_of, NoteRefused, AbortRefused, Begins, BeginsOpening, BeginsCommit, BeginsTree, CommitsOf, StepsSession, StepsOpening, StepsCommit, StepsFolding, ask_of_work, committing_of, opens_of, applying_of};
 
     /// A closed session without changes. Refused for memory alone.
     pub fn new(alloc: Global) -> Result<Session, Refused>
@@ -127,6 +127,7 @@ impl Session {
         ensures ok { OnOk result ((self.new ≡ record self.old { buffer = noted_in self.old.buffer tree change }) × (rule_of self.old.work ≡ None)) }
         ensures err { OnErr result (self.new ≡ self.old) }
         ensures kept { IsKept self.new.work }
+        ensures cause { IfErr result (NoteRefused self.old tree change) }
     {
         if let Some(rule) = self.rule() {
             return Err(Refused::Rule(rule));
@@ -139,6 +140,7 @@ impl Session {
         ensures ok { OnOk result ((self.new ≡ record self.old { buffer = [] }) × (rule_of self.old.work ≡ None)) }
         ensures err { OnErr result (self.new ≡ self.old) }
         ensures kept { IsKept self.new.work }
+        ensures cause { IfErr result (AbortRefused self.old) }
     {
         if let Some(rule) = self.rule() {
             return Err(Refused::Rule(rule));

@@ -353,7 +353,7 @@ inserts lines k tree key payload reply.Noted s u old new t ready h =
     (subst (λ x. ActsAs x (after_own (event.Insert k tree key payload) reply.Noted (standing lines 1))) (sym h.0)
     (record { buffer = ap (λ b. noted_in b tree (Insert key payload)) acts.buffer; work = works_with old.session.work (standing lines 1) _ acts.work }))
     tt tt
-inserts lines k tree key payload (reply.Refused rule) s u old new t ready h = refuses_session lines (event.Insert k tree key payload) (reply.Refused rule) rule s u old new t ready refl h
+inserts lines k tree key payload (reply.Refused rule) s u old new t ready h = refuses_session lines (event.Insert k tree key payload) (reply.Refused rule) rule s u old new t ready refl h.0
 inserts lines k tree key payload r s u old new t ready h = absurd h
 
 aborts : (lines : List Line) (k : ℕ) (r : Reply) (s u : Option CloudState) (old new : World) (t : CloudState)
@@ -361,10 +361,10 @@ aborts : (lines : List Line) (k : ℕ) (r : Reply) (s u : Option CloudState) (ol
 aborts lines k reply.Aborted s u old new t ready h =
     let acts = ready.stands.session.acts in
     leaves_session lines (event.Abort k) reply.Aborted s u old new t ready
-    (subst (λ (x : Acting). Knows (newest t) x.work) (sym h) ready.stands.session.knows)
-    (subst (λ x. ActsAs x (record (standing lines 1) { buffer = [] })) (sym h) (record { buffer = refl; work = works_with old.session.work (standing lines 1) [] acts.work }))
+    (subst (λ (x : Acting). Knows (newest t) x.work) (sym h.0) ready.stands.session.knows)
+    (subst (λ x. ActsAs x (record (standing lines 1) { buffer = [] })) (sym h.0) (record { buffer = refl; work = works_with old.session.work (standing lines 1) [] acts.work }))
     tt tt
-aborts lines k (reply.Refused rule) s u old new t ready h = refuses_session lines (event.Abort k) (reply.Refused rule) rule s u old new t ready refl h
+aborts lines k (reply.Refused rule) s u old new t ready h = refuses_session lines (event.Abort k) (reply.Refused rule) rule s u old new t ready refl h.0
 aborts lines k r s u old new t ready h = absurd h
 
 -- ---- a line that runs

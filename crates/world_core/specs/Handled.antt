@@ -1,9 +1,10 @@
 -- What a line does to the world, and its reply.
-use Rattle.std.specs.Prelude.{ℕ, ◌≡◌, ◌<◌, ◌==◌, List, [], length, Option, Some, Result, Ok, Err, MatchBool}
+use Rattle.std.specs.Prelude.{ℕ, ◌≡◌, ◌<◌, ◌==◌, List, [], length, ◌⊎◌, Option, Some, None, Result, Ok, Err, MatchBool}
 use Rattle.db_base.specs.Ids.{IsClient, IsTree}
 use Rattle.db_base.specs.Key.{IsKey, IsPayload}
 use Rattle.db_base.specs.declared.change.Change.{Change}
 use Rattle.db_base.specs.declared.change.Change.TheVariants.{Insert}
+use Rattle.db_base.specs.declared.refusal.Refusal.{Refusal}
 use Rattle.db_base.specs.declared.refusal.Refusal.TheVariants as rule
 use Rattle.db_base.specs.declared.refusal.Refused.{Refused}
 use Rattle.db_base.specs.declared.refusal.Refused.TheVariants as refused
@@ -23,7 +24,7 @@ use Rattle.client_session.specs.declared.session.Answer.TheVariants as answer
 use Rattle.client_session.specs.declared.session.Begun.{Begun}
 use Rattle.client_session.specs.declared.session.Begun.TheVariants.{Working, Answered}
 use Rattle.client_session.specs.declared.session.Op.TheVariants as op
-use Rattle.client_session.specs.Session.{Acting, Begins, StepsSession, IsKept}
+use Rattle.client_session.specs.Session.{Acting, rule_of, NoteRefused, Begins, StepsSession, IsKept}
 use Rattle.history.specs.Fold.{of_tree}
 use Rattle.world_audit.specs.Audited.{Audited}
 use Rattle.world_audit.specs.Look.{Looked}
@@ -69,25 +70,37 @@ pub record Commits (old new : Acting) (result : Result Reply WorldFault) : Type 
   pub begins : Begins op.Commit old new begun
   pub replies : BegunReply begun result
 
+-- the rule that refuses a key and a payload, where it does: the key's length, then the payload's
+abbrev pub InsertRefused : List ℕ → List ℕ → Refusal → Type 0
+InsertRefused key payload rule.EmptyKey = length key ≡ 0
+InsertRefused key payload rule.LongKey = 64 < length key
+InsertRefused key payload rule.LongPayload = IsKey key × (1024 < length payload)
+InsertRefused key payload r = ⊥
+
 -- the insert of a key and a payload, or the rule that these break
 abbrev pub InsertOf : List ℕ → List ℕ → Result Change Refused → Type 0
 InsertOf key payload (Ok change) = (change ≡ Insert key payload) × IsKey key × IsPayload payload
-InsertOf key payload (Err (refused.Rule rule.EmptyKey)) = length key ≡ 0
-InsertOf key payload (Err (refused.Rule rule.LongKey)) = 64 < length key
-InsertOf key payload (Err (refused.Rule rule.LongPayload)) = 1024 < length payload
-InsertOf key payload (Err (refused.Rule r)) = ⊥
+InsertOf key payload (Err (refused.Rule r)) = InsertRefused key payload r
 InsertOf key payload (Err refused.Memory) = Unit {0}
+
+-- why an insert is refused, in this order: the number of the tree, the key and the payload, the session's rule or one change too many
+abbrev pub RefusesInsert : ℕ → List ℕ → List ℕ → Acting → Refusal → Type 0
+RefusesInsert tree key payload old r =
+    ((r ≡ rule.BadNumber) × (IsTree tree → ⊥))
+    ⊎ ((IsTree tree × InsertRefused key payload r)
+    ⊎ (IsTree tree × IsKey key × IsPayload payload × NoteRefused old tree (Insert key payload) (refused.Rule r)))
 
 -- a line that notes, drops or is refused: nothing but what its reply says has changed
 abbrev pub Inserts : ℕ → List ℕ → List ℕ → Acting → Acting → Result Reply WorldFault → Type 0
-Inserts tree key payload old new (Ok reply.Noted) = (new ≡ record old { buffer = noted_in old.buffer tree (Insert key payload) }) × IsTree tree × IsKey key × IsPayload payload
-Inserts tree key payload old new (Ok (reply.Refused r)) = new ≡ old
+Inserts tree key payload old new (Ok reply.Noted) =
+    (new ≡ record old { buffer = noted_in old.buffer tree (Insert key payload) }) × (rule_of old.work ≡ None) × IsTree tree × IsKey key × IsPayload payload
+Inserts tree key payload old new (Ok (reply.Refused r)) = (new ≡ old) × RefusesInsert tree key payload old r
 Inserts tree key payload old new (Ok r) = ⊥
 Inserts tree key payload old new (Err fault) = new ≡ old
 
 abbrev pub Aborts : Acting → Acting → Result Reply WorldFault → Type 0
-Aborts old new (Ok reply.Aborted) = new ≡ record old { buffer = [] }
-Aborts old new (Ok (reply.Refused r)) = new ≡ old
+Aborts old new (Ok reply.Aborted) = (new ≡ record old { buffer = [] }) × (rule_of old.work ≡ None)
+Aborts old new (Ok (reply.Refused r)) = (new ≡ old) × (rule_of old.work ≡ Some r)
 Aborts old new (Ok r) = ⊥
 Aborts old new (Err fault) = new ≡ old
 

@@ -72,6 +72,7 @@ impl World {
         ensures kept { IsKept self.new.session.work }
     {
         let reply = self.handle(alloc, cloud, n, event);
+        // Read for the clause `kept`, which every way through the line would have to carry else.
         let _ = self.session.in_hand();
         reply
     }

@@ -1,5 +1,5 @@
 -- The shapes of a command line: the command, and then its values.
-use Rattle.std.specs.Prelude.{◌≡◌, ℕ, Bool, true, false, ◌&&◌, not, nat_eq, nat_le, if◌then◌else◌, List, [], ◌∷◌, Option, Some, None, Result, Ok, Err, codes, ⊤}
+use Rattle.std.specs.Prelude.{◌≡◌, ℕ, Bool, true, ◌&&◌, not, nat_eq, nat_le, if◌then◌else◌, List, [], ◌∷◌, Option, Some, None, Result, Ok, Err, codes, ⊤}
 use Rattle.std.specs.Str.{bytes_eq}
 use Rattle.words.specs.Word.{number_of}
 use Rattle.command_words.specs.declared.shape.Shape.{Shape}

@@ -1,8 +1,13 @@
-ghost use Rattle.std.specs.Prelude.{◌≡◌, map, string_bytes, MatchResult};
-ghost use Rattle.words.specs.Word.{number_of as spelled_number};
-ghost use Rattle.command_words.specs.Words.{Answers, generated, shell_over, settling_of, shape_of, is_folder};
+ghost use Rattle.std.specs.Prelude.{◌≡◌, map, string_bytes, option_map, MatchResult};
+ghost use Rattle.std.specs.List.{list_all};
+ghost use Rattle.clap.specs.Words.{first_of, found_of, rows_of, subcommand_rows_of};
+ghost use Rattle.command_words.specs.Words.{Answers, generated, shape_of, is_folder};
+ghost use Rattle.command_words.specs.Command.{number_in, shell_in, settling_in, shape_of_values, shape_in};
 
+use crate::command::command;
 use crate::shape::{Shape, WordsFault};
+use clap::ArgMatches;
+use clap::error::ErrorKind;
 use db_base::ids::ClientId;
 use db_base::text::Text;
 use std::alloc::Global;
@@ -11,14 +16,21 @@ use words::number::number_of;
 /// The most events that are generated.
 pub const MAX_COUNT: u64 = 10_000;
 
-/// Whether a word names a folder.
-fn is_folder(word: &[u8]) -> bool
+/// Whether a word is no flag: whether it does not begin with a hyphen.
+fn is_no_flag(word: &[u8]) -> bool
     ensures { result ≡ is_folder word.now }
 {
     match word {
         [] => true,
         [first, ..] => *first != b'-',
     }
+}
+
+/// Whether none of the words is a flag.
+fn are_no_flags(words: &[String]) -> bool
+    ensures { result ≡ list_all (λ w. is_folder (string_bytes w)) words.now }
+{
+    words.iter().all(|word| is_no_flag(word.as_bytes()))
 }
 
 /// A copy of a word.
@@ -31,61 +43,102 @@ fn text(alloc: Global, word: &str) -> Result<Text, WordsFault>
     }
 }
 
-/// What is generated, by its number and how many events.
-fn generated(number: &[u8], count: &[u8]) -> Result<Shape, WordsFault>
-    ensures { Answers result (generated (spelled_number number.now) (spelled_number count.now)) }
+/// The value of an argument.
+fn value<'a>(values: &ArgMatches<'a>, id: &str) -> Option<&'a str>
+    ensures { option_map (λ s. s.now) result ≡ first_of id.now (rows_of (found_of values.now)) }
 {
-    match number_of(number) {
-        Some(number) => match number_of(count) {
-            Some(count) if count <= MAX_COUNT => Ok(Shape::Gen { number, count }),
-            Some(_) => Err(WordsFault::BadWords),
-            None => Err(WordsFault::BadWords),
-        },
-        None => Err(WordsFault::BadWords),
+    values.get_str(id)
+}
+
+/// The value of an argument, as a number.
+fn number(values: &ArgMatches<'_>, id: &str) -> Option<u64>
+    ensures { result ≡ number_in id.now (rows_of (found_of values.now)) }
+{
+    number_of(value(values, id)?.as_bytes())
+}
+
+/// What is generated, by its number and how many events.
+fn generated(number: Option<u64>, count: Option<u64>) -> Result<Shape, WordsFault>
+    ensures { Answers result (generated number count) }
+{
+    let Some(number) = number else {
+        return Err(WordsFault::BadWords);
+    };
+    let Some(count) = count else {
+        return Err(WordsFault::BadWords);
+    };
+    if count > MAX_COUNT {
+        return Err(WordsFault::BadWords);
     }
+    Ok(Shape::Gen { number, count })
 }
 
 /// A shell of a client over a folder.
-fn shell(alloc: Global, client: &[u8], dir: &str) -> Result<Shape, WordsFault>
-    ensures { Answers result (shell_over (spelled_number client.now) dir.now) }
+fn shell(alloc: Global, client: Option<u64>, dir: Option<&str>) -> Result<Shape, WordsFault>
+    ensures { Answers result (shell_in client (option_map (λ s. s.now) dir.entry)) }
 {
-    let Some(number) = number_of(client) else {
+    let Some(number) = client else {
+        return Err(WordsFault::BadWords);
+    };
+    let Some(dir) = dir else {
         return Err(WordsFault::BadWords);
     };
     let Ok(client) = ClientId::new(number) else {
         return Err(WordsFault::BadWords);
     };
-    if !is_folder(dir.as_bytes()) {
-        return Err(WordsFault::BadWords);
-    }
     let dir = text(alloc, dir)?;
     Ok(Shape::Shell { client, dir })
 }
 
 /// A settling of a folder.
-fn settling(alloc: Global, dir: &str) -> Result<Shape, WordsFault>
-    ensures { Answers result (settling_of dir.now) }
+fn settling(alloc: Global, dir: Option<&str>) -> Result<Shape, WordsFault>
+    ensures { Answers result (settling_in (option_map (λ s. s.now) dir.entry)) }
 {
-    if !is_folder(dir.as_bytes()) {
+    let Some(dir) = dir else {
         return Err(WordsFault::BadWords);
-    }
+    };
     let dir = text(alloc, dir)?;
     Ok(Shape::Settle { dir })
+}
+
+/// What a subcommand and its values ask for.
+fn asked(alloc: Global, name: &str, values: &ArgMatches<'_>) -> Result<Shape, WordsFault>
+    ensures { Answers result (shape_of_values name.now (rows_of (found_of values.now))) }
+{
+    match name {
+        "replay" => Ok(Shape::Replay),
+        "gen" => generated(number(values, "number"), number(values, "count")),
+        "shell" => shell(alloc, number(values, "client"), value(values, "dir")),
+        "settle" => settling(alloc, value(values, "dir")),
+        _ => Err(WordsFault::BadWords),
+    }
+}
+
+/// What the words ask for, by what the parser made of them.
+fn parsed(alloc: Global, matches: &ArgMatches<'_>) -> Result<Shape, WordsFault>
+    ensures { Answers result (shape_in (subcommand_rows_of matches.now)) }
+{
+    match matches.subcommand() {
+        Some((name, values)) => asked(alloc, name, values),
+        None => Err(WordsFault::BadWords),
+    }
 }
 
 /// Reads the words of the command line, without the program's name. BadWords exactly where they are of no shape.
 pub fn shape(alloc: Global, words: &[String]) -> Result<Shape, WordsFault>
     ensures { Answers result (shape_of (map string_bytes words.now)) }
 {
-    match words {
-        [command] if command.as_str() == "replay" => Ok(Shape::Replay),
-        [command, dir] if command.as_str() == "settle" => settling(alloc, dir.as_str()),
-        [command, number, count] if command.as_str() == "gen" => {
-            generated(number.as_bytes(), count.as_bytes())
-        }
-        [command, client, dir] if command.as_str() == "shell" => {
-            shell(alloc, client.as_bytes(), dir.as_str())
-        }
-        _ => Err(WordsFault::BadWords),
+    if !are_no_flags(words) {
+        return Err(WordsFault::BadWords);
+    }
+    let Ok(command) = command(alloc) else {
+        return Err(WordsFault::Memory);
+    };
+    match command.try_get_matches_from(words) {
+        Ok(matches) => parsed(alloc, &matches),
+        Err(error) => match error.kind() {
+            ErrorKind::OutOfMemory => Err(WordsFault::Memory),
+            _ => Err(WordsFault::BadWords),
+        },
     }
 }

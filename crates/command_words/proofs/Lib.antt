@@ -1,0 +1,3 @@
+pub mod ClapLaws
+pub mod HyphenLaws
+pub mod MatchLaws

@@ -155,7 +155,6 @@ impl Session {
         ensures kept { IsKept self.new.work }
     {
         let begun = self.begin_op(alloc, op);
-        // Read for the clause `kept`: the invariant holds again once the change is through.
         let _ = &self.work;
         begun
     }
@@ -259,7 +258,6 @@ impl Session {
         ensures kept { IsKept self.new.work }
     {
         let turn = self.step_work(alloc, cloud, who);
-        // Read for the clause `kept`: the invariant holds again once the change is through.
         let _ = &self.work;
         turn
     }

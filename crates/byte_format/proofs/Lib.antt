@@ -6,3 +6,4 @@ pub mod Wholes
 pub mod Loops
 pub mod Plain
 pub mod OrderLemmas
+pub mod HighKeys

@@ -1,6 +1,7 @@
 //! Formats of bytes: combinators that specify a codec as a table, readers and writers of their fields.
 #![tactic(auto)]
 
+mod high_key;
 mod list;
 mod mark;
 mod number;
@@ -11,6 +12,7 @@ mod stop;
 mod text;
 mod writing;
 
+pub use high_key::high_key_at;
 pub use list::{Rules, skip_list};
 pub use mark::{mark_at, more_at};
 pub use number::{u8_at, u16_at, u64_at};

@@ -12,7 +12,7 @@ abbrev pub is_folder : List ℕ → Bool
 is_folder [] = true
 is_folder (byte ∷ rest) = not (nat_eq byte 45)
 
--- the number of what is generated, and how much of it: at most 10,000 events
+-- the number of what is generated, and how much of it: at most 10,000 rounds
 abbrev pub generated : Option ℕ → Option ℕ → Option Shape
 generated None count = None
 generated (Some number) None = None

@@ -13,7 +13,7 @@ use db_base::text::Text;
 use std::alloc::Global;
 use words::number::number_of;
 
-/// The most events that are generated.
+/// The most rounds that are generated.
 pub const MAX_COUNT: u64 = 10_000;
 
 /// Whether a word is no flag: whether it does not begin with a hyphen.
@@ -57,7 +57,7 @@ fn number(values: &ArgMatches<'_>, id: &str) -> Option<u64>
     number_of(value(values, id)?.as_bytes())
 }
 
-/// What is generated, by its number and how many events.
+/// What is generated, by its number and how many rounds.
 fn generated(number: Option<u64>, count: Option<u64>) -> Result<Shape, WordsFault>
     ensures { Answers result (generated number count) }
 {

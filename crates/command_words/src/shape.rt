@@ -6,7 +6,7 @@ use db_base::text::Text;
 pub enum Shape {
     /// A replay of a schedule.
     Replay,
-    /// A generated schedule: the number that it is made from, and how many events.
+    /// A generated schedule: the number that it is made from, and how many rounds.
     Gen { number: u64, count: u64 },
     /// A shell of a client over a folder.
     Shell { client: ClientId, dir: Text },

@@ -29,8 +29,8 @@ impl Positions {
     /// A copy of the list; BadNumber exactly for a length that is not in 1 to 256.
     pub fn new(alloc: Global, list: &[u64]) -> Result<Positions, Refused>
         ensures ok { IfOk result (λ p. (p ≡ list.now) × ArePositions list.now) }
-        ensures bad { (result ≡ Err (Refused.Rule Refusal.BadNumber)) → ArePositions list.now → ⊥ }
-        ensures good { ArePositions list.now → IfErr result (λ e. e ≡ Refused.Memory) }
+        ensures bad { (result ≡ Err (Refused.Rule Refusal.BadNumber)) ↔ (ArePositions list.now → ⊥) }
+        ensures only { IfErr result (λ e. (e ≡ Refused.Rule Refusal.BadNumber) ⊎ ((e ≡ Refused.Memory) × ArePositions list.now)) }
     {
         if list.is_empty() || list.len() > MAX_POSITIONS {
             return Err(Refused::Rule(Refusal::BadNumber));

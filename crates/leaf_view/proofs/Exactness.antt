@@ -3,8 +3,9 @@ use Rattle.std.proofs.Common.{◌≡◌, ℕ, ◌<◌, ◌^◌, true, List, Opti
 use Rattle.byte_format.specs.Format.{Format, list_of}
 use Rattle.byte_format.specs.Whole.{IsExact}
 use Rattle.byte_format.proofs.Fields.{u8_exact, u64_exact, text8_exact, text16_exact}
-use Rattle.byte_format.proofs.Exact.{ruled_exact, then_exact, behind_exact, only_where_exact, seen_as_exact}
+use Rattle.byte_format.proofs.Exact.{ruled_exact, then_exact, behind_exact, seen_as_exact}
 use Rattle.byte_format.proofs.Lists.{list_exact}
+use Rattle.byte_format.proofs.HighKeys.{high_key_exact}
 use Rattle.leaf_view.specs.declared.done.Done.{Done}
 use Rattle.leaf_view.specs.Leaf.{Entry, Head, Leaf, head_of, head_parts, leaf_head, done_of, done_parts, done_from, done_item, least_queue, least_client, entry_of, entry_parts, key_stands, record_item, leaf_of, leaf_parts, leaf, plain_done, plain_entry}
 
@@ -14,7 +15,7 @@ head_exact = seen_as_exact head_of head_parts _ (behind_exact 76 _ (behind_exact
     then_exact _ _ (u64_exact 1 _ (lit< tt)) (λ version.
     then_exact _ _ (text8_exact 0 64 (lit< tt)) (λ low.
     then_exact _ _ (u64_exact 0 _ (lit< tt)) (λ right.
-    only_where_exact _ _ (ruled_exact _ _ (text8_exact 1 64 (lit< tt))))))))) (λ _ _. refl) (λ _ _. refl)
+    high_key_exact low right)))))) (λ _ _. refl) (λ _ _. refl)
 
 pub done_from_exact : (queue_from : ℕ) (client_from : ℕ → ℕ) → IsExact (done_from queue_from client_from)
 done_from_exact queue_from client_from = seen_as_exact done_of done_parts _ (

@@ -4,8 +4,8 @@ use Rattle.std.specs.Prelude.{IfSome}
 use Rattle.std.specs.List.{AllByRecursion}
 use Rattle.std.specs.Int.{w8, w16, w64, to_be_bytes}
 use Rattle.std.proofs.lemmas.List.{append-nil}
-use Rattle.byte_format.specs.Format.{option_spelling, ruled, text, list_spelling}
-use Rattle.byte_format.specs.Order.{bytes_below}
+use Rattle.byte_format.specs.Format.{option_spelling, list_spelling}
+use Rattle.byte_format.specs.HighKey.{key_above}
 use Rattle.leaf_view.specs.Leaf.{Entry, Leaf, IsLeaf, leaf, leaf_head, record_item, done_item}
 use Rattle.leaf_view.specs.Parts.{LiesIn, PartsLieIn}
 
@@ -44,7 +44,7 @@ payloads_in low high before (e ∷ es) =
       each_behind (λ (x : Entry). x.payload) (1 ∷ key ++ payload) rest es (payloads_in low high (Some e) es),
     )
 
-high_in : (f : List ℕ) (high : Option (List ℕ)) (low : List ℕ) → IfSome high (LiesIn (f ++ option_spelling (ruled (bytes_below low) (text w8 1 64)) high))
+high_in : (f : List ℕ) (high : Option (List ℕ)) (low : List ℕ) → IfSome high (LiesIn (f ++ option_spelling (key_above low) high))
 high_in f None low = tt
 high_in f (Some k) low = behind f (to_be_bytes w8 (length k) ++ k) k (behind (to_be_bytes w8 (length k)) k k (itself k))
 
@@ -54,7 +54,7 @@ some_in_front a b (Some k) h = in_front a b k h
 
 -- the head of a leaf: mark and format, version, low, right, high
 abbrev high_bytes : Leaf → List ℕ
-high_bytes l = option_spelling (ruled (bytes_below l.low) (text w8 1 64)) l.high
+high_bytes l = option_spelling (key_above l.low) l.high
 
 abbrev low_bytes : Leaf → List ℕ
 low_bytes l = to_be_bytes w8 (length l.low) ++ l.low

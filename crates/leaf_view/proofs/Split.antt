@@ -5,9 +5,9 @@ use Rattle.std.specs.List.{AllByRecursion}
 use Rattle.std.proofs.lemmas.Bool.{and_parts, and_from, or_cases, or_left, or_right, leb-true, le-leb, eqb-true, eqb-false, eq-eqb, ltb-true, lt-ltb, cases_lt, cases_order, ne_eqb}
 use Rattle.db_base.specs.Key.{IsKey}
 use Rattle.db_base.specs.Ids.{IsClient}
-use Rattle.byte_format.specs.Format.{Format, greatest, in_range, list_fits, option_fits, ruled, text}
+use Rattle.byte_format.specs.Format.{Format, greatest, in_range, list_fits, option_fits}
 use Rattle.byte_format.specs.Order.{bytes_below, below_bound}
-use Rattle.std.specs.Int.{w8}
+use Rattle.byte_format.specs.HighKey.{key_above, high_key}
 use Rattle.leaf_view.specs.declared.done.Done.{Done}
 use Rattle.leaf_view.specs.Leaf.{Entry, Leaf, leaf_head, done_item, least_queue, least_client, record_item, key_stands, above_entry, leaf}
 use Rattle.leaf_view.specs.Fits.{Behind, Ascend, done_below, entry_below, IsDone, IsEntryIn, IsHigh, IsWellFormed, IsVersion}
@@ -125,10 +125,10 @@ fit_dones before ds all order = list_together done_item IsDone done_below dones_
 
 -- ---- the leaf
 
-high_apart : (low : List ℕ) (right : ℕ) (high : Option (List ℕ)) → option_fits (not (eqb right 0)) (ruled (bytes_below low) (text w8 1 64)) high ≡ true → IsHigh low right high
+high_apart : (low : List ℕ) (right : ℕ) (high : Option (List ℕ)) → (high_key low right).fits high ≡ true → IsHigh low right high
 high_apart low right high h = on (eqb right 0) refl high h
   where
-    on : (none : Bool) → eqb right 0 ≡ none → (high : Option (List ℕ)) → option_fits (not none) (ruled (bytes_below low) (text w8 1 64)) high ≡ true → IsHigh low right high
+    on : (none : Bool) → eqb right 0 ≡ none → (high : Option (List ℕ)) → option_fits (not none) (key_above low) high ≡ true → IsHigh low right high
     on true e None h = e
     on true e (Some k) h = absurd cc
     on false e None h = absurd cc
@@ -137,17 +137,17 @@ high_apart low right high h = on (eqb right 0) refl high h
         let r = range_is 1 64 (length k) p.0 in
         (ap not e, record { some = omega (arith, r.0); short = r.1 }, p.1)
 
-high_together : (low : List ℕ) (right : ℕ) (high : Option (List ℕ)) → IsHigh low right high → option_fits (not (eqb right 0)) (ruled (bytes_below low) (text w8 1 64)) high ≡ true
+high_together : (low : List ℕ) (right : ℕ) (high : Option (List ℕ)) → IsHigh low right high → (high_key low right).fits high ≡ true
 high_together low right None h = rw h refl
 high_together low right (Some k) h = rw h.0 (and_from _ _ (range_from 1 64 (length k) (omega (arith, h.1.some)) h.1.short) h.2)
 
 pub leaf_fits : (l : Leaf) → leaf.fits l ≡ true → IsVersion l.version × IsWellFormed l
 unfolding leaf leaf_head
 leaf_fits l h =
-    let p = and_parts (in_range 1 greatest l.version && (in_range 0 64 (length l.low) && (in_range 0 greatest l.right && option_fits (not (eqb l.right 0)) (ruled (bytes_below l.low) (text w8 1 64)) l.high))) (list_fits true done_item None l.done && list_fits true (record_item l.low l.high) None l.records) h in
-    let v = and_parts (in_range 1 greatest l.version) (in_range 0 64 (length l.low) && (in_range 0 greatest l.right && option_fits (not (eqb l.right 0)) (ruled (bytes_below l.low) (text w8 1 64)) l.high)) p.0 in
-    let w = and_parts (in_range 0 64 (length l.low)) (in_range 0 greatest l.right && option_fits (not (eqb l.right 0)) (ruled (bytes_below l.low) (text w8 1 64)) l.high) v.1 in
-    let r = and_parts (in_range 0 greatest l.right) (option_fits (not (eqb l.right 0)) (ruled (bytes_below l.low) (text w8 1 64)) l.high) w.1 in
+    let p = and_parts (in_range 1 greatest l.version && (in_range 0 64 (length l.low) && (in_range 0 greatest l.right && (high_key l.low l.right).fits l.high))) (list_fits true done_item None l.done && list_fits true (record_item l.low l.high) None l.records) h in
+    let v = and_parts (in_range 1 greatest l.version) (in_range 0 64 (length l.low) && (in_range 0 greatest l.right && (high_key l.low l.right).fits l.high)) p.0 in
+    let w = and_parts (in_range 0 64 (length l.low)) (in_range 0 greatest l.right && (high_key l.low l.right).fits l.high) v.1 in
+    let r = and_parts (in_range 0 greatest l.right) ((high_key l.low l.right).fits l.high) w.1 in
     let q = and_parts (list_fits true done_item None l.done) (list_fits true (record_item l.low l.high) None l.records) p.1 in
     let version = range_is 1 greatest l.version v.0 in
     let d = dones_fit None l.done q.0 in

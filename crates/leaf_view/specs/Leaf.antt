@@ -1,9 +1,10 @@
 -- Leaves, and how they are spelled.
 use Rattle.std.specs.Prelude.{◌≡◌, ℕ, ◌+◌, Bool, true, not, ◌&&◌, List, length, Option, Some, None, ◌==◌, if◌then◌else◌}
 use Rattle.std.specs.Int.{w8, w16, w64}
-use Rattle.byte_format.specs.Format.{Reading, Format, greatest, number, text, ruled, ◌then◌, behind, only_where, seen_as, list_of}
+use Rattle.byte_format.specs.Format.{Reading, Format, greatest, number, text, ruled, ◌then◌, behind, seen_as, list_of}
 use Rattle.byte_format.specs.Whole.{IsSpelling}
 use Rattle.byte_format.specs.Order.{bytes_below, below_bound}
+use Rattle.byte_format.specs.HighKey.{high_key}
 use Rattle.leaf_view.specs.declared.done.Done.{Done}
 
 -- a record of the store
@@ -37,13 +38,13 @@ head_of x = record { version = x.0; low = x.1.0; right = x.1.1.0; high = x.1.1.1
 abbrev pub head_parts : Head → Heads
 head_parts h = (h.version, (h.low, (h.right, h.high)))
 
--- L, format 1, version, low key, right page, and above the low key a high key exactly where there is a right page
+-- L, format 1, version, low key, right page, high key
 unfoldable pub leaf_head : Format Head
 leaf_head = seen_as head_of head_parts (behind 76 (behind 1 (
     number w64 1 greatest then λ version.
     text w8 0 64 then λ low.
     number w64 0 greatest then λ right.
-    only_where (not (right == 0)) (ruled (bytes_below low) (text w8 1 64)))))
+    high_key low right)))
 
 -- ---- the table of what is done: the number up to which records of a queue and client are applied
 

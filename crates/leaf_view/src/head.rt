@@ -1,14 +1,10 @@
 //! The fields of a leaf before its lists.
 
-ghost use Rattle.std.specs.Prelude.{◌≡◌, ℕ, not, ◌==◌};
-ghost use Rattle.std.specs.Int.{w8};
 ghost use Rattle.std.specs.Option.{option_copied};
-ghost use Rattle.byte_format.specs.Format.{only_where, ruled, text};
-ghost use Rattle.byte_format.specs.Order.{bytes_below};
 ghost use Rattle.byte_format.specs.Gives.{Gives};
 ghost use Rattle.leaf_view.specs.Leaf.{head_of, leaf_head};
 
-use byte_format::{Stop, is_below, mark_at, text8_at, u64_at};
+use byte_format::{Stop, high_key_at, mark_at, text8_at, u64_at};
 
 /// The fields before the lists; `right` is 0 where there is no right page.
 #[derive(Clone, Copy)]
@@ -17,24 +13,6 @@ pub(crate) struct Head<'a> {
     pub(crate) low: &'a [u8],
     pub(crate) right: u64,
     pub(crate) high: Option<&'a [u8]>,
-}
-
-/// A key above the low key exactly where there is a right page.
-fn high_at<'a>(
-    bytes: &'a [u8],
-    low: &[u8],
-    right: u64,
-) -> Result<(Option<&'a [u8]>, &'a [u8]), Stop>
-    ensures { Gives (λ x. (option_copied x.0, x.1.now)) result ((only_where (not (right == 0)) (ruled (bytes_below low.now) (text w8 1 64))).reading bytes.now) }
-{
-    if right == 0 {
-        return Ok((None, bytes));
-    }
-    let (high, rest) = text8_at(bytes, 1, 64)?;
-    if !is_below(low, high) {
-        return Err(Stop::at(bytes));
-    }
-    Ok((Some(high), rest))
 }
 
 #[tactic(auto, unfolding(crate::specs::Leaf::leaf_head))]
@@ -46,7 +24,7 @@ pub(crate) fn head_at(bytes: &[u8]) -> Result<(Head<'_>, &[u8]), Stop>
     let (version, rest) = u64_at(rest, 1, u64::MAX)?;
     let (low, rest) = text8_at(rest, 0, 64)?;
     let (right, rest) = u64_at(rest, 0, u64::MAX)?;
-    let (high, rest) = high_at(rest, low, right)?;
+    let (high, rest) = high_key_at(rest, low, right)?;
     Ok((
         Head {
             version,

@@ -3,16 +3,18 @@ use Rattle.std.proofs.Common.{◌≡◌, ℕ, ◌+◌, ◌-◌, ◌^◌, ◌<◌
 use Rattle.std.specs.Prelude.{unwrap_or, ◌&&◌, ◌==◌, not, IsTrue, IsSome}
 use Rattle.std.specs.Int.{w8, w64, to_be_bytes}
 use Rattle.std.proofs.lemmas.Bool.{and_parts, and_from, le-leb, eqb-true}
-use Rattle.byte_format.specs.Format.{greatest, Format, in_range, number, text, ruled, behind, ◌then◌, only_where, option_fits, option_spelling, list_of, list_fits, list_spelling}
+use Rattle.byte_format.specs.Format.{greatest, Format, in_range, number, text, behind, ◌then◌, option_fits, option_spelling, list_of, list_fits, list_spelling}
 use Rattle.byte_format.specs.Whole.{IsBytes, IsExact, IsSpelling, whole}
 use Rattle.byte_format.specs.Order.{bytes_below, below_bound}
+use Rattle.byte_format.specs.HighKey.{key_above, high_key}
 use Rattle.byte_format.proofs.Fields.{wide8, number_exact, text_exact}
-use Rattle.byte_format.proofs.Exact.{behind_exact, then_exact, seen_as_exact, ruled_exact, only_where_exact}
+use Rattle.byte_format.proofs.Exact.{behind_exact, then_exact, seen_as_exact}
 use Rattle.byte_format.proofs.Lists.{list_exact}
+use Rattle.byte_format.proofs.HighKeys.{high_key_exact}
 use Rattle.byte_format.proofs.Wholes.{whole_found}
 use Rattle.node_codec.specs.Node.{Entry, entry, plain_entry, child_of, with_entry}
 use Rattle.node_codec.specs.Plain.{items_of, plain_list, IsWholeList}
-use Rattle.node_codec.specs.Inner.{Inner, InnerFields, inner_of_fields, fields_of_inner, high_format, inner_fields, inner_format, inner_in, HasInnerSpelling, AreInnerParts, IsInner, first_low_of, left_node, right_node}
+use Rattle.node_codec.specs.Inner.{Inner, InnerFields, inner_of_fields, fields_of_inner, inner_fields, inner_format, inner_in, HasInnerSpelling, AreInnerParts, IsInner, first_low_of, left_node, right_node}
 use Rattle.node_codec.proofs.NodeLemmas.{entry_exact, plain_entry_exact, low_exact, whole_number_exact, spelling_loosened, in_range_from, in_range_parts, has_child}
 use Rattle.node_codec.proofs.PlainLemmas.{whole_list_read, whole_list_is, items_of-read}
 use Rattle.node_codec.specs.Tree.{tree_in, AreWrittenParts}
@@ -24,7 +26,7 @@ abbrev entries_format : List ℕ → Option (List ℕ) → Format (List Entry)
 entries_format low high = list_of false (entry low high greatest) None
 
 abbrev high_on : List ℕ → ℕ → Format (Option (List ℕ) × List Entry)
-high_on low right = high_format low right then entries_format low
+high_on low right = high_key low right then entries_format low
 
 abbrev right_on : List ℕ → Format (ℕ × (Option (List ℕ) × List Entry))
 right_on low = number w64 0 greatest then high_on low
@@ -32,14 +34,11 @@ right_on low = number w64 0 greatest then high_on low
 abbrev low_on : Format (List ℕ × (ℕ × (Option (List ℕ) × List Entry)))
 low_on = text w8 0 64 then right_on
 
-high_exact : (low : List ℕ) (right : ℕ) → IsExact (high_format low right)
-high_exact low right = only_where_exact (not (right == 0)) (ruled (bytes_below low) (text w8 1 64)) (ruled_exact (bytes_below low) (text w8 1 64) (text_exact w8 (2 ^ 8) wide8 1 64 (omega arith)))
-
 low_on_exact : IsExact low_on
 low_on_exact =
     then_exact (text w8 0 64) right_on low_exact (λ low.
     then_exact (number w64 0 greatest) (high_on low) (whole_number_exact 0) (λ right.
-    then_exact (high_format low right) (entries_format low) (high_exact low right) (λ high.
+    then_exact (high_key low right) (entries_format low) (high_key_exact low right) (λ high.
     list_exact false (entry low high greatest) None (entry_exact low high greatest))))
 
 inner_fields_exact : IsExact inner_fields
@@ -68,7 +67,7 @@ pub record InnerFits (n : Inner) : Type 0 where
   pub level : in_range 1 255 n.level ≡ true
   pub low : in_range 0 64 (length n.low) ≡ true
   pub right : in_range 0 greatest n.right ≡ true
-  pub high : (high_format n.low n.right).fits n.high ≡ true
+  pub high : (high_key n.low n.right).fits n.high ≡ true
   pub entries : list_fits false (entry n.low n.high greatest) None n.entries ≡ true
 
 pub inner_fits : (n : Inner) → HasInnerSpelling n → InnerFits n
@@ -77,7 +76,7 @@ inner_fits n h =
     let b = and_parts (in_range 1 255 n.level) _ a.1 in
     let d = and_parts (in_range 0 64 (length n.low)) _ b.1 in
     let e = and_parts (in_range 0 greatest n.right) _ d.1 in
-    let f = and_parts ((high_format n.low n.right).fits n.high) (list_fits false (entry n.low n.high greatest) None n.entries) e.1 in
+    let f = and_parts ((high_key n.low n.right).fits n.high) (list_fits false (entry n.low n.high greatest) None n.entries) e.1 in
     record { version = a.0; level = b.0; low = d.0; right = e.0; high = f.0; entries = f.1 }
 
 pub fit_inner : (n : Inner) → InnerFits n → HasInnerSpelling n
@@ -132,10 +131,10 @@ inner_one_more_fits version level low right high entries key page p short inside
     with_entry_fits low high greatest key page (items_of plain_entry entries)
     (record { short = in_range_from 0 64 (length key) (omega arith) short; bound = bound; page = and_from _ _ (in_range_from 1 greatest page some most) (le-leb page greatest most) }) inside f.entries
 
-pub high_short : (low : List ℕ) (right : ℕ) (high : List ℕ) → (high_format low right).fits (Some high) ≡ true → length high ≤ 64
+pub high_short : (low : List ℕ) (right : ℕ) (high : List ℕ) → (high_key low right).fits (Some high) ≡ true → length high ≤ 64
 high_short low right high h = on (not (right == 0)) h
   where
-    on : (there : Bool) → option_fits there (ruled (bytes_below low) (text w8 1 64)) (Some high) ≡ true → length high ≤ 64
+    on : (there : Bool) → option_fits there (key_above low) (Some high) ≡ true → length high ≤ 64
     on true h = (in_range_parts 1 64 (length high) (and_parts (in_range 1 64 (length high)) (bytes_below low high) h).0).1
     on false h = absurd cc
 
@@ -166,23 +165,23 @@ cut_low low high n xs back read k is e =
     let items = items_of-read plain_entry back (drop n xs) [] (spelled_read k.key high greatest (drop n xs) back k.right is) in
     e ∙ ap (λ (ys : List Entry). unwrap_or (first_low_of ys) []) items ∙ ap (λ (o : Option (List ℕ)). unwrap_or o []) k.first
 
-there_high : (low : List ℕ) (number : ℕ) (key : List ℕ) → 1 ≤ number → in_range 1 64 (length key) ≡ true → bytes_below low key ≡ true → (high_format low number).fits (Some key) ≡ true
+there_high : (low : List ℕ) (number : ℕ) (key : List ℕ) → 1 ≤ number → in_range 1 64 (length key) ≡ true → bytes_below low key ≡ true → (high_key low number).fits (Some key) ≡ true
 there_high low number key some short above = on (number == 0) refl
   where
-    on : (b : Bool) → (number == 0) ≡ b → option_fits (not b) (ruled (bytes_below low) (text w8 1 64)) (Some key) ≡ true
+    on : (b : Bool) → (number == 0) ≡ b → option_fits (not b) (key_above low) (Some key) ≡ true
     on true is = absurd (omega (arith, eqb-true number 0 is))
     on false is = and_from _ _ short above
 
 -- the high key is above a key that is below it
-higher : (low key : List ℕ) (right : ℕ) (high : Option (List ℕ)) → (high_format low right).fits high ≡ true → below_bound key high ≡ true → (high_format key right).fits high ≡ true
+higher : (low key : List ℕ) (right : ℕ) (high : Option (List ℕ)) → (high_key low right).fits high ≡ true → below_bound key high ≡ true → (high_key key right).fits high ≡ true
 higher low key right None h bound = on (not (right == 0)) h
   where
-    on : (there : Bool) → option_fits there (ruled (bytes_below low) (text w8 1 64)) None ≡ true → option_fits there (ruled (bytes_below key) (text w8 1 64)) None ≡ true
+    on : (there : Bool) → option_fits there (key_above low) None ≡ true → option_fits there (key_above key) None ≡ true
     on true h = h
     on false h = h
 higher low key right (Some high) h bound = on (not (right == 0)) h
   where
-    on : (there : Bool) → option_fits there (ruled (bytes_below low) (text w8 1 64)) (Some high) ≡ true → option_fits there (ruled (bytes_below key) (text w8 1 64)) (Some high) ≡ true
+    on : (there : Bool) → option_fits there (key_above low) (Some high) ≡ true → option_fits there (key_above key) (Some high) ≡ true
     on true h = and_from _ _ (and_parts (in_range 1 64 (length high)) (bytes_below low high) h).0 bound
     on false h = absurd cc
 

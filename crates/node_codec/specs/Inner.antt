@@ -1,10 +1,10 @@
 -- Inner nodes.
-use Rattle.std.specs.Prelude.{◌≡◌, ℕ, false, not, IsTrue, List, [], ◌∷◌, Option, Some, None, take, drop, unwrap_or, ◌==◌}
+use Rattle.std.specs.Prelude.{◌≡◌, ℕ, false, IsTrue, List, [], ◌∷◌, Option, Some, None, take, drop, unwrap_or}
 use Rattle.std.specs.Result.{result_ok}
 use Rattle.std.specs.Int.{w8, w64}
-use Rattle.byte_format.specs.Format.{greatest, Format, number, text, ruled, behind, ◌then◌, only_where, list_of, seen_as}
+use Rattle.byte_format.specs.Format.{greatest, Format, number, text, behind, ◌then◌, list_of, seen_as}
 use Rattle.byte_format.specs.Whole.{IsSpelling, whole}
-use Rattle.byte_format.specs.Order.{bytes_below}
+use Rattle.byte_format.specs.HighKey.{high_key}
 use Rattle.node_codec.specs.Node.{Entry, entry, plain_entry}
 use Rattle.node_codec.specs.Tree.{Tree}
 use Rattle.node_codec.specs.Plain.{items_of, IsWholeList}
@@ -27,14 +27,10 @@ inner_of_fields x = record { version = x.0; level = x.1.0; low = x.1.1.0; right 
 abbrev pub fields_of_inner : Inner → InnerFields
 fields_of_inner n = (n.version, (n.level, (n.low, (n.right, (n.high, n.entries)))))
 
--- a high key above the low key, exactly where there is a right page
-abbrev pub high_format : List ℕ → ℕ → Format (Option (List ℕ))
-high_format low right = only_where (not (right == 0)) (ruled (bytes_below low) (text w8 1 64))
-
 -- the fields in their order, behind the mark 49 and the format's number 01
 abbrev pub inner_fields : Format InnerFields
 inner_fields = behind 0x49 (behind 1 (number w64 1 greatest then λ version. number w8 1 255 then λ level. text w8 0 64 then λ low.
-    number w64 0 greatest then λ right. high_format low right then λ high. list_of false (entry low high greatest) None))
+    number w64 0 greatest then λ right. high_key low right then λ high. list_of false (entry low high greatest) None))
 
 abbrev pub inner_format : Format Inner
 inner_format = seen_as inner_of_fields fields_of_inner inner_fields

@@ -1,17 +1,17 @@
 //! An inner node as it stands in its bytes.
 
-ghost use Rattle.std.specs.Prelude.{◌≡◌, ◌==◌, not, false, Ok, Some, IfOk, IfErr, IsOkAnd};
+ghost use Rattle.std.specs.Prelude.{◌≡◌, false, Ok, Some, IfOk, IfErr, IsOkAnd};
 ghost use Rattle.std.specs.Option.{option_copied};
 ghost use Rattle.byte_format.specs.Gives.{Gives};
 ghost use Rattle.byte_format.specs.Whole.{whole, offset};
 ghost use Rattle.byte_format.specs.Order.{bytes_below};
 ghost use Rattle.node_codec.specs.Node.{child_of, page_at};
-ghost use Rattle.node_codec.specs.Inner.{Inner, inner_format, high_format, inner_in, IsInner, HasInnerSpelling, AreInnerParts};
+ghost use Rattle.node_codec.specs.Inner.{Inner, inner_format, inner_in, IsInner, HasInnerSpelling, AreInnerParts};
 
 use crate::entries::Entries;
 use crate::entry::child_in;
 use crate::entry_rules::skip_entries;
-use byte_format::{Stop, is_below, mark_at, text8_at, u8_at, u64_at};
+use byte_format::{Stop, high_key_at, mark_at, text8_at, u8_at, u64_at};
 use db_base::ids::PageId;
 use std::marker::Model;
 
@@ -45,24 +45,6 @@ impl<'a> Model for InnerView<'a> {
     ghost invariant = { λ v. AreInnerParts v.version v.level v.low.now v.right (option_copied v.high) v.entries.now };
 }
 
-/// The high key of a node with this low key and right page, and the bytes behind it.
-fn high_at<'a>(
-    low: &[u8],
-    right: u64,
-    bytes: &'a [u8],
-) -> Result<(Option<&'a [u8]>, &'a [u8]), Stop>
-    ensures { Gives (λ x. (option_copied x.0, x.1.now)) result ((high_format low.now right).reading bytes.now) }
-{
-    if right == 0 {
-        return Ok((None, bytes));
-    }
-    let (high, rest) = text8_at(bytes, 1, 64)?;
-    if !is_below(low, high) {
-        return Err(Stop::at(bytes));
-    }
-    Ok((Some(high), rest))
-}
-
 /// The node that the bytes spell.
 fn inner_at(bytes: &[u8]) -> Result<InnerView<'_>, Stop>
     ensures { Gives (λ v. v) result (whole inner_format bytes.now) }
@@ -73,7 +55,7 @@ fn inner_at(bytes: &[u8]) -> Result<InnerView<'_>, Stop>
     let (level, rest) = u8_at(rest, 1, 255)?;
     let (low, rest) = text8_at(rest, 0, 64)?;
     let (right, rest) = u64_at(rest, 0, u64::MAX)?;
-    let (high, entries) = high_at(low, right, rest)?;
+    let (high, entries) = high_key_at(rest, low, right)?;
     let rest = skip_entries(low, high, u64::MAX, entries)?;
     if !rest.is_empty() {
         return Err(Stop::at(rest));

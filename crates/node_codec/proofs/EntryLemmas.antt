@@ -1,19 +1,18 @@
 -- Lists of entries with one more, and in two parts.
-use Rattle.std.proofs.Common.{◌≡◌, ℕ, zero, suc, ◌+◌, ◌-◌, ◌<◌, ◌≤◌, Bool, true, false, cond, List, [], ◌∷◌, ◌++◌, length, take, drop, Option, Some, None, Result, Ok, Err, refl, sym, ap, subst, ◌∙◌, append_assoc, arith}
+use Rattle.std.proofs.Common.{◌≡◌, ℕ, zero, suc, ◌<◌, ◌≤◌, Bool, true, false, cond, List, [], ◌∷◌, ◌++◌, length, take, drop, Option, Some, None, Result, Ok, Err, refl, sym, ap, subst, ◌∙◌, append_assoc, arith}
 use Rattle.std.specs.Prelude.{◌&&◌, nat_le, IfOk}
 use Rattle.std.specs.Global.{Vec}
 use Rattle.std.specs.declared.alloc.AllocError.{AllocError}
-use Rattle.std.specs.Int.{w8, w64, to_be_bytes}
-use Rattle.std.specs.Ordering.{nat_cmp, is_lt, is_eq, ordering_reverse}
+use Rattle.std.specs.Ordering.{is_lt, is_eq, ordering_reverse}
 use Rattle.std.specs.declared.cmp.Ordering.{Ordering}
 use Rattle.std.specs.declared.cmp.Ordering.TheVariants.{Less, Equal, Greater}
 use Rattle.std.proofs.lemmas.Cmp.{nat_list_cmp_total}
 use Rattle.std.proofs.lemmas.Bool.{and_parts, and_from, leb-true, le-leb}
-use Rattle.byte_format.specs.Format.{greatest, Format, in_range, list_fits, list_spelling}
+use Rattle.byte_format.specs.Format.{greatest, in_range, list_fits, list_spelling}
 use Rattle.byte_format.specs.Order.{bytes_cmp, bytes_below, bytes_same, below_bound}
 use Rattle.byte_format.proofs.OrderLemmas.{same_is, same_itself}
 use Rattle.node_codec.specs.Node.{Entry, may_stand, entry, plain_entry, with_entry, entry_bytes}
-use Rattle.node_codec.specs.Plain.{items_of, plain_list, IsWholeList, IsFirst}
+use Rattle.node_codec.specs.Plain.{plain_list}
 use Rattle.node_codec.proofs.NodeLemmas.{spelling_loosened, fits_loosened, plain_entry_exact, not_below_empty}
 use Rattle.node_codec.specs.Inner.{first_low_of}
 use Rattle.std.proofs.lemmas.List.{length-take}

@@ -1,20 +1,20 @@
 -- Inner nodes are exact.
-use Rattle.std.proofs.Common.{◌≡◌, ℕ, ◌+◌, ◌-◌, ◌^◌, ◌<◌, ◌≤◌, Bool, true, false, cond, List, [], ◌∷◌, ◌++◌, length, Option, Some, None, Result, Ok, Err, refl, sym, ap, subst, ◌∙◌, append_assoc, arith, take, drop}
-use Rattle.std.specs.Prelude.{unwrap_or, ◌&&◌, ◌==◌, not, IsTrue, IsSome}
+use Rattle.std.proofs.Common.{◌≡◌, ℕ, ◌+◌, ◌-◌, ◌^◌, ◌<◌, ◌≤◌, Bool, true, false, List, [], ◌∷◌, ◌++◌, length, Option, Some, None, Ok, refl, sym, ap, subst, ◌∙◌, append_assoc, arith, take, drop}
+use Rattle.std.specs.Prelude.{unwrap_or, ◌==◌, not, IsSome}
 use Rattle.std.specs.Int.{w8, w64, to_be_bytes}
 use Rattle.std.proofs.lemmas.Bool.{and_parts, and_from, le-leb, eqb-true}
 use Rattle.byte_format.specs.Format.{greatest, Format, in_range, number, text, behind, ◌then◌, option_fits, option_spelling, list_of, list_fits, list_spelling}
-use Rattle.byte_format.specs.Whole.{IsBytes, IsExact, IsSpelling, whole}
+use Rattle.byte_format.specs.Whole.{IsBytes, IsExact, whole}
 use Rattle.byte_format.specs.Order.{bytes_below, below_bound}
 use Rattle.byte_format.specs.HighKey.{key_above, high_key}
-use Rattle.byte_format.proofs.Fields.{wide8, number_exact, text_exact}
+use Rattle.byte_format.proofs.Fields.{wide8, number_exact}
 use Rattle.byte_format.proofs.Exact.{behind_exact, then_exact, seen_as_exact}
 use Rattle.byte_format.proofs.Lists.{list_exact}
 use Rattle.byte_format.proofs.HighKeys.{high_key_exact}
 use Rattle.byte_format.proofs.Wholes.{whole_found}
 use Rattle.node_codec.specs.Node.{Entry, entry, plain_entry, child_of, with_entry}
 use Rattle.node_codec.specs.Plain.{items_of, plain_list, IsWholeList}
-use Rattle.node_codec.specs.Inner.{Inner, InnerFields, inner_of_fields, fields_of_inner, inner_fields, inner_format, inner_in, HasInnerSpelling, AreInnerParts, IsInner, first_low_of, left_node, right_node}
+use Rattle.node_codec.specs.Inner.{Inner, inner_of_fields, fields_of_inner, inner_fields, inner_format, inner_in, HasInnerSpelling, AreInnerParts, IsInner, first_low_of, left_node, right_node}
 use Rattle.node_codec.proofs.NodeLemmas.{entry_exact, plain_entry_exact, low_exact, whole_number_exact, spelling_loosened, in_range_from, in_range_parts, has_child}
 use Rattle.node_codec.proofs.PlainLemmas.{whole_list_read, whole_list_is, items_of-read}
 use Rattle.node_codec.specs.Tree.{tree_in, AreWrittenParts}

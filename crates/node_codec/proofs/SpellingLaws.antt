@@ -1,6 +1,6 @@
 -- Laws that crates above use: spellings and what they are read as, parts that lie in the bytes, raised numbers.
-use Rattle.std.proofs.Common.{◌≡◌, ℕ, zero, suc, ◌+◌, ◌-◌, ◌<◌, ◌≤◌, Bool, true, false, cond, eqb, List, [], ◌∷◌, ◌++◌, length, Option, Some, None, Result, Ok, Err, refl, sym, ap, subst, ◌∙◌, append_assoc, arith, inl, inr}
-use Rattle.std.specs.Prelude.{max, unwrap_or, IfSome}
+use Rattle.std.proofs.Common.{◌≡◌, ℕ, zero, suc, ◌+◌, ◌-◌, ◌<◌, ◌≤◌, Bool, true, false, cond, eqb, List, [], ◌∷◌, ◌++◌, length, Option, Some, None, Result, Ok, Err, refl, sym, ap, ◌∙◌, append_assoc, arith, inl, inr}
+use Rattle.std.specs.Prelude.{max, IfSome}
 use Rattle.std.specs.List.{AllByRecursion}
 use Rattle.std.specs.Result.{result_ok}
 use Rattle.std.specs.Int.{w8, w64, to_be_bytes}
@@ -9,8 +9,8 @@ use Rattle.std.specs.declared.cmp.Ordering.TheVariants.{Less, Equal, Greater}
 use Rattle.std.specs.Cmp.{nat_cmp_is}
 use Rattle.std.proofs.lemmas.Bool.{eqb-true, cases_lt}
 use Rattle.db_base.specs.Cursor.{number_of}
-use Rattle.byte_format.specs.Format.{greatest, Format, text, option_spelling, list_spelling}
-use Rattle.byte_format.specs.Whole.{IsBytes, IsSpelling, whole}
+use Rattle.byte_format.specs.Format.{greatest, text, option_spelling, list_spelling}
+use Rattle.byte_format.specs.Whole.{IsBytes, whole}
 use Rattle.byte_format.proofs.Wholes.{whole_found, whole_only}
 use Rattle.node_codec.specs.Node.{Entry, entry, client_number, pairs_from, pairs_of, raised, LiesIn}
 use Rattle.node_codec.specs.Tree.{Tree, tree_format, IsTree, HasTreeSpelling, tree_bytes, tree_of}

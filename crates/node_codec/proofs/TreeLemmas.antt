@@ -14,7 +14,7 @@ use Rattle.node_codec.specs.Plain.{items_of, plain_list, IsWholeList}
 use Rattle.node_codec.specs.Tree.{Tree, tree_of_fields, fields_of_tree, tree_fields, tree_format, tree_in, HasTreeSpelling, AreTreeParts, AreWrittenParts, IsTree, with_child}
 use Rattle.node_codec.proofs.NodeLemmas.{entry_exact, plain_entry_exact, client_number_exact, plain_number_exact, whole_number_exact, spelling_loosened, in_range_from, in_range_parts, has_child, not_below_empty}
 use Rattle.node_codec.proofs.PlainLemmas.{whole_list_read, whole_list_is, items_of-read}
-use Rattle.node_codec.proofs.EntryLemmas.{spelled, spelled_read, with_entry_fits, fits_to_last, EntryFits}
+use Rattle.node_codec.proofs.EntryLemmas.{spelled, spelled_read, with_entry_fits, fits_to_last}
 
 -- the parts of the table, from its end on
 abbrev numbers_format : Format (List (ℕ × ℕ))

@@ -1,5 +1,5 @@
 -- Inner nodes.
-use Rattle.std.specs.Prelude.{◌≡◌, ℕ, false, IsTrue, List, [], ◌∷◌, Option, Some, None, take, drop, unwrap_or}
+use Rattle.std.specs.Prelude.{ℕ, false, IsTrue, List, [], ◌∷◌, Option, Some, None, take, drop, unwrap_or}
 use Rattle.std.specs.Result.{result_ok}
 use Rattle.std.specs.Int.{w8, w64}
 use Rattle.byte_format.specs.Format.{greatest, Format, number, text, behind, ◌then◌, list_of, seen_as}

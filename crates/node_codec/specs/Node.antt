@@ -1,5 +1,5 @@
 -- The entries of roots and inner nodes, and the numbers by client of a root.
-use Rattle.std.specs.Prelude.{◌≡◌, ℕ, zero, suc, max, ◌==◌, ◌+◌, ◌-◌, ◌^◌, Bool, false, List, [], ◌∷◌, ◌++◌, length, Option, Some, None, nat_le, if◌then◌else◌}
+use Rattle.std.specs.Prelude.{◌≡◌, ℕ, zero, suc, max, ◌==◌, ◌+◌, Bool, false, List, [], ◌∷◌, ◌++◌, length, Option, Some, None, nat_le, if◌then◌else◌}
 use Rattle.std.specs.Int.{w8, w64, to_be_bytes}
 use Rattle.byte_format.specs.Format.{Format, greatest, number, text, ruled, ◌then◌}
 use Rattle.db_base.specs.Cursor.{number_of}

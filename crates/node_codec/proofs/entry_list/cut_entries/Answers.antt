@@ -1,4 +1,4 @@
-use Rattle.std.proofs.Common.{◌≡◌, ◌++◌, ◌-◌, suc, ap, ◌∙◌, List, ℕ, arith, rules}
+use Rattle.std.proofs.Common.{◌≡◌, ◌++◌, ◌-◌, suc, ap, ◌∙◌, List, ℕ, arith}
 use Rattle.node_codec.specs.Node.{plain_entry, entry_bytes}
 use Rattle.node_codec.specs.Plain.{items_of}
 use Rattle.node_codec.proofs.NodeLemmas.{plain_entry_exact}

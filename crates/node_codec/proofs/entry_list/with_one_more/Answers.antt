@@ -1,6 +1,6 @@
-use Rattle.std.proofs.Common.{◌≡◌, ◌++◌, true, false, sym, ap, ◌∙◌, List, ℕ, rules}
+use Rattle.std.proofs.Common.{◌≡◌, ◌++◌, true, false, sym, ap, ◌∙◌, List, ℕ}
 use Rattle.byte_format.specs.Order.{bytes_below, bytes_same}
-use Rattle.node_codec.specs.Node.{Entry, plain_entry, entry_bytes}
+use Rattle.node_codec.specs.Node.{plain_entry, entry_bytes}
 use Rattle.node_codec.specs.Plain.{items_of}
 use Rattle.node_codec.proofs.NodeLemmas.{plain_entry_exact}
 use Rattle.node_codec.proofs.PlainLemmas.{whole_list_is, whole_behind}

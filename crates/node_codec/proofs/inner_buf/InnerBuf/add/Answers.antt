@@ -1,4 +1,4 @@
-use Rattle.std.proofs.Common.{◌≡◌, ◌≤◌, List, ℕ, None, true, false, sym, ap, ◌∙◌, arith}
+use Rattle.std.proofs.Common.{◌≡◌, List, ℕ, None, true, false, ap, ◌∙◌, arith}
 use Rattle.byte_format.specs.Format.{greatest, list_fits}
 use Rattle.byte_format.specs.Order.{bytes_below, below_bound}
 use Rattle.node_codec.specs.Node.{Entry, plain_entry, entry, with_entry}

@@ -1,10 +1,9 @@
-use Rattle.std.proofs.Common.{◌≡◌, ◌<◌, List, [], ℕ, length, take, drop, sym, ap, subst, ◌∙◌, arith}
+use Rattle.std.proofs.Common.{◌<◌, List, [], ℕ, length, take, drop, sym, ap, subst, ◌∙◌, arith}
 use Rattle.node_codec.specs.Node.{plain_entry}
 use Rattle.node_codec.specs.Plain.{items_of}
 use Rattle.node_codec.specs.Inner.{Inner, inner_in, left_node, right_node, first_low_of}
 use Rattle.std.specs.Prelude.{unwrap_or}
-use Rattle.node_codec.proofs.EntryLemmas.{spelled, Cut}
-use Rattle.byte_format.specs.Format.{greatest}
+use Rattle.node_codec.proofs.EntryLemmas.{spelled}
 use Rattle.node_codec.proofs.InnerLemmas.{cut_low, cut_node, left_parts, left_is, right_whole, right_parts, right_is}
 use Rattle.node_codec.proofs.inner_buf.InnerBuf.cut_at.Goals as goal
 

@@ -1,4 +1,4 @@
-use Rattle.std.proofs.Common.{◌≡◌, ◌++◌, ◌∷◌, [], ℕ, length, refl, rules}
+use Rattle.std.proofs.Common.{◌≡◌, ◌++◌, ◌∷◌, [], length, refl, rules}
 use Rattle.std.specs.Int.{w8, w64, to_be_bytes}
 use Rattle.byte_format.specs.Format.{option_spelling, text}
 use Rattle.node_codec.proofs.InnerLemmas.{inner_written}

@@ -1,9 +1,6 @@
-use Rattle.std.proofs.Common.{◌≡◌, ◌<◌, ◌+◌, List, ℕ, [], ◌∷◌, sym, ap, subst, ◌∙◌, arith}
-use Rattle.node_codec.specs.Node.{Entry, plain_entry}
-use Rattle.node_codec.specs.Plain.{items_of}
-use Rattle.node_codec.specs.Tree.{Tree, tree_in, raised_root, AreWrittenParts}
-use Rattle.node_codec.specs.Inner.{node_of_root}
-use Rattle.node_codec.proofs.EntryLemmas.{spelled}
+use Rattle.std.proofs.Common.{◌<◌, ◌+◌, List, ℕ, sym, ap, subst, ◌∙◌, arith}
+use Rattle.node_codec.specs.Node.{Entry}
+use Rattle.node_codec.specs.Tree.{Tree, tree_in, raised_root}
 use Rattle.node_codec.proofs.InnerLemmas.{node_parts}
 use Rattle.node_codec.proofs.TreeLemmas.{parts_lowered}
 use Rattle.node_codec.proofs.tree_buf.TreeBuf.lower.Goals as goal

@@ -1,4 +1,4 @@
-use Rattle.std.proofs.Common.{◌≡◌, ◌++◌, ◌∷◌, [], ◌≤◌, refl, arith, rules}
+use Rattle.std.proofs.Common.{◌≡◌, ◌++◌, ◌∷◌, [], refl, rules}
 use Rattle.std.specs.Int.{w64, to_be_bytes}
 use Rattle.node_codec.proofs.TreeLemmas.{tree_written}
 use Rattle.node_codec.proofs.tree_buf.TreeBuf.write.Goals as goal

@@ -1,6 +1,6 @@
 -- A walk one page further, and why it stops.
-use Rattle.std.proofs.Common.{◌≡◌, ℕ, ◌<◌, List, [], ◌∷◌, ◌++◌, Bool, true, false, true≢false, refl, sym, ◌∙◌, ap, subst, arith}
-use Rattle.std.specs.Prelude.{Option, Some, None, Ok, Err, ◌⊎◌, inl, inr, zero, suc, length, IfSome}
+use Rattle.std.proofs.Common.{◌≡◌, ℕ, ◌<◌, List, [], ◌∷◌, ◌++◌, inl, inr, refl, sym, ◌∙◌, ap, subst, arith}
+use Rattle.std.specs.Prelude.{Option, Some, ◌⊎◌, zero, suc, length}
 use Rattle.std.specs.List.{All, AllPairs, Contains}
 use Rattle.std.proofs.lemmas.List.Elements.{All-head, All-tail, All-cons, All-nil, All-append}
 use Rattle.std.proofs.lemmas.List.Kept.{AllPairs-cons}
@@ -64,48 +64,8 @@ comes_on s tree pages more page to low high next c e p m = record {
 
 -- ---- why it stops
 
--- the page is read as no leaf
-pub read_stops : (tree : ℕ) (pages : List ℕ) (page : ℕ) (low : List ℕ) (bytes : Option (List ℕ)) (e : Trouble)
-    → IsReadAs tree page bytes (Err e) → StopsWalk tree pages page low bytes e
-read_stops tree pages page low None e h = subst (StopsWalk tree pages page low None) (sym h.1) (refl, h.0, refl)
-read_stops tree pages page low (Some b) e h = subst (StopsWalk tree pages page low (Some b)) (sym h.0) (refl, b, refl, refl, h.1)
-
-pub loop_stops : (tree : ℕ) (pages : List ℕ) (page : ℕ) (low : List ℕ) (bytes : Option (List ℕ)) (e : Trouble)
-    → (e ≡ Memory) ⊎ ((e ≡ Loop page) × Contains pages page) → (e ≡ Memory) ⊎ StopsWalk tree pages page low bytes e
-loop_stops tree pages page low bytes e (inl m) = inl m
-loop_stops tree pages page low bytes e (inr h) = inr (subst (StopsWalk tree pages page low bytes) (sym h.0) (refl, h.1))
-
-pub fence_stops : (tree : ℕ) (pages : List ℕ) (page : ℕ) (low found : List ℕ) (bytes : Option (List ℕ)) (l : Leaf) (e : Trouble)
-    → IsReadAs tree page bytes (Ok l) → found ≡ l.low
-    → (e ≡ Memory) ⊎ ((e ≡ BadFence page low found) × (low ≡ found → ⊥)) → (e ≡ Memory) ⊎ StopsWalk tree pages page low bytes e
-fence_stops tree pages page low found bytes l e is f (inl m) = inl m
-fence_stops tree pages page low found bytes l e is f (inr h) = inr (subst (StopsWalk tree pages page low bytes) (sym h.0) (refl, refl, l, is, f, h.1))
-
 pub chain_stops : (s : CloudState) (tree : ℕ) (pages : List ℕ) (page : ℕ) (low : List ℕ) (e : Trouble) → Comes s tree pages page low
     → (e ≡ Failed) ⊎ ((e ≡ Memory) ⊎ StopsWalk tree pages page low (newest s (Page tree page)) e) → Stopped s tree e
 chain_stops s tree pages page low e c (inl f) = inl f
 chain_stops s tree pages page low e c (inr (inl m)) = inr (inl m)
 chain_stops s tree pages page low e c (inr (inr w)) = inr (inr (inl (record { pages = pages; page = page; low = low; comes = c; why = w })))
-
-pub look_stops : (s : CloudState) (tree : ℕ) (e : Trouble) → (e ≡ Failed) ⊎ (e ≡ Memory) → Stopped s tree e
-look_stops s tree e (inl f) = inl f
-look_stops s tree e (inr m) = inr (inl m)
-
-pub head_stops : (s : CloudState) (tree client : ℕ) (bytes : List ℕ) (e : Trouble) → newest s (Head client) ≡ Some bytes
-    → (e ≡ Memory) ⊎ ((head_of bytes ≡ None) × (e ≡ Damaged (Object (Head client)) (head_offset bytes))) → Stopped s tree e
-head_stops s tree client bytes e put (inl m) = inr (inl m)
-head_stops s tree client bytes e put (inr h) = inr (inr (inr (inl (record { client = client; bytes = bytes; put = put; none = h.0; is = h.1 }))))
-
-pub root_stops : (s : CloudState) (tree : ℕ) (bytes : List ℕ) (e : Trouble) → newest s (Tree tree) ≡ Some bytes
-    → ((t : Root) → IsTree bytes t → ⊥) × (e ≡ Damaged (Object (Tree tree)) (offset tree_format bytes)) → Stopped s tree e
-root_stops s tree bytes e put h = inr (inr (inr (inr (record { bytes = bytes; put = put; none = h.0; is = h.1 }))))
-
--- a leaf with a right page has a high key
-pub ends_there : (low : List ℕ) (right : ℕ) (high : Option (List ℕ)) (b : List ℕ) (next : Option ℕ) (to : ℕ)
-    → IsHigh low right high → IfSome high (λ h. b ≡ h) → next ≡ page_at right → next ≡ Some to → high ≡ Some b
-ends_there low right (Some h) b next to formed is n e = ap Some (sym is)
-ends_there low zero None b next to formed is n e = absurd (none_is_some to (sym n ∙ e))
-  where
-    none_is_some : (k : ℕ) → None ≡ Some k → ⊥
-    none_is_some k h = cc
-ends_there low (suc r) None b next to formed is n e = absurd (true≢false (sym formed))

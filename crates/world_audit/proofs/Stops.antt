@@ -1,23 +1,14 @@
--- A walk one page further, and why it stops.
-use Rattle.std.proofs.Common.{◌≡◌, ℕ, ◌<◌, List, [], ◌∷◌, ◌++◌, inl, inr, refl, sym, ◌∙◌, ap, subst, arith}
-use Rattle.std.specs.Prelude.{Option, Some, ◌⊎◌, zero, suc, length}
+-- A walk that comes one page further.
+use Rattle.std.proofs.Common.{◌≡◌, ℕ, List, [], ◌∷◌, ◌++◌, refl, sym, ◌∙◌, ap, subst, arith}
+use Rattle.std.specs.Prelude.{Option, Some, zero, suc}
 use Rattle.std.specs.List.{All, AllPairs, Contains}
 use Rattle.std.proofs.lemmas.List.Elements.{All-head, All-tail, All-cons, All-nil, All-append}
 use Rattle.std.proofs.lemmas.List.Kept.{AllPairs-cons}
-use Rattle.db_base.specs.Ids.{IsPage}
-use Rattle.db_base.specs.declared.names.ObjName.TheVariants.{Head, Tree, Page}
-use Rattle.db_base.specs.declared.names.Place.TheVariants.{Object}
-use Rattle.db_base.specs.declared.trouble.Trouble.{Trouble}
-use Rattle.db_base.specs.declared.trouble.Trouble.TheVariants.{Failed, Memory, Loop, BadFence, Damaged}
-use Rattle.byte_format.specs.Whole.{offset}
-use Rattle.head_codec.specs.Spelling.{head_of, head_offset}
-use Rattle.node_codec.specs.Tree.{Tree as Root, IsTree, tree_format}
-use Rattle.leaf_view.specs.Fits.{IsHigh}
+use Rattle.db_base.specs.declared.names.ObjName.TheVariants.{Page}
 use Rattle.cloud_trait.specs.State.{CloudState, newest}
 use Rattle.leaf_view.specs.Leaf.{Leaf}
-use Rattle.leaf_view.specs.Lookup.{page_at}
-use Rattle.world_audit.specs.Chain.{IsReadAs, Leads}
-use Rattle.world_audit.specs.Stop.{pages_of, Meet, Comes, Passes, StopsWalk, Stopped}
+use Rattle.world_audit.specs.Chain.{Leads}
+use Rattle.world_audit.specs.Stop.{pages_of, Meet, Comes, Passes}
 use Rattle.world_audit.proofs.Chains.{leads_on, right_page}
 
 meet_on : (low : List ℕ) (leaves : List Leaf) (l : Leaf) (mid high : List ℕ)
@@ -39,8 +30,8 @@ once_on (y ∷ ys) page h n =
     let head : All (Apart y) ys = λ k d within. h zero (suc k) d (omega arith) (omega arith) in
     let tail : AllPairs Apart ys = λ i j d lt within. h (suc i) (suc j) d (omega arith) (omega arith) in
     AllPairs-cons Apart y (ys ++ page ∷ [])
-      (All-append (Apart y) ys (page ∷ []) head (All-cons (Apart y) page [] (All-head (λ (x : ℕ). Apart x page) y ys n) (All-nil (Apart y))))
-      (once_on ys page tail (All-tail (λ (x : ℕ). Apart x page) y ys n))
+    (All-append (Apart y) ys (page ∷ []) head (All-cons (Apart y) page [] (All-head (λ (x : ℕ). Apart x page) y ys n) (All-nil (Apart y))))
+    (once_on ys page tail (All-tail (λ (x : ℕ). Apart x page) y ys n))
 
 -- a page that the list does not contain differs from each of its pages
 all_apart : (pages : List ℕ) (page : ℕ) → (Contains pages page → ⊥) → All (λ (x : ℕ). Apart x page) pages
@@ -61,11 +52,3 @@ comes_on s tree pages more page to low high next c e p m = record {
   meet = meet_on [] c.leaves p.leaf low high c.meet p.begins (p.ends to e);
   once = subst (AllPairs Apart) (sym m) (once_on pages page c.once (all_apart pages page p.first));
 }
-
--- ---- why it stops
-
-pub chain_stops : (s : CloudState) (tree : ℕ) (pages : List ℕ) (page : ℕ) (low : List ℕ) (e : Trouble) → Comes s tree pages page low
-    → (e ≡ Failed) ⊎ ((e ≡ Memory) ⊎ StopsWalk tree pages page low (newest s (Page tree page)) e) → Stopped s tree e
-chain_stops s tree pages page low e c (inl f) = inl f
-chain_stops s tree pages page low e c (inr (inl m)) = inr (inl m)
-chain_stops s tree pages page low e c (inr (inr w)) = inr (inr (inl (record { pages = pages; page = page; low = low; comes = c; why = w })))

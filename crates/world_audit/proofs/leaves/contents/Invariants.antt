@@ -1,4 +1,4 @@
-use Rattle.std.proofs.Common.{◌≡◌, ℕ, ◌-◌, ◌^◌, length}
+use Rattle.std.proofs.Common.{◌≡◌, ◌-◌, ◌^◌, length}
 use Rattle.std.specs.Prelude.{Some}
 use Rattle.cloud_trait.specs.State.{CloudState}
 use Rattle.world_audit.specs.Look.{Looked}

@@ -2,3 +2,4 @@ pub mod Lists
 pub mod Looks
 pub mod Chains
 pub mod Totals
+pub mod Stops

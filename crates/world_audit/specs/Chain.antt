@@ -17,7 +17,7 @@ abbrev pub IsReadAs : ℕ → ℕ → Option (List ℕ) → Result Leaf Trouble 
 IsReadAs tree page None (Ok l) = (page ≡ 1) × (l ≡ empty_leaf)
 IsReadAs tree page None (Err e) = (page ≡ 1 → ⊥) × (e ≡ Absent page)
 IsReadAs tree page (Some bytes) (Ok l) = IsLeaf bytes l
-IsReadAs tree page (Some bytes) (Err e) = e ≡ Damaged (place.Object (object.Page tree page)) (offset leaf bytes)
+IsReadAs tree page (Some bytes) (Err e) = (e ≡ Damaged (place.Object (object.Page tree page)) (offset leaf bytes)) × ((l : Leaf) → IsLeaf bytes l → ⊥)
 
 -- the leaf is the newest one at the page
 abbrev pub IsNewestLeaf : CloudState → ℕ → ℕ → Leaf → Type 0

@@ -5,6 +5,7 @@ ghost use Rattle.world_audit.specs.Audited.{committed_entry, applied_entry};
 ghost use Rattle.world_audit.specs.Look.{Looked, FailsDark};
 ghost use Rattle.world_audit.specs.Chain.{Walked};
 ghost use Rattle.world_audit.specs.Counts.{heads_upto, AreWaiting};
+ghost use Rattle.world_audit.specs.Stop.{Stopped};
 
 use crate::backlogs::messages;
 use crate::entries::{add_applied, add_committed, of_tree};
@@ -162,6 +163,7 @@ impl Audit {
         ensures contents { (s : CloudState) → C.state cloud.old ≡ Some s → IfOk result (λ r. Walked s tree 0 r.contents) }
         ensures heads { (s : CloudState) → C.state cloud.old ≡ Some s → IfOk result (λ r. r.heads ≡ heads_upto s tree (of_tree tree self.now.committed) 64) }
         ensures messages { (s : CloudState) → C.state cloud.old ≡ Some s → IfOk result (λ r. AreWaiting s tree r.messages) }
+        ensures stopped { (s : CloudState) → C.state cloud.old ≡ Some s → IfErr result (Stopped s tree) }
         ensures looked { Looked (C.counts cloud.old) (C.counts cloud.new) (C.state cloud.old) (C.state cloud.new) }
         ensures failed { FailsDark result (C.counts cloud.old) (C.counts cloud.new) }
     {

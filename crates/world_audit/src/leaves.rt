@@ -1,11 +1,14 @@
 //! The leaves of a tree, from the left.
 
-ghost use Rattle.std.specs.Prelude.{◌≡◌, [], ◌∷◌, ◌++◌, ◌⊎◌, map, Some, IfOk, IfErr, OnOk};
+ghost use Rattle.std.specs.Prelude.{◌≡◌, [], ◌∷◌, ◌++◌, ◌⊎◌, map, Some, IfSome, IfOk, IfErr, OnOk};
+ghost use Rattle.std.specs.List.{Contains};
 ghost use Rattle.cloud_trait.specs.State.{CloudState, newest};
 ghost use Rattle.db_base.specs.Ids.{IsPage};
 ghost use Rattle.db_base.specs.declared.names.ObjName.TheVariants.{Page};
+ghost use Rattle.leaf_view.specs.Fits.{IsHigh};
 ghost use Rattle.world_audit.specs.Look.{Looked, FailsDark};
 ghost use Rattle.world_audit.specs.Chain.{IsReadAs, Adds, Walked, pair_of};
+ghost use Rattle.world_audit.specs.Stop.{StopsWalk, Stopped, Passes};
 
 use crate::look::peek;
 use cloud_trait::cloud::Bench;
@@ -111,7 +114,9 @@ struct Walk {
 /// Notes the page as visited: Loop where it was, and Memory.
 fn note_visit(visited: &mut Vec<u64>, page: PageId) -> Result<(), Trouble>
     ensures page { OnOk result (IsPage page) }
-    ensures err { IfErr result (λ e. (e ≡ Trouble.Memory) ⊎ (e ≡ Trouble.Loop page)) }
+    ensures noted { OnOk result (visited.new.items ≡ visited.old.items ++ page ∷ []) }
+    ensures first { OnOk result (Contains visited.old.items page → ⊥) }
+    ensures err { IfErr result (λ e. (e ≡ Trouble.Memory) ⊎ ((e ≡ Trouble.Loop page) × Contains visited.old.items page)) }
 {
     if visited.as_slice().contains(&page.get()) {
         return Err(Trouble::Loop { page });
@@ -119,6 +124,17 @@ fn note_visit(visited: &mut Vec<u64>, page: PageId) -> Result<(), Trouble>
     match visited.push(page.get()) {
         Ok(()) => Ok(()),
         Err(_) => Err(Trouble::Memory),
+    }
+}
+
+/// The low key of the page right of a leaf, empty where there is none. Fails for memory alone.
+fn low_behind(alloc: Global, leaf: &LeafView<'_>) -> Result<Blob, Trouble>
+    ensures ok { IfOk result (λ b. IsHigh leaf.now.low leaf.now.right leaf.now.high × IfSome leaf.now.high (λ h. b ≡ h)) }
+    ensures memory { IfErr result (λ e. e ≡ Trouble.Memory) }
+{
+    match leaf.high() {
+        Some(high) => copy_of(alloc, high),
+        None => Ok(Blob::new(alloc)),
     }
 }
 
@@ -132,14 +148,15 @@ fn add_leaf(
 ) -> Result<Option<PageId>, Trouble>
     ensures ok { IfOk result (λ next. Adds bytes.now tree page walk.old.contents walk.new.contents next) }
     ensures err { IfErr result (λ e. e ≡ Trouble.Failed → ⊥) }
+    ensures passes { IfOk result (λ next. Passes bytes.now tree page walk.old.visited.items walk.old.low walk.new.low next) }
+    ensures visited { OnOk result (walk.new.visited.items ≡ walk.old.visited.items ++ page ∷ []) }
+    ensures stopped { IfErr result (λ e. (e ≡ Trouble.Memory) ⊎ StopsWalk tree walk.old.visited.items page walk.old.low bytes.now e) }
 {
     let leaf = leaf_at(tree, page, bytes)?;
     note_visit(&mut walk.visited, page)?;
     check_low(alloc, page, walk.low.as_slice(), leaf.low())?;
     add_records(alloc, &mut walk.contents, leaf.records())?;
-    if let Some(high) = leaf.high() {
-        walk.low = copy_of(alloc, high)?;
-    }
+    walk.low = low_behind(alloc, &leaf)?;
     Ok(leaf.right())
 }
 
@@ -154,6 +171,9 @@ fn visit<C: Bench>(
     ensures looked { Looked (C.counts cloud.old) (C.counts cloud.new) (C.state cloud.old) (C.state cloud.new) }
     ensures failed { FailsDark result (C.counts cloud.old) (C.counts cloud.new) }
     ensures ok { (s : CloudState) → C.state cloud.old ≡ Some s → IfOk result (λ next. Adds (newest s (Page tree page)) tree page walk.old.contents walk.new.contents next) }
+    ensures passes { (s : CloudState) → C.state cloud.old ≡ Some s → IfOk result (λ next. Passes (newest s (Page tree page)) tree page walk.old.visited.items walk.old.low walk.new.low next) }
+    ensures visited { OnOk result (walk.new.visited.items ≡ walk.old.visited.items ++ page ∷ []) }
+    ensures stopped { (s : CloudState) → C.state cloud.old ≡ Some s → IfErr result (λ e. (e ≡ Trouble.Failed) ⊎ ((e ≡ Trouble.Memory) ⊎ StopsWalk tree walk.old.visited.items page walk.old.low (newest s (Page tree page)) e)) }
 {
     let bytes = peek(cloud, ObjName::Page(tree, page))?;
     add_leaf(alloc, tree, page, &bytes, walk)
@@ -168,6 +188,7 @@ pub(crate) fn contents<C: Bench>(
     ensures looked { Looked (C.counts cloud.old) (C.counts cloud.new) (C.state cloud.old) (C.state cloud.new) }
     ensures failed { FailsDark result (C.counts cloud.old) (C.counts cloud.new) }
     ensures ok { (s : CloudState) → C.state cloud.old ≡ Some s → IfOk result (λ records. Walked s tree 0 records) }
+    ensures stopped { (s : CloudState) → C.state cloud.old ≡ Some s → IfErr result (Stopped s tree) }
 {
     let mut page = PageId::first();
     let mut walk = Walk {
@@ -175,11 +196,10 @@ pub(crate) fn contents<C: Bench>(
         contents: PairList::new(alloc),
         visited: Vec::new(alloc),
     };
-    for _turn in 0..u64::MAX {
+    loop {
         match visit(alloc, cloud, tree, page, &mut walk)? {
             Some(next) => page = next,
             None => return Ok(walk.contents),
         }
     }
-    Err(Trouble::Loop { page })
 }

@@ -1,6 +1,6 @@
 //! Looks at a cloud.
 
-ghost use Rattle.std.specs.Prelude.{◌≡◌, Some, length, IfOk};
+ghost use Rattle.std.specs.Prelude.{◌≡◌, ◌⊎◌, Some, length, IfOk, IfErr};
 ghost use Rattle.cloud_trait.specs.State.{CloudState, newest};
 ghost use Rattle.cloud_trait.specs.Delivery.{unmarked};
 ghost use Rattle.world_audit.specs.Look.{Looked, FailsDark};
@@ -15,6 +15,7 @@ use db_base::trouble::Trouble;
 pub(crate) fn peek<C: Bench>(cloud: &mut C, name: ObjName) -> Result<Option<Blob>, Trouble>
     ensures looked { Looked (C.counts cloud.old) (C.counts cloud.new) (C.state cloud.old) (C.state cloud.new) }
     ensures failed { FailsDark result (C.counts cloud.old) (C.counts cloud.new) }
+    ensures only { IfErr result (λ e. (e ≡ Trouble.Failed) ⊎ (e ≡ Trouble.Memory)) }
     ensures newest { (s : CloudState) → C.state cloud.old ≡ Some s → IfOk result (λ v. v ≡ newest s name) }
 {
     match cloud.peek(name) {
@@ -28,6 +29,7 @@ pub(crate) fn peek<C: Bench>(cloud: &mut C, name: ObjName) -> Result<Option<Blob
 pub(crate) fn backlog<C: Bench>(cloud: &mut C, queue: QueueName) -> Result<u64, Trouble>
     ensures looked { Looked (C.counts cloud.old) (C.counts cloud.new) (C.state cloud.old) (C.state cloud.new) }
     ensures failed { FailsDark result (C.counts cloud.old) (C.counts cloud.new) }
+    ensures only { IfErr result (λ e. (e ≡ Trouble.Failed) ⊎ (e ≡ Trouble.Memory)) }
     ensures length { (s : CloudState) → C.state cloud.old ≡ Some s → IfOk result (λ n. n ≡ length (unmarked (s.messages queue))) }
 {
     match cloud.backlog(queue) {

@@ -1,0 +1,81 @@
+-- Why the report of a tree stops.
+use Rattle.std.specs.Prelude.{ℕ, ◌≡◌, ◌⊎◌, List, [], ◌∷◌, Option, Some, None, Ok}
+use Rattle.std.specs.List.{AllPairs, Contains}
+use Rattle.byte_format.specs.Whole.{offset}
+use Rattle.db_base.specs.Ids.{IsPage}
+use Rattle.db_base.specs.declared.names.ObjName.TheVariants as object
+use Rattle.db_base.specs.declared.names.Place.TheVariants as place
+use Rattle.db_base.specs.declared.trouble.Trouble.{Trouble}
+use Rattle.db_base.specs.declared.trouble.Trouble.TheVariants.{Failed, Absent, Damaged, BadFence, Loop, Memory}
+use Rattle.cloud_trait.specs.State.{CloudState, newest}
+use Rattle.head_codec.specs.Spelling.{head_of, head_offset}
+use Rattle.leaf_view.specs.Leaf.{Leaf, IsLeaf, leaf}
+use Rattle.leaf_view.specs.Lookup.{page_at}
+use Rattle.node_codec.specs.Tree.{Tree, IsTree, tree_format}
+use Rattle.world_audit.specs.Chain.{IsReadAs, Leads}
+
+-- the pages of leaves that lead from a page
+abbrev pub pages_of : ℕ → List Leaf → List ℕ
+pages_of from [] = []
+pages_of from (l ∷ leaves) = from ∷ pages_of l.right leaves
+
+-- the fences of leaves meet: each leaf begins where the one before it ends, from a low key to that of the leaf behind them
+abbrev pub Meet : List ℕ → List Leaf → List ℕ → Type 0
+Meet low [] behind = low ≡ behind
+Meet low (l ∷ leaves) behind = (l.low ≡ low) × (high : List ℕ) × (l.high ≡ Some high) × Meet high leaves behind
+
+-- a walk from page 1 over these pages comes to a page, and expects a low key there: the leaves lead there, their fences
+-- meet, and no page is met twice
+pub record Comes (s : CloudState) (tree : ℕ) (pages : List ℕ) (page : ℕ) (low : List ℕ) : Type 0 where
+  pub leaves : List Leaf
+  pub lead : Leads s tree 1 leaves page
+  pub over : pages ≡ pages_of 1 leaves
+  pub meet : Meet [] leaves low
+  pub once : AllPairs (λ (x y : ℕ). x ≡ y → ⊥) pages
+
+-- why a walk over these pages stops at the page that it comes to, by the low key that it expects and the bytes there
+abbrev pub StopsWalk : ℕ → List ℕ → ℕ → List ℕ → Option (List ℕ) → Trouble → Type 0
+StopsWalk tree pages page low bytes (Absent p) = (p ≡ page) × (page ≡ 1 → ⊥) × (bytes ≡ None)
+StopsWalk tree pages page low bytes (Damaged there at) =
+    (there ≡ place.Object (object.Page tree page)) × (b : List ℕ) × (bytes ≡ Some b) × (at ≡ offset leaf b) × ((l : Leaf) → IsLeaf b l → ⊥)
+StopsWalk tree pages page low bytes (Loop p) = (p ≡ page) × Contains pages page
+StopsWalk tree pages page low bytes (BadFence p expected found) =
+    (p ≡ page) × (expected ≡ low) × (l : Leaf) × IsReadAs tree page bytes (Ok l) × (found ≡ l.low) × (expected ≡ found → ⊥)
+StopsWalk tree pages page low bytes trouble = ⊥
+
+-- the walk along the newest leaves stops at a page
+pub record ChainStops (s : CloudState) (tree : ℕ) (trouble : Trouble) : Type 0 where
+  pub pages : List ℕ
+  pub page : ℕ
+  pub low : List ℕ
+  pub comes : Comes s tree pages page low
+  pub why : StopsWalk tree pages page low (newest s (object.Page tree page)) trouble
+
+-- the newest head of a client is none
+pub record HeadStops (s : CloudState) (trouble : Trouble) : Type 0 where
+  pub client : ℕ
+  pub bytes : List ℕ
+  pub put : newest s (object.Head client) ≡ Some bytes
+  pub none : head_of bytes ≡ None
+  pub is : trouble ≡ Damaged (place.Object (object.Head client)) (head_offset bytes)
+
+-- the newest root of the tree is none
+pub record RootStops (s : CloudState) (tree : ℕ) (trouble : Trouble) : Type 0 where
+  pub bytes : List ℕ
+  pub put : newest s (object.Tree tree) ≡ Some bytes
+  pub none : (t : Tree) → IsTree bytes t → ⊥
+  pub is : trouble ≡ Damaged (place.Object (object.Tree tree)) (offset tree_format bytes)
+
+-- why a report stopped: a look failed, memory ran out, or the chain of leaves, a head or the root is damaged
+abbrev pub Stopped : CloudState → ℕ → Trouble → Type 0
+Stopped s tree trouble = (trouble ≡ Failed) ⊎ ((trouble ≡ Memory) ⊎ (ChainStops s tree trouble ⊎ (HeadStops s trouble ⊎ RootStops s tree trouble)))
+
+-- the walk goes on from a page: its leaf begins at the low key and ends at that of the next page, and was not met before
+pub record Passes (bytes : Option (List ℕ)) (tree page : ℕ) (pages : List ℕ) (low high : List ℕ) (next : Option ℕ) : Type 0 where
+  pub leaf : Leaf
+  pub is_page : IsPage page
+  pub read : IsReadAs tree page bytes (Ok leaf)
+  pub begins : leaf.low ≡ low
+  pub ends : (to : ℕ) → next ≡ Some to → leaf.high ≡ Some high
+  pub right : next ≡ page_at leaf.right
+  pub first : Contains pages page → ⊥

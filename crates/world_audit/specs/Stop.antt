@@ -66,6 +66,16 @@ pub record RootStops (s : CloudState) (tree : ℕ) (trouble : Trouble) : Type 0 
   pub none : (t : Tree) → IsTree bytes t → ⊥
   pub is : trouble ≡ Damaged (place.Object (object.Tree tree)) (offset tree_format bytes)
 
+-- the troubles that may stop a report, over whatever cloud
+abbrev pub MayStop : Trouble → Type 0
+MayStop Failed = Unit {0}
+MayStop Memory = Unit {0}
+MayStop (Absent page) = Unit {0}
+MayStop (Damaged there at) = Unit {0}
+MayStop (BadFence page expected found) = Unit {0}
+MayStop (Loop page) = Unit {0}
+MayStop trouble = ⊥
+
 -- why a report stopped: a look failed, memory ran out, or the chain of leaves, a head or the root is damaged
 abbrev pub Stopped : CloudState → ℕ → Trouble → Type 0
 Stopped s tree trouble = (trouble ≡ Failed) ⊎ ((trouble ≡ Memory) ⊎ (ChainStops s tree trouble ⊎ (HeadStops s trouble ⊎ RootStops s tree trouble)))

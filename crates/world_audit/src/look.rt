@@ -4,7 +4,6 @@ ghost use Rattle.std.specs.Prelude.{◌≡◌, ◌⊎◌, Some, length, IfOk, If
 ghost use Rattle.cloud_trait.specs.State.{CloudState, newest};
 ghost use Rattle.cloud_trait.specs.Delivery.{unmarked};
 ghost use Rattle.world_audit.specs.Look.{Looked, FailsDark};
-ghost use Rattle.world_audit.specs.Stop.{MayStop};
 
 use cloud_trait::cloud::Bench;
 use cloud_trait::fault::CloudFault;
@@ -18,7 +17,6 @@ pub(crate) fn peek<C: Bench>(cloud: &mut C, name: ObjName) -> Result<Option<Blob
     ensures failed { FailsDark result (C.counts cloud.old) (C.counts cloud.new) }
     ensures only { IfErr result (λ e. (e ≡ Trouble.Failed) ⊎ (e ≡ Trouble.Memory)) }
     ensures newest { (s : CloudState) → C.state cloud.old ≡ Some s → IfOk result (λ v. v ≡ newest s name) }
-    ensures kinds { IfErr result MayStop }
 {
     match cloud.peek(name) {
         Ok(bytes) => Ok(bytes),
@@ -33,7 +31,6 @@ pub(crate) fn backlog<C: Bench>(cloud: &mut C, queue: QueueName) -> Result<u64, 
     ensures failed { FailsDark result (C.counts cloud.old) (C.counts cloud.new) }
     ensures only { IfErr result (λ e. (e ≡ Trouble.Failed) ⊎ (e ≡ Trouble.Memory)) }
     ensures length { (s : CloudState) → C.state cloud.old ≡ Some s → IfOk result (λ n. n ≡ length (unmarked (s.messages queue))) }
-    ensures kinds { IfErr result MayStop }
 {
     match cloud.backlog(queue) {
         Ok(count) => Ok(count),

@@ -2,7 +2,7 @@
 use Rattle.std.specs.Prelude.{ℕ, ◌≡◌, ◌⊎◌, List, [], ◌∷◌, Option, Some, None, Ok}
 use Rattle.std.specs.List.{AllPairs, Contains}
 use Rattle.byte_format.specs.Whole.{offset}
-use Rattle.db_base.specs.Ids.{IsPage}
+use Rattle.db_base.specs.Ids.{IsPage, IsClient}
 use Rattle.db_base.specs.declared.names.ObjName.TheVariants as object
 use Rattle.db_base.specs.declared.names.Place.TheVariants as place
 use Rattle.db_base.specs.declared.trouble.Trouble.{Trouble}
@@ -54,6 +54,7 @@ pub record ChainStops (s : CloudState) (tree : ℕ) (trouble : Trouble) : Type 0
 -- the newest head of a client is none
 pub record HeadStops (s : CloudState) (trouble : Trouble) : Type 0 where
   pub client : ℕ
+  pub is_client : IsClient client
   pub bytes : List ℕ
   pub put : newest s (object.Head client) ≡ Some bytes
   pub none : head_of bytes ≡ None

@@ -2,7 +2,7 @@
 use Rattle.std.specs.Prelude.{ℕ, ◌≡◌, ◌⊎◌, List, [], ◌∷◌, Option, Some, None, Ok}
 use Rattle.std.specs.List.{AllPairs, Contains}
 use Rattle.byte_format.specs.Whole.{offset}
-use Rattle.db_base.specs.Ids.{IsPage}
+use Rattle.db_base.specs.Ids.{IsPage, IsClient}
 use Rattle.db_base.specs.declared.names.ObjName.TheVariants as object
 use Rattle.db_base.specs.declared.names.Place.TheVariants as place
 use Rattle.db_base.specs.declared.trouble.Trouble.{Trouble}
@@ -54,6 +54,7 @@ pub record ChainStops (s : CloudState) (tree : ℕ) (trouble : Trouble) : Type 0
 -- the newest head of a client is none
 pub record HeadStops (s : CloudState) (trouble : Trouble) : Type 0 where
   pub client : ℕ
+  pub is_client : IsClient client
   pub bytes : List ℕ
   pub put : newest s (object.Head client) ≡ Some bytes
   pub none : head_of bytes ≡ None
@@ -65,6 +66,16 @@ pub record RootStops (s : CloudState) (tree : ℕ) (trouble : Trouble) : Type 0 
   pub put : newest s (object.Tree tree) ≡ Some bytes
   pub none : (t : Tree) → IsTree bytes t → ⊥
   pub is : trouble ≡ Damaged (place.Object (object.Tree tree)) (offset tree_format bytes)
+
+-- the troubles that may stop a report, over whatever cloud
+abbrev pub MayStop : Trouble → Type 0
+MayStop Failed = Unit {0}
+MayStop Memory = Unit {0}
+MayStop (Absent page) = Unit {0}
+MayStop (Damaged there at) = Unit {0}
+MayStop (BadFence page expected found) = Unit {0}
+MayStop (Loop page) = Unit {0}
+MayStop trouble = ⊥
 
 -- why a report stopped: a look failed, memory ran out, or the chain of leaves, a head or the root is damaged
 abbrev pub Stopped : CloudState → ℕ → Trouble → Type 0

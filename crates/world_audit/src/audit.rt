@@ -5,7 +5,7 @@ ghost use Rattle.world_audit.specs.Audited.{committed_entry, applied_entry};
 ghost use Rattle.world_audit.specs.Look.{Looked, FailsDark};
 ghost use Rattle.world_audit.specs.Chain.{Walked};
 ghost use Rattle.world_audit.specs.Counts.{heads_upto, AreWaiting};
-ghost use Rattle.world_audit.specs.Stop.{Stopped};
+ghost use Rattle.world_audit.specs.Stop.{Stopped, MayStop};
 
 use crate::backlogs::messages;
 use crate::entries::{add_applied, add_committed, of_tree};
@@ -166,6 +166,7 @@ impl Audit {
         ensures stopped { (s : CloudState) → C.state cloud.old ≡ Some s → IfErr result (Stopped s tree) }
         ensures looked { Looked (C.counts cloud.old) (C.counts cloud.new) (C.state cloud.old) (C.state cloud.new) }
         ensures failed { FailsDark result (C.counts cloud.old) (C.counts cloud.new) }
+        ensures kinds { IfErr result MayStop }
     {
         let committed = entries_of(alloc, &self.committed, tree)?;
         let order = entries_of(alloc, &self.order, tree)?;

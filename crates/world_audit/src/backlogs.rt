@@ -8,7 +8,7 @@ ghost use Rattle.db_base.specs.declared.names.Place.TheVariants.{Object};
 ghost use Rattle.node_codec.specs.Tree.{Tree as Root, IsTree, tree_format};
 ghost use Rattle.world_audit.specs.Counts.{IsNextPage, AreWaiting, queue_at};
 ghost use Rattle.world_audit.specs.Look.{Looked, FailsDark};
-ghost use Rattle.world_audit.specs.Stop.{Stopped};
+ghost use Rattle.world_audit.specs.Stop.{Stopped, MayStop};
 
 use crate::look::{backlog, peek};
 use cloud_trait::cloud::Bench;
@@ -21,6 +21,7 @@ use node_codec::TreeView;
 fn next_of(tree: TreeId, bytes: &[u8]) -> Result<u64, Trouble>
     ensures ok { IfOk result (λ n. IsNextPage (Some bytes.now) n) }
     ensures err { IfErr result (λ e. ((t : Root) → IsTree bytes.now t → ⊥) × (e ≡ Trouble.Damaged (Object (Tree tree)) (offset tree_format bytes.now))) }
+    ensures kinds { IfErr result MayStop }
 {
     match TreeView::read(bytes) {
         Ok(root) => Ok(root.next()),
@@ -37,6 +38,7 @@ fn next_page<C: Bench>(cloud: &mut C, tree: TreeId) -> Result<u64, Trouble>
     ensures failed { FailsDark result (C.counts cloud.old) (C.counts cloud.new) }
     ensures ok { (s : CloudState) → C.state cloud.old ≡ Some s → IfOk result (λ n. IsNextPage (newest s (Tree tree)) n) }
     ensures stopped { (s : CloudState) → C.state cloud.old ≡ Some s → IfErr result (Stopped s tree) }
+    ensures kinds { IfErr result MayStop }
 {
     match peek(cloud, ObjName::Tree(tree))? {
         Some(bytes) => next_of(tree, bytes.as_slice()),
@@ -60,6 +62,7 @@ pub(crate) fn messages<C: Bench>(cloud: &mut C, tree: TreeId) -> Result<u64, Tro
     ensures failed { FailsDark result (C.counts cloud.old) (C.counts cloud.new) }
     ensures ok { (s : CloudState) → C.state cloud.old ≡ Some s → IfOk result (λ n. AreWaiting s tree n) }
     ensures stopped { (s : CloudState) → C.state cloud.old ≡ Some s → IfErr result (Stopped s tree) }
+    ensures kinds { IfErr result MayStop }
 {
     let next = next_page(cloud, tree)?;
     let mut sum = 0u64;

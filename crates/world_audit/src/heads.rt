@@ -8,7 +8,7 @@ ghost use Rattle.db_base.specs.declared.names.Place.TheVariants as place;
 ghost use Rattle.head_codec.specs.Spelling.{head_of, head_offset};
 ghost use Rattle.world_audit.specs.Counts.{is_under_way, is_of, is_open_in, open_at, heads_upto};
 ghost use Rattle.world_audit.specs.Look.{Looked, FailsDark};
-ghost use Rattle.world_audit.specs.Stop.{Stopped};
+ghost use Rattle.world_audit.specs.Stop.{Stopped, MayStop};
 
 use crate::look::peek;
 use cloud_trait::cloud::Bench;
@@ -23,6 +23,7 @@ use std::alloc::Global;
 fn head_of(alloc: Global, client: ClientId, bytes: &[u8]) -> Result<Head, Trouble>
     ensures ok { IfOk result (λ h. head_of bytes.now ≡ Some h) }
     ensures err { IfErr result (λ e. (e ≡ Trouble.Memory) ⊎ ((head_of bytes.now ≡ None) × (e ≡ Trouble.Damaged (place.Object (object.Head client)) (head_offset bytes.now)))) }
+    ensures kinds { IfErr result MayStop }
 {
     match Head::read(alloc, bytes) {
         Ok(head) => Ok(head),
@@ -75,6 +76,7 @@ fn open_head<C: Bench>(
     ensures most { IfOk result (λ n. n ≤ 1) }
     ensures ok { (s : CloudState) → C.state cloud.old ≡ Some s → IfOk result (λ n. n ≡ open_at s client tree committed.now) }
     ensures stopped { (s : CloudState) → C.state cloud.old ≡ Some s → IfErr result (Stopped s tree) }
+    ensures kinds { IfErr result MayStop }
 {
     let Some(bytes) = peek(cloud, ObjName::Head(client))? else {
         return Ok(0);
@@ -99,6 +101,7 @@ pub(crate) fn open_heads<C: Bench>(
     ensures most { IfOk result (λ n. n ≤ 64) }
     ensures ok { (s : CloudState) → C.state cloud.old ≡ Some s → IfOk result (λ n. n ≡ heads_upto s tree committed.now 64) }
     ensures stopped { (s : CloudState) → C.state cloud.old ≡ Some s → IfErr result (Stopped s tree) }
+    ensures kinds { IfErr result MayStop }
 {
     let mut heads = 0u64;
     for number in 0..64u64 {

@@ -8,7 +8,7 @@ ghost use Rattle.db_base.specs.declared.names.ObjName.TheVariants.{Page};
 ghost use Rattle.leaf_view.specs.Fits.{IsHigh};
 ghost use Rattle.world_audit.specs.Look.{Looked, FailsDark};
 ghost use Rattle.world_audit.specs.Chain.{IsReadAs, Adds, Walked, pair_of};
-ghost use Rattle.world_audit.specs.Stop.{StopsWalk, Stopped, Passes};
+ghost use Rattle.world_audit.specs.Stop.{StopsWalk, Stopped, MayStop, Passes};
 
 use crate::look::peek;
 use cloud_trait::cloud::Bench;
@@ -23,7 +23,8 @@ use std::alloc::Global;
 
 /// The leaf that the newest version of a page spells.
 fn leaf_at<'a>(tree: TreeId, page: PageId, bytes: &'a Option<Blob>) -> Result<LeafView<'a>, Trouble>
-    ensures { IsReadAs tree page bytes.now result }
+    ensures read { IsReadAs tree page bytes.now result }
+    ensures kinds { IfErr result MayStop }
 {
     match bytes {
         Some(bytes) => match LeafView::read(bytes.as_slice()) {
@@ -58,6 +59,7 @@ fn copy_of(alloc: Global, bytes: &[u8]) -> Result<Blob, Trouble>
 fn check_low(alloc: Global, page: PageId, expected: &[u8], low: &[u8]) -> Result<(), Trouble>
     ensures ok { OnOk result (expected.now ≡ low.now) }
     ensures err { IfErr result (λ e. (e ≡ Trouble.Memory) ⊎ ((e ≡ Trouble.BadFence page expected.now low.now) × (expected.now ≡ low.now → ⊥))) }
+    ensures kinds { IfErr result MayStop }
 {
     if expected == low {
         return Ok(());
@@ -117,6 +119,7 @@ fn note_visit(visited: &mut Vec<u64>, page: PageId) -> Result<(), Trouble>
     ensures noted { OnOk result (visited.new.items ≡ visited.old.items ++ page ∷ []) }
     ensures first { OnOk result (Contains visited.old.items page → ⊥) }
     ensures err { IfErr result (λ e. (e ≡ Trouble.Memory) ⊎ ((e ≡ Trouble.Loop page) × Contains visited.old.items page)) }
+    ensures kinds { IfErr result MayStop }
 {
     if visited.as_slice().contains(&page.get()) {
         return Err(Trouble::Loop { page });
@@ -151,6 +154,7 @@ fn add_leaf(
     ensures passes { IfOk result (λ next. Passes bytes.now tree page walk.old.visited.items walk.old.low walk.new.low next) }
     ensures visited { OnOk result (walk.new.visited.items ≡ walk.old.visited.items ++ page ∷ []) }
     ensures stopped { IfErr result (λ e. (e ≡ Trouble.Memory) ⊎ StopsWalk tree walk.old.visited.items page walk.old.low bytes.now e) }
+    ensures kinds { IfErr result MayStop }
 {
     let leaf = leaf_at(tree, page, bytes)?;
     note_visit(&mut walk.visited, page)?;
@@ -174,6 +178,7 @@ fn visit<C: Bench>(
     ensures passes { (s : CloudState) → C.state cloud.old ≡ Some s → IfOk result (λ next. Passes (newest s (Page tree page)) tree page walk.old.visited.items walk.old.low walk.new.low next) }
     ensures visited { OnOk result (walk.new.visited.items ≡ walk.old.visited.items ++ page ∷ []) }
     ensures stopped { (s : CloudState) → C.state cloud.old ≡ Some s → IfErr result (λ e. (e ≡ Trouble.Failed) ⊎ ((e ≡ Trouble.Memory) ⊎ StopsWalk tree walk.old.visited.items page walk.old.low (newest s (Page tree page)) e)) }
+    ensures kinds { IfErr result MayStop }
 {
     let bytes = peek(cloud, ObjName::Page(tree, page))?;
     add_leaf(alloc, tree, page, &bytes, walk)
@@ -189,6 +194,7 @@ pub(crate) fn contents<C: Bench>(
     ensures failed { FailsDark result (C.counts cloud.old) (C.counts cloud.new) }
     ensures ok { (s : CloudState) → C.state cloud.old ≡ Some s → IfOk result (λ records. Walked s tree 0 records) }
     ensures stopped { (s : CloudState) → C.state cloud.old ≡ Some s → IfErr result (Stopped s tree) }
+    ensures kinds { IfErr result MayStop }
 {
     let mut page = PageId::first();
     let mut walk = Walk {

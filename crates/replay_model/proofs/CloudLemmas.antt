@@ -84,6 +84,26 @@ both_same false y z e = sym e
 is_new : {X : Type 0} (p q : Bool) (y z : X) → p ≡ false → q ≡ true → cond (not p && q) y z ≡ y
 is_new {X} p q y z e f = ap (λ b. cond (not b && q) y z) e ∙ ap (λ b. cond b y z) f
 
+-- what a landed put has with another audit, the call has with the audit that the looks before and after it tell
+pub put_by : (P : Audited → CloudState → Type 0) (a more : Audited) (who : Caller) (name : ObjName) (bytes : List ℕ) (one : Claim) (two : Option Claim)
+    (answer : Answer) (c d : Counts) (x : CloudState) (u : Option CloudState) → (l : Leaves who (PutHeld name bytes one two) answer c d x u)
+    → ((has_bytes (newest x name) bytes ≡ false) ⊎ (more ≡ a)) → P a (called who l.after.now x) → P more (landed who name bytes (called who l.after.now x))
+    → P (cond (has_landed (newest x) (newest l.after) (Some (PutHeld name bytes one two))) more a) l.after
+put_by P a more who name bytes one two answer c d x u l new begun there =
+    let ask : Ask = PutHeld name bytes one two in
+    let b : CloudState = called who l.after.now x in
+    let p : Bool = has_bytes (newest x name) bytes in
+    let At : CloudState → Type 0 = λ t. P (cond (not p && has_bytes (newest t name) bytes) more a) t in
+    let same : At b = subst (λ z. P z b) (sym (never_new p more a)) begun in
+    let e : has_bytes (newest (landed who name bytes b) name) bytes ≡ true = ap (λ v. has_bytes v bytes) (landed_newest who name bytes b) ∙ has_own_bytes bytes in
+    let taken : cond (not p && has_bytes (newest (landed who name bytes b) name) bytes) more a ≡ more =
+    on new (has_bytes (newest (landed who name bytes b) name) bytes) e in
+    row_by At who ask answer c d b l.after l.row same (subst (λ z. P z (landed who name bytes b)) (sym taken) there)
+  where
+    on : ((has_bytes (newest x name) bytes ≡ false) ⊎ (more ≡ a)) → (q : Bool) → q ≡ true → cond (not (has_bytes (newest x name) bytes) && q) more a ≡ more
+    on (inl differs) q f = is_new (has_bytes (newest x name) bytes) q more a differs f
+    on (inr same) q f = both_same (not (has_bytes (newest x name) bytes) && q) more a same
+
 -- a put whose landing keeps all with another audit keeps all with the audit that the looks before and after it tell
 pub put_keeps : (n : ℕ) (lines : List Line) (a more : Audited) (who : Caller) (name : ObjName) (bytes : List ℕ) (one : Claim) (two : Option Claim)
     (answer : Answer) (c d : Counts) (x : CloudState) (u : Option CloudState)
@@ -95,30 +115,33 @@ pub put_keeps : (n : ℕ) (lines : List Line) (a more : Audited) (who : Caller) 
 put_keeps n lines a more who name bytes one two answer c d x u l event stands new trees entries =
     let ask : Ask = PutHeld name bytes one two in
     let b : CloudState = called who l.after.now x in
-    let p : Bool = has_bytes (newest x name) bytes in
-    let At : CloudState → Type 0 = λ t. CloudStands n lines (cond (not p && has_bytes (newest t name) bytes) more a) t in
     let begun : CloudStands n lines a b = called_stands n lines a who l.after.now x stands in
-    let same : At b = subst (λ z. CloudStands n lines z b) (sym (never_new p more a)) begun in
-    let e : has_bytes (newest (landed who name bytes b) name) bytes ≡ true = ap (λ v. has_bytes v bytes) (landed_newest who name bytes b) ∙ has_own_bytes bytes in
-    let taken : cond (not p && has_bytes (newest (landed who name bytes b) name) bytes) more a ≡ more =
-    on new (has_bytes (newest (landed who name bytes b) name) bytes) e in
-    let there : CloudStands n lines more (landed who name bytes b) = record {
+    put_by (λ z t. CloudStands n lines z t) a more who name bytes one two answer c d x u l new begun (record {
       trees = trees (newest (landed who name bytes b)) (landed_newest who name bytes b) (landed_other who name bytes b);
       placed = placed_effect who ask b begun.placed;
       upto = effect_upto n who ask b event begun.upto;
       committed = entries ∙ ap (λ es. es ++ put_entries lines who ask) stands.committed ∙ sym (committed_effect lines who ask b begun.placed);
-    } in
-    row_by At who ask answer c d b l.after l.row same (subst (λ z. CloudStands n lines z (landed who name bytes b)) (sym taken) there)
-  where
-    on : ((has_bytes (newest x name) bytes ≡ false) ⊎ (more ≡ a)) → (q : Bool) → q ≡ true → cond (not (has_bytes (newest x name) bytes) && q) more a ≡ more
-    on (inl differs) q f = is_new (has_bytes (newest x name) bytes) q more a differs f
-    on (inr same) q f = both_same (not (has_bytes (newest x name) bytes) && q) more a same
+    })
 
 -- a put that was done is the newest
 pub put_done : (who : Caller) (name : ObjName) (bytes : List ℕ) (one : Claim) (two : Option Claim) (answer : Answer) (c d : Counts) (x : CloudState) (u : Option CloudState)
     → (l : Leaves who (PutHeld name bytes one two) answer c d x u) → done_of answer ≡ Ok tt → newest l.after name ≡ Some bytes
 put_done who name bytes one two Done c d x u l done = ap (λ t. newest t name) l.row.0 ∙ landed_newest who name bytes (called who l.after.now x)
 put_done who name bytes one two answer c d x u l done = absurd (cc)
+
+-- a put that was done left the cloud as it lands
+pub put_landed : (who : Caller) (name : ObjName) (bytes : List ℕ) (one : Claim) (two : Option Claim) (answer : Answer) (c d : Counts) (x : CloudState) (u : Option CloudState)
+    → (l : Leaves who (PutHeld name bytes one two) answer c d x u) → done_of answer ≡ Ok tt → l.after ≡ landed who name bytes (called who l.after.now x)
+put_landed who name bytes one two Done c d x u l done = l.row.0
+put_landed who name bytes one two answer c d x u l done = absurd (cc)
+
+-- the audit takes a put of new bytes that was done
+pub put_taken : (a more : Audited) (who : Caller) (name : ObjName) (bytes : List ℕ) (one : Claim) (two : Option Claim) (answer : Answer) (c d : Counts) (x : CloudState) (u : Option CloudState)
+    → (l : Leaves who (PutHeld name bytes one two) answer c d x u) → has_bytes (newest x name) bytes ≡ false → done_of answer ≡ Ok tt
+    → cond (has_landed (newest x) (newest l.after) (Some (PutHeld name bytes one two))) more a ≡ more
+put_taken a more who name bytes one two answer c d x u l new done =
+    is_new (has_bytes (newest x name) bytes) (has_bytes (newest l.after name) bytes) more a new
+    (ap (λ v. has_bytes v bytes) (put_done who name bytes one two answer c d x u l done) ∙ has_own_bytes bytes)
 
 -- a settled head commits nothing, and an open one its changes
 pub settled_entries : (client : ℕ) (bytes : List ℕ) (head : Head) (changes : List Noted) → head_of bytes ≡ Some head → head.phase ≡ phase.Settled → entries_of_bytes client (Some bytes) changes ≡ []

@@ -82,15 +82,15 @@ held_cloud n lines a who answer c d x u home f (Renew k ticks) h l event stands 
 held_cloud n lines a who answer c d x u home f (Release k) h l event stands = quiet n lines a who _ answer c d x u l event tt stands
 
 -- a call under a lease, or the take where there is none
-under_tree_nothing : (f : Folding) (lease : Option Claim) (ask : Claim → Ask) → ((k : Claim) → PutsNothing (ask k)) → PutsNothing (under_tree f lease ask)
+pub under_tree_nothing : (f : Folding) (lease : Option Claim) (ask : Claim → Ask) → ((k : Claim) → PutsNothing (ask k)) → PutsNothing (under_tree f lease ask)
 under_tree_nothing f (Some k) ask h = h k
 under_tree_nothing f None ask h = tt
 
-under_page_nothing : (f : Folding) (lease : Option Claim) (ask : Claim → Ask) → ((k : Claim) → PutsNothing (ask k)) → PutsNothing (under_page f lease ask)
+pub under_page_nothing : (f : Folding) (lease : Option Claim) (ask : Claim → Ask) → ((k : Claim) → PutsNothing (ask k)) → PutsNothing (under_page f lease ask)
 under_page_nothing f (Some k) ask h = h k
 under_page_nothing f None ask h = tt
 
-delete_nothing : (f : Folding) (ids : List ℕ) → PutsNothing (delete_next f ids)
+pub delete_nothing : (f : Folding) (ids : List ℕ) → PutsNothing (delete_next f ids)
 delete_nothing f [] = tt
 delete_nothing f (id ∷ ids) = tt
 

@@ -6,6 +6,11 @@ pub mod CloudLemmas
 pub mod OpeningLemmas
 pub mod CommitLemmas
 pub mod FoldingLemmas
+pub mod RecordLemmas
+pub mod RecordKnowledge
+pub mod RecordFoldings
+pub mod RecordSession
+pub mod RecordBegins
 pub mod SessionLemmas
 pub mod LineLemmas
 pub mod StartLemmas

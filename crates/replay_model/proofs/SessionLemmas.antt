@@ -35,11 +35,12 @@ use Rattle.world_audit.specs.Audited.{Audited}
 use Rattle.replay_model.specs.Standing.{Line, Standing, Posture, Working, Idle as Idled, Opening as OpeningTask, Committing as Noted, Other, standing, steps, answered, idle}
 use Rattle.replay_model.specs.Committed.{changes_at, entries_of_bytes}
 use Rattle.replay_model.specs.Noting.{audited}
-use Rattle.replay_model.specs.Facts.{HomeStands, Knows, ActsAs, WorksAs, CloudStands, GoesOn}
+use Rattle.replay_model.specs.Facts.{HomeStands, Knows, ActsAs, WorksAs, CloudStands, RecordsStand, GoesOn}
 use Rattle.replay_model.proofs.CommittedLemmas.{now_entries}
 use Rattle.replay_model.proofs.OpeningLemmas.{opening_cloud, opening_goes, opening_opens}
 use Rattle.replay_model.proofs.CommitLemmas.{CommitsChanges, commit_cloud, commit_goes, commit_ends}
 use Rattle.replay_model.proofs.FoldingLemmas.{folding_cloud, folding_goes, page_seen}
+use Rattle.replay_model.proofs.RecordSession.{IsReplyTo, records_go, records_end}
 
 -- ---- an object that a call does not touch
 
@@ -197,20 +198,11 @@ step_goes_on lines who c d x t u old new a b session event told goes p kept audi
       record {
         cloud = k.2;
         session = record { knows = k.3; kept = kept; acts = record { buffer = p.0 ∙ goes.session.acts.buffer; work = k.4 } };
+        records = records_go who c d x t u old new a b told goes.records goes.session.knows goes.session.kept p audit k.0 k.1;
       },
     )
 
 -- ---- a step that ends
-
--- the reply to an answer that is no trouble
-abbrev pub IsReplyTo : Answer → Reply → Type 0
-IsReplyTo (answer.Opened epoch) r = r ≡ reply.Opened epoch
-IsReplyTo (answer.Done n) r = r ≡ reply.Done n
-IsReplyTo (answer.Commit (Committed txn)) r = r ≡ reply.Commit (Committed txn)
-IsReplyTo (answer.Commit (NotCommitted t)) r = ⊥
-IsReplyTo (answer.Commit InDoubt) r = ⊥
-IsReplyTo (answer.Commit (CommittedOpen t)) r = ⊥
-IsReplyTo (answer.Trouble t) r = ⊥
 
 -- a session that worked and was answered is idle
 idle_works : (s : Standing) (home : Home) (client : ℕ) (r : Reply) (work : Work) → steps r s ≡ idle s → work ≡ Idle home → home.client ≡ client → s.client ≡ client → WorksAs work (steps r s)
@@ -300,6 +292,7 @@ pub record Answered (lines : List Line) (new : Acting) (b : Audited) (u : Option
   pub cloud : CloudStands (length lines + 1) lines b after
   pub knows : Knows (newest after) new.work
   pub acts : ActsAs new (steps r (standing lines 1))
+  pub records : RecordsStand new b after
 
 pub step_ends : (lines : List Line) (who : Caller) (c d : Counts) (x : CloudState) (t u : Option CloudState) (old new : Acting) (a b : Audited) (ans : Answer) (r : Reply)
     → who.session ≡ 1 → who.event ≡ length lines + 1 → t ≡ Some x → GoesOn lines old a x
@@ -307,4 +300,11 @@ pub step_ends : (lines : List Line) (who : Caller) (c d : Counts) (x : CloudStat
     → Answered lines new b u r
 step_ends lines who c d x t u old new a b ans r session event told goes p is audit =
     let k = ends_work lines who c d x t u old.work new a b ans r session event told goes.cloud goes.session.knows goes.session.kept goes.session.acts.work p.1 is audit in
-    record { after = k.0; told = k.1; cloud = k.2; knows = k.3; acts = record { buffer = p.0 ∙ goes.session.acts.buffer ∙ ap (λ (z : Standing). z.buffer) (sym k.5); work = k.4 } }
+    record {
+      after = k.0;
+      told = k.1;
+      cloud = k.2;
+      knows = k.3;
+      acts = record { buffer = p.0 ∙ goes.session.acts.buffer ∙ ap (λ (z : Standing). z.buffer) (sym k.5); work = k.4 };
+      records = records_end who c d x t u old new a b ans r told goes.records goes.session.knows goes.session.kept p is audit k.0 k.1;
+    }

@@ -1,8 +1,9 @@
 -- What stands before the first line.
-use Rattle.std.proofs.Common.{◌≡◌, ℕ, [], None, refl, sym, ap, subst}
+use Rattle.std.proofs.Common.{◌≡◌, ℕ, [], None, refl, sym, ap, subst, arith}
 use Rattle.db_base.specs.declared.names.ObjName.{ObjName}
 use Rattle.cloud_trait.specs.State.{CloudState, IsEmptyCloud, newest, newest_of}
 use Rattle.client_session.specs.Session.{closed_session}
+use Rattle.record_facts.proofs.EmptyRecords.{empty_holds}
 use Rattle.replay_model.specs.Noting.{Newest}
 use Rattle.replay_model.specs.Facts.{TreeStands, Stands}
 use Rattle.replay_model.proofs.TreeLemmas.{nothing_stands}
@@ -22,4 +23,5 @@ nothing_stands_yet t empty = record {
     committed = sym (empty_committed [] t empty);
   };
   session = record { knows = tt; kept = tt; acts = record { buffer = refl; work = refl } };
+  records = record { hold = empty_holds t empty; known = tt; buffer = record { distinct = tt; plain = λ k d low. absurd (omega arith) } };
 }

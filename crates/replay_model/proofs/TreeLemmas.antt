@@ -1,6 +1,6 @@
 -- What landed puts leave of the trees, and what stands at a report.
 use Rattle.std.proofs.Common.{◌≡◌, ℕ, ◌+◌, Bool, true, false, cond, eqb, List, [], ◌∷◌, ◌++◌, Option, Some, None, Ok, refl, sym, ap, subst, ◌∙◌, arith}
-use Rattle.std.specs.Prelude.{map, not}
+use Rattle.std.specs.Prelude.{map, not, ◌&&◌}
 use Rattle.std.specs.Str.{bytes_eq}
 use Rattle.std.specs.declared.cmp.Ordering.{Ordering}
 use Rattle.std.specs.declared.cmp.Ordering.TheVariants.{Less, Equal, Greater}
@@ -10,7 +10,7 @@ use Rattle.std.proofs.lemmas.Slice.Eq.{bytes_eq-Decides}
 use Rattle.db_base.specs.declared.names.ObjName.{ObjName}
 use Rattle.db_base.specs.declared.names.ObjName.TheVariants as object
 use Rattle.db_base.specs.declared.pair.Pair.{Pair}
-use Rattle.byte_format.specs.Order.{bytes_below, bytes_same}
+use Rattle.byte_format.specs.Order.{bytes_below, bytes_same, below_bound}
 use Rattle.byte_format.proofs.Wholes.{one_value}
 use Rattle.head_codec.specs.declared.head.Head.{Head}
 use Rattle.head_codec.specs.declared.head.Phase.TheVariants as phase
@@ -23,7 +23,7 @@ use Rattle.history.specs.Fold.{Records, fold, of_tree}
 use Rattle.history.proofs.FoldLemmas.{fold_onto-of_tree}
 use Rattle.leaf_view.specs.Leaf.{Entry, Leaf, leaf}
 use Rattle.leaf_view.specs.Fits.{Ascend, entry_below, IsHigh}
-use Rattle.leaf_view.specs.Lookup.{payload_of, empty_leaf}
+use Rattle.leaf_view.specs.Lookup.{payload_of, empty_leaf, holds}
 use Rattle.leaf_view.proofs.Exactness.{leaf_exact}
 use Rattle.leaf_view.proofs.Split.{leaf_fits}
 use Rattle.leaf_edit.specs.Applied.{applied}
@@ -32,26 +32,18 @@ use Rattle.node_codec.specs.Node.{child_of}
 use Rattle.node_codec.specs.Tree.{empty_tree}
 use Rattle.node_codec.proofs.NodeLemmas.{not_below_empty}
 use Rattle.commit_run.specs.Commit.{Commit}
-use Rattle.tree_ckpt.specs.Folding.{Folding, is_first_alone}
+use Rattle.tree_ckpt.specs.Folding.{Folding, is_first_alone, is_lone_leaf}
 use Rattle.log_codec.specs.declared.record.PuItem.{PuItem}
 use Rattle.world_audit.specs.Audited.{applied_entry}
 use Rattle.world_audit.specs.Chain.{IsReadAs, IsNewestLeaf, Leads, AreLeaves, Walked, pair_of, records_of}
 use Rattle.replay_model.specs.Index.{IsWithin, IsRootIn, Finds, ends}
 use Rattle.replay_model.specs.Right.{payload_at}
+use Rattle.record_facts.proofs.CloudRecords.{names_apart}
 use Rattle.replay_model.specs.Noting.{Newest, has_bytes}
 use Rattle.replay_model.specs.Facts.{TreeStands, OpensHead, AppliesRun, PutsRoot}
 use Rattle.replay_model.proofs.EditLemmas.{fold-applied, fold-elsewhere}
 
 -- ---- names and bytes
-
--- names that differ do so in their order
-pub names_apart : (a b : ObjName) → (a ≡ b → ⊥) → is_eq (object_cmp a b) ≡ false
-names_apart a b differ = on (object_cmp a b) refl
-  where
-    on : (o : Ordering) → object_cmp a b ≡ o → is_eq o ≡ false
-    on Less e = refl
-    on Equal e = absurd (differ (object_cmp-equal a b e))
-    on Greater e = refl
 
 pages_apart : (tree other : ℕ) → eqb tree other ≡ false → object.Page tree 1 ≡ object.Page other 1 → ⊥
 pages_apart tree other e same = let h : tree ≡ other = cc in eqb-false tree other e h
@@ -88,7 +80,7 @@ lacks_bytes (Some b) bytes differ = on (bytes_eq b bytes) refl
 
 -- ---- the newest leaf of a page
 
-one_leaf : (tree page : ℕ) (bytes : Option (List ℕ)) (l m : Leaf) → IsReadAs tree page bytes (Ok l) → IsReadAs tree page bytes (Ok m) → l ≡ m
+pub one_leaf : (tree page : ℕ) (bytes : Option (List ℕ)) (l m : Leaf) → IsReadAs tree page bytes (Ok l) → IsReadAs tree page bytes (Ok m) → l ≡ m
 one_leaf tree page None l m a b = a.1 ∙ sym b.1
 one_leaf tree page (Some bytes) l m a b = one_value leaf leaf_exact bytes l m a b
 
@@ -96,7 +88,7 @@ read_ascends : (tree page : ℕ) (bytes : Option (List ℕ)) (l : Leaf) → IsRe
 read_ascends tree page None l is = subst (λ (x : Leaf). Ascend entry_below None x.records) (sym is.1) tt
 read_ascends tree page (Some bytes) l is = (leaf_fits l is.fits).1.records_ascend
 
-read_high : (tree page : ℕ) (bytes : Option (List ℕ)) (l : Leaf) → IsReadAs tree page bytes (Ok l) → IsHigh l.low l.right l.high
+pub read_high : (tree page : ℕ) (bytes : Option (List ℕ)) (l : Leaf) → IsReadAs tree page bytes (Ok l) → IsHigh l.low l.right l.high
 read_high tree page None l is = subst (λ (x : Leaf). IsHigh x.low x.right x.high) (sym is.1) refl
 read_high tree page (Some bytes) l is = (leaf_fits l is.fits).1.high
 
@@ -263,6 +255,18 @@ payload_at-shown key (e ∷ es) = ap (λ (p : Option (List ℕ)). cond (bytes_sa
 lone_high : (low : List ℕ) (right : ℕ) (high : Option (List ℕ)) (key : List ℕ) → right ≡ 0 → IsHigh low right high → IsWithin key high
 lone_high low right None key none h = tt
 lone_high low right (Some high) key none h = let e : not (eqb right 0) ≡ false = ap (λ (n : ℕ). not (eqb n 0)) none in let d : not (eqb right 0) ≡ true = h.0 in absurd cc
+
+-- a leaf without neighbours holds every key
+lone_bound : (low : List ℕ) (right : ℕ) (high : Option (List ℕ)) (key : List ℕ) → right ≡ 0 → IsHigh low right high → below_bound key high ≡ true
+lone_bound low right None key none h = refl
+lone_bound low right (Some high) key none h = let e : not (eqb right 0) ≡ false = ap (λ (n : ℕ). not (eqb n 0)) none in let d : not (eqb right 0) ≡ true = h.0 in absurd cc
+
+pub lone_holds : (tree : ℕ) (bytes : Option (List ℕ)) (l : Leaf) → IsReadAs tree 1 bytes (Ok l) → is_lone_leaf l ≡ true → (key : List ℕ) → holds l key ≡ true
+lone_holds tree bytes l is lone key =
+    let alone = and_parts (bytes_eq l.low []) (eqb l.right 0) lone in
+    let low : l.low ≡ [] = (bytes_eq-Decides l.low []).0 alone.0 in
+    let from : bytes_below key l.low ≡ false = ap (λ (k : List ℕ). bytes_below key k) low ∙ not_below_empty key in
+    ap (λ (b : Bool). not b && below_bound key l.high) from ∙ lone_bound l.low l.right l.high key (eqb-true l.right 0 alone.1) (read_high tree 1 bytes l is)
 
 -- a root of one leaf leads each key to page 1
 lone_child : (es : List (List ℕ × ℕ)) (key : List ℕ) → is_first_alone es ≡ true → child_of key es ≡ Some ([], 1)

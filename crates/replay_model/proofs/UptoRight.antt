@@ -65,6 +65,8 @@ right_same lines s t r v e h =
       contents = h.contents;
       found = λ key. finds_same s t same r.tree key (payload_at key r.contents) (h.found key);
       folded = h.folded;
+      legal = h.legal;
+      complete = h.complete;
     }
 
 -- a report that was right is right for every later state, cut at its line
@@ -80,4 +82,6 @@ more_lines lines more t r rows h = record {
   contents = h.contents;
   found = h.found;
   folded = h.folded;
+  legal = h.legal;
+  complete = h.complete;
 }

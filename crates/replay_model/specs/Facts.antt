@@ -32,6 +32,8 @@ use Rattle.client_session.specs.declared.session.Work.TheVariants as work
 use Rattle.client_session.specs.Session.{Acting, IsKept}
 use Rattle.world_audit.specs.Audited.{Audited}
 use Rattle.world_audit.specs.Chain.{IsReadAs}
+use Rattle.record_facts.specs.Tally.{Tally, tally_of, RecordsHold}
+use Rattle.record_facts.specs.Known.{HomeKnown, MayCommit, OpeningKnown, CommitKnown, FoldingKnown}
 use Rattle.replay_model.specs.Standing.{Line, Closed, Idle, Working, Opening, Committing, Other, Standing, standing}
 use Rattle.replay_model.specs.Committed.{Versions, committed}
 use Rattle.replay_model.specs.Index.{IsRootIn}
@@ -134,6 +136,23 @@ Knows look (work.Committing c) = CommitStands look c.stage c
 Knows look (work.Folding home f) = HomeStands look home × FoldingStands look f
 Knows look work.Broken = Unit {0}
 
+-- ---- what ties the records together
+
+-- what a session knows of the records, by what it has in hand
+abbrev pub RecordsKnown : Tally → List Entry → Work → Type 0
+RecordsKnown t committed work.Closed = Unit {0}
+RecordsKnown t committed (work.Idle home) = HomeKnown home
+RecordsKnown t committed (work.Opening r) = OpeningKnown t r
+RecordsKnown t committed (work.Committing c) = CommitKnown t committed c
+RecordsKnown t committed (work.Folding home f) = HomeKnown home × FoldingKnown t committed f
+RecordsKnown t committed work.Broken = Unit {0}
+
+-- the entries, the messages, the heads and the trees hang together; the session knows of them what it has to, and what it noted may be committed
+pub record RecordsStand (session : Acting) (a : Audited) (t : CloudState) : Type 0 where
+  pub hold : RecordsHold (tally_of t) a.committed a.order
+  pub known : RecordsKnown (tally_of t) a.committed session.work
+  pub buffer : MayCommit session.buffer
+
 -- ---- how a session stands by the lines
 
 -- a session's work is what the lines say that it has in hand
@@ -168,8 +187,10 @@ pub record SessionStands (lines : List Line) (session : Acting) (t : CloudState)
 pub record Stands (lines : List Line) (acting : Acting) (a : Audited) (t : CloudState) : Type 0 where
   pub cloud : CloudStands (length lines) lines a t
   pub session : SessionStands lines acting t
+  pub records : RecordsStand acting a t
 
 -- within the line behind these, when what landed may be of that line
 pub record GoesOn (lines : List Line) (acting : Acting) (a : Audited) (t : CloudState) : Type 0 where
   pub cloud : CloudStands (length lines + 1) lines a t
   pub session : SessionStands lines acting t
+  pub records : RecordsStand acting a t

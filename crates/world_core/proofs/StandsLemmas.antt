@@ -34,18 +34,25 @@ use Rattle.client_session.specs.declared.session.Work.{Work}
 use Rattle.client_session.specs.declared.session.Work.TheVariants as work
 use Rattle.client_session.specs.Session.{Acting, IsKept, BeginsOpening, BeginsTree, FoldsFor, BeginsCommit, CommitsNoted, CommitsOf, is_working}
 use Rattle.history.specs.Fold.{fold, of_tree}
+use Rattle.history.specs.Legal.{IsLegal}
+use Rattle.report_types.specs.declared.entry.Entry.{Entry}
 use Rattle.world_audit.specs.Audited.{Audited}
 use Rattle.world_audit.specs.Chain.{AreLeaves}
 use Rattle.world_audit.specs.Counts.{heads_upto, AreWaiting}
+use Rattle.record_facts.specs.Tally.{tally_of}
+use Rattle.record_facts.specs.Known.{MayCommit}
+use Rattle.record_facts.proofs.TreeRecords.{is_client, legal_in_tree, complete_in_tree}
 use Rattle.replay_model.specs.Standing.{Line, Standing, Working as WorkingOn, Committing as Noting, standing, after_line, after_own, session_of}
 use Rattle.replay_model.specs.Committed.{committed}
 use Rattle.replay_model.specs.Index.{Finds}
 use Rattle.replay_model.specs.Noting.{Newest, audited}
-use Rattle.replay_model.specs.Right.{ReportIsRight, IsRight, payload_at}
-use Rattle.replay_model.specs.Facts.{HomeStands, CommitStands, Knows, ActsAs, WorksAs, CloudStands, Stands, GoesOn}
+use Rattle.replay_model.specs.Right.{ReportIsRight, IsRight, HoldsAll, payload_at}
+use Rattle.replay_model.specs.Facts.{HomeStands, CommitStands, Knows, ActsAs, WorksAs, CloudStands, RecordsKnown, RecordsStand, Stands, GoesOn}
 use Rattle.replay_model.proofs.LineLemmas.{begins_line, line_through, own_line}
 use Rattle.replay_model.proofs.TreeLemmas.{report_of}
-use Rattle.replay_model.proofs.SessionLemmas.{IsReplyTo, step_goes_on, step_ends}
+use Rattle.replay_model.proofs.RecordBegins.{may_nothing, may_insert, opens_known, left_known}
+use Rattle.replay_model.proofs.RecordSession.{IsReplyTo}
+use Rattle.replay_model.proofs.SessionLemmas.{step_goes_on, step_ends}
 use Rattle.world_core.specs.declared.world.World.{World}
 use Rattle.world_core.specs.declared.world.WorldFault.{WorldFault}
 use Rattle.world_core.specs.Handled.{IsUnbuilt, MakesNoCall, BegunReply, Opens, Folds, Inserts, Aborts, Handled, HandledFirst, HandledOther, Replies, StepsLooked, Went, start, further, RunReply, RunsTo, Shows, Reports}
@@ -62,13 +69,14 @@ line_of event r = record { event = event; reply = r }
 -- a line that makes no call stands where the session that it leaves does
 no_call : (lines : List Line) (event : Event) (r : Reply) (s u : Option CloudState) (old new : World) (t : CloudState)
     → u ≡ s → new.audit ≡ old.audit → s ≡ Some t → Stands lines old.session old.audit t
-    → Knows (newest t) new.session.work → IsKept new.session.work → ActsAs new.session (after_line 1 (standing lines 1) (line_of event r))
+    → Knows (newest t) new.session.work → IsKept new.session.work → ActsAs new.session (after_line 1 (standing lines 1) (line_of event r)) → RecordsStand new.session old.audit t
     → ReportIsRight (lines ++ line_of event r ∷ []) t r → LeftIsRight t r → StandsFor (lines ++ line_of event r ∷ []) new u r
-no_call lines event r s u old new t same audit told stands knows kept acts right left = record {
+no_call lines event r s u old new t same audit told stands knows kept acts records right left = record {
   after = t;
   told = same ∙ told;
   stands = line_through lines (line_of event r) new.session new.audit t
-      (subst (λ a. CloudStands (length lines + 1) lines a t) (sym audit) (begins_line lines old.session old.audit t stands).cloud) knows kept acts;
+      (subst (λ a. CloudStands (length lines + 1) lines a t) (sym audit) (begins_line lines old.session old.audit t stands).cloud) knows kept acts
+      (subst (λ a. RecordsStand new.session a t) (sym audit) records);
   right = right;
   left = left;
 }
@@ -81,7 +89,8 @@ leaves_all : (lines : List Line) (event : Event) (r : Reply) (s u : Option Cloud
 leaves_all lines event r s u old new t same world told stands kept stays right left =
     no_call lines event r s u old new t same (ap (λ (w : World). w.audit) world) told stands
     (subst (λ (w : World). Knows (newest t) w.session.work) (sym world) stands.session.knows) kept
-    (subst (λ z. ActsAs new.session z) (sym stays) (subst (λ (w : World). ActsAs w.session (standing lines 1)) (sym world) stands.session.acts)) right left
+    (subst (λ z. ActsAs new.session z) (sym stays) (subst (λ (w : World). ActsAs w.session (standing lines 1)) (sym world) stands.session.acts))
+    (subst (λ (w : World). RecordsStand w.session old.audit t) (sym world) stands.records) right left
 
 -- a refusal changes nothing of how a session stands
 refused_own : (event : Event) (rule : Refusal) (s : Standing) → after_own event (reply.Refused rule) s ≡ s
@@ -164,13 +173,6 @@ answer_no_left t (answer.Trouble z) r is = absurd is
 
 -- ---- lines that begin an operation
 
-is_client : (n : ℕ) → IsClient n ⊎ (IsClient n → ⊥)
-is_client n = on (cases_lt 0 n) (cases_lt 64 n) where
-  on : (0 < n) ⊎ (n ≤ 0) → (64 < n) ⊎ (n ≤ 64) → IsClient n ⊎ (IsClient n → ⊥)
-  on (inl a) (inr b) = inl (record { some = omega arith; most = b })
-  on (inr a) b = inr (λ i. let h : 1 ≤ n = i.some in omega arith)
-  on (inl a) (inl b) = inr (λ i. let h : n ≤ 64 = i.most in omega arith)
-
 is_tree : (n : ℕ) → IsTree n ⊎ (IsTree n → ⊥)
 is_tree n = on (cases_lt 0 n) (cases_lt 16 n) where
   on : (0 < n) ⊎ (n ≤ 0) → (16 < n) ⊎ (n ≤ 16) → IsTree n ⊎ (IsTree n → ⊥)
@@ -189,11 +191,11 @@ pub record Ready (lines : List Line) (event : Event) (s u : Option CloudState) (
 
 -- the session that a line of its own leaves stands as the line and its reply say
 leaves_session : (lines : List Line) (event : Event) (r : Reply) (s u : Option CloudState) (old new : World) (t : CloudState) → Ready lines event s u old new t
-    → Knows (newest t) new.session.work → ActsAs new.session (after_own event r (standing lines 1)) → ReportIsRight (lines ++ line_of event r ∷ []) t r → LeftIsRight t r
+    → Knows (newest t) new.session.work → ActsAs new.session (after_own event r (standing lines 1)) → RecordsStand new.session old.audit t → ReportIsRight (lines ++ line_of event r ∷ []) t r → LeftIsRight t r
     → StandsFor (lines ++ line_of event r ∷ []) new u r
-leaves_session lines event r s u old new t ready knows acts right left =
+leaves_session lines event r s u old new t ready knows acts records right left =
     no_call lines event r s u old new t ready.same ready.audit ready.told ready.stands knows ready.kept
-    (subst (λ z. ActsAs new.session z) (sym (own_line event r (standing lines 1) ready.own)) acts) right left
+    (subst (λ z. ActsAs new.session z) (sym (own_line event r (standing lines 1) ready.own)) acts) records right left
 
 -- a line that is refused leaves its session
 refuses_session : (lines : List Line) (event : Event) (r : Reply) (rule : Refusal) (s u : Option CloudState) (old new : World) (t : CloudState) → Ready lines event s u old new t
@@ -204,34 +206,37 @@ refuses_session lines event r rule s u old new t ready is same =
     subst P (sym e) (leaves_session lines event (reply.Refused rule) s u old new t ready
     (subst (λ (x : Acting). Knows (newest t) x.work) (sym same) ready.stands.session.knows)
     (subst (λ z. ActsAs new.session z) (sym (refused_own event rule (standing lines 1))) (subst (λ x. ActsAs x (standing lines 1)) (sym same) ready.stands.session.acts))
+    (subst (λ x. RecordsStand x old.audit t) (sym same) ready.stands.records)
     tt tt)
 
 -- an operation that begins has its first call in hand
 begins_session : (lines : List Line) (event : Event) (r : Reply) (s u : Option CloudState) (old new : World) (t : CloudState) (session : Acting) → Ready lines event s u old new t
-    → IsOk (Ok r) reply.Begun → new.session ≡ session → Knows (newest t) session.work → ActsAs session (after_own event reply.Begun (standing lines 1))
+    → IsOk (Ok r) reply.Begun → new.session ≡ session → Knows (newest t) session.work → ActsAs session (after_own event reply.Begun (standing lines 1)) → RecordsKnown (tally_of t) old.audit.committed session.work → MayCommit session.buffer
     → StandsFor (lines ++ line_of event r ∷ []) new u r
-begins_session lines event r s u old new t session ready is same knows acts =
+begins_session lines event r s u old new t session ready is same knows acts known buffer =
     let e : r ≡ reply.Begun = cc in
     let P : Reply → Type 0 = λ z. StandsFor (lines ++ line_of event z ∷ []) new u z in
     subst P (sym e) (leaves_session lines event reply.Begun s u old new t ready
     (subst (λ (x : Acting). Knows (newest t) x.work) (sym same) knows)
     (subst (λ x. ActsAs x (after_own event reply.Begun (standing lines 1))) (sym same) acts)
+    (subst (λ x. RecordsStand x old.audit t) (sym same) (record { hold = ready.stands.records.hold; known = known; buffer = buffer }))
     tt tt)
 
-opening_begun : (lines : List Line) (k client : ℕ) (r : Reply) (s u : Option CloudState) (old new : World) (t : CloudState) (begun : Result Begun Refused)
+opening_begun : (lines : List Line) (k client : ℕ) (r : Reply) (s u : Option CloudState) (old new : World) (t : CloudState) (begun : Result Begun Refused) → IsClient client
     → Ready lines (event.Open k client) s u old new t → BeginsOpening client old.session new.session begun → BegunReply begun (Ok r)
     → StandsFor (lines ++ line_of (event.Open k client) r ∷ []) new u r
-opening_begun lines k client r s u old new t (Ok Working) ready begins replies =
+opening_begun lines k client r s u old new t (Ok Working) is_client ready begins replies =
     begins_session lines (event.Open k client) r s u old new t _ ready replies begins.1 tt (record { buffer = refl; work = (refl, refl) })
-opening_begun lines k client r s u old new t (Ok (Answered a)) ready begins replies = absurd begins
-opening_begun lines k client r s u old new t (Err (refused.Rule rule)) ready begins replies = refuses_session lines (event.Open k client) r rule s u old new t ready replies begins.1
-opening_begun lines k client r s u old new t (Err refused.Memory) ready begins replies = absurd begins
+    (record { client = is_client; at = tt }) may_nothing
+opening_begun lines k client r s u old new t (Ok (Answered a)) is_client ready begins replies = absurd begins
+opening_begun lines k client r s u old new t (Err (refused.Rule rule)) is_client ready begins replies = refuses_session lines (event.Open k client) r rule s u old new t ready replies begins.1
+opening_begun lines k client r s u old new t (Err refused.Memory) is_client ready begins replies = absurd begins
 
 opens : (lines : List Line) (k client : ℕ) (r : Reply) (s u : Option CloudState) (old new : World) (t : CloudState)
     → Ready lines (event.Open k client) s u old new t → Opens client old.session new.session (Ok r) → StandsFor (lines ++ line_of (event.Open k client) r ∷ []) new u r
 opens lines k client r s u old new t ready h = on (is_client client) where
   on : IsClient client ⊎ (IsClient client → ⊥) → StandsFor (lines ++ line_of (event.Open k client) r ∷ []) new u r
-  on (inl is) = let o = h.opening is in opening_begun lines k client r s u old new t o.0 ready o.1 o.2
+  on (inl is) = let o = h.opening is in opening_begun lines k client r s u old new t o.0 is ready o.1 o.2
   on (inr no_client) = let o = h.no_client no_client in refuses_session lines (event.Open k client) r _ s u old new t ready o.1 o.0
 
 -- a checkpoint begins beside an open client
@@ -242,7 +247,7 @@ folding_begins : (lines : List Line) (k tree : ℕ) (r : Reply) (s u : Option Cl
 folding_begins lines k tree r s u buffer (work.Idle home) audit new t ready folds replies =
     let acts = ready.stands.session.acts in
     begins_session lines (event.Tree k tree) r s u _ new t _ ready replies folds (ready.stands.session.knows, record { root = tt; puts = tt })
-    (record { buffer = acts.buffer; work = (refl, acts.work.1) })
+    (record { buffer = acts.buffer; work = (refl, acts.work.1) }) (ready.stands.records.known, tt) ready.stands.records.buffer
 folding_begins lines k tree r s u buffer work.Closed audit new t ready folds replies = absurd folds
 folding_begins lines k tree r s u buffer (work.Opening m) audit new t ready folds replies = absurd folds
 folding_begins lines k tree r s u buffer (work.Committing m) audit new t ready folds replies = absurd folds
@@ -300,6 +305,7 @@ commit_of lines k r s u buffer home audit new t Working ready commits replies =
     let o = opens_head (newest t) home buffer commits.0 ready.stands.session.knows commits.1 in
     begins_session lines (event.Commit k) r s u _ new t _ ready replies commits.2 o.0
     (record { buffer = refl; work = (ap (λ cs. WorkingOn (Noting cs)) (sym acts.buffer ∙ sym o.1), acts.work.1 ∙ sym o.2) })
+    (opens_known t audit.committed home buffer commits.0 ready.stands.session.knows ready.stands.records.known ready.stands.records.buffer commits.1) may_nothing
 commit_of lines k r s u buffer home audit new t (Answered (answer.Commit a)) ready commits replies =
     let acts = ready.stands.session.acts in
     let o = home_left (newest t) home buffer commits.0 a ready.stands.session.knows commits.1 in
@@ -309,6 +315,8 @@ commit_of lines k r s u buffer home audit new t (Answered (answer.Commit a)) rea
     subst P (sym e) (leaves_session lines (event.Commit k) (reply.Commit (NotCommitted o.2.0)) s u _ new t ready
     (subst (λ (x : Acting). Knows (newest t) x.work) (sym commits.2) o.0)
     (subst (λ x. ActsAs x (record (standing lines 1) { buffer = [] })) (sym commits.2) (record { buffer = refl; work = (acts.work.0, acts.work.1 ∙ sym o.1) }))
+    (subst (λ (x : Acting). RecordsStand x audit t) (sym commits.2)
+    (record { hold = ready.stands.records.hold; known = left_known home buffer commits.0 a ready.stands.records.known commits.1; buffer = may_nothing }))
     tt tt)
 commit_of lines k r s u buffer home audit new t (Answered (answer.Opened epoch)) ready commits replies = absurd commits
 commit_of lines k r s u buffer home audit new t (Answered (answer.Done n)) ready commits replies = absurd commits
@@ -326,6 +334,7 @@ commit_noted lines k r s u buffer (work.Idle home) audit new t begun ready (inl 
     subst P (sym e) (leaves_session lines (event.Commit k) (reply.Commit (Committed 0)) s u _ new t ready
     (subst (λ (x : Acting). Knows (newest t) x.work) (sym none.1) ready.stands.session.knows)
     (subst (λ x. ActsAs x (standing lines 1)) (sym none.1) ready.stands.session.acts)
+    (subst (λ x. RecordsStand x audit t) (sym none.1) ready.stands.records)
     tt tt)
 commit_noted lines k r s u buffer (work.Idle home) audit new t begun ready (inr some) replies = commit_of lines k r s u buffer home audit new t begun ready some.1 replies
 commit_noted lines k r s u buffer work.Closed audit new t begun ready commits replies = absurd commits
@@ -352,6 +361,8 @@ inserts lines k tree key payload reply.Noted s u old new t ready h =
     (subst (λ (x : Acting). Knows (newest t) x.work) (sym h.0) ready.stands.session.knows)
     (subst (λ x. ActsAs x (after_own (event.Insert k tree key payload) reply.Noted (standing lines 1))) (sym h.0)
     (record { buffer = ap (λ b. noted_in b tree (Insert key payload)) acts.buffer; work = works_with old.session.work (standing lines 1) _ acts.work }))
+    (subst (λ (x : Acting). RecordsStand x old.audit t) (sym h.0)
+    (record { hold = ready.stands.records.hold; known = ready.stands.records.known; buffer = may_insert old.session.buffer tree key payload ready.stands.records.buffer }))
     tt tt
 inserts lines k tree key payload (reply.Refused rule) s u old new t ready h = refuses_session lines (event.Insert k tree key payload) (reply.Refused rule) rule s u old new t ready refl h.0
 inserts lines k tree key payload r s u old new t ready h = absurd h
@@ -363,6 +374,7 @@ aborts lines k reply.Aborted s u old new t ready h =
     leaves_session lines (event.Abort k) reply.Aborted s u old new t ready
     (subst (λ (x : Acting). Knows (newest t) x.work) (sym h.0) ready.stands.session.knows)
     (subst (λ x. ActsAs x (record (standing lines 1) { buffer = [] })) (sym h.0) (record { buffer = refl; work = works_with old.session.work (standing lines 1) [] acts.work }))
+    (subst (λ (x : Acting). RecordsStand x old.audit t) (sym h.0) (record { hold = ready.stands.records.hold; known = ready.stands.records.known; buffer = may_nothing }))
     tt tt
 aborts lines k (reply.Refused rule) s u old new t ready h = refuses_session lines (event.Abort k) (reply.Refused rule) rule s u old new t ready refl h.0
 aborts lines k r s u old new t ready h = absurd h
@@ -409,7 +421,7 @@ ends_run lines k who c f s v old new (Ok (Ended a)) r own session number way ste
       after = k'.after;
       told = step.after.stays k'.after k'.told;
       stands = line_through lines (line_of (event.Run k) r) new.session new.audit k'.after k'.cloud k'.knows step.kept
-          (subst (λ z. ActsAs new.session z) (sym (own_line (event.Run k) r (standing lines 1) own)) k'.acts);
+          (subst (λ z. ActsAs new.session z) (sym (own_line (event.Run k) r (standing lines 1) own)) k'.acts) k'.records;
       right = answer_no_report (lines ++ line_of (event.Run k) r ∷ []) k'.after a r is;
       left = answer_no_left k'.after a r is;
     }
@@ -425,7 +437,8 @@ ends_run lines k who c f s v old new (Err (refused.Rule rule)) r own session num
           (subst (λ a. CloudStands (length lines + 1) lines a way.after) (sym audit) way.goes.cloud)
           (subst (λ (x : Acting). Knows (newest way.after) x.work) (sym step.steps.2) way.goes.session.knows)
           step.kept
-          (subst (λ z. ActsAs new.session z) (sym (refused_line (event.Run k) rule (standing lines 1))) (subst (λ x. ActsAs x (standing lines 1)) (sym step.steps.2) way.goes.session.acts));
+          (subst (λ z. ActsAs new.session z) (sym (refused_line (event.Run k) rule (standing lines 1))) (subst (λ x. ActsAs x (standing lines 1)) (sym step.steps.2) way.goes.session.acts))
+          (subst (λ a. RecordsStand new.session a way.after) (sym audit) (subst (λ x. RecordsStand x old.audit way.after) (sym step.steps.2) way.goes.records));
       right = tt;
       left = tt;
     })
@@ -445,18 +458,23 @@ runs lines k n r c d s u old new t own at told stands run =
 -- ---- reports
 
 -- a report by the audit and by looks is right
-right_of : (lines : List Line) (tree : ℕ) (audit : Audited) (s : Option CloudState) (t : CloudState) (r : Report) → CloudStands (length lines) lines audit t → Shows tree s audit r → s ≡ Some t → IsRight lines t r
-right_of lines tree audit s t r stands shows told =
-    let found = report_of t tree audit.order r.contents (stands.trees tree) (shows.contents t told) in
+right_of : (lines : List Line) (tree : ℕ) (session : Acting) (audit : Audited) (s : Option CloudState) (t : CloudState) (r : Report) → Stands lines session audit t → Shows tree s audit r → s ≡ Some t → IsRight lines t r
+right_of lines tree session audit s t r stands shows told =
+    let found = report_of t tree audit.order r.contents (stands.cloud.trees tree) (shows.contents t told) in
     let at : tree ≡ r.tree = sym shows.tree_is in
     record {
-      committed = shows.committed ∙ ap (λ es. of_tree tree es) stands.committed ∙ ap (λ k. of_tree k (committed lines t)) at;
+      committed = shows.committed ∙ ap (λ es. of_tree tree es) stands.cloud.committed ∙ ap (λ k. of_tree k (committed lines t)) at;
       leaves = found.leaves;
       chain = subst (λ k. AreLeaves t k found.leaves) at found.chain;
       contents = found.contents_are;
       found = λ key. subst (λ k. Finds t k key (payload_at key r.contents)) at (found.found key);
       folded = λ key. found.folded_own key ∙ ap (λ es. fold es tree key) (sym shows.order) ∙ ap (λ k. fold r.order k key) at;
+      legal = of_lists IsLegal (legal_in_tree (tally_of t) audit.committed audit.order tree stands.records.hold);
+      complete = λ heads messages. of_lists HoldsAll (complete_in_tree t audit.committed audit.order tree stands.records.hold (sym (shows.heads t told) ∙ heads) (subst (AreWaiting t tree) messages (shows.messages t told)));
     }
+  where
+    of_lists : (P : List Entry → List Entry → Type 0) → P (of_tree tree audit.order) (of_tree tree audit.committed) → P r.order r.committed
+    of_lists P h = subst (λ os. P os r.committed) (sym shows.order) (subst (P (of_tree tree audit.order)) (sym shows.committed) h)
 
 -- and so are its two numbers
 left_of : (tree : ℕ) (audit : Audited) (s : Option CloudState) (t : CloudState) (r : Report) → Shows tree s audit r → s ≡ Some t → IsLeft t r
@@ -477,9 +495,10 @@ reports lines tree (reply.Report r) c d s u old new t told stands kept h =
     (subst (λ (w : World). CloudStands (length lines + 1) lines w.audit t) (sym h.world) (begins_line lines old.session old.audit t stands).cloud)
     (subst (λ (w : World). Knows (newest t) w.session.work) (sym h.world) stands.session.knows)
     kept
-    (subst (λ (w : World). ActsAs w.session (standing lines 1)) (sym h.world) stands.session.acts) in
+    (subst (λ (w : World). ActsAs w.session (standing lines 1)) (sym h.world) stands.session.acts)
+    (subst (λ (w : World). RecordsStand w.session w.audit t) (sym h.world) stands.records) in
     let shows : Shows tree s new.audit r = subst (λ (w : World). Shows tree s w.audit r) (sym h.world) h.reply in
-    record { after = t; told = h.looked.stays t told; stands = stood; right = right_of (lines ++ line ∷ []) tree new.audit s t r stood.cloud shows told; left = left_of tree new.audit s t r shows told }
+    record { after = t; told = h.looked.stays t told; stands = stood; right = right_of (lines ++ line ∷ []) tree new.session new.audit s t r stood shows told; left = left_of tree new.audit s t r shows told }
 reports lines tree (reply.Refused rule) c d s u old new t told stands kept h =
     let line : Line = line_of (event.Report tree) (reply.Refused rule) in
     let stood : Stands (lines ++ line ∷ []) new.session new.audit t =
@@ -487,7 +506,8 @@ reports lines tree (reply.Refused rule) c d s u old new t told stands kept h =
     (subst (λ (w : World). CloudStands (length lines + 1) lines w.audit t) (sym h.world) (begins_line lines old.session old.audit t stands).cloud)
     (subst (λ (w : World). Knows (newest t) w.session.work) (sym h.world) stands.session.knows)
     kept
-    (subst (λ (w : World). ActsAs w.session (standing lines 1)) (sym h.world) stands.session.acts) in
+    (subst (λ (w : World). ActsAs w.session (standing lines 1)) (sym h.world) stands.session.acts)
+    (subst (λ (w : World). RecordsStand w.session w.audit t) (sym h.world) stands.records) in
     record { after = t; told = h.looked.stays t told; stands = stood; right = tt; left = tt }
 reports lines tree r c d s u old new t told stands kept h = absurd h.reply
 

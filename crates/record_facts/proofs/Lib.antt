@@ -1,0 +1,14 @@
+pub mod Places
+pub mod CountedLemmas
+pub mod CloudRecords
+pub mod HeadRecords
+pub mod OpeningRecords
+pub mod CommitRecords
+pub mod FoldingRecords
+pub mod FoldingKnowledge
+pub mod LegalLemmas
+pub mod RunLemmas
+pub mod RouteLemmas
+pub mod LeftLemmas
+pub mod EmptyRecords
+pub mod TreeRecords

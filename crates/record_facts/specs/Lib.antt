@@ -1,0 +1,3 @@
+pub mod Records
+pub mod Tally
+pub mod Known

@@ -2,3 +2,4 @@ pub mod Going
 pub mod Landing
 pub mod StandsLemmas
 pub mod GrowthLemmas
+pub mod Ending

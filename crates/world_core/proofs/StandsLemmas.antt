@@ -320,7 +320,7 @@ commit_of lines k r s u buffer home audit new t (Answered (answer.Commit a)) rea
     tt tt)
 commit_of lines k r s u buffer home audit new t (Answered (answer.Opened epoch)) ready commits replies = absurd commits
 commit_of lines k r s u buffer home audit new t (Answered (answer.Done n)) ready commits replies = absurd commits
-commit_of lines k r s u buffer home audit new t (Answered (answer.Trouble z)) ready commits replies = absurd replies
+commit_of lines k r s u buffer home audit new t (Answered (answer.Trouble z)) ready commits replies = absurd (cc (replies))
 
 -- nothing was noted, or the home commits what was
 commit_noted : (lines : List Line) (k : ℕ) (r : Reply) (s u : Option CloudState) (buffer : List Noted) (w : Work) (audit : Audited) (new : World) (t : CloudState) (begun : Begun)
@@ -385,10 +385,10 @@ replies_to : (a : Answer) (r : Reply) → Replies a (Ok r) → IsReplyTo a r
 replies_to (answer.Opened epoch) r h = cc
 replies_to (answer.Done n) r h = cc
 replies_to (answer.Commit (Committed txn)) r h = cc
-replies_to (answer.Commit (NotCommitted t)) r h = absurd h
-replies_to (answer.Commit InDoubt) r h = absurd h
-replies_to (answer.Commit (CommittedOpen t)) r h = absurd h
-replies_to (answer.Trouble t) r h = absurd h
+replies_to (answer.Commit (NotCommitted t)) r h = absurd (cc (h))
+replies_to (answer.Commit InDoubt) r h = absurd (cc (h))
+replies_to (answer.Commit (CommittedOpen t)) r h = absurd (cc (h))
+replies_to (answer.Trouble t) r h = absurd (cc (h))
 
 -- where a session is after some steps
 pub record IsUnderWay (lines : List Line) (world : World) (state : Option CloudState) : Type 0 where

@@ -8,7 +8,7 @@ use Rattle.db_base.specs.declared.refusal.Refusal.{Refusal}
 use Rattle.db_base.specs.declared.refusal.Refusal.TheVariants as rule
 use Rattle.db_base.specs.declared.refusal.Refused.{Refused}
 use Rattle.db_base.specs.declared.refusal.Refused.TheVariants as refused
-use Rattle.db_base.specs.declared.trouble.CommitAnswer.TheVariants.{Committed}
+use Rattle.db_base.specs.declared.trouble.CommitAnswer.TheVariants.{Committed, NotCommitted, InDoubt, CommittedOpen}
 use Rattle.txn_buffer.specs.Noted.{noted_in}
 use Rattle.event_text.specs.declared.event.Event.{Event}
 use Rattle.event_text.specs.declared.event.Event.TheVariants as event
@@ -34,6 +34,8 @@ use Rattle.replay_model.specs.Standing.{session_of}
 use Rattle.replay_model.specs.Noting.{audited}
 use Rattle.world_core.specs.declared.world.World.{World}
 use Rattle.world_core.specs.declared.world.WorldFault.{WorldFault}
+use Rattle.world_core.specs.declared.world.WorldFault.TheVariants as fault
+use Rattle.world_core.specs.Fault.{fault_of, StepFails, ReportFails}
 
 -- a line that is not served yet is refused, and changes neither the world nor the cloud
 pub record IsUnbuilt (c d : Counts) (s t : Option CloudState) (old new : World) (result : Result Reply WorldFault) : Type 0 where
@@ -42,17 +44,15 @@ pub record IsUnbuilt (c d : Counts) (s t : Option CloudState) (old new : World) 
   pub counts : d ≡ c
   pub state : t ≡ s
 
--- the reply to the begin of an operation; a trouble and want of memory have none
+-- the reply to the begin of an operation; a trouble and want of memory have none, and are a fault
 abbrev pub BegunReply : Result Begun Refused → Result Reply WorldFault → Type 0
 BegunReply (Ok Working) result = result ≡ Ok reply.Begun
 BegunReply (Ok (Answered (answer.Commit a))) result = result ≡ Ok (reply.Commit a)
 BegunReply (Ok (Answered (answer.Opened epoch))) result = result ≡ Ok (reply.Opened epoch)
 BegunReply (Ok (Answered (answer.Done n))) result = result ≡ Ok (reply.Done n)
-BegunReply (Ok (Answered (answer.Trouble t))) (Ok r) = ⊥
-BegunReply (Ok (Answered (answer.Trouble t))) (Err fault) = Unit {0}
+BegunReply (Ok (Answered (answer.Trouble t))) result = result ≡ Err (fault_of t)
 BegunReply (Err (refused.Rule r)) result = result ≡ Ok (reply.Refused r)
-BegunReply (Err refused.Memory) (Ok r) = ⊥
-BegunReply (Err refused.Memory) (Err fault) = Unit {0}
+BegunReply (Err refused.Memory) result = result ≡ Err fault.Memory
 
 -- an opening of a client; a number that is no client's is refused and changes nothing
 pub record Opens (client : ℕ) (old new : Acting) (result : Result Reply WorldFault) : Type 0 where
@@ -90,29 +90,30 @@ RefusesInsert tree key payload old r =
     ⊎ ((IsTree tree × InsertRefused key payload r)
     ⊎ (IsTree tree × IsKey key × IsPayload payload × NoteRefused old tree (Insert key payload) (refused.Rule r)))
 
--- a line that notes, drops or is refused: nothing but what its reply says has changed
+-- a line that notes or is refused: nothing but what its reply says has changed; without a reply memory ran out
 abbrev pub Inserts : ℕ → List ℕ → List ℕ → Acting → Acting → Result Reply WorldFault → Type 0
 Inserts tree key payload old new (Ok reply.Noted) =
     (new ≡ record old { buffer = noted_in old.buffer tree (Insert key payload) }) × (rule_of old.work ≡ None) × IsTree tree × IsKey key × IsPayload payload
 Inserts tree key payload old new (Ok (reply.Refused r)) = (new ≡ old) × RefusesInsert tree key payload old r
 Inserts tree key payload old new (Ok r) = ⊥
-Inserts tree key payload old new (Err fault) = new ≡ old
+Inserts tree key payload old new (Err why) = (new ≡ old) × (why ≡ fault.Memory)
 
+-- a line that drops or is refused; it takes no memory
 abbrev pub Aborts : Acting → Acting → Result Reply WorldFault → Type 0
 Aborts old new (Ok reply.Aborted) = (new ≡ record old { buffer = [] }) × (rule_of old.work ≡ None)
 Aborts old new (Ok (reply.Refused r)) = (new ≡ old) × (rule_of old.work ≡ Some r)
 Aborts old new (Ok r) = ⊥
-Aborts old new (Err fault) = new ≡ old
+Aborts old new (Err why) = ⊥
 
--- the reply to the answer of an operation; a trouble, and a commit that is in doubt or open, have none yet
+-- the reply to the answer of an operation; a trouble, and a commit that is not committed, in doubt or open, have none yet, and are a fault
 abbrev pub Replies : Answer → Result Reply WorldFault → Type 0
 Replies (answer.Opened epoch) result = result ≡ Ok (reply.Opened epoch)
 Replies (answer.Done n) result = result ≡ Ok (reply.Done n)
 Replies (answer.Commit (Committed txn)) result = result ≡ Ok (reply.Commit (Committed txn))
-Replies (answer.Commit a) (Ok r) = ⊥
-Replies (answer.Commit a) (Err fault) = Unit {0}
-Replies (answer.Trouble t) (Ok r) = ⊥
-Replies (answer.Trouble t) (Err fault) = Unit {0}
+Replies (answer.Commit (NotCommitted t)) result = result ≡ Err (fault_of t)
+Replies (answer.Commit InDoubt) result = result ≡ Err fault.Cloud
+Replies (answer.Commit (CommittedOpen t)) result = result ≡ Err (fault_of t)
+Replies (answer.Trouble t) result = result ≡ Err (fault_of t)
 
 -- one step of the session between two looks: the audit takes what the put in hand commits or applies where it was seen to land
 pub record StepsLooked (who : Caller) (c f : Counts) (s v : Option CloudState) (old new : World) (r : Result (Turn Answer) Refused) : Type 0 where
@@ -149,10 +150,18 @@ pub record RunsTo (n : ℕ) (c d : Counts) (s t : Option CloudState) (old new : 
   pub steps : StepsLooked (record { session = 1; event = n }) counts d state t world new last
   pub replies : RunReply last result
 
--- a run that has a reply made its steps
+-- plain steps of session 1 up to one that has no outcome
+pub record RunFails (n : ℕ) (c d : Counts) (s t : Option CloudState) (old new : World) (why : WorldFault) : Type 0 where
+  pub counts : Counts
+  pub state : Option CloudState
+  pub world : World
+  pub went : Went (record { session = 1; event = n }) c s old counts state world
+  pub fails : StepFails (record { session = 1; event = n }) counts d state t world new why
+
+-- a run that has a reply made its steps; one that has none did so too, up to an answer that is a fault or to a step that has no outcome
 abbrev pub Runs : ℕ → Counts → Counts → Option CloudState → Option CloudState → World → World → Result Reply WorldFault → Type 0
 Runs n c d s t old new (Ok r) = RunsTo n c d s t old new (Ok r)
-Runs n c d s t old new (Err fault) = Unit {0}
+Runs n c d s t old new (Err why) = RunsTo n c d s t old new (Err why) ⊎ RunFails n c d s t old new why
 
 -- a report shows the tree's part of the audit, the records of its newest leaves, its open heads, and the messages that wait for it
 pub record Shows (tree : ℕ) (s : Option CloudState) (audit : Audited) (r : Report) : Type 0 where
@@ -164,17 +173,17 @@ pub record Shows (tree : ℕ) (s : Option CloudState) (audit : Audited) (r : Rep
   pub messages : (x : CloudState) → s ≡ Some x → AreWaiting x tree r.messages
 
 -- the reply to the report of a tree; a number that is no tree's is refused
-abbrev pub ReportReply : ℕ → Option CloudState → Audited → Result Reply WorldFault → Type 0
-ReportReply tree s audit (Ok (reply.Report r)) = Shows tree s audit r
-ReportReply tree s audit (Ok (reply.Refused r)) = (r ≡ rule.BadNumber) × (IsTree tree → ⊥)
-ReportReply tree s audit (Ok r) = ⊥
-ReportReply tree s audit (Err fault) = Unit {0}
+abbrev pub ReportReply : ℕ → Counts → Counts → Option CloudState → Audited → Result Reply WorldFault → Type 0
+ReportReply tree c d s audit (Ok (reply.Report r)) = Shows tree s audit r
+ReportReply tree c d s audit (Ok (reply.Refused r)) = (r ≡ rule.BadNumber) × (IsTree tree → ⊥)
+ReportReply tree c d s audit (Ok r) = ⊥
+ReportReply tree c d s audit (Err why) = ReportFails tree c d why
 
 -- a report looks alone, and leaves the world as it is
 pub record Reports (tree : ℕ) (c d : Counts) (s t : Option CloudState) (old new : World) (result : Result Reply WorldFault) : Type 0 where
   pub world : new ≡ old
   pub looked : Looked c d s t
-  pub reply : ReportReply tree s old.audit result
+  pub reply : ReportReply tree c d s old.audit result
 
 -- no call is made, and the audit stays
 pub record MakesNoCall (c d : Counts) (s t : Option CloudState) (old new : World) : Type 0 where

@@ -1,3 +1,4 @@
 pub mod Put
+pub mod Fault
 pub mod Handled
 pub mod Stands

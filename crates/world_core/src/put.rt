@@ -1,8 +1,9 @@
 //! Looks at the object of a put that a session has in hand.
 
-ghost use Rattle.std.specs.Prelude.{◌≡◌, Some, IfOk};
+ghost use Rattle.std.specs.Prelude.{◌≡◌, Some, Err, IfOk};
 ghost use Rattle.cloud_trait.specs.Call.{ask_of};
 ghost use Rattle.cloud_trait.specs.State.{CloudState, newest};
+ghost use Rattle.cloud_trait.specs.Weather.{Rose};
 ghost use Rattle.world_audit.specs.Look.{Looked};
 ghost use Rattle.world_core.specs.Put.{put_of, put_of_ask, is_newest};
 
@@ -57,6 +58,7 @@ pub(crate) fn put_in_hand(alloc: Global, session: &Session) -> Result<Option<Put
 /// Whether the newest version of the put's object has its bytes.
 pub(crate) fn is_newest<C: Bench>(cloud: &mut C, put: &Put) -> Result<bool, WorldFault>
     ensures looked { Looked (C.counts cloud.old) (C.counts cloud.new) (C.state cloud.old) (C.state cloud.new) }
+    ensures dark { result ≡ Err WorldFault.Cloud → Rose (C.counts cloud.old).dark (C.counts cloud.new).dark }
     ensures newest { (s : CloudState) → C.state cloud.old ≡ Some s → IfOk result (λ is. is ≡ is_newest (newest s) put.now) }
 {
     match cloud.peek(put.name) {

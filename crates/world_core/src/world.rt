@@ -3,6 +3,7 @@ ghost use Rattle.cloud_trait.specs.State.{CloudState};
 ghost use Rattle.client_session.specs.Session.{IsKept};
 ghost use Rattle.replay_model.specs.Standing.{session_of};
 ghost use Rattle.world_core.specs.Put.{put_of};
+ghost use Rattle.world_core.specs.Fault.{fault_of};
 ghost use Rattle.world_core.specs.Handled.{BegunReply, InsertOf, Replies};
 
 use crate::noting::{keep_landed, note_put};
@@ -25,7 +26,7 @@ use world_audit::audit::Audit;
 /// Why a line has no reply.
 #[derive(Clone, Copy, Debug, PartialEq, Eq)]
 pub enum WorldFault {
-    /// An operation stopped with a trouble of the cloud. It has no reply yet.
+    /// An operation stopped with a trouble, which has no reply yet, or a look at the cloud failed.
     Cloud,
     /// Memory ran out.
     Memory,
@@ -43,6 +44,7 @@ pub struct World {
 impl World {
     ghost use Rattle.client_session.specs.Session.{closed_session};
     ghost use Rattle.world_core.specs.Stands.{StandsOn, Grows};
+    ghost use Rattle.world_core.specs.Fault.{StepFails};
     ghost use Rattle.world_core.specs.Handled.{Handled, HandledFirst, HandledOther, IsUnbuilt, Opens, Folds, Inserts, Commits, Aborts, Runs, StepsLooked, Reports};
 
     /// A world whose session is closed, and that saw nothing. Refused for memory alone.
@@ -200,7 +202,7 @@ impl World {
         match self.session.abort() {
             Ok(()) => Ok(Reply::Aborted),
             Err(Refused::Rule(rule)) => Ok(Reply::Refused(rule)),
-            Err(Refused::Memory) => Err(WorldFault::Memory),
+            Err(Refused::Memory) => unreachable!(),
         }
     }
 
@@ -236,17 +238,16 @@ impl World {
         ensures grows { Grows n (C.state cloud.old) (C.state cloud.new) }
     {
         let who = first_session(n);
-        'steps: for _ in 0..u64::MAX {
+        'steps: loop {
             let turn = self.step(alloc, cloud, who)?;
             match turn {
                 Ok(Turn::More) => {}
                 Ok(Turn::Ended(answer)) => return reply_of(answer),
-                Ok(Turn::Stopped(_)) => return Err(WorldFault::Cloud),
+                Ok(Turn::Stopped(_)) => unreachable!(),
                 Err(Refused::Rule(rule)) => return Ok(Reply::Refused(rule)),
-                Err(Refused::Memory) => return Err(WorldFault::Memory),
+                Err(Refused::Memory) => unreachable!(),
             }
         }
-        Err(WorldFault::Cloud)
     }
 
     /// Makes a step of the session, between two looks where it is a put.
@@ -257,6 +258,7 @@ impl World {
         who: Who,
     ) -> Result<Result<Turn<Answer>, Refused>, WorldFault>
         ensures looked { IfOk result (λ turn. StepsLooked who (C.counts cloud.old) (C.counts cloud.new) (C.state cloud.old) (C.state cloud.new) self.old self.new turn) }
+        ensures fails { IfErr result (λ why. StepFails who (C.counts cloud.old) (C.counts cloud.new) (C.state cloud.old) (C.state cloud.new) self.old self.new why) }
         ensures grows { Grows who.event (C.state cloud.old) (C.state cloud.new) }
     {
         match put_in_hand(alloc, &self.session) {
@@ -276,6 +278,7 @@ impl World {
     ) -> Result<Result<Turn<Answer>, Refused>, WorldFault>
         requires { put_of self.old.session.work ≡ Some put.now }
         ensures looked { IfOk result (λ turn. StepsLooked who (C.counts cloud.old) (C.counts cloud.new) (C.state cloud.old) (C.state cloud.new) self.old self.new turn) }
+        ensures fails { IfErr result (λ why. StepFails who (C.counts cloud.old) (C.counts cloud.new) (C.state cloud.old) (C.state cloud.new) self.old self.new why) }
         ensures grows { Grows who.event (C.state cloud.old) (C.state cloud.new) }
     {
         let before = is_newest(cloud, put)?;
@@ -300,8 +303,7 @@ impl World {
         };
         match self.audit.report(alloc, cloud, tree) {
             Ok(report) => Ok(Reply::Report(report)),
-            Err(Trouble::Memory) => Err(WorldFault::Memory),
-            Err(_) => Err(WorldFault::Cloud),
+            Err(trouble) => Err(fault_of(&trouble)),
         }
     }
 }
@@ -348,14 +350,33 @@ fn begun(begun: Result<Begun, Refused>) -> Result<Reply, WorldFault>
         Ok(Begun::Answered(Answer::Commit(answer))) => Ok(Reply::Commit(answer)),
         Ok(Begun::Answered(Answer::Opened { epoch })) => Ok(Reply::Opened { epoch }),
         Ok(Begun::Answered(Answer::Done(answer))) => Ok(Reply::Done(answer)),
-        Ok(Begun::Answered(Answer::Trouble(Trouble::Memory))) => Err(WorldFault::Memory),
-        Ok(Begun::Answered(Answer::Trouble(_))) => Err(WorldFault::Cloud),
+        Ok(Begun::Answered(Answer::Trouble(trouble))) => Err(fault_of(&trouble)),
         Err(Refused::Rule(rule)) => Ok(Reply::Refused(rule)),
         Err(Refused::Memory) => Err(WorldFault::Memory),
     }
 }
 
-/// The reply to the answer of an operation; none where a trouble stopped it.
+/// The fault that a trouble is: want of memory has its own.
+fn fault_of(trouble: &Trouble) -> WorldFault
+    ensures { result ≡ fault_of trouble.now }
+{
+    match trouble {
+        Trouble::Memory => WorldFault::Memory,
+        Trouble::Failed
+        | Trouble::Late { .. }
+        | Trouble::Busy { .. }
+        | Trouble::Waiting { .. }
+        | Trouble::Stale { .. }
+        | Trouble::Absent { .. }
+        | Trouble::NotALeaf { .. }
+        | Trouble::Damaged { .. }
+        | Trouble::BadFence { .. }
+        | Trouble::Loop { .. }
+        | Trouble::Exhausted { .. } => WorldFault::Cloud,
+    }
+}
+
+/// The reply to the answer of an operation; none where it is not known how it ended or a trouble stopped it.
 fn reply_of(answer: Answer) -> Result<Reply, WorldFault>
     ensures { Replies answer result }
 {
@@ -365,11 +386,10 @@ fn reply_of(answer: Answer) -> Result<Reply, WorldFault>
         Answer::Commit(CommitAnswer::Committed { txn }) => Ok(Reply::Commit(
             CommitAnswer::Committed { txn },
         )),
-        Answer::Commit(CommitAnswer::NotCommitted(_)) => Err(WorldFault::Cloud),
+        Answer::Commit(CommitAnswer::NotCommitted(trouble)) => Err(fault_of(&trouble)),
         Answer::Commit(CommitAnswer::InDoubt) => Err(WorldFault::Cloud),
-        Answer::Commit(CommitAnswer::CommittedOpen(_)) => Err(WorldFault::Cloud),
-        Answer::Trouble(Trouble::Memory) => Err(WorldFault::Memory),
-        Answer::Trouble(_) => Err(WorldFault::Cloud),
+        Answer::Commit(CommitAnswer::CommittedOpen(trouble)) => Err(fault_of(&trouble)),
+        Answer::Trouble(trouble) => Err(fault_of(&trouble)),
     }
 }
 

@@ -30,7 +30,7 @@ pub fn run<I: Source, O: Sink, C: Bench>(
     ensures long_stays { result ≡ Status.TooLong → (C.state cloud.new ≡ C.state cloud.old) × (C.counts cloud.new ≡ C.counts cloud.old) }
     ensures bad_line { result ≡ Status.BadLine → WasBad (I.left source.old) (I.left source.new) }
     ensures write_fault { result ≡ Status.WriteFault → O.faults sink.old < O.faults sink.new }
-    ensures ran { Ran result (I.left source.old) (I.left source.new) (O.written sink.old) (O.written sink.new) (C.state cloud.old) (C.state cloud.new) }
+    ensures ran { Ran result (I.left source.old) (I.left source.new) (O.written sink.old) (O.written sink.new) (C.counts cloud.old) (C.counts cloud.new) (C.state cloud.old) (C.state cloud.new) }
 {
     match shape(alloc, words) {
         Ok(Shape::Replay) => replay(alloc, source, sink, cloud),
@@ -56,7 +56,7 @@ fn replay<I: Source, O: Sink, C: Bench>(
     ensures long_stays { result ≡ Status.TooLong → (C.state cloud.new ≡ C.state cloud.old) × (C.counts cloud.new ≡ C.counts cloud.old) }
     ensures bad_line { result ≡ Status.BadLine → WasBad (I.left source.old) (I.left source.new) }
     ensures write_fault { result ≡ Status.WriteFault → O.faults sink.old < O.faults sink.new }
-    ensures ran { Ran result (I.left source.old) (I.left source.new) (O.written sink.old) (O.written sink.new) (C.state cloud.old) (C.state cloud.new) }
+    ensures ran { Ran result (I.left source.old) (I.left source.new) (O.written sink.old) (O.written sink.new) (C.counts cloud.old) (C.counts cloud.new) (C.state cloud.old) (C.state cloud.new) }
 {
     match read_whole(alloc, source) {
         Ok(input) => replay_lines(alloc, input.as_slice(), sink, cloud),

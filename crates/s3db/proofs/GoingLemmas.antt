@@ -10,10 +10,9 @@ use Rattle.cloud_trait.specs.Upto.{upto, AgreeUpto, IsUpto}
 use Rattle.db_base.specs.declared.names.ObjName.{ObjName}
 use Rattle.cloud_trait.proofs.StateLemmas.{slice_get-push}
 use Rattle.cloud_trait.proofs.UptoLemmas.{versions_upto-all, trace_upto-all}
-use Rattle.db_io.specs.Content.{Takes, Adds, AddsPrefix}
+use Rattle.db_io.specs.Content.{Adds, AddsPrefix}
 use Rattle.event_text.specs.declared.event.Event.{Event}
 use Rattle.event_text.specs.Event.{IsEvent}
-use Rattle.line_io.specs.Input.{AreAll}
 use Rattle.line_io.specs.Lines.{lines_of}
 use Rattle.reply_text.specs.declared.reply.Reply.{Reply}
 use Rattle.reply_text.specs.declared.reply.Reply.TheVariants as reply
@@ -30,7 +29,7 @@ use Rattle.world_core.specs.Stands.{StandsOn, Grows}
 use Rattle.s3db.specs.declared.replay.LineFault.{LineFault}
 use Rattle.s3db.specs.declared.replay.LineFault.TheVariants.{BadLine, WriteFault, Memory, CloudFault}
 use Rattle.s3db.specs.Answered.{IsNew, WentOn, start, further, AreAnswered, IsUnanswered}
-use Rattle.s3db.specs.Replayed.{AreSpelled, reply_line, replies_from, replies, bad_line, ReportsAreRight, KeepsTheTheorem, AddsFront, WroteFront, reply_cut, refusal_cut, EndedBy, between, writing, handling, Ended, WentThrough, Handles, IsAt, IsAnswered, LineHandled, LineWent, event_handled, refused, unread, ReadAndWent, NothingRan}
+use Rattle.s3db.specs.Replayed.{AreSpelled, reply_line, replies_from, replies, bad_line, ReportsAreRight, KeepsTheTheorem, AddsFront, WroteFront, reply_cut, refusal_cut, EndedBy, between, writing, handling, Ended, WentThrough, Handles, IsAt, IsAnswered, LineHandled, LineWent, event_handled, refused, unread}
 
 -- ---- content that is written
 
@@ -356,13 +355,3 @@ pub at_fault : (text rest behind line : List ℕ) (n m : ℕ) (w v u : Option (L
 at_fault text rest behind line n m w v u b c d s t z first old new fault fresh is split next went grows =
     let met : IsMet text rest behind line n m w v b c s t z first old = record { fresh = fresh; is = is; split = split; next = next; grows = grows } in
     by_fault u d new fault met went
-
--- ---- where nothing ran
-
-pub nothing_ran : (w : Option (List ℕ)) (c : Counts) (s : Option CloudState) → NothingRan w w c c s s
-nothing_ran w c s = record { output = refl; counts = refl; state = refl }
-
-pub memory_ran : (bytes : List ℕ) (left rest w v : Option (List ℕ)) (c d : Counts) (s t : Option CloudState) → Takes left rest bytes → AreAll left bytes
-    → NothingRan w v c d s t ⊎ WentThrough bytes (Err Memory) w v c d s t → NothingRan w v c d s t ⊎ ReadAndWent (Err Memory) left rest w v c d s t
-memory_ran bytes left rest w v c d s t taken all (inl none) = inl none
-memory_ran bytes left rest w v c d s t taken all (inr went) = inr (record { bytes = bytes; taken = taken; all = all; went = went })

@@ -15,23 +15,21 @@ fn replayed(
     reads: &[u64],
     writes: &[u64],
 ) -> Result<(Status, MemorySink), Fail> {
-    let words = vec![in alloc; String::from_str(alloc, "replay")?]?;
-    let mut source = MemorySource::new(alloc, input, reads)?;
-    let mut sink = MemorySink::new(alloc, writes)?;
     let mut cloud = MemoryCloud::new(alloc);
-    let status = run(alloc, words.as_slice(), &mut source, &mut sink, &mut cloud);
-    Ok((status, sink))
+    replayed_over(alloc, input, reads, writes, &mut cloud)
 }
 
-/// What a replay of the input writes over this cloud, and how it ends.
+/// The same over this cloud.
 fn replayed_over(
     alloc: Global,
     input: &[u8],
+    reads: &[u64],
+    writes: &[u64],
     cloud: &mut MemoryCloud,
 ) -> Result<(Status, MemorySink), Fail> {
     let words = vec![in alloc; String::from_str(alloc, "replay")?]?;
-    let mut source = MemorySource::new(alloc, input, &[])?;
-    let mut sink = MemorySink::new(alloc, &[])?;
+    let mut source = MemorySource::new(alloc, input, reads)?;
+    let mut sink = MemorySink::new(alloc, writes)?;
     let status = run(alloc, words.as_slice(), &mut source, &mut sink, cloud);
     Ok((status, sink))
 }
@@ -81,7 +79,7 @@ fn ends_at_a_failed_call(rt: HostRuntime) -> Result<(), Fail> {
         (4, b"1 begun\n2 opened 1\n3 noted\n4 begun\n".as_slice()),
     ] {
         let mut cloud = MemoryCloud::with_failures(rt.alloc(), &[call])?;
-        let (status, sink) = replayed_over(rt.alloc(), WORKED, &mut cloud)?;
+        let (status, sink) = replayed_over(rt.alloc(), WORKED, &[], &[], &mut cloud)?;
         assert_eq!(rt; status, Status::CloudFault);
         assert_eq!(rt; sink.written(), output);
     }
@@ -281,7 +279,7 @@ fn leaves_these_bytes(rt: HostRuntime) -> Result<(), Fail> {
     input.extend_from_slice(FIRST)?;
     input.extend_from_slice(b"tree 1 1\nrun 1\n")?;
     let mut cloud = MemoryCloud::new(alloc);
-    let (status, _) = replayed_over(alloc, input.as_slice(), &mut cloud)?;
+    let (status, _) = replayed_over(alloc, input.as_slice(), &[], &[], &mut cloud)?;
     assert_eq!(rt; status, Status::Done);
     let page = cloud.version(ObjName::Page(tree, PageId::first()), 1);
     assert!(rt; page == Some(PAGE.as_slice()));

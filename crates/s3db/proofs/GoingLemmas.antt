@@ -209,7 +209,6 @@ pub record IsMet (text rest behind line : List ℕ) (n m : ℕ) (w v : Option (L
   pub next : m ≡ n + 1
   pub grows : Grows m t z
 
-
 met_count : {text rest behind line : List ℕ} {n m : ℕ} {w v : Option (List ℕ)} {b c : Counts} {s t z : Option CloudState} {first old : World}
     → (met : IsMet text rest behind line n m w v b c s t z first old) → m ≡ length met.is.handles.lines + 1
 met_count {text} {rest} {behind} {line} {n} {m} met =

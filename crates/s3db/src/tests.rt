@@ -60,8 +60,11 @@ fn replays_commits(rt: HostRuntime) -> Result<(), Fail> {
 }
 
 /// The first worked example, and what it writes.
-const WORKED: &[u8] = b"open 1 1\nrun 1\ninsert 1 1 6b 76\ncommit 1\nrun 1\ntree 1 1\nrun 1\nreport 1\n";
-const REPORTED: &[u8] = b"1 begun\n2 opened 1\n3 noted\n4 begun\n5 committed 1\n6 begun\n7 done 1 1 0\n8 report 1\ncommitted 1\n1 1 1 insert 6b 76\norder 1\n1 1 1 insert 6b 76\ncontents 1\n6b 76\nleft 0 0\n";
+const WORKED: &[u8] =
+    b"open 1 1\nrun 1\ninsert 1 1 6b 76\ncommit 1\nrun 1\ntree 1 1\nrun 1\nreport 1\n";
+
+const REPORTED: &[u8] =
+    b"1 begun\n2 opened 1\n3 noted\n4 begun\n5 committed 1\n6 begun\n7 done 1 1 0\n8 report 1\ncommitted 1\n1 1 1 insert 6b 76\norder 1\n1 1 1 insert 6b 76\ncontents 1\n6b 76\nleft 0 0\n";
 
 #[test]
 fn replays_the_worked_example(rt: HostRuntime) -> Result<(), Fail> {

@@ -4,10 +4,10 @@ use Rattle.std.specs.Prelude.{slice_get, OnOk, OnErr}
 use Rattle.std.proofs.lemmas.List.{append-nil, take-append-le, take_all, get_or_append_left}
 use Rattle.std.proofs.lemmas.Option.{slice_get_within, slice_get-get_or}
 use Rattle.std.proofs.lemmas.Bool.{cases_lt}
-use Rattle.cloud_trait.specs.State.{CloudState}
+use Rattle.client_session.specs.Session.{closed_session}
+use Rattle.cloud_trait.specs.State.{CloudState, Counts}
 use Rattle.cloud_trait.specs.Upto.{upto, AgreeUpto, IsUpto}
 use Rattle.db_base.specs.declared.names.ObjName.{ObjName}
-use Rattle.client_session.specs.Session.{closed_session}
 use Rattle.cloud_trait.proofs.StateLemmas.{slice_get-push}
 use Rattle.cloud_trait.proofs.UptoLemmas.{versions_upto-all, trace_upto-all}
 use Rattle.db_io.specs.Content.{Adds, AddsPrefix}
@@ -22,10 +22,14 @@ use Rattle.replay_model.specs.Facts.{Stands}
 use Rattle.replay_model.proofs.UptoRight.{right_same}
 use Rattle.replay_model.proofs.StartLemmas.{nothing_stands_yet}
 use Rattle.world_core.specs.declared.world.World.{World}
+use Rattle.world_core.specs.declared.world.WorldFault.{WorldFault}
+use Rattle.world_core.specs.declared.world.WorldFault.TheVariants as world
+use Rattle.world_core.specs.Handled.{Handled}
 use Rattle.world_core.specs.Stands.{StandsOn, Grows}
 use Rattle.s3db.specs.declared.replay.LineFault.{LineFault}
 use Rattle.s3db.specs.declared.replay.LineFault.TheVariants.{BadLine, WriteFault, Memory, CloudFault}
-use Rattle.s3db.specs.Replayed.{AreSpelled, reply_line, replies_from, replies, bad_line, ReportsAreRight, KeepsTheTheorem, Handles, WroteFront, WentThrough, IsAt, LineStands, LineFront, nothing, reply_front, refusal_front, LineHandled, LineWent, WentAsFar}
+use Rattle.s3db.specs.Answered.{IsNew, WentOn, start, further, AreAnswered, IsUnanswered}
+use Rattle.s3db.specs.Replayed.{AreSpelled, reply_line, replies_from, replies, bad_line, ReportsAreRight, KeepsTheTheorem, AddsFront, WroteFront, reply_cut, refusal_cut, EndedBy, between, writing, handling, Ended, WentThrough, Handles, IsAt, IsAnswered, LineHandled, LineWent, event_handled, refused, unread}
 
 -- ---- content that is written
 
@@ -35,13 +39,9 @@ adds_nothing w all e = e ∙ ap Some (sym (append-nil all))
 pub adds_more : (w v u : Option (List ℕ)) (xs ys : List ℕ) → Adds w v xs → Adds v u ys → Adds w u (xs ++ ys)
 adds_more w v u xs ys f g all e = g (all ++ xs) (f all e) ∙ ap Some (append_assoc all xs ys)
 
-prefix_more : (w v u : Option (List ℕ)) (xs ys : List ℕ) → Adds w v xs → AddsPrefix v u ys → AddsPrefix w u (xs ++ ys)
-prefix_more w v u xs ys f g all e =
-    let p = g (all ++ xs) (f all e) in
-    (xs ++ p.0, p.1, ap (λ zs. xs ++ zs) p.2 ∙ sym (append_assoc xs p.0 p.1), p.3 ∙ ap Some (append_assoc all xs p.0))
-
-prefix_all : (w v : Option (List ℕ)) (xs : List ℕ) → Adds w v xs → AddsPrefix w v xs
-prefix_all w v xs f all e = (xs, [], sym (append-nil xs), f all e)
+-- nothing written is a front of anything
+pub prefix_none : (w : Option (List ℕ)) (xs : List ℕ) → AddsPrefix w w xs
+prefix_none w xs all e = ([], xs, refl, e ∙ ap Some (sym (append-nil all)))
 
 -- ---- lines and their texts
 
@@ -106,12 +106,11 @@ reports_more lines line u v agree all so new k l at = on (cases_lt k (length lin
 -- ---- one line more
 
 -- what stood and was right stands and is right with one line more
-stands_more : (lines : List Line) (n : ℕ) (text : List ℕ) (t z : Option CloudState) (old new : World) (reply : Reply) → n ≡ 1 + length lines
-    → (l : LineStands n text t z old new reply) → Grows n t z → (u : CloudState) → t ≡ Some u → Stands lines old.session old.audit u → ReportsAreRight lines u
-    → (v : CloudState) × (z ≡ Some v) × Stands (lines ++ record { event = l.event; reply = reply } ∷ []) new.session new.audit v × ReportsAreRight (lines ++ record { event = l.event; reply = reply } ∷ []) v
-stands_more lines n text t z old new reply k l grows u told stands so =
-    let line : Line = record { event = l.event; reply = reply } in
-    let f = l.stands lines u (omega arith) told stands in
+stands_more : (lines : List Line) (line : Line) (n : ℕ) (t z : Option CloudState) (old new : World) → n ≡ 1 + length lines
+    → StandsOn n line.event t z old new (Ok line.reply) → Grows n t z → (u : CloudState) → t ≡ Some u → Stands lines old.session old.audit u → ReportsAreRight lines u
+    → (v : CloudState) × (z ≡ Some v) × Stands (lines ++ line ∷ []) new.session new.audit v × ReportsAreRight (lines ++ line ∷ []) v
+stands_more lines line n t z old new k on grows u told stands so =
+    let f = on lines u (omega arith) told stands in
     let g = grows u told in
     let same : Some f.after ≡ Some g.0 = sym f.told ∙ g.1 in
     let is : g.0 ≡ f.after = cc in
@@ -121,24 +120,25 @@ stands_more lines n text t z old new reply k l grows u told stands so =
     (f.after, f.told, f.stands, reports_more lines line u f.after agree upto_all so f.right)
 
 -- the lines that were handled, with one more
-lines_more : (texts : List (List ℕ)) (text : List ℕ) (n : ℕ) (w v u : Option (List ℕ)) (s t z : Option CloudState) (old new : World) (reply : Reply)
-    → n ≡ length texts + 1 → (h : Handles texts w v s t old) → (l : LineStands n text t z old new reply) → Grows n t z → Adds v u (reply_line n reply)
-    → Handles (texts ++ text ∷ []) w u s z new
-lines_more texts text n w v u s t z old new reply count h l grows adds =
-    let line : Line = record { event = l.event; reply = reply } in
+lines_more : (texts : List (List ℕ)) (text : List ℕ) (n : ℕ) (w v u : Option (List ℕ)) (b c d : Counts) (s t z : Option CloudState) (first old new : World) (line : Line)
+    → n ≡ length texts + 1 → Handles texts w v b c s t first old → IsEvent text line.event → IsAnswered n line.event c d t z old new line.reply → Grows n t z
+    → Adds v u (reply_line n line.reply) → Handles (texts ++ text ∷ []) w u b d s z first new
+lines_more texts text n w v u b c d s t z first old new line count h spells a grows adds =
     let m : length h.lines ≡ length texts = spelled_length texts h.lines h.spelled in
     let k : n ≡ 1 + length h.lines = omega arith in
+    let l : n ≡ length h.lines + 1 = omega arith in
     record {
       lines = h.lines ++ line ∷ [];
-      spelled = spelled_more texts h.lines text line h.spelled l.spells;
-      wrote = subst (λ xs. Adds w u xs) (sym (replies_more 1 n h.lines line k)) (adds_more w v u (replies h.lines) (reply_line n reply) h.wrote adds);
-      stands = λ x told empty. let o = h.stands x told empty in stands_more h.lines n text t z old new reply k l grows o.0 o.1 o.2 o.3;
+      spelled = spelled_more texts h.lines text line h.spelled spells;
+      wrote = subst (λ xs. Adds w u xs) (sym (replies_more 1 n h.lines line k)) (adds_more w v u (replies h.lines) (reply_line n line.reply) h.wrote adds);
+      went = further h.lines line c d t z old new h.went (subst (λ j. Handled j line.event c d t z old new (Ok line.reply)) l a.handled);
+      stands = λ x told empty. let o = h.stands x told empty in stands_more h.lines line n t z old new k a.stands grows o.0 o.1 o.2 o.3;
     }
 
--- ---- the whole
+-- ---- the lines of a text
 
-pub at_start : (text : List ℕ) (w : Option (List ℕ)) (s : Option CloudState) (world : World) → world.session ≡ closed_session → world.audit ≡ record { committed = []; order = [] } → IsAt text text 0 w w s s world
-at_start text w s world session audit = record {
+pub at_start : (text : List ℕ) (w : Option (List ℕ)) (c : Counts) (s : Option CloudState) (world : World) → IsNew world → IsAt text text 0 w w c c s s world world
+at_start text w c s world fresh = record {
   earlier = [];
   at = refl;
   count = refl;
@@ -146,32 +146,85 @@ at_start text w s world session audit = record {
     lines = [];
     spelled = tt;
     wrote = adds_nothing w;
+    went = start;
     stands = λ t told empty. (
       t,
       told,
-      subst (λ x. Stands [] x world.audit t) (sym session) (subst (λ a. Stands [] closed_session a t) (sym audit) (nothing_stands_yet t empty)),
+      subst (λ x. Stands [] x world.audit t) (sym fresh.session) (subst (λ a. Stands [] closed_session a t) (sym fresh.audit) (nothing_stands_yet t empty)),
       λ k line at. absurd (cc),
     );
   };
 }
 
-pub at_more : (text rest behind line : List ℕ) (n m : ℕ) (w v u : Option (List ℕ)) (s t z : Option CloudState) (old new : World)
-    → IsAt text rest n w v s t old → lines_of rest ≡ line ∷ lines_of behind → m ≡ n + 1 → LineWent (Ok tt) m line v u t z old new → Grows m t z → IsAt text behind m w u s z new
-at_more text rest behind line n m w v u s t z old new is split next went grows =
+pub at_more : (text rest behind line : List ℕ) (n m : ℕ) (w v u : Option (List ℕ)) (b c d : Counts) (s t z : Option CloudState) (first old new : World)
+    → IsAt text rest n w v b c s t first old → lines_of rest ≡ line ∷ lines_of behind → m ≡ n + 1 → LineWent (Ok tt) m line v u c d t z old new → Grows m t z
+    → IsAt text behind m w u b d s z first new
+at_more text rest behind line n m w v u b c d s t z first old new is split next (event_handled event spells p) grows =
     let c : length is.earlier ≡ n = is.count in
     record {
       earlier = is.earlier ++ line ∷ [];
       at = is.at ∙ ap (λ ls. is.earlier ++ ls) split ∙ sym (append_assoc is.earlier (line ∷ []) (lines_of behind));
       count = omega (arith, length-append is.earlier (line ∷ []));
-      handles = lines_more is.earlier line m w v u s t z old new went.0 (omega arith) is.handles went.1 grows went.2;
+      handles = lines_more is.earlier line m w v u b _ d s t z first old new (record { event = event; reply = p.0 }) (omega arith) is.handles spells p.1 grows p.2;
     }
+at_more text rest behind line n m w v u b c d s t z first old new is split next (refused bad e f p) grows = absurd p
+at_more text rest behind line n m w v u b c d s t z first old new is split next (unread e f g h) grows = absurd (cc)
+
+abbrev answered : (texts : List (List ℕ)) (w v : Option (List ℕ)) (b c : Counts) (s t : Option CloudState) (first world : World) → IsNew first
+    → (h : Handles texts w v b c s t first world) → AreAnswered h.lines b c s t
+answered texts w v b c s t first world fresh h = record { first = first; fresh = fresh; last = world; went = h.went }
+
+pub at_end : (text rest : List ℕ) (n : ℕ) (w v : Option (List ℕ)) (b c : Counts) (s t : Option CloudState) (first world : World) → IsNew first
+    → IsAt text rest n w v b c s t first world → rest ≡ [] → WentThrough text (Ok tt) w v b c s t
+at_end text rest n w v b c s t first world fresh is none = record {
+  lines = is.handles.lines;
+  earlier = is.earlier;
+  later = lines_of rest;
+  at = is.at;
+  spelled = is.handles.spelled;
+  so = (ap lines_of none, answered is.earlier w v b c s t first world fresh is.handles, is.handles.wrote);
+  theorem = λ x told empty. let o = is.handles.stands x told empty in (o.0, o.1, o.3);
+}
+
+-- where a run stops between two lines for want of memory
+pub at_stop : (text rest : List ℕ) (n : ℕ) (w v : Option (List ℕ)) (b c : Counts) (s t : Option CloudState) (first world : World) → IsNew first
+    → IsAt text rest n w v b c s t first world → WentThrough text (Err Memory) w v b c s t
+at_stop text rest n w v b c s t first world fresh is = record {
+  lines = is.handles.lines;
+  earlier = is.earlier;
+  later = lines_of rest;
+  at = is.at;
+  spelled = is.handles.spelled;
+  so = between (answered is.earlier w v b c s t first world fresh is.handles) is.handles.wrote;
+  theorem = λ x told empty. let o = is.handles.stands x told empty in (o.0, o.1, o.3);
+}
+
+-- ---- a line that ends the run
+
+-- a text of the lines was met, and calls were made at it
+pub record IsMet (text rest behind line : List ℕ) (n m : ℕ) (w v : Option (List ℕ)) (b c : Counts) (s t z : Option CloudState) (first old : World) : Type 0 where
+  pub fresh : IsNew first
+  pub is : IsAt text rest n w v b c s t first old
+  pub split : lines_of rest ≡ line ∷ lines_of behind
+  pub next : m ≡ n + 1
+  pub grows : Grows m t z
+
+met_count : {text rest behind line : List ℕ} {n m : ℕ} {w v : Option (List ℕ)} {b c : Counts} {s t z : Option CloudState} {first old : World}
+    → (met : IsMet text rest behind line n m w v b c s t z first old) → m ≡ length met.is.handles.lines + 1
+met_count {text} {rest} {behind} {line} {n} {m} met =
+    let at : length met.is.earlier ≡ n = met.is.count in
+    let k : length met.is.handles.lines ≡ length met.is.earlier = spelled_length met.is.earlier met.is.handles.lines met.is.handles.spelled in
+    let next : m ≡ n + 1 = met.next in
+    omega arith
 
 -- the reports of what was handled, after calls of a later line
-keeps : (texts : List (List ℕ)) (n : ℕ) (w v : Option (List ℕ)) (s t z : Option CloudState) (world : World) → n ≡ length texts + 1 → (h : Handles texts w v s t world) → Grows n t z → KeepsTheTheorem h.lines s z
-keeps texts n w v s t z world count h grows x told empty =
+keeps : {text rest behind line : List ℕ} {n m : ℕ} {w v : Option (List ℕ)} {b c : Counts} {s t z : Option CloudState} {first old : World}
+    → (met : IsMet text rest behind line n m w v b c s t z first old) → KeepsTheTheorem met.is.handles.lines s z
+keeps {text} {rest} {behind} {line} {n} {m} met x told empty =
+    let h = met.is.handles in
     let o = h.stands x told empty in
-    let g = grows o.0 o.1 in
-    let m : length h.lines ≡ length texts = spelled_length texts h.lines h.spelled in (
+    let g = met.grows o.0 o.1 in
+    let count : m ≡ length h.lines + 1 = met_count met in (
       g.0,
       g.1,
       λ k line at.
@@ -180,140 +233,124 @@ keeps texts n w v s t z world count h grows x told empty =
           report_same (take (k + 1) h.lines) (upto o.0 (k + 1)) (upto g.0 (k + 1)) line.reply a.versions a.trace (o.3 k line at),
     )
 
-pub at_end : (text rest : List ℕ) (n : ℕ) (w v : Option (List ℕ)) (s t : Option CloudState) (world : World) → IsAt text rest n w v s t world → rest ≡ [] → WentThrough text (Ok tt) w v s t
-at_end text rest n w v s t world is none = record {
-  lines = is.handles.lines;
-  earlier = is.earlier;
-  later = lines_of rest;
-  at = is.at;
-  spelled = is.handles.spelled;
-  wrote = (ap lines_of none, is.handles.wrote);
-  theorem = λ x told empty. let o = is.handles.stands x told empty in (o.0, o.1, o.3);
+-- the run ends before a text that has no reply
+ends_before : {text rest behind line : List ℕ} {n m : ℕ} {w v : Option (List ℕ)} {b c : Counts} {s t z : Option CloudState} {first old : World}
+    → (ended : Result (Unit {0}) LineFault) (u : Option (List ℕ)) (d : Counts) → (met : IsMet text rest behind line n m w v b c s t z first old)
+    → Ended ended met.is.handles.lines (line ∷ lines_of behind) w u b d s z → WentThrough text ended w u b d s z
+ends_before {text} {rest} {behind} {line} ended u d met so = record {
+  lines = met.is.handles.lines;
+  earlier = met.is.earlier;
+  later = line ∷ lines_of behind;
+  at = met.is.at ∙ ap (λ ls. met.is.earlier ++ ls) met.split;
+  spelled = met.is.handles.spelled;
+  so = so;
+  theorem = keeps met;
 }
 
--- a line that is in no grammar ends the run
-pub at_bad : (text rest behind line : List ℕ) (n m : ℕ) (w v u : Option (List ℕ)) (s t z : Option CloudState) (old new : World)
-    → IsAt text rest n w v s t old → lines_of rest ≡ line ∷ lines_of behind → m ≡ n + 1 → LineWent (Err BadLine) m line v u t z old new → Grows m t z → WentThrough text (Err BadLine) w u s z
-at_bad text rest behind line n m w v u s t z old new is split next went grows =
-    let c : length is.earlier ≡ n = is.count in
-    let k : length is.handles.lines ≡ length is.earlier = spelled_length is.earlier is.handles.lines is.handles.spelled in
-    let at : m ≡ length is.handles.lines + 1 = omega arith in
+-- the run ends behind a text that has a reply
+ends_behind : {text rest behind line : List ℕ} {n m : ℕ} {w v : Option (List ℕ)} {b c : Counts} {s t z : Option CloudState} {first old : World}
+    → (ended : Result (Unit {0}) LineFault) (u : Option (List ℕ)) (d : Counts) (new : World) (one : Line) → (met : IsMet text rest behind line n m w v b c s t z first old)
+    → IsEvent line one.event → IsAnswered m one.event c d t z old new one.reply
+    → Ended ended (met.is.handles.lines ++ one ∷ []) (lines_of behind) w u b d s z → WentThrough text ended w u b d s z
+ends_behind {text} {rest} {behind} {line} {n} {m} {w} {v} {b} {c} {s} {t} {z} {first} {old} ended u d new one met spells a so =
+    let h = met.is.handles in
+    let count : m ≡ length h.lines + 1 = met_count met in
     record {
-      lines = is.handles.lines;
-      earlier = is.earlier;
-      later = line ∷ lines_of behind;
-      at = is.at ∙ ap (λ ls. is.earlier ++ ls) split;
-      spelled = is.handles.spelled;
-      wrote = (went.0, subst (λ j. Adds w u (replies is.handles.lines ++ bad_line j)) at (adds_more w v u (replies is.handles.lines) (bad_line m) is.handles.wrote went.1));
-      theorem = keeps is.earlier m w v s t z old (omega arith) is.handles grows;
+      lines = h.lines ++ one ∷ [];
+      earlier = met.is.earlier ++ line ∷ [];
+      later = lines_of behind;
+      at = met.is.at ∙ ap (λ ls. met.is.earlier ++ ls) met.split ∙ sym (append_assoc met.is.earlier (line ∷ []) (lines_of behind));
+      spelled = spelled_more met.is.earlier h.lines line one h.spelled spells;
+      so = so;
+      theorem = λ x told empty.
+          let o = h.stands x told empty in
+          let p = stands_more h.lines one m t z old new (omega arith) a.stands met.grows o.0 o.1 o.2 o.3 in
+          (p.0, p.1, p.3);
     }
 
--- a line that did not end well ends the run
-front_went : (text rest behind line : List ℕ) (n m : ℕ) (w v u : Option (List ℕ)) (s t z : Option CloudState) (old new : World)
-    → IsAt text rest n w v s t old → lines_of rest ≡ line ∷ lines_of behind → m ≡ n + 1 → LineFront m line v u t z old new → Grows m t z
-    → (lines : List Line) × (earlier : List (List ℕ)) × (later : List (List ℕ)) × (lines_of text ≡ earlier ++ later) × AreSpelled earlier lines × WroteFront lines later w u × KeepsTheTheorem lines s z
-front_went text rest behind line n m w v u s t z old new is split next (nothing same) grows =
-    let c : length is.earlier ≡ n = is.count in (
-      is.handles.lines,
-      is.earlier,
-      line ∷ lines_of behind,
-      is.at ∙ ap (λ ls. is.earlier ++ ls) split,
-      is.handles.spelled,
-      inl (subst (λ o. AddsPrefix w o (replies is.handles.lines)) (sym same) (prefix_all w v (replies is.handles.lines) is.handles.wrote)),
-      keeps is.earlier m w v s t z old (omega arith) is.handles grows,
-    )
-front_went text rest behind line n m w v u s t z old new is split next (reply_front reply l front) grows =
-    let c : length is.earlier ≡ n = is.count in
-    let h = is.handles in
-    let k : length h.lines ≡ length is.earlier = spelled_length is.earlier h.lines h.spelled in
-    let one : Line = record { event = l.event; reply = reply } in (
-      h.lines ++ one ∷ [],
-      is.earlier ++ line ∷ [],
-      lines_of behind,
-      is.at ∙ ap (λ ls. is.earlier ++ ls) split ∙ sym (append_assoc is.earlier (line ∷ []) (lines_of behind)),
-      spelled_more is.earlier h.lines line one h.spelled l.spells,
-      inl (subst (λ xs. AddsPrefix w u xs) (sym (replies_more 1 m h.lines one (omega arith))) (prefix_more w v u (replies h.lines) (reply_line m reply) h.wrote front)),
-      λ x told empty.
-          let o = h.stands x told empty in
-          let p = stands_more h.lines m line t z old new reply (omega arith) l grows o.0 o.1 o.2 o.3 in
-          (p.0, p.1, p.3),
-    )
-front_went text rest behind line n m w v u s t z old new is split next (refusal_front bad front) grows =
-    let c : length is.earlier ≡ n = is.count in
-    let k : length is.handles.lines ≡ length is.earlier = spelled_length is.earlier is.handles.lines is.handles.spelled in
-    let at : m ≡ length is.handles.lines + 1 = omega arith in (
-      is.handles.lines,
-      is.earlier,
-      line ∷ lines_of behind,
-      is.at ∙ ap (λ ls. is.earlier ++ ls) split,
-      is.handles.spelled,
-      inr (bad, subst (λ j. AddsPrefix w u (replies is.handles.lines ++ bad_line j)) at (prefix_more w v u (replies is.handles.lines) (bad_line m) is.handles.wrote front)),
-      keeps is.earlier m w v s t z old (omega arith) is.handles grows,
-    )
+-- the lines before the text, where no call was made at it
+before_unmoved : {text rest behind line : List ℕ} {n m : ℕ} {w v : Option (List ℕ)} {b c : Counts} {s t z : Option CloudState} {first old : World}
+    → (met : IsMet text rest behind line n m w v b c s t z first old) (d : Counts) → d ≡ c → z ≡ t → AreAnswered met.is.handles.lines b d s z
+before_unmoved {text} {rest} {behind} {line} {n} {m} {w} {v} {b} {c} {s} {t} {z} {first} {old} met d e f =
+    let h = met.is.handles in
+    subst (λ x. AreAnswered h.lines b x s z) (sym e) (subst (λ y. AreAnswered h.lines b c s y) (sym f) (answered met.is.earlier w v b c s t first old met.fresh h))
 
-pub at_fault : (text rest behind line : List ℕ) (n m : ℕ) (w v u : Option (List ℕ)) (s t z : Option CloudState) (old new : World) (fault : LineFault)
-    → IsAt text rest n w v s t old → lines_of rest ≡ line ∷ lines_of behind → m ≡ n + 1 → LineWent (Err fault) m line v u t z old new → Grows m t z → WentThrough text (Err fault) w u s z
-at_fault text rest behind line n m w v u s t z old new BadLine is split next went grows = at_bad text rest behind line n m w v u s t z old new is split next went grows
-at_fault text rest behind line n m w v u s t z old new WriteFault is split next went grows =
-    let f = front_went text rest behind line n m w v u s t z old new is split next went grows in
-    record { lines = f.0; earlier = f.1; later = f.2; at = f.3; spelled = f.4; wrote = f.5; theorem = f.6 }
-at_fault text rest behind line n m w v u s t z old new Memory is split next went grows =
-    let f = front_went text rest behind line n m w v u s t z old new is split next went grows in
-    record { lines = f.0; earlier = f.1; later = f.2; at = f.3; spelled = f.4; wrote = f.5; theorem = f.6 }
-at_fault text rest behind line n m w v u s t z old new CloudFault is split next went grows =
-    let f = front_went text rest behind line n m w v u s t z old new is split next went grows in
-    record { lines = f.0; earlier = f.1; later = f.2; at = f.3; spelled = f.4; wrote = f.5; theorem = f.6 }
-
--- where nothing ran
-pub nothing_ran : (w : Option (List ℕ)) (s : Option CloudState) → WentAsFar w w s s
-nothing_ran w s = record {
-  lines = [];
-  later = [];
-  wrote = inl (prefix_all w w [] (adds_nothing w));
-  theorem = λ t told empty. (t, told, λ k line at. absurd (cc));
+-- the lines with the text's own
+with_answer : {text rest behind line : List ℕ} {n m : ℕ} {w v : Option (List ℕ)} {b c : Counts} {s t z : Option CloudState} {first old : World}
+    → (met : IsMet text rest behind line n m w v b c s t z first old) (d : Counts) (new : World) (one : Line) → IsAnswered m one.event c d t z old new one.reply
+    → AreAnswered (met.is.handles.lines ++ one ∷ []) b d s z
+with_answer {text} {rest} {behind} {line} {n} {m} {w} {v} {b} {c} {s} {t} {z} {first} {old} met d new one a = record {
+  first = first;
+  fresh = met.fresh;
+  last = new;
+  went = further met.is.handles.lines one c d t z old new met.is.handles.went (subst (λ j. Handled j one.event c d t z old new (Ok one.reply)) (met_count met) a.handled);
 }
 
--- where a run stops between two lines for want of memory
-pub at_stop : (text rest : List ℕ) (n : ℕ) (w v : Option (List ℕ)) (s t : Option CloudState) (world : World) → IsAt text rest n w v s t world → WentThrough text (Err Memory) w v s t
-at_stop text rest n w v s t world is = record {
-  lines = is.handles.lines;
-  earlier = is.earlier;
-  later = lines_of rest;
-  at = is.at;
-  spelled = is.handles.spelled;
-  wrote = inl (prefix_all w v (replies is.handles.lines) is.handles.wrote);
-  theorem = λ x told empty. let o = is.handles.stands x told empty in (o.0, o.1, o.3);
-}
+-- the event of the text has no reply
+no_answer : {text rest behind line : List ℕ} {n m : ℕ} {w v : Option (List ℕ)} {b c : Counts} {s t z : Option CloudState} {first old : World}
+    → (met : IsMet text rest behind line n m w v b c s t z first old) (u : Option (List ℕ)) (d : Counts) (new : World) (event : Event) (fault : WorldFault) → IsEvent line event
+    → Handled m event c d t z old new (Err fault) → u ≡ v → EndedBy fault met.is.handles.lines (line ∷ lines_of behind) w u b d s z
+no_answer {text} {rest} {behind} {line} {n} {m} {w} {v} {b} {c} {s} {t} {z} {first} {old} met u d new event fault spells handled same =
+    let h = met.is.handles in
+    record {
+      event = event;
+      spelled = spells;
+      handled = record {
+        counts = c;
+        state = t;
+        before = answered met.is.earlier w v b c s t first old met.fresh h;
+        last = new;
+        handled = subst (λ j. Handled j event c d t z old new (Err fault)) (met_count met) handled;
+      };
+      wrote = subst (λ x. Adds w x (replies h.lines)) (sym same) h.wrote;
+    }
 
-pub as_far : (text : List ℕ) (w v : Option (List ℕ)) (s t : Option CloudState) → WentThrough text (Err Memory) w v s t → WentAsFar w v s t
-as_far text w v s t went = record { lines = went.lines; later = went.later; wrote = went.wrote; theorem = went.theorem }
+-- the reply was cut
+cut_reply : {text rest behind line : List ℕ} {n m : ℕ} {w v : Option (List ℕ)} {b c : Counts} {s t z : Option CloudState} {first old : World}
+    → (met : IsMet text rest behind line n m w v b c s t z first old) (u : Option (List ℕ)) (one : Line) → AddsPrefix v u (reply_line m one.reply)
+    → WroteFront (met.is.handles.lines ++ one ∷ []) (lines_of behind) w u
+cut_reply {text} {rest} {behind} {line} {n} {m} {w} {v} met u one front =
+    let ls = met.is.handles.lines in
+    let count : m ≡ length ls + 1 = met_count met in
+    let at : m ≡ length (ls ++ one ∷ []) = omega (arith, length-append ls (one ∷ [])) in
+    reply_cut ls one refl (record { between = v; whole = met.is.handles.wrote; front = subst (λ j. AddsPrefix v u (reply_line j one.reply)) at front })
 
--- nothing written is a front of anything
-pub prefix_none : (w : Option (List ℕ)) (xs : List ℕ) → AddsPrefix w w xs
-prefix_none w xs all e = ([], xs, refl, e ∙ ap Some (sym (append-nil all)))
+-- the refusal was cut
+cut_refusal : {text rest behind line : List ℕ} {n m : ℕ} {w v : Option (List ℕ)} {b c : Counts} {s t z : Option CloudState} {first old : World}
+    → (met : IsMet text rest behind line n m w v b c s t z first old) (u : Option (List ℕ)) → ((event : Event) → IsEvent line event → ⊥) → AddsPrefix v u (bad_line m)
+    → WroteFront met.is.handles.lines (line ∷ lines_of behind) w u
+cut_refusal {text} {rest} {behind} {line} {n} {m} {w} {v} met u bad front =
+    refusal_cut bad (record { between = v; whole = met.is.handles.wrote; front = subst (λ j. AddsPrefix v u (bad_line j)) (met_count met) front })
 
--- ---- a line by its event
+by_fault : {text rest behind line : List ℕ} {n m : ℕ} {w v : Option (List ℕ)} {b c : Counts} {s t z : Option CloudState} {first old : World}
+    → (u : Option (List ℕ)) (d : Counts) (new : World) (fault : LineFault) → IsMet text rest behind line n m w v b c s t z first old
+    → LineWent (Err fault) m line v u c d t z old new → WentThrough text (Err fault) w u b d s z
+by_fault {text} {rest} {behind} {line} {n} {m} {w} {v} {b} {c} {s} {t} {z} {first} {old} u d new BadLine met (event_handled event spells p) = absurd p
+by_fault {text} {rest} {behind} {line} {n} {m} {w} {v} {b} {c} {s} {t} {z} {first} {old} u d new BadLine met (refused bad e f adds) =
+    let h = met.is.handles in
+    let all = adds_more w v u (replies h.lines) (bad_line m) h.wrote adds in
+    ends_before (Err BadLine) u d met (bad, before_unmoved met d e f, subst (λ j. Adds w u (replies h.lines ++ bad_line j)) (met_count met) all)
+by_fault {text} {rest} {behind} {line} {n} {m} {w} {v} {b} {c} {s} {t} {z} {first} {old} u d new BadLine met (unread e f g same) = absurd (cc)
+by_fault {text} {rest} {behind} {line} {n} {m} {w} {v} {b} {c} {s} {t} {z} {first} {old} u d new WriteFault met (event_handled event spells p) =
+    let one : Line = record { event = event; reply = p.0 } in
+    ends_behind (Err WriteFault) u d new one met spells p.1 (with_answer met d new one p.1, cut_reply met u one p.2)
+by_fault {text} {rest} {behind} {line} {n} {m} {w} {v} {b} {c} {s} {t} {z} {first} {old} u d new WriteFault met (refused bad e f front) = ends_before (Err WriteFault) u d met (before_unmoved met d e f, cut_refusal met u bad front)
+by_fault {text} {rest} {behind} {line} {n} {m} {w} {v} {b} {c} {s} {t} {z} {first} {old} u d new WriteFault met (unread e f g same) = absurd (cc)
+by_fault {text} {rest} {behind} {line} {n} {m} {w} {v} {b} {c} {s} {t} {z} {first} {old} u d new Memory met (event_handled event spells (inl p)) =
+    let one : Line = record { event = event; reply = p.0 } in
+    ends_behind (Err Memory) u d new one met spells p.1 (writing (with_answer met d new one p.1) (cut_reply met u one p.2))
+by_fault {text} {rest} {behind} {line} {n} {m} {w} {v} {b} {c} {s} {t} {z} {first} {old} u d new Memory met (event_handled event spells (inr p)) = ends_before (Err Memory) u d met (handling (no_answer met u d new event world.Memory spells p.0 p.1))
+by_fault {text} {rest} {behind} {line} {n} {m} {w} {v} {b} {c} {s} {t} {z} {first} {old} u d new Memory met (refused bad e f front) = ends_before (Err Memory) u d met (writing (before_unmoved met d e f) (cut_refusal met u bad front))
+by_fault {text} {rest} {behind} {line} {n} {m} {w} {v} {b} {c} {s} {t} {z} {first} {old} u d new Memory met (unread e f g same) =
+    let h = met.is.handles in
+    ends_before (Err Memory) u d met (between (before_unmoved met d f g) (subst (λ x. Adds w x (replies h.lines)) (sym same) h.wrote))
+by_fault {text} {rest} {behind} {line} {n} {m} {w} {v} {b} {c} {s} {t} {z} {first} {old} u d new CloudFault met (event_handled event spells p) = ends_before (Err CloudFault) u d met (no_answer met u d new event world.Cloud spells p.0 p.1)
+by_fault {text} {rest} {behind} {line} {n} {m} {w} {v} {b} {c} {s} {t} {z} {first} {old} u d new CloudFault met (refused bad e f p) = absurd p
+by_fault {text} {rest} {behind} {line} {n} {m} {w} {v} {b} {c} {s} {t} {z} {first} {old} u d new CloudFault met (unread e f g same) = absurd (cc)
 
-handled_front : (n : ℕ) (event : Event) (text : List ℕ) (w v : Option (List ℕ)) (s t : Option CloudState) (old new : World)
-    → (v ≡ w) ⊎ ((reply : Reply) × StandsOn n event s t old new (Ok reply) × AddsPrefix w v (reply_line n reply)) → IsEvent text event → LineFront n text w v s t old new
-handled_front n event text w v s t old new (inl same) spells = nothing same
-handled_front n event text w v s t old new (inr p) spells = reply_front p.0 (record { event = event; spells = spells; stands = p.1 }) p.2
-
-pub handled_went : (result : Result (Unit {0}) LineFault) (n : ℕ) (event : Event) (text : List ℕ) (w v : Option (List ℕ)) (s t : Option CloudState) (old new : World)
-    → LineHandled result n event w v s t old new → IsEvent text event → LineWent result n text w v s t old new
-handled_went (Ok done) n event text w v s t old new p spells = (p.0, record { event = event; spells = spells; stands = p.1 }, p.2)
-handled_went (Err BadLine) n event text w v s t old new p spells = absurd p
-handled_went (Err WriteFault) n event text w v s t old new p spells = handled_front n event text w v s t old new p spells
-handled_went (Err Memory) n event text w v s t old new p spells = handled_front n event text w v s t old new p spells
-handled_went (Err CloudFault) n event text w v s t old new p spells = handled_front n event text w v s t old new p spells
-
--- ---- a line by what was written
-
-pub wrote_handled : (result : Result (Unit {0}) LineFault) (n : ℕ) (event : Event) (w v : Option (List ℕ)) (s t : Option CloudState) (old new : World) (reply : Reply)
-    → StandsOn n event s t old new (Ok reply) → OnOk result (Adds w v (reply_line n reply)) → OnErr result (AddsPrefix w v (reply_line n reply)) → (result ≡ Err BadLine → ⊥)
-    → LineHandled result n event w v s t old new
-wrote_handled (Ok done) n event w v s t old new reply stands all front not_bad = (reply, stands, all)
-wrote_handled (Err BadLine) n event w v s t old new reply stands all front not_bad = absurd (not_bad refl)
-wrote_handled (Err WriteFault) n event w v s t old new reply stands all front not_bad = inr (reply, stands, front)
-wrote_handled (Err Memory) n event w v s t old new reply stands all front not_bad = inr (reply, stands, front)
-wrote_handled (Err CloudFault) n event w v s t old new reply stands all front not_bad = inr (reply, stands, front)
+pub at_fault : (text rest behind line : List ℕ) (n m : ℕ) (w v u : Option (List ℕ)) (b c d : Counts) (s t z : Option CloudState) (first old new : World) (fault : LineFault)
+    → IsNew first → IsAt text rest n w v b c s t first old → lines_of rest ≡ line ∷ lines_of behind → m ≡ n + 1
+    → LineWent (Err fault) m line v u c d t z old new → Grows m t z → WentThrough text (Err fault) w u b d s z
+at_fault text rest behind line n m w v u b c d s t z first old new fault fresh is split next went grows =
+    let met : IsMet text rest behind line n m w v b c s t z first old = record { fresh = fresh; is = is; split = split; next = next; grows = grows } in
+    by_fault u d new fault met went

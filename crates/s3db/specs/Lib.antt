@@ -1,3 +1,4 @@
 pub mod Status
 pub mod Replay
+pub mod Answered
 pub mod Replayed

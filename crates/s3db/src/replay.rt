@@ -1,10 +1,10 @@
-ghost use Rattle.std.specs.Prelude.{◌≡◌, ℕ, ◌<◌, ◌≤◌, [], Err, IfOk, OnOk, OnErr};
+ghost use Rattle.std.specs.Prelude.{◌≡◌, ℕ, ◌<◌, ◌≤◌, Err, IfOk};
 ghost use Rattle.std.specs.Fmt.{decimal};
-ghost use Rattle.client_session.specs.Session.{closed_session};
-ghost use Rattle.db_io.specs.Content.{Adds, AddsPrefix};
 ghost use Rattle.event_text.specs.declared.event.Event.{Event};
 ghost use Rattle.event_text.specs.Event.{IsEvent};
+ghost use Rattle.line_io.specs.Output.{WasWritten};
 ghost use Rattle.world_core.specs.Stands.{Grows};
+ghost use Rattle.s3db.specs.Answered.{IsNew};
 ghost use Rattle.s3db.specs.Replay.{HasBadLine, IsOfLines, status_of};
 ghost use Rattle.s3db.specs.Replayed.{reply_line, bad_line, LineWent, LineHandled, WentThrough, WentBy};
 
@@ -31,7 +31,7 @@ pub fn replay_lines<O: Sink, C: Bench>(
     ensures bad_line { result ≡ Status.BadLine → HasBadLine input.now }
     ensures write_fault { result ≡ Status.WriteFault → O.faults sink.old < O.faults sink.new }
     ensures only { IsOfLines result }
-    ensures went { WentBy result input.now (O.written sink.old) (O.written sink.new) (C.state cloud.old) (C.state cloud.new) }
+    ensures went { WentBy result input.now (O.written sink.old) (O.written sink.new) (C.counts cloud.old) (C.counts cloud.new) (C.state cloud.old) (C.state cloud.new) }
 {
     match World::new(alloc) {
         Ok(mut world) => status_of(go_on(alloc, &mut world, input, sink, cloud)),
@@ -60,9 +60,8 @@ fn go_on<O: Sink, C: Bench>(
     sink: &mut O,
     cloud: &mut C,
 ) -> Result<(), LineFault>
-    requires closed { world.old.session ≡ closed_session }
-    requires empty { world.old.audit ≡ record { committed = []; order = [] } }
-    ensures went { WentThrough input.now result (O.written sink.old) (O.written sink.new) (C.state cloud.old) (C.state cloud.new) }
+    requires fresh { IsNew world.old }
+    ensures went { WentThrough input.now result (O.written sink.old) (O.written sink.new) (C.counts cloud.old) (C.counts cloud.new) (C.state cloud.old) (C.state cloud.new) }
     ensures bad_line { result ≡ Err LineFault.BadLine → HasBadLine input.now }
     ensures write_fault { result ≡ Err LineFault.WriteFault → O.faults sink.old < O.faults sink.new }
 {
@@ -100,7 +99,7 @@ fn replay_line<O: Sink, C: Bench>(
     n: u64,
     line: &[u8],
 ) -> Result<(), LineFault>
-    ensures went { LineWent result n line.now (O.written sink.old) (O.written sink.new) (C.state cloud.old) (C.state cloud.new) world.old world.new }
+    ensures went { LineWent result n line.now (O.written sink.old) (O.written sink.new) (C.counts cloud.old) (C.counts cloud.new) (C.state cloud.old) (C.state cloud.new) world.old world.new }
     ensures grows { Grows n (C.state cloud.old) (C.state cloud.new) }
     ensures bad_line { result ≡ Err LineFault.BadLine → (event : Event) → IsEvent line.now event → ⊥ }
     ensures write_fault { result ≡ Err LineFault.WriteFault → O.faults sink.old < O.faults sink.new }
@@ -110,7 +109,8 @@ fn replay_line<O: Sink, C: Bench>(
         Ok(event) => handle(alloc, world, sink, cloud, n, &event),
         Err(TextFault::NotInGrammar) => match refuse(alloc, sink, n) {
             Ok(()) => Err(LineFault::BadLine),
-            Err(fault) => Err(fault),
+            Err(OutputFault::WriteFault) => Err(LineFault::WriteFault),
+            Err(OutputFault::Memory) => Err(LineFault::Memory),
         },
         Err(TextFault::Memory) => Err(LineFault::Memory),
     }
@@ -125,43 +125,44 @@ fn handle<O: Sink, C: Bench>(
     n: u64,
     event: &Event,
 ) -> Result<(), LineFault>
-    ensures handled { LineHandled result n event.now (O.written sink.old) (O.written sink.new) (C.state cloud.old) (C.state cloud.new) world.old world.new }
+    ensures handled { LineHandled result n event.now (O.written sink.old) (O.written sink.new) (C.counts cloud.old) (C.counts cloud.new) (C.state cloud.old) (C.state cloud.new) world.old world.new }
     ensures grows { Grows n (C.state cloud.old) (C.state cloud.new) }
     ensures write_fault { result ≡ Err LineFault.WriteFault → O.faults sink.old < O.faults sink.new }
     ensures faults { O.faults sink.old ≤ O.faults sink.new }
 {
     match world.event(alloc, cloud, n, event) {
-        Ok(reply) => write_reply(alloc, sink, n, &reply),
+        Ok(reply) => match write_reply(alloc, sink, n, &reply) {
+            Ok(()) => Ok(()),
+            Err(OutputFault::WriteFault) => Err(LineFault::WriteFault),
+            Err(OutputFault::Memory) => Err(LineFault::Memory),
+        },
         Err(WorldFault::Cloud) => Err(LineFault::CloudFault),
         Err(WorldFault::Memory) => Err(LineFault::Memory),
     }
 }
 
 /// Writes that a line is in no grammar.
-fn refuse<O: Sink>(alloc: Global, sink: &mut O, n: u64) -> Result<(), LineFault>
-    ensures written { OnOk result (Adds (O.written sink.old) (O.written sink.new) (bad_line n)) }
-    ensures front { OnErr result (AddsPrefix (O.written sink.old) (O.written sink.new) (bad_line n)) }
-    ensures bad_line { result ≡ Err LineFault.BadLine → ⊥ }
-    ensures write_fault { result ≡ Err LineFault.WriteFault → O.faults sink.old < O.faults sink.new }
-    ensures faults { O.faults sink.old ≤ O.faults sink.new }
+fn refuse<O: Sink>(alloc: Global, sink: &mut O, n: u64) -> Result<(), OutputFault>
+    ensures { WasWritten (O.written sink.old) (O.written sink.new) (O.faults sink.old) (O.faults sink.new) (bad_line n) result }
 {
     match format!(in alloc; "bad line {n}\n") {
-        Ok(text) => write(sink, text.as_bytes()),
-        Err(_) => Err(LineFault::Memory),
+        Ok(text) => write_text(sink, text.as_bytes()),
+        Err(_) => Err(OutputFault::Memory),
     }
 }
 
 /// Writes the reply to a line, under the line's number.
-fn write_reply<O: Sink>(alloc: Global, sink: &mut O, n: u64, reply: &Reply) -> Result<(), LineFault>
-    ensures written { OnOk result (Adds (O.written sink.old) (O.written sink.new) (reply_line n reply.now)) }
-    ensures front { OnErr result (AddsPrefix (O.written sink.old) (O.written sink.new) (reply_line n reply.now)) }
-    ensures bad_line { result ≡ Err LineFault.BadLine → ⊥ }
-    ensures write_fault { result ≡ Err LineFault.WriteFault → O.faults sink.old < O.faults sink.new }
-    ensures faults { O.faults sink.old ≤ O.faults sink.new }
+fn write_reply<O: Sink>(
+    alloc: Global,
+    sink: &mut O,
+    n: u64,
+    reply: &Reply,
+) -> Result<(), OutputFault>
+    ensures { WasWritten (O.written sink.old) (O.written sink.new) (O.faults sink.old) (O.faults sink.new) (reply_line n reply.now) result }
 {
     match reply_line(alloc, n, reply) {
-        Ok(text) => write(sink, text.as_slice()),
-        Err(_) => Err(LineFault::Memory),
+        Ok(text) => write_text(sink, text.as_slice()),
+        Err(_) => Err(OutputFault::Memory),
     }
 }
 
@@ -189,20 +190,5 @@ fn number_text(alloc: Global, n: u64) -> Result<Blob, Refused>
     match format!(in alloc; "{n}") {
         Ok(text) => Ok(Blob::of(text.into_bytes())),
         Err(_) => Err(Refused::Memory),
-    }
-}
-
-/// Writes a text in one write.
-fn write<O: Sink>(sink: &mut O, text: &[u8]) -> Result<(), LineFault>
-    ensures written { OnOk result (Adds (O.written sink.old) (O.written sink.new) text.now) }
-    ensures front { OnErr result (AddsPrefix (O.written sink.old) (O.written sink.new) text.now) }
-    ensures bad_line { result ≡ Err LineFault.BadLine → ⊥ }
-    ensures write_fault { result ≡ Err LineFault.WriteFault → O.faults sink.old < O.faults sink.new }
-    ensures faults { O.faults sink.old ≤ O.faults sink.new }
-{
-    match write_text(sink, text) {
-        Ok(()) => Ok(()),
-        Err(OutputFault::WriteFault) => Err(LineFault::WriteFault),
-        Err(OutputFault::Memory) => Err(LineFault::Memory),
     }
 }

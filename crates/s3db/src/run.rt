@@ -22,15 +22,12 @@ pub fn run<I: Source, O: Sink, C: Bench>(
 ) -> Status
     ensures bad_words { result ≡ Status.BadWords → AskReplay (map string_bytes words.now) → ⊥ }
     ensures no_replay { (AskReplay (map string_bytes words.now) → ⊥) → (result ≡ Status.BadWords) ⊎ (result ≡ Status.Memory) }
-    ensures unread { result ≡ Status.BadWords → (I.left source.new ≡ I.left source.old) × (O.written sink.new ≡ O.written sink.old) }
-    ensures words_stay { result ≡ Status.BadWords → (C.state cloud.new ≡ C.state cloud.old) × (C.counts cloud.new ≡ C.counts cloud.old) }
+    ensures unread { result ≡ Status.BadWords → I.left source.new ≡ I.left source.old }
     ensures read_fault { result ≡ Status.ReadFault → I.faults source.old < I.faults source.new }
-    ensures read_stays { result ≡ Status.ReadFault → (C.state cloud.new ≡ C.state cloud.old) × (C.counts cloud.new ≡ C.counts cloud.old) }
     ensures too_long { result ≡ Status.TooLong → WasTooLong (I.left source.old) (I.left source.new) }
-    ensures long_stays { result ≡ Status.TooLong → (C.state cloud.new ≡ C.state cloud.old) × (C.counts cloud.new ≡ C.counts cloud.old) }
     ensures bad_line { result ≡ Status.BadLine → WasBad (I.left source.old) (I.left source.new) }
     ensures write_fault { result ≡ Status.WriteFault → O.faults sink.old < O.faults sink.new }
-    ensures ran { Ran result (I.left source.old) (I.left source.new) (O.written sink.old) (O.written sink.new) (C.state cloud.old) (C.state cloud.new) }
+    ensures ran { Ran result (I.left source.old) (I.left source.new) (O.written sink.old) (O.written sink.new) (C.counts cloud.old) (C.counts cloud.new) (C.state cloud.old) (C.state cloud.new) }
 {
     match shape(alloc, words) {
         Ok(Shape::Replay) => replay(alloc, source, sink, cloud),
@@ -51,12 +48,10 @@ fn replay<I: Source, O: Sink, C: Bench>(
 ) -> Status
     ensures not_words { result ≡ Status.BadWords → ⊥ }
     ensures read_fault { result ≡ Status.ReadFault → I.faults source.old < I.faults source.new }
-    ensures read_stays { result ≡ Status.ReadFault → (C.state cloud.new ≡ C.state cloud.old) × (C.counts cloud.new ≡ C.counts cloud.old) }
     ensures too_long { result ≡ Status.TooLong → WasTooLong (I.left source.old) (I.left source.new) }
-    ensures long_stays { result ≡ Status.TooLong → (C.state cloud.new ≡ C.state cloud.old) × (C.counts cloud.new ≡ C.counts cloud.old) }
     ensures bad_line { result ≡ Status.BadLine → WasBad (I.left source.old) (I.left source.new) }
     ensures write_fault { result ≡ Status.WriteFault → O.faults sink.old < O.faults sink.new }
-    ensures ran { Ran result (I.left source.old) (I.left source.new) (O.written sink.old) (O.written sink.new) (C.state cloud.old) (C.state cloud.new) }
+    ensures ran { Ran result (I.left source.old) (I.left source.new) (O.written sink.old) (O.written sink.new) (C.counts cloud.old) (C.counts cloud.new) (C.state cloud.old) (C.state cloud.new) }
 {
     match read_whole(alloc, source) {
         Ok(input) => replay_lines(alloc, input.as_slice(), sink, cloud),

@@ -15,11 +15,22 @@ fn replayed(
     reads: &[u64],
     writes: &[u64],
 ) -> Result<(Status, MemorySink), Fail> {
+    let mut cloud = MemoryCloud::new(alloc);
+    replayed_over(alloc, input, reads, writes, &mut cloud)
+}
+
+/// The same over this cloud.
+fn replayed_over(
+    alloc: Global,
+    input: &[u8],
+    reads: &[u64],
+    writes: &[u64],
+    cloud: &mut MemoryCloud,
+) -> Result<(Status, MemorySink), Fail> {
     let words = vec![in alloc; String::from_str(alloc, "replay")?]?;
     let mut source = MemorySource::new(alloc, input, reads)?;
     let mut sink = MemorySink::new(alloc, writes)?;
-    let mut cloud = MemoryCloud::new(alloc);
-    let status = run(alloc, words.as_slice(), &mut source, &mut sink, &mut cloud);
+    let status = run(alloc, words.as_slice(), &mut source, &mut sink, cloud);
     Ok((status, sink))
 }
 
@@ -48,6 +59,36 @@ fn replays_commits(rt: HostRuntime) -> Result<(), Fail> {
     Ok(())
 }
 
+/// The first worked example, and what it writes.
+const WORKED: &[u8] =
+    b"open 1 1\nrun 1\ninsert 1 1 6b 76\ncommit 1\nrun 1\ntree 1 1\nrun 1\nreport 1\n";
+
+const REPORTED: &[u8] =
+    b"1 begun\n2 opened 1\n3 noted\n4 begun\n5 committed 1\n6 begun\n7 done 1 1 0\n8 report 1\ncommitted 1\n1 1 1 insert 6b 76\norder 1\n1 1 1 insert 6b 76\ncontents 1\n6b 76\nleft 0 0\n";
+
+#[test]
+fn replays_the_worked_example(rt: HostRuntime) -> Result<(), Fail> {
+    let (status, sink) = replayed(rt.alloc(), WORKED, &[], &[])?;
+    assert_eq!(rt; status, Status::Done);
+    assert_eq!(rt; sink.written(), REPORTED);
+    Ok(())
+}
+
+#[test]
+fn ends_at_a_failed_call(rt: HostRuntime) -> Result<(), Fail> {
+    for (call, output) in [
+        // The take of the lease, and the put of the open head.
+        (1, b"1 begun\n".as_slice()),
+        (4, b"1 begun\n2 opened 1\n3 noted\n4 begun\n".as_slice()),
+    ] {
+        let mut cloud = MemoryCloud::with_failures(rt.alloc(), &[call])?;
+        let (status, sink) = replayed_over(rt.alloc(), WORKED, &[], &[], &mut cloud)?;
+        assert_eq!(rt; status, Status::CloudFault);
+        assert_eq!(rt; sink.written(), output);
+    }
+    Ok(())
+}
+
 #[test]
 fn replays_rows(rt: HostRuntime) -> Result<(), Fail> {
     for (input, status, output) in [
@@ -66,6 +107,11 @@ fn replays_rows(rt: HostRuntime) -> Result<(), Fail> {
             b"insert 1 1 6b 76\nfoo\nreport 1\n".as_slice(),
             Status::BadLine,
             b"1 refused 6 not-open\nbad line 2\n".as_slice(),
+        ),
+        (
+            b"abort 1\nopen 1 1\nabort 1\nrun 1\ninsert 1 1 6b 76\nabort 1\ncommit 1\nabort 1\n".as_slice(),
+            Status::Done,
+            b"1 refused 6 not-open\n2 begun\n3 refused 7 at-work\n4 opened 1\n5 noted\n6 aborted\n7 committed 0\n8 aborted\n".as_slice(),
         ),
         (
             b"report 1\n".as_slice(),
@@ -235,11 +281,8 @@ fn leaves_these_bytes(rt: HostRuntime) -> Result<(), Fail> {
     let mut input = Vec::new(alloc);
     input.extend_from_slice(FIRST)?;
     input.extend_from_slice(b"tree 1 1\nrun 1\n")?;
-    let words = vec![in alloc; String::from_str(alloc, "replay")?]?;
-    let mut source = MemorySource::new(alloc, input.as_slice(), &[])?;
-    let mut sink = MemorySink::new(alloc, &[])?;
     let mut cloud = MemoryCloud::new(alloc);
-    let status = run(alloc, words.as_slice(), &mut source, &mut sink, &mut cloud);
+    let (status, _) = replayed_over(alloc, input.as_slice(), &[], &[], &mut cloud)?;
     assert_eq!(rt; status, Status::Done);
     let page = cloud.version(ObjName::Page(tree, PageId::first()), 1);
     assert!(rt; page == Some(PAGE.as_slice()));

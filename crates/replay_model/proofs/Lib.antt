@@ -11,6 +11,7 @@ pub mod RecordKnowledge
 pub mod RecordFoldings
 pub mod RecordSession
 pub mod RecordBegins
+pub mod OrderLemmas
 pub mod SessionLemmas
 pub mod LineLemmas
 pub mod StartLemmas

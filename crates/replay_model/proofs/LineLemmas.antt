@@ -7,7 +7,8 @@ use Rattle.reply_text.specs.declared.reply.Reply.{Reply}
 use Rattle.client_session.specs.Session.{Acting, IsKept}
 use Rattle.world_audit.specs.Audited.{Audited}
 use Rattle.replay_model.specs.Standing.{Line, Standing, standing, after_line, after_own, session_of}
-use Rattle.replay_model.specs.Facts.{Knows, ActsAs, CloudStands, RecordsStand, Stands, GoesOn}
+use Rattle.replay_model.specs.Facts.{Knows, ActsAs, CloudStands, RecordsStand, IsFrontOf, Reported, Stands, GoesOn}
+use Rattle.replay_model.proofs.OrderLemmas.{reported_line}
 use Rattle.replay_model.proofs.CommittedLemmas.{committed_line, standing_line, upto_more}
 
 -- what stands after lines goes on within the next
@@ -16,12 +17,13 @@ begins_line lines session a t s = record {
   cloud = record { trees = s.cloud.trees; placed = s.cloud.placed; upto = upto_more (length lines) (length lines + 1) t (omega arith) s.cloud.upto; committed = s.cloud.committed };
   session = s.session;
   records = s.records;
+  reported = s.reported;
 }
 
 -- a line that is through is one of the lines
 pub line_through : (lines : List Line) (line : Line) (session : Acting) (a : Audited) (t : CloudState) → CloudStands (length lines + 1) lines a t
-    → Knows (newest t) session.work → IsKept session.work → ActsAs session (after_line 1 (standing lines 1) line) → RecordsStand session a t → Stands (lines ++ line ∷ []) session a t
-line_through lines line session a t cloud knows kept acts records = record {
+    → Knows (newest t) session.work → IsKept session.work → ActsAs session (after_line 1 (standing lines 1) line) → RecordsStand session a t → Reported lines a.order → IsFrontOf a.order line.reply → Stands (lines ++ line ∷ []) session a t
+line_through lines line session a t cloud knows kept acts records reported front = record {
   cloud = record {
     trees = cloud.trees;
     placed = cloud.placed;
@@ -30,6 +32,7 @@ line_through lines line session a t cloud knows kept acts records = record {
   };
   session = record { knows = knows; kept = kept; acts = subst (λ z. ActsAs session z) (sym (standing_line lines line 1)) acts };
   records = records;
+  reported = reported_line lines line a.order reported front;
 }
 
 -- a line of the session, and one of another

@@ -10,6 +10,7 @@ use Rattle.cloud_trait.specs.declared.turn.Turn.TheVariants.{More, Ended}
 use Rattle.cloud_trait.specs.Ask.{Ask, Get, GetHeld, PutHeld, Send, Receive, Delete, Take, Renew, Release, effect}
 use Rattle.cloud_trait.specs.Caller.{Caller}
 use Rattle.cloud_trait.specs.Claim.{Claim}
+use Rattle.cloud_trait.specs.Growth.{BeginsWith}
 use Rattle.cloud_trait.specs.Names.{object_cmp}
 use Rattle.cloud_trait.specs.State.{CloudState, Counts, called, newest, newest_of}
 use Rattle.cloud_trait.specs.Views.{got_of}
@@ -35,7 +36,8 @@ use Rattle.world_audit.specs.Audited.{Audited}
 use Rattle.replay_model.specs.Standing.{Line, Standing, Posture, Working, Idle as Idled, Opening as OpeningTask, Committing as Noted, Other, standing, steps, answered, idle}
 use Rattle.replay_model.specs.Committed.{changes_at, entries_of_bytes}
 use Rattle.replay_model.specs.Noting.{audited}
-use Rattle.replay_model.specs.Facts.{HomeStands, Knows, ActsAs, WorksAs, CloudStands, RecordsStand, GoesOn}
+use Rattle.replay_model.specs.Facts.{HomeStands, Knows, ActsAs, WorksAs, CloudStands, RecordsStand, Reported, GoesOn}
+use Rattle.replay_model.proofs.OrderLemmas.{reported_more, audited_grows}
 use Rattle.replay_model.proofs.CommittedLemmas.{now_entries}
 use Rattle.replay_model.proofs.OpeningLemmas.{opening_cloud, opening_goes, opening_opens}
 use Rattle.replay_model.proofs.CommitLemmas.{CommitsChanges, commit_cloud, commit_goes, commit_ends}
@@ -199,6 +201,7 @@ step_goes_on lines who c d x t u old new a b session event told goes p kept audi
         cloud = k.2;
         session = record { knows = k.3; kept = kept; acts = record { buffer = p.0 ∙ goes.session.acts.buffer; work = k.4 } };
         records = records_go who c d x t u old new a b told goes.records goes.session.knows goes.session.kept p audit k.0 k.1;
+        reported = reported_more lines a.order b.order (subst (λ (z : Audited). BeginsWith a.order z.order) (sym (audit k.0 k.1)) (audited_grows (newest x) (newest k.0) old.work a)) goes.reported;
       },
     )
 
@@ -293,6 +296,7 @@ pub record Answered (lines : List Line) (new : Acting) (b : Audited) (u : Option
   pub knows : Knows (newest after) new.work
   pub acts : ActsAs new (steps r (standing lines 1))
   pub records : RecordsStand new b after
+  pub reported : Reported lines b.order
 
 pub step_ends : (lines : List Line) (who : Caller) (c d : Counts) (x : CloudState) (t u : Option CloudState) (old new : Acting) (a b : Audited) (ans : Answer) (r : Reply)
     → who.session ≡ 1 → who.event ≡ length lines + 1 → t ≡ Some x → GoesOn lines old a x
@@ -307,4 +311,5 @@ step_ends lines who c d x t u old new a b ans r session event told goes p is aud
       knows = k.3;
       acts = record { buffer = p.0 ∙ goes.session.acts.buffer ∙ ap (λ (z : Standing). z.buffer) (sym k.5); work = k.4 };
       records = records_end who c d x t u old new a b ans r told goes.records goes.session.knows goes.session.kept p is audit k.0 k.1;
+      reported = reported_more lines a.order b.order (subst (λ (z : Audited). BeginsWith a.order z.order) (sym (audit k.0 k.1)) (audited_grows (newest x) (newest k.0) old.work a)) goes.reported;
     }

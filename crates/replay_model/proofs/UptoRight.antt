@@ -67,21 +67,9 @@ right_same lines s t r v e h =
       folded = h.folded;
       legal = h.legal;
       complete = h.complete;
+      grown = h.grown;
     }
 
 -- a report that was right is right for every later state, cut at its line
 pub right_upto : (n : ℕ) (lines : List Line) (s t : CloudState) (r : Report) → IsUpto n s → AgreeUpto n s t → IsRight lines s r → IsRight lines (upto t n) r
 right_upto n lines s t r u a h = right_same lines s (upto t n) r (upto_versions n s t u a) (upto_trace n s t u a) h
-
--- lines that come later change nothing of it
-pub more_lines : (lines more : List Line) (t : CloudState) (r : Report) → All (λ (row : Landing). row.who.event ≤ length lines + 1) t.trace → IsRight lines t r → IsRight (lines ++ more) t r
-more_lines lines more t r rows h = record {
-  committed = h.committed ∙ sym (ap (of_tree r.tree) (committed_more lines more t rows));
-  leaves = h.leaves;
-  chain = h.chain;
-  contents = h.contents;
-  found = h.found;
-  folded = h.folded;
-  legal = h.legal;
-  complete = h.complete;
-}

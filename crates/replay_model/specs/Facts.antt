@@ -1,7 +1,8 @@
 -- What holds after every line of a replay, of the cloud and of the session, and what the session knows of the cloud at each of its calls.
-use Rattle.std.specs.Prelude.{ℕ, ◌+◌, ◌≡◌, ◌≤◌, true, List, length, Some, Ok, All}
+use Rattle.std.specs.Prelude.{ℕ, ◌+◌, ◌≡◌, ◌≤◌, true, List, length, slice_get, Some, Ok, All}
 use Rattle.std.specs.Option.{IfSome}
 use Rattle.db_base.specs.declared.names.ObjName.TheVariants as object
+use Rattle.cloud_trait.specs.Growth.{BeginsWith}
 use Rattle.cloud_trait.specs.State.{CloudState, newest}
 use Rattle.cloud_trait.specs.Upto.{IsUpto}
 use Rattle.cloud_trait.specs.declared.state.Landing.{Landing}
@@ -10,13 +11,15 @@ use Rattle.cloud_trait.specs.declared.state.Site.TheVariants.{Object, Queue}
 use Rattle.head_codec.specs.declared.head.Head.{Head}
 use Rattle.head_codec.specs.declared.head.Phase.TheVariants as phase
 use Rattle.head_codec.specs.Spelling.{head_of}
-use Rattle.history.specs.Fold.{fold}
+use Rattle.history.specs.Fold.{fold, of_tree}
 use Rattle.leaf_view.specs.Leaf.{Leaf, IsLeaf}
 use Rattle.leaf_view.specs.Lookup.{payload_of}
 use Rattle.leaf_edit.specs.Applied.{applied}
 use Rattle.leaf_edit.specs.Lacked.{lacked}
 use Rattle.node_codec.specs.Tree.{Tree, IsTree}
 use Rattle.report_types.specs.declared.entry.Entry.{Entry}
+use Rattle.reply_text.specs.declared.reply.Reply.{Reply}
+use Rattle.reply_text.specs.declared.reply.Reply.TheVariants as reply
 use Rattle.recover_run.specs.declared.home.Home.{Home}
 use Rattle.recover_run.specs.declared.recover.Stage.{Stage as OpeningStage}
 use Rattle.recover_run.specs.declared.recover.Stage.TheVariants as opening
@@ -153,6 +156,17 @@ pub record RecordsStand (session : Acting) (a : Audited) (t : CloudState) : Type
   pub known : RecordsKnown (tally_of t) a.committed session.work
   pub buffer : MayCommit session.buffer
 
+-- ---- what was reported
+
+-- where a reply is a report, its order is where the order begins in its tree
+abbrev pub IsFrontOf : List Entry → Reply → Type 0
+IsFrontOf order (reply.Report r) = BeginsWith r.order (of_tree r.tree order)
+IsFrontOf order reply = Unit {0}
+
+-- the order goes on from that of each report of the lines
+abbrev pub Reported : List Line → List Entry → Type 0
+Reported lines order = (k : ℕ) (line : Line) → slice_get lines k ≡ Some line → IsFrontOf order line.reply
+
 -- ---- how a session stands by the lines
 
 -- a session's work is what the lines say that it has in hand
@@ -188,9 +202,11 @@ pub record Stands (lines : List Line) (acting : Acting) (a : Audited) (t : Cloud
   pub cloud : CloudStands (length lines) lines a t
   pub session : SessionStands lines acting t
   pub records : RecordsStand acting a t
+  pub reported : Reported lines a.order
 
 -- within the line behind these, when what landed may be of that line
 pub record GoesOn (lines : List Line) (acting : Acting) (a : Audited) (t : CloudState) : Type 0 where
   pub cloud : CloudStands (length lines + 1) lines a t
   pub session : SessionStands lines acting t
   pub records : RecordsStand acting a t
+  pub reported : Reported lines a.order

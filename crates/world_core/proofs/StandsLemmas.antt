@@ -23,6 +23,8 @@ use Rattle.recover_run.specs.declared.home.Home.{Home}
 use Rattle.commit_run.specs.Commit.{Commit, Readies, new_commit, with_attempt, next_records, opening, finished}
 use Rattle.cloud_trait.specs.Machine.{Goes, Ends}
 use Rattle.cloud_trait.specs.Caller.{Caller}
+use Rattle.cloud_trait.specs.Growth.{BeginsWith}
+use Rattle.cloud_trait.proofs.EffectLemmas.{begins_same}
 use Rattle.cloud_trait.specs.State.{CloudState, Counts, newest}
 use Rattle.cloud_trait.specs.declared.turn.Turn.{Turn}
 use Rattle.cloud_trait.specs.declared.turn.Turn.TheVariants.{More, Ended, Stopped}
@@ -46,8 +48,8 @@ use Rattle.replay_model.specs.Standing.{Line, Standing, Working as WorkingOn, Co
 use Rattle.replay_model.specs.Committed.{committed}
 use Rattle.replay_model.specs.Index.{Finds}
 use Rattle.replay_model.specs.Noting.{Newest, audited}
-use Rattle.replay_model.specs.Right.{ReportIsRight, IsRight, HoldsAll, payload_at}
-use Rattle.replay_model.specs.Facts.{HomeStands, CommitStands, Knows, ActsAs, WorksAs, CloudStands, RecordsKnown, RecordsStand, Stands, GoesOn}
+use Rattle.replay_model.specs.Right.{ReportIsRight, IsRight, HoldsAll, GoesOnFrom, payload_at}
+use Rattle.replay_model.specs.Facts.{HomeStands, CommitStands, Knows, ActsAs, WorksAs, CloudStands, RecordsKnown, RecordsStand, IsFrontOf, Reported, Stands, GoesOn}
 use Rattle.replay_model.proofs.LineLemmas.{begins_line, line_through, own_line}
 use Rattle.replay_model.proofs.TreeLemmas.{report_of}
 use Rattle.replay_model.proofs.RecordBegins.{may_nothing, may_insert, opens_known, left_known}
@@ -69,14 +71,15 @@ line_of event r = record { event = event; reply = r }
 -- a line that makes no call stands where the session that it leaves does
 no_call : (lines : List Line) (event : Event) (r : Reply) (s u : Option CloudState) (old new : World) (t : CloudState)
     → u ≡ s → new.audit ≡ old.audit → s ≡ Some t → Stands lines old.session old.audit t
-    → Knows (newest t) new.session.work → IsKept new.session.work → ActsAs new.session (after_line 1 (standing lines 1) (line_of event r)) → RecordsStand new.session old.audit t
+    → Knows (newest t) new.session.work → IsKept new.session.work → ActsAs new.session (after_line 1 (standing lines 1) (line_of event r)) → RecordsStand new.session old.audit t → IsFrontOf old.audit.order r
     → ReportIsRight (lines ++ line_of event r ∷ []) t r → LeftIsRight t r → StandsFor (lines ++ line_of event r ∷ []) new u r
-no_call lines event r s u old new t same audit told stands knows kept acts records right left = record {
+no_call lines event r s u old new t same audit told stands knows kept acts records front right left = record {
   after = t;
   told = same ∙ told;
   stands = line_through lines (line_of event r) new.session new.audit t
       (subst (λ a. CloudStands (length lines + 1) lines a t) (sym audit) (begins_line lines old.session old.audit t stands).cloud) knows kept acts
-      (subst (λ a. RecordsStand new.session a t) (sym audit) records);
+      (subst (λ a. RecordsStand new.session a t) (sym audit) records)
+      (subst (λ (a : Audited). Reported lines a.order) (sym audit) stands.reported) (subst (λ (a : Audited). IsFrontOf a.order r) (sym audit) front);
   right = right;
   left = left;
 }
@@ -84,13 +87,13 @@ no_call lines event r s u old new t same audit told stands knows kept acts recor
 -- a line that leaves the session too
 leaves_all : (lines : List Line) (event : Event) (r : Reply) (s u : Option CloudState) (old new : World) (t : CloudState)
     → u ≡ s → new ≡ old → s ≡ Some t → Stands lines old.session old.audit t → IsKept new.session.work
-    → after_line 1 (standing lines 1) (line_of event r) ≡ standing lines 1
+    → after_line 1 (standing lines 1) (line_of event r) ≡ standing lines 1 → IsFrontOf old.audit.order r
     → ReportIsRight (lines ++ line_of event r ∷ []) t r → LeftIsRight t r → StandsFor (lines ++ line_of event r ∷ []) new u r
-leaves_all lines event r s u old new t same world told stands kept stays right left =
+leaves_all lines event r s u old new t same world told stands kept stays front right left =
     no_call lines event r s u old new t same (ap (λ (w : World). w.audit) world) told stands
     (subst (λ (w : World). Knows (newest t) w.session.work) (sym world) stands.session.knows) kept
     (subst (λ z. ActsAs new.session z) (sym stays) (subst (λ (w : World). ActsAs w.session (standing lines 1)) (sym world) stands.session.acts))
-    (subst (λ (w : World). RecordsStand w.session old.audit t) (sym world) stands.records) right left
+    (subst (λ (w : World). RecordsStand w.session old.audit t) (sym world) stands.records) front right left
 
 -- a refusal changes nothing of how a session stands
 refused_own : (event : Event) (rule : Refusal) (s : Standing) → after_own event (reply.Refused rule) s ≡ s
@@ -126,7 +129,7 @@ refuses : (lines : List Line) (event : Event) (r : Reply) (rule : Refusal) (s u 
 refuses lines event r rule s u old new t is same world told stands kept =
     let e : r ≡ reply.Refused rule = cc in
     let P : Reply → Type 0 = λ z. StandsFor (lines ++ line_of event z ∷ []) new u z in
-    subst P (sym e) (leaves_all lines event (reply.Refused rule) s u old new t same world told stands kept (refused_line event rule (standing lines 1)) tt tt)
+    subst P (sym e) (leaves_all lines event (reply.Refused rule) s u old new t same world told stands kept (refused_line event rule (standing lines 1)) tt tt tt)
 
 unbuilt : (lines : List Line) (event : Event) (r : Reply) (c d : Counts) (s u : Option CloudState) (old new : World) (t : CloudState)
     → IsUnbuilt c d s u old new (Ok r) → s ≡ Some t → Stands lines old.session old.audit t → IsKept new.session.work → StandsFor (lines ++ line_of event r ∷ []) new u r
@@ -171,6 +174,15 @@ answer_no_left t (answer.Commit InDoubt) r is = absurd is
 answer_no_left t (answer.Commit (CommittedOpen z)) r is = absurd is
 answer_no_left t (answer.Trouble z) r is = absurd is
 
+answer_no_front : (order : List Entry) (a : Answer) (r : Reply) → IsReplyTo a r → IsFrontOf order r
+answer_no_front order (answer.Opened epoch) r is = subst (λ z. IsFrontOf order z) (sym is) tt
+answer_no_front order (answer.Done n) r is = subst (λ z. IsFrontOf order z) (sym is) tt
+answer_no_front order (answer.Commit (Committed txn)) r is = subst (λ z. IsFrontOf order z) (sym is) tt
+answer_no_front order (answer.Commit (NotCommitted z)) r is = absurd is
+answer_no_front order (answer.Commit InDoubt) r is = absurd is
+answer_no_front order (answer.Commit (CommittedOpen z)) r is = absurd is
+answer_no_front order (answer.Trouble z) r is = absurd is
+
 -- ---- lines that begin an operation
 
 is_tree : (n : ℕ) → IsTree n ⊎ (IsTree n → ⊥)
@@ -191,11 +203,11 @@ pub record Ready (lines : List Line) (event : Event) (s u : Option CloudState) (
 
 -- the session that a line of its own leaves stands as the line and its reply say
 leaves_session : (lines : List Line) (event : Event) (r : Reply) (s u : Option CloudState) (old new : World) (t : CloudState) → Ready lines event s u old new t
-    → Knows (newest t) new.session.work → ActsAs new.session (after_own event r (standing lines 1)) → RecordsStand new.session old.audit t → ReportIsRight (lines ++ line_of event r ∷ []) t r → LeftIsRight t r
+    → Knows (newest t) new.session.work → ActsAs new.session (after_own event r (standing lines 1)) → RecordsStand new.session old.audit t → IsFrontOf old.audit.order r → ReportIsRight (lines ++ line_of event r ∷ []) t r → LeftIsRight t r
     → StandsFor (lines ++ line_of event r ∷ []) new u r
-leaves_session lines event r s u old new t ready knows acts records right left =
+leaves_session lines event r s u old new t ready knows acts records front right left =
     no_call lines event r s u old new t ready.same ready.audit ready.told ready.stands knows ready.kept
-    (subst (λ z. ActsAs new.session z) (sym (own_line event r (standing lines 1) ready.own)) acts) records right left
+    (subst (λ z. ActsAs new.session z) (sym (own_line event r (standing lines 1) ready.own)) acts) records front right left
 
 -- a line that is refused leaves its session
 refuses_session : (lines : List Line) (event : Event) (r : Reply) (rule : Refusal) (s u : Option CloudState) (old new : World) (t : CloudState) → Ready lines event s u old new t
@@ -207,7 +219,7 @@ refuses_session lines event r rule s u old new t ready is same =
     (subst (λ (x : Acting). Knows (newest t) x.work) (sym same) ready.stands.session.knows)
     (subst (λ z. ActsAs new.session z) (sym (refused_own event rule (standing lines 1))) (subst (λ x. ActsAs x (standing lines 1)) (sym same) ready.stands.session.acts))
     (subst (λ x. RecordsStand x old.audit t) (sym same) ready.stands.records)
-    tt tt)
+    tt tt tt)
 
 -- an operation that begins has its first call in hand
 begins_session : (lines : List Line) (event : Event) (r : Reply) (s u : Option CloudState) (old new : World) (t : CloudState) (session : Acting) → Ready lines event s u old new t
@@ -220,7 +232,7 @@ begins_session lines event r s u old new t session ready is same knows acts know
     (subst (λ (x : Acting). Knows (newest t) x.work) (sym same) knows)
     (subst (λ x. ActsAs x (after_own event reply.Begun (standing lines 1))) (sym same) acts)
     (subst (λ x. RecordsStand x old.audit t) (sym same) (record { hold = ready.stands.records.hold; known = known; buffer = buffer }))
-    tt tt)
+    tt tt tt)
 
 opening_begun : (lines : List Line) (k client : ℕ) (r : Reply) (s u : Option CloudState) (old new : World) (t : CloudState) (begun : Result Begun Refused) → IsClient client
     → Ready lines (event.Open k client) s u old new t → BeginsOpening client old.session new.session begun → BegunReply begun (Ok r)
@@ -317,7 +329,7 @@ commit_of lines k r s u buffer home audit new t (Answered (answer.Commit a)) rea
     (subst (λ x. ActsAs x (record (standing lines 1) { buffer = [] })) (sym commits.2) (record { buffer = refl; work = (acts.work.0, acts.work.1 ∙ sym o.1) }))
     (subst (λ (x : Acting). RecordsStand x audit t) (sym commits.2)
     (record { hold = ready.stands.records.hold; known = left_known home buffer commits.0 a ready.stands.records.known commits.1; buffer = may_nothing }))
-    tt tt)
+    tt tt tt)
 commit_of lines k r s u buffer home audit new t (Answered (answer.Opened epoch)) ready commits replies = absurd commits
 commit_of lines k r s u buffer home audit new t (Answered (answer.Done n)) ready commits replies = absurd commits
 commit_of lines k r s u buffer home audit new t (Answered (answer.Trouble z)) ready commits replies = absurd (cc (replies))
@@ -335,7 +347,7 @@ commit_noted lines k r s u buffer (work.Idle home) audit new t begun ready (inl 
     (subst (λ (x : Acting). Knows (newest t) x.work) (sym none.1) ready.stands.session.knows)
     (subst (λ x. ActsAs x (standing lines 1)) (sym none.1) ready.stands.session.acts)
     (subst (λ x. RecordsStand x audit t) (sym none.1) ready.stands.records)
-    tt tt)
+    tt tt tt)
 commit_noted lines k r s u buffer (work.Idle home) audit new t begun ready (inr some) replies = commit_of lines k r s u buffer home audit new t begun ready some.1 replies
 commit_noted lines k r s u buffer work.Closed audit new t begun ready commits replies = absurd commits
 commit_noted lines k r s u buffer (work.Opening m) audit new t begun ready commits replies = absurd commits
@@ -363,7 +375,7 @@ inserts lines k tree key payload reply.Noted s u old new t ready h =
     (record { buffer = ap (λ b. noted_in b tree (Insert key payload)) acts.buffer; work = works_with old.session.work (standing lines 1) _ acts.work }))
     (subst (λ (x : Acting). RecordsStand x old.audit t) (sym h.0)
     (record { hold = ready.stands.records.hold; known = ready.stands.records.known; buffer = may_insert old.session.buffer tree key payload ready.stands.records.buffer }))
-    tt tt
+    tt tt tt
 inserts lines k tree key payload (reply.Refused rule) s u old new t ready h = refuses_session lines (event.Insert k tree key payload) (reply.Refused rule) rule s u old new t ready refl h.0
 inserts lines k tree key payload r s u old new t ready h = absurd h
 
@@ -375,7 +387,7 @@ aborts lines k reply.Aborted s u old new t ready h =
     (subst (λ (x : Acting). Knows (newest t) x.work) (sym h.0) ready.stands.session.knows)
     (subst (λ x. ActsAs x (record (standing lines 1) { buffer = [] })) (sym h.0) (record { buffer = refl; work = works_with old.session.work (standing lines 1) [] acts.work }))
     (subst (λ (x : Acting). RecordsStand x old.audit t) (sym h.0) (record { hold = ready.stands.records.hold; known = ready.stands.records.known; buffer = may_nothing }))
-    tt tt
+    tt tt tt
 aborts lines k (reply.Refused rule) s u old new t ready h = refuses_session lines (event.Abort k) (reply.Refused rule) rule s u old new t ready refl h.0
 aborts lines k r s u old new t ready h = absurd h
 
@@ -421,7 +433,7 @@ ends_run lines k who c f s v old new (Ok (Ended a)) r own session number way ste
       after = k'.after;
       told = step.after.stays k'.after k'.told;
       stands = line_through lines (line_of (event.Run k) r) new.session new.audit k'.after k'.cloud k'.knows step.kept
-          (subst (λ z. ActsAs new.session z) (sym (own_line (event.Run k) r (standing lines 1) own)) k'.acts) k'.records;
+          (subst (λ z. ActsAs new.session z) (sym (own_line (event.Run k) r (standing lines 1) own)) k'.acts) k'.records k'.reported (answer_no_front new.audit.order a r is);
       right = answer_no_report (lines ++ line_of (event.Run k) r ∷ []) k'.after a r is;
       left = answer_no_left k'.after a r is;
     }
@@ -438,7 +450,8 @@ ends_run lines k who c f s v old new (Err (refused.Rule rule)) r own session num
           (subst (λ (x : Acting). Knows (newest way.after) x.work) (sym step.steps.2) way.goes.session.knows)
           step.kept
           (subst (λ z. ActsAs new.session z) (sym (refused_line (event.Run k) rule (standing lines 1))) (subst (λ x. ActsAs x (standing lines 1)) (sym step.steps.2) way.goes.session.acts))
-          (subst (λ a. RecordsStand new.session a way.after) (sym audit) (subst (λ x. RecordsStand x old.audit way.after) (sym step.steps.2) way.goes.records));
+          (subst (λ a. RecordsStand new.session a way.after) (sym audit) (subst (λ x. RecordsStand x old.audit way.after) (sym step.steps.2) way.goes.records))
+          (subst (λ (a : Audited). Reported lines a.order) (sym audit) way.goes.reported) tt;
       right = tt;
       left = tt;
     })
@@ -470,11 +483,16 @@ right_of lines tree session audit s t r stands shows told =
       found = λ key. subst (λ k. Finds t k key (payload_at key r.contents)) at (found.found key);
       folded = λ key. found.folded_own key ∙ ap (λ es. fold es tree key) (sym shows.order) ∙ ap (λ k. fold r.order k key) at;
       legal = of_lists IsLegal (legal_in_tree (tally_of t) audit.committed audit.order tree stands.records.hold);
+      grown = λ k line there. grown line.reply (stands.reported k line there);
       complete = λ heads messages. of_lists HoldsAll (complete_in_tree t audit.committed audit.order tree stands.records.hold (sym (shows.heads t told) ∙ heads) (subst (AreWaiting t tree) messages (shows.messages t told)));
     }
   where
     of_lists : (P : List Entry → List Entry → Type 0) → P (of_tree tree audit.order) (of_tree tree audit.committed) → P r.order r.committed
     of_lists P h = subst (λ os. P os r.committed) (sym shows.order) (subst (P (of_tree tree audit.order)) (sym shows.committed) h)
+
+    grown : (q : Reply) → IsFrontOf audit.order q → GoesOnFrom r.tree r.order q
+    grown (reply.Report q) front = λ same. subst (BeginsWith q.order) (ap (λ k. of_tree k audit.order) (same ∙ shows.tree_is) ∙ sym shows.order) front
+    grown q front = tt
 
 -- and so are its two numbers
 left_of : (tree : ℕ) (audit : Audited) (s : Option CloudState) (t : CloudState) (r : Report) → Shows tree s audit r → s ≡ Some t → IsLeft t r
@@ -485,19 +503,24 @@ left_of tree audit s t r shows told =
       messages = subst (λ k. AreWaiting t k r.messages) at (shows.messages t told);
     }
 
+-- the order of a report is where the audit's begins
+front_of : (tree : ℕ) (audit : Audited) (r : Report) → r.tree ≡ tree → r.order ≡ of_tree tree audit.order → IsFrontOf audit.order (reply.Report r)
+front_of tree audit r at is = begins_same r.order (of_tree r.tree audit.order) (ap (λ k. of_tree k audit.order) at ∙ sym is)
+
 reports : (lines : List Line) (tree : ℕ) (r : Reply) (c d : Counts) (s u : Option CloudState) (old new : World) (t : CloudState)
     → s ≡ Some t → Stands lines old.session old.audit t → IsKept new.session.work → Reports tree c d s u old new (Ok r)
     → StandsFor (lines ++ line_of (event.Report tree) r ∷ []) new u r
 reports lines tree (reply.Report r) c d s u old new t told stands kept h =
     let line : Line = line_of (event.Report tree) (reply.Report r) in
+    let shows : Shows tree s new.audit r = subst (λ (w : World). Shows tree s w.audit r) (sym h.world) h.reply in
     let stood : Stands (lines ++ line ∷ []) new.session new.audit t =
     line_through lines line new.session new.audit t
     (subst (λ (w : World). CloudStands (length lines + 1) lines w.audit t) (sym h.world) (begins_line lines old.session old.audit t stands).cloud)
     (subst (λ (w : World). Knows (newest t) w.session.work) (sym h.world) stands.session.knows)
     kept
     (subst (λ (w : World). ActsAs w.session (standing lines 1)) (sym h.world) stands.session.acts)
-    (subst (λ (w : World). RecordsStand w.session w.audit t) (sym h.world) stands.records) in
-    let shows : Shows tree s new.audit r = subst (λ (w : World). Shows tree s w.audit r) (sym h.world) h.reply in
+    (subst (λ (w : World). RecordsStand w.session w.audit t) (sym h.world) stands.records)
+    (subst (λ (w : World). Reported lines w.audit.order) (sym h.world) stands.reported) (front_of tree new.audit r (shows.tree_is) (shows.order)) in
     record { after = t; told = h.looked.stays t told; stands = stood; right = right_of (lines ++ line ∷ []) tree new.session new.audit s t r stood shows told; left = left_of tree new.audit s t r shows told }
 reports lines tree (reply.Refused rule) c d s u old new t told stands kept h =
     let line : Line = line_of (event.Report tree) (reply.Refused rule) in
@@ -507,7 +530,8 @@ reports lines tree (reply.Refused rule) c d s u old new t told stands kept h =
     (subst (λ (w : World). Knows (newest t) w.session.work) (sym h.world) stands.session.knows)
     kept
     (subst (λ (w : World). ActsAs w.session (standing lines 1)) (sym h.world) stands.session.acts)
-    (subst (λ (w : World). RecordsStand w.session w.audit t) (sym h.world) stands.records) in
+    (subst (λ (w : World). RecordsStand w.session w.audit t) (sym h.world) stands.records)
+    (subst (λ (w : World). Reported lines w.audit.order) (sym h.world) stands.reported) tt in
     record { after = t; told = h.looked.stays t told; stands = stood; right = tt; left = tt }
 reports lines tree r c d s u old new t told stands kept h = absurd h.reply
 

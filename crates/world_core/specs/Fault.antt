@@ -11,6 +11,7 @@ use Rattle.cloud_trait.specs.declared.turn.Turn.{Turn}
 use Rattle.client_session.specs.declared.session.Answer.{Answer}
 use Rattle.client_session.specs.Session.{StepsSession}
 use Rattle.world_audit.specs.Look.{Looked}
+use Rattle.world_audit.specs.Stop.{Stopped}
 use Rattle.world_core.specs.declared.put.Put.{Put}
 use Rattle.world_core.specs.declared.world.World.{World}
 use Rattle.world_core.specs.declared.world.WorldFault.{WorldFault}
@@ -49,9 +50,10 @@ abbrev pub StepFails : Caller → Counts → Counts → Option CloudState → Op
 StepFails who c f s v old new fault.Cloud = FailsBefore c f s v old new ⊎ FailsAfter who c f s v old new
 StepFails who c f s v old new fault.Memory = Unit {0}
 
--- why a tree has no report: a trouble stopped it, which is a failure only where a look failed
-pub record ReportFails (tree : ℕ) (c d : Counts) (why : WorldFault) : Type 0 where
+-- why a tree has no report: a trouble stopped it, which is a failure only where a look failed, and which stands in the cloud where it is told
+pub record ReportFails (tree : ℕ) (c d : Counts) (s : Option CloudState) (why : WorldFault) : Type 0 where
   pub is_tree : IsTree tree
   pub stopped : Trouble
   pub failed : stopped ≡ trouble.Failed → Rose c.dark d.dark
+  pub stands : (x : CloudState) → s ≡ Some x → Stopped x tree stopped
   pub is : why ≡ fault_of stopped

@@ -177,7 +177,7 @@ abbrev pub ReportReply : ℕ → Counts → Counts → Option CloudState → Aud
 ReportReply tree c d s audit (Ok (reply.Report r)) = Shows tree s audit r
 ReportReply tree c d s audit (Ok (reply.Refused r)) = (r ≡ rule.BadNumber) × (IsTree tree → ⊥)
 ReportReply tree c d s audit (Ok r) = ⊥
-ReportReply tree c d s audit (Err why) = ReportFails tree c d why
+ReportReply tree c d s audit (Err why) = ReportFails tree c d s why
 
 -- a report looks alone, and leaves the world as it is
 pub record Reports (tree : ℕ) (c d : Counts) (s t : Option CloudState) (old new : World) (result : Result Reply WorldFault) : Type 0 where

@@ -26,7 +26,7 @@ front_more : (order later : List Entry) (r : Reply) → BeginsWith order later �
 front_more order later (reply.Report r) grown front = (
   front.0 ++ of_tree r.tree grown.0,
   ap (of_tree r.tree) grown.1 ∙ filter-append (λ (e : Entry). e.tree == r.tree) order grown.0
-  ∙ ap (λ (es : List Entry). es ++ of_tree r.tree grown.0) front.1 ∙ append_assoc r.order front.0 (of_tree r.tree grown.0),
+      ∙ ap (λ (es : List Entry). es ++ of_tree r.tree grown.0) front.1 ∙ append_assoc r.order front.0 (of_tree r.tree grown.0),
 )
 front_more order later r grown front = tt
 

@@ -1,6 +1,6 @@
 -- The lines of a replay, one after another.
 use Rattle.std.proofs.Common.{suc, ◌≡◌, ◌<◌, ◌≤◌, ◌+◌, ◌⊎◌, ℕ, List, [], ◌∷◌, ◌++◌, length, take, Option, Some, Result, Ok, Err, refl, sym, ap, subst, ◌∙◌, inl, inr, append_assoc, arith, length-append}
-use Rattle.std.specs.Prelude.{slice_get, OnOk, OnErr}
+use Rattle.std.specs.Prelude.{slice_get}
 use Rattle.std.proofs.lemmas.List.{append-nil, take-append-le, take_all, get_or_append_left}
 use Rattle.std.proofs.lemmas.Option.{slice_get_within, slice_get-get_or}
 use Rattle.std.proofs.lemmas.Bool.{cases_lt}
@@ -28,8 +28,8 @@ use Rattle.world_core.specs.Handled.{Handled}
 use Rattle.world_core.specs.Stands.{StandsOn, Grows}
 use Rattle.s3db.specs.declared.replay.LineFault.{LineFault}
 use Rattle.s3db.specs.declared.replay.LineFault.TheVariants.{BadLine, WriteFault, Memory, CloudFault}
-use Rattle.s3db.specs.Answered.{IsNew, WentOn, start, further, AreAnswered, IsUnanswered}
-use Rattle.s3db.specs.Replayed.{AreSpelled, reply_line, replies_from, replies, bad_line, ReportsAreRight, KeepsTheTheorem, AddsFront, WroteFront, reply_cut, refusal_cut, EndedBy, between, writing, handling, Ended, WentThrough, Handles, IsAt, IsAnswered, LineHandled, LineWent, event_handled, refused, unread}
+use Rattle.s3db.specs.Answered.{IsNew, start, further, AreAnswered}
+use Rattle.s3db.specs.Replayed.{AreSpelled, reply_line, replies_from, replies, bad_line, ReportsAreRight, KeepsTheTheorem, WroteFront, reply_cut, refusal_cut, EndedBy, between, writing, handling, Ended, WentThrough, Handles, IsAt, IsAnswered, LineWent, event_handled, refused, unread}
 
 -- ---- content that is written
 

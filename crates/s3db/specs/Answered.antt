@@ -1,5 +1,5 @@
 -- Lines that a world handles, one behind another.
-use Rattle.std.specs.Prelude.{ℕ, ◌≡◌, ◌+◌, List, [], ◌∷◌, ◌++◌, length, Option, Result, Ok, Err}
+use Rattle.std.specs.Prelude.{◌≡◌, ◌+◌, List, [], ◌∷◌, ◌++◌, length, Option, Ok, Err}
 use Rattle.client_session.specs.Session.{closed_session}
 use Rattle.cloud_trait.specs.State.{CloudState, Counts}
 use Rattle.event_text.specs.declared.event.Event.{Event}

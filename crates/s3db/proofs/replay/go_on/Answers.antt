@@ -1,5 +1,5 @@
 use Rattle.std.proofs.Common.{arith}
-use Rattle.s3db.proofs.GoingLemmas.{at_start, at_stop, at_more, at_end, at_fault}
+use Rattle.s3db.proofs.GoingLemmas.{at_start, at_stop, at_more, at_fault}
 use Rattle.s3db.proofs.replay.go_on.Goals as goal
 
 -- src/replay.rt:71:5

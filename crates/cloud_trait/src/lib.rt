@@ -10,7 +10,5 @@ pub mod lease;
 pub mod message;
 pub mod perform;
 pub mod state;
-#[cfg(test)]
-mod tests;
 pub mod turn;
 pub mod who;

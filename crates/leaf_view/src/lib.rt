@@ -16,6 +16,3 @@ pub use done_list::DoneList;
 pub use laws::parts_lie_in_the_bytes;
 pub use records::Records;
 pub use view::{LeafView, NotLeaf};
-
-#[cfg(test)]
-mod tests;

@@ -75,6 +75,3 @@ pub fn take_run(alloc: Global, cursor: &Cursor, items: &[PuItem]) -> Result<Run,
     kept.sort_by(compare)?;
     Ok(Run { items: kept, top })
 }
-
-#[cfg(test)]
-mod tests;

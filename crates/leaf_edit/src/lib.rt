@@ -15,6 +15,3 @@ pub use applying::apply;
 pub use buffer::LeafBuf;
 pub use count::fresh;
 pub use merging::{VersionSpent, merge, need};
-
-#[cfg(test)]
-mod tests;

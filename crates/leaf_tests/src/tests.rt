@@ -1,8 +1,8 @@
-use super::*;
 use db_base::change::Change;
 use db_base::cursor::Cursor;
 use db_base::ids::{ClientId, MsgId, PageId};
 use db_base::key::{Key, Payload};
+use leaf_edit::{LeafBuf, VersionSpent, apply, fresh, merge, need};
 use leaf_view::LeafView;
 use log_codec::record::{PuItem, PuRec};
 use run_cursor::run::{Run, take_run};

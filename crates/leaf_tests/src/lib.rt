@@ -1,0 +1,5 @@
+//! Tests of new leaves, over runs as they are taken.
+#![tactic(auto)]
+
+#[cfg(test)]
+mod tests;

@@ -21,7 +21,7 @@ use Rattle.leaf_edit.specs.Edited.{with_payload, edited_at, edited, edited_by}
 use Rattle.leaf_edit.specs.Merging.{KeyBefore}
 use Rattle.leaf_edit.proofs.Ascends.{below_less, below_trans, greater_below, equal_same, Ascend-first}
 use Rattle.leaf_edit.proofs.Edits.{edited-ascends}
-use Rattle.world_audit.specs.Audited.{applied_entry}
+use Rattle.history.specs.Audited.{applied_entry}
 
 -- ---- whether two keys are the same
 

@@ -1,5 +1,5 @@
 ghost use Rattle.std.specs.Prelude.{◌≡◌, [], ◌∷◌, ◌++◌, All, IfOk};
-ghost use Rattle.run_cursor.specs.Run.{IsItem};
+ghost use Rattle.log_codec.specs.Order.{IsItem};
 ghost use Rattle.run_cursor.specs.Chosen.{chosen, is_wanted};
 
 use crate::run::RunFault;

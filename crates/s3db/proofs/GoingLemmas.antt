@@ -16,8 +16,8 @@ use Rattle.event_text.specs.Event.{IsEvent}
 use Rattle.line_io.specs.Lines.{lines_of}
 use Rattle.reply_text.specs.declared.reply.Reply.{Reply}
 use Rattle.reply_text.specs.declared.reply.Reply.TheVariants as reply
-use Rattle.replay_model.specs.Standing.{Line}
-use Rattle.replay_model.specs.Right.{ReportIsRight}
+use Rattle.replay_meaning.specs.Standing.{Line}
+use Rattle.replay_meaning.specs.Right.{ReportIsRight}
 use Rattle.replay_model.specs.Facts.{Stands}
 use Rattle.replay_model.proofs.UptoRight.{right_same}
 use Rattle.replay_model.proofs.StartLemmas.{nothing_stands_yet}

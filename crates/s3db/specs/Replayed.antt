@@ -10,8 +10,8 @@ use Rattle.line_io.specs.Input.{AreAll}
 use Rattle.line_io.specs.Lines.{lines_of}
 use Rattle.reply_text.specs.declared.reply.Reply.{Reply}
 use Rattle.reply_text.specs.Reply.{reply_text}
-use Rattle.replay_model.specs.Standing.{Line}
-use Rattle.replay_model.specs.Right.{ReportIsRight}
+use Rattle.replay_meaning.specs.Standing.{Line}
+use Rattle.replay_meaning.specs.Right.{ReportIsRight}
 use Rattle.replay_model.specs.Facts.{Stands}
 use Rattle.world_core.specs.declared.world.World.{World}
 use Rattle.world_core.specs.declared.world.WorldFault.{WorldFault}

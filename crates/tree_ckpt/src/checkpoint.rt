@@ -1,7 +1,7 @@
 ghost use Rattle.std.specs.Prelude.{◌≡◌, ℕ, None, Some, Ok, List, drop, IfOk, true, IfSome, IfNone, if◌then◌else◌};
 ghost use Rattle.cloud_trait.specs.Ask.{Release};
 ghost use Rattle.cloud_trait.specs.Call.{ask_of, Lends};
-ghost use Rattle.run_cursor.specs.Run.{IsOrdered};
+ghost use Rattle.log_codec.specs.Order.{IsOrdered};
 ghost use Rattle.cloud_trait.specs.Weather.{Makes};
 ghost use Rattle.node_codec.specs.Tree.{IsTree};
 ghost use Rattle.tree_ckpt.specs.Folding.{raised_tree, taken_or_none, is_lone_root, is_first_alone, is_lone_leaf, one_deleted, one_left};

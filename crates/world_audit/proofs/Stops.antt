@@ -7,9 +7,9 @@ use Rattle.std.proofs.lemmas.List.Kept.{AllPairs-cons}
 use Rattle.db_base.specs.declared.names.ObjName.TheVariants.{Page}
 use Rattle.cloud_trait.specs.State.{CloudState, newest}
 use Rattle.leaf_view.specs.Leaf.{Leaf}
-use Rattle.world_audit.specs.Chain.{Leads}
+use Rattle.tree_meaning.specs.Chain.{Leads}
 use Rattle.world_audit.specs.Stop.{pages_of, Meet, Comes, Passes}
-use Rattle.world_audit.proofs.Chains.{leads_on, right_page}
+use Rattle.tree_meaning.proofs.ChainLemmas.{leads_on, right_page}
 
 meet_on : (low : List ℕ) (leaves : List Leaf) (l : Leaf) (mid high : List ℕ)
     → Meet low leaves mid → l.low ≡ mid → l.high ≡ Some high → Meet low (leaves ++ l ∷ []) high

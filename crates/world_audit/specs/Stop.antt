@@ -12,7 +12,7 @@ use Rattle.head_codec.specs.Spelling.{head_of, head_offset}
 use Rattle.leaf_view.specs.Leaf.{Leaf, IsLeaf, leaf}
 use Rattle.leaf_view.specs.Lookup.{page_at}
 use Rattle.node_codec.specs.Tree.{Tree, IsTree, tree_format}
-use Rattle.world_audit.specs.Chain.{IsReadAs, Leads}
+use Rattle.tree_meaning.specs.Chain.{IsReadAs, Leads}
 
 -- the pages of leaves that lead from a page
 abbrev pub pages_of : ℕ → List Leaf → List ℕ

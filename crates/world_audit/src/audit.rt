@@ -1,9 +1,9 @@
 ghost use Rattle.std.specs.Prelude.{◌≡◌, ◌++◌, map, take, length, [], Some, IfOk, IfErr, OnOk, OnErr};
 ghost use Rattle.cloud_trait.specs.State.{CloudState};
 ghost use Rattle.history.specs.Fold.{of_tree};
-ghost use Rattle.world_audit.specs.Audited.{committed_entry, applied_entry};
+ghost use Rattle.history.specs.Audited.{committed_entry, applied_entry};
 ghost use Rattle.world_audit.specs.Look.{Looked, FailsDark};
-ghost use Rattle.world_audit.specs.Chain.{Walked};
+ghost use Rattle.tree_meaning.specs.Chain.{Walked};
 ghost use Rattle.world_audit.specs.Counts.{heads_upto, AreWaiting};
 ghost use Rattle.world_audit.specs.Stop.{Stopped, MayStop};
 
@@ -33,7 +33,7 @@ pub struct Audit {
 }
 
 impl Model for Audit {
-    ghost use Rattle.world_audit.specs.Audited.{Audited};
+    ghost use Rattle.history.specs.Audited.{Audited};
 
     ghost Value = { Audited };
 

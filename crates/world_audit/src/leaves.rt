@@ -7,7 +7,8 @@ ghost use Rattle.db_base.specs.Ids.{IsPage};
 ghost use Rattle.db_base.specs.declared.names.ObjName.TheVariants.{Page};
 ghost use Rattle.leaf_view.specs.Fits.{IsHigh};
 ghost use Rattle.world_audit.specs.Look.{Looked, FailsDark};
-ghost use Rattle.world_audit.specs.Chain.{IsReadAs, Adds, Walked, pair_of};
+ghost use Rattle.tree_meaning.specs.Chain.{IsReadAs, Walked, pair_of};
+ghost use Rattle.world_audit.specs.Walk.{Adds};
 ghost use Rattle.world_audit.specs.Stop.{StopsWalk, Stopped, MayStop, Passes};
 
 use crate::look::peek;

@@ -1,6 +1,6 @@
 use Rattle.std.proofs.Common.{◌≡◌, [], length}
 use Rattle.std.specs.Prelude.{All}
-use Rattle.run_cursor.specs.Run.{IsItem}
+use Rattle.log_codec.specs.Order.{IsItem}
 use Rattle.run_cursor.specs.Chosen.{chosen}
 use Rattle.run_cursor.proofs.chosen.choose.Given as goal
 

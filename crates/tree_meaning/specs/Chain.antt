@@ -1,5 +1,5 @@
--- The chain of the newest leaves of a tree.
-use Rattle.std.specs.Prelude.{ℕ, ◌≡◌, List, [], ◌∷◌, ◌++◌, map, Option, Some, None, Result, Ok, Err}
+-- The chain of the newest leaves of a tree, and the records in it.
+use Rattle.std.specs.Prelude.{ℕ, ◌≡◌, List, [], ◌∷◌, map, Option, Some, None, Result, Ok, Err}
 use Rattle.std.specs.List.{flat_map}
 use Rattle.byte_format.specs.Whole.{offset}
 use Rattle.db_base.specs.Ids.{IsPage}
@@ -10,7 +10,7 @@ use Rattle.db_base.specs.declared.trouble.Trouble.{Trouble}
 use Rattle.db_base.specs.declared.trouble.Trouble.TheVariants.{Absent, Damaged}
 use Rattle.cloud_trait.specs.State.{CloudState, newest}
 use Rattle.leaf_view.specs.Leaf.{Entry, Leaf, IsLeaf, leaf}
-use Rattle.leaf_view.specs.Lookup.{empty_leaf, page_at}
+use Rattle.leaf_view.specs.Lookup.{empty_leaf}
 
 -- what the newest version of a page is read as: the leaf that it spells, or the trouble; an absent page 1 is the empty leaf
 abbrev pub IsReadAs : ℕ → ℕ → Option (List ℕ) → Result Leaf Trouble → Type 0
@@ -45,11 +45,3 @@ pub record Walked (s : CloudState) (tree to : ℕ) (records : List Pair) : Type 
   pub leaves : List Leaf
   pub lead : Leads s tree 1 leaves to
   pub are : records ≡ records_of leaves
-
--- the records of a leaf are added, and its right page is the next
-pub record Adds (bytes : Option (List ℕ)) (tree page : ℕ) (old new : List Pair) (next : Option ℕ) : Type 0 where
-  pub leaf : Leaf
-  pub is_page : IsPage page
-  pub read : IsReadAs tree page bytes (Ok leaf)
-  pub added : new ≡ old ++ map pair_of leaf.records
-  pub right : next ≡ page_at leaf.right

@@ -11,7 +11,7 @@ use Rattle.std.proofs.lemmas.List.Sorted.{ranks_by, answers_always}
 use denote.Param.Members.{Mut}
 use Rattle.db_base.specs.Change.{key_of}
 use Rattle.log_codec.specs.declared.record.PuItem.{PuItem}
-use Rattle.run_cursor.specs.Run.{item_cmp}
+use Rattle.log_codec.specs.Order.{item_cmp}
 
 -- items are ordered totally by key, then client, then number
 pub item_cmp_total : IsTotalOrder item_cmp

@@ -1,5 +1,5 @@
 -- What was committed, by the schedule's lines: each landed put of an open head commits the changes on which its session stood.
-use Rattle.std.specs.Prelude.{ℕ, ◌-◌, List, [], map, take, Option, Some, None}
+use Rattle.std.specs.Prelude.{ℕ, List, [], map, Option, Some, None}
 use Rattle.std.specs.List.{flat_map}
 use Rattle.db_base.specs.declared.names.ObjName.{ObjName}
 use Rattle.db_base.specs.declared.names.ObjName.TheVariants as object
@@ -14,15 +14,19 @@ use Rattle.cloud_trait.specs.declared.state.Site.{Site}
 use Rattle.cloud_trait.specs.declared.state.Site.TheVariants.{Object, Queue}
 use Rattle.cloud_trait.specs.declared.state.Version.{Version}
 use Rattle.cloud_trait.specs.State.{CloudState, version_at}
-use Rattle.world_audit.specs.Audited.{committed_entry}
-use Rattle.replay_model.specs.Standing.{Line, Task, Committing, Opening, Closing, Other, Posture, Closed, Idle, Broken, Working, standing}
+use Rattle.history.specs.Audited.{committed_entry}
+use Rattle.replay_meaning.specs.Standing.{Line, Task, Opening, Closing, Renewing, Committing, Reading, Scanning, Paging, Folding, Posture, Closed, Idle, Broken, Working, standing_of_row}
 
 -- the changes of the commit on which a session works
 abbrev pub task_changes : Task → List Noted
 task_changes (Committing changes) = changes
 task_changes Opening = []
 task_changes Closing = []
-task_changes Other = []
+task_changes Renewing = []
+task_changes (Reading tree key) = []
+task_changes (Scanning tree from to) = []
+task_changes (Paging tree page) = []
+task_changes (Folding tree) = []
 
 abbrev pub changes_at : Posture → List Noted
 changes_at (Working task) = task_changes task
@@ -49,7 +53,7 @@ Versions = ObjName → List Version
 
 -- the changes of the commit on which the session of a row stood at its event
 abbrev pub changes_of_row : List Line → Landing → List Noted
-changes_of_row lines row = changes_at (standing (take (row.who.event - 1) lines) row.who.session).posture
+changes_of_row lines row = changes_at (standing_of_row lines row).posture
 
 -- what a row of the trace commits: a landed put of a head that is open, the changes of its session's commit
 abbrev pub site_entries : List Noted → Versions → ℕ → Site → List Entry

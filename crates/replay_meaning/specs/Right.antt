@@ -12,10 +12,10 @@ use Rattle.report_types.specs.declared.entry.Entry.{Entry}
 use Rattle.report_types.specs.declared.report.Report.{Report}
 use Rattle.reply_text.specs.declared.reply.Reply.{Reply}
 use Rattle.reply_text.specs.declared.reply.Reply.TheVariants as reply
-use Rattle.world_audit.specs.Chain.{AreLeaves, records_of}
-use Rattle.replay_model.specs.Standing.{Line}
-use Rattle.replay_model.specs.Committed.{committed}
-use Rattle.replay_model.specs.Index.{Finds}
+use Rattle.tree_meaning.specs.Chain.{AreLeaves, records_of}
+use Rattle.replay_meaning.specs.Standing.{Line}
+use Rattle.replay_meaning.specs.Committed.{committed}
+use Rattle.tree_meaning.specs.Index.{Finds}
 
 -- the payload that records have at a key, where they have one
 abbrev pub payload_at : List ℕ → List Pair → Option (List ℕ)

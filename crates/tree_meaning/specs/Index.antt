@@ -8,7 +8,7 @@ use Rattle.leaf_view.specs.Lookup.{payload_of}
 use Rattle.node_codec.specs.Node.{child_of}
 use Rattle.node_codec.specs.Tree.{Tree, IsTree, empty_tree}
 use Rattle.node_codec.specs.Inner.{Inner, IsInner}
-use Rattle.world_audit.specs.Chain.{IsNewestLeaf}
+use Rattle.tree_meaning.specs.Chain.{IsNewestLeaf}
 
 -- the key is not below the high key, so that it is looked for at the right page
 abbrev pub IsRightOf : List ℕ → Option (List ℕ) → Type 0

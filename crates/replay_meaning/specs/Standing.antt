@@ -1,8 +1,9 @@
 -- How a session stands after some lines and their replies. Nothing but the lines and replies is looked at.
-use Rattle.std.specs.Prelude.{ℕ, ◌==◌, if◌then◌else◌, List, [], ◌∷◌}
+use Rattle.std.specs.Prelude.{ℕ, ◌-◌, ◌==◌, if◌then◌else◌, List, [], ◌∷◌, take}
 use Rattle.db_base.specs.declared.change.Change.{Change}
 use Rattle.db_base.specs.declared.change.Change.TheVariants.{Insert, Update, Delete}
 use Rattle.db_base.specs.declared.trouble.CommitAnswer.TheVariants.{NotCommitted, InDoubt, CommittedOpen}
+use Rattle.cloud_trait.specs.declared.state.Landing.{Landing}
 use Rattle.event_text.specs.declared.event.Event.{Event}
 use Rattle.event_text.specs.declared.event.Event.TheVariants as event
 use Rattle.reply_text.specs.declared.reply.Reply.{Reply}
@@ -18,8 +19,12 @@ pub record Line : Type 0 where
 pub data Task : Type 0 where
   Opening : Task
   Closing : Task
+  Renewing : Task
   Committing : (changes : List Noted) → Task
-  Other : Task
+  Reading : (tree : ℕ) (key : List ℕ) → Task
+  Scanning : (tree : ℕ) (from to : List ℕ) → Task
+  Paging : (tree page : ℕ) → Task
+  Folding : (tree : ℕ) → Task
 
 pub data Posture : Type 0 where
   Closed : Posture
@@ -89,7 +94,11 @@ abbrev pub task_answered : Task → Reply → Standing → Standing
 task_answered Opening reply s = opening_answered reply s
 task_answered Closing reply s = shut s
 task_answered (Committing changes) reply s = commit_answered reply s
-task_answered Other reply s = idle s
+task_answered Renewing reply s = idle s
+task_answered (Reading tree key) reply s = idle s
+task_answered (Scanning tree from to) reply s = idle s
+task_answered (Paging tree page) reply s = idle s
+task_answered (Folding tree) reply s = idle s
 
 abbrev pub answered : Posture → Reply → Standing → Standing
 answered (Working task) reply s = task_answered task reply s
@@ -107,16 +116,16 @@ steps reply s = answered s.posture reply s
 abbrev pub after_own : Event → Reply → Standing → Standing
 after_own (event.Open session client) reply s = begins_opening client reply s
 after_own (event.Close session) reply s = begins Closing reply s
-after_own (event.Renew session) reply s = begins Other reply s
+after_own (event.Renew session) reply s = begins Renewing reply s
 after_own (event.Insert session tree key payload) reply s = notes tree (Insert key payload) reply s
 after_own (event.Update session tree key payload) reply s = notes tree (Update key payload) reply s
 after_own (event.Delete session tree key) reply s = notes tree (Delete key) reply s
 after_own (event.Commit session) reply s = begins_commit reply s
 after_own (event.Abort session) reply s = aborts reply s
-after_own (event.Read session tree key) reply s = begins Other reply s
-after_own (event.Scan session tree from to) reply s = begins Other reply s
-after_own (event.Page session tree page) reply s = begins Other reply s
-after_own (event.Tree session tree) reply s = begins Other reply s
+after_own (event.Read session tree key) reply s = begins (Reading tree key) reply s
+after_own (event.Scan session tree from to) reply s = begins (Scanning tree from to) reply s
+after_own (event.Page session tree page) reply s = begins (Paging tree page) reply s
+after_own (event.Tree session tree) reply s = begins (Folding tree) reply s
 after_own (event.Step session wish) reply s = steps reply s
 after_own (event.Run session) reply s = steps reply s
 after_own (event.Crash session done) reply s = crashes reply s
@@ -157,3 +166,7 @@ standing_from session s (line ∷ lines) = standing_from session (after_line ses
 -- how a session stands after lines
 abbrev pub standing : List Line → ℕ → Standing
 standing lines session = standing_from session unnamed lines
+
+-- how the session of a row of the trace stood at the row's event
+abbrev pub standing_of_row : List Line → Landing → Standing
+standing_of_row lines row = standing (take (row.who.event - 1) lines) row.who.session

@@ -8,6 +8,7 @@ pub mod Delivery
 pub mod Growth
 pub mod Machine
 pub mod Names
+pub mod Seen
 pub mod State
 pub mod Upto
 pub mod Views

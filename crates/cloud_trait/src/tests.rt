@@ -23,11 +23,9 @@ struct Silent {
 
 impl Cloud for Silent {
     ghost use Rattle.std.specs.Prelude.{None};
-    ghost use Rattle.cloud_trait.specs.State.{Counts};
+    ghost use Rattle.cloud_trait.specs.Seen.{Seen};
 
-    ghost state = { λ _. None };
-
-    ghost counts = { λ c. record { faults = c.faults; withheld = 0; stale = 0; dark = 0 } };
+    ghost seen = { λ c. record { counts = record { faults = c.faults; withheld = 0; stale = 0; dark = 0 }; state = None; heard = None } };
 
     fn now(&self) -> u64 {
         0

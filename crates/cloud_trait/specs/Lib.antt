@@ -5,6 +5,7 @@ pub mod Call
 pub mod Caller
 pub mod Claim
 pub mod Delivery
+pub mod Down
 pub mod Growth
 pub mod Machine
 pub mod Names

@@ -1,6 +1,7 @@
 use crate::answer::Answer;
 use crate::call::Call;
 use crate::cloud::{Bench, Cloud};
+use crate::down::DownCloud;
 use crate::fault::{CloudFault, HeldFault};
 use crate::grant::Grant;
 use crate::lease::Lease;
@@ -136,5 +137,27 @@ fn takes_renews_and_releases(rt: HostRuntime) -> Result<(), Fail> {
     );
     assert_eq!(rt; lease.end(), 60);
     assert!(rt; matches!(&let_go(&mut cloud, who, lease), Answer::Done));
+    Ok(())
+}
+
+#[test]
+fn is_down(rt: HostRuntime) -> Result<(), Fail> {
+    let mut cloud = DownCloud::new();
+    let tree = TreeId::new(2)?;
+    let who = Who::new(SessionNo::new(1)?, 4);
+    cloud.wish(Wish::Old(1));
+    cloud.wait(7);
+    assert_eq!(rt; cloud.now(), 7);
+    let take = Call::Take(Lock::Tree(tree), 30);
+    assert!(rt; matches!(&perform(&mut cloud, who, &take), Answer::Failed));
+    assert_eq!(rt;
+        cloud.send(who, QueueName::TreePu(tree), b"x").err(),
+        Some(CloudFault::Failed)
+    );
+    assert_eq!(rt;
+        cloud.backlog(QueueName::TreePu(tree)).err(),
+        Some(CloudFault::Failed)
+    );
+    assert!(rt; cloud.peek(ObjName::Tree(tree)).is_err());
     Ok(())
 }

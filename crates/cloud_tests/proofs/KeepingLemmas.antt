@@ -10,15 +10,15 @@ use Rattle.cloud_trait.specs.declared.turn.Turn.{Turn}
 use Rattle.cloud_trait.specs.declared.turn.Turn.TheVariants.{More, Ended, Stopped}
 use Rattle.cloud_trait.specs.Ask.{Ask, PutHeld, Take, Renew, Release}
 use Rattle.cloud_trait.specs.Claim.{Claim, extended}
-use Rattle.cloud_trait.specs.Machine.{Goes, Ends, Took, Came, Deed, calls_of}
+use Rattle.cloud_trait.specs.Machine.{Goes, Ends, LeadsBy, Took, Came, Deed, calls_of}
 use Rattle.cloud_trait.specs.Views.{trouble_of}
-use Rattle.cloud_tests.specs.Keeping.{Keeping, new_keeping, keeping_ask, keeping_next, handed, absorbed, kept_calls, HasKept, fresh}
+use Rattle.cloud_tests.specs.Keeping.{Keeping, new_keeping, keeping_ask, keeping_next, handed, absorbed, kept_calls, SameLease, KeepsLease, HasKept, fresh}
 
 -- the step from the keeper that the call left is the step from the keeper before the call
-pub took_handed : (old mid : Keeping) (a : Answer) (new : Keeping) (turn : Turn ℕ) → mid ≡ handed old a → Took absorbed mid a new turn → Took keeping_next old a new turn
+pub took_handed : (old mid : Keeping) (a : Answer) (new : Keeping) (turn : Turn ℕ) → mid ≡ handed old a → Took (LeadsBy absorbed) SameLease mid a new turn → Took (LeadsBy keeping_next) KeepsLease old a new turn
 took_handed old mid a new More e h = sym (ap (λ k. absorbed k a) e) ∙ h
 took_handed old mid a new (Ended x) e h = sym (ap (λ k. absorbed k a) e) ∙ h
-took_handed old mid a new (Stopped t) e h = λ b. sym (ap (λ k. absorbed k a) e) ∙ h b
+took_handed old mid a new (Stopped t) e h = (λ b. sym (ap (λ k. absorbed k a) e) ∙ h.0 b, λ b. h.1 b ∙ ap (λ (k : Keeping). k.lease) e)
 
 -- the keeper after a take, after a put, after a renewal, and after a put that did not come to be
 abbrev putting : Keeping → Claim → Keeping
@@ -75,7 +75,7 @@ knows_more o k b calls m a n (AtRelease l end e c) h =
 knows_more o k b calls m a n (AtStop from t e) h =
     absurd (after_failure from t a n (ap (λ y. keeping_next y a) (sym e) ∙ h))
 
-came_knows : (o : ObjName) (k : Lock) (b : List ℕ) (h : List Deed) (m : Keeping) → Came keeping_ask keeping_next (new_keeping o k b) h m → Knows (new_keeping o k b) (calls_of h) m
+came_knows : (o : ObjName) (k : Lock) (b : List ℕ) (h : List Deed) (m : Keeping) → Came keeping_ask (LeadsBy keeping_next) (new_keeping o k b) h m → Knows (new_keeping o k b) (calls_of h) m
 came_knows o k b [] m e = AtTake e refl
 came_knows o k b (d ∷ h) m c =
     let P : Ask → Type 0 = λ ask. Knows (new_keeping o k b) ((ask, d.answer) ∷ calls_of h) m in
@@ -116,7 +116,7 @@ knows_end o k b h m a n x (AtRelease l end e c) f =
     })
 
 -- a keeper that ends has taken, put, renewed and given back, each once and in this order
-pub ended_kept : (k : Keeping) (a : Answer) (n : Keeping) (turn : Turn ℕ) → Took keeping_next k a n turn → (h : List Deed) (x : ℕ) → turn ≡ Ended x → Came keeping_ask keeping_next (fresh k) h k → HasKept k h x
+pub ended_kept : (k : Keeping) (a : Answer) (n : Keeping) (turn : Turn ℕ) → Took (LeadsBy keeping_next) KeepsLease k a n turn → (h : List Deed) (x : ℕ) → turn ≡ Ended x → Came keeping_ask (LeadsBy keeping_next) (fresh k) h k → HasKept k h x
 ended_kept k a n turn took h x e came =
-    let P : Turn ℕ → Type 0 = Took keeping_next k a n in
+    let P : Turn ℕ → Type 0 = Took (LeadsBy keeping_next) KeepsLease k a n in
     knows_end k.object k.lock k.bytes h k a n x (came_knows k.object k.lock k.bytes h k came) (subst P e took)

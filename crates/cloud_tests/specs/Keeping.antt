@@ -88,6 +88,13 @@ absorbed k a = absorbed_at k.kind k a
 abbrev pub keeping_next : Keeping → Answer → Next Keeping ℕ
 keeping_next k a = absorbed (handed k a) a
 
+-- at want of memory the step leaves the lease as it is, and so does the call with its step, but where the call moves it
+abbrev pub SameLease : Keeping → Answer → Keeping → Type 0
+SameLease k a n = n.lease ≡ k.lease
+
+abbrev pub KeepsLease : Keeping → Answer → Keeping → Type 0
+KeepsLease k a n = n.lease ≡ (handed k a).lease
+
 -- a keeper of the same object, lock and bytes before its first call
 abbrev pub fresh : Keeping → Keeping
 fresh k = new_keeping k.object k.lock k.bytes

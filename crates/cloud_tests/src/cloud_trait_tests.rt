@@ -1,6 +1,7 @@
 use cloud_trait::answer::Answer;
 use cloud_trait::call::{Call, Target};
 use cloud_trait::cloud::{Bench, Cloud};
+use cloud_trait::down::DownCloud;
 use cloud_trait::fault::{CloudFault, HeldFault};
 use cloud_trait::grant::Grant;
 use cloud_trait::lease::Lease;
@@ -23,11 +24,9 @@ struct Silent {
 
 impl Cloud for Silent {
     ghost use Rattle.std.specs.Prelude.{None};
-    ghost use Rattle.cloud_trait.specs.State.{Counts};
+    ghost use Rattle.cloud_trait.specs.Seen.{Seen};
 
-    ghost state = { λ _. None };
-
-    ghost counts = { λ c. record { faults = c.faults; withheld = 0; stale = 0; dark = 0 } };
+    ghost seen = { λ c. record { counts = record { faults = c.faults; withheld = 0; stale = 0; dark = 0 }; state = None; heard = None } };
 
     fn now(&self) -> u64 {
         0
@@ -138,5 +137,27 @@ fn takes_renews_and_releases(rt: HostRuntime) -> Result<(), Fail> {
     );
     assert_eq!(rt; lease.end(), 60);
     assert!(rt; matches!(&let_go(&mut cloud, who, lease), Answer::Done));
+    Ok(())
+}
+
+#[test]
+fn is_down(rt: HostRuntime) -> Result<(), Fail> {
+    let mut cloud = DownCloud::new();
+    let tree = TreeId::new(2)?;
+    let who = Who::new(SessionNo::new(1)?, 4);
+    cloud.wish(Wish::Old(1));
+    cloud.wait(7);
+    assert_eq!(rt; cloud.now(), 7);
+    let take = Call::Take(Lock::Tree(tree), 30);
+    assert!(rt; matches!(&perform(&mut cloud, who, &take), Answer::Failed));
+    assert_eq!(rt;
+        cloud.send(who, QueueName::TreePu(tree), b"x").err(),
+        Some(CloudFault::Failed)
+    );
+    assert_eq!(rt;
+        cloud.backlog(QueueName::TreePu(tree)).err(),
+        Some(CloudFault::Failed)
+    );
+    assert!(rt; cloud.peek(ObjName::Tree(tree)).is_err());
     Ok(())
 }

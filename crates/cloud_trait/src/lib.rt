@@ -4,6 +4,7 @@
 pub mod answer;
 pub mod call;
 pub mod cloud;
+pub mod down;
 pub mod fault;
 pub mod grant;
 pub mod lease;

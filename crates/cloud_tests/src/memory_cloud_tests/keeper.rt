@@ -3,7 +3,7 @@
 ghost use Rattle.std.specs.Prelude.{◌≡◌, ℕ, List, None, Some};
 ghost use Rattle.cloud_trait.specs.Ask.{Renew};
 ghost use Rattle.cloud_trait.specs.Call.{ask_of};
-ghost use Rattle.cloud_trait.specs.Machine.{Took, Steps, Deed, Came};
+ghost use Rattle.cloud_trait.specs.Machine.{LeadsBy, Took, Steps, Deed, Came};
 ghost use Rattle.cloud_trait.specs.Weather.{Makes};
 
 use cloud_trait::answer::Answer;
@@ -43,7 +43,7 @@ impl Model for Keeper {
 }
 
 impl Keeper {
-    ghost use Rattle.cloud_tests.specs.Keeping.{Keeping, new_keeping, keeping_ask, keeping_next, lease_renewed, handed, absorbed, taken_by, put_by, renewed_by, released_by, fresh, HasKept};
+    ghost use Rattle.cloud_tests.specs.Keeping.{Keeping, new_keeping, keeping_ask, keeping_next, lease_renewed, handed, absorbed, taken_by, put_by, renewed_by, released_by, fresh, SameLease, KeepsLease, HasKept};
 
     /// A keeper that puts these bytes under a lease of the lock. Takes no memory.
     pub fn new(object: ObjName, lock: Lock, bytes: Blob) -> Keeper
@@ -80,7 +80,7 @@ impl Keeper {
     // Renews the lease, and keeps it where the new end was answered.
     fn renew<C: Cloud>(&mut self, cloud: &mut C, who: Who, mut lease: Lease) -> Answer
         requires { self.old.lease ≡ None }
-        ensures made { Makes who (Renew lease 60) result (C.counts cloud.old) (C.counts cloud.new) (C.state cloud.old) (C.state cloud.new) }
+        ensures made { Makes who (Renew lease 60) result (C.seen cloud.old) (C.seen cloud.new) }
         ensures kept { self.new ≡ record self.old { lease = lease_renewed (Some lease) result } }
     {
         match renew(cloud, who, &mut lease, RENEW_TICKS) {
@@ -94,7 +94,7 @@ impl Keeper {
 
     // Makes the call in hand; a release hands the lease out.
     fn call<C: Cloud>(&mut self, cloud: &mut C, who: Who) -> Answer
-        ensures made { Makes who (keeping_ask self.old) result (C.counts cloud.old) (C.counts cloud.new) (C.state cloud.old) (C.state cloud.new) }
+        ensures made { Makes who (keeping_ask self.old) result (C.seen cloud.old) (C.seen cloud.new) }
         ensures left { self.new ≡ handed self.old result }
     {
         if self.kind == CallKind::Renew {
@@ -111,7 +111,7 @@ impl Keeper {
     }
 
     fn taken(&mut self, given: Result<Lease, Trouble>) -> Turn<u64>
-        ensures { Took (λ k _. taken_by k given) self.old Answer.Failed self.new result }
+        ensures { Took (λ k _ n. taken_by k given ≡ n) SameLease self.old Answer.Failed self.new result }
     {
         match given {
             Ok(lease) => {
@@ -124,7 +124,7 @@ impl Keeper {
     }
 
     fn put(&mut self, done: Result<(), Trouble>) -> Turn<u64>
-        ensures { Took (λ k _. put_by k done) self.old Answer.Failed self.new result }
+        ensures { Took (λ k _ n. put_by k done ≡ n) SameLease self.old Answer.Failed self.new result }
     {
         match done {
             Ok(()) => self.kind = CallKind::Renew,
@@ -137,7 +137,7 @@ impl Keeper {
     }
 
     fn renewed(&mut self, end: Result<u64, Trouble>) -> Turn<u64>
-        ensures { Took (λ k _. renewed_by k end) self.old Answer.Failed self.new result }
+        ensures { Took (λ k _ n. renewed_by k end ≡ n) SameLease self.old Answer.Failed self.new result }
     {
         match end {
             Ok(end) => {
@@ -150,7 +150,7 @@ impl Keeper {
     }
 
     fn released(&mut self, done: Result<(), Trouble>) -> Turn<u64>
-        ensures { Took (λ k _. released_by k k.trouble done) self.old Answer.Failed self.new result }
+        ensures { Took (λ k _ n. released_by k k.trouble done ≡ n) SameLease self.old Answer.Failed self.new result }
     {
         match (self.trouble.take(), done) {
             (Some(trouble), _) => Turn::Stopped(trouble),
@@ -161,7 +161,7 @@ impl Keeper {
 
     // Takes the answer of the call in hand.
     fn absorb(&mut self, answer: Answer) -> Turn<u64>
-        ensures { Took absorbed self.old answer self.new result }
+        ensures { Took (LeadsBy absorbed) SameLease self.old answer self.new result }
     {
         match (self.kind, answer) {
             (_, Answer::Memory) => Turn::Stopped(Trouble::Memory),
@@ -174,8 +174,8 @@ impl Keeper {
 
     /// Makes the call in hand, and takes the step of its answer.
     pub fn step<C: Cloud>(&mut self, cloud: &mut C, who: Who) -> Turn<u64>
-        ensures steps { Steps keeping_ask keeping_next who (C.counts cloud.old) (C.counts cloud.new) (C.state cloud.old) (C.state cloud.new) self.old self.new result }
-        ensures kept { (h : List Deed) (end : ℕ) → result ≡ Turn.Ended end → Came keeping_ask keeping_next (fresh self.old) h self.old → HasKept self.old h end }
+        ensures steps { Steps keeping_ask (LeadsBy keeping_next) KeepsLease who (C.seen cloud.old) (C.seen cloud.new) self.old self.new result }
+        ensures kept { (h : List Deed) (end : ℕ) → result ≡ Turn.Ended end → Came keeping_ask (LeadsBy keeping_next) (fresh self.old) h self.old → HasKept self.old h end }
     {
         let answer = self.call(cloud, who);
         self.absorb(answer)

@@ -2,4 +2,4 @@ use Rattle.recover_run.proofs.Handing.{took_handed}
 use Rattle.recover_run.proofs.recover.RecoverRun.step.Goals as goal
 
 pub returns-clause-steps : goal.returns-clause-steps
-returns-clause-steps g c = record { answer = c.call-answer.result; made = c.call-answer.ensures.made; took = took_handed c.args.self.now _ _ _ _ c.call-answer.ensures.left c.absorb-turn.ensures }
+returns-clause-steps g c = record { answer = c.call-answer.result; made = c.call-answer.ensures.made; took = took_handed c.args.self.now _ _ _ _ c.call-answer.ensures.left c.absorb.ensures }

@@ -8,7 +8,7 @@ ghost use Rattle.db_base.specs.declared.names.ObjName.TheVariants.{Page};
 ghost use Rattle.leaf_view.specs.Fits.{IsHigh};
 ghost use Rattle.world_audit.specs.Look.{Looked, FailsDark};
 ghost use Rattle.world_audit.specs.Chain.{IsReadAs, Adds, Walked, pair_of};
-ghost use Rattle.world_audit.specs.Stop.{StopsWalk, Stopped, MayStop, Passes};
+ghost use Rattle.world_audit.specs.Stop.{StopsWalk, SlipOr, ChainStops, ChainIsWhole, MayStop, Passes};
 
 use crate::look::peek;
 use cloud_trait::cloud::Bench;
@@ -177,7 +177,10 @@ fn visit<C: Bench>(
     ensures ok { (s : CloudState) → C.state cloud.old ≡ Some s → IfOk result (λ next. Adds (newest s (Page tree page)) tree page walk.old.contents walk.new.contents next) }
     ensures passes { (s : CloudState) → C.state cloud.old ≡ Some s → IfOk result (λ next. Passes (newest s (Page tree page)) tree page walk.old.visited.items walk.old.low walk.new.low next) }
     ensures visited { OnOk result (walk.new.visited.items ≡ walk.old.visited.items ++ page ∷ []) }
-    ensures stopped { (s : CloudState) → C.state cloud.old ≡ Some s → IfErr result (λ e. (e ≡ Trouble.Failed) ⊎ ((e ≡ Trouble.Memory) ⊎ StopsWalk tree walk.old.visited.items page walk.old.low (newest s (Page tree page)) e)) }
+    ensures stopped { (s : CloudState) → C.state cloud.old ≡ Some s
+        → IfErr result
+        (λ e. let bytes = newest s (Page tree page) in
+        SlipOr (StopsWalk tree walk.old.visited.items page walk.old.low bytes e) e) }
     ensures kinds { IfErr result MayStop }
 {
     let bytes = peek(cloud, ObjName::Page(tree, page))?;
@@ -193,7 +196,9 @@ pub(crate) fn contents<C: Bench>(
     ensures looked { Looked (C.counts cloud.old) (C.counts cloud.new) (C.state cloud.old) (C.state cloud.new) }
     ensures failed { FailsDark result (C.counts cloud.old) (C.counts cloud.new) }
     ensures ok { (s : CloudState) → C.state cloud.old ≡ Some s → IfOk result (λ records. Walked s tree 0 records) }
-    ensures stopped { (s : CloudState) → C.state cloud.old ≡ Some s → IfErr result (Stopped s tree) }
+    ensures whole { (s : CloudState) → C.state cloud.old ≡ Some s → OnOk result (ChainIsWhole s tree) }
+    ensures stopped { (s : CloudState) → C.state cloud.old ≡ Some s
+        → IfErr result (λ e. SlipOr (ChainStops s tree e) e) }
     ensures kinds { IfErr result MayStop }
 {
     let mut page = PageId::first();

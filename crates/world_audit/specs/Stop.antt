@@ -4,6 +4,7 @@ use Rattle.std.specs.List.{AllPairs, Contains}
 use Rattle.byte_format.specs.Whole.{offset}
 use Rattle.db_base.specs.Ids.{IsPage, IsClient}
 use Rattle.db_base.specs.declared.names.ObjName.TheVariants as object
+use Rattle.db_base.specs.declared.names.Place.{Place}
 use Rattle.db_base.specs.declared.names.Place.TheVariants as place
 use Rattle.db_base.specs.declared.trouble.Trouble.{Trouble}
 use Rattle.db_base.specs.declared.trouble.Trouble.TheVariants.{Failed, Absent, Damaged, BadFence, Loop, Memory}
@@ -85,15 +86,22 @@ pub record RootStops (s : CloudState) (tree : ℕ) (trouble : Trouble) : Type 0 
   pub none : (t : Tree) → IsTree bytes t → ⊥
   pub is : trouble ≡ Damaged (place.Object (object.Tree tree)) (offset tree_format bytes)
 
--- the troubles that may stop a report, over whatever cloud
-abbrev pub MayStop : Trouble → Type 0
-MayStop Failed = Unit {0}
-MayStop Memory = Unit {0}
-MayStop (Absent page) = Unit {0}
-MayStop (Damaged there at) = Unit {0}
-MayStop (BadFence page expected found) = Unit {0}
-MayStop (Loop page) = Unit {0}
-MayStop trouble = ⊥
+-- the places that a report of a tree looks at: its pages, its root, and heads
+abbrev pub IsLookedAt : ℕ → Place → Type 0
+IsLookedAt tree (place.Object (object.Page t page)) = t ≡ tree
+IsLookedAt tree (place.Object (object.Tree t)) = t ≡ tree
+IsLookedAt tree (place.Object (object.Head client)) = Unit {0}
+IsLookedAt tree there = ⊥
+
+-- the troubles that may stop a report of a tree, over whatever cloud
+abbrev pub MayStop : ℕ → Trouble → Type 0
+MayStop tree Failed = Unit {0}
+MayStop tree Memory = Unit {0}
+MayStop tree (Absent page) = Unit {0}
+MayStop tree (Damaged there at) = IsLookedAt tree there
+MayStop tree (BadFence page expected found) = Unit {0}
+MayStop tree (Loop page) = Unit {0}
+MayStop tree trouble = ⊥
 
 -- the walk goes on from a page: its leaf begins at the low key and ends at that of the next page, and was not met before
 pub record Passes (bytes : Option (List ℕ)) (tree page : ℕ) (pages : List ℕ) (low high : List ℕ) (next : Option ℕ) : Type 0 where

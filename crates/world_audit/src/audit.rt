@@ -172,7 +172,7 @@ impl Audit {
         ensures stopped { (s : CloudState) → C.state cloud.old ≡ Some s → IfErr result (Stopped s tree) }
         ensures looked { Looked (C.counts cloud.old) (C.counts cloud.new) (C.state cloud.old) (C.state cloud.new) }
         ensures failed { FailsDark result (C.counts cloud.old) (C.counts cloud.new) }
-        ensures kinds { IfErr result MayStop }
+        ensures kinds { IfErr result (MayStop tree) }
     {
         let committed = entries_of(alloc, &self.committed, tree)?;
         let order = entries_of(alloc, &self.order, tree)?;

@@ -23,7 +23,7 @@ fn next_of(tree: TreeId, bytes: &[u8]) -> Result<u64, Trouble>
     ensures err { IfErr result
         (λ e. ((t : Root) → IsTree bytes.now t → ⊥)
         × (e ≡ Trouble.Damaged (Object (Tree tree)) (offset tree_format bytes.now))) }
-    ensures kinds { IfErr result MayStop }
+    ensures kinds { IfErr result (MayStop tree) }
 {
     match TreeView::read(bytes) {
         Ok(root) => Ok(root.next()),
@@ -41,7 +41,7 @@ fn next_page<C: Bench>(cloud: &mut C, tree: TreeId) -> Result<u64, Trouble>
     ensures ok { (s : CloudState) → C.state cloud.old ≡ Some s → IfOk result (λ n. IsNextPage (newest s (Tree tree)) n) }
     ensures stopped { (s : CloudState) → C.state cloud.old ≡ Some s
         → IfErr result (λ e. SlipOr (RootStops s tree e) e) }
-    ensures kinds { IfErr result MayStop }
+    ensures kinds { IfErr result (MayStop tree) }
 {
     match peek(cloud, ObjName::Tree(tree))? {
         Some(bytes) => next_of(tree, bytes.as_slice()),
@@ -66,7 +66,7 @@ pub(crate) fn messages<C: Bench>(cloud: &mut C, tree: TreeId) -> Result<u64, Tro
     ensures ok { (s : CloudState) → C.state cloud.old ≡ Some s → IfOk result (λ n. AreWaiting s tree n) }
     ensures stopped { (s : CloudState) → C.state cloud.old ≡ Some s
         → IfErr result (λ e. SlipOr (RootStops s tree e) e) }
-    ensures kinds { IfErr result MayStop }
+    ensures kinds { IfErr result (MayStop tree) }
 {
     let next = next_page(cloud, tree)?;
     let mut sum = 0u64;

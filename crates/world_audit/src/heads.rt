@@ -1,6 +1,6 @@
 //! Heads that are open with a committed entry of a tree.
 
-ghost use Rattle.std.specs.Prelude.{◌≡◌, ◌≤◌, ◌⊎◌, Some, None, IfOk, OnOk, IfErr};
+ghost use Rattle.std.specs.Prelude.{◌≡◌, ℕ, ◌≤◌, ◌⊎◌, Some, None, IfOk, OnOk, IfErr};
 ghost use Rattle.std.specs.List.{list_any};
 ghost use Rattle.cloud_trait.specs.State.{CloudState};
 ghost use Rattle.db_base.specs.declared.names.ObjName.TheVariants as object;
@@ -26,7 +26,7 @@ fn head_of(alloc: Global, client: ClientId, bytes: &[u8]) -> Result<Head, Troubl
         (λ e. (e ≡ Trouble.Memory)
         ⊎ ((head_of bytes.now ≡ None)
         × (e ≡ Trouble.Damaged (place.Object (object.Head client)) (head_offset bytes.now)))) }
-    ensures kinds { IfErr result MayStop }
+    ensures kinds { (tree : ℕ) → IfErr result (MayStop tree) }
 {
     match Head::read(alloc, bytes) {
         Ok(head) => Ok(head),
@@ -82,7 +82,7 @@ fn open_head<C: Bench>(
     ensures read { (s : CloudState) → C.state cloud.old ≡ Some s → OnOk result (HeadReads s client) }
     ensures stopped { (s : CloudState) → C.state cloud.old ≡ Some s
         → IfErr result (λ e. SlipOr (HeadIsNone s client e) e) }
-    ensures kinds { IfErr result MayStop }
+    ensures kinds { IfErr result (MayStop tree) }
 {
     let Some(bytes) = peek(cloud, ObjName::Head(client))? else {
         return Ok(0);
@@ -110,7 +110,7 @@ pub(crate) fn open_heads<C: Bench>(
     ensures read { (s : CloudState) → C.state cloud.old ≡ Some s → OnOk result (AllHeadsRead s) }
     ensures stopped { (s : CloudState) → C.state cloud.old ≡ Some s
         → IfErr result (λ e. SlipOr (HeadStops s e) e) }
-    ensures kinds { IfErr result MayStop }
+    ensures kinds { IfErr result (MayStop tree) }
 {
     let mut heads = 0u64;
     for number in 0..64u64 {

@@ -22,5 +22,5 @@ pub returns-in_err-here-clause-stopped : goal.returns-in_err-here-clause-stopped
 returns-in_err-here-clause-stopped g c = λ s h.
     let p = err_from_is_err_and c.from_residual.result c.from_residual.ensures.1 in
     rw (p.1, p.2) (head_stops s c.loop-number.number c.in-Ok.client c.in_err-here.field-0.0 c.in-Ok.ensures.ok
-        (record { some = omega (arith, c.in-Ok.ensures.ok); most = omega (arith, c.in-Ok.ensures.ok, c.loop-number-test.true) })
-        (c.loop-number.invariant.3 s h) (c.in_err-here.ensures.stopped s (c.loop-number.invariant.0.stays s h)))
+    (record { some = omega (arith, c.in-Ok.ensures.ok); most = omega (arith, c.in-Ok.ensures.ok, c.loop-number-test.true) })
+    (c.loop-number.invariant.3 s h) (c.in_err-here.ensures.stopped s (c.loop-number.invariant.0.stays s h)))

@@ -116,7 +116,7 @@ pub fn merge(
     ensures spelled { OnOk result (IsLeaf out.new.items (applied leaf.now queue run.now)) }
     ensures spent { IsErr result ↔ (leaf.now.version ≡ 18446744073709551615) }
     ensures unchanged { OnErr result (out.new ≡ out.old) }
-    ensures room { vec_capacity out.old ≤ vec_capacity out.new }
+    ensures room { vec_capacity out.new ≡ vec_capacity out.old }
 {
     if leaf.version() == u64::MAX {
         return Err(VersionSpent);

@@ -2,3 +2,4 @@ pub mod Exactness
 pub mod Split
 pub mod Reading
 pub mod PartsLemmas
+pub mod Noting

@@ -23,8 +23,8 @@ loop-left-preserved c = record {
         own-size-at c.args.queue (raised_number c.args.leaf.now.done c.args.queue c.args.run.now) c.loop-left.left
             (c.loop-left.left - 1) _ _ (omega arith) c.client_at-client.ensures c.raised_number-number.ensures,
       ));
-  grown = omega arith;
+  kept = omega arith;
 }
 
 pub returns : goal.returns
-returns c = record { items = own-end _ _ c.loop-left.left _ _ (omega arith) c.loop-left.invariant.items; capacity = c.loop-left.invariant.grown }
+returns c = record { items = own-end _ _ c.loop-left.left _ _ (omega arith) c.loop-left.invariant.items; capacity = c.loop-left.invariant.kept }

@@ -12,7 +12,7 @@ invariant-loop-left l = record {
   items : l.out.items ++ dones_before (own_entries l.queue (raised_number l.leaf.done l.queue l.run) l.left) []
       ≡ l.initial.out.items ++ dones_before (own_entries l.queue (raised_number l.leaf.done l.queue l.run) 64) [];
   room : vec_len l.out + dones_size (own_entries l.queue (raised_number l.leaf.done l.queue l.run) l.left) ≤ vec_capacity l.out;
-  grown : vec_capacity l.initial.out ≤ vec_capacity l.out;
+  kept : vec_capacity l.out ≡ vec_capacity l.initial.out;
 }
 
 abbrev pub decreases-loop-left : goal.decreases-loop-left

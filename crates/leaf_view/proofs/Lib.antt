@@ -2,4 +2,3 @@ pub mod Exactness
 pub mod Split
 pub mod Reading
 pub mod PartsLemmas
-pub mod Noting

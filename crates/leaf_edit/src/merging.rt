@@ -98,7 +98,8 @@ pub fn need(leaf: &LeafView<'_>, queue: u64, run: &[PuItem]) -> Option<usize>
 {
     let fields = fields_len(leaf.low(), leaf.high());
     let table = table_len(fields + 1, leaf, queue, run)?;
-    records_len(table, leaf.records(), Changes::of(leaf, queue, run))
+    let done = leaf.numbers(queue);
+    records_len(table, leaf.records(), Changes::of(leaf, queue, &done, run))
 }
 
 /// Writes the leaf behind a run, the one that `apply` gives, into room that is there. Takes no memory.
@@ -124,6 +125,7 @@ pub fn merge(
     add_head(out, leaf, leaf.version() + 1);
     add_table(out, leaf, queue, run);
     add_u8(out, 0);
-    add_records(out, leaf.records(), Changes::of(leaf, queue, run));
+    let done = leaf.numbers(queue);
+    add_records(out, leaf.records(), Changes::of(leaf, queue, &done, run));
     Ok(())
 }

@@ -138,3 +138,19 @@ fn read(rt: HostRuntime) -> Result<(), Fail> {
     assert_eq!(rt; LeafView::empty().version(), 0);
     Ok(())
 }
+
+#[test]
+fn done_of_a_queue(rt: HostRuntime) -> Result<(), Fail> {
+    let fenced = LeafView::read(&FENCED).ok().ok_or("a leaf")?;
+    let cursor = fenced.cursor(rt.alloc(), 0).ok().ok_or("a cursor")?;
+    let numbers = fenced.numbers(0);
+    for (number, done) in [(1, 5), (2, 1), (3, 0)] {
+        let client = ClientId::new(number).ok().ok_or("a client")?;
+        assert_eq!(rt; cursor.get(client), done);
+        assert_eq!(rt; numbers.get(client), done);
+    }
+    let first = ClientId::new(1).ok().ok_or("a client")?;
+    assert_eq!(rt; fenced.numbers(3).get(first), 1);
+    assert_eq!(rt; fenced.numbers(1).get(first), 0);
+    Ok(())
+}

@@ -20,7 +20,7 @@ use Rattle.store_book.specs.Book.{Link, with_pieces}
 use Rattle.store_book.specs.Effects.{after_head, after_logged, after_posted, after_log_mark, after_post_mark, after_leaf, after_page, after_inner, after_root, after_raise, Taking, done_after, cursor_after}
 use Rattle.store_book.specs.Growth.{Grows, IsLater}
 use Rattle.store_book.specs.Premises.{CoversApplied}
-use Rattle.store_book.specs.Records.{IsIn}
+use Rattle.store_book.specs.Records.{IsIn, IsApplied, key_in}
 use Rattle.store_book.specs.Tally.{Store, Node, at, at2}
 use Rattle.store_book.proofs.Names.{at_by, at2_by}
 use Rattle.store_book.proofs.Places.{get_behind}
@@ -272,3 +272,9 @@ raise_grows st tree root level links covers empty = let g = root_grows st tree r
   where
     none : (link : Link) → IsIn (st.book.chain tree level) link → ⊥
     none link is = nowhere link is.0 (subst (λ ls. slice_get ls is.0 ≡ Some link) empty is.1)
+
+-- ---- what is known of what grows
+
+-- a record that is applied stays so
+pub applied_stays : (st su : Store) (r : AtomicRec) → Grows st su → IsClient r.client → IsApplied st.tally r → IsApplied su.tally r
+applied_stays st su r g client applied = let rises = g.done r.tree (key_in r) r.page r.client client in omega (arith, rises, applied)

@@ -1,8 +1,9 @@
 -- Places of lists that grow, and of messages that are marked.
-use Rattle.std.proofs.Common.{◌≡◌, ◌+◌, ◌-◌, ℕ, zero, suc, List, [], ◌∷◌, ◌++◌, length, Some, refl, sym, ap, subst, ◌⊎◌, inl, inr, Bool, true, false, cond, arith}
+use Rattle.std.proofs.Common.{◌≡◌, ◌+◌, ◌-◌, ◌<◌, ℕ, zero, suc, List, [], ◌∷◌, ◌++◌, length, map, Some, refl, sym, ap, subst, ◌⊎◌, inl, inr, Bool, true, false, cond, arith}
 use Rattle.std.specs.Prelude.{slice_get, ◌==◌}
 use Rattle.cloud_trait.specs.declared.state.Posted.{Posted}
 use Rattle.cloud_trait.specs.State.{mark_at, marked}
+use Rattle.store_book.specs.Records.{IsIn}
 
 -- what stands in the front of a list
 pub get_front : {X : Type 0} (xs ys : List X) (i : ℕ) (x : X) → slice_get xs i ≡ Some x → slice_get (xs ++ ys) i ≡ Some x
@@ -64,3 +65,31 @@ get_behind {X} [] ys i x e = let h : i ≡ length {A = X} [] + i = omega arith i
 get_behind {X} (y ∷ xs) ys i x e =
     let h : suc (length xs + i) ≡ length (y ∷ xs) + i = omega arith in
     subst (λ k. slice_get (y ∷ (xs ++ ys)) k ≡ Some x) h (get_behind xs ys i x e)
+
+-- what is in two lists behind one another is in one of them
+pub in_either : {X : Type 0} (xs ys : List X) (x : X) → IsIn (xs ++ ys) x → IsIn xs x ⊎ IsIn ys x
+in_either xs ys x is = on (get_cases xs ys is.0 x is.1)
+  where
+    on : (slice_get xs is.0 ≡ Some x) ⊎ ((j : ℕ) × (is.0 ≡ length xs + j) × (slice_get ys j ≡ Some x)) → IsIn xs x ⊎ IsIn ys x
+    on (inl h) = inl (is.0, h)
+    on (inr p) = inr (p.0, p.2)
+
+pub in_front : {X : Type 0} (xs ys : List X) (x : X) → IsIn xs x → IsIn (xs ++ ys) x
+in_front xs ys x is = (is.0, get_front xs ys is.0 x is.1)
+
+-- nothing is in the empty list
+pub in_none : {X : Type 0} (xs : List X) (x : X) → xs ≡ [] → IsIn xs x → ⊥
+in_none [] x e (place, there) = absurd (cc)
+in_none (y ∷ ys) x e is = absurd (cc)
+
+-- a place of something is within the list
+pub get_within : {X : Type 0} (xs : List X) (i : ℕ) (x : X) → slice_get xs i ≡ Some x → i < length xs
+get_within [] i x e = absurd (cc)
+get_within (y ∷ xs) zero x e = omega arith
+get_within (y ∷ xs) (suc i) x e = let h = get_within xs i x e in omega (arith, h)
+
+-- what stands in a list stands as its image in the mapped one
+pub get_map : {X Y : Type 0} (f : X → Y) (xs : List X) (i : ℕ) (x : X) → slice_get xs i ≡ Some x → slice_get (map f xs) i ≡ Some (f x)
+get_map f [] i x e = absurd (cc)
+get_map f (y ∷ xs) zero x e = cc
+get_map f (y ∷ xs) (suc i) x e = get_map f xs i x e

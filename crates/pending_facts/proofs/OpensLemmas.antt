@@ -1,7 +1,6 @@
 -- A head that opens keeps what holds of pending entries.
-use Rattle.std.proofs.Common.{◌≡◌, ◌≢◌, ◌+◌, ◌<◌, ◌≤◌, ◌⊎◌, inl, inr, ℕ, Bool, true, false, List, [], ◌∷◌, ◌++◌, length, Some, refl, sym, ap, subst, ◌∙◌, arith}
+use Rattle.std.proofs.Common.{◌≡◌, ◌≢◌, ◌+◌, ◌<◌, ◌≤◌, ◌⊎◌, inl, inr, ℕ, true, List, ◌++◌, length, sym, subst, ◌∙◌, arith}
 use Rattle.std.proofs.lemmas.Bool.{cases_eq}
-use Rattle.db_base.specs.Change.{key_of}
 use Rattle.db_base.specs.Ids.{IsClient}
 use Rattle.head_codec.specs.declared.head.Head.{Head}
 use Rattle.head_codec.specs.declared.lists.Pending.{Pending}
@@ -12,10 +11,10 @@ use Rattle.pending_facts.proofs.Holding.{Holds, holds_of, pends_of}
 use Rattle.pending_facts.proofs.Ways.{is_way, settled_way, open_way, way_epoch, way_txn, upto_earlier}
 use Rattle.route_plan.specs.Record.{pending_of}
 use Rattle.store_book.specs.Effects.{after_head}
-use Rattle.store_book.specs.Premises.{Opens, IsRecordAt, IsAppliedEntry}
+use Rattle.store_book.specs.Premises.{Opens, IsAppliedEntry}
 use Rattle.store_book.specs.Records.{StandsAt, IsIn, key_in, IsApplied, IsUnderWay}
-use Rattle.store_book.specs.Tally.{Tally, Store, at}
-use Rattle.store_book.proofs.Names.{at_same, at_other, at_by}
+use Rattle.store_book.specs.Tally.{Store}
+use Rattle.store_book.proofs.Names.{at_same, at_other}
 use Rattle.store_book.proofs.Places.{get_cases, get_within, in_either, in_front}
 
 -- the newest head of the client after the landing, and of another
@@ -38,6 +37,7 @@ old_pends st client head records opens pends r logged e = on (pends.each r logge
         turn : IsIn head.pending (pending_of r) ⊎ IsAppliedEntry st.tally client (pending_of r) → IsApplied st.tally r ⊎ IsIn head.pending (pending_of r)
         turn (inl p) = inr p
         turn (inr a) = inl (subst (λ c. r.number ≤ st.tally.done r.tree (key_in r) r.page c) (sym e) a)
+
     on : IsPending st.tally r → IsApplied st.tally r ⊎ IsIn head.pending (pending_of r)
     on (inl a) = inl a
     on (inr (inl w)) = absurd (settled_way (st.tally.head client) r opens.settled (subst (λ c. is_way (st.tally.head c) r ≡ true) e w))
@@ -64,13 +64,16 @@ each_after st client head records opens pends r is = on (in_either st.book.log r
     mine : r.client ≡ client → IsApplied st.tally r ⊎ IsIn head.pending (pending_of r) → IsPending (after_head client head records st).tally r
     mine e (inl a) = inl a
     mine e (inr p) = inr (inr (subst (λ (h : Head). IsIn h.pending (pending_of r)) (sym (head_here st client head records r.client e)) p))
+
     other : r.client ≢ client → IsPending st.tally r → IsPending (after_head client head records st).tally r
     other ne (inl a) = inl a
     other ne (inr (inl w)) = inr (inl (subst (λ h. is_way h r ≡ true) (sym (head_there st client head records r.client ne)) w))
     other ne (inr (inr p)) = inr (inr (subst (λ (h : Head). IsIn h.pending (pending_of r)) (sym (head_there st client head records r.client ne)) p))
+
     old : IsIn st.book.log r → (r.client ≡ client) ⊎ (r.client ≢ client) → IsPending (after_head client head records st).tally r
     old logged (inl e) = mine e (old_pends st client head records opens pends r logged e)
     old logged (inr ne) = other ne (pends.each r logged)
+
     on : IsIn st.book.log r ⊎ IsIn records r → IsPending (after_head client head records st).tally r
     on (inl logged) = old logged (cases_eq r.client client)
     on (inr new) = inr (inl (new_way st client head records opens r new))
@@ -129,10 +132,12 @@ sticky_after st client head records opens pends i j a b one two before same = on
   where
     Place : ℕ → AtomicRec → Type 0
     Place k r = (StandsAt st.book.log k r) ⊎ ((n : ℕ) × (k ≡ length st.book.log + n) × StandsAt records n r)
+
     -- an earlier one, and one that opens
     joins : (n : ℕ) → StandsAt records n b → IsApplied st.tally a ⊎ IsIn head.pending (pending_of a) → IsApplied st.tally a ⊎ (a.page ≡ b.page)
     joins n there (inl applied) = inl applied
     joins n there (inr is) = inr ((opens.records_are n b there).sticky (pending_of a) is same.tree same.key)
+
     on : (StandsAt st.book.log i a) ⊎ ((n : ℕ) × (i ≡ length st.book.log + n) × StandsAt records n a)
         → (StandsAt st.book.log j b) ⊎ ((n : ℕ) × (j ≡ length st.book.log + n) × StandsAt records n b) → IsApplied st.tally a ⊎ (a.page ≡ b.page)
     on (inl p) (inl q) = pends.sticky i j a b p q before same

@@ -1,7 +1,5 @@
 -- What changes no head and no record of the log keeps what holds of pending entries.
-use Rattle.std.proofs.Common.{◌≡◌, ◌<◌, ◌≤◌, ◌⊎◌, inl, inr, ℕ, List, [], ◌∷◌, map, Some, refl, sym, ap, subst, ◌∙◌, arith}
-use Rattle.std.specs.Prelude.{slice_get}
-use Rattle.db_base.specs.Ids.{IsClient}
+use Rattle.std.proofs.Common.{◌≡◌, ◌⊎◌, inl, inr, ℕ, List, [], map, refl, ap}
 use Rattle.cloud_trait.specs.State.{CloudState, IsEmptyCloud}
 use Rattle.cloud_trait.specs.declared.state.Posted.{Posted}
 use Rattle.db_base.specs.declared.names.ObjName.TheVariants as object
@@ -12,14 +10,14 @@ use Rattle.log_codec.specs.declared.record.AtomicRec.{AtomicRec}
 use Rattle.node_codec.specs.Inner.{Inner}
 use Rattle.node_codec.specs.Tree.{Tree}
 use Rattle.number_facts.specs.Numbers.{Numbers}
-use Rattle.pending_facts.specs.Pending.{IsPending, HeadPends, Pends}
+use Rattle.pending_facts.specs.Pending.{IsPending, Pends}
 use Rattle.pending_facts.proofs.Holding.{holds_of, pends_of}
 use Rattle.store_book.specs.Book.{Link, empty_book}
 use Rattle.store_book.specs.Effects.{Taking, after_logged, after_posted, after_log_mark, after_post_mark, after_leaf, after_page, after_inner, after_root, after_raise}
 use Rattle.store_book.specs.Growth.{Grows}
 use Rattle.store_book.specs.Premises.{Takes}
 use Rattle.store_book.specs.Records.{IsIn, IsApplied}
-use Rattle.store_book.specs.Tally.{Tally, Store, Node}
+use Rattle.store_book.specs.Tally.{Store, Node}
 use Rattle.store_book.specs.Telling.{tally_of, last_or, head_in}
 use Rattle.store_book.proofs.GrowthLemmas.{applied_stays, leaf_grows}
 use Rattle.store_book.proofs.Places.{in_none}
@@ -63,11 +61,14 @@ leaf_keeps st p takes numbers pends = record {
   where
     grows : Grows st (after_leaf p st)
     grows = leaf_grows st p takes.ranges.link (takes.ranges.place, takes.ranges.linked) takes.ranges.page_is
+
     stays : (r : AtomicRec) → IsIn st.book.log r → IsApplied st.tally r → IsApplied (after_leaf p st).tally r
     stays r logged applied = applied_stays st (after_leaf p st) r grows (numbers.placed r logged).client applied
+
     on : (r : AtomicRec) → IsIn st.book.log r → IsPending st.tally r → IsPending (after_leaf p st).tally r
     on r logged (inl applied) = inl (stays r logged applied)
     on r logged (inr further) = inr further
+
     either : (a b : AtomicRec) → IsIn st.book.log a → IsApplied st.tally a ⊎ (a.page ≡ b.page) → IsApplied (after_leaf p st).tally a ⊎ (a.page ≡ b.page)
     either a b logged (inl applied) = inl (stays a logged applied)
     either a b logged (inr page) = inr page
@@ -78,7 +79,7 @@ leaf_keeps st p takes numbers pends = record {
 abbrev pub empty_store : CloudState → Store
 empty_store s = record { tally = tally_of empty_book s; book = empty_book; order = [] }
 
-no_records : (r : AtomicRec) → IsIn empty_book.log r → ⊥
+pub no_records : (r : AtomicRec) → IsIn empty_book.log r → ⊥
 no_records r is = in_none empty_book.log r refl is
 
 pub empty_pends : (s : CloudState) → IsEmptyCloud s → Pends (empty_store s)
@@ -94,5 +95,6 @@ empty_pends s empty = record {
   where
     head_is : (c : ℕ) → (tally_of empty_book s).head c ≡ empty_head
     head_is c = ap (λ vs. last_or empty_head (map head_in vs)) (empty.versions (object.Head c))
+
     none : (c : ℕ) (p : Pending) → IsIn ((tally_of empty_book s).head c).pending p → ⊥
     none c p is = in_none ((tally_of empty_book s).head c).pending p (ap (λ (h : Head). h.pending) (head_is c)) is

@@ -1,14 +1,11 @@
 -- When a record is under way, by its client's head.
-use Rattle.std.proofs.Common.{◌≡◌, ◌≢◌, ◌<◌, ◌≤◌, ◌⊎◌, inl, inr, ℕ, Bool, true, false, ◌&&◌, ◌==◌, List, Some, refl, sym, ap, subst, ◌∙◌, arith}
+use Rattle.std.proofs.Common.{◌≡◌, ◌<◌, inl, inr, ℕ, Bool, true, false, ◌&&◌, ◌==◌, sym, ap, ◌∙◌, arith}
 use Rattle.std.proofs.lemmas.Bool.{and_parts, and_from, eq-eqb, eqb-true}
 use Rattle.head_codec.specs.declared.head.Head.{Head}
-use Rattle.head_codec.specs.declared.head.Phase.{Phase}
 use Rattle.head_codec.specs.declared.head.Phase.TheVariants.{Settled, Open}
 use Rattle.log_codec.specs.declared.record.AtomicRec.{AtomicRec}
 use Rattle.number_facts.specs.Numbers.{IsUpto}
-use Rattle.store_book.specs.Records.{is_open, is_of_head, IsUnderWay}
-use Rattle.store_book.specs.Tally.{Tally, at}
-use Rattle.store_book.proofs.Names.{at_same, at_other}
+use Rattle.store_book.specs.Records.{is_open, is_of_head}
 
 -- a head is open, and the record is of its epoch and transaction
 abbrev pub is_way : Head → AtomicRec → Bool

@@ -1,5 +1,5 @@
 -- Each call that lands only adds to what is told.
-use Rattle.std.proofs.Common.{◌≡◌, ◌≢◌, ◌+◌, ◌<◌, ◌≤◌, ◌⊎◌, inl, inr, ℕ, zero, suc, Bool, true, false, cond, ◌==◌, ◌&&◌, max, List, [], ◌∷◌, ◌++◌, map, length, Some, refl, sym, ap, subst, ◌∙◌, arith}
+use Rattle.std.proofs.Common.{◌≡◌, ◌≢◌, ◌≤◌, ◌⊎◌, inl, inr, ℕ, zero, suc, Bool, true, false, cond, ◌==◌, ◌&&◌, max, List, [], ◌∷◌, ◌++◌, Some, refl, sym, subst, ◌∙◌, arith}
 use Rattle.std.proofs.lemmas.Bool.{eqb-true, and_parts}
 use Rattle.std.proofs.lemmas.List.{map-append}
 use Rattle.std.specs.Prelude.{slice_get}
@@ -23,7 +23,7 @@ use Rattle.store_book.specs.Premises.{CoversApplied}
 use Rattle.store_book.specs.Records.{IsIn, IsApplied, key_in}
 use Rattle.store_book.specs.Tally.{Store, Node, at, at2}
 use Rattle.store_book.proofs.Names.{at_by, at2_by}
-use Rattle.store_book.proofs.Places.{get_behind}
+use Rattle.store_book.proofs.Places.{in_behind}
 
 -- ---- nothing changes
 
@@ -115,10 +115,6 @@ pub post_mark_grows : (st : Store) (tree page id : ℕ) → Grows st (after_post
 post_mark_grows st tree page id = with_posts_grows st tree page (marked (st.tally.posts tree page) id) (marked_posts (st.tally.posts tree page) id)
 
 -- ---- links
-
--- what is in a list is in it behind another
-in_behind : (pieces links : List Link) (link : Link) → IsIn links link → IsIn (pieces ++ links) link
-in_behind pieces links link is = (length pieces + is.0, get_behind pieces links is.0 link is.1)
 
 in_further : (first : Link) (links : List Link) (link : Link) → IsIn links link → IsIn (first ∷ links) link
 in_further first links link is = (suc is.0, is.1)

@@ -93,3 +93,21 @@ pub get_map : {X Y : Type 0} (f : X → Y) (xs : List X) (i : ℕ) (x : X) → s
 get_map f [] i x e = absurd (cc)
 get_map f (y ∷ xs) zero x e = cc
 get_map f (y ∷ xs) (suc i) x e = get_map f xs i x e
+
+-- a message stands where it stood, with its bytes, where one is marked
+mark_front : (ms : List Posted) (i k : ℕ) (m : Posted) → slice_get ms k ≡ Some m → (n : Posted) × (slice_get (mark_at ms i) k ≡ Some n) × (n.bytes ≡ m.bytes)
+mark_front [] i k m e = absurd (cc)
+mark_front (n ∷ ms) zero zero m e = let h : n ≡ m = cc in (record { who = n.who; bytes = n.bytes; deleted = true }, refl, ap (λ (p : Posted). p.bytes) h)
+mark_front (n ∷ ms) zero (suc k) m e = (m, e, refl)
+mark_front (n ∷ ms) (suc i) zero m e = (m, e, refl)
+mark_front (n ∷ ms) (suc i) (suc k) m e = mark_front ms i k m e
+
+pub marked_front : (ms : List Posted) (id k : ℕ) (m : Posted) → slice_get ms k ≡ Some m → (n : Posted) × (slice_get (marked ms id) k ≡ Some n) × (n.bytes ≡ m.bytes)
+marked_front ms id k m e = on (id == 0)
+  where
+    on : (b : Bool) → (n : Posted) × (slice_get (cond b ms (mark_at ms (id - 1))) k ≡ Some n) × (n.bytes ≡ m.bytes)
+    on true = (m, e, refl)
+    on false = mark_front ms (id - 1) k m e
+
+pub in_behind : {X : Type 0} (xs ys : List X) (x : X) → IsIn ys x → IsIn (xs ++ ys) x
+in_behind xs ys x is = (length xs + is.0, get_behind xs ys is.0 x is.1)

@@ -1,5 +1,5 @@
 -- Each call that lands only adds to what is told.
-use Rattle.std.proofs.Common.{◌≡◌, ◌≢◌, ◌+◌, ◌<◌, ◌≤◌, ◌⊎◌, inl, inr, ℕ, zero, suc, Bool, true, false, cond, ◌==◌, ◌&&◌, max, List, [], ◌∷◌, ◌++◌, map, length, Some, refl, sym, ap, subst, ◌∙◌, arith}
+use Rattle.std.proofs.Common.{◌≡◌, ◌≢◌, ◌≤◌, ◌⊎◌, inl, inr, ℕ, zero, suc, Bool, true, false, cond, ◌==◌, ◌&&◌, max, List, [], ◌∷◌, ◌++◌, Some, refl, sym, subst, ◌∙◌, arith}
 use Rattle.std.proofs.lemmas.Bool.{eqb-true, and_parts}
 use Rattle.std.proofs.lemmas.List.{map-append}
 use Rattle.std.specs.Prelude.{slice_get}
@@ -20,10 +20,10 @@ use Rattle.store_book.specs.Book.{Link, with_pieces}
 use Rattle.store_book.specs.Effects.{after_head, after_logged, after_posted, after_log_mark, after_post_mark, after_leaf, after_page, after_inner, after_root, after_raise, Taking, done_after, cursor_after}
 use Rattle.store_book.specs.Growth.{Grows, IsLater}
 use Rattle.store_book.specs.Premises.{CoversApplied}
-use Rattle.store_book.specs.Records.{IsIn}
+use Rattle.store_book.specs.Records.{IsIn, IsApplied, key_in}
 use Rattle.store_book.specs.Tally.{Store, Node, at, at2}
 use Rattle.store_book.proofs.Names.{at_by, at2_by}
-use Rattle.store_book.proofs.Places.{get_behind}
+use Rattle.store_book.proofs.Places.{in_behind}
 
 -- ---- nothing changes
 
@@ -115,10 +115,6 @@ pub post_mark_grows : (st : Store) (tree page id : ℕ) → Grows st (after_post
 post_mark_grows st tree page id = with_posts_grows st tree page (marked (st.tally.posts tree page) id) (marked_posts (st.tally.posts tree page) id)
 
 -- ---- links
-
--- what is in a list is in it behind another
-in_behind : (pieces links : List Link) (link : Link) → IsIn links link → IsIn (pieces ++ links) link
-in_behind pieces links link is = (length pieces + is.0, get_behind pieces links is.0 link is.1)
 
 in_further : (first : Link) (links : List Link) (link : Link) → IsIn links link → IsIn (first ∷ links) link
 in_further first links link is = (suc is.0, is.1)
@@ -272,3 +268,9 @@ raise_grows st tree root level links covers empty = let g = root_grows st tree r
   where
     none : (link : Link) → IsIn (st.book.chain tree level) link → ⊥
     none link is = nowhere link is.0 (subst (λ ls. slice_get ls is.0 ≡ Some link) empty is.1)
+
+-- ---- what is known of what grows
+
+-- a record that is applied stays so
+pub applied_stays : (st su : Store) (r : AtomicRec) → Grows st su → IsClient r.client → IsApplied st.tally r → IsApplied su.tally r
+applied_stays st su r g client applied = let rises = g.done r.tree (key_in r) r.page r.client client in omega (arith, rises, applied)

@@ -1,6 +1,6 @@
 -- What a change at one name leaves at each.
 use Rattle.std.proofs.Common.{◌≡◌, ℕ, Bool, true, false, cond, refl, sym, subst, ◌==◌, ◌&&◌}
-use Rattle.std.proofs.lemmas.Bool.{eqb-true, and_parts}
+use Rattle.std.proofs.lemmas.Bool.{eqb-true, and_parts, eq-eqb, ne_eqb}
 use Rattle.store_book.specs.Tally.{at, at2}
 
 -- what holds of the new value at its name, and of each old one, holds at each name
@@ -21,3 +21,10 @@ at2_by {V} P a b v f here there m n = on ((m == a) && (n == b)) refl
         let R : ℕ → Type 0 = λ x. P a x v in
         subst Q (sym (eqb-true m a p.0)) (subst R (sym (eqb-true n b p.1)) here)
     on false e = there m n
+
+-- the value at its name, and at another
+pub at_same : {V : Type 0} (name : ℕ) (v : V) (f : ℕ → V) (n : ℕ) → n ≡ name → at name v f n ≡ v
+at_same name v f n e = let h : (n == name) ≡ true = eq-eqb n name e in rw h refl
+
+pub at_other : {V : Type 0} (name : ℕ) (v : V) (f : ℕ → V) (n : ℕ) → (n ≡ name → ⊥) → at name v f n ≡ f n
+at_other name v f n ne = let h : (n == name) ≡ false = ne_eqb n name ne in rw h refl

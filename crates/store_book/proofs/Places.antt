@@ -1,8 +1,9 @@
 -- Places of lists that grow, and of messages that are marked.
-use Rattle.std.proofs.Common.{◌≡◌, ◌+◌, ◌-◌, ℕ, zero, suc, List, [], ◌∷◌, ◌++◌, length, Some, refl, sym, ap, subst, ◌⊎◌, inl, inr, Bool, true, false, cond, arith}
+use Rattle.std.proofs.Common.{◌≡◌, ◌+◌, ◌-◌, ◌<◌, ℕ, zero, suc, List, [], ◌∷◌, ◌++◌, length, map, Some, refl, sym, ap, subst, ◌⊎◌, inl, inr, Bool, true, false, cond, arith}
 use Rattle.std.specs.Prelude.{slice_get, ◌==◌}
 use Rattle.cloud_trait.specs.declared.state.Posted.{Posted}
 use Rattle.cloud_trait.specs.State.{mark_at, marked}
+use Rattle.store_book.specs.Records.{IsIn}
 
 -- what stands in the front of a list
 pub get_front : {X : Type 0} (xs ys : List X) (i : ℕ) (x : X) → slice_get xs i ≡ Some x → slice_get (xs ++ ys) i ≡ Some x
@@ -64,3 +65,49 @@ get_behind {X} [] ys i x e = let h : i ≡ length {A = X} [] + i = omega arith i
 get_behind {X} (y ∷ xs) ys i x e =
     let h : suc (length xs + i) ≡ length (y ∷ xs) + i = omega arith in
     subst (λ k. slice_get (y ∷ (xs ++ ys)) k ≡ Some x) h (get_behind xs ys i x e)
+
+-- what is in two lists behind one another is in one of them
+pub in_either : {X : Type 0} (xs ys : List X) (x : X) → IsIn (xs ++ ys) x → IsIn xs x ⊎ IsIn ys x
+in_either xs ys x is = on (get_cases xs ys is.0 x is.1)
+  where
+    on : (slice_get xs is.0 ≡ Some x) ⊎ ((j : ℕ) × (is.0 ≡ length xs + j) × (slice_get ys j ≡ Some x)) → IsIn xs x ⊎ IsIn ys x
+    on (inl h) = inl (is.0, h)
+    on (inr p) = inr (p.0, p.2)
+
+pub in_front : {X : Type 0} (xs ys : List X) (x : X) → IsIn xs x → IsIn (xs ++ ys) x
+in_front xs ys x is = (is.0, get_front xs ys is.0 x is.1)
+
+-- nothing is in the empty list
+pub in_none : {X : Type 0} (xs : List X) (x : X) → xs ≡ [] → IsIn xs x → ⊥
+in_none [] x e (place, there) = absurd (cc)
+in_none (y ∷ ys) x e is = absurd (cc)
+
+-- a place of something is within the list
+pub get_within : {X : Type 0} (xs : List X) (i : ℕ) (x : X) → slice_get xs i ≡ Some x → i < length xs
+get_within [] i x e = absurd (cc)
+get_within (y ∷ xs) zero x e = omega arith
+get_within (y ∷ xs) (suc i) x e = let h = get_within xs i x e in omega (arith, h)
+
+-- what stands in a list stands as its image in the mapped one
+pub get_map : {X Y : Type 0} (f : X → Y) (xs : List X) (i : ℕ) (x : X) → slice_get xs i ≡ Some x → slice_get (map f xs) i ≡ Some (f x)
+get_map f [] i x e = absurd (cc)
+get_map f (y ∷ xs) zero x e = cc
+get_map f (y ∷ xs) (suc i) x e = get_map f xs i x e
+
+-- a message stands where it stood, with its bytes, where one is marked
+mark_front : (ms : List Posted) (i k : ℕ) (m : Posted) → slice_get ms k ≡ Some m → (n : Posted) × (slice_get (mark_at ms i) k ≡ Some n) × (n.bytes ≡ m.bytes)
+mark_front [] i k m e = absurd (cc)
+mark_front (n ∷ ms) zero zero m e = let h : n ≡ m = cc in (record { who = n.who; bytes = n.bytes; deleted = true }, refl, ap (λ (p : Posted). p.bytes) h)
+mark_front (n ∷ ms) zero (suc k) m e = (m, e, refl)
+mark_front (n ∷ ms) (suc i) zero m e = (m, e, refl)
+mark_front (n ∷ ms) (suc i) (suc k) m e = mark_front ms i k m e
+
+pub marked_front : (ms : List Posted) (id k : ℕ) (m : Posted) → slice_get ms k ≡ Some m → (n : Posted) × (slice_get (marked ms id) k ≡ Some n) × (n.bytes ≡ m.bytes)
+marked_front ms id k m e = on (id == 0)
+  where
+    on : (b : Bool) → (n : Posted) × (slice_get (cond b ms (mark_at ms (id - 1))) k ≡ Some n) × (n.bytes ≡ m.bytes)
+    on true = (m, e, refl)
+    on false = mark_front ms (id - 1) k m e
+
+pub in_behind : {X : Type 0} (xs ys : List X) (x : X) → IsIn ys x → IsIn (xs ++ ys) x
+in_behind xs ys x is = (length xs + is.0, get_behind xs ys is.0 x is.1)

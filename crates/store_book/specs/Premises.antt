@@ -23,7 +23,7 @@ use Rattle.run_cursor.specs.Run.{is_at, item_cmp}
 use Rattle.store_book.specs.Book.{Book, Link}
 use Rattle.store_book.specs.Tally.{Tally, Store}
 use Rattle.store_book.specs.Records.{StandsAt, IsIn, key_in, count_of, IsApplied, is_open, IsUnderWay}
-use Rattle.store_book.specs.Messages.{Waits, WaitsLogged, IsMessage, IsLogMessage}
+use Rattle.store_book.specs.Messages.{HasCopy, Waits, WaitsLogged, IsMessage, IsLogMessage}
 use Rattle.store_book.specs.Effects.{Taking, done_after}
 
 -- ---- routing
@@ -135,6 +135,8 @@ pub record IsItemOf (st : Store) (tree queue : ℕ) (x : PuItem) : Type 0 where
   pub tree_is : of.tree ≡ tree
   pub page_is : of.page ≡ queue
   pub rec_is : x.rec ≡ pu_record_of of
+  -- it was sent to the queue
+  pub sent : HasCopy (st.tally.posts tree queue) x.rec
 
 -- the run has, for each client, each of the numbers behind some number that the cursor covers, once, up to its greatest
 pub record IsConsecutive (st : Store) (tree queue : ℕ) (run : List PuItem) (client from : ℕ) : Type 0 where

@@ -1,0 +1,5 @@
+pub mod Ways
+pub mod Holding
+pub mod OpensLemmas
+pub mod SettlesLemmas
+pub mod StaysLemmas

@@ -1,0 +1,6 @@
+pub mod Lists
+pub mod Queues
+pub mod Routes
+mod Heads
+pub mod Runs
+pub mod Kept

@@ -13,7 +13,7 @@ use Rattle.log_codec.specs.declared.record.PuItem.{PuItem}
 use Rattle.node_codec.specs.Inner.{Inner}
 use Rattle.node_codec.specs.Tree.{Tree}
 use Rattle.report_types.specs.declared.entry.Entry.{Entry}
-use Rattle.store_book.specs.Book.{Book, Link, with_pieces}
+use Rattle.store_book.specs.Book.{Link, with_pieces}
 use Rattle.store_book.specs.Tally.{Node, Leafy, Branch, Tally, Store, at, at2}
 
 -- ---- heads

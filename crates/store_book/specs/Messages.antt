@@ -5,7 +5,6 @@ use Rattle.log_codec.specs.Atomic.{atomic_of}
 use Rattle.log_codec.specs.Pu.{pu_of}
 use Rattle.log_codec.specs.declared.record.AtomicRec.{AtomicRec}
 use Rattle.log_codec.specs.declared.record.PuRec.{PuRec}
-use Rattle.route_plan.specs.Record.{pu_record_of}
 use Rattle.store_book.specs.Records.{StandsAt}
 
 -- a message of a pending update queue was ever sent, and is this record

@@ -1,5 +1,5 @@
 -- The records of the log: of which queue and key they are, whether they are applied, and whether they are under way.
-use Rattle.std.specs.Prelude.{ℕ, ◌≡◌, ◌+◌, ◌<◌, ◌≤◌, ◌==◌, ◌&&◌, Bool, true, false, List, length, filter, map, slice_get, Some}
+use Rattle.std.specs.Prelude.{ℕ, ◌≡◌, ◌≤◌, ◌==◌, ◌&&◌, Bool, true, false, List, length, filter, map, slice_get, Some}
 use Rattle.std.specs.Str.{bytes_eq}
 use Rattle.db_base.specs.Change.{key_of}
 use Rattle.head_codec.specs.declared.head.Head.{Head}

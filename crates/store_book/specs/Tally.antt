@@ -1,5 +1,5 @@
 -- The tally: what a cloud tells, as functions of names and never by the bytes. Each call that lands changes one function at one name.
-use Rattle.std.specs.Prelude.{ℕ, ◌==◌, ◌&&◌, if◌then◌else◌, List, [], ◌∷◌, Option}
+use Rattle.std.specs.Prelude.{ℕ, ◌==◌, ◌&&◌, if◌then◌else◌, List, [], Option}
 use Rattle.cloud_trait.specs.declared.state.Posted.{Posted}
 use Rattle.head_codec.specs.declared.head.Head.{Head}
 use Rattle.leaf_view.specs.Leaf.{Leaf}

@@ -1,7 +1,7 @@
 -- A head that lands: the numbers of the records that it adds to the log.
 use Rattle.std.proofs.Common.{◌≡◌, ◌+◌, ◌-◌, ◌<◌, ◌≤◌, ℕ, zero, suc, List, [], ◌∷◌, ◌++◌, length, take, map, filter, count_by, Some, refl, sym, ap, ap₂, subst, ◌∙◌, ◌⊎◌, inl, inr, Bool, true, false, cond, ◌==◌, ◌&&◌, arith, eq-eqb, eqb-true}
 use Rattle.std.proofs.lemmas.Bool.{cond_both, and_left, eqb-false, ne_eqb}
-use Rattle.std.proofs.lemmas.List.{map-append, append-nil}
+use Rattle.std.proofs.lemmas.List.{map-append}
 use Rattle.std.proofs.lemmas.List.Sums.{length-filter}
 use Rattle.db_base.specs.Change.{key_of}
 use Rattle.db_base.specs.Ids.{IsClient}
@@ -17,7 +17,8 @@ use Rattle.store_book.specs.Premises.{IsRouted, IsRecordAt, Opens, Settles, Sett
 use Rattle.store_book.specs.Records.{StandsAt, IsIn, key_in, is_of_queue, of_queue, count_of, entry_of, entries_of}
 use Rattle.store_book.specs.Tally.{Store}
 use Rattle.number_facts.specs.Numbers.{Numbers, IsUpto, IsOnce, IsOfRecord, IsPlaced}
-use Rattle.number_facts.proofs.Lists.{get_front, get_cases, take_there, map_there, filter_there, filter_none, count_agree}
+use Rattle.store_book.proofs.Places.{get_cases}
+use Rattle.number_facts.proofs.Lists.{take_there, map_there, filter_there, filter_none, count_agree}
 use Rattle.number_facts.proofs.Routes.{routed_on}
 use Rattle.number_facts.proofs.Queues.{InOrder, queue_parts, of_queue-append, count_of-append, in_more}
 

@@ -4,3 +4,4 @@ pub mod Routes
 mod Heads
 pub mod Runs
 pub mod Kept
+pub mod Known

@@ -1,40 +1,8 @@
--- Places of lists that grow, that are filtered, and whose messages are marked.
+-- Places of lists, and of lists that are filtered or mapped.
 use Rattle.std.proofs.Common.{◌≡◌, ◌+◌, ◌-◌, ◌<◌, ◌≤◌, ℕ, zero, suc, List, [], ◌∷◌, ◌++◌, length, take, map, filter, count_by, slice_get, Some, refl, sym, ap, subst, ◌∙◌, ◌⊎◌, inl, inr, Bool, true, false, cond, ◌==◌, arith}
 use Rattle.std.proofs.lemmas.List.Sums.{sum_by-cons}
-use Rattle.cloud_trait.specs.declared.state.Posted.{Posted}
-use Rattle.cloud_trait.specs.State.{mark_at, marked}
 
 -- ---- lists behind one another
-
--- what stands in the front of a list
-pub get_front : {X : Type 0} (xs ys : List X) (i : ℕ) (x : X) → slice_get xs i ≡ Some x → slice_get (xs ++ ys) i ≡ Some x
-get_front [] ys i x e = absurd (cc)
-get_front (y ∷ xs) ys zero x e = e
-get_front (y ∷ xs) ys (suc i) x e = get_front xs ys i x e
-
--- what stands behind it
-pub get_behind : {X : Type 0} (xs ys : List X) (j : ℕ) (x : X) → slice_get ys j ≡ Some x → slice_get (xs ++ ys) (length xs + j) ≡ Some x
-get_behind [] ys j x e = let same : 0 + j ≡ j = omega arith in ap (λ k. slice_get ys k) same ∙ e
-get_behind (y ∷ xs) ys j x e =
-    let same : suc (length xs) + j ≡ suc (length xs + j) = omega arith in
-    ap (λ k. slice_get (y ∷ (xs ++ ys)) k) same ∙ get_behind xs ys j x e
-
--- what stands in two lists behind one another stands in one of them
-pub get_cases : {X : Type 0} (xs ys : List X) (i : ℕ) (x : X) → slice_get (xs ++ ys) i ≡ Some x
-    → (slice_get xs i ≡ Some x) ⊎ ((j : ℕ) × (i ≡ length xs + j) × (slice_get ys j ≡ Some x))
-get_cases [] ys i x e = inr (i, omega arith, e)
-get_cases (y ∷ xs) ys zero x e = inl e
-get_cases (y ∷ xs) ys (suc i) x e = next (get_cases xs ys i x e)
-  where
-    next : (slice_get xs i ≡ Some x) ⊎ ((j : ℕ) × (i ≡ length xs + j) × (slice_get ys j ≡ Some x))
-        → (slice_get (y ∷ xs) (suc i) ≡ Some x) ⊎ ((j : ℕ) × (suc i ≡ length (y ∷ xs) + j) × (slice_get ys j ≡ Some x))
-    next (inl h) = inl h
-    next (inr p) = inr (p.0, omega (arith, p.1), p.2)
-
--- the one of a list of one
-pub get_single : {X : Type 0} (y : X) (i : ℕ) (x : X) → slice_get (y ∷ []) i ≡ Some x → y ≡ x
-get_single y zero x e = cc
-get_single y (suc i) x e = absurd (cc)
 
 -- nothing stands at two places of a list that has it once
 pub get_same : {X : Type 0} (xs : List X) (i j : ℕ) (x y : X) → i ≡ j → slice_get xs i ≡ Some x → slice_get xs j ≡ Some y → x ≡ y
@@ -122,20 +90,3 @@ count_agree p q (x ∷ xs) same =
     ∙ (ap (λ b. cond b 1 0 + count_by p xs) (same 0 x refl)
     ∙ (ap (λ n. cond (q x) 1 0 + n) (count_agree p q xs (λ i y at. same (suc i) y at))
     ∙ sym (sum_by-cons (λ z. cond (q z) 1 0) x xs)))
-
--- ---- messages that are marked
-
--- marking changes no bytes
-mark_bytes : (ms : List Posted) (i k : ℕ) (m : Posted) → slice_get (mark_at ms i) k ≡ Some m → (n : Posted) × (slice_get ms k ≡ Some n) × (m.bytes ≡ n.bytes)
-mark_bytes [] i k m e = absurd (cc)
-mark_bytes (n ∷ ms) zero zero m e = let h : record { who = n.who; bytes = n.bytes; deleted = true } ≡ m = cc in (n, refl, sym (ap (λ (p : Posted). p.bytes) h))
-mark_bytes (n ∷ ms) zero (suc k) m e = (m, e, refl)
-mark_bytes (n ∷ ms) (suc i) zero m e = (m, e, refl)
-mark_bytes (n ∷ ms) (suc i) (suc k) m e = mark_bytes ms i k m e
-
-pub marked_bytes : (ms : List Posted) (id k : ℕ) (m : Posted) → slice_get (marked ms id) k ≡ Some m → (n : Posted) × (slice_get ms k ≡ Some n) × (m.bytes ≡ n.bytes)
-marked_bytes ms id k m e = on (id == 0) e
-  where
-    on : (b : Bool) → slice_get (cond b ms (mark_at ms (id - 1))) k ≡ Some m → (n : Posted) × (slice_get ms k ≡ Some n) × (m.bytes ≡ n.bytes)
-    on true h = (m, h, refl)
-    on false h = mark_bytes ms (id - 1) k m h

@@ -6,7 +6,8 @@ use Rattle.std.proofs.lemmas.List.Elements.{filter-append}
 use Rattle.std.proofs.lemmas.Option.{slice_get_within}
 use Rattle.log_codec.specs.declared.record.AtomicRec.{AtomicRec}
 use Rattle.store_book.specs.Records.{StandsAt, IsIn, is_of_queue, of_queue, count_of}
-use Rattle.number_facts.proofs.Lists.{get_front, get_same, filter_there, filter_at}
+use Rattle.store_book.proofs.Places.{get_front}
+use Rattle.number_facts.proofs.Lists.{get_same, filter_there, filter_at}
 
 -- ---- of which queue a record is
 

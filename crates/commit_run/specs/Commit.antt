@@ -10,7 +10,7 @@ use Rattle.db_base.specs.declared.trouble.CommitAnswer.TheVariants.{Committed, N
 use Rattle.head_codec.specs.declared.head.Head.{Head}
 use Rattle.head_codec.specs.declared.head.Phase.{Phase}
 use Rattle.head_codec.specs.declared.lists.QueueCount.{QueueCount}
-use Rattle.head_codec.specs.Spelling.{HasSpelling, IsPhase, head_bytes, head_of}
+use Rattle.head_codec.specs.Spelling.{IsPhase, head_bytes, head_of}
 use Rattle.head_codec.specs.Counters.{AreCounters}
 use Rattle.log_codec.specs.declared.record.AtomicRec.{AtomicRec}
 use Rattle.log_codec.specs.Pu.{pu_bytes, pu_of}
@@ -237,15 +237,9 @@ pub record IsBefore (b : Before) : Type 0 where
   pub phase : IsPhase b.phase
   pub counters : AreCounters None b.counters
 
--- what a commit keeps: a change is there, and the heads and records have spellings
+-- what a commit keeps: a change is there, what it puts and sends has spellings, and the bytes in hand are those of the call that they are for
 pub record IsKept (c : Commit) : Type 0 where
   pub some : 1 ≤ length c.changes
-  pub spelled : HasSpelling c.home.head
   pub before : IsBefore c.before
   pub placed : AllByRecursion HasPlace c.records
-
--- the bytes in hand are what they should be where there is a next call
-abbrev pub IsSoundAfter : Commit → Turn CommitAnswer → Type 0
-IsSoundAfter c More = IsSound c
-IsSoundAfter c (Ended a) = Unit {0}
-IsSoundAfter c (Stopped t) = Unit {0}
+  pub sound : IsSound c

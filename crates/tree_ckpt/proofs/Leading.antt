@@ -1,7 +1,8 @@
 -- Laws of where a step leads.
-use Rattle.std.proofs.Common.{◌≡◌, ℕ, ◌<◌, ◌+◌, List, length, drop, Option, Some, None, refl, ap, sym, subst, ◌∙◌}
+use Rattle.std.proofs.Common.{◌≡◌, ℕ, ◌<◌, ◌+◌, List, length, drop, Option, Some, None, Result, Ok, refl, ap, sym, subst, ◌∙◌}
 use Rattle.std.proofs.lemmas.List.{drop_more}
 use Rattle.node_codec.specs.Tree.{Tree}
+use Rattle.db_base.specs.declared.trouble.Trouble.{Trouble}
 use Rattle.cloud_trait.specs.declared.answer.Answer.{Answer}
 use Rattle.cloud_trait.specs.declared.turn.CkptAnswer.{CkptAnswer}
 use Rattle.cloud_trait.specs.declared.turn.Turn.{Turn}
@@ -9,7 +10,7 @@ use Rattle.cloud_trait.specs.declared.turn.Turn.TheVariants.{More, Ended, Stoppe
 use Rattle.cloud_trait.specs.Machine.{Goes, Ends, Stops, Took}
 use Rattle.tree_ckpt.specs.declared.stage.Stage.{Stage}
 use Rattle.tree_ckpt.specs.declared.stage.Stage.TheVariants.{TakingTree, GettingTree, Receiving, TakingPage, GettingPage, PuttingPage, ReleasingPage, PuttingTree, Deleting, ReleasingTree, StoppingPage, StoppingTree, Finished}
-use Rattle.tree_ckpt.specs.Folding.{Folding, Step, FoldingLeads, KeepsLeases, RootRaised, deleting, rest_of, handed_over, without_page}
+use Rattle.tree_ckpt.specs.Folding.{Folding, Step, FoldingLeads, SameLeases, KeepsLeases, RootGot, RootRead, RootRaised, deleting, rest_of, handed_over, without_page}
 
 -- ---- deletions
 
@@ -78,3 +79,17 @@ took_handed old mid a new More e h = leads_handed old a _ (subst (λ (m : Foldin
 took_handed old mid a new (Ended x) e h = leads_handed old a _ (subst (λ (m : Folding). FoldingLeads m a (Ends new x)) e h)
 took_handed old mid a new (Stopped t) e h =
     (λ k. leads_handed old a _ (subst (λ (m : Folding). FoldingLeads m a (Stops new t)) e (h.0 k)), λ k. keeps_handed old mid a new e (h.1 k))
+
+-- ---- reads
+
+-- a step from the bytes of the root is one from the get that brought them
+root_took_at : (old new : Folding) (a : Answer) (turn : Turn CkptAnswer) (bytes : List ℕ)
+    → Took (λ f x next. RootRead f bytes next) SameLeases old a new turn → Took (λ f x next. RootGot f (Ok (Some bytes)) next) SameLeases old a new turn
+root_took_at old new a More bytes h = h
+root_took_at old new a (Ended x) bytes h = h
+root_took_at old new a (Stopped t) bytes h = h
+
+pub root_took : (old new : Folding) (a : Answer) (turn : Turn CkptAnswer) (bytes : List ℕ) (got : Result (Option (List ℕ)) Trouble) → got ≡ Ok (Some bytes)
+    → Took (λ f x next. RootRead f bytes next) SameLeases old a new turn → Took (λ f x next. RootGot f got next) SameLeases old a new turn
+root_took old new a turn bytes got e h =
+    subst (λ (g : Result (Option (List ℕ)) Trouble). Took (λ f x next. RootGot f g next) SameLeases old a new turn) (sym e) (root_took_at old new a turn bytes h)

@@ -152,6 +152,21 @@ next_at Finished c a = Stops c trouble.Failed
 abbrev pub commit_next : Commit → Answer → Next Commit CommitAnswer
 commit_next c a = next_at c.stage c a
 
+-- at want of memory the home is as it was but for its head
+abbrev pub KeepsHome : Commit → Answer → Commit → Type 0
+KeepsHome c a n = n.home ≡ with_head c.home n.home.head
+
+-- how many calls a commit has left at most, by its stage, its records and how many of these were sent
+abbrev pub left_at : Stage → ℕ → ℕ → ℕ
+left_at Ready records sent = 0
+left_at PuttingOpen records sent = records + 3
+left_at Sending records sent = (records - sent) + 2
+left_at PuttingSettled records sent = 1
+left_at Finished records sent = 0
+
+abbrev pub calls_left : Commit → ℕ
+calls_left c = left_at c.stage (length c.records) c.sent
+
 -- the head that the put in hand opens, where it is the one that commits
 abbrev pub opens_at : Stage → Commit → Option Head
 opens_at PuttingOpen c = Some c.home.head

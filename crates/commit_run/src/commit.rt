@@ -10,7 +10,7 @@ ghost use Rattle.route_plan.specs.Heads.{opened_head, settled_head};
 ghost use Rattle.commit_run.specs.Commit.{records_of, with_head};
 ghost use Rattle.route_plan.specs.Route.{AllFit, PassesGreatest};
 ghost use Rattle.cloud_trait.specs.Call.{ask_of};
-ghost use Rattle.cloud_trait.specs.Machine.{Took, Steps};
+ghost use Rattle.cloud_trait.specs.Machine.{LeadsBy, Took, Steps};
 ghost use Rattle.cloud_trait.specs.Weather.{Makes};
 
 use cloud_trait::answer::Answer;
@@ -82,7 +82,7 @@ impl Model for CommitRun {
 }
 
 impl CommitRun {
-    ghost use Rattle.commit_run.specs.Commit.{Commit, new_commit, commit_ask, commit_next, opened_by, sent_by, settled_by, send_at, settling, left_open, closed_again, finished, Readies, TookReady, TookOpening, opening, with_attempt, next_records, records_of, IsSound, restored, opens_at};
+    ghost use Rattle.commit_run.specs.Commit.{Commit, new_commit, commit_ask, commit_next, opened_by, sent_by, settled_by, send_at, settling, left_open, closed_again, finished, Readies, TookReady, TookOpening, opening, with_attempt, next_records, records_of, IsSound, restored, opens_at, KeepsHome, calls_left};
 
     /// The commit of changes by a home.
     pub fn new(alloc: Global, home: Home, changes: TxnBuffer) -> CommitRun
@@ -202,7 +202,7 @@ impl CommitRun {
 
     /// Puts the settled head next.
     fn settle(&mut self, alloc: Global) -> Turn<CommitAnswer>
-        ensures { Took (λ c _. settling c) self.old Answer.Failed self.new result }
+        ensures { Took (λ c _ n. settling c ≡ n) KeepsHome self.old Answer.Failed self.new result }
     {
         match settle_home(alloc, &mut self.home, self.records.as_slice()) {
             Ok(out) => {
@@ -219,7 +219,7 @@ impl CommitRun {
 
     /// Sends the record at a place next, or settles where all are sent.
     fn send_at(&mut self, alloc: Global, place: usize) -> Turn<CommitAnswer>
-        ensures { Took (λ c _. send_at c place) self.old Answer.Failed self.new result }
+        ensures { Took (λ c _ n. send_at c place ≡ n) KeepsHome self.old Answer.Failed self.new result }
     {
         match self.records.as_slice().get(place) {
             Some(record) => match spelling_of(alloc, record) {
@@ -241,7 +241,7 @@ impl CommitRun {
 
     /// After the put that commits: a late one did not land, and a failed one may have.
     fn opened(&mut self, alloc: Global, done: Result<(), Trouble>) -> Turn<CommitAnswer>
-        ensures { Took (λ c _. opened_by c done) self.old Answer.Failed self.new result }
+        ensures { Took (λ c _ n. opened_by c done ≡ n) KeepsHome self.old Answer.Failed self.new result }
     {
         match done {
             Ok(()) => self.send_at(alloc, 0),
@@ -269,7 +269,7 @@ impl CommitRun {
     }
 
     fn sent(&mut self, alloc: Global, sent: Result<MsgId, Trouble>) -> Turn<CommitAnswer>
-        ensures { Took (λ c _. sent_by c sent) self.old Answer.Failed self.new result }
+        ensures { Took (λ c _ n. sent_by c sent ≡ n) KeepsHome self.old Answer.Failed self.new result }
     {
         match sent {
             Ok(_) => match self.sent.checked_add(1) {
@@ -281,7 +281,7 @@ impl CommitRun {
     }
 
     fn settled(&mut self, done: Result<(), Trouble>) -> Turn<CommitAnswer>
-        ensures { Took (λ c _. settled_by c done) self.old Answer.Failed self.new result }
+        ensures { Took (λ c _ n. settled_by c done ≡ n) KeepsHome self.old Answer.Failed self.new result }
     {
         match done {
             Ok(()) => {
@@ -295,7 +295,7 @@ impl CommitRun {
     }
 
     fn left_open(&mut self, trouble: Trouble) -> Turn<CommitAnswer>
-        ensures { Took (λ c _. left_open c trouble) self.old Answer.Failed self.new result }
+        ensures { Took (λ c _ n. left_open c trouble ≡ n) KeepsHome self.old Answer.Failed self.new result }
     {
         self.stage = Stage::Finished;
         Turn::Ended(CommitAnswer::CommittedOpen(trouble))
@@ -303,7 +303,7 @@ impl CommitRun {
 
     /// Takes the answer of the call in hand.
     fn absorb(&mut self, alloc: Global, answer: Answer) -> Turn<CommitAnswer>
-        ensures { Took commit_next self.old answer self.new result }
+        ensures { Took (LeadsBy commit_next) KeepsHome self.old answer self.new result }
     {
         match (self.stage, answer) {
             (_, Answer::Memory) => Turn::Stopped(Trouble::Memory),
@@ -317,8 +317,9 @@ impl CommitRun {
 
     /// Makes the call in hand, and does the local work up to the next one.
     pub fn step<C: Cloud>(&mut self, alloc: Global, cloud: &mut C, who: Who) -> Turn<CommitAnswer>
-        ensures steps { Steps commit_ask commit_next who (C.counts cloud.old) (C.counts cloud.new) (C.state cloud.old) (C.state cloud.new) self.old self.new result }
+        ensures steps { Steps commit_ask (LeadsBy commit_next) KeepsHome who (C.seen cloud.old) (C.seen cloud.new) self.old self.new result }
         ensures sound { IsSound self.old }
+        ensures less { result ≡ Turn.More → calls_left self.new < calls_left self.old }
     {
         // Read for the clause `sound`.
         let _ = &self.stage;
@@ -396,6 +397,7 @@ fn open_home(alloc: Global, home: &mut Home, records: &[AtomicRec]) -> Result<Bl
     requires few { length records.now ≤ 200 }
     requires placed { AllByRecursion HasPlace records.now }
     ensures home { OnOk result (home.new ≡ with_head home.old (opened_head home.old.head home.old.attempt records.now)) }
+    ensures kept { home.new ≡ with_head home.old home.new.head }
     ensures out { IfOk result (λ out. out ≡ head_bytes home.new.head) }
     ensures decoded { IfOk result (λ out. head_of out ≡ Some home.new.head) }
 {
@@ -408,6 +410,7 @@ fn open_home(alloc: Global, home: &mut Home, records: &[AtomicRec]) -> Result<Bl
 fn settle_home(alloc: Global, home: &mut Home, records: &[AtomicRec]) -> Result<Blob, AllocError>
     requires placed { AllByRecursion HasPlace records.now }
     ensures home { OnOk result (home.new ≡ with_head home.old (settled_head home.old.head records.now)) }
+    ensures kept { home.new ≡ with_head home.old home.new.head }
     ensures out { IfOk result (λ out. out ≡ head_bytes home.new.head) }
     ensures decoded { IfOk result (λ out. head_of out ≡ Some home.new.head) }
 {

@@ -1,0 +1,7 @@
+pub mod Filters
+mod Behind
+mod Lacked
+pub mod Advances
+mod Takings
+pub mod Kept
+pub mod Legality

@@ -1,0 +1,9 @@
+pub mod Pieces
+pub mod Names
+pub mod Monotone
+pub mod Joining
+pub mod Roots
+pub mod EmptyChains
+pub mod LeafLanding
+pub mod Laws
+pub mod Grown

@@ -1,0 +1,3 @@
+pub mod Links
+pub mod Chain
+pub mod Landing

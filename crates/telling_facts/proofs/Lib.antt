@@ -1,0 +1,4 @@
+pub mod Names
+pub mod Pages
+pub mod Easy
+pub mod Nodes

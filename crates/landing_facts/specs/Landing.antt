@@ -47,18 +47,18 @@ pub data Landing (who : Caller) (st : Store) : Ask → Store → Type 0 where
       → Landing who st (Send (queue_of tree page) bytes) (after_posted tree page (sent_by who bytes) st)
   marks_log : (client id : ℕ) → MarksLog st client id → Landing who st (Delete (Atomic client) id) (after_log_mark client id st)
   marks_post : (tree page id : ℕ) → MarksPost st tree page id → Landing who st (Delete (queue_of tree page) id) (after_post_mark tree page id st)
-  leaf : (p : Taking) (bytes : List ℕ) (one : Claim) (two : Option Claim) → IsLeaf bytes p.leaf → Takes st p → LandsLeaf st p
+  puts_leaf : (p : Taking) (bytes : List ℕ) (one : Claim) (two : Option Claim) → IsLeaf bytes p.leaf → Takes st p → LandsLeaf st p
       → Landing who st (PutHeld (object.Page p.tree p.page) bytes one two) (after_leaf p st)
-  page : (tree page : ℕ) (node : Node) (bytes : List ℕ) (one : Claim) (two : Option Claim) → IsTree tree → Spells bytes node
+  puts_page : (tree page : ℕ) (node : Node) (bytes : List ℕ) (one : Claim) (two : Option Claim) → IsTree tree → Spells bytes node
       → LandsFirst st tree page (own_of page node) → LandsNew st tree page node
       → Landing who st (PutHeld (object.Page tree page) bytes one two) (after_page tree page node (own_of page node) st)
-  inner : (tree page : ℕ) (node : Inner) (pieces : List Link) (bytes : List ℕ) (one : Claim) (two : Option Claim) → IsTree tree → IsInner bytes node
+  puts_inner : (tree page : ℕ) (node : Inner) (pieces : List Link) (bytes : List ℕ) (one : Claim) (two : Option Claim) → IsTree tree → IsInner bytes node
       → LandsInner st tree page node pieces → Landing who st (PutHeld (object.Page tree page) bytes one two) (after_inner tree page node pieces st)
-  root : (tree : ℕ) (t : Tree) (bytes : List ℕ) (one : Claim) (two : Option Claim) → IsTree tree → SpellsTree bytes t → CoversApplied st tree t
+  puts_root : (tree : ℕ) (t : Tree) (bytes : List ℕ) (one : Claim) (two : Option Claim) → IsTree tree → SpellsTree bytes t → CoversApplied st tree t
       → LandsRoot st tree t → Landing who st (PutHeld (object.Tree tree) bytes one two) (after_root tree t st)
-  raises : (tree : ℕ) (t : Tree) (level : ℕ) (links : List Link) (bytes : List ℕ) (one : Claim) (two : Option Claim) → IsTree tree → SpellsTree bytes t
+  raises_root : (tree : ℕ) (t : Tree) (level : ℕ) (links : List Link) (bytes : List ℕ) (one : Claim) (two : Option Claim) → IsTree tree → SpellsTree bytes t
       → CoversApplied st tree t → Raises st tree t level links → Landing who st (PutHeld (object.Tree tree) bytes one two) (after_raise tree t level links st)
-  quiet : (ask : Ask) → PutsNothing ask → TouchesNoMessage ask → Landing who st ask st
+  stays : (ask : Ask) → PutsNothing ask → TouchesNoMessage ask → Landing who st ask st
 
 -- what a session owes for a call: it has an effect that rests on what is known
 abbrev pub Ticket : Caller → Store → Ask → Type 0

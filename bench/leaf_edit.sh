@@ -1,16 +1,16 @@
 #!/bin/bash
-# Times `merge`: a leaf of 64 records of 1,024 bytes, a run of 64 updates, one for each record.
-# usage: bench/leaf_edit.sh [MERGES]   (100000 if none is given)
-# It makes a program beside copies of the crates in a folder of its own under /tmp, proves and builds it, and
-# times the program alone. A merge is to take a few tens of microseconds at most: the leaf is copied once.
+# Times `merge` and `apply`: a leaf of 64 records of 1,024 bytes, a run of 64 updates, one for each record.
+# usage: bench/leaf_edit.sh [ROUNDS]   (20000 if none is given)
+# It makes a program beside copies of the crates in a folder of its own under /tmp, proves and builds it, and runs it.
+# Each is to take under 25 microseconds; a plain copy of the same bytes is printed beside them.
 set -eu
 top=$(cd "$(dirname "$0")/.." && pwd)
-merges=${1:-100000}
+rounds=${1:-20000}
 work=$(mktemp -d -t leaf_edit_bench.XXXXXX)
 trap 'rm -rf "$work"' EXIT
 for crate in db_base byte_format leaf_view change_codec log_codec run_cursor leaf_edit; do
     mkdir -p "$work/crates/$crate"
-    for part in src specs proofs; do
+    for part in src specs proofs out; do
         if [ -d "$top/crates/$crate/$part" ]; then cp -r "$top/crates/$crate/$part" "$work/crates/$crate/"; fi
     done
     grep -E "^$crate:" "$top/crates.txt" >> "$work/crates.txt"
@@ -35,8 +35,9 @@ use log_codec::record::{PuItem, PuRec};
 use run_cursor::run::{Run, take_run};
 use std::alloc::Global;
 use std::io;
+use std::time::{CpuClock, Duration};
 
-const MERGES: u64 = $merges;
+const ROUNDS: u64 = $rounds;
 
 fn item_of(alloc: Global, n: u8, is_new: bool) -> Option<PuItem> {
     let key = Key::new(alloc, &[n]).ok()?;
@@ -70,7 +71,7 @@ fn merges(leaf: &LeafView<'_>, run: &[PuItem], out: &mut Vec<u8>) -> u64
     requires room { applied_length leaf.now 1 run.now ≤ vec_capacity out.old }
 {
     let mut right = 0u64;
-    for n in 0..MERGES {
+    for n in 0..ROUNDS {
         out.clear();
         if merge(leaf, 1, run, out).is_ok() {
             right = right.saturating_add(1);
@@ -79,22 +80,67 @@ fn merges(leaf: &LeafView<'_>, run: &[PuItem], out: &mut Vec<u8>) -> u64
     right
 }
 
-fn timed(alloc: Global) -> Option<(u64, usize)> {
-    let leaf = leaf_of(alloc)?;
-    let leaf = leaf.view();
-    let run = run_of(alloc, false)?;
-    let items = run.items();
-    let length = need(&leaf, 1, items)?;
-    let mut out = Vec::with_capacity(alloc, length).ok()?;
-    let right = merges(&leaf, items, &mut out);
-    Some((right, out.len()))
+fn applies(alloc: Global, leaf: &LeafView<'_>, run: &[PuItem]) -> u64
+    requires ordered { IsOrdered run.now }
+{
+    let mut right = 0u64;
+    for _ in 0..ROUNDS {
+        if apply(alloc, leaf, 1, run).is_ok() {
+            right = right.saturating_add(1);
+        }
+    }
+    right
+}
+
+fn copies(bytes: &[u8], out: &mut Vec<u8>) -> u64 {
+    let mut right = 0u64;
+    for _ in 0..ROUNDS {
+        out.clear();
+        if out.extend_from_slice(bytes).is_ok() {
+            right = right.saturating_add(1);
+        }
+    }
+    right
+}
+
+/// The time of one round in nanoseconds.
+fn each(time: Duration) -> u64 {
+    u64::try_from(time.as_nanos()).unwrap_or(u64::MAX) / ROUNDS
+}
+
+fn timed(rt: &HostRuntime, leaf: &LeafView<'_>, items: &[PuItem], out: &mut Vec<u8>) -> io::Result<()>
+    requires ordered { IsOrdered items.now }
+    requires room { applied_length leaf.now 1 items.now ≤ vec_capacity out.old }
+{
+    let before = rt.thread_cpu_time()?;
+    let right = merges(leaf, items, out);
+    let time = rt.thread_cpu_time()?.saturating_sub(before);
+    println!(rt; "merge: {} ns ({right} rounds)", each(time))?;
+    let before = rt.thread_cpu_time()?;
+    let right = applies(rt.alloc(), leaf, items);
+    let time = rt.thread_cpu_time()?.saturating_sub(before);
+    println!(rt; "apply: {} ns ({right} rounds)", each(time))
+}
+
+fn compared(rt: &HostRuntime, bytes: &[u8]) -> io::Result<()> {
+    let mut copy = Vec::new(rt.alloc());
+    let before = rt.thread_cpu_time()?;
+    let right = copies(bytes, &mut copy);
+    let time = rt.thread_cpu_time()?.saturating_sub(before);
+    println!(rt; "a plain copy of the same {} bytes: {} ns ({right} rounds)", bytes.len(), each(time))
 }
 
 fn main(rt: HostRuntime) -> io::Result<()> {
-    match timed(rt.alloc()) {
-        Some((right, length)) => println!(rt; "{right} merges of {length} bytes"),
-        None => println!(rt; "out of memory"),
+    let alloc = rt.alloc();
+    if let (Some(leaf), Some(run)) = (leaf_of(alloc), run_of(alloc, false)) {
+        let view = leaf.view();
+        if let Some(length) = need(&view, 1, run.items()) {
+            let mut out = Vec::with_capacity(alloc, length)?;
+            timed(&rt, &view, run.items(), &mut out)?;
+            compared(&rt, out.as_slice())?;
+        }
     }
+    Ok(())
 }
 RT
 cat > "$work/crates/merges/proofs/Lib.antt" <<'ANTT'
@@ -109,8 +155,4 @@ abbrev pub invariant-loop-n : goal.invariant-loop-n
 invariant-loop-n l = applied_length l.leaf 1 l.run ≤ vec_capacity l.out
 ANTT
 cd "$work/crates/merges"
-rt run > /dev/null
-start=$(date +%s%N)
-./out/merges
-end=$(date +%s%N)
-awk -v n="$merges" -v ns=$((end - start)) 'BEGIN { printf "%.1f microseconds a merge\n", ns / n / 1000 }'
+rt run

@@ -22,6 +22,3 @@ pub use spare::{add, add_text8, add_text16, add_u8, add_u16, add_u64};
 pub use stop::{ReadFault, Stop};
 pub use text::{text8_at, text16_at};
 pub use writing::{try_add, try_add_text8, try_add_text16, try_add_u8, try_add_u16, try_add_u64};
-
-#[cfg(test)]
-mod tests;

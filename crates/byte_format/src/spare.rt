@@ -10,7 +10,9 @@ pub fn add(out: &mut Vec<u8>, bytes: &[u8])
     requires { vec_len out.old + length bytes.now ≤ vec_capacity out.old }
     ensures { Adds out.old out.new bytes.now }
 {
-    let _ = out.extend_from_slice(bytes);
+    for byte in bytes {
+        out.push_reserved(*byte);
+    }
 }
 
 /// Appends one byte.

@@ -24,7 +24,8 @@ first_leaf_cases P level same other = on (level == 0) refl
 
 in_first_leaf : (level : ℕ) (a : Link) → IsIn (first_leaf level) a → (level ≡ 0) × (first_link ≡ a)
 in_first_leaf level a h =
-    first_leaf_cases (λ (ls : List Link). IsIn ls a → (level ≡ 0) × (first_link ≡ a)) level (λ e k. (e, in_single first_link a k)) (λ ne k. absurd (none_in a k)) h
+    first_leaf_cases (λ (ls : List Link). IsIn ls a → (level ≡ 0) × (first_link ≡ a)) level (λ e k. (e, in_single first_link a k))
+    (λ ne k. absurd (none_in a k)) h
 
 none_next : (place : ℕ) (a : Link) → StandsAt (first_link ∷ []) place a → slice_get (first_link ∷ []) (place + 1) ≡ None
 none_next zero a h = refl
@@ -68,7 +69,8 @@ nothing_chained done cursor = record {
   where
     next : (level place : ℕ) (link : Link) → StandsAt (first_leaf level) place link → slice_get (first_leaf level) (place + 1) ≡ None
     next level place link h =
-        first_leaf_cases (λ (ls : List Link). StandsAt ls place link → slice_get ls (place + 1) ≡ None) level (λ e k. none_next place link k) (λ ne k. absurd (none_stands place link k)) h
+        first_leaf_cases (λ (ls : List Link). StandsAt ls place link → slice_get ls (place + 1) ≡ None) level (λ e k. none_next place link k)
+        (λ ne k. absurd (none_stands place link k)) h
 
     right : (level place : ℕ) (link : Link) → StandsAt (first_leaf level) place link → 0 ≡ page_after (slice_get (first_leaf level) (place + 1))
     right level place link h = ap page_after (sym (next level place link h))
@@ -82,4 +84,5 @@ empty_chains s empty tree is =
     let nodes : nothing_landed ≡ nodes_of s tree = λ i page. ap (map node_in) (sym (empty.versions (object.Page tree page))) i in
     let roots : [] ≡ roots_of s tree = ap (map root_in) (sym (empty.versions (object.Tree tree))) in
     subst (λ (ns : ℕ → List Node). IsChained (λ level. first_leaf level) ns (roots_of s tree) (t.done tree) (t.cursor tree 0)) nodes
-    (subst (λ (rs : List Tree). IsChained (λ level. first_leaf level) nothing_landed rs (t.done tree) (t.cursor tree 0)) roots (nothing_chained (t.done tree) (t.cursor tree 0)))
+    (subst (λ (rs : List Tree). IsChained (λ level. first_leaf level) nothing_landed rs (t.done tree) (t.cursor tree 0)) roots
+    (nothing_chained (t.done tree) (t.cursor tree 0)))

@@ -6,6 +6,7 @@ use Rattle.db_base.specs.Ids.{IsClient}
 use Rattle.leaf_view.specs.Fits.{Ascend}
 use Rattle.leaf_view.specs.Lookup.{empty_leaf}
 use Rattle.node_codec.specs.Tree.{Tree}
+use Rattle.store_book.proofs.GrowthLemmas.{links_stay as level_stays}
 use Rattle.store_book.specs.Book.{Link, with_pieces}
 use Rattle.store_book.specs.Records.{StandsAt, IsIn}
 use Rattle.store_book.specs.Tally.{Node, Leafy, at, low_of}
@@ -15,7 +16,7 @@ use Rattle.chain_facts.specs.Landing.{ArePieces, AreNew, LandsOn, first_or}
 use Rattle.chain_facts.specs.Links.{link_below, Ascends, first_link, newest_node, top_of, IsOfLevel, EndsBefore, NodeNames}
 use Rattle.chain_facts.proofs.Monotone.{Stay, names_stay, node_names_stay, version_stays, version_ends, ends_by, piece_in, covered_more}
 use Rattle.chain_facts.proofs.Names.{plus_one, at_same, at_other, at_either, last_added, in_single, in_added, added_none}
-use Rattle.chain_facts.proofs.Pieces.{Apart, apart_of, one_place, joined_head, joined_keeps, joined_cases, joined_ascends, Standing, IsOther, IsLeft, IsNew, joined_next}
+use Rattle.chain_facts.proofs.Pieces.{Apart, apart_of, one_place, joined_head, joined_cases, joined_ascends, Standing, IsOther, IsLeft, IsNew, joined_next}
 
 -- the chains with pieces behind a page of a level, and the versions with one more of a page
 abbrev pub joined : ℕ → ℕ → List Link → (ℕ → List Link) → ℕ → List Link
@@ -29,7 +30,7 @@ added page node nodes = at page (nodes page ++ node ∷ []) nodes
 pub links_stay : (level page : ℕ) (pieces : List Link) (chain : ℕ → List Link) → Stay chain (joined level page pieces chain)
 links_stay level page pieces chain l a h =
     at_either (λ (links : List Link). IsIn links a) level (with_pieces page pieces (chain level)) chain l
-    (λ e. joined_keeps page pieces (chain level) a (subst (λ (n : ℕ). IsIn (chain n) a) e h)) (λ ne. h)
+    (λ e. level_stays page pieces (chain level) a (subst (λ (n : ℕ). IsIn (chain n) a) e h)) (λ ne. h)
 
 pub link_cases : (level page : ℕ) (pieces : List Link) (chain : ℕ → List Link) (l : ℕ) (a : Link) → IsIn (joined level page pieces chain l) a
     → IsIn (chain l) a ⊎ ((l ≡ level) × IsIn pieces a)
@@ -73,10 +74,13 @@ joins_of chain nodes level page node pieces lands = record {
   new = lands.new;
 }
 
-levels_join : (chain : ℕ → List Link) (height level page : ℕ) (pieces : List Link) → AreLevels chain height → Joins chain level page pieces → AreLevels (joined level page pieces chain) height
+levels_join : (chain : ℕ → List Link) (height level page : ℕ) (pieces : List Link) → AreLevels chain height → Joins chain level page pieces
+    → AreLevels (joined level page pieces chain) height
 levels_join chain height level page pieces lv j = record {
-  leaves = at_either (λ (links : List Link). (rest : List Link) × (links ≡ first_link ∷ rest)) level (with_pieces page pieces (chain level)) chain 0 first (λ ne. lv.leaves);
-  begins = λ l h. at_either (λ (links : List Link). (link : Link) × StandsAt links 0 link × (link.low ≡ [])) level (with_pieces page pieces (chain level)) chain l
+  leaves = at_either (λ (links : List Link). (rest : List Link) × (links ≡ first_link ∷ rest)) level
+      (with_pieces page pieces (chain level)) chain 0 first (λ ne. lv.leaves);
+  begins = λ l h. at_either (λ (links : List Link). (link : Link) × StandsAt links 0 link × (link.low ≡ [])) level
+      (with_pieces page pieces (chain level)) chain l
       (λ e. front (lv.begins level (subst (λ (n : ℕ). n < height) e h))) (λ ne. lv.begins l h);
   above = λ l h. at_either (λ (links : List Link). links ≡ []) level (with_pieces page pieces (chain level)) chain l
       (λ e. ap (with_pieces page pieces) (lv.above level (subst (λ (n : ℕ). height ≤ n) e h))) (λ ne. lv.above l h);
@@ -91,11 +95,13 @@ levels_join chain height level page pieces lv j = record {
         let new = joined_begins page pieces first_link old.0 in
         (new.0, ap (with_pieces page pieces) is ∙ new.1)
 
-    front : (link : Link) × StandsAt (chain level) 0 link × (link.low ≡ []) → (link : Link) × StandsAt (with_pieces page pieces (chain level)) 0 link × (link.low ≡ [])
+    front : (link : Link) × StandsAt (chain level) 0 link × (link.low ≡ [])
+        → (link : Link) × StandsAt (with_pieces page pieces (chain level)) 0 link × (link.low ≡ [])
     front f = (f.0, joined_head page pieces (chain level) ∙ f.1, f.2)
 
     rising : Ascends (with_pieces page pieces (chain level))
-    rising = joined_ascends page pieces None (chain level) j.place j.link (level_apart chain height lv level) (lv.ascends level) j.linked j.page_is j.ascends j.within
+    rising = joined_ascends page pieces None (chain level) j.place j.link (level_apart chain height lv level)
+        (lv.ascends level) j.linked j.page_is j.ascends j.within
 
     once : (l m : ℕ) (a b : Link) → a.page ≡ b.page → IsIn (chain l) a ⊎ ((l ≡ level) × IsIn pieces a) → IsIn (chain m) b ⊎ ((m ≡ level) × IsIn pieces b)
         → (l ≡ m) × (a.low ≡ b.low)
@@ -113,10 +119,12 @@ newest_same : (nodes : ℕ → List Node) (page : ℕ) (node : Node) (n : ℕ) �
 newest_same nodes page node n e =
     ap (last_or (Leafy empty_leaf)) (at_same page (nodes page ++ node ∷ []) nodes n e) ∙ last_added (Leafy empty_leaf) (nodes page) node
 
-newest_join : (chain : ℕ → List Link) (nodes : ℕ → List Node) (height level page : ℕ) (node : Node) (pieces : List Link) → AreLevels chain height → AreNewest chain nodes
+newest_join : (chain : ℕ → List Link) (nodes : ℕ → List Node) (height level page : ℕ) (node : Node) (pieces : List Link) → AreLevels chain height
+    → AreNewest chain nodes
     → LandsOn chain nodes level page node pieces → AreNewest (joined level page pieces chain) (added page node nodes)
 newest_join chain nodes height level page node pieces lv nw lands = record {
-  ends = λ l place a h. at_either (λ (links : List Link). StandsAt links place a → EndsBefore (newest_node (added page node nodes) a.page) (slice_get links (place + 1)))
+  ends = λ l place a h. at_either (λ (links : List Link). StandsAt links place a
+      → EndsBefore (newest_node (added page node nodes) a.page) (slice_get links (place + 1)))
       level (with_pieces page pieces (chain level)) chain l
       (λ e k. subst (λ (n : ℕ). EndsBefore (newest_node (added page node nodes) a.page) (slice_get (with_pieces page pieces (chain level)) n)) (plus_one place)
       (here a (slice_get (with_pieces page pieces (chain level)) (suc place)) (joined_next nodes level page pieces (chain level) apart are place a k)))
@@ -135,12 +143,14 @@ newest_join chain nodes height level page node pieces lv nw lands = record {
 
     are : (place : ℕ) (a : Link) → StandsAt (chain level) place a → a.page ≡ page → ArePieces nodes level pieces (slice_get (chain level) (suc place))
     are place a h is =
-        subst (λ (n : ℕ). ArePieces nodes level pieces (slice_get (chain level) n)) (ap (λ (n : ℕ). n + 1) (same_place place a h is) ∙ sym (plus_one place)) lands.pieces_are
+        subst (λ (n : ℕ). ArePieces nodes level pieces (slice_get (chain level) n))
+        (ap (λ (n : ℕ). n + 1) (same_place place a h is) ∙ sym (plus_one place)) lands.pieces_are
 
     elsewhere : (l : ℕ) (a : Link) → IsIn (chain l) a → l ≢ level → a.page ≢ page
     elsewhere l a h ne is = ne (lv.once l level a lands.link h linked (is ∙ sym lands.page_is)).0
 
-    here : (a : Link) (next : Option Link) → Standing nodes level page pieces (chain level) a next → EndsBefore (newest_node (added page node nodes) a.page) next
+    here : (a : Link) (next : Option Link) → Standing nodes level page pieces (chain level) a next
+        → EndsBefore (newest_node (added page node nodes) a.page) next
     here a next (IsOther place h ne e) =
         ends_by _ _ _ _ (sym (newest_other nodes page node a.page ne)) (ap (slice_get (chain level)) (sym (plus_one place)) ∙ sym e) (nw.ends level place a h)
     here a next (IsLeft place h is e) =
@@ -175,7 +185,8 @@ versions_join chain nodes height level page node pieces lv vs lands after nw som
     ends : (h : IsIn (joined level page pieces chain l) a) → newest_node (added page node nodes) a.page ≡ n → IsOfLevel l n → low_of n ≡ a.low
         → IsVersionOf (joined level page pieces chain l) l a n
     ends h newest level_is low =
-        version_ends (joined level page pieces chain l) l h.0 a n (after.ascends l) (some l) h.1 level_is low (ends_by _ _ _ _ newest refl (nw.ends l h.0 a h.1))
+        version_ends (joined level page pieces chain l) l h.0 a n (after.ascends l) (some l) h.1 level_is low
+        (ends_by _ _ _ _ newest refl (nw.ends l h.0 a h.1))
 
     on : IsIn (joined level page pieces chain l) a → IsIn (chain l) a ⊎ ((l ≡ level) × IsIn pieces a) → IsIn (nodes a.page) n ⊎ ((a.page ≡ page) × (node ≡ n))
         → IsVersionOf (joined level page pieces chain l) l a n
@@ -188,14 +199,16 @@ versions_join chain nodes height level page node pieces lv vs lands after nw som
         let piece = (piece_in nodes level pieces (slice_get (chain level) (lands.place + 1)) lands.pieces_are a q.1).1 in
         let is : piece.node ≡ n = in_single piece.node n (subst (λ (ns : List Node). IsIn ns n) piece.landed k) in
         let ne : a.page ≢ page = λ e. lands.new.unlinked a q.1 level lands.link linked (lands.page_is ∙ sym e) in
-        let newest : newest_node (added page node nodes) a.page ≡ piece.node = newest_other nodes page node a.page ne ∙ ap (last_or (Leafy empty_leaf)) piece.landed in
+        let newest : newest_node (added page node nodes) a.page ≡ piece.node = newest_other nodes page node a.page ne
+        ∙ ap (last_or (Leafy empty_leaf)) piece.landed in
         let level_is : IsOfLevel l n = subst (λ (x : Node). IsOfLevel l x) is (subst (λ (m : ℕ). IsOfLevel m piece.node) (sym q.0) piece.level_is) in
         ends h (newest ∙ is) level_is (ap low_of (sym is) ∙ piece.low)
     on h (inr q) (inr p) = absurd (lands.new.unlinked a q.1 level lands.link linked (lands.page_is ∙ sym p.0))
 
 -- ---- entries, pages, tables
 
-entries_join : (chain : ℕ → List Link) (nodes : ℕ → List Node) (roots : List Tree) (level page : ℕ) (node : Node) (pieces : List Link) → AreEntries chain nodes roots
+entries_join : (chain : ℕ → List Link) (nodes : ℕ → List Node) (roots : List Tree) (level page : ℕ) (node : Node) (pieces : List Link)
+    → AreEntries chain nodes roots
     → LandsOn chain nodes level page node pieces → AreEntries (joined level page pieces chain) (added page node nodes) roots
 entries_join chain nodes roots level page node pieces en lands = record {
   of_roots = λ root h. names_stay chain (joined level page pieces chain) (links_stay level page pieces chain) root.level [] root.entries (en.of_roots root h);
@@ -210,7 +223,8 @@ pages_join : (chain : ℕ → List Link) (nodes : ℕ → List Node) (next level
     → LandsOn chain nodes level page node pieces → ArePages (joined level page pieces chain) (added page node nodes) next
 pages_join chain nodes next level page node pieces pg lands = record {
   linked = λ l a h. on l a (link_cases level page pieces chain l a h);
-  landed = λ p some. at_either (λ (v : List Node). v ≢ [] → (1 ≤ p) × (p < next)) page (nodes page ++ node ∷ []) nodes p (λ e ne. here p e) (λ ne k. pg.landed p k) some;
+  landed = λ p some. at_either (λ (v : List Node). v ≢ [] → (1 ≤ p) × (p < next)) page (nodes page ++ node ∷ []) nodes p (λ e ne. here p e)
+      (λ ne k. pg.landed p k) some;
   unlinked = λ p out. at_either (λ (v : List Node). length v ≤ 1) page (nodes page ++ node ∷ []) nodes p
       (λ e. absurd (out level lands.link (links_stay level page pieces chain level lands.link linked) (lands.page_is ∙ sym e)))
       (λ ne. pg.unlinked p (λ l a h. out l a (links_stay level page pieces chain l a h)));
@@ -235,7 +249,8 @@ pub record Covers (nodes : ℕ → List Node) (level : ℕ) (node : Node) (piece
   pub node_is : level ≡ 0 → IsCovered more node
   pub pieces_are : level ≡ 0 → (piece : Link) (n : Node) → IsIn pieces piece → nodes piece.page ≡ n ∷ [] → IsCovered more n
 
-covered_join : (chain : ℕ → List Link) (nodes : ℕ → List Node) (roots : List Tree) (done more : List ℕ → ℕ → ℕ → ℕ) (cursor : ℕ → ℕ) (height level page : ℕ) (node : Node) (pieces : List Link)
+covered_join : (chain : ℕ → List Link) (nodes : ℕ → List Node) (roots : List Tree) (done more : List ℕ → ℕ → ℕ → ℕ) (cursor : ℕ → ℕ)
+    (height level page : ℕ) (node : Node) (pieces : List Link)
     → AreLevels chain height → AreCovered chain nodes roots done cursor → LandsOn chain nodes level page node pieces → Covers nodes level node pieces done more
     → AreCovered (joined level page pieces chain) (added page node nodes) roots more cursor
 covered_join chain nodes roots done more cursor height level page node pieces lv cv lands covers = record {
@@ -259,7 +274,8 @@ covered_join chain nodes roots done more cursor height level page node pieces lv
 
 -- ---- the whole
 
-pub lands_keeps : (chain : ℕ → List Link) (nodes : ℕ → List Node) (roots : List Tree) (done more : List ℕ → ℕ → ℕ → ℕ) (cursor : ℕ → ℕ) (level page : ℕ) (node : Node) (pieces : List Link)
+pub lands_keeps : (chain : ℕ → List Link) (nodes : ℕ → List Node) (roots : List Tree) (done more : List ℕ → ℕ → ℕ → ℕ) (cursor : ℕ → ℕ)
+    (level page : ℕ) (node : Node) (pieces : List Link)
     → IsChained chain nodes roots done cursor → LandsOn chain nodes level page node pieces → Covers nodes level node pieces done more
     → IsChained (joined level page pieces chain) (added page node nodes) roots more cursor
 lands_keeps chain nodes roots done more cursor level page node pieces c lands covers =
@@ -271,7 +287,8 @@ lands_keeps chain nodes roots done more cursor level page node pieces c lands co
     pages_join chain nodes (top_of roots).next level page node pieces c.pages lands in
     record {
       levels = levels;
-      versions = versions_join chain nodes (top_of roots).level level page node pieces c.levels c.versions lands levels newest (λ l a h. (pages.linked l a h).0);
+      versions = versions_join chain nodes (top_of roots).level level page node pieces c.levels c.versions lands levels newest
+          (λ l a h. (pages.linked l a h).0);
       entries = entries_join chain nodes roots level page node pieces c.entries lands;
       newest = newest;
       pages = pages;

@@ -63,23 +63,28 @@ after_leaf_keeps st p h takes lands tree is = on (tree == p.tree) refl
         chained_more chain nodes (st.tally.roots tree) done (done_after p st.tally.done tree) (st.tally.cursor tree 0) (cursor_after p st.tally.cursor tree 0)
         rises (λ client _. cursor_rises p st.tally.cursor tree 0 client) c
 
-    here : IsTree p.tree → IsChained (joined 0 p.page p.pieces (st.book.chain p.tree)) (added p.page (Leafy p.leaf) (st.tally.nodes p.tree)) (st.tally.roots p.tree)
+    here : IsTree p.tree → IsChained (joined 0 p.page p.pieces (st.book.chain p.tree)) (added p.page (Leafy p.leaf) (st.tally.nodes p.tree))
+        (st.tally.roots p.tree)
         (done_after p st.tally.done p.tree) (st.tally.cursor p.tree 0)
     here is =
         let c = h p.tree is in
-        lands_keeps (st.book.chain p.tree) (st.tally.nodes p.tree) (st.tally.roots p.tree) (st.tally.done p.tree) (done_after p st.tally.done p.tree) (st.tally.cursor p.tree 0)
+        lands_keeps (st.book.chain p.tree) (st.tally.nodes p.tree) (st.tally.roots p.tree) (st.tally.done p.tree) (done_after p st.tally.done p.tree)
+        (st.tally.cursor p.tree 0)
         0 p.page (Leafy p.leaf) p.pieces c lands.lands (leaf_covers st p (top_of (st.tally.roots p.tree)).level c.levels takes lands)
 
     on : (b : Bool) → (tree == p.tree) ≡ b → IsChained (placed b 0 (with_pieces p.page p.pieces (st.book.chain p.tree 0)) (st.book.chain tree))
         (placed b p.page (st.tally.nodes p.tree p.page ++ Leafy p.leaf ∷ []) (st.tally.nodes tree)) (st.tally.roots tree)
         (done_after p st.tally.done tree) (cursor_after p st.tally.cursor tree 0)
-    on false e = lifted (st.book.chain tree) (st.tally.nodes tree) (st.tally.done tree) (λ key page client _. done_rises p st.tally.done tree key page client) (h tree is)
+    on false e = lifted (st.book.chain tree) (st.tally.nodes tree) (st.tally.done tree)
+        (λ key page client _. done_rises p st.tally.done tree key page client) (h tree is)
     on true e =
         let same : tree ≡ p.tree = eqb-true tree p.tree e in
-        lifted (at 0 (with_pieces p.page p.pieces (st.book.chain p.tree 0)) (st.book.chain tree)) (at p.page (st.tally.nodes p.tree p.page ++ Leafy p.leaf ∷ []) (st.tally.nodes tree))
+        lifted (at 0 (with_pieces p.page p.pieces (st.book.chain p.tree 0)) (st.book.chain tree))
+        (at p.page (st.tally.nodes p.tree p.page ++ Leafy p.leaf ∷ []) (st.tally.nodes tree))
         (done_after p st.tally.done tree) (λ key page client _. omega arith)
         (subst (λ (t : ℕ). IsChained (at 0 (with_pieces p.page p.pieces (st.book.chain p.tree 0)) (st.book.chain t))
-        (at p.page (st.tally.nodes p.tree p.page ++ Leafy p.leaf ∷ []) (st.tally.nodes t)) (st.tally.roots t) (done_after p st.tally.done t) (st.tally.cursor t 0))
+        (at p.page (st.tally.nodes p.tree p.page ++ Leafy p.leaf ∷ []) (st.tally.nodes t)) (st.tally.roots t) (done_after p st.tally.done t)
+        (st.tally.cursor t 0))
         (sym same) (here (subst IsTree same is)))
 
 -- ---- other pages
@@ -91,21 +96,25 @@ after_page_keeps st tree page node own h first lands t is = on (t == tree) refl
     some : 1 ≤ page
     some = omega (arith, first.page_is)
 
-    here : IsTree tree → IsChained (st.book.chain tree) (added page node (st.tally.nodes tree)) (st.tally.roots tree) (st.tally.done tree) (st.tally.cursor tree 0)
+    here : IsTree tree → IsChained (st.book.chain tree) (added page node (st.tally.nodes tree)) (st.tally.roots tree) (st.tally.done tree)
+        (st.tally.cursor tree 0)
     here is = page_keeps (st.book.chain tree) (st.tally.nodes tree) (st.tally.roots tree) (st.tally.done tree) (st.tally.cursor tree 0) page node (h tree is)
         (record { some = some; absent = lands.absent; reserved = lands.reserved; unlinked = first.unlinked; names = lands.names })
 
     not_own : 0 ≢ page
     not_own e = absurd (omega (arith, e, some))
 
-    on : (b : Bool) → (t == tree) ≡ b → IsChained (st.book.chain t) (placed b page (st.tally.nodes tree page ++ node ∷ []) (st.tally.nodes t)) (st.tally.roots t) (st.tally.done t)
+    on : (b : Bool) → (t == tree) ≡ b → IsChained (st.book.chain t) (placed b page (st.tally.nodes tree page ++ node ∷ []) (st.tally.nodes t))
+        (st.tally.roots t) (st.tally.done t)
         (placed b page own (st.tally.cursor t) 0)
     on false e = h t is
     on true e =
         let same : t ≡ tree = eqb-true t tree e in
         let cursor : at page own (st.tally.cursor t) 0 ≡ st.tally.cursor t 0 = at_other page own (st.tally.cursor t) 0 not_own in
-        subst (λ (c : ℕ → ℕ). IsChained (st.book.chain t) (at page (st.tally.nodes tree page ++ node ∷ []) (st.tally.nodes t)) (st.tally.roots t) (st.tally.done t) c) (sym cursor)
-        (subst (λ (x : ℕ). IsChained (st.book.chain x) (at page (st.tally.nodes tree page ++ node ∷ []) (st.tally.nodes x)) (st.tally.roots x) (st.tally.done x) (st.tally.cursor x 0))
+        subst (λ (c : ℕ → ℕ). IsChained (st.book.chain t) (at page (st.tally.nodes tree page ++ node ∷ []) (st.tally.nodes t)) (st.tally.roots t)
+        (st.tally.done t) c) (sym cursor)
+        (subst (λ (x : ℕ). IsChained (st.book.chain x) (at page (st.tally.nodes tree page ++ node ∷ []) (st.tally.nodes x)) (st.tally.roots x)
+        (st.tally.done x) (st.tally.cursor x 0))
         (sym same) (here (subst IsTree same is)))
 
 inner_covers : (st : Store) (tree page : ℕ) (inner : Inner) (pieces : List Link) → LandsInner st tree page inner pieces
@@ -120,7 +129,8 @@ pub after_inner_keeps : (st : Store) (tree page : ℕ) (inner : Inner) (pieces :
     → ChainHolds (after_inner tree page inner pieces st)
 after_inner_keeps st tree page inner pieces h lands t is = on (t == tree) refl
   where
-    here : IsTree tree → IsChained (joined inner.level page pieces (st.book.chain tree)) (added page (Branch inner) (st.tally.nodes tree)) (st.tally.roots tree) (st.tally.done tree) (st.tally.cursor tree 0)
+    here : IsTree tree → IsChained (joined inner.level page pieces (st.book.chain tree)) (added page (Branch inner) (st.tally.nodes tree))
+        (st.tally.roots tree) (st.tally.done tree) (st.tally.cursor tree 0)
     here is = lands_keeps (st.book.chain tree) (st.tally.nodes tree) (st.tally.roots tree) (st.tally.done tree) (st.tally.done tree) (st.tally.cursor tree 0)
         inner.level page (Branch inner) pieces (h tree is) lands (inner_covers st tree page inner pieces lands)
 
@@ -130,7 +140,8 @@ after_inner_keeps st tree page inner pieces h lands t is = on (t == tree) refl
     on true e =
         let same : t ≡ tree = eqb-true t tree e in
         subst (λ (x : ℕ). IsChained (at inner.level (with_pieces page pieces (st.book.chain tree inner.level)) (st.book.chain x))
-        (at page (st.tally.nodes tree page ++ Branch inner ∷ []) (st.tally.nodes x)) (st.tally.roots x) (st.tally.done x) (st.tally.cursor x 0)) (sym same) (here (subst IsTree same is))
+        (at page (st.tally.nodes tree page ++ Branch inner ∷ []) (st.tally.nodes x)) (st.tally.roots x) (st.tally.done x) (st.tally.cursor x 0))
+        (sym same) (here (subst IsTree same is))
 
 -- ---- roots
 
@@ -141,26 +152,33 @@ cursors_after st tree root b t = placed b 0 (λ client. number_of root.cursor cl
 abbrev roots_after : Store → ℕ → Tree → Bool → ℕ → List Tree
 roots_after st tree root b t = if b then st.tally.roots tree ++ root ∷ [] else st.tally.roots t
 
-pub after_root_keeps : (st : Store) (tree : ℕ) (root : Tree) → ChainHolds st → CoversApplied st tree root → LandsRoot st tree root → ChainHolds (after_root tree root st)
+pub after_root_keeps : (st : Store) (tree : ℕ) (root : Tree) → ChainHolds st → CoversApplied st tree root → LandsRoot st tree root
+    → ChainHolds (after_root tree root st)
 after_root_keeps st tree root h covers lands t is = on (t == tree) refl
   where
-    here : IsTree tree → IsChained (st.book.chain tree) (st.tally.nodes tree) (st.tally.roots tree ++ root ∷ []) (st.tally.done tree) (λ client. number_of root.cursor client)
+    here : IsTree tree → IsChained (st.book.chain tree) (st.tally.nodes tree) (st.tally.roots tree ++ root ∷ []) (st.tally.done tree)
+        (λ client. number_of root.cursor client)
     here is = root_keeps (st.book.chain tree) (st.tally.nodes tree) (st.tally.roots tree) (st.tally.done tree) (st.tally.cursor tree 0) root (h tree is)
         (record { level = lands.level; next = lands.next; names = lands.names; rises = covers.rises })
 
-    on : (b : Bool) → (t == tree) ≡ b → IsChained (st.book.chain t) (st.tally.nodes t) (roots_after st tree root b t) (st.tally.done t) (cursors_after st tree root b t)
+    on : (b : Bool) → (t == tree) ≡ b → IsChained (st.book.chain t) (st.tally.nodes t) (roots_after st tree root b t) (st.tally.done t)
+        (cursors_after st tree root b t)
     on false e = h t is
     on true e =
         let same : t ≡ tree = eqb-true t tree e in
-        subst (λ (x : ℕ). IsChained (st.book.chain x) (st.tally.nodes x) (st.tally.roots tree ++ root ∷ []) (st.tally.done x) (λ client. number_of root.cursor client))
+        subst (λ (x : ℕ). IsChained (st.book.chain x) (st.tally.nodes x) (st.tally.roots tree ++ root ∷ []) (st.tally.done x)
+        (λ client. number_of root.cursor client))
         (sym same) (here (subst IsTree same is))
 
-pub after_raise_keeps : (st : Store) (tree : ℕ) (root : Tree) (level : ℕ) (links : List Link) → ChainHolds st → CoversApplied st tree root → Raises st tree root level links
+pub after_raise_keeps : (st : Store) (tree : ℕ) (root : Tree) (level : ℕ) (links : List Link) → ChainHolds st → CoversApplied st tree root
+    → Raises st tree root level links
     → ChainHolds (after_raise tree root level links st)
 after_raise_keeps st tree root level links h covers lands t is = on (t == tree) refl
   where
-    here : IsTree tree → IsChained (at level links (st.book.chain tree)) (st.tally.nodes tree) (st.tally.roots tree ++ root ∷ []) (st.tally.done tree) (λ client. number_of root.cursor client)
-    here is = raise_keeps (st.book.chain tree) (st.tally.nodes tree) (st.tally.roots tree) (st.tally.done tree) (st.tally.cursor tree 0) root level links (h tree is)
+    here : IsTree tree → IsChained (at level links (st.book.chain tree)) (st.tally.nodes tree) (st.tally.roots tree ++ root ∷ [])
+        (st.tally.done tree) (λ client. number_of root.cursor client)
+    here is = raise_keeps (st.book.chain tree) (st.tally.nodes tree) (st.tally.roots tree) (st.tally.done tree)
+        (st.tally.cursor tree 0) root level links (h tree is)
         (record {
           level_is = lands.level_is;
           height = lands.height;
@@ -173,9 +191,11 @@ after_raise_keeps st tree root level links h covers lands t is = on (t == tree) 
           rises = covers.rises;
         })
 
-    on : (b : Bool) → (t == tree) ≡ b → IsChained (placed b level links (st.book.chain t)) (st.tally.nodes t) (roots_after st tree root b t) (st.tally.done t) (cursors_after st tree root b t)
+    on : (b : Bool) → (t == tree) ≡ b → IsChained (placed b level links (st.book.chain t)) (st.tally.nodes t) (roots_after st tree root b t)
+        (st.tally.done t) (cursors_after st tree root b t)
     on false e = h t is
     on true e =
         let same : t ≡ tree = eqb-true t tree e in
-        subst (λ (x : ℕ). IsChained (at level links (st.book.chain x)) (st.tally.nodes x) (st.tally.roots tree ++ root ∷ []) (st.tally.done x) (λ client. number_of root.cursor client))
+        subst (λ (x : ℕ). IsChained (at level links (st.book.chain x)) (st.tally.nodes x) (st.tally.roots tree ++ root ∷ []) (st.tally.done x)
+        (λ client. number_of root.cursor client))
         (sym same) (here (subst IsTree same is))

@@ -59,7 +59,8 @@ from_low key low least (inl e) out under = never (bytes_below key least) under (
 from_low key low least (inr h) out under = never (bytes_below key low) (below_chain key least low under h) out
 
 -- up to a bound that is at most another one
-to_high : (key : List ℕ) (high : Option (List ℕ)) (after : Option Link) (pieces : List Link) (next : Option Link) (last : Link) → high ≡ low_after next → IsBound after pieces next
+to_high : (key : List ℕ) (high : Option (List ℕ)) (after : Option Link) (pieces : List Link) (next : Option Link) (last : Link)
+    → high ≡ low_after next → IsBound after pieces next
     → ((piece last : Link) → IsIn pieces piece → after ≡ Some last → bytes_below piece.low last.low ≡ true) → after ≡ Some last
     → below_bound key high ≡ true → bytes_below key last.low ≡ true
 to_high key high after pieces next last e (inl is) within a below =
@@ -87,7 +88,8 @@ in_range range link after pieces l next key low high bound within whole held =
 
 -- ---- the leaf and its pieces
 
-pub done_rises : (p : Taking) (done : ℕ → List ℕ → ℕ → ℕ → ℕ) (tree : ℕ) (key : List ℕ) (page client : ℕ) → done tree key page client ≤ done_after p done tree key page client
+pub done_rises : (p : Taking) (done : ℕ → List ℕ → ℕ → ℕ → ℕ) (tree : ℕ) (key : List ℕ) (page client : ℕ)
+    → done tree key page client ≤ done_after p done tree key page client
 done_rises p done tree key page client =
     cond_both (((tree == p.tree) && (page == p.queue)) && p.range key) (max (done tree key page client) (greatest_of p.run client)) (done tree key page client)
     (λ (n : ℕ). done tree key page client ≤ n) (λ e. omega arith) (λ e. omega arith)
@@ -114,16 +116,20 @@ leaf_covers st p height lv takes leaf = record {
     range = takes.ranges
 
     same : (range.place ≡ lands.place) × (range.link ≡ lands.link)
-    same = same_link (st.book.chain p.tree 0) (level_apart (st.book.chain p.tree) height lv 0) range.place lands.place range.link lands.link range.linked lands.linked
+    same = same_link (st.book.chain p.tree 0)
+        (level_apart (st.book.chain p.tree) height lv 0) range.place lands.place range.link lands.link range.linked lands.linked
         (range.page_is ∙ sym lands.page_is)
 
-    whole_at : (key : List ℕ) → (bytes_below key range.link.low ≡ true) ⊎ ((last : Link) × StandsAt (st.book.chain p.tree 0) (range.place + 1) last × (bytes_below key last.low ≡ false))
-        → (bytes_below key lands.link.low ≡ true) ⊎ ((last : Link) × (slice_get (st.book.chain p.tree 0) (lands.place + 1) ≡ Some last) × (bytes_below key last.low ≡ false))
+    whole_at : (key : List ℕ) → (bytes_below key range.link.low ≡ true) ⊎
+        ((last : Link) × StandsAt (st.book.chain p.tree 0) (range.place + 1) last × (bytes_below key last.low ≡ false))
+        → (bytes_below key lands.link.low ≡ true) ⊎ ((last : Link) × (slice_get (st.book.chain p.tree 0) (lands.place + 1) ≡ Some last) ×
+        (bytes_below key last.low ≡ false))
     whole_at key (inl h) = inl (ap (λ (x : Link). bytes_below key x.low) (sym same.1) ∙ h)
     whole_at key (inr q) = inr (q.0, ap (λ (n : ℕ). slice_get (st.book.chain p.tree 0) (n + 1)) (sym same.0) ∙ q.1, q.2)
 
     whole : (key : List ℕ) → p.range key ≡ false
-        → (bytes_below key lands.link.low ≡ true) ⊎ ((last : Link) × (slice_get (st.book.chain p.tree 0) (lands.place + 1) ≡ Some last) × (bytes_below key last.low ≡ false))
+        → (bytes_below key lands.link.low ≡ true) ⊎ ((last : Link) × (slice_get (st.book.chain p.tree 0) (lands.place + 1) ≡ Some last) ×
+        (bytes_below key last.low ≡ false))
     whole key out = whole_at key (range.whole key out)
 
     whole_is : (key : List ℕ) → holds p.leaf key ≡ true → p.range key ≡ true
@@ -142,7 +148,8 @@ leaf_covers st p height lv takes leaf = record {
         let high : l.high ≡ low_after b.next = ap high_of (sym is) ∙ b.piece.ends.high in
         let above : bytes_below lands.link.low l.low ≡ true = ap (bytes_below lands.link.low) low ∙ ascend_all lands.link p.pieces piece lands.ascends h in
         let ranged : p.range key ≡ true =
-        in_range p.range lands.link (slice_get (st.book.chain p.tree 0) (lands.place + 1)) p.pieces l b.next key (inr above) high b.bound lands.within (whole key) held in
+        in_range p.range lands.link (slice_get (st.book.chain p.tree 0) (lands.place + 1)) p.pieces l b.next key
+        (inr above) high b.bound lands.within (whole key) held in
         let e = takes.table key ranged page client c in
         let t = leaf.table piece l h k page client in
         omega (arith, e, t)

@@ -16,7 +16,8 @@ use Rattle.chain_facts.proofs.Pieces.{none_in, in_cases, ascend_next}
 abbrev pub Stay : (ℕ → List Link) → (ℕ → List Link) → Type 0
 Stay chain more = (level : ℕ) (a : Link) → IsIn (chain level) a → IsIn (more level) a
 
-pub names_stay : (chain more : ℕ → List Link) → Stay chain more → (level : ℕ) (low : List ℕ) (entries : List Entry) → NamesBelow chain level low entries → NamesBelow more level low entries
+pub names_stay : (chain more : ℕ → List Link) → Stay chain more → (level : ℕ) (low : List ℕ) (entries : List Entry)
+    → NamesBelow chain level low entries → NamesBelow more level low entries
 names_stay chain more stay level low entries n = record {
   height = n.height;
   links = record { names = λ e h. stay _ _ (n.links.names e h); first = n.links.first };
@@ -26,7 +27,8 @@ pub node_names_stay : (chain more : ℕ → List Link) → Stay chain more → (
 node_names_stay chain more stay (Leafy l) n = tt
 node_names_stay chain more stay (Branch b) n = names_stay chain more stay b.level b.low b.entries n
 
-pub version_stays : (links more : List Link) → ((a : Link) → IsIn links a → IsIn more a) → (level : ℕ) (link : Link) (node : Node) → IsVersionOf links level link node → IsVersionOf more level link node
+pub version_stays : (links more : List Link) → ((a : Link) → IsIn links a → IsIn more a) → (level : ℕ) (link : Link) (node : Node)
+    → IsVersionOf links level link node → IsVersionOf more level link node
 version_stays links more stay level link node v = record {
   level_is = v.level_is;
   low = v.low;
@@ -38,7 +40,8 @@ version_stays links more stay level link node v = record {
     further r = record { next = r.next; linked = stay r.next r.linked; page_is = r.page_is; high_is = r.high_is; beyond = r.beyond }
 
 -- a node that ends where the next link of its level begins is a version of its link's page
-pub version_ends : (links : List Link) (level place : ℕ) (link : Link) (node : Node) → Ascends links → ((a : Link) → IsIn links a → 1 ≤ a.page) → StandsAt links place link
+pub version_ends : (links : List Link) (level place : ℕ) (link : Link) (node : Node) → Ascends links → ((a : Link) → IsIn links a → 1 ≤ a.page)
+    → StandsAt links place link
     → IsOfLevel level node → low_of node ≡ link.low → EndsBefore node (slice_get links (place + 1)) → IsVersionOf links level link node
 version_ends links level place link node up some there level_is low ends =
     on (slice_get links (suc place)) refl (subst (λ (n : ℕ). EndsBefore node (slice_get links n)) (sym (plus_one place)) ends)
@@ -50,7 +53,14 @@ version_ends links level place link node up some there level_is low ends =
         record {
           level_is = level_is;
           low = low;
-          right = λ ne. record { next = next; linked = (suc place, e); page_is = sym d.right; high_is = d.high; beyond = ascend_next None links place link next up there e };
+          right = λ ne. record {
+            next = next;
+            linked = (suc place, e);
+            page_is = sym d.right;
+            high_is = d.high;
+            beyond =
+                ascend_next None links place link next up there e;
+          };
           last = λ z. absurd (omega (arith, d.right, z, one));
         }
 
@@ -68,7 +78,8 @@ piece_in nodes level (p ∷ pieces) after are a h = on (piece_in nodes level pie
     on again (inr k) = again k
 
 -- what a table says stays within what is done
-pub covered_more : (done more : List ℕ → ℕ → ℕ → ℕ) → ((key : List ℕ) (page client : ℕ) → IsClient client → done key page client ≤ more key page client) → (node : Node)
+pub covered_more : (done more : List ℕ → ℕ → ℕ → ℕ) → ((key : List ℕ) (page client : ℕ) → IsClient client
+    → done key page client ≤ more key page client) → (node : Node)
     → IsCovered done node → IsCovered more node
 covered_more done more rises (Leafy l) h = λ key held page client c. omega (arith, h key held page client c, rises key page client c)
 covered_more done more rises (Branch n) h = tt

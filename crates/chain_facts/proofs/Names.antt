@@ -45,7 +45,8 @@ in_single {A} x y h = on (in_cases x [] y h)
     on (inr k) = absurd (none_in y k)
 
 -- what is in a function's list where one more was added to the list at one name
-pub in_added : {A : Type 0} (name : ℕ) (x : A) (f : ℕ → List A) (n : ℕ) (y : A) → IsIn (at name (f name ++ x ∷ []) f n) y → IsIn (f n) y ⊎ ((n ≡ name) × (x ≡ y))
+pub in_added : {A : Type 0} (name : ℕ) (x : A) (f : ℕ → List A) (n : ℕ) (y : A) → IsIn (at name (f name ++ x ∷ []) f n) y
+    → IsIn (f n) y ⊎ ((n ≡ name) × (x ≡ y))
 in_added {A} name x f n y h =
     at_either (λ (v : List A). IsIn v y → IsIn (f n) y ⊎ ((n ≡ name) × (x ≡ y))) name (f name ++ x ∷ []) f n
     (λ e k. on e (in_both (f name) (x ∷ []) y k)) (λ ne k. inl k) h

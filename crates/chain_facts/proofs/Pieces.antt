@@ -141,25 +141,15 @@ joined_head page pieces (x ∷ links) = on (x.page == page)
     on true = refl
     on false = refl
 
--- links stay
-pub joined_keeps : (page : ℕ) (pieces links : List Link) (a : Link) → IsIn links a → IsIn (with_pieces page pieces links) a
-joined_keeps page pieces [] a h = h
-joined_keeps page pieces (x ∷ links) a h = on (joined_keeps page pieces links a) (x.page == page) (in_cases x links a h)
-  where
-    on : (IsIn links a → IsIn (with_pieces page pieces links) a) → (b : Bool) → (x ≡ a) ⊎ IsIn links a
-        → IsIn (cond b (x ∷ (pieces ++ links)) (x ∷ with_pieces page pieces links)) a
-    on again true (inl e) = (zero, ap Some e)
-    on again true (inr k) = in_rest x (pieces ++ links) a (in_back pieces links a k)
-    on again false (inl e) = (zero, ap Some e)
-    on again false (inr k) = in_rest x (with_pieces page pieces links) a (again k)
-
 -- pieces join
 pub joined_has : (page : ℕ) (pieces links : List Link) (place : ℕ) (link a : Link) → StandsAt links place link → link.page ≡ page → IsIn pieces a
     → IsIn (with_pieces page pieces links) a
 joined_has page pieces [] place link a there is h = absurd (none_stands place link there)
-joined_has page pieces (x ∷ links) place link a there is h = on (λ place there. joined_has page pieces links place link a there is h) (x.page == page) refl place there
+joined_has page pieces (x ∷ links) place link a there is h = on (λ place there. joined_has page pieces links place link a there is h)
+    (x.page == page) refl place there
   where
-    on : ((place : ℕ) → StandsAt links place link → IsIn (with_pieces page pieces links) a) → (b : Bool) → (x.page == page) ≡ b → (place : ℕ) → StandsAt (x ∷ links) place link
+    on : ((place : ℕ) → StandsAt links place link → IsIn (with_pieces page pieces links) a) → (b : Bool) → (x.page == page) ≡ b → (place : ℕ)
+        → StandsAt (x ∷ links) place link
         → IsIn (cond b (x ∷ (pieces ++ links)) (x ∷ with_pieces page pieces links)) a
     on again true e place there = in_rest x (pieces ++ links) a (in_front pieces links a h)
     on again false e zero there =
@@ -184,7 +174,8 @@ joined_cases page pieces (x ∷ links) a h = on (joined_cases page pieces links 
     far (inl k) = inl (in_rest x links a k)
     far (inr k) = inr k
 
-    behind : (IsIn (with_pieces page pieces links) a → IsIn links a ⊎ IsIn pieces a) → (x ≡ a) ⊎ IsIn (with_pieces page pieces links) a → IsIn (x ∷ links) a ⊎ IsIn pieces a
+    behind : (IsIn (with_pieces page pieces links) a → IsIn links a ⊎ IsIn pieces a) → (x ≡ a) ⊎ IsIn (with_pieces page pieces links) a
+        → IsIn (x ∷ links) a ⊎ IsIn pieces a
     behind again (inl e) = inl (zero, ap Some e)
     behind again (inr k) = far (again k)
 
@@ -194,12 +185,14 @@ joined_cases page pieces (x ∷ links) a h = on (joined_cases page pieces links 
     on again false k = behind again (in_cases x (with_pieces page pieces links) a k)
 
 -- low keys ascend still
-pub joined_ascends : (page : ℕ) (pieces : List Link) (before : Option Link) (links : List Link) (place : ℕ) (link : Link) → Apart links → Ascend link_below before links
+pub joined_ascends : (page : ℕ) (pieces : List Link) (before : Option Link) (links : List Link) (place : ℕ) (link : Link) → Apart links
+    → Ascend link_below before links
     → StandsAt links place link → link.page ≡ page → Ascend link_below (Some link) pieces
     → ((piece next : Link) → IsIn pieces piece → StandsAt links (suc place) next → bytes_below piece.low next.low ≡ true)
     → Ascend link_below before (with_pieces page pieces links)
 joined_ascends page pieces before [] place link once up there is piece_up within = absurd (none_stands place link there)
-joined_ascends page pieces before (x ∷ links) place link once up there is piece_up within = on (λ place link there is. joined_ascends page pieces (Some x) links place link once.1 up.1 there is) (x.page == page) refl place there within
+joined_ascends page pieces before (x ∷ links) place link once up there is piece_up within =
+    on (λ place link there is. joined_ascends page pieces (Some x) links place link once.1 up.1 there is) (x.page == page) refl place there within
   where
     on : ((place : ℕ) (link : Link) → StandsAt links place link → link.page ≡ page → Ascend link_below (Some link) pieces
         → ((piece next : Link) → IsIn pieces piece → StandsAt links (suc place) next → bytes_below piece.low next.low ≡ true)
@@ -222,7 +215,8 @@ joined_ascends page pieces before (x ∷ links) place link once up there is piec
 -- something of the longer list is another page's link, with the same next one; or the page's, before the pieces; or a piece
 pub data Standing (nodes : ℕ → List Node) (level page : ℕ) (pieces links : List Link) (a : Link) (next : Option Link) : Type 0 where
   IsOther : (place : ℕ) → StandsAt links place a → a.page ≢ page → next ≡ slice_get links (suc place) → Standing nodes level page pieces links a next
-  IsLeft : (place : ℕ) → StandsAt links place a → a.page ≡ page → next ≡ first_or (slice_get links (suc place)) pieces → Standing nodes level page pieces links a next
+  IsLeft : (place : ℕ) → StandsAt links place a → a.page ≡ page → next ≡ first_or (slice_get links (suc place)) pieces
+      → Standing nodes level page pieces links a next
   IsNew : IsIn pieces a → IsPiece nodes level a next → Standing nodes level page pieces links a next
 
 further : (nodes : ℕ → List Node) (level page : ℕ) (pieces links : List Link) (x a : Link) (next : Option Link) → Standing nodes level page pieces links a next
@@ -245,11 +239,13 @@ behind_next : (nodes : ℕ → List Node) (level : ℕ) (pieces links : List Lin
 behind_next nodes level [] links are i a h = InLinks i h refl
 behind_next nodes level (p ∷ pieces) links are zero a h =
     let is : p ≡ a = cc in
-    let piece : IsPiece nodes level p (slice_get (pieces ++ links) 0) = subst (λ (o : Option Link). IsPiece nodes level p o) (sym (first_of_both pieces links)) are.0 in
+    let piece : IsPiece nodes level p (slice_get (pieces ++ links) 0) =
+    subst (λ (o : Option Link). IsPiece nodes level p o) (sym (first_of_both pieces links)) are.0 in
     InPieces (zero, h) (subst (λ (x : Link). IsPiece nodes level x (slice_get (pieces ++ links) 0)) is piece)
 behind_next nodes level (p ∷ pieces) links are (suc i) a h = on (behind_next nodes level pieces links are.1 i a h)
   where
-    on : Behinds nodes level pieces links a (slice_get (pieces ++ links) (suc i)) → Behinds nodes level (p ∷ pieces) links a (slice_get (pieces ++ links) (suc i))
+    on : Behinds nodes level pieces links a (slice_get (pieces ++ links) (suc i))
+        → Behinds nodes level (p ∷ pieces) links a (slice_get (pieces ++ links) (suc i))
     on (InPieces k piece) = InPieces (in_rest p pieces a k) piece
     on (InLinks place k e) = InLinks place k e
 
@@ -258,14 +254,16 @@ pub joined_next : (nodes : ℕ → List Node) (level page : ℕ) (pieces links :
     → (i : ℕ) (a : Link) → StandsAt (with_pieces page pieces links) i a
     → Standing nodes level page pieces links a (slice_get (with_pieces page pieces links) (suc i))
 joined_next nodes level page pieces [] once are i a h = absurd (none_stands i a h)
-joined_next nodes level page pieces (x ∷ links) once are i a h = on (joined_next nodes level page pieces links once.1 (λ place link. are (suc place) link)) (x.page == page) refl i h
+joined_next nodes level page pieces (x ∷ links) once are i a h = on (joined_next nodes level page pieces links once.1
+    (λ place link. are (suc place) link)) (x.page == page) refl i h
   where
     left : (i : ℕ) → x.page ≡ page → Behinds nodes level pieces links a (slice_get (pieces ++ links) (suc i))
         → Standing nodes level page pieces (x ∷ links) a (slice_get (pieces ++ links) (suc i))
     left i is (InPieces k piece) = IsNew k piece
     left i is (InLinks place k e) = IsOther (suc place) k (λ same. once.0 a (place, k) (same ∙ sym is)) e
 
-    on : ((i : ℕ) (a : Link) → StandsAt (with_pieces page pieces links) i a → Standing nodes level page pieces links a (slice_get (with_pieces page pieces links) (suc i)))
+    on : ((i : ℕ) (a : Link) → StandsAt (with_pieces page pieces links) i a
+        → Standing nodes level page pieces links a (slice_get (with_pieces page pieces links) (suc i)))
         → (b : Bool) → (x.page == page) ≡ b → (i : ℕ) → StandsAt (cond b (x ∷ (pieces ++ links)) (x ∷ with_pieces page pieces links)) i a
         → Standing nodes level page pieces (x ∷ links) a (slice_get (cond b (x ∷ (pieces ++ links)) (x ∷ with_pieces page pieces links)) (suc i))
     on again true e zero k =

@@ -68,7 +68,8 @@ page_keeps chain nodes roots done cursor page node c f = record {
 -- ---- what is done, and a cursor, that rise
 
 pub chained_more : (chain : ℕ → List Link) (nodes : ℕ → List Node) (roots : List Tree) (done more : List ℕ → ℕ → ℕ → ℕ) (cursor further : ℕ → ℕ)
-    → ((key : List ℕ) (page client : ℕ) → IsClient client → done key page client ≤ more key page client) → ((client : ℕ) → IsClient client → cursor client ≤ further client)
+    → ((key : List ℕ) (page client : ℕ) → IsClient client → done key page client ≤ more key page client)
+    → ((client : ℕ) → IsClient client → cursor client ≤ further client)
     → IsChained chain nodes roots done cursor → IsChained chain nodes roots more further
 chained_more chain nodes roots done more cursor further done_rises cursor_rises c = record {
   levels = c.levels;
@@ -109,7 +110,8 @@ root_keeps chain nodes roots done cursor root c r = record {
   versions = c.versions;
   entries = record { of_roots = λ t h. names t (in_both roots (root ∷ []) t h); of_nodes = c.entries.of_nodes };
   newest = c.newest;
-  pages = subst (λ (n : ℕ). ArePages chain nodes n) (ap (λ (t : Tree). t.next) (sym (top_added roots root))) (pages_more chain nodes (top_of roots).next root.next r.next c.pages);
+  pages = subst (λ (n : ℕ). ArePages chain nodes n) (ap (λ (t : Tree). t.next) (sym (top_added roots root)))
+      (pages_more chain nodes (top_of roots).next root.next r.next c.pages);
   covered = record { leaves = c.covered.leaves; cursors = λ t h client is. within t client is (in_both roots (root ∷ []) t h) };
 }
   where
@@ -139,7 +141,8 @@ pieces_next nodes level (p ∷ pieces) are zero a h =
 pieces_next nodes level (p ∷ pieces) are (suc i) a h = pieces_next nodes level pieces are.1 i a h
 
 -- what must be known of a root of the next level, over pieces of the one before
-pub record IsRaised (chain : ℕ → List Link) (nodes : ℕ → List Node) (roots : List Tree) (root : Tree) (level : ℕ) (links : List Link) (cursor : ℕ → ℕ) : Type 0 where
+pub record IsRaised (chain : ℕ → List Link) (nodes : ℕ → List Node) (roots : List Tree) (root : Tree) (level : ℕ) (links : List Link)
+    (cursor : ℕ → ℕ) : Type 0 where
   pub level_is : level ≡ (top_of roots).level
   pub height : root.level ≡ level + 1
   pub next : (top_of roots).next ≤ root.next
@@ -159,7 +162,8 @@ raised_stay chain level links none l a h =
     at_either (λ (ls : List Link). IsIn ls a) level links chain l
     (λ e. absurd (none_in a (subst (λ (ls : List Link). IsIn ls a) none (subst (λ (n : ℕ). IsIn (chain n) a) e h)))) (λ ne. h)
 
-raised_cases : (chain : ℕ → List Link) (level : ℕ) (links : List Link) (l : ℕ) (a : Link) → IsIn (at level links chain l) a → IsIn (chain l) a ⊎ ((l ≡ level) × IsIn links a)
+raised_cases : (chain : ℕ → List Link) (level : ℕ) (links : List Link) (l : ℕ) (a : Link) → IsIn (at level links chain l) a
+    → IsIn (chain l) a ⊎ ((l ≡ level) × IsIn links a)
 raised_cases chain level links l a h =
     at_either (λ (ls : List Link). IsIn ls a → IsIn (chain l) a ⊎ ((l ≡ level) × IsIn links a)) level links chain l (λ e k. inr (e, k)) (λ ne k. inl k) h
 
@@ -193,7 +197,8 @@ levels_raise chain height level links lv is begins ascends new = record {
 newest_raise : (chain : ℕ → List Link) (nodes : ℕ → List Node) (level : ℕ) (links : List Link) → AreNewest chain nodes → ArePieces nodes level links None
     → AreNewest (at level links chain) nodes
 newest_raise chain nodes level links nw are = record {
-  ends = λ l place a h. at_either (λ (ls : List Link). StandsAt ls place a → EndsBefore (newest_node nodes a.page) (slice_get ls (place + 1))) level links chain l
+  ends = λ l place a h. at_either (λ (ls : List Link). StandsAt ls place a
+      → EndsBefore (newest_node nodes a.page) (slice_get ls (place + 1))) level links chain l
       (λ e k. new place a (pieces_next nodes level links are place a k)) (λ ne k. nw.ends l place a k) h;
   absent = λ l a h none. absent l a none (raised_cases chain level links l a h);
 }
@@ -208,7 +213,8 @@ newest_raise chain nodes level links nw are = record {
         let some : nodes a.page ≡ piece.node ∷ [] = piece.landed in
         absurd (cc)
 
-versions_raise : (chain : ℕ → List Link) (nodes : ℕ → List Node) (height level : ℕ) (links : List Link) → AreVersions chain nodes → chain level ≡ [] → ArePieces nodes level links None
+versions_raise : (chain : ℕ → List Link) (nodes : ℕ → List Node) (height level : ℕ) (links : List Link) → AreVersions chain nodes → chain level ≡ []
+    → ArePieces nodes level links None
     → AreLevels (at level links chain) height → AreNewest (at level links chain) nodes → ((l : ℕ) (a : Link) → IsIn (at level links chain l) a → 1 ≤ a.page)
     → AreVersions (at level links chain) nodes
 versions_raise chain nodes height level links vs none are after nw some l a n h k = on (raised_cases chain level links l a h)
@@ -220,9 +226,11 @@ versions_raise chain nodes height level links vs none are after nw some l a n h 
         let is : piece.node ≡ n = in_single piece.node n (subst (λ (ns : List Node). IsIn ns n) piece.landed k) in
         let newest : newest_node nodes a.page ≡ n = ap (last_or (Leafy empty_leaf)) piece.landed ∙ is in
         let level_is : IsOfLevel l n = subst (λ (x : Node). IsOfLevel l x) is (subst (λ (m : ℕ). IsOfLevel m piece.node) (sym q.0) piece.level_is) in
-        version_ends (at level links chain l) l h.0 a n (after.ascends l) (some l) h.1 level_is (ap low_of (sym is) ∙ piece.low) (ends_by _ _ _ _ newest refl (nw.ends l h.0 a h.1))
+        version_ends (at level links chain l) l h.0 a n (after.ascends l) (some l) h.1 level_is (ap low_of (sym is) ∙ piece.low)
+        (ends_by _ _ _ _ newest refl (nw.ends l h.0 a h.1))
 
-pages_raise : (chain : ℕ → List Link) (nodes : ℕ → List Node) (next level : ℕ) (links : List Link) → ArePages chain nodes next → chain level ≡ [] → ArePieces nodes level links None
+pages_raise : (chain : ℕ → List Link) (nodes : ℕ → List Node) (next level : ℕ) (links : List Link) → ArePages chain nodes next → chain level ≡ []
+    → ArePieces nodes level links None
     → ArePages (at level links chain) nodes next
 pages_raise chain nodes next level links pg none are = record {
   linked = λ l a h. on l a (raised_cases chain level links l a h);
@@ -237,7 +245,8 @@ pages_raise chain nodes next level links pg none are = record {
         let there : nodes a.page ≡ piece.node ∷ [] = piece.landed in
         pg.landed a.page (λ empty. absurd (cc))
 
-entries_raise : (chain : ℕ → List Link) (nodes : ℕ → List Node) (roots : List Tree) (root : Tree) (level : ℕ) (links : List Link) → AreEntries chain nodes roots → chain level ≡ []
+entries_raise : (chain : ℕ → List Link) (nodes : ℕ → List Node) (roots : List Tree) (root : Tree) (level : ℕ) (links : List Link)
+    → AreEntries chain nodes roots → chain level ≡ []
     → root.level ≡ level + 1 → NamesLinks links [] root.entries → AreEntries (at level links chain) nodes (roots ++ root ∷ [])
 entries_raise chain nodes roots root level links en none height names = record {
   of_roots = λ t h. on t (in_both roots (root ∷ []) t h);
@@ -254,8 +263,10 @@ entries_raise chain nodes roots root level links en none height names = record {
     on t (inl h) = names_stay chain (at level links chain) (raised_stay chain level links none) t.level [] t.entries (en.of_roots t h)
     on t (inr h) = subst (λ (x : Tree). NamesBelow (at level links chain) x.level [] x.entries) (in_single root t h) new
 
-covered_raise : (chain : ℕ → List Link) (nodes : ℕ → List Node) (roots : List Tree) (done : List ℕ → ℕ → ℕ → ℕ) (cursor : ℕ → ℕ) (root : Tree) (height level : ℕ) (links : List Link)
-    → AreLevels chain height → AreCovered chain nodes roots done cursor → chain level ≡ [] → ((client : ℕ) → IsClient client → cursor client ≤ number_of root.cursor client)
+covered_raise : (chain : ℕ → List Link) (nodes : ℕ → List Node) (roots : List Tree) (done : List ℕ → ℕ → ℕ → ℕ) (cursor : ℕ → ℕ) (root : Tree)
+    (height level : ℕ) (links : List Link)
+    → AreLevels chain height → AreCovered chain nodes roots done cursor → chain level ≡ []
+    → ((client : ℕ) → IsClient client → cursor client ≤ number_of root.cursor client)
     → AreCovered (at level links chain) nodes (roots ++ root ∷ []) done (λ client. number_of root.cursor client)
 covered_raise chain nodes roots done cursor root height level links lv cv none rises = record {
   leaves = λ a n h k. on a n k (raised_cases chain level links 0 a h);
@@ -275,12 +286,14 @@ covered_raise chain nodes roots done cursor root height level links lv cv none r
         let same : number_of t.cursor client ≡ number_of root.cursor client = ap (λ (x : Tree). number_of x.cursor client) (sym (in_single root t h)) in
         omega (arith, same)
 
-pub raise_keeps : (chain : ℕ → List Link) (nodes : ℕ → List Node) (roots : List Tree) (done : List ℕ → ℕ → ℕ → ℕ) (cursor : ℕ → ℕ) (root : Tree) (level : ℕ) (links : List Link)
+pub raise_keeps : (chain : ℕ → List Link) (nodes : ℕ → List Node) (roots : List Tree) (done : List ℕ → ℕ → ℕ → ℕ) (cursor : ℕ → ℕ) (root : Tree)
+    (level : ℕ) (links : List Link)
     → IsChained chain nodes roots done cursor → IsRaised chain nodes roots root level links cursor
     → IsChained (at level links chain) nodes (roots ++ root ∷ []) done (λ client. number_of root.cursor client)
 raise_keeps chain nodes roots done cursor root level links c r =
     let none : chain level ≡ [] = empty_level chain (top_of roots).level level c.levels r.level_is in
-    let levels : AreLevels (at level links chain) (level + 1) = levels_raise chain (top_of roots).level level links c.levels r.level_is r.begins r.ascends r.new in
+    let levels : AreLevels (at level links chain) (level + 1) = levels_raise chain
+    (top_of roots).level level links c.levels r.level_is r.begins r.ascends r.new in
     let newest : AreNewest (at level links chain) nodes = newest_raise chain nodes level links c.newest r.pieces_are in
     let pages : ArePages (at level links chain) nodes (top_of roots).next = pages_raise chain nodes (top_of roots).next level links c.pages none r.pieces_are in
     let top : root ≡ top_of (roots ++ root ∷ []) = sym (top_added roots root) in

@@ -10,6 +10,3 @@ pub use ids::{client_of, tree_of};
 pub use laws::change_is_exact;
 pub use reading::read_change;
 pub use writing::add_change;
-
-#[cfg(test)]
-mod tests;

@@ -3,7 +3,6 @@ use Rattle.std.specs.Prelude.{ℕ, ◌≡◌, ◌≤◌, ◌⊎◌, Bool, true, 
 use Rattle.db_base.specs.declared.refusal.Refusal.{Refusal}
 use Rattle.db_base.specs.declared.refusal.Refusal.TheVariants as rule
 use Rattle.head_codec.specs.declared.head.Head.{Head}
-use Rattle.head_codec.specs.Spelling.{HasSpelling}
 use Rattle.db_base.specs.Change.{key_of}
 use Rattle.db_base.specs.declared.change.Change.{Change}
 use Rattle.txn_buffer.specs.Noted.{Noted, found_in}
@@ -40,15 +39,6 @@ pub record Acting : Type 0 where
 
 abbrev pub closed_session : Acting
 closed_session = record { buffer = []; work = Closed }
-
--- an open client's head has a spelling, and the bytes in hand are those of the call that they are for
-abbrev pub IsKept : Work → Type 0
-IsKept (Idle home) = HasSpelling home.head
-IsKept Closed = Unit {0}
-IsKept (Opening m) = IsSoundOpening m
-IsKept (Committing m) = IsSoundCommit m
-IsKept (Folding home m) = HasSpelling home.head
-IsKept Broken = Unit {0}
 
 -- the rule that refuses an operation of an open client, where one does
 abbrev pub rule_of : Work → Option Refusal
@@ -91,18 +81,19 @@ BeginsOpening client old new (Ok (Answered answer)) = ⊥
 BeginsOpening client old new (Err (refused.Rule r)) = (opening_rule_of old.work ≡ Some r) × (new ≡ old)
 BeginsOpening client old new (Err refused.Memory) = ⊥
 
--- a commit of what was noted by a home: it is in hand, or it is answered at once and the home stays; the buffer is empty
-abbrev pub CommitsOf : Home → Acting → Acting → Begun → Type 0
-CommitsOf home old new Working = (c : Commit) × Readies (new_commit home old.buffer) (Goes c) × (new ≡ record { buffer = []; work = Committing c })
-CommitsOf home old new (Answered (answer.Commit a)) = (c : Commit) × Readies (new_commit home old.buffer) (Ends c a) × (new ≡ record { buffer = []; work = Idle c.home })
-CommitsOf home old new (Answered (answer.Opened epoch)) = ⊥
-CommitsOf home old new (Answered (answer.Done n)) = ⊥
-CommitsOf home old new (Answered (answer.Trouble t)) = (t ≡ trouble.Memory) × (new ≡ record { buffer = []; work = Broken })
+-- a commit of changes by a home: it is in hand, or it is answered at once and the home stays; for want of memory it is in doubt
+abbrev pub CommitsOf : Home → List Noted → Work → Begun → Type 0
+CommitsOf home changes work Working = (c : Commit) × Readies (new_commit home changes) (Goes c) × (work ≡ Committing c)
+CommitsOf home changes work (Answered (answer.Commit a)) = (c : Commit) × Readies (new_commit home changes) (Ends c a) × (work ≡ Idle c.home)
+CommitsOf home changes work (Answered (answer.Opened epoch)) = ⊥
+CommitsOf home changes work (Answered (answer.Done n)) = ⊥
+CommitsOf home changes work (Answered (answer.Trouble t)) = (t ≡ trouble.Memory) × (work ≡ Broken)
 
--- nothing is noted and the commit is answered at once, or the home commits what was noted
+-- nothing is noted and the commit is answered at once, or the home commits what was noted and the buffer is empty
 abbrev pub CommitsNoted : Work → Acting → Acting → Begun → Type 0
 CommitsNoted (Idle home) old new begun =
-    ((old.buffer ≡ []) × (new ≡ old) × (begun ≡ Answered (answer.Commit (Committed 0)))) ⊎ ((1 ≤ length old.buffer) × CommitsOf home old new begun)
+    ((old.buffer ≡ []) × (new ≡ old) × (begun ≡ Answered (answer.Commit (Committed 0))))
+    ⊎ ((1 ≤ length old.buffer) × (new.buffer ≡ []) × CommitsOf home old.buffer new.work begun)
 CommitsNoted Closed old new begun = ⊥
 CommitsNoted (Opening m) old new begun = ⊥
 CommitsNoted (Committing m) old new begun = ⊥
@@ -174,13 +165,14 @@ StepsFolding home who c d s t old work (Ended (answer.Commit a)) = ⊥
 StepsFolding home who c d s t old work (Ended (answer.Trouble k)) = (f : Fold) × FoldsOne who c d s t old f (Stopped k) × (work ≡ Idle home)
 StepsFolding home who c d s t old work (Stopped k) = ⊥
 
-abbrev pub StepsWork : Caller → Counts → Counts → Option CloudState → Option CloudState → Work → Acting → Turn Answer → Type 0
-StepsWork who c d s t (Opening m) new turn = StepsOpening who c d s t m new.work turn
-StepsWork who c d s t (Committing m) new turn = StepsCommit who c d s t m new.work turn
-StepsWork who c d s t (Folding home m) new turn = StepsFolding home who c d s t m new.work turn
-StepsWork who c d s t Closed new turn = ⊥
-StepsWork who c d s t (Idle home) new turn = ⊥
-StepsWork who c d s t Broken new turn = ⊥
+-- one step of what is at work: an opening or a commit has the bytes in hand that it is to put or send
+abbrev pub StepsAt : Caller → Counts → Counts → Option CloudState → Option CloudState → Work → Work → Turn Answer → Type 0
+StepsAt who c d s t (Opening m) work turn = IsSoundOpening m × StepsOpening who c d s t m work turn
+StepsAt who c d s t (Committing m) work turn = IsSoundCommit m × StepsCommit who c d s t m work turn
+StepsAt who c d s t (Folding home m) work turn = StepsFolding home who c d s t m work turn
+StepsAt who c d s t Closed work turn = ⊥
+StepsAt who c d s t (Idle home) work turn = ⊥
+StepsAt who c d s t Broken work turn = ⊥
 
 abbrev pub is_working : Work → Bool
 is_working (Opening m) = true
@@ -190,11 +182,16 @@ is_working Closed = false
 is_working (Idle home) = false
 is_working Broken = false
 
--- one step of the operation at work; without one it is refused and changes nothing
-abbrev pub StepsSession : Caller → Counts → Counts → Option CloudState → Option CloudState → Acting → Acting → Result (Turn Answer) Refused → Type 0
-StepsSession who c d s t old new (Ok turn) = (new.buffer ≡ old.buffer) × StepsWork who c d s t old.work new turn
-StepsSession who c d s t old new (Err (refused.Rule r)) = (r ≡ rule.NotWorking) × (is_working old.work ≡ false) × (new ≡ old) × (c ≡ d) × (s ≡ t)
-StepsSession who c d s t old new (Err refused.Memory) = ⊥
+-- one step of what is in hand; where nothing is at work it is refused and changes nothing
+abbrev pub StepsWork : Caller → Counts → Counts → Option CloudState → Option CloudState → Work → Work → Result (Turn Answer) Refused → Type 0
+StepsWork who c d s t old new (Ok turn) = StepsAt who c d s t old new turn
+StepsWork who c d s t old new (Err (refused.Rule r)) = (r ≡ rule.NotWorking) × (is_working old ≡ false) × (new ≡ old) × (c ≡ d) × (s ≡ t)
+StepsWork who c d s t old new (Err refused.Memory) = ⊥
+
+-- one step of a session: what it noted stays
+pub record StepsSession (who : Caller) (c d : Counts) (s t : Option CloudState) (old new : Acting) (result : Result (Turn Answer) Refused) : Type 0 where
+  pub buffer : new.buffer ≡ old.buffer
+  pub work : StepsWork who c d s t old.work new.work result
 
 -- the call in hand, where something is at work
 abbrev pub ask_of_work : Work → Option Ask

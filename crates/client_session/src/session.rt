@@ -1,10 +1,10 @@
 ghost use Rattle.std.specs.Prelude.{◌≡◌, ℕ, ◌≤◌, [], length, IfOk, IfErr, OnOk, OnErr};
 ghost use Rattle.std.specs.Option.{option_map, option_copied};
 ghost use Rattle.cloud_trait.specs.Call.{ask_of};
-ghost use Rattle.head_codec.specs.Spelling.{HasSpelling};
 ghost use Rattle.txn_buffer.specs.Noted.{noted_in};
-ghost use Rattle.recover_run.specs.Recovery.{home_of};
-ghost use Rattle.client_session.specs.Session.{IsKept, opened_work, committed_work};
+ghost use Rattle.recover_run.specs.Recovery.{home_of, IsSound as IsSoundOpening};
+ghost use Rattle.commit_run.specs.Commit.{IsSound as IsSoundCommit};
+ghost use Rattle.client_session.specs.Session.{CommitsOf, StepsWork, StepsOpening, StepsCommit, StepsFolding, opened_work, committed_work};
 
 use cloud_trait::call::Call;
 use cloud_trait::cloud::Cloud;
@@ -83,22 +83,19 @@ pub struct Session {
 }
 
 impl Model for Session {
-    ghost use Rattle.client_session.specs.Session.{Acting, IsKept};
+    ghost use Rattle.client_session.specs.Session.{Acting};
 
     ghost Value = { Acting };
 
     ghost view = { λ s. record { buffer = s.buffer; work = s.work } };
-
-    ghost invariant = { λ s. IsKept s.work };
 }
 
 impl Session {
-    ghost use Rattle.client_session.specs.Session.{Acting, closed_session, rule_of, NoteRefused, AbortRefused, Begins, BeginsOpening, BeginsCommit, BeginsTree, CommitsOf, StepsSession, StepsOpening, StepsCommit, StepsFolding, ask_of_work, committing_of, opens_of, applying_of};
+    ghost use Rattle.client_session.specs.Session.{Acting, closed_session, rule_of, NoteRefused, AbortRefused, Begins, BeginsOpening, BeginsCommit, BeginsTree, StepsSession, ask_of_work, committing_of, opens_of, applying_of};
 
     /// A closed session without changes. Refused for memory alone.
     pub fn new(alloc: Global) -> Result<Session, Refused>
         ensures ok { IfOk result (λ s. s ≡ closed_session) }
-        ensures kept { IfOk result (λ s. IsKept s.work) }
         ensures memory { IfErr result (λ e. e ≡ Refused.Memory) }
     {
         Ok(Session {
@@ -109,8 +106,7 @@ impl Session {
 
     /// The rule that keeps an open client's operation from beginning.
     fn rule(&self) -> Option<Refusal>
-        ensures rule { result ≡ rule_of self.now.work }
-        ensures kept { IsKept self.now.work }
+        ensures { result ≡ rule_of self.now.work }
     {
         match &self.work {
             Work::Closed => Some(Refusal::NotOpen),
@@ -126,7 +122,6 @@ impl Session {
     pub fn note(&mut self, tree: TreeId, change: Change) -> Result<(), Refused>
         ensures ok { OnOk result ((self.new ≡ record self.old { buffer = noted_in self.old.buffer tree change }) × (rule_of self.old.work ≡ None)) }
         ensures err { OnErr result (self.new ≡ self.old) }
-        ensures kept { IsKept self.new.work }
         ensures cause { IfErr result (NoteRefused self.old tree change) }
     {
         if let Some(rule) = self.rule() {
@@ -139,7 +134,6 @@ impl Session {
     pub fn abort(&mut self) -> Result<(), Refused>
         ensures ok { OnOk result ((self.new ≡ record self.old { buffer = [] }) × (rule_of self.old.work ≡ None)) }
         ensures err { OnErr result (self.new ≡ self.old) }
-        ensures kept { IsKept self.new.work }
         ensures cause { IfErr result (AbortRefused self.old) }
     {
         if let Some(rule) = self.rule() {
@@ -151,15 +145,6 @@ impl Session {
 
     /// Begins an operation. A refusal changes nothing.
     pub fn begin(&mut self, alloc: Global, op: Op) -> Result<Begun, Refused>
-        ensures begins { Begins op self.old self.new result }
-        ensures kept { IsKept self.new.work }
-    {
-        let begun = self.begin_op(alloc, op);
-        let _ = &self.work;
-        begun
-    }
-
-    fn begin_op(&mut self, alloc: Global, op: Op) -> Result<Begun, Refused>
         ensures { Begins op self.old self.new result }
     {
         match op {
@@ -197,7 +182,11 @@ impl Session {
             return Ok(Begun::Answered(Answer::Commit(CommitAnswer::Committed { txn: 0 })));
         }
         match mem::replace(&mut self.work, Work::Broken) {
-            Work::Idle(home) => Ok(self.commit_of(alloc, home)),
+            Work::Idle(home) => {
+                let (work, begun) = commit_of(alloc, home, self.buffer.take());
+                self.work = work;
+                Ok(begun)
+            }
             other => {
                 self.work = other;
                 Err(Refused::Rule(Refusal::NotOpen))
@@ -224,29 +213,6 @@ impl Session {
         }
     }
 
-    /// Begins the commit of what was noted by a home.
-    fn commit_of(&mut self, alloc: Global, home: Home) -> Begun
-        requires spelled { HasSpelling home.head }
-        requires some { 1 ≤ length self.old.buffer }
-        ensures { CommitsOf home self.old self.new result }
-    {
-        let mut commit = CommitRun::new(alloc, home, self.buffer.take());
-        match commit.ready(alloc) {
-            Turn::More => {
-                self.work = Work::Committing(commit);
-                Begun::Working
-            }
-            Turn::Ended(answer) => {
-                self.work = Work::Idle(commit.finish());
-                Begun::Answered(Answer::Commit(answer))
-            }
-            Turn::Stopped(trouble) => {
-                self.work = Work::Broken;
-                Begun::Answered(Answer::Trouble(trouble))
-            }
-        }
-    }
-
     /// Makes the call in hand of the operation at work, and does the local work up to the next one.
     pub fn step<C: Cloud>(
         &mut self,
@@ -254,117 +220,17 @@ impl Session {
         cloud: &mut C,
         who: Who,
     ) -> Result<Turn<Answer>, Refused>
-        ensures steps { StepsSession who (C.counts cloud.old) (C.counts cloud.new) (C.state cloud.old) (C.state cloud.new) self.old self.new result }
-        ensures kept { IsKept self.new.work }
-    {
-        let turn = self.step_work(alloc, cloud, who);
-        let _ = &self.work;
-        turn
-    }
-
-    fn step_work<C: Cloud>(
-        &mut self,
-        alloc: Global,
-        cloud: &mut C,
-        who: Who,
-    ) -> Result<Turn<Answer>, Refused>
         ensures { StepsSession who (C.counts cloud.old) (C.counts cloud.new) (C.state cloud.old) (C.state cloud.new) self.old self.new result }
     {
-        match mem::replace(&mut self.work, Work::Closed) {
-            Work::Opening(machine) => Ok(self.step_opening(alloc, cloud, who, machine)),
-            Work::Committing(machine) => Ok(self.step_commit(alloc, cloud, who, machine)),
-            Work::Folding(home, machine) => Ok(self.step_folding(alloc, cloud, who, home, machine)),
-            other => {
-                self.work = other;
-                Err(Refused::Rule(Refusal::NotWorking))
-            }
-        }
-    }
-
-    fn step_opening<C: Cloud>(
-        &mut self,
-        alloc: Global,
-        cloud: &mut C,
-        who: Who,
-        mut machine: RecoverRun,
-    ) -> Turn<Answer>
-        ensures buffer { self.new.buffer ≡ self.old.buffer }
-        ensures steps { StepsOpening who (C.counts cloud.old) (C.counts cloud.new) (C.state cloud.old) (C.state cloud.new) machine self.new.work result }
-    {
-        match machine.step(alloc, cloud, who) {
-            Turn::More => {
-                self.work = Work::Opening(machine);
-                Turn::More
-            }
-            Turn::Ended(RecoverAnswer::Opened { epoch }) => {
-                self.work = opened(machine);
-                Turn::Ended(Answer::Opened { epoch })
-            }
-            Turn::Stopped(trouble) => {
-                self.work = Work::Closed;
-                Turn::Ended(Answer::Trouble(trouble))
-            }
-        }
-    }
-
-    fn step_commit<C: Cloud>(
-        &mut self,
-        alloc: Global,
-        cloud: &mut C,
-        who: Who,
-        mut machine: CommitRun,
-    ) -> Turn<Answer>
-        ensures buffer { self.new.buffer ≡ self.old.buffer }
-        ensures steps { StepsCommit who (C.counts cloud.old) (C.counts cloud.new) (C.state cloud.old) (C.state cloud.new) machine self.new.work result }
-    {
-        match machine.step(alloc, cloud, who) {
-            Turn::More => {
-                self.work = Work::Committing(machine);
-                Turn::More
-            }
-            Turn::Ended(answer) => {
-                self.work = committed(&answer, machine);
-                Turn::Ended(Answer::Commit(answer))
-            }
-            Turn::Stopped(trouble) => {
-                self.work = Work::Broken;
-                Turn::Ended(Answer::Trouble(trouble))
-            }
-        }
-    }
-
-    fn step_folding<C: Cloud>(
-        &mut self,
-        alloc: Global,
-        cloud: &mut C,
-        who: Who,
-        home: Home,
-        mut machine: TreeCkpt,
-    ) -> Turn<Answer>
-        requires { HasSpelling home.head }
-        ensures buffer { self.new.buffer ≡ self.old.buffer }
-        ensures steps { StepsFolding home who (C.counts cloud.old) (C.counts cloud.new) (C.state cloud.old) (C.state cloud.new) machine self.new.work result }
-    {
-        match machine.step(alloc, cloud, who) {
-            Turn::More => {
-                self.work = Work::Folding(home, machine);
-                Turn::More
-            }
-            Turn::Ended(answer) => {
-                self.work = Work::Idle(home);
-                Turn::Ended(Answer::Done(answer))
-            }
-            Turn::Stopped(trouble) => {
-                self.work = Work::Idle(home);
-                Turn::Ended(Answer::Trouble(trouble))
-            }
-        }
+        let work = mem::replace(&mut self.work, Work::Closed);
+        let (work, turn) = step_work(alloc, cloud, who, work);
+        self.work = work;
+        turn
     }
 
     /// The service call that the next step makes; none where nothing is at work.
     pub fn in_hand(&self) -> Option<Call<'_>>
-        ensures call { option_map ask_of result ≡ ask_of_work self.now.work }
-        ensures kept { IsKept self.now.work }
+        ensures { option_map ask_of result ≡ ask_of_work self.now.work }
     {
         match &self.work {
             Work::Opening(machine) => Some(machine.in_hand()),
@@ -419,10 +285,104 @@ impl Session {
     }
 }
 
+/// Begins the commit of changes by a home: what is in hand then.
+fn commit_of(alloc: Global, home: Home, changes: TxnBuffer) -> (Work, Begun)
+    requires { 1 ≤ length changes }
+    ensures { CommitsOf home changes result.0 result.1 }
+{
+    let mut commit = CommitRun::new(alloc, home, changes);
+    match commit.ready(alloc) {
+        Turn::More => (Work::Committing(commit), Begun::Working),
+        Turn::Ended(answer) => (
+            Work::Idle(commit.finish()),
+            Begun::Answered(Answer::Commit(answer)),
+        ),
+        Turn::Stopped(trouble) => (Work::Broken, Begun::Answered(Answer::Trouble(trouble))),
+    }
+}
+
+/// Makes the call in hand of what is at work: what is in hand then, and what it came to.
+fn step_work<C: Cloud>(
+    alloc: Global,
+    cloud: &mut C,
+    who: Who,
+    work: Work,
+) -> (Work, Result<Turn<Answer>, Refused>)
+    ensures { StepsWork who (C.counts cloud.old) (C.counts cloud.new) (C.state cloud.old) (C.state cloud.new) work result.0 result.1 }
+{
+    match work {
+        Work::Opening(machine) => {
+            let (work, turn) = step_opening(alloc, cloud, who, machine);
+            (work, Ok(turn))
+        }
+        Work::Committing(machine) => {
+            let (work, turn) = step_commit(alloc, cloud, who, machine);
+            (work, Ok(turn))
+        }
+        Work::Folding(home, machine) => {
+            let (work, turn) = step_folding(alloc, cloud, who, home, machine);
+            (work, Ok(turn))
+        }
+        other => (other, Err(Refused::Rule(Refusal::NotWorking))),
+    }
+}
+
+fn step_opening<C: Cloud>(
+    alloc: Global,
+    cloud: &mut C,
+    who: Who,
+    mut machine: RecoverRun,
+) -> (Work, Turn<Answer>)
+    ensures sound { IsSoundOpening machine }
+    ensures steps { StepsOpening who (C.counts cloud.old) (C.counts cloud.new) (C.state cloud.old) (C.state cloud.new) machine result.0 result.1 }
+{
+    match machine.step(alloc, cloud, who) {
+        Turn::More => (Work::Opening(machine), Turn::More),
+        Turn::Ended(RecoverAnswer::Opened { epoch }) => {
+            (opened(machine), Turn::Ended(Answer::Opened { epoch }))
+        }
+        Turn::Stopped(trouble) => (Work::Closed, Turn::Ended(Answer::Trouble(trouble))),
+    }
+}
+
+fn step_commit<C: Cloud>(
+    alloc: Global,
+    cloud: &mut C,
+    who: Who,
+    mut machine: CommitRun,
+) -> (Work, Turn<Answer>)
+    ensures sound { IsSoundCommit machine }
+    ensures steps { StepsCommit who (C.counts cloud.old) (C.counts cloud.new) (C.state cloud.old) (C.state cloud.new) machine result.0 result.1 }
+{
+    match machine.step(alloc, cloud, who) {
+        Turn::More => (Work::Committing(machine), Turn::More),
+        Turn::Ended(answer) => (
+            committed(&answer, machine),
+            Turn::Ended(Answer::Commit(answer)),
+        ),
+        Turn::Stopped(trouble) => (Work::Broken, Turn::Ended(Answer::Trouble(trouble))),
+    }
+}
+
+fn step_folding<C: Cloud>(
+    alloc: Global,
+    cloud: &mut C,
+    who: Who,
+    home: Home,
+    mut machine: TreeCkpt,
+) -> (Work, Turn<Answer>)
+    ensures { StepsFolding home who (C.counts cloud.old) (C.counts cloud.new) (C.state cloud.old) (C.state cloud.new) machine result.0 result.1 }
+{
+    match machine.step(alloc, cloud, who) {
+        Turn::More => (Work::Folding(home, machine), Turn::More),
+        Turn::Ended(answer) => (Work::Idle(home), Turn::Ended(Answer::Done(answer))),
+        Turn::Stopped(trouble) => (Work::Idle(home), Turn::Ended(Answer::Trouble(trouble))),
+    }
+}
+
 /// An open client after its opening.
 fn opened(machine: RecoverRun) -> Work
-    ensures work { result ≡ opened_work (home_of machine) }
-    ensures kept { IsKept result }
+    ensures { result ≡ opened_work (home_of machine) }
 {
     match machine.finish() {
         Some(home) => Work::Idle(home),
@@ -432,8 +392,7 @@ fn opened(machine: RecoverRun) -> Work
 
 /// A client after its commit: in doubt where it is not known whether the commit or all of its records landed.
 fn committed(answer: &CommitAnswer, machine: CommitRun) -> Work
-    ensures work { result ≡ committed_work answer.now machine.home }
-    ensures kept { IsKept result }
+    ensures { result ≡ committed_work answer.now machine.home }
 {
     match answer {
         CommitAnswer::InDoubt => Work::Broken,

@@ -5,7 +5,7 @@ use Rattle.cloud_trait.specs.declared.answer.Answer.{Answer}
 use Rattle.cloud_trait.specs.declared.answer.Answer.TheVariants.{Got, Sent, Received, Done, Given, Held, Renewed, Late, Failed, Memory}
 use Rattle.cloud_trait.specs.Caller.{Caller}
 use Rattle.cloud_trait.specs.State.{CloudState, Counts, called}
-use Rattle.cloud_trait.specs.Ask.{Ask, Get, GetHeld, PutHeld, Send, Receive, Delete, Take, Renew, Release, effect, Lands, MovesNoLock, PutsNothing, TouchesNoMessage, LandsNoRow}
+use Rattle.cloud_trait.specs.Ask.{Ask, Get, GetHeld, PutHeld, Send, Receive, Delete, Take, Renew, Release, effect, Lands, Permits, MovesNoLock, PutsNothing, TouchesNoMessage, LandsNoRow}
 use Rattle.cloud_trait.specs.Weather.{Weather, Leaves}
 use Rattle.cloud_trait.specs.Growth.{HasGrown, IsAtRest}
 use Rattle.cloud_trait.specs.Upto.{AgreeUpto, IsUpto}
@@ -31,38 +31,43 @@ lands_or_not who (Renew l ticks) (Late e n) c d b t row = inl row.0
 lands_or_not who (Release l) Done c d b t row = inr row
 lands_or_not who ask a c d b t row = absurd row
 
--- what holds where nothing changed, and where the call landed, holds after it
-pub row_by : (P : CloudState → Type 0) (who : Caller) (ask : Ask) (a : Answer) (c d : Counts) (b t : CloudState) → Weather who ask a c d b t → P b → P (effect who ask b) → P t
-row_by P who ask a c d b t row same there = elim (lands_or_not who ask a c d b t row) [ inl e ↦ subst P (sym e) same | inr l ↦ subst P (sym l.0) there ]
+-- what holds where nothing changed, and where the call landed by leave, holds after it
+pub row_by : (P : CloudState → Type 0) (who : Caller) (ask : Ask) (a : Answer) (c d : Counts) (b t : CloudState) → Weather who ask a c d b t → P b → (Permits ask b → P (effect who ask b)) → P t
+row_by P who ask a c d b t row same there = elim (lands_or_not who ask a c d b t row) [ inl e ↦ subst P (sym e) same | inr l ↦ subst P (sym l.0) (there l.1) ]
 
 -- a row moves no clock, wait, wish or newest call
 pub row_rest : (who : Caller) (ask : Ask) (a : Answer) (c d : Counts) (b t : CloudState) → Weather who ask a c d b t → IsAtRest b t
 row_rest who ask a c d b t row =
-    row_by (IsAtRest b) who ask a c d b t row (record { now = refl; waits = refl; wish = refl; last = refl }) (effect_rest who ask b)
+    row_by (IsAtRest b) who ask a c d b t row (record { now = refl; waits = refl; wish = refl; last = refl }) (λ permits. effect_rest who ask b)
 
 pub row_locks : (who : Caller) (ask : Ask) (a : Answer) (c d : Counts) (b t : CloudState) → Weather who ask a c d b t → MovesNoLock ask → t.locks ≡ b.locks
-row_locks who ask a c d b t row h = row_by (λ u. u.locks ≡ b.locks) who ask a c d b t row refl (effect_locks who ask b h)
+row_locks who ask a c d b t row h = row_by (λ u. u.locks ≡ b.locks) who ask a c d b t row refl (λ permits. effect_locks who ask b h)
 
 pub row_versions : (who : Caller) (ask : Ask) (a : Answer) (c d : Counts) (b t : CloudState) → Weather who ask a c d b t → PutsNothing ask → t.versions ≡ b.versions
-row_versions who ask a c d b t row h = row_by (λ u. u.versions ≡ b.versions) who ask a c d b t row refl (effect_versions who ask b h)
+row_versions who ask a c d b t row h = row_by (λ u. u.versions ≡ b.versions) who ask a c d b t row refl (λ permits. effect_versions who ask b h)
 
 pub row_messages : (who : Caller) (ask : Ask) (a : Answer) (c d : Counts) (b t : CloudState) → Weather who ask a c d b t → TouchesNoMessage ask → t.messages ≡ b.messages
-row_messages who ask a c d b t row h = row_by (λ u. u.messages ≡ b.messages) who ask a c d b t row refl (effect_messages who ask b h)
+row_messages who ask a c d b t row h = row_by (λ u. u.messages ≡ b.messages) who ask a c d b t row refl (λ permits. effect_messages who ask b h)
 
 pub row_trace : (who : Caller) (ask : Ask) (a : Answer) (c d : Counts) (b t : CloudState) → Weather who ask a c d b t → LandsNoRow ask → t.trace ≡ b.trace
-row_trace who ask a c d b t row h = row_by (λ u. u.trace ≡ b.trace) who ask a c d b t row refl (effect_trace who ask b h)
+row_trace who ask a c d b t row h = row_by (λ u. u.trace ≡ b.trace) who ask a c d b t row refl (λ permits. effect_trace who ask b h)
 
 -- nothing that landed is lost
 pub row_grown : (who : Caller) (ask : Ask) (a : Answer) (c d : Counts) (b t : CloudState) → Weather who ask a c d b t → HasGrown b t
-row_grown who ask a c d b t row = row_by (HasGrown b) who ask a c d b t row (grown_itself b b refl refl refl refl) (effect_grown who ask b)
+row_grown who ask a c d b t row = row_by (HasGrown b) who ask a c d b t row (grown_itself b b refl refl refl refl) (λ permits. effect_grown who ask b)
 
 -- a call at a later event changes nothing up to an event
 pub row_agree : (n : ℕ) (who : Caller) (ask : Ask) (a : Answer) (c d : Counts) (b t : CloudState) → Weather who ask a c d b t → n < who.event → AgreeUpto n b t
-row_agree n who ask a c d b t row h = row_by (AgreeUpto n b) who ask a c d b t row (agree_itself n b b refl refl refl) (effect_agree n who ask b h)
+row_agree n who ask a c d b t row h = row_by (AgreeUpto n b) who ask a c d b t row (agree_itself n b b refl refl refl) (λ permits. effect_agree n who ask b h)
 
 -- a call by an event leaves all up to that event
 pub row_upto : (n : ℕ) (who : Caller) (ask : Ask) (a : Answer) (c d : Counts) (b t : CloudState) → Weather who ask a c d b t → who.event ≤ n → IsUpto n b → IsUpto n t
-row_upto n who ask a c d b t row h u = row_by (IsUpto n) who ask a c d b t row u (effect_upto n who ask b h u)
+row_upto n who ask a c d b t row h u = row_by (IsUpto n) who ask a c d b t row u (λ permits. effect_upto n who ask b h u)
+
+-- what holds of the state before a call at its clock, and where the call landed by leave, holds after it
+pub leaves_by : (P : CloudState → Type 0) (who : Caller) (ask : Ask) (a : Answer) (c d : Counts) (s : CloudState) (new : Option CloudState) (l : Leaves who ask a c d s new)
+    → P (called who l.after.now s) → (Permits ask (called who l.after.now s) → P (effect who ask (called who l.after.now s))) → P l.after
+leaves_by P who ask a c d s new l same there = row_by P who ask a c d (called who l.after.now s) l.after l.row same there
 
 -- the same of a whole call, from the state before it
 pub leaves_grown : (who : Caller) (ask : Ask) (a : Answer) (c d : Counts) (s : CloudState) (new : Option CloudState) (l : Leaves who ask a c d s new) → HasGrown s l.after

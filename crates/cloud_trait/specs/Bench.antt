@@ -1,6 +1,10 @@
 -- What the schedule does to a cloud.
-use Rattle.std.specs.Prelude.{ℕ, ◌≡◌, ◌+◌, ◌≤◌, min, Option, Some}
-use Rattle.cloud_trait.specs.State.{CloudState, Counts, end_after, greatest}
+use Rattle.std.specs.Prelude.{ℕ, ◌≡◌, ◌≢◌, ◌+◌, ◌≤◌, min, Option, Some, Result, Err}
+use Rattle.cloud_trait.specs.declared.fault.CloudFault.{CloudFault}
+use Rattle.cloud_trait.specs.declared.fault.CloudFault.TheVariants.{Failed}
+use Rattle.cloud_trait.specs.State.{CloudState, end_after, greatest}
+use Rattle.cloud_trait.specs.Seen.{Seen}
+use Rattle.cloud_trait.specs.Weather.{Rose}
 
 -- one wait more, and the clock later by at least the ticks, both up to the greatest number
 pub record Waits (ticks : ℕ) (s : CloudState) (new : Option CloudState) : Type 0 where
@@ -9,9 +13,18 @@ pub record Waits (ticks : ℕ) (s : CloudState) (new : Option CloudState) : Type
   pub later : end_after s.now ticks ≤ after.now
   pub rest : after ≡ record s { now = after.now; waits = min (s.waits + 1) greatest }
 
--- a look raises no count but that of failed looks
-pub record Looks (c d : Counts) : Type 0 where
-  pub faults : d.faults ≡ c.faults
-  pub withheld : d.withheld ≡ c.withheld
-  pub stale : d.stale ≡ c.stale
-  pub dark : c.dark ≤ d.dark
+-- what is not a service call raises no count, and is not heard as an answer
+pub record IsNoCall (old new : Seen) : Type 0 where
+  pub counts : new.counts ≡ old.counts
+  pub heard : new.heard ≡ old.heard
+
+-- a look changes nothing, but that it raises the count of failed looks where it failed, and there alone
+pub record Looks {A : Type 0} (result : Result A CloudFault) (old new : Seen) : Type 0 where
+  pub faults : new.counts.faults ≡ old.counts.faults
+  pub withheld : new.counts.withheld ≡ old.counts.withheld
+  pub stale : new.counts.stale ≡ old.counts.stale
+  pub dark : old.counts.dark ≤ new.counts.dark
+  pub failed : result ≡ Err Failed → Rose old.counts.dark new.counts.dark
+  pub seeing : result ≢ Err Failed → new.counts.dark ≡ old.counts.dark
+  pub heard : new.heard ≡ old.heard
+  pub stays : (s : CloudState) → old.state ≡ Some s → new.state ≡ Some s

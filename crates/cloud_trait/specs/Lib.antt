@@ -5,9 +5,11 @@ pub mod Call
 pub mod Caller
 pub mod Claim
 pub mod Delivery
+pub mod Down
 pub mod Growth
 pub mod Machine
 pub mod Names
+pub mod Seen
 pub mod State
 pub mod Upto
 pub mod Views

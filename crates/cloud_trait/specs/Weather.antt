@@ -5,6 +5,7 @@ use Rattle.cloud_trait.specs.declared.answer.Answer.TheVariants.{Got, Sent, Rece
 use Rattle.cloud_trait.specs.Caller.{Caller}
 use Rattle.cloud_trait.specs.Claim.{Claim, Lasts, IsOver, extended}
 use Rattle.cloud_trait.specs.State.{CloudState, Counts, newest, version_at, called, end_after, lease_given}
+use Rattle.cloud_trait.specs.Seen.{Seen}
 use Rattle.cloud_trait.specs.Delivery.{WasSent, IsDelivering}
 use Rattle.cloud_trait.specs.Ask.{Ask, Get, GetHeld, PutHeld, Send, Receive, Delete, Take, Renew, Release, Lands}
 
@@ -73,13 +74,16 @@ pub record Leaves (who : Caller) (ask : Ask) (answer : Answer) (c d : Counts) (s
   pub later : s.now ≤ after.now
   pub row : Weather who ask answer c d (called who after.now s) after
 
--- what one service call is, by what it asked and answered
-pub record Makes (who : Caller) (ask : Ask) (answer : Answer) (c d : Counts) (old new : Option CloudState) : Type 0 where
+-- what one service call is, by what it asked and answered: where the cloud tells what it answered, that is the answer; want
+-- of memory raises no count
+pub record Makes (who : Caller) (ask : Ask) (answer : Answer) (old new : Seen) : Type 0 where
   pub fits : Fits ask answer
-  pub counts : Rises c d
-  pub dark : d.dark ≡ c.dark
-  pub failed : answer ≡ Failed → Rose c.faults d.faults
-  pub state : (s : CloudState) → old ≡ Some s → Leaves who ask answer c d s new
+  pub heard : (a : Answer) → new.heard ≡ Some a → answer ≡ a
+  pub counts : Rises old.counts new.counts
+  pub dark : new.counts.dark ≡ old.counts.dark
+  pub failed : answer ≡ Failed → Rose old.counts.faults new.counts.faults
+  pub memory : answer ≡ Memory → new.counts ≡ old.counts
+  pub state : (s : CloudState) → old.state ≡ Some s → Leaves who ask answer old.counts new.counts s new.state
 
 -- what a failed renewal leaves of a told state and of the lease: both as they were, or both renewed
 abbrev pub RenewsBoth : Caller → ℕ → Claim → Claim → CloudState → CloudState → Type 0
@@ -87,8 +91,8 @@ RenewsBoth who ticks l m b t =
     ((t ≡ b) × (m ≡ l)) ⊎ (Lands who (Renew l ticks) b t × (m ≡ extended l (end_after b.now ticks)))
 
 -- what a renewal leaves of the lease
-abbrev pub RenewsLease : Caller → ℕ → Claim → Claim → Answer → Option CloudState → Option CloudState → Type 0
+abbrev pub RenewsLease : Caller → ℕ → Claim → Claim → Answer → Seen → Seen → Type 0
 RenewsLease who ticks l m (Renewed e) old new = m ≡ extended l e
 RenewsLease who ticks l m Failed old new =
-    (m ≡ extended l m.end) × ((s t : CloudState) → old ≡ Some s → new ≡ Some t → RenewsBoth who ticks l m (called who t.now s) t)
+    (m ≡ extended l m.end) × ((s t : CloudState) → old.state ≡ Some s → new.state ≡ Some t → RenewsBoth who ticks l m (called who t.now s) t)
 RenewsLease who ticks l m answer old new = m ≡ l

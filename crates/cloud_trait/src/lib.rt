@@ -4,13 +4,12 @@
 pub mod answer;
 pub mod call;
 pub mod cloud;
+pub mod down;
 pub mod fault;
 pub mod grant;
 pub mod lease;
 pub mod message;
 pub mod perform;
 pub mod state;
-#[cfg(test)]
-mod tests;
 pub mod turn;
 pub mod who;

@@ -14,7 +14,7 @@ use crate::who::Who;
 /// Makes one call, whatever it is, but for the two that move a lease. What it answered is a value.
 pub fn perform<C: Cloud>(cloud: &mut C, who: Who, call: &Call<'_>) -> Answer
     requires { Lends (ask_of call.now) }
-    ensures { Makes who (ask_of call.now) result (C.counts cloud.old) (C.counts cloud.new) (C.state cloud.old) (C.state cloud.new) }
+    ensures { Makes who (ask_of call.now) result (C.seen cloud.old) (C.seen cloud.new) }
 {
     match call {
         Call::Get(name) => match cloud.get(who, *name) {
@@ -55,7 +55,7 @@ pub fn perform<C: Cloud>(cloud: &mut C, who: Who, call: &Call<'_>) -> Answer
 
 /// Gives a lease back.
 pub fn let_go<C: Cloud>(cloud: &mut C, who: Who, lease: Lease) -> Answer
-    ensures { Makes who (Release lease) result (C.counts cloud.old) (C.counts cloud.new) (C.state cloud.old) (C.state cloud.new) }
+    ensures { Makes who (Release lease) result (C.seen cloud.old) (C.seen cloud.new) }
 {
     match cloud.release(who, lease) {
         Ok(()) => Answer::Done,
@@ -65,8 +65,8 @@ pub fn let_go<C: Cloud>(cloud: &mut C, who: Who, lease: Lease) -> Answer
 
 /// Renews a lease for some ticks from now.
 pub fn renew<C: Cloud>(cloud: &mut C, who: Who, lease: &mut Lease, ticks: u64) -> Answer
-    ensures made { Makes who (Renew lease.old ticks) result (C.counts cloud.old) (C.counts cloud.new) (C.state cloud.old) (C.state cloud.new) }
-    ensures lease { RenewsLease who ticks lease.old lease.new result (C.state cloud.old) (C.state cloud.new) }
+    ensures made { Makes who (Renew lease.old ticks) result (C.seen cloud.old) (C.seen cloud.new) }
+    ensures lease { RenewsLease who ticks lease.old lease.new result (C.seen cloud.old) (C.seen cloud.new) }
 {
     match cloud.renew(who, lease, ticks) {
         Ok(()) => Answer::Renewed(lease.end()),

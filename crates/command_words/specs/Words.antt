@@ -2,6 +2,7 @@
 use Rattle.std.specs.Prelude.{◌≡◌, ℕ, Bool, true, ◌&&◌, not, nat_eq, nat_le, if◌then◌else◌, List, [], ◌∷◌, Option, Some, None, Result, Ok, Err, codes, ⊤}
 use Rattle.std.specs.Str.{bytes_eq}
 use Rattle.words.specs.Word.{number_of}
+use Rattle.command_words.specs.declared.read.TheConstants.{MAX_COUNT}
 use Rattle.command_words.specs.declared.shape.Shape.{Shape}
 use Rattle.command_words.specs.declared.shape.Shape.TheVariants.{Replay, Gen, Shell, Settle}
 use Rattle.command_words.specs.declared.shape.WordsFault.{WordsFault}
@@ -12,11 +13,11 @@ abbrev pub is_folder : List ℕ → Bool
 is_folder [] = true
 is_folder (byte ∷ rest) = not (nat_eq byte 45)
 
--- the number of what is generated, and how much of it: at most 10,000 rounds
+-- the number of what is generated, and how much of it: at most the rounds that are generated
 abbrev pub generated : Option ℕ → Option ℕ → Option Shape
 generated None count = None
 generated (Some number) None = None
-generated (Some number) (Some count) = if nat_le count 10000 then Some (Gen number count) else None
+generated (Some number) (Some count) = if nat_le count MAX_COUNT then Some (Gen number count) else None
 
 -- a shell of a client, 1 to 64, over a folder
 abbrev pub shell_over : Option ℕ → List ℕ → Option Shape

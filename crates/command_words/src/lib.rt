@@ -4,5 +4,3 @@
 mod command;
 pub mod read;
 pub mod shape;
-#[cfg(test)]
-mod tests;

@@ -10,7 +10,7 @@ use Rattle.db_base.specs.declared.trouble.CommitAnswer.TheVariants.{Committed, N
 use Rattle.head_codec.specs.declared.head.Head.{Head}
 use Rattle.head_codec.specs.declared.head.Phase.{Phase}
 use Rattle.head_codec.specs.declared.lists.QueueCount.{QueueCount}
-use Rattle.head_codec.specs.Spelling.{HasSpelling, IsPhase, head_bytes, head_of}
+use Rattle.head_codec.specs.Spelling.{IsPhase, head_bytes, head_of}
 use Rattle.head_codec.specs.Counters.{AreCounters}
 use Rattle.log_codec.specs.declared.record.AtomicRec.{AtomicRec}
 use Rattle.log_codec.specs.Pu.{pu_bytes, pu_of}
@@ -152,6 +152,21 @@ next_at Finished c a = Stops c trouble.Failed
 abbrev pub commit_next : Commit → Answer → Next Commit CommitAnswer
 commit_next c a = next_at c.stage c a
 
+-- at want of memory the home is as it was but for its head
+abbrev pub KeepsHome : Commit → Answer → Commit → Type 0
+KeepsHome c a n = n.home ≡ with_head c.home n.home.head
+
+-- how many calls a commit has left at most, by its stage, its records and how many of these were sent
+abbrev pub left_at : Stage → ℕ → ℕ → ℕ
+left_at Ready records sent = 0
+left_at PuttingOpen records sent = records + 3
+left_at Sending records sent = (records - sent) + 2
+left_at PuttingSettled records sent = 1
+left_at Finished records sent = 0
+
+abbrev pub calls_left : Commit → ℕ
+calls_left c = left_at c.stage (length c.records) c.sent
+
 -- the head that the put in hand opens, where it is the one that commits
 abbrev pub opens_at : Stage → Commit → Option Head
 opens_at PuttingOpen c = Some c.home.head
@@ -222,15 +237,9 @@ pub record IsBefore (b : Before) : Type 0 where
   pub phase : IsPhase b.phase
   pub counters : AreCounters None b.counters
 
--- what a commit keeps: a change is there, and the heads and records have spellings
+-- what a commit keeps: a change is there, what it puts and sends has spellings, and the bytes in hand are those of the call that they are for
 pub record IsKept (c : Commit) : Type 0 where
   pub some : 1 ≤ length c.changes
-  pub spelled : HasSpelling c.home.head
   pub before : IsBefore c.before
   pub placed : AllByRecursion HasPlace c.records
-
--- the bytes in hand are what they should be where there is a next call
-abbrev pub IsSoundAfter : Commit → Turn CommitAnswer → Type 0
-IsSoundAfter c More = IsSound c
-IsSoundAfter c (Ended a) = Unit {0}
-IsSoundAfter c (Stopped t) = Unit {0}
+  pub sound : IsSound c

@@ -10,7 +10,7 @@ ghost use Rattle.route_plan.specs.Heads.{opened_head, settled_head};
 ghost use Rattle.commit_run.specs.Commit.{records_of, with_head};
 ghost use Rattle.route_plan.specs.Route.{AllFit, PassesGreatest};
 ghost use Rattle.cloud_trait.specs.Call.{ask_of};
-ghost use Rattle.cloud_trait.specs.Machine.{Took, Steps};
+ghost use Rattle.cloud_trait.specs.Machine.{LeadsBy, Took, Steps};
 ghost use Rattle.cloud_trait.specs.Weather.{Makes};
 
 use cloud_trait::answer::Answer;
@@ -82,12 +82,11 @@ impl Model for CommitRun {
 }
 
 impl CommitRun {
-    ghost use Rattle.commit_run.specs.Commit.{Commit, new_commit, commit_ask, commit_next, opened_by, sent_by, settled_by, send_at, settling, left_open, closed_again, finished, Readies, TookReady, TookOpening, opening, with_attempt, next_records, records_of, IsSoundAfter, restored, opens_at};
+    ghost use Rattle.commit_run.specs.Commit.{Commit, new_commit, commit_ask, commit_next, opened_by, sent_by, settled_by, send_at, settling, left_open, closed_again, finished, Readies, TookReady, TookOpening, opening, with_attempt, next_records, records_of, IsSound, restored, opens_at, KeepsHome, calls_left};
 
     /// The commit of changes by a home.
     pub fn new(alloc: Global, home: Home, changes: TxnBuffer) -> CommitRun
-        requires spelled { HasSpelling home.head }
-        requires some { 1 ≤ length changes }
+        requires { 1 ≤ length changes }
         ensures { result ≡ new_commit home changes }
     {
         let before = Saved {
@@ -128,8 +127,7 @@ impl CommitRun {
 
     /// The home, with the head as the commit left it.
     pub fn finish(self) -> Home
-        ensures home { result ≡ self.home }
-        ensures spelled { HasSpelling result.head }
+        ensures { result ≡ self.home }
     {
         self.home
     }
@@ -154,13 +152,13 @@ impl CommitRun {
     /// Takes the next attempt number and routes the changes; the put that commits is in hand where it answers More.
     /// It is called once, before the first step.
     pub fn ready(&mut self, alloc: Global) -> Turn<CommitAnswer>
-        ensures took { TookReady self.old self.new result }
-        ensures sound { IsSoundAfter self.new result }
+        ensures { TookReady self.old self.new result }
     {
         if self.home.attempt == u64::MAX {
             return self.not_committed(Trouble::Exhausted { what: Counter::Txn });
         }
-        self.home.attempt += 1;
+        let home = &mut self.home;
+        home.attempt += 1;
         match routed_first(alloc, &self.home, &self.changes) {
             Ok(records) => self.opening(alloc, records),
             Err(Trouble::Memory) => Turn::Stopped(Trouble::Memory),
@@ -181,8 +179,7 @@ impl CommitRun {
         requires some { 1 ≤ length records.items }
         requires few { length records.items ≤ 200 }
         requires placed { AllByRecursion HasPlace records.items }
-        ensures took { TookOpening self.old records.items self.new result }
-        ensures sound { IsSoundAfter self.new result }
+        ensures { TookOpening self.old records.items self.new result }
     {
         let before = match what_changes(alloc, &self.home.head) {
             Ok(before) => before,
@@ -196,14 +193,16 @@ impl CommitRun {
                 self.out = out;
                 Turn::More
             }
-            Err(_) => Turn::Stopped(Trouble::Memory),
+            Err(_) => {
+                self.stage = Stage::Finished;
+                Turn::Stopped(Trouble::Memory)
+            }
         }
     }
 
     /// Puts the settled head next.
     fn settle(&mut self, alloc: Global) -> Turn<CommitAnswer>
-        ensures took { Took (λ c _. settling c) self.old Answer.Failed self.new result }
-        ensures sound { IsSoundAfter self.new result }
+        ensures { Took (λ c _ n. settling c ≡ n) KeepsHome self.old Answer.Failed self.new result }
     {
         match settle_home(alloc, &mut self.home, self.records.as_slice()) {
             Ok(out) => {
@@ -211,33 +210,38 @@ impl CommitRun {
                 self.out = out;
                 Turn::More
             }
-            Err(_) => Turn::Stopped(Trouble::Memory),
+            Err(_) => {
+                self.stage = Stage::Finished;
+                Turn::Stopped(Trouble::Memory)
+            }
         }
     }
 
     /// Sends the record at a place next, or settles where all are sent.
     fn send_at(&mut self, alloc: Global, place: usize) -> Turn<CommitAnswer>
-        ensures took { Took (λ c _. send_at c place) self.old Answer.Failed self.new result }
-        ensures sound { IsSoundAfter self.new result }
+        ensures { Took (λ c _ n. send_at c place ≡ n) KeepsHome self.old Answer.Failed self.new result }
     {
-        self.sent = place;
         match self.records.as_slice().get(place) {
             Some(record) => match spelling_of(alloc, record) {
                 Ok(out) => {
                     self.stage = Stage::Sending;
+                    self.sent = place;
                     self.out = out;
                     Turn::More
                 }
                 Err(_) => Turn::Stopped(Trouble::Memory),
             },
-            None => self.settle(alloc),
+            None => {
+                self.stage = Stage::Finished;
+                self.sent = place;
+                self.settle(alloc)
+            }
         }
     }
 
     /// After the put that commits: a late one did not land, and a failed one may have.
     fn opened(&mut self, alloc: Global, done: Result<(), Trouble>) -> Turn<CommitAnswer>
-        ensures took { Took (λ c _. opened_by c done) self.old Answer.Failed self.new result }
-        ensures sound { IsSoundAfter self.new result }
+        ensures { Took (λ c _ n. opened_by c done ≡ n) KeepsHome self.old Answer.Failed self.new result }
     {
         match done {
             Ok(()) => self.send_at(alloc, 0),
@@ -257,15 +261,15 @@ impl CommitRun {
         ensures { self.new ≡ finished (closed_again self.old) }
     {
         let counters = mem::replace(&mut self.before.counters, Vec::new(alloc));
-        self.home.head.txn = self.before.txn;
-        self.home.head.phase = self.before.phase;
-        self.home.head.counters = CounterList::of(counters);
+        let home = &mut self.home;
+        home.head.txn = self.before.txn;
+        home.head.phase = self.before.phase;
+        home.head.counters = CounterList::of(counters);
         self.stage = Stage::Finished;
     }
 
     fn sent(&mut self, alloc: Global, sent: Result<MsgId, Trouble>) -> Turn<CommitAnswer>
-        ensures took { Took (λ c _. sent_by c sent) self.old Answer.Failed self.new result }
-        ensures sound { IsSoundAfter self.new result }
+        ensures { Took (λ c _ n. sent_by c sent ≡ n) KeepsHome self.old Answer.Failed self.new result }
     {
         match sent {
             Ok(_) => match self.sent.checked_add(1) {
@@ -277,7 +281,7 @@ impl CommitRun {
     }
 
     fn settled(&mut self, done: Result<(), Trouble>) -> Turn<CommitAnswer>
-        ensures { Took (λ c _. settled_by c done) self.old Answer.Failed self.new result }
+        ensures { Took (λ c _ n. settled_by c done ≡ n) KeepsHome self.old Answer.Failed self.new result }
     {
         match done {
             Ok(()) => {
@@ -291,7 +295,7 @@ impl CommitRun {
     }
 
     fn left_open(&mut self, trouble: Trouble) -> Turn<CommitAnswer>
-        ensures { Took (λ c _. left_open c trouble) self.old Answer.Failed self.new result }
+        ensures { Took (λ c _ n. left_open c trouble ≡ n) KeepsHome self.old Answer.Failed self.new result }
     {
         self.stage = Stage::Finished;
         Turn::Ended(CommitAnswer::CommittedOpen(trouble))
@@ -299,8 +303,7 @@ impl CommitRun {
 
     /// Takes the answer of the call in hand.
     fn absorb(&mut self, alloc: Global, answer: Answer) -> Turn<CommitAnswer>
-        ensures took { Took commit_next self.old answer self.new result }
-        ensures sound { IsSoundAfter self.new result }
+        ensures { Took (LeadsBy commit_next) KeepsHome self.old answer self.new result }
     {
         match (self.stage, answer) {
             (_, Answer::Memory) => Turn::Stopped(Trouble::Memory),
@@ -314,9 +317,12 @@ impl CommitRun {
 
     /// Makes the call in hand, and does the local work up to the next one.
     pub fn step<C: Cloud>(&mut self, alloc: Global, cloud: &mut C, who: Who) -> Turn<CommitAnswer>
-        ensures steps { Steps commit_ask commit_next who (C.counts cloud.old) (C.counts cloud.new) (C.state cloud.old) (C.state cloud.new) self.old self.new result }
-        ensures sound { IsSoundAfter self.new result }
+        ensures steps { Steps commit_ask (LeadsBy commit_next) KeepsHome who (C.seen cloud.old) (C.seen cloud.new) self.old self.new result }
+        ensures sound { IsSound self.old }
+        ensures less { result ≡ Turn.More → calls_left self.new < calls_left self.old }
     {
+        // Read for the clause `sound`.
+        let _ = &self.stage;
         let answer = perform(cloud, who, &self.in_hand());
         self.absorb(alloc, answer)
     }
@@ -338,7 +344,6 @@ fn spelling_of(alloc: Global, sent: &AtomicRec) -> Result<Blob, AllocError>
 #[tactic(auto, using(crate::proofs::Keeping::records_few, crate::proofs::Keeping::records_some, crate::proofs::Keeping::records_placed, std::proofs::lemmas::Grind::common_steps))]
 /// The records of the changes of a home's attempt: those that no pending entry binds go to the tree's queue, or, updates, to the first leaf's.
 fn routed_first(alloc: Global, home: &Home, changes: &TxnBuffer) -> Result<Vec<AtomicRec>, Trouble>
-    requires spelled { HasSpelling home.now.head }
     requires attempt { 1 ≤ home.now.attempt }
     requires some { 1 ≤ length changes.now }
     ensures ok { IfOk result (λ records. records.items ≡ records_of home.now changes.now) }
@@ -348,6 +353,7 @@ fn routed_first(alloc: Global, home: &Home, changes: &TxnBuffer) -> Result<Vec<A
     ensures placed { AllByRecursion HasPlace (records_of home.now changes.now) }
     ensures err { IfErr result (λ e. (e ≡ Trouble.Memory) ⊎ ((e ≡ Trouble.Exhausted Counter.Number) × PassesGreatest (records_of home.now changes.now))) }
 {
+    let head = &home.head;
     let leaves = match first_pages(alloc, changes.len()) {
         Ok(leaves) => leaves,
         Err(_) => return Err(Trouble::Memory),
@@ -355,9 +361,9 @@ fn routed_first(alloc: Global, home: &Home, changes: &TxnBuffer) -> Result<Vec<A
     route(
         alloc,
         home.client,
-        home.head.epoch,
+        head.epoch,
         home.attempt,
-        &home.head,
+        head,
         changes,
         leaves.as_slice(),
     )
@@ -387,14 +393,13 @@ fn what_changes(alloc: Global, head: &Head) -> Result<Saved, AllocError>
 /// Makes the home's head the one that commits the records, and gives its bytes. After an `Err` the head may be either.
 #[tactic(auto, using(crate::proofs::Keeping::opened_spelled))]
 fn open_home(alloc: Global, home: &mut Home, records: &[AtomicRec]) -> Result<Blob, AllocError>
-    requires spelled { HasSpelling home.old.head }
     requires some { 1 ≤ length records.now }
     requires few { length records.now ≤ 200 }
     requires placed { AllByRecursion HasPlace records.now }
     ensures home { OnOk result (home.new ≡ with_head home.old (opened_head home.old.head home.old.attempt records.now)) }
+    ensures kept { home.new ≡ with_head home.old home.new.head }
     ensures out { IfOk result (λ out. out ≡ head_bytes home.new.head) }
     ensures decoded { IfOk result (λ out. head_of out ≡ Some home.new.head) }
-    ensures spelled { HasSpelling home.new.head }
 {
     open_head(alloc, &mut home.head, home.attempt, records)?;
     bytes_of(alloc, &home.head)
@@ -403,12 +408,11 @@ fn open_home(alloc: Global, home: &mut Home, records: &[AtomicRec]) -> Result<Bl
 /// Makes the home's head the one that settles the records, and gives its bytes. After an `Err` the head may be either.
 #[tactic(auto, using(crate::proofs::Keeping::settled_spelled))]
 fn settle_home(alloc: Global, home: &mut Home, records: &[AtomicRec]) -> Result<Blob, AllocError>
-    requires spelled { HasSpelling home.old.head }
     requires placed { AllByRecursion HasPlace records.now }
     ensures home { OnOk result (home.new ≡ with_head home.old (settled_head home.old.head records.now)) }
+    ensures kept { home.new ≡ with_head home.old home.new.head }
     ensures out { IfOk result (λ out. out ≡ head_bytes home.new.head) }
     ensures decoded { IfOk result (λ out. head_of out ≡ Some home.new.head) }
-    ensures spelled { HasSpelling home.new.head }
 {
     settle_head(alloc, &mut home.head, records)?;
     bytes_of(alloc, &home.head)

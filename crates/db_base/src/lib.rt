@@ -9,8 +9,6 @@ pub mod key;
 pub mod names;
 pub mod pair;
 pub mod refusal;
-#[cfg(test)]
-mod tests;
 pub mod text;
 pub mod trouble;
 pub mod wish;

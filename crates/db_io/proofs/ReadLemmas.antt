@@ -13,15 +13,21 @@ some_is : {xs ys : List ℕ} → Some xs ≡ Some ys → ys ≡ xs
 some_is e = cc
 
 -- a read gives the first of what is left
-pub gives_first : (all old new left : List ℕ) (at count most : ℕ) → drop at all ≡ left
+pub gives_first : (all old new left : List ℕ) (at count most faults later : ℕ) → drop at all ≡ left
     → new ≡ old ++ take count left → count ≡ min (length left) most
-    → Gives old new (Some left) (Some (drop (at + count) all)) most count
-gives_first all old new left at count most is appended smaller = record {
+    → Gives old new (record { content = Some left; faults = faults })
+    (record { content = Some (drop (at + count) all); faults = later }) most count
+gives_first all old new left at count most faults later is appended smaller = record {
   bytes = take count left;
   appended = appended;
   counted = sym (length-take-le count left (omega arith));
   within = omega arith;
-  taken = λ told e. (drop (at + count) all, refl, some_is e ∙ sym (take-append-drop count left) ∙ ap (λ (l : List ℕ). take count left ++ l) (ap (drop count) (sym is) ∙ drop-drop count at all));
+  taken = λ told e. (
+    drop (at + count) all,
+    refl,
+    some_is e ∙ sym (take-append-drop count left)
+        ∙ ap (λ (l : List ℕ). take count left ++ l) (ap (drop count) (sym is) ∙ drop-drop count at all),
+  );
   end = λ none some told e. some_is e ∙ is_empty left (omega arith);
 }
 

@@ -1,5 +1,6 @@
 -- A source or a sink in memory: what it holds, and which of its calls fail.
-use Rattle.std.specs.Prelude.{◌≡◌, ℕ, ◌+◌, List, Contains, Result, Ok, Err}
+use Rattle.std.specs.Prelude.{◌≡◌, ℕ, ◌+◌, ◌⊎◌, List, Contains, Some, Result, Ok, Err}
+use Rattle.db_io.specs.Content.{Told}
 use Rattle.db_io.specs.declared.fault.IoFault.{IoFault}
 use Rattle.db_io.specs.declared.fault.IoFault.TheVariants.{Failed, Memory}
 
@@ -10,13 +11,17 @@ pub record MemoryEnd : Type 0 where
   pub calls : ℕ
   pub faults : ℕ
 
+-- it tells its content
+abbrev pub told_by : MemoryEnd → Told
+told_by e = record { content = Some e.content; faults = e.faults }
+
 -- the failing numbers stay, and one call more was made
 pub record Counted (old new : MemoryEnd) : Type 0 where
   pub failing : new.failing ≡ old.failing
   pub calls : new.calls ≡ old.calls + 1
 
--- but for want of memory, a call fails exactly where its number is one of those that fail
+-- a call fails exactly where its number is one of those that fail; at want of memory it is none of them, or nothing changed
 abbrev pub FailsByNumber : {A : Type 0} → Result A IoFault → MemoryEnd → MemoryEnd → Type 0
 FailsByNumber (Ok answer) old new = Counted old new × (Contains old.failing (old.calls + 1) → ⊥)
 FailsByNumber (Err Failed) old new = Counted old new × Contains old.failing (old.calls + 1)
-FailsByNumber (Err Memory) old new = new.failing ≡ old.failing
+FailsByNumber (Err Memory) old new = (Counted old new × (Contains old.failing (old.calls + 1) → ⊥)) ⊎ (new ≡ old)

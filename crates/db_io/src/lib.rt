@@ -8,5 +8,3 @@ pub mod sink;
 pub mod source;
 pub mod std_sink;
 pub mod std_source;
-#[cfg(test)]
-mod tests;

@@ -1,6 +1,6 @@
-ghost use Rattle.std.specs.Prelude.{◌≡◌, ℕ, List, [], Some, IfOk, OnOk, OnErr, IfErr};
+ghost use Rattle.std.specs.Prelude.{◌≡◌, [], IfOk, OnOk, OnErr, IfErr};
 ghost use Rattle.db_io.specs.Content.{Adds, AddsPrefix, Counts};
-ghost use Rattle.db_io.specs.MemoryEnd.{MemoryEnd, FailsByNumber};
+ghost use Rattle.db_io.specs.MemoryEnd.{told_by, FailsByNumber};
 
 use crate::fault::IoFault;
 use crate::sink::Sink;
@@ -22,15 +22,22 @@ impl Model for MemorySink {
 
     ghost Value = { MemoryEnd };
 
-    ghost view = { λ s. record { content = s.written.items; failing = s.failing.items; calls = s.calls; faults = s.faults } };
+    ghost view = { λ s. record {
+      content = s.written.items;
+      failing = s.failing.items;
+      calls = s.calls;
+      faults = s.faults;
+    } };
 
     ghost invariant = { λ s. s.faults ≤ s.calls };
 }
 
 impl MemorySink {
-    /// An empty sink, whose calls of these numbers fail; the first call is number 1. Refused for memory alone.
+    /// An empty sink, whose calls of these numbers fail; the first call is number 1. Refused for
+    /// memory alone.
     pub fn new(alloc: Global, failing: &[u64]) -> Result<MemorySink, IoFault>
-        ensures ok { IfOk result (λ s. s ≡ record { content = []; failing = failing.now; calls = 0; faults = 0 }) }
+        ensures ok { IfOk result
+            (λ s. s ≡ record { content = []; failing = failing.now; calls = 0; faults = 0 }) }
         ensures memory { IfErr result (λ e. e ≡ IoFault.Memory) }
     {
         let Ok(failing) = failing.to_vec(alloc) else {
@@ -53,14 +60,12 @@ impl MemorySink {
 }
 
 impl Sink for MemorySink {
-    ghost written = { λ s. Some s.content };
-
-    ghost faults = { λ s. s.faults };
+    ghost told = { told_by };
 
     fn write(&mut self, bytes: &[u8]) -> Result<(), IoFault>
-        ensures all { OnOk result (Adds (Some self.old.content) (Some self.new.content) bytes.now) }
-        ensures front { OnErr result (AddsPrefix (Some self.old.content) (Some self.new.content) bytes.now) }
-        ensures counts { Counts result self.old.faults self.new.faults }
+        ensures all { OnOk result (Adds (told_by self.old) (told_by self.new) bytes.now) }
+        ensures front { OnErr result (AddsPrefix (told_by self.old) (told_by self.new) bytes.now) }
+        ensures counts { Counts result (told_by self.old) (told_by self.new) }
         ensures nothing { OnErr result (self.new.content ≡ self.old.content) }
         ensures fails { FailsByNumber result self.old self.new }
     {

@@ -1,6 +1,6 @@
-ghost use Rattle.std.specs.Prelude.{◌≡◌, ℕ, List, Some, IfOk, OnErr, IfErr, min, length};
+ghost use Rattle.std.specs.Prelude.{◌≡◌, IfOk, OnErr, IfErr, min, length};
 ghost use Rattle.db_io.specs.Content.{Gives, Counts};
-ghost use Rattle.db_io.specs.MemoryEnd.{MemoryEnd, FailsByNumber};
+ghost use Rattle.db_io.specs.MemoryEnd.{told_by, FailsByNumber};
 
 use crate::fault::IoFault;
 use crate::source::Source;
@@ -24,15 +24,22 @@ impl Model for MemorySource {
 
     ghost Value = { MemoryEnd };
 
-    ghost view = { λ s. record { content = drop s.at s.bytes.items; failing = s.failing.items; calls = s.calls; faults = s.faults } };
+    ghost view = { λ s. record {
+      content = drop s.at s.bytes.items;
+      failing = s.failing.items;
+      calls = s.calls;
+      faults = s.faults;
+    } };
 
     ghost invariant = { λ s. (s.at ≤ vec_len s.bytes) × (s.faults ≤ s.calls) };
 }
 
 impl MemorySource {
-    /// A source of these bytes, whose calls of these numbers fail; the first call is number 1. Refused for memory alone.
+    /// A source of these bytes, whose calls of these numbers fail; the first call is number 1.
+    /// Refused for memory alone.
     pub fn new(alloc: Global, bytes: &[u8], failing: &[u64]) -> Result<MemorySource, IoFault>
-        ensures ok { IfOk result (λ s. s ≡ record { content = bytes.now; failing = failing.now; calls = 0; faults = 0 }) }
+        ensures ok { IfOk result
+            (λ s. s ≡ record { content = bytes.now; failing = failing.now; calls = 0; faults = 0 }) }
         ensures memory { IfErr result (λ e. e ≡ IoFault.Memory) }
     {
         let Ok(bytes) = bytes.to_vec(alloc) else {
@@ -52,14 +59,14 @@ impl MemorySource {
 }
 
 impl Source for MemorySource {
-    ghost left = { λ s. Some s.content };
-
-    ghost faults = { λ s. s.faults };
+    ghost told = { told_by };
 
     fn read(&mut self, into: &mut Blob, max: usize) -> Result<usize, IoFault>
-        ensures gives { IfOk result (Gives into.old into.new (Some self.old.content) (Some self.new.content) max) }
-        ensures err { OnErr result ((into.new ≡ into.old) × (Some self.new.content ≡ Some self.old.content)) }
-        ensures counts { Counts result self.old.faults self.new.faults }
+        ensures gives { IfOk result (Gives into.old into.new (told_by self.old) (told_by self.new) max) }
+        ensures err { OnErr result
+            ((into.new ≡ into.old)
+            × ((told_by self.new).content ≡ (told_by self.old).content)) }
+        ensures counts { Counts result (told_by self.old) (told_by self.new) }
         ensures many { IfOk result (λ n. n ≡ min max (length self.old.content)) }
         ensures fails { FailsByNumber result self.old self.new }
     {

@@ -1,19 +1,16 @@
-ghost use Rattle.std.specs.Prelude.{◌≡◌, ℕ, List, Option, OnOk, OnErr};
-ghost use Rattle.db_io.specs.Content.{Adds, AddsPrefix, Counts};
+ghost use Rattle.std.specs.Prelude.{OnOk, OnErr};
+ghost use Rattle.db_io.specs.Content.{Told, Adds, AddsPrefix, Counts};
 
 use crate::fault::IoFault;
 
 /// Where bytes go to.
 pub trait Sink {
-    // What was written to it, where it tells.
-    ghost written: { Self → Option (List ℕ) };
-
-    // How many of its calls failed.
-    ghost faults: { Self → ℕ };
+    // What was written to it, where it tells, and how many of its calls failed.
+    ghost told: { Self → Told };
 
     /// Writes all the bytes, or at an error a prefix of them.
     fn write(&mut self, bytes: &[u8]) -> Result<(), IoFault>
-        ensures all { OnOk result (Adds (written self.old) (written self.new) bytes.now) }
-        ensures front { OnErr result (AddsPrefix (written self.old) (written self.new) bytes.now) }
-        ensures counts { Counts result (faults self.old) (faults self.new) };
+        ensures all { OnOk result (Adds (told self.old) (told self.new) bytes.now) }
+        ensures front { OnErr result (AddsPrefix (told self.old) (told self.new) bytes.now) }
+        ensures counts { Counts result (told self.old) (told self.new) };
 }

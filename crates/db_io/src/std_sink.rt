@@ -1,4 +1,5 @@
-ghost use Rattle.std.specs.Prelude.{◌≡◌, ℕ, List, None};
+ghost use Rattle.std.specs.Prelude.{◌≡◌};
+ghost use Rattle.db_io.specs.Content.{faults_alone};
 
 use crate::fault::IoFault;
 use crate::sink::Sink;
@@ -37,9 +38,7 @@ fn write_whole<W: Write>(writer: &mut W, bytes: &[u8]) -> io::Result<()> {
 }
 
 impl<W: Write> Sink for StdSink<W> {
-    ghost written = { λ _. None };
-
-    ghost faults = { λ s. s };
+    ghost told = { faults_alone };
 
     fn write(&mut self, bytes: &[u8]) -> Result<(), IoFault> {
         if self.faults == u64::MAX {

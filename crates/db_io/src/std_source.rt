@@ -1,4 +1,5 @@
-ghost use Rattle.std.specs.Prelude.{◌≡◌, ℕ, List, None};
+ghost use Rattle.std.specs.Prelude.{◌≡◌};
+ghost use Rattle.db_io.specs.Content.{faults_alone};
 
 use crate::fault::IoFault;
 use crate::source::Source;
@@ -34,9 +35,7 @@ impl<R: Read> StdSource<R> {
 }
 
 impl<R: Read> Source for StdSource<R> {
-    ghost left = { λ _. None };
-
-    ghost faults = { λ s. s };
+    ghost told = { faults_alone };
 
     fn read(&mut self, into: &mut Blob, max: usize) -> Result<usize, IoFault> {
         if self.faults == u64::MAX {

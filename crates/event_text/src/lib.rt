@@ -4,6 +4,4 @@
 pub mod event;
 pub mod keyword;
 pub mod read;
-#[cfg(test)]
-mod tests;
 pub mod write;

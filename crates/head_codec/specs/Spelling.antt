@@ -71,7 +71,7 @@ abbrev pub IsPhase : Phase → Type 0
 IsPhase Settled = Unit {0}
 IsPhase (Open count) = (1 ≤ count) × (count ≤ 200)
 
--- what a head needs to have a spelling, beside what its types say
+-- all that a head needs to have a spelling, beside what its types say (`FitsTypes`)
 pub record HasSpelling (h : Head) : Type 0 where
   pub epoch : 1 ≤ h.epoch
   pub phase : IsPhase h.phase

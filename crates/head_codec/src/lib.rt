@@ -7,5 +7,3 @@ pub mod head;
 pub mod laws;
 pub mod lists;
 mod pending;
-#[cfg(test)]
-mod tests;

@@ -1,2 +1,3 @@
 pub mod Fold
 pub mod Legal
+pub mod Audited

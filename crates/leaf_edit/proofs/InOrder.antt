@@ -10,8 +10,8 @@ use Rattle.std.proofs.lemmas.List.Sorted.{ranks_by, sorted_far}
 use Rattle.db_base.specs.Change.{key_of}
 use Rattle.byte_format.specs.Order.{bytes_cmp, bytes_below}
 use Rattle.log_codec.specs.declared.record.PuItem.{PuItem}
-use Rattle.run_cursor.specs.Run.{IsItem, IsOrdered, item_cmp}
-use Rattle.run_cursor.proofs.ItemOrder.{item_cmp_total}
+use Rattle.log_codec.specs.Order.{IsItem, IsOrdered, item_cmp}
+use Rattle.log_codec.proofs.ItemOrder.{item_cmp_total}
 use Rattle.leaf_view.specs.Leaf.{Leaf}
 use Rattle.leaf_edit.specs.Lacked.{is_lacked, lacked}
 use Rattle.leaf_edit.specs.Merging.{Rises, AreChanges, AllAbove, AllFrom}

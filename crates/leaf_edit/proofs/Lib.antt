@@ -6,6 +6,7 @@ pub mod Edits
 pub mod Folding
 pub mod HeadBytes
 pub mod InOrder
+pub mod Payloads
 pub mod Sizes
 pub mod Spelled
 pub mod Spellings

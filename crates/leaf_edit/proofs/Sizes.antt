@@ -12,7 +12,7 @@ use Rattle.log_codec.specs.declared.record.PuItem.{PuItem}
 use Rattle.leaf_edit.specs.Applied.{applied, applied_length}
 use Rattle.leaf_edit.specs.Edited.{edited_by}
 use Rattle.leaf_edit.specs.Lacked.{lacked}
-use Rattle.leaf_edit.specs.Raised.{own_entries, raised, raised_number, with_done}
+use Rattle.leaf_edit.specs.Raised.{AreRaised, own_entries, raised, raised_number, with_done}
 use Rattle.leaf_edit.specs.Sizes.{high_size, fields_size, dones_size, entry_size, entries_size, leaf_size, IsSize}
 use Rattle.leaf_edit.proofs.DoneBytes.{dones_before-rest, next-own}
 use Rattle.leaf_edit.proofs.Spellings.{leaf-spelled}
@@ -103,6 +103,15 @@ raised-size ds queue run = on (filter (is_beside false queue) ds) (own_entries q
   where
     on : (a b c : List Done) → dones_size (a ++ (b ++ c)) ≡ dones_size a + (dones_size b + dones_size c)
     on a b c = dones-size-append a (b ++ c) ∙ ap (λ n. dones_size a + n) (dones-size-append b c)
+
+-- the queue's own entries, by the numbers that were found for its clients
+pub own-raised : (ds : List Done) (queue : ℕ) (run : List PuItem) (number : ℕ → ℕ) → AreRaised ds queue run number
+    → own_entries queue number 64 ≡ own_entries queue (raised_number ds queue run) 64
+own-raised ds queue run number h = ap (λ (f : ℕ → ℕ). own_entries queue f 64) (λ i client. h.each client i)
+
+pub own-raised-bytes : (ds : List Done) (queue : ℕ) (run : List PuItem) (number : ℕ → ℕ) (out new : List ℕ) → AreRaised ds queue run number
+    → new ≡ out ++ dones_before (own_entries queue number 64) [] → new ≡ out ++ dones_before (own_entries queue (raised_number ds queue run) 64) []
+own-raised-bytes ds queue run number out new h e = e ∙ ap (λ (own : List Done). out ++ dones_before own []) (own-raised ds queue run number h)
 
 -- the room behind the entries of lower queues
 pub table-behind : (ds l : List Done) (queue : ℕ) (run : List PuItem) (old new : Vec ℕ) → l ≡ ds

@@ -10,7 +10,7 @@ use Rattle.leaf_view.specs.declared.done.Done.{Done}
 use Rattle.leaf_view.specs.Fits.{Behind, Ascend, done_below, IsDone}
 use Rattle.leaf_view.specs.Lookup.{number_of}
 use Rattle.log_codec.specs.declared.record.PuItem.{PuItem}
-use Rattle.run_cursor.specs.Run.{IsItem}
+use Rattle.log_codec.specs.Order.{IsItem}
 use Rattle.leaf_edit.specs.Raised.{greatest_of, raised_number, with_done, own_entries, raised}
 use Rattle.leaf_edit.proofs.InOrder.{all-filter}
 

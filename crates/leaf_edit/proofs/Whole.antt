@@ -13,7 +13,7 @@ use Rattle.leaf_view.specs.Fits.{IsWellFormed, IsVersion, IsEntryIn}
 use Rattle.leaf_view.specs.Lookup.{holds, number_of}
 use Rattle.leaf_view.proofs.Split.{fits_leaf}
 use Rattle.log_codec.specs.declared.record.PuItem.{PuItem}
-use Rattle.run_cursor.specs.Run.{IsItem, IsOrdered}
+use Rattle.log_codec.specs.Order.{IsItem, IsOrdered}
 use Rattle.leaf_edit.specs.Applied.{applied}
 use Rattle.leaf_edit.specs.Edited.{edited_by}
 use Rattle.leaf_edit.specs.Lacked.{is_lacked, lacked}

@@ -1,3 +1,4 @@
+pub mod Acted
 pub mod Applied
 pub mod Buffer
 pub mod Cut

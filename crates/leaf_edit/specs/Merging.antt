@@ -8,7 +8,7 @@ use Rattle.byte_format.specs.Order.{bytes_below}
 use Rattle.leaf_view.specs.Leaf.{Entry}
 use Rattle.leaf_view.specs.Fits.{Ascend, entry_below}
 use Rattle.log_codec.specs.declared.record.PuItem.{PuItem}
-use Rattle.run_cursor.specs.Run.{IsItem}
+use Rattle.log_codec.specs.Order.{IsItem}
 use Rattle.leaf_edit.specs.Edited.{edited_by, with_payload}
 
 -- the key stands before the first record, where there is one

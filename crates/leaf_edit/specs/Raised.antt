@@ -18,6 +18,10 @@ greatest_of (x ∷ xs) client = max (number_in x client) (greatest_of xs client)
 abbrev pub raised_number : List Done → ℕ → List PuItem → ℕ → ℕ
 raised_number ds queue run client = max (number_of ds queue client) (greatest_of run client)
 
+-- each client's number is what is done of its records behind the run
+pub record AreRaised (ds : List Done) (queue : ℕ) (run : List PuItem) (number : ℕ → ℕ) : Type 0 where
+  pub each : (client : ℕ) → number client ≡ raised_number ds queue run client
+
 -- an entry in front of the others, where something is done
 abbrev pub with_done : ℕ → ℕ → ℕ → List Done → List Done
 with_done queue client zero ds = ds

@@ -1,7 +1,7 @@
 //! A run applied to a leaf.
 
 ghost use Rattle.std.specs.Prelude.{◌≡◌, ◌<◌, ◌≤◌, ◌^◌, ◌↔◌, IfOk};
-ghost use Rattle.run_cursor.specs.Run.{IsOrdered};
+ghost use Rattle.log_codec.specs.Order.{IsOrdered};
 ghost use Rattle.leaf_edit.specs.Applied.{applied, applied_length};
 ghost use Rattle.leaf_edit.specs.Raised.{RaisesNumbers};
 

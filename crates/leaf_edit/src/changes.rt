@@ -1,7 +1,6 @@
 //! The items of a run that a leaf lacks.
 
-use db_base::ids::ClientId;
-use leaf_view::LeafView;
+use leaf_view::{LeafView, Numbers};
 use log_codec::record::PuItem;
 use std::marker::Model;
 
@@ -10,39 +9,55 @@ use std::marker::Model;
 pub(crate) struct Changes<'a> {
     leaf: &'a LeafView<'a>,
     queue: u64,
+    // What the leaf has applied of the queue.
+    done: &'a Numbers,
     rest: &'a [PuItem],
 }
 
 impl<'a> Model for Changes<'a> {
-    ghost use Rattle.std.specs.Prelude.{List};
+    ghost use Rattle.std.specs.Prelude.{List, slice_index};
     ghost use Rattle.log_codec.specs.declared.record.PuItem.{PuItem as Item};
     ghost use Rattle.leaf_edit.specs.Lacked.{lacked};
+    ghost use Rattle.leaf_view.specs.Lookup.{AreNumbers};
 
     ghost Value = { List Item };
 
     ghost view = { λ c. lacked c.leaf.now c.queue c.rest.now };
+
+    ghost invariant = { λ c. AreNumbers c.leaf.now.done c.queue (λ client. slice_index c.done.now client) };
 }
 
-ghost use Rattle.std.specs.Prelude.{◌≡◌, [], ◌∷◌, MatchOption};
-ghost use Rattle.leaf_edit.specs.Lacked.{is_lacked, lacked};
+ghost use Rattle.std.specs.Prelude.{◌≡◌, slice_index};
+ghost use Rattle.leaf_view.specs.Lookup.{AreNumbers};
+ghost use Rattle.leaf_edit.specs.Lacked.{is_lacked};
 
 /// Whether the leaf lacks the item: its key is in the leaf's range, and its number is not applied.
-pub(crate) fn lacks(leaf: &LeafView<'_>, queue: u64, x: &PuItem) -> bool
+pub(crate) fn lacks(leaf: &LeafView<'_>, queue: u64, done: &Numbers, x: &PuItem) -> bool
+    requires { AreNumbers leaf.now.done queue (λ client. slice_index done.now client) }
     ensures { result ≡ is_lacked leaf.now queue x.now }
 {
-    leaf.holds(x.rec.change.key().as_slice()) && leaf.done(queue, x.rec.client) < x.rec.number
+    leaf.holds(x.rec.change.key().as_slice()) && done.get(x.rec.client) < x.rec.number
 }
 
 impl<'a> Changes<'a> {
-    ghost use Rattle.std.specs.Prelude.{◌≡◌, [], ◌∷◌, MatchOption};
+    ghost use Rattle.std.specs.Prelude.{◌≡◌, [], ◌∷◌, slice_index, MatchOption};
+    ghost use Rattle.leaf_view.specs.Lookup.{AreNumbers};
     ghost use Rattle.leaf_edit.specs.Lacked.{lacked};
 
-    pub(crate) fn of(leaf: &'a LeafView<'a>, queue: u64, run: &'a [PuItem]) -> Changes<'a>
+    /// Those of a run; `done` is what the leaf has applied of the queue.
+    pub(crate) fn of(
+        leaf: &'a LeafView<'a>,
+        queue: u64,
+        done: &'a Numbers,
+        run: &'a [PuItem],
+    ) -> Changes<'a>
+        requires { AreNumbers leaf.now.done queue (λ client. slice_index done.now client) }
         ensures { result ≡ lacked leaf.now queue run.now }
     {
         Changes {
             leaf,
             queue,
+            done,
             rest: run,
         }
     }
@@ -54,6 +69,7 @@ impl<'a> Changes<'a> {
         Changes {
             leaf: self.leaf,
             queue: self.queue,
+            done: self.done,
             rest: self.rest,
         }
     }
@@ -64,10 +80,19 @@ impl<'a> Changes<'a> {
     {
         let leaf = self.leaf;
         let queue = self.queue;
+        let done = self.done;
         let mut left = self.rest;
         while let Some((x, rest)) = left.split_first() {
-            if lacks(leaf, queue, x) {
-                return Some((x, Changes { leaf, queue, rest }));
+            if lacks(leaf, queue, done, x) {
+                return Some((
+                    x,
+                    Changes {
+                        leaf,
+                        queue,
+                        done,
+                        rest,
+                    },
+                ));
             }
             left = rest;
         }

@@ -11,5 +11,14 @@ use log_codec::record::PuItem;
 pub fn fresh(leaf: &LeafView<'_>, queue: u64, run: &[PuItem]) -> usize
     ensures { result ≡ length (lacked leaf.now queue run.now) }
 {
-    run.iter().filter(|x| lacks(leaf, queue, x)).count()
+    let done = leaf.numbers(queue);
+    let mut count = 0;
+    let mut left = run;
+    while let Some((x, rest)) = left.split_first() {
+        if lacks(leaf, queue, &done, x) {
+            count += 1;
+        }
+        left = rest;
+    }
+    count
 }

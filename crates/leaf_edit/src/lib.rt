@@ -6,6 +6,7 @@ mod buffer;
 mod changes;
 mod count;
 mod cut;
+mod laws;
 mod merging;
 mod spell;
 mod step;
@@ -14,7 +15,5 @@ mod table;
 pub use applying::apply;
 pub use buffer::LeafBuf;
 pub use count::fresh;
+pub use laws::payloads_follow_changes;
 pub use merging::{VersionSpent, merge, need};
-
-#[cfg(test)]
-mod tests;

@@ -6,7 +6,7 @@ ghost use Rattle.std.specs.Vec.{vec_capacity};
 ghost use Rattle.byte_format.specs.Adds.{Adds};
 ghost use Rattle.leaf_view.specs.Shown.{shown};
 ghost use Rattle.leaf_view.specs.Leaf.{IsLeaf};
-ghost use Rattle.run_cursor.specs.Run.{IsOrdered};
+ghost use Rattle.log_codec.specs.Order.{IsOrdered};
 ghost use Rattle.leaf_edit.specs.Applied.{applied, applied_length};
 ghost use Rattle.leaf_edit.specs.Edited.{edited_by};
 ghost use Rattle.leaf_edit.specs.Merging.{AreChanges, AreRecords, IsSized};
@@ -98,7 +98,8 @@ pub fn need(leaf: &LeafView<'_>, queue: u64, run: &[PuItem]) -> Option<usize>
 {
     let fields = fields_len(leaf.low(), leaf.high());
     let table = table_len(fields + 1, leaf, queue, run)?;
-    records_len(table, leaf.records(), Changes::of(leaf, queue, run))
+    let done = leaf.numbers(queue);
+    records_len(table, leaf.records(), Changes::of(leaf, queue, &done, run))
 }
 
 /// Writes the leaf behind a run, the one that `apply` gives, into room that is there. Takes no memory.
@@ -116,7 +117,7 @@ pub fn merge(
     ensures spelled { OnOk result (IsLeaf out.new.items (applied leaf.now queue run.now)) }
     ensures spent { IsErr result ↔ (leaf.now.version ≡ 18446744073709551615) }
     ensures unchanged { OnErr result (out.new ≡ out.old) }
-    ensures room { vec_capacity out.old ≤ vec_capacity out.new }
+    ensures room { vec_capacity out.new ≡ vec_capacity out.old }
 {
     if leaf.version() == u64::MAX {
         return Err(VersionSpent);
@@ -124,6 +125,7 @@ pub fn merge(
     add_head(out, leaf, leaf.version() + 1);
     add_table(out, leaf, queue, run);
     add_u8(out, 0);
-    add_records(out, leaf.records(), Changes::of(leaf, queue, run));
+    let done = leaf.numbers(queue);
+    add_records(out, leaf.records(), Changes::of(leaf, queue, &done, run));
     Ok(())
 }

@@ -1,47 +1,38 @@
 //! The table of what is done, raised by a run.
 
-ghost use Rattle.std.specs.Prelude.{◌≡◌, ◌+◌, ◌≤◌, [], ◌∷◌, filter, vec_len};
+ghost use Rattle.std.specs.Prelude.{◌≡◌, ℕ, ◌+◌, ◌≤◌, [], ◌∷◌, filter, max, slice_index, vec_len};
 ghost use Rattle.std.specs.Vec.{vec_capacity};
 ghost use Rattle.db_base.specs.Ids.{IsClient};
 ghost use Rattle.byte_format.specs.Adds.{Adds};
-ghost use Rattle.leaf_edit.specs.Raised.{greatest_of, number_in, own_entries, raised, raised_number, with_done};
+ghost use Rattle.leaf_edit.specs.Raised.{AreRaised, number_in, own_entries, raised, with_done};
 ghost use Rattle.leaf_edit.specs.Sizes.{dones_size, IsSize};
 ghost use Rattle.leaf_edit.specs.Spelled.{dones_before, is_beside};
 
 use crate::spell::{DONE_LEN, add_done};
 use db_base::ids::ClientId;
-use leaf_view::{Done, DoneList, LeafView};
+use leaf_view::{Done, DoneList, LeafView, Numbers};
 use log_codec::record::PuItem;
 
-/// The item's number where it is the client's, else 0.
-fn number_in(x: &PuItem, client: ClientId) -> u64
-    ensures { result ≡ number_in x.now client }
+/// Raises the client of an item to the item's number.
+fn raise(numbers: &mut Numbers, x: &PuItem)
+    ensures { (client : ℕ) → slice_index numbers.new client ≡ max (slice_index numbers.old client) (number_in x.now client) }
 {
-    if x.rec.client.get() == client.get() {
-        x.rec.number
-    } else {
-        0
+    if numbers.get(x.rec.client) < x.rec.number {
+        numbers.set(x.rec.client, x.rec.number);
     }
 }
 
-/// The client's greatest number in the run, 0 where it has none.
-fn greatest_of(run: &[PuItem], client: ClientId) -> u64
-    ensures { result ≡ greatest_of run.now client }
+/// The numbers up to which the records of the queue are applied behind the run, by client.
+fn raised_numbers(leaf: &LeafView<'_>, queue: u64, run: &[PuItem]) -> Numbers
+    ensures { AreRaised leaf.now.done queue run.now (λ client. slice_index result client) }
 {
-    let mut best: u64 = 0;
+    let mut numbers = leaf.numbers(queue);
     let mut left = run;
     while let Some((x, rest)) = left.split_first() {
-        best = best.max(number_in(x, client));
+        raise(&mut numbers, x);
         left = rest;
     }
-    best
-}
-
-/// The number up to which the client's records of the queue are applied behind the run.
-fn raised_number(leaf: &LeafView<'_>, queue: u64, run: &[PuItem], client: ClientId) -> u64
-    ensures { result ≡ raised_number leaf.now.done queue run.now client }
-{
-    leaf.done(queue, client).max(greatest_of(run, client))
+    numbers
 }
 
 /// The client of a number.
@@ -81,30 +72,30 @@ fn add_if_done(out: &mut Vec<u8>, queue: u64, client: ClientId, number: u64)
 }
 
 /// So many bytes, and those of the queue's entries by client.
-fn own_len(total: usize, leaf: &LeafView<'_>, queue: u64, run: &[PuItem]) -> Option<usize>
-    ensures { IsSize result (total + dones_size (own_entries queue (raised_number leaf.now.done queue run.now) 64)) }
+fn own_len(total: usize, queue: u64, numbers: &Numbers) -> Option<usize>
+    ensures { IsSize result (total + dones_size (own_entries queue (λ client. slice_index numbers.now client) 64)) }
 {
     let mut sum = total;
     let mut left: u64 = 64;
     while left > 0 {
         left -= 1;
         let client = client_at(64 - left);
-        let number = raised_number(leaf, queue, run, client);
+        let number = numbers.get(client);
         sum = sum.checked_add(done_len(queue, client, number))?;
     }
     Some(sum)
 }
 
 /// Appends the queue's entries by client.
-fn add_own(out: &mut Vec<u8>, leaf: &LeafView<'_>, queue: u64, run: &[PuItem])
-    requires { vec_len out.old + dones_size (own_entries queue (raised_number leaf.now.done queue run.now) 64) ≤ vec_capacity out.old }
-    ensures { Adds out.old out.new (dones_before (own_entries queue (raised_number leaf.now.done queue run.now) 64) []) }
+fn add_own(out: &mut Vec<u8>, queue: u64, numbers: &Numbers)
+    requires { vec_len out.old + dones_size (own_entries queue (λ client. slice_index numbers.now client) 64) ≤ vec_capacity out.old }
+    ensures { Adds out.old out.new (dones_before (own_entries queue (λ client. slice_index numbers.now client) 64) []) }
 {
     let mut left: u64 = 64;
     while left > 0 {
         left -= 1;
         let client = client_at(64 - left);
-        let number = raised_number(leaf, queue, run, client);
+        let number = numbers.get(client);
         add_if_done(out, queue, client, number);
     }
 }
@@ -176,7 +167,7 @@ pub(crate) fn table_len(
     ensures { IsSize result (total + dones_size (raised leaf.now.done queue run.now)) }
 {
     let lower = others_len(total, false, queue, leaf.done_list())?;
-    let own = own_len(lower, leaf, queue, run)?;
+    let own = own_len(lower, queue, &raised_numbers(leaf, queue, run))?;
     others_len(own, true, queue, leaf.done_list())
 }
 
@@ -186,6 +177,6 @@ pub(crate) fn add_table(out: &mut Vec<u8>, leaf: &LeafView<'_>, queue: u64, run:
     ensures { Adds out.old out.new (dones_before (raised leaf.now.done queue run.now) []) }
 {
     add_others(out, false, queue, leaf.done_list());
-    add_own(out, leaf, queue, run);
+    add_own(out, queue, &raised_numbers(leaf, queue, run));
     add_others(out, true, queue, leaf.done_list());
 }

@@ -1,5 +1,5 @@
 -- What is found in a leaf.
-use Rattle.std.specs.Prelude.{ℕ, zero, suc, Bool, not, ◌&&◌, List, [], ◌∷◌, Option, Some, None, ◌==◌, if◌then◌else◌}
+use Rattle.std.specs.Prelude.{◌≡◌, ℕ, zero, suc, Bool, not, ◌&&◌, List, [], ◌∷◌, Option, Some, None, ◌==◌, if◌then◌else◌}
 use Rattle.byte_format.specs.Order.{bytes_below, bytes_same, below_bound}
 use Rattle.leaf_view.specs.declared.done.Done.{Done}
 use Rattle.leaf_view.specs.Leaf.{Entry, Leaf}
@@ -17,6 +17,15 @@ payload_of key (e ∷ es) = if bytes_same e.key key then Some e.payload else pay
 abbrev pub number_of : List Done → ℕ → ℕ → ℕ
 number_of [] queue client = 0
 number_of (d ∷ ds) queue client = if (d.queue == queue) && (d.client == client) then d.number else number_of ds queue client
+
+-- a number, or another one where it is 0
+abbrev pub or_else : ℕ → ℕ → ℕ
+or_else zero other = other
+or_else (suc n) other = suc n
+
+-- each client's number is that of the queue
+pub record AreNumbers (ds : List Done) (queue : ℕ) (number : ℕ → ℕ) : Type 0 where
+  pub each : (client : ℕ) → number client ≡ number_of ds queue client
 
 -- the right page, where there is one
 abbrev pub page_at : ℕ → Option ℕ

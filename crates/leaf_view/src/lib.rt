@@ -7,6 +7,7 @@ mod done_rules;
 mod entry;
 mod head;
 mod laws;
+mod numbers;
 mod record_rules;
 mod records;
 mod view;
@@ -14,8 +15,6 @@ mod view;
 pub use done::Done;
 pub use done_list::DoneList;
 pub use laws::parts_lie_in_the_bytes;
+pub use numbers::Numbers;
 pub use records::Records;
 pub use view::{LeafView, NotLeaf};
-
-#[cfg(test)]
-mod tests;

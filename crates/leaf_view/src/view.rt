@@ -3,10 +3,14 @@
 use crate::done_list::DoneList;
 use crate::done_rules::DoneRules;
 use crate::head::head_at;
+use crate::numbers::{Numbers, note};
 use crate::record_rules::RecordRules;
 use crate::records::Records;
 use byte_format::{Stop, is_below, is_below_bound, is_same, skip_list};
+use db_base::cursor::Cursor;
 use db_base::ids::{ClientId, PageId};
+use db_base::refusal::Refused;
+use std::alloc::Global;
 use std::marker::Model;
 
 /// Bytes that are in no leaf spelling.
@@ -41,13 +45,14 @@ impl<'a> Model for LeafView<'a> {
 }
 
 impl<'a> LeafView<'a> {
-    ghost use Rattle.std.specs.Prelude.{◌≡◌, ℕ, Ok, IfOk, IfErr};
+    ghost use Rattle.std.specs.Prelude.{◌≡◌, ℕ, Ok, IfOk, IfErr, slice_index};
     ghost use Rattle.std.specs.Option.{option_copied};
     ghost use Rattle.byte_format.specs.Whole.{whole, offset};
     ghost use Rattle.byte_format.specs.Gives.{Gives};
     ghost use Rattle.leaf_view.specs.Leaf.{Leaf, IsLeaf, leaf};
     ghost use Rattle.leaf_view.specs.Fits.{IsWellFormed};
-    ghost use Rattle.leaf_view.specs.Lookup.{holds, payload_of, number_of, page_at, empty_leaf};
+    ghost use Rattle.db_base.specs.Cursor.{number_of as cursor_number};
+    ghost use Rattle.leaf_view.specs.Lookup.{holds, payload_of, number_of, AreNumbers, page_at, empty_leaf};
 
     /// The leaf that the bytes spell, all of the bytes.
     pub fn read(bytes: &'a [u8]) -> Result<LeafView<'a>, NotLeaf>
@@ -185,5 +190,32 @@ impl<'a> LeafView<'a> {
             left = rest;
         }
         0
+    }
+
+    /// What is done of a queue, by client. Takes no memory.
+    pub fn numbers(&self, queue: u64) -> Numbers
+        ensures { AreNumbers self.now.done queue (λ client. slice_index result client) }
+    {
+        let mut numbers = Numbers::new();
+        let mut left = self.done_list();
+        while let Some((item, rest)) = left.split() {
+            numbers.note(queue, &item);
+            left = rest;
+        }
+        numbers
+    }
+
+    /// What is done of a queue, as a cursor. Refused for memory alone.
+    pub fn cursor(&self, alloc: Global, queue: u64) -> Result<Cursor, Refused>
+        ensures ok { IfOk result (λ c. AreNumbers self.now.done queue (cursor_number c)) }
+        ensures memory { IfErr result (λ e. e ≡ Refused.Memory) }
+    {
+        let mut cursor = Cursor::new(alloc);
+        let mut left = self.done_list();
+        while let Some((item, rest)) = left.split() {
+            note(&mut cursor, queue, &item)?;
+            left = rest;
+        }
+        Ok(cursor)
     }
 }

@@ -1,31 +1,38 @@
 -- The reading of a whole input, read by read.
-use Rattle.std.proofs.Common.{◌≡◌, ℕ, ◌-◌, ◌<◌, ◌≤◌, List, [], ◌∷◌, ◌++◌, length, Option, Ok, Err, refl, sym, ap, ◌∙◌, append_assoc, length-append, append-nil, arith}
-use Rattle.db_io.specs.Content.{Takes, Gives}
-use Rattle.line_io.specs.Input.{WasRead}
+use Rattle.std.proofs.Common.{◌≡◌, ℕ, ◌+◌, ◌-◌, ◌<◌, ◌≤◌, List, [], ◌∷◌, ◌++◌, length, Ok, Err, refl, sym, ap, ◌∙◌, append_assoc, length-append, append-nil, arith}
+use Rattle.db_io.specs.Content.{Told, Takes, Gives, Counts}
+use Rattle.db_io.specs.declared.fault.IoFault.{IoFault}
+use Rattle.db_io.specs.declared.fault.IoFault.TheVariants as io
+use Rattle.line_io.specs.declared.input.TheConstants.{MAX_INPUT}
+use Rattle.line_io.specs.Input.{WasRead, input_fault}
 use Rattle.line_io.specs.declared.input.InputFault.TheVariants.{ReadFault, TooLong, Memory}
 
 -- an input is being read: these bytes came from the source, and no read failed
-pub record IsReading (left rest : Option (List ℕ)) (old new : ℕ) (bytes : List ℕ) : Type 0 where
-  pub taken : Takes left rest bytes
-  pub faults : new ≡ old
-  pub most : length bytes ≤ 262145
+pub record IsReading (before after : Told) (bytes : List ℕ) : Type 0 where
+  pub taken : Takes before after bytes
+  pub faults : after.faults ≡ before.faults
+  pub most : length bytes ≤ MAX_INPUT + 1
 
 -- at first nothing is read
-pub begins : (left : Option (List ℕ)) (faults : ℕ) → IsReading left left faults faults []
-begins left faults = record { taken = λ all e. (all, e, refl); faults = refl; most = omega arith }
+pub begins : (source : Told) → IsReading source source []
+begins source = record { taken = λ all e. (all, e, refl); faults = refl; most = omega arith }
 
 -- bytes that were taken one after the other are taken together
-takes_both : (left mid rest : Option (List ℕ)) (one two : List ℕ) → Takes left mid one → Takes mid rest two → Takes left rest (one ++ two)
-takes_both left mid rest one two first second = λ all e.
+takes_both : (a b c : Told) (one two : List ℕ) → Takes a b one → Takes b c two → Takes a c (one ++ two)
+takes_both a b c one two first second = λ all e.
     let f = first all e in
     let s = second f.0 f.1 in
     (s.0, s.1, f.2 ∙ ap (λ (l : List ℕ). one ++ l) s.2 ∙ sym (append_assoc one two s.0))
 
+-- bytes were taken, and then the content stayed
+takes_still : (a b c : Told) (bytes : List ℕ) → Takes a b bytes → c.content ≡ b.content → Takes a c bytes
+takes_still a b c bytes taken same = λ all e. let t = taken all e in (t.0, same ∙ t.1, t.2)
+
 -- a read goes on
-pub goes_on : (left mid rest : Option (List ℕ)) (old now new count : ℕ) (bytes more : List ℕ) → IsReading left mid old now bytes
-    → Gives bytes more mid rest (262145 - length bytes) count → new ≡ now → IsReading left rest old new more
-goes_on left mid rest old now new count bytes more reading gives same = record {
-  taken = rw gives.appended (takes_both left mid rest bytes gives.bytes reading.taken gives.taken);
+pub goes_on : (a b c : Told) (count : ℕ) (bytes more : List ℕ) → IsReading a b bytes
+    → Gives bytes more b c (MAX_INPUT + 1 - length bytes) count → c.faults ≡ b.faults → IsReading a c more
+goes_on a b c count bytes more reading gives same = record {
+  taken = rw gives.appended (takes_both a b c bytes gives.bytes reading.taken gives.taken);
   faults = same ∙ reading.faults;
   most = rw gives.appended (omega (arith, length-append bytes gives.bytes, gives.counted, gives.within, reading.most));
 }
@@ -36,14 +43,14 @@ is_empty [] e = refl
 is_empty (x ∷ xs) e = cc
 
 -- a read of nothing ends the input
-pub ends : (left mid rest : Option (List ℕ)) (old now new : ℕ) (bytes more : List ℕ) → IsReading left mid old now bytes → length bytes ≤ 262144
-    → Gives bytes more mid rest (262145 - length bytes) 0 → new ≡ now → WasRead left rest old new (Ok more)
-ends left mid rest old now new bytes more reading short gives same =
+pub ends : (a b c : Told) (bytes more : List ℕ) → IsReading a b bytes → length bytes ≤ MAX_INPUT
+    → Gives bytes more b c (MAX_INPUT + 1 - length bytes) 0 → c.faults ≡ b.faults → WasRead a c (Ok more)
+ends a b c bytes more reading short gives same =
     let none : gives.bytes ≡ [] = is_empty gives.bytes (sym gives.counted) in
     let is : more ≡ bytes = gives.appended ∙ ap (λ (l : List ℕ). bytes ++ l) none ∙ append-nil bytes in
     record {
       bytes = more;
-      taken = (goes_on left mid rest old now new 0 bytes more reading gives same).taken;
+      taken = (goes_on a b c 0 bytes more reading gives same).taken;
       tells = (
         refl,
         rw is short,
@@ -54,25 +61,30 @@ ends left mid rest old now new bytes more reading short gives same =
       );
     }
 
--- a read that failed ends it
-pub fails : (left mid rest : Option (List ℕ)) (old now new : ℕ) (bytes : List ℕ) → IsReading left mid old now bytes → length bytes ≤ 262144
-    → rest ≡ mid → now < new → WasRead left rest old new (Err ReadFault)
-fails left mid rest old now new bytes reading short same rose = record {
+-- so does a read that failed
+pub fails : (a b c : Told) (bytes : List ℕ) → IsReading a b bytes → length bytes ≤ MAX_INPUT
+    → c.content ≡ b.content → b.faults < c.faults → WasRead a c (Err ReadFault)
+fails a b c bytes reading short same rose = record {
   bytes = bytes;
-  taken = rw same reading.taken;
+  taken = takes_still a b c bytes reading.taken same;
   tells = (short, rw (← reading.faults) rose);
 }
 
--- so does want of memory
-pub wants : (left mid rest : Option (List ℕ)) (old now new : ℕ) (bytes : List ℕ) → IsReading left mid old now bytes → length bytes ≤ 262144
-    → rest ≡ mid → new ≡ now → WasRead left rest old new (Err Memory)
-wants left mid rest old now new bytes reading short same faults = record {
+-- and want of memory
+pub wants : (a b c : Told) (bytes : List ℕ) → IsReading a b bytes → length bytes ≤ MAX_INPUT
+    → c.content ≡ b.content → c.faults ≡ b.faults → WasRead a c (Err Memory)
+wants a b c bytes reading short same faults = record {
   bytes = bytes;
-  taken = rw same reading.taken;
+  taken = takes_still a b c bytes reading.taken same;
   tells = (short, faults ∙ reading.faults);
 }
 
--- and too many bytes
-pub is_too_long : (left rest : Option (List ℕ)) (old new : ℕ) (bytes : List ℕ) → IsReading left rest old new bytes → 262144 < length bytes
-    → WasRead left rest old new (Err TooLong)
-is_too_long left rest old new bytes reading long = record { bytes = bytes; taken = reading.taken; tells = (long, reading.faults) }
+-- each fault of a read ends the input by its own
+pub stops : (a b c : Told) (bytes : List ℕ) (fault : IoFault) → IsReading a b bytes → length bytes ≤ MAX_INPUT
+    → c.content ≡ b.content → Counts {A = ℕ} (Err fault) b c → WasRead a c (Err (input_fault fault))
+stops a b c bytes io.Failed reading short same counts = fails a b c bytes reading short same counts
+stops a b c bytes io.Memory reading short same counts = wants a b c bytes reading short same counts
+
+-- and too many bytes end it
+pub is_too_long : (a b : Told) (bytes : List ℕ) → IsReading a b bytes → MAX_INPUT < length bytes → WasRead a b (Err TooLong)
+is_too_long a b bytes reading long = record { bytes = bytes; taken = reading.taken; tells = (long, reading.faults) }

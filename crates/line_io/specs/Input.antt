@@ -1,23 +1,32 @@
 -- What the reading of a whole input comes to.
-use Rattle.std.specs.Prelude.{◌≡◌, ℕ, ◌<◌, ◌≤◌, List, length, Option, Some, Result, Ok, Err}
-use Rattle.db_io.specs.Content.{Takes}
+use Rattle.std.specs.Prelude.{◌≡◌, ℕ, ◌<◌, ◌≤◌, List, length, Some, Result, Ok, Err}
+use Rattle.db_io.specs.Content.{Told, Takes}
+use Rattle.line_io.specs.declared.input.TheConstants.{MAX_INPUT}
+use Rattle.db_io.specs.declared.fault.IoFault.{IoFault}
+use Rattle.db_io.specs.declared.fault.IoFault.TheVariants as io
 use Rattle.line_io.specs.declared.input.InputFault.{InputFault}
 use Rattle.line_io.specs.declared.input.InputFault.TheVariants.{ReadFault, TooLong, Memory}
 
--- the bytes that were read are all that was told to be left
-abbrev pub AreAll : Option (List ℕ) → List ℕ → Type 0
-AreAll left bytes = (all : List ℕ) → left ≡ Some all → all ≡ bytes
+-- the fault of an input whose read had this fault
+abbrev pub input_fault : IoFault → InputFault
+input_fault io.Failed = ReadFault
+input_fault io.Memory = Memory
 
--- what an answer says of the bytes that were read and of the count of faults before and after
-abbrev pub Tells : Result (List ℕ) InputFault → Option (List ℕ) → List ℕ → ℕ → ℕ → Type 0
-Tells (Ok input) left bytes old new = (input ≡ bytes) × (length bytes ≤ 262144) × AreAll left bytes × (new ≡ old)
-Tells (Err TooLong) left bytes old new = (262144 < length bytes) × (new ≡ old)
-Tells (Err ReadFault) left bytes old new = (length bytes ≤ 262144) × (old < new)
-Tells (Err Memory) left bytes old new = (length bytes ≤ 262144) × (new ≡ old)
+-- the bytes that were read are all that was told to be left
+abbrev pub AreAll : Told → List ℕ → Type 0
+AreAll before bytes = (all : List ℕ) → before.content ≡ Some all → all ≡ bytes
+
+-- what an answer says of the bytes that were read, and of the source before and after
+abbrev pub Tells : Result (List ℕ) InputFault → Told → Told → List ℕ → Type 0
+Tells (Ok input) before after bytes =
+    (input ≡ bytes) × (length bytes ≤ MAX_INPUT) × AreAll before bytes × (after.faults ≡ before.faults)
+Tells (Err TooLong) before after bytes = (MAX_INPUT < length bytes) × (after.faults ≡ before.faults)
+Tells (Err ReadFault) before after bytes = (length bytes ≤ MAX_INPUT) × (before.faults < after.faults)
+Tells (Err Memory) before after bytes = (length bytes ≤ MAX_INPUT) × (after.faults ≡ before.faults)
 
 -- an input was read: some bytes, which came from the source, and an answer that tells of them. So it was too long exactly
--- where more than 262,144 bytes were read, and a read failed exactly where the count of faults rose
-pub record WasRead (left rest : Option (List ℕ)) (old new : ℕ) (answer : Result (List ℕ) InputFault) : Type 0 where
+-- where more bytes were read than an input has, and a read failed exactly where the count of faults rose
+pub record WasRead (before after : Told) (answer : Result (List ℕ) InputFault) : Type 0 where
   pub bytes : List ℕ
-  pub taken : Takes left rest bytes
-  pub tells : Tells answer left bytes old new
+  pub taken : Takes before after bytes
+  pub tells : Tells answer before after bytes

@@ -1,11 +1,18 @@
 -- What the writing of a text comes to.
-use Rattle.std.specs.Prelude.{◌≡◌, ℕ, ◌<◌, List, Option, Result, Ok, Err}
-use Rattle.db_io.specs.Content.{Adds, AddsPrefix}
+use Rattle.std.specs.Prelude.{◌≡◌, ℕ, ◌<◌, List, Result, Ok, Err}
+use Rattle.db_io.specs.Content.{Told, Adds, AddsPrefix}
+use Rattle.db_io.specs.declared.fault.IoFault.{IoFault}
+use Rattle.db_io.specs.declared.fault.IoFault.TheVariants as io
 use Rattle.line_io.specs.declared.output.OutputFault.{OutputFault}
 use Rattle.line_io.specs.declared.output.OutputFault.TheVariants.{WriteFault, Memory}
 
+-- the fault of a text whose write had this fault
+abbrev pub output_fault : IoFault → OutputFault
+output_fault io.Failed = WriteFault
+output_fault io.Memory = Memory
+
 -- a text was written whole, or at a fault a prefix of it; the count of faults rose exactly where writing failed
-abbrev pub WasWritten : Option (List ℕ) → Option (List ℕ) → ℕ → ℕ → List ℕ → Result (Unit {0}) OutputFault → Type 0
-WasWritten written later old new text (Ok done) = Adds written later text × (new ≡ old)
-WasWritten written later old new text (Err WriteFault) = AddsPrefix written later text × (old < new)
-WasWritten written later old new text (Err Memory) = AddsPrefix written later text × (new ≡ old)
+abbrev pub WasWritten : Told → Told → List ℕ → Result (Unit {0}) OutputFault → Type 0
+WasWritten before after text (Ok done) = Adds before after text × (after.faults ≡ before.faults)
+WasWritten before after text (Err WriteFault) = AddsPrefix before after text × (before.faults < after.faults)
+WasWritten before after text (Err Memory) = AddsPrefix before after text × (after.faults ≡ before.faults)

@@ -1,4 +1,3 @@
-ghost use Rattle.std.specs.Prelude.{◌≡◌, ℕ, List};
 ghost use Rattle.line_io.specs.Input.{WasRead};
 
 use db_base::blob::Blob;
@@ -20,9 +19,23 @@ pub enum InputFault {
     Memory,
 }
 
+impl From<IoFault> for InputFault {
+    ghost use Rattle.std.specs.Prelude.{◌≡◌};
+    ghost use Rattle.line_io.specs.Input.{input_fault};
+
+    ghost from_gives = { λ fault gives. gives ≡ input_fault fault };
+
+    fn from(fault: IoFault) -> InputFault {
+        match fault {
+            IoFault::Failed => InputFault::ReadFault,
+            IoFault::Memory => InputFault::Memory,
+        }
+    }
+}
+
 /// Reads a source to its end.
 pub fn read_whole<I: Source>(alloc: Global, source: &mut I) -> Result<Blob, InputFault>
-    ensures { WasRead (I.left source.old) (I.left source.new) (I.faults source.old) (I.faults source.new) result }
+    ensures { WasRead (I.told source.old) (I.told source.new) result }
 {
     let mut input = Blob::new(alloc);
     while input.len() <= MAX_INPUT {
@@ -30,8 +43,7 @@ pub fn read_whole<I: Source>(alloc: Global, source: &mut I) -> Result<Blob, Inpu
         match source.read(&mut input, room) {
             Ok(0) => return Ok(input),
             Ok(_) => {}
-            Err(IoFault::Failed) => return Err(InputFault::ReadFault),
-            Err(IoFault::Memory) => return Err(InputFault::Memory),
+            Err(fault) => return Err(InputFault::from(fault)),
         }
     }
     Err(InputFault::TooLong)

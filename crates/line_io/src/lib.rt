@@ -4,5 +4,3 @@
 pub mod input;
 pub mod lines;
 pub mod output;
-#[cfg(test)]
-mod tests;

@@ -1,4 +1,3 @@
-ghost use Rattle.std.specs.Prelude.{◌≡◌, ℕ, List};
 ghost use Rattle.line_io.specs.Output.{WasWritten};
 
 use db_io::fault::IoFault;
@@ -13,13 +12,24 @@ pub enum OutputFault {
     Memory,
 }
 
+impl From<IoFault> for OutputFault {
+    ghost use Rattle.std.specs.Prelude.{◌≡◌};
+    ghost use Rattle.line_io.specs.Output.{output_fault};
+
+    ghost from_gives = { λ fault gives. gives ≡ output_fault fault };
+
+    fn from(fault: IoFault) -> OutputFault {
+        match fault {
+            IoFault::Failed => OutputFault::WriteFault,
+            IoFault::Memory => OutputFault::Memory,
+        }
+    }
+}
+
 /// Writes a text in one write.
 pub fn write_text<O: Sink>(sink: &mut O, text: &[u8]) -> Result<(), OutputFault>
-    ensures { WasWritten (O.written sink.old) (O.written sink.new) (O.faults sink.old) (O.faults sink.new) text.now result }
+    ensures { WasWritten (O.told sink.old) (O.told sink.new) text.now result }
 {
-    match sink.write(text) {
-        Ok(()) => Ok(()),
-        Err(IoFault::Failed) => Err(OutputFault::WriteFault),
-        Err(IoFault::Memory) => Err(OutputFault::Memory),
-    }
+    sink.write(text)?;
+    Ok(())
 }

@@ -1,2 +1,3 @@
 pub mod AtomicLaws
 pub mod PuLaws
+pub mod ItemOrder

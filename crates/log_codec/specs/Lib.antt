@@ -1,3 +1,4 @@
 pub mod Atomic
 pub mod Fault
+pub mod Order
 pub mod Pu

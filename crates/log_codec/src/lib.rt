@@ -6,5 +6,3 @@ pub mod fault;
 pub mod laws;
 pub mod pu;
 pub mod record;
-#[cfg(test)]
-mod tests;

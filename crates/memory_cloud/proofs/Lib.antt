@@ -1,3 +1,2 @@
-pub mod KeepingLemmas
 pub mod OutcomeLemmas
 pub mod QueueLemmas

@@ -21,6 +21,7 @@ use Rattle.cloud_trait.specs.Answers.{held_answer_of, renewed_by}
 use Rattle.cloud_trait.specs.Caller.{Caller}
 use Rattle.cloud_trait.specs.Claim.{Claim, extended}
 use Rattle.cloud_trait.specs.State.{CloudState, Counts, greatest, newest, newest_of, version_at, end_after, lease_given, message_at, called, landed, taken, renewed}
+use Rattle.cloud_trait.specs.Seen.{Seen}
 use Rattle.cloud_trait.specs.Delivery.{unmarked, unmarked_from, WasSent}
 use Rattle.cloud_trait.specs.Ask.{Ask, Get, GetHeld, PutHeld, Send, Receive, Delete, Take, Renew, Release, effect, Lands}
 use Rattle.cloud_trait.specs.Weather.{Weather, Fits, Makes, Leaves, Rises, RenewsBoth, RenewsLease}
@@ -34,12 +35,17 @@ use Rattle.memory_cloud.specs.declared.mood.Mood.TheVariants as mood
 over_cases : (P : Bool → Type 0) (end now : ℕ) → (end ≤ now → P true) → (now < end → P false) → P (nat_le end now)
 over_cases P end now over lasts = elim (leb_tells end now) [ inl w ↦ subst P (sym w.0) (over w.1) | inr w ↦ subst P (sym w.0) (lasts w.1) ]
 
+-- what is seen of a cloud that tells its state and not its answers
+abbrev told : Counts → CloudState → Seen
+told c s = record { counts = c; state = Some s; heard = None }
+
 -- a row of the table, with all that a call says beside it
 record IsRow (who : Caller) (ask : Ask) (a : Answer) (c d : Counts) (b t : CloudState) : Type 0 where
   fits : Fits ask a
   counts : Rises c d
   dark : d.dark ≡ c.dark
   failed : a ≡ Failed → c.faults < d.faults
+  memory : a ≡ Memory → d ≡ c
   row : Weather who ask a c d b t
 
 -- a row that raises no count
@@ -49,6 +55,7 @@ quiet who ask a c b t fits never row = record {
   counts = record { faults = omega arith; withheld = omega arith; stale = omega arith; dark = omega arith };
   dark = refl;
   failed = λ e. absurd (never e);
+  memory = λ e. refl;
   row = row;
 }
 
@@ -59,26 +66,29 @@ failing who ask c b t row = record {
   counts = record { faults = omega arith; withheld = omega arith; stale = omega arith; dark = omega arith };
   dark = refl;
   failed = λ e. omega arith;
+  memory = λ e. absurd (cc);
   row = row;
 }
 
 -- a row that withheld something
-withholding : (who : Caller) (ask : Ask) (a : Answer) (c : Counts) (b t : CloudState) → Fits ask a → (a ≡ Failed → ⊥) → Weather who ask a c (one_withheld c) b t → IsRow who ask a c (one_withheld c) b t
-withholding who ask a c b t fits never row = record {
+withholding : (who : Caller) (ask : Ask) (a : Answer) (c : Counts) (b t : CloudState) → Fits ask a → (a ≡ Failed → ⊥) → (a ≡ Memory → ⊥) → Weather who ask a c (one_withheld c) b t → IsRow who ask a c (one_withheld c) b t
+withholding who ask a c b t fits never full row = record {
   fits = fits;
   counts = record { faults = omega arith; withheld = omega arith; stale = omega arith; dark = omega arith };
   dark = refl;
   failed = λ e. absurd (never e);
+  memory = λ e. absurd (full e);
   row = row;
 }
 
 -- a row that is stale
-staling : (who : Caller) (ask : Ask) (a : Answer) (c : Counts) (b t : CloudState) → Fits ask a → (a ≡ Failed → ⊥) → Weather who ask a c (one_stale c) b t → IsRow who ask a c (one_stale c) b t
-staling who ask a c b t fits never row = record {
+staling : (who : Caller) (ask : Ask) (a : Answer) (c : Counts) (b t : CloudState) → Fits ask a → (a ≡ Failed → ⊥) → (a ≡ Memory → ⊥) → Weather who ask a c (one_stale c) b t → IsRow who ask a c (one_stale c) b t
+staling who ask a c b t fits never full row = record {
   fits = fits;
   counts = record { faults = omega arith; withheld = omega arith; stale = omega arith; dark = omega arith };
   dark = refl;
   failed = λ e. absurd (never e);
+  memory = λ e. absurd (full e);
   row = row;
 }
 
@@ -133,7 +143,7 @@ take_plain who lock ticks b c rises = over_cases (λ o. IsRow who (Take lock tic
   where
     on : (b.locks lock).until ≤ b.now → (g : Bool) → IsRow who (Take lock ticks) (cond g (Given (lease_given lock ticks b)) (Held (b.locks lock).until)) c (cond (not g) (one_withheld c) c) b (cond g (taken lock ticks b) b)
     on over true = quiet who (Take lock ticks) (Given (lease_given lock ticks b)) c b (taken lock ticks b) refl (λ e. absurd (cc)) ((refl, over), refl)
-    on over false = withholding who (Take lock ticks) (Held (b.locks lock).until) c b b tt (λ e. absurd (cc)) (refl, inr (omega arith))
+    on over false = withholding who (Take lock ticks) (Held (b.locks lock).until) c b b tt (λ e. absurd (cc)) (λ e. absurd (cc)) (refl, inr (omega arith))
 
 -- what is taken is no longer than wanted
 take-short : {X : Type 0} (n : ℕ) (xs : List X) → length (take n xs) ≤ n
@@ -197,11 +207,11 @@ row_in : (m : Mood) (who : Caller) (ask : Ask) (b : CloudState) (c : Counts) →
 row_in mood.Plain who (Take lock ticks) b c = plain who (Take lock ticks) b c
 row_in mood.Fail who ask b c = failing who ask c b b (inl refl)
 row_in mood.Lost who ask b c = lost who ask b c
-row_in mood.Hide who (Receive queue most) b c = withholding who (Receive queue most) (Received []) c b b (omega arith) (λ e. absurd (cc)) (refl, All-nil (WasSent (b.messages queue)), inr (omega arith))
-row_in mood.Hide who (Take lock ticks) b c = withholding who (Take lock ticks) (Held b.now) c b b tt (λ e. absurd (cc)) (refl, inr (omega arith))
-row_in (mood.Old n) who (Get name) b c = staling who (Get name) (Got (old_version (b.versions name) n)) c b b tt (λ e. absurd (cc)) (refl, (min n (length (b.versions name)), refl), inr (omega arith))
+row_in mood.Hide who (Receive queue most) b c = withholding who (Receive queue most) (Received []) c b b (omega arith) (λ e. absurd (cc)) (λ e. absurd (cc)) (refl, All-nil (WasSent (b.messages queue)), inr (omega arith))
+row_in mood.Hide who (Take lock ticks) b c = withholding who (Take lock ticks) (Held b.now) c b b tt (λ e. absurd (cc)) (λ e. absurd (cc)) (refl, inr (omega arith))
+row_in (mood.Old n) who (Get name) b c = staling who (Get name) (Got (old_version (b.versions name) n)) c b b tt (λ e. absurd (cc)) (λ e. absurd (cc)) (refl, (min n (length (b.versions name)), refl), inr (omega arith))
 row_in mood.Give who (Receive queue most) b c =
-    withholding who (Receive queue most) (Received (take most (chosen (b.messages queue) (positions_of b.last)))) c b b (take-short most (chosen (b.messages queue) (positions_of b.last))) (λ e. absurd (cc))
+    withholding who (Receive queue most) (Received (take most (chosen (b.messages queue) (positions_of b.last)))) c b b (take-short most (chosen (b.messages queue) (positions_of b.last))) (λ e. absurd (cc)) (λ e. absurd (cc))
     (refl, All-take (WasSent (b.messages queue)) most (chosen (b.messages queue) (positions_of b.last)) (chosen-sent (b.messages queue) (positions_of b.last)), inr (omega arith))
 row_in m who ask b c = plain who ask b c
 
@@ -219,7 +229,7 @@ obeys_row m who ask a c d b t (inr o) =
     subst P (sym o.0) (subst Q (sym o.1) (subst R (sym o.2) (quiet who ask Memory c b b tt (λ e. absurd (cc)) refl)))
 
 -- and so is what a service call is
-pub obeys_makes : (m : Mood) (who : Caller) (ask : Ask) (a : Answer) (c d : Counts) (s t : CloudState) → Obeys m who ask a c d (called who s.now s) t → Makes who ask a c d (Some s) (Some t)
+pub obeys_makes : (m : Mood) (who : Caller) (ask : Ask) (a : Answer) (c d : Counts) (s t : CloudState) → Obeys m who ask a c d (called who s.now s) t → Makes who ask a (told c s) (told d t)
 obeys_makes m who ask a c d s t o =
     let r = obeys_row m who ask a c d (called who s.now s) t o in
     let still : t.now ≡ s.now = (row_rest who ask a c d (called who s.now s) t r.row).now in
@@ -228,9 +238,11 @@ obeys_makes m who ask a c d s t o =
     let Q : CloudState → Type 0 = λ u. Leaves who ask a c d u (Some t) in
     record {
       fits = r.fits;
+      heard = λ x e. absurd (cc (e));
       counts = r.counts;
       dark = r.dark;
       failed = r.failed;
+      memory = r.memory;
       state = λ u e. (let same : s ≡ u = cc in subst Q same leaves);
     }
 
@@ -254,9 +266,9 @@ renews_in mood.Lost who l ticks b = renews_lost who l ticks b
 renews_in m who l ticks b = renews_plain who l ticks b
 
 -- the same between the states that are told
-renews_told : (who : Caller) (ticks : ℕ) (l m : Claim) (a : Answer) (s t : CloudState) → t.now ≡ s.now → RenewsRow who ticks l m a (called who s.now s) t → RenewsLease who ticks l m a (Some s) (Some t)
-renews_told who ticks l m (Renewed e) s t n r = r
-renews_told who ticks l m Failed s t n r = (
+renews_told : (who : Caller) (ticks : ℕ) (l m : Claim) (a : Answer) (c d : Counts) (s t : CloudState) → t.now ≡ s.now → RenewsRow who ticks l m a (called who s.now s) t → RenewsLease who ticks l m a (told c s) (told d t)
+renews_told who ticks l m (Renewed e) c d s t n r = r
+renews_told who ticks l m Failed c d s t n r = (
   r.0,
   λ u v e f. (
       let p : s ≡ u = cc in
@@ -266,10 +278,10 @@ renews_told who ticks l m Failed s t n r = (
       let R : ℕ → Type 0 = λ k. RenewsBoth who ticks l m (called who k s) t in
       subst P p (subst Q q (subst R (sym n) r.1))),
 )
-renews_told who ticks l m a s t n r = r
+renews_told who ticks l m a c d s t n r = r
 
 -- a renewal that obeys its mood leaves the lease as a renewal does
-pub obeys_renews : (m : Mood) (who : Caller) (l n : Claim) (ticks : ℕ) (a : Answer) (c d : Counts) (s t : CloudState) → Obeys m who (Renew l ticks) a c d (called who s.now s) t → (a ≡ Memory → ⊥) → n ≡ lease_in m l ticks (called who s.now s) → RenewsLease who ticks l n a (Some s) (Some t)
+pub obeys_renews : (m : Mood) (who : Caller) (l n : Claim) (ticks : ℕ) (a : Answer) (c d : Counts) (s t : CloudState) → Obeys m who (Renew l ticks) a c d (called who s.now s) t → (a ≡ Memory → ⊥) → n ≡ lease_in m l ticks (called who s.now s) → RenewsLease who ticks l n a (told c s) (told d t)
 obeys_renews m who l n ticks a c d s t (inr o) never e = absurd (never o.0)
 obeys_renews m who l n ticks a c d s t (inl o) never e =
     let r = obeys_row m who (Renew l ticks) a c d (called who s.now s) t (inl o) in
@@ -277,16 +289,16 @@ obeys_renews m who l n ticks a c d s t (inl o) never e =
     let P : Claim → Type 0 = λ x. RenewsRow who ticks l x a (called who s.now s) t in
     let Q : Answer → Type 0 = λ x. RenewsRow who ticks l (lease_in m l ticks (called who s.now s)) x (called who s.now s) t in
     let R : CloudState → Type 0 = λ x. RenewsRow who ticks l (lease_in m l ticks (called who s.now s)) (answer_in m (Renew l ticks) (called who s.now s)) (called who s.now s) x in
-    renews_told who ticks l n a s t still (subst P (sym e) (subst Q (sym o.0) (subst R (sym o.1) (renews_in m who l ticks (called who s.now s)))))
+    renews_told who ticks l n a c d s t still (subst P (sym e) (subst Q (sym o.0) (subst R (sym o.1) (renews_in m who l ticks (called who s.now s)))))
 
 -- the same of a call that has begun
-pub begun_makes : (m : Mood) (who : Caller) (ask : Ask) (a : Answer) (c e d : Counts) (s b t : CloudState) → b ≡ called who s.now s → e ≡ c → Obeys m who ask a e d b t → Makes who ask a c d (Some s) (Some t)
+pub begun_makes : (m : Mood) (who : Caller) (ask : Ask) (a : Answer) (c e d : Counts) (s b t : CloudState) → b ≡ called who s.now s → e ≡ c → Obeys m who ask a e d b t → Makes who ask a (told c s) (told d t)
 begun_makes m who ask a c e d s b t is same o =
     let P : CloudState → Type 0 = λ x. Obeys m who ask a e d x t in
     let Q : Counts → Type 0 = λ x. Obeys m who ask a x d (called who s.now s) t in
     obeys_makes m who ask a c d s t (subst Q same (subst P is o))
 
-pub begun_renews : (m : Mood) (who : Caller) (l n : Claim) (ticks : ℕ) (a : Answer) (c e d : Counts) (s b t : CloudState) → b ≡ called who s.now s → e ≡ c → Obeys m who (Renew l ticks) a e d b t → (a ≡ Memory → ⊥) → n ≡ lease_in m l ticks b → RenewsLease who ticks l n a (Some s) (Some t)
+pub begun_renews : (m : Mood) (who : Caller) (l n : Claim) (ticks : ℕ) (a : Answer) (c e d : Counts) (s b t : CloudState) → b ≡ called who s.now s → e ≡ c → Obeys m who (Renew l ticks) a e d b t → (a ≡ Memory → ⊥) → n ≡ lease_in m l ticks b → RenewsLease who ticks l n a (told c s) (told d t)
 begun_renews m who l n ticks a c e d s b t is same o never lease =
     let P : CloudState → Type 0 = λ x. Obeys m who (Renew l ticks) a e d x t in
     let Q : Counts → Type 0 = λ x. Obeys m who (Renew l ticks) a x d (called who s.now s) t in

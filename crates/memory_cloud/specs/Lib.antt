@@ -1,5 +1,4 @@
 pub mod Choice
-pub mod Keeping
 pub mod Maps
 pub mod Memory
 pub mod Mood

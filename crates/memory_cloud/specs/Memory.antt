@@ -1,7 +1,8 @@
 -- What the cloud in memory tells of itself.
-use Rattle.std.specs.Prelude.{ℕ, ◌≡◌, ◌+◌, min, List}
+use Rattle.std.specs.Prelude.{ℕ, ◌≡◌, ◌+◌, min, List, Option, Some, None}
 use Rattle.std.specs.Option.{option_map}
 use Rattle.cloud_trait.specs.State.{CloudState, Counts, greatest}
+use Rattle.cloud_trait.specs.Seen.{Seen}
 use Rattle.memory_cloud.specs.Maps.{versions_in, messages_in, hold_in}
 use Rattle.memory_cloud.specs.Mood.{mood_at}
 use Rattle.memory_cloud.specs.declared.mood.Mood.{Mood}
@@ -31,6 +32,14 @@ state_of c = store_state c.store
 
 abbrev pub counts_of : MemoryCloud → Counts
 counts_of c = store_counts c.store
+
+-- the state, where it is told: it always is
+abbrev pub told_state : MemoryCloud → Option CloudState
+told_state c = Some (state_of c)
+
+-- what is seen of it; it does not tell what it answered
+abbrev pub seen_of : MemoryCloud → Seen
+seen_of c = record { counts = counts_of c; state = told_state c; heard = None }
 
 -- the number of its next service call, from 1
 abbrev pub next_call : MemoryCloud → ℕ

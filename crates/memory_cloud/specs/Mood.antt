@@ -1,5 +1,5 @@
 -- How the cloud in memory takes a call: by the wish that was set, and by the calls that are to fail.
-use Rattle.std.specs.Prelude.{ℕ, ◌<◌, ◌==◌, ◌&&◌, Bool, cond, nat_lt, List}
+use Rattle.std.specs.Prelude.{ℕ, ◌<◌, ◌==◌, Bool, true, cond, nat_lt, List}
 use Rattle.std.specs.List.{list_any}
 use Rattle.db_base.specs.declared.wish.Wish.{Wish}
 use Rattle.db_base.specs.declared.wish.Wish.TheVariants as wish
@@ -16,16 +16,32 @@ mood_of_wish wish.Hide = mood.Hide
 mood_of_wish (wish.Old n) = mood.Old n
 mood_of_wish (wish.Give ps) = mood.Give
 
--- each count that a wish may raise can rise
-abbrev pub has_room : Counts → Bool
-has_room c = nat_lt c.faults greatest && (nat_lt c.withheld greatest && nat_lt c.stale greatest)
+-- the count that a call of this mood may raise can rise
+abbrev pub has_room : Mood → Counts → Bool
+has_room mood.Plain c = true
+has_room mood.Fail c = nat_lt c.faults greatest
+has_room mood.Lost c = nat_lt c.faults greatest
+has_room mood.Hide c = nat_lt c.withheld greatest
+has_room (mood.Old n) c = nat_lt c.stale greatest
+has_room mood.Give c = nat_lt c.withheld greatest
 
--- the mood of the call of this number: Plain where a count could not rise, Fail where the call is to fail,
--- and else by the wish
+-- the mood, but Plain where its count could not rise
+abbrev pub within_room : Counts → Mood → Mood
+within_room c m = cond (has_room m c) m mood.Plain
+
+-- the mood that is wanted of the call of this number: Fail where the call is to fail, and else by the wish
+abbrev pub wanted_mood : List ℕ → ℕ → Wish → Mood
+wanted_mood failing number w = cond (list_any (λ n. n == number) failing) mood.Fail (mood_of_wish w)
+
+-- the mood of the call of this number
 abbrev pub mood_at : Counts → List ℕ → ℕ → Wish → Mood
-mood_at c failing number w = cond (has_room c) (cond (list_any (λ n. n == number) failing) mood.Fail (mood_of_wish w)) mood.Plain
+mood_at c failing number w = within_room c (wanted_mood failing number w)
 
--- a call that is not plain has room for its count
+-- a call has room for the count that it may raise
 abbrev pub HasRoom : Mood → Counts → Type 0
 HasRoom mood.Plain c = Unit {0}
-HasRoom m c = (c.faults < greatest) × (c.withheld < greatest) × (c.stale < greatest)
+HasRoom mood.Fail c = c.faults < greatest
+HasRoom mood.Lost c = c.faults < greatest
+HasRoom mood.Hide c = c.withheld < greatest
+HasRoom (mood.Old n) c = c.stale < greatest
+HasRoom mood.Give c = c.withheld < greatest

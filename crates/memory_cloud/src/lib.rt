@@ -11,5 +11,3 @@ mod queue;
 mod queues;
 mod service;
 mod store;
-#[cfg(test)]
-mod tests;

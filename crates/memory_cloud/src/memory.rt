@@ -1,4 +1,4 @@
-ghost use Rattle.std.specs.Prelude.{◌≡◌, [], IfOk, IfErr};
+ghost use Rattle.std.specs.Prelude.{◌≡◌, [], IfOk, IfErr, IsTrue};
 ghost use Rattle.std.specs.Option.{option_copied};
 
 use crate::mood::Mood;
@@ -24,7 +24,7 @@ impl MemoryCloud {
     ghost use Rattle.db_base.specs.declared.wish.Wish.TheVariants.{Plain};
     ghost use Rattle.cloud_trait.specs.State.{IsEmptyCloud, called, version_at, message_at};
     ghost use Rattle.memory_cloud.specs.Memory.{state_of, counts_of, next_mood, next_call, failing_calls, CountsCall};
-    ghost use Rattle.memory_cloud.specs.Mood.{HasRoom, mood_at};
+    ghost use Rattle.memory_cloud.specs.Mood.{HasRoom, mood_at, wanted_mood, has_room};
 
     /// An empty cloud at clock 0, that fails no call. Takes no memory.
     pub fn new(alloc: Global) -> MemoryCloud
@@ -99,12 +99,17 @@ impl MemoryCloud {
         ensures mood { result ≡ mood_at (counts_of self.now) self.now.failing.items self.now.calls self.now.store.wish }
         ensures room { HasRoom result (counts_of self.now) }
     {
-        if self.store.faults == u64::MAX
-            || self.store.withheld == u64::MAX
-            || self.store.stale == u64::MAX
-        {
-            return Mood::Plain;
+        let wanted = self.wanted_mood();
+        if self.has_room(wanted) {
+            return wanted;
         }
+        Mood::Plain
+    }
+
+    // How the service call of the present number is to go.
+    fn wanted_mood(&self) -> Mood
+        ensures { result ≡ wanted_mood self.now.failing.items self.now.calls self.now.store.wish }
+    {
         if self.failing.as_slice().contains(&self.calls) {
             return Mood::Fail;
         }
@@ -115,6 +120,21 @@ impl MemoryCloud {
             Wish::Hide => Mood::Hide,
             Wish::Old(n) => Mood::Old(*n),
             Wish::Give(_) => Mood::Give,
+        }
+    }
+
+    // Whether the count that a call of this mood may raise can rise.
+    fn has_room(&self, mood: Mood) -> bool
+        ensures value { result ≡ has_room mood (counts_of self.now) }
+        ensures room { IsTrue result → HasRoom mood (counts_of self.now) }
+    {
+        match mood {
+            Mood::Plain => true,
+            Mood::Fail => self.store.faults < u64::MAX,
+            Mood::Lost => self.store.faults < u64::MAX,
+            Mood::Hide => self.store.withheld < u64::MAX,
+            Mood::Old(_) => self.store.stale < u64::MAX,
+            Mood::Give => self.store.withheld < u64::MAX,
         }
     }
 }

@@ -3,12 +3,12 @@ ghost use Rattle.std.specs.Option.{option_copied};
 ghost use Rattle.cloud_trait.specs.declared.answer.Answer.TheVariants.{Got, Sent, Received};
 ghost use Rattle.cloud_trait.specs.Answers.{answer_of, held_answer_of, done_by, granted_by, renewed_by};
 ghost use Rattle.cloud_trait.specs.Ask.{Get, GetHeld, PutHeld, Send, Receive, Delete, Take, Renew, Release};
-ghost use Rattle.cloud_trait.specs.State.{CloudState, Counts, called, newest, end_after, greatest};
+ghost use Rattle.cloud_trait.specs.State.{CloudState, called, newest, end_after, greatest};
 ghost use Rattle.cloud_trait.specs.Delivery.{unmarked};
-ghost use Rattle.cloud_trait.specs.Weather.{Makes, RenewsLease, Rose};
-ghost use Rattle.cloud_trait.specs.Bench.{Waits, Looks};
+ghost use Rattle.cloud_trait.specs.Weather.{Makes, RenewsLease};
+ghost use Rattle.cloud_trait.specs.Bench.{Waits, Looks, IsNoCall};
 ghost use Rattle.cloud_trait.specs.declared.fault.CloudFault.{CloudFault};
-ghost use Rattle.memory_cloud.specs.Memory.{state_of, counts_of, next_mood, next_call, failing_calls, CountsCall};
+ghost use Rattle.memory_cloud.specs.Memory.{state_of, counts_of, told_state, seen_of, next_mood, next_call, failing_calls, CountsCall};
 ghost use Rattle.memory_cloud.specs.Outcome.{Obeys, lease_in};
 
 use crate::memory::MemoryCloud;
@@ -25,19 +25,17 @@ use db_base::names::{Lock, ObjName, QueueName};
 use db_base::wish::Wish;
 
 impl Cloud for MemoryCloud {
-    ghost state = { λ c. Some (state_of c) };
-
-    ghost counts = { λ c. counts_of c };
+    ghost seen = { seen_of };
 
     fn now(&self) -> u64
-        ensures told { (s : CloudState) → Some (state_of self.now) ≡ Some s → result ≡ s.now }
+        ensures told { (s : CloudState) → told_state self.now ≡ Some s → result ≡ s.now }
         ensures clock { result ≡ (state_of self.now).now }
     {
         self.store.clock
     }
 
     fn get(&mut self, who: Who, name: ObjName) -> Result<Option<Blob>, CloudFault>
-        ensures made { Makes who (Get name) (answer_of Got result) (counts_of self.old) (counts_of self.new) (Some (state_of self.old)) (Some (state_of self.new)) }
+        ensures made { Makes who (Get name) (answer_of Got result) (seen_of self.old) (seen_of self.new) }
         ensures obeys { Obeys (next_mood self.old) who (Get name) (answer_of Got result) (counts_of self.old) (counts_of self.new) (called who (state_of self.old).now (state_of self.old)) (state_of self.new) }
         ensures counted { CountsCall self.old self.new }
     {
@@ -51,7 +49,7 @@ impl Cloud for MemoryCloud {
         name: ObjName,
         lease: &Lease,
     ) -> Result<Option<Blob>, HeldFault>
-        ensures made { Makes who (GetHeld name lease.now) (held_answer_of Got result) (counts_of self.old) (counts_of self.new) (Some (state_of self.old)) (Some (state_of self.new)) }
+        ensures made { Makes who (GetHeld name lease.now) (held_answer_of Got result) (seen_of self.old) (seen_of self.new) }
         ensures obeys { Obeys (next_mood self.old) who (GetHeld name lease.now) (held_answer_of Got result) (counts_of self.old) (counts_of self.new) (called who (state_of self.old).now (state_of self.old)) (state_of self.new) }
         ensures counted { CountsCall self.old self.new }
     {
@@ -67,7 +65,7 @@ impl Cloud for MemoryCloud {
         first: &Lease,
         second: Option<&Lease>,
     ) -> Result<(), HeldFault>
-        ensures made { Makes who (PutHeld name bytes.now first.now (option_copied second.entry)) (held_answer_of done_by result) (counts_of self.old) (counts_of self.new) (Some (state_of self.old)) (Some (state_of self.new)) }
+        ensures made { Makes who (PutHeld name bytes.now first.now (option_copied second.entry)) (held_answer_of done_by result) (seen_of self.old) (seen_of self.new) }
         ensures obeys { Obeys (next_mood self.old) who (PutHeld name bytes.now first.now (option_copied second.entry)) (held_answer_of done_by result) (counts_of self.old) (counts_of self.new) (called who (state_of self.old).now (state_of self.old)) (state_of self.new) }
         ensures counted { CountsCall self.old self.new }
     {
@@ -77,7 +75,7 @@ impl Cloud for MemoryCloud {
     }
 
     fn send(&mut self, who: Who, queue: QueueName, bytes: &[u8]) -> Result<MsgId, CloudFault>
-        ensures made { Makes who (Send queue bytes.now) (answer_of Sent result) (counts_of self.old) (counts_of self.new) (Some (state_of self.old)) (Some (state_of self.new)) }
+        ensures made { Makes who (Send queue bytes.now) (answer_of Sent result) (seen_of self.old) (seen_of self.new) }
         ensures obeys { Obeys (next_mood self.old) who (Send queue bytes.now) (answer_of Sent result) (counts_of self.old) (counts_of self.new) (called who (state_of self.old).now (state_of self.old)) (state_of self.new) }
         ensures counted { CountsCall self.old self.new }
     {
@@ -86,7 +84,7 @@ impl Cloud for MemoryCloud {
     }
 
     fn receive(&mut self, who: Who, queue: QueueName, max: u16) -> Result<Vec<Message>, CloudFault>
-        ensures made { Makes who (Receive queue max) (answer_of (λ ms. Received ms.items) result) (counts_of self.old) (counts_of self.new) (Some (state_of self.old)) (Some (state_of self.new)) }
+        ensures made { Makes who (Receive queue max) (answer_of (λ ms. Received ms.items) result) (seen_of self.old) (seen_of self.new) }
         ensures obeys { Obeys (next_mood self.old) who (Receive queue max) (answer_of (λ ms. Received ms.items) result) (counts_of self.old) (counts_of self.new) (called who (state_of self.old).now (state_of self.old)) (state_of self.new) }
         ensures counted { CountsCall self.old self.new }
     {
@@ -95,7 +93,7 @@ impl Cloud for MemoryCloud {
     }
 
     fn delete(&mut self, who: Who, queue: QueueName, id: MsgId) -> Result<(), CloudFault>
-        ensures made { Makes who (Delete queue id) (answer_of done_by result) (counts_of self.old) (counts_of self.new) (Some (state_of self.old)) (Some (state_of self.new)) }
+        ensures made { Makes who (Delete queue id) (answer_of done_by result) (seen_of self.old) (seen_of self.new) }
         ensures obeys { Obeys (next_mood self.old) who (Delete queue id) (answer_of done_by result) (counts_of self.old) (counts_of self.new) (called who (state_of self.old).now (state_of self.old)) (state_of self.new) }
         ensures counted { CountsCall self.old self.new }
         ensures no_memory { result ≡ Err CloudFault.Memory → ⊥ }
@@ -105,7 +103,7 @@ impl Cloud for MemoryCloud {
     }
 
     fn take(&mut self, who: Who, lock: Lock, ticks: u64) -> Result<Grant, CloudFault>
-        ensures made { Makes who (Take lock ticks) (answer_of granted_by result) (counts_of self.old) (counts_of self.new) (Some (state_of self.old)) (Some (state_of self.new)) }
+        ensures made { Makes who (Take lock ticks) (answer_of granted_by result) (seen_of self.old) (seen_of self.new) }
         ensures obeys { Obeys (next_mood self.old) who (Take lock ticks) (answer_of granted_by result) (counts_of self.old) (counts_of self.new) (called who (state_of self.old).now (state_of self.old)) (state_of self.new) }
         ensures counted { CountsCall self.old self.new }
     {
@@ -114,8 +112,8 @@ impl Cloud for MemoryCloud {
     }
 
     fn renew(&mut self, who: Who, lease: &mut Lease, ticks: u64) -> Result<(), HeldFault>
-        ensures made { Makes who (Renew lease.old ticks) (held_answer_of (renewed_by lease.new) result) (counts_of self.old) (counts_of self.new) (Some (state_of self.old)) (Some (state_of self.new)) }
-        ensures lease { RenewsLease who ticks lease.old lease.new (held_answer_of (renewed_by lease.new) result) (Some (state_of self.old)) (Some (state_of self.new)) }
+        ensures made { Makes who (Renew lease.old ticks) (held_answer_of (renewed_by lease.new) result) (seen_of self.old) (seen_of self.new) }
+        ensures lease { RenewsLease who ticks lease.old lease.new (held_answer_of (renewed_by lease.new) result) (seen_of self.old) (seen_of self.new) }
         ensures leased { lease.new ≡ lease_in (next_mood self.old) lease.old ticks (called who (state_of self.old).now (state_of self.old)) }
         ensures obeys { Obeys (next_mood self.old) who (Renew lease.old ticks) (held_answer_of (renewed_by lease.new) result) (counts_of self.old) (counts_of self.new) (called who (state_of self.old).now (state_of self.old)) (state_of self.new) }
         ensures counted { CountsCall self.old self.new }
@@ -126,7 +124,7 @@ impl Cloud for MemoryCloud {
     }
 
     fn release(&mut self, who: Who, lease: Lease) -> Result<(), CloudFault>
-        ensures made { Makes who (Release lease) (answer_of done_by result) (counts_of self.old) (counts_of self.new) (Some (state_of self.old)) (Some (state_of self.new)) }
+        ensures made { Makes who (Release lease) (answer_of done_by result) (seen_of self.old) (seen_of self.new) }
         ensures obeys { Obeys (next_mood self.old) who (Release lease) (answer_of done_by result) (counts_of self.old) (counts_of self.new) (called who (state_of self.old).now (state_of self.old)) (state_of self.new) }
         ensures counted { CountsCall self.old self.new }
         ensures no_memory { result ≡ Err CloudFault.Memory → ⊥ }
@@ -138,8 +136,8 @@ impl Cloud for MemoryCloud {
 
 impl Bench for MemoryCloud {
     fn wish(&mut self, wish: Wish)
-        ensures counts { counts_of self.new ≡ counts_of self.old }
-        ensures set { (s : CloudState) → Some (state_of self.old) ≡ Some s → Some (state_of self.new) ≡ Some (record s { wish = wish }) }
+        ensures no_call { IsNoCall (seen_of self.old) (seen_of self.new) }
+        ensures set { (s : CloudState) → told_state self.old ≡ Some s → told_state self.new ≡ Some (record s { wish = wish }) }
         ensures call { next_call self.new ≡ next_call self.old }
         ensures failing { failing_calls self.new ≡ failing_calls self.old }
     {
@@ -147,8 +145,8 @@ impl Bench for MemoryCloud {
     }
 
     fn wait(&mut self, ticks: u64)
-        ensures counts { counts_of self.new ≡ counts_of self.old }
-        ensures waited { (s : CloudState) → Some (state_of self.old) ≡ Some s → Waits ticks s (Some (state_of self.new)) }
+        ensures no_call { IsNoCall (seen_of self.old) (seen_of self.new) }
+        ensures waited { (s : CloudState) → told_state self.old ≡ Some s → Waits ticks s (told_state self.new) }
         ensures exactly { state_of self.new ≡ record (state_of self.old) { now = end_after (state_of self.old).now ticks; waits = min ((state_of self.old).waits + 1) greatest } }
         ensures call { next_call self.new ≡ next_call self.old }
         ensures failing { failing_calls self.new ≡ failing_calls self.old }
@@ -158,10 +156,8 @@ impl Bench for MemoryCloud {
     }
 
     fn peek(&mut self, name: ObjName) -> Result<Option<Blob>, CloudFault>
-        ensures counts { Looks (counts_of self.old) (counts_of self.new) }
-        ensures failed { result ≡ Err CloudFault.Failed → Rose (counts_of self.old).dark (counts_of self.new).dark }
-        ensures stays { (s : CloudState) → Some (state_of self.old) ≡ Some s → Some (state_of self.new) ≡ Some s }
-        ensures newest { (s : CloudState) → Some (state_of self.old) ≡ Some s → IfOk result (λ v. v ≡ newest s name) }
+        ensures looks { Looks result (seen_of self.old) (seen_of self.new) }
+        ensures newest { (s : CloudState) → told_state self.old ≡ Some s → IfOk result (λ v. v ≡ newest s name) }
         ensures call { next_call self.new ≡ next_call self.old }
         ensures failing { failing_calls self.new ≡ failing_calls self.old }
     {
@@ -175,10 +171,8 @@ impl Bench for MemoryCloud {
     }
 
     fn backlog(&mut self, queue: QueueName) -> Result<u64, CloudFault>
-        ensures counts { Looks (counts_of self.old) (counts_of self.new) }
-        ensures failed { result ≡ Err CloudFault.Failed → Rose (counts_of self.old).dark (counts_of self.new).dark }
-        ensures stays { (s : CloudState) → Some (state_of self.old) ≡ Some s → Some (state_of self.new) ≡ Some s }
-        ensures length { (s : CloudState) → Some (state_of self.old) ≡ Some s → IfOk result (λ n. n ≡ length (unmarked (s.messages queue))) }
+        ensures looks { Looks result (seen_of self.old) (seen_of self.new) }
+        ensures length { (s : CloudState) → told_state self.old ≡ Some s → IfOk result (λ n. n ≡ length (unmarked (s.messages queue))) }
         ensures no_memory { (e : CloudFault) → result ≢ Err e }
         ensures call { next_call self.new ≡ next_call self.old }
         ensures failing { failing_calls self.new ≡ failing_calls self.old }

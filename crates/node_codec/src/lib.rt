@@ -19,6 +19,3 @@ pub use inner_view::{InnerView, NotInner};
 pub use laws::{child_law, inner_laws, raised_law, tree_laws};
 pub use tree_buf::TreeBuf;
 pub use tree_view::{NotTree, TreeView};
-
-#[cfg(test)]
-mod tests;

@@ -31,7 +31,7 @@ static NO_NUMBERS: [u8; 1] = [0];
 // A list of the one entry from the empty key to page 1.
 static FIRST_PAGE: [u8; 11] = [1, 0, 0, 0, 0, 0, 0, 0, 0, 1, 0];
 
-/// The root of a tree, read in place. Its calls take no memory.
+/// The root of a tree, read in place. `whole_cursor` takes memory; no other call does.
 #[derive(Drop)]
 pub struct TreeView<'a> {
     version: u64,
@@ -123,7 +123,7 @@ impl<'a> TreeView<'a> {
         number_in(self.cursor, client)
     }
 
-    /// The numbers of all clients. Refused for memory alone.
+    /// The numbers of all clients, in memory of their own. Refused for memory alone.
     pub fn whole_cursor(&self, alloc: Global) -> Result<Cursor, Refused>
         ensures ok { IfOk result (λ c. c ≡ self.now.cursor) }
         ensures memory { IfErr result (λ e. e ≡ Refused.Memory) }

@@ -1,11 +1,9 @@
 -- A head that lands: the numbers of the records that it adds to the log.
-use Rattle.std.proofs.Common.{◌≡◌, ◌+◌, ◌-◌, ◌<◌, ◌≤◌, ℕ, zero, suc, List, [], ◌∷◌, ◌++◌, length, take, map, filter, count_by, Some, refl, sym, ap, ap₂, subst, ◌∙◌, ◌⊎◌, inl, inr, Bool, true, false, cond, ◌==◌, ◌&&◌, arith, eq-eqb, eqb-true}
+use Rattle.std.proofs.Common.{◌≡◌, ◌+◌, ◌≤◌, ℕ, List, [], ◌++◌, length, take, count_by, sym, ap, ap₂, subst, ◌∙◌, ◌⊎◌, inl, inr, false, cond, ◌==◌, ◌&&◌, arith, eq-eqb, eqb-true}
 use Rattle.std.proofs.lemmas.Bool.{cond_both, and_left, eqb-false, ne_eqb}
 use Rattle.std.proofs.lemmas.List.{map-append}
 use Rattle.std.proofs.lemmas.List.Sums.{length-filter}
-use Rattle.db_base.specs.Change.{key_of}
 use Rattle.db_base.specs.Ids.{IsClient}
-use Rattle.cloud_trait.specs.declared.state.Posted.{Posted}
 use Rattle.head_codec.specs.declared.head.Head.{Head}
 use Rattle.history.specs.Legal.{AreSame}
 use Rattle.log_codec.specs.declared.record.AtomicRec.{AtomicRec}
@@ -96,7 +94,7 @@ module _ (st : Store) (client : ℕ) (head : Head) (more : List AtomicRec) (adds
       none : (n : ℕ) → n + 0 ≡ n
       none n = omega arith
 
--- ---- no entry twice
+  -- ---- no entry twice
 
   IsNew : Entry → Type 0
   IsNew e = (place : ℕ) × (q : AtomicRec) × StandsAt more place q × (entry_of q ≡ e)

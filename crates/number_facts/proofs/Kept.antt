@@ -1,6 +1,6 @@
 -- The numbers of the committed records hold of the empty cloud, and are kept by every call that lands.
 use Rattle.std.proofs.Common.{◌≡◌, ◌+◌, ◌<◌, ◌≤◌, ◌⊎◌, ⊎_elim, inl, inr, ℕ, zero, suc, Bool, true, false, cond, ◌==◌, ◌&&◌, max, List, [], ◌∷◌, ◌++◌, length, refl, sym, ap, ap₂, subst, ◌∙◌, arith, eqb-true, eq-eqb}
-use Rattle.std.proofs.lemmas.Bool.{cond_both, and_parts, cases_lt}
+use Rattle.std.proofs.lemmas.Bool.{and_parts, cases_lt}
 use Rattle.db_base.specs.Change.{key_of}
 use Rattle.db_base.specs.Cursor.{number_of}
 use Rattle.db_base.specs.Ids.{IsClient}
@@ -12,24 +12,22 @@ use Rattle.cloud_trait.specs.State.{CloudState, IsEmptyCloud, marked}
 use Rattle.head_codec.specs.declared.head.Head.{Head}
 use Rattle.leaf_edit.specs.Raised.{greatest_of}
 use Rattle.log_codec.specs.declared.record.AtomicRec.{AtomicRec}
-use Rattle.log_codec.specs.declared.record.PuItem.{PuItem}
 use Rattle.log_codec.specs.declared.record.PuRec.{PuRec}
 use Rattle.node_codec.specs.Inner.{Inner}
 use Rattle.node_codec.specs.Tree.{Tree}
 use Rattle.report_types.specs.declared.entry.Entry.{Entry}
 use Rattle.store_book.specs.Book.{Link, empty_book, with_pieces}
 use Rattle.store_book.specs.Effects.{after_head, after_logged, after_posted, after_log_mark, after_post_mark, Taking, done_after, cursor_after, after_leaf, after_page, after_inner, after_root, after_raise}
-use Rattle.store_book.specs.Premises.{IsRouted, IsLeafAtMost, Opens, Settles, Posts, Takes, LandsFirst, CoversApplied}
+use Rattle.store_book.specs.Premises.{IsRouted, Opens, Settles, Posts, Takes, LandsFirst, CoversApplied}
 use Rattle.store_book.specs.Records.{StandsAt, IsIn, key_in, count_of, IsApplied}
 use Rattle.store_book.specs.Tally.{Node, Tally, Store, at2}
 use Rattle.store_book.specs.Telling.{tally_of}
 use Rattle.store_book.proofs.GrowthLemmas.{links_stay}
 use Rattle.store_book.proofs.Names.{at2_by}
 use Rattle.store_book.proofs.Places.{get_cases, get_single, marked_bytes}
-use Rattle.number_facts.specs.Numbers.{Numbers, IsUpto, IsPlaced, IsOfRecord}
+use Rattle.number_facts.specs.Numbers.{Numbers, IsOfRecord}
 use Rattle.number_facts.proofs.Heads.{adds_keeps, opens_adds, settles_adds}
-use Rattle.number_facts.proofs.Queues.{own_queue}
-use Rattle.number_facts.proofs.Routes.{LeavesStay, routed_on}
+use Rattle.number_facts.proofs.Routes.{routed_on}
 use Rattle.number_facts.proofs.Runs.{run_within, run_has}
 
 -- ---- heads
@@ -303,6 +301,7 @@ after_raise_keeps st tree root level links n c empty = kept st (after_root tree 
   stay = λ a link. at2_by (λ a k ls. IsIn (st.book.chain a k) link → IsIn ls link) tree level links st.book.chain
       (λ is. absurd (nowhere link is.0 (subst (λ ls. StandsAt ls is.0 link) empty is.1))) (λ a k is. is) a 0;
 })
+
 -- ---- the empty cloud
 
 -- what is told where no object has a version and no queue has a message

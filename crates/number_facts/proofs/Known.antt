@@ -1,21 +1,20 @@
 -- What follows from the numbers, for others to cite.
-use Rattle.std.proofs.Common.{◌≡◌, ◌+◌, ◌<◌, ◌≤◌, ◌⊎◌, ⊎_elim, inl, inr, ℕ, Bool, true, false, cond, ◌==◌, ◌&&◌, max, List, length, Some, refl, sym, ap, subst, ◌∙◌, arith, eqb-true}
+use Rattle.std.proofs.Common.{◌≡◌, ◌<◌, ◌≤◌, ◌⊎◌, ⊎_elim, inl, inr, ℕ, Bool, true, false, cond, ◌==◌, ◌&&◌, max, Some, refl, sym, ap, subst, ◌∙◌, arith, eqb-true}
 use Rattle.std.proofs.lemmas.Bool.{and_parts, cases_lt}
 use Rattle.db_base.specs.Ids.{IsClient}
 use Rattle.leaf_edit.specs.Raised.{greatest_of}
 use Rattle.log_codec.specs.declared.record.AtomicRec.{AtomicRec}
 use Rattle.log_codec.specs.declared.record.PuRec.{PuRec}
-use Rattle.log_codec.specs.Pu.{pu_of}
 use Rattle.route_plan.specs.Record.{pu_record_of}
 use Rattle.store_book.specs.Book.{Link}
-use Rattle.store_book.specs.Effects.{Taking, done_after, after_leaf}
-use Rattle.store_book.specs.Messages.{HasCopy, IsMessage}
+use Rattle.store_book.specs.Effects.{Taking, after_leaf}
+use Rattle.store_book.specs.Messages.{IsMessage}
 use Rattle.store_book.specs.Premises.{Takes}
 use Rattle.store_book.specs.Records.{IsIn, key_in, count_of, IsApplied}
 use Rattle.store_book.specs.Tally.{Store}
 use Rattle.number_facts.specs.Numbers.{Numbers}
 use Rattle.number_facts.proofs.Kept.{never_routed}
-use Rattle.number_facts.proofs.Queues.{IsOfQueue, own_queue, record_determined, number_within, number_some, number_taken, HasNumber}
+use Rattle.number_facts.proofs.Queues.{IsOfQueue, record_determined, number_within, number_some, number_taken, HasNumber}
 use Rattle.number_facts.proofs.Runs.{HasItem, run_has}
 
 module _ (st : Store) (n : Numbers st) where

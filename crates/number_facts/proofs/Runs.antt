@@ -1,17 +1,16 @@
 -- The items of a run are committed records: which one an item is, and how far a run leads.
-use Rattle.std.proofs.Common.{◌≡◌, ◌+◌, ◌-◌, ◌<◌, ◌≤◌, ℕ, zero, suc, List, [], ◌∷◌, length, find, count_by, max, slice_get, Some, refl, sym, ap, subst, ◌∙◌, ◌⊎◌, inl, inr, Bool, true, false, cond, ◌==◌, ◌&&◌, arith, eqb, eqb-true}
-use Rattle.std.proofs.lemmas.Bool.{and_parts, cases_lt}
+use Rattle.std.proofs.Common.{◌≡◌, ◌+◌, ◌<◌, ◌≤◌, ℕ, suc, List, [], ◌∷◌, count_by, max, refl, sym, ap, subst, ◌∙◌, Bool, true, false, cond, ◌==◌, arith, eqb, eqb-true}
+use Rattle.std.proofs.lemmas.Bool.{and_parts}
 use Rattle.std.proofs.lemmas.List.Sums.{sum_by-cons}
 use Rattle.db_base.specs.Change.{key_of}
-use Rattle.db_base.specs.Ids.{IsClient}
 use Rattle.leaf_edit.specs.Raised.{greatest_of}
 use Rattle.log_codec.specs.declared.record.AtomicRec.{AtomicRec}
 use Rattle.log_codec.specs.declared.record.PuItem.{PuItem}
 use Rattle.log_codec.specs.declared.record.PuRec.{PuRec}
 use Rattle.route_plan.specs.Record.{pu_record_of}
 use Rattle.run_cursor.specs.Run.{is_at}
-use Rattle.store_book.specs.Premises.{IsItemOf, IsConsecutive, Takes}
-use Rattle.store_book.specs.Records.{StandsAt, IsIn, key_in, count_of}
+use Rattle.store_book.specs.Premises.{IsItemOf, IsConsecutive}
+use Rattle.store_book.specs.Records.{IsIn, key_in, count_of}
 use Rattle.store_book.specs.Tally.{Store}
 use Rattle.number_facts.proofs.Queues.{InOrder, IsOfQueue, number_within, record_determined}
 

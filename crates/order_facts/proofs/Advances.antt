@@ -53,7 +53,7 @@ among st tree key client r is =
 in_back : {X : Type 0} (xs ys : List X) (x : X) → IsIn ys x → IsIn (xs ++ ys) x
 in_back xs ys x is = (length xs + is.0, get_behind xs ys is.0 x is.1)
 
-in_either : {X : Type 0} (xs ys : List X) (x : X) → IsIn (xs ++ ys) x → IsIn xs x ⊎ IsIn ys x
+pub in_either : {X : Type 0} (xs ys : List X) (x : X) → IsIn (xs ++ ys) x → IsIn xs x ⊎ IsIn ys x
 in_either xs ys x is = ⊎_elim (λ at. inl (is.0, at)) (λ p. inr (p.0, p.2)) (get_cases xs ys is.0 x is.1)
 
 module _ (st : Store) (tree : ℕ) (key : List ℕ) (client : ℕ) (f : FirstApplied st tree key client) where
@@ -83,21 +83,21 @@ no_records = []
 
 module _ (st : Store) (p : Taking) where
   -- the numbers of the keys
-  after_up : (r : AtomicRec) → IsApplied st.tally r → IsApplied (after_leaf p st).tally r
+  pub after_up : (r : AtomicRec) → IsApplied st.tally r → IsApplied (after_leaf p st).tally r
   after_up r low = on (((r.tree == p.tree) && (r.page == p.queue)) && p.range (key_in r))
     where
       on : (b : Bool) → r.number ≤ cond b (max (st.tally.done r.tree (key_in r) r.page r.client) (greatest_of p.run r.client)) (st.tally.done r.tree (key_in r) r.page r.client)
       on true = omega (arith, low)
       on false = low
 
-  after_most : (r : AtomicRec) → st.tally.done r.tree (key_in r) r.page r.client < r.number → greatest_of p.run r.client < r.number → IsLeft (after_leaf p st).tally r
+  pub after_most : (r : AtomicRec) → st.tally.done r.tree (key_in r) r.page r.client < r.number → greatest_of p.run r.client < r.number → IsLeft (after_leaf p st).tally r
   after_most r low run = on (((r.tree == p.tree) && (r.page == p.queue)) && p.range (key_in r))
     where
       on : (b : Bool) → cond b (max (st.tally.done r.tree (key_in r) r.page r.client) (greatest_of p.run r.client)) (st.tally.done r.tree (key_in r) r.page r.client) < r.number
       on true = omega (arith, low, run)
       on false = low
 
-  after_same : (r : AtomicRec) → r.tree ≡ p.tree → r.page ≡ p.queue → p.range (key_in r) ≡ true → r.number ≤ greatest_of p.run r.client → IsApplied (after_leaf p st).tally r
+  pub after_same : (r : AtomicRec) → r.tree ≡ p.tree → r.page ≡ p.queue → p.range (key_in r) ≡ true → r.number ≤ greatest_of p.run r.client → IsApplied (after_leaf p st).tally r
   after_same r tree_is page_is inside low =
       subst (λ b. r.number ≤ cond b (max (st.tally.done r.tree (key_in r) r.page r.client) (greatest_of p.run r.client)) (st.tally.done r.tree (key_in r) r.page r.client))
       (sym (and_from ((r.tree == p.tree) && (r.page == p.queue)) (p.range (key_in r))
@@ -106,7 +106,7 @@ module _ (st : Store) (p : Taking) where
       up : (x d g : ℕ) → x ≤ g → x ≤ max d g
       up x d g low = omega (arith, low)
 
-  after_other : (r : AtomicRec) → (r.tree ≡ p.tree → r.page ≡ p.queue → p.range (key_in r) ≡ true → ⊥) → IsLeft st.tally r → IsLeft (after_leaf p st).tally r
+  pub after_other : (r : AtomicRec) → (r.tree ≡ p.tree → r.page ≡ p.queue → p.range (key_in r) ≡ true → ⊥) → IsLeft st.tally r → IsLeft (after_leaf p st).tally r
   after_other r never above = on (((r.tree == p.tree) && (r.page == p.queue)) && p.range (key_in r)) refl
     where
       on : (b : Bool) → (((r.tree == p.tree) && (r.page == p.queue)) && p.range (key_in r)) ≡ b

@@ -15,8 +15,9 @@ use Rattle.std.specs.Cmp.Lexicographic.{slice_cmp}
 use Rattle.db_base.specs.Change.{key_of}
 use Rattle.leaf_edit.specs.Raised.{greatest_of}
 use Rattle.log_codec.specs.declared.record.PuItem.{PuItem}
-use Rattle.run_cursor.specs.Run.{is_at, item_cmp}
-use Rattle.run_cursor.proofs.ItemOrder.{item_cmp_total}
+use Rattle.run_cursor.specs.Run.{is_at}
+use Rattle.log_codec.specs.Order.{item_cmp}
+use Rattle.log_codec.proofs.ItemOrder.{item_cmp_total}
 use Rattle.order_facts.proofs.Filters.{found_passes}
 
 -- what holds of all holds of what is found

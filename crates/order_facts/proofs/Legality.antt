@@ -1,8 +1,10 @@
 -- An order that has of each client, tree and key the first committed entries is legal for each tree; and it holds all where all is applied.
-use Rattle.std.proofs.Common.{◌≡◌, ◌+◌, ◌<◌, ◌≤◌, ◌⊎◌, ⊎_elim, inl, inr, ℕ, zero, suc, Bool, true, false, cond, ◌&&◌, ◌==◌, List, [], ◌∷◌, ◌++◌, map, filter, slice_get, Some, refl, sym, ap, ap₂, subst, ◌∙◌, arith, eq-eqb, eqb-true}
+use Rattle.std.proofs.Common.{◌≡◌, ◌+◌, ◌<◌, ◌≤◌, ◌⊎◌, ⊎_elim, inl, inr, ℕ, zero, suc, Bool, true, false, cond, ◌&&◌, ◌==◌, List, [], ◌∷◌, ◌++◌, length, take, map, filter, slice_get, Some, refl, sym, ap, ap₂, subst, ◌∙◌, arith, eq-eqb, eqb-true}
 use Rattle.std.specs.Str.{bytes_eq}
 use Rattle.std.proofs.lemmas.Bool.{and_parts, and_from, cases_lt}
+use Rattle.std.proofs.Math.Seq.{take-append_seam}
 use Rattle.std.proofs.lemmas.List.{map-append}
+use Rattle.std.proofs.lemmas.Option.{slice_get_within}
 use Rattle.std.proofs.lemmas.Slice.Eq.{bytes_eq-Decides}
 use Rattle.db_base.specs.Change.{key_of}
 use Rattle.db_base.specs.Ids.{IsClient}
@@ -11,9 +13,9 @@ use Rattle.history.specs.Legal.{IsLegal, AreSame, AreOfOneKey}
 use Rattle.history.proofs.FoldLemmas.{fold_onto-of_tree}
 use Rattle.log_codec.specs.declared.record.AtomicRec.{AtomicRec}
 use Rattle.report_types.specs.declared.entry.Entry.{Entry}
-use Rattle.store_book.specs.Records.{StandsAt, IsIn, key_in, is_of_key, entry_of, entries_of, IsApplied}
+use Rattle.store_book.specs.Records.{StandsAt, IsIn, key_in, is_of_key, of_key, entry_of, entries_of, IsApplied}
 use Rattle.store_book.specs.Tally.{Store}
-use Rattle.store_book.proofs.Places.{get_front}
+use Rattle.store_book.proofs.Places.{get_front, get_cases}
 use Rattle.number_facts.specs.Numbers.{Numbers, IsOnce}
 use Rattle.number_facts.proofs.Lists.{filter_there, filter_at, filter_agree, map_there, map_at}
 use Rattle.order_facts.specs.Order.{is_entry_of, entries_of_key, FirstApplied, Ordered}
@@ -196,6 +198,28 @@ once_of_tree tree entries once i j a b at_a at_b same =
     one : place_of (λ e. e.tree == tree) entries i ≡ place_of (λ e. e.tree == tree) entries j
     one = once (place_of (λ e. e.tree == tree) entries i) (place_of (λ e. e.tree == tree) entries j) a b
         (place_there (λ e. e.tree == tree) entries i ∙ at_a) (place_there (λ e. e.tree == tree) entries j ∙ at_b) same
+
+-- ---- the first so many
+
+-- the order has the first so many of the client's committed entries of a tree and key, and those before that place are the ones that are applied
+pub record HasFirst (st : Store) (tree : ℕ) (key : List ℕ) (client : ℕ) : Type 0 where
+  pub upto : ℕ
+  pub ordered : entries_of_key tree key client st.order ≡ entries_of (take upto (of_key tree key client st.book.log))
+  pub below : (place : ℕ) (r : AtomicRec) → StandsAt (of_key tree key client st.book.log) place r → place < upto → IsApplied st.tally r
+  pub applied : (place : ℕ) (r : AtomicRec) → StandsAt (of_key tree key client st.book.log) place r → IsApplied st.tally r → place < upto
+
+pub has_first : (st : Store) (tree : ℕ) (key : List ℕ) (client : ℕ) → FirstApplied st tree key client → HasFirst st tree key client
+has_first st tree key client f = record {
+  upto = length f.taken;
+  ordered = f.ordered ∙ sym (ap (λ l. entries_of l) (ap (λ l. take (length f.taken) l) f.split ∙ take-append_seam f.taken f.left));
+  below = λ place r at less. ⊎_elim (λ there. f.applied r (place, there)) (λ p. absurd (let is = p.1 in omega (arith, is, less))) (cases place r at);
+  applied = λ place r at low. ⊎_elim (λ there. slice_get_within f.taken place r there)
+      (λ p. absurd (let above = f.unapplied r (p.0, p.2) in omega (arith, above, low))) (cases place r at);
+}
+  where
+    cases : (place : ℕ) (r : AtomicRec) → StandsAt (of_key tree key client st.book.log) place r
+        → StandsAt f.taken place r ⊎ ((j : ℕ) × (place ≡ length f.taken + j) × StandsAt f.left j r)
+    cases place r at = get_cases f.taken f.left place r (subst (λ l. StandsAt l place r) f.split at)
 
 -- ---- at a report
 

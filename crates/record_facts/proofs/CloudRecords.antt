@@ -31,7 +31,7 @@ use Rattle.log_codec.specs.declared.record.PuItem.{PuItem}
 use Rattle.node_codec.specs.Tree.{Tree, IsTree, empty_tree}
 use Rattle.node_codec.proofs.SpellingLaws.{tree_only}
 use Rattle.report_types.specs.declared.entry.Entry.{Entry}
-use Rattle.world_audit.specs.Audited.{applied_entry}
+use Rattle.history.specs.Audited.{applied_entry}
 use Rattle.record_facts.specs.Records.{of_client, of_key, count_of}
 use Rattle.record_facts.specs.Tally.{Tally, tally_of, root_at, leaf_at, head_at, AreCounted, IsRecord, AreRecords, HeadCounts, RecordsHold, IsCovered}
 use Rattle.record_facts.proofs.CountedLemmas.{sent_counted, marked_counted, marked_records, sent_records, raised_counted, applied_counted}

@@ -28,7 +28,7 @@ use Rattle.txn_buffer.specs.Noted.{Noted}
 use Rattle.route_plan.specs.Heads.{opened_head, settled_head}
 use Rattle.route_plan.specs.Queue.{queue_name}
 use Rattle.route_plan.specs.Record.{pu_record_of, pending_of}
-use Rattle.world_audit.specs.Audited.{committed_entry}
+use Rattle.history.specs.Audited.{committed_entry}
 use Rattle.commit_run.specs.declared.commit.Stage.{Stage}
 use Rattle.commit_run.specs.declared.commit.Stage.TheVariants.{Ready, PuttingOpen, Sending, PuttingSettled, Finished}
 use Rattle.commit_run.specs.Commit.{Commit, next_at, send_or_settle, opened_by, not_opened, sent_by, settled_by}

@@ -17,7 +17,7 @@ use Rattle.head_codec.specs.Spelling.{head_of}
 use Rattle.leaf_view.specs.Lookup.{number_of as done_number}
 use Rattle.report_types.specs.declared.entry.Entry.{Entry}
 use Rattle.txn_buffer.specs.Noted.{Noted}
-use Rattle.world_audit.specs.Audited.{committed_entry}
+use Rattle.history.specs.Audited.{committed_entry}
 use Rattle.record_facts.specs.Records.{of_client, count_of, IsOnce, IsUpto}
 use Rattle.record_facts.specs.Tally.{Tally, tally_of, root_at, leaf_at, head_at, Waits, IsUnderWay, AreCounted, HeadCounts, RecordsHold}
 use Rattle.record_facts.proofs.Places.{get_cases}

@@ -8,7 +8,7 @@ use Rattle.db_base.specs.Change.{key_of}
 use Rattle.history.specs.Legal.{IsLegal, StandsAt, AreSame, AreOfOneKey}
 use Rattle.report_types.specs.declared.entry.Entry.{Entry}
 use Rattle.txn_buffer.specs.Noted.{Noted, AreDistinct, found_in, is_of}
-use Rattle.world_audit.specs.Audited.{committed_entry}
+use Rattle.history.specs.Audited.{committed_entry}
 use Rattle.record_facts.specs.Records.{of_client, of_key, count_of, IsOnce, AreApplied, IsUpto}
 
 -- ---- the places of the elements that pass a test

@@ -18,7 +18,7 @@ use Rattle.route_plan.specs.Record.{pu_record_of}
 use Rattle.route_plan.specs.Route.{goes_to, next_number, record_behind, routed, routed_behind}
 use Rattle.route_plan.proofs.CommitLaws.{number_of_queue-opened_head}
 use Rattle.txn_buffer.specs.Noted.{Noted}
-use Rattle.world_audit.specs.Audited.{committed_entry}
+use Rattle.history.specs.Audited.{committed_entry}
 use Rattle.record_facts.specs.Records.{of_client, count_of, IsRecordOf}
 
 -- ---- a change goes to the tree queue

@@ -22,10 +22,11 @@ use Rattle.leaf_edit.specs.Lacked.{is_lacked, lacked}
 use Rattle.leaf_edit.specs.Raised.{greatest_of}
 use Rattle.log_codec.specs.declared.record.PuItem.{PuItem}
 use Rattle.report_types.specs.declared.entry.Entry.{Entry}
-use Rattle.run_cursor.specs.Run.{is_at, first_at, has_number, item_cmp, IsRun, IsWithin}
-use Rattle.run_cursor.proofs.ItemOrder.{item_cmp_total}
+use Rattle.log_codec.specs.Order.{item_cmp}
+use Rattle.run_cursor.specs.Run.{is_at, first_at, has_number, IsRun, IsWithin}
+use Rattle.log_codec.proofs.ItemOrder.{item_cmp_total}
 use Rattle.run_cursor.proofs.RunFacts.{run-has}
-use Rattle.world_audit.specs.Audited.{applied_entry}
+use Rattle.history.specs.Audited.{applied_entry}
 use Rattle.record_facts.specs.Records.{of_client, of_key, count_of, entry_of, IsRecordOf}
 
 -- ---- what is found

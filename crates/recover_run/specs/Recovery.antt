@@ -113,6 +113,25 @@ next_at Finished r a = Stops r trouble.Failed
 abbrev pub recovery_next : Recovery → Answer → Next Recovery RecoverAnswer
 recovery_next r a = next_at r.stage r a
 
+-- at want of memory the step leaves the lease as it is
+abbrev pub SameLease : Recovery → Answer → Recovery → Type 0
+SameLease r a n = n.lease ≡ r.lease
+
+-- and so does the call with its step, but where the call gives the lease back
+abbrev pub KeepsLease : Recovery → Answer → Recovery → Type 0
+KeepsLease r a n = n.lease ≡ (handed_over r).lease
+
+-- how many calls an opening has left at most
+abbrev pub left_at : Stage → ℕ
+left_at Taking = 4
+left_at Getting = 3
+left_at Putting = 2
+left_at Releasing = 1
+left_at Finished = 0
+
+abbrev pub calls_left : Recovery → ℕ
+calls_left r = left_at r.stage
+
 -- what a session has in hand after an opening
 abbrev pub home_with : Recovery → Option Claim → Option Home
 home_with r (Some l) = Some (record { client = r.client; lease = l; head = r.head; attempt = 0 })

@@ -1,8 +1,9 @@
 use cloud_trait::lease::Lease;
 use db_base::ids::ClientId;
 use head_codec::head::Head;
+use std::marker::Model;
 
-/// What an open session of a client has in hand.
+/// What an open session of a client has in hand. Its head has a spelling.
 #[derive(Debug, Drop)]
 pub struct Home {
     /// The client.
@@ -13,4 +14,15 @@ pub struct Home {
     pub head: Head,
     /// The last transaction number of the epoch that a commit took, 0 where none did.
     pub attempt: u64,
+}
+
+impl Model for Home {
+    ghost use Rattle.head_codec.specs.Spelling.{HasSpelling};
+    ghost use Rattle.recover_run.specs.Holding.{Holding};
+
+    ghost Value = { Holding };
+
+    ghost view = { λ h. record { client = h.client; lease = h.lease; head = h.head; attempt = h.attempt } };
+
+    ghost invariant = { λ h. HasSpelling h.head };
 }

@@ -4,7 +4,7 @@ ghost use Rattle.head_codec.specs.declared.lists.Pending.{Pending};
 ghost use Rattle.head_codec.specs.Counters.{AreCounters};
 ghost use Rattle.head_codec.specs.Spelling.{HasSpelling};
 ghost use Rattle.cloud_trait.specs.Call.{ask_of};
-ghost use Rattle.cloud_trait.specs.Machine.{Took, Steps};
+ghost use Rattle.cloud_trait.specs.Machine.{LeadsBy, Took, Steps};
 ghost use Rattle.cloud_trait.specs.Weather.{Makes};
 
 use crate::home::Home;
@@ -70,7 +70,7 @@ impl Model for RecoverRun {
 }
 
 impl RecoverRun {
-    ghost use Rattle.recover_run.specs.Recovery.{Recovery, new_recovery, recovery_ask, recovery_next, handed_over, taken_by, got_by, put_by, released_by, head_read, bytes_read, releasing, putting, home_of, IsSound};
+    ghost use Rattle.recover_run.specs.Recovery.{Recovery, new_recovery, recovery_ask, recovery_next, handed_over, taken_by, got_by, put_by, released_by, head_read, bytes_read, releasing, putting, home_of, IsSound, SameLease, KeepsLease, calls_left};
 
     /// The opening of a client. Takes no memory.
     pub fn new(alloc: Global, client: ClientId) -> RecoverRun
@@ -101,7 +101,7 @@ impl RecoverRun {
 
     /// Gives the lease back where the opening is at that, and stops otherwise at the call in hand.
     fn call<C: Cloud>(&mut self, cloud: &mut C, who: Who) -> Answer
-        ensures made { Makes who (recovery_ask self.old) result (C.counts cloud.old) (C.counts cloud.new) (C.state cloud.old) (C.state cloud.new) }
+        ensures made { Makes who (recovery_ask self.old) result (C.seen cloud.old) (C.seen cloud.new) }
         ensures left { self.new ≡ handed_over self.old }
     {
         if self.stage == Stage::Releasing {
@@ -114,7 +114,7 @@ impl RecoverRun {
 
     /// Gives the lease back next, and then stops with the trouble.
     fn releasing(&mut self, trouble: Trouble) -> Turn<RecoverAnswer>
-        ensures { Took (λ r _. releasing r trouble) self.old Answer.Failed self.new result }
+        ensures { Took (λ r _ n. releasing r trouble ≡ n) SameLease self.old Answer.Failed self.new result }
     {
         self.stage = Stage::Releasing;
         self.trouble = Some(trouble);
@@ -122,7 +122,7 @@ impl RecoverRun {
     }
 
     fn taken(&mut self, given: Result<Lease, Trouble>) -> Turn<RecoverAnswer>
-        ensures { Took (λ r _. taken_by r given) self.old Answer.Failed self.new result }
+        ensures { Took (λ r _ n. taken_by r given ≡ n) SameLease self.old Answer.Failed self.new result }
     {
         match given {
             Ok(lease) => {
@@ -136,7 +136,7 @@ impl RecoverRun {
 
     fn put(&mut self, done: Result<(), Trouble>) -> Turn<RecoverAnswer>
         requires { self.old.stage ≡ Stage.Putting }
-        ensures { Took (λ r _. put_by r done) self.old Answer.Failed self.new result }
+        ensures { Took (λ r _ n. put_by r done ≡ n) SameLease self.old Answer.Failed self.new result }
     {
         match done {
             Ok(()) => {
@@ -150,7 +150,8 @@ impl RecoverRun {
     }
 
     fn released(&mut self) -> Turn<RecoverAnswer>
-        ensures { Took (λ r _. released_by r) self.old Answer.Failed self.new result }
+        requires { self.old.stage ≡ Stage.Releasing }
+        ensures { Took (λ r _ n. released_by r ≡ n) KeepsLease self.old Answer.Failed self.new result }
     {
         self.stage = Stage::Finished;
         self.lease = None;
@@ -162,7 +163,7 @@ impl RecoverRun {
         requires early { head.epoch < 2 ^ 64 - 1 }
         requires counters { AreCounters None head.counters }
         requires pending { AllByRecursion (λ (p : Pending). 1 ≤ p.number) head.pending }
-        ensures { Took (λ r _. putting r head) self.old Answer.Failed self.new result }
+        ensures { Took (λ r _ n. putting r head ≡ n) SameLease self.old Answer.Failed self.new result }
     {
         let _ = head.next_epoch();
         match head.write(alloc) {
@@ -179,7 +180,7 @@ impl RecoverRun {
     fn read(&mut self, alloc: Global, head: Head) -> Turn<RecoverAnswer>
         requires counters { AreCounters None head.counters }
         requires pending { AllByRecursion (λ (p : Pending). 1 ≤ p.number) head.pending }
-        ensures { Took (λ r _. head_read r head) self.old Answer.Failed self.new result }
+        ensures { Took (λ r _ n. head_read r head ≡ n) SameLease self.old Answer.Failed self.new result }
     {
         if head.epoch == u64::MAX {
             return self.releasing(Trouble::Exhausted {
@@ -196,7 +197,7 @@ impl RecoverRun {
     }
 
     fn got(&mut self, alloc: Global, got: Result<Option<Blob>, Trouble>) -> Turn<RecoverAnswer>
-        ensures { Took (λ r _. got_by r got) self.old Answer.Failed self.new result }
+        ensures { Took (λ r _ n. got_by r got ≡ n) SameLease self.old Answer.Failed self.new result }
     {
         match got {
             Ok(None) => self.read(alloc, Head::empty(alloc)),
@@ -212,9 +213,10 @@ impl RecoverRun {
         }
     }
 
-    /// Takes the answer of the call in hand.
+    /// Takes the answer of the call in hand. A lease that the call gave back has left.
     fn absorb(&mut self, alloc: Global, answer: Answer) -> Turn<RecoverAnswer>
-        ensures { Took recovery_next self.old answer self.new result }
+        requires { KeepsLease self.old answer self.old }
+        ensures { Took (LeadsBy recovery_next) KeepsLease self.old answer self.new result }
     {
         match (self.stage, answer) {
             (_, Answer::Memory) => Turn::Stopped(Trouble::Memory),
@@ -228,19 +230,19 @@ impl RecoverRun {
 
     /// Makes the call in hand, and does the local work up to the next one.
     pub fn step<C: Cloud>(&mut self, alloc: Global, cloud: &mut C, who: Who) -> Turn<RecoverAnswer>
-        ensures steps { Steps recovery_ask recovery_next who (C.counts cloud.old) (C.counts cloud.new) (C.state cloud.old) (C.state cloud.new) self.old self.new result }
-        ensures sound { IsSound self.new }
+        ensures steps { Steps recovery_ask (LeadsBy recovery_next) KeepsLease who (C.seen cloud.old) (C.seen cloud.new) self.old self.new result }
+        ensures sound { IsSound self.old }
+        ensures less { result ≡ Turn.More → calls_left self.new < calls_left self.old }
     {
-        let answer = self.call(cloud, who);
-        let turn = self.absorb(alloc, answer);
+        // Read for the clause `sound`.
         let _ = &self.stage;
-        turn
+        let answer = self.call(cloud, who);
+        self.absorb(alloc, answer)
     }
 
     /// What the session has in hand after Opened; none before.
     pub fn finish(self) -> Option<Home>
-        ensures home { result ≡ home_of self }
-        ensures spelled { IfSome result (λ home. HasSpelling home.head) }
+        ensures { result ≡ home_of self }
     {
         match (self.stage, self.lease) {
             (Stage::Finished, Some(lease)) => Some(Home {

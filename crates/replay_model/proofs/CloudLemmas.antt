@@ -21,9 +21,9 @@ use Rattle.cloud_trait.specs.Views.{done_of}
 use Rattle.cloud_trait.proofs.RowLemmas.{row_by, row_versions, leaves_upto}
 use Rattle.cloud_trait.proofs.StateLemmas.{landed_newest, landed_other}
 use Rattle.cloud_trait.proofs.UptoLemmas.{effect_upto}
-use Rattle.world_audit.specs.Audited.{Audited, committed_entry}
-use Rattle.replay_model.specs.Standing.{Line}
-use Rattle.replay_model.specs.Committed.{Versions, committed, entries_of_bytes, entries_of_head, entries_of_phase}
+use Rattle.history.specs.Audited.{Audited, committed_entry}
+use Rattle.replay_meaning.specs.Standing.{Line}
+use Rattle.replay_meaning.specs.Committed.{Versions, committed, entries_of_bytes, entries_of_head, entries_of_phase}
 use Rattle.replay_model.specs.Noting.{Newest, has_bytes, has_landed}
 use Rattle.replay_model.specs.Facts.{TreeStands, IsPlaced, CloudStands}
 use Rattle.replay_model.proofs.TreeLemmas.{has_own_bytes}

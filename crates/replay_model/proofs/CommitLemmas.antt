@@ -20,9 +20,9 @@ use Rattle.commit_run.specs.declared.commit.Stage.{Stage}
 use Rattle.commit_run.specs.declared.commit.Stage.TheVariants.{Ready, PuttingOpen, Sending, PuttingSettled, Finished}
 use Rattle.commit_run.specs.Commit.{Commit, ask_at, send_ask, next_at, IsSoundAt, SendsRecord, opened_by, not_opened, sent_by, settled_by, send_or_settle}
 use Rattle.client_session.specs.declared.session.Work.TheVariants.{Committing}
-use Rattle.world_audit.specs.Audited.{Audited, committed_entry}
-use Rattle.replay_model.specs.Standing.{Line}
-use Rattle.replay_model.specs.Committed.{entries_of_bytes}
+use Rattle.history.specs.Audited.{Audited, committed_entry}
+use Rattle.replay_meaning.specs.Standing.{Line}
+use Rattle.replay_meaning.specs.Committed.{entries_of_bytes}
 use Rattle.replay_model.specs.Noting.{Newest, noted_at, has_landed}
 use Rattle.replay_model.specs.Facts.{CommitStands, HomeStands, CloudStands}
 use Rattle.replay_model.proofs.TreeLemmas.{head_lands, head_differs}

@@ -26,8 +26,8 @@ use Rattle.cloud_trait.specs.Upto.{IsUpto}
 use Rattle.cloud_trait.proofs.NameLemmas.{object_cmp-equal, object_cmp-total}
 use Rattle.cloud_trait.proofs.StateLemmas.{put_at_by, put_at_same, slice_get-push}
 use Rattle.cloud_trait.proofs.EffectLemmas.{effect_versions, effect_trace}
-use Rattle.replay_model.specs.Standing.{Line, Standing, unnamed, standing, standing_from, after_line}
-use Rattle.replay_model.specs.Committed.{Versions, changes_at, changes_of_row, entries_of_bytes, site_entries, row_entries, committed_by, committed}
+use Rattle.replay_meaning.specs.Standing.{Line, Standing, unnamed, standing, standing_from, after_line}
+use Rattle.replay_meaning.specs.Committed.{Versions, changes_at, changes_of_row, entries_of_bytes, site_entries, row_entries, committed_by, committed}
 use Rattle.replay_model.specs.Facts.{IsPlaced, IsPlacedAt}
 
 -- what a landed call commits

@@ -28,9 +28,9 @@ use Rattle.tree_ckpt.specs.declared.stage.Stage.{Stage}
 use Rattle.tree_ckpt.specs.declared.stage.Stage.TheVariants.{TakingTree, GettingTree, Receiving, TakingPage, GettingPage, PuttingPage, ReleasingPage, PuttingTree, Deleting, ReleasingTree, StoppingPage, StoppingTree, Finished}
 use Rattle.tree_ckpt.specs.Folding.{Folding, Step, ask_at, under_tree, under_page, delete_next, LeadsAt, tree_taken_by, root_read, next_root, is_lone_root, is_lone_leaf, RootGot, stopping_tree, damaged_tree, ReceivedBy, Received, items_of, run_taken, has_items, deleting, page_taken_by, PageGot, LeafReadBy, LeafPut, page_put_by, RootRaised, raised_tree, root_put_by, deleted_by, one_deleted, one_left, rest_of}
 use Rattle.client_session.specs.declared.session.Work.TheVariants.{Folding as AtFolding}
-use Rattle.world_audit.specs.Audited.{Audited, applied_entry}
-use Rattle.world_audit.specs.Chain.{IsReadAs}
-use Rattle.replay_model.specs.Standing.{Line}
+use Rattle.history.specs.Audited.{Audited, applied_entry}
+use Rattle.tree_meaning.specs.Chain.{IsReadAs}
+use Rattle.replay_meaning.specs.Standing.{Line}
 use Rattle.replay_model.specs.Noting.{Newest, noted_at, has_landed}
 use Rattle.replay_model.specs.Facts.{AppliesRun, PutsRoot, FoldingPuts, FoldingStands, CloudStands}
 use Rattle.replay_model.proofs.TreeLemmas.{leaf_lands, leaf_differs, root_lands}

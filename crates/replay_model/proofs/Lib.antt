@@ -6,6 +6,7 @@ pub mod CloudLemmas
 pub mod OpeningLemmas
 pub mod CommitLemmas
 pub mod FoldingLemmas
+pub mod FoldingTree
 pub mod RecordLemmas
 pub mod RecordKnowledge
 pub mod RecordFoldings

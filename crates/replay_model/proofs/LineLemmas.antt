@@ -5,8 +5,8 @@ use Rattle.cloud_trait.specs.State.{CloudState, newest}
 use Rattle.event_text.specs.declared.event.Event.{Event}
 use Rattle.reply_text.specs.declared.reply.Reply.{Reply}
 use Rattle.client_session.specs.Session.{Acting, IsKept}
-use Rattle.world_audit.specs.Audited.{Audited}
-use Rattle.replay_model.specs.Standing.{Line, Standing, standing, after_line, after_own, session_of}
+use Rattle.history.specs.Audited.{Audited}
+use Rattle.replay_meaning.specs.Standing.{Line, Standing, standing, after_line, after_own, session_of}
 use Rattle.replay_model.specs.Facts.{Knows, ActsAs, CloudStands, RecordsStand, IsFrontOf, Reported, Stands, GoesOn}
 use Rattle.replay_model.proofs.OrderLemmas.{reported_line}
 use Rattle.replay_model.proofs.CommittedLemmas.{committed_line, standing_line, upto_more}

@@ -29,8 +29,8 @@ use Rattle.recover_run.specs.declared.recover.RecoverAnswer.{RecoverAnswer}
 use Rattle.recover_run.specs.declared.recover.RecoverAnswer.TheVariants.{Opened}
 use Rattle.recover_run.specs.Recovery.{Recovery, ask_at, next_at, home_of, home_with, IsSoundAt, taken_by, got_by, head_read, phase_read, bytes_read, put_by, releasing}
 use Rattle.client_session.specs.declared.session.Work.TheVariants.{Opening}
-use Rattle.world_audit.specs.Audited.{Audited}
-use Rattle.replay_model.specs.Standing.{Line}
+use Rattle.history.specs.Audited.{Audited}
+use Rattle.replay_meaning.specs.Standing.{Line}
 use Rattle.replay_model.specs.Noting.{noted_at, has_landed}
 use Rattle.replay_model.specs.Facts.{OpeningStands, HomeStands, CloudStands}
 use Rattle.replay_model.proofs.TreeLemmas.{head_lands}

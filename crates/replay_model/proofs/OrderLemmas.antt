@@ -15,9 +15,9 @@ use Rattle.reply_text.specs.declared.reply.Reply.TheVariants as reply
 use Rattle.txn_buffer.specs.Noted.{Noted}
 use Rattle.client_session.specs.declared.session.Work.{Work}
 use Rattle.client_session.specs.Session.{ask_of_work, committing_of, opens_of, applying_of}
-use Rattle.world_audit.specs.Audited.{Audited, applied_entry}
+use Rattle.history.specs.Audited.{Audited, applied_entry}
 use Rattle.record_facts.proofs.Places.{get_cases, get_single}
-use Rattle.replay_model.specs.Standing.{Line}
+use Rattle.replay_meaning.specs.Standing.{Line}
 use Rattle.replay_model.specs.Noting.{Newest, noted_head, noted_at, noted_in_hand, noted_by, has_landed, audited}
 use Rattle.replay_model.specs.Facts.{IsFrontOf, Reported}
 

@@ -30,7 +30,7 @@ use Rattle.cloud_trait.proofs.StateLemmas.{put_at_same, landed_newest, landed_ot
 use Rattle.tree_ckpt.specs.declared.stage.Stage.{Stage}
 use Rattle.tree_ckpt.specs.declared.stage.Stage.TheVariants.{TakingTree, GettingTree, Receiving, TakingPage, GettingPage, PuttingPage, ReleasingPage, PuttingTree, Deleting, ReleasingTree, StoppingPage, StoppingTree, Finished}
 use Rattle.tree_ckpt.specs.Folding.{Folding, ask_at, under_tree, under_page, delete_next, LeadsAt, tree_taken_by}
-use Rattle.world_audit.specs.Audited.{Audited}
+use Rattle.history.specs.Audited.{Audited}
 use Rattle.record_facts.specs.Tally.{Tally, tally_of, root_at, leaf_at, RecordsHold}
 use Rattle.record_facts.specs.Known.{HasCursor, HasRun, HasDone, FoldingKnown, FoldingKnownAt}
 use Rattle.record_facts.proofs.CloudRecords.{quiet_tally}

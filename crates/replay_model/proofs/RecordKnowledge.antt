@@ -33,7 +33,7 @@ use Rattle.commit_run.specs.declared.commit.Stage.{Stage as CommitStage}
 use Rattle.commit_run.specs.declared.commit.Stage.TheVariants as commit
 use Rattle.commit_run.specs.Commit.{Commit, ask_at as commit_ask, next_at as commit_next, send_ask, SendsRecord, IsSoundAt as IsSoundCommit, opened_by, not_opened, sent_by, settled_by}
 use Rattle.client_session.specs.declared.session.Work.TheVariants.{Committing}
-use Rattle.world_audit.specs.Audited.{Audited}
+use Rattle.history.specs.Audited.{Audited}
 use Rattle.record_facts.specs.Tally.{tally_of, head_at}
 use Rattle.record_facts.specs.Known.{Opens, Sends, OpeningKnown, CommitKnown, CommitKnownAt}
 use Rattle.record_facts.proofs.CloudRecords.{sent_posts}

@@ -27,8 +27,8 @@ use Rattle.tree_ckpt.specs.declared.stage.Stage.{Stage as FoldingStage}
 use Rattle.tree_ckpt.specs.declared.stage.Stage.TheVariants as folding
 use Rattle.tree_ckpt.specs.Folding.{Folding, ask_at as folding_ask, under_tree, under_page, delete_next}
 use Rattle.client_session.specs.declared.session.Work.TheVariants.{Opening, Committing, Folding as AtFolding}
-use Rattle.world_audit.specs.Audited.{Audited, applied_entry}
-use Rattle.world_audit.specs.Chain.{IsReadAs}
+use Rattle.history.specs.Audited.{Audited, applied_entry}
+use Rattle.tree_meaning.specs.Chain.{IsReadAs}
 use Rattle.record_facts.specs.Tally.{Tally, tally_of, leaf_at, RecordsHold, IsCovered}
 use Rattle.record_facts.specs.Known.{OpeningKnownAt, CommitKnownAt, FoldingKnownAt, HasRun, HasDone, PutsCursor}
 use Rattle.record_facts.proofs.CloudRecords.{quiet_tally, root_holds, deleted_holds}

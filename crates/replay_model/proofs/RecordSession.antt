@@ -24,7 +24,7 @@ use Rattle.client_session.specs.declared.session.Answer.TheVariants as answer
 use Rattle.client_session.specs.declared.session.Work.{Work}
 use Rattle.client_session.specs.declared.session.Work.TheVariants.{Closed, Idle, Opening, Committing, Folding, Broken}
 use Rattle.client_session.specs.Session.{Acting, IsKept, StepsSession, StepsWork, opened_work}
-use Rattle.world_audit.specs.Audited.{Audited}
+use Rattle.history.specs.Audited.{Audited}
 use Rattle.record_facts.specs.Tally.{Tally, tally_of}
 use Rattle.record_facts.specs.Known.{MayCommit, OpeningKnownAt, CommitKnown, FoldingKnown}
 use Rattle.record_facts.proofs.OpeningRecords.{opening_home}

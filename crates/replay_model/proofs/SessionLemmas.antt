@@ -32,9 +32,9 @@ use Rattle.client_session.specs.declared.session.Answer.TheVariants as answer
 use Rattle.client_session.specs.declared.session.Work.{Work}
 use Rattle.client_session.specs.declared.session.Work.TheVariants.{Closed, Idle, Opening, Committing, Folding, Broken}
 use Rattle.client_session.specs.Session.{Acting, IsKept, StepsSession, StepsWork, opened_work}
-use Rattle.world_audit.specs.Audited.{Audited}
-use Rattle.replay_model.specs.Standing.{Line, Standing, Posture, Working, Idle as Idled, Opening as OpeningTask, Committing as Noted, Other, standing, steps, answered, idle}
-use Rattle.replay_model.specs.Committed.{changes_at, entries_of_bytes}
+use Rattle.history.specs.Audited.{Audited}
+use Rattle.replay_meaning.specs.Standing.{Line, Standing, Posture, Working, Idle as Idled, Opening as OpeningTask, Committing as Noted, Folding as FoldingTree, standing, steps, answered, idle}
+use Rattle.replay_meaning.specs.Committed.{changes_at, entries_of_bytes}
 use Rattle.replay_model.specs.Noting.{audited}
 use Rattle.replay_model.specs.Facts.{HomeStands, Knows, ActsAs, WorksAs, CloudStands, RecordsStand, Reported, GoesOn}
 use Rattle.replay_model.proofs.OrderLemmas.{reported_more, audited_grows}
@@ -42,6 +42,7 @@ use Rattle.replay_model.proofs.CommittedLemmas.{now_entries}
 use Rattle.replay_model.proofs.OpeningLemmas.{opening_cloud, opening_goes, opening_opens}
 use Rattle.replay_model.proofs.CommitLemmas.{CommitsChanges, commit_cloud, commit_goes, commit_ends}
 use Rattle.replay_model.proofs.FoldingLemmas.{folding_cloud, folding_goes, page_seen}
+use Rattle.replay_model.proofs.FoldingTree.{same_tree}
 use Rattle.replay_model.proofs.RecordSession.{IsReplyTo, records_go, records_end}
 
 -- ---- an object that a call does not touch
@@ -182,7 +183,7 @@ goes_work lines who c d x t u (Folding home f) new a b session event told cloud 
       l.told,
       subst (λ z. CloudStands (length lines + 1) lines z l.after) (sym (audit l.after l.told)) after,
       subst (λ w. Knows (newest l.after) w) (sym p.2) (home_stays who p.1.answer c d x u home f l knows.0, folding_goes (newest l.after) f p.0 f.stage p.1.answer knows.1.root sees p.1.took),
-      subst (λ w. WorksAs w (standing lines 1)) (sym p.2) acts,
+      subst (λ w. WorksAs w (standing lines 1)) (sym p.2) (acts.0 ∙ ap (λ k. Working (FoldingTree k)) (sym (same_tree f p.0 f.stage p.1.answer p.1.took)), acts.1),
     )
 goes_work lines who c d x t u Closed new a b session event told cloud knows kept acts p audit = absurd p
 goes_work lines who c d x t u (Idle home) new a b session event told cloud knows kept acts p audit = absurd p
@@ -220,8 +221,8 @@ opened_steps s epoch e = ap (λ p. answered p (reply.Opened epoch) s) e
 committed_steps : (s : Standing) (txn : ℕ) (changes : List NotedChange) → s.posture ≡ Working (Noted changes) → steps (reply.Commit (Committed txn)) s ≡ idle s
 committed_steps s txn changes e = ap (λ p. answered p (reply.Commit (Committed txn)) s) e
 
-done_steps : (s : Standing) (n : CkptAnswer) → s.posture ≡ Working Other → steps (reply.Done n) s ≡ idle s
-done_steps s n e = ap (λ p. answered p (reply.Done n) s) e
+done_steps : (s : Standing) (n : CkptAnswer) (tree : ℕ) → s.posture ≡ Working (FoldingTree tree) → steps (reply.Done n) s ≡ idle s
+done_steps s n tree e = ap (λ p. answered p (reply.Done n) s) e
 
 -- a step that is answered leaves the session as the lines say with this reply
 ends_work : (lines : List Line) (who : Caller) (c d : Counts) (x : CloudState) (t u : Option CloudState) (w : Work) (new : Acting) (a b : Audited) (ans : Answer) (r : Reply)
@@ -273,7 +274,7 @@ ends_work lines who c d x t u (Folding home f) new a b (answer.Done n) r session
     let after : CloudStands (length lines + 1) lines (audited (newest x) (newest l.after) (Folding home f) a) l.after =
     folding_cloud (length lines + 1) lines a who p.1.answer c d x u home f f.stage l (omega arith) cloud knows.1.puts in
     let s : Standing = standing lines 1 in
-    let same : steps r s ≡ idle s = ap (λ z. steps z s) is ∙ done_steps s n acts.0 in (
+    let same : steps r s ≡ idle s = ap (λ z. steps z s) is ∙ done_steps s n f.tree acts.0 in (
       l.after,
       l.told,
       subst (λ z. CloudStands (length lines + 1) lines z l.after) (sym (audit l.after l.told)) after,

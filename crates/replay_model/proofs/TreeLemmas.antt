@@ -2,8 +2,6 @@
 use Rattle.std.proofs.Common.{◌≡◌, ℕ, ◌+◌, Bool, true, false, cond, eqb, List, [], ◌∷◌, ◌++◌, Option, Some, None, Ok, refl, sym, ap, subst, ◌∙◌, arith}
 use Rattle.std.specs.Prelude.{map, not, ◌&&◌}
 use Rattle.std.specs.Str.{bytes_eq}
-use Rattle.std.specs.declared.cmp.Ordering.{Ordering}
-use Rattle.std.specs.declared.cmp.Ordering.TheVariants.{Less, Equal, Greater}
 use Rattle.std.specs.Ordering.{is_eq}
 use Rattle.std.proofs.lemmas.Bool.{and_parts, eqb-true, eqb-false}
 use Rattle.std.proofs.lemmas.Slice.Eq.{bytes_eq-Decides}
@@ -11,21 +9,17 @@ use Rattle.db_base.specs.declared.names.ObjName.{ObjName}
 use Rattle.db_base.specs.declared.names.ObjName.TheVariants as object
 use Rattle.db_base.specs.declared.pair.Pair.{Pair}
 use Rattle.byte_format.specs.Order.{bytes_below, bytes_same, below_bound}
-use Rattle.byte_format.proofs.Wholes.{one_value}
 use Rattle.head_codec.specs.declared.head.Head.{Head}
 use Rattle.head_codec.specs.declared.head.Phase.TheVariants as phase
 use Rattle.head_codec.specs.Spelling.{head_of}
 use Rattle.cloud_trait.specs.Names.{object_cmp}
 use Rattle.cloud_trait.specs.State.{CloudState, newest}
-use Rattle.cloud_trait.proofs.NameLemmas.{object_cmp-equal}
 use Rattle.report_types.specs.declared.entry.Entry.{Entry as OrderEntry}
 use Rattle.history.specs.Fold.{Records, fold, of_tree}
 use Rattle.history.proofs.FoldLemmas.{fold_onto-of_tree}
 use Rattle.leaf_view.specs.Leaf.{Entry, Leaf, leaf}
-use Rattle.leaf_view.specs.Fits.{Ascend, entry_below, IsHigh}
+use Rattle.leaf_view.specs.Fits.{IsHigh}
 use Rattle.leaf_view.specs.Lookup.{payload_of, empty_leaf, holds}
-use Rattle.leaf_view.proofs.Exactness.{leaf_exact}
-use Rattle.leaf_view.proofs.Split.{leaf_fits}
 use Rattle.leaf_edit.specs.Applied.{applied}
 use Rattle.leaf_edit.specs.Lacked.{lacked}
 use Rattle.node_codec.specs.Node.{child_of}
@@ -34,10 +28,11 @@ use Rattle.node_codec.proofs.NodeLemmas.{not_below_empty}
 use Rattle.commit_run.specs.Commit.{Commit}
 use Rattle.tree_ckpt.specs.Folding.{Folding, is_first_alone, is_lone_leaf}
 use Rattle.log_codec.specs.declared.record.PuItem.{PuItem}
-use Rattle.world_audit.specs.Audited.{applied_entry}
-use Rattle.world_audit.specs.Chain.{IsReadAs, IsNewestLeaf, Leads, AreLeaves, Walked, pair_of, records_of}
-use Rattle.replay_model.specs.Index.{IsWithin, IsRootIn, Finds, ends}
-use Rattle.replay_model.specs.Right.{payload_at}
+use Rattle.history.specs.Audited.{applied_entry}
+use Rattle.tree_meaning.specs.Chain.{IsReadAs, AreLeaves, Walked, pair_of, records_of}
+use Rattle.tree_meaning.proofs.ChainLemmas.{one_leaf, read_ascends, read_high, one_chain}
+use Rattle.tree_meaning.specs.Index.{IsWithin, IsRootIn, Finds, ends}
+use Rattle.replay_meaning.specs.Right.{payload_at}
 use Rattle.record_facts.proofs.CloudRecords.{names_apart}
 use Rattle.replay_model.specs.Noting.{Newest, has_bytes}
 use Rattle.replay_model.specs.Facts.{TreeStands, OpensHead, AppliesRun, PutsRoot}
@@ -77,20 +72,6 @@ lacks_bytes (Some b) bytes differ = on (bytes_eq b bytes) refl
     on : (same : Bool) → bytes_eq b bytes ≡ same → same ≡ false
     on true e = absurd (differ (ap (λ (x : List ℕ). Some x) ((bytes_eq-Decides b bytes).0 e)))
     on false e = refl
-
--- ---- the newest leaf of a page
-
-pub one_leaf : (tree page : ℕ) (bytes : Option (List ℕ)) (l m : Leaf) → IsReadAs tree page bytes (Ok l) → IsReadAs tree page bytes (Ok m) → l ≡ m
-one_leaf tree page None l m a b = a.1 ∙ sym b.1
-one_leaf tree page (Some bytes) l m a b = one_value leaf leaf_exact bytes l m a b
-
-read_ascends : (tree page : ℕ) (bytes : Option (List ℕ)) (l : Leaf) → IsReadAs tree page bytes (Ok l) → Ascend entry_below None l.records
-read_ascends tree page None l is = subst (λ (x : Leaf). Ascend entry_below None x.records) (sym is.1) tt
-read_ascends tree page (Some bytes) l is = (leaf_fits l is.fits).1.records_ascend
-
-pub read_high : (tree page : ℕ) (bytes : Option (List ℕ)) (l : Leaf) → IsReadAs tree page bytes (Ok l) → IsHigh l.low l.right l.high
-read_high tree page None l is = subst (λ (x : Leaf). IsHigh x.low x.right x.high) (sym is.1) refl
-read_high tree page (Some bytes) l is = (leaf_fits l is.fits).1.high
 
 -- ---- what a landed put leaves of the trees
 
@@ -233,18 +214,6 @@ pub record Reported (t : CloudState) (tree : ℕ) (order : List OrderEntry) (con
   pub found : (key : List ℕ) → Finds t tree key (payload_at key contents)
   pub folded : (key : List ℕ) → payload_at key contents ≡ fold order tree key
   pub folded_own : (key : List ℕ) → payload_at key contents ≡ fold (of_tree tree order) tree key
-
--- a leaf without a right page ends the chain
-ends_here : (t : CloudState) (tree from : ℕ) (leaves : List Leaf) → from ≡ 0 → Leads t tree from leaves 0 → leaves ≡ []
-ends_here t tree from [] none lead = refl
-ends_here t tree from (l ∷ leaves) none lead = absurd (omega (arith, lead.0))
-
-one_chain : (t : CloudState) (tree : ℕ) (leaves : List Leaf) (l : Leaf) → IsNewestLeaf t tree 1 l → l.right ≡ 0 → Leads t tree 1 leaves 0 → leaves ≡ l ∷ []
-one_chain t tree [] l is none lead = absurd (omega arith)
-one_chain t tree (m ∷ leaves) l is none lead =
-    let e : m ≡ l = one_leaf tree 1 (newest t (object.Page tree 1)) m l lead.1 is in
-    let rest : leaves ≡ [] = ends_here t tree m.right leaves (ap (λ (x : Leaf). x.right) e ∙ none) lead.2 in
-    cc
 
 -- a record is shown with its key and payload
 payload_at-shown : (key : List ℕ) (es : List Entry) → payload_at key (map pair_of es ++ []) ≡ payload_of key es

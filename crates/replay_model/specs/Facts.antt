@@ -33,13 +33,13 @@ use Rattle.tree_ckpt.specs.Folding.{Folding, is_lone_root, is_lone_leaf}
 use Rattle.client_session.specs.declared.session.Work.{Work}
 use Rattle.client_session.specs.declared.session.Work.TheVariants as work
 use Rattle.client_session.specs.Session.{Acting, IsKept}
-use Rattle.world_audit.specs.Audited.{Audited}
-use Rattle.world_audit.specs.Chain.{IsReadAs}
+use Rattle.history.specs.Audited.{Audited}
+use Rattle.tree_meaning.specs.Chain.{IsReadAs}
 use Rattle.record_facts.specs.Tally.{Tally, tally_of, RecordsHold}
 use Rattle.record_facts.specs.Known.{HomeKnown, MayCommit, OpeningKnown, CommitKnown, FoldingKnown}
-use Rattle.replay_model.specs.Standing.{Line, Closed, Idle, Working, Opening, Committing, Other, Standing, standing}
-use Rattle.replay_model.specs.Committed.{Versions, committed}
-use Rattle.replay_model.specs.Index.{IsRootIn}
+use Rattle.replay_meaning.specs.Standing.{Line, Closed, Idle, Working, Opening, Committing, Folding as FoldingTree, Standing, standing}
+use Rattle.replay_meaning.specs.Committed.{Versions, committed}
+use Rattle.tree_meaning.specs.Index.{IsRootIn}
 use Rattle.replay_model.specs.Noting.{Newest}
 
 -- ---- what holds of a cloud
@@ -175,7 +175,7 @@ WorksAs work.Closed s = s.posture ≡ Closed
 WorksAs (work.Idle home) s = (s.posture ≡ Idle) × (s.client ≡ home.client)
 WorksAs (work.Opening r) s = (s.posture ≡ Working Opening) × (s.client ≡ r.client)
 WorksAs (work.Committing c) s = (s.posture ≡ Working (Committing c.changes)) × (s.client ≡ c.home.client)
-WorksAs (work.Folding home f) s = (s.posture ≡ Working Other) × (s.client ≡ home.client)
+WorksAs (work.Folding home f) s = (s.posture ≡ Working (FoldingTree f.tree)) × (s.client ≡ home.client)
 WorksAs work.Broken s = ⊥
 
 pub record ActsAs (session : Acting) (s : Standing) : Type 0 where

@@ -8,7 +8,7 @@ use Rattle.head_codec.specs.declared.head.Head.{Head}
 use Rattle.txn_buffer.specs.Noted.{Noted}
 use Rattle.client_session.specs.declared.session.Work.{Work}
 use Rattle.client_session.specs.Session.{ask_of_work, committing_of, opens_of, applying_of}
-use Rattle.world_audit.specs.Audited.{Audited, committed_entry, applied_entry}
+use Rattle.history.specs.Audited.{Audited, committed_entry, applied_entry}
 
 -- the newest bytes of each object
 abbrev pub Newest : Type 0

@@ -8,9 +8,5 @@ mod read_report;
 mod read_trouble;
 pub mod reply;
 pub mod reply_kind;
-#[cfg(test)]
-mod table_tests;
-#[cfg(test)]
-mod tests;
 pub mod trouble_kind;
 pub mod write;

@@ -9,5 +9,3 @@ pub mod queue;
 pub mod record;
 pub mod route;
 pub mod seen;
-#[cfg(test)]
-mod tests;

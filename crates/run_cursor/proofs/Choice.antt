@@ -11,7 +11,8 @@ use Rattle.std.proofs.lemmas.List.Sorted.{All-permutation, sum_by-IsPermutation}
 use Rattle.std.proofs.lemmas.List.Folds.{find-append, list_any-append}
 use Rattle.db_base.specs.Cursor.{number_of}
 use Rattle.log_codec.specs.declared.record.PuItem.{PuItem}
-use Rattle.run_cursor.specs.Run.{has_number, first_at, is_at, item_cmp, IsRun, IsTop, IsWithin}
+use Rattle.log_codec.specs.Order.{item_cmp}
+use Rattle.run_cursor.specs.Run.{has_number, first_at, is_at, IsRun, IsTop, IsWithin}
 use Rattle.run_cursor.specs.Chosen.{chosen, is_wanted}
 
 -- none that passes the test is counted where there is none

@@ -1,5 +1,4 @@
 pub mod Choice
-pub mod ItemOrder
 pub mod Tops
 pub mod NewOnes
 pub mod RunFacts

@@ -1,3 +1,4 @@
 pub mod Chosen
 pub mod Covered
+pub mod Leading
 pub mod Run

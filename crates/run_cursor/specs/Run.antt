@@ -1,13 +1,9 @@
 -- The run of a queue: the records that may be applied next, and how far they lead.
-use Rattle.std.specs.Prelude.{ℕ, ◌≡◌, ◌≢◌, ◌+◌, ◌<◌, ◌≤◌, ◌^◌, ◌==◌, ◌&&◌, Bool, false, List, Option, Some, find, All, IsSorted, true, count_by}
-use Rattle.std.specs.declared.cmp.Ordering.{Ordering}
+use Rattle.std.specs.Prelude.{ℕ, ◌≡◌, ◌≢◌, ◌+◌, ◌<◌, ◌≤◌, ◌==◌, ◌&&◌, Bool, false, List, Option, Some, find, All, IsSorted, true, count_by}
 use Rattle.std.specs.List.{list_any}
-use Rattle.std.specs.Ordering.{nat_cmp, ordering_then}
-use Rattle.std.specs.Cmp.Lexicographic.{slice_cmp}
-use Rattle.db_base.specs.Change.{key_of, IsChange}
-use Rattle.db_base.specs.Ids.{IsClient}
 use Rattle.db_base.specs.Cursor.{number_of}
 use Rattle.log_codec.specs.declared.record.PuItem.{PuItem}
+use Rattle.log_codec.specs.Order.{item_cmp}
 
 -- whether an item is the client's record of this number
 abbrev pub is_at : ℕ → ℕ → PuItem → Bool
@@ -27,13 +23,6 @@ pub record IsTop (from : ℕ) (items : List PuItem) (client last : ℕ) : Type 0
   pub each : (n : ℕ) → from < n → n ≤ last → has_number items client n ≡ true
   pub stops : has_number items client (last + 1) ≡ false
 
--- by key, then client, then number
-abbrev pub item_cmp : PuItem → PuItem → Ordering
-item_cmp x y =
-    ordering_then
-    (slice_cmp nat_cmp (key_of x.rec.change) (key_of y.rec.change))
-    (ordering_then (nat_cmp x.rec.client y.rec.client) (nat_cmp x.rec.number y.rec.number))
-
 -- a number behind the cursor and not behind the top
 pub record IsWithin (cursor top : List (ℕ × ℕ)) (client number : ℕ) : Type 0 where
   pub above : number_of cursor client < number
@@ -43,17 +32,6 @@ pub record IsWithin (cursor top : List (ℕ × ℕ)) (client number : ℕ) : Typ
 pub record Taken : Type 0 where
   pub items : List PuItem
   pub top : List (ℕ × ℕ)
-
--- what every item of a queue is, by its types
-pub record IsItem (x : PuItem) : Type 0 where
-  pub change : IsChange x.rec.change
-  pub client : IsClient x.rec.client
-  pub number : x.rec.number < 2 ^ 64
-
--- items in the order in which a leaf takes them
-pub record IsOrdered (run : List PuItem) : Type 0 where
-  pub sorted : IsSorted item_cmp run
-  pub items : All IsItem run
 
 -- For each client the longest list of numbers behind the cursor that is among the items, each number once.
 pub record IsRun (cursor : List (ℕ × ℕ)) (received : List PuItem) (run : List PuItem) (top : List (ℕ × ℕ)) : Type 0 where

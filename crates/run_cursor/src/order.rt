@@ -1,5 +1,5 @@
 ghost use Rattle.std.specs.Prelude.{◌≡◌};
-ghost use Rattle.run_cursor.specs.Run.{item_cmp};
+ghost use Rattle.log_codec.specs.Order.{item_cmp};
 
 use log_codec::record::PuItem;
 use std::cmp::Ordering;

@@ -36,7 +36,8 @@ pub struct Run {
 }
 
 impl Model for Run {
-    ghost use Rattle.run_cursor.specs.Run.{Taken, IsOrdered};
+    ghost use Rattle.log_codec.specs.Order.{IsOrdered};
+    ghost use Rattle.run_cursor.specs.Run.{Taken};
 
     ghost Value = { Taken };
 
@@ -46,7 +47,7 @@ impl Model for Run {
 }
 
 impl Run {
-    ghost use Rattle.run_cursor.specs.Run.{IsOrdered};
+    ghost use Rattle.log_codec.specs.Order.{IsOrdered};
 
     /// The items, in the order in which they are applied.
     pub fn items(&self) -> &[PuItem]
@@ -75,6 +76,3 @@ pub fn take_run(alloc: Global, cursor: &Cursor, items: &[PuItem]) -> Result<Run,
     kept.sort_by(compare)?;
     Ok(Run { items: kept, top })
 }
-
-#[cfg(test)]
-mod tests;

@@ -1,6 +1,7 @@
-ghost use Rattle.std.specs.Prelude.{◌≡◌, ℕ, ◌<◌, ◌≤◌, ◌^◌, ◌+◌, false, IfOk};
-ghost use Rattle.db_base.specs.Cursor.{number_of};
+ghost use Rattle.std.specs.Prelude.{◌≡◌, ◌↔◌, ℕ, ◌<◌, ◌≤◌, ◌^◌, ◌+◌, false, IfOk, IsTrue};
+ghost use Rattle.db_base.specs.Cursor.{number_of, SetsNumber};
 ghost use Rattle.run_cursor.specs.Run.{has_number, IsTop, Raises};
+ghost use Rattle.run_cursor.specs.Leading.{Follows, IsLed, Passes};
 
 use crate::run::RunFault;
 use db_base::cursor::Cursor;
@@ -51,20 +52,75 @@ fn raise(top: &mut Cursor, items: &[PuItem], client: ClientId) -> Result<(), Run
     }
 }
 
-/// For each client the last of the numbers that follow one another behind the cursor, or the cursor's.
-pub(crate) fn top_of(cursor: &Cursor, items: &[PuItem]) -> Result<Cursor, RunFault>
-    ensures { IfOk result (λ top. (client : ℕ) → IsTop (number_of cursor.now client) items.now client (number_of top client)) }
+/// Sets the client's number to the item's where the item is the next one.
+fn follow(top: &mut Cursor, x: &PuItem) -> Result<(), RunFault>
+    ensures { IfOk result (λ _. Follows top.old top.new x.now) }
+{
+    let last = top.get(x.rec.client);
+    if last < u64::MAX && x.rec.number == last + 1 {
+        set(top, x.rec.client, x.rec.number)?;
+    }
+    Ok(())
+}
+
+/// For each client the last number that is led to by items that follow one another as they were received.
+fn top_in_order(cursor: &Cursor, items: &[PuItem]) -> Result<Cursor, RunFault>
+    ensures { IfOk result (λ top. IsLed cursor.now items.now top) }
 {
     let mut top = copy_of(cursor)?;
     let mut left = items;
     while let Some((x, rest)) = left.split_first() {
-        raise(&mut top, items, x.rec.client)?;
+        follow(&mut top, x)?;
         left = rest;
     }
     Ok(top)
 }
 
-fn copy_of(cursor: &Cursor) -> Result<Cursor, RunFault>
+/// Whether a number is the one behind another.
+fn is_next(last: u64, number: u64) -> bool
+    ensures { IsTrue result ↔ (number ≡ last + 1) }
+{
+    if number <= last {
+        return false;
+    }
+    number - last == 1
+}
+
+/// Where the item is the next one of its client, sets the client's number to the last of those that follow among the items.
+fn pass(top: &mut Cursor, items: &[PuItem], x: &PuItem) -> Result<(), RunFault>
+    ensures { IfOk result (λ _. Passes top.old top.new items.now x.now) }
+{
+    if !is_next(top.get(x.rec.client), x.rec.number) {
+        return Ok(());
+    }
+    raise(top, items, x.rec.client)
+}
+
+/// For each client the last of the numbers that follow one another behind the cursor, or the cursor's.
+///
+/// Items that come in order are followed first, so that those that come out of order alone are looked for.
+pub(crate) fn top_of(cursor: &Cursor, items: &[PuItem]) -> Result<Cursor, RunFault>
+    ensures { IfOk result (λ top. (client : ℕ) → IsTop (number_of cursor.now client) items.now client (number_of top client)) }
+{
+    let mut top = top_in_order(cursor, items)?;
+    let mut left = items;
+    while let Some((x, rest)) = left.split_first() {
+        pass(&mut top, items, x)?;
+        left = rest;
+    }
+    Ok(top)
+}
+
+pub(crate) fn set(top: &mut Cursor, client: ClientId, number: u64) -> Result<(), RunFault>
+    ensures { IfOk result (λ _. SetsNumber top.old top.new client number) }
+{
+    match top.set(client, number) {
+        Ok(()) => Ok(()),
+        Err(_) => Err(RunFault::Memory),
+    }
+}
+
+pub(crate) fn copy_of(cursor: &Cursor) -> Result<Cursor, RunFault>
     ensures { IfOk result (λ c. c ≡ cursor.now) }
 {
     match cursor.copied() {

@@ -10,14 +10,14 @@ use Rattle.cloud_trait.specs.Upto.{upto, AgreeUpto, IsUpto}
 use Rattle.db_base.specs.declared.names.ObjName.{ObjName}
 use Rattle.cloud_trait.proofs.StateLemmas.{slice_get-push}
 use Rattle.cloud_trait.proofs.UptoLemmas.{versions_upto-all, trace_upto-all}
-use Rattle.db_io.specs.Content.{Adds, AddsPrefix}
+use Rattle.db_io.specs.Content.{Told, Adds, AddsPrefix}
 use Rattle.event_text.specs.declared.event.Event.{Event}
 use Rattle.event_text.specs.Event.{IsEvent}
 use Rattle.line_io.specs.Lines.{lines_of}
 use Rattle.reply_text.specs.declared.reply.Reply.{Reply}
 use Rattle.reply_text.specs.declared.reply.Reply.TheVariants as reply
-use Rattle.replay_model.specs.Standing.{Line}
-use Rattle.replay_model.specs.Right.{ReportIsRight}
+use Rattle.replay_meaning.specs.Standing.{Line}
+use Rattle.replay_meaning.specs.Right.{ReportIsRight}
 use Rattle.replay_model.specs.Facts.{Stands}
 use Rattle.replay_model.proofs.UptoRight.{right_same}
 use Rattle.replay_model.proofs.StartLemmas.{nothing_stands_yet}
@@ -28,19 +28,20 @@ use Rattle.world_core.specs.Handled.{Handled}
 use Rattle.world_core.specs.Stands.{StandsOn, Grows}
 use Rattle.s3db.specs.declared.replay.LineFault.{LineFault}
 use Rattle.s3db.specs.declared.replay.LineFault.TheVariants.{BadLine, WriteFault, Memory, CloudFault}
+use Rattle.s3db.specs.Replay.{WasWithin}
 use Rattle.s3db.specs.Answered.{IsNew, start, further, AreAnswered}
 use Rattle.s3db.specs.Replayed.{AreSpelled, reply_line, replies_from, replies, bad_line, ReportsAreRight, KeepsTheTheorem, WroteFront, reply_cut, refusal_cut, EndedBy, between, writing, handling, Ended, WentThrough, Handles, IsAt, IsAnswered, LineWent, event_handled, refused, unread}
 
 -- ---- content that is written
 
-pub adds_nothing : (w : Option (List ℕ)) → Adds w w []
+pub adds_nothing : (w : Told) → Adds w w []
 adds_nothing w all e = e ∙ ap Some (sym (append-nil all))
 
-pub adds_more : (w v u : Option (List ℕ)) (xs ys : List ℕ) → Adds w v xs → Adds v u ys → Adds w u (xs ++ ys)
+pub adds_more : (w v u : Told) (xs ys : List ℕ) → Adds w v xs → Adds v u ys → Adds w u (xs ++ ys)
 adds_more w v u xs ys f g all e = g (all ++ xs) (f all e) ∙ ap Some (append_assoc all xs ys)
 
 -- nothing written is a front of anything
-pub prefix_none : (w : Option (List ℕ)) (xs : List ℕ) → AddsPrefix w w xs
+pub prefix_none : (w : Told) (xs : List ℕ) → AddsPrefix w w xs
 prefix_none w xs all e = ([], xs, refl, e ∙ ap Some (sym (append-nil all)))
 
 -- ---- lines and their texts
@@ -120,7 +121,7 @@ stands_more lines line n t z old new k on grows u told stands so =
     (f.after, f.told, f.stands, reports_more lines line u f.after agree upto_all so f.right)
 
 -- the lines that were handled, with one more
-lines_more : (texts : List (List ℕ)) (text : List ℕ) (n : ℕ) (w v u : Option (List ℕ)) (b c d : Counts) (s t z : Option CloudState) (first old new : World) (line : Line)
+lines_more : (texts : List (List ℕ)) (text : List ℕ) (n : ℕ) (w v u : Told) (b c d : Counts) (s t z : Option CloudState) (first old new : World) (line : Line)
     → n ≡ length texts + 1 → Handles texts w v b c s t first old → IsEvent text line.event → IsAnswered n line.event c d t z old new line.reply → Grows n t z
     → Adds v u (reply_line n line.reply) → Handles (texts ++ text ∷ []) w u b d s z first new
 lines_more texts text n w v u b c d s t z first old new line count h spells a grows adds =
@@ -137,7 +138,7 @@ lines_more texts text n w v u b c d s t z first old new line count h spells a gr
 
 -- ---- the lines of a text
 
-pub at_start : (text : List ℕ) (w : Option (List ℕ)) (c : Counts) (s : Option CloudState) (world : World) → IsNew world → IsAt text text 0 w w c c s s world world
+pub at_start : (text : List ℕ) (w : Told) (c : Counts) (s : Option CloudState) (world : World) → IsNew world → IsAt text text 0 w w c c s s world world
 at_start text w c s world fresh = record {
   earlier = [];
   at = refl;
@@ -156,7 +157,7 @@ at_start text w c s world fresh = record {
   };
 }
 
-pub at_more : (text rest behind line : List ℕ) (n m : ℕ) (w v u : Option (List ℕ)) (b c d : Counts) (s t z : Option CloudState) (first old new : World)
+pub at_more : (text rest behind line : List ℕ) (n m : ℕ) (w v u : Told) (b c d : Counts) (s t z : Option CloudState) (first old new : World)
     → IsAt text rest n w v b c s t first old → lines_of rest ≡ line ∷ lines_of behind → m ≡ n + 1 → LineWent (Ok tt) m line v u c d t z old new → Grows m t z
     → IsAt text behind m w u b d s z first new
 at_more text rest behind line n m w v u b c d s t z first old new is split next (event_handled event spells p) grows =
@@ -170,11 +171,11 @@ at_more text rest behind line n m w v u b c d s t z first old new is split next 
 at_more text rest behind line n m w v u b c d s t z first old new is split next (refused bad e f p) grows = absurd p
 at_more text rest behind line n m w v u b c d s t z first old new is split next (unread e f g h) grows = absurd (cc)
 
-abbrev answered : (texts : List (List ℕ)) (w v : Option (List ℕ)) (b c : Counts) (s t : Option CloudState) (first world : World) → IsNew first
+abbrev answered : (texts : List (List ℕ)) (w v : Told) (b c : Counts) (s t : Option CloudState) (first world : World) → IsNew first
     → (h : Handles texts w v b c s t first world) → AreAnswered h.lines b c s t
 answered texts w v b c s t first world fresh h = record { first = first; fresh = fresh; last = world; went = h.went }
 
-pub at_end : (text rest : List ℕ) (n : ℕ) (w v : Option (List ℕ)) (b c : Counts) (s t : Option CloudState) (first world : World) → IsNew first
+pub at_end : (text rest : List ℕ) (n : ℕ) (w v : Told) (b c : Counts) (s t : Option CloudState) (first world : World) → IsNew first
     → IsAt text rest n w v b c s t first world → rest ≡ [] → WentThrough text (Ok tt) w v b c s t
 at_end text rest n w v b c s t first world fresh is none = record {
   lines = is.handles.lines;
@@ -187,7 +188,7 @@ at_end text rest n w v b c s t first world fresh is none = record {
 }
 
 -- where a run stops between two lines for want of memory
-pub at_stop : (text rest : List ℕ) (n : ℕ) (w v : Option (List ℕ)) (b c : Counts) (s t : Option CloudState) (first world : World) → IsNew first
+pub at_stop : (text rest : List ℕ) (n : ℕ) (w v : Told) (b c : Counts) (s t : Option CloudState) (first world : World) → IsNew first
     → IsAt text rest n w v b c s t first world → WentThrough text (Err Memory) w v b c s t
 at_stop text rest n w v b c s t first world fresh is = record {
   lines = is.handles.lines;
@@ -202,14 +203,14 @@ at_stop text rest n w v b c s t first world fresh is = record {
 -- ---- a line that ends the run
 
 -- a text of the lines was met, and calls were made at it
-pub record IsMet (text rest behind line : List ℕ) (n m : ℕ) (w v : Option (List ℕ)) (b c : Counts) (s t z : Option CloudState) (first old : World) : Type 0 where
+pub record IsMet (text rest behind line : List ℕ) (n m : ℕ) (w v : Told) (b c : Counts) (s t z : Option CloudState) (first old : World) : Type 0 where
   pub fresh : IsNew first
   pub is : IsAt text rest n w v b c s t first old
   pub split : lines_of rest ≡ line ∷ lines_of behind
   pub next : m ≡ n + 1
   pub grows : Grows m t z
 
-met_count : {text rest behind line : List ℕ} {n m : ℕ} {w v : Option (List ℕ)} {b c : Counts} {s t z : Option CloudState} {first old : World}
+met_count : {text rest behind line : List ℕ} {n m : ℕ} {w v : Told} {b c : Counts} {s t z : Option CloudState} {first old : World}
     → (met : IsMet text rest behind line n m w v b c s t z first old) → m ≡ length met.is.handles.lines + 1
 met_count {text} {rest} {behind} {line} {n} {m} met =
     let at : length met.is.earlier ≡ n = met.is.count in
@@ -218,7 +219,7 @@ met_count {text} {rest} {behind} {line} {n} {m} met =
     omega arith
 
 -- the reports of what was handled, after calls of a later line
-keeps : {text rest behind line : List ℕ} {n m : ℕ} {w v : Option (List ℕ)} {b c : Counts} {s t z : Option CloudState} {first old : World}
+keeps : {text rest behind line : List ℕ} {n m : ℕ} {w v : Told} {b c : Counts} {s t z : Option CloudState} {first old : World}
     → (met : IsMet text rest behind line n m w v b c s t z first old) → KeepsTheTheorem met.is.handles.lines s z
 keeps {text} {rest} {behind} {line} {n} {m} met x told empty =
     let h = met.is.handles in
@@ -234,8 +235,8 @@ keeps {text} {rest} {behind} {line} {n} {m} met x told empty =
     )
 
 -- the run ends before a text that has no reply
-ends_before : {text rest behind line : List ℕ} {n m : ℕ} {w v : Option (List ℕ)} {b c : Counts} {s t z : Option CloudState} {first old : World}
-    → (ended : Result (Unit {0}) LineFault) (u : Option (List ℕ)) (d : Counts) → (met : IsMet text rest behind line n m w v b c s t z first old)
+ends_before : {text rest behind line : List ℕ} {n m : ℕ} {w v : Told} {b c : Counts} {s t z : Option CloudState} {first old : World}
+    → (ended : Result (Unit {0}) LineFault) (u : Told) (d : Counts) → (met : IsMet text rest behind line n m w v b c s t z first old)
     → Ended ended met.is.handles.lines (line ∷ lines_of behind) w u b d s z → WentThrough text ended w u b d s z
 ends_before {text} {rest} {behind} {line} ended u d met so = record {
   lines = met.is.handles.lines;
@@ -248,8 +249,8 @@ ends_before {text} {rest} {behind} {line} ended u d met so = record {
 }
 
 -- the run ends behind a text that has a reply
-ends_behind : {text rest behind line : List ℕ} {n m : ℕ} {w v : Option (List ℕ)} {b c : Counts} {s t z : Option CloudState} {first old : World}
-    → (ended : Result (Unit {0}) LineFault) (u : Option (List ℕ)) (d : Counts) (new : World) (one : Line) → (met : IsMet text rest behind line n m w v b c s t z first old)
+ends_behind : {text rest behind line : List ℕ} {n m : ℕ} {w v : Told} {b c : Counts} {s t z : Option CloudState} {first old : World}
+    → (ended : Result (Unit {0}) LineFault) (u : Told) (d : Counts) (new : World) (one : Line) → (met : IsMet text rest behind line n m w v b c s t z first old)
     → IsEvent line one.event → IsAnswered m one.event c d t z old new one.reply
     → Ended ended (met.is.handles.lines ++ one ∷ []) (lines_of behind) w u b d s z → WentThrough text ended w u b d s z
 ends_behind {text} {rest} {behind} {line} {n} {m} {w} {v} {b} {c} {s} {t} {z} {first} {old} ended u d new one met spells a so =
@@ -269,14 +270,14 @@ ends_behind {text} {rest} {behind} {line} {n} {m} {w} {v} {b} {c} {s} {t} {z} {f
     }
 
 -- the lines before the text, where no call was made at it
-before_unmoved : {text rest behind line : List ℕ} {n m : ℕ} {w v : Option (List ℕ)} {b c : Counts} {s t z : Option CloudState} {first old : World}
+before_unmoved : {text rest behind line : List ℕ} {n m : ℕ} {w v : Told} {b c : Counts} {s t z : Option CloudState} {first old : World}
     → (met : IsMet text rest behind line n m w v b c s t z first old) (d : Counts) → d ≡ c → z ≡ t → AreAnswered met.is.handles.lines b d s z
 before_unmoved {text} {rest} {behind} {line} {n} {m} {w} {v} {b} {c} {s} {t} {z} {first} {old} met d e f =
     let h = met.is.handles in
     subst (λ x. AreAnswered h.lines b x s z) (sym e) (subst (λ y. AreAnswered h.lines b c s y) (sym f) (answered met.is.earlier w v b c s t first old met.fresh h))
 
 -- the lines with the text's own
-with_answer : {text rest behind line : List ℕ} {n m : ℕ} {w v : Option (List ℕ)} {b c : Counts} {s t z : Option CloudState} {first old : World}
+with_answer : {text rest behind line : List ℕ} {n m : ℕ} {w v : Told} {b c : Counts} {s t z : Option CloudState} {first old : World}
     → (met : IsMet text rest behind line n m w v b c s t z first old) (d : Counts) (new : World) (one : Line) → IsAnswered m one.event c d t z old new one.reply
     → AreAnswered (met.is.handles.lines ++ one ∷ []) b d s z
 with_answer {text} {rest} {behind} {line} {n} {m} {w} {v} {b} {c} {s} {t} {z} {first} {old} met d new one a = record {
@@ -287,8 +288,8 @@ with_answer {text} {rest} {behind} {line} {n} {m} {w} {v} {b} {c} {s} {t} {z} {f
 }
 
 -- the event of the text has no reply
-no_answer : {text rest behind line : List ℕ} {n m : ℕ} {w v : Option (List ℕ)} {b c : Counts} {s t z : Option CloudState} {first old : World}
-    → (met : IsMet text rest behind line n m w v b c s t z first old) (u : Option (List ℕ)) (d : Counts) (new : World) (event : Event) (fault : WorldFault) → IsEvent line event
+no_answer : {text rest behind line : List ℕ} {n m : ℕ} {w v : Told} {b c : Counts} {s t z : Option CloudState} {first old : World}
+    → (met : IsMet text rest behind line n m w v b c s t z first old) (u : Told) (d : Counts) (new : World) (event : Event) (fault : WorldFault) → IsEvent line event
     → Handled m event c d t z old new (Err fault) → u ≡ v → EndedBy fault met.is.handles.lines (line ∷ lines_of behind) w u b d s z
 no_answer {text} {rest} {behind} {line} {n} {m} {w} {v} {b} {c} {s} {t} {z} {first} {old} met u d new event fault spells handled same =
     let h = met.is.handles in
@@ -306,8 +307,8 @@ no_answer {text} {rest} {behind} {line} {n} {m} {w} {v} {b} {c} {s} {t} {z} {fir
     }
 
 -- the reply was cut
-cut_reply : {text rest behind line : List ℕ} {n m : ℕ} {w v : Option (List ℕ)} {b c : Counts} {s t z : Option CloudState} {first old : World}
-    → (met : IsMet text rest behind line n m w v b c s t z first old) (u : Option (List ℕ)) (one : Line) → AddsPrefix v u (reply_line m one.reply)
+cut_reply : {text rest behind line : List ℕ} {n m : ℕ} {w v : Told} {b c : Counts} {s t z : Option CloudState} {first old : World}
+    → (met : IsMet text rest behind line n m w v b c s t z first old) (u : Told) (one : Line) → AddsPrefix v u (reply_line m one.reply)
     → WroteFront (met.is.handles.lines ++ one ∷ []) (lines_of behind) w u
 cut_reply {text} {rest} {behind} {line} {n} {m} {w} {v} met u one front =
     let ls = met.is.handles.lines in
@@ -316,14 +317,14 @@ cut_reply {text} {rest} {behind} {line} {n} {m} {w} {v} met u one front =
     reply_cut ls one refl (record { between = v; whole = met.is.handles.wrote; front = subst (λ j. AddsPrefix v u (reply_line j one.reply)) at front })
 
 -- the refusal was cut
-cut_refusal : {text rest behind line : List ℕ} {n m : ℕ} {w v : Option (List ℕ)} {b c : Counts} {s t z : Option CloudState} {first old : World}
-    → (met : IsMet text rest behind line n m w v b c s t z first old) (u : Option (List ℕ)) → ((event : Event) → IsEvent line event → ⊥) → AddsPrefix v u (bad_line m)
+cut_refusal : {text rest behind line : List ℕ} {n m : ℕ} {w v : Told} {b c : Counts} {s t z : Option CloudState} {first old : World}
+    → (met : IsMet text rest behind line n m w v b c s t z first old) (u : Told) → ((event : Event) → IsEvent line event → ⊥) → AddsPrefix v u (bad_line m)
     → WroteFront met.is.handles.lines (line ∷ lines_of behind) w u
 cut_refusal {text} {rest} {behind} {line} {n} {m} {w} {v} met u bad front =
     refusal_cut bad (record { between = v; whole = met.is.handles.wrote; front = subst (λ j. AddsPrefix v u (bad_line j)) (met_count met) front })
 
-by_fault : {text rest behind line : List ℕ} {n m : ℕ} {w v : Option (List ℕ)} {b c : Counts} {s t z : Option CloudState} {first old : World}
-    → (u : Option (List ℕ)) (d : Counts) (new : World) (fault : LineFault) → IsMet text rest behind line n m w v b c s t z first old
+by_fault : {text rest behind line : List ℕ} {n m : ℕ} {w v : Told} {b c : Counts} {s t z : Option CloudState} {first old : World}
+    → (u : Told) (d : Counts) (new : World) (fault : LineFault) → IsMet text rest behind line n m w v b c s t z first old
     → LineWent (Err fault) m line v u c d t z old new → WentThrough text (Err fault) w u b d s z
 by_fault {text} {rest} {behind} {line} {n} {m} {w} {v} {b} {c} {s} {t} {z} {first} {old} u d new BadLine met (event_handled event spells p) = absurd p
 by_fault {text} {rest} {behind} {line} {n} {m} {w} {v} {b} {c} {s} {t} {z} {first} {old} u d new BadLine met (refused bad e f adds) =
@@ -348,9 +349,15 @@ by_fault {text} {rest} {behind} {line} {n} {m} {w} {v} {b} {c} {s} {t} {z} {firs
 by_fault {text} {rest} {behind} {line} {n} {m} {w} {v} {b} {c} {s} {t} {z} {first} {old} u d new CloudFault met (refused bad e f p) = absurd p
 by_fault {text} {rest} {behind} {line} {n} {m} {w} {v} {b} {c} {s} {t} {z} {first} {old} u d new CloudFault met (unread e f g same) = absurd (cc)
 
-pub at_fault : (text rest behind line : List ℕ) (n m : ℕ) (w v u : Option (List ℕ)) (b c d : Counts) (s t z : Option CloudState) (first old new : World) (fault : LineFault)
+pub at_fault : (text rest behind line : List ℕ) (n m : ℕ) (w v u : Told) (b c d : Counts) (s t z : Option CloudState) (first old new : World) (fault : LineFault)
     → IsNew first → IsAt text rest n w v b c s t first old → lines_of rest ≡ line ∷ lines_of behind → m ≡ n + 1
     → LineWent (Err fault) m line v u c d t z old new → Grows m t z → WentThrough text (Err fault) w u b d s z
 at_fault text rest behind line n m w v u b c d s t z first old new fault fresh is split next went grows =
     let met : IsMet text rest behind line n m w v b c s t z first old = record { fresh = fresh; is = is; split = split; next = next; grows = grows } in
     by_fault u d new fault met went
+
+-- ---- what was read
+
+-- where no read was made, nothing was read
+pub reads_nothing : (source : Told) → WasWithin source source
+reads_nothing source = record { bytes = []; taken = λ all e. (all, e, refl); within = omega arith }

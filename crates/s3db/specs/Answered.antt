@@ -3,7 +3,7 @@ use Rattle.std.specs.Prelude.{◌≡◌, ◌+◌, List, [], ◌∷◌, ◌++◌,
 use Rattle.client_session.specs.Session.{closed_session}
 use Rattle.cloud_trait.specs.State.{CloudState, Counts}
 use Rattle.event_text.specs.declared.event.Event.{Event}
-use Rattle.replay_model.specs.Standing.{Line}
+use Rattle.replay_meaning.specs.Standing.{Line}
 use Rattle.world_core.specs.declared.world.World.{World}
 use Rattle.world_core.specs.declared.world.WorldFault.{WorldFault}
 use Rattle.world_core.specs.Handled.{Handled}

@@ -1,4 +1,5 @@
 pub mod Status
+pub mod Arguments
 pub mod Replay
 pub mod Answered
 pub mod Replayed

@@ -1,6 +1,7 @@
 -- What a run says of its words, its input and its output.
-use Rattle.std.specs.Prelude.{ℕ, ◌≡◌, ◌<◌, List, length, Option, Some, Result, Ok, Err, ◌∷◌, ◌++◌}
-use Rattle.db_io.specs.Content.{Takes}
+use Rattle.std.specs.Prelude.{ℕ, ◌≡◌, ◌<◌, ◌≤◌, List, length, Some, Result, Ok, Err, ◌∷◌, ◌++◌}
+use Rattle.db_io.specs.Content.{Told, Takes}
+use Rattle.line_io.specs.declared.input.TheConstants.{MAX_INPUT}
 use Rattle.event_text.specs.declared.event.Event.{Event}
 use Rattle.event_text.specs.Event.{IsEvent}
 use Rattle.line_io.specs.Lines.{lines_of}
@@ -20,15 +21,21 @@ pub record HasBadLine (text : List ℕ) : Type 0 where
   pub bad : (event : Event) → IsEvent line event → ⊥
 
 -- some bytes were read, and more than an input has
-pub record WasTooLong (left rest : Option (List ℕ)) : Type 0 where
+pub record WasTooLong (before after : Told) : Type 0 where
   pub bytes : List ℕ
-  pub taken : Takes left rest bytes
-  pub long : 262144 < length bytes
+  pub taken : Takes before after bytes
+  pub long : MAX_INPUT < length bytes
+
+-- some bytes were read, or none, and no more than an input has
+pub record WasWithin (before after : Told) : Type 0 where
+  pub bytes : List ℕ
+  pub taken : Takes before after bytes
+  pub within : length bytes ≤ MAX_INPUT
 
 -- some bytes were read, and a line of them spells no event
-pub record WasBad (left rest : Option (List ℕ)) : Type 0 where
+pub record WasBad (before after : Told) : Type 0 where
   pub bytes : List ℕ
-  pub taken : Takes left rest bytes
+  pub taken : Takes before after bytes
   pub bad : HasBadLine bytes
 
 -- the words ask for a replay

@@ -1,17 +1,18 @@
 -- What a replay reads, writes and leaves, line by line.
-use Rattle.std.specs.Prelude.{ℕ, ◌≡◌, ◌+◌, ◌⊎◌, List, [], ◌∷◌, ◌++◌, length, take, slice_get, Option, Some, Result, Ok, Err}
+use Rattle.std.specs.Prelude.{ℕ, ◌≡◌, ◌+◌, ◌≤◌, ◌⊎◌, List, [], ◌∷◌, ◌++◌, length, take, slice_get, Option, Some, Result, Ok, Err}
 use Rattle.std.specs.Fmt.{decimal}
 use Rattle.cloud_trait.specs.State.{CloudState, Counts, IsEmptyCloud}
 use Rattle.cloud_trait.specs.Upto.{upto}
-use Rattle.db_io.specs.Content.{Takes, Adds, AddsPrefix}
+use Rattle.db_io.specs.Content.{Told, Takes, Adds, AddsPrefix}
 use Rattle.event_text.specs.declared.event.Event.{Event}
 use Rattle.event_text.specs.Event.{IsEvent}
 use Rattle.line_io.specs.Input.{AreAll}
 use Rattle.line_io.specs.Lines.{lines_of}
+use Rattle.line_io.specs.declared.input.TheConstants.{MAX_INPUT}
 use Rattle.reply_text.specs.declared.reply.Reply.{Reply}
 use Rattle.reply_text.specs.Reply.{reply_text}
-use Rattle.replay_model.specs.Standing.{Line}
-use Rattle.replay_model.specs.Right.{ReportIsRight}
+use Rattle.replay_meaning.specs.Standing.{Line}
+use Rattle.replay_meaning.specs.Right.{ReportIsRight}
 use Rattle.replay_model.specs.Facts.{Stands}
 use Rattle.world_core.specs.declared.world.World.{World}
 use Rattle.world_core.specs.declared.world.WorldFault.{WorldFault}
@@ -68,32 +69,32 @@ BeginsBad [] = ⊥
 BeginsBad (text ∷ texts) = (event : Event) → IsEvent text event → ⊥
 
 -- all of these bytes are written, and the first part of those
-pub record AddsFront (written now_written : Option (List ℕ)) (all part : List ℕ) : Type 0 where
-  pub between : Option (List ℕ)
+pub record AddsFront (written now_written : Told) (all part : List ℕ) : Type 0 where
+  pub between : Told
   pub whole : Adds written between all
   pub front : AddsPrefix between now_written part
 
 -- a text was cut short: the reply to the last line, or what is written of the next text, which is in no grammar; all before it is written
-pub data WroteFront (lines : List Line) (later : List (List ℕ)) (written now_written : Option (List ℕ)) : Type 0 where
+pub data WroteFront (lines : List Line) (later : List (List ℕ)) (written now_written : Told) : Type 0 where
   reply_cut : (earlier : List Line) (line : Line) → lines ≡ earlier ++ line ∷ []
       → AddsFront written now_written (replies earlier) (reply_line (length lines) line.reply) → WroteFront lines later written now_written
   refusal_cut : BeginsBad later → AddsFront written now_written (replies lines) (bad_line (length lines + 1)) → WroteFront lines later written now_written
 
 -- the lines were handled and their replies are written, and the next one was handled, has no reply by this fault, and wrote nothing
-pub record EndedBy (fault : WorldFault) (lines : List Line) (later : List (List ℕ)) (written now_written : Option (List ℕ)) (c d : Counts) (start now : Option CloudState) : Type 0 where
+pub record EndedBy (fault : WorldFault) (lines : List Line) (later : List (List ℕ)) (written now_written : Told) (c d : Counts) (start now : Option CloudState) : Type 0 where
   pub event : Event
   pub spelled : Begins later event
   pub handled : IsUnanswered lines event fault c d start now
   pub wrote : Adds written now_written (replies lines)
 
 -- where memory ran out: before the next line did anything, while a text was written, or while the next line was handled
-pub data RanOut (lines : List Line) (later : List (List ℕ)) (written now_written : Option (List ℕ)) (c d : Counts) (start now : Option CloudState) : Type 0 where
+pub data RanOut (lines : List Line) (later : List (List ℕ)) (written now_written : Told) (c d : Counts) (start now : Option CloudState) : Type 0 where
   between : AreAnswered lines c d start now → Adds written now_written (replies lines) → RanOut lines later written now_written c d start now
   writing : AreAnswered lines c d start now → WroteFront lines later written now_written → RanOut lines later written now_written c d start now
   handling : EndedBy world.Memory lines later written now_written c d start now → RanOut lines later written now_written c d start now
 
 -- how these lines ended, before these texts
-abbrev pub Ended : Result (Unit {0}) LineFault → List Line → List (List ℕ) → Option (List ℕ) → Option (List ℕ) → Counts → Counts → Option CloudState → Option CloudState → Type 0
+abbrev pub Ended : Result (Unit {0}) LineFault → List Line → List (List ℕ) → Told → Told → Counts → Counts → Option CloudState → Option CloudState → Type 0
 Ended (Ok done) lines later written now_written c d start now =
     (later ≡ []) × AreAnswered lines c d start now × Adds written now_written (replies lines)
 Ended (Err BadLine) lines later written now_written c d start now =
@@ -103,7 +104,7 @@ Ended (Err Memory) lines later written now_written c d start now = RanOut lines 
 Ended (Err CloudFault) lines later written now_written c d start now = EndedBy world.Cloud lines later written now_written c d start now
 
 -- a text was handled line by line up to this end: the first lines of it spell the lines that were handled
-pub record WentThrough (text : List ℕ) (ended : Result (Unit {0}) LineFault) (written now_written : Option (List ℕ)) (c d : Counts) (start now : Option CloudState) : Type 0 where
+pub record WentThrough (text : List ℕ) (ended : Result (Unit {0}) LineFault) (written now_written : Told) (c d : Counts) (start now : Option CloudState) : Type 0 where
   pub lines : List Line
   pub earlier : List (List ℕ)
   pub later : List (List ℕ)
@@ -115,7 +116,7 @@ pub record WentThrough (text : List ℕ) (ended : Result (Unit {0}) LineFault) (
 -- ---- between two lines
 
 -- these texts were handled line by line from a world on: their replies are written, and over a cloud that was empty all stands and is right
-pub record Handles (texts : List (List ℕ)) (written now_written : Option (List ℕ)) (c d : Counts) (start now : Option CloudState) (first world : World) : Type 0 where
+pub record Handles (texts : List (List ℕ)) (written now_written : Told) (c d : Counts) (start now : Option CloudState) (first world : World) : Type 0 where
   pub lines : List Line
   pub spelled : AreSpelled texts lines
   pub wrote : Adds written now_written (replies lines)
@@ -124,7 +125,7 @@ pub record Handles (texts : List (List ℕ)) (written now_written : Option (List
       → (u : CloudState) × (now ≡ Some u) × Stands lines world.session world.audit u × ReportsAreRight lines u
 
 -- so many lines of the text stand before the rest, and were handled
-pub record IsAt (text rest : List ℕ) (n : ℕ) (written now_written : Option (List ℕ)) (c d : Counts) (start now : Option CloudState) (first world : World) : Type 0 where
+pub record IsAt (text rest : List ℕ) (n : ℕ) (written now_written : Told) (c d : Counts) (start now : Option CloudState) (first world : World) : Type 0 where
   pub earlier : List (List ℕ)
   pub at : lines_of text ≡ earlier ++ lines_of rest
   pub count : length earlier ≡ n
@@ -138,7 +139,7 @@ pub record IsAnswered (n : ℕ) (event : Event) (c d : Counts) (start now : Opti
   pub stands : StandsOn n event start now old new (Ok reply)
 
 -- what the event of a line did: its reply is written, or a part of it, or there is none
-abbrev pub LineHandled : Result (Unit {0}) LineFault → ℕ → Event → Option (List ℕ) → Option (List ℕ) → Counts → Counts → Option CloudState → Option CloudState → World → World → Type 0
+abbrev pub LineHandled : Result (Unit {0}) LineFault → ℕ → Event → Told → Told → Counts → Counts → Option CloudState → Option CloudState → World → World → Type 0
 LineHandled (Ok done) n event written now_written c d start now old new =
     (reply : Reply) × IsAnswered n event c d start now old new reply × Adds written now_written (reply_line n reply)
 LineHandled (Err BadLine) n event written now_written c d start now old new = ⊥
@@ -150,7 +151,7 @@ LineHandled (Err Memory) n event written now_written c d start now old new =
 LineHandled (Err CloudFault) n event written now_written c d start now old new = Handled n event c d start now old new (Err world.Cloud) × (now_written ≡ written)
 
 -- what a line did whose text is in no grammar: nothing of it was handled, and its refusal is written, or a part of it
-abbrev pub LineRefused : Result (Unit {0}) LineFault → ℕ → Option (List ℕ) → Option (List ℕ) → Type 0
+abbrev pub LineRefused : Result (Unit {0}) LineFault → ℕ → Told → Told → Type 0
 LineRefused (Err BadLine) n written now_written = Adds written now_written (bad_line n)
 LineRefused (Err WriteFault) n written now_written = AddsPrefix written now_written (bad_line n)
 LineRefused (Err Memory) n written now_written = AddsPrefix written now_written (bad_line n)
@@ -158,28 +159,29 @@ LineRefused (Err CloudFault) n written now_written = ⊥
 LineRefused (Ok done) n written now_written = ⊥
 
 -- what a line did: its event was handled, or it is in no grammar, or memory ran out before
-pub data LineWent (result : Result (Unit {0}) LineFault) (n : ℕ) (text : List ℕ) (written now_written : Option (List ℕ)) (c d : Counts) (start now : Option CloudState) (old new : World) : Type 0 where
+pub data LineWent (result : Result (Unit {0}) LineFault) (n : ℕ) (text : List ℕ) (written now_written : Told) (c d : Counts) (start now : Option CloudState) (old new : World) : Type 0 where
   event_handled : (event : Event) → IsEvent text event → LineHandled result n event written now_written c d start now old new → LineWent result n text written now_written c d start now old new
   refused : ((event : Event) → IsEvent text event → ⊥) → d ≡ c → now ≡ start → LineRefused result n written now_written → LineWent result n text written now_written c d start now old new
   unread : result ≡ Err Memory → d ≡ c → now ≡ start → now_written ≡ written → LineWent result n text written now_written c d start now old new
 
 -- ---- a run
 
--- the source was read to its end, and handled line by line up to this end
-pub record ReadAndWent (ended : Result (Unit {0}) LineFault) (left rest written now_written : Option (List ℕ)) (c d : Counts) (start now : Option CloudState) : Type 0 where
+-- the source was read to its end, which is no longer than an input, and handled line by line up to this end
+pub record ReadAndWent (ended : Result (Unit {0}) LineFault) (left rest written now_written : Told) (c d : Counts) (start now : Option CloudState) : Type 0 where
   pub bytes : List ℕ
   pub taken : Takes left rest bytes
   pub all : AreAll left bytes
+  pub within : length bytes ≤ MAX_INPUT
   pub went : WentThrough bytes ended written now_written c d start now
 
 -- nothing was written, and no call was made
-pub record NothingRan (written now_written : Option (List ℕ)) (c d : Counts) (start now : Option CloudState) : Type 0 where
+pub record NothingRan (written now_written : Told) (c d : Counts) (start now : Option CloudState) : Type 0 where
   pub output : now_written ≡ written
   pub counts : d ≡ c
   pub state : now ≡ start
 
 -- what the lines of a text that led to this status wrote and left
-abbrev pub WentBy : Status → List ℕ → Option (List ℕ) → Option (List ℕ) → Counts → Counts → Option CloudState → Option CloudState → Type 0
+abbrev pub WentBy : Status → List ℕ → Told → Told → Counts → Counts → Option CloudState → Option CloudState → Type 0
 WentBy status.Done text written now_written c d start now = WentThrough text (Ok tt) written now_written c d start now
 WentBy status.BadLine text written now_written c d start now = WentThrough text (Err BadLine) written now_written c d start now
 WentBy status.WriteFault text written now_written c d start now = WentThrough text (Err WriteFault) written now_written c d start now
@@ -190,7 +192,7 @@ WentBy status.ReadFault text written now_written c d start now = ⊥
 WentBy status.TooLong text written now_written c d start now = ⊥
 
 -- what a run of this status read, wrote and left
-abbrev pub Ran : Status → Option (List ℕ) → Option (List ℕ) → Option (List ℕ) → Option (List ℕ) → Counts → Counts → Option CloudState → Option CloudState → Type 0
+abbrev pub Ran : Status → Told → Told → Told → Told → Counts → Counts → Option CloudState → Option CloudState → Type 0
 Ran status.Done left rest written now_written c d start now = ReadAndWent (Ok tt) left rest written now_written c d start now
 Ran status.BadLine left rest written now_written c d start now = ReadAndWent (Err BadLine) left rest written now_written c d start now
 Ran status.WriteFault left rest written now_written c d start now = ReadAndWent (Err WriteFault) left rest written now_written c d start now

@@ -1,34 +1,28 @@
 //! The program: replays the schedule of its input over a cloud in memory.
 #![tactic(auto)]
 
+mod arguments;
 mod replay;
 mod run;
 mod status;
 #[cfg(test)]
 mod tests;
 
+use arguments::arguments;
 use db_io::std_sink::StdSink;
 use db_io::std_source::StdSource;
 use memory_cloud::memory::MemoryCloud;
 use run::run;
 use status::Status;
 use std::alloc::Global;
+use std::io;
 use std::process::ExitCode;
-use std::{env, io};
-
-/// The words of the command line, without the program's name.
-fn words(rt: &HostRuntime) -> io::Result<Vec<String>> {
-    let mut words = Vec::new(rt.alloc());
-    for word in env::args(rt)?.skip(1) {
-        words.push(word)?;
-    }
-    Ok(words)
-}
 
 fn main(rt: HostRuntime) -> ExitCode {
     let alloc: Global = rt.alloc();
-    let Ok(words) = words(&rt) else {
-        return ExitCode::from(Status::Memory.code());
+    let words = match arguments(&rt) {
+        Ok(words) => words,
+        Err(fault) => return ExitCode::from(Status::from(fault).code()),
     };
     let mut source = StdSource::new(rt.reader());
     let mut sink = StdSink::new(io::writer(&rt));

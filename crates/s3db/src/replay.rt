@@ -29,9 +29,11 @@ pub fn replay_lines<O: Sink, C: Bench>(
     cloud: &mut C,
 ) -> Status
     ensures bad_line { result ≡ Status.BadLine → HasBadLine input.now }
-    ensures write_fault { result ≡ Status.WriteFault → O.faults sink.old < O.faults sink.new }
+    ensures write_fault { result ≡ Status.WriteFault
+        → (O.told sink.old).faults < (O.told sink.new).faults }
     ensures only { IsOfLines result }
-    ensures went { WentBy result input.now (O.written sink.old) (O.written sink.new) (C.counts cloud.old) (C.counts cloud.new) (C.state cloud.old) (C.state cloud.new) }
+    ensures went { WentBy result input.now (O.told sink.old) (O.told sink.new)
+        (C.counts cloud.old) (C.counts cloud.new) (C.state cloud.old) (C.state cloud.new) }
 {
     match World::new(alloc) {
         Ok(mut world) => status_of(go_on(alloc, &mut world, input, sink, cloud)),
@@ -61,9 +63,11 @@ fn go_on<O: Sink, C: Bench>(
     cloud: &mut C,
 ) -> Result<(), LineFault>
     requires fresh { IsNew world.old }
-    ensures went { WentThrough input.now result (O.written sink.old) (O.written sink.new) (C.counts cloud.old) (C.counts cloud.new) (C.state cloud.old) (C.state cloud.new) }
+    ensures went { WentThrough input.now result (O.told sink.old) (O.told sink.new)
+        (C.counts cloud.old) (C.counts cloud.new) (C.state cloud.old) (C.state cloud.new) }
     ensures bad_line { result ≡ Err LineFault.BadLine → HasBadLine input.now }
-    ensures write_fault { result ≡ Err LineFault.WriteFault → O.faults sink.old < O.faults sink.new }
+    ensures write_fault { result ≡ Err LineFault.WriteFault
+        → (O.told sink.old).faults < (O.told sink.new).faults }
 {
     let mut rest = input;
     let mut n: u64 = 0;
@@ -99,11 +103,14 @@ fn replay_line<O: Sink, C: Bench>(
     n: u64,
     line: &[u8],
 ) -> Result<(), LineFault>
-    ensures went { LineWent result n line.now (O.written sink.old) (O.written sink.new) (C.counts cloud.old) (C.counts cloud.new) (C.state cloud.old) (C.state cloud.new) world.old world.new }
+    ensures went { LineWent result n line.now (O.told sink.old) (O.told sink.new)
+        (C.counts cloud.old) (C.counts cloud.new) (C.state cloud.old) (C.state cloud.new)
+        world.old world.new }
     ensures grows { Grows n (C.state cloud.old) (C.state cloud.new) }
     ensures bad_line { result ≡ Err LineFault.BadLine → (event : Event) → IsEvent line.now event → ⊥ }
-    ensures write_fault { result ≡ Err LineFault.WriteFault → O.faults sink.old < O.faults sink.new }
-    ensures faults { O.faults sink.old ≤ O.faults sink.new }
+    ensures write_fault { result ≡ Err LineFault.WriteFault
+        → (O.told sink.old).faults < (O.told sink.new).faults }
+    ensures faults { (O.told sink.old).faults ≤ (O.told sink.new).faults }
 {
     match Event::read(alloc, line) {
         Ok(event) => handle(alloc, world, sink, cloud, n, &event),
@@ -125,10 +132,13 @@ fn handle<O: Sink, C: Bench>(
     n: u64,
     event: &Event,
 ) -> Result<(), LineFault>
-    ensures handled { LineHandled result n event.now (O.written sink.old) (O.written sink.new) (C.counts cloud.old) (C.counts cloud.new) (C.state cloud.old) (C.state cloud.new) world.old world.new }
+    ensures handled { LineHandled result n event.now (O.told sink.old) (O.told sink.new)
+        (C.counts cloud.old) (C.counts cloud.new) (C.state cloud.old) (C.state cloud.new)
+        world.old world.new }
     ensures grows { Grows n (C.state cloud.old) (C.state cloud.new) }
-    ensures write_fault { result ≡ Err LineFault.WriteFault → O.faults sink.old < O.faults sink.new }
-    ensures faults { O.faults sink.old ≤ O.faults sink.new }
+    ensures write_fault { result ≡ Err LineFault.WriteFault
+        → (O.told sink.old).faults < (O.told sink.new).faults }
+    ensures faults { (O.told sink.old).faults ≤ (O.told sink.new).faults }
 {
     match world.event(alloc, cloud, n, event) {
         Ok(reply) => match write_reply(alloc, sink, n, &reply) {
@@ -143,7 +153,7 @@ fn handle<O: Sink, C: Bench>(
 
 /// Writes that a line is in no grammar.
 fn refuse<O: Sink>(alloc: Global, sink: &mut O, n: u64) -> Result<(), OutputFault>
-    ensures { WasWritten (O.written sink.old) (O.written sink.new) (O.faults sink.old) (O.faults sink.new) (bad_line n) result }
+    ensures { WasWritten (O.told sink.old) (O.told sink.new) (bad_line n) result }
 {
     match format!(in alloc; "bad line {n}\n") {
         Ok(text) => write_text(sink, text.as_bytes()),
@@ -158,7 +168,7 @@ fn write_reply<O: Sink>(
     n: u64,
     reply: &Reply,
 ) -> Result<(), OutputFault>
-    ensures { WasWritten (O.written sink.old) (O.written sink.new) (O.faults sink.old) (O.faults sink.new) (reply_line n reply.now) result }
+    ensures { WasWritten (O.told sink.old) (O.told sink.new) (reply_line n reply.now) result }
 {
     match reply_line(alloc, n, reply) {
         Ok(text) => write_text(sink, text.as_slice()),

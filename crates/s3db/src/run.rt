@@ -1,5 +1,5 @@
 ghost use Rattle.std.specs.Prelude.{◌≡◌, ◌<◌, ◌⊎◌, ℕ, map, string_bytes};
-ghost use Rattle.s3db.specs.Replay.{AskReplay, WasBad, WasTooLong};
+ghost use Rattle.s3db.specs.Replay.{AskReplay, WasBad, WasTooLong, WasWithin};
 ghost use Rattle.s3db.specs.Replayed.{Ran};
 
 use crate::replay::replay_lines;
@@ -13,6 +13,7 @@ use line_io::input::{InputFault, read_whole};
 use std::alloc::Global;
 
 /// Runs the command that the words ask for: a replay of the lines of the source over the cloud, one reply a line.
+#[tactic(auto, using(crate::proofs::GoingLemmas::reads_nothing))]
 pub fn run<I: Source, O: Sink, C: Bench>(
     alloc: Global,
     words: &[String],
@@ -21,13 +22,18 @@ pub fn run<I: Source, O: Sink, C: Bench>(
     cloud: &mut C,
 ) -> Status
     ensures bad_words { result ≡ Status.BadWords → AskReplay (map string_bytes words.now) → ⊥ }
-    ensures no_replay { (AskReplay (map string_bytes words.now) → ⊥) → (result ≡ Status.BadWords) ⊎ (result ≡ Status.Memory) }
-    ensures unread { result ≡ Status.BadWords → I.left source.new ≡ I.left source.old }
-    ensures read_fault { result ≡ Status.ReadFault → I.faults source.old < I.faults source.new }
-    ensures too_long { result ≡ Status.TooLong → WasTooLong (I.left source.old) (I.left source.new) }
-    ensures bad_line { result ≡ Status.BadLine → WasBad (I.left source.old) (I.left source.new) }
-    ensures write_fault { result ≡ Status.WriteFault → O.faults sink.old < O.faults sink.new }
-    ensures ran { Ran result (I.left source.old) (I.left source.new) (O.written sink.old) (O.written sink.new) (C.counts cloud.old) (C.counts cloud.new) (C.state cloud.old) (C.state cloud.new) }
+    ensures no_replay { (AskReplay (map string_bytes words.now) → ⊥)
+        → (result ≡ Status.BadWords) ⊎ (result ≡ Status.Memory) }
+    ensures unread { result ≡ Status.BadWords → I.told source.new ≡ I.told source.old }
+    ensures read_fault { result ≡ Status.ReadFault
+        → (I.told source.old).faults < (I.told source.new).faults }
+    ensures too_long { result ≡ Status.TooLong → WasTooLong (I.told source.old) (I.told source.new) }
+    ensures within { (result ≡ Status.TooLong) ⊎ WasWithin (I.told source.old) (I.told source.new) }
+    ensures bad_line { result ≡ Status.BadLine → WasBad (I.told source.old) (I.told source.new) }
+    ensures write_fault { result ≡ Status.WriteFault
+        → (O.told sink.old).faults < (O.told sink.new).faults }
+    ensures ran { Ran result (I.told source.old) (I.told source.new) (O.told sink.old) (O.told sink.new)
+        (C.counts cloud.old) (C.counts cloud.new) (C.state cloud.old) (C.state cloud.new) }
 {
     match shape(alloc, words) {
         Ok(Shape::Replay) => replay(alloc, source, sink, cloud),
@@ -47,11 +53,15 @@ fn replay<I: Source, O: Sink, C: Bench>(
     cloud: &mut C,
 ) -> Status
     ensures not_words { result ≡ Status.BadWords → ⊥ }
-    ensures read_fault { result ≡ Status.ReadFault → I.faults source.old < I.faults source.new }
-    ensures too_long { result ≡ Status.TooLong → WasTooLong (I.left source.old) (I.left source.new) }
-    ensures bad_line { result ≡ Status.BadLine → WasBad (I.left source.old) (I.left source.new) }
-    ensures write_fault { result ≡ Status.WriteFault → O.faults sink.old < O.faults sink.new }
-    ensures ran { Ran result (I.left source.old) (I.left source.new) (O.written sink.old) (O.written sink.new) (C.counts cloud.old) (C.counts cloud.new) (C.state cloud.old) (C.state cloud.new) }
+    ensures read_fault { result ≡ Status.ReadFault
+        → (I.told source.old).faults < (I.told source.new).faults }
+    ensures too_long { result ≡ Status.TooLong → WasTooLong (I.told source.old) (I.told source.new) }
+    ensures within { (result ≡ Status.TooLong) ⊎ WasWithin (I.told source.old) (I.told source.new) }
+    ensures bad_line { result ≡ Status.BadLine → WasBad (I.told source.old) (I.told source.new) }
+    ensures write_fault { result ≡ Status.WriteFault
+        → (O.told sink.old).faults < (O.told sink.new).faults }
+    ensures ran { Ran result (I.told source.old) (I.told source.new) (O.told sink.old) (O.told sink.new)
+        (C.counts cloud.old) (C.counts cloud.new) (C.state cloud.old) (C.state cloud.new) }
 {
     match read_whole(alloc, source) {
         Ok(input) => replay_lines(alloc, input.as_slice(), sink, cloud),

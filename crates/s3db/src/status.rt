@@ -1,6 +1,8 @@
 ghost use Rattle.std.specs.Prelude.{◌≡◌};
 ghost use Rattle.s3db.specs.Status.{code_of};
 
+use command_words::shape::WordsFault;
+
 /// How a run ended. Its number is the program's exit status.
 #[derive(Clone, Copy, Debug, PartialEq, Eq)]
 pub enum Status {
@@ -36,6 +38,20 @@ impl Status {
             Status::TooLong => 6,
             Status::Memory => 9,
             Status::CloudFault => 10,
+        }
+    }
+}
+
+impl From<WordsFault> for Status {
+    ghost use Rattle.std.specs.Prelude.{◌≡◌};
+    ghost use Rattle.s3db.specs.Status.{status_of_words};
+
+    ghost from_gives = { λ fault status. status ≡ status_of_words fault };
+
+    fn from(fault: WordsFault) -> Status {
+        match fault {
+            WordsFault::BadWords => Status::BadWords,
+            WordsFault::Memory => Status::Memory,
         }
     }
 }

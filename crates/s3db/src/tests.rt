@@ -1,3 +1,4 @@
+use crate::arguments::fault_of;
 use crate::run::run;
 use crate::status::Status;
 use db_base::ids::{ClientId, MsgId, PageId, TreeId};
@@ -6,6 +7,7 @@ use db_io::memory_sink::MemorySink;
 use db_io::memory_source::MemorySource;
 use memory_cloud::memory::MemoryCloud;
 use std::alloc::Global;
+use std::io;
 use std::test::Fail;
 
 /// What a replay of the input writes over an empty cloud, and how it ends; these reads and writes fail.
@@ -44,6 +46,17 @@ fn status_of(alloc: Global, words: &[&str]) -> Result<Status, Fail> {
     let mut sink = MemorySink::new(alloc, &[])?;
     let mut cloud = MemoryCloud::new(alloc);
     Ok(run(alloc, list.as_slice(), &mut source, &mut sink, &mut cloud))
+}
+
+#[test]
+fn a_word_that_is_not_utf8_is_of_no_shape(rt: HostRuntime) {
+    for (kind, want) in [
+        (io::ErrorKind::InvalidData, Status::BadWords),
+        (io::ErrorKind::OutOfMemory, Status::Memory),
+    ] {
+        let fault = fault_of(&io::Error::from(kind));
+        assert_eq!(rt; Status::from(fault), want);
+    }
 }
 
 const FIRST: &[u8] = b"open 1 1\nrun 1\ninsert 1 1 6b 76\ncommit 1\nrun 1\n";

@@ -3,5 +3,3 @@
 
 pub mod draws;
 pub mod make;
-#[cfg(test)]
-mod tests;

@@ -10,5 +10,3 @@ pub mod plan;
 pub mod put_list;
 pub mod root;
 mod sizes;
-#[cfg(test)]
-mod tests;

@@ -19,7 +19,8 @@ use Rattle.node_codec.specs.Tree.{Tree}
 use Rattle.route_plan.specs.Queue.{number_of_queue}
 use Rattle.route_plan.specs.Record.{pu_record_of, pending_of}
 use Rattle.route_plan.specs.Route.{goes_to}
-use Rattle.run_cursor.specs.Run.{is_at, item_cmp}
+use Rattle.run_cursor.specs.Run.{is_at}
+use Rattle.log_codec.specs.Order.{item_cmp}
 use Rattle.store_book.specs.Book.{Book, Link}
 use Rattle.store_book.specs.Tally.{Tally, Store}
 use Rattle.store_book.specs.Records.{StandsAt, IsIn, key_in, count_of, IsApplied, is_open, IsUnderWay}

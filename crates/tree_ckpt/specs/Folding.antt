@@ -27,11 +27,6 @@ use Rattle.cloud_trait.specs.declared.turn.CkptAnswer.{CkptAnswer}
 use Rattle.cloud_trait.specs.Ask.{Ask, GetHeld, PutHeld, Receive, Delete, Take, Release}
 use Rattle.cloud_trait.specs.Claim.{Claim}
 use Rattle.cloud_trait.specs.Machine.{Next, Goes, Ends, Stops}
-use Rattle.cloud_trait.specs.declared.turn.Turn.{Turn}
-use Rattle.cloud_trait.specs.declared.turn.Turn.TheVariants.{More, Ended, Stopped}
-use Rattle.cloud_trait.specs.Caller.{Caller}
-use Rattle.cloud_trait.specs.State.{CloudState, Counts}
-use Rattle.cloud_trait.specs.Weather.{Makes}
 use Rattle.cloud_trait.specs.Views.{given_of, got_of, received_of, done_of}
 use Rattle.tree_ckpt.specs.declared.items.ItemFault.{ItemFault}
 use Rattle.tree_ckpt.specs.declared.items.ItemFault.TheVariants.{NotRecord, Memory}
@@ -357,24 +352,31 @@ abbrev pub taken_or_none : Option Taken → Taken
 taken_or_none (Some run) = run
 taken_or_none None = no_run
 
--- ---- the code's step
+-- at want of memory the step leaves the leases as they are
+abbrev pub SameLeases : Folding → Answer → Folding → Type 0
+SameLeases f a n = (n.tree_lease ≡ f.tree_lease) × (n.page_lease ≡ f.page_lease)
 
--- the code took a step that leads to one of these, unless memory ran out
-abbrev pub TookOneOf : (Step → Type 0) → Folding → Turn CkptAnswer → Type 0
-TookOneOf Leads new More = Leads (Goes new)
-TookOneOf Leads new (Ended a) = Leads (Ends new a)
-TookOneOf Leads new (Stopped t) = t ≢ trouble.Memory → Leads (Stops new t)
+-- and so does the call with its step, but where the call gives one back
+abbrev pub KeepsLeases : Folding → Answer → Folding → Type 0
+KeepsLeases f a n = (n.tree_lease ≡ (handed_over f).tree_lease) × (n.page_lease ≡ (handed_over f).page_lease)
 
--- the code took this step, unless memory ran out
-abbrev pub TookBy : (Folding → Step) → Folding → Folding → Turn CkptAnswer → Type 0
-TookBy step old new turn = TookOneOf (λ next. next ≡ step old) new turn
+-- ---- the end
 
--- the code took a step that the answer may lead to, unless memory ran out
-abbrev pub TookOne : Folding → Answer → Folding → Turn CkptAnswer → Type 0
-TookOne old answer new turn = TookOneOf (FoldingLeads old answer) new turn
+-- how many calls a checkpoint has left at most, by its stage and how many ids it is to delete; a receive brings 256 at most
+abbrev pub left_at : Stage → ℕ → ℕ
+left_at TakingTree ids = 266
+left_at GettingTree ids = 265
+left_at Receiving ids = 264
+left_at TakingPage ids = ids + 7
+left_at GettingPage ids = ids + 6
+left_at PuttingPage ids = ids + 5
+left_at ReleasingPage ids = ids + 4
+left_at PuttingTree ids = ids + 3
+left_at Deleting ids = ids + 2
+left_at ReleasingTree ids = 1
+left_at StoppingPage ids = 2
+left_at StoppingTree ids = 1
+left_at Finished ids = 0
 
--- the code made the call in hand, and took a step that its answer may lead to
-pub record FoldsOne (who : Caller) (c d : Counts) (s t : Option CloudState) (old new : Folding) (turn : Turn CkptAnswer) : Type 0 where
-  pub answer : Answer
-  pub made : Makes who (folding_ask old) answer c d s t
-  pub took : TookOne old answer new turn
+abbrev pub calls_left : Folding → ℕ
+calls_left f = left_at f.stage (length f.ids)

@@ -1,7 +1,8 @@
-ghost use Rattle.std.specs.Prelude.{◌≡◌, ℕ, None, Some, Ok, List, drop, IfOk, true, IfSome, IfNone, if◌then◌else◌};
+ghost use Rattle.std.specs.Prelude.{◌≡◌, ◌<◌, ℕ, None, Some, Ok, List, drop, IfOk, true, IfSome, IfNone, if◌then◌else◌};
 ghost use Rattle.cloud_trait.specs.Ask.{Release};
 ghost use Rattle.cloud_trait.specs.Call.{ask_of, Lends};
-ghost use Rattle.run_cursor.specs.Run.{IsOrdered};
+ghost use Rattle.log_codec.specs.Order.{IsOrdered};
+ghost use Rattle.cloud_trait.specs.Machine.{Took, Steps};
 ghost use Rattle.cloud_trait.specs.Weather.{Makes};
 ghost use Rattle.node_codec.specs.Tree.{IsTree};
 ghost use Rattle.tree_ckpt.specs.Folding.{raised_tree, taken_or_none, is_lone_root, is_first_alone, is_lone_leaf, one_deleted, one_left};
@@ -82,7 +83,7 @@ impl Model for TreeCkpt {
 }
 
 impl TreeCkpt {
-    ghost use Rattle.tree_ckpt.specs.Folding.{Folding, FoldsOne, TookOne, TookOneOf, TookBy, new_folding, folding_ask, first_page, take_tree, delete_next, handed_over, stopping_tree, stopping_page, tree_taken_by, RootGot, RootRead, root_read, ReceivedBy, Received, items_of, run_started, rest_of, page_taken_by, PageGot, PageRead, LeafRead, LeafReadBy, LeafPut, page_put_by, PageReleased, root_put_by, deleted_by, deleting, released_by, stopped_by, page_left_by, damaged_tree, damaged_page};
+    ghost use Rattle.tree_ckpt.specs.Folding.{Folding, FoldingLeads, SameLeases, KeepsLeases, calls_left, new_folding, folding_ask, first_page, take_tree, delete_next, handed_over, stopping_tree, stopping_page, tree_taken_by, RootGot, RootRead, root_read, ReceivedBy, Received, items_of, run_started, rest_of, page_taken_by, PageGot, PageRead, LeafRead, LeafReadBy, LeafPut, page_put_by, PageReleased, root_put_by, deleted_by, deleting, released_by, stopped_by, page_left_by, damaged_tree, damaged_page};
 
     /// The checkpoint of a tree. Takes no memory.
     pub fn new(alloc: Global, tree: TreeId) -> TreeCkpt
@@ -233,7 +234,7 @@ impl TreeCkpt {
 
     /// Makes the call in hand; a release hands its lease out.
     fn call<C: Cloud>(&mut self, cloud: &mut C, who: Who) -> Answer
-        ensures made { Makes who (folding_ask self.old) result (C.counts cloud.old) (C.counts cloud.new) (C.state cloud.old) (C.state cloud.new) }
+        ensures made { Makes who (folding_ask self.old) result (C.seen cloud.old) (C.seen cloud.new) }
         ensures left { self.new ≡ handed_over self.old }
     {
         match self.leaving() {
@@ -243,7 +244,7 @@ impl TreeCkpt {
     }
 
     fn stop_tree(&mut self, trouble: Trouble) -> Turn<CkptAnswer>
-        ensures { TookBy (λ f. stopping_tree f trouble) self.old self.new result }
+        ensures { Took (λ f _ next. next ≡ stopping_tree f trouble) SameLeases self.old Answer.Failed self.new result }
     {
         self.stage = Stage::StoppingTree;
         self.trouble = Some(trouble);
@@ -251,7 +252,7 @@ impl TreeCkpt {
     }
 
     fn stop_page(&mut self, trouble: Trouble) -> Turn<CkptAnswer>
-        ensures { TookBy (λ f. stopping_page f trouble) self.old self.new result }
+        ensures { Took (λ f _ next. next ≡ stopping_page f trouble) SameLeases self.old Answer.Failed self.new result }
     {
         self.stage = Stage::StoppingPage;
         self.trouble = Some(trouble);
@@ -259,7 +260,7 @@ impl TreeCkpt {
     }
 
     fn tree_taken(&mut self, given: Result<Lease, Trouble>) -> Turn<CkptAnswer>
-        ensures { TookBy (λ f. tree_taken_by f given) self.old self.new result }
+        ensures { Took (λ f _ next. next ≡ tree_taken_by f given) SameLeases self.old Answer.Failed self.new result }
     {
         match given {
             Ok(lease) => {
@@ -273,7 +274,7 @@ impl TreeCkpt {
 
     /// Keeps the cursor of the root and the root that is to be put, where its version can be raised.
     fn read_root(&mut self, alloc: Global, view: &TreeView<'_>) -> Turn<CkptAnswer>
-        ensures { TookBy (λ f. root_read f view.now) self.old self.new result }
+        ensures { Took (λ f _ next. next ≡ root_read f view.now) SameLeases self.old Answer.Failed self.new result }
     {
         if !is_lone_root(view) {
             return self.stop_tree(self.damaged_tree(0));
@@ -292,7 +293,7 @@ impl TreeCkpt {
     }
 
     fn root_got(&mut self, alloc: Global, got: Result<Option<Blob>, Trouble>) -> Turn<CkptAnswer>
-        ensures { TookOneOf (RootGot self.old got) self.new result }
+        ensures { Took (λ f _ next. RootGot f got next) SameLeases self.old Answer.Failed self.new result }
     {
         match got {
             Ok(None) => self.read_root(alloc, &TreeView::empty()),
@@ -302,7 +303,7 @@ impl TreeCkpt {
     }
 
     fn read_root_bytes(&mut self, alloc: Global, bytes: &[u8]) -> Turn<CkptAnswer>
-        ensures { TookOneOf (RootRead self.old bytes.now) self.new result }
+        ensures { Took (λ f _ next. RootRead f bytes.now next) SameLeases self.old Answer.Failed self.new result }
     {
         match TreeView::read(bytes) {
             Ok(view) => self.read_root(alloc, &view),
@@ -315,7 +316,7 @@ impl TreeCkpt {
         alloc: Global,
         received: Result<MessageList, Trouble>,
     ) -> Turn<CkptAnswer>
-        ensures { TookOneOf (ReceivedBy self.old received) self.new result }
+        ensures { Took (λ f _ next. ReceivedBy f received next) SameLeases self.old Answer.Failed self.new result }
     {
         match received {
             Ok(messages) => self.read_messages(alloc, messages.as_slice()),
@@ -324,7 +325,7 @@ impl TreeCkpt {
     }
 
     fn read_messages(&mut self, alloc: Global, messages: &[Message]) -> Turn<CkptAnswer>
-        ensures { TookOneOf (Received self.old (items_of messages.now)) self.new result }
+        ensures { Took (λ f _ next. Received f (items_of messages.now) next) SameLeases self.old Answer.Failed self.new result }
     {
         match items_of(alloc, &self.queue(), messages) {
             Ok(items) => self.take_run(alloc, items),
@@ -334,7 +335,7 @@ impl TreeCkpt {
     }
 
     fn take_run(&mut self, alloc: Global, items: Vec<PuItem>) -> Turn<CkptAnswer>
-        ensures { TookOneOf (Received self.old (Ok items.items)) self.new result }
+        ensures { Took (λ f _ next. Received f (Ok items.items) next) SameLeases self.old Answer.Failed self.new result }
     {
         match take_run(alloc, &self.cursor, items.as_slice()) {
             Ok(run) => match covered(alloc, run.top(), items.as_slice()) {
@@ -347,7 +348,7 @@ impl TreeCkpt {
 
     /// Keeps the run and the ids that its top covers; the leaf is next, or the deletions where the run is empty.
     fn start_run(&mut self, run: Run, ids: Vec<MsgId>) -> Turn<CkptAnswer>
-        ensures { TookBy (λ f. run_started f run ids.items) self.old self.new result }
+        ensures { Took (λ f _ next. next ≡ run_started f run ids.items) SameLeases self.old Answer.Failed self.new result }
     {
         let is_empty = run.items().is_empty();
         self.run = Some(run);
@@ -362,7 +363,7 @@ impl TreeCkpt {
 
     /// Deletes the next message next, or gives the tree's lease back where none is left.
     fn delete_next(&mut self) -> Turn<CkptAnswer>
-        ensures { TookBy (λ f. deleting f f.ids) self.old self.new result }
+        ensures { Took (λ f _ next. next ≡ deleting f f.ids) SameLeases self.old Answer.Failed self.new result }
     {
         if self.handled < self.ids.len() {
             self.stage = Stage::Deleting;
@@ -382,7 +383,7 @@ impl TreeCkpt {
     }
 
     fn page_taken(&mut self, given: Result<Lease, Trouble>) -> Turn<CkptAnswer>
-        ensures { TookBy (λ f. page_taken_by f given) self.old self.new result }
+        ensures { Took (λ f _ next. next ≡ page_taken_by f given) SameLeases self.old Answer.Failed self.new result }
     {
         match given {
             Ok(lease) => {
@@ -395,7 +396,7 @@ impl TreeCkpt {
     }
 
     fn page_got(&mut self, alloc: Global, got: Result<Option<Blob>, Trouble>) -> Turn<CkptAnswer>
-        ensures { TookOneOf (PageGot self.old got) self.new result }
+        ensures { Took (λ f _ next. PageGot f got next) SameLeases self.old Answer.Failed self.new result }
     {
         match got {
             Ok(None) => self.read_leaf(alloc, &LeafView::empty()),
@@ -405,7 +406,7 @@ impl TreeCkpt {
     }
 
     fn read_leaf_bytes(&mut self, alloc: Global, bytes: &[u8]) -> Turn<CkptAnswer>
-        ensures { TookOneOf (PageRead self.old bytes.now) self.new result }
+        ensures { Took (λ f _ next. PageRead f bytes.now next) SameLeases self.old Answer.Failed self.new result }
     {
         match LeafView::read(bytes) {
             Ok(view) => self.read_leaf(alloc, &view),
@@ -415,7 +416,7 @@ impl TreeCkpt {
 
     /// Puts the leaf with what it lacks of the run next, or leaves it where it lacks nothing.
     fn read_leaf(&mut self, alloc: Global, view: &LeafView<'_>) -> Turn<CkptAnswer>
-        ensures { TookOneOf (LeafRead self.old view.now) self.new result }
+        ensures { Took (λ f _ next. LeafRead f view.now next) SameLeases self.old Answer.Failed self.new result }
     {
         if !is_lone_leaf(view) {
             return self.stop_page(self.damaged_page(0));
@@ -432,7 +433,7 @@ impl TreeCkpt {
         view: &LeafView<'_>,
         lacked: Vec<PuItem>,
     ) -> Turn<CkptAnswer>
-        ensures { TookOneOf (LeafReadBy self.old view.now true lacked.items) self.new result }
+        ensures { Took (λ f _ next. LeafReadBy f view.now true lacked.items next) SameLeases self.old Answer.Failed self.new result }
     {
         if lacked.is_empty() {
             self.stage = Stage::ReleasingPage;
@@ -447,7 +448,7 @@ impl TreeCkpt {
         view: &LeafView<'_>,
         lacked: Vec<PuItem>,
     ) -> Turn<CkptAnswer>
-        ensures { TookOneOf (LeafPut self.old view.now lacked.items) self.new result }
+        ensures { Took (λ f _ next. LeafPut f view.now lacked.items next) SameLeases self.old Answer.Failed self.new result }
     {
         match apply(alloc, view, 0, self.run_items()) {
             Ok(leaf) => {
@@ -464,7 +465,7 @@ impl TreeCkpt {
     }
 
     fn page_put(&mut self, alloc: Global, done: Result<(), Trouble>) -> Turn<CkptAnswer>
-        ensures { TookBy (λ f. page_put_by f done) self.old self.new result }
+        ensures { Took (λ f _ next. next ≡ page_put_by f done) SameLeases self.old Answer.Failed self.new result }
     {
         let applied = self.applying.len() as u64;
         self.applying = Vec::new(alloc);
@@ -483,7 +484,8 @@ impl TreeCkpt {
 
     /// Puts the root with the raised cursor next.
     fn page_released(&mut self, alloc: Global) -> Turn<CkptAnswer>
-        ensures { TookOneOf (PageReleased self.old) self.new result }
+        requires { self.old.stage ≡ Stage.ReleasingPage }
+        ensures { Took (λ f _ next. PageReleased f next) KeepsLeases self.old Answer.Failed self.new result }
     {
         self.page_lease = None;
         match &mut self.root {
@@ -502,7 +504,7 @@ impl TreeCkpt {
     }
 
     fn root_put(&mut self, done: Result<(), Trouble>) -> Turn<CkptAnswer>
-        ensures { TookBy (λ f. root_put_by f done) self.old self.new result }
+        ensures { Took (λ f _ next. next ≡ root_put_by f done) SameLeases self.old Answer.Failed self.new result }
     {
         match done {
             Ok(()) => self.delete_next(),
@@ -511,7 +513,7 @@ impl TreeCkpt {
     }
 
     fn deleted(&mut self, done: Result<(), Trouble>) -> Turn<CkptAnswer>
-        ensures { TookBy (λ f. deleted_by f done) self.old self.new result }
+        ensures { Took (λ f _ next. next ≡ deleted_by f done) SameLeases self.old Answer.Failed self.new result }
     {
         match counted_after(self.counted, done.is_ok()) {
             Some(counted) => {
@@ -524,7 +526,7 @@ impl TreeCkpt {
     }
 
     fn released(&mut self) -> Turn<CkptAnswer>
-        ensures { TookBy released_by self.old self.new result }
+        ensures { Took (λ f _ next. next ≡ released_by f) SameLeases self.old Answer.Failed self.new result }
     {
         self.stage = Stage::Finished;
         self.tree_lease = None;
@@ -532,7 +534,7 @@ impl TreeCkpt {
     }
 
     fn page_left(&mut self) -> Turn<CkptAnswer>
-        ensures { TookBy page_left_by self.old self.new result }
+        ensures { Took (λ f _ next. next ≡ page_left_by f) SameLeases self.old Answer.Failed self.new result }
     {
         self.stage = Stage::StoppingTree;
         self.page_lease = None;
@@ -540,16 +542,18 @@ impl TreeCkpt {
     }
 
     fn stopped(&mut self) -> Turn<CkptAnswer>
-        ensures { TookBy stopped_by self.old self.new result }
+        requires { self.old.stage ≡ Stage.StoppingTree }
+        ensures { Took (λ f _ next. next ≡ stopped_by f) KeepsLeases self.old Answer.Failed self.new result }
     {
         self.stage = Stage::Finished;
         self.tree_lease = None;
         Turn::Stopped(self.trouble.take().unwrap_or(Trouble::Failed))
     }
 
-    /// Takes the answer of the call in hand.
+    /// Takes the answer of the call in hand. A lease that the call gave back has left.
     fn absorb(&mut self, alloc: Global, answer: Answer) -> Turn<CkptAnswer>
-        ensures { TookOne self.old answer self.new result }
+        requires { KeepsLeases self.old answer self.old }
+        ensures { Took FoldingLeads KeepsLeases self.old answer self.new result }
     {
         match (self.stage, answer) {
             (_, Answer::Memory) => Turn::Stopped(Trouble::Memory),
@@ -574,7 +578,8 @@ impl TreeCkpt {
 
     /// Makes the call in hand, and does the local work up to the next one.
     pub fn step<C: Cloud>(&mut self, alloc: Global, cloud: &mut C, who: Who) -> Turn<CkptAnswer>
-        ensures { FoldsOne who (C.counts cloud.old) (C.counts cloud.new) (C.state cloud.old) (C.state cloud.new) self.old self.new result }
+        ensures steps { Steps folding_ask FoldingLeads KeepsLeases who (C.seen cloud.old) (C.seen cloud.new) self.old self.new result }
+        ensures less { result ≡ Turn.More → calls_left self.new < calls_left self.old }
     {
         let answer = self.call(cloud, who);
         self.absorb(alloc, answer)

@@ -3,5 +3,3 @@
 
 pub mod buffer;
 mod noted_key;
-#[cfg(test)]
-mod tests;

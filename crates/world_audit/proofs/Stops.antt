@@ -1,15 +1,18 @@
--- A walk that comes one page further.
-use Rattle.std.proofs.Common.{◌≡◌, ℕ, List, [], ◌∷◌, ◌++◌, refl, sym, ◌∙◌, ap, subst, arith}
-use Rattle.std.specs.Prelude.{Option, Some, zero, suc}
+-- A walk that comes one page further, heads one after another, and what stops a report first.
+use Rattle.std.proofs.Common.{◌≡◌, ◌<◌, ◌≤◌, ◌+◌, ℕ, List, [], ◌∷◌, ◌++◌, refl, sym, ◌∙◌, ap, subst, inl, inr, arith}
+use Rattle.std.specs.Prelude.{Option, Some, None, ◌⊎◌, zero, suc}
 use Rattle.std.specs.List.{All, AllPairs, Contains}
 use Rattle.std.proofs.lemmas.List.Elements.{All-head, All-tail, All-cons, All-nil, All-append}
 use Rattle.std.proofs.lemmas.List.Kept.{AllPairs-cons}
+use Rattle.std.proofs.lemmas.Bool.{cases_lt}
+use Rattle.db_base.specs.Ids.{IsClient}
+use Rattle.db_base.specs.declared.trouble.Trouble.{Trouble}
 use Rattle.db_base.specs.declared.names.ObjName.TheVariants.{Page}
 use Rattle.cloud_trait.specs.State.{CloudState, newest}
 use Rattle.leaf_view.specs.Leaf.{Leaf}
-use Rattle.world_audit.specs.Chain.{Leads}
-use Rattle.world_audit.specs.Stop.{pages_of, Meet, Comes, Passes}
-use Rattle.world_audit.proofs.Chains.{leads_on, right_page}
+use Rattle.tree_meaning.specs.Chain.{Leads}
+use Rattle.world_audit.specs.Stop.{pages_of, Meet, Comes, Passes, ChainStops, ChainIsWhole, HeadReads, HeadsRead, AllHeadsRead, HeadIsNone, HeadStops, RootStops, SlipOr, Stopped}
+use Rattle.tree_meaning.proofs.ChainLemmas.{leads_on, right_page}
 
 meet_on : (low : List ℕ) (leaves : List Leaf) (l : Leaf) (mid high : List ℕ)
     → Meet low leaves mid → l.low ≡ mid → l.high ≡ Some high → Meet low (leaves ++ l ∷ []) high
@@ -52,3 +55,55 @@ comes_on s tree pages more page to low high next c e p m = record {
   meet = meet_on [] c.leaves p.leaf low high c.meet p.begins (p.ends to e);
   once = subst (AllPairs Apart) (sym m) (once_on pages page c.once (all_apart pages page p.first));
 }
+
+-- a walk that passes a page with no right page is over a whole chain
+pub chain_ends : (s : CloudState) (tree : ℕ) (pages : List ℕ) (page : ℕ) (low high : List ℕ) (next : Option ℕ)
+    → Comes s tree pages page low → next ≡ None → Passes (newest s (Page tree page)) tree page pages low high next → ChainIsWhole s tree
+chain_ends s tree pages page low high next c e p = record {
+  pages = pages;
+  page = page;
+  low = low;
+  high = high;
+  comes = c;
+  last = subst (λ (n : Option ℕ). Passes (newest s (Page tree page)) tree page pages low high n) e p;
+}
+
+-- no client is below the first
+pub heads_first : (s : CloudState) → HeadsRead s 1
+heads_first s client is less = absurd (omega (arith, is.some))
+
+-- with one head more
+pub heads_on : (s : CloudState) (n client : ℕ) → client ≡ n + 1 → HeadsRead s (n + 1) → HeadReads s client → HeadsRead s (n + 1 + 1)
+heads_on s n client e before here k is less = on (cases_lt k (n + 1))
+  where
+    on : (k < n + 1) ⊎ (n + 1 ≤ k) → HeadReads s k
+    on (inl below) = before k is below
+    on (inr at) = let same : client ≡ k = omega arith in subst (HeadReads s) same here
+
+pub heads_all : (s : CloudState) → HeadsRead s 65 → AllHeadsRead s
+heads_all s below k is = below k is (omega (arith, is.most))
+
+-- a head stops, behind those that read
+pub head_stops : (s : CloudState) (n client : ℕ) (e : Trouble) → client ≡ n + 1 → IsClient client → HeadsRead s (n + 1)
+    → SlipOr (HeadIsNone s client e) e → SlipOr (HeadStops s e) e
+head_stops s n client e is valid before (inl failed) = inl failed
+head_stops s n client e is valid before (inr (inl memory)) = inr (inl memory)
+head_stops s n client e is valid before (inr (inr none)) =
+    inr (inr (record { client = client; is_client = valid; is_none = none; earlier = subst (HeadsRead s) (sym is) before }))
+
+-- ---- the parts of a report, in their order
+
+pub leaves_stop : (s : CloudState) (tree : ℕ) (e : Trouble) → SlipOr (ChainStops s tree e) e → Stopped s tree e
+leaves_stop s tree e (inl failed) = inl failed
+leaves_stop s tree e (inr (inl memory)) = inr (inl memory)
+leaves_stop s tree e (inr (inr at)) = inr (inr (inl at))
+
+pub heads_stop : (s : CloudState) (tree : ℕ) (e : Trouble) → ChainIsWhole s tree → SlipOr (HeadStops s e) e → Stopped s tree e
+heads_stop s tree e whole (inl failed) = inl failed
+heads_stop s tree e whole (inr (inl memory)) = inr (inl memory)
+heads_stop s tree e whole (inr (inr at)) = inr (inr (inr (inl (whole, at))))
+
+pub root_stops : (s : CloudState) (tree : ℕ) (e : Trouble) → ChainIsWhole s tree → AllHeadsRead s → SlipOr (RootStops s tree e) e → Stopped s tree e
+root_stops s tree e whole read (inl failed) = inl failed
+root_stops s tree e whole read (inr (inl memory)) = inr (inl memory)
+root_stops s tree e whole read (inr (inr at)) = inr (inr (inr (inr (whole, read, at))))

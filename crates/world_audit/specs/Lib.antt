@@ -1,5 +1,4 @@
-pub mod Audited
 pub mod Look
-pub mod Chain
+pub mod Walk
 pub mod Counts
 pub mod Stop

@@ -1,18 +1,20 @@
 -- Why the report of a tree stops.
-use Rattle.std.specs.Prelude.{ℕ, ◌≡◌, ◌⊎◌, List, [], ◌∷◌, Option, Some, None, Ok}
+use Rattle.std.specs.Prelude.{ℕ, ◌≡◌, ◌<◌, ◌⊎◌, List, [], ◌∷◌, Option, Some, None, Ok}
 use Rattle.std.specs.List.{AllPairs, Contains}
 use Rattle.byte_format.specs.Whole.{offset}
 use Rattle.db_base.specs.Ids.{IsPage, IsClient}
 use Rattle.db_base.specs.declared.names.ObjName.TheVariants as object
+use Rattle.db_base.specs.declared.names.Place.{Place}
 use Rattle.db_base.specs.declared.names.Place.TheVariants as place
 use Rattle.db_base.specs.declared.trouble.Trouble.{Trouble}
 use Rattle.db_base.specs.declared.trouble.Trouble.TheVariants.{Failed, Absent, Damaged, BadFence, Loop, Memory}
 use Rattle.cloud_trait.specs.State.{CloudState, newest}
+use Rattle.head_codec.specs.declared.head.Head.{Head}
 use Rattle.head_codec.specs.Spelling.{head_of, head_offset}
 use Rattle.leaf_view.specs.Leaf.{Leaf, IsLeaf, leaf}
 use Rattle.leaf_view.specs.Lookup.{page_at}
 use Rattle.node_codec.specs.Tree.{Tree, IsTree, tree_format}
-use Rattle.world_audit.specs.Chain.{IsReadAs, Leads}
+use Rattle.tree_meaning.specs.Chain.{IsReadAs, Leads}
 
 -- the pages of leaves that lead from a page
 abbrev pub pages_of : ℕ → List Leaf → List ℕ
@@ -51,14 +53,31 @@ pub record ChainStops (s : CloudState) (tree : ℕ) (trouble : Trouble) : Type 0
   pub comes : Comes s tree pages page low
   pub why : StopsWalk tree pages page low (newest s (object.Page tree page)) trouble
 
--- the newest head of a client is none
-pub record HeadStops (s : CloudState) (trouble : Trouble) : Type 0 where
-  pub client : ℕ
-  pub is_client : IsClient client
+-- the newest version of a client's head can be read: there is none, or it spells a head
+abbrev pub HeadReads : CloudState → ℕ → Type 0
+HeadReads s client = (bytes : List ℕ) → newest s (object.Head client) ≡ Some bytes → (head : Head) × (head_of bytes ≡ Some head)
+
+-- so can those of the clients below a number
+abbrev pub HeadsRead : CloudState → ℕ → Type 0
+HeadsRead s n = (client : ℕ) → IsClient client → client < n → HeadReads s client
+
+-- and those of all clients
+abbrev pub AllHeadsRead : CloudState → Type 0
+AllHeadsRead s = (client : ℕ) → IsClient client → HeadReads s client
+
+-- the newest version of a client's head spells none
+pub record HeadIsNone (s : CloudState) (client : ℕ) (trouble : Trouble) : Type 0 where
   pub bytes : List ℕ
   pub put : newest s (object.Head client) ≡ Some bytes
   pub none : head_of bytes ≡ None
   pub is : trouble ≡ Damaged (place.Object (object.Head client)) (head_offset bytes)
+
+-- the newest head of a client is none, and he is the first such client
+pub record HeadStops (s : CloudState) (trouble : Trouble) : Type 0 where
+  pub client : ℕ
+  pub is_client : IsClient client
+  pub is_none : HeadIsNone s client trouble
+  pub earlier : HeadsRead s client
 
 -- the newest root of the tree is none
 pub record RootStops (s : CloudState) (tree : ℕ) (trouble : Trouble) : Type 0 where
@@ -67,19 +86,22 @@ pub record RootStops (s : CloudState) (tree : ℕ) (trouble : Trouble) : Type 0 
   pub none : (t : Tree) → IsTree bytes t → ⊥
   pub is : trouble ≡ Damaged (place.Object (object.Tree tree)) (offset tree_format bytes)
 
--- the troubles that may stop a report, over whatever cloud
-abbrev pub MayStop : Trouble → Type 0
-MayStop Failed = Unit {0}
-MayStop Memory = Unit {0}
-MayStop (Absent page) = Unit {0}
-MayStop (Damaged there at) = Unit {0}
-MayStop (BadFence page expected found) = Unit {0}
-MayStop (Loop page) = Unit {0}
-MayStop trouble = ⊥
+-- the places that a report of a tree looks at: its pages, its root, and heads
+abbrev pub IsLookedAt : ℕ → Place → Type 0
+IsLookedAt tree (place.Object (object.Page t page)) = t ≡ tree
+IsLookedAt tree (place.Object (object.Tree t)) = t ≡ tree
+IsLookedAt tree (place.Object (object.Head client)) = Unit {0}
+IsLookedAt tree there = ⊥
 
--- why a report stopped: a look failed, memory ran out, or the chain of leaves, a head or the root is damaged
-abbrev pub Stopped : CloudState → ℕ → Trouble → Type 0
-Stopped s tree trouble = (trouble ≡ Failed) ⊎ ((trouble ≡ Memory) ⊎ (ChainStops s tree trouble ⊎ (HeadStops s trouble ⊎ RootStops s tree trouble)))
+-- the troubles that may stop a report of a tree, over whatever cloud
+abbrev pub MayStop : ℕ → Trouble → Type 0
+MayStop tree Failed = Unit {0}
+MayStop tree Memory = Unit {0}
+MayStop tree (Absent page) = Unit {0}
+MayStop tree (Damaged there at) = IsLookedAt tree there
+MayStop tree (BadFence page expected found) = Unit {0}
+MayStop tree (Loop page) = Unit {0}
+MayStop tree trouble = ⊥
 
 -- the walk goes on from a page: its leaf begins at the low key and ends at that of the next page, and was not met before
 pub record Passes (bytes : Option (List ℕ)) (tree page : ℕ) (pages : List ℕ) (low high : List ℕ) (next : Option ℕ) : Type 0 where
@@ -90,3 +112,27 @@ pub record Passes (bytes : Option (List ℕ)) (tree page : ℕ) (pages : List �
   pub ends : (to : ℕ) → next ≡ Some to → leaf.high ≡ Some high
   pub right : next ≡ page_at leaf.right
   pub first : Contains pages page → ⊥
+
+-- the chain of the newest leaves is whole: the walk along them comes to a page that it passes, and that is the last
+pub record ChainIsWhole (s : CloudState) (tree : ℕ) : Type 0 where
+  pub pages : List ℕ
+  pub page : ℕ
+  pub low : List ℕ
+  pub high : List ℕ
+  pub comes : Comes s tree pages page low
+  pub last : Passes (newest s (object.Page tree page)) tree page pages low high None
+
+-- a look failed, memory ran out, or this is so
+abbrev pub SlipOr : Type 0 → Trouble → Type 0
+SlipOr reason trouble = (trouble ≡ Failed) ⊎ ((trouble ≡ Memory) ⊎ reason)
+
+-- the first part of a tree that is damaged: the chain of leaves; where that is whole, a head; and where all heads read, the root
+abbrev pub FirstDamage : CloudState → ℕ → Trouble → Type 0
+FirstDamage s tree trouble =
+    ChainStops s tree trouble
+    ⊎ ((ChainIsWhole s tree × HeadStops s trouble)
+    ⊎ (ChainIsWhole s tree × AllHeadsRead s × RootStops s tree trouble))
+
+-- why a report stopped: a look failed, memory ran out, or a part of the tree is damaged, of which this is the first
+abbrev pub Stopped : CloudState → ℕ → Trouble → Type 0
+Stopped s tree trouble = SlipOr (FirstDamage s tree trouble) trouble

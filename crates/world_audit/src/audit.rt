@@ -1,11 +1,11 @@
 ghost use Rattle.std.specs.Prelude.{◌≡◌, ◌++◌, map, take, length, [], Some, IfOk, IfErr, OnOk, OnErr};
 ghost use Rattle.cloud_trait.specs.State.{CloudState};
 ghost use Rattle.history.specs.Fold.{of_tree};
-ghost use Rattle.world_audit.specs.Audited.{committed_entry, applied_entry};
+ghost use Rattle.history.specs.Audited.{committed_entry, applied_entry};
 ghost use Rattle.world_audit.specs.Look.{Looked, FailsDark};
-ghost use Rattle.world_audit.specs.Chain.{Walked};
+ghost use Rattle.tree_meaning.specs.Chain.{Walked};
 ghost use Rattle.world_audit.specs.Counts.{heads_upto, AreWaiting};
-ghost use Rattle.world_audit.specs.Stop.{Stopped, MayStop};
+ghost use Rattle.world_audit.specs.Stop.{ChainIsWhole, AllHeadsRead, Stopped, MayStop};
 
 use crate::backlogs::messages;
 use crate::entries::{add_applied, add_committed, of_tree};
@@ -33,7 +33,7 @@ pub struct Audit {
 }
 
 impl Model for Audit {
-    ghost use Rattle.world_audit.specs.Audited.{Audited};
+    ghost use Rattle.history.specs.Audited.{Audited};
 
     ghost Value = { Audited };
 
@@ -149,8 +149,9 @@ impl Audit {
     }
 
     /// The report of a tree, by looks at the newest versions: its committed and applied entries, the records of its
-    /// leaves from page 1 along right pages, its open heads, and its messages that are not deleted. Absent, Damaged,
-    /// BadFence and Loop where the leaves are no chain, Damaged for a head or root, Failed where a look failed, and Memory.
+    /// leaves from page 1 along right pages, its open heads, and its messages that are not deleted. The first trouble
+    /// in the order of the looks: Absent, Damaged, BadFence and Loop where the leaves are no chain, then Damaged for
+    /// the first head that is none, then for the root; Failed where a look failed, and Memory.
     pub fn report<C: Bench>(
         &self,
         alloc: Global,
@@ -160,13 +161,18 @@ impl Audit {
         ensures tree { IfOk result (λ r. r.tree ≡ tree) }
         ensures committed { IfOk result (λ r. r.committed ≡ of_tree tree self.now.committed) }
         ensures order { IfOk result (λ r. r.order ≡ of_tree tree self.now.order) }
-        ensures contents { (s : CloudState) → C.state cloud.old ≡ Some s → IfOk result (λ r. Walked s tree 0 r.contents) }
-        ensures heads { (s : CloudState) → C.state cloud.old ≡ Some s → IfOk result (λ r. r.heads ≡ heads_upto s tree (of_tree tree self.now.committed) 64) }
-        ensures messages { (s : CloudState) → C.state cloud.old ≡ Some s → IfOk result (λ r. AreWaiting s tree r.messages) }
+        ensures contents { (s : CloudState) → C.state cloud.old ≡ Some s
+            → IfOk result (λ r. Walked s tree 0 r.contents) }
+        ensures heads { (s : CloudState) → C.state cloud.old ≡ Some s
+            → IfOk result (λ r. r.heads ≡ heads_upto s tree (of_tree tree self.now.committed) 64) }
+        ensures messages { (s : CloudState) → C.state cloud.old ≡ Some s
+            → IfOk result (λ r. AreWaiting s tree r.messages) }
+        ensures whole { (s : CloudState) → C.state cloud.old ≡ Some s
+            → OnOk result (ChainIsWhole s tree × AllHeadsRead s) }
         ensures stopped { (s : CloudState) → C.state cloud.old ≡ Some s → IfErr result (Stopped s tree) }
         ensures looked { Looked (C.counts cloud.old) (C.counts cloud.new) (C.state cloud.old) (C.state cloud.new) }
         ensures failed { FailsDark result (C.counts cloud.old) (C.counts cloud.new) }
-        ensures kinds { IfErr result MayStop }
+        ensures kinds { IfErr result (MayStop tree) }
     {
         let committed = entries_of(alloc, &self.committed, tree)?;
         let order = entries_of(alloc, &self.order, tree)?;

@@ -8,7 +8,7 @@ ghost use Rattle.db_base.specs.declared.names.Place.TheVariants.{Object};
 ghost use Rattle.node_codec.specs.Tree.{Tree as Root, IsTree, tree_format};
 ghost use Rattle.world_audit.specs.Counts.{IsNextPage, AreWaiting, queue_at};
 ghost use Rattle.world_audit.specs.Look.{Looked, FailsDark};
-ghost use Rattle.world_audit.specs.Stop.{Stopped, MayStop};
+ghost use Rattle.world_audit.specs.Stop.{SlipOr, RootStops, MayStop};
 
 use crate::look::{backlog, peek};
 use cloud_trait::cloud::Bench;
@@ -20,8 +20,10 @@ use node_codec::TreeView;
 /// The least free page of the tree that the bytes spell.
 fn next_of(tree: TreeId, bytes: &[u8]) -> Result<u64, Trouble>
     ensures ok { IfOk result (λ n. IsNextPage (Some bytes.now) n) }
-    ensures err { IfErr result (λ e. ((t : Root) → IsTree bytes.now t → ⊥) × (e ≡ Trouble.Damaged (Object (Tree tree)) (offset tree_format bytes.now))) }
-    ensures kinds { IfErr result MayStop }
+    ensures err { IfErr result
+        (λ e. ((t : Root) → IsTree bytes.now t → ⊥)
+        × (e ≡ Trouble.Damaged (Object (Tree tree)) (offset tree_format bytes.now))) }
+    ensures kinds { IfErr result (MayStop tree) }
 {
     match TreeView::read(bytes) {
         Ok(root) => Ok(root.next()),
@@ -37,8 +39,9 @@ fn next_page<C: Bench>(cloud: &mut C, tree: TreeId) -> Result<u64, Trouble>
     ensures looked { Looked (C.counts cloud.old) (C.counts cloud.new) (C.state cloud.old) (C.state cloud.new) }
     ensures failed { FailsDark result (C.counts cloud.old) (C.counts cloud.new) }
     ensures ok { (s : CloudState) → C.state cloud.old ≡ Some s → IfOk result (λ n. IsNextPage (newest s (Tree tree)) n) }
-    ensures stopped { (s : CloudState) → C.state cloud.old ≡ Some s → IfErr result (Stopped s tree) }
-    ensures kinds { IfErr result MayStop }
+    ensures stopped { (s : CloudState) → C.state cloud.old ≡ Some s
+        → IfErr result (λ e. SlipOr (RootStops s tree e) e) }
+    ensures kinds { IfErr result (MayStop tree) }
 {
     match peek(cloud, ObjName::Tree(tree))? {
         Some(bytes) => next_of(tree, bytes.as_slice()),
@@ -61,8 +64,9 @@ pub(crate) fn messages<C: Bench>(cloud: &mut C, tree: TreeId) -> Result<u64, Tro
     ensures looked { Looked (C.counts cloud.old) (C.counts cloud.new) (C.state cloud.old) (C.state cloud.new) }
     ensures failed { FailsDark result (C.counts cloud.old) (C.counts cloud.new) }
     ensures ok { (s : CloudState) → C.state cloud.old ≡ Some s → IfOk result (λ n. AreWaiting s tree n) }
-    ensures stopped { (s : CloudState) → C.state cloud.old ≡ Some s → IfErr result (Stopped s tree) }
-    ensures kinds { IfErr result MayStop }
+    ensures stopped { (s : CloudState) → C.state cloud.old ≡ Some s
+        → IfErr result (λ e. SlipOr (RootStops s tree e) e) }
+    ensures kinds { IfErr result (MayStop tree) }
 {
     let next = next_page(cloud, tree)?;
     let mut sum = 0u64;

@@ -2,7 +2,7 @@
 
 ghost use Rattle.std.specs.Prelude.{◌≡◌, [], ◌∷◌, ◌++◌, length, take, map, IfOk, OnOk, OnErr};
 ghost use Rattle.history.specs.Fold.{of_tree};
-ghost use Rattle.world_audit.specs.Audited.{committed_entry, applied_entry};
+ghost use Rattle.history.specs.Audited.{committed_entry, applied_entry};
 
 use db_base::change::Change;
 use db_base::ids::{ClientId, TreeId};

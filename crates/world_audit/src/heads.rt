@@ -1,6 +1,6 @@
 //! Heads that are open with a committed entry of a tree.
 
-ghost use Rattle.std.specs.Prelude.{◌≡◌, ◌≤◌, ◌⊎◌, Some, None, IfOk, IfErr};
+ghost use Rattle.std.specs.Prelude.{◌≡◌, ℕ, ◌≤◌, ◌⊎◌, Some, None, IfOk, OnOk, IfErr};
 ghost use Rattle.std.specs.List.{list_any};
 ghost use Rattle.cloud_trait.specs.State.{CloudState};
 ghost use Rattle.db_base.specs.declared.names.ObjName.TheVariants as object;
@@ -8,7 +8,7 @@ ghost use Rattle.db_base.specs.declared.names.Place.TheVariants as place;
 ghost use Rattle.head_codec.specs.Spelling.{head_of, head_offset};
 ghost use Rattle.world_audit.specs.Counts.{is_under_way, is_of, is_open_in, open_at, heads_upto};
 ghost use Rattle.world_audit.specs.Look.{Looked, FailsDark};
-ghost use Rattle.world_audit.specs.Stop.{Stopped, MayStop};
+ghost use Rattle.world_audit.specs.Stop.{SlipOr, HeadReads, AllHeadsRead, HeadIsNone, HeadStops, MayStop};
 
 use crate::look::peek;
 use cloud_trait::cloud::Bench;
@@ -22,8 +22,11 @@ use std::alloc::Global;
 /// The head that the bytes spell.
 fn head_of(alloc: Global, client: ClientId, bytes: &[u8]) -> Result<Head, Trouble>
     ensures ok { IfOk result (λ h. head_of bytes.now ≡ Some h) }
-    ensures err { IfErr result (λ e. (e ≡ Trouble.Memory) ⊎ ((head_of bytes.now ≡ None) × (e ≡ Trouble.Damaged (place.Object (object.Head client)) (head_offset bytes.now)))) }
-    ensures kinds { IfErr result MayStop }
+    ensures err { IfErr result
+        (λ e. (e ≡ Trouble.Memory)
+        ⊎ ((head_of bytes.now ≡ None)
+        × (e ≡ Trouble.Damaged (place.Object (object.Head client)) (head_offset bytes.now)))) }
+    ensures kinds { (tree : ℕ) → IfErr result (MayStop tree) }
 {
     match Head::read(alloc, bytes) {
         Ok(head) => Ok(head),
@@ -74,9 +77,12 @@ fn open_head<C: Bench>(
     ensures looked { Looked (C.counts cloud.old) (C.counts cloud.new) (C.state cloud.old) (C.state cloud.new) }
     ensures failed { FailsDark result (C.counts cloud.old) (C.counts cloud.new) }
     ensures most { IfOk result (λ n. n ≤ 1) }
-    ensures ok { (s : CloudState) → C.state cloud.old ≡ Some s → IfOk result (λ n. n ≡ open_at s client tree committed.now) }
-    ensures stopped { (s : CloudState) → C.state cloud.old ≡ Some s → IfErr result (Stopped s tree) }
-    ensures kinds { IfErr result MayStop }
+    ensures ok { (s : CloudState) → C.state cloud.old ≡ Some s
+        → IfOk result (λ n. n ≡ open_at s client tree committed.now) }
+    ensures read { (s : CloudState) → C.state cloud.old ≡ Some s → OnOk result (HeadReads s client) }
+    ensures stopped { (s : CloudState) → C.state cloud.old ≡ Some s
+        → IfErr result (λ e. SlipOr (HeadIsNone s client e) e) }
+    ensures kinds { IfErr result (MayStop tree) }
 {
     let Some(bytes) = peek(cloud, ObjName::Head(client))? else {
         return Ok(0);
@@ -99,9 +105,12 @@ pub(crate) fn open_heads<C: Bench>(
     ensures looked { Looked (C.counts cloud.old) (C.counts cloud.new) (C.state cloud.old) (C.state cloud.new) }
     ensures failed { FailsDark result (C.counts cloud.old) (C.counts cloud.new) }
     ensures most { IfOk result (λ n. n ≤ 64) }
-    ensures ok { (s : CloudState) → C.state cloud.old ≡ Some s → IfOk result (λ n. n ≡ heads_upto s tree committed.now 64) }
-    ensures stopped { (s : CloudState) → C.state cloud.old ≡ Some s → IfErr result (Stopped s tree) }
-    ensures kinds { IfErr result MayStop }
+    ensures ok { (s : CloudState) → C.state cloud.old ≡ Some s
+        → IfOk result (λ n. n ≡ heads_upto s tree committed.now 64) }
+    ensures read { (s : CloudState) → C.state cloud.old ≡ Some s → OnOk result (AllHeadsRead s) }
+    ensures stopped { (s : CloudState) → C.state cloud.old ≡ Some s
+        → IfErr result (λ e. SlipOr (HeadStops s e) e) }
+    ensures kinds { IfErr result (MayStop tree) }
 {
     let mut heads = 0u64;
     for number in 0..64u64 {

@@ -1,14 +1,15 @@
 //! The leaves of a tree, from the left.
 
-ghost use Rattle.std.specs.Prelude.{◌≡◌, [], ◌∷◌, ◌++◌, ◌⊎◌, map, Some, IfSome, IfOk, IfErr, OnOk};
+ghost use Rattle.std.specs.Prelude.{◌≡◌, ℕ, [], ◌∷◌, ◌++◌, ◌⊎◌, map, Some, IfSome, IfOk, IfErr, OnOk};
 ghost use Rattle.std.specs.List.{Contains};
 ghost use Rattle.cloud_trait.specs.State.{CloudState, newest};
 ghost use Rattle.db_base.specs.Ids.{IsPage};
 ghost use Rattle.db_base.specs.declared.names.ObjName.TheVariants.{Page};
 ghost use Rattle.leaf_view.specs.Fits.{IsHigh};
 ghost use Rattle.world_audit.specs.Look.{Looked, FailsDark};
-ghost use Rattle.world_audit.specs.Chain.{IsReadAs, Adds, Walked, pair_of};
-ghost use Rattle.world_audit.specs.Stop.{StopsWalk, Stopped, MayStop, Passes};
+ghost use Rattle.tree_meaning.specs.Chain.{IsReadAs, Walked, pair_of};
+ghost use Rattle.world_audit.specs.Walk.{Adds};
+ghost use Rattle.world_audit.specs.Stop.{StopsWalk, SlipOr, ChainStops, ChainIsWhole, MayStop, Passes};
 
 use crate::look::peek;
 use cloud_trait::cloud::Bench;
@@ -24,7 +25,7 @@ use std::alloc::Global;
 /// The leaf that the newest version of a page spells.
 fn leaf_at<'a>(tree: TreeId, page: PageId, bytes: &'a Option<Blob>) -> Result<LeafView<'a>, Trouble>
     ensures read { IsReadAs tree page bytes.now result }
-    ensures kinds { IfErr result MayStop }
+    ensures kinds { IfErr result (MayStop tree) }
 {
     match bytes {
         Some(bytes) => match LeafView::read(bytes.as_slice()) {
@@ -59,7 +60,7 @@ fn copy_of(alloc: Global, bytes: &[u8]) -> Result<Blob, Trouble>
 fn check_low(alloc: Global, page: PageId, expected: &[u8], low: &[u8]) -> Result<(), Trouble>
     ensures ok { OnOk result (expected.now ≡ low.now) }
     ensures err { IfErr result (λ e. (e ≡ Trouble.Memory) ⊎ ((e ≡ Trouble.BadFence page expected.now low.now) × (expected.now ≡ low.now → ⊥))) }
-    ensures kinds { IfErr result MayStop }
+    ensures kinds { (tree : ℕ) → IfErr result (MayStop tree) }
 {
     if expected == low {
         return Ok(());
@@ -119,7 +120,7 @@ fn note_visit(visited: &mut Vec<u64>, page: PageId) -> Result<(), Trouble>
     ensures noted { OnOk result (visited.new.items ≡ visited.old.items ++ page ∷ []) }
     ensures first { OnOk result (Contains visited.old.items page → ⊥) }
     ensures err { IfErr result (λ e. (e ≡ Trouble.Memory) ⊎ ((e ≡ Trouble.Loop page) × Contains visited.old.items page)) }
-    ensures kinds { IfErr result MayStop }
+    ensures kinds { (tree : ℕ) → IfErr result (MayStop tree) }
 {
     if visited.as_slice().contains(&page.get()) {
         return Err(Trouble::Loop { page });
@@ -154,7 +155,7 @@ fn add_leaf(
     ensures passes { IfOk result (λ next. Passes bytes.now tree page walk.old.visited.items walk.old.low walk.new.low next) }
     ensures visited { OnOk result (walk.new.visited.items ≡ walk.old.visited.items ++ page ∷ []) }
     ensures stopped { IfErr result (λ e. (e ≡ Trouble.Memory) ⊎ StopsWalk tree walk.old.visited.items page walk.old.low bytes.now e) }
-    ensures kinds { IfErr result MayStop }
+    ensures kinds { IfErr result (MayStop tree) }
 {
     let leaf = leaf_at(tree, page, bytes)?;
     note_visit(&mut walk.visited, page)?;
@@ -177,8 +178,11 @@ fn visit<C: Bench>(
     ensures ok { (s : CloudState) → C.state cloud.old ≡ Some s → IfOk result (λ next. Adds (newest s (Page tree page)) tree page walk.old.contents walk.new.contents next) }
     ensures passes { (s : CloudState) → C.state cloud.old ≡ Some s → IfOk result (λ next. Passes (newest s (Page tree page)) tree page walk.old.visited.items walk.old.low walk.new.low next) }
     ensures visited { OnOk result (walk.new.visited.items ≡ walk.old.visited.items ++ page ∷ []) }
-    ensures stopped { (s : CloudState) → C.state cloud.old ≡ Some s → IfErr result (λ e. (e ≡ Trouble.Failed) ⊎ ((e ≡ Trouble.Memory) ⊎ StopsWalk tree walk.old.visited.items page walk.old.low (newest s (Page tree page)) e)) }
-    ensures kinds { IfErr result MayStop }
+    ensures stopped { (s : CloudState) → C.state cloud.old ≡ Some s
+        → IfErr result
+        (λ e. let bytes = newest s (Page tree page) in
+        SlipOr (StopsWalk tree walk.old.visited.items page walk.old.low bytes e) e) }
+    ensures kinds { IfErr result (MayStop tree) }
 {
     let bytes = peek(cloud, ObjName::Page(tree, page))?;
     add_leaf(alloc, tree, page, &bytes, walk)
@@ -193,8 +197,10 @@ pub(crate) fn contents<C: Bench>(
     ensures looked { Looked (C.counts cloud.old) (C.counts cloud.new) (C.state cloud.old) (C.state cloud.new) }
     ensures failed { FailsDark result (C.counts cloud.old) (C.counts cloud.new) }
     ensures ok { (s : CloudState) → C.state cloud.old ≡ Some s → IfOk result (λ records. Walked s tree 0 records) }
-    ensures stopped { (s : CloudState) → C.state cloud.old ≡ Some s → IfErr result (Stopped s tree) }
-    ensures kinds { IfErr result MayStop }
+    ensures whole { (s : CloudState) → C.state cloud.old ≡ Some s → OnOk result (ChainIsWhole s tree) }
+    ensures stopped { (s : CloudState) → C.state cloud.old ≡ Some s
+        → IfErr result (λ e. SlipOr (ChainStops s tree e) e) }
+    ensures kinds { IfErr result (MayStop tree) }
 {
     let mut page = PageId::first();
     let mut walk = Walk {

@@ -8,5 +8,3 @@ mod heads;
 mod leaves;
 mod look;
 pub mod mark;
-#[cfg(test)]
-mod tests;

@@ -11,7 +11,7 @@ use Rattle.report_types.specs.declared.entry.Entry.{Entry}
 use Rattle.txn_buffer.specs.Noted.{Noted}
 use Rattle.client_session.specs.declared.session.Work.{Work}
 use Rattle.client_session.specs.Session.{ask_of_work, opens_of, committing_of}
-use Rattle.world_audit.specs.Audited.{Audited}
+use Rattle.history.specs.Audited.{Audited}
 use Rattle.world_audit.specs.declared.mark.Mark.{Mark}
 use Rattle.replay_model.specs.Noting.{Newest, noted_head, noted_in_hand, noted_by, has_landed, audited}
 use Rattle.world_core.specs.declared.put.Put.{Put}

@@ -38,17 +38,17 @@ use Rattle.client_session.specs.Session.{Acting, IsKept, BeginsOpening, BeginsTr
 use Rattle.history.specs.Fold.{fold, of_tree}
 use Rattle.history.specs.Legal.{IsLegal}
 use Rattle.report_types.specs.declared.entry.Entry.{Entry}
-use Rattle.world_audit.specs.Audited.{Audited}
-use Rattle.world_audit.specs.Chain.{AreLeaves}
+use Rattle.history.specs.Audited.{Audited}
+use Rattle.tree_meaning.specs.Chain.{AreLeaves}
 use Rattle.world_audit.specs.Counts.{heads_upto, AreWaiting}
 use Rattle.record_facts.specs.Tally.{tally_of}
 use Rattle.record_facts.specs.Known.{MayCommit}
 use Rattle.record_facts.proofs.TreeRecords.{is_client, legal_in_tree, complete_in_tree}
-use Rattle.replay_model.specs.Standing.{Line, Standing, Working as WorkingOn, Committing as Noting, standing, after_line, after_own, session_of}
-use Rattle.replay_model.specs.Committed.{committed}
-use Rattle.replay_model.specs.Index.{Finds}
+use Rattle.replay_meaning.specs.Standing.{Line, Standing, Working as WorkingOn, Committing as Noting, standing, after_line, after_own, session_of}
+use Rattle.replay_meaning.specs.Committed.{committed}
+use Rattle.tree_meaning.specs.Index.{Finds}
 use Rattle.replay_model.specs.Noting.{Newest, audited}
-use Rattle.replay_model.specs.Right.{ReportIsRight, IsRight, HoldsAll, GoesOnFrom, payload_at}
+use Rattle.replay_meaning.specs.Right.{ReportIsRight, IsRight, HoldsAll, GoesOnFrom, payload_at}
 use Rattle.replay_model.specs.Facts.{HomeStands, CommitStands, Knows, ActsAs, WorksAs, CloudStands, RecordsKnown, RecordsStand, IsFrontOf, Reported, Stands, GoesOn}
 use Rattle.replay_model.proofs.LineLemmas.{begins_line, line_through, own_line}
 use Rattle.replay_model.proofs.TreeLemmas.{report_of}

@@ -26,11 +26,11 @@ use Rattle.client_session.specs.declared.session.Begun.TheVariants.{Working, Ans
 use Rattle.client_session.specs.declared.session.Op.TheVariants as op
 use Rattle.client_session.specs.Session.{Acting, rule_of, NoteRefused, Begins, StepsSession, IsKept}
 use Rattle.history.specs.Fold.{of_tree}
-use Rattle.world_audit.specs.Audited.{Audited}
+use Rattle.history.specs.Audited.{Audited}
 use Rattle.world_audit.specs.Look.{Looked}
-use Rattle.world_audit.specs.Chain.{Walked}
+use Rattle.tree_meaning.specs.Chain.{Walked}
 use Rattle.world_audit.specs.Counts.{heads_upto, AreWaiting}
-use Rattle.replay_model.specs.Standing.{session_of}
+use Rattle.replay_meaning.specs.Standing.{session_of}
 use Rattle.replay_model.specs.Noting.{audited}
 use Rattle.world_core.specs.declared.world.World.{World}
 use Rattle.world_core.specs.declared.world.WorldFault.{WorldFault}

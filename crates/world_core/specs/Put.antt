@@ -5,7 +5,7 @@ use Rattle.db_base.specs.declared.names.ObjName.TheVariants as object
 use Rattle.cloud_trait.specs.Ask.{Ask, PutHeld}
 use Rattle.client_session.specs.declared.session.Work.{Work}
 use Rattle.client_session.specs.Session.{ask_of_work, committing_of, opens_of, applying_of}
-use Rattle.world_audit.specs.Audited.{Audited, applied_entry}
+use Rattle.history.specs.Audited.{Audited, applied_entry}
 use Rattle.world_audit.specs.declared.mark.Mark.{Mark}
 use Rattle.replay_model.specs.Noting.{Newest, noted_head, has_bytes}
 use Rattle.world_core.specs.declared.put.Put.{Put}

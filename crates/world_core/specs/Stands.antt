@@ -7,8 +7,8 @@ use Rattle.report_types.specs.declared.report.Report.{Report}
 use Rattle.reply_text.specs.declared.reply.Reply.{Reply}
 use Rattle.reply_text.specs.declared.reply.Reply.TheVariants as reply
 use Rattle.world_audit.specs.Counts.{heads_upto, AreWaiting}
-use Rattle.replay_model.specs.Standing.{Line}
-use Rattle.replay_model.specs.Right.{ReportIsRight}
+use Rattle.replay_meaning.specs.Standing.{Line}
+use Rattle.replay_meaning.specs.Right.{ReportIsRight}
 use Rattle.replay_model.specs.Facts.{Stands}
 use Rattle.world_core.specs.declared.world.World.{World}
 use Rattle.world_core.specs.declared.world.WorldFault.{WorldFault}

@@ -1,7 +1,7 @@
 ghost use Rattle.std.specs.Prelude.{◌≡◌, ℕ, [], Some, IfOk, IfErr};
 ghost use Rattle.cloud_trait.specs.State.{CloudState};
 ghost use Rattle.client_session.specs.Session.{IsKept};
-ghost use Rattle.replay_model.specs.Standing.{session_of};
+ghost use Rattle.replay_meaning.specs.Standing.{session_of};
 ghost use Rattle.world_core.specs.Put.{put_of};
 ghost use Rattle.world_core.specs.Fault.{fault_of};
 ghost use Rattle.world_core.specs.Handled.{BegunReply, InsertOf, Replies};

@@ -14,7 +14,7 @@ invariant-loop-step l = record {
   items : l.out.items ++ entries_bytes (edited_by l.left l.coming)
       ≡ l.initial.out.items ++ entries_bytes (edited_by l.initial.left l.initial.coming);
   room : vec_len l.out + entries_size (edited_by l.left l.coming) ≤ vec_capacity l.out;
-  grown : vec_capacity l.initial.out ≤ vec_capacity l.out;
+  kept : vec_capacity l.out ≡ vec_capacity l.initial.out;
 }
 
 abbrev pub decreases-loop-step : goal.decreases-loop-step

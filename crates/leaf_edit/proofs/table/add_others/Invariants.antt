@@ -10,7 +10,7 @@ invariant-loop-entry l = record {
   items : l.out.items ++ dones_before (filter (is_beside l.above l.queue) l.left) []
       ≡ l.initial.out.items ++ dones_before (filter (is_beside l.above l.queue) l.initial.left) [];
   room : vec_len l.out + dones_size (filter (is_beside l.above l.queue) l.left) ≤ vec_capacity l.out;
-  grown : vec_capacity l.initial.out ≤ vec_capacity l.out;
+  kept : vec_capacity l.out ≡ vec_capacity l.initial.out;
 }
 
 abbrev pub decreases-loop-entry : goal.decreases-loop-entry

@@ -1,5 +1,5 @@
 use Rattle.std.proofs.Common.{arith, ◌-◌}
-use Rattle.leaf_edit.specs.Raised.{raised_number}
+use Rattle.std.specs.Prelude.{slice_index}
 use Rattle.leaf_edit.proofs.Sizes.{no-size, own-size-at, own-none}
 use Rattle.leaf_edit.proofs.table.own_len.Goals as goal
 
@@ -8,8 +8,8 @@ loop-left-preserved c = record {
   most = omega arith;
   sum = omega (
     arith,
-    own-size-at c.args.queue (raised_number c.args.leaf.now.done c.args.queue c.args.run.now) c.loop-left.left
-        (c.loop-left.left - 1) _ _ (omega arith) c.client_at-client.ensures c.raised_number-number.ensures,
+    own-size-at c.args.queue (λ client. slice_index c.args.numbers.now client) c.loop-left.left
+        (c.loop-left.left - 1) _ _ (omega arith) c.client_at-client.ensures c.get-number.ensures.number,
   );
 }
 
@@ -17,9 +17,9 @@ pub returns-in_err-sum : goal.returns-in_err-sum
 returns-in_err-sum c = no-size _ _ c.from_residual.ensures (omega (
   arith,
   c.in_err-sum.ensures,
-  own-size-at c.args.queue (raised_number c.args.leaf.now.done c.args.queue c.args.run.now) c.loop-left.left
-      (c.loop-left.left - 1) _ _ (omega arith) c.client_at-client.ensures c.raised_number-number.ensures,
+  own-size-at c.args.queue (λ client. slice_index c.args.numbers.now client) c.loop-left.left
+      (c.loop-left.left - 1) _ _ (omega arith) c.client_at-client.ensures c.get-number.ensures.number,
 ))
 
 pub returns : goal.returns
-returns c = omega (arith, own-none c.args.queue (raised_number c.args.leaf.now.done c.args.queue c.args.run.now) c.loop-left.left (omega arith))
+returns c = omega (arith, own-none c.args.queue (λ client. slice_index c.args.numbers.now client) c.loop-left.left (omega arith))

@@ -1,8 +1,8 @@
 use Rattle.std.proofs.Common.{rules}
 use Rattle.std.proofs.lemmas.List.Sorted.{All-permutation}
 use Rattle.run_cursor.proofs.Choice.{run-from_chosen}
-use Rattle.run_cursor.proofs.ItemOrder.{sorted_items}
-use Rattle.run_cursor.specs.Run.{IsItem}
+use Rattle.log_codec.proofs.ItemOrder.{sorted_items}
+use Rattle.log_codec.specs.Order.{IsItem}
 use Rattle.run_cursor.proofs.run.take_run.Goals as goal
 
 pub invariant_of-result : goal.invariant_of-result

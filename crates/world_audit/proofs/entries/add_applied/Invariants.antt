@@ -1,6 +1,6 @@
 use Rattle.std.proofs.Common.{◌≡◌, ◌++◌, length, take}
 use Rattle.std.specs.Prelude.{map}
-use Rattle.world_audit.specs.Audited.{applied_entry}
+use Rattle.history.specs.Audited.{applied_entry}
 use Rattle.world_audit.proofs.entries.add_applied.Given as goal
 
 abbrev pub invariant-loop-item : goal.invariant-loop-item

@@ -1,5 +1,5 @@
 use Rattle.std.proofs.Common.{sym}
-use Rattle.world_audit.specs.Audited.{committed_entry}
+use Rattle.history.specs.Audited.{committed_entry}
 use Rattle.world_audit.proofs.Lists.{one_more}
 use Rattle.world_audit.proofs.entries.add_committed.Goals as goal
 

@@ -1,6 +1,6 @@
 use Rattle.std.proofs.Common.{◌≡◌, ◌++◌, take}
 use Rattle.std.specs.Prelude.{map}
-use Rattle.world_audit.specs.Audited.{committed_entry}
+use Rattle.history.specs.Audited.{committed_entry}
 use Rattle.world_audit.proofs.entries.add_committed.Given as goal
 
 abbrev pub invariant-loop-i : goal.invariant-loop-i

@@ -2,7 +2,7 @@ use Rattle.std.proofs.Common.{◌≡◌, ◌-◌, ◌^◌, length}
 use Rattle.std.specs.Prelude.{Some}
 use Rattle.cloud_trait.specs.State.{CloudState}
 use Rattle.world_audit.specs.Look.{Looked}
-use Rattle.world_audit.specs.Chain.{Walked}
+use Rattle.tree_meaning.specs.Chain.{Walked}
 use Rattle.world_audit.specs.Stop.{Comes}
 use Rattle.world_audit.proofs.leaves.contents.Given as goal
 

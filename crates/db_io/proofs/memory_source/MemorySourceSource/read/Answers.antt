@@ -6,4 +6,4 @@ pub returns-in-Ok-clause-gives : goal.returns-in-Ok-clause-gives
 returns-in-Ok-clause-gives c =
     let left : drop c.self.inside.at c.self.inside.bytes.items ≡ c.args.self.now.content = ap (λ s. s.content) c.self.view_is in
     let rest = rest_is c.self.inside.bytes.items c.deref-2.result.now c.args.self.now.content c.self.inside.at c.deref-2.ensures.value left in
-    gives_first _ _ _ _ _ _ _ left (rw rest at c.in-Ok.ensures.ok) (rw rest at c.min-count.ensures)
+    gives_first _ _ _ _ _ _ _ _ _ left (rw rest at c.in-Ok.ensures.ok) (rw rest at c.min-count.ensures)

@@ -1,0 +1,4 @@
+use Rattle.cloud_trait.proofs.down.DownCloudCloud.get.Goals as goal
+
+pub returns : goal.returns
+returns c = record { made = c.fail.ensures.made _ }

@@ -1,0 +1,191 @@
+use db_base::ids::{ClientId, PageId};
+use leaf_edit::LeafBuf;
+use leaf_view::LeafView;
+use node_codec::{InnerBuf, InnerView, TreeBuf, TreeView};
+use split_plan::count::pieces;
+use split_plan::inner::plan_inner;
+use split_plan::leaf::plan_leaf;
+use split_plan::plan::Pieces;
+use split_plan::root::plan_root;
+use std::alloc::{AllocError, Global};
+use std::process::Abort;
+use std::test::Fail;
+
+// How many items there are, and how many each piece has, from left to right.
+const CUTS: [(u8, &[usize]); 5] = [
+    (64, &[64]),
+    (65, &[33, 32]),
+    (128, &[64, 64]),
+    (129, &[43, 43, 43]),
+    (200, &[50, 50, 50, 50]),
+];
+
+// A leaf up to its records: version 3, no low key, right page 5 from key 255 on; number 1 of client 1 of the tree's queue applied.
+const LEAF: [u8; 40] = [
+    0x4c, 1, 0, 0, 0, 0, 0, 0, 0, 3, 0, 0, 0, 0, 0, 0, 0, 0, 5, 1, 255, 1, 0, 0, 0, 0, 0, 0, 0, 0,
+    1, 0, 0, 0, 0, 0, 0, 0, 1, 0,
+];
+
+// An inner node up to its entries: version 3, level 2, no low key and no right page.
+const NODE: [u8; 20] = [
+    0x49, 1, 0, 0, 0, 0, 0, 0, 0, 3, 2, 0, 0, 0, 0, 0, 0, 0, 0, 0,
+];
+
+// A root up to its entries: version 3, next free page 300, level 2, no cursor.
+const ROOT: [u8; 20] = [
+    0x54, 1, 0, 0, 0, 0, 0, 0, 0, 3, 0, 0, 0, 0, 0, 0, 1, 44, 2, 0,
+];
+
+/// A leaf of the records from key 1 on.
+fn leaf_of(alloc: Global, count: u8) -> Result<Vec<u8>, AllocError> {
+    let mut bytes = LEAF.to_vec(alloc)?;
+    for i in 0..count {
+        bytes.extend_from_slice(&[1, 1, i + 1, 0, 0])?;
+    }
+    bytes.push(0)?;
+    Ok(bytes)
+}
+
+/// A node of the entries from the empty key and key 1 on.
+fn node_of(alloc: Global, head: &[u8], count: u8) -> Result<Vec<u8>, AllocError> {
+    let mut bytes = head.to_vec(alloc)?;
+    bytes.extend_from_slice(&[1, 0, 0, 0, 0, 0, 0, 0, 0, 1])?;
+    for i in 1..count {
+        bytes.extend_from_slice(&[1, 1, i, 0, 0, 0, 0, 0, 0, 0, i])?;
+    }
+    bytes.push(0)?;
+    Ok(bytes)
+}
+
+#[test]
+fn least_number_of_pieces(rt: HostRuntime) {
+    for (len, count) in [
+        (0, 1),
+        (1, 1),
+        (64, 1),
+        (65, 2),
+        (128, 2),
+        (129, 3),
+        (200, 4),
+    ] {
+        assert_eq!(rt; pieces(len), count, "{len}");
+    }
+}
+
+/// The page is put last, and before it the new ones down to the first; each of these has its entry.
+fn on_pages(rt: &impl Abort, plan: &Pieces, page: u64, free: u64) {
+    let mut number = page;
+    let mut next = free;
+    for put in plan.puts.as_slice().iter().rev() {
+        assert_eq!(rt; put.page.get(), number);
+        number = next;
+        next = next.saturating_add(1);
+    }
+    let mut number = free;
+    for entry in plan.entries.as_slice() {
+        assert_eq!(rt; entry.page.get(), number);
+        number = number.saturating_add(1);
+    }
+    assert_eq!(rt;
+        plan.puts.as_slice().len(),
+        plan.entries.as_slice().len().saturating_add(1)
+    );
+}
+
+fn leaf_sizes(rt: &impl Abort, plan: &Pieces, sizes: &[usize]) -> Result<(), Fail> {
+    let client = ClientId::new(1)?;
+    assert_eq!(rt; plan.puts.as_slice().len(), sizes.len());
+    for (put, size) in plan.puts.as_slice().iter().rev().zip(sizes) {
+        let leaf = LeafView::read(put.bytes.as_slice())?;
+        assert_eq!(rt; (leaf.records().len(), leaf.done(0, client)), (*size, 1));
+    }
+    Ok(())
+}
+
+/// The leaf of so many records, cut on page 7, where page 10 is the first free one.
+fn cut_leaf(rt: &impl Abort, alloc: Global, count: u8) -> Result<Pieces, Fail> {
+    let buf = LeafBuf::read(leaf_of(alloc, count)?)?;
+    assert!(rt; pieces(buf.len() as u64) <= 4);
+    Ok(plan_leaf(alloc, PageId::new(7)?, buf, PageId::new(10)?)?)
+}
+
+#[test]
+fn leaves_are_cut(rt: HostRuntime) -> Result<(), Fail> {
+    for (count, sizes) in CUTS {
+        let plan = cut_leaf(&rt, rt.alloc(), count)?;
+        leaf_sizes(&rt, &plan, sizes)?;
+        on_pages(&rt, &plan, 7, 10);
+    }
+    Ok(())
+}
+
+#[test]
+fn fences_meet(rt: HostRuntime) -> Result<(), Fail> {
+    let plan = cut_leaf(&rt, rt.alloc(), 65)?;
+    let puts = plan.puts.as_slice();
+    let entries = plan.entries.as_slice();
+    assert_eq!(rt; (puts.len(), entries.len()), (2, 1));
+    assert_eq!(rt; entries[0].low.as_slice(), [34].as_slice());
+    let left = LeafView::read(puts[1].bytes.as_slice())?;
+    let right = LeafView::read(puts[0].bytes.as_slice())?;
+    assert_eq!(rt; (left.version(), right.version()), (3, 1));
+    assert_eq!(rt; left.right(), Some(PageId::new(10)?));
+    assert!(rt; left.high() == Some([34].as_slice()));
+    assert_eq!(rt; right.low(), [34].as_slice());
+    assert_eq!(rt; right.right(), Some(PageId::new(5)?));
+    assert!(rt; right.high() == Some([255].as_slice()));
+    Ok(())
+}
+
+fn node_sizes(rt: &impl Abort, alloc: Global, plan: &Pieces, sizes: &[usize]) -> Result<(), Fail> {
+    assert_eq!(rt; plan.puts.as_slice().len(), sizes.len());
+    for (put, size) in plan.puts.as_slice().iter().rev().zip(sizes) {
+        let node = InnerView::read(put.bytes.as_slice())?;
+        let buf = InnerBuf::of(alloc, &node)?;
+        assert_eq!(rt; (buf.len(), node.level()), (*size, 2));
+    }
+    Ok(())
+}
+
+#[test]
+fn inner_nodes_are_cut(rt: HostRuntime) -> Result<(), Fail> {
+    let alloc = rt.alloc();
+    for (count, sizes) in CUTS {
+        let bytes = node_of(alloc, &NODE, count)?;
+        let buf = InnerBuf::of(alloc, &InnerView::read(bytes.as_slice())?)?;
+        assert!(rt; pieces(buf.len() as u64) <= 4);
+        let plan = plan_inner(alloc, PageId::new(7)?, buf, PageId::new(10)?)?;
+        node_sizes(&rt, alloc, &plan, sizes)?;
+        on_pages(&rt, &plan, 7, 10);
+    }
+    Ok(())
+}
+
+/// The root of so many entries, cut on the pages from 300 on.
+fn cut_root(rt: &impl Abort, alloc: Global, count: u8) -> Result<(Pieces, TreeBuf), Fail> {
+    let bytes = node_of(alloc, &ROOT, count)?;
+    let view = TreeView::read(bytes.as_slice())?;
+    let mut buf = TreeBuf::of(alloc, &view)?;
+    let first = buf.reserve(pieces(buf.len() as u64))?;
+    assert!(rt; view.level() < 255);
+    Ok(plan_root(alloc, buf, first)?)
+}
+
+#[test]
+fn roots_are_cut(rt: HostRuntime) -> Result<(), Fail> {
+    let alloc = rt.alloc();
+    for (count, sizes) in CUTS {
+        let (plan, root) = cut_root(&rt, alloc, count)?;
+        node_sizes(&rt, alloc, &plan, sizes)?;
+        assert_eq!(rt;
+            (plan.entries.as_slice().len(), root.len()),
+            (sizes.len(), sizes.len())
+        );
+        let bytes = root.write(alloc)?;
+        let view = TreeView::read(bytes.as_slice())?;
+        assert_eq!(rt; (view.version(), view.level()), (4, 3));
+        assert_eq!(rt; view.child(&[]).1.get(), 300);
+        assert_eq!(rt; view.child(&[200]).1.get(), 299 + sizes.len() as u64);
+    }
+    Ok(())
+}

@@ -1,0 +1,71 @@
+-- Open clients and openings under way, of all sessions.
+use Rattle.std.specs.Prelude.{ℕ, ◌≡◌, ◌≢◌, ◌+◌, ◌<◌, ◌≤◌, ◌⊎◌}
+use Rattle.db_base.specs.Ids.{IsClient}
+use Rattle.cloud_trait.specs.Claim.{Claim, Lasts}
+use Rattle.head_codec.specs.declared.head.Head.{Head}
+use Rattle.log_codec.specs.declared.record.AtomicRec.{AtomicRec}
+use Rattle.store_book.specs.Messages.{IsLogMessage}
+use Rattle.store_book.specs.Tally.{Tally}
+
+-- an open client: its epoch, the last transaction that it began in it, and its lease
+pub record Home : Type 0 where
+  pub client : ℕ
+  pub epoch : ℕ
+  pub attempt : ℕ
+  pub lease : Claim
+
+-- an opening that read the head and has not put the next one, and its lease
+pub record Opening : Type 0 where
+  pub client : ℕ
+  pub read : Head
+  pub lease : Claim
+
+-- what a session has of a client
+pub data Part : Type 0 where
+  Away : Part
+  AtHome : (home : Home) → Part
+  Opens : (opening : Opening) → Part
+
+abbrev pub Parts : Type 0
+Parts = ℕ → Part
+
+-- a part of the client whose lease lasts
+abbrev pub IsLastingPart : ℕ → ℕ → Part → Type 0
+IsLastingPart now client Away = ⊥
+IsLastingPart now client (AtHome h) = (h.client ≡ client) × Lasts now h.lease
+IsLastingPart now client (Opens o) = (o.client ≡ client) × Lasts now o.lease
+
+-- no other session has a part of the client with a lease that lasts
+abbrev pub IsAlone : ℕ → Parts → ℕ → ℕ → Type 0
+IsAlone now parts session client = (other : ℕ) → other ≢ session → IsLastingPart now client (parts other) → ⊥
+
+-- an open client is not of a later epoch than the newest head, and no ATOMIC message is of its epoch and a later transaction than it began
+pub record HomeHolds (t : Tally) (h : Home) : Type 0 where
+  pub is_client : IsClient h.client
+  pub early : h.epoch ≤ (t.head h.client).epoch
+  pub begun : (id : ℕ) (r : AtomicRec) → IsLogMessage (t.logged h.client) id r → r.epoch ≡ h.epoch → r.txn ≤ h.attempt
+
+-- the newest head is the one that an opening read, or of a later epoch; it is the one while the opening's lease lasts
+pub record OpeningHolds (t : Tally) (now : ℕ) (o : Opening) : Type 0 where
+  pub is_client : IsClient o.client
+  pub later : (t.head o.client ≡ o.read) ⊎ (o.read.epoch < (t.head o.client).epoch)
+  pub newest : Lasts now o.lease → t.head o.client ≡ o.read
+
+abbrev pub PartHolds : Tally → ℕ → Part → Type 0
+PartHolds t now Away = Unit {0}
+PartHolds t now (AtHome h) = HomeHolds t h
+PartHolds t now (Opens o) = OpeningHolds t now o
+
+-- two sessions: open clients of one client differ in epoch, and one whose lease lasts is of a later epoch than what an opening read
+abbrev pub AreApart : ℕ → Part → Part → Type 0
+AreApart now (AtHome h) (AtHome g) = h.client ≡ g.client → h.epoch ≢ g.epoch
+AreApart now (AtHome h) (Opens o) = h.client ≡ o.client → Lasts now h.lease → o.read.epoch < h.epoch
+AreApart now (Opens o) (AtHome h) = h.client ≡ o.client → Lasts now h.lease → o.read.epoch < h.epoch
+AreApart now (Opens o) (Opens p) = Unit {0}
+AreApart now Away part = Unit {0}
+AreApart now (AtHome h) Away = Unit {0}
+AreApart now (Opens o) Away = Unit {0}
+
+pub record HomesHold (t : Tally) (now : ℕ) (parts : Parts) : Type 0 where
+  pub each : (session : ℕ) → PartHolds t now (parts session)
+  pub apart : (s u : ℕ) → s ≢ u → AreApart now (parts s) (parts u)

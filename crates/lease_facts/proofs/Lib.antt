@@ -1,0 +1,2 @@
+pub mod LeaseLemmas
+pub mod GuardLemmas

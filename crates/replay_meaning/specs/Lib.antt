@@ -1,0 +1,4 @@
+pub mod Standing
+pub mod Committed
+pub mod Kinds
+pub mod Right

@@ -1,0 +1,49 @@
+-- When a report is right: it shows what was committed by the lines, an order of it that is legal, and records that are those of the index and what
+-- this order comes to; where nothing is left the order holds all, and it goes on from the orders that were reported before.
+use Rattle.std.specs.Prelude.{ℕ, ◌≡◌, List, [], ◌∷◌, Option, Some, None, slice_get, if◌then◌else◌}
+use Rattle.byte_format.specs.Order.{bytes_same}
+use Rattle.db_base.specs.declared.pair.Pair.{Pair}
+use Rattle.cloud_trait.specs.Growth.{BeginsWith}
+use Rattle.cloud_trait.specs.State.{CloudState}
+use Rattle.history.specs.Fold.{fold, of_tree}
+use Rattle.history.specs.Legal.{IsLegal, StandsAt}
+use Rattle.leaf_view.specs.Leaf.{Leaf}
+use Rattle.report_types.specs.declared.entry.Entry.{Entry}
+use Rattle.report_types.specs.declared.report.Report.{Report}
+use Rattle.reply_text.specs.declared.reply.Reply.{Reply}
+use Rattle.reply_text.specs.declared.reply.Reply.TheVariants as reply
+use Rattle.tree_meaning.specs.Chain.{AreLeaves, records_of}
+use Rattle.replay_meaning.specs.Standing.{Line}
+use Rattle.replay_meaning.specs.Committed.{committed}
+use Rattle.tree_meaning.specs.Index.{Finds}
+
+-- the payload that records have at a key, where they have one
+abbrev pub payload_at : List ℕ → List Pair → Option (List ℕ)
+payload_at key [] = None
+payload_at key (pair ∷ pairs) = if bytes_same pair.key key then Some pair.payload else payload_at key pairs
+
+-- an order holds all committed entries
+abbrev pub HoldsAll : List Entry → List Entry → Type 0
+HoldsAll order committed = (place : ℕ) (entry : Entry) → StandsAt committed place entry → (at : ℕ) × StandsAt order at entry
+
+-- where a reply is a report of the tree, the order begins with the reported one
+abbrev pub GoesOnFrom : ℕ → List Entry → Reply → Type 0
+GoesOnFrom tree order (reply.Report r) = r.tree ≡ tree → BeginsWith r.order order
+GoesOnFrom tree order reply = Unit {0}
+
+-- a report of a tree is right for the lines so far and the state in which they left the cloud
+pub record IsRight (lines : List Line) (t : CloudState) (r : Report) : Type 0 where
+  pub committed : r.committed ≡ of_tree r.tree (committed lines t)
+  pub leaves : List Leaf
+  pub chain : AreLeaves t r.tree leaves
+  pub contents : r.contents ≡ records_of leaves
+  pub found : (key : List ℕ) → Finds t r.tree key (payload_at key r.contents)
+  pub folded : (key : List ℕ) → payload_at key r.contents ≡ fold r.order r.tree key
+  pub legal : IsLegal r.order r.committed
+  pub complete : r.heads ≡ 0 → r.messages ≡ 0 → HoldsAll r.order r.committed
+  pub grown : (k : ℕ) (line : Line) → slice_get lines k ≡ Some line → GoesOnFrom r.tree r.order line.reply
+
+-- a reply that is a report is right
+abbrev pub ReportIsRight : List Line → CloudState → Reply → Type 0
+ReportIsRight lines t (reply.Report r) = IsRight lines t r
+ReportIsRight lines t reply = Unit {0}

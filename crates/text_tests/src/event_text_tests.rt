@@ -1,0 +1,134 @@
+use event_text::event::Event;
+use std::alloc::Global;
+use std::test::Fail;
+use words::fault::TextFault;
+
+/// Every line of a schedule.
+const LINES: [&str; 27] = [
+    "open 1 64\n",
+    "close 16\n",
+    "renew 2\n",
+    "insert 1 1 6b 76\n",
+    "insert 0 18446744073709551615 - -\n",
+    "update 1 16 00ff 0123456789abcdef\n",
+    "delete 3 1 6b\n",
+    "commit 1\n",
+    "abort 1\n",
+    "read 1 2 6b\n",
+    "scan 1 1 - -\n",
+    "scan 1 1 6b 6c\n",
+    "page 1 2 3\n",
+    "tree 1 1\n",
+    "step 1 plain\n",
+    "step 1 fail\n",
+    "step 1 lost\n",
+    "step 1 hide\n",
+    "step 1 old 0\n",
+    "step 1 give 1\n",
+    "step 1 give 3 3 0\n",
+    "run 1\n",
+    "crash 1\n",
+    "crash 1 done\n",
+    "wait 1000000\n",
+    "report 1\n",
+    "settle\n",
+];
+
+/// Lines that are nearly in the grammar.
+const NEAR_MISSES: [&str; 22] = [
+    "",
+    "\n",
+    "open 1 64",
+    "open 01 64\n",
+    "open 1 18446744073709551616\n",
+    "open +1 64\n",
+    "open 1  64\n",
+    "open 1 64 \n",
+    " open 1 64\n",
+    "open\t1 64\n",
+    "open 1 64\r\n",
+    "open 1 64\n\n",
+    "open 1\n",
+    "open 1 64 1\n",
+    "Open 1 64\n",
+    "insert 1 1 6 76\n",
+    "insert 1 1 6B 76\n",
+    "insert 1 1 6b \n",
+    "step 1 give\n",
+    "step 1 old\n",
+    "crash 1 Done\n",
+    "settle 0\n",
+];
+
+/// A shell's lines, and the lines of session 1 that they stand for.
+const SHELL_LINES: [(&str, &str); 10] = [
+    ("insert 1 6b 76\n", "insert 1 1 6b 76\n"),
+    ("update 1 6b -\n", "update 1 1 6b -\n"),
+    ("delete 2 6b\n", "delete 1 2 6b\n"),
+    ("commit\n", "commit 1\n"),
+    ("abort\n", "abort 1\n"),
+    ("read 1 6b\n", "read 1 1 6b\n"),
+    ("scan 1 6b -\n", "scan 1 1 6b -\n"),
+    ("page 1 2\n", "page 1 1 2\n"),
+    ("tree 1\n", "tree 1 1\n"),
+    ("renew\n", "renew 1\n"),
+];
+
+/// Lines of a schedule that are no shell's lines.
+const NO_SHELL_LINES: [&str; 6] = [
+    "open 1\n",
+    "close\n",
+    "run\n",
+    "wait 1\n",
+    "settle\n",
+    "commit 1\n",
+];
+
+/// Whether an event is written as this line.
+fn is_written(alloc: Global, event: &Event, line: &str) -> Result<bool, TextFault> {
+    let text = event.write(alloc)?;
+    Ok(text.as_slice() == line.as_bytes())
+}
+
+/// The line of a `give` of so many positions.
+fn give_of(alloc: Global, count: u64) -> Result<String, TextFault> {
+    let mut line = String::from_str(alloc, "step 1 give")?;
+    for _ in 0..count {
+        line.push_str(" 7")?;
+    }
+    line.push_str("\n")?;
+    Ok(line)
+}
+
+#[test]
+fn each_line_is_read_and_written_back(rt: HostRuntime) -> Result<(), Fail> {
+    let alloc = rt.alloc();
+    for line in LINES {
+        let event = Event::read(alloc, line.as_bytes())?;
+        assert!(rt; is_written(alloc, &event, line)?, "{line}");
+    }
+    for (line, long) in SHELL_LINES {
+        let event = Event::read_shell(alloc, line.as_bytes())?;
+        assert!(rt; is_written(alloc, &event, long)?, "{line}");
+    }
+    let full = give_of(alloc, 256)?;
+    let event = Event::read(alloc, full.as_bytes())?;
+    assert!(rt; is_written(alloc, &event, full.as_str())?);
+    Ok(())
+}
+
+#[test]
+fn near_misses_are_refused(rt: HostRuntime) -> Result<(), Fail> {
+    let alloc = rt.alloc();
+    for line in NEAR_MISSES {
+        let read = Event::read(alloc, line.as_bytes());
+        assert!(rt; matches!(read, Err(TextFault::NotInGrammar)), "{line}");
+    }
+    for line in NO_SHELL_LINES {
+        let read = Event::read_shell(alloc, line.as_bytes());
+        assert!(rt; matches!(read, Err(TextFault::NotInGrammar)), "{line}");
+    }
+    let read = Event::read(alloc, give_of(alloc, 257)?.as_bytes());
+    assert!(rt; matches!(read, Err(TextFault::NotInGrammar)));
+    Ok(())
+}

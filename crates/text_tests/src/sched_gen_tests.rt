@@ -1,0 +1,52 @@
+use sched_gen::make::make;
+use std::test::Fail;
+
+/// The first lines of the schedule of number 7.
+const FIRST_LINES: [&str; 34] = [
+    "open 1 1\n",
+    "run 1\n",
+    "open 2 2\n",
+    "run 2\n",
+    "open 3 3\n",
+    "run 3\n",
+    "open 4 4\n",
+    "run 4\n",
+    "insert 3 1 0d3f 0000000000000001\n",
+    "commit 3\n",
+    "run 3\n",
+    "insert 2 1 08e9 0000000000000002\n",
+    "commit 2\n",
+    "run 2\n",
+    "insert 1 1 0814 0000000000000003\n",
+    "commit 1\n",
+    "run 1\n",
+    "insert 3 1 0603 0000000000000004\n",
+    "commit 3\n",
+    "run 3\n",
+    "update 1 1 0470 0000000000000005\n",
+    "commit 1\n",
+    "run 1\n",
+    "insert 3 1 03fd 0000000000000006\n",
+    "commit 3\n",
+    "run 3\n",
+    "insert 1 1 089f 0000000000000007\n",
+    "commit 1\n",
+    "run 1\n",
+    "insert 2 1 0636 0000000000000008\n",
+    "commit 2\n",
+    "run 2\n",
+    "page 2 1 30\n",
+    "run 2\n",
+];
+
+#[test]
+fn the_first_lines_of_a_schedule(rt: HostRuntime) -> Result<(), Fail> {
+    let alloc = rt.alloc();
+    let events = make(alloc, 7, 1000)?;
+    assert_eq!(rt; events.len(), 3267);
+    for (event, line) in events.iter().zip(&FIRST_LINES) {
+        let text = event.write(alloc)?;
+        assert!(rt; text.as_slice() == line.as_bytes(), "{line}");
+    }
+    Ok(())
+}

@@ -12,17 +12,17 @@ use Rattle.db_base.specs.declared.trouble.Trouble.TheVariants as trouble
 use Rattle.db_base.specs.declared.trouble.CommitAnswer.{CommitAnswer}
 use Rattle.db_base.specs.declared.trouble.CommitAnswer.TheVariants.{Committed, NotCommitted, InDoubt, CommittedOpen}
 use Rattle.cloud_trait.specs.Caller.{Caller}
-use Rattle.cloud_trait.specs.State.{CloudState, Counts}
-use Rattle.cloud_trait.specs.Machine.{Goes, Ends, Steps}
+use Rattle.cloud_trait.specs.Seen.{Seen}
+use Rattle.cloud_trait.specs.Machine.{Goes, Ends, LeadsBy, Steps}
 use Rattle.cloud_trait.specs.declared.turn.Turn.{Turn}
 use Rattle.cloud_trait.specs.declared.turn.Turn.TheVariants.{More, Ended, Stopped}
 use Rattle.recover_run.specs.declared.home.Home.{Home}
 use Rattle.recover_run.specs.declared.recover.RecoverAnswer.TheVariants.{Opened}
-use Rattle.recover_run.specs.Recovery.{Recovery, new_recovery, recovery_ask, recovery_next, home_of, IsSound as IsSoundOpening}
+use Rattle.recover_run.specs.Recovery.{Recovery, new_recovery, recovery_ask, recovery_next, home_of, KeepsLease, calls_left as opening_left, IsSound as IsSoundOpening}
 use Rattle.log_codec.specs.declared.record.PuItem.{PuItem}
 use Rattle.cloud_trait.specs.Ask.{Ask}
-use Rattle.tree_ckpt.specs.Folding.{new_folding, folding_ask, FoldsOne, Folding as Fold}
-use Rattle.commit_run.specs.Commit.{Commit, Readies, new_commit, commit_ask, commit_next, opens_at, IsSound as IsSoundCommit}
+use Rattle.tree_ckpt.specs.Folding.{new_folding, folding_ask, FoldingLeads, KeepsLeases, calls_left as folding_left, Folding as Fold}
+use Rattle.commit_run.specs.Commit.{Commit, Readies, new_commit, commit_ask, commit_next, opens_at, KeepsHome, calls_left as commit_left, IsSound as IsSoundCommit}
 use Rattle.client_session.specs.declared.session.Answer.{Answer}
 use Rattle.client_session.specs.declared.session.Answer.TheVariants as answer
 use Rattle.client_session.specs.declared.session.Begun.{Begun}
@@ -64,6 +64,11 @@ AbortRefused s (refused.Rule r) = rule_of s.work ≡ Some r
 AbortRefused s refused.Memory = ⊥
 
 -- ---- what a begin does
+
+-- the home is taken out of the work of an open client, for what begins; the rule refuses another's, which stays
+abbrev pub TakesHome : Work → Work → Result Home Refusal → Type 0
+TakesHome old new (Ok home) = (old ≡ Idle home) × (new ≡ Broken)
+TakesHome old new (Err r) = (rule_of old ≡ Some r) × (new ≡ old)
 
 -- the rule that refuses an opening, where one does
 abbrev pub opening_rule_of : Work → Option Refusal
@@ -138,41 +143,41 @@ committed_work (Committed txn) home = Idle home
 committed_work (NotCommitted t) home = Idle home
 
 -- one step of an opening, and what it leaves in hand
-abbrev pub StepsOpening : Caller → Counts → Counts → Option CloudState → Option CloudState → Recovery → Work → Turn Answer → Type 0
-StepsOpening who c d s t old work More = (r : Recovery) × Steps recovery_ask recovery_next who c d s t old r More × (work ≡ Opening r)
-StepsOpening who c d s t old work (Ended (answer.Opened epoch)) =
-    (r : Recovery) × Steps recovery_ask recovery_next who c d s t old r (Ended (Opened epoch)) × (work ≡ opened_work (home_of r))
-StepsOpening who c d s t old work (Ended (answer.Commit a)) = ⊥
-StepsOpening who c d s t old work (Ended (answer.Done n)) = ⊥
-StepsOpening who c d s t old work (Ended (answer.Trouble k)) = (r : Recovery) × Steps recovery_ask recovery_next who c d s t old r (Stopped k) × (work ≡ Closed)
-StepsOpening who c d s t old work (Stopped k) = ⊥
+abbrev pub StepsOpening : Caller → Seen → Seen → Recovery → Work → Turn Answer → Type 0
+StepsOpening who before after old work More = (r : Recovery) × Steps recovery_ask (LeadsBy recovery_next) KeepsLease who before after old r More × (work ≡ Opening r)
+StepsOpening who before after old work (Ended (answer.Opened epoch)) =
+    (r : Recovery) × Steps recovery_ask (LeadsBy recovery_next) KeepsLease who before after old r (Ended (Opened epoch)) × (work ≡ opened_work (home_of r))
+StepsOpening who before after old work (Ended (answer.Commit a)) = ⊥
+StepsOpening who before after old work (Ended (answer.Done n)) = ⊥
+StepsOpening who before after old work (Ended (answer.Trouble k)) = (r : Recovery) × Steps recovery_ask (LeadsBy recovery_next) KeepsLease who before after old r (Stopped k) × (work ≡ Closed)
+StepsOpening who before after old work (Stopped k) = ⊥
 
 -- one step of a commit, and what it leaves in hand
-abbrev pub StepsCommit : Caller → Counts → Counts → Option CloudState → Option CloudState → Commit → Work → Turn Answer → Type 0
-StepsCommit who c d s t old work More = (m : Commit) × Steps commit_ask commit_next who c d s t old m More × (work ≡ Committing m)
-StepsCommit who c d s t old work (Ended (answer.Opened epoch)) = ⊥
-StepsCommit who c d s t old work (Ended (answer.Done n)) = ⊥
-StepsCommit who c d s t old work (Ended (answer.Commit a)) = (m : Commit) × Steps commit_ask commit_next who c d s t old m (Ended a) × (work ≡ committed_work a m.home)
-StepsCommit who c d s t old work (Ended (answer.Trouble k)) = (m : Commit) × Steps commit_ask commit_next who c d s t old m (Stopped k) × (work ≡ Broken)
-StepsCommit who c d s t old work (Stopped k) = ⊥
+abbrev pub StepsCommit : Caller → Seen → Seen → Commit → Work → Turn Answer → Type 0
+StepsCommit who before after old work More = (m : Commit) × Steps commit_ask (LeadsBy commit_next) KeepsHome who before after old m More × (work ≡ Committing m)
+StepsCommit who before after old work (Ended (answer.Opened epoch)) = ⊥
+StepsCommit who before after old work (Ended (answer.Done n)) = ⊥
+StepsCommit who before after old work (Ended (answer.Commit a)) = (m : Commit) × Steps commit_ask (LeadsBy commit_next) KeepsHome who before after old m (Ended a) × (work ≡ committed_work a m.home)
+StepsCommit who before after old work (Ended (answer.Trouble k)) = (m : Commit) × Steps commit_ask (LeadsBy commit_next) KeepsHome who before after old m (Stopped k) × (work ≡ Broken)
+StepsCommit who before after old work (Stopped k) = ⊥
 
 -- one step of a checkpoint, and what it leaves in hand
-abbrev pub StepsFolding : Home → Caller → Counts → Counts → Option CloudState → Option CloudState → Fold → Work → Turn Answer → Type 0
-StepsFolding home who c d s t old work More = (f : Fold) × FoldsOne who c d s t old f More × (work ≡ Folding home f)
-StepsFolding home who c d s t old work (Ended (answer.Done n)) = (f : Fold) × FoldsOne who c d s t old f (Ended n) × (work ≡ Idle home)
-StepsFolding home who c d s t old work (Ended (answer.Opened epoch)) = ⊥
-StepsFolding home who c d s t old work (Ended (answer.Commit a)) = ⊥
-StepsFolding home who c d s t old work (Ended (answer.Trouble k)) = (f : Fold) × FoldsOne who c d s t old f (Stopped k) × (work ≡ Idle home)
-StepsFolding home who c d s t old work (Stopped k) = ⊥
+abbrev pub StepsFolding : Home → Caller → Seen → Seen → Fold → Work → Turn Answer → Type 0
+StepsFolding home who before after old work More = (f : Fold) × Steps folding_ask FoldingLeads KeepsLeases who before after old f More × (work ≡ Folding home f)
+StepsFolding home who before after old work (Ended (answer.Done n)) = (f : Fold) × Steps folding_ask FoldingLeads KeepsLeases who before after old f (Ended n) × (work ≡ Idle home)
+StepsFolding home who before after old work (Ended (answer.Opened epoch)) = ⊥
+StepsFolding home who before after old work (Ended (answer.Commit a)) = ⊥
+StepsFolding home who before after old work (Ended (answer.Trouble k)) = (f : Fold) × Steps folding_ask FoldingLeads KeepsLeases who before after old f (Stopped k) × (work ≡ Idle home)
+StepsFolding home who before after old work (Stopped k) = ⊥
 
 -- one step of what is at work: an opening or a commit has the bytes in hand that it is to put or send
-abbrev pub StepsAt : Caller → Counts → Counts → Option CloudState → Option CloudState → Work → Work → Turn Answer → Type 0
-StepsAt who c d s t (Opening m) work turn = IsSoundOpening m × StepsOpening who c d s t m work turn
-StepsAt who c d s t (Committing m) work turn = IsSoundCommit m × StepsCommit who c d s t m work turn
-StepsAt who c d s t (Folding home m) work turn = StepsFolding home who c d s t m work turn
-StepsAt who c d s t Closed work turn = ⊥
-StepsAt who c d s t (Idle home) work turn = ⊥
-StepsAt who c d s t Broken work turn = ⊥
+abbrev pub StepsAt : Caller → Seen → Seen → Work → Work → Turn Answer → Type 0
+StepsAt who before after (Opening m) work turn = IsSoundOpening m × StepsOpening who before after m work turn
+StepsAt who before after (Committing m) work turn = IsSoundCommit m × StepsCommit who before after m work turn
+StepsAt who before after (Folding home m) work turn = StepsFolding home who before after m work turn
+StepsAt who before after Closed work turn = ⊥
+StepsAt who before after (Idle home) work turn = ⊥
+StepsAt who before after Broken work turn = ⊥
 
 abbrev pub is_working : Work → Bool
 is_working (Opening m) = true
@@ -183,15 +188,24 @@ is_working (Idle home) = false
 is_working Broken = false
 
 -- one step of what is in hand; where nothing is at work it is refused and changes nothing
-abbrev pub StepsWork : Caller → Counts → Counts → Option CloudState → Option CloudState → Work → Work → Result (Turn Answer) Refused → Type 0
-StepsWork who c d s t old new (Ok turn) = StepsAt who c d s t old new turn
-StepsWork who c d s t old new (Err (refused.Rule r)) = (r ≡ rule.NotWorking) × (is_working old ≡ false) × (new ≡ old) × (c ≡ d) × (s ≡ t)
-StepsWork who c d s t old new (Err refused.Memory) = ⊥
+abbrev pub StepsWork : Caller → Seen → Seen → Work → Work → Result (Turn Answer) Refused → Type 0
+StepsWork who before after old new (Ok turn) = StepsAt who before after old new turn
+StepsWork who before after old new (Err (refused.Rule r)) = (r ≡ rule.NotWorking) × (is_working old ≡ false) × (new ≡ old) × (after ≡ before)
+StepsWork who before after old new (Err refused.Memory) = ⊥
 
 -- one step of a session: what it noted stays
-pub record StepsSession (who : Caller) (c d : Counts) (s t : Option CloudState) (old new : Acting) (result : Result (Turn Answer) Refused) : Type 0 where
+pub record StepsSession (who : Caller) (before after : Seen) (old new : Acting) (result : Result (Turn Answer) Refused) : Type 0 where
   pub buffer : new.buffer ≡ old.buffer
-  pub work : StepsWork who c d s t old.work new.work result
+  pub work : StepsWork who before after old.work new.work result
+
+-- how many calls the work has left at most
+abbrev pub calls_left : Work → ℕ
+calls_left (Opening m) = opening_left m
+calls_left (Committing m) = commit_left m
+calls_left (Folding home m) = folding_left m
+calls_left Closed = 0
+calls_left (Idle home) = 0
+calls_left Broken = 0
 
 -- the call in hand, where something is at work
 abbrev pub ask_of_work : Work → Option Ask

@@ -1,10 +1,11 @@
-ghost use Rattle.std.specs.Prelude.{◌≡◌, ℕ, ◌≤◌, [], length, IfOk, IfErr, OnOk, OnErr};
+ghost use Rattle.std.specs.Prelude.{◌≡◌, ℕ, ◌<◌, ◌≤◌, [], length, Ok, IfOk, IfErr, OnOk, OnErr};
 ghost use Rattle.std.specs.Option.{option_map, option_copied};
 ghost use Rattle.cloud_trait.specs.Call.{ask_of};
 ghost use Rattle.txn_buffer.specs.Noted.{noted_in};
-ghost use Rattle.recover_run.specs.Recovery.{home_of, IsSound as IsSoundOpening};
-ghost use Rattle.commit_run.specs.Commit.{IsSound as IsSoundCommit};
-ghost use Rattle.client_session.specs.Session.{CommitsOf, StepsWork, StepsOpening, StepsCommit, StepsFolding, opened_work, committed_work};
+ghost use Rattle.recover_run.specs.Recovery.{home_of, calls_left as opening_left, IsSound as IsSoundOpening};
+ghost use Rattle.commit_run.specs.Commit.{calls_left as commit_left, IsSound as IsSoundCommit};
+ghost use Rattle.tree_ckpt.specs.Folding.{calls_left as folding_left};
+ghost use Rattle.client_session.specs.Session.{TakesHome, CommitsOf, StepsWork, StepsOpening, StepsCommit, StepsFolding, calls_left, opened_work, committed_work};
 
 use cloud_trait::call::Call;
 use cloud_trait::cloud::Cloud;
@@ -181,16 +182,13 @@ impl Session {
         if self.buffer.is_empty() {
             return Ok(Begun::Answered(Answer::Commit(CommitAnswer::Committed { txn: 0 })));
         }
-        match mem::replace(&mut self.work, Work::Broken) {
-            Work::Idle(home) => {
+        match take_home(&mut self.work) {
+            Ok(home) => {
                 let (work, begun) = commit_of(alloc, home, self.buffer.take());
                 self.work = work;
                 Ok(begun)
             }
-            other => {
-                self.work = other;
-                Err(Refused::Rule(Refusal::NotOpen))
-            }
+            Err(rule) => Err(Refused::Rule(rule)),
         }
     }
 
@@ -198,18 +196,12 @@ impl Session {
     fn begin_tree(&mut self, alloc: Global, tree: TreeId) -> Result<Begun, Refused>
         ensures { BeginsTree tree self.old self.new result }
     {
-        if let Some(rule) = self.rule() {
-            return Err(Refused::Rule(rule));
-        }
-        match mem::replace(&mut self.work, Work::Broken) {
-            Work::Idle(home) => {
+        match take_home(&mut self.work) {
+            Ok(home) => {
                 self.work = Work::Folding(home, TreeCkpt::new(alloc, tree));
                 Ok(Begun::Working)
             }
-            other => {
-                self.work = other;
-                Err(Refused::Rule(Refusal::NotOpen))
-            }
+            Err(rule) => Err(Refused::Rule(rule)),
         }
     }
 
@@ -220,7 +212,8 @@ impl Session {
         cloud: &mut C,
         who: Who,
     ) -> Result<Turn<Answer>, Refused>
-        ensures { StepsSession who (C.counts cloud.old) (C.counts cloud.new) (C.state cloud.old) (C.state cloud.new) self.old self.new result }
+        ensures steps { StepsSession who (C.seen cloud.old) (C.seen cloud.new) self.old self.new result }
+        ensures less { result ≡ Ok Turn.More → calls_left self.new.work < calls_left self.old.work }
     {
         let work = mem::replace(&mut self.work, Work::Closed);
         let (work, turn) = step_work(alloc, cloud, who, work);
@@ -285,6 +278,32 @@ impl Session {
     }
 }
 
+/// Takes the home of an open client out of its work, for what begins. A refusal changes nothing.
+fn take_home(work: &mut Work) -> Result<Home, Refusal>
+    ensures { TakesHome work.old work.new result }
+{
+    match mem::replace(work, Work::Broken) {
+        Work::Idle(home) => Ok(home),
+        Work::Closed => {
+            *work = Work::Closed;
+            Err(Refusal::NotOpen)
+        }
+        Work::Broken => Err(Refusal::Broken),
+        Work::Opening(machine) => {
+            *work = Work::Opening(machine);
+            Err(Refusal::AtWork)
+        }
+        Work::Committing(machine) => {
+            *work = Work::Committing(machine);
+            Err(Refusal::AtWork)
+        }
+        Work::Folding(home, machine) => {
+            *work = Work::Folding(home, machine);
+            Err(Refusal::AtWork)
+        }
+    }
+}
+
 /// Begins the commit of changes by a home: what is in hand then.
 fn commit_of(alloc: Global, home: Home, changes: TxnBuffer) -> (Work, Begun)
     requires { 1 ≤ length changes }
@@ -308,7 +327,8 @@ fn step_work<C: Cloud>(
     who: Who,
     work: Work,
 ) -> (Work, Result<Turn<Answer>, Refused>)
-    ensures { StepsWork who (C.counts cloud.old) (C.counts cloud.new) (C.state cloud.old) (C.state cloud.new) work result.0 result.1 }
+    ensures steps { StepsWork who (C.seen cloud.old) (C.seen cloud.new) work result.0 result.1 }
+    ensures less { result.1 ≡ Ok Turn.More → calls_left result.0 < calls_left work }
 {
     match work {
         Work::Opening(machine) => {
@@ -334,7 +354,8 @@ fn step_opening<C: Cloud>(
     mut machine: RecoverRun,
 ) -> (Work, Turn<Answer>)
     ensures sound { IsSoundOpening machine }
-    ensures steps { StepsOpening who (C.counts cloud.old) (C.counts cloud.new) (C.state cloud.old) (C.state cloud.new) machine result.0 result.1 }
+    ensures steps { StepsOpening who (C.seen cloud.old) (C.seen cloud.new) machine result.0 result.1 }
+    ensures less { result.1 ≡ Turn.More → calls_left result.0 < opening_left machine }
 {
     match machine.step(alloc, cloud, who) {
         Turn::More => (Work::Opening(machine), Turn::More),
@@ -352,7 +373,8 @@ fn step_commit<C: Cloud>(
     mut machine: CommitRun,
 ) -> (Work, Turn<Answer>)
     ensures sound { IsSoundCommit machine }
-    ensures steps { StepsCommit who (C.counts cloud.old) (C.counts cloud.new) (C.state cloud.old) (C.state cloud.new) machine result.0 result.1 }
+    ensures steps { StepsCommit who (C.seen cloud.old) (C.seen cloud.new) machine result.0 result.1 }
+    ensures less { result.1 ≡ Turn.More → calls_left result.0 < commit_left machine }
 {
     match machine.step(alloc, cloud, who) {
         Turn::More => (Work::Committing(machine), Turn::More),
@@ -371,7 +393,8 @@ fn step_folding<C: Cloud>(
     home: Home,
     mut machine: TreeCkpt,
 ) -> (Work, Turn<Answer>)
-    ensures { StepsFolding home who (C.counts cloud.old) (C.counts cloud.new) (C.state cloud.old) (C.state cloud.new) machine result.0 result.1 }
+    ensures steps { StepsFolding home who (C.seen cloud.old) (C.seen cloud.new) machine result.0 result.1 }
+    ensures less { result.1 ≡ Turn.More → calls_left result.0 < folding_left machine }
 {
     match machine.step(alloc, cloud, who) {
         Turn::More => (Work::Folding(home, machine), Turn::More),

@@ -15,7 +15,7 @@ use Rattle.cloud_trait.specs.Caller.{Caller}
 use Rattle.cloud_trait.specs.Claim.{Claim}
 use Rattle.cloud_trait.specs.Names.{object_cmp}
 use Rattle.cloud_trait.specs.State.{CloudState, Counts, called, landed, newest, newest_of}
-use Rattle.cloud_trait.specs.Ask.{Ask, Get, GetHeld, PutHeld, Send, Receive, Delete, Take, Renew, Release, PutsNothing, effect}
+use Rattle.cloud_trait.specs.Ask.{Ask, Get, GetHeld, PutHeld, Send, Receive, Delete, Take, Renew, Release, Permits, PutsNothing, effect}
 use Rattle.cloud_trait.specs.Weather.{Leaves}
 use Rattle.cloud_trait.specs.Views.{done_of}
 use Rattle.cloud_trait.proofs.RowLemmas.{row_by, row_versions, leaves_upto}
@@ -67,9 +67,9 @@ quiet n lines a who ask answer c d x u l event nothing stands =
     nothing_more a.committed (committed lines b) _ (put_entries lines who ask) stands.committed (committed_effect lines who ask b placed) (quiet_entries lines who ask nothing) in
     record {
       trees = subst Trees (sym (row_versions who ask answer c d b l.after l.row nothing)) stands.trees;
-      placed = row_by Placed who ask answer c d b l.after l.row placed (placed_effect who ask b placed);
+      placed = row_by Placed who ask answer c d b l.after l.row placed (λ permits. placed_effect who ask b placed);
       upto = leaves_upto n who ask answer c d x u l event stands.upto;
-      committed = row_by Committed who ask answer c d b l.after l.row stands.committed there;
+      committed = row_by Committed who ask answer c d b l.after l.row stands.committed (λ permits. there);
     }
 
 -- where nothing is new, and where all is
@@ -87,7 +87,7 @@ is_new {X} p q y z e f = ap (λ b. cond (not b && q) y z) e ∙ ap (λ b. cond b
 -- what a landed put has with another audit, the call has with the audit that the looks before and after it tell
 pub put_by : (P : Audited → CloudState → Type 0) (a more : Audited) (who : Caller) (name : ObjName) (bytes : List ℕ) (one : Claim) (two : Option Claim)
     (answer : Answer) (c d : Counts) (x : CloudState) (u : Option CloudState) → (l : Leaves who (PutHeld name bytes one two) answer c d x u)
-    → ((has_bytes (newest x name) bytes ≡ false) ⊎ (more ≡ a)) → P a (called who l.after.now x) → P more (landed who name bytes (called who l.after.now x))
+    → ((has_bytes (newest x name) bytes ≡ false) ⊎ (more ≡ a)) → P a (called who l.after.now x) → (Permits (PutHeld name bytes one two) (called who l.after.now x) → P more (landed who name bytes (called who l.after.now x)))
     → P (cond (has_landed (newest x) (newest l.after) (Some (PutHeld name bytes one two))) more a) l.after
 put_by P a more who name bytes one two answer c d x u l new begun there =
     let ask : Ask = PutHeld name bytes one two in
@@ -98,7 +98,7 @@ put_by P a more who name bytes one two answer c d x u l new begun there =
     let e : has_bytes (newest (landed who name bytes b) name) bytes ≡ true = ap (λ v. has_bytes v bytes) (landed_newest who name bytes b) ∙ has_own_bytes bytes in
     let taken : cond (not p && has_bytes (newest (landed who name bytes b) name) bytes) more a ≡ more =
     on new (has_bytes (newest (landed who name bytes b) name) bytes) e in
-    row_by At who ask answer c d b l.after l.row same (subst (λ z. P z (landed who name bytes b)) (sym taken) there)
+    row_by At who ask answer c d b l.after l.row same (λ permits. subst (λ z. P z (landed who name bytes b)) (sym taken) (there permits))
   where
     on : ((has_bytes (newest x name) bytes ≡ false) ⊎ (more ≡ a)) → (q : Bool) → q ≡ true → cond (not (has_bytes (newest x name) bytes) && q) more a ≡ more
     on (inl differs) q f = is_new (has_bytes (newest x name) bytes) q more a differs f
@@ -116,7 +116,7 @@ put_keeps n lines a more who name bytes one two answer c d x u l event stands ne
     let ask : Ask = PutHeld name bytes one two in
     let b : CloudState = called who l.after.now x in
     let begun : CloudStands n lines a b = called_stands n lines a who l.after.now x stands in
-    put_by (λ z t. CloudStands n lines z t) a more who name bytes one two answer c d x u l new begun (record {
+    put_by (λ z t. CloudStands n lines z t) a more who name bytes one two answer c d x u l new begun (λ permits. record {
       trees = trees (newest (landed who name bytes b)) (landed_newest who name bytes b) (landed_other who name bytes b);
       placed = placed_effect who ask b begun.placed;
       upto = effect_upto n who ask b event begun.upto;

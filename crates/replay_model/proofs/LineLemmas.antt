@@ -4,7 +4,7 @@ use Rattle.std.specs.Prelude.{◌==◌}
 use Rattle.cloud_trait.specs.State.{CloudState, newest}
 use Rattle.event_text.specs.declared.event.Event.{Event}
 use Rattle.reply_text.specs.declared.reply.Reply.{Reply}
-use Rattle.client_session.specs.Session.{Acting, IsKept}
+use Rattle.client_session.specs.Session.{Acting}
 use Rattle.history.specs.Audited.{Audited}
 use Rattle.replay_meaning.specs.Standing.{Line, Standing, standing, after_line, after_own, session_of}
 use Rattle.replay_model.specs.Facts.{Knows, ActsAs, CloudStands, RecordsStand, IsFrontOf, Reported, Stands, GoesOn}
@@ -22,15 +22,15 @@ begins_line lines session a t s = record {
 
 -- a line that is through is one of the lines
 pub line_through : (lines : List Line) (line : Line) (session : Acting) (a : Audited) (t : CloudState) → CloudStands (length lines + 1) lines a t
-    → Knows (newest t) session.work → IsKept session.work → ActsAs session (after_line 1 (standing lines 1) line) → RecordsStand session a t → Reported lines a.order → IsFrontOf a.order line.reply → Stands (lines ++ line ∷ []) session a t
-line_through lines line session a t cloud knows kept acts records reported front = record {
+    → Knows (newest t) session.work → ActsAs session (after_line 1 (standing lines 1) line) → RecordsStand session a t → Reported lines a.order → IsFrontOf a.order line.reply → Stands (lines ++ line ∷ []) session a t
+line_through lines line session a t cloud knows acts records reported front = record {
   cloud = record {
     trees = cloud.trees;
     placed = cloud.placed;
     upto = upto_more (length lines + 1) (length (lines ++ line ∷ [])) t (omega (arith, length-append lines (line ∷ []))) cloud.upto;
     committed = cloud.committed ∙ sym (committed_line lines line t cloud.upto.trace);
   };
-  session = record { knows = knows; kept = kept; acts = subst (λ z. ActsAs session z) (sym (standing_line lines line 1)) acts };
+  session = record { knows = knows; acts = subst (λ z. ActsAs session z) (sym (standing_line lines line 1)) acts };
   records = records;
   reported = reported_line lines line a.order reported front;
 }

@@ -75,7 +75,7 @@ page_leaves : (who : Caller) (answer : Answer) (c d : Counts) (x : CloudState) (
 page_leaves who answer c d x u f (Some k) l =
     row_by (λ (t : CloudState). ((client : ℕ) → (tally_of t).cursor f.tree client ≡ (tally_of x).cursor f.tree client) × ((tally_of t).posts f.tree ≡ (tally_of x).posts f.tree))
     who (PutHeld (object.Page f.tree 1) f.out k f.page_lease) answer c d (called who l.after.now x) l.after l.row (λ client. refl, refl)
-    (λ client. ap (λ b. number_of (root_at b).cursor client) (landed_other who (object.Page f.tree 1) f.out (called who l.after.now x) (object.Tree f.tree) refl), refl)
+    (λ permits. (λ client. ap (λ b. number_of (root_at b).cursor client) (landed_other who (object.Page f.tree 1) f.out (called who l.after.now x) (object.Tree f.tree) refl), refl))
 page_leaves who answer c d x u f None l =
     let same : tally_of l.after ≡ tally_of x = quiet_tally who _ answer c d x u l tt tt in
     (λ client. ap (λ (t : Tally). t.cursor f.tree client) same, ap (λ (t : Tally). t.posts f.tree) same)
@@ -106,7 +106,7 @@ root_leaves : (who : Caller) (answer : Answer) (c d : Counts) (x : CloudState) (
 root_leaves who answer c d x u f (Some k) l =
     row_by (λ (t : CloudState). ((client : ℕ) → (tally_of t).done f.tree client ≡ (tally_of x).done f.tree client) × ((tally_of t).posts f.tree ≡ (tally_of x).posts f.tree))
     who (PutHeld (object.Tree f.tree) f.out k None) answer c d (called who l.after.now x) l.after l.row (λ client. refl, refl)
-    (λ client. ap (λ b. done_number (leaf_at b).done 0 client) (landed_other who (object.Tree f.tree) f.out (called who l.after.now x) (object.Page f.tree 1) refl), refl)
+    (λ permits. (λ client. ap (λ b. done_number (leaf_at b).done 0 client) (landed_other who (object.Tree f.tree) f.out (called who l.after.now x) (object.Page f.tree 1) refl), refl))
 root_leaves who answer c d x u f None l =
     let same : tally_of l.after ≡ tally_of x = quiet_tally who _ answer c d x u l tt tt in
     (λ client. ap (λ (t : Tally). t.done f.tree client) same, ap (λ (t : Tally). t.posts f.tree) same)
@@ -131,7 +131,7 @@ deletion_leaves who answer c d x u f (id ∷ ids) l = (id, left.0, left.1)
         row_by (λ (t : CloudState). ((client : ℕ) → (tally_of t).done f.tree client ≡ (tally_of x).done f.tree client)
         × (((tally_of t).posts f.tree ≡ (tally_of x).posts f.tree) ⊎ ((tally_of t).posts f.tree ≡ marked ((tally_of x).posts f.tree) id)))
         who (Delete (TreePu f.tree) id) answer c d b l.after l.row (λ client. refl, inl refl)
-        (λ client. refl, inr (put_at_same queue_cmp queue_cmp-total b.messages (TreePu f.tree) (marked (b.messages (TreePu f.tree)) id)))
+        (λ permits. (λ client. refl, inr (put_at_same queue_cmp queue_cmp-total b.messages (TreePu f.tree) (marked (b.messages (TreePu f.tree)) id))))
 
 -- ---- each call
 

@@ -56,7 +56,7 @@ pub opening_records : (a : Audited) (who : Caller) (answer : Answer) (c d : Coun
     → (l : Leaves who (opening_ask stage lease r) answer c d x u) → Recorded a x → IsClient r.client → OpeningKnownAt stage (tally_of x) r → IsSoundOpening stage r
     → Recorded (cond (has_landed (newest x) (newest l.after) (Some (opening_ask stage lease r))) (noted_at (Opening r) (opening_ask stage lease r) a) a) l.after
 opening_records a who answer c d x u r opening.Putting (Some k) l h is known sound =
-    put_by Recorded a a who (object.Head r.client) r.out k None answer c d x u l (inr refl) h (opening_holds who r k (called who l.after.now x) a.committed a.order h is known sound.1)
+    put_by Recorded a a who (object.Head r.client) r.out k None answer c d x u l (inr refl) h (λ permits. opening_holds who r k (called who l.after.now x) a.committed a.order h is known sound.1)
 opening_records a who answer c d x u r opening.Putting None l h is known sound = quiet_records a who _ answer c d x u l tt tt h
 opening_records a who answer c d x u r opening.Taking lease l h is known sound = quiet_records a who _ answer c d x u l tt tt h
 opening_records a who answer c d x u r opening.Getting (Some k) l h is known sound = quiet_records a who _ answer c d x u l tt tt h
@@ -76,7 +76,7 @@ sends_records : (a : Audited) (who : Caller) (answer : Answer) (c d : Counts) (x
     → Recorded (cond (has_landed (newest x) (newest l.after) (Some (send_ask m o))) (noted_at (Committing (at_stage commit.Sending m)) (send_ask m o) a) a) l.after
 sends_records a who answer c d x u m (Some r) there l h known sound =
     row_by (Recorded a) who (send_ask m (Some r)) answer c d (called who l.after.now x) l.after l.row h
-    (sending_holds who m r (called who l.after.now x) a.committed a.order h known.own there sound)
+    (λ permits. sending_holds who m r (called who l.after.now x) a.committed a.order h known.own there sound)
 sends_records a who answer c d x u m None there l h known sound = absurd sound
 
 pub commit_records : (a : Audited) (who : Caller) (answer : Answer) (c d : Counts) (x : CloudState) (u : Option CloudState) (m : Commit) (stage : CommitStage)
@@ -84,11 +84,11 @@ pub commit_records : (a : Audited) (who : Caller) (answer : Answer) (c d : Count
     → Recorded (cond (has_landed (newest x) (newest l.after) (Some (commit_ask stage m))) (noted_at (Committing (at_stage stage m)) (commit_ask stage m) a) a) l.after
 commit_records a who answer c d x u m commit.PuttingOpen l h is known stands sound =
     put_by Recorded a (record a { committed = a.committed ++ commits m }) who (object.Head m.home.client) m.out m.home.lease None answer c d x u l (inl (head_differs (newest x) m stands sound)) h
-    (opening_commits who m (called who l.after.now x) a.committed a.order h is known sound)
+    (λ permits. opening_commits who m (called who l.after.now x) a.committed a.order h is known sound)
 commit_records a who answer c d x u m commit.Sending l h is known stands sound = sends_records a who answer c d x u m (slice_get m.records m.sent) refl l h known sound
 commit_records a who answer c d x u m commit.PuttingSettled l h is known stands sound =
     put_by Recorded a a who (object.Head m.home.client) m.out m.home.lease None answer c d x u l (inr refl) h
-    (settling_holds who m (called who l.after.now x) a.committed a.order h is known sound)
+    (λ permits. settling_holds who m (called who l.after.now x) a.committed a.order h is known sound)
 commit_records a who answer c d x u m commit.Ready l h is known stands sound = absurd known
 commit_records a who answer c d x u m commit.Finished l h is known stands sound = absurd known
 
@@ -124,7 +124,7 @@ delete_records : (a : Audited) (who : Caller) (answer : Answer) (c d : Counts) (
 delete_records a who answer c d x u f [] l h done covered = quiet_records a who _ answer c d x u l tt tt h
 delete_records a who answer c d x u f (id ∷ ids) l h done covered =
     row_by (Recorded a) who (Delete (TreePu f.tree) id) answer c d (called who l.after.now x) l.after l.row h
-    (deleted_holds f.tree id (called who l.after.now x) a.committed a.order (number_of f.run.top) h covered.0 done)
+    (λ permits. deleted_holds f.tree id (called who l.after.now x) a.committed a.order (number_of f.run.top) h covered.0 done)
 
 applies_records : (a : Audited) (who : Caller) (answer : Answer) (c d : Counts) (x : CloudState) (u : Option CloudState) (home : Home) (f : Folding) (lease : Option Claim)
     → (l : Leaves who (under_tree f lease (λ k. PutHeld (object.Page f.tree 1) f.out k f.page_lease)) answer c d x u) → Recorded a x → HasRun (tally_of x) a.committed f → AppliesRun (newest x) f
@@ -132,7 +132,7 @@ applies_records : (a : Audited) (who : Caller) (answer : Answer) (c d : Counts) 
     (noted_at (AtFolding home f) (under_tree f lease (λ k. PutHeld (object.Page f.tree 1) f.out k f.page_lease)) a) a) l.after
 applies_records a who answer c d x u home f (Some k) l h run applies =
     put_by Recorded a (record a { order = a.order ++ map (applied_entry f.tree) f.applying }) who (object.Page f.tree 1) f.out k f.page_lease answer c d x u l (inl (leaf_differs (newest x) f applies)) h
-    (applying_holds who f (called who l.after.now x) a.committed a.order h run (puts_leaf (called who l.after.now x) f applies))
+    (λ permits. applying_holds who f (called who l.after.now x) a.committed a.order h run (puts_leaf (called who l.after.now x) f applies))
 applies_records a who answer c d x u home f None l h run applies = quiet_records a who _ answer c d x u l tt tt h
 
 raises_records : (a : Audited) (who : Caller) (answer : Answer) (c d : Counts) (x : CloudState) (u : Option CloudState) (home : Home) (f : Folding) (lease : Option Claim)
@@ -141,7 +141,7 @@ raises_records : (a : Audited) (who : Caller) (answer : Answer) (c d : Counts) (
     (noted_at (AtFolding home f) (under_tree f lease (λ k. PutHeld (object.Tree f.tree) f.out k None)) a) a) l.after
 raises_records a who answer c d x u home f (Some k) l h puts =
     put_by Recorded a a who (object.Tree f.tree) f.out k None answer c d x u l (inr refl) h
-    (root_holds who f.tree f.out puts.root (called who l.after.now x) a.committed a.order h puts.puts puts.within)
+    (λ permits. root_holds who f.tree f.out puts.root (called who l.after.now x) a.committed a.order h puts.puts puts.within)
 raises_records a who answer c d x u home f None l h puts = quiet_records a who _ answer c d x u l tt tt h
 
 -- a call that puts nothing leaves the audit

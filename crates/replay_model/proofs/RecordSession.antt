@@ -13,6 +13,7 @@ use Rattle.recover_run.specs.declared.recover.RecoverAnswer.TheVariants.{Opened}
 use Rattle.cloud_trait.specs.Ask.{Ask, Get, GetHeld, PutHeld, Send, Receive, Delete, Take, Renew, Release}
 use Rattle.cloud_trait.specs.Caller.{Caller}
 use Rattle.cloud_trait.specs.State.{CloudState, Counts, newest}
+use Rattle.cloud_trait.specs.Seen.{Seen}
 use Rattle.cloud_trait.specs.Weather.{Leaves}
 use Rattle.cloud_trait.specs.declared.turn.Turn.TheVariants.{More, Ended}
 use Rattle.recover_run.specs.declared.home.Home.{Home}
@@ -23,7 +24,7 @@ use Rattle.client_session.specs.declared.session.Answer.{Answer}
 use Rattle.client_session.specs.declared.session.Answer.TheVariants as answer
 use Rattle.client_session.specs.declared.session.Work.{Work}
 use Rattle.client_session.specs.declared.session.Work.TheVariants.{Closed, Idle, Opening, Committing, Folding, Broken}
-use Rattle.client_session.specs.Session.{Acting, IsKept, StepsSession, StepsWork, opened_work}
+use Rattle.client_session.specs.Session.{Acting, StepsSession, StepsAt, opened_work}
 use Rattle.history.specs.Audited.{Audited}
 use Rattle.record_facts.specs.Tally.{Tally, tally_of}
 use Rattle.record_facts.specs.Known.{MayCommit, OpeningKnownAt, CommitKnown, FoldingKnown}
@@ -66,43 +67,43 @@ folding_committed home f ask a false = refl
 
 -- ---- a step that goes on
 
-goes_left : (who : Caller) (c d : Counts) (x : CloudState) (t u : Option CloudState) (w : Work) (new : Acting) (a b : Audited) → t ≡ Some x
-    → Recorded a x → RecordsKnown (tally_of x) a.committed w → Knows (newest x) w → IsKept w
-    → StepsWork who c d t u w new More → ((y : CloudState) → u ≡ Some y → b ≡ audited (newest x) (newest y) w a) → Left b new.work u
-goes_left who c d x t u (Opening m) new a b told h known knows kept p audit =
-    let l : Leaves who (recovery_ask m) p.1.answer c d x u = p.1.made.state x told in (
+goes_left : (who : Caller) (before after : Seen) (x : CloudState) (w : Work) (new : Acting) (a b : Audited) → before.state ≡ Some x
+    → Recorded a x → RecordsKnown (tally_of x) a.committed w → Knows (newest x) w
+    → StepsAt who before after w new.work More → ((y : CloudState) → after.state ≡ Some y → b ≡ audited (newest x) (newest y) w a) → Left b new.work after.state
+goes_left who before after x (Opening m) new a b told h known knows (sound, p) audit =
+    let l : Leaves who (recovery_ask m) p.1.answer before.counts after.counts x after.state = p.1.made.state x told in (
       l.after,
       l.told,
-      subst (λ z. Recorded z l.after) (sym (audit l.after l.told)) (opening_records a who p.1.answer c d x u m m.stage m.lease l h known.client known.at kept),
-      subst (λ w. RecordsKnown (tally_of l.after) b.committed w) (sym p.2) (opening_knows who p.1.answer c d x u m p.0 l p.1.made.fits known.client p.1.took),
+      subst (λ z. Recorded z l.after) (sym (audit l.after l.told)) (opening_records a who p.1.answer before.counts after.counts x after.state m m.stage m.lease l h known.client known.at sound),
+      subst (λ w. RecordsKnown (tally_of l.after) b.committed w) (sym p.2) (opening_knows who p.1.answer before.counts after.counts x after.state m p.0 l p.1.made.fits known.client p.1.took),
     )
-goes_left who c d x t u (Committing m) new a b told h known knows kept p audit =
-    let l : Leaves who (commit_ask m) p.1.answer c d x u = p.1.made.state x told in (
+goes_left who before after x (Committing m) new a b told h known knows (sound, p) audit =
+    let l : Leaves who (commit_ask m) p.1.answer before.counts after.counts x after.state = p.1.made.state x told in (
       l.after,
       l.told,
-      subst (λ z. Recorded z l.after) (sym (audit l.after l.told)) (commit_records a who p.1.answer c d x u m m.stage l h known.client known.at knows kept),
+      subst (λ z. Recorded z l.after) (sym (audit l.after l.told)) (commit_records a who p.1.answer before.counts after.counts x after.state m m.stage l h known.client known.at knows sound),
       subst (λ w. RecordsKnown (tally_of l.after) b.committed w) (sym p.2)
-          (subst (λ (z : Audited). CommitKnown (tally_of l.after) z.committed p.0) (sym (audit l.after l.told)) (commit_knows a who p.1.answer c d x u m p.0 m.stage l h known.client known.at knows kept p.1.took)),
+          (subst (λ (z : Audited). CommitKnown (tally_of l.after) z.committed p.0) (sym (audit l.after l.told)) (commit_knows a who p.1.answer before.counts after.counts x after.state m p.0 m.stage l h known.client known.at knows sound p.1.took)),
     )
-goes_left who c d x t u (Folding home f) new a b told h known knows kept p audit =
-    let l : Leaves who (folding_ask f) p.1.answer c d x u = p.1.made.state x told in
+goes_left who before after x (Folding home f) new a b told h known knows p audit =
+    let l : Leaves who (folding_ask f) p.1.answer before.counts after.counts x after.state = p.1.made.state x told in
     let same : b.committed ≡ a.committed =
     ap (λ (z : Audited). z.committed) (audit l.after l.told) ∙ folding_committed home f (folding_ask f) a (has_landed (newest x) (newest l.after) (Some (folding_ask f))) in (
       l.after,
       l.told,
-      subst (λ z. Recorded z l.after) (sym (audit l.after l.told)) (folding_records a who p.1.answer c d x u home f f.stage l h known.1 knows.1.puts),
+      subst (λ z. Recorded z l.after) (sym (audit l.after l.told)) (folding_records a who p.1.answer before.counts after.counts x after.state home f f.stage l h known.1 knows.1.puts),
       subst (λ w. RecordsKnown (tally_of l.after) b.committed w) (sym p.2)
-          (known.0, subst (λ es. FoldingKnown (tally_of l.after) es p.0) (sym same) (folding_knows a who p.1.answer c d x u f p.0 f.stage l p.1.made.fits h known.1 knows.1.puts p.1.took)),
+          (known.0, subst (λ es. FoldingKnown (tally_of l.after) es p.0) (sym same) (folding_knows a who p.1.answer before.counts after.counts x after.state f p.0 f.stage l p.1.made.fits h known.1 knows.1.puts p.1.took)),
     )
-goes_left who c d x t u Closed new a b told h known knows kept p audit = absurd p
-goes_left who c d x t u (Idle home) new a b told h known knows kept p audit = absurd p
-goes_left who c d x t u Broken new a b told h known knows kept p audit = absurd p
+goes_left who before after x Closed new a b told h known knows p audit = absurd p
+goes_left who before after x (Idle home) new a b told h known knows p audit = absurd p
+goes_left who before after x Broken new a b told h known knows p audit = absurd p
 
-pub records_go : (who : Caller) (c d : Counts) (x : CloudState) (t u : Option CloudState) (old new : Acting) (a b : Audited) → t ≡ Some x → RecordsStand old a x → Knows (newest x) old.work → IsKept old.work
-    → StepsSession who c d t u old new (Ok More) → ((y : CloudState) → u ≡ Some y → b ≡ audited (newest x) (newest y) old.work a) → (y : CloudState) → u ≡ Some y → RecordsStand new b y
-records_go who c d x t u old new a b told stand knows kept p audit y after =
-    let k = left_of b new u y (goes_left who c d x t u old.work new a b told stand.hold stand.known knows kept p.1 audit) after in
-    record { hold = k.0; known = k.1; buffer = subst MayCommit (sym p.0) stand.buffer }
+pub records_go : (who : Caller) (before after : Seen) (x : CloudState) (old new : Acting) (a b : Audited) → before.state ≡ Some x → RecordsStand old a x → Knows (newest x) old.work
+    → StepsSession who before after old new (Ok More) → ((y : CloudState) → after.state ≡ Some y → b ≡ audited (newest x) (newest y) old.work a) → (y : CloudState) → after.state ≡ Some y → RecordsStand new b y
+records_go who before after x old new a b told stand knows p audit y told_after =
+    let k = left_of b new after.state y (goes_left who before after x old.work new a b told stand.hold stand.known knows p.work audit) told_after in
+    record { hold = k.0; known = k.1; buffer = subst MayCommit (sym p.buffer) stand.buffer }
 
 -- ---- a step that ends
 
@@ -122,50 +123,50 @@ opened_known : (t u : Tally) (es : List Entry) (m new : Recovery) (stage : Stage
 opened_known t u es m new stage k epoch (Some home) is known e at = opening_home t m new stage k epoch home is known e at
 opened_known t u es m new stage k epoch None is known e at = tt
 
-ends_left : (who : Caller) (c d : Counts) (x : CloudState) (t u : Option CloudState) (w : Work) (new : Acting) (a b : Audited) (ans : Answer) (r : Reply) → t ≡ Some x
-    → Recorded a x → RecordsKnown (tally_of x) a.committed w → Knows (newest x) w → IsKept w
-    → StepsWork who c d t u w new (Ended ans) → IsReplyTo ans r → ((y : CloudState) → u ≡ Some y → b ≡ audited (newest x) (newest y) w a) → Left b new.work u
-ends_left who c d x t u (Opening m) new a b (answer.Opened epoch) r told h known knows kept p is audit =
-    let l : Leaves who (recovery_ask m) p.1.answer c d x u = p.1.made.state x told in (
+ends_left : (who : Caller) (before after : Seen) (x : CloudState) (w : Work) (new : Acting) (a b : Audited) (ans : Answer) (r : Reply) → before.state ≡ Some x
+    → Recorded a x → RecordsKnown (tally_of x) a.committed w → Knows (newest x) w
+    → StepsAt who before after w new.work (Ended ans) → IsReplyTo ans r → ((y : CloudState) → after.state ≡ Some y → b ≡ audited (newest x) (newest y) w a) → Left b new.work after.state
+ends_left who before after x (Opening m) new a b (answer.Opened epoch) r told h known knows (sound, p) is audit =
+    let l : Leaves who (recovery_ask m) p.1.answer before.counts after.counts x after.state = p.1.made.state x told in (
       l.after,
       l.told,
-      subst (λ z. Recorded z l.after) (sym (audit l.after l.told)) (opening_records a who p.1.answer c d x u m m.stage m.lease l h known.client known.at kept),
+      subst (λ z. Recorded z l.after) (sym (audit l.after l.told)) (opening_records a who p.1.answer before.counts after.counts x after.state m m.stage m.lease l h known.client known.at sound),
       subst (λ w. RecordsKnown (tally_of l.after) b.committed w) (sym p.2)
           (opened_known (tally_of x) (tally_of l.after) b.committed m p.0 m.stage p.1.answer epoch (home_of p.0) known.client known.at p.1.took refl),
     )
-ends_left who c d x t u (Committing m) new a b (answer.Commit (Committed txn)) r told h known knows kept p is audit =
-    let l : Leaves who (commit_ask m) p.1.answer c d x u = p.1.made.state x told in (
+ends_left who before after x (Committing m) new a b (answer.Commit (Committed txn)) r told h known knows (sound, p) is audit =
+    let l : Leaves who (commit_ask m) p.1.answer before.counts after.counts x after.state = p.1.made.state x told in (
       l.after,
       l.told,
-      subst (λ z. Recorded z l.after) (sym (audit l.after l.told)) (commit_records a who p.1.answer c d x u m m.stage l h known.client known.at knows kept),
+      subst (λ z. Recorded z l.after) (sym (audit l.after l.told)) (commit_records a who p.1.answer before.counts after.counts x after.state m m.stage l h known.client known.at knows sound),
       subst (λ w. RecordsKnown (tally_of l.after) b.committed w) (sym p.2) (commit_home (tally_of x) a.committed m p.0 m.stage p.1.answer txn known.client known.at p.1.took),
     )
-ends_left who c d x t u (Folding own f) new a b (answer.Done n) r told h known knows kept p is audit =
-    let l : Leaves who (folding_ask f) p.1.answer c d x u = p.1.made.state x told in (
+ends_left who before after x (Folding own f) new a b (answer.Done n) r told h known knows p is audit =
+    let l : Leaves who (folding_ask f) p.1.answer before.counts after.counts x after.state = p.1.made.state x told in (
       l.after,
       l.told,
-      subst (λ z. Recorded z l.after) (sym (audit l.after l.told)) (folding_records a who p.1.answer c d x u own f f.stage l h known.1 knows.1.puts),
+      subst (λ z. Recorded z l.after) (sym (audit l.after l.told)) (folding_records a who p.1.answer before.counts after.counts x after.state own f f.stage l h known.1 knows.1.puts),
       subst (λ w. RecordsKnown (tally_of l.after) b.committed w) (sym p.2) known.0,
     )
-ends_left who c d x t u (Opening m) new a b (answer.Commit k) r told h known knows kept p is audit = absurd p
-ends_left who c d x t u (Opening m) new a b (answer.Done n) r told h known knows kept p is audit = absurd p
-ends_left who c d x t u (Opening m) new a b (answer.Trouble k) r told h known knows kept p is audit = absurd is
-ends_left who c d x t u (Committing m) new a b (answer.Commit (NotCommitted k)) r told h known knows kept p is audit = absurd is
-ends_left who c d x t u (Committing m) new a b (answer.Commit InDoubt) r told h known knows kept p is audit = absurd is
-ends_left who c d x t u (Committing m) new a b (answer.Commit (CommittedOpen k)) r told h known knows kept p is audit = absurd is
-ends_left who c d x t u (Committing m) new a b (answer.Opened epoch) r told h known knows kept p is audit = absurd p
-ends_left who c d x t u (Committing m) new a b (answer.Done n) r told h known knows kept p is audit = absurd p
-ends_left who c d x t u (Committing m) new a b (answer.Trouble k) r told h known knows kept p is audit = absurd is
-ends_left who c d x t u (Folding own f) new a b (answer.Opened epoch) r told h known knows kept p is audit = absurd p
-ends_left who c d x t u (Folding own f) new a b (answer.Commit k) r told h known knows kept p is audit = absurd p
-ends_left who c d x t u (Folding own f) new a b (answer.Trouble k) r told h known knows kept p is audit = absurd is
-ends_left who c d x t u Closed new a b ans r told h known knows kept p is audit = absurd p
-ends_left who c d x t u (Idle own) new a b ans r told h known knows kept p is audit = absurd p
-ends_left who c d x t u Broken new a b ans r told h known knows kept p is audit = absurd p
+ends_left who before after x (Opening m) new a b (answer.Commit k) r told h known knows p is audit = absurd p.1
+ends_left who before after x (Opening m) new a b (answer.Done n) r told h known knows p is audit = absurd p.1
+ends_left who before after x (Opening m) new a b (answer.Trouble k) r told h known knows p is audit = absurd is
+ends_left who before after x (Committing m) new a b (answer.Commit (NotCommitted k)) r told h known knows p is audit = absurd is
+ends_left who before after x (Committing m) new a b (answer.Commit InDoubt) r told h known knows p is audit = absurd is
+ends_left who before after x (Committing m) new a b (answer.Commit (CommittedOpen k)) r told h known knows p is audit = absurd is
+ends_left who before after x (Committing m) new a b (answer.Opened epoch) r told h known knows p is audit = absurd p.1
+ends_left who before after x (Committing m) new a b (answer.Done n) r told h known knows p is audit = absurd p.1
+ends_left who before after x (Committing m) new a b (answer.Trouble k) r told h known knows p is audit = absurd is
+ends_left who before after x (Folding own f) new a b (answer.Opened epoch) r told h known knows p is audit = absurd p
+ends_left who before after x (Folding own f) new a b (answer.Commit k) r told h known knows p is audit = absurd p
+ends_left who before after x (Folding own f) new a b (answer.Trouble k) r told h known knows p is audit = absurd is
+ends_left who before after x Closed new a b ans r told h known knows p is audit = absurd p
+ends_left who before after x (Idle own) new a b ans r told h known knows p is audit = absurd p
+ends_left who before after x Broken new a b ans r told h known knows p is audit = absurd p
 
-pub records_end : (who : Caller) (c d : Counts) (x : CloudState) (t u : Option CloudState) (old new : Acting) (a b : Audited) (ans : Answer) (r : Reply) → t ≡ Some x → RecordsStand old a x → Knows (newest x) old.work
-    → IsKept old.work → StepsSession who c d t u old new (Ok (Ended ans)) → IsReplyTo ans r → ((y : CloudState) → u ≡ Some y → b ≡ audited (newest x) (newest y) old.work a) → (y : CloudState) → u ≡ Some y
+pub records_end : (who : Caller) (before after : Seen) (x : CloudState) (old new : Acting) (a b : Audited) (ans : Answer) (r : Reply) → before.state ≡ Some x → RecordsStand old a x → Knows (newest x) old.work
+    → StepsSession who before after old new (Ok (Ended ans)) → IsReplyTo ans r → ((y : CloudState) → after.state ≡ Some y → b ≡ audited (newest x) (newest y) old.work a) → (y : CloudState) → after.state ≡ Some y
     → RecordsStand new b y
-records_end who c d x t u old new a b ans r told stand knows kept p is audit y after =
-    let k = left_of b new u y (ends_left who c d x t u old.work new a b ans r told stand.hold stand.known knows kept p.1 is audit) after in
-    record { hold = k.0; known = k.1; buffer = subst MayCommit (sym p.0) stand.buffer }
+records_end who before after x old new a b ans r told stand knows p is audit y told_after =
+    let k = left_of b new after.state y (ends_left who before after x old.work new a b ans r told stand.hold stand.known knows p.work is audit) told_after in
+    record { hold = k.0; known = k.1; buffer = subst MayCommit (sym p.buffer) stand.buffer }

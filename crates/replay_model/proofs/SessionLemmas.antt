@@ -13,6 +13,7 @@ use Rattle.cloud_trait.specs.Claim.{Claim}
 use Rattle.cloud_trait.specs.Growth.{BeginsWith}
 use Rattle.cloud_trait.specs.Names.{object_cmp}
 use Rattle.cloud_trait.specs.State.{CloudState, Counts, called, newest, newest_of}
+use Rattle.cloud_trait.specs.Seen.{Seen}
 use Rattle.cloud_trait.specs.Views.{got_of}
 use Rattle.cloud_trait.specs.Weather.{Fits, Leaves}
 use Rattle.cloud_trait.proofs.EffectLemmas.{effect_versions}
@@ -31,7 +32,7 @@ use Rattle.client_session.specs.declared.session.Answer.{Answer}
 use Rattle.client_session.specs.declared.session.Answer.TheVariants as answer
 use Rattle.client_session.specs.declared.session.Work.{Work}
 use Rattle.client_session.specs.declared.session.Work.TheVariants.{Closed, Idle, Opening, Committing, Folding, Broken}
-use Rattle.client_session.specs.Session.{Acting, IsKept, StepsSession, StepsWork, opened_work}
+use Rattle.client_session.specs.Session.{Acting, StepsSession, StepsAt, opened_work}
 use Rattle.history.specs.Audited.{Audited}
 use Rattle.replay_meaning.specs.Standing.{Line, Standing, Posture, Working, Idle as Idled, Opening as OpeningTask, Committing as Noted, Folding as FoldingTree, standing, steps, answered, idle}
 use Rattle.replay_meaning.specs.Committed.{changes_at, entries_of_bytes}
@@ -73,7 +74,7 @@ effect_misses who name (Release l) b h = ap (λ vs. newest_of (vs name)) (effect
 untouched : (who : Caller) (name : ObjName) (ask : Ask) (a : CallAnswer) (c d : Counts) (x : CloudState) (u : Option CloudState) (l : Leaves who ask a c d x u) → Misses name ask → newest l.after name ≡ newest x name
 untouched who name ask a c d x u l h =
     let b : CloudState = called who l.after.now x in
-    row_by (λ t. newest t name ≡ newest x name) who ask a c d b l.after l.row refl (effect_misses who name ask b h)
+    row_by (λ t. newest t name ≡ newest x name) who ask a c d b l.after l.row refl (λ permits. effect_misses who name ask b h)
 
 -- a checkpoint touches no head
 under_tree_misses : (client : ℕ) (f : Fold) (lease : Option Claim) (ask : Claim → Ask) → ((k : Claim) → Misses (object.Head client) (ask k)) → Misses (object.Head client) (under_tree f lease ask)
@@ -145,63 +146,63 @@ commits_noted lines who m s session event is acts = record {
 abbrev Kept : List Line → ℕ → Audited → Work → Standing → Option CloudState → Type 0
 Kept lines n b work s u = (y : CloudState) × (u ≡ Some y) × CloudStands n lines b y × Knows (newest y) work × WorksAs work s
 
-goes_work : (lines : List Line) (who : Caller) (c d : Counts) (x : CloudState) (t u : Option CloudState) (w : Work) (new : Acting) (a b : Audited)
-    → who.session ≡ 1 → who.event ≡ length lines + 1 → t ≡ Some x
-    → CloudStands (length lines + 1) lines a x → Knows (newest x) w → IsKept w → WorksAs w (standing lines 1)
-    → StepsWork who c d t u w new More → ((y : CloudState) → u ≡ Some y → b ≡ audited (newest x) (newest y) w a)
-    → Kept lines (length lines + 1) b new.work (standing lines 1) u
-goes_work lines who c d x t u (Opening m) new a b session event told cloud knows kept acts p audit =
-    let l : Leaves who (recovery_ask m) p.1.answer c d x u = p.1.made.state x told in
+goes_work : (lines : List Line) (who : Caller) (before after : Seen) (x : CloudState) (w : Work) (new : Acting) (a b : Audited)
+    → who.session ≡ 1 → who.event ≡ length lines + 1 → before.state ≡ Some x
+    → CloudStands (length lines + 1) lines a x → Knows (newest x) w → WorksAs w (standing lines 1)
+    → StepsAt who before after w new.work More → ((y : CloudState) → after.state ≡ Some y → b ≡ audited (newest x) (newest y) w a)
+    → Kept lines (length lines + 1) b new.work (standing lines 1) after.state
+goes_work lines who before after x (Opening m) new a b session event told cloud knows acts (sound, p) audit =
+    let l : Leaves who (recovery_ask m) p.1.answer before.counts after.counts x after.state = p.1.made.state x told in
     let goes = opening_goes m p.0 m.stage p.1.answer p.1.took in
-    let after : CloudStands (length lines + 1) lines (audited (newest x) (newest l.after) (Opening m) a) l.after =
-    opening_cloud (length lines + 1) lines a who p.1.answer c d x u m m.stage m.lease l (omega arith) cloud knows kept in (
+    let stood : CloudStands (length lines + 1) lines (audited (newest x) (newest l.after) (Opening m) a) l.after =
+    opening_cloud (length lines + 1) lines a who p.1.answer before.counts after.counts x after.state m m.stage m.lease l (omega arith) cloud knows sound in (
       l.after,
       l.told,
-      subst (λ z. CloudStands (length lines + 1) lines z l.after) (sym (audit l.after l.told)) after,
+      subst (λ z. CloudStands (length lines + 1) lines z l.after) (sym (audit l.after l.told)) stood,
       subst (λ w. Knows (newest l.after) w) (sym p.2) goes.stands,
       subst (λ w. WorksAs w (standing lines 1)) (sym p.2) (acts.0, acts.1 ∙ sym goes.client),
     )
-goes_work lines who c d x t u (Committing m) new a b session event told cloud knows kept acts p audit =
-    let l : Leaves who (commit_ask m) p.1.answer c d x u = p.1.made.state x told in
+goes_work lines who before after x (Committing m) new a b session event told cloud knows acts (sound, p) audit =
+    let l : Leaves who (commit_ask m) p.1.answer before.counts after.counts x after.state = p.1.made.state x told in
     let goes = commit_goes m p.0 m.stage p.1.answer p.1.took in
-    let after : CloudStands (length lines + 1) lines (audited (newest x) (newest l.after) (Committing m) a) l.after =
-    commit_cloud (length lines + 1) lines a who p.1.answer c d x u m m.stage l (omega arith) cloud knows kept
+    let stood : CloudStands (length lines + 1) lines (audited (newest x) (newest l.after) (Committing m) a) l.after =
+    commit_cloud (length lines + 1) lines a who p.1.answer before.counts after.counts x after.state m m.stage l (omega arith) cloud knows sound
     (commits_noted lines who m (standing lines 1) session event refl acts) in (
       l.after,
       l.told,
-      subst (λ z. CloudStands (length lines + 1) lines z l.after) (sym (audit l.after l.told)) after,
+      subst (λ z. CloudStands (length lines + 1) lines z l.after) (sym (audit l.after l.told)) stood,
       subst (λ w. Knows (newest l.after) w) (sym p.2) (goes.stands (newest l.after)),
       subst (λ w. WorksAs w (standing lines 1)) (sym p.2) (acts.0 ∙ ap (λ cs. Working (Noted cs)) (sym goes.changes), acts.1 ∙ sym goes.client),
     )
-goes_work lines who c d x t u (Folding home f) new a b session event told cloud knows kept acts p audit =
-    let l : Leaves who (folding_ask f) p.1.answer c d x u = p.1.made.state x told in
-    let after : CloudStands (length lines + 1) lines (audited (newest x) (newest l.after) (Folding home f) a) l.after =
-    folding_cloud (length lines + 1) lines a who p.1.answer c d x u home f f.stage l (omega arith) cloud knows.1.puts in
+goes_work lines who before after x (Folding home f) new a b session event told cloud knows acts p audit =
+    let l : Leaves who (folding_ask f) p.1.answer before.counts after.counts x after.state = p.1.made.state x told in
+    let stood : CloudStands (length lines + 1) lines (audited (newest x) (newest l.after) (Folding home f) a) l.after =
+    folding_cloud (length lines + 1) lines a who p.1.answer before.counts after.counts x after.state home f f.stage l (omega arith) cloud knows.1.puts in
     let sees : f.stage ≡ GettingPage → (v : Option (List ℕ)) → got_of p.1.answer ≡ Ok v → v ≡ newest l.after (object.Page f.tree 1) =
-    stage_seen who p.1.answer c d x u f f.stage l p.1.made.fits in (
+    stage_seen who p.1.answer before.counts after.counts x after.state f f.stage l p.1.made.fits in (
       l.after,
       l.told,
-      subst (λ z. CloudStands (length lines + 1) lines z l.after) (sym (audit l.after l.told)) after,
-      subst (λ w. Knows (newest l.after) w) (sym p.2) (home_stays who p.1.answer c d x u home f l knows.0, folding_goes (newest l.after) f p.0 f.stage p.1.answer knows.1.root sees p.1.took),
+      subst (λ z. CloudStands (length lines + 1) lines z l.after) (sym (audit l.after l.told)) stood,
+      subst (λ w. Knows (newest l.after) w) (sym p.2) (home_stays who p.1.answer before.counts after.counts x after.state home f l knows.0, folding_goes (newest l.after) f p.0 f.stage p.1.answer knows.1.root sees p.1.took),
       subst (λ w. WorksAs w (standing lines 1)) (sym p.2) (acts.0 ∙ ap (λ k. Working (FoldingTree k)) (sym (same_tree f p.0 f.stage p.1.answer p.1.took)), acts.1),
     )
-goes_work lines who c d x t u Closed new a b session event told cloud knows kept acts p audit = absurd p
-goes_work lines who c d x t u (Idle home) new a b session event told cloud knows kept acts p audit = absurd p
-goes_work lines who c d x t u Broken new a b session event told cloud knows kept acts p audit = absurd p
+goes_work lines who before after x Closed new a b session event told cloud knows acts p audit = absurd p
+goes_work lines who before after x (Idle home) new a b session event told cloud knows acts p audit = absurd p
+goes_work lines who before after x Broken new a b session event told cloud knows acts p audit = absurd p
 
 -- one step and its looks keep what goes on
-pub step_goes_on : (lines : List Line) (who : Caller) (c d : Counts) (x : CloudState) (t u : Option CloudState) (old new : Acting) (a b : Audited)
-    → who.session ≡ 1 → who.event ≡ length lines + 1 → t ≡ Some x → GoesOn lines old a x
-    → StepsSession who c d t u old new (Ok More) → IsKept new.work → ((y : CloudState) → u ≡ Some y → b ≡ audited (newest x) (newest y) old.work a)
-    → (y : CloudState) × (u ≡ Some y) × GoesOn lines new b y
-step_goes_on lines who c d x t u old new a b session event told goes p kept audit =
-    let k = goes_work lines who c d x t u old.work new a b session event told goes.cloud goes.session.knows goes.session.kept goes.session.acts.work p.1 audit in (
+pub step_goes_on : (lines : List Line) (who : Caller) (before after : Seen) (x : CloudState) (old new : Acting) (a b : Audited)
+    → who.session ≡ 1 → who.event ≡ length lines + 1 → before.state ≡ Some x → GoesOn lines old a x
+    → StepsSession who before after old new (Ok More) → ((y : CloudState) → after.state ≡ Some y → b ≡ audited (newest x) (newest y) old.work a)
+    → (y : CloudState) × (after.state ≡ Some y) × GoesOn lines new b y
+step_goes_on lines who before after x old new a b session event told goes p audit =
+    let k = goes_work lines who before after x old.work new a b session event told goes.cloud goes.session.knows goes.session.acts.work p.work audit in (
       k.0,
       k.1,
       record {
         cloud = k.2;
-        session = record { knows = k.3; kept = kept; acts = record { buffer = p.0 ∙ goes.session.acts.buffer; work = k.4 } };
-        records = records_go who c d x t u old new a b told goes.records goes.session.knows goes.session.kept p audit k.0 k.1;
+        session = record { knows = k.3; acts = record { buffer = p.buffer ∙ goes.session.acts.buffer; work = k.4 } };
+        records = records_go who before after x old new a b told goes.records goes.session.knows p audit k.0 k.1;
         reported = reported_more lines a.order b.order (subst (λ (z : Audited). BeginsWith a.order z.order) (sym (audit k.0 k.1)) (audited_grows (newest x) (newest k.0) old.work a)) goes.reported;
       },
     )
@@ -225,69 +226,69 @@ done_steps : (s : Standing) (n : CkptAnswer) (tree : ℕ) → s.posture ≡ Work
 done_steps s n tree e = ap (λ p. answered p (reply.Done n) s) e
 
 -- a step that is answered leaves the session as the lines say with this reply
-ends_work : (lines : List Line) (who : Caller) (c d : Counts) (x : CloudState) (t u : Option CloudState) (w : Work) (new : Acting) (a b : Audited) (ans : Answer) (r : Reply)
-    → who.session ≡ 1 → who.event ≡ length lines + 1 → t ≡ Some x
-    → CloudStands (length lines + 1) lines a x → Knows (newest x) w → IsKept w → WorksAs w (standing lines 1)
-    → StepsWork who c d t u w new (Ended ans) → IsReplyTo ans r → ((y : CloudState) → u ≡ Some y → b ≡ audited (newest x) (newest y) w a)
-    → (y : CloudState) × (u ≡ Some y) × CloudStands (length lines + 1) lines b y × Knows (newest y) new.work × WorksAs new.work (steps r (standing lines 1)) × (steps r (standing lines 1) ≡ idle (standing lines 1))
-ends_work lines who c d x t u (Opening m) new a b (answer.Opened epoch) r session event told cloud knows kept acts p is audit =
-    let l : Leaves who (recovery_ask m) p.1.answer c d x u = p.1.made.state x told in
-    let opens = opening_opens who p.1.answer c d x u m p.0 epoch m.stage l p.1.made.fits p.1.took knows kept in
+ends_work : (lines : List Line) (who : Caller) (before after : Seen) (x : CloudState) (w : Work) (new : Acting) (a b : Audited) (ans : Answer) (r : Reply)
+    → who.session ≡ 1 → who.event ≡ length lines + 1 → before.state ≡ Some x
+    → CloudStands (length lines + 1) lines a x → Knows (newest x) w → WorksAs w (standing lines 1)
+    → StepsAt who before after w new.work (Ended ans) → IsReplyTo ans r → ((y : CloudState) → after.state ≡ Some y → b ≡ audited (newest x) (newest y) w a)
+    → (y : CloudState) × (after.state ≡ Some y) × CloudStands (length lines + 1) lines b y × Knows (newest y) new.work × WorksAs new.work (steps r (standing lines 1)) × (steps r (standing lines 1) ≡ idle (standing lines 1))
+ends_work lines who before after x (Opening m) new a b (answer.Opened epoch) r session event told cloud knows acts (sound, p) is audit =
+    let l : Leaves who (recovery_ask m) p.1.answer before.counts after.counts x after.state = p.1.made.state x told in
+    let opens = opening_opens who p.1.answer before.counts after.counts x after.state m p.0 epoch m.stage l p.1.made.fits p.1.took knows sound in
     let work : new.work ≡ Idle opens.0 = p.2 ∙ ap opened_work opens.1 in
-    let after : CloudStands (length lines + 1) lines (audited (newest x) (newest l.after) (Opening m) a) l.after =
-    opening_cloud (length lines + 1) lines a who p.1.answer c d x u m m.stage m.lease l (omega arith) cloud knows kept in
+    let stood : CloudStands (length lines + 1) lines (audited (newest x) (newest l.after) (Opening m) a) l.after =
+    opening_cloud (length lines + 1) lines a who p.1.answer before.counts after.counts x after.state m m.stage m.lease l (omega arith) cloud knows sound in
     let s : Standing = standing lines 1 in
     let same : steps r s ≡ idle s = ap (λ z. steps z s) is ∙ opened_steps s epoch acts.0 in (
       l.after,
       l.told,
-      subst (λ z. CloudStands (length lines + 1) lines z l.after) (sym (audit l.after l.told)) after,
+      subst (λ z. CloudStands (length lines + 1) lines z l.after) (sym (audit l.after l.told)) stood,
       subst (λ w. Knows (newest l.after) w) (sym work) opens.2,
       idle_works s opens.0 m.client r new.work same work opens.3 acts.1,
       same,
     )
-ends_work lines who c d x t u (Opening m) new a b (answer.Commit k) r session event told cloud knows kept acts p is audit = absurd p
-ends_work lines who c d x t u (Opening m) new a b (answer.Done n) r session event told cloud knows kept acts p is audit = absurd p
-ends_work lines who c d x t u (Opening m) new a b (answer.Trouble k) r session event told cloud knows kept acts p is audit = absurd is
-ends_work lines who c d x t u (Committing m) new a b (answer.Commit (Committed txn)) r session event told cloud knows kept acts p is audit =
-    let l : Leaves who (commit_ask m) p.1.answer c d x u = p.1.made.state x told in
-    let ends = commit_ends who p.1.answer c d x u m p.0 txn m.stage l p.1.took knows kept in
-    let after : CloudStands (length lines + 1) lines (audited (newest x) (newest l.after) (Committing m) a) l.after =
-    commit_cloud (length lines + 1) lines a who p.1.answer c d x u m m.stage l (omega arith) cloud knows kept
+ends_work lines who before after x (Opening m) new a b (answer.Commit k) r session event told cloud knows acts p is audit = absurd p.1
+ends_work lines who before after x (Opening m) new a b (answer.Done n) r session event told cloud knows acts p is audit = absurd p.1
+ends_work lines who before after x (Opening m) new a b (answer.Trouble k) r session event told cloud knows acts p is audit = absurd is
+ends_work lines who before after x (Committing m) new a b (answer.Commit (Committed txn)) r session event told cloud knows acts (sound, p) is audit =
+    let l : Leaves who (commit_ask m) p.1.answer before.counts after.counts x after.state = p.1.made.state x told in
+    let ends = commit_ends who p.1.answer before.counts after.counts x after.state m p.0 txn m.stage l p.1.took knows sound in
+    let stood : CloudStands (length lines + 1) lines (audited (newest x) (newest l.after) (Committing m) a) l.after =
+    commit_cloud (length lines + 1) lines a who p.1.answer before.counts after.counts x after.state m m.stage l (omega arith) cloud knows sound
     (commits_noted lines who m (standing lines 1) session event refl acts) in
     let s : Standing = standing lines 1 in
     let same : steps r s ≡ idle s = ap (λ z. steps z s) is ∙ committed_steps s txn m.changes acts.0 in (
       l.after,
       l.told,
-      subst (λ z. CloudStands (length lines + 1) lines z l.after) (sym (audit l.after l.told)) after,
+      subst (λ z. CloudStands (length lines + 1) lines z l.after) (sym (audit l.after l.told)) stood,
       subst (λ w. Knows (newest l.after) w) (sym p.2) ends.0,
       idle_works s p.0.home m.home.client r new.work same p.2 ends.1 acts.1,
       same,
     )
-ends_work lines who c d x t u (Committing m) new a b (answer.Commit (NotCommitted k)) r session event told cloud knows kept acts p is audit = absurd is
-ends_work lines who c d x t u (Committing m) new a b (answer.Commit InDoubt) r session event told cloud knows kept acts p is audit = absurd is
-ends_work lines who c d x t u (Committing m) new a b (answer.Commit (CommittedOpen k)) r session event told cloud knows kept acts p is audit = absurd is
-ends_work lines who c d x t u (Committing m) new a b (answer.Opened epoch) r session event told cloud knows kept acts p is audit = absurd p
-ends_work lines who c d x t u (Committing m) new a b (answer.Done n) r session event told cloud knows kept acts p is audit = absurd p
-ends_work lines who c d x t u (Committing m) new a b (answer.Trouble k) r session event told cloud knows kept acts p is audit = absurd is
-ends_work lines who c d x t u (Folding home f) new a b (answer.Done n) r session event told cloud knows kept acts p is audit =
-    let l : Leaves who (folding_ask f) p.1.answer c d x u = p.1.made.state x told in
-    let after : CloudStands (length lines + 1) lines (audited (newest x) (newest l.after) (Folding home f) a) l.after =
-    folding_cloud (length lines + 1) lines a who p.1.answer c d x u home f f.stage l (omega arith) cloud knows.1.puts in
+ends_work lines who before after x (Committing m) new a b (answer.Commit (NotCommitted k)) r session event told cloud knows acts p is audit = absurd is
+ends_work lines who before after x (Committing m) new a b (answer.Commit InDoubt) r session event told cloud knows acts p is audit = absurd is
+ends_work lines who before after x (Committing m) new a b (answer.Commit (CommittedOpen k)) r session event told cloud knows acts p is audit = absurd is
+ends_work lines who before after x (Committing m) new a b (answer.Opened epoch) r session event told cloud knows acts p is audit = absurd p.1
+ends_work lines who before after x (Committing m) new a b (answer.Done n) r session event told cloud knows acts p is audit = absurd p.1
+ends_work lines who before after x (Committing m) new a b (answer.Trouble k) r session event told cloud knows acts p is audit = absurd is
+ends_work lines who before after x (Folding home f) new a b (answer.Done n) r session event told cloud knows acts p is audit =
+    let l : Leaves who (folding_ask f) p.1.answer before.counts after.counts x after.state = p.1.made.state x told in
+    let stood : CloudStands (length lines + 1) lines (audited (newest x) (newest l.after) (Folding home f) a) l.after =
+    folding_cloud (length lines + 1) lines a who p.1.answer before.counts after.counts x after.state home f f.stage l (omega arith) cloud knows.1.puts in
     let s : Standing = standing lines 1 in
     let same : steps r s ≡ idle s = ap (λ z. steps z s) is ∙ done_steps s n f.tree acts.0 in (
       l.after,
       l.told,
-      subst (λ z. CloudStands (length lines + 1) lines z l.after) (sym (audit l.after l.told)) after,
-      subst (λ w. Knows (newest l.after) w) (sym p.2) (home_stays who p.1.answer c d x u home f l knows.0),
+      subst (λ z. CloudStands (length lines + 1) lines z l.after) (sym (audit l.after l.told)) stood,
+      subst (λ w. Knows (newest l.after) w) (sym p.2) (home_stays who p.1.answer before.counts after.counts x after.state home f l knows.0),
       idle_works s home home.client r new.work same p.2 refl acts.1,
       same,
     )
-ends_work lines who c d x t u (Folding home f) new a b (answer.Opened epoch) r session event told cloud knows kept acts p is audit = absurd p
-ends_work lines who c d x t u (Folding home f) new a b (answer.Commit k) r session event told cloud knows kept acts p is audit = absurd p
-ends_work lines who c d x t u (Folding home f) new a b (answer.Trouble k) r session event told cloud knows kept acts p is audit = absurd is
-ends_work lines who c d x t u Closed new a b ans r session event told cloud knows kept acts p is audit = absurd p
-ends_work lines who c d x t u (Idle home) new a b ans r session event told cloud knows kept acts p is audit = absurd p
-ends_work lines who c d x t u Broken new a b ans r session event told cloud knows kept acts p is audit = absurd p
+ends_work lines who before after x (Folding home f) new a b (answer.Opened epoch) r session event told cloud knows acts p is audit = absurd p
+ends_work lines who before after x (Folding home f) new a b (answer.Commit k) r session event told cloud knows acts p is audit = absurd p
+ends_work lines who before after x (Folding home f) new a b (answer.Trouble k) r session event told cloud knows acts p is audit = absurd is
+ends_work lines who before after x Closed new a b ans r session event told cloud knows acts p is audit = absurd p
+ends_work lines who before after x (Idle home) new a b ans r session event told cloud knows acts p is audit = absurd p
+ends_work lines who before after x Broken new a b ans r session event told cloud knows acts p is audit = absurd p
 
 -- what the last step of a line leaves: all that holds of the cloud, and the session as it stands with the reply
 pub record Answered (lines : List Line) (new : Acting) (b : Audited) (u : Option CloudState) (r : Reply) : Type 0 where
@@ -299,18 +300,18 @@ pub record Answered (lines : List Line) (new : Acting) (b : Audited) (u : Option
   pub records : RecordsStand new b after
   pub reported : Reported lines b.order
 
-pub step_ends : (lines : List Line) (who : Caller) (c d : Counts) (x : CloudState) (t u : Option CloudState) (old new : Acting) (a b : Audited) (ans : Answer) (r : Reply)
-    → who.session ≡ 1 → who.event ≡ length lines + 1 → t ≡ Some x → GoesOn lines old a x
-    → StepsSession who c d t u old new (Ok (Ended ans)) → IsReplyTo ans r → ((y : CloudState) → u ≡ Some y → b ≡ audited (newest x) (newest y) old.work a)
-    → Answered lines new b u r
-step_ends lines who c d x t u old new a b ans r session event told goes p is audit =
-    let k = ends_work lines who c d x t u old.work new a b ans r session event told goes.cloud goes.session.knows goes.session.kept goes.session.acts.work p.1 is audit in
+pub step_ends : (lines : List Line) (who : Caller) (before after : Seen) (x : CloudState) (old new : Acting) (a b : Audited) (ans : Answer) (r : Reply)
+    → who.session ≡ 1 → who.event ≡ length lines + 1 → before.state ≡ Some x → GoesOn lines old a x
+    → StepsSession who before after old new (Ok (Ended ans)) → IsReplyTo ans r → ((y : CloudState) → after.state ≡ Some y → b ≡ audited (newest x) (newest y) old.work a)
+    → Answered lines new b after.state r
+step_ends lines who before after x old new a b ans r session event told goes p is audit =
+    let k = ends_work lines who before after x old.work new a b ans r session event told goes.cloud goes.session.knows goes.session.acts.work p.work is audit in
     record {
       after = k.0;
       told = k.1;
       cloud = k.2;
       knows = k.3;
-      acts = record { buffer = p.0 ∙ goes.session.acts.buffer ∙ ap (λ (z : Standing). z.buffer) (sym k.5); work = k.4 };
-      records = records_end who c d x t u old new a b ans r told goes.records goes.session.knows goes.session.kept p is audit k.0 k.1;
+      acts = record { buffer = p.buffer ∙ goes.session.acts.buffer ∙ ap (λ (z : Standing). z.buffer) (sym k.5); work = k.4 };
+      records = records_end who before after x old new a b ans r told goes.records goes.session.knows p is audit k.0 k.1;
       reported = reported_more lines a.order b.order (subst (λ (z : Audited). BeginsWith a.order z.order) (sym (audit k.0 k.1)) (audited_grows (newest x) (newest k.0) old.work a)) goes.reported;
     }

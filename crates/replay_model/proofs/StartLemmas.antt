@@ -22,7 +22,7 @@ nothing_stands_yet t empty = record {
     upto = empty_upto t empty;
     committed = sym (empty_committed [] t empty);
   };
-  session = record { knows = tt; kept = tt; acts = record { buffer = refl; work = refl } };
+  session = record { knows = tt; acts = record { buffer = refl; work = refl } };
   reported = λ k line at. absurd (cc);
   records = record { hold = empty_holds t empty; known = tt; buffer = record { distinct = tt; plain = λ k d low. absurd (omega arith) } };
 }

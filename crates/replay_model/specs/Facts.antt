@@ -32,7 +32,7 @@ use Rattle.tree_ckpt.specs.declared.stage.Stage.TheVariants as folding
 use Rattle.tree_ckpt.specs.Folding.{Folding, is_lone_root, is_lone_leaf}
 use Rattle.client_session.specs.declared.session.Work.{Work}
 use Rattle.client_session.specs.declared.session.Work.TheVariants as work
-use Rattle.client_session.specs.Session.{Acting, IsKept}
+use Rattle.client_session.specs.Session.{Acting}
 use Rattle.history.specs.Audited.{Audited}
 use Rattle.tree_meaning.specs.Chain.{IsReadAs}
 use Rattle.record_facts.specs.Tally.{Tally, tally_of, RecordsHold}
@@ -191,10 +191,9 @@ pub record CloudStands (n : ℕ) (lines : List Line) (a : Audited) (t : CloudSta
   pub upto : IsUpto n t
   pub committed : a.committed ≡ committed lines t
 
--- a session knows what it has to, has the bytes that it is to put in hand, and stands as the lines say
+-- a session knows what it has to, and stands as the lines say
 pub record SessionStands (lines : List Line) (session : Acting) (t : CloudState) : Type 0 where
   pub knows : Knows (newest t) session.work
-  pub kept : IsKept session.work
   pub acts : ActsAs session (standing lines 1)
 
 -- after lines

@@ -2,4 +2,3 @@ pub mod Going
 pub mod Landing
 pub mod StandsLemmas
 pub mod GrowthLemmas
-pub mod Ending

@@ -1,11 +1,12 @@
 -- Why a line has no reply.
-use Rattle.std.specs.Prelude.{ℕ, ◌≡◌, ◌⊎◌, Option, Some, Result}
+use Rattle.std.specs.Prelude.{ℕ, ◌≡◌, ◌⊎◌, Some, Result}
 use Rattle.db_base.specs.Ids.{IsTree}
 use Rattle.db_base.specs.declared.refusal.Refused.{Refused}
 use Rattle.db_base.specs.declared.trouble.Trouble.{Trouble}
 use Rattle.db_base.specs.declared.trouble.Trouble.TheVariants as trouble
 use Rattle.cloud_trait.specs.Caller.{Caller}
-use Rattle.cloud_trait.specs.State.{CloudState, Counts}
+use Rattle.cloud_trait.specs.State.{CloudState}
+use Rattle.cloud_trait.specs.Seen.{Seen}
 use Rattle.cloud_trait.specs.Weather.{Rose}
 use Rattle.cloud_trait.specs.declared.turn.Turn.{Turn}
 use Rattle.client_session.specs.declared.session.Answer.{Answer}
@@ -24,36 +25,34 @@ fault_of trouble.Memory = fault.Memory
 fault_of t = fault.Cloud
 
 -- the look before a put failed, and the put was not made
-pub record FailsBefore (c f : Counts) (s v : Option CloudState) (old new : World) : Type 0 where
+pub record FailsBefore (before after : Seen) (old new : World) : Type 0 where
   pub put : Put
   pub in_hand : put_of old.session.work ≡ Some put
-  pub looked : Looked c f s v
-  pub dark : Rose c.dark f.dark
+  pub looked : Looked before after
+  pub dark : Rose before.counts.dark after.counts.dark
   pub world : new ≡ old
 
 -- a put was made, and the look after it failed
-pub record FailsAfter (who : Caller) (c f : Counts) (s v : Option CloudState) (old new : World) : Type 0 where
+pub record FailsAfter (who : Caller) (before after : Seen) (old new : World) : Type 0 where
   pub put : Put
   pub in_hand : put_of old.session.work ≡ Some put
-  pub d : Counts
-  pub e : Counts
-  pub t : Option CloudState
-  pub u : Option CloudState
-  pub before : Looked c d s t
+  pub from : Seen
+  pub to : Seen
+  pub look_before : Looked before from
   pub turn : Result (Turn Answer) Refused
-  pub steps : StepsSession who d e t u old.session new.session turn
-  pub after : Looked e f u v
-  pub dark : Rose e.dark f.dark
+  pub steps : StepsSession who from to old.session new.session turn
+  pub look_after : Looked to after
+  pub dark : Rose to.counts.dark after.counts.dark
 
 -- why a step has no outcome: a look at the object of its put failed, before the put or after it; or memory ran out
-abbrev pub StepFails : Caller → Counts → Counts → Option CloudState → Option CloudState → World → World → WorldFault → Type 0
-StepFails who c f s v old new fault.Cloud = FailsBefore c f s v old new ⊎ FailsAfter who c f s v old new
-StepFails who c f s v old new fault.Memory = Unit {0}
+abbrev pub StepFails : Caller → Seen → Seen → World → World → WorldFault → Type 0
+StepFails who before after old new fault.Cloud = FailsBefore before after old new ⊎ FailsAfter who before after old new
+StepFails who before after old new fault.Memory = Unit {0}
 
 -- why a tree has no report: a trouble stopped it, which is a failure only where a look failed, and which stands in the cloud where it is told
-pub record ReportFails (tree : ℕ) (c d : Counts) (s : Option CloudState) (why : WorldFault) : Type 0 where
+pub record ReportFails (tree : ℕ) (before after : Seen) (why : WorldFault) : Type 0 where
   pub is_tree : IsTree tree
   pub stopped : Trouble
-  pub failed : stopped ≡ trouble.Failed → Rose c.dark d.dark
-  pub stands : (x : CloudState) → s ≡ Some x → Stopped x tree stopped
+  pub failed : stopped ≡ trouble.Failed → Rose before.counts.dark after.counts.dark
+  pub stands : (x : CloudState) → before.state ≡ Some x → Stopped x tree stopped
   pub is : why ≡ fault_of stopped

@@ -1,4 +1,5 @@
 pub mod Put
+pub mod Asked
 pub mod Fault
 pub mod Handled
 pub mod Stands

@@ -1,6 +1,7 @@
 -- What stands after a line where it stood before it.
-use Rattle.std.specs.Prelude.{ℕ, ◌≡◌, ◌+◌, ◌<◌, List, [], ◌∷◌, ◌++◌, length, Option, Some, Result, Ok, Err}
+use Rattle.std.specs.Prelude.{ℕ, ◌≡◌, ◌+◌, ◌<◌, List, [], ◌∷◌, ◌++◌, length, Some, Result, Ok, Err}
 use Rattle.cloud_trait.specs.State.{CloudState}
+use Rattle.cloud_trait.specs.Seen.{Seen}
 use Rattle.cloud_trait.specs.Upto.{AgreeUpto}
 use Rattle.event_text.specs.declared.event.Event.{Event}
 use Rattle.report_types.specs.declared.report.Report.{Report}
@@ -23,20 +24,20 @@ LeftIsRight t (reply.Report r) = IsLeft t r
 LeftIsRight t reply = Unit {0}
 
 -- the world and a cloud that is told stand for these lines, the last of which has this reply; a report is right
-pub record StandsFor (lines : List Line) (world : World) (state : Option CloudState) (reply : Reply) : Type 0 where
+pub record StandsFor (lines : List Line) (world : World) (seen : Seen) (reply : Reply) : Type 0 where
   pub after : CloudState
-  pub told : state ≡ Some after
+  pub told : seen.state ≡ Some after
   pub stands : Stands lines world.session world.audit after
   pub right : ReportIsRight lines after reply
   pub left : LeftIsRight after reply
 
 -- whatever lines a world and a cloud stood for before a line, they stand for these and the line with its reply after it
-abbrev pub StandsOn : ℕ → Event → Option CloudState → Option CloudState → World → World → Result Reply WorldFault → Type 0
-StandsOn n event s u old new (Ok reply) =
-    (lines : List Line) (t : CloudState) → length lines + 1 ≡ n → s ≡ Some t → Stands lines old.session old.audit t
-    → StandsFor (lines ++ record { event = event; reply = reply } ∷ []) new u reply
-StandsOn n event s u old new (Err fault) = Unit {0}
+abbrev pub StandsOn : ℕ → Event → Seen → Seen → World → World → Result Reply WorldFault → Type 0
+StandsOn n event before after old new (Ok reply) =
+    (lines : List Line) (t : CloudState) → length lines + 1 ≡ n → before.state ≡ Some t → Stands lines old.session old.audit t
+    → StandsFor (lines ++ record { event = event; reply = reply } ∷ []) new after reply
+StandsOn n event before after old new (Err fault) = Unit {0}
 
 -- up to every earlier line nothing has changed that the cloud tells
-abbrev pub Grows : ℕ → Option CloudState → Option CloudState → Type 0
-Grows n s u = (x : CloudState) → s ≡ Some x → (y : CloudState) × (u ≡ Some y) × ((k : ℕ) → k < n → AgreeUpto k x y)
+abbrev pub Grows : ℕ → Seen → Seen → Type 0
+Grows n before after = (x : CloudState) → before.state ≡ Some x → (y : CloudState) × (after.state ≡ Some y) × ((k : ℕ) → k < n → AgreeUpto k x y)

@@ -1,6 +1,7 @@
 //! The world of a replay: it handles one line after another.
 #![tactic(auto)]
 
+pub mod asked;
 mod noting;
 mod put;
 pub mod world;

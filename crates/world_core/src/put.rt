@@ -57,9 +57,9 @@ pub(crate) fn put_in_hand(alloc: Global, session: &Session) -> Result<Option<Put
 
 /// Whether the newest version of the put's object has its bytes.
 pub(crate) fn is_newest<C: Bench>(cloud: &mut C, put: &Put) -> Result<bool, WorldFault>
-    ensures looked { Looked (C.counts cloud.old) (C.counts cloud.new) (C.state cloud.old) (C.state cloud.new) }
-    ensures dark { result ≡ Err WorldFault.Cloud → Rose (C.counts cloud.old).dark (C.counts cloud.new).dark }
-    ensures newest { (s : CloudState) → C.state cloud.old ≡ Some s → IfOk result (λ is. is ≡ is_newest (newest s) put.now) }
+    ensures looked { Looked (C.seen cloud.old) (C.seen cloud.new) }
+    ensures dark { result ≡ Err WorldFault.Cloud → Rose (C.seen cloud.old).counts.dark (C.seen cloud.new).counts.dark }
+    ensures newest { (s : CloudState) → (C.seen cloud.old).state ≡ Some s → IfOk result (λ is. is ≡ is_newest (newest s) put.now) }
 {
     match cloud.peek(put.name) {
         Ok(Some(newest)) => Ok(newest.as_slice() == put.bytes.as_slice()),

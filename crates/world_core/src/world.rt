@@ -1,21 +1,18 @@
-ghost use Rattle.std.specs.Prelude.{◌≡◌, ℕ, [], Some, IfOk, IfErr};
+ghost use Rattle.std.specs.Prelude.{◌≡◌, ◌<◌, [], Some, Ok, IfOk, IfErr};
 ghost use Rattle.cloud_trait.specs.State.{CloudState};
-ghost use Rattle.client_session.specs.Session.{IsKept};
-ghost use Rattle.replay_meaning.specs.Standing.{session_of};
 ghost use Rattle.world_core.specs.Put.{put_of};
 ghost use Rattle.world_core.specs.Fault.{fault_of};
-ghost use Rattle.world_core.specs.Handled.{BegunReply, InsertOf, Replies};
+ghost use Rattle.world_core.specs.Handled.{BegunReply, Replies, declined};
 
+use crate::asked::{Asked, Request};
 use crate::noting::{keep_landed, note_put};
 use crate::put::{Put, is_newest, put_in_hand};
 use client_session::session::{Answer, Begun, Op, Session};
 use cloud_trait::cloud::Bench;
 use cloud_trait::turn::Turn;
 use cloud_trait::who::Who;
-use db_base::blob::Blob;
 use db_base::change::Change;
-use db_base::ids::{ClientId, SessionNo, TreeId};
-use db_base::key::{Key, Payload};
+use db_base::ids::{SessionNo, TreeId};
 use db_base::refusal::{Refusal, Refused};
 use db_base::trouble::{CommitAnswer, Trouble};
 use event_text::event::Event;
@@ -42,10 +39,10 @@ pub struct World {
 }
 
 impl World {
-    ghost use Rattle.client_session.specs.Session.{closed_session};
+    ghost use Rattle.client_session.specs.Session.{closed_session, calls_left};
     ghost use Rattle.world_core.specs.Stands.{StandsOn, Grows};
     ghost use Rattle.world_core.specs.Fault.{StepFails};
-    ghost use Rattle.world_core.specs.Handled.{Handled, HandledFirst, HandledOther, IsUnbuilt, Opens, Folds, Inserts, Commits, Aborts, Runs, StepsLooked, Reports};
+    ghost use Rattle.world_core.specs.Handled.{Handled, Answers, Does, BeginsOp, Notes, Aborts, Runs, StepsLooked, Reports};
 
     /// A world whose session is closed, and that saw nothing. Refused for memory alone.
     pub fn new(alloc: Global) -> Result<World, Refused>
@@ -68,15 +65,11 @@ impl World {
         n: u64,
         event: &Event,
     ) -> Result<Reply, WorldFault>
-        ensures handled { Handled n event.now (C.counts cloud.old) (C.counts cloud.new) (C.state cloud.old) (C.state cloud.new) self.old self.new result }
-        ensures stands { StandsOn n event.now (C.state cloud.old) (C.state cloud.new) self.old self.new result }
-        ensures grows { Grows n (C.state cloud.old) (C.state cloud.new) }
-        ensures kept { IsKept self.new.session.work }
+        ensures handled { Handled n event.now (C.seen cloud.old) (C.seen cloud.new) self.old self.new result }
+        ensures stands { StandsOn n event.now (C.seen cloud.old) (C.seen cloud.new) self.old self.new result }
+        ensures grows { Grows n (C.seen cloud.old) (C.seen cloud.new) }
     {
-        let reply = self.handle(alloc, cloud, n, event);
-        // Read for the clause `kept`, which every way through the line would have to carry else.
-        let _ = self.session.in_hand();
-        reply
+        self.handle(alloc, cloud, n, event)
     }
 
     #[tactic(auto, using(crate::proofs::GrowthLemmas::grows_not))]
@@ -87,112 +80,73 @@ impl World {
         n: u64,
         event: &Event,
     ) -> Result<Reply, WorldFault>
-        ensures handled { Handled n event.now (C.counts cloud.old) (C.counts cloud.new) (C.state cloud.old) (C.state cloud.new) self.old self.new result }
-        ensures grows { Grows n (C.state cloud.old) (C.state cloud.new) }
+        ensures handled { Handled n event.now (C.seen cloud.old) (C.seen cloud.new) self.old self.new result }
+        ensures grows { Grows n (C.seen cloud.old) (C.seen cloud.new) }
     {
-        if session_of(event) == 1 {
-            return self.first(alloc, cloud, n, event);
+        match Asked::of(alloc, event) {
+            Asked::Session(number, request) => self.ask(alloc, cloud, n, number, request),
+            Asked::Report(tree) => self.report(alloc, cloud, tree),
+            Asked::Unbuilt => declined(Refused::Rule(Refusal::NotBuilt)),
         }
-        self.other(alloc, cloud, event)
     }
 
-    /// Handles a line of session 1.
-    fn first<C: Bench>(
+    /// Does what is asked of the session of this number, where it is one that is served.
+    #[tactic(auto, using(crate::proofs::GrowthLemmas::grows_not))]
+    fn ask<C: Bench>(
         &mut self,
         alloc: Global,
         cloud: &mut C,
         n: u64,
-        event: &Event,
+        number: u64,
+        request: Result<Request, Refused>,
     ) -> Result<Reply, WorldFault>
-        ensures handled { HandledFirst n event.now (C.counts cloud.old) (C.counts cloud.new) (C.state cloud.old) (C.state cloud.new) self.old self.new result }
-        ensures grows { Grows n (C.state cloud.old) (C.state cloud.new) }
+        ensures answers { Answers n (Asked.Session number request) (C.seen cloud.old) (C.seen cloud.new) self.old self.new result }
+        ensures grows { Grows n (C.seen cloud.old) (C.seen cloud.new) }
     {
-        match event {
-            Event::Open { client, .. } => self.open(alloc, *client),
-            Event::Insert {
-                tree,
-                key,
-                payload,
-                ..
-            } => self.insert(alloc, *tree, key, payload),
-            Event::Commit { .. } => self.commit(alloc),
-            Event::Abort { .. } => self.abort(),
-            Event::Run { .. } => self.run(alloc, cloud, n),
-            Event::Tree { tree, .. } => self.tree(alloc, *tree),
-            Event::Close { .. } => unbuilt(),
-            Event::Renew { .. } => unbuilt(),
-            Event::Update { .. } => unbuilt(),
-            Event::Delete { .. } => unbuilt(),
-            Event::Read { .. } => unbuilt(),
-            Event::Scan { .. } => unbuilt(),
-            Event::Page { .. } => unbuilt(),
-            Event::Step { .. } => unbuilt(),
-            Event::Crash { .. } => unbuilt(),
-            Event::Wait { .. } => unbuilt(),
-            Event::Report { .. } => unbuilt(),
-            Event::Settle => unbuilt(),
+        if number != 1 {
+            return declined(Refused::Rule(Refusal::NotBuilt));
+        }
+        match request {
+            Ok(request) => self.serve(alloc, cloud, n, request),
+            Err(why) => declined(why),
         }
     }
 
-    /// Handles a line of no session, or of another one.
-    fn other<C: Bench>(
+    /// Does what is asked of the session.
+    fn serve<C: Bench>(
         &mut self,
         alloc: Global,
         cloud: &mut C,
-        event: &Event,
+        n: u64,
+        request: Request,
     ) -> Result<Reply, WorldFault>
-        ensures handled { HandledOther event.now (C.counts cloud.old) (C.counts cloud.new) (C.state cloud.old) (C.state cloud.new) self.old self.new result }
-        ensures stays { (x : CloudState) → C.state cloud.old ≡ Some x → C.state cloud.new ≡ Some x }
+        ensures does { Does n request (C.seen cloud.old) (C.seen cloud.new) self.old self.new result }
+        ensures grows { Grows n (C.seen cloud.old) (C.seen cloud.new) }
     {
-        match event {
-            Event::Report { tree } => self.report(alloc, cloud, *tree),
-            Event::Open { .. } => unbuilt(),
-            Event::Insert { .. } => unbuilt(),
-            Event::Commit { .. } => unbuilt(),
-            Event::Abort { .. } => unbuilt(),
-            Event::Run { .. } => unbuilt(),
-            Event::Tree { .. } => unbuilt(),
-            Event::Close { .. } => unbuilt(),
-            Event::Renew { .. } => unbuilt(),
-            Event::Update { .. } => unbuilt(),
-            Event::Delete { .. } => unbuilt(),
-            Event::Read { .. } => unbuilt(),
-            Event::Scan { .. } => unbuilt(),
-            Event::Page { .. } => unbuilt(),
-            Event::Step { .. } => unbuilt(),
-            Event::Crash { .. } => unbuilt(),
-            Event::Wait { .. } => unbuilt(),
-            Event::Settle => unbuilt(),
+        match request {
+            Request::Begin(op) => self.begin(alloc, op),
+            Request::Note(tree, change) => self.note(tree, change),
+            Request::Abort => self.abort(),
+            Request::Run => self.run(alloc, cloud, n),
         }
     }
 
-    fn open(&mut self, alloc: Global, client: u64) -> Result<Reply, WorldFault>
-        ensures session { Opens client self.old.session self.new.session result }
+    fn begin(&mut self, alloc: Global, op: Op) -> Result<Reply, WorldFault>
+        ensures session { BeginsOp op self.old.session self.new.session result }
         ensures audit { self.new.audit ≡ self.old.audit }
     {
-        let client = match ClientId::new(client) {
-            Ok(client) => client,
-            Err(rule) => return Ok(Reply::Refused(rule)),
-        };
-        begun(self.session.begin(alloc, Op::Open(client)))
+        begun(self.session.begin(alloc, op))
     }
 
-    fn tree(&mut self, alloc: Global, tree: u64) -> Result<Reply, WorldFault>
-        ensures session { Folds tree self.old.session self.new.session result }
+    fn note(&mut self, tree: TreeId, change: Change) -> Result<Reply, WorldFault>
+        ensures session { Notes tree change self.old.session self.new.session result }
         ensures audit { self.new.audit ≡ self.old.audit }
     {
-        let tree = match TreeId::new(tree) {
-            Ok(tree) => tree,
-            Err(rule) => return Ok(Reply::Refused(rule)),
-        };
-        begun(self.session.begin(alloc, Op::Tree(tree)))
-    }
-
-    fn commit(&mut self, alloc: Global) -> Result<Reply, WorldFault>
-        ensures session { Commits self.old.session self.new.session result }
-        ensures audit { self.new.audit ≡ self.old.audit }
-    {
-        begun(self.session.begin(alloc, Op::Commit))
+        match self.session.note(tree, change) {
+            Ok(()) => Ok(Reply::Noted),
+            Err(Refused::Rule(rule)) => Ok(Reply::Refused(rule)),
+            Err(Refused::Memory) => Err(WorldFault::Memory),
+        }
     }
 
     fn abort(&mut self) -> Result<Reply, WorldFault>
@@ -206,36 +160,10 @@ impl World {
         }
     }
 
-    fn insert(
-        &mut self,
-        alloc: Global,
-        tree: u64,
-        key: &Blob,
-        payload: &Blob,
-    ) -> Result<Reply, WorldFault>
-        ensures session { Inserts tree key.now payload.now self.old.session self.new.session result }
-        ensures audit { self.new.audit ≡ self.old.audit }
-    {
-        let tree = match TreeId::new(tree) {
-            Ok(tree) => tree,
-            Err(rule) => return Ok(Reply::Refused(rule)),
-        };
-        let change = match insert_of(alloc, key, payload) {
-            Ok(change) => change,
-            Err(Refused::Rule(rule)) => return Ok(Reply::Refused(rule)),
-            Err(Refused::Memory) => return Err(WorldFault::Memory),
-        };
-        match self.session.note(tree, change) {
-            Ok(()) => Ok(Reply::Noted),
-            Err(Refused::Rule(rule)) => Ok(Reply::Refused(rule)),
-            Err(Refused::Memory) => Err(WorldFault::Memory),
-        }
-    }
-
     /// Makes plain steps until the answer.
     fn run<C: Bench>(&mut self, alloc: Global, cloud: &mut C, n: u64) -> Result<Reply, WorldFault>
-        ensures runs { Runs n (C.counts cloud.old) (C.counts cloud.new) (C.state cloud.old) (C.state cloud.new) self.old self.new result }
-        ensures grows { Grows n (C.state cloud.old) (C.state cloud.new) }
+        ensures runs { Runs n (C.seen cloud.old) (C.seen cloud.new) self.old self.new result }
+        ensures grows { Grows n (C.seen cloud.old) (C.seen cloud.new) }
     {
         let who = first_session(n);
         'steps: loop {
@@ -257,9 +185,10 @@ impl World {
         cloud: &mut C,
         who: Who,
     ) -> Result<Result<Turn<Answer>, Refused>, WorldFault>
-        ensures looked { IfOk result (λ turn. StepsLooked who (C.counts cloud.old) (C.counts cloud.new) (C.state cloud.old) (C.state cloud.new) self.old self.new turn) }
-        ensures fails { IfErr result (λ why. StepFails who (C.counts cloud.old) (C.counts cloud.new) (C.state cloud.old) (C.state cloud.new) self.old self.new why) }
-        ensures grows { Grows who.event (C.state cloud.old) (C.state cloud.new) }
+        ensures looked { IfOk result (λ turn. StepsLooked who (C.seen cloud.old) (C.seen cloud.new) self.old self.new turn) }
+        ensures fails { IfErr result (λ why. StepFails who (C.seen cloud.old) (C.seen cloud.new) self.old self.new why) }
+        ensures grows { Grows who.event (C.seen cloud.old) (C.seen cloud.new) }
+        ensures less { result ≡ Ok (Ok Turn.More) → calls_left self.new.session.work < calls_left self.old.session.work }
     {
         match put_in_hand(alloc, &self.session) {
             Ok(Some(put)) => self.step_put(alloc, cloud, who, &put),
@@ -277,9 +206,10 @@ impl World {
         put: &Put,
     ) -> Result<Result<Turn<Answer>, Refused>, WorldFault>
         requires { put_of self.old.session.work ≡ Some put.now }
-        ensures looked { IfOk result (λ turn. StepsLooked who (C.counts cloud.old) (C.counts cloud.new) (C.state cloud.old) (C.state cloud.new) self.old self.new turn) }
-        ensures fails { IfErr result (λ why. StepFails who (C.counts cloud.old) (C.counts cloud.new) (C.state cloud.old) (C.state cloud.new) self.old self.new why) }
-        ensures grows { Grows who.event (C.state cloud.old) (C.state cloud.new) }
+        ensures looked { IfOk result (λ turn. StepsLooked who (C.seen cloud.old) (C.seen cloud.new) self.old self.new turn) }
+        ensures fails { IfErr result (λ why. StepFails who (C.seen cloud.old) (C.seen cloud.new) self.old self.new why) }
+        ensures grows { Grows who.event (C.seen cloud.old) (C.seen cloud.new) }
+        ensures less { result ≡ Ok (Ok Turn.More) → calls_left self.new.session.work < calls_left self.old.session.work }
     {
         let before = is_newest(cloud, put)?;
         let mark = self.audit.mark();
@@ -295,7 +225,7 @@ impl World {
 
     /// Reports on a tree.
     fn report<C: Bench>(&self, alloc: Global, cloud: &mut C, tree: u64) -> Result<Reply, WorldFault>
-        ensures { Reports tree (C.counts cloud.old) (C.counts cloud.new) (C.state cloud.old) (C.state cloud.new) self.now self.now result }
+        ensures { Reports tree (C.seen cloud.old) (C.seen cloud.new) self.now self.now result }
     {
         let tree = match TreeId::new(tree) {
             Ok(tree) => tree,
@@ -308,36 +238,13 @@ impl World {
     }
 }
 
-/// The reply to a line that is not served yet.
-fn unbuilt() -> Result<Reply, WorldFault>
-    ensures { result ≡ Ok (Reply.Refused Refusal.NotBuilt) }
+/// The answer to a line that is not done.
+fn declined(why: Refused) -> Result<Reply, WorldFault>
+    ensures { result ≡ declined why }
 {
-    Ok(Reply::Refused(Refusal::NotBuilt))
-}
-
-/// The session that a line names, 0 where it names none.
-fn session_of(event: &Event) -> u64
-    ensures { result ≡ session_of event.now }
-{
-    match event {
-        Event::Open { session, .. } => *session,
-        Event::Close { session } => *session,
-        Event::Renew { session } => *session,
-        Event::Insert { session, .. } => *session,
-        Event::Update { session, .. } => *session,
-        Event::Delete { session, .. } => *session,
-        Event::Commit { session } => *session,
-        Event::Abort { session } => *session,
-        Event::Read { session, .. } => *session,
-        Event::Scan { session, .. } => *session,
-        Event::Page { session, .. } => *session,
-        Event::Tree { session, .. } => *session,
-        Event::Step { session, .. } => *session,
-        Event::Run { session } => *session,
-        Event::Crash { session, .. } => *session,
-        Event::Wait { .. } => 0,
-        Event::Report { .. } => 0,
-        Event::Settle => 0,
+    match why {
+        Refused::Rule(rule) => Ok(Reply::Refused(rule)),
+        Refused::Memory => Err(WorldFault::Memory),
     }
 }
 
@@ -391,15 +298,6 @@ fn reply_of(answer: Answer) -> Result<Reply, WorldFault>
         Answer::Commit(CommitAnswer::CommittedOpen(trouble)) => Err(fault_of(&trouble)),
         Answer::Trouble(trouble) => Err(fault_of(&trouble)),
     }
-}
-
-/// The insert of a key and payload, where they are ones.
-fn insert_of(alloc: Global, key: &Blob, payload: &Blob) -> Result<Change, Refused>
-    ensures { InsertOf key.now payload.now result }
-{
-    let key = Key::new(alloc, key.as_slice())?;
-    let payload = Payload::new(alloc, payload.as_slice())?;
-    Ok(Change::Insert { key, payload })
 }
 
 /// Session 1 at a line.

@@ -2,4 +2,4 @@ use Rattle.world_core.proofs.StandsLemmas.{stands_after}
 use Rattle.world_core.proofs.world.World.event.Goals as goal
 
 pub returns-clause-stands : goal.returns-clause-stands
-returns-clause-stands g c = stands_after _ _ _ _ _ _ _ _ _ c.handle-reply.ensures.handled c.in_hand.ensures.kept
+returns-clause-stands g c = stands_after _ _ _ _ _ _ _ c.handle.ensures.handled

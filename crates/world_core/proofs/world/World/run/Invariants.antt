@@ -1,16 +1,15 @@
+use Rattle.client_session.specs.Session.{calls_left}
 use Rattle.world_core.specs.Handled.{Went}
 use Rattle.world_core.specs.Stands.{Grows}
-use Rattle.world_core.proofs.Ending.{calls_left}
 use Rattle.world_core.proofs.world.World.run.Given as goal
 
 -- the steps so far, and what they leave of earlier lines
 abbrev pub invariant-steps : goal.invariant-steps
 invariant-steps g l =
-    let counts = g.C.Cloud.counts in
-    let state = g.C.Cloud.state in
+    let seen = g.C.Cloud.seen in
     record {
-      went : Went (record { session = 1; event = l.fn.n }) (counts l.fn.cloud) (state l.fn.cloud) l.fn.self (counts l.cloud) (state l.cloud) l.self;
-      grows : Grows l.fn.n (state l.fn.cloud) (state l.cloud);
+      went : Went (record { session = 1; event = l.fn.n }) (seen l.fn.cloud) l.fn.self (seen l.cloud) l.self;
+      grows : Grows l.fn.n (seen l.fn.cloud) (seen l.cloud);
     }
 
 -- the calls that are left

@@ -5,7 +5,8 @@ use Rattle.std.proofs.lemmas.List.{append-nil, take-append-le, take_all, get_or_
 use Rattle.std.proofs.lemmas.Option.{slice_get_within, slice_get-get_or}
 use Rattle.std.proofs.lemmas.Bool.{cases_lt}
 use Rattle.client_session.specs.Session.{closed_session}
-use Rattle.cloud_trait.specs.State.{CloudState, Counts}
+use Rattle.cloud_trait.specs.State.{CloudState}
+use Rattle.cloud_trait.specs.Seen.{Seen}
 use Rattle.cloud_trait.specs.Upto.{upto, AgreeUpto, IsUpto}
 use Rattle.db_base.specs.declared.names.ObjName.{ObjName}
 use Rattle.cloud_trait.proofs.StateLemmas.{slice_get-push}
@@ -107,9 +108,9 @@ reports_more lines line u v agree all so new k l at = on (cases_lt k (length lin
 -- ---- one line more
 
 -- what stood and was right stands and is right with one line more
-stands_more : (lines : List Line) (line : Line) (n : ℕ) (t z : Option CloudState) (old new : World) → n ≡ 1 + length lines
-    → StandsOn n line.event t z old new (Ok line.reply) → Grows n t z → (u : CloudState) → t ≡ Some u → Stands lines old.session old.audit u → ReportsAreRight lines u
-    → (v : CloudState) × (z ≡ Some v) × Stands (lines ++ line ∷ []) new.session new.audit v × ReportsAreRight (lines ++ line ∷ []) v
+stands_more : (lines : List Line) (line : Line) (n : ℕ) (t z : Seen) (old new : World) → n ≡ 1 + length lines
+    → StandsOn n line.event t z old new (Ok line.reply) → Grows n t z → (u : CloudState) → t.state ≡ Some u → Stands lines old.session old.audit u → ReportsAreRight lines u
+    → (v : CloudState) × (z.state ≡ Some v) × Stands (lines ++ line ∷ []) new.session new.audit v × ReportsAreRight (lines ++ line ∷ []) v
 stands_more lines line n t z old new k on grows u told stands so =
     let f = on lines u (omega arith) told stands in
     let g = grows u told in
@@ -121,10 +122,10 @@ stands_more lines line n t z old new k on grows u told stands so =
     (f.after, f.told, f.stands, reports_more lines line u f.after agree upto_all so f.right)
 
 -- the lines that were handled, with one more
-lines_more : (texts : List (List ℕ)) (text : List ℕ) (n : ℕ) (w v u : Told) (b c d : Counts) (s t z : Option CloudState) (first old new : World) (line : Line)
-    → n ≡ length texts + 1 → Handles texts w v b c s t first old → IsEvent text line.event → IsAnswered n line.event c d t z old new line.reply → Grows n t z
-    → Adds v u (reply_line n line.reply) → Handles (texts ++ text ∷ []) w u b d s z first new
-lines_more texts text n w v u b c d s t z first old new line count h spells a grows adds =
+lines_more : (texts : List (List ℕ)) (text : List ℕ) (n : ℕ) (w v u : Told) (s t z : Seen) (first old new : World) (line : Line)
+    → n ≡ length texts + 1 → Handles texts w v s t first old → IsEvent text line.event → IsAnswered n line.event t z old new line.reply → Grows n t z
+    → Adds v u (reply_line n line.reply) → Handles (texts ++ text ∷ []) w u s z first new
+lines_more texts text n w v u s t z first old new line count h spells a grows adds =
     let m : length h.lines ≡ length texts = spelled_length texts h.lines h.spelled in
     let k : n ≡ 1 + length h.lines = omega arith in
     let l : n ≡ length h.lines + 1 = omega arith in
@@ -132,14 +133,14 @@ lines_more texts text n w v u b c d s t z first old new line count h spells a gr
       lines = h.lines ++ line ∷ [];
       spelled = spelled_more texts h.lines text line h.spelled spells;
       wrote = subst (λ xs. Adds w u xs) (sym (replies_more 1 n h.lines line k)) (adds_more w v u (replies h.lines) (reply_line n line.reply) h.wrote adds);
-      went = further h.lines line c d t z old new h.went (subst (λ j. Handled j line.event c d t z old new (Ok line.reply)) l a.handled);
+      went = further h.lines line t z old new h.went (subst (λ j. Handled j line.event t z old new (Ok line.reply)) l a.handled);
       stands = λ x told empty. let o = h.stands x told empty in stands_more h.lines line n t z old new k a.stands grows o.0 o.1 o.2 o.3;
     }
 
 -- ---- the lines of a text
 
-pub at_start : (text : List ℕ) (w : Told) (c : Counts) (s : Option CloudState) (world : World) → IsNew world → IsAt text text 0 w w c c s s world world
-at_start text w c s world fresh = record {
+pub at_start : (text : List ℕ) (w : Told) (s : Seen) (world : World) → IsNew world → IsAt text text 0 w w s s world world
+at_start text w s world fresh = record {
   earlier = [];
   at = refl;
   count = refl;
@@ -157,61 +158,61 @@ at_start text w c s world fresh = record {
   };
 }
 
-pub at_more : (text rest behind line : List ℕ) (n m : ℕ) (w v u : Told) (b c d : Counts) (s t z : Option CloudState) (first old new : World)
-    → IsAt text rest n w v b c s t first old → lines_of rest ≡ line ∷ lines_of behind → m ≡ n + 1 → LineWent (Ok tt) m line v u c d t z old new → Grows m t z
-    → IsAt text behind m w u b d s z first new
-at_more text rest behind line n m w v u b c d s t z first old new is split next (event_handled event spells p) grows =
+pub at_more : (text rest behind line : List ℕ) (n m : ℕ) (w v u : Told) (s t z : Seen) (first old new : World)
+    → IsAt text rest n w v s t first old → lines_of rest ≡ line ∷ lines_of behind → m ≡ n + 1 → LineWent (Ok tt) m line v u t z old new → Grows m t z
+    → IsAt text behind m w u s z first new
+at_more text rest behind line n m w v u s t z first old new is split next (event_handled event spells p) grows =
     let c : length is.earlier ≡ n = is.count in
     record {
       earlier = is.earlier ++ line ∷ [];
       at = is.at ∙ ap (λ ls. is.earlier ++ ls) split ∙ sym (append_assoc is.earlier (line ∷ []) (lines_of behind));
       count = omega (arith, length-append is.earlier (line ∷ []));
-      handles = lines_more is.earlier line m w v u b _ d s t z first old new (record { event = event; reply = p.0 }) (omega arith) is.handles spells p.1 grows p.2;
+      handles = lines_more is.earlier line m w v u s t z first old new (record { event = event; reply = p.0 }) (omega arith) is.handles spells p.1 grows p.2;
     }
-at_more text rest behind line n m w v u b c d s t z first old new is split next (refused bad e f p) grows = absurd p
-at_more text rest behind line n m w v u b c d s t z first old new is split next (unread e f g h) grows = absurd (cc)
+at_more text rest behind line n m w v u s t z first old new is split next (refused bad e p) grows = absurd p
+at_more text rest behind line n m w v u s t z first old new is split next (unread e f h) grows = absurd (cc)
 
-abbrev answered : (texts : List (List ℕ)) (w v : Told) (b c : Counts) (s t : Option CloudState) (first world : World) → IsNew first
-    → (h : Handles texts w v b c s t first world) → AreAnswered h.lines b c s t
-answered texts w v b c s t first world fresh h = record { first = first; fresh = fresh; last = world; went = h.went }
+abbrev answered : (texts : List (List ℕ)) (w v : Told) (s t : Seen) (first world : World) → IsNew first
+    → (h : Handles texts w v s t first world) → AreAnswered h.lines s t
+answered texts w v s t first world fresh h = record { first = first; fresh = fresh; last = world; went = h.went }
 
-pub at_end : (text rest : List ℕ) (n : ℕ) (w v : Told) (b c : Counts) (s t : Option CloudState) (first world : World) → IsNew first
-    → IsAt text rest n w v b c s t first world → rest ≡ [] → WentThrough text (Ok tt) w v b c s t
-at_end text rest n w v b c s t first world fresh is none = record {
+pub at_end : (text rest : List ℕ) (n : ℕ) (w v : Told) (s t : Seen) (first world : World) → IsNew first
+    → IsAt text rest n w v s t first world → rest ≡ [] → WentThrough text (Ok tt) w v s t
+at_end text rest n w v s t first world fresh is none = record {
   lines = is.handles.lines;
   earlier = is.earlier;
   later = lines_of rest;
   at = is.at;
   spelled = is.handles.spelled;
-  so = (ap lines_of none, answered is.earlier w v b c s t first world fresh is.handles, is.handles.wrote);
+  so = (ap lines_of none, answered is.earlier w v s t first world fresh is.handles, is.handles.wrote);
   theorem = λ x told empty. let o = is.handles.stands x told empty in (o.0, o.1, o.3);
 }
 
 -- where a run stops between two lines for want of memory
-pub at_stop : (text rest : List ℕ) (n : ℕ) (w v : Told) (b c : Counts) (s t : Option CloudState) (first world : World) → IsNew first
-    → IsAt text rest n w v b c s t first world → WentThrough text (Err Memory) w v b c s t
-at_stop text rest n w v b c s t first world fresh is = record {
+pub at_stop : (text rest : List ℕ) (n : ℕ) (w v : Told) (s t : Seen) (first world : World) → IsNew first
+    → IsAt text rest n w v s t first world → WentThrough text (Err Memory) w v s t
+at_stop text rest n w v s t first world fresh is = record {
   lines = is.handles.lines;
   earlier = is.earlier;
   later = lines_of rest;
   at = is.at;
   spelled = is.handles.spelled;
-  so = between (answered is.earlier w v b c s t first world fresh is.handles) is.handles.wrote;
+  so = between (answered is.earlier w v s t first world fresh is.handles) is.handles.wrote;
   theorem = λ x told empty. let o = is.handles.stands x told empty in (o.0, o.1, o.3);
 }
 
 -- ---- a line that ends the run
 
 -- a text of the lines was met, and calls were made at it
-pub record IsMet (text rest behind line : List ℕ) (n m : ℕ) (w v : Told) (b c : Counts) (s t z : Option CloudState) (first old : World) : Type 0 where
+pub record IsMet (text rest behind line : List ℕ) (n m : ℕ) (w v : Told) (s t z : Seen) (first old : World) : Type 0 where
   pub fresh : IsNew first
-  pub is : IsAt text rest n w v b c s t first old
+  pub is : IsAt text rest n w v s t first old
   pub split : lines_of rest ≡ line ∷ lines_of behind
   pub next : m ≡ n + 1
   pub grows : Grows m t z
 
-met_count : {text rest behind line : List ℕ} {n m : ℕ} {w v : Told} {b c : Counts} {s t z : Option CloudState} {first old : World}
-    → (met : IsMet text rest behind line n m w v b c s t z first old) → m ≡ length met.is.handles.lines + 1
+met_count : {text rest behind line : List ℕ} {n m : ℕ} {w v : Told} {s t z : Seen} {first old : World}
+    → (met : IsMet text rest behind line n m w v s t z first old) → m ≡ length met.is.handles.lines + 1
 met_count {text} {rest} {behind} {line} {n} {m} met =
     let at : length met.is.earlier ≡ n = met.is.count in
     let k : length met.is.handles.lines ≡ length met.is.earlier = spelled_length met.is.earlier met.is.handles.lines met.is.handles.spelled in
@@ -219,8 +220,8 @@ met_count {text} {rest} {behind} {line} {n} {m} met =
     omega arith
 
 -- the reports of what was handled, after calls of a later line
-keeps : {text rest behind line : List ℕ} {n m : ℕ} {w v : Told} {b c : Counts} {s t z : Option CloudState} {first old : World}
-    → (met : IsMet text rest behind line n m w v b c s t z first old) → KeepsTheTheorem met.is.handles.lines s z
+keeps : {text rest behind line : List ℕ} {n m : ℕ} {w v : Told} {s t z : Seen} {first old : World}
+    → (met : IsMet text rest behind line n m w v s t z first old) → KeepsTheTheorem met.is.handles.lines s z
 keeps {text} {rest} {behind} {line} {n} {m} met x told empty =
     let h = met.is.handles in
     let o = h.stands x told empty in
@@ -235,10 +236,10 @@ keeps {text} {rest} {behind} {line} {n} {m} met x told empty =
     )
 
 -- the run ends before a text that has no reply
-ends_before : {text rest behind line : List ℕ} {n m : ℕ} {w v : Told} {b c : Counts} {s t z : Option CloudState} {first old : World}
-    → (ended : Result (Unit {0}) LineFault) (u : Told) (d : Counts) → (met : IsMet text rest behind line n m w v b c s t z first old)
-    → Ended ended met.is.handles.lines (line ∷ lines_of behind) w u b d s z → WentThrough text ended w u b d s z
-ends_before {text} {rest} {behind} {line} ended u d met so = record {
+ends_before : {text rest behind line : List ℕ} {n m : ℕ} {w v : Told} {s t z : Seen} {first old : World}
+    → (ended : Result (Unit {0}) LineFault) (u : Told) → (met : IsMet text rest behind line n m w v s t z first old)
+    → Ended ended met.is.handles.lines (line ∷ lines_of behind) w u s z → WentThrough text ended w u s z
+ends_before {text} {rest} {behind} {line} ended u met so = record {
   lines = met.is.handles.lines;
   earlier = met.is.earlier;
   later = line ∷ lines_of behind;
@@ -249,11 +250,11 @@ ends_before {text} {rest} {behind} {line} ended u d met so = record {
 }
 
 -- the run ends behind a text that has a reply
-ends_behind : {text rest behind line : List ℕ} {n m : ℕ} {w v : Told} {b c : Counts} {s t z : Option CloudState} {first old : World}
-    → (ended : Result (Unit {0}) LineFault) (u : Told) (d : Counts) (new : World) (one : Line) → (met : IsMet text rest behind line n m w v b c s t z first old)
-    → IsEvent line one.event → IsAnswered m one.event c d t z old new one.reply
-    → Ended ended (met.is.handles.lines ++ one ∷ []) (lines_of behind) w u b d s z → WentThrough text ended w u b d s z
-ends_behind {text} {rest} {behind} {line} {n} {m} {w} {v} {b} {c} {s} {t} {z} {first} {old} ended u d new one met spells a so =
+ends_behind : {text rest behind line : List ℕ} {n m : ℕ} {w v : Told} {s t z : Seen} {first old : World}
+    → (ended : Result (Unit {0}) LineFault) (u : Told) (new : World) (one : Line) → (met : IsMet text rest behind line n m w v s t z first old)
+    → IsEvent line one.event → IsAnswered m one.event t z old new one.reply
+    → Ended ended (met.is.handles.lines ++ one ∷ []) (lines_of behind) w u s z → WentThrough text ended w u s z
+ends_behind {text} {rest} {behind} {line} {n} {m} {w} {v} {s} {t} {z} {first} {old} ended u new one met spells a so =
     let h = met.is.handles in
     let count : m ≡ length h.lines + 1 = met_count met in
     record {
@@ -270,45 +271,44 @@ ends_behind {text} {rest} {behind} {line} {n} {m} {w} {v} {b} {c} {s} {t} {z} {f
     }
 
 -- the lines before the text, where no call was made at it
-before_unmoved : {text rest behind line : List ℕ} {n m : ℕ} {w v : Told} {b c : Counts} {s t z : Option CloudState} {first old : World}
-    → (met : IsMet text rest behind line n m w v b c s t z first old) (d : Counts) → d ≡ c → z ≡ t → AreAnswered met.is.handles.lines b d s z
-before_unmoved {text} {rest} {behind} {line} {n} {m} {w} {v} {b} {c} {s} {t} {z} {first} {old} met d e f =
+before_unmoved : {text rest behind line : List ℕ} {n m : ℕ} {w v : Told} {s t z : Seen} {first old : World}
+    → (met : IsMet text rest behind line n m w v s t z first old) → z ≡ t → AreAnswered met.is.handles.lines s z
+before_unmoved {text} {rest} {behind} {line} {n} {m} {w} {v} {s} {t} {z} {first} {old} met e =
     let h = met.is.handles in
-    subst (λ x. AreAnswered h.lines b x s z) (sym e) (subst (λ y. AreAnswered h.lines b c s y) (sym f) (answered met.is.earlier w v b c s t first old met.fresh h))
+    subst (λ x. AreAnswered h.lines s x) (sym e) (answered met.is.earlier w v s t first old met.fresh h)
 
 -- the lines with the text's own
-with_answer : {text rest behind line : List ℕ} {n m : ℕ} {w v : Told} {b c : Counts} {s t z : Option CloudState} {first old : World}
-    → (met : IsMet text rest behind line n m w v b c s t z first old) (d : Counts) (new : World) (one : Line) → IsAnswered m one.event c d t z old new one.reply
-    → AreAnswered (met.is.handles.lines ++ one ∷ []) b d s z
-with_answer {text} {rest} {behind} {line} {n} {m} {w} {v} {b} {c} {s} {t} {z} {first} {old} met d new one a = record {
+with_answer : {text rest behind line : List ℕ} {n m : ℕ} {w v : Told} {s t z : Seen} {first old : World}
+    → (met : IsMet text rest behind line n m w v s t z first old) (new : World) (one : Line) → IsAnswered m one.event t z old new one.reply
+    → AreAnswered (met.is.handles.lines ++ one ∷ []) s z
+with_answer {text} {rest} {behind} {line} {n} {m} {w} {v} {s} {t} {z} {first} {old} met new one a = record {
   first = first;
   fresh = met.fresh;
   last = new;
-  went = further met.is.handles.lines one c d t z old new met.is.handles.went (subst (λ j. Handled j one.event c d t z old new (Ok one.reply)) (met_count met) a.handled);
+  went = further met.is.handles.lines one t z old new met.is.handles.went (subst (λ j. Handled j one.event t z old new (Ok one.reply)) (met_count met) a.handled);
 }
 
 -- the event of the text has no reply
-no_answer : {text rest behind line : List ℕ} {n m : ℕ} {w v : Told} {b c : Counts} {s t z : Option CloudState} {first old : World}
-    → (met : IsMet text rest behind line n m w v b c s t z first old) (u : Told) (d : Counts) (new : World) (event : Event) (fault : WorldFault) → IsEvent line event
-    → Handled m event c d t z old new (Err fault) → u ≡ v → EndedBy fault met.is.handles.lines (line ∷ lines_of behind) w u b d s z
-no_answer {text} {rest} {behind} {line} {n} {m} {w} {v} {b} {c} {s} {t} {z} {first} {old} met u d new event fault spells handled same =
+no_answer : {text rest behind line : List ℕ} {n m : ℕ} {w v : Told} {s t z : Seen} {first old : World}
+    → (met : IsMet text rest behind line n m w v s t z first old) (u : Told) (new : World) (event : Event) (fault : WorldFault) → IsEvent line event
+    → Handled m event t z old new (Err fault) → u ≡ v → EndedBy fault met.is.handles.lines (line ∷ lines_of behind) w u s z
+no_answer {text} {rest} {behind} {line} {n} {m} {w} {v} {s} {t} {z} {first} {old} met u new event fault spells handled same =
     let h = met.is.handles in
     record {
       event = event;
       spelled = spells;
       handled = record {
-        counts = c;
-        state = t;
-        before = answered met.is.earlier w v b c s t first old met.fresh h;
+        mid = t;
+        answered = answered met.is.earlier w v s t first old met.fresh h;
         last = new;
-        handled = subst (λ j. Handled j event c d t z old new (Err fault)) (met_count met) handled;
+        handled = subst (λ j. Handled j event t z old new (Err fault)) (met_count met) handled;
       };
       wrote = subst (λ x. Adds w x (replies h.lines)) (sym same) h.wrote;
     }
 
 -- the reply was cut
-cut_reply : {text rest behind line : List ℕ} {n m : ℕ} {w v : Told} {b c : Counts} {s t z : Option CloudState} {first old : World}
-    → (met : IsMet text rest behind line n m w v b c s t z first old) (u : Told) (one : Line) → AddsPrefix v u (reply_line m one.reply)
+cut_reply : {text rest behind line : List ℕ} {n m : ℕ} {w v : Told} {s t z : Seen} {first old : World}
+    → (met : IsMet text rest behind line n m w v s t z first old) (u : Told) (one : Line) → AddsPrefix v u (reply_line m one.reply)
     → WroteFront (met.is.handles.lines ++ one ∷ []) (lines_of behind) w u
 cut_reply {text} {rest} {behind} {line} {n} {m} {w} {v} met u one front =
     let ls = met.is.handles.lines in
@@ -317,44 +317,44 @@ cut_reply {text} {rest} {behind} {line} {n} {m} {w} {v} met u one front =
     reply_cut ls one refl (record { between = v; whole = met.is.handles.wrote; front = subst (λ j. AddsPrefix v u (reply_line j one.reply)) at front })
 
 -- the refusal was cut
-cut_refusal : {text rest behind line : List ℕ} {n m : ℕ} {w v : Told} {b c : Counts} {s t z : Option CloudState} {first old : World}
-    → (met : IsMet text rest behind line n m w v b c s t z first old) (u : Told) → ((event : Event) → IsEvent line event → ⊥) → AddsPrefix v u (bad_line m)
+cut_refusal : {text rest behind line : List ℕ} {n m : ℕ} {w v : Told} {s t z : Seen} {first old : World}
+    → (met : IsMet text rest behind line n m w v s t z first old) (u : Told) → ((event : Event) → IsEvent line event → ⊥) → AddsPrefix v u (bad_line m)
     → WroteFront met.is.handles.lines (line ∷ lines_of behind) w u
 cut_refusal {text} {rest} {behind} {line} {n} {m} {w} {v} met u bad front =
     refusal_cut bad (record { between = v; whole = met.is.handles.wrote; front = subst (λ j. AddsPrefix v u (bad_line j)) (met_count met) front })
 
-by_fault : {text rest behind line : List ℕ} {n m : ℕ} {w v : Told} {b c : Counts} {s t z : Option CloudState} {first old : World}
-    → (u : Told) (d : Counts) (new : World) (fault : LineFault) → IsMet text rest behind line n m w v b c s t z first old
-    → LineWent (Err fault) m line v u c d t z old new → WentThrough text (Err fault) w u b d s z
-by_fault {text} {rest} {behind} {line} {n} {m} {w} {v} {b} {c} {s} {t} {z} {first} {old} u d new BadLine met (event_handled event spells p) = absurd p
-by_fault {text} {rest} {behind} {line} {n} {m} {w} {v} {b} {c} {s} {t} {z} {first} {old} u d new BadLine met (refused bad e f adds) =
+by_fault : {text rest behind line : List ℕ} {n m : ℕ} {w v : Told} {s t z : Seen} {first old : World}
+    → (u : Told) (new : World) (fault : LineFault) → IsMet text rest behind line n m w v s t z first old
+    → LineWent (Err fault) m line v u t z old new → WentThrough text (Err fault) w u s z
+by_fault {text} {rest} {behind} {line} {n} {m} {w} {v} {s} {t} {z} {first} {old} u new BadLine met (event_handled event spells p) = absurd p
+by_fault {text} {rest} {behind} {line} {n} {m} {w} {v} {s} {t} {z} {first} {old} u new BadLine met (refused bad e adds) =
     let h = met.is.handles in
     let all = adds_more w v u (replies h.lines) (bad_line m) h.wrote adds in
-    ends_before (Err BadLine) u d met (bad, before_unmoved met d e f, subst (λ j. Adds w u (replies h.lines ++ bad_line j)) (met_count met) all)
-by_fault {text} {rest} {behind} {line} {n} {m} {w} {v} {b} {c} {s} {t} {z} {first} {old} u d new BadLine met (unread e f g same) = absurd (cc)
-by_fault {text} {rest} {behind} {line} {n} {m} {w} {v} {b} {c} {s} {t} {z} {first} {old} u d new WriteFault met (event_handled event spells p) =
+    ends_before (Err BadLine) u met (bad, before_unmoved met e, subst (λ j. Adds w u (replies h.lines ++ bad_line j)) (met_count met) all)
+by_fault {text} {rest} {behind} {line} {n} {m} {w} {v} {s} {t} {z} {first} {old} u new BadLine met (unread e f same) = absurd (cc)
+by_fault {text} {rest} {behind} {line} {n} {m} {w} {v} {s} {t} {z} {first} {old} u new WriteFault met (event_handled event spells p) =
     let one : Line = record { event = event; reply = p.0 } in
-    ends_behind (Err WriteFault) u d new one met spells p.1 (with_answer met d new one p.1, cut_reply met u one p.2)
-by_fault {text} {rest} {behind} {line} {n} {m} {w} {v} {b} {c} {s} {t} {z} {first} {old} u d new WriteFault met (refused bad e f front) = ends_before (Err WriteFault) u d met (before_unmoved met d e f, cut_refusal met u bad front)
-by_fault {text} {rest} {behind} {line} {n} {m} {w} {v} {b} {c} {s} {t} {z} {first} {old} u d new WriteFault met (unread e f g same) = absurd (cc)
-by_fault {text} {rest} {behind} {line} {n} {m} {w} {v} {b} {c} {s} {t} {z} {first} {old} u d new Memory met (event_handled event spells (inl p)) =
+    ends_behind (Err WriteFault) u new one met spells p.1 (with_answer met new one p.1, cut_reply met u one p.2)
+by_fault {text} {rest} {behind} {line} {n} {m} {w} {v} {s} {t} {z} {first} {old} u new WriteFault met (refused bad e front) = ends_before (Err WriteFault) u met (before_unmoved met e, cut_refusal met u bad front)
+by_fault {text} {rest} {behind} {line} {n} {m} {w} {v} {s} {t} {z} {first} {old} u new WriteFault met (unread e f same) = absurd (cc)
+by_fault {text} {rest} {behind} {line} {n} {m} {w} {v} {s} {t} {z} {first} {old} u new Memory met (event_handled event spells (inl p)) =
     let one : Line = record { event = event; reply = p.0 } in
-    ends_behind (Err Memory) u d new one met spells p.1 (writing (with_answer met d new one p.1) (cut_reply met u one p.2))
-by_fault {text} {rest} {behind} {line} {n} {m} {w} {v} {b} {c} {s} {t} {z} {first} {old} u d new Memory met (event_handled event spells (inr p)) = ends_before (Err Memory) u d met (handling (no_answer met u d new event world.Memory spells p.0 p.1))
-by_fault {text} {rest} {behind} {line} {n} {m} {w} {v} {b} {c} {s} {t} {z} {first} {old} u d new Memory met (refused bad e f front) = ends_before (Err Memory) u d met (writing (before_unmoved met d e f) (cut_refusal met u bad front))
-by_fault {text} {rest} {behind} {line} {n} {m} {w} {v} {b} {c} {s} {t} {z} {first} {old} u d new Memory met (unread e f g same) =
+    ends_behind (Err Memory) u new one met spells p.1 (writing (with_answer met new one p.1) (cut_reply met u one p.2))
+by_fault {text} {rest} {behind} {line} {n} {m} {w} {v} {s} {t} {z} {first} {old} u new Memory met (event_handled event spells (inr p)) = ends_before (Err Memory) u met (handling (no_answer met u new event world.Memory spells p.0 p.1))
+by_fault {text} {rest} {behind} {line} {n} {m} {w} {v} {s} {t} {z} {first} {old} u new Memory met (refused bad e front) = ends_before (Err Memory) u met (writing (before_unmoved met e) (cut_refusal met u bad front))
+by_fault {text} {rest} {behind} {line} {n} {m} {w} {v} {s} {t} {z} {first} {old} u new Memory met (unread e f same) =
     let h = met.is.handles in
-    ends_before (Err Memory) u d met (between (before_unmoved met d f g) (subst (λ x. Adds w x (replies h.lines)) (sym same) h.wrote))
-by_fault {text} {rest} {behind} {line} {n} {m} {w} {v} {b} {c} {s} {t} {z} {first} {old} u d new CloudFault met (event_handled event spells p) = ends_before (Err CloudFault) u d met (no_answer met u d new event world.Cloud spells p.0 p.1)
-by_fault {text} {rest} {behind} {line} {n} {m} {w} {v} {b} {c} {s} {t} {z} {first} {old} u d new CloudFault met (refused bad e f p) = absurd p
-by_fault {text} {rest} {behind} {line} {n} {m} {w} {v} {b} {c} {s} {t} {z} {first} {old} u d new CloudFault met (unread e f g same) = absurd (cc)
+    ends_before (Err Memory) u met (between (before_unmoved met f) (subst (λ x. Adds w x (replies h.lines)) (sym same) h.wrote))
+by_fault {text} {rest} {behind} {line} {n} {m} {w} {v} {s} {t} {z} {first} {old} u new CloudFault met (event_handled event spells p) = ends_before (Err CloudFault) u met (no_answer met u new event world.Cloud spells p.0 p.1)
+by_fault {text} {rest} {behind} {line} {n} {m} {w} {v} {s} {t} {z} {first} {old} u new CloudFault met (refused bad e p) = absurd p
+by_fault {text} {rest} {behind} {line} {n} {m} {w} {v} {s} {t} {z} {first} {old} u new CloudFault met (unread e f same) = absurd (cc)
 
-pub at_fault : (text rest behind line : List ℕ) (n m : ℕ) (w v u : Told) (b c d : Counts) (s t z : Option CloudState) (first old new : World) (fault : LineFault)
-    → IsNew first → IsAt text rest n w v b c s t first old → lines_of rest ≡ line ∷ lines_of behind → m ≡ n + 1
-    → LineWent (Err fault) m line v u c d t z old new → Grows m t z → WentThrough text (Err fault) w u b d s z
-at_fault text rest behind line n m w v u b c d s t z first old new fault fresh is split next went grows =
-    let met : IsMet text rest behind line n m w v b c s t z first old = record { fresh = fresh; is = is; split = split; next = next; grows = grows } in
-    by_fault u d new fault met went
+pub at_fault : (text rest behind line : List ℕ) (n m : ℕ) (w v u : Told) (s t z : Seen) (first old new : World) (fault : LineFault)
+    → IsNew first → IsAt text rest n w v s t first old → lines_of rest ≡ line ∷ lines_of behind → m ≡ n + 1
+    → LineWent (Err fault) m line v u t z old new → Grows m t z → WentThrough text (Err fault) w u s z
+at_fault text rest behind line n m w v u s t z first old new fault fresh is split next went grows =
+    let met : IsMet text rest behind line n m w v s t z first old = record { fresh = fresh; is = is; split = split; next = next; grows = grows } in
+    by_fault u new fault met went
 
 -- ---- what was read
 

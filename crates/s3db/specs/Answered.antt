@@ -1,7 +1,7 @@
 -- Lines that a world handles, one behind another.
-use Rattle.std.specs.Prelude.{◌≡◌, ◌+◌, List, [], ◌∷◌, ◌++◌, length, Option, Ok, Err}
+use Rattle.std.specs.Prelude.{◌≡◌, ◌+◌, List, [], ◌∷◌, ◌++◌, length, Ok, Err}
 use Rattle.client_session.specs.Session.{closed_session}
-use Rattle.cloud_trait.specs.State.{CloudState, Counts}
+use Rattle.cloud_trait.specs.Seen.{Seen}
 use Rattle.event_text.specs.declared.event.Event.{Event}
 use Rattle.replay_meaning.specs.Standing.{Line}
 use Rattle.world_core.specs.declared.world.World.{World}
@@ -14,23 +14,22 @@ pub record IsNew (world : World) : Type 0 where
   pub audit : world.audit ≡ record { committed = []; order = [] }
 
 -- these lines were handled one behind another: each did what its event asks for, and its reply is the reply to that
-pub data WentOn (c : Counts) (s : Option CloudState) (old : World) : List Line → Counts → Option CloudState → World → Type 0 where
-  start : WentOn c s old [] c s old
-  further : (lines : List Line) (line : Line) (d e : Counts) (t u : Option CloudState) (mid new : World)
-      → WentOn c s old lines d t mid → Handled (length lines + 1) line.event d e t u mid new (Ok line.reply)
-      → WentOn c s old (lines ++ line ∷ []) e u new
+pub data WentOn (before : Seen) (old : World) : List Line → Seen → World → Type 0 where
+  start : WentOn before old [] before old
+  further : (lines : List Line) (line : Line) (mid after : Seen) (world new : World)
+      → WentOn before old lines mid world → Handled (length lines + 1) line.event mid after world new (Ok line.reply)
+      → WentOn before old (lines ++ line ∷ []) after new
 
 -- these lines were handled from a new world on
-pub record AreAnswered (lines : List Line) (c d : Counts) (s t : Option CloudState) : Type 0 where
+pub record AreAnswered (lines : List Line) (before after : Seen) : Type 0 where
   pub first : World
   pub fresh : IsNew first
   pub last : World
-  pub went : WentOn c s first lines d t last
+  pub went : WentOn before first lines after last
 
 -- behind these lines this event was handled, and has no reply, by this fault
-pub record IsUnanswered (lines : List Line) (event : Event) (fault : WorldFault) (c d : Counts) (s t : Option CloudState) : Type 0 where
-  pub counts : Counts
-  pub state : Option CloudState
-  pub before : AreAnswered lines c counts s state
+pub record IsUnanswered (lines : List Line) (event : Event) (fault : WorldFault) (before after : Seen) : Type 0 where
+  pub mid : Seen
+  pub answered : AreAnswered lines before mid
   pub last : World
-  pub handled : Handled (length lines + 1) event counts d state t before.last last (Err fault)
+  pub handled : Handled (length lines + 1) event mid after answered.last last (Err fault)

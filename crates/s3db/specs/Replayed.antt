@@ -1,7 +1,8 @@
 -- What a replay reads, writes and leaves, line by line.
 use Rattle.std.specs.Prelude.{ℕ, ◌≡◌, ◌+◌, ◌≤◌, ◌⊎◌, List, [], ◌∷◌, ◌++◌, length, take, slice_get, Option, Some, Result, Ok, Err}
 use Rattle.std.specs.Fmt.{decimal}
-use Rattle.cloud_trait.specs.State.{CloudState, Counts, IsEmptyCloud}
+use Rattle.cloud_trait.specs.State.{CloudState, IsEmptyCloud}
+use Rattle.cloud_trait.specs.Seen.{Seen}
 use Rattle.cloud_trait.specs.Upto.{upto}
 use Rattle.db_io.specs.Content.{Told, Takes, Adds, AddsPrefix}
 use Rattle.event_text.specs.declared.event.Event.{Event}
@@ -53,8 +54,8 @@ abbrev pub ReportsAreRight : List Line → CloudState → Type 0
 ReportsAreRight lines t = (k : ℕ) (line : Line) → slice_get lines k ≡ Some line → ReportIsRight (take (k + 1) lines) (upto t (k + 1)) line.reply
 
 -- over a cloud that was empty and told its state, every report of these lines is right for the state in which they left it
-abbrev pub KeepsTheTheorem : List Line → Option CloudState → Option CloudState → Type 0
-KeepsTheTheorem lines start now = (t : CloudState) → start ≡ Some t → IsEmptyCloud t → (u : CloudState) × (now ≡ Some u) × ReportsAreRight lines u
+abbrev pub KeepsTheTheorem : List Line → Seen → Seen → Type 0
+KeepsTheTheorem lines start now = (t : CloudState) → start.state ≡ Some t → IsEmptyCloud t → (u : CloudState) × (now.state ≡ Some u) × ReportsAreRight lines u
 
 -- ---- how the lines ended
 
@@ -81,74 +82,74 @@ pub data WroteFront (lines : List Line) (later : List (List ℕ)) (written now_w
   refusal_cut : BeginsBad later → AddsFront written now_written (replies lines) (bad_line (length lines + 1)) → WroteFront lines later written now_written
 
 -- the lines were handled and their replies are written, and the next one was handled, has no reply by this fault, and wrote nothing
-pub record EndedBy (fault : WorldFault) (lines : List Line) (later : List (List ℕ)) (written now_written : Told) (c d : Counts) (start now : Option CloudState) : Type 0 where
+pub record EndedBy (fault : WorldFault) (lines : List Line) (later : List (List ℕ)) (written now_written : Told) (start now : Seen) : Type 0 where
   pub event : Event
   pub spelled : Begins later event
-  pub handled : IsUnanswered lines event fault c d start now
+  pub handled : IsUnanswered lines event fault start now
   pub wrote : Adds written now_written (replies lines)
 
 -- where memory ran out: before the next line did anything, while a text was written, or while the next line was handled
-pub data RanOut (lines : List Line) (later : List (List ℕ)) (written now_written : Told) (c d : Counts) (start now : Option CloudState) : Type 0 where
-  between : AreAnswered lines c d start now → Adds written now_written (replies lines) → RanOut lines later written now_written c d start now
-  writing : AreAnswered lines c d start now → WroteFront lines later written now_written → RanOut lines later written now_written c d start now
-  handling : EndedBy world.Memory lines later written now_written c d start now → RanOut lines later written now_written c d start now
+pub data RanOut (lines : List Line) (later : List (List ℕ)) (written now_written : Told) (start now : Seen) : Type 0 where
+  between : AreAnswered lines start now → Adds written now_written (replies lines) → RanOut lines later written now_written start now
+  writing : AreAnswered lines start now → WroteFront lines later written now_written → RanOut lines later written now_written start now
+  handling : EndedBy world.Memory lines later written now_written start now → RanOut lines later written now_written start now
 
 -- how these lines ended, before these texts
-abbrev pub Ended : Result (Unit {0}) LineFault → List Line → List (List ℕ) → Told → Told → Counts → Counts → Option CloudState → Option CloudState → Type 0
-Ended (Ok done) lines later written now_written c d start now =
-    (later ≡ []) × AreAnswered lines c d start now × Adds written now_written (replies lines)
-Ended (Err BadLine) lines later written now_written c d start now =
-    BeginsBad later × AreAnswered lines c d start now × Adds written now_written (replies lines ++ bad_line (length lines + 1))
-Ended (Err WriteFault) lines later written now_written c d start now = AreAnswered lines c d start now × WroteFront lines later written now_written
-Ended (Err Memory) lines later written now_written c d start now = RanOut lines later written now_written c d start now
-Ended (Err CloudFault) lines later written now_written c d start now = EndedBy world.Cloud lines later written now_written c d start now
+abbrev pub Ended : Result (Unit {0}) LineFault → List Line → List (List ℕ) → Told → Told → Seen → Seen → Type 0
+Ended (Ok done) lines later written now_written start now =
+    (later ≡ []) × AreAnswered lines start now × Adds written now_written (replies lines)
+Ended (Err BadLine) lines later written now_written start now =
+    BeginsBad later × AreAnswered lines start now × Adds written now_written (replies lines ++ bad_line (length lines + 1))
+Ended (Err WriteFault) lines later written now_written start now = AreAnswered lines start now × WroteFront lines later written now_written
+Ended (Err Memory) lines later written now_written start now = RanOut lines later written now_written start now
+Ended (Err CloudFault) lines later written now_written start now = EndedBy world.Cloud lines later written now_written start now
 
 -- a text was handled line by line up to this end: the first lines of it spell the lines that were handled
-pub record WentThrough (text : List ℕ) (ended : Result (Unit {0}) LineFault) (written now_written : Told) (c d : Counts) (start now : Option CloudState) : Type 0 where
+pub record WentThrough (text : List ℕ) (ended : Result (Unit {0}) LineFault) (written now_written : Told) (start now : Seen) : Type 0 where
   pub lines : List Line
   pub earlier : List (List ℕ)
   pub later : List (List ℕ)
   pub at : lines_of text ≡ earlier ++ later
   pub spelled : AreSpelled earlier lines
-  pub so : Ended ended lines later written now_written c d start now
+  pub so : Ended ended lines later written now_written start now
   pub theorem : KeepsTheTheorem lines start now
 
 -- ---- between two lines
 
 -- these texts were handled line by line from a world on: their replies are written, and over a cloud that was empty all stands and is right
-pub record Handles (texts : List (List ℕ)) (written now_written : Told) (c d : Counts) (start now : Option CloudState) (first world : World) : Type 0 where
+pub record Handles (texts : List (List ℕ)) (written now_written : Told) (start now : Seen) (first world : World) : Type 0 where
   pub lines : List Line
   pub spelled : AreSpelled texts lines
   pub wrote : Adds written now_written (replies lines)
-  pub went : WentOn c start first lines d now world
-  pub stands : (t : CloudState) → start ≡ Some t → IsEmptyCloud t
-      → (u : CloudState) × (now ≡ Some u) × Stands lines world.session world.audit u × ReportsAreRight lines u
+  pub went : WentOn start first lines now world
+  pub stands : (t : CloudState) → start.state ≡ Some t → IsEmptyCloud t
+      → (u : CloudState) × (now.state ≡ Some u) × Stands lines world.session world.audit u × ReportsAreRight lines u
 
 -- so many lines of the text stand before the rest, and were handled
-pub record IsAt (text rest : List ℕ) (n : ℕ) (written now_written : Told) (c d : Counts) (start now : Option CloudState) (first world : World) : Type 0 where
+pub record IsAt (text rest : List ℕ) (n : ℕ) (written now_written : Told) (start now : Seen) (first world : World) : Type 0 where
   pub earlier : List (List ℕ)
   pub at : lines_of text ≡ earlier ++ lines_of rest
   pub count : length earlier ≡ n
-  pub handles : Handles earlier written now_written c d start now first world
+  pub handles : Handles earlier written now_written start now first world
 
 -- ---- one line
 
 -- an event was handled and has this reply, and what stood stands with it
-pub record IsAnswered (n : ℕ) (event : Event) (c d : Counts) (start now : Option CloudState) (old new : World) (reply : Reply) : Type 0 where
-  pub handled : Handled n event c d start now old new (Ok reply)
+pub record IsAnswered (n : ℕ) (event : Event) (start now : Seen) (old new : World) (reply : Reply) : Type 0 where
+  pub handled : Handled n event start now old new (Ok reply)
   pub stands : StandsOn n event start now old new (Ok reply)
 
 -- what the event of a line did: its reply is written, or a part of it, or there is none
-abbrev pub LineHandled : Result (Unit {0}) LineFault → ℕ → Event → Told → Told → Counts → Counts → Option CloudState → Option CloudState → World → World → Type 0
-LineHandled (Ok done) n event written now_written c d start now old new =
-    (reply : Reply) × IsAnswered n event c d start now old new reply × Adds written now_written (reply_line n reply)
-LineHandled (Err BadLine) n event written now_written c d start now old new = ⊥
-LineHandled (Err WriteFault) n event written now_written c d start now old new =
-    (reply : Reply) × IsAnswered n event c d start now old new reply × AddsPrefix written now_written (reply_line n reply)
-LineHandled (Err Memory) n event written now_written c d start now old new =
-    ((reply : Reply) × IsAnswered n event c d start now old new reply × AddsPrefix written now_written (reply_line n reply))
-    ⊎ (Handled n event c d start now old new (Err world.Memory) × (now_written ≡ written))
-LineHandled (Err CloudFault) n event written now_written c d start now old new = Handled n event c d start now old new (Err world.Cloud) × (now_written ≡ written)
+abbrev pub LineHandled : Result (Unit {0}) LineFault → ℕ → Event → Told → Told → Seen → Seen → World → World → Type 0
+LineHandled (Ok done) n event written now_written start now old new =
+    (reply : Reply) × IsAnswered n event start now old new reply × Adds written now_written (reply_line n reply)
+LineHandled (Err BadLine) n event written now_written start now old new = ⊥
+LineHandled (Err WriteFault) n event written now_written start now old new =
+    (reply : Reply) × IsAnswered n event start now old new reply × AddsPrefix written now_written (reply_line n reply)
+LineHandled (Err Memory) n event written now_written start now old new =
+    ((reply : Reply) × IsAnswered n event start now old new reply × AddsPrefix written now_written (reply_line n reply))
+    ⊎ (Handled n event start now old new (Err world.Memory) × (now_written ≡ written))
+LineHandled (Err CloudFault) n event written now_written start now old new = Handled n event start now old new (Err world.Cloud) × (now_written ≡ written)
 
 -- what a line did whose text is in no grammar: nothing of it was handled, and its refusal is written, or a part of it
 abbrev pub LineRefused : Result (Unit {0}) LineFault → ℕ → Told → Told → Type 0
@@ -159,45 +160,44 @@ LineRefused (Err CloudFault) n written now_written = ⊥
 LineRefused (Ok done) n written now_written = ⊥
 
 -- what a line did: its event was handled, or it is in no grammar, or memory ran out before
-pub data LineWent (result : Result (Unit {0}) LineFault) (n : ℕ) (text : List ℕ) (written now_written : Told) (c d : Counts) (start now : Option CloudState) (old new : World) : Type 0 where
-  event_handled : (event : Event) → IsEvent text event → LineHandled result n event written now_written c d start now old new → LineWent result n text written now_written c d start now old new
-  refused : ((event : Event) → IsEvent text event → ⊥) → d ≡ c → now ≡ start → LineRefused result n written now_written → LineWent result n text written now_written c d start now old new
-  unread : result ≡ Err Memory → d ≡ c → now ≡ start → now_written ≡ written → LineWent result n text written now_written c d start now old new
+pub data LineWent (result : Result (Unit {0}) LineFault) (n : ℕ) (text : List ℕ) (written now_written : Told) (start now : Seen) (old new : World) : Type 0 where
+  event_handled : (event : Event) → IsEvent text event → LineHandled result n event written now_written start now old new → LineWent result n text written now_written start now old new
+  refused : ((event : Event) → IsEvent text event → ⊥) → now ≡ start → LineRefused result n written now_written → LineWent result n text written now_written start now old new
+  unread : result ≡ Err Memory → now ≡ start → now_written ≡ written → LineWent result n text written now_written start now old new
 
 -- ---- a run
 
 -- the source was read to its end, which is no longer than an input, and handled line by line up to this end
-pub record ReadAndWent (ended : Result (Unit {0}) LineFault) (left rest written now_written : Told) (c d : Counts) (start now : Option CloudState) : Type 0 where
+pub record ReadAndWent (ended : Result (Unit {0}) LineFault) (left rest written now_written : Told) (start now : Seen) : Type 0 where
   pub bytes : List ℕ
   pub taken : Takes left rest bytes
   pub all : AreAll left bytes
   pub within : length bytes ≤ MAX_INPUT
-  pub went : WentThrough bytes ended written now_written c d start now
+  pub went : WentThrough bytes ended written now_written start now
 
 -- nothing was written, and no call was made
-pub record NothingRan (written now_written : Told) (c d : Counts) (start now : Option CloudState) : Type 0 where
+pub record NothingRan (written now_written : Told) (start now : Seen) : Type 0 where
   pub output : now_written ≡ written
-  pub counts : d ≡ c
-  pub state : now ≡ start
+  pub seen : now ≡ start
 
 -- what the lines of a text that led to this status wrote and left
-abbrev pub WentBy : Status → List ℕ → Told → Told → Counts → Counts → Option CloudState → Option CloudState → Type 0
-WentBy status.Done text written now_written c d start now = WentThrough text (Ok tt) written now_written c d start now
-WentBy status.BadLine text written now_written c d start now = WentThrough text (Err BadLine) written now_written c d start now
-WentBy status.WriteFault text written now_written c d start now = WentThrough text (Err WriteFault) written now_written c d start now
-WentBy status.CloudFault text written now_written c d start now = WentThrough text (Err CloudFault) written now_written c d start now
-WentBy status.Memory text written now_written c d start now = NothingRan written now_written c d start now ⊎ WentThrough text (Err Memory) written now_written c d start now
-WentBy status.BadWords text written now_written c d start now = ⊥
-WentBy status.ReadFault text written now_written c d start now = ⊥
-WentBy status.TooLong text written now_written c d start now = ⊥
+abbrev pub WentBy : Status → List ℕ → Told → Told → Seen → Seen → Type 0
+WentBy status.Done text written now_written start now = WentThrough text (Ok tt) written now_written start now
+WentBy status.BadLine text written now_written start now = WentThrough text (Err BadLine) written now_written start now
+WentBy status.WriteFault text written now_written start now = WentThrough text (Err WriteFault) written now_written start now
+WentBy status.CloudFault text written now_written start now = WentThrough text (Err CloudFault) written now_written start now
+WentBy status.Memory text written now_written start now = NothingRan written now_written start now ⊎ WentThrough text (Err Memory) written now_written start now
+WentBy status.BadWords text written now_written start now = ⊥
+WentBy status.ReadFault text written now_written start now = ⊥
+WentBy status.TooLong text written now_written start now = ⊥
 
 -- what a run of this status read, wrote and left
-abbrev pub Ran : Status → Told → Told → Told → Told → Counts → Counts → Option CloudState → Option CloudState → Type 0
-Ran status.Done left rest written now_written c d start now = ReadAndWent (Ok tt) left rest written now_written c d start now
-Ran status.BadLine left rest written now_written c d start now = ReadAndWent (Err BadLine) left rest written now_written c d start now
-Ran status.WriteFault left rest written now_written c d start now = ReadAndWent (Err WriteFault) left rest written now_written c d start now
-Ran status.CloudFault left rest written now_written c d start now = ReadAndWent (Err CloudFault) left rest written now_written c d start now
-Ran status.Memory left rest written now_written c d start now = NothingRan written now_written c d start now ⊎ ReadAndWent (Err Memory) left rest written now_written c d start now
-Ran status.BadWords left rest written now_written c d start now = NothingRan written now_written c d start now
-Ran status.ReadFault left rest written now_written c d start now = NothingRan written now_written c d start now
-Ran status.TooLong left rest written now_written c d start now = NothingRan written now_written c d start now
+abbrev pub Ran : Status → Told → Told → Told → Told → Seen → Seen → Type 0
+Ran status.Done left rest written now_written start now = ReadAndWent (Ok tt) left rest written now_written start now
+Ran status.BadLine left rest written now_written start now = ReadAndWent (Err BadLine) left rest written now_written start now
+Ran status.WriteFault left rest written now_written start now = ReadAndWent (Err WriteFault) left rest written now_written start now
+Ran status.CloudFault left rest written now_written start now = ReadAndWent (Err CloudFault) left rest written now_written start now
+Ran status.Memory left rest written now_written start now = NothingRan written now_written start now ⊎ ReadAndWent (Err Memory) left rest written now_written start now
+Ran status.BadWords left rest written now_written start now = NothingRan written now_written start now
+Ran status.ReadFault left rest written now_written start now = NothingRan written now_written start now
+Ran status.TooLong left rest written now_written start now = NothingRan written now_written start now

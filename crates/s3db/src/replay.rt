@@ -1,5 +1,4 @@
 ghost use Rattle.std.specs.Prelude.{◌≡◌, ℕ, ◌<◌, ◌≤◌, Err, IfOk};
-ghost use Rattle.std.specs.Fmt.{decimal};
 ghost use Rattle.event_text.specs.declared.event.Event.{Event};
 ghost use Rattle.event_text.specs.Event.{IsEvent};
 ghost use Rattle.line_io.specs.Output.{WasWritten};
@@ -33,7 +32,7 @@ pub fn replay_lines<O: Sink, C: Bench>(
         → (O.told sink.old).faults < (O.told sink.new).faults }
     ensures only { IsOfLines result }
     ensures went { WentBy result input.now (O.told sink.old) (O.told sink.new)
-        (C.counts cloud.old) (C.counts cloud.new) (C.state cloud.old) (C.state cloud.new) }
+        (C.seen cloud.old) (C.seen cloud.new) }
 {
     match World::new(alloc) {
         Ok(mut world) => status_of(go_on(alloc, &mut world, input, sink, cloud)),
@@ -64,7 +63,7 @@ fn go_on<O: Sink, C: Bench>(
 ) -> Result<(), LineFault>
     requires fresh { IsNew world.old }
     ensures went { WentThrough input.now result (O.told sink.old) (O.told sink.new)
-        (C.counts cloud.old) (C.counts cloud.new) (C.state cloud.old) (C.state cloud.new) }
+        (C.seen cloud.old) (C.seen cloud.new) }
     ensures bad_line { result ≡ Err LineFault.BadLine → HasBadLine input.now }
     ensures write_fault { result ≡ Err LineFault.WriteFault
         → (O.told sink.old).faults < (O.told sink.new).faults }
@@ -104,9 +103,9 @@ fn replay_line<O: Sink, C: Bench>(
     line: &[u8],
 ) -> Result<(), LineFault>
     ensures went { LineWent result n line.now (O.told sink.old) (O.told sink.new)
-        (C.counts cloud.old) (C.counts cloud.new) (C.state cloud.old) (C.state cloud.new)
+        (C.seen cloud.old) (C.seen cloud.new)
         world.old world.new }
-    ensures grows { Grows n (C.state cloud.old) (C.state cloud.new) }
+    ensures grows { Grows n (C.seen cloud.old) (C.seen cloud.new) }
     ensures bad_line { result ≡ Err LineFault.BadLine → (event : Event) → IsEvent line.now event → ⊥ }
     ensures write_fault { result ≡ Err LineFault.WriteFault
         → (O.told sink.old).faults < (O.told sink.new).faults }
@@ -133,9 +132,9 @@ fn handle<O: Sink, C: Bench>(
     event: &Event,
 ) -> Result<(), LineFault>
     ensures handled { LineHandled result n event.now (O.told sink.old) (O.told sink.new)
-        (C.counts cloud.old) (C.counts cloud.new) (C.state cloud.old) (C.state cloud.new)
+        (C.seen cloud.old) (C.seen cloud.new)
         world.old world.new }
-    ensures grows { Grows n (C.state cloud.old) (C.state cloud.new) }
+    ensures grows { Grows n (C.seen cloud.old) (C.seen cloud.new) }
     ensures write_fault { result ≡ Err LineFault.WriteFault
         → (O.told sink.old).faults < (O.told sink.new).faults }
     ensures faults { (O.told sink.old).faults ≤ (O.told sink.new).faults }
@@ -184,21 +183,11 @@ fn reply_line(alloc: Global, n: u64, reply: &Reply) -> Result<Blob, Refused>
         Ok(text) => text,
         Err(_) => return Err(Refused::Memory),
     };
-    let number = number_text(alloc, n)?;
+    let mut number = itoa::Buffer::new();
     let mut line = Blob::new(alloc);
-    line.add(number.as_slice())?;
+    line.add(number.format(n).as_bytes())?;
     line.add(b" ")?;
     line.add(text.as_slice())?;
     line.add(b"\n")?;
     Ok(line)
-}
-
-/// The decimal digits of a number.
-fn number_text(alloc: Global, n: u64) -> Result<Blob, Refused>
-    ensures { IfOk result (λ text. text ≡ decimal n) }
-{
-    match format!(in alloc; "{n}") {
-        Ok(text) => Ok(Blob::of(text.into_bytes())),
-        Err(_) => Err(Refused::Memory),
-    }
 }

@@ -33,7 +33,7 @@ pub fn run<I: Source, O: Sink, C: Bench>(
     ensures write_fault { result ≡ Status.WriteFault
         → (O.told sink.old).faults < (O.told sink.new).faults }
     ensures ran { Ran result (I.told source.old) (I.told source.new) (O.told sink.old) (O.told sink.new)
-        (C.counts cloud.old) (C.counts cloud.new) (C.state cloud.old) (C.state cloud.new) }
+        (C.seen cloud.old) (C.seen cloud.new) }
 {
     match shape(alloc, words) {
         Ok(Shape::Replay) => replay(alloc, source, sink, cloud),
@@ -61,7 +61,7 @@ fn replay<I: Source, O: Sink, C: Bench>(
     ensures write_fault { result ≡ Status.WriteFault
         → (O.told sink.old).faults < (O.told sink.new).faults }
     ensures ran { Ran result (I.told source.old) (I.told source.new) (O.told sink.old) (O.told sink.new)
-        (C.counts cloud.old) (C.counts cloud.new) (C.state cloud.old) (C.state cloud.new) }
+        (C.seen cloud.old) (C.seen cloud.new) }
 {
     match read_whole(alloc, source) {
         Ok(input) => replay_lines(alloc, input.as_slice(), sink, cloud),

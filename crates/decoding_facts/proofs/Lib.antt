@@ -1,0 +1,4 @@
+pub mod Reading
+pub mod Landing
+pub mod Newest
+pub mod Values

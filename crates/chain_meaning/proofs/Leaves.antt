@@ -1,0 +1,34 @@
+-- The newest leaves of the links of the leaf chain lead from page 1 to the end.
+use Rattle.std.proofs.Common.{◌≡◌, ℕ, zero, suc, List, [], ◌∷◌, refl, sym, ap, subst}
+use Rattle.std.specs.Prelude.{slice_get}
+use Rattle.cloud_trait.specs.State.{CloudState}
+use Rattle.leaf_view.specs.Leaf.{Leaf}
+use Rattle.store_book.specs.Book.{Link}
+use Rattle.store_book.specs.Records.{StandsAt, IsIn}
+use Rattle.store_book.specs.Telling.{newest_leaf, nodes_of, roots_of}
+use Rattle.chain_facts.specs.Chain.{IsChained}
+use Rattle.chain_facts.specs.Links.{page_after}
+use Rattle.decoding_facts.specs.Decodes.{Decodes}
+use Rattle.tree_meaning.specs.Chain.{Leads, AreLeaves}
+use Rattle.chain_meaning.specs.Contents.{leaves_of}
+use Rattle.chain_meaning.proofs.Pages.{IsLeafAt, leaf_at}
+use Rattle.db_base.specs.Ids.{IsPage}
+
+leads_links : (s : CloudState) (tree : ℕ) (leaf : ℕ → Leaf) (links : List Link) → ((link : Link) → IsIn links link → IsPage link.page)
+    → ((place : ℕ) (link : Link) → StandsAt links place link → IsLeafAt s tree leaf link (slice_get links (suc place)))
+    → Leads s tree (page_after (slice_get links 0)) (leaves_of leaf links) 0
+leads_links s tree leaf [] pages each = refl
+leads_links s tree leaf (x ∷ links) pages each =
+    let first = each zero x refl in
+    let rest = leads_links s tree leaf links (λ a k. pages a (suc k.0, k.1)) (λ place a k. each (suc place) a k) in
+    (pages x (zero, refl), first.newest, subst (λ (p : ℕ). Leads s tree p (leaves_of leaf links) 0) (sym first.ends.right) rest)
+
+-- the chain of leaves is never broken
+pub links_are_leaves : (s : CloudState) (tree : ℕ) (chain : ℕ → List Link) (done : List ℕ → ℕ → ℕ → ℕ) (cursor : ℕ → ℕ)
+    → IsChained chain (nodes_of s tree) (roots_of s tree) done cursor → Decodes s → AreLeaves s tree (leaves_of (newest_leaf (nodes_of s) tree) (chain 0))
+links_are_leaves s tree chain done cursor h d =
+    subst (λ (p : ℕ). Leads s tree p (leaves_of (newest_leaf (nodes_of s) tree) (chain 0)) 0) first
+    (leads_links s tree (newest_leaf (nodes_of s) tree) (chain 0) (λ link k. (h.pages.linked 0 link k).0) (leaf_at s tree chain done cursor h d))
+  where
+    first : page_after (slice_get (chain 0) 0) ≡ 1
+    first = ap (λ (ls : List Link). page_after (slice_get ls 0)) h.levels.leaves.1

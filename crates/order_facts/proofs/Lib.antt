@@ -5,3 +5,4 @@ pub mod Advances
 mod Takings
 pub mod Kept
 pub mod Legality
+pub mod Told

@@ -1,23 +1,20 @@
 -- A key finds in the pieces of a leaf what it finds in the leaf.
-use Rattle.std.proofs.Common.{◌≡◌, ◌≢◌, ◌+◌, ◌<◌, ◌≤◌, ℕ, zero, suc, Bool, true, false, cond, List, [], ◌∷◌, ◌++◌, length, Option, Some, None, refl, sym, ap, subst, ◌∙◌, take, drop, arith}
-use Rattle.std.proofs.lemmas.List.{take-append-drop}
+use Rattle.std.proofs.Common.{◌≡◌, ◌+◌, ◌<◌, ℕ, zero, suc, Bool, true, false, cond, List, [], ◌∷◌, ◌++◌, length, Option, Some, None, refl, sym, ap, subst, ◌∙◌, take, drop, arith}
 use Rattle.byte_format.specs.Order.{bytes_below, bytes_same}
 use Rattle.byte_format.proofs.OrderLemmas.{same_is}
-use Rattle.leaf_edit.specs.Merging.{KeyBefore}
 use Rattle.leaf_edit.proofs.Payloads.{payload_of-before}
 use Rattle.leaf_view.specs.Fits.{Ascend, entry_below}
 use Rattle.leaf_view.specs.Leaf.{Entry, Leaf}
 use Rattle.leaf_view.specs.Lookup.{payload_of}
 use Rattle.node_codec.proofs.EntryLemmas.{below_chain}
-use Rattle.split_plan.specs.Cut.{first_key_of, front_part, back_part, cut_by}
-use Rattle.split_plan.specs.Part.{Part, LeafPart, leaf_of_part, record_key}
+use Rattle.split_plan.specs.Cut.{first_key_of, back_part, cut_by}
+use Rattle.split_plan.specs.Part.{LeafPart, leaf_of_part, record_key}
 use Rattle.split_plan.specs.Sizes.{CanCut}
 use Rattle.split_plan.proofs.Cutting.{can-behind}
 use Rattle.store_book.specs.Book.{Link}
 use Rattle.store_book.specs.Telling.{page_from}
 use Rattle.telling_facts.specs.Pieces.{left_or, right_of, links_from}
 use Rattle.telling_facts.proofs.Walks.{IsBefore, stops_here}
-use Rattle.chain_facts.proofs.Pieces.{not_itself}
 
 -- ---- records that are cut
 

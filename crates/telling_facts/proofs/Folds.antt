@@ -1,13 +1,13 @@
 -- What entries that a leaf takes come to at a key.
 use Rattle.std.proofs.Common.{◌≡◌, ◌≢◌, ℕ, Bool, true, false, cond, eqb, List, [], ◌∷◌, Option, refl, sym, ap, ◌∙◌}
-use Rattle.std.specs.Prelude.{map, filter, ◌&&◌, nat_lt}
+use Rattle.std.specs.Prelude.{map, filter}
 use Rattle.std.specs.List.{AllByRecursion}
-use Rattle.std.proofs.lemmas.Bool.{eq-eqb, ne_eqb, and_parts, not-true, true_from_ne_false}
+use Rattle.std.proofs.lemmas.Bool.{eq-eqb, ne_eqb, and_parts}
 use Rattle.byte_format.specs.Order.{bytes_same}
 use Rattle.byte_format.proofs.OrderLemmas.{same_is}
 use Rattle.db_base.specs.Change.{key_of}
 use Rattle.history.specs.Fold.{Records, changed_by, fold_onto}
-use Rattle.leaf_edit.specs.Acted.{acted_at, acted_by}
+use Rattle.leaf_edit.specs.Acted.{acted_by}
 use Rattle.leaf_edit.specs.Lacked.{is_lacked, lacked}
 use Rattle.leaf_view.specs.Leaf.{Leaf}
 use Rattle.leaf_view.specs.Lookup.{holds}

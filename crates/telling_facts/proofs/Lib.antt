@@ -6,3 +6,5 @@ pub mod Folds
 pub mod Tables
 pub mod Walks
 pub mod Cuts
+pub mod Ranges
+pub mod Leaves

@@ -132,3 +132,6 @@ at2_beside a b v f m n ne = sym (at2_agree (λ x. x) a b v f m n (f m n) (λ x y
 
 pub at2_same : {V : Type 0} (a b : ℕ) (v : V) (f : ℕ → ℕ → V) (m n : ℕ) → m ≡ a → n ≡ b → at2 a b v f m n ≡ v
 at2_same a b v f m n x y = sym (at2_agree (λ z. z) a b v f m n v (λ _ _. refl) (λ no. absurd (no (x, y))))
+
+pub at2_other : {V : Type 0} (a b : ℕ) (v : V) (f : ℕ → ℕ → V) (m n : ℕ) → (m ≡ a → ⊥) → at2 a b v f m n ≡ f m n
+at2_other a b v f m n ne = sym (at2_agree (λ x. x) a b v f m n (f m n) (λ x y. absurd (ne x)) (λ no. refl))

@@ -1,5 +1,5 @@
 -- The table of a leaf with a run applied, for every client: there is nothing of those who are none.
-use Rattle.std.proofs.Common.{◌≡◌, ◌<◌, ◌≤◌, ◌+◌, ℕ, zero, suc, Bool, true, false, cond, eqb, max, List, [], ◌∷◌, ◌++◌, refl, sym, ap, subst, ◌∙◌, ◌⊎◌, inl, inr, arith}
+use Rattle.std.proofs.Common.{◌≡◌, ◌<◌, ◌≤◌, ℕ, zero, suc, Bool, true, false, cond, max, List, [], ◌∷◌, ◌++◌, refl, sym, ap, subst, ◌∙◌, ◌⊎◌, inl, inr, arith}
 use Rattle.std.specs.Prelude.{◌==◌, ◌&&◌, nat_lt, filter}
 use Rattle.std.specs.List.{AllByRecursion}
 use Rattle.std.proofs.lemmas.Bool.{cases_lt, ne_eqb}
@@ -10,12 +10,10 @@ use Rattle.leaf_edit.proofs.TableNumbers.{raises}
 use Rattle.leaf_view.specs.Lookup.{number_of}
 use Rattle.leaf_view.specs.declared.done.Done.{Done}
 use Rattle.log_codec.specs.declared.record.PuItem.{PuItem}
+use Rattle.telling_facts.specs.Taking.{AreClients}
 
 abbrev pub AreOfClients : List Done → Type 0
 AreOfClients ds = AllByRecursion (λ (d : Done). IsClient d.client) ds
-
-abbrev pub AreClients : List PuItem → Type 0
-AreClients run = AllByRecursion (λ (x : PuItem). IsClient x.rec.client) run
 
 client_cases : (c : ℕ) → IsClient c ⊎ (IsClient c → ⊥)
 client_cases zero = inr (λ is. omega (arith, is.some))

@@ -1,8 +1,8 @@
 -- How a key goes along links that ascend.
-use Rattle.std.proofs.Common.{◌≡◌, ◌≢◌, ◌+◌, ℕ, zero, suc, Bool, true, false, cond, List, [], ◌∷◌, ◌++◌, Option, Some, None, refl, sym, ap, subst, ◌∙◌, ◌⊎◌, inl, inr, arith}
-use Rattle.std.specs.Prelude.{slice_get, ◌==◌}
+use Rattle.std.proofs.Common.{◌≡◌, ◌≢◌, ◌+◌, ℕ, zero, suc, Bool, true, false, cond, List, [], ◌∷◌, ◌++◌, Option, Some, refl, sym, ap, subst, ◌∙◌, arith}
+use Rattle.std.specs.Prelude.{slice_get}
 use Rattle.std.specs.List.{AllByRecursion}
-use Rattle.std.proofs.lemmas.Bool.{eq-eqb, ne_eqb, true_from_ne_false}
+use Rattle.std.proofs.lemmas.Bool.{eq-eqb, ne_eqb}
 use Rattle.byte_format.specs.Order.{bytes_below}
 use Rattle.leaf_view.specs.Fits.{Ascend}
 use Rattle.node_codec.proofs.EntryLemmas.{below_chain}
@@ -10,7 +10,7 @@ use Rattle.store_book.specs.Book.{Link, with_pieces}
 use Rattle.store_book.specs.Records.{StandsAt, IsIn}
 use Rattle.store_book.specs.Telling.{page_from}
 use Rattle.chain_facts.specs.Links.{link_below}
-use Rattle.chain_facts.proofs.Pieces.{Apart, in_first, in_rest, in_cases, none_in, ascend_all}
+use Rattle.chain_facts.proofs.Pieces.{Apart, in_first, in_rest, ascend_all}
 
 -- ---- a link, with those before it and those behind it
 

@@ -1,7 +1,8 @@
 -- The newest leaves of the links of the leaf chain lead from page 1 to the end.
-use Rattle.std.proofs.Common.{◌≡◌, ℕ, zero, suc, List, [], ◌∷◌, refl, sym, ap, subst}
+use Rattle.std.proofs.Common.{◌≡◌, ℕ, zero, suc, List, [], ◌∷◌, arith, refl, sym, ap, subst}
 use Rattle.std.specs.Prelude.{slice_get}
-use Rattle.cloud_trait.specs.State.{CloudState}
+use Rattle.cloud_trait.specs.State.{CloudState, newest}
+use Rattle.db_base.specs.declared.names.ObjName.TheVariants as object
 use Rattle.leaf_view.specs.Leaf.{Leaf}
 use Rattle.store_book.specs.Book.{Link}
 use Rattle.store_book.specs.Records.{StandsAt, IsIn}
@@ -10,6 +11,7 @@ use Rattle.chain_facts.specs.Chain.{IsChained}
 use Rattle.chain_facts.specs.Links.{page_after}
 use Rattle.decoding_facts.specs.Decodes.{Decodes}
 use Rattle.tree_meaning.specs.Chain.{Leads, AreLeaves}
+use Rattle.tree_meaning.proofs.ChainLemmas.{one_leaf}
 use Rattle.chain_meaning.specs.Contents.{leaves_of}
 use Rattle.chain_meaning.proofs.Pages.{IsLeafAt, leaf_at}
 use Rattle.db_base.specs.Ids.{IsPage}
@@ -32,3 +34,13 @@ links_are_leaves s tree chain done cursor h d =
   where
     first : page_after (slice_get (chain 0) 0) ≡ 1
     first = ap (λ (ls : List Link). page_after (slice_get ls 0)) h.levels.leaves.1
+
+-- there is one such list of leaves
+pub one_way : (s : CloudState) (tree from : ℕ) (leaves others : List Leaf) → Leads s tree from leaves 0 → Leads s tree from others 0 → leaves ≡ others
+one_way s tree from [] [] a b = refl
+one_way s tree from [] (m ∷ others) a b = absurd (omega (arith, a, b.0))
+one_way s tree from (l ∷ leaves) [] a b = absurd (omega (arith, b, a.0))
+one_way s tree from (l ∷ leaves) (m ∷ others) a b =
+    let same : l ≡ m = one_leaf tree from (newest s (object.Page tree from)) l m a.1 b.1 in
+    let there : Leads s tree l.right others 0 = subst (λ (x : Leaf). Leads s tree x.right others 0) (sym same) b.2 in
+    ap (λ (ls : List Leaf). l ∷ ls) (one_way s tree l.right leaves others a.2 there) ∙ ap (λ (x : Leaf). x ∷ others) same

@@ -6,3 +6,5 @@ pub mod Contents
 pub mod Leaves
 pub mod Finding
 pub mod Reports
+pub mod Steps
+pub mod Got

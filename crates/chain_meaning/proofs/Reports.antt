@@ -1,5 +1,5 @@
 -- What a report reads of a tree: its chain of leaves is whole, its records have the payloads that are told, and the index finds them.
-use Rattle.std.proofs.Common.{◌≡◌, ℕ, cond, Bool, List, ◌∷◌, sym, ap, subst, ◌∙◌}
+use Rattle.std.proofs.Common.{◌≡◌, ℕ, cond, Bool, List, Option, ◌∷◌, sym, ap, subst, ◌∙◌}
 use Rattle.cloud_trait.specs.State.{CloudState}
 use Rattle.db_base.specs.Ids.{IsTree}
 use Rattle.leaf_view.specs.Leaf.{Leaf}
@@ -12,11 +12,12 @@ use Rattle.store_book.specs.Telling.{tally_of, page_from, newest_leaf, nodes_of,
 use Rattle.chain_facts.specs.Chain.{IsChained, ChainHolds}
 use Rattle.chain_facts.specs.Links.{first_link, Ascends}
 use Rattle.decoding_facts.specs.Decodes.{Decodes}
-use Rattle.tree_meaning.specs.Chain.{records_of}
+use Rattle.tree_meaning.specs.Chain.{AreLeaves, records_of}
+use Rattle.tree_meaning.specs.Index.{Finds}
 use Rattle.chain_meaning.specs.Contents.{leaves_of, IsRead}
 use Rattle.chain_meaning.proofs.Contents.{AreRanged, contents_from}
 use Rattle.chain_meaning.proofs.Finding.{finds}
-use Rattle.chain_meaning.proofs.Leaves.{links_are_leaves}
+use Rattle.chain_meaning.proofs.Leaves.{links_are_leaves, one_way}
 use Rattle.chain_meaning.proofs.Pages.{leaf_at, read_range}
 
 -- the links of a leaf chain begin with the first leaf
@@ -56,3 +57,14 @@ store_reads s st tree e h is d =
     subst (λ (t : Tally). IsRead s tree (leaves_of (newest_leaf t.nodes tree) (st.book.chain tree 0)) (t.payload tree)) e
     (chained_reads s tree (st.book.chain tree) ((tally_of st.book s).done tree) ((tally_of st.book s).cursor tree 0)
     (subst (λ (t : Tally). IsChained (st.book.chain tree) (t.nodes tree) (t.roots tree) (t.done tree) (t.cursor tree 0)) (sym e) (h tree is)) d)
+
+-- whatever leaves are all of the tree, they are those
+pub all_leaves : (s : CloudState) (tree : ℕ) (leaves others : List Leaf) (payload : List ℕ → Option (List ℕ)) → IsRead s tree leaves payload → AreLeaves s tree others
+    → IsRead s tree others payload
+all_leaves s tree leaves others payload read are =
+    subst (λ (ls : List Leaf). IsRead s tree ls payload) (one_way s tree 1 leaves others read.chain are) read
+
+-- the index finds for each key what the records of all leaves have at it
+pub finds_contents : (s : CloudState) (tree : ℕ) (leaves : List Leaf) (payload : List ℕ → Option (List ℕ)) → IsRead s tree leaves payload → (key : List ℕ)
+    → Finds s tree key (payload_at key (records_of leaves))
+finds_contents s tree leaves payload read key = subst (Finds s tree key) (sym (read.contents key)) (read.found key)

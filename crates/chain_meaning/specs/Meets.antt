@@ -1,5 +1,5 @@
 -- What a walk for a key meets at a version of a page that it got, however old.
-use Rattle.std.specs.Prelude.{ℕ, suc, ◌≡◌, true, false, List, Some}
+use Rattle.std.specs.Prelude.{ℕ, suc, ◌≡◌, ◌<◌, ◌⊎◌, true, false, List, Option, Some}
 use Rattle.byte_format.specs.Order.{bytes_below}
 use Rattle.node_codec.specs.Node.{Entry, child_of}
 use Rattle.store_book.specs.Book.{Link}
@@ -28,3 +28,18 @@ pub record MeetsBelow (chain : ℕ → List Link) (level : ℕ) (key : List ℕ)
   pub found : child_of key entries ≡ Some entry
   pub linked : IsIn (chain below) (link_of entry)
   pub from : IsFrom (link_of entry) key
+
+-- ---- the walk
+
+-- a walk for a key is at a page of a level, with the low key that led there: they are a link of the level, which is not above the key
+pub record IsAt (chain : ℕ → List Link) (level page : ℕ) (low key : List ℕ) : Type 0 where
+  pub linked : IsIn (chain level) (record { low = low; page = page })
+  pub from : bytes_below key low ≡ false
+
+-- a page is behind a walk that is at a low key of a level: it is of a level above, or of this one and further left
+pub record IsPassed (chain : ℕ → List Link) (level : ℕ) (low : List ℕ) (page : ℕ) : Type 0 where
+  pub height : ℕ
+  pub link : Link
+  pub linked : IsIn (chain height) link
+  pub page_is : link.page ≡ page
+  pub behind : (level < height) ⊎ ((height ≡ level) × (bytes_below link.low low ≡ true))

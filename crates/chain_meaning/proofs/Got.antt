@@ -1,16 +1,13 @@
 -- What a get answers at a page where a walk is: any landed version is read, and is of the level and of the low key that led there.
-use Rattle.std.proofs.Common.{◌≡◌, ◌≢◌, ◌+◌, ◌-◌, ◌<◌, ℕ, suc, List, [], Some, refl, sym, ap, ◌∙◌, arith}
+use Rattle.std.proofs.Common.{◌≡◌, ◌≢◌, ℕ, suc, List, [], Some, refl, ap, arith}
 use Rattle.std.specs.Prelude.{slice_get}
 use Rattle.cloud_trait.specs.State.{CloudState, version_at}
 use Rattle.db_base.specs.declared.names.ObjName.TheVariants as object
-use Rattle.leaf_view.specs.Leaf.{Leaf, IsLeaf}
-use Rattle.node_codec.specs.Inner.{Inner, IsInner}
-use Rattle.node_codec.specs.Tree.{Tree, IsTree}
 use Rattle.store_book.specs.Book.{Link}
 use Rattle.store_book.specs.Records.{IsIn}
 use Rattle.store_book.specs.Tally.{Node, Leafy, Branch, low_of}
 use Rattle.store_book.specs.Telling.{nodes_of, roots_of}
-use Rattle.chain_facts.specs.Chain.{IsVersionOf, IsChained}
+use Rattle.chain_facts.specs.Chain.{IsChained}
 use Rattle.chain_facts.specs.Links.{first_link, IsOfLevel}
 use Rattle.decoding_facts.specs.Decodes.{Decodes}
 use Rattle.decoding_facts.specs.Kinds.{IsNode}

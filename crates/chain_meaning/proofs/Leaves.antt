@@ -1,5 +1,5 @@
 -- The newest leaves of the links of the leaf chain lead from page 1 to the end.
-use Rattle.std.proofs.Common.{◌≡◌, ℕ, zero, suc, List, [], ◌∷◌, arith, refl, sym, ap, subst}
+use Rattle.std.proofs.Common.{◌∙◌, ◌≡◌, ℕ, zero, suc, List, [], ◌∷◌, arith, refl, sym, ap, subst}
 use Rattle.std.specs.Prelude.{slice_get}
 use Rattle.cloud_trait.specs.State.{CloudState, newest}
 use Rattle.db_base.specs.declared.names.ObjName.TheVariants as object

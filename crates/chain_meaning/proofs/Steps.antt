@@ -1,6 +1,5 @@
 -- The steps of a walk for a key by whatever versions it gets: it is always at a link that is not above the key, and never again at a page.
-use Rattle.std.proofs.Common.{◌≡◌, ◌<◌, ℕ, suc, Bool, true, false, not, List, Option, Some, None, refl, sym, ap, subst, ◌∙◌, ◌⊎◌, inl, inr, arith}
-use Rattle.std.specs.Prelude.{◌&&◌}
+use Rattle.std.proofs.Common.{◌≡◌, ◌<◌, ℕ, suc, true, false, not, List, Option, Some, None, refl, sym, ap, subst, ◌∙◌, ◌⊎◌, inl, inr, arith}
 use Rattle.std.proofs.lemmas.Bool.{and_from}
 use Rattle.byte_format.specs.Order.{bytes_below, below_bound}
 use Rattle.leaf_view.specs.Leaf.{Leaf}

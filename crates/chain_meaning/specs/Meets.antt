@@ -1,5 +1,5 @@
 -- What a walk for a key meets at a version of a page that it got, however old.
-use Rattle.std.specs.Prelude.{ℕ, suc, ◌≡◌, ◌<◌, ◌⊎◌, true, false, List, Option, Some}
+use Rattle.std.specs.Prelude.{ℕ, suc, ◌≡◌, ◌<◌, ◌⊎◌, true, false, List, Some}
 use Rattle.byte_format.specs.Order.{bytes_below}
 use Rattle.node_codec.specs.Node.{Entry, child_of}
 use Rattle.store_book.specs.Book.{Link}

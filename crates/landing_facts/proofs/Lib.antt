@@ -1,1 +1,2 @@
 pub mod LandingLemmas
+pub mod ReportLemmas

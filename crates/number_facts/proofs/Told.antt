@@ -3,12 +3,11 @@ use Rattle.std.proofs.Common.{◌≡◌, ◌≤◌, ℕ, List, sym, subst}
 use Rattle.db_base.specs.Ids.{IsClient}
 use Rattle.cloud_trait.specs.declared.state.Posted.{Posted}
 use Rattle.head_codec.specs.declared.head.Head.{Head}
-use Rattle.log_codec.specs.declared.record.AtomicRec.{AtomicRec}
 use Rattle.report_types.specs.declared.entry.Entry.{Entry}
 use Rattle.route_plan.specs.Queue.{number_of_queue}
-use Rattle.store_book.specs.Records.{StandsAt, IsIn, key_in, count_of}
+use Rattle.store_book.specs.Records.{StandsAt, key_in, count_of}
 use Rattle.store_book.specs.Tally.{Tally, Store}
-use Rattle.number_facts.specs.Numbers.{Numbers, IsUpto, IsOfRecord, IsPlaced}
+use Rattle.number_facts.specs.Numbers.{Numbers, IsUpto}
 use Rattle.number_facts.proofs.Routes.{routed_on}
 
 pub numbers_told : (st : Store) (t : Tally) (order : List Entry) → Numbers st

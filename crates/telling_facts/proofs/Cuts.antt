@@ -13,7 +13,8 @@ use Rattle.split_plan.specs.Sizes.{CanCut}
 use Rattle.split_plan.proofs.Cutting.{can-behind}
 use Rattle.store_book.specs.Book.{Link}
 use Rattle.store_book.specs.Telling.{page_from}
-use Rattle.telling_facts.specs.Pieces.{left_or, right_of, links_from}
+use Rattle.telling_facts.specs.Pieces.{first_part, right_of, links_from}
+use Rattle.telling_facts.proofs.Fences.{cut_links}
 use Rattle.telling_facts.proofs.Walks.{IsBefore, stops_here}
 
 -- ---- records that are cut
@@ -64,14 +65,8 @@ abbrev pub AreAt : (ℕ → Leaf) → ℕ → List LeafPart → Type 0
 AreAt leaves free [] = Unit {0}
 AreAt leaves free (p ∷ ps) = (leaves free ≡ leaf_of_part p) × AreAt leaves (free + 1) ps
 
--- the first of the parts has the low key of the whole
-cut_links : (sizes : List ℕ) (page free : ℕ) (p : LeafPart)
-    → links_from page (cut_by record_key sizes free p) ≡ record { low = p.low; page = page } ∷ links_from (page + 1) (right_of (cut_by record_key sizes free p))
-cut_links [] page free p = refl
-cut_links (n ∷ sizes) page free p = refl
-
-cut_at : (leaves : ℕ → Leaf) (none : Leaf) (sizes : List ℕ) (page free : ℕ) (p : LeafPart) → AreAt leaves page (cut_by record_key sizes free p)
-    → (leaves page ≡ left_or none (cut_by record_key sizes free p)) × AreAt leaves (page + 1) (right_of (cut_by record_key sizes free p))
+cut_at : (leaves : ℕ → Leaf) (none : LeafPart) (sizes : List ℕ) (page free : ℕ) (p : LeafPart) → AreAt leaves page (cut_by record_key sizes free p)
+    → (leaves page ≡ leaf_of_part (first_part none (cut_by record_key sizes free p))) × AreAt leaves (page + 1) (right_of (cut_by record_key sizes free p))
 cut_at leaves none [] page free p at = (at.0, at.1)
 cut_at leaves none (n ∷ sizes) page free p at = (at.0, at.1)
 
@@ -80,15 +75,15 @@ pub record Finds (l : Leaf) (p : LeafPart) (key : List ℕ) : Type 0 where
   pub done : l.done ≡ p.common
   pub payload : payload_of key l.records ≡ payload_of key p.items
 
-pub cut_finds : (leaves : ℕ → Leaf) (none : Leaf) (sizes : List ℕ) (last free page : ℕ) (p : LeafPart) → CanCut sizes last (length p.items) → Ascend entry_below None p.items
-    → leaves page ≡ left_or none (cut_by record_key sizes free p) → AreAt leaves free (right_of (cut_by record_key sizes free p))
+pub cut_finds : (leaves : ℕ → Leaf) (none : LeafPart) (sizes : List ℕ) (last free page : ℕ) (p : LeafPart) → CanCut sizes last (length p.items) → Ascend entry_below None p.items
+    → leaves page ≡ leaf_of_part (first_part none (cut_by record_key sizes free p)) → AreAt leaves free (right_of (cut_by record_key sizes free p))
     → (key : List ℕ) (rest : List Link) → IsBefore key rest
     → Finds (leaves (page_from page key (links_from free (right_of (cut_by record_key sizes free p)) ++ rest))) p key
 cut_finds leaves none [] last free page p can up left right key rest before =
     subst (λ (q : ℕ). Finds (leaves q) p key) (sym (stops_here key page rest before))
     (subst (λ (l : Leaf). Finds l p key) (sym left) (record { done = refl; payload = refl }))
 cut_finds leaves none (n ∷ sizes) last free page p can up left right key rest before =
-    subst (λ (ls : List Link). Finds (leaves (page_from page key (ls ++ rest))) p key) (sym (cut_links sizes free (free + 1) (back_part record_key n p)))
+    subst (λ (ls : List Link). Finds (leaves (page_from page key (ls ++ rest))) p key) (sym (cut_links record_key sizes free (free + 1) (back_part record_key n p)))
     (on (cut_finds leaves none sizes last (free + 1) free (back_part record_key n p) (can-behind n sizes last p.items can) (ascend_drop None n p.items up) at.0 at.1 key rest before)
     (bytes_below key (first_key_of record_key (drop n p.items))) refl)
   where
@@ -98,7 +93,7 @@ cut_finds leaves none (n ∷ sizes) last free page p can up left right key rest 
     less : n < length p.items
     less = can.1
 
-    at : (leaves free ≡ left_or none (cut_by record_key sizes (free + 1) (back_part record_key n p))) × AreAt leaves (free + 1) (right_of (cut_by record_key sizes (free + 1) (back_part record_key n p)))
+    at : (leaves free ≡ leaf_of_part (first_part none (cut_by record_key sizes (free + 1) (back_part record_key n p)))) × AreAt leaves (free + 1) (right_of (cut_by record_key sizes (free + 1) (back_part record_key n p)))
     at = cut_at leaves none sizes free (free + 1) (back_part record_key n p) right
 
     on : Finds (leaves (page_from free key behind)) (back_part record_key n p) key → (b : Bool) → bytes_below key (first_key_of record_key (drop n p.items)) ≡ b

@@ -1,13 +1,13 @@
 -- A leaf lands with a run applied, whole or cut.
-use Rattle.std.proofs.Common.{◌≡◌, ◌≢◌, ◌+◌, ◌==◌, ◌&&◌, ℕ, zero, suc, Bool, true, false, cond, max, List, [], ◌∷◌, ◌++◌, map, Option, None, refl, sym, ap, subst, ◌∙◌}
+use Rattle.std.proofs.Common.{◌≡◌, ◌≢◌, ◌+◌, ◌==◌, ◌&&◌, ℕ, zero, suc, Bool, true, false, cond, max, List, [], ◌∷◌, ◌++◌, map, Option, None, refl, sym, ap, subst, ◌∙◌, ◌⊎◌, inl, inr, Some}
 use Rattle.std.specs.Prelude.{slice_get, filter, nat_lt}
 use Rattle.std.specs.List.{AllByRecursion}
-use Rattle.std.proofs.lemmas.Bool.{eqb-true, eqb-false}
+use Rattle.std.proofs.lemmas.Bool.{eqb-true, eqb-false, eq-eqb}
 use Rattle.byte_format.specs.Order.{bytes_below}
 use Rattle.db_base.specs.Change.{key_of}
 use Rattle.db_base.specs.declared.names.ObjName.TheVariants as object
 use Rattle.cloud_trait.specs.Caller.{Caller}
-use Rattle.cloud_trait.specs.State.{CloudState, landed}
+use Rattle.cloud_trait.specs.State.{CloudState, landed as put}
 use Rattle.history.specs.Fold.{Records, fold_onto}
 use Rattle.leaf_edit.specs.Acted.{acted_by}
 use Rattle.leaf_edit.specs.Applied.{applied}
@@ -21,26 +21,30 @@ use Rattle.leaf_view.specs.Leaf.{Entry, Leaf, IsLeaf}
 use Rattle.leaf_view.specs.Lookup.{empty_leaf, holds, payload_of, number_of as done_number}
 use Rattle.log_codec.specs.declared.record.PuItem.{PuItem}
 use Rattle.report_types.specs.declared.entry.Entry.{Entry as Change}
-use Rattle.split_plan.specs.Part.{LeafPart, part_of_leaf}
+use Rattle.split_plan.specs.Part.{LeafPart, leaf_of_part, part_of_leaf, record_key}
 use Rattle.store_book.specs.Book.{Book, Link, with_pieces}
-use Rattle.store_book.specs.Effects.{Taking, after_leaf, lacking, is_lacking, taken_entry}
-use Rattle.store_book.specs.Records.{IsIn}
+use Rattle.store_book.specs.Effects.{done_after, Taking, after_leaf, lacking, is_lacking, taken_entry}
+use Rattle.store_book.specs.Premises.{Ranges}
+use Rattle.store_book.specs.Records.{StandsAt, IsIn}
 use Rattle.store_book.specs.Tally.{Node, Leafy, at2}
 use Rattle.store_book.specs.Telling.{tally_of, last_or, leaf_in, newest_leaf, page_from, page_for, leaf_for, nodes_of, cursor_of}
 use Rattle.chain_facts.specs.Chain.{AreLevels, AreVersions, AreNewest}
+use Rattle.chain_facts.specs.Landing.{LandsOn, LandsLeaf}
+use Rattle.chain_facts.specs.Links.{low_after}
 use Rattle.chain_facts.proofs.Joining.{level_apart}
-use Rattle.chain_facts.proofs.Pieces.{in_first, in_rest}
-use Rattle.telling_facts.specs.Pieces.{left_or, right_of, links_from, HaveLanded, parts_of}
+use Rattle.chain_facts.proofs.Pieces.{in_first, in_rest, in_cases, none_in}
+use Rattle.telling_facts.specs.Pieces.{right_of, links_from, HaveLanded, leafy, leaf_parts, left_leaf, leaf_links}
 use Rattle.telling_facts.specs.Taking.{taking_of, LandsTaken}
 use Rattle.telling_facts.specs.Told.{store_of, Tells, own_of}
 use Rattle.telling_facts.proofs.Cuts.{AreAt, Finds, cut_finds}
 use Rattle.telling_facts.proofs.Easy.{alike}
+use Rattle.telling_facts.proofs.Fences.{Rises, lows_under, cut_common, cut_version, cut_lands, all_common}
 use Rattle.telling_facts.proofs.Folds.{fold_acts, fold_elsewhere, acts_beside, lacked_beside}
 use Rattle.telling_facts.proofs.Names.{at2_same, at2_other}
 use Rattle.telling_facts.proofs.Nodes.{page_nodes, newest_here, newest_there, page_cursors}
-use Rattle.telling_facts.proofs.Ranges.{IsBetween, newest_between, low_of_first, held, unheld, goes_here, GoesPast, goes_past}
+use Rattle.telling_facts.proofs.Ranges.{IsBetween, newest_between, low_of_first, IsBeyond, held, unheld, goes_here, GoesPast, goes_past}
 use Rattle.telling_facts.proofs.Tables.{AreOfClients, raises_all}
-use Rattle.telling_facts.proofs.Walks.{Split, split_at, stops_here, with_pieces-split}
+use Rattle.telling_facts.proofs.Walks.{Split, split_at, IsBefore, stops_here, with_pieces-split}
 
 -- what has a spelling as a leaf: records in order, and a table of clients
 pub record IsSound (l : Leaf) : Type 0 where
@@ -51,19 +55,15 @@ edited_by_ascends : (es : List Entry) (xs : List PuItem) → Ascend entry_below 
 edited_by_ascends es [] up = up
 edited_by_ascends es (x ∷ xs) up = edited_by_ascends (edited es x.rec.change) xs (edited-ascends None es x.rec.change up tt)
 
--- each piece has the table of the whole
-left_done : (sizes : List ℕ) (free : ℕ) (l : Leaf) → (left_or empty_leaf (parts_of sizes free l)).done ≡ l.done
-left_done [] free l = refl
-left_done (n ∷ sizes) free l = refl
-
-all_below : (low : List ℕ) (links : List Link) → ((a : Link) → IsIn links a → bytes_below a.low low ≡ true) → AllByRecursion (λ a. bytes_below a.low low ≡ true) links
-all_below low [] h = tt
-all_below low (x ∷ links) h = (h x (in_first x links), all_below low links (λ a k. h a (in_rest x links a k)))
+-- the left piece has the table of the whole
+left_done : (sizes : List ℕ) (free : ℕ) (l : Leaf) → (left_leaf sizes free l).done ≡ l.done
+left_done sizes free l = cut_common record_key (part_of_leaf l) sizes free (part_of_leaf l)
 
 module _ (who : Caller) (book : Book) (order : List Change) (s : CloudState) (tree page : ℕ) (queue : ℕ) (run : List PuItem) (sizes : List ℕ) (free : ℕ) (bytes : List ℕ) (height : ℕ)
     (lv : AreLevels (book.chain tree) height) (vs : AreVersions (book.chain tree) (nodes_of s tree)) (nw : AreNewest (book.chain tree) (nodes_of s tree))
     (some : page ≢ 0) (sound : IsSound (newest_leaf (nodes_of s) tree page)) (takes : LandsTaken (book.chain tree) (nodes_of s tree) page (newest_leaf (nodes_of s) tree page) queue run sizes free)
-    (is : IsLeaf bytes (left_or empty_leaf (parts_of sizes free (applied (newest_leaf (nodes_of s) tree page) queue run)))) where
+    (rise : AllByRecursion Rises (leaf_parts sizes free (applied (newest_leaf (nodes_of s) tree page) queue run)))
+    (is : IsLeaf bytes (left_leaf sizes free (applied (newest_leaf (nodes_of s) tree page) queue run))) where
   -- the leaf before, the whole leaf with the run, the piece that lands, and the links of the others
   abbrev old : Leaf
   old = newest_leaf (nodes_of s) tree page
@@ -72,10 +72,10 @@ module _ (who : Caller) (book : Book) (order : List Change) (s : CloudState) (tr
   whole = applied old queue run
 
   abbrev left : Leaf
-  left = left_or empty_leaf (parts_of sizes free whole)
+  left = left_leaf sizes free whole
 
   abbrev pieces : List Link
-  pieces = links_from free (right_of (parts_of sizes free whole))
+  pieces = leaf_links sizes free whole
 
   abbrev links : List Link
   links = book.chain tree 0
@@ -84,36 +84,36 @@ module _ (who : Caller) (book : Book) (order : List Change) (s : CloudState) (tr
   after = record book { chain = at2 tree 0 (with_pieces page pieces links) book.chain }
 
   abbrev later : ℕ → ℕ → List Node
-  later = nodes_of (landed who (object.Page tree page) bytes s)
+  later = nodes_of (put who (object.Page tree page) bytes s)
 
-  split : Split links takes.lands.place takes.lands.link
-  split = split_at None links takes.lands.place takes.lands.link (lv.ascends 0) (level_apart (book.chain tree) height lv 0) takes.lands.linked
+  split : Split links takes.linked.place takes.linked.link
+  split = split_at None links takes.linked.place takes.linked.link (lv.ascends 0) (level_apart (book.chain tree) height lv 0) takes.linked.linked
 
-  between : IsBetween old takes.lands.link.low (slice_get split.rest 0)
+  between : IsBetween old takes.linked.link.low (slice_get split.rest 0)
   between =
-      subst (λ (o : Option Link). IsBetween old takes.lands.link.low o) split.next
-      (subst (λ (p : ℕ). IsBetween (newest_leaf (nodes_of s) tree p) takes.lands.link.low (slice_get links (takes.lands.place + 1))) takes.lands.page_is
-      (newest_between (book.chain tree) (nodes_of s tree) height lv vs nw takes.lands.place takes.lands.link takes.lands.linked))
+      subst (λ (o : Option Link). IsBetween old takes.linked.link.low o) split.next
+      (subst (λ (p : ℕ). IsBetween (newest_leaf (nodes_of s) tree p) takes.linked.link.low (slice_get links (takes.linked.place + 1))) takes.linked.page_is
+      (newest_between (book.chain tree) (nodes_of s tree) height lv vs nw takes.linked.place takes.linked.link takes.linked.linked))
 
   -- where a key goes, before and after
-  goes_before : (key : List ℕ) → page_for book tree key ≡ page_from 1 key (split.front ++ takes.lands.link ∷ split.rest)
+  goes_before : (key : List ℕ) → page_for book tree key ≡ page_from 1 key (split.front ++ takes.linked.link ∷ split.rest)
   goes_before key = ap (page_from 1 key) split.is
 
-  goes_after : (key : List ℕ) → page_for after tree key ≡ page_from 1 key (split.front ++ takes.lands.link ∷ (pieces ++ split.rest))
+  goes_after : (key : List ℕ) → page_for after tree key ≡ page_from 1 key (split.front ++ takes.linked.link ∷ (pieces ++ split.rest))
   goes_after key =
       ap (page_from 1 key) (at2_same tree 0 (with_pieces page pieces links) book.chain tree 0 refl refl)
       ∙ ap (λ (ls : List Link). page_from 1 key (with_pieces page pieces ls)) split.is
-      ∙ ap (page_from 1 key) (with_pieces-split page pieces split.front takes.lands.link split.rest takes.lands.page_is split.front_other)
+      ∙ ap (page_from 1 key) (with_pieces-split page pieces split.front takes.linked.link split.rest takes.linked.page_is split.front_other)
 
   -- ---- keys of the leaf
 
   found_before : (key : List ℕ) → holds old key ≡ true → leaf_for book (nodes_of s) tree key ≡ old
   found_before key h =
-      let p = held old takes.lands.link split.rest key between h in
+      let p = held old takes.linked.link split.rest key between h in
       ap (newest_leaf (nodes_of s) tree)
-      (goes_before key ∙ goes_here key split.front takes.lands.link split.rest split.below p.0 ∙ stops_here key takes.lands.link.page split.rest p.1 ∙ takes.lands.page_is)
+      (goes_before key ∙ goes_here key split.front takes.linked.link split.rest split.below p.0 ∙ stops_here key takes.linked.link.page split.rest p.1 ∙ takes.linked.page_is)
 
-  pieces_at : (from : ℕ) (ps : List LeafPart) → HaveLanded (nodes_of s tree) from ps → ((a : Link) → IsIn (links_from from ps) a → a.page ≢ page) → AreAt (newest_leaf later tree) from ps
+  pieces_at : (from : ℕ) (ps : List LeafPart) → HaveLanded leafy (nodes_of s tree) from ps → ((a : Link) → IsIn (links_from from ps) a → a.page ≢ page) → AreAt (newest_leaf later tree) from ps
   pieces_at from [] landed apart = tt
   pieces_at from (p ∷ ps) landed apart = (
     newest_there who tree page bytes (Leafy left) s is tree from (λ e. apart (record { low = p.low; page = from }) (in_first _ (links_from (from + 1) ps)) e.1)
@@ -122,35 +122,35 @@ module _ (who : Caller) (book : Book) (order : List Change) (s : CloudState) (tr
   )
 
   pieces_apart : (a : Link) → IsIn pieces a → a.page ≢ page
-  pieces_apart a k e = takes.lands.new.unlinked a k 0 takes.lands.link (takes.lands.place, takes.lands.linked) (takes.lands.page_is ∙ sym e)
+  pieces_apart a k e = takes.unlinked a k 0 takes.linked.link (takes.linked.place, takes.linked.linked) (takes.linked.page_is ∙ sym e)
 
   found_after : (key : List ℕ) → holds old key ≡ true → Finds (leaf_for after later tree key) (part_of_leaf whole) key
   found_after key h =
-      let p = held old takes.lands.link split.rest key between h in
+      let p = held old takes.linked.link split.rest key between h in
       let goes : page_for after tree key ≡ page_from page key (pieces ++ split.rest) =
-      goes_after key ∙ goes_here key split.front takes.lands.link (pieces ++ split.rest) split.below p.0 ∙ ap (λ (q : ℕ). page_from q key (pieces ++ split.rest)) takes.lands.page_is in
+      goes_after key ∙ goes_here key split.front takes.linked.link (pieces ++ split.rest) split.below p.0 ∙ ap (λ (q : ℕ). page_from q key (pieces ++ split.rest)) takes.linked.page_is in
       subst (λ (q : ℕ). Finds (newest_leaf later tree q) (part_of_leaf whole) key) (sym goes)
-      (cut_finds (newest_leaf later tree) empty_leaf sizes takes.last free page (part_of_leaf whole) takes.can (edited_by_ascends old.records (lacked old queue run) sound.ascends)
-      (newest_here who tree page bytes (Leafy left) s is) (pieces_at free (right_of (parts_of sizes free whole)) takes.landed pieces_apart) key split.rest p.1)
+      (cut_finds (newest_leaf later tree) (part_of_leaf whole) sizes takes.last free page (part_of_leaf whole) takes.can (edited_by_ascends old.records (lacked old queue run) sound.ascends)
+      (newest_here who tree page bytes (Leafy left) s is) (pieces_at free (right_of (leaf_parts sizes free whole)) takes.landed pieces_apart) key split.rest p.1)
 
   -- ---- other keys
 
   within : (next : Link) (behind : List Link) → split.rest ≡ next ∷ behind → AllByRecursion (λ a. bytes_below a.low next.low ≡ true) pieces
   within next behind e =
-      all_below next.low pieces (λ a k. takes.lands.within a next k (split.next ∙ ap (λ (ls : List Link). slice_get ls 0) e))
+      lows_under record_key sizes free free (part_of_leaf whole) next.low (between.high ∙ ap (λ (ls : List Link). low_after (slice_get ls 0)) e) rise
 
-  past : (key : List ℕ) → holds old key ≡ false → GoesPast key takes.lands.link.page split.front takes.lands.link pieces split.rest
+  past : (key : List ℕ) → holds old key ≡ false → GoesPast key takes.linked.link.page split.front takes.linked.link pieces split.rest
   past key h =
-      goes_past key split.front takes.lands.link pieces split.rest split.below split.front_other split.rest_other
-      (low_of_first (book.chain tree) (nodes_of s tree) height lv vs nw takes.lands.link (takes.lands.place, takes.lands.linked)) within
-      (unheld old takes.lands.link split.rest key between h)
+      goes_past key split.front takes.linked.link pieces split.rest split.below split.front_other split.rest_other
+      (low_of_first (book.chain tree) (nodes_of s tree) height lv vs nw takes.linked.link (takes.linked.place, takes.linked.linked)) within
+      (unheld old takes.linked.link split.rest key between h)
 
   -- a key that the leaf does not hold finds the leaf that it found
   stays_here : (key : List ℕ) → holds old key ≡ false → leaf_for after later tree key ≡ leaf_for book (nodes_of s) tree key
   stays_here key h =
       let g = past key h in
       ap (newest_leaf later tree) (goes_after key ∙ g.same ∙ sym (goes_before key))
-      ∙ newest_there who tree page bytes (Leafy left) s is tree (page_for book tree key) (λ e. g.other (sym (goes_before key) ∙ e.1 ∙ sym takes.lands.page_is))
+      ∙ newest_there who tree page bytes (Leafy left) s is tree (page_for book tree key) (λ e. g.other (sym (goes_before key) ∙ e.1 ∙ sym takes.linked.page_is))
 
   stays_there : (t : ℕ) (key : List ℕ) → t ≢ tree → leaf_for after later t key ≡ leaf_for book (nodes_of s) t key
   stays_there t key ne =
@@ -237,7 +237,7 @@ module _ (who : Caller) (book : Book) (order : List Change) (s : CloudState) (tr
       ∙ raises_all old.done queue run sound.clients takes.clients page c
       ∙ ap (λ (n : ℕ). cond (page == queue) (max n (greatest_of run c)) n) (sym (cursor_is page c some))
 
-  cursor_told : (t q c : ℕ) → cursor_of (landed who (object.Page tree page) bytes s) t q c
+  cursor_told : (t q c : ℕ) → cursor_of (put who (object.Page tree page) bytes s) t q c
       ≡ cond (((t == tree) && (q == queue)) && (q == page)) (max (cursor_of s t q c) (greatest_of run c)) (cursor_of s t q c)
   cursor_told t q c = page_cursors who tree page bytes (Leafy left) s is some t q c ∙ on (t == tree) refl (q == page) refl (q == queue) refl
     where
@@ -255,7 +255,7 @@ module _ (who : Caller) (book : Book) (order : List Change) (s : CloudState) (tr
       on true e false f false g = refl
       on false e v f w g = refl
 
-  pub leaf_tells : Tells (landed who (object.Page tree page) bytes s) (after_leaf taking (store_of book order s))
+  pub leaf_tells : Tells (put who (object.Page tree page) bytes s) (after_leaf taking (store_of book order s))
   leaf_tells = alike _ _ (record {
     head = λ c. refl;
     logged = λ c. refl;
@@ -266,3 +266,81 @@ module _ (who : Caller) (book : Book) (order : List Change) (s : CloudState) (tr
     nodes = page_nodes who tree page bytes (Leafy left) s is;
     roots = λ t. refl;
   })
+
+  -- ---- what must be known of a leaf that takes a run
+
+  -- the table of the left piece is that of its keys with the run
+  pub table_is : (key : List ℕ) → holds old key ≡ true → (q c : ℕ) → done_number left.done q c ≡ done_after taking (tally_of book s).done tree key q c
+  table_is key h q c =
+      ap (λ ds. done_number ds q c) (left_done sizes free whole)
+      ∙ raises_all old.done queue run sound.clients takes.clients q c
+      ∙ ap (λ (l : Leaf). cond (q == queue) (max (done_number l.done q c) (greatest_of run c)) (done_number l.done q c)) (sym (found_before key h))
+      ∙ ap (λ (b : Bool). cond b (max (done_number (leaf_for book (nodes_of s) tree key).done q c) (greatest_of run c)) (done_number (leaf_for book (nodes_of s) tree key).done q c)) (sym test)
+    where
+      on : (v : Bool) → ((true && v) && true) ≡ v
+      on true = refl
+      on false = refl
+
+      test : (((tree == tree) && (q == queue)) && holds old key) ≡ (q == queue)
+      test = (λ i. ((eq-eqb tree tree refl i) && (q == queue)) && h i) ∙ on (q == queue)
+
+  between_next : IsBetween old takes.linked.link.low (slice_get links (takes.linked.place + 1))
+  between_next = subst (λ (o : Option Link). IsBetween old takes.linked.link.low o) (sym split.next) between
+
+  -- the range is that of the page's link
+  pub ranges_are : Ranges book tree page (holds old)
+  ranges_are = record {
+    place = takes.linked.place;
+    link = takes.linked.link;
+    linked = takes.linked.linked;
+    page_is = takes.linked.page_is;
+    low = λ key h. (held old takes.linked.link split.rest key between h).0;
+    below = λ next key there h. next_below key next (held old takes.linked.link split.rest key between h).1 (sym split.next ∙ there);
+    whole = λ key h. out key (unheld old takes.linked.link split.rest key between h);
+  }
+    where
+      first_below : (key : List ℕ) (next : Link) (rest : List Link) → IsBefore key rest → slice_get rest 0 ≡ Some next → bytes_below key next.low ≡ true
+      first_below key next [] before e = absurd (cc)
+      first_below key next (x ∷ rest) before e = let same : x ≡ next = cc in ap (λ (a : Link). bytes_below key a.low) (sym same) ∙ before
+
+      next_below : (key : List ℕ) (next : Link) → IsBefore key split.rest → slice_get split.rest 0 ≡ Some next → bytes_below key next.low ≡ true
+      next_below key next before e = first_below key next split.rest before e
+
+      out : (key : List ℕ) → (bytes_below key takes.linked.link.low ≡ true) ⊎ ((bytes_below key takes.linked.link.low ≡ false) × IsBeyond key split.rest)
+          → (bytes_below key takes.linked.link.low ≡ true) ⊎ ((next : Link) × StandsAt links (takes.linked.place + 1) next × (bytes_below key next.low ≡ false))
+      out key (inl e) = inl e
+      out key (inr (e, b)) = inr (b.link, split.next ∙ ap (λ (ls : List Link). slice_get ls 0) b.is, b.from)
+
+  -- the left piece lands on the page of its link, and the others behind it
+  pub lands_on : LandsOn (book.chain tree) (nodes_of s tree) 0 page (Leafy left) pieces
+  lands_on =
+      subst (λ (p : ℕ). LandsOn (book.chain tree) (nodes_of s tree) 0 p (Leafy left) pieces) takes.linked.page_is
+      (cut_lands record_key leafy (record { low = λ p. refl; right = λ p. refl; high = λ p. refl }) (book.chain tree) (nodes_of s tree) 0 sizes free (part_of_leaf whole) (λ q e. refl)
+      takes.linked.place takes.linked.link takes.linked.linked between_next.low (record { right = between_next.right; high = between_next.high }) rise tt takes.landed takes.unlinked)
+
+  -- the tables of the pieces are that of the whole
+  tables_are : (from : ℕ) (ps : List LeafPart) → HaveLanded leafy (nodes_of s tree) from ps → AllByRecursion (λ (p : LeafPart). p.common ≡ whole.done) ps
+      → (piece : Link) (l : Leaf) → IsIn (links_from from ps) piece → nodes_of s tree piece.page ≡ Leafy l ∷ [] → l.done ≡ whole.done
+  tables_are from [] landed same piece l h k = absurd (none_in piece h)
+  tables_are from (p ∷ ps) landed same piece l h k =
+      on (tables_are (from + 1) ps landed.1 same.1 piece l) (in_cases (record { low = p.low; page = from }) (links_from (from + 1) ps) piece h)
+    where
+      on : (IsIn (links_from (from + 1) ps) piece → nodes_of s tree piece.page ≡ Leafy l ∷ [] → l.done ≡ whole.done)
+          → (record { low = p.low; page = from } ≡ piece) ⊎ IsIn (links_from (from + 1) ps) piece → l.done ≡ whole.done
+      on again (inr j) = again j k
+      on again (inl e) =
+          let both : leafy p ∷ [] ≡ Leafy l ∷ [] = sym landed.0 ∙ ap (λ (a : Link). nodes_of s tree a.page) e ∙ k in
+          let one : leaf_of_part p ≡ l = cc in
+          ap (λ (m : Leaf). m.done) (sym one) ∙ same.0
+
+  pub lands_leaf : LandsLeaf (store_of book order s) taking
+  lands_leaf = record {
+    lands = lands_on;
+    table = λ piece l h k q c.
+        ap (λ ds. done_number ds q c)
+        (tables_are free (right_of (leaf_parts sizes free whole)) takes.landed (all_common record_key sizes free (part_of_leaf whole)) piece l h k ∙ sym (left_done sizes free whole));
+  }
+
+  -- its version is the next one
+  pub left_version : left.version ≡ old.version + 1
+  left_version = cut_version record_key (part_of_leaf whole) sizes free (part_of_leaf whole)

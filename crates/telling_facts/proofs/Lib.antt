@@ -5,6 +5,9 @@ pub mod Nodes
 pub mod Folds
 pub mod Tables
 pub mod Walks
+pub mod Fences
 pub mod Cuts
 pub mod Ranges
 pub mod Leaves
+pub mod Sound
+pub mod Laws

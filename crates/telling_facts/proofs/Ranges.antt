@@ -9,10 +9,10 @@ use Rattle.leaf_view.specs.Lookup.{empty_leaf, holds}
 use Rattle.node_codec.proofs.NodeLemmas.{not_below_empty}
 use Rattle.store_book.specs.Book.{Link}
 use Rattle.store_book.specs.Records.{StandsAt, IsIn}
-use Rattle.store_book.specs.Tally.{Node, Leafy, Branch, low_of, high_of}
+use Rattle.store_book.specs.Tally.{Node, Leafy, Branch, version_of, low_of, high_of, right_of as right_page}
 use Rattle.store_book.specs.Telling.{last_or, leaf_in, page_from}
 use Rattle.chain_facts.specs.Chain.{AreLevels, AreVersions, AreNewest}
-use Rattle.chain_facts.specs.Links.{first_link, newest_node, IsOfLevel, low_after}
+use Rattle.chain_facts.specs.Links.{first_link, newest_node, IsOfLevel, page_after, low_after}
 use Rattle.decoding_facts.proofs.Newest.{IsLast, last_cases}
 use Rattle.telling_facts.proofs.Walks.{from_below, passes, stops, IsBefore, goes_other}
 
@@ -29,9 +29,18 @@ leaf_high : (node : Node) → IsOfLevel 0 node → high_of node ≡ (leaf_in nod
 leaf_high (Leafy l) level = refl
 leaf_high (Branch n) level = absurd (omega (arith, level.1))
 
+leaf_right : (node : Node) → IsOfLevel 0 node → right_page node ≡ (leaf_in node).right
+leaf_right (Leafy l) level = refl
+leaf_right (Branch n) level = absurd (omega (arith, level.1))
+
+leaf_version : (node : Node) → IsOfLevel 0 node → version_of node ≡ (leaf_in node).version
+leaf_version (Leafy l) level = refl
+leaf_version (Branch n) level = absurd (omega (arith, level.1))
+
 -- a leaf of the keys from a low key on up to a next link
 pub record IsBetween (l : Leaf) (least : List ℕ) (next : Option Link) : Type 0 where
   pub low : l.low ≡ least
+  pub right : l.right ≡ page_after next
   pub high : l.high ≡ low_after next
 
 module _ (chain : ℕ → List Link) (nodes : ℕ → List Node) (height : ℕ) (lv : AreLevels chain height) (vs : AreVersions chain nodes) (nw : AreNewest chain nodes) where
@@ -55,8 +64,12 @@ module _ (chain : ℕ → List Link) (nodes : ℕ → List Node) (height : ℕ) 
       let n = newest_cases place link linked (last_cases (nodes link.page)) in
       record {
         low = sym (leaf_low (newest_node nodes link.page) n.0) ∙ n.1;
+        right = sym (leaf_right (newest_node nodes link.page) n.0) ∙ (nw.ends 0 place link linked).right;
         high = sym (leaf_high (newest_node nodes link.page) n.0) ∙ (nw.ends 0 place link linked).high;
       }
+
+  pub newest_version : (place : ℕ) (link : Link) → StandsAt (chain 0) place link → version_of (newest_node nodes link.page) ≡ (leaf_in (newest_node nodes link.page)).version
+  newest_version place link linked = leaf_version (newest_node nodes link.page) (newest_cases place link linked (last_cases (nodes link.page))).0
 
 -- ---- where keys go
 

@@ -1,17 +1,18 @@
 -- A leaf that takes a run: it lands with the run applied, whole or cut.
-use Rattle.std.specs.Prelude.{ℕ, List, length}
+use Rattle.std.specs.Prelude.{ℕ, ◌≡◌, List, length}
 use Rattle.std.specs.List.{AllByRecursion}
 use Rattle.db_base.specs.Ids.{IsClient}
 use Rattle.leaf_edit.specs.Applied.{applied}
 use Rattle.leaf_view.specs.Leaf.{Leaf}
-use Rattle.leaf_view.specs.Lookup.{empty_leaf, holds}
+use Rattle.leaf_view.specs.Lookup.{holds}
 use Rattle.log_codec.specs.declared.record.PuItem.{PuItem}
 use Rattle.split_plan.specs.Sizes.{CanCut}
-use Rattle.store_book.specs.Effects.{Taking}
-use Rattle.store_book.specs.Tally.{Node, Leafy}
 use Rattle.store_book.specs.Book.{Link}
-use Rattle.chain_facts.specs.Landing.{LandsOn}
-use Rattle.telling_facts.specs.Pieces.{left_or, right_of, links_from, HaveLanded, parts_of}
+use Rattle.store_book.specs.Effects.{Taking}
+use Rattle.store_book.specs.Records.{StandsAt, IsIn}
+use Rattle.store_book.specs.Tally.{Node}
+use Rattle.chain_facts.specs.Chain.{IsUnlinked}
+use Rattle.telling_facts.specs.Pieces.{right_of, HaveLanded, leafy, leaf_parts, left_leaf, leaf_links}
 
 -- the items of a run are of clients
 abbrev pub AreClients : List PuItem → Type 0
@@ -23,20 +24,27 @@ abbrev pub taking_of : ℕ → ℕ → Leaf → ℕ → List PuItem → List ℕ
 taking_of tree page l queue run sizes free = record {
   tree = tree;
   page = page;
-  leaf = left_or empty_leaf (parts_of sizes free (applied l queue run));
+  leaf = left_leaf sizes free (applied l queue run);
   range = holds l;
   queue = queue;
   run = run;
-  pieces = links_from free (right_of (parts_of sizes free (applied l queue run)));
+  pieces = leaf_links sizes free (applied l queue run);
 }
+
+-- the page is that of a link of a level
+pub record IsLinked (links : List Link) (page : ℕ) : Type 0 where
+  pub place : ℕ
+  pub link : Link
+  pub linked : StandsAt links place link
+  pub page_is : link.page ≡ page
 
 -- what must be known where the left piece lands
 pub record LandsTaken (chain : ℕ → List Link) (nodes : ℕ → List Node) (page : ℕ) (l : Leaf) (queue : ℕ) (run : List PuItem) (sizes : List ℕ) (free : ℕ) : Type 0 where
   pub clients : AreClients run
+  pub linked : IsLinked (chain 0) page
   -- the sizes fit, with a last piece
   pub last : ℕ
   pub can : CanCut sizes last (length (applied l queue run).records)
-  -- the other pieces landed before
-  pub landed : HaveLanded nodes free (right_of (parts_of sizes free (applied l queue run)))
-  -- the page is that of a link of the leaf chain, and the pieces are new
-  pub lands : LandsOn chain nodes 0 page (Leafy (left_or empty_leaf (parts_of sizes free (applied l queue run)))) (links_from free (right_of (parts_of sizes free (applied l queue run))))
+  -- the other pieces landed before, on pages that are in no chain
+  pub landed : HaveLanded leafy nodes free (right_of (leaf_parts sizes free (applied l queue run)))
+  pub unlinked : (piece : Link) → IsIn (leaf_links sizes free (applied l queue run)) piece → IsUnlinked chain piece.page

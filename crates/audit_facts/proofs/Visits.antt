@@ -46,7 +46,8 @@ visited s tree leaf (x ∷ front) rest each from page begins k =
     on again (inr k) = further (again k)
 
 -- the links before one are below it
-pub front_below : (before : Option Link) (front : List Link) (y : Link) (rest : List Link) → Ascend link_below before (front ++ y ∷ rest) → (a : Link) → IsIn front a
+pub front_below : (before : Option Link) (front : List Link) (y : Link) (rest : List Link) → Ascend link_below before (front ++ y ∷ rest)
+    → (a : Link) → IsIn front a
     → bytes_below a.low y.low ≡ true
 front_below before [] y rest up a k = absurd (none_in a k)
 front_below before (x ∷ front) y rest up a k = on (front_below (Some x) front y rest up.1 a) (in_cases x front a k)

@@ -29,7 +29,8 @@ skip key [] behind others = refl
 skip key (e ∷ es) behind others =
     ap (λ (b : Bool). cond b (Some e.payload) (payload_at key (map pair_of es ++ behind))) others.0 ∙ skip key es behind others.1
 
-take_first : (key : List ℕ) (es : List Entry) (behind : List Pair) → payload_at key behind ≡ None → payload_at key (map pair_of es ++ behind) ≡ payload_of key es
+take_first : (key : List ℕ) (es : List Entry) (behind : List Pair) → payload_at key behind ≡ None
+    → payload_at key (map pair_of es ++ behind) ≡ payload_of key es
 take_first key [] behind none = none
 take_first key (e ∷ es) behind none = ap (λ (p : Option (List ℕ)). cond (bytes_same e.key key) (Some e.payload) p) (take_first key es behind none)
 
@@ -41,12 +42,14 @@ differs key other test in_it out = on (bytes_same other key) refl
     on true e = let same : test other ≡ test key = ap test (same_is other key e) in absurd (cc)
     on false e = refl
 
-below_all : (key low : List ℕ) (high : Option (List ℕ)) (es : List Entry) → AllByRecursion (IsEntryIn low high) es → bytes_below key low ≡ true → HaveOthers key es
+below_all : (key low : List ℕ) (high : Option (List ℕ)) (es : List Entry) → AllByRecursion (IsEntryIn low high) es → bytes_below key low ≡ true
+    → HaveOthers key es
 below_all key low high [] are below = tt
 below_all key low high (e ∷ es) are below =
     (differs key e.key (λ k. not (bytes_below k low)) are.0.from_low (ap not below), below_all key low high es are.1 below)
 
-past_all : (key low : List ℕ) (high : Option (List ℕ)) (es : List Entry) → AllByRecursion (IsEntryIn low high) es → below_bound key high ≡ false → HaveOthers key es
+past_all : (key low : List ℕ) (high : Option (List ℕ)) (es : List Entry) → AllByRecursion (IsEntryIn low high) es → below_bound key high ≡ false
+    → HaveOthers key es
 past_all key low high [] are past = tt
 past_all key low high (e ∷ es) are past = (differs key e.key (λ k. below_bound k high) are.0.to_high past, past_all key low high es are.1 past)
 

@@ -52,7 +52,8 @@ module _ (s : CloudState) (tree : ℕ) (chain : ℕ → List Link) (done : List 
       subst (λ (p : ℕ). Reaches s tree key 0 link.page (leaf p)) (sym here)
       (ends link.page (leaf link.page) at.newest (is_within key (leaf link.page).high (slice_get (chain 0) (suc place)) at.ends.high before))
 
-  right_of_inner : (level place : ℕ) (link next : Link) → StandsAt (chain (suc level)) place link → StandsAt (chain (suc level)) (suc place) next → IsFrom next key
+  right_of_inner : (level place : ℕ) (link next : Link) → StandsAt (chain (suc level)) place link → StandsAt (chain (suc level)) (suc place) next
+      → IsFrom next key
       → Reaches s tree key (suc level) next.page target → Reaches s tree key (suc level) link.page target
   right_of_inner level place link next there after from again =
       let at = inner_at s tree chain done cursor h d level place link there in

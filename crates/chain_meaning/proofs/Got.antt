@@ -41,7 +41,8 @@ module _ (s : CloudState) (tree : ℕ) (chain : ℕ → List Link) (done : List 
       let v = h.versions 0 (record { low = low; page = page }) node.0 at.linked landed in
       leaf_by s tree page low bytes node.0 v.level_is node.1 landed v.low
 
-  pub got_inner : (level page n : ℕ) (low key bytes : List ℕ) → IsAt chain (suc level) page low key → version_at (s.versions (object.Page tree page)) n ≡ Some bytes
+  pub got_inner : (level page n : ℕ) (low key bytes : List ℕ) → IsAt chain (suc level) page low key
+      → version_at (s.versions (object.Page tree page)) n ≡ Some bytes
       → IsGotInner s tree (suc level) page low bytes
   got_inner level page n low key bytes at got =
       let node = version_decodes s (object.Page tree page) n bytes d got in

@@ -59,7 +59,8 @@ store_reads s st tree e h is d =
     (subst (λ (t : Tally). IsChained (st.book.chain tree) (t.nodes tree) (t.roots tree) (t.done tree) (t.cursor tree 0)) (sym e) (h tree is)) d)
 
 -- whatever leaves are all of the tree, they are those
-pub all_leaves : (s : CloudState) (tree : ℕ) (leaves others : List Leaf) (payload : List ℕ → Option (List ℕ)) → IsRead s tree leaves payload → AreLeaves s tree others
+pub all_leaves : (s : CloudState) (tree : ℕ) (leaves others : List Leaf) (payload : List ℕ → Option (List ℕ)) → IsRead s tree leaves payload
+    → AreLeaves s tree others
     → IsRead s tree others payload
 all_leaves s tree leaves others payload read are =
     subst (λ (ls : List Leaf). IsRead s tree ls payload) (one_way s tree 1 leaves others read.chain are) read

@@ -54,10 +54,12 @@ holds_here l key from within = and_from (not (bytes_below key l.low)) (below_bou
     bounded (Some h) within = within
 
 -- links stay
-pub at_stays : (chain more : ℕ → List Link) → Stay chain more → (level page : ℕ) (low key : List ℕ) → IsAt chain level page low key → IsAt more level page low key
+pub at_stays : (chain more : ℕ → List Link) → Stay chain more → (level page : ℕ) (low key : List ℕ) → IsAt chain level page low key
+    → IsAt more level page low key
 at_stays chain more stay level page low key at = record { linked = stay level (record { low = low; page = page }) at.linked; from = at.from }
 
-pub passed_stays : (chain more : ℕ → List Link) → Stay chain more → (level : ℕ) (low : List ℕ) (page : ℕ) → IsPassed chain level low page → IsPassed more level low page
+pub passed_stays : (chain more : ℕ → List Link) → Stay chain more → (level : ℕ) (low : List ℕ) (page : ℕ) → IsPassed chain level low page
+    → IsPassed more level low page
 passed_stays chain more stay level low page p =
     record { height = p.height; link = p.link; linked = stay p.height p.link p.linked; page_is = p.page_is; behind = p.behind }
 
@@ -74,7 +76,8 @@ passed_right chain level low high page beyond p = record {
   behind = on p.behind;
 }
   where
-    on : (level < p.height) ⊎ ((p.height ≡ level) × (bytes_below p.link.low low ≡ true)) → (level < p.height) ⊎ ((p.height ≡ level) × (bytes_below p.link.low high ≡ true))
+    on : (level < p.height) ⊎ ((p.height ≡ level) × (bytes_below p.link.low low ≡ true))
+        → (level < p.height) ⊎ ((p.height ≡ level) × (bytes_below p.link.low high ≡ true))
     on (inl above) = inl above
     on (inr k) = inr (k.0, below_chain p.link.low low high k.1 beyond)
 

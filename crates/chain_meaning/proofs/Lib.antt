@@ -1,0 +1,10 @@
+pub mod Children
+pub mod Stale
+pub mod Pages
+pub mod Walking
+pub mod Contents
+pub mod Leaves
+pub mod Finding
+pub mod Reports
+pub mod Steps
+pub mod Got

@@ -1,5 +1,5 @@
 -- The fences of the pieces of a cut.
-use Rattle.std.proofs.Common.{◌≡◌, ◌+◌, ◌≤◌, ℕ, true, List, [], ◌∷◌, Option, Some, refl, sym, ap, subst, ◌∙◌, ◌⊎◌, inl, inr, arith}
+use Rattle.std.proofs.Common.{◌≡◌, ◌+◌, ◌≤◌, ℕ, true, List, [], ◌∷◌, Option, Some, None, refl, sym, ap, subst, ◌∙◌, ◌⊎◌, inl, inr, arith}
 use Rattle.std.specs.Prelude.{slice_get}
 use Rattle.std.specs.List.{AllByRecursion}
 use Rattle.byte_format.specs.Order.{bytes_below}
@@ -187,3 +187,30 @@ pub all_parts : {A X : Type 0} (P : Part A X → Type 0) (key : A → List ℕ) 
     → AllByRecursion P (right_of (cut_by key sizes free p)) → AllByRecursion P (cut_by key sizes free p)
 all_parts P key none [] free p first rest = (first, rest)
 all_parts P key none (n ∷ sizes) free p first rest = (first, rest)
+
+-- ---- the pieces of a root, as a new level
+
+-- all pieces are pieces of the level, from the first page on
+pub level_pieces : {A X : Type 0} (key : A → List ℕ) (node : Part A X → Node) → ShowsFences node → (nodes : ℕ → List Node) (level : ℕ) (sizes : List ℕ) (first : ℕ) (p : Part A X)
+    → ((q : Part A X) → q.common ≡ p.common → IsOfLevel level (node q)) → (next : Option Link) → GoesTo p next
+    → HaveLanded node nodes first (cut_by key sizes (first + 1) p) → ArePieces nodes level (links_from first (cut_by key sizes (first + 1) p)) next
+level_pieces key node shows nodes level sizes first p leveled next goes landed =
+    let f = landed_first key node nodes p sizes first (first + 1) p landed in
+    let left = first_part p (cut_by key sizes (first + 1) p) in
+    subst (λ (ls : List Link). ArePieces nodes level ls next) (sym (cut_links key sizes first (first + 1) p)) (
+      record {
+        node = node left;
+        landed = f.0;
+        level_is = leveled left (cut_common key p sizes (first + 1) p);
+        low = shows.low left ∙ cut_low key p sizes (first + 1) p;
+        ends = first_ends key node shows p sizes (first + 1) p next goes;
+      },
+      cut_pieces key node shows nodes level p.common leveled p sizes (first + 1) p next refl goes f.1,
+    )
+
+-- their low keys ascend
+pub level_ascends : {A X : Type 0} (key : A → List ℕ) (sizes : List ℕ) (first free : ℕ) (p : Part A X) → AllByRecursion Rises (cut_by key sizes free p)
+    → Ascend link_below None (links_from first (cut_by key sizes free p))
+level_ascends key sizes first free p rise =
+    subst (λ (ls : List Link). Ascend link_below None ls) (sym (cut_links key sizes first free p))
+    (tt, lows_ascend key sizes (first + 1) free p (record { low = p.low; page = first }) refl rise)

@@ -36,7 +36,8 @@ use Rattle.telling_facts.specs.Pieces.{first_part, right_of, HaveLanded, leafy, 
 use Rattle.telling_facts.specs.Taking.{AreClients, IsLinked, LandsTaken, taking_of}
 use Rattle.telling_facts.specs.Told.{store_of, Tells, own_of}
 use Rattle.telling_facts.proofs.Fences.{Rises, all_parts}
-use Rattle.telling_facts.proofs.Leaves.{leaf_tells, table_is, ranges_are, lands_leaf}
+use Rattle.telling_facts.proofs.Finding.{ranges_are}
+use Rattle.telling_facts.proofs.Leaves.{leaf_tells, table_is, lands_leaf}
 use Rattle.telling_facts.proofs.Leaves as leaves
 use Rattle.telling_facts.proofs.Nodes.{IsNoLeaf, page_told, inner_told, raise_told}
 use Rattle.telling_facts.proofs.Ranges.{last_is, newest_version}
@@ -104,7 +105,7 @@ module _ (book : Book) (order : List Entry) (s : CloudState) (tree : ℕ) (of_tr
     taken_lands = lands_leaf who book order s tree page queue run sizes free bytes (newest_root (roots_of s) tree).level chained.levels chained.versions chained.newest some (newest_sound s tree page d) takes rise is
 
     pub taken_ranges : Ranges book tree page (holds old)
-    taken_ranges = ranges_are who book order s tree page queue run sizes free bytes (newest_root (roots_of s) tree).level chained.levels chained.versions chained.newest some (newest_sound s tree page d) takes rise is
+    taken_ranges = ranges_are book s tree page (newest_root (roots_of s) tree).level chained.levels chained.versions chained.newest takes.linked
 
     pub taken_table : (key : List ℕ) → holds old key ≡ true → (q c : ℕ)
         → done_number (left_leaf sizes free (applied old queue run)).done q c ≡ done_after (taking_of tree page old queue run sizes free) (tally_of book s).done tree key q c

@@ -1,5 +1,5 @@
 -- A leaf lands with a run applied, whole or cut.
-use Rattle.std.proofs.Common.{◌≡◌, ◌≢◌, ◌+◌, ◌==◌, ◌&&◌, ℕ, zero, suc, Bool, true, false, cond, max, List, [], ◌∷◌, ◌++◌, map, Option, None, refl, sym, ap, subst, ◌∙◌, ◌⊎◌, inl, inr, Some}
+use Rattle.std.proofs.Common.{◌≡◌, ◌≢◌, ◌+◌, ◌==◌, ◌&&◌, ℕ, zero, suc, Bool, true, false, cond, max, List, [], ◌∷◌, ◌++◌, map, None, refl, sym, ap, subst, ◌∙◌, ◌⊎◌, inl, inr}
 use Rattle.std.specs.Prelude.{slice_get, filter, nat_lt}
 use Rattle.std.specs.List.{AllByRecursion}
 use Rattle.std.proofs.lemmas.Bool.{eqb-true, eqb-false, eq-eqb}
@@ -24,14 +24,12 @@ use Rattle.report_types.specs.declared.entry.Entry.{Entry as Change}
 use Rattle.split_plan.specs.Part.{LeafPart, leaf_of_part, part_of_leaf, record_key}
 use Rattle.store_book.specs.Book.{Book, Link, with_pieces}
 use Rattle.store_book.specs.Effects.{done_after, Taking, after_leaf, lacking, is_lacking, taken_entry}
-use Rattle.store_book.specs.Premises.{Ranges}
-use Rattle.store_book.specs.Records.{StandsAt, IsIn}
+use Rattle.store_book.specs.Records.{IsIn}
 use Rattle.store_book.specs.Tally.{Node, Leafy, at2}
 use Rattle.store_book.specs.Telling.{tally_of, last_or, leaf_in, newest_leaf, page_from, page_for, leaf_for, nodes_of, cursor_of}
 use Rattle.chain_facts.specs.Chain.{AreLevels, AreVersions, AreNewest}
 use Rattle.chain_facts.specs.Landing.{LandsOn, LandsLeaf}
 use Rattle.chain_facts.specs.Links.{low_after}
-use Rattle.chain_facts.proofs.Joining.{level_apart}
 use Rattle.chain_facts.proofs.Pieces.{in_first, in_rest, in_cases, none_in}
 use Rattle.telling_facts.specs.Pieces.{right_of, links_from, HaveLanded, leafy, leaf_parts, left_leaf, leaf_links}
 use Rattle.telling_facts.specs.Taking.{taking_of, LandsTaken}
@@ -39,12 +37,13 @@ use Rattle.telling_facts.specs.Told.{store_of, Tells, own_of}
 use Rattle.telling_facts.proofs.Cuts.{AreAt, Finds, cut_finds}
 use Rattle.telling_facts.proofs.Easy.{alike}
 use Rattle.telling_facts.proofs.Fences.{Rises, lows_under, cut_common, cut_version, cut_lands, all_common}
+use Rattle.telling_facts.proofs.Finding as finding
 use Rattle.telling_facts.proofs.Folds.{fold_acts, fold_elsewhere, acts_beside, lacked_beside}
 use Rattle.telling_facts.proofs.Names.{at2_same, at2_other}
 use Rattle.telling_facts.proofs.Nodes.{page_nodes, newest_here, newest_there, page_cursors}
-use Rattle.telling_facts.proofs.Ranges.{IsBetween, newest_between, low_of_first, IsBeyond, held, unheld, goes_here, GoesPast, goes_past}
+use Rattle.telling_facts.proofs.Ranges.{IsBetween, low_of_first, held, unheld, goes_here, GoesPast, goes_past}
 use Rattle.telling_facts.proofs.Tables.{AreOfClients, raises_all}
-use Rattle.telling_facts.proofs.Walks.{Split, split_at, IsBefore, stops_here, with_pieces-split}
+use Rattle.telling_facts.proofs.Walks.{Split, with_pieces-split}
 
 -- what has a spelling as a leaf: records in order, and a table of clients
 pub record IsSound (l : Leaf) : Type 0 where
@@ -86,18 +85,16 @@ module _ (who : Caller) (book : Book) (order : List Change) (s : CloudState) (tr
   abbrev later : ℕ → ℕ → List Node
   later = nodes_of (put who (object.Page tree page) bytes s)
 
-  split : Split links takes.linked.place takes.linked.link
-  split = split_at None links takes.linked.place takes.linked.link (lv.ascends 0) (level_apart (book.chain tree) height lv 0) takes.linked.linked
+  -- the links before that of the page, and those behind it
+  abbrev split : Split links takes.linked.place takes.linked.link
+  split = finding.split book s tree page height lv vs nw takes.linked
 
-  between : IsBetween old takes.linked.link.low (slice_get split.rest 0)
-  between =
-      subst (λ (o : Option Link). IsBetween old takes.linked.link.low o) split.next
-      (subst (λ (p : ℕ). IsBetween (newest_leaf (nodes_of s) tree p) takes.linked.link.low (slice_get links (takes.linked.place + 1))) takes.linked.page_is
-      (newest_between (book.chain tree) (nodes_of s tree) height lv vs nw takes.linked.place takes.linked.link takes.linked.linked))
+  abbrev between : IsBetween old takes.linked.link.low (slice_get split.rest 0)
+  between = finding.between book s tree page height lv vs nw takes.linked
 
   -- where a key goes, before and after
   goes_before : (key : List ℕ) → page_for book tree key ≡ page_from 1 key (split.front ++ takes.linked.link ∷ split.rest)
-  goes_before key = ap (page_from 1 key) split.is
+  goes_before = finding.goes_before book s tree page height lv vs nw takes.linked
 
   goes_after : (key : List ℕ) → page_for after tree key ≡ page_from 1 key (split.front ++ takes.linked.link ∷ (pieces ++ split.rest))
   goes_after key =
@@ -108,10 +105,7 @@ module _ (who : Caller) (book : Book) (order : List Change) (s : CloudState) (tr
   -- ---- keys of the leaf
 
   found_before : (key : List ℕ) → holds old key ≡ true → leaf_for book (nodes_of s) tree key ≡ old
-  found_before key h =
-      let p = held old takes.linked.link split.rest key between h in
-      ap (newest_leaf (nodes_of s) tree)
-      (goes_before key ∙ goes_here key split.front takes.linked.link split.rest split.below p.0 ∙ stops_here key takes.linked.link.page split.rest p.1 ∙ takes.linked.page_is)
+  found_before = finding.found_before book s tree page height lv vs nw takes.linked
 
   pieces_at : (from : ℕ) (ps : List LeafPart) → HaveLanded leafy (nodes_of s tree) from ps → ((a : Link) → IsIn (links_from from ps) a → a.page ≢ page) → AreAt (newest_leaf later tree) from ps
   pieces_at from [] landed apart = tt
@@ -284,39 +278,13 @@ module _ (who : Caller) (book : Book) (order : List Change) (s : CloudState) (tr
       test : (((tree == tree) && (q == queue)) && holds old key) ≡ (q == queue)
       test = (λ i. ((eq-eqb tree tree refl i) && (q == queue)) && h i) ∙ on (q == queue)
 
-  between_next : IsBetween old takes.linked.link.low (slice_get links (takes.linked.place + 1))
-  between_next = subst (λ (o : Option Link). IsBetween old takes.linked.link.low o) (sym split.next) between
-
-  -- the range is that of the page's link
-  pub ranges_are : Ranges book tree page (holds old)
-  ranges_are = record {
-    place = takes.linked.place;
-    link = takes.linked.link;
-    linked = takes.linked.linked;
-    page_is = takes.linked.page_is;
-    low = λ key h. (held old takes.linked.link split.rest key between h).0;
-    below = λ next key there h. next_below key next (held old takes.linked.link split.rest key between h).1 (sym split.next ∙ there);
-    whole = λ key h. out key (unheld old takes.linked.link split.rest key between h);
-  }
-    where
-      first_below : (key : List ℕ) (next : Link) (rest : List Link) → IsBefore key rest → slice_get rest 0 ≡ Some next → bytes_below key next.low ≡ true
-      first_below key next [] before e = absurd (cc)
-      first_below key next (x ∷ rest) before e = let same : x ≡ next = cc in ap (λ (a : Link). bytes_below key a.low) (sym same) ∙ before
-
-      next_below : (key : List ℕ) (next : Link) → IsBefore key split.rest → slice_get split.rest 0 ≡ Some next → bytes_below key next.low ≡ true
-      next_below key next before e = first_below key next split.rest before e
-
-      out : (key : List ℕ) → (bytes_below key takes.linked.link.low ≡ true) ⊎ ((bytes_below key takes.linked.link.low ≡ false) × IsBeyond key split.rest)
-          → (bytes_below key takes.linked.link.low ≡ true) ⊎ ((next : Link) × StandsAt links (takes.linked.place + 1) next × (bytes_below key next.low ≡ false))
-      out key (inl e) = inl e
-      out key (inr (e, b)) = inr (b.link, split.next ∙ ap (λ (ls : List Link). slice_get ls 0) b.is, b.from)
-
   -- the left piece lands on the page of its link, and the others behind it
   pub lands_on : LandsOn (book.chain tree) (nodes_of s tree) 0 page (Leafy left) pieces
   lands_on =
+      let next = finding.between_next book s tree page height lv vs nw takes.linked in
       subst (λ (p : ℕ). LandsOn (book.chain tree) (nodes_of s tree) 0 p (Leafy left) pieces) takes.linked.page_is
       (cut_lands record_key leafy (record { low = λ p. refl; right = λ p. refl; high = λ p. refl }) (book.chain tree) (nodes_of s tree) 0 sizes free (part_of_leaf whole) (λ q e. refl)
-      takes.linked.place takes.linked.link takes.linked.linked between_next.low (record { right = between_next.right; high = between_next.high }) rise tt takes.landed takes.unlinked)
+      takes.linked.place takes.linked.link takes.linked.linked next.low (record { right = next.right; high = next.high }) rise tt takes.landed takes.unlinked)
 
   -- the tables of the pieces are that of the whole
   tables_are : (from : ℕ) (ps : List LeafPart) → HaveLanded leafy (nodes_of s tree) from ps → AllByRecursion (λ (p : LeafPart). p.common ≡ whole.done) ps

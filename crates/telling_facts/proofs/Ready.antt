@@ -1,7 +1,7 @@
 -- What must be known before a put lands, where it follows from how pages are cut.
-use Rattle.std.proofs.Common.{◌≡◌, ◌≢◌, ◌+◌, ◌-◌, ◌<◌, ◌≤◌, ℕ, false, List, [], length, refl, sym, ap, subst, ◌∙◌, ◌⊎◌, inl, inr, arith, max, cond}
-use Rattle.std.specs.Prelude.{IsSorted}
-use Rattle.std.proofs.lemmas.Bool.{ne_eqb}
+use Rattle.std.proofs.Common.{◌≡◌, ◌≢◌, ◌+◌, ◌-◌, ◌<◌, ◌≤◌, ℕ, false, List, [], ◌∷◌, length, map, None, refl, sym, ap, subst, ◌∙◌, ◌⊎◌, inl, inr, arith, max, cond}
+use Rattle.std.specs.Prelude.{IsSorted, slice_get}
+use Rattle.std.proofs.lemmas.Bool.{ne_eqb, cases_lt}
 use Rattle.std.specs.List.{AllByRecursion}
 use Rattle.db_base.specs.Change.{key_of}
 use Rattle.db_base.specs.Ids.{IsTree, IsClient}
@@ -13,7 +13,9 @@ use Rattle.leaf_edit.specs.Raised.{greatest_of, raised}
 use Rattle.leaf_view.specs.Leaf.{Leaf, IsLeaf}
 use Rattle.leaf_view.specs.Lookup.{empty_leaf, holds, number_of as done_number}
 use Rattle.log_codec.specs.declared.record.PuItem.{PuItem}
-use Rattle.node_codec.specs.Inner.{Inner, IsInner}
+use Rattle.node_codec.specs.Inner.{Inner, IsInner, node_of_root, first_low_of}
+use Rattle.node_codec.specs.Node.{Entry as NodeEntry}
+use Rattle.node_codec.specs.Tree.{Tree}
 use Rattle.report_types.specs.declared.entry.Entry.{Entry}
 use Rattle.log_codec.specs.Order.{item_cmp}
 use Rattle.split_plan.specs.Part.{part_of_node, entry_key}
@@ -23,16 +25,17 @@ use Rattle.store_book.specs.Records.{IsIn}
 use Rattle.store_book.specs.Tally.{Node, Leafy, Branch, version_of, low_of, right_of as right_page, high_of}
 use Rattle.store_book.specs.Telling.{tally_of, last_or, newest_leaf, nodes_of, roots_of, newest_root, cursor_of}
 use Rattle.chain_facts.specs.Chain.{ChainHolds, IsChained, IsUnlinked}
-use Rattle.chain_facts.specs.Landing.{LandsOn, LandsInner}
-use Rattle.chain_facts.specs.Links.{newest_node, NodeNames}
+use Rattle.chain_facts.specs.Landing.{LandsOn, LandsInner, Raises}
+use Rattle.chain_facts.specs.Links.{first_link, link_of, newest_node, NodeNames}
+use Rattle.chain_facts.proofs.Pieces.{in_first, in_rest, in_cases, none_in}
 use Rattle.decoding_facts.specs.Decodes.{Decodes, IsNext}
 use Rattle.decoding_facts.specs.Kinds.{IsNode}
 use Rattle.decoding_facts.proofs.Newest.{IsLast, last_cases}
 use Rattle.decoding_facts.proofs.Values.{node_next, inner_next}
-use Rattle.telling_facts.specs.Pieces.{first_part, right_of, HaveLanded, branching, node_parts, left_inner, node_links, left_leaf}
+use Rattle.telling_facts.specs.Pieces.{first_part, right_of, links_from, HaveLanded, branching, node_parts, left_inner, node_links, left_leaf}
 use Rattle.telling_facts.specs.Taking.{AreClients, IsLinked, LandsTaken, taking_of}
 use Rattle.telling_facts.specs.Told.{store_of, own_of}
-use Rattle.telling_facts.proofs.Fences.{Rises, all_parts, cut_common, cut_version, cut_lands}
+use Rattle.telling_facts.proofs.Fences.{Rises, all_parts, cut_common, cut_version, cut_lands, cut_links, level_pieces, level_ascends, pages_distinct}
 use Rattle.telling_facts.proofs.Finding.{found_before}
 use Rattle.telling_facts.proofs.Laws.{taken_ranges, taken_table}
 use Rattle.telling_facts.proofs.Ranges.{last_is}
@@ -141,3 +144,55 @@ module _ (book : Book) (order : List Entry) (s : CloudState) (tree : ℕ) (of_tr
         (cut_lands entry_key branching (record { low = λ p. refl; right = λ p. refl; high = λ p. refl }) (book.chain tree) (nodes_of s tree) whole.level sizes free (part_of_node whole)
         (λ q e. (e, above)) at.place at.link at.linked (fences.low ∙ low_is (last_cases (nodes_of s tree at.link.page)))
         (record { right = fences.right ∙ ap right_page (sym newest_link) ∙ ends.right; high = fences.high ∙ ap high_of (sym newest_link) ∙ ends.high }) rise names landed unlinked))
+
+  -- ---- a root that is one level higher
+
+  -- what an entry of the new root says of a link
+  abbrev pub entry_for : Link → NodeEntry
+  entry_for a = (a.low, a.page)
+
+  abbrev top : Tree
+  top = newest_root (roots_of s) tree
+
+  -- the links of the pieces of the root, from a first page on
+  abbrev pub raised_links : List ℕ → ℕ → List Link
+  raised_links sizes first = links_from first (node_parts sizes (first + 1) (node_of_root top))
+
+  entries_name : (links : List Link) (e : NodeEntry) → IsIn (map entry_for links) e → IsIn links (link_of e)
+  entries_name [] e is = absurd (none_in e is)
+  entries_name (a ∷ links) e is = on (entries_name links e) (in_cases (entry_for a) (map entry_for links) e is)
+    where
+      on : (IsIn (map entry_for links) e → IsIn links (link_of e)) → (entry_for a ≡ e) ⊎ IsIn (map entry_for links) e → IsIn (a ∷ links) (link_of e)
+      on again (inl same) = subst (λ (x : NodeEntry). IsIn (a ∷ links) (link_of x)) same (in_first a links)
+      on again (inr k) = in_rest a links (link_of e) (again k)
+
+  pub raises : (root : Tree) (sizes : List ℕ) (first : ℕ) → HaveLanded branching (nodes_of s tree) first (node_parts sizes (first + 1) (node_of_root top))
+      → ((piece : Link) → IsIn (raised_links sizes first) piece → IsUnlinked (book.chain tree) piece.page)
+      → root.level ≡ top.level + 1 → top.next ≤ root.next → root.entries ≡ map entry_for (raised_links sizes first)
+      → Raises (store_of book order s) tree root top.level (raised_links sizes first)
+  raises root sizes first landed unlinked height next entries = record {
+    level_is = refl;
+    height = height;
+    next = next;
+    names = record {
+      names = λ e is. entries_name (raised_links sizes first) e (subst (λ (es : List NodeEntry). IsIn es e) entries is);
+      first = ap first_low_of entries ∙ ap (λ (ls : List Link). first_low_of (map entry_for ls)) links_are;
+    };
+    begins = (record { low = []; page = first }, ap (λ (ls : List Link). slice_get ls 0) links_are, refl);
+    ascends = level_ascends entry_key sizes first (first + 1) (part_of_node (node_of_root top)) (nodes_rise s tree first (node_parts sizes (first + 1) (node_of_root top)) d landed);
+    pieces_are = level_pieces entry_key branching (record { low = λ p. refl; right = λ p. refl; high = λ p. refl }) (nodes_of s tree) top.level sizes first (part_of_node (node_of_root top))
+        (λ q e. (e, above)) None (record { right = refl; high = refl }) landed;
+    new = record { unlinked = unlinked; distinct = pages_distinct first (node_parts sizes (first + 1) (node_of_root top)) };
+  }
+    where
+      links_are : raised_links sizes first ≡ record { low = []; page = first } ∷ links_from (first + 1) (right_of (node_parts sizes (first + 1) (node_of_root top)))
+      links_are = cut_links entry_key sizes first (first + 1) (part_of_node (node_of_root top))
+
+      above : 0 < top.level
+      above = on (cases_lt 0 top.level)
+        where
+          on : (0 < top.level) ⊎ (top.level ≤ 0) → 0 < top.level
+          on (inl less) = less
+          on (inr none) =
+              let no : first_link ∷ chained.levels.leaves.0 ≡ [] = sym chained.levels.leaves.1 ∙ chained.levels.above 0 none in
+              absurd cc

@@ -11,7 +11,8 @@ use Rattle.telling_facts.specs.Told.{store_of, Tells}
 use Rattle.telling_facts.proofs.Easy.{same_told}
 
 -- a call that puts nothing and touches no message leaves what is told
-pub quiet_tells : (who : Caller) (ask : Ask) (book : Book) (order : List Entry) (s : CloudState) → PutsNothing ask → TouchesNoMessage ask → Tells (effect who ask s) (store_of book order s)
+pub quiet_tells : (who : Caller) (ask : Ask) (book : Book) (order : List Entry) (s : CloudState) → PutsNothing ask → TouchesNoMessage ask
+    → Tells (effect who ask s) (store_of book order s)
 quiet_tells who ask book order s puts touches = same_told book s (effect who ask s) (effect_versions who ask s puts) (effect_messages who ask s touches)
 
 -- what a cloud tells under a store's book is the store

@@ -58,9 +58,11 @@ edited_by_ascends es (x ∷ xs) up = edited_by_ascends (edited es x.rec.change) 
 left_done : (sizes : List ℕ) (free : ℕ) (l : Leaf) → (left_leaf sizes free l).done ≡ l.done
 left_done sizes free l = cut_common record_key (part_of_leaf l) sizes free (part_of_leaf l)
 
-module _ (who : Caller) (book : Book) (order : List Change) (s : CloudState) (tree page : ℕ) (queue : ℕ) (run : List PuItem) (sizes : List ℕ) (free : ℕ) (bytes : List ℕ) (height : ℕ)
+module _ (who : Caller) (book : Book) (order : List Change) (s : CloudState) (tree page : ℕ) (queue : ℕ) (run : List PuItem) (sizes : List ℕ) (free : ℕ)
+    (bytes : List ℕ) (height : ℕ)
     (lv : AreLevels (book.chain tree) height) (vs : AreVersions (book.chain tree) (nodes_of s tree)) (nw : AreNewest (book.chain tree) (nodes_of s tree))
-    (some : page ≢ 0) (sound : IsSound (newest_leaf (nodes_of s) tree page)) (takes : LandsTaken (book.chain tree) (nodes_of s tree) page (newest_leaf (nodes_of s) tree page) queue run sizes free)
+    (some : page ≢ 0) (sound : IsSound (newest_leaf (nodes_of s) tree page))
+    (takes : LandsTaken (book.chain tree) (nodes_of s tree) page (newest_leaf (nodes_of s) tree page) queue run sizes free)
     (rise : AllByRecursion Rises (leaf_parts sizes free (applied (newest_leaf (nodes_of s) tree page) queue run)))
     (is : IsLeaf bytes (left_leaf sizes free (applied (newest_leaf (nodes_of s) tree page) queue run))) where
   -- the leaf before, the whole leaf with the run, the piece that lands, and the links of the others
@@ -107,7 +109,8 @@ module _ (who : Caller) (book : Book) (order : List Change) (s : CloudState) (tr
   found_before : (key : List ℕ) → holds old key ≡ true → leaf_for book (nodes_of s) tree key ≡ old
   found_before = finding.found_before book s tree page height lv vs nw takes.linked
 
-  pieces_at : (from : ℕ) (ps : List LeafPart) → HaveLanded leafy (nodes_of s tree) from ps → ((a : Link) → IsIn (links_from from ps) a → a.page ≢ page) → AreAt (newest_leaf later tree) from ps
+  pieces_at : (from : ℕ) (ps : List LeafPart) → HaveLanded leafy (nodes_of s tree) from ps → ((a : Link) → IsIn (links_from from ps) a → a.page ≢ page)
+      → AreAt (newest_leaf later tree) from ps
   pieces_at from [] landed apart = tt
   pieces_at from (p ∷ ps) landed apart = (
     newest_there who tree page bytes (Leafy left) s is tree from (λ e. apart (record { low = p.low; page = from }) (in_first _ (links_from (from + 1) ps)) e.1)
@@ -122,10 +125,13 @@ module _ (who : Caller) (book : Book) (order : List Change) (s : CloudState) (tr
   found_after key h =
       let p = held old takes.linked.link split.rest key between h in
       let goes : page_for after tree key ≡ page_from page key (pieces ++ split.rest) =
-      goes_after key ∙ goes_here key split.front takes.linked.link (pieces ++ split.rest) split.below p.0 ∙ ap (λ (q : ℕ). page_from q key (pieces ++ split.rest)) takes.linked.page_is in
+      goes_after key ∙ goes_here key split.front takes.linked.link (pieces ++ split.rest) split.below p.0
+      ∙ ap (λ (q : ℕ). page_from q key (pieces ++ split.rest)) takes.linked.page_is in
       subst (λ (q : ℕ). Finds (newest_leaf later tree q) (part_of_leaf whole) key) (sym goes)
-      (cut_finds (newest_leaf later tree) (part_of_leaf whole) sizes takes.last free page (part_of_leaf whole) takes.can (edited_by_ascends old.records (lacked old queue run) sound.ascends)
-      (newest_here who tree page bytes (Leafy left) s is) (pieces_at free (right_of (leaf_parts sizes free whole)) takes.landed pieces_apart) key split.rest p.1)
+      (cut_finds (newest_leaf later tree) (part_of_leaf whole) sizes takes.last free page (part_of_leaf whole) takes.can
+      (edited_by_ascends old.records (lacked old queue run) sound.ascends)
+      (newest_here who tree page bytes (Leafy left) s is)
+      (pieces_at free (right_of (leaf_parts sizes free whole)) takes.landed pieces_apart) key split.rest p.1)
 
   -- ---- other keys
 
@@ -157,14 +163,17 @@ module _ (who : Caller) (book : Book) (order : List Change) (s : CloudState) (tr
   taking = taking_of tree page old queue run sizes free
 
   done_here : (key : List ℕ) (q c : ℕ) → holds old key ≡ true
-      → done_number (leaf_for after later tree key).done q c ≡ cond (q == queue) (max (done_number (leaf_for book (nodes_of s) tree key).done q c) (greatest_of run c)) (done_number (leaf_for book (nodes_of s) tree key).done q c)
+      → done_number (leaf_for after later tree key).done q c
+      ≡ cond (q == queue) (max (done_number (leaf_for book (nodes_of s) tree key).done q c) (greatest_of run c))
+      (done_number (leaf_for book (nodes_of s) tree key).done q c)
   done_here key q c h =
       ap (λ ds. done_number ds q c) (found_after key h).done
       ∙ raises_all old.done queue run sound.clients takes.clients q c
       ∙ ap (λ (l : Leaf). cond (q == queue) (max (done_number l.done q c) (greatest_of run c)) (done_number l.done q c)) (sym (found_before key h))
 
   done_told : (t : ℕ) (key : List ℕ) (q c : ℕ) → done_number (leaf_for after later t key).done q c
-      ≡ cond (((t == tree) && (q == queue)) && holds old key) (max (done_number (leaf_for book (nodes_of s) t key).done q c) (greatest_of run c)) (done_number (leaf_for book (nodes_of s) t key).done q c)
+      ≡ cond (((t == tree) && (q == queue)) && holds old key) (max (done_number (leaf_for book (nodes_of s) t key).done q c) (greatest_of run c))
+      (done_number (leaf_for book (nodes_of s) t key).done q c)
   done_told t key q c = on (t == tree) refl (holds old key) refl (q == queue) refl
     where
       Goal : ℕ → Bool → Type 0
@@ -189,15 +198,18 @@ module _ (who : Caller) (book : Book) (order : List Change) (s : CloudState) (tr
       same x = on (holds old (key_of x.rec.change)) refl
         where
           on : (h : Bool) → holds old (key_of x.rec.change) ≡ h
-              → (h && nat_lt (done_number (leaf_for book (nodes_of s) tree (key_of x.rec.change)).done queue x.rec.client) x.rec.number) ≡ (h && nat_lt (done_number old.done queue x.rec.client) x.rec.number)
+              → (h && nat_lt (done_number (leaf_for book (nodes_of s) tree (key_of x.rec.change)).done queue x.rec.client) x.rec.number)
+              ≡ (h && nat_lt (done_number old.done queue x.rec.client) x.rec.number)
           on true e = ap (λ (l : Leaf). nat_lt (done_number l.done queue x.rec.client) x.rec.number) (found_before (key_of x.rec.change) e)
           on false e = refl
 
   abbrev payloads : ℕ → Records
   payloads t key = payload_of key (leaf_for book (nodes_of s) t key).records
 
-  payload_told : (t : ℕ) (key : List ℕ) → payload_of key (leaf_for after later t key).records ≡ fold_onto (payloads t) (map (taken_entry tree) (lacking (tally_of book s) taking)) t key
-  payload_told t key = on (t == tree) refl (holds old key) refl ∙ ap (λ (xs : List PuItem). fold_onto (payloads t) (map (taken_entry tree) xs) t key) (sym lacks)
+  payload_told : (t : ℕ) (key : List ℕ)
+      → payload_of key (leaf_for after later t key).records ≡ fold_onto (payloads t) (map (taken_entry tree) (lacking (tally_of book s) taking)) t key
+  payload_told t key =
+      on (t == tree) refl (holds old key) refl ∙ ap (λ (xs : List PuItem). fold_onto (payloads t) (map (taken_entry tree) xs) t key) (sym lacks)
     where
       Goal : ℕ → Type 0
       Goal x = payload_of key (leaf_for after later x key).records ≡ fold_onto (payloads x) (map (taken_entry tree) (lacked old queue run)) x key
@@ -239,10 +251,13 @@ module _ (who : Caller) (book : Book) (order : List Change) (s : CloudState) (tr
       Goal x p b = own_of page (Leafy left) c ≡ cond b (max (cursor_of s x p c) (greatest_of run c)) (cursor_of s x p c)
 
       here : t ≡ tree → q ≡ page → (b : Bool) → (q == queue) ≡ b → Goal t q b
-      here e f b g = subst (λ (x : ℕ). Goal x q b) (sym e) (subst (λ (p : ℕ). Goal tree p b) (sym f) (subst (λ (v : Bool). Goal tree page v) (ap (λ (p : ℕ). p == queue) (sym f) ∙ g) (cursor_here c)))
+      here e f b g =
+          subst (λ (x : ℕ). Goal x q b) (sym e)
+          (subst (λ (p : ℕ). Goal tree p b) (sym f) (subst (λ (v : Bool). Goal tree page v) (ap (λ (p : ℕ). p == queue) (sym f) ∙ g) (cursor_here c)))
 
       on : (u : Bool) → (t == tree) ≡ u → (v : Bool) → (q == page) ≡ v → (w : Bool) → (q == queue) ≡ w
-          → cond (u && v) (own_of page (Leafy left)) (cursor_of s t q) c ≡ cond ((u && w) && v) (max (cursor_of s t q c) (greatest_of run c)) (cursor_of s t q c)
+          → cond (u && v) (own_of page (Leafy left)) (cursor_of s t q) c
+          ≡ cond ((u && w) && v) (max (cursor_of s t q c) (greatest_of run c)) (cursor_of s t q c)
       on true e true f true g = here (eqb-true t tree e) (eqb-true q page f) true g
       on true e true f false g = here (eqb-true t tree e) (eqb-true q page f) false g
       on true e false f true g = refl
@@ -269,7 +284,8 @@ module _ (who : Caller) (book : Book) (order : List Change) (s : CloudState) (tr
       ap (λ ds. done_number ds q c) (left_done sizes free whole)
       ∙ raises_all old.done queue run sound.clients takes.clients q c
       ∙ ap (λ (l : Leaf). cond (q == queue) (max (done_number l.done q c) (greatest_of run c)) (done_number l.done q c)) (sym (found_before key h))
-      ∙ ap (λ (b : Bool). cond b (max (done_number (leaf_for book (nodes_of s) tree key).done q c) (greatest_of run c)) (done_number (leaf_for book (nodes_of s) tree key).done q c)) (sym test)
+      ∙ ap (λ (b : Bool). cond b (max (done_number (leaf_for book (nodes_of s) tree key).done q c) (greatest_of run c))
+      (done_number (leaf_for book (nodes_of s) tree key).done q c)) (sym test)
     where
       on : (v : Bool) → ((true && v) && true) ≡ v
       on true = refl
@@ -283,7 +299,8 @@ module _ (who : Caller) (book : Book) (order : List Change) (s : CloudState) (tr
   lands_on =
       let next = finding.between_next book s tree page height lv vs nw takes.linked in
       subst (λ (p : ℕ). LandsOn (book.chain tree) (nodes_of s tree) 0 p (Leafy left) pieces) takes.linked.page_is
-      (cut_lands record_key leafy (record { low = λ p. refl; right = λ p. refl; high = λ p. refl }) (book.chain tree) (nodes_of s tree) 0 sizes free (part_of_leaf whole) (λ q e. refl)
+      (cut_lands record_key leafy (record { low = λ p. refl; right = λ p. refl; high = λ p. refl })
+      (book.chain tree) (nodes_of s tree) 0 sizes free (part_of_leaf whole) (λ q e. refl)
       takes.linked.place takes.linked.link takes.linked.linked next.low (record { right = next.right; high = next.high }) rise tt takes.landed takes.unlinked)
 
   -- the tables of the pieces are that of the whole
@@ -306,7 +323,8 @@ module _ (who : Caller) (book : Book) (order : List Change) (s : CloudState) (tr
     lands = lands_on;
     table = λ piece l h k q c.
         ap (λ ds. done_number ds q c)
-        (tables_are free (right_of (leaf_parts sizes free whole)) takes.landed (all_common record_key sizes free (part_of_leaf whole)) piece l h k ∙ sym (left_done sizes free whole));
+        (tables_are free (right_of (leaf_parts sizes free whole)) takes.landed
+        (all_common record_key sizes free (part_of_leaf whole)) piece l h k ∙ sym (left_done sizes free whole));
   }
 
   -- its version is the next one

@@ -96,25 +96,31 @@ module _ (book : Book) (order : List Entry) (s : CloudState) (tree : ℕ) (of_tr
           ∙ raises_all old.done queue run (newest_sound s tree page d).clients clients fresh client
           ∙ ap (λ b. cond b (max (done_number old.done fresh client) (greatest_of run client)) (done_number old.done fresh client)) (ne_eqb fresh queue other)
           ∙ ap (λ (m : Leaf). done_number m.done fresh client)
-          (sym (found_before book s tree page (newest_root (roots_of s) tree).level chained.levels chained.versions chained.newest at old.low (newest_holds s tree page d)))
+          (sym (found_before book s tree page (newest_root (roots_of s) tree).level
+          chained.levels chained.versions chained.newest at old.low (newest_holds s tree page d)))
 
   -- an inner node lands first
-  pub branch_first : (fresh : ℕ) (n : Inner) → 1 < fresh → IsUnlinked (book.chain tree) fresh → LandsFirst (store_of book order s) tree fresh (own_of fresh (Branch n))
+  pub branch_first : (fresh : ℕ) (n : Inner) → 1 < fresh → IsUnlinked (book.chain tree) fresh
+      → LandsFirst (store_of book order s) tree fresh (own_of fresh (Branch n))
   branch_first fresh n above unlinked = record { page_is = above; unlinked = unlinked; own_within = λ client _. ([], omega arith) }
 
   -- a page that has no version gets its first
-  pub first_next : (fresh : ℕ) (bytes : List ℕ) (node : Node) → nodes_of s tree fresh ≡ [] → IsNode bytes node → version_of node ≡ 1 → IsNext s (object.Page tree fresh) bytes
+  pub first_next : (fresh : ℕ) (bytes : List ℕ) (node : Node) → nodes_of s tree fresh ≡ [] → IsNode bytes node → version_of node ≡ 1
+      → IsNext s (object.Page tree fresh) bytes
   first_next fresh bytes node none is one =
       node_next s tree fresh bytes node d is (one ∙ ap (λ (ns : List Node). version_of (last_or (Leafy empty_leaf) ns) + 1) (sym none))
 
   -- ---- an inner node with more entries
 
-  module _ (page : ℕ) (old whole : Inner) (sizes : List ℕ) (free : ℕ) (bytes : List ℕ) (at : IsLinked (book.chain tree whole.level) page) (newest : newest_node (nodes_of s tree) page ≡ Branch old)
-      (fences : HasFences old whole) (is : IsInner bytes (left_inner sizes free whole)) (landed : HaveLanded branching (nodes_of s tree) free (right_of (node_parts sizes free whole))) where
+  module _ (page : ℕ) (old whole : Inner) (sizes : List ℕ) (free : ℕ) (bytes : List ℕ) (at : IsLinked (book.chain tree whole.level) page)
+      (newest : newest_node (nodes_of s tree) page ≡ Branch old)
+      (fences : HasFences old whole) (is : IsInner bytes (left_inner sizes free whole))
+      (landed : HaveLanded branching (nodes_of s tree) free (right_of (node_parts sizes free whole))) where
     rise : AllByRecursion Rises (node_parts sizes free whole)
     rise =
         all_parts Rises entry_key (part_of_node whole) sizes free (part_of_node whole)
-        (inner_rises bytes (first_part (part_of_node whole) (node_parts sizes free whole)) is) (nodes_rise s tree free (right_of (node_parts sizes free whole)) d landed)
+        (inner_rises bytes (first_part (part_of_node whole) (node_parts sizes free whole)) is)
+        (nodes_rise s tree free (right_of (node_parts sizes free whole)) d landed)
 
     -- the newest version of the link's page
     newest_link : newest_node (nodes_of s tree) at.link.page ≡ Branch old
@@ -140,10 +146,15 @@ module _ (book : Book) (order : List Entry) (s : CloudState) (tree : ℕ) (of_tr
         let ends = chained.newest.ends whole.level at.place at.link at.linked in
         subst (λ (level : ℕ). LandsOn (book.chain tree) (nodes_of s tree) level page (Branch (left_inner sizes free whole)) (node_links sizes free whole))
         (sym (cut_common entry_key (part_of_node whole) sizes free (part_of_node whole)))
-        (subst (λ (p : ℕ). LandsOn (book.chain tree) (nodes_of s tree) whole.level p (Branch (left_inner sizes free whole)) (node_links sizes free whole)) at.page_is
-        (cut_lands entry_key branching (record { low = λ p. refl; right = λ p. refl; high = λ p. refl }) (book.chain tree) (nodes_of s tree) whole.level sizes free (part_of_node whole)
+        (subst (λ (p : ℕ). LandsOn (book.chain tree) (nodes_of s tree) whole.level p (Branch (left_inner sizes free whole))
+        (node_links sizes free whole)) at.page_is
+        (cut_lands entry_key branching (record { low = λ p. refl; right = λ p. refl; high = λ p. refl })
+        (book.chain tree) (nodes_of s tree) whole.level sizes free (part_of_node whole)
         (λ q e. (e, above)) at.place at.link at.linked (fences.low ∙ low_is (last_cases (nodes_of s tree at.link.page)))
-        (record { right = fences.right ∙ ap right_page (sym newest_link) ∙ ends.right; high = fences.high ∙ ap high_of (sym newest_link) ∙ ends.high }) rise names landed unlinked))
+        (record {
+          right = fences.right ∙ ap right_page (sym newest_link) ∙ ends.right;
+          high = fences.high ∙ ap high_of (sym newest_link) ∙ ends.high;
+        }) rise names landed unlinked))
 
   -- ---- a root that is one level higher
 
@@ -179,13 +190,18 @@ module _ (book : Book) (order : List Entry) (s : CloudState) (tree : ℕ) (of_tr
       first = ap first_low_of entries ∙ ap (λ (ls : List Link). first_low_of (map entry_for ls)) links_are;
     };
     begins = (record { low = []; page = first }, ap (λ (ls : List Link). slice_get ls 0) links_are, refl);
-    ascends = level_ascends entry_key sizes first (first + 1) (part_of_node (node_of_root top)) (nodes_rise s tree first (node_parts sizes (first + 1) (node_of_root top)) d landed);
-    pieces_are = level_pieces entry_key branching (record { low = λ p. refl; right = λ p. refl; high = λ p. refl }) (nodes_of s tree) top.level sizes first (part_of_node (node_of_root top))
+    ascends =
+        level_ascends entry_key sizes first (first + 1) (part_of_node (node_of_root top))
+        (nodes_rise s tree first (node_parts sizes (first + 1) (node_of_root top)) d landed);
+    pieces_are =
+        level_pieces entry_key branching (record { low = λ p. refl; right = λ p. refl; high = λ p. refl }) (nodes_of s tree) top.level sizes first
+        (part_of_node (node_of_root top))
         (λ q e. (e, above)) None (record { right = refl; high = refl }) landed;
     new = record { unlinked = unlinked; distinct = pages_distinct first (node_parts sizes (first + 1) (node_of_root top)) };
   }
     where
-      links_are : raised_links sizes first ≡ record { low = []; page = first } ∷ links_from (first + 1) (right_of (node_parts sizes (first + 1) (node_of_root top)))
+      links_are : raised_links sizes first
+          ≡ record { low = []; page = first } ∷ links_from (first + 1) (right_of (node_parts sizes (first + 1) (node_of_root top)))
       links_are = cut_links entry_key sizes first (first + 1) (part_of_node (node_of_root top))
 
       above : 0 < top.level

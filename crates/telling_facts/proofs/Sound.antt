@@ -68,7 +68,8 @@ newest_sound s tree page d = on (last_cases vs)
 -- ---- pieces that landed
 
 -- the only version of a page is spelled
-only_spelled : (tree page : ℕ) (vs : List Version) (l : Leaf) → AreOfKind (object.Page tree page) vs → map node_in vs ≡ Leafy l ∷ [] → (bytes : List ℕ) × IsLeaf bytes l
+only_spelled : (tree page : ℕ) (vs : List Version) (l : Leaf) → AreOfKind (object.Page tree page) vs → map node_in vs ≡ Leafy l ∷ []
+    → (bytes : List ℕ) × IsLeaf bytes l
 only_spelled tree page [] l are e = absurd (cc)
 only_spelled tree page (v ∷ vs) l are e =
     let k = are 0 v refl in
@@ -108,7 +109,8 @@ newest_holds s tree page d = on (last_cases vs)
 
 -- ---- inner nodes
 
-node_high : (low : List ℕ) (right : ℕ) (high : Option (List ℕ)) → (high_key low right).fits high ≡ true → (h : List ℕ) → high ≡ Some h → bytes_below low h ≡ true
+node_high : (low : List ℕ) (right : ℕ) (high : Option (List ℕ)) → (high_key low right).fits high ≡ true → (h : List ℕ) → high ≡ Some h
+    → bytes_below low h ≡ true
 node_high low right None fits h e = absurd (cc)
 node_high low right (Some high) fits h e = on (not (right == 0)) fits
   where
@@ -119,7 +121,8 @@ node_high low right (Some high) fits h e = on (not (right == 0)) fits
 pub inner_rises : (bytes : List ℕ) (p : NodePart) → IsInner bytes (node_of_part p) → Rises p
 inner_rises bytes p is = node_high p.low p.right p.high (inner_fits (node_of_part p) is.fits).high
 
-only_inner : (tree page : ℕ) (vs : List Version) (n : Inner) → AreOfKind (object.Page tree page) vs → map node_in vs ≡ Branch n ∷ [] → (bytes : List ℕ) × IsInner bytes n
+only_inner : (tree page : ℕ) (vs : List Version) (n : Inner) → AreOfKind (object.Page tree page) vs → map node_in vs ≡ Branch n ∷ []
+    → (bytes : List ℕ) × IsInner bytes n
 only_inner tree page [] n are e = absurd (cc)
 only_inner tree page (v ∷ vs) n are e =
     let k = are 0 v refl in

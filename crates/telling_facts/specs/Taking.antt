@@ -39,7 +39,8 @@ pub record IsLinked (links : List Link) (page : ℕ) : Type 0 where
   pub page_is : link.page ≡ page
 
 -- what must be known where the left piece lands
-pub record LandsTaken (chain : ℕ → List Link) (nodes : ℕ → List Node) (page : ℕ) (l : Leaf) (queue : ℕ) (run : List PuItem) (sizes : List ℕ) (free : ℕ) : Type 0 where
+pub record LandsTaken (chain : ℕ → List Link) (nodes : ℕ → List Node) (page : ℕ) (l : Leaf) (queue : ℕ) (run : List PuItem) (sizes : List ℕ)
+    (free : ℕ) : Type 0 where
   pub clients : AreClients run
   pub linked : IsLinked (chain 0) page
   -- the sizes fit, with a last piece

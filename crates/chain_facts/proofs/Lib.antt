@@ -7,3 +7,5 @@ pub mod EmptyChains
 pub mod LeafLanding
 pub mod Laws
 pub mod Grown
+pub mod CutLemmas
+pub mod Newest

@@ -2,5 +2,6 @@ pub mod EffectLemmas
 pub mod NameLemmas
 pub mod RowLemmas
 pub mod StateLemmas
+pub mod TracedLemmas
 pub mod UptoLemmas
 pub mod ViewLemmas

@@ -11,6 +11,7 @@ pub mod Machine
 pub mod Names
 pub mod Seen
 pub mod State
+pub mod Traced
 pub mod Upto
 pub mod Views
 pub mod Weather

@@ -1,13 +1,9 @@
-ghost use Rattle.std.specs.Prelude.{◌≡◌, ℕ, Option, Some, length, IfOk};
-ghost use Rattle.std.specs.Option.{option_copied};
-ghost use Rattle.cloud_trait.specs.declared.answer.Answer.TheVariants.{Got, Sent, Received};
-ghost use Rattle.cloud_trait.specs.Answers.{answer_of, held_answer_of, fault_answer, held_fault_answer, done_by, granted_by, renewed_by};
-ghost use Rattle.cloud_trait.specs.Ask.{Ask, Get, GetHeld, PutHeld, Send, Receive, Delete, Take, Renew, Release};
+ghost use Rattle.std.specs.Prelude.{◌≡◌, ℕ};
+ghost use Rattle.cloud_trait.specs.Answers.{fault_answer, held_fault_answer};
+ghost use Rattle.cloud_trait.specs.Ask.{Ask};
 ghost use Rattle.cloud_trait.specs.Claim.{Claim};
-ghost use Rattle.cloud_trait.specs.State.{CloudState, newest};
-ghost use Rattle.cloud_trait.specs.Delivery.{unmarked};
 ghost use Rattle.cloud_trait.specs.Weather.{Makes, RenewsLease};
-ghost use Rattle.cloud_trait.specs.Bench.{Waits, Looks, IsNoCall};
+ghost use Rattle.cloud_trait.specs.Bench.{Looks};
 ghost use Rattle.cloud_trait.specs.Down.{seen_of, first_seen};
 
 use crate::cloud::{Bench, Cloud};

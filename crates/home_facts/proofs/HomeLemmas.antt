@@ -1,17 +1,30 @@
 -- What each step of a session leaves of all open clients and openings.
-use Rattle.std.proofs.Common.{◌≡◌, ◌≢◌, ◌+◌, ◌<◌, ◌≤◌, ◌⊎◌, inl, inr, ℕ, Bool, true, false, cond, ◌==◌, List, [], ◌∷◌, ◌++◌, Some, refl, sym, ap, subst, ◌∙◌, arith}
-use Rattle.std.proofs.lemmas.Bool.{cases_eq, eqb-true, ne_eqb}
+use Rattle.std.proofs.Common.{◌≡◌, ◌≢◌, ◌+◌, ◌<◌, ◌≤◌, ◌⊎◌, inl, inr, ℕ, List, [], Some, refl, sym, ap, subst, ◌∙◌, arith}
+use Rattle.std.proofs.lemmas.Bool.{cases_eq}
 use Rattle.db_base.specs.Ids.{IsClient}
 use Rattle.cloud_trait.specs.Claim.{Claim, Lasts}
 use Rattle.cloud_trait.specs.declared.state.Posted.{Posted}
 use Rattle.head_codec.specs.declared.head.Head.{Head}
 use Rattle.home_facts.specs.Homes.{Home, Opening, Part, Away, AtHome, Opens, Parts, IsLastingPart, IsAlone, HomeHolds, OpeningHolds, PartHolds, AreApart, HomesHold}
+use Rattle.left_facts.proofs.MessageLemmas.{IsLast, log_cases, log_marked}
 use Rattle.log_codec.specs.declared.record.AtomicRec.{AtomicRec}
 use Rattle.store_book.specs.Effects.{after_head, after_logged, after_log_mark}
 use Rattle.store_book.specs.Messages.{IsLogMessage}
 use Rattle.store_book.specs.Premises.{Logs}
 use Rattle.store_book.specs.Tally.{Tally, Store, at}
 use Rattle.store_book.proofs.Names.{at_same, at_other, at_by}
+
+-- one part, one open client; one text, one record
+abbrev home_in : Home → Part → Home
+home_in none Away = none
+home_in none (AtHome g) = g
+home_in none (Opens o) = none
+
+home_is : (k g : Home) → AtHome k ≡ AtHome g → k ≡ g
+home_is k g e = ap (home_in k) e
+
+record_is : (r q : AtomicRec) → Some r ≡ Some q → r ≡ q
+record_is r q e = cc
 
 -- ---- nobody is at home
 
@@ -67,6 +80,7 @@ one_changes t now parts session new mine others from_mine between = record {
     each : (s : ℕ) → (s ≡ session) ⊎ (s ≢ session) → PartHolds t now (at session new parts s)
     each s (inl e) = subst (λ p. PartHolds t now p) (sym (at_same session new parts s e)) mine
     each s (inr ne) = subst (λ p. PartHolds t now p) (sym (at_other session new parts s ne)) (others s ne)
+
     both : (s u : ℕ) → s ≢ u → (s ≡ session) ⊎ (s ≢ session) → (u ≡ session) ⊎ (u ≢ session) → AreApart now (at session new parts s) (at session new parts u)
     both s u ne (inl e) (inl f) = absurd (ne (e ∙ sym f))
     both s u ne (inl e) (inr f) =
@@ -103,6 +117,7 @@ begins_keeps t now parts session g attempt is rises h =
   where
     mine : HomeHolds t g
     mine = subst (λ p. PartHolds t now p) is (h.each session)
+
     on : (p : Part) → AreApart now (AtHome g) p → AreApart now (AtHome (record g { attempt = attempt })) p
     on Away a = tt
     on (AtHome k) a = a
@@ -117,7 +132,171 @@ renews_keeps t now parts session g lease is lasted h =
   where
     mine : HomeHolds t g
     mine = subst (λ p. PartHolds t now p) is (h.each session)
+
     on : (p : Part) → AreApart now (AtHome g) p → AreApart now (AtHome (record g { lease = lease })) p
     on Away a = tt
     on (AtHome k) a = a
     on (Opens o) a = λ e lasts. a e (lasted lasts)
+
+-- ---- a head lands
+
+-- an open client of another session, behind a later head of its client or not
+home_behind : (st : Store) (client : ℕ) (head : Head) (more : List AtomicRec) (g : Home) → ((st.tally.head client).epoch ≤ head.epoch) → HomeHolds st.tally g
+    → HomeHolds (after_head client head more st).tally g
+home_behind st client head more g rises h = record {
+  is_client = h.is_client;
+  early = at_by (λ c q. g.client ≡ c → g.epoch ≤ q.epoch) client head st.tally.head
+      (λ e. let early : g.epoch ≤ (st.tally.head client).epoch = subst (λ c. g.epoch ≤ (st.tally.head c).epoch) e h.early in omega (arith, early, rises))
+      (λ c e. subst (λ k. g.epoch ≤ (st.tally.head k).epoch) e h.early) g.client refl;
+  begun = h.begun;
+}
+
+-- an opening of another session, where nobody else's lease of the landing client lasts, and what landed is later than what it read
+opening_behind : (st : Store) (now client : ℕ) (head : Head) (more : List AtomicRec) (o : Opening) → (o.client ≡ client → Lasts now o.lease → ⊥) → (o.client ≡ client → o.read.epoch < head.epoch)
+    → OpeningHolds st.tally now o → OpeningHolds (after_head client head more st).tally now o
+opening_behind st now client head more o over later h = record {
+  is_client = h.is_client;
+  later = at_by (λ c q. o.client ≡ c → (q ≡ o.read) ⊎ (o.read.epoch < q.epoch)) client head st.tally.head (λ e. inr (later e))
+      (λ c e. subst (λ k. (st.tally.head k ≡ o.read) ⊎ (o.read.epoch < (st.tally.head k).epoch)) e h.later) o.client refl;
+  newest = λ lasts. at_by (λ c q. o.client ≡ c → q ≡ o.read) client head st.tally.head (λ e. absurd (over e lasts))
+      (λ c e. subst (λ k. st.tally.head k ≡ o.read) e (h.newest lasts)) o.client refl;
+}
+
+-- the other sessions' parts behind a head that the session's landing put
+others_behind : (st : Store) (now : ℕ) (parts : Parts) (session client : ℕ) (head : Head) (more : List AtomicRec) → IsAlone now parts session client
+    → (st.tally.head client).epoch ≤ head.epoch → ((other : ℕ) (o : Opening) → other ≢ session → parts other ≡ Opens o → o.client ≡ client → o.read.epoch < head.epoch)
+    → HomesHold st.tally now parts → (other : ℕ) → other ≢ session → PartHolds (after_head client head more st).tally now (parts other)
+others_behind st now parts session client head more alone rises later h other ne = on (parts other) refl (h.each other)
+  where
+    on : (p : Part) → parts other ≡ p → PartHolds st.tally now p → PartHolds (after_head client head more st).tally now p
+    on Away e k = tt
+    on (AtHome g) e k = home_behind st client head more g rises k
+    on (Opens o) e k =
+        opening_behind st now client head more o (λ same lasts. alone other ne (subst (λ q. IsLastingPart now client q) (sym e) (same, lasts))) (later other o ne e) k
+
+-- an opening puts the head of the next epoch: it becomes an open client
+pub opened_keeps : (st : Store) (now : ℕ) (parts : Parts) (session : ℕ) (o : Opening) (head : Head) → parts session ≡ Opens o → Lasts now o.lease → head.epoch ≡ o.read.epoch + 1
+    → IsAlone now parts session o.client → ((id : ℕ) (r : AtomicRec) → IsLogMessage (st.tally.logged o.client) id r → r.epoch ≤ (st.tally.head o.client).epoch) → HomesHold st.tally now parts
+    → HomesHold (after_head o.client head [] st).tally now (at session (AtHome (record { client = o.client; epoch = head.epoch; attempt = 0; lease = o.lease })) parts)
+opened_keeps st now parts session o head is lasts next alone early h =
+    one_changes (after_head o.client head [] st).tally now parts session (AtHome new) (record { is_client = mine.is_client; early = here; begun = begun })
+    (others_behind st now parts session o.client head [] alone (omega (arith, newest_epoch, next)) later h) (λ other ne. on other ne (parts other) refl) h.apart
+  where
+    new : Home
+    new = record { client = o.client; epoch = head.epoch; attempt = 0; lease = o.lease }
+
+    mine : OpeningHolds st.tally now o
+    mine = subst (λ p. PartHolds st.tally now p) is (h.each session)
+
+    newest : st.tally.head o.client ≡ o.read
+    newest = mine.newest lasts
+
+    newest_epoch : (st.tally.head o.client).epoch ≡ o.read.epoch
+    newest_epoch = ap (λ (q : Head). q.epoch) newest
+
+    here : head.epoch ≤ ((after_head o.client head [] st).tally.head o.client).epoch
+    here = let e : ((after_head o.client head [] st).tally.head o.client).epoch ≡ head.epoch = ap (λ (q : Head). q.epoch) (at_same o.client head st.tally.head o.client refl) in omega (arith, e)
+
+    begun : (id : ℕ) (r : AtomicRec) → IsLogMessage (st.tally.logged o.client) id r → r.epoch ≡ head.epoch → r.txn ≤ 0
+    begun id r m e = absurd (never (early id r m))
+      where
+        never : r.epoch ≤ (st.tally.head o.client).epoch → ⊥
+        never low = omega (arith, low, e, next, newest_epoch)
+
+    -- what another opening read is at most what this one read
+    later : (other : ℕ) (k : Opening) → other ≢ session → parts other ≡ Opens k → k.client ≡ o.client → k.read.epoch < head.epoch
+    later other k ne e same = turn (subst (λ c. (st.tally.head c ≡ k.read) ⊎ (k.read.epoch < (st.tally.head c).epoch)) same (subst (λ p. PartHolds st.tally now p) e (h.each other)).later)
+      where
+        turn : (st.tally.head o.client ≡ k.read) ⊎ (k.read.epoch < (st.tally.head o.client).epoch) → k.read.epoch < head.epoch
+        turn (inl f) = let g : (st.tally.head o.client).epoch ≡ k.read.epoch = ap (λ (q : Head). q.epoch) f in omega (arith, g, next, newest_epoch)
+        turn (inr f) = omega (arith, f, next, newest_epoch)
+
+    on : (other : ℕ) → other ≢ session → (p : Part) → parts other ≡ p → AreApart now (AtHome new) p
+    on other ne Away e = tt
+    on other ne (AtHome g) e = λ same epochs. never same epochs
+      where
+        never : o.client ≡ g.client → head.epoch ≡ g.epoch → ⊥
+        never same epochs =
+            let early_g : g.epoch ≤ (st.tally.head g.client).epoch = (subst (λ p. PartHolds st.tally now p) e (h.each other)).early in
+            let at_client : g.epoch ≤ (st.tally.head o.client).epoch = subst (λ c. g.epoch ≤ (st.tally.head c).epoch) (sym same) early_g in
+            omega (arith, at_client, epochs, next, newest_epoch)
+    on other ne (Opens k) e = λ same l. later other k ne e (sym same)
+
+-- an open client's commit puts a head of its epoch
+pub commits_keeps : (st : Store) (now : ℕ) (parts : Parts) (session : ℕ) (g : Home) (head : Head) (more : List AtomicRec) → parts session ≡ AtHome g → Lasts now g.lease
+    → head.epoch ≡ g.epoch → (st.tally.head g.client).epoch ≡ g.epoch → IsAlone now parts session g.client → HomesHold st.tally now parts
+    → HomesHold (after_head g.client head more st).tally now parts
+commits_keeps st now parts session g head more is lasts epoch newest alone h = record {
+  each = λ s. on s (cases_eq s session);
+  apart = h.apart;
+}
+  where
+    mine : HomeHolds st.tally g
+    mine = subst (λ p. PartHolds st.tally now p) is (h.each session)
+
+    -- an opening of the client read an earlier epoch
+    later : (other : ℕ) (k : Opening) → other ≢ session → parts other ≡ Opens k → k.client ≡ g.client → k.read.epoch < head.epoch
+    later other k ne e same =
+        let apart : AreApart now (AtHome g) (Opens k) = subst (λ q. AreApart now (AtHome g) q) e (subst (λ p. AreApart now p (parts other)) is (h.apart session other (λ f. ne (sym f)))) in
+        let below : k.read.epoch < g.epoch = apart (sym same) lasts in
+        omega (arith, below, epoch)
+
+    on : (s : ℕ) → (s ≡ session) ⊎ (s ≢ session) → PartHolds (after_head g.client head more st).tally now (parts s)
+    on s (inl e) =
+        subst (λ p. PartHolds (after_head g.client head more st).tally now p) (sym (ap parts e ∙ is)) (home_behind st g.client head more g (omega (arith, newest, epoch)) mine)
+    on s (inr ne) = others_behind st now parts session g.client head more alone (omega (arith, newest, epoch)) later h s ne
+
+-- ---- messages
+
+-- an open client's commit sends a record of its epoch, of a transaction that it began
+pub logged_keeps : (st : Store) (now : ℕ) (parts : Parts) (session : ℕ) (g : Home) (post : Posted) (r : AtomicRec) → parts session ≡ AtHome g → Logs st g.client post r
+    → r.epoch ≡ g.epoch → r.txn ≤ g.attempt → HomesHold st.tally now parts → HomesHold (after_logged g.client post st).tally now parts
+logged_keeps st now parts session g post r is logs epoch txn h = record {
+  each = λ s. on s (parts s) refl (h.each s);
+  apart = h.apart;
+}
+  where
+    -- another open client of the client is of another epoch
+    begun : (s : ℕ) (k : Home) → parts s ≡ AtHome k → k.client ≡ g.client → r.epoch ≡ k.epoch → r.txn ≤ k.attempt
+    begun s k e same f = turn (cases_eq s session)
+      where
+        turn : (s ≡ session) ⊎ (s ≢ session) → r.txn ≤ k.attempt
+        turn (inl t) = let one : AtHome k ≡ AtHome g = sym e ∙ (ap parts t ∙ is) in subst (λ (x : Home). r.txn ≤ x.attempt) (sym (home_is k g one)) txn
+        turn (inr ne) =
+            let apart : AreApart now (AtHome k) (AtHome g) = subst (λ q. AreApart now (AtHome k) q) is (subst (λ p. AreApart now p (parts session)) e (h.apart s session ne)) in
+            absurd (apart same (sym f ∙ epoch))
+
+    holds : (s : ℕ) (k : Home) → parts s ≡ AtHome k → HomeHolds st.tally k → HomeHolds (after_logged g.client post st).tally k
+    holds s k e old = record {
+      is_client = old.is_client;
+      early = old.early;
+      begun = at_by (λ c ps. k.client ≡ c → (id : ℕ) (q : AtomicRec) → IsLogMessage ps id q → q.epoch ≡ k.epoch → q.txn ≤ k.attempt) g.client _ st.tally.logged
+          (λ same id q m f. either id q same f (log_cases (st.tally.logged g.client) post id q m))
+          (λ c same id q m f. subst (λ n. (i : ℕ) (x : AtomicRec) → IsLogMessage (st.tally.logged n) i x → x.epoch ≡ k.epoch → x.txn ≤ k.attempt) same old.begun id q m f) k.client refl;
+    }
+      where
+        either : (id : ℕ) (q : AtomicRec) → k.client ≡ g.client → q.epoch ≡ k.epoch → IsLogMessage (st.tally.logged g.client) id q ⊎ IsLast (st.tally.logged g.client) post id q → q.txn ≤ k.attempt
+        either id q same f (inl m) = subst (λ n. (i : ℕ) (x : AtomicRec) → IsLogMessage (st.tally.logged n) i x → x.epoch ≡ k.epoch → x.txn ≤ k.attempt) same old.begun id q m f
+        either id q same f (inr l) =
+            let one : r ≡ q = record_is r q (sym logs.reads ∙ l.reads) in
+            subst (λ (x : AtomicRec). x.txn ≤ k.attempt) one (begun s k e same (ap (λ (x : AtomicRec). x.epoch) one ∙ f))
+
+    on : (s : ℕ) (p : Part) → parts s ≡ p → PartHolds st.tally now p → PartHolds (after_logged g.client post st).tally now p
+    on s Away e old = tt
+    on s (AtHome k) e old = holds s k e old
+    on s (Opens o) e old = record { is_client = old.is_client; later = old.later; newest = old.newest }
+
+-- a mark adds no message
+pub marked_keeps : (st : Store) (now : ℕ) (parts : Parts) (client id : ℕ) → HomesHold st.tally now parts → HomesHold (after_log_mark client id st).tally now parts
+marked_keeps st now parts client id h = record { each = λ s. on (parts s) (h.each s); apart = h.apart }
+  where
+    on : (p : Part) → PartHolds st.tally now p → PartHolds (after_log_mark client id st).tally now p
+    on Away old = tt
+    on (AtHome k) old = record {
+      is_client = old.is_client;
+      early = old.early;
+      begun = at_by (λ c ps. k.client ≡ c → (i : ℕ) (q : AtomicRec) → IsLogMessage ps i q → q.epoch ≡ k.epoch → q.txn ≤ k.attempt) client _ st.tally.logged
+          (λ same i q m f. subst (λ n. (j : ℕ) (x : AtomicRec) → IsLogMessage (st.tally.logged n) j x → x.epoch ≡ k.epoch → x.txn ≤ k.attempt) same old.begun i q (log_marked (st.tally.logged client) id i q m) f)
+          (λ c same i q m f. subst (λ n. (j : ℕ) (x : AtomicRec) → IsLogMessage (st.tally.logged n) j x → x.epoch ≡ k.epoch → x.txn ≤ k.attempt) same old.begun i q m f) k.client refl;
+    }
+    on (Opens o) old = record { is_client = old.is_client; later = old.later; newest = old.newest }

@@ -1,5 +1,5 @@
 -- Open clients and openings under way, of all sessions.
-use Rattle.std.specs.Prelude.{ℕ, ◌≡◌, ◌≢◌, ◌+◌, ◌<◌, ◌≤◌, ◌⊎◌}
+use Rattle.std.specs.Prelude.{ℕ, ◌≡◌, ◌≢◌, ◌<◌, ◌≤◌, ◌⊎◌}
 use Rattle.db_base.specs.Ids.{IsClient}
 use Rattle.cloud_trait.specs.Claim.{Claim, Lasts}
 use Rattle.head_codec.specs.declared.head.Head.{Head}

@@ -8,10 +8,9 @@ use Rattle.cloud_trait.specs.declared.state.Posted.{Posted}
 use Rattle.head_codec.specs.Head.{empty_head}
 use Rattle.head_codec.specs.declared.head.Head.{Head}
 use Rattle.head_codec.specs.declared.head.Phase.TheVariants.{Settled, Open}
-use Rattle.left_facts.specs.Left.{IsCopied, IsWaiting, Leaves}
+use Rattle.left_facts.specs.Left.{IsCopied, IsWaiting, Leaves, NothingLeft}
 use Rattle.left_facts.proofs.Holding.{log_of, logged_of, way_of, has_way}
 use Rattle.log_codec.specs.declared.record.AtomicRec.{AtomicRec}
-use Rattle.log_codec.specs.declared.record.PuRec.{PuRec}
 use Rattle.node_codec.specs.Inner.{Inner}
 use Rattle.node_codec.specs.Tree.{Tree}
 use Rattle.number_facts.specs.Numbers.{Numbers}
@@ -124,12 +123,7 @@ empty_leaves s empty = record {
 
 -- ---- at a report
 
--- no record of a tree is under way, and no message of its queues waits
-pub record NothingLeft (st : Store) (tree : ℕ) : Type 0 where
-  pub ways : (r : AtomicRec) → IsIn st.book.log r → r.tree ≡ tree → IsUnderWay st.tally r → ⊥
-  pub posts : (page : ℕ) (rec : PuRec) → Waits (st.tally.posts tree page) rec → ⊥
-
--- then all its records are applied
+-- where nothing is left of a tree, all its records are applied
 pub all_applied : (st : Store) (tree : ℕ) → Leaves st → NothingLeft st tree → (r : AtomicRec) → IsIn st.book.log r → r.tree ≡ tree → IsApplied st.tally r
 all_applied st tree h none r logged e = on (h.waiting r logged)
   where

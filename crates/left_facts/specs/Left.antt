@@ -4,6 +4,7 @@ use Rattle.db_base.specs.Ids.{IsClient}
 use Rattle.cloud_trait.specs.declared.state.Posted.{Posted}
 use Rattle.head_codec.specs.declared.head.Phase.TheVariants.{Open}
 use Rattle.log_codec.specs.declared.record.AtomicRec.{AtomicRec}
+use Rattle.log_codec.specs.declared.record.PuRec.{PuRec}
 use Rattle.route_plan.specs.Record.{pu_record_of}
 use Rattle.store_book.specs.Messages.{HasCopy, Waits, WaitsLogged, IsLogMessage}
 use Rattle.store_book.specs.Records.{StandsAt, IsIn, IsApplied, IsUnderWay, IsPast, under_way}
@@ -46,3 +47,8 @@ pub record Leaves (st : Store) : Type 0 where
   pub waiting : (r : AtomicRec) → IsIn st.book.log r → IsApplied st.tally r ⊎ (IsUnderWay st.tally r ⊎ IsWaiting st.tally r)
   pub ways : (client count : ℕ) → IsClient client → (st.tally.head client).phase ≡ Open count → HasWay st client count
   pub logged : (client : ℕ) → IsClient client → AreLogged st client
+
+-- no record of a tree is under way, and no message of its queues waits
+pub record NothingLeft (st : Store) (tree : ℕ) : Type 0 where
+  pub ways : (r : AtomicRec) → IsIn st.book.log r → r.tree ≡ tree → IsUnderWay st.tally r → ⊥
+  pub posts : (page : ℕ) (rec : PuRec) → Waits (st.tally.posts tree page) rec → ⊥

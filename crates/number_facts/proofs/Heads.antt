@@ -183,10 +183,12 @@ adds_keeps st client head more n adds = record {
     grown : (tree page other number : ℕ) → number ≤ count_of tree page other st.book.log → number ≤ count_of tree page other (st.book.log ++ more)
     grown tree page other number within = let sum = count_of-append tree page other st.book.log more in omega (arith, sum, within)
 
-    covers : (r : AtomicRec) → IsIn (st.book.log ++ more) r → r.number ≤ st.tally.cursor r.tree r.page r.client → r.number ≤ st.tally.done r.tree (key_in r) r.page r.client
+    covers : (r : AtomicRec) → IsIn (st.book.log ++ more) r → r.number ≤ st.tally.cursor r.tree r.page r.client
+        → r.number ≤ st.tally.done r.tree (key_in r) r.page r.client
     covers r logged low = on (get_cases st.book.log more logged.0 r logged.1)
       where
-        on : StandsAt st.book.log logged.0 r ⊎ ((j : ℕ) × (logged.0 ≡ length st.book.log + j) × StandsAt more j r) → r.number ≤ st.tally.done r.tree (key_in r) r.page r.client
+        on : StandsAt st.book.log logged.0 r ⊎ ((j : ℕ) × (logged.0 ≡ length st.book.log + j) × StandsAt more j r)
+            → r.number ≤ st.tally.done r.tree (key_in r) r.page r.client
         on (inl there) = n.covered r (logged.0, there) low
         on (inr p) =
             let new = adds.records p.0 r p.2 in

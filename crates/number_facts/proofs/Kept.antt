@@ -53,7 +53,8 @@ record Holds (st : Store) (posts : ℕ → ℕ → List Posted) (cursor : ℕ �
 abbrev with_tally : Store → Tally → (ℕ → ℕ → List Link) → List Entry → Store
 with_tally st t chain order = record { tally = record t { head = st.tally.head }; book = record { log = st.book.log; chain = chain }; order = order }
 
-kept : (st : Store) (t : Tally) (chain : ℕ → ℕ → List Link) (order : List Entry) → Numbers st → Holds st t.posts t.cursor t.done chain → Numbers (with_tally st t chain order)
+kept : (st : Store) (t : Tally) (chain : ℕ → ℕ → List Link) (order : List Entry) → Numbers st → Holds st t.posts t.cursor t.done chain
+    → Numbers (with_tally st t chain order)
 kept st t chain order n h = record {
   in_order = n.in_order;
   counters = n.counters;
@@ -94,7 +95,8 @@ after_log_mark_keeps st client id n = kept st (after_log_mark client id st).tall
 abbrev AreRecords : List AtomicRec → ℕ → ℕ → List Posted → Type 0
 AreRecords log tree page posts = (place : ℕ) (m : Posted) → StandsAt posts place m → IsOfRecord log tree page m.bytes
 
-pub after_posted_keeps : (st : Store) (tree page : ℕ) (post : Posted) (r : AtomicRec) → Numbers st → Posts st tree page post r → Numbers (after_posted tree page post st)
+pub after_posted_keeps : (st : Store) (tree page : ℕ) (post : Posted) (r : AtomicRec) → Numbers st → Posts st tree page post r
+    → Numbers (after_posted tree page post st)
 after_posted_keeps st tree page post r n p = kept st (after_posted tree page post st).tally st.book.chain st.order n (record {
   sent = at2_by (λ t q ms. AreRecords st.book.log t q ms) tree page (st.tally.posts tree page ++ post ∷ []) st.tally.posts new n.sent;
   done_within = n.done_within;
@@ -161,7 +163,8 @@ module _ (st : Store) (p : Taking) (n : Numbers st) (t : Takes st p) where
           omega (arith, within, run, same)
       on false e within = within
 
-  done_up : (tree : ℕ) (key : List ℕ) (page client number : ℕ) → number ≤ st.tally.done tree key page client → number ≤ done_after p st.tally.done tree key page client
+  done_up : (tree : ℕ) (key : List ℕ) (page client number : ℕ) → number ≤ st.tally.done tree key page client
+      → number ≤ done_after p st.tally.done tree key page client
   done_up tree key page client number low = on (((tree == p.tree) && (page == p.queue)) && p.range key)
     where
       on : (b : Bool) → number ≤ cond b (max (st.tally.done tree key page client) (greatest_of p.run client)) (st.tally.done tree key page client)
@@ -240,7 +243,8 @@ never_routed st tree page above none r (inl root) tree_is page_is = absurd (omeg
 never_routed st tree page above none r (inr leaf) tree_is page_is =
     none leaf.link (subst (λ a. IsIn (st.book.chain a 0) leaf.link) tree_is leaf.linked) (leaf.page_is ∙ page_is)
 
-pub after_page_keeps : (st : Store) (tree page : ℕ) (node : Node) (own : ℕ → ℕ) → Numbers st → LandsFirst st tree page own → Numbers (after_page tree page node own st)
+pub after_page_keeps : (st : Store) (tree page : ℕ) (node : Node) (own : ℕ → ℕ) → Numbers st → LandsFirst st tree page own
+    → Numbers (after_page tree page node own st)
 after_page_keeps st tree page node own n l = kept st (after_page tree page node own st).tally st.book.chain st.order n (record {
   sent = n.sent;
   done_within = n.done_within;
@@ -269,7 +273,8 @@ module _ (st : Store) (tree : ℕ) (root : Tree) (n : Numbers st) (c : CoversApp
   root_cursor : (a q client : ℕ) → IsClient client → at2 tree 0 (λ client. number_of root.cursor client) st.tally.cursor a q client ≤ count_of a q client st.book.log
   root_cursor = at2_by (λ a q f. (client : ℕ) → IsClient client → f client ≤ count_of a q client st.book.log) tree 0 (λ client. number_of root.cursor client) st.tally.cursor c.within n.cursor_within
 
-  root_covered : (r : AtomicRec) → IsIn st.book.log r → r.number ≤ at2 tree 0 (λ client. number_of root.cursor client) st.tally.cursor r.tree r.page r.client → IsApplied st.tally r
+  root_covered : (r : AtomicRec) → IsIn st.book.log r
+      → r.number ≤ at2 tree 0 (λ client. number_of root.cursor client) st.tally.cursor r.tree r.page r.client → IsApplied st.tally r
   root_covered r logged low = at2_by (λ a q f. r.tree ≡ a → r.page ≡ q → r.number ≤ f r.client → IsApplied st.tally r) tree 0 (λ client. number_of root.cursor client) st.tally.cursor
       (λ tree_is page_is low. c.applied r logged tree_is page_is low)
       (λ a q tree_is page_is low. n.covered r logged (subst (λ b. r.number ≤ st.tally.cursor b r.page r.client) (sym tree_is) (subst (λ b. r.number ≤ st.tally.cursor a b r.client) (sym page_is) low)))
@@ -291,7 +296,8 @@ nowhere : (link : Link) (place : ℕ) → StandsAt no_links place link → ⊥
 nowhere link place e = cc
 
 -- a level that had no page gets some
-pub after_raise_keeps : (st : Store) (tree : ℕ) (root : Tree) (level : ℕ) (links : List Link) → Numbers st → CoversApplied st tree root → st.book.chain tree level ≡ []
+pub after_raise_keeps : (st : Store) (tree : ℕ) (root : Tree) (level : ℕ) (links : List Link) → Numbers st → CoversApplied st tree root
+    → st.book.chain tree level ≡ []
     → Numbers (after_raise tree root level links st)
 after_raise_keeps st tree root level links n c empty = kept st (after_root tree root st).tally (after_raise tree root level links st).book.chain st.order n (record {
   sent = n.sent;

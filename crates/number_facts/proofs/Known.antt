@@ -24,7 +24,8 @@ module _ (st : Store) (n : Numbers st) where
       record_determined st.book.log n.in_order r q in_r in_q (record { client_is = client; tree_is = tree; page_is = page }) number
 
   -- what a message of a queue spells is the record of the log that has its client and number
-  pub message_is : (tree page id : ℕ) (rec : PuRec) (r : AtomicRec) → IsMessage (st.tally.posts tree page) id rec → IsIn st.book.log r → IsOfQueue tree page rec.client r
+  pub message_is : (tree page id : ℕ) (rec : PuRec) (r : AtomicRec) → IsMessage (st.tally.posts tree page) id rec → IsIn st.book.log r
+      → IsOfQueue tree page rec.client r
       → r.number ≡ rec.number → rec ≡ pu_record_of r
   message_is tree page id rec r m logged is number =
       let sent = n.sent tree page m.place m.message m.there in
@@ -62,7 +63,8 @@ module _ (st : Store) (n : Numbers st) where
   has_number tree page client number some most = number_taken st.book.log n.in_order tree page client number some most
 
   -- no record was ever routed to a page that is in no leaf chain
-  pub none_unlinked : (tree page client : ℕ) → 1 < page → ((link : Link) → IsIn (st.book.chain tree 0) link → link.page ≡ page → ⊥) → count_of tree page client st.book.log ≡ 0
+  pub none_unlinked : (tree page client : ℕ) → 1 < page → ((link : Link) → IsIn (st.book.chain tree 0) link → link.page ≡ page → ⊥)
+      → count_of tree page client st.book.log ≡ 0
   none_unlinked tree page client above none =
       ⊎_elim
       (λ some. let r = has_number tree page client 1 (omega arith) some in

@@ -5,3 +5,4 @@ mod Heads
 pub mod Runs
 pub mod Kept
 pub mod Known
+pub mod Told

@@ -30,10 +30,12 @@ own_queue r = record { client_is = refl; tree_is = refl; page_is = refl }
 
 -- ---- more records
 
-pub of_queue-append : (tree page client : ℕ) (log more : List AtomicRec) → of_queue tree page client (log ++ more) ≡ of_queue tree page client log ++ of_queue tree page client more
+pub of_queue-append : (tree page client : ℕ) (log more : List AtomicRec)
+    → of_queue tree page client (log ++ more) ≡ of_queue tree page client log ++ of_queue tree page client more
 of_queue-append tree page client log more = filter-append (is_of_queue tree page client) log more
 
-pub count_of-append : (tree page client : ℕ) (log more : List AtomicRec) → count_of tree page client (log ++ more) ≡ count_of tree page client log + count_of tree page client more
+pub count_of-append : (tree page client : ℕ) (log more : List AtomicRec)
+    → count_of tree page client (log ++ more) ≡ count_of tree page client log + count_of tree page client more
 count_of-append tree page client log more =
     ap length (of_queue-append tree page client log more) ∙ length-append (of_queue tree page client log) (of_queue tree page client more)
 

@@ -1,26 +1,19 @@
 -- How a leaf that takes a run goes on with a client's records of a tree and key.
-use Rattle.std.proofs.Common.{◌≡◌, ◌+◌, ◌-◌, ◌<◌, ◌≤◌, ◌⊎◌, ⊎_elim, inl, inr, ℕ, zero, suc, Bool, true, false, cond, ◌==◌, ◌&&◌, max, List, [], ◌∷◌, ◌++◌, length, map, take, drop, filter, Some, refl, sym, ap, ap₂, subst, ◌∙◌, arith, eq-eqb, eqb-true, append_assoc, append-nil}
-use Rattle.std.specs.Prelude.{nat_lt}
+use Rattle.std.proofs.Common.{◌≡◌, ◌+◌, ◌<◌, ◌≤◌, ◌⊎◌, ⊎_elim, inl, inr, ℕ, Bool, true, false, cond, ◌==◌, ◌&&◌, max, List, [], ◌++◌, length, refl, sym, ap, ap₂, subst, ◌∙◌, arith, eq-eqb, eqb-true, append_assoc}
 use Rattle.std.specs.Str.{bytes_eq}
-use Rattle.std.proofs.lemmas.Bool.{and_parts, and_from, cases_lt, ltb-true, lt-ltb, le-ltb}
-use Rattle.std.proofs.lemmas.List.{map-append, take-append-drop}
+use Rattle.std.proofs.lemmas.Bool.{and_parts, and_from}
+use Rattle.std.proofs.lemmas.List.{map-append}
 use Rattle.std.proofs.lemmas.List.Elements.{filter-append}
 use Rattle.std.proofs.lemmas.Slice.Eq.{bytes_eq-Decides}
-use Rattle.db_base.specs.Ids.{IsClient}
 use Rattle.leaf_edit.specs.Raised.{greatest_of}
 use Rattle.log_codec.specs.declared.record.AtomicRec.{AtomicRec}
 use Rattle.report_types.specs.declared.entry.Entry.{Entry}
-use Rattle.store_book.specs.Effects.{Taking, done_after, taken_entries, after_leaf}
-use Rattle.store_book.specs.Premises.{IsConsecutive, Takes}
-use Rattle.store_book.specs.Records.{StandsAt, IsIn, key_in, is_of_queue, of_queue, is_of_key, of_key, entry_of, entries_of, IsApplied}
+use Rattle.store_book.specs.Effects.{Taking, taken_entries, after_leaf}
+use Rattle.store_book.specs.Records.{StandsAt, IsIn, key_in, is_of_key, of_key, entry_of, entries_of, IsApplied}
 use Rattle.store_book.specs.Tally.{Store}
 use Rattle.store_book.proofs.Places.{get_front, get_cases, get_behind}
-use Rattle.number_facts.specs.Numbers.{Numbers}
-use Rattle.number_facts.proofs.Lists.{filter_there, filter_at, filter_agree, take_there}
-use Rattle.number_facts.proofs.Queues.{IsOfQueue, queue_test, queue_parts}
-use Rattle.order_facts.specs.Order.{is_entry_of, entries_of_key, IsLeft, FirstApplied, UnappliedOfOneQueue}
-use Rattle.order_facts.proofs.Filters.{filter-twice, filter_back, same_test, nothing_in, take_below, drop_there}
-use Rattle.order_facts.proofs.Lacked.{has_key, window, lacked_entries}
+use Rattle.number_facts.proofs.Lists.{filter_there, filter_at}
+use Rattle.order_facts.specs.Order.{is_entry_of, entries_of_key, IsLeft, FirstApplied}
 
 -- ---- of which client, tree and key a record is
 
@@ -45,10 +38,13 @@ pub record IsAmong (st : Store) (tree : ℕ) (key : List ℕ) (client : ℕ) (r 
   pub logged : IsIn st.book.log r
   pub is : IsOfKey tree key client r
 
-among : (st : Store) (tree : ℕ) (key : List ℕ) (client : ℕ) (r : AtomicRec) → IsIn (of_key tree key client st.book.log) r → IsAmong st tree key client r
+pub among : (st : Store) (tree : ℕ) (key : List ℕ) (client : ℕ) (r : AtomicRec) → IsIn (of_key tree key client st.book.log) r → IsAmong st tree key client r
 among st tree key client r is =
     let found = filter_there (is_of_key tree key client) st.book.log is.0 r is.1 in
     record { logged = (found.place, found.there); is = key_parts tree key client r found.test }
+
+pub in_front : {X : Type 0} (xs ys : List X) (x : X) → IsIn xs x → IsIn (xs ++ ys) x
+in_front xs ys x is = (is.0, get_front xs ys is.0 x is.1)
 
 in_back : {X : Type 0} (xs ys : List X) (x : X) → IsIn ys x → IsIn (xs ++ ys) x
 in_back xs ys x is = (length xs + is.0, get_behind xs ys is.0 x is.1)
@@ -90,14 +86,16 @@ module _ (st : Store) (p : Taking) where
       on true = omega (arith, low)
       on false = low
 
-  pub after_most : (r : AtomicRec) → st.tally.done r.tree (key_in r) r.page r.client < r.number → greatest_of p.run r.client < r.number → IsLeft (after_leaf p st).tally r
+  pub after_most : (r : AtomicRec) → st.tally.done r.tree (key_in r) r.page r.client < r.number → greatest_of p.run r.client < r.number
+      → IsLeft (after_leaf p st).tally r
   after_most r low run = on (((r.tree == p.tree) && (r.page == p.queue)) && p.range (key_in r))
     where
       on : (b : Bool) → cond b (max (st.tally.done r.tree (key_in r) r.page r.client) (greatest_of p.run r.client)) (st.tally.done r.tree (key_in r) r.page r.client) < r.number
       on true = omega (arith, low, run)
       on false = low
 
-  pub after_same : (r : AtomicRec) → r.tree ≡ p.tree → r.page ≡ p.queue → p.range (key_in r) ≡ true → r.number ≤ greatest_of p.run r.client → IsApplied (after_leaf p st).tally r
+  pub after_same : (r : AtomicRec) → r.tree ≡ p.tree → r.page ≡ p.queue → p.range (key_in r) ≡ true → r.number ≤ greatest_of p.run r.client
+      → IsApplied (after_leaf p st).tally r
   after_same r tree_is page_is inside low =
       subst (λ b. r.number ≤ cond b (max (st.tally.done r.tree (key_in r) r.page r.client) (greatest_of p.run r.client)) (st.tally.done r.tree (key_in r) r.page r.client))
       (sym (and_from ((r.tree == p.tree) && (r.page == p.queue)) (p.range (key_in r))
@@ -117,7 +115,8 @@ module _ (st : Store) (p : Taking) where
           absurd (never (eqb-true r.tree p.tree queue.0) (eqb-true r.page p.queue queue.1) both.1)
       on false e = above
 
-  pub advanced : (tree : ℕ) (key : List ℕ) (client : ℕ) (f : FirstApplied st tree key client) → Advances (after_leaf p st) tree key client f.left (taken_entries st.tally p)
+  pub advanced : (tree : ℕ) (key : List ℕ) (client : ℕ) (f : FirstApplied st tree key client)
+      → Advances (after_leaf p st) tree key client f.left (taken_entries st.tally p)
       → FirstApplied (after_leaf p st) tree key client
   advanced tree key client f a = record {
     taken = f.taken ++ a.now;

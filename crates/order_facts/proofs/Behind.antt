@@ -69,7 +69,8 @@ rise-sorted [] h = tt
 rise-sorted (x ∷ xs) h = (recursion_from_All (λ (y : PuItem). is_lt (item_cmp y x) ≡ false) xs (first-least x xs h), rise-sorted xs (tail-sorted x xs h))
 
 -- of two items of one key and client the one that is not less has no smaller number
-not_less-number : (x y : PuItem) → key_of y.rec.change ≡ key_of x.rec.change → y.rec.client ≡ x.rec.client → is_lt (item_cmp y x) ≡ false → x.rec.number ≤ y.rec.number
+not_less-number : (x y : PuItem) → key_of y.rec.change ≡ key_of x.rec.change → y.rec.client ≡ x.rec.client → is_lt (item_cmp y x) ≡ false
+    → x.rec.number ≤ y.rec.number
 not_less-number x y keys clients h = on (nat_lt y.rec.number x.rec.number) refl
     (sym (ap is_lt (ap (λ o. ordering_then o (ordering_then (nat_cmp y.rec.client x.rec.client) (nat_cmp y.rec.number x.rec.number))) same_key
     ∙ ap (λ o. ordering_then o (nat_cmp y.rec.number x.rec.number)) same_client)) ∙ h)
@@ -80,7 +81,8 @@ not_less-number x y keys clients h = on (nat_lt y.rec.number x.rec.number) refl
     same_client : nat_cmp y.rec.client x.rec.client ≡ Equal
     same_client = ap (λ c. nat_cmp y.rec.client c) (sym clients) ∙ tied_itself nat_cmp_total y.rec.client
 
-    on : (b : Bool) → nat_lt y.rec.number x.rec.number ≡ b → is_lt (cond b Less (cond (y.rec.number == x.rec.number) Equal Greater)) ≡ false → x.rec.number ≤ y.rec.number
+    on : (b : Bool) → nat_lt y.rec.number x.rec.number ≡ b → is_lt (cond b Less (cond (y.rec.number == x.rec.number) Equal Greater)) ≡ false
+        → x.rec.number ≤ y.rec.number
     on true e less = absurd cc
     on false e less = ltb-false y.rec.number x.rec.number e
 
@@ -99,7 +101,8 @@ behind-other client key n x other = on (x.rec.client == client) other
     on false e = refl
 
 -- and so are all where none has the number
-behind-none : (client : ℕ) (key : List ℕ) (n : ℕ) (xs : List PuItem) → count_by (is_at client (n + 1)) xs ≡ 0 → filter (is_behind client key n) xs ≡ filter (is_behind client key (n + 1)) xs
+behind-none : (client : ℕ) (key : List ℕ) (n : ℕ) (xs : List PuItem) → count_by (is_at client (n + 1)) xs ≡ 0
+    → filter (is_behind client key n) xs ≡ filter (is_behind client key (n + 1)) xs
 behind-none client key n [] none = refl
 behind-none client key n (x ∷ xs) none = on (is_at client (n + 1) x) refl (sym (sum_by-cons (λ y. cond (is_at client (n + 1) y) 1 0) x xs) ∙ none) (behind-none client key n xs)
   where
@@ -145,7 +148,8 @@ at-next client key n x is = record {
     not_behind false b m e = refl
 
 -- what is behind a number is the item of the next, where that has the key, and what is behind the next
-pub behind-next : (client : ℕ) (key : List ℕ) (n : ℕ) (xs : List PuItem) (x : PuItem) → Rise xs → count_by (is_at client (n + 1)) xs ≡ 1 → find (is_at client (n + 1)) xs ≡ Some x
+pub behind-next : (client : ℕ) (key : List ℕ) (n : ℕ) (xs : List PuItem) (x : PuItem) → Rise xs → count_by (is_at client (n + 1)) xs ≡ 1
+    → find (is_at client (n + 1)) xs ≡ Some x
     → filter (is_behind client key n) xs
     ≡ cond (bytes_eq (key_of x.rec.change) key) (x ∷ filter (is_behind client key (n + 1)) xs) (filter (is_behind client key (n + 1)) xs)
 behind-next client key n [] x rise one is = absurd cc

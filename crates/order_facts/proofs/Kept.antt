@@ -1,9 +1,8 @@
 -- The order of the committed entries holds of the empty cloud, and is kept by every call that lands.
-use Rattle.std.proofs.Common.{◌≡◌, ◌+◌, ◌<◌, ◌≤◌, ◌⊎◌, ⊎_elim, inl, inr, ℕ, Bool, true, false, ◌==◌, ◌&&◌, List, [], ◌∷◌, ◌++◌, Option, map, refl, sym, ap, subst, ◌∙◌, arith, eq-eqb, eqb-true, append_assoc}
+use Rattle.std.proofs.Common.{◌≡◌, ◌<◌, ⊎_elim, ℕ, Bool, true, false, ◌==◌, ◌&&◌, List, [], ◌++◌, refl, sym, ap, subst, ◌∙◌, arith, eq-eqb, eqb-true, append_assoc}
 use Rattle.std.specs.Prelude.{nat_lt}
 use Rattle.std.specs.Str.{bytes_eq}
 use Rattle.std.proofs.lemmas.Bool.{and_parts, and_from, both_ways, false_from_ne_true}
-use Rattle.std.proofs.lemmas.List.{append-nil}
 use Rattle.std.proofs.lemmas.List.Elements.{filter-append}
 use Rattle.std.proofs.lemmas.Slice.Eq.{bytes_eq-Decides}
 use Rattle.db_base.specs.Change.{key_of}
@@ -24,14 +23,14 @@ use Rattle.report_types.specs.declared.entry.Entry.{Entry}
 use Rattle.store_book.specs.Book.{Link, empty_book}
 use Rattle.store_book.specs.Effects.{after_head, after_logged, after_posted, after_log_mark, after_post_mark, Taking, is_lacking, lacking, taken_entry, taken_entries, after_leaf, after_page, after_inner, after_root, after_raise}
 use Rattle.store_book.specs.Premises.{Opens, Takes}
-use Rattle.store_book.specs.Records.{StandsAt, IsIn, key_in, is_of_key, of_key, entries_of, IsApplied}
+use Rattle.store_book.specs.Records.{StandsAt, IsIn, key_in, is_of_key, of_key}
 use Rattle.store_book.specs.Tally.{Node, Tally, Store}
 use Rattle.store_book.specs.Telling.{tally_of}
 use Rattle.number_facts.specs.Numbers.{Numbers}
 use Rattle.number_facts.proofs.Lists.{map_there, filter_there, filter_none}
 use Rattle.number_facts.proofs.Runs.{item_client}
 use Rattle.order_facts.specs.Order.{is_entry_of, entries_of_key, IsLeft, FirstApplied, Ordered, UnappliedOfOneQueue}
-use Rattle.order_facts.proofs.Advances.{in_either, left_among, Advances, advanced, after_other, nothing_taken}
+use Rattle.order_facts.proofs.Advances.{in_either, left_among, advanced, after_other, nothing_taken}
 use Rattle.order_facts.proofs.Takings.{takes_first}
 
 -- ---- heads
@@ -195,7 +194,8 @@ module _ (st : Store) (p : Taking) (o : Ordered st) (n : Numbers st) (u : Unappl
   taken_tree : (e : Entry) → IsIn (taken_entries st.tally p) e → IsTree e.tree
   taken_tree e is = let k = is_taken e is in subst (λ (a : Entry). IsTree a.tree) k.entry_is t.is_tree
 
-  leaf_payload : (tree : ℕ) (key : List ℕ) → fold_onto (st.tally.payload tree) (taken_entries st.tally p) tree key ≡ fold (st.order ++ taken_entries st.tally p) tree key
+  leaf_payload : (tree : ℕ) (key : List ℕ)
+      → fold_onto (st.tally.payload tree) (taken_entries st.tally p) tree key ≡ fold (st.order ++ taken_entries st.tally p) tree key
   leaf_payload tree key =
       let same : st.tally.payload tree ≡ fold st.order tree = λ i k. o.payload tree k i in
       ap (λ (rs : Records). fold_onto rs (taken_entries st.tally p) tree key) same

@@ -1,5 +1,5 @@
 -- What a leaf lacks of a run: of a client and key the committed records of the queue behind what the leaf has, in the order of commit.
-use Rattle.std.proofs.Common.{◌≡◌, ◌+◌, ◌-◌, ◌<◌, ◌≤◌, ◌⊎◌, ⊎_elim, ℕ, zero, suc, Bool, true, false, cond, ◌==◌, ◌&&◌, max, List, [], ◌∷◌, ◌++◌, map, take, drop, filter, find, count_by, Some, refl, sym, ap, ap₂, subst, ◌∙◌, arith, eq-eqb, eqb-true}
+use Rattle.std.proofs.Common.{◌≡◌, ◌+◌, ◌-◌, ◌<◌, ◌≤◌, ℕ, zero, suc, Bool, true, false, cond, ◌==◌, ◌&&◌, max, List, ◌∷◌, map, take, drop, filter, find, count_by, Some, refl, sym, ap, ap₂, subst, ◌∙◌, arith, eq-eqb, eqb-true}
 use Rattle.std.specs.Prelude.{nat_lt}
 use Rattle.std.specs.Str.{bytes_eq}
 use Rattle.std.proofs.lemmas.Bool.{and_parts, and_from, ltb-true, lt-ltb}
@@ -14,7 +14,7 @@ use Rattle.route_plan.specs.Record.{pu_record_of}
 use Rattle.run_cursor.specs.Run.{is_at}
 use Rattle.store_book.specs.Effects.{Taking, is_lacking, lacking, taken_entry, taken_entries}
 use Rattle.store_book.specs.Premises.{IsItemOf, IsConsecutive, Takes}
-use Rattle.store_book.specs.Records.{StandsAt, IsIn, key_in, of_queue, entry_of, entries_of}
+use Rattle.store_book.specs.Records.{StandsAt, key_in, of_queue, entry_of, entries_of}
 use Rattle.store_book.specs.Tally.{Store}
 use Rattle.number_facts.specs.Numbers.{Numbers}
 use Rattle.number_facts.proofs.Lists.{filter_agree}

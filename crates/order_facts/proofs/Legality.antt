@@ -1,7 +1,7 @@
 -- An order that has of each client, tree and key the first committed entries is legal for each tree; and it holds all where all is applied.
-use Rattle.std.proofs.Common.{◌≡◌, ◌+◌, ◌<◌, ◌≤◌, ◌⊎◌, ⊎_elim, inl, inr, ℕ, zero, suc, Bool, true, false, cond, ◌&&◌, ◌==◌, List, [], ◌∷◌, ◌++◌, length, take, map, filter, slice_get, Some, refl, sym, ap, ap₂, subst, ◌∙◌, arith, eq-eqb, eqb-true}
+use Rattle.std.proofs.Common.{◌≡◌, ◌+◌, ◌<◌, ◌⊎◌, ⊎_elim, ℕ, zero, suc, Bool, true, false, cond, ◌&&◌, ◌==◌, List, [], ◌∷◌, ◌++◌, length, take, filter, slice_get, Some, refl, sym, ap, subst, ◌∙◌, arith, eq-eqb, eqb-true}
 use Rattle.std.specs.Str.{bytes_eq}
-use Rattle.std.proofs.lemmas.Bool.{and_parts, and_from, cases_lt}
+use Rattle.std.proofs.lemmas.Bool.{and_from, cases_lt}
 use Rattle.std.proofs.Math.Seq.{take-append_seam}
 use Rattle.std.proofs.lemmas.List.{map-append}
 use Rattle.std.proofs.lemmas.Option.{slice_get_within}
@@ -127,7 +127,8 @@ module _ (tree : ℕ) (key : List ℕ) (client : ℕ) (committed order : List En
       (rank_rises (is_entry_of tree key client) order i j a (entry_test tree key client a is) at less)
 
   -- no entry of the order stands before another of the same transaction, tree and key
-  never_before : IsOnce committed → (i j : ℕ) (a b : Entry) → IsOf tree key client a → IsOf tree key client b → StandsAt order i a → StandsAt order j b → AreSame a b → i < j → ⊥
+  never_before : IsOnce committed → (i j : ℕ) (a b : Entry) → IsOf tree key client a → IsOf tree key client b → StandsAt order i a → StandsAt order j b
+      → AreSame a b → i < j → ⊥
   never_before once i j a b is_a is_b at_a at_b same less =
       let one = once (home i) (home j) a b (committed_at i a is_a at_a) (committed_at j b is_b at_b) same in
       let later = committed_rises i j a is_a at_a less in
@@ -149,7 +150,8 @@ equal_unless : (i j : ℕ) → (i < j → ⊥) → (j < i → ⊥) → i ≡ j
 equal_unless i j below above = ⊎_elim (λ less. absurd (below less)) (λ upto. ⊎_elim (λ less. absurd (above less)) (λ other. omega (arith, upto, other)) (cases_lt j i)) (cases_lt i j)
 
 -- such an order is legal
-pub legal_of : (committed order : List Entry) → IsOnce committed → ((e : Entry) → IsIn order e → AreFirst committed order e.tree (key_of e.change) e.client) → IsLegal order committed
+pub legal_of : (committed order : List Entry) → IsOnce committed
+    → ((e : Entry) → IsIn order e → AreFirst committed order e.tree (key_of e.change) e.client) → IsLegal order committed
 legal_of committed order once first = record { once = distinct; all_committed = there; in_order = rises }
   where
     distinct : (i j : ℕ) (a b : Entry) → StandsAt order i a → StandsAt order j b → AreSame a b → i ≡ j
@@ -179,7 +181,8 @@ legal_of committed order once first = record { once = distinct; all_committed = 
 -- ---- the entries of one tree
 
 -- those of a client and key of the tree are the same
-keyed_of_tree : (tree : ℕ) (key : List ℕ) (client : ℕ) (entries : List Entry) → entries_of_key tree key client (of_tree tree entries) ≡ entries_of_key tree key client entries
+keyed_of_tree : (tree : ℕ) (key : List ℕ) (client : ℕ) (entries : List Entry)
+    → entries_of_key tree key client (of_tree tree entries) ≡ entries_of_key tree key client entries
 keyed_of_tree tree key client entries =
     filter-twice (is_entry_of tree key client) (λ e. e.tree == tree) entries
     ∙ filter_agree (λ e. (e.tree == tree) && is_entry_of tree key client e) (is_entry_of tree key client) entries (λ i e at. turned (e.client == client) (e.tree == tree) (bytes_eq (key_of e.change) key))
@@ -229,8 +232,8 @@ are_first st o tree key client is =
     let f = o.first tree key client is in (
       entries_of f.left,
       filter-map (is_entry_of tree key client) entry_of st.book.log
-      ∙ (ap (λ l. entries_of l) f.split
-      ∙ (map-append entry_of f.taken f.left ∙ ap (λ l. l ++ entries_of f.left) (sym f.ordered))),
+          ∙ (ap (λ l. entries_of l) f.split
+          ∙ (map-append entry_of f.taken f.left ∙ ap (λ l. l ++ entries_of f.left) (sym f.ordered))),
     )
 
 -- the order of a tree's entries is legal for the tree's committed ones
@@ -241,9 +244,11 @@ order_is_legal st o n tree = legal_of (of_tree tree (entries_of st.book.log)) (o
     first e is =
         let found = filter_there (λ (x : Entry). x.tree == tree) st.order is.0 e is.1 in
         let whole = are_first st o tree (key_of e.change) e.client (o.of_client e (found.place, found.there)) in
-        subst (λ a. AreFirst (of_tree tree (entries_of st.book.log)) (of_tree tree st.order) a (key_of e.change) e.client) (sym (eqb-true e.tree tree found.test))
-        (whole.0, keyed_of_tree tree (key_of e.change) e.client (entries_of st.book.log)
-        ∙ (whole.1 ∙ ap (λ l. l ++ whole.0) (sym (keyed_of_tree tree (key_of e.change) e.client st.order))))
+        subst (λ a. AreFirst (of_tree tree (entries_of st.book.log)) (of_tree tree st.order) a (key_of e.change) e.client) (sym (eqb-true e.tree tree found.test)) (
+          whole.0,
+          keyed_of_tree tree (key_of e.change) e.client (entries_of st.book.log)
+              ∙ (whole.1 ∙ ap (λ l. l ++ whole.0) (sym (keyed_of_tree tree (key_of e.change) e.client st.order))),
+        )
 
 -- what the leaves have is what the order of the tree's entries comes to
 pub payload_is : (st : Store) → Ordered st → (tree : ℕ) (key : List ℕ) → st.tally.payload tree key ≡ fold (of_tree tree st.order) tree key

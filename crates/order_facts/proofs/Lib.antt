@@ -4,4 +4,6 @@ mod Lacked
 pub mod Advances
 mod Takings
 pub mod Kept
+pub mod OneQueue
 pub mod Legality
+pub mod Told

@@ -1,7 +1,6 @@
 -- A leaf whose range holds a key takes, of what is left of the key, the records that the run has of its queue.
 use Rattle.std.proofs.Common.{◌≡◌, ◌+◌, ◌-◌, ◌<◌, ◌≤◌, ◌⊎◌, ⊎_elim, inl, inr, ℕ, Bool, true, false, ◌==◌, ◌&&◌, max, List, [], ◌∷◌, ◌++◌, take, drop, filter, refl, sym, ap, subst, ◌∙◌, arith, eqb-true}
 use Rattle.std.specs.Prelude.{nat_lt}
-use Rattle.std.specs.Str.{bytes_eq}
 use Rattle.std.proofs.lemmas.Bool.{and_parts, and_from, cases_lt, eqb-false, ltb-true, lt-ltb, le-ltb}
 use Rattle.std.proofs.lemmas.List.{take-append-drop}
 use Rattle.std.proofs.lemmas.List.Elements.{filter-append}
@@ -11,11 +10,11 @@ use Rattle.leaf_edit.specs.Raised.{greatest_of}
 use Rattle.log_codec.specs.declared.record.AtomicRec.{AtomicRec}
 use Rattle.store_book.specs.Effects.{Taking, taken_entries, after_leaf}
 use Rattle.store_book.specs.Premises.{IsConsecutive, Takes}
-use Rattle.store_book.specs.Records.{StandsAt, IsIn, key_in, is_of_queue, of_queue, is_of_key, of_key, entries_of, IsApplied}
+use Rattle.store_book.specs.Records.{StandsAt, IsIn, key_in, is_of_queue, of_queue, is_of_key, entries_of, IsApplied}
 use Rattle.store_book.specs.Tally.{Tally, Store}
 use Rattle.number_facts.specs.Numbers.{Numbers}
 use Rattle.number_facts.proofs.Lists.{filter_there, filter_agree, take_there}
-use Rattle.number_facts.proofs.Queues.{IsOfQueue, queue_test, queue_parts}
+use Rattle.number_facts.proofs.Queues.{queue_test, queue_parts}
 use Rattle.order_facts.specs.Order.{IsLeft, FirstApplied, UnappliedOfOneQueue}
 use Rattle.order_facts.proofs.Advances.{IsOfKey, key_test, key_parts, left_among, in_left, Advances, after_most, after_same, after_other, nothing_taken}
 use Rattle.order_facts.proofs.Filters.{filter-twice, filter_back, same_test, nothing_in, take_below, drop_there}
@@ -68,7 +67,8 @@ module _ (st : Store) (p : Taking) (n : Numbers st) (t : Takes st p) (key : List
     above : number < r.number
     done_is : st.tally.done r.tree (key_in r) r.page r.client ≡ st.tally.done p.tree key p.queue client
 
-  names : (r : AtomicRec) → IsOfKey p.tree key client r → r.page ≡ p.queue → st.tally.done r.tree (key_in r) r.page r.client ≡ st.tally.done p.tree key p.queue client
+  names : (r : AtomicRec) → IsOfKey p.tree key client r → r.page ≡ p.queue
+      → st.tally.done r.tree (key_in r) r.page r.client ≡ st.tally.done p.tree key p.queue client
   names r is page_is =
       ap (λ a. st.tally.done a (key_in r) r.page r.client) is.tree_is
       ∙ (ap (λ a. st.tally.done p.tree a r.page r.client) is.key_is

@@ -1,5 +1,5 @@
 -- An opening ends: each step leaves fewer calls than were left before it.
-use Rattle.std.proofs.Common.{◌≡◌, ◌<◌, ◌-◌, ◌^◌, ℕ, List, Option, Some, None, Result, Ok, Err, sym, subst, Bool, true, false, cond, arith}
+use Rattle.std.proofs.Common.{◌≡◌, ◌<◌, ◌-◌, ◌^◌, ℕ, List, Option, Some, None, Result, Ok, Err, subst, Bool, true, false, cond, arith}
 use Rattle.std.specs.Prelude.{◌==◌}
 use Rattle.db_base.specs.declared.names.Lock.TheVariants as lock
 use Rattle.db_base.specs.declared.trouble.Trouble.{Trouble}

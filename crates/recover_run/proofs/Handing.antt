@@ -3,7 +3,7 @@ use Rattle.std.proofs.Common.{◌≡◌, refl, ap, sym, subst, ◌∙◌}
 use Rattle.cloud_trait.specs.declared.answer.Answer.{Answer}
 use Rattle.cloud_trait.specs.declared.turn.Turn.{Turn}
 use Rattle.cloud_trait.specs.declared.turn.Turn.TheVariants.{More, Ended, Stopped}
-use Rattle.cloud_trait.specs.Machine.{Goes, Ends, Stops, LeadsBy, Took}
+use Rattle.cloud_trait.specs.Machine.{LeadsBy, Took}
 use Rattle.recover_run.specs.declared.recover.Stage.{Stage}
 use Rattle.recover_run.specs.declared.recover.Stage.TheVariants.{Taking, Getting, Putting, Releasing, Finished}
 use Rattle.recover_run.specs.declared.recover.RecoverAnswer.{RecoverAnswer}

@@ -1,5 +1,6 @@
 pub mod CommitLaws
 pub mod CounterLaws
 pub mod Counters
+pub mod Indexes
 pub mod Places
 pub mod Routes

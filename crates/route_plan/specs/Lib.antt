@@ -1,4 +1,5 @@
 pub mod Heads
+pub mod Index
 pub mod Prune
 pub mod Queue
 pub mod Record

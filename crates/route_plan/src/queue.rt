@@ -34,7 +34,7 @@ fn last_pending<'a>(pending: &'a [Pending], tree: TreeId, key: &[u8]) -> Option<
 }
 
 /// The page of the queue of a change whose key has no pending entry.
-fn first_queue(change: &Change, leaf: PageId) -> u64
+pub(crate) fn first_queue(change: &Change, leaf: PageId) -> u64
     ensures { result ≡ first_queue change.now leaf }
 {
     match change {

@@ -3,7 +3,8 @@ ghost use Rattle.txn_buffer.specs.Noted.{Noted};
 ghost use Rattle.route_plan.specs.Queue.{queue_of};
 ghost use Rattle.route_plan.specs.Route.{next_number, record_behind, routed, AllFit, PassesGreatest};
 
-use crate::queue::{number_of_queue, queue_of};
+use crate::index::{PendingIndex, page_of};
+use crate::queue::number_of_queue;
 use db_base::change::Change;
 use db_base::ids::{ClientId, PageId, TreeId};
 use db_base::trouble::{Counter, Trouble};
@@ -40,18 +41,20 @@ fn record_behind(
     alloc: Global,
     commit: &Commit,
     head: &Head,
+    index: &PendingIndex<'_>,
     earlier: &[AtomicRec],
     tree: TreeId,
     change: &Change,
     leaf: PageId,
 ) -> Result<AtomicRec, Trouble>
-    requires { length earlier.now < 200 }
+    requires few { length earlier.now < 200 }
+    requires index { index.now ≡ head.now.pending }
     ensures ok { IfOk result (λ r. r ≡ record_behind commit.now.client commit.now.epoch commit.now.txn commit.now.count head.now earlier.now (record { tree = tree; change = change.now }) leaf) }
     ensures fits { IfOk result (λ r. r.number < 2 ^ 64) }
     ensures err { IfErr result (λ e. (e ≡ Trouble.Memory) ⊎ ((e ≡ Trouble.Exhausted Counter.Number)
         × (2 ^ 64 ≤ next_number head.now earlier.now tree (queue_of head.now.pending tree change.now leaf)))) }
 {
-    let page = queue_of(head.pending.as_slice(), tree, change, leaf);
+    let page = page_of(index, tree, change, leaf);
     let number = match next_number(head, earlier, tree, page) {
         Some(number) => number,
         None => {
@@ -87,6 +90,17 @@ fn push(records: &mut Vec<AtomicRec>, next: AtomicRec) -> Result<(), Trouble>
     }
 }
 
+/// The pending entries of a head by key.
+fn index_of<'a>(alloc: Global, head: &'a Head) -> Result<PendingIndex<'a>, Trouble>
+    ensures ok { IfOk result (λ x. x ≡ head.now.pending) }
+    ensures err { IfErr result (λ e. e ≡ Trouble.Memory) }
+{
+    match PendingIndex::of(alloc, head.pending.as_slice()) {
+        Ok(index) => Ok(index),
+        Err(_) => Err(Trouble::Memory),
+    }
+}
+
 /// The records of a commit's changes; `leaves` has for each change the leaf that the client's walk to its key came to.
 /// A change goes to the queue of the last pending entry of its tree and key. Where there is none, an update goes to its leaf's queue
 /// and an insert or delete to the tree queue. Exhausted where a number would pass the greatest u64; else the one error is want of memory.
@@ -111,6 +125,7 @@ pub fn route(
         txn,
         count: changes.len() as u8,
     };
+    let index = index_of(alloc, head)?;
     let mut records: Vec<AtomicRec> = Vec::new(alloc);
     while let Some(noted) = changes.at(records.len()) {
         let leaf = leaves[records.len()];
@@ -118,6 +133,7 @@ pub fn route(
             alloc,
             &commit,
             head,
+            &index,
             records.as_slice(),
             noted.0,
             noted.1,

@@ -161,17 +161,17 @@ impl Audit {
         ensures tree { IfOk result (λ r. r.tree ≡ tree) }
         ensures committed { IfOk result (λ r. r.committed ≡ of_tree tree self.now.committed) }
         ensures order { IfOk result (λ r. r.order ≡ of_tree tree self.now.order) }
-        ensures contents { (s : CloudState) → C.state cloud.old ≡ Some s
+        ensures contents { (s : CloudState) → (C.seen cloud.old).state ≡ Some s
             → IfOk result (λ r. Walked s tree 0 r.contents) }
-        ensures heads { (s : CloudState) → C.state cloud.old ≡ Some s
+        ensures heads { (s : CloudState) → (C.seen cloud.old).state ≡ Some s
             → IfOk result (λ r. r.heads ≡ heads_upto s tree (of_tree tree self.now.committed) 64) }
-        ensures messages { (s : CloudState) → C.state cloud.old ≡ Some s
+        ensures messages { (s : CloudState) → (C.seen cloud.old).state ≡ Some s
             → IfOk result (λ r. AreWaiting s tree r.messages) }
-        ensures whole { (s : CloudState) → C.state cloud.old ≡ Some s
+        ensures whole { (s : CloudState) → (C.seen cloud.old).state ≡ Some s
             → OnOk result (ChainIsWhole s tree × AllHeadsRead s) }
-        ensures stopped { (s : CloudState) → C.state cloud.old ≡ Some s → IfErr result (Stopped s tree) }
-        ensures looked { Looked (C.counts cloud.old) (C.counts cloud.new) (C.state cloud.old) (C.state cloud.new) }
-        ensures failed { FailsDark result (C.counts cloud.old) (C.counts cloud.new) }
+        ensures stopped { (s : CloudState) → (C.seen cloud.old).state ≡ Some s → IfErr result (Stopped s tree) }
+        ensures looked { Looked (C.seen cloud.old) (C.seen cloud.new) }
+        ensures failed { FailsDark result (C.seen cloud.old) (C.seen cloud.new) }
         ensures kinds { IfErr result (MayStop tree) }
     {
         let committed = entries_of(alloc, &self.committed, tree)?;

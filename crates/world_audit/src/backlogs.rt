@@ -36,10 +36,10 @@ fn next_of(tree: TreeId, bytes: &[u8]) -> Result<u64, Trouble>
 
 /// The least free page of a tree by its newest root, 2 where there is none.
 fn next_page<C: Bench>(cloud: &mut C, tree: TreeId) -> Result<u64, Trouble>
-    ensures looked { Looked (C.counts cloud.old) (C.counts cloud.new) (C.state cloud.old) (C.state cloud.new) }
-    ensures failed { FailsDark result (C.counts cloud.old) (C.counts cloud.new) }
-    ensures ok { (s : CloudState) → C.state cloud.old ≡ Some s → IfOk result (λ n. IsNextPage (newest s (Tree tree)) n) }
-    ensures stopped { (s : CloudState) → C.state cloud.old ≡ Some s
+    ensures looked { Looked (C.seen cloud.old) (C.seen cloud.new) }
+    ensures failed { FailsDark result (C.seen cloud.old) (C.seen cloud.new) }
+    ensures ok { (s : CloudState) → (C.seen cloud.old).state ≡ Some s → IfOk result (λ n. IsNextPage (newest s (Tree tree)) n) }
+    ensures stopped { (s : CloudState) → (C.seen cloud.old).state ≡ Some s
         → IfErr result (λ e. SlipOr (RootStops s tree e) e) }
     ensures kinds { IfErr result (MayStop tree) }
 {
@@ -61,10 +61,10 @@ fn queue_at(tree: TreeId, page: u64) -> QueueName
 
 /// How many messages are not deleted of the tree's queue and of those of its pages. The sum stops at the greatest u64.
 pub(crate) fn messages<C: Bench>(cloud: &mut C, tree: TreeId) -> Result<u64, Trouble>
-    ensures looked { Looked (C.counts cloud.old) (C.counts cloud.new) (C.state cloud.old) (C.state cloud.new) }
-    ensures failed { FailsDark result (C.counts cloud.old) (C.counts cloud.new) }
-    ensures ok { (s : CloudState) → C.state cloud.old ≡ Some s → IfOk result (λ n. AreWaiting s tree n) }
-    ensures stopped { (s : CloudState) → C.state cloud.old ≡ Some s
+    ensures looked { Looked (C.seen cloud.old) (C.seen cloud.new) }
+    ensures failed { FailsDark result (C.seen cloud.old) (C.seen cloud.new) }
+    ensures ok { (s : CloudState) → (C.seen cloud.old).state ≡ Some s → IfOk result (λ n. AreWaiting s tree n) }
+    ensures stopped { (s : CloudState) → (C.seen cloud.old).state ≡ Some s
         → IfErr result (λ e. SlipOr (RootStops s tree e) e) }
     ensures kinds { IfErr result (MayStop tree) }
 {

@@ -74,13 +74,13 @@ fn open_head<C: Bench>(
     tree: TreeId,
     committed: &[Entry],
 ) -> Result<u64, Trouble>
-    ensures looked { Looked (C.counts cloud.old) (C.counts cloud.new) (C.state cloud.old) (C.state cloud.new) }
-    ensures failed { FailsDark result (C.counts cloud.old) (C.counts cloud.new) }
+    ensures looked { Looked (C.seen cloud.old) (C.seen cloud.new) }
+    ensures failed { FailsDark result (C.seen cloud.old) (C.seen cloud.new) }
     ensures most { IfOk result (λ n. n ≤ 1) }
-    ensures ok { (s : CloudState) → C.state cloud.old ≡ Some s
+    ensures ok { (s : CloudState) → (C.seen cloud.old).state ≡ Some s
         → IfOk result (λ n. n ≡ open_at s client tree committed.now) }
-    ensures read { (s : CloudState) → C.state cloud.old ≡ Some s → OnOk result (HeadReads s client) }
-    ensures stopped { (s : CloudState) → C.state cloud.old ≡ Some s
+    ensures read { (s : CloudState) → (C.seen cloud.old).state ≡ Some s → OnOk result (HeadReads s client) }
+    ensures stopped { (s : CloudState) → (C.seen cloud.old).state ≡ Some s
         → IfErr result (λ e. SlipOr (HeadIsNone s client e) e) }
     ensures kinds { IfErr result (MayStop tree) }
 {
@@ -102,13 +102,13 @@ pub(crate) fn open_heads<C: Bench>(
     tree: TreeId,
     committed: &[Entry],
 ) -> Result<u64, Trouble>
-    ensures looked { Looked (C.counts cloud.old) (C.counts cloud.new) (C.state cloud.old) (C.state cloud.new) }
-    ensures failed { FailsDark result (C.counts cloud.old) (C.counts cloud.new) }
+    ensures looked { Looked (C.seen cloud.old) (C.seen cloud.new) }
+    ensures failed { FailsDark result (C.seen cloud.old) (C.seen cloud.new) }
     ensures most { IfOk result (λ n. n ≤ 64) }
-    ensures ok { (s : CloudState) → C.state cloud.old ≡ Some s
+    ensures ok { (s : CloudState) → (C.seen cloud.old).state ≡ Some s
         → IfOk result (λ n. n ≡ heads_upto s tree committed.now 64) }
-    ensures read { (s : CloudState) → C.state cloud.old ≡ Some s → OnOk result (AllHeadsRead s) }
-    ensures stopped { (s : CloudState) → C.state cloud.old ≡ Some s
+    ensures read { (s : CloudState) → (C.seen cloud.old).state ≡ Some s → OnOk result (AllHeadsRead s) }
+    ensures stopped { (s : CloudState) → (C.seen cloud.old).state ≡ Some s
         → IfErr result (λ e. SlipOr (HeadStops s e) e) }
     ensures kinds { IfErr result (MayStop tree) }
 {

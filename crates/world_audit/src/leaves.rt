@@ -173,12 +173,12 @@ fn visit<C: Bench>(
     page: PageId,
     walk: &mut Walk,
 ) -> Result<Option<PageId>, Trouble>
-    ensures looked { Looked (C.counts cloud.old) (C.counts cloud.new) (C.state cloud.old) (C.state cloud.new) }
-    ensures failed { FailsDark result (C.counts cloud.old) (C.counts cloud.new) }
-    ensures ok { (s : CloudState) → C.state cloud.old ≡ Some s → IfOk result (λ next. Adds (newest s (Page tree page)) tree page walk.old.contents walk.new.contents next) }
-    ensures passes { (s : CloudState) → C.state cloud.old ≡ Some s → IfOk result (λ next. Passes (newest s (Page tree page)) tree page walk.old.visited.items walk.old.low walk.new.low next) }
+    ensures looked { Looked (C.seen cloud.old) (C.seen cloud.new) }
+    ensures failed { FailsDark result (C.seen cloud.old) (C.seen cloud.new) }
+    ensures ok { (s : CloudState) → (C.seen cloud.old).state ≡ Some s → IfOk result (λ next. Adds (newest s (Page tree page)) tree page walk.old.contents walk.new.contents next) }
+    ensures passes { (s : CloudState) → (C.seen cloud.old).state ≡ Some s → IfOk result (λ next. Passes (newest s (Page tree page)) tree page walk.old.visited.items walk.old.low walk.new.low next) }
     ensures visited { OnOk result (walk.new.visited.items ≡ walk.old.visited.items ++ page ∷ []) }
-    ensures stopped { (s : CloudState) → C.state cloud.old ≡ Some s
+    ensures stopped { (s : CloudState) → (C.seen cloud.old).state ≡ Some s
         → IfErr result
         (λ e. let bytes = newest s (Page tree page) in
         SlipOr (StopsWalk tree walk.old.visited.items page walk.old.low bytes e) e) }
@@ -194,11 +194,11 @@ pub(crate) fn contents<C: Bench>(
     cloud: &mut C,
     tree: TreeId,
 ) -> Result<PairList, Trouble>
-    ensures looked { Looked (C.counts cloud.old) (C.counts cloud.new) (C.state cloud.old) (C.state cloud.new) }
-    ensures failed { FailsDark result (C.counts cloud.old) (C.counts cloud.new) }
-    ensures ok { (s : CloudState) → C.state cloud.old ≡ Some s → IfOk result (λ records. Walked s tree 0 records) }
-    ensures whole { (s : CloudState) → C.state cloud.old ≡ Some s → OnOk result (ChainIsWhole s tree) }
-    ensures stopped { (s : CloudState) → C.state cloud.old ≡ Some s
+    ensures looked { Looked (C.seen cloud.old) (C.seen cloud.new) }
+    ensures failed { FailsDark result (C.seen cloud.old) (C.seen cloud.new) }
+    ensures ok { (s : CloudState) → (C.seen cloud.old).state ≡ Some s → IfOk result (λ records. Walked s tree 0 records) }
+    ensures whole { (s : CloudState) → (C.seen cloud.old).state ≡ Some s → OnOk result (ChainIsWhole s tree) }
+    ensures stopped { (s : CloudState) → (C.seen cloud.old).state ≡ Some s
         → IfErr result (λ e. SlipOr (ChainStops s tree e) e) }
     ensures kinds { IfErr result (MayStop tree) }
 {

@@ -13,10 +13,10 @@ use db_base::trouble::Trouble;
 
 /// The newest version of an object. Failed or Memory.
 pub(crate) fn peek<C: Bench>(cloud: &mut C, name: ObjName) -> Result<Option<Blob>, Trouble>
-    ensures looked { Looked (C.counts cloud.old) (C.counts cloud.new) (C.state cloud.old) (C.state cloud.new) }
-    ensures failed { FailsDark result (C.counts cloud.old) (C.counts cloud.new) }
+    ensures looked { Looked (C.seen cloud.old) (C.seen cloud.new) }
+    ensures failed { FailsDark result (C.seen cloud.old) (C.seen cloud.new) }
     ensures only { IfErr result (λ e. (e ≡ Trouble.Failed) ⊎ (e ≡ Trouble.Memory)) }
-    ensures newest { (s : CloudState) → C.state cloud.old ≡ Some s → IfOk result (λ v. v ≡ newest s name) }
+    ensures newest { (s : CloudState) → (C.seen cloud.old).state ≡ Some s → IfOk result (λ v. v ≡ newest s name) }
 {
     match cloud.peek(name) {
         Ok(bytes) => Ok(bytes),
@@ -27,10 +27,10 @@ pub(crate) fn peek<C: Bench>(cloud: &mut C, name: ObjName) -> Result<Option<Blob
 
 /// How many messages of a queue are not deleted. Failed or Memory.
 pub(crate) fn backlog<C: Bench>(cloud: &mut C, queue: QueueName) -> Result<u64, Trouble>
-    ensures looked { Looked (C.counts cloud.old) (C.counts cloud.new) (C.state cloud.old) (C.state cloud.new) }
-    ensures failed { FailsDark result (C.counts cloud.old) (C.counts cloud.new) }
+    ensures looked { Looked (C.seen cloud.old) (C.seen cloud.new) }
+    ensures failed { FailsDark result (C.seen cloud.old) (C.seen cloud.new) }
     ensures only { IfErr result (λ e. (e ≡ Trouble.Failed) ⊎ (e ≡ Trouble.Memory)) }
-    ensures length { (s : CloudState) → C.state cloud.old ≡ Some s → IfOk result (λ n. n ≡ length (unmarked (s.messages queue))) }
+    ensures length { (s : CloudState) → (C.seen cloud.old).state ≡ Some s → IfOk result (λ n. n ≡ length (unmarked (s.messages queue))) }
 {
     match cloud.backlog(queue) {
         Ok(count) => Ok(count),

@@ -8,4 +8,4 @@ pub returns-in-None-clause-err : goal.returns-in-None-clause-err
 returns-in-None-clause-err c =
     let P : ℕ → Type 0 = λ page. 2 ^ 64 ≤ next_number c.args.head.now c.args.earlier.now c.args.tree page in
     let to : List Pending → ℕ = λ pending. queue_of pending c.args.tree c.args.change.now c.args.leaf in
-    inr (refl, subst P (c.queue_of-page.ensures ∙ ap to c.as_slice.ensures) c.in-None.ensures)
+    inr (refl, subst P (c.page_of-page.ensures ∙ ap to c.requires.index) c.in-None.ensures)

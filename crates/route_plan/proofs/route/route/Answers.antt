@@ -7,7 +7,7 @@ use Rattle.route_plan.proofs.route.route.Goals as goal
 
 pub returns-in_err-next-clause-err : goal.returns-in_err-next-clause-err
 returns-in_err-next-clause-err c =
-    let p = err_from_is_err_and c.from_residual.result c.from_residual.ensures.1 in
+    let p = err_from_is_err_and c.from_residual-in_err-next.result c.from_residual-in_err-next.ensures.1 in
     rw (p.1, p.2) (⊎_elim (λ e. inl e) (λ h. inr (
       h.0,
       passes _ _ _ _ _ _ _ _ _ _ _ _ _ c.requires c.loop-noted.invariant c.len.ensures.is

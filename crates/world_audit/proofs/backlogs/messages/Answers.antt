@@ -11,7 +11,7 @@ loop-page-init g c = (c.next_page.ensures.looked, λ s h. messages_none s c.args
 
 pub loop-page-preserved : goal.loop-page-preserved
 loop-page-preserved g c = (
-  looked_on _ _ _ _ _ _ c.loop-page.invariant.0 c.backlog.ensures.looked,
+  looked_on _ _ _ c.loop-page.invariant.0 c.backlog.ensures.looked,
   λ s h. messages_more s c.args.tree c.loop-page.page c.loop-page.sum c.in_ok-more.more c.saturating_add-sum.result (c.loop-page.invariant.1 s h)
       (let f : QueueName → ℕ = λ q. length (unmarked (s.messages q)) in c.in_ok-more.ensures.length s (c.loop-page.invariant.0.stays s h) ∙ ap f c.queue_at.ensures)
       c.saturating_add-sum.ensures,

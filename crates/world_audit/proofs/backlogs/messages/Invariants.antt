@@ -7,5 +7,5 @@ use Rattle.world_audit.proofs.backlogs.messages.Given as goal
 
 abbrev pub invariant-loop-page : goal.invariant-loop-page
 invariant-loop-page g l =
-    Looked (g.C.Cloud.counts l.fn.cloud) (g.C.Cloud.counts l.cloud) (g.C.Cloud.state l.fn.cloud) (g.C.Cloud.state l.cloud)
-    × ((s : CloudState) → g.C.Cloud.state l.fn.cloud ≡ Some s → l.sum ≡ min (messages_below s l.tree l.page) greatest)
+    Looked (g.C.Cloud.seen l.fn.cloud) (g.C.Cloud.seen l.cloud)
+    × ((s : CloudState) → (g.C.Cloud.seen l.fn.cloud).state ≡ Some s → l.sum ≡ min (messages_below s l.tree l.page) greatest)

@@ -6,11 +6,11 @@ use Rattle.world_audit.proofs.Stops.{heads_first, heads_on, head_stops}
 use Rattle.world_audit.proofs.heads.open_heads.Goals as goal
 
 pub loop-number-init : goal.loop-number-init
-loop-number-init g c = (looked_not _ _, omega arith, λ s h. heads_none s c.args.tree c.args.committed.now, λ s h. heads_first s)
+loop-number-init g c = (looked_not _, omega arith, λ s h. heads_none s c.args.tree c.args.committed.now, λ s h. heads_first s)
 
 pub loop-number-preserved : goal.loop-number-preserved
 loop-number-preserved g c = (
-  looked_on _ _ _ _ _ _ c.loop-number.invariant.0 c.open_head.ensures.looked,
+  looked_on _ _ _ c.loop-number.invariant.0 c.open_head.ensures.looked,
   omega (arith, c.in_ok-here.ensures.most, c.loop-number.invariant.1),
   λ s h. heads_more s c.args.tree c.args.committed.now c.loop-number.number c.loop-number.heads c.in-Ok.client c.in_ok-here.here c.in-Ok.ensures.ok
       (c.loop-number.invariant.2 s h) (c.in_ok-here.ensures.ok s (c.loop-number.invariant.0.stays s h)),

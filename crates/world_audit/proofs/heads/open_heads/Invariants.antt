@@ -8,6 +8,6 @@ use Rattle.world_audit.proofs.heads.open_heads.Given as goal
 
 abbrev pub invariant-loop-number : goal.invariant-loop-number
 invariant-loop-number g l =
-    Looked (g.C.Cloud.counts l.fn.cloud) (g.C.Cloud.counts l.cloud) (g.C.Cloud.state l.fn.cloud) (g.C.Cloud.state l.cloud) × (l.heads ≤ l.number)
-    × ((s : CloudState) → g.C.Cloud.state l.fn.cloud ≡ Some s → l.heads ≡ heads_upto s l.tree l.committed l.number)
-    × ((s : CloudState) → g.C.Cloud.state l.fn.cloud ≡ Some s → HeadsRead s (l.number + 1))
+    Looked (g.C.Cloud.seen l.fn.cloud) (g.C.Cloud.seen l.cloud) × (l.heads ≤ l.number)
+    × ((s : CloudState) → (g.C.Cloud.seen l.fn.cloud).state ≡ Some s → l.heads ≡ heads_upto s l.tree l.committed l.number)
+    × ((s : CloudState) → (g.C.Cloud.seen l.fn.cloud).state ≡ Some s → HeadsRead s (l.number + 1))

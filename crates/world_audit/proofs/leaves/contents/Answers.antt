@@ -13,7 +13,7 @@ returns-in-None-clause-whole g c = λ s h. chain_ends s c.args.tree c.loop-walk.
 
 pub loop-walk-preserved : goal.loop-walk-preserved
 loop-walk-preserved g c = (
-  looked_on _ _ _ _ _ _ c.loop-walk.invariant.0 c.visit.ensures.looked,
+  looked_on _ _ _ c.loop-walk.invariant.0 c.visit.ensures.looked,
   λ s h. walk_on s c.args.tree c.loop-walk.page c.in-Some.next c.in_ok-next.field-0 c.loop-walk.walk.contents c.visit.new.walk.contents
       (c.loop-walk.invariant.1 s h) c.in-Some.is (c.in_ok-next.ensures.ok s (c.loop-walk.invariant.0.stays s h)),
   λ s h. comes_on s c.args.tree c.loop-walk.walk.visited.items c.visit.new.walk.visited.items c.loop-walk.page c.in-Some.next

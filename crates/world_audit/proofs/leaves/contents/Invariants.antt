@@ -8,9 +8,9 @@ use Rattle.world_audit.proofs.leaves.contents.Given as goal
 
 abbrev pub invariant-loop-walk : goal.invariant-loop-walk
 invariant-loop-walk g l =
-    Looked (g.C.Cloud.counts l.fn.cloud) (g.C.Cloud.counts l.cloud) (g.C.Cloud.state l.fn.cloud) (g.C.Cloud.state l.cloud)
-    × ((s : CloudState) → g.C.Cloud.state l.fn.cloud ≡ Some s → Walked s l.tree l.page l.walk.contents)
-    × ((s : CloudState) → g.C.Cloud.state l.fn.cloud ≡ Some s → Comes s l.tree l.walk.visited.items l.page l.walk.low)
+    Looked (g.C.Cloud.seen l.fn.cloud) (g.C.Cloud.seen l.cloud)
+    × ((s : CloudState) → (g.C.Cloud.seen l.fn.cloud).state ≡ Some s → Walked s l.tree l.page l.walk.contents)
+    × ((s : CloudState) → (g.C.Cloud.seen l.fn.cloud).state ≡ Some s → Comes s l.tree l.walk.visited.items l.page l.walk.low)
 
 abbrev pub decreases-loop-walk : goal.decreases-loop-walk
 decreases-loop-walk g l = 2 ^ 63 - length l.walk.visited.items

@@ -38,7 +38,8 @@ leaf_told : (who : Caller) (book : Book) (order : List Entry) (s : CloudState) (
     → Tells (put who (object.Page p.tree p.page) bytes s) (after_leaf p (store_of book order s))
 leaf_told who book order s p bytes h d e takes taken =
     subst (λ (x : Taking). Tells (put who (object.Page p.tree p.page) bytes s) (after_leaf x (store_of book order s))) (sym taken.is)
-    (taken_tells book order s p.tree takes.is_tree h d who p.page p.queue p.run taken.sizes taken.free bytes taken.lands (subst (λ (x : Taking). IsLeaf bytes x.leaf) taken.is e))
+    (taken_tells book order s p.tree takes.is_tree h d who p.page p.queue p.run taken.sizes taken.free bytes taken.lands
+    (subst (λ (x : Taking). IsLeaf bytes x.leaf) taken.is e))
 
 page_told : (who : Caller) (book : Book) (order : List Entry) (s : CloudState) (tree page : ℕ) (node : Node) (bytes : List ℕ) → IsTree tree
     → ChainHolds (store_of book order s) → Decodes s

@@ -13,7 +13,8 @@ use Rattle.split_plan.specs.Sizes.{CanCut}
 use Rattle.split_plan.proofs.Cutting.{can-behind}
 use Rattle.store_book.specs.Book.{Link}
 use Rattle.store_book.specs.Telling.{page_from}
-use Rattle.telling_facts.specs.Pieces.{first_part, right_of, links_from}
+use Rattle.chain_facts.specs.Cuts.{links_on}
+use Rattle.telling_facts.specs.Pieces.{first_part, right_of}
 use Rattle.telling_facts.proofs.Fences.{cut_links}
 use Rattle.telling_facts.proofs.Walks.{IsBefore, stops_here}
 
@@ -83,7 +84,7 @@ pub cut_finds : (leaves : ℕ → Leaf) (none : LeafPart) (sizes : List ℕ) (la
     → Ascend entry_below None p.items
     → leaves page ≡ leaf_of_part (first_part none (cut_by record_key sizes free p)) → AreAt leaves free (right_of (cut_by record_key sizes free p))
     → (key : List ℕ) (rest : List Link) → IsBefore key rest
-    → Finds (leaves (page_from page key (links_from free (right_of (cut_by record_key sizes free p)) ++ rest))) p key
+    → Finds (leaves (page_from page key (links_on free (right_of (cut_by record_key sizes free p)) ++ rest))) p key
 cut_finds leaves none [] last free page p can up left right key rest before =
     subst (λ (q : ℕ). Finds (leaves q) p key) (sym (stops_here key page rest before))
     (subst (λ (l : Leaf). Finds l p key) (sym left) (record { done = refl; payload = refl }))
@@ -95,7 +96,7 @@ cut_finds leaves none (n ∷ sizes) last free page p can up left right key rest 
     (bytes_below key (first_key_of record_key (drop n p.items))) refl)
   where
     behind : List Link
-    behind = links_from (free + 1) (right_of (cut_by record_key sizes (free + 1) (back_part record_key n p))) ++ rest
+    behind = links_on (free + 1) (right_of (cut_by record_key sizes (free + 1) (back_part record_key n p))) ++ rest
 
     less : n < length p.items
     less = can.1

@@ -14,11 +14,12 @@ use Rattle.chain_facts.specs.Chain.{IsUnlinked}
 use Rattle.chain_facts.specs.Landing.{ArePieces, LandsOn, first_or}
 use Rattle.chain_facts.specs.Links.{link_below, IsOfLevel, EndsBefore, NodeNames, page_after, low_after}
 use Rattle.chain_facts.proofs.Pieces.{none_in, in_cases}
-use Rattle.telling_facts.specs.Pieces.{first_part, right_of, links_from, HaveLanded}
+use Rattle.chain_facts.specs.Cuts.{links_on, HaveLanded}
+use Rattle.telling_facts.specs.Pieces.{first_part, right_of}
 
 -- the first of the parts has the low key of the whole
 pub cut_links : {A X : Type 0} (key : A → List ℕ) (sizes : List ℕ) (page free : ℕ) (p : Part A X)
-    → links_from page (cut_by key sizes free p) ≡ record { low = p.low; page = page } ∷ links_from (page + 1) (right_of (cut_by key sizes free p))
+    → links_on page (cut_by key sizes free p) ≡ record { low = p.low; page = page } ∷ links_on (page + 1) (right_of (cut_by key sizes free p))
 cut_links key [] page free p = refl
 cut_links key (n ∷ sizes) page free p = refl
 
@@ -45,7 +46,7 @@ Rises p = (high : List ℕ) → p.high ≡ Some high → bytes_below p.low high 
 
 pub lows_ascend : {A X : Type 0} (key : A → List ℕ) (sizes : List ℕ) (from free : ℕ) (p : Part A X) (link : Link) → link.low ≡ p.low
     → AllByRecursion Rises (cut_by key sizes free p)
-    → Ascend link_below (Some link) (links_from from (right_of (cut_by key sizes free p)))
+    → Ascend link_below (Some link) (links_on from (right_of (cut_by key sizes free p)))
 lows_ascend key [] from free p link e rise = tt
 lows_ascend key (n ∷ sizes) from free p link e rise =
     subst (λ (ls : List Link). Ascend link_below (Some link) ls) (sym (cut_links key sizes from (free + 1) (back_part key n p))) (
@@ -62,7 +63,7 @@ low_under key (n ∷ sizes) free p high e rise =
 
 pub lows_under : {A X : Type 0} (key : A → List ℕ) (sizes : List ℕ) (from free : ℕ) (p : Part A X) (high : List ℕ) → p.high ≡ Some high
     → AllByRecursion Rises (cut_by key sizes free p)
-    → AllByRecursion (λ a. bytes_below a.low high ≡ true) (links_from from (right_of (cut_by key sizes free p)))
+    → AllByRecursion (λ a. bytes_below a.low high ≡ true) (links_on from (right_of (cut_by key sizes free p)))
 lows_under key [] from free p high e rise = tt
 lows_under key (n ∷ sizes) from free p high e rise =
     subst (λ (ls : List Link). AllByRecursion (λ a. bytes_below a.low high ≡ true) ls) (sym (cut_links key sizes from (free + 1) (back_part key n p)))
@@ -78,28 +79,28 @@ all_in P (x ∷ links) all a h = on (all_in P links all.1 a) (in_cases x links a
 
 -- ---- pages
 
-pages_from : {A X : Type 0} (from : ℕ) (ps : List (Part A X)) (a : Link) → IsIn (links_from from ps) a → from ≤ a.page
+pages_from : {A X : Type 0} (from : ℕ) (ps : List (Part A X)) (a : Link) → IsIn (links_on from ps) a → from ≤ a.page
 pages_from from [] a h = absurd (none_in a h)
-pages_from from (p ∷ ps) a h = on (pages_from (from + 1) ps a) (in_cases (record { low = p.low; page = from }) (links_from (from + 1) ps) a h)
+pages_from from (p ∷ ps) a h = on (pages_from (from + 1) ps a) (in_cases (record { low = p.low; page = from }) (links_on (from + 1) ps) a h)
   where
-    on : (IsIn (links_from (from + 1) ps) a → from + 1 ≤ a.page) → (record { low = p.low; page = from } ≡ a) ⊎ IsIn (links_from (from + 1) ps) a → from ≤ a.page
+    on : (IsIn (links_on (from + 1) ps) a → from + 1 ≤ a.page) → (record { low = p.low; page = from } ≡ a) ⊎ IsIn (links_on (from + 1) ps) a → from ≤ a.page
     on again (inl e) = let same : from ≡ a.page = ap (λ (x : Link). x.page) e in omega (arith, same)
     on again (inr k) = let more = again k in omega (arith, more)
 
 -- no page comes twice
-pub pages_distinct : {A X : Type 0} (from : ℕ) (ps : List (Part A X)) (a b : Link) → IsIn (links_from from ps) a → IsIn (links_from from ps) b
+pub pages_distinct : {A X : Type 0} (from : ℕ) (ps : List (Part A X)) (a b : Link) → IsIn (links_on from ps) a → IsIn (links_on from ps) b
     → a.page ≡ b.page → a.low ≡ b.low
 pages_distinct from [] a b h k e = absurd (none_in a h)
 pages_distinct from (p ∷ ps) a b h k e =
-    on (pages_distinct (from + 1) ps a b) (in_cases (record { low = p.low; page = from }) (links_from (from + 1) ps) a h)
-    (in_cases (record { low = p.low; page = from }) (links_from (from + 1) ps) b k)
+    on (pages_distinct (from + 1) ps a b) (in_cases (record { low = p.low; page = from }) (links_on (from + 1) ps) a h)
+    (in_cases (record { low = p.low; page = from }) (links_on (from + 1) ps) b k)
   where
     First : Link → Type 0
     First x = record { low = p.low; page = from } ≡ x
 
-    on : (IsIn (links_from (from + 1) ps) a → IsIn (links_from (from + 1) ps) b → a.page ≡ b.page → a.low ≡ b.low)
-        → (record { low = p.low; page = from } ≡ a) ⊎ IsIn (links_from (from + 1) ps) a
-        → (record { low = p.low; page = from } ≡ b) ⊎ IsIn (links_from (from + 1) ps) b → a.low ≡ b.low
+    on : (IsIn (links_on (from + 1) ps) a → IsIn (links_on (from + 1) ps) b → a.page ≡ b.page → a.low ≡ b.low)
+        → (record { low = p.low; page = from } ≡ a) ⊎ IsIn (links_on (from + 1) ps) a
+        → (record { low = p.low; page = from } ≡ b) ⊎ IsIn (links_on (from + 1) ps) b → a.low ≡ b.low
     on again (inl x) (inl y) = ap (λ (l : Link). l.low) (sym x ∙ y)
     on again (inl x) (inr y) =
         let same : from ≡ a.page = ap (λ (l : Link). l.page) x in
@@ -126,7 +127,7 @@ pub record GoesTo {A X : Type 0} (p : Part A X) (next : Option Link) : Type 0 wh
 
 pub first_ends : {A X : Type 0} (key : A → List ℕ) (node : Part A X → Node) → ShowsFences node
     → (none : Part A X) (sizes : List ℕ) (free : ℕ) (p : Part A X) (next : Option Link) → GoesTo p next
-    → EndsBefore (node (first_part none (cut_by key sizes free p))) (first_or next (links_from free (right_of (cut_by key sizes free p))))
+    → EndsBefore (node (first_part none (cut_by key sizes free p))) (first_or next (links_on free (right_of (cut_by key sizes free p))))
 first_ends key node shows none [] free p next goes = record { right = shows.right p ∙ goes.right; high = shows.high p ∙ goes.high }
 first_ends key node shows none (n ∷ sizes) free p next goes =
     subst (λ (ls : List Link). EndsBefore (node (front_part key n free p)) (first_or next ls)) (sym (cut_links key sizes free (free + 1) (back_part key n p)))
@@ -143,7 +144,7 @@ landed_first key node nodes none (n ∷ sizes) page free p landed = (landed.0, l
 pub cut_pieces : {A X : Type 0} (key : A → List ℕ) (node : Part A X → Node) → ShowsFences node → (nodes : ℕ → List Node) (level : ℕ) (common : X)
     → ((p : Part A X) → p.common ≡ common → IsOfLevel level (node p))
     → (none : Part A X) (sizes : List ℕ) (free : ℕ) (p : Part A X) (next : Option Link) → p.common ≡ common → GoesTo p next
-    → HaveLanded node nodes free (right_of (cut_by key sizes free p)) → ArePieces nodes level (links_from free (right_of (cut_by key sizes free p))) next
+    → HaveLanded node nodes free (right_of (cut_by key sizes free p)) → ArePieces nodes level (links_on free (right_of (cut_by key sizes free p))) next
 cut_pieces key node shows nodes level common leveled none [] free p next same goes landed = tt
 cut_pieces key node shows nodes level common leveled none (n ∷ sizes) free p next same goes landed =
     let back = back_part key n p in
@@ -166,8 +167,8 @@ pub cut_lands : {A X : Type 0} (key : A → List ℕ) (node : Part A X → Node)
     → GoesTo p (slice_get (chain level) (place + 1)) → AllByRecursion Rises (cut_by key sizes free p)
     → NodeNames chain (node (first_part p (cut_by key sizes free p)))
     → HaveLanded node nodes free (right_of (cut_by key sizes free p))
-    → ((piece : Link) → IsIn (links_from free (right_of (cut_by key sizes free p))) piece → IsUnlinked chain piece.page)
-    → LandsOn chain nodes level link.page (node (first_part p (cut_by key sizes free p))) (links_from free (right_of (cut_by key sizes free p)))
+    → ((piece : Link) → IsIn (links_on free (right_of (cut_by key sizes free p))) piece → IsUnlinked chain piece.page)
+    → LandsOn chain nodes level link.page (node (first_part p (cut_by key sizes free p))) (links_on free (right_of (cut_by key sizes free p)))
 cut_lands key node shows chain nodes level sizes free p leveled place link linked low goes rise names landed unlinked = record {
   place = place;
   link = link;
@@ -180,7 +181,7 @@ cut_lands key node shows chain nodes level sizes free p leveled place link linke
   pieces_are = cut_pieces key node shows nodes level p.common leveled p sizes free p (slice_get (chain level) (place + 1)) refl goes landed;
   ascends = lows_ascend key sizes free free p link (sym low) rise;
   within = λ piece next h there.
-      all_in (λ a. bytes_below a.low next.low ≡ true) (links_from free (right_of (cut_by key sizes free p)))
+      all_in (λ a. bytes_below a.low next.low ≡ true) (links_on free (right_of (cut_by key sizes free p)))
       (lows_under key sizes free free p next.low (goes.high ∙ ap low_after there) rise) piece h;
   new = record { unlinked = unlinked; distinct = pages_distinct free (right_of (cut_by key sizes free p)) };
 }
@@ -212,7 +213,7 @@ all_parts P key none (n ∷ sizes) free p first rest = (first, rest)
 pub level_pieces : {A X : Type 0} (key : A → List ℕ) (node : Part A X → Node) → ShowsFences node
     → (nodes : ℕ → List Node) (level : ℕ) (sizes : List ℕ) (first : ℕ) (p : Part A X)
     → ((q : Part A X) → q.common ≡ p.common → IsOfLevel level (node q)) → (next : Option Link) → GoesTo p next
-    → HaveLanded node nodes first (cut_by key sizes (first + 1) p) → ArePieces nodes level (links_from first (cut_by key sizes (first + 1) p)) next
+    → HaveLanded node nodes first (cut_by key sizes (first + 1) p) → ArePieces nodes level (links_on first (cut_by key sizes (first + 1) p)) next
 level_pieces key node shows nodes level sizes first p leveled next goes landed =
     let f = landed_first key node nodes p sizes first (first + 1) p landed in
     let left = first_part p (cut_by key sizes (first + 1) p) in
@@ -229,7 +230,7 @@ level_pieces key node shows nodes level sizes first p leveled next goes landed =
 
 -- their low keys ascend
 pub level_ascends : {A X : Type 0} (key : A → List ℕ) (sizes : List ℕ) (first free : ℕ) (p : Part A X) → AllByRecursion Rises (cut_by key sizes free p)
-    → Ascend link_below None (links_from first (cut_by key sizes free p))
+    → Ascend link_below None (links_on first (cut_by key sizes free p))
 level_ascends key sizes first free p rise =
     subst (λ (ls : List Link). Ascend link_below None ls) (sym (cut_links key sizes first free p))
     (tt, lows_ascend key sizes (first + 1) free p (record { low = p.low; page = first }) refl rise)

@@ -32,7 +32,8 @@ use Rattle.decoding_facts.specs.Decodes.{Decodes, IsNext}
 use Rattle.decoding_facts.specs.Kinds.{IsNode}
 use Rattle.decoding_facts.proofs.Newest.{IsLast, last_cases}
 use Rattle.decoding_facts.proofs.Values.{leaf_next}
-use Rattle.telling_facts.specs.Pieces.{first_part, right_of, HaveLanded, leafy, leaf_parts, left_leaf, leaf_links}
+use Rattle.chain_facts.specs.Cuts.{HaveLanded, leaf_node}
+use Rattle.telling_facts.specs.Pieces.{first_part, right_of, leaf_parts, left_leaf, leaf_links}
 use Rattle.telling_facts.specs.Taking.{AreClients, IsLinked, LandsTaken, taking_of}
 use Rattle.telling_facts.specs.Told.{store_of, Tells, own_of}
 use Rattle.telling_facts.proofs.Fences.{Rises, all_parts}
@@ -61,7 +62,7 @@ whole_taken chain nodes page l queue run free clients linked = record {
 -- the first of the pieces of a leaf lands
 pub cut_taken : (chain : ℕ → List Link) (nodes : ℕ → List Node) (page : ℕ) (l : Leaf) (queue : ℕ) (run : List PuItem) (free : ℕ) → AreClients run
     → IsLinked (chain 0) page
-    → HaveLanded leafy nodes free (right_of (leaf_pieces free (applied l queue run)))
+    → HaveLanded leaf_node nodes free (right_of (leaf_pieces free (applied l queue run)))
     → ((piece : Link) → IsIn (leaf_links (cuts_of (length (applied l queue run).records)) free (applied l queue run)) piece → IsUnlinked chain piece.page)
     → LandsTaken chain nodes page l queue run (cuts_of (length (applied l queue run).records)) free
 cut_taken chain nodes page l queue run free clients linked landed unlinked = record {

@@ -31,7 +31,8 @@ use Rattle.chain_facts.specs.Chain.{AreLevels, AreVersions, AreNewest}
 use Rattle.chain_facts.specs.Landing.{LandsOn, LandsLeaf}
 use Rattle.chain_facts.specs.Links.{low_after}
 use Rattle.chain_facts.proofs.Pieces.{in_first, in_rest, in_cases, none_in}
-use Rattle.telling_facts.specs.Pieces.{right_of, links_from, HaveLanded, leafy, leaf_parts, left_leaf, leaf_links}
+use Rattle.chain_facts.specs.Cuts.{links_on, HaveLanded, leaf_node}
+use Rattle.telling_facts.specs.Pieces.{right_of, leaf_parts, left_leaf, leaf_links}
 use Rattle.telling_facts.specs.Taking.{taking_of, LandsTaken}
 use Rattle.telling_facts.specs.Told.{store_of, Tells, own_of}
 use Rattle.telling_facts.proofs.Cuts.{AreAt, Finds, cut_finds}
@@ -109,13 +110,13 @@ module _ (who : Caller) (book : Book) (order : List Change) (s : CloudState) (tr
   found_before : (key : List ℕ) → holds old key ≡ true → leaf_for book (nodes_of s) tree key ≡ old
   found_before = finding.found_before book s tree page height lv vs nw takes.linked
 
-  pieces_at : (from : ℕ) (ps : List LeafPart) → HaveLanded leafy (nodes_of s tree) from ps → ((a : Link) → IsIn (links_from from ps) a → a.page ≢ page)
+  pieces_at : (from : ℕ) (ps : List LeafPart) → HaveLanded leaf_node (nodes_of s tree) from ps → ((a : Link) → IsIn (links_on from ps) a → a.page ≢ page)
       → AreAt (newest_leaf later tree) from ps
   pieces_at from [] landed apart = tt
   pieces_at from (p ∷ ps) landed apart = (
-    newest_there who tree page bytes (Leafy left) s is tree from (λ e. apart (record { low = p.low; page = from }) (in_first _ (links_from (from + 1) ps)) e.1)
+    newest_there who tree page bytes (Leafy left) s is tree from (λ e. apart (record { low = p.low; page = from }) (in_first _ (links_on (from + 1) ps)) e.1)
         ∙ ap (λ (ns : List Node). leaf_in (last_or (Leafy empty_leaf) ns)) landed.0,
-    pieces_at (from + 1) ps landed.1 (λ a k. apart a (in_rest (record { low = p.low; page = from }) (links_from (from + 1) ps) a k)),
+    pieces_at (from + 1) ps landed.1 (λ a k. apart a (in_rest (record { low = p.low; page = from }) (links_on (from + 1) ps) a k)),
   )
 
   pieces_apart : (a : Link) → IsIn pieces a → a.page ≢ page
@@ -299,22 +300,22 @@ module _ (who : Caller) (book : Book) (order : List Change) (s : CloudState) (tr
   lands_on =
       let next = finding.between_next book s tree page height lv vs nw takes.linked in
       subst (λ (p : ℕ). LandsOn (book.chain tree) (nodes_of s tree) 0 p (Leafy left) pieces) takes.linked.page_is
-      (cut_lands record_key leafy (record { low = λ p. refl; right = λ p. refl; high = λ p. refl })
+      (cut_lands record_key leaf_node (record { low = λ p. refl; right = λ p. refl; high = λ p. refl })
       (book.chain tree) (nodes_of s tree) 0 sizes free (part_of_leaf whole) (λ q e. refl)
       takes.linked.place takes.linked.link takes.linked.linked next.low (record { right = next.right; high = next.high }) rise tt takes.landed takes.unlinked)
 
   -- the tables of the pieces are that of the whole
-  tables_are : (from : ℕ) (ps : List LeafPart) → HaveLanded leafy (nodes_of s tree) from ps → AllByRecursion (λ (p : LeafPart). p.common ≡ whole.done) ps
-      → (piece : Link) (l : Leaf) → IsIn (links_from from ps) piece → nodes_of s tree piece.page ≡ Leafy l ∷ [] → l.done ≡ whole.done
+  tables_are : (from : ℕ) (ps : List LeafPart) → HaveLanded leaf_node (nodes_of s tree) from ps → AllByRecursion (λ (p : LeafPart). p.common ≡ whole.done) ps
+      → (piece : Link) (l : Leaf) → IsIn (links_on from ps) piece → nodes_of s tree piece.page ≡ Leafy l ∷ [] → l.done ≡ whole.done
   tables_are from [] landed same piece l h k = absurd (none_in piece h)
   tables_are from (p ∷ ps) landed same piece l h k =
-      on (tables_are (from + 1) ps landed.1 same.1 piece l) (in_cases (record { low = p.low; page = from }) (links_from (from + 1) ps) piece h)
+      on (tables_are (from + 1) ps landed.1 same.1 piece l) (in_cases (record { low = p.low; page = from }) (links_on (from + 1) ps) piece h)
     where
-      on : (IsIn (links_from (from + 1) ps) piece → nodes_of s tree piece.page ≡ Leafy l ∷ [] → l.done ≡ whole.done)
-          → (record { low = p.low; page = from } ≡ piece) ⊎ IsIn (links_from (from + 1) ps) piece → l.done ≡ whole.done
+      on : (IsIn (links_on (from + 1) ps) piece → nodes_of s tree piece.page ≡ Leafy l ∷ [] → l.done ≡ whole.done)
+          → (record { low = p.low; page = from } ≡ piece) ⊎ IsIn (links_on (from + 1) ps) piece → l.done ≡ whole.done
       on again (inr j) = again j k
       on again (inl e) =
-          let both : leafy p ∷ [] ≡ Leafy l ∷ [] = sym landed.0 ∙ ap (λ (a : Link). nodes_of s tree a.page) e ∙ k in
+          let both : leaf_node p ∷ [] ≡ Leafy l ∷ [] = sym landed.0 ∙ ap (λ (a : Link). nodes_of s tree a.page) e ∙ k in
           let one : leaf_of_part p ≡ l = cc in
           ap (λ (m : Leaf). m.done) (sym one) ∙ same.0
 

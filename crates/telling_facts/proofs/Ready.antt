@@ -32,7 +32,8 @@ use Rattle.decoding_facts.specs.Decodes.{Decodes, IsNext}
 use Rattle.decoding_facts.specs.Kinds.{IsNode}
 use Rattle.decoding_facts.proofs.Newest.{IsLast, last_cases}
 use Rattle.decoding_facts.proofs.Values.{node_next, inner_next}
-use Rattle.telling_facts.specs.Pieces.{first_part, right_of, links_from, HaveLanded, branching, node_parts, left_inner, node_links, left_leaf}
+use Rattle.chain_facts.specs.Cuts.{links_on, HaveLanded, inner_node}
+use Rattle.telling_facts.specs.Pieces.{first_part, right_of, node_parts, left_inner, node_links, left_leaf}
 use Rattle.telling_facts.specs.Taking.{AreClients, IsLinked, LandsTaken, taking_of}
 use Rattle.telling_facts.specs.Told.{store_of, own_of}
 use Rattle.telling_facts.proofs.Fences.{Rises, all_parts, cut_common, cut_version, cut_lands, cut_links, level_pieces, level_ascends, pages_distinct}
@@ -115,7 +116,7 @@ module _ (book : Book) (order : List Entry) (s : CloudState) (tree : ℕ) (of_tr
   module _ (page : ℕ) (old whole : Inner) (sizes : List ℕ) (free : ℕ) (bytes : List ℕ) (at : IsLinked (book.chain tree whole.level) page)
       (newest : newest_node (nodes_of s tree) page ≡ Branch old)
       (fences : HasFences old whole) (is : IsInner bytes (left_inner sizes free whole))
-      (landed : HaveLanded branching (nodes_of s tree) free (right_of (node_parts sizes free whole))) where
+      (landed : HaveLanded inner_node (nodes_of s tree) free (right_of (node_parts sizes free whole))) where
     rise : AllByRecursion Rises (node_parts sizes free whole)
     rise =
         all_parts Rises entry_key (part_of_node whole) sizes free (part_of_node whole)
@@ -148,7 +149,7 @@ module _ (book : Book) (order : List Entry) (s : CloudState) (tree : ℕ) (of_tr
         (sym (cut_common entry_key (part_of_node whole) sizes free (part_of_node whole)))
         (subst (λ (p : ℕ). LandsOn (book.chain tree) (nodes_of s tree) whole.level p (Branch (left_inner sizes free whole))
         (node_links sizes free whole)) at.page_is
-        (cut_lands entry_key branching (record { low = λ p. refl; right = λ p. refl; high = λ p. refl })
+        (cut_lands entry_key inner_node (record { low = λ p. refl; right = λ p. refl; high = λ p. refl })
         (book.chain tree) (nodes_of s tree) whole.level sizes free (part_of_node whole)
         (λ q e. (e, above)) at.place at.link at.linked (fences.low ∙ low_is (last_cases (nodes_of s tree at.link.page)))
         (record {
@@ -167,7 +168,7 @@ module _ (book : Book) (order : List Entry) (s : CloudState) (tree : ℕ) (of_tr
 
   -- the links of the pieces of the root, from a first page on
   abbrev pub raised_links : List ℕ → ℕ → List Link
-  raised_links sizes first = links_from first (node_parts sizes (first + 1) (node_of_root top))
+  raised_links sizes first = links_on first (node_parts sizes (first + 1) (node_of_root top))
 
   entries_name : (links : List Link) (e : NodeEntry) → IsIn (map entry_for links) e → IsIn links (link_of e)
   entries_name [] e is = absurd (none_in e is)
@@ -177,7 +178,7 @@ module _ (book : Book) (order : List Entry) (s : CloudState) (tree : ℕ) (of_tr
       on again (inl same) = subst (λ (x : NodeEntry). IsIn (a ∷ links) (link_of x)) same (in_first a links)
       on again (inr k) = in_rest a links (link_of e) (again k)
 
-  pub raises : (root : Tree) (sizes : List ℕ) (first : ℕ) → HaveLanded branching (nodes_of s tree) first (node_parts sizes (first + 1) (node_of_root top))
+  pub raises : (root : Tree) (sizes : List ℕ) (first : ℕ) → HaveLanded inner_node (nodes_of s tree) first (node_parts sizes (first + 1) (node_of_root top))
       → ((piece : Link) → IsIn (raised_links sizes first) piece → IsUnlinked (book.chain tree) piece.page)
       → root.level ≡ top.level + 1 → top.next ≤ root.next → root.entries ≡ map entry_for (raised_links sizes first)
       → Raises (store_of book order s) tree root top.level (raised_links sizes first)
@@ -194,14 +195,14 @@ module _ (book : Book) (order : List Entry) (s : CloudState) (tree : ℕ) (of_tr
         level_ascends entry_key sizes first (first + 1) (part_of_node (node_of_root top))
         (nodes_rise s tree first (node_parts sizes (first + 1) (node_of_root top)) d landed);
     pieces_are =
-        level_pieces entry_key branching (record { low = λ p. refl; right = λ p. refl; high = λ p. refl }) (nodes_of s tree) top.level sizes first
+        level_pieces entry_key inner_node (record { low = λ p. refl; right = λ p. refl; high = λ p. refl }) (nodes_of s tree) top.level sizes first
         (part_of_node (node_of_root top))
         (λ q e. (e, above)) None (record { right = refl; high = refl }) landed;
     new = record { unlinked = unlinked; distinct = pages_distinct first (node_parts sizes (first + 1) (node_of_root top)) };
   }
     where
       links_are : raised_links sizes first
-          ≡ record { low = []; page = first } ∷ links_from (first + 1) (right_of (node_parts sizes (first + 1) (node_of_root top)))
+          ≡ record { low = []; page = first } ∷ links_on (first + 1) (right_of (node_parts sizes (first + 1) (node_of_root top)))
       links_are = cut_links entry_key sizes first (first + 1) (part_of_node (node_of_root top))
 
       above : 0 < top.level

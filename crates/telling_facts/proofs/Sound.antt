@@ -24,7 +24,7 @@ use Rattle.decoding_facts.specs.Decodes.{Decodes}
 use Rattle.decoding_facts.specs.Kinds.{IsNode, AreOfKind}
 use Rattle.decoding_facts.proofs.Newest.{IsLast, last_cases, last_map}
 use Rattle.decoding_facts.proofs.Reading.{node_reads}
-use Rattle.telling_facts.specs.Pieces.{HaveLanded, leafy, branching}
+use Rattle.chain_facts.specs.Cuts.{HaveLanded, leaf_node, inner_node}
 use Rattle.telling_facts.proofs.Fences.{Rises}
 use Rattle.telling_facts.proofs.Leaves.{IsSound}
 use Rattle.telling_facts.proofs.Tables.{AreOfClients}
@@ -76,7 +76,7 @@ only_spelled tree page (v ∷ vs) l are e =
     let first : node_in v ≡ Leafy l = cc in
     (v.bytes, subst (λ (n : Node). IsNode v.bytes n) (sym (node_reads v k.0 k.1) ∙ first) k.1)
 
-pub pieces_rise : (s : CloudState) (tree free : ℕ) (ps : List LeafPart) → Decodes s → HaveLanded leafy (nodes_of s tree) free ps → AllByRecursion Rises ps
+pub pieces_rise : (s : CloudState) (tree free : ℕ) (ps : List LeafPart) → Decodes s → HaveLanded leaf_node (nodes_of s tree) free ps → AllByRecursion Rises ps
 pieces_rise s tree free [] d landed = tt
 pieces_rise s tree free (p ∷ ps) d landed =
     let spelled = only_spelled tree free (s.versions (object.Page tree free)) (leaf_of_part p) (d.versions (object.Page tree free)) landed.0 in
@@ -129,7 +129,7 @@ only_inner tree page (v ∷ vs) n are e =
     let first : node_in v ≡ Branch n = cc in
     (v.bytes, subst (λ (m : Node). IsNode v.bytes m) (sym (node_reads v k.0 k.1) ∙ first) k.1)
 
-pub nodes_rise : (s : CloudState) (tree free : ℕ) (ps : List NodePart) → Decodes s → HaveLanded branching (nodes_of s tree) free ps → AllByRecursion Rises ps
+pub nodes_rise : (s : CloudState) (tree free : ℕ) (ps : List NodePart) → Decodes s → HaveLanded inner_node (nodes_of s tree) free ps → AllByRecursion Rises ps
 nodes_rise s tree free [] d landed = tt
 nodes_rise s tree free (p ∷ ps) d landed =
     let spelled = only_inner tree free (s.versions (object.Page tree free)) (node_of_part p) (d.versions (object.Page tree free)) landed.0 in

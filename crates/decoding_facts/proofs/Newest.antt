@@ -46,13 +46,15 @@ newest_last vs bytes e = told (λ (v : Version). v.bytes) (slice_get vs (length 
 pub version_there : (vs : List Version) (n : ℕ) (bytes : List ℕ) → version_at vs n ≡ Some bytes → (v : Version) × StandsAt vs (n - 1) v × (v.bytes ≡ bytes)
 version_there vs n bytes e = on (n == 0) e
   where
-    on : (b : Bool) → cond b None (option_map (λ (v : Version). v.bytes) (slice_get vs (n - 1))) ≡ Some bytes → (v : Version) × StandsAt vs (n - 1) v × (v.bytes ≡ bytes)
+    on : (b : Bool) → cond b None (option_map (λ (v : Version). v.bytes) (slice_get vs (n - 1))) ≡ Some bytes
+        → (v : Version) × StandsAt vs (n - 1) v × (v.bytes ≡ bytes)
     on true h = absurd (cc)
     on false h = told (λ (v : Version). v.bytes) (slice_get vs (n - 1)) bytes h
 
 pub message_there : (ms : List Posted) (n : ℕ) (bytes : List ℕ) → message_at ms n ≡ Some bytes → (m : Posted) × StandsAt ms (n - 1) m × (m.bytes ≡ bytes)
 message_there ms n bytes e = on (n == 0) e
   where
-    on : (b : Bool) → cond b None (option_map (λ (m : Posted). m.bytes) (slice_get ms (n - 1))) ≡ Some bytes → (m : Posted) × StandsAt ms (n - 1) m × (m.bytes ≡ bytes)
+    on : (b : Bool) → cond b None (option_map (λ (m : Posted). m.bytes) (slice_get ms (n - 1))) ≡ Some bytes
+        → (m : Posted) × StandsAt ms (n - 1) m × (m.bytes ≡ bytes)
     on true h = absurd (cc)
     on false h = told (λ (m : Posted). m.bytes) (slice_get ms (n - 1)) bytes h

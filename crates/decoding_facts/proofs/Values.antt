@@ -36,7 +36,8 @@ some_length [] x e = absurd (cc)
 some_length (y ∷ xs) x e = omega arith
 
 -- the newest version of a page or a root has the number of versions that landed, 0 where none did
-pub page_number : (s : CloudState) (tree page : ℕ) → Decodes s → version_of (last_or (Leafy empty_leaf) (nodes_of s tree page)) ≡ length (s.versions (object.Page tree page))
+pub page_number : (s : CloudState) (tree page : ℕ) → Decodes s
+    → version_of (last_or (Leafy empty_leaf) (nodes_of s tree page)) ≡ length (s.versions (object.Page tree page))
 page_number s tree page d = on (last_cases vs)
   where
     vs : List Version
@@ -91,12 +92,14 @@ later_differs g h (inr (e, inl less)) same = omega (arith, less, same.txn)
 later_differs g h (inr (e, inr (f, rises))) same = no_phase g.phase h.phase same.phase rises
 
 -- a head that is later than the newest
-pub head_next : (s : CloudState) (client : ℕ) (bytes : List ℕ) (h : Head) → head_of bytes ≡ Some h → IsLater (last_or empty_head (map head_in (s.versions (object.Head client)))) h
+pub head_next : (s : CloudState) (client : ℕ) (bytes : List ℕ) (h : Head) → head_of bytes ≡ Some h
+    → IsLater (last_or empty_head (map head_in (s.versions (object.Head client)))) h
     → IsNext s (object.Head client) bytes
 head_next s client bytes h is later = record {
   kind = (h, is);
   moves = λ v last g k reads puts same.
-      let newest : last_or empty_head (map head_in (s.versions (object.Head client))) ≡ g = last_map head_in empty_head (s.versions (object.Head client)) v last ∙ head_reads v g reads in
+      let newest : last_or empty_head (map head_in (s.versions (object.Head client))) ≡ g =
+      last_map head_in empty_head (s.versions (object.Head client)) v last ∙ head_reads v g reads in
       let both : Some h ≡ Some k = sym is ∙ puts in
       let one : h ≡ k = cc in
       later_differs g k (subst (λ (x : Head). IsLater g x) one (subst (λ (x : Head). IsLater x h) newest later)) same;
@@ -118,10 +121,12 @@ pub newest_decodes : (s : CloudState) (name : ObjName) (bytes : List ℕ) → De
 newest_decodes s name bytes d e =
     let p = newest_last (s.versions name) bytes e in
     let n = some_length (s.versions name) p.0 p.1 in
-    subst (λ (b : List ℕ). IsNth name (length (s.versions name)) b) p.2 (subst (λ (k : ℕ). IsNth name k p.0.bytes) n (d.versions name (length (s.versions name) - 1) p.0 p.1))
+    subst (λ (b : List ℕ). IsNth name (length (s.versions name)) b) p.2
+    (subst (λ (k : ℕ). IsNth name k p.0.bytes) n (d.versions name (length (s.versions name) - 1) p.0 p.1))
 
 -- bytes that are the next version are not those of the last
-not_again : (name : ObjName) (vs : List Version) (bytes : List ℕ) (v : Version) → IsLast vs v → v.bytes ≡ bytes → IsNth name (length vs) v.bytes → IsNth name (length vs + 1) bytes
+not_again : (name : ObjName) (vs : List Version) (bytes : List ℕ) (v : Version) → IsLast vs v → v.bytes ≡ bytes → IsNth name (length vs) v.bytes
+    → IsNth name (length vs + 1) bytes
     → MovesOn name vs bytes → ⊥
 not_again (object.Head client) vs bytes v last e a b moves = moves v last b.0 b.0 (ap head_of e ∙ b.1) b.1 (record { epoch = refl; txn = refl; phase = refl })
 not_again (object.Tree tree) vs bytes v last e a b moves =
@@ -147,9 +152,11 @@ pub newest_head_decodes : (s : CloudState) (client : ℕ) (bytes : List ℕ) →
 newest_head_decodes s client bytes d e =
     let p = newest_last (s.versions (object.Head client)) bytes e in
     let k = d.versions (object.Head client) (length (s.versions (object.Head client)) - 1) p.0 p.1 in
-    ap head_of (sym p.2) ∙ k.1 ∙ ap (λ (h : Head). Some h) (sym (last_map head_in empty_head (s.versions (object.Head client)) p.0 p.1 ∙ head_reads p.0 k.0 k.1))
+    ap head_of (sym p.2) ∙ k.1
+    ∙ ap (λ (h : Head). Some h) (sym (last_map head_in empty_head (s.versions (object.Head client)) p.0 p.1 ∙ head_reads p.0 k.0 k.1))
 
-pub newest_root_decodes : (s : CloudState) (tree : ℕ) (bytes : List ℕ) → Decodes s → newest s (object.Tree tree) ≡ Some bytes → IsTree bytes (newest_root (roots_of s) tree)
+pub newest_root_decodes : (s : CloudState) (tree : ℕ) (bytes : List ℕ) → Decodes s → newest s (object.Tree tree) ≡ Some bytes
+    → IsTree bytes (newest_root (roots_of s) tree)
 newest_root_decodes s tree bytes d e =
     let p = newest_last (s.versions (object.Tree tree)) bytes e in
     let k = d.versions (object.Tree tree) (length (s.versions (object.Tree tree)) - 1) p.0 p.1 in
@@ -167,25 +174,29 @@ newest_page_decodes s tree page bytes d e =
 -- ---- what is read
 
 -- the bytes of any version decode as a version that is told
-pub version_decodes : (s : CloudState) (name : ObjName) (n : ℕ) (bytes : List ℕ) → Decodes s → version_at (s.versions name) n ≡ Some bytes → IsNth name ((n - 1) + 1) bytes
+pub version_decodes : (s : CloudState) (name : ObjName) (n : ℕ) (bytes : List ℕ) → Decodes s → version_at (s.versions name) n ≡ Some bytes
+    → IsNth name ((n - 1) + 1) bytes
 version_decodes s name n bytes d e =
     let p = version_there (s.versions name) n bytes e in
     subst (λ (b : List ℕ). IsNth name ((n - 1) + 1) b) p.2 (d.versions name (n - 1) p.0 p.1)
 
-pub message_decodes : (s : CloudState) (queue : QueueName) (id : ℕ) (bytes : List ℕ) → Decodes s → message_at (s.messages queue) id ≡ Some bytes → IsMessageOf queue bytes
+pub message_decodes : (s : CloudState) (queue : QueueName) (id : ℕ) (bytes : List ℕ) → Decodes s → message_at (s.messages queue) id ≡ Some bytes
+    → IsMessageOf queue bytes
 message_decodes s queue id bytes d e =
     let p = message_there (s.messages queue) id bytes e in
     subst (λ (b : List ℕ). IsMessageOf queue b) p.2 (d.messages queue (id - 1) p.0 p.1)
 
 -- a page or a root that was read is one of those that are told
-pub read_node : (s : CloudState) (tree page n : ℕ) (bytes : List ℕ) (node : Node) → version_at (s.versions (object.Page tree page)) n ≡ Some bytes → IsNode bytes node
+pub read_node : (s : CloudState) (tree page n : ℕ) (bytes : List ℕ) (node : Node) → version_at (s.versions (object.Page tree page)) n ≡ Some bytes
+    → IsNode bytes node
     → IsIn (nodes_of s tree page) node
 read_node s tree page n bytes node e is =
     let p = version_there (s.versions (object.Page tree page)) n bytes e in
     let reads : node_in p.0 ≡ node = node_reads p.0 node (subst (λ (b : List ℕ). IsNode b node) (sym p.2) is) in
     (n - 1, get_map node_in (s.versions (object.Page tree page)) (n - 1) p.0 p.1 ∙ ap (λ (x : Node). Some x) reads)
 
-pub read_root : (s : CloudState) (tree n : ℕ) (bytes : List ℕ) (root : Tree) → version_at (s.versions (object.Tree tree)) n ≡ Some bytes → IsTree bytes root → IsIn (roots_of s tree) root
+pub read_root : (s : CloudState) (tree n : ℕ) (bytes : List ℕ) (root : Tree) → version_at (s.versions (object.Tree tree)) n ≡ Some bytes → IsTree bytes root
+    → IsIn (roots_of s tree) root
 read_root s tree n bytes root e is =
     let p = version_there (s.versions (object.Tree tree)) n bytes e in
     let reads : root_in p.0 ≡ root = root_reads p.0 root (subst (λ (b : List ℕ). IsTree b root) (sym p.2) is) in

@@ -62,7 +62,7 @@ one_queue st pends = record { one = λ r q in_r in_q client tree key left_r left
 
 -- ---- heads rise
 
-opens_later : (st : Store) (client : ℕ) (head : Head) (records : List AtomicRec) → Opens st client head records → IsLater (st.tally.head client) head
+pub opens_later : (st : Store) (client : ℕ) (head : Head) (records : List AtomicRec) → Opens st client head records → IsLater (st.tally.head client) head
 opens_later st client head records o = inr (sym o.epoch, inl o.later)
 
 phase_rises : (before after : Phase) → is_open before ≡ true → after ≡ Settled → PhaseRises before after
@@ -76,7 +76,7 @@ phase_rises Settled after is e = absurd (never is)
     never : false ≡ true → ⊥
     never e = cc
 
-settles_later : (before head : Head) → SettlesBehind before head → head.phase ≡ Settled → IsLater before head
+pub settles_later : (before head : Head) → SettlesBehind before head → head.phase ≡ Settled → IsLater before head
 settles_later before head (inl p) settled = inr (sym p.0, inr (sym p.1, phase_rises before.phase head.phase p.2 settled))
 settles_later before head (inr e) settled = inl (omega (arith, e))
 

@@ -13,26 +13,30 @@ use Rattle.split_plan.specs.Sizes.{CanCut}
 use Rattle.split_plan.proofs.Cutting.{can-behind}
 use Rattle.store_book.specs.Book.{Link}
 use Rattle.store_book.specs.Telling.{page_from}
-use Rattle.telling_facts.specs.Pieces.{first_part, right_of, links_from}
+use Rattle.chain_facts.specs.Cuts.{links_on}
+use Rattle.telling_facts.specs.Pieces.{first_part, right_of}
 use Rattle.telling_facts.proofs.Fences.{cut_links}
 use Rattle.telling_facts.proofs.Walks.{IsBefore, stops_here}
 
 -- ---- records that are cut
 
 -- a record stands before those behind it
-first_above : (e : Entry) (n : ℕ) (es : List Entry) → Ascend entry_below (Some e) es → n < length es → bytes_below e.key (first_key_of record_key (drop n es)) ≡ true
+first_above : (e : Entry) (n : ℕ) (es : List Entry) → Ascend entry_below (Some e) es → n < length es
+    → bytes_below e.key (first_key_of record_key (drop n es)) ≡ true
 first_above e n [] up less = absurd (omega arith)
 first_above e zero (f ∷ es) up less = up.0
 first_above e (suc n) (f ∷ es) up less = below_chain e.key f.key (first_key_of record_key (drop n es)) up.0 (first_above f n es up.1 (omega arith))
 
 -- the front of records in order, where the key is from the first record behind it on
-absent_front : (key : List ℕ) (before : Option Entry) (n : ℕ) (es : List Entry) → Ascend entry_below before es → n < length es → bytes_below key (first_key_of record_key (drop n es)) ≡ false
+absent_front : (key : List ℕ) (before : Option Entry) (n : ℕ) (es : List Entry) → Ascend entry_below before es → n < length es
+    → bytes_below key (first_key_of record_key (drop n es)) ≡ false
     → payload_of key es ≡ payload_of key (drop n es)
 absent_front key before zero es up less from = refl
 absent_front key before (suc n) [] up less from = refl
 absent_front key before (suc n) (e ∷ es) up less from = on (absent_front key (Some e) n es up.1 (omega arith) from) (bytes_same e.key key) refl
   where
-    on : payload_of key es ≡ payload_of key (drop n es) → (b : Bool) → bytes_same e.key key ≡ b → cond b (Some e.payload) (payload_of key es) ≡ payload_of key (drop n es)
+    on : payload_of key es ≡ payload_of key (drop n es) → (b : Bool) → bytes_same e.key key ≡ b
+        → cond b (Some e.payload) (payload_of key es) ≡ payload_of key (drop n es)
     on again false h = again
     on again true h =
         let under : bytes_below key (first_key_of record_key (drop n es)) ≡ true =
@@ -41,7 +45,8 @@ absent_front key before (suc n) (e ∷ es) up less from = on (absent_front key (
         absurd cc
 
 -- the records behind the front, where the key is below the first of them
-absent_back : (key : List ℕ) (before : Option Entry) (n : ℕ) (es : List Entry) → Ascend entry_below before es → n < length es → bytes_below key (first_key_of record_key (drop n es)) ≡ true
+absent_back : (key : List ℕ) (before : Option Entry) (n : ℕ) (es : List Entry) → Ascend entry_below before es → n < length es
+    → bytes_below key (first_key_of record_key (drop n es)) ≡ true
     → payload_of key es ≡ payload_of key (take n es)
 absent_back key before zero [] up less below = refl
 absent_back key before zero (e ∷ es) up less below = payload_of-before key before (e ∷ es) up below
@@ -75,25 +80,29 @@ pub record Finds (l : Leaf) (p : LeafPart) (key : List ℕ) : Type 0 where
   pub done : l.done ≡ p.common
   pub payload : payload_of key l.records ≡ payload_of key p.items
 
-pub cut_finds : (leaves : ℕ → Leaf) (none : LeafPart) (sizes : List ℕ) (last free page : ℕ) (p : LeafPart) → CanCut sizes last (length p.items) → Ascend entry_below None p.items
+pub cut_finds : (leaves : ℕ → Leaf) (none : LeafPart) (sizes : List ℕ) (last free page : ℕ) (p : LeafPart) → CanCut sizes last (length p.items)
+    → Ascend entry_below None p.items
     → leaves page ≡ leaf_of_part (first_part none (cut_by record_key sizes free p)) → AreAt leaves free (right_of (cut_by record_key sizes free p))
     → (key : List ℕ) (rest : List Link) → IsBefore key rest
-    → Finds (leaves (page_from page key (links_from free (right_of (cut_by record_key sizes free p)) ++ rest))) p key
+    → Finds (leaves (page_from page key (links_on free (right_of (cut_by record_key sizes free p)) ++ rest))) p key
 cut_finds leaves none [] last free page p can up left right key rest before =
     subst (λ (q : ℕ). Finds (leaves q) p key) (sym (stops_here key page rest before))
     (subst (λ (l : Leaf). Finds l p key) (sym left) (record { done = refl; payload = refl }))
 cut_finds leaves none (n ∷ sizes) last free page p can up left right key rest before =
-    subst (λ (ls : List Link). Finds (leaves (page_from page key (ls ++ rest))) p key) (sym (cut_links record_key sizes free (free + 1) (back_part record_key n p)))
-    (on (cut_finds leaves none sizes last (free + 1) free (back_part record_key n p) (can-behind n sizes last p.items can) (ascend_drop None n p.items up) at.0 at.1 key rest before)
+    subst (λ (ls : List Link). Finds (leaves (page_from page key (ls ++ rest))) p key)
+    (sym (cut_links record_key sizes free (free + 1) (back_part record_key n p)))
+    (on (cut_finds leaves none sizes last (free + 1) free (back_part record_key n p) (can-behind n sizes last p.items can)
+    (ascend_drop None n p.items up) at.0 at.1 key rest before)
     (bytes_below key (first_key_of record_key (drop n p.items))) refl)
   where
     behind : List Link
-    behind = links_from (free + 1) (right_of (cut_by record_key sizes (free + 1) (back_part record_key n p))) ++ rest
+    behind = links_on (free + 1) (right_of (cut_by record_key sizes (free + 1) (back_part record_key n p))) ++ rest
 
     less : n < length p.items
     less = can.1
 
-    at : (leaves free ≡ leaf_of_part (first_part none (cut_by record_key sizes (free + 1) (back_part record_key n p)))) × AreAt leaves (free + 1) (right_of (cut_by record_key sizes (free + 1) (back_part record_key n p)))
+    at : (leaves free ≡ leaf_of_part (first_part none (cut_by record_key sizes (free + 1) (back_part record_key n p)))) × AreAt leaves (free + 1)
+        (right_of (cut_by record_key sizes (free + 1) (back_part record_key n p)))
     at = cut_at leaves none sizes free (free + 1) (back_part record_key n p) right
 
     on : Finds (leaves (page_from free key behind)) (back_part record_key n p) key → (b : Bool) → bytes_below key (first_key_of record_key (drop n p.items)) ≡ b

@@ -37,19 +37,24 @@ alike t u a = λ i. record {
 
 -- ---- heads
 
-head_cursors : (who : Caller) (client : ℕ) (bytes : List ℕ) (s : CloudState) (tree page c : ℕ) → cursor_of (landed who (object.Head client) bytes s) tree page c ≡ cursor_of s tree page c
+head_cursors : (who : Caller) (client : ℕ) (bytes : List ℕ) (s : CloudState) (tree page c : ℕ)
+    → cursor_of (landed who (object.Head client) bytes s) tree page c ≡ cursor_of s tree page c
 head_cursors who client bytes s tree zero c = refl
 head_cursors who client bytes s tree (suc page) c = refl
 
 -- a head lands
-pub head_told : (who : Caller) (client : ℕ) (bytes : List ℕ) (h : Head) (more : List AtomicRec) (book : Book) (order : List Entry) (s : CloudState) → head_of bytes ≡ Some h
+pub head_told : (who : Caller) (client : ℕ) (bytes : List ℕ) (h : Head) (more : List AtomicRec) (book : Book) (order : List Entry) (s : CloudState)
+    → head_of bytes ≡ Some h
     → Tells (landed who (object.Head client) bytes s) (after_head client h more (store_of book order s))
 head_told who client bytes h more book order s is = alike _ _ (record {
   head = λ c.
-      ap (λ (vs : List Version). last_or empty_head (map head_in vs)) (put_head s.versions client (s.versions (object.Head client) ++ record { who = who; bytes = bytes } ∷ []) c)
-      ∙ at_image (λ (vs : List Version). last_or empty_head (map head_in vs)) client (s.versions (object.Head client) ++ record { who = who; bytes = bytes } ∷ []) h
+      ap (λ (vs : List Version). last_or empty_head (map head_in vs))
+      (put_head s.versions client (s.versions (object.Head client) ++ record { who = who; bytes = bytes } ∷ []) c)
+      ∙ at_image (λ (vs : List Version). last_or empty_head (map head_in vs)) client
+      (s.versions (object.Head client) ++ record { who = who; bytes = bytes } ∷ []) h
       (λ n. s.versions (object.Head n)) c
-      (last_image head_in empty_head (s.versions (object.Head client)) (record { who = who; bytes = bytes }) h (head_reads (record { who = who; bytes = bytes }) h is));
+      (last_image head_in empty_head (s.versions (object.Head client)) (record { who = who; bytes = bytes }) h
+      (head_reads (record { who = who; bytes = bytes }) h is));
   logged = λ c. refl;
   posts = λ tree page. refl;
   cursor = head_cursors who client bytes s;
@@ -107,15 +112,18 @@ posts_changed tree page ms trace book order s = alike _ _ (record {
 pub logged_told : (who : Caller) (client : ℕ) (bytes : List ℕ) (book : Book) (order : List Entry) (s : CloudState)
     → Tells (sent who (Atomic client) bytes s) (after_logged client (record { who = who; bytes = bytes; deleted = false }) (store_of book order s))
 logged_told who client bytes book order s =
-    logged_changed client (s.messages (Atomic client) ++ record { who = who; bytes = bytes; deleted = false } ∷ []) (sent who (Atomic client) bytes s).trace book order s
+    logged_changed client (s.messages (Atomic client) ++ record { who = who; bytes = bytes; deleted = false } ∷ [])
+    (sent who (Atomic client) bytes s).trace book order s
 
 pub posted_told : (who : Caller) (tree page : ℕ) (bytes : List ℕ) (book : Book) (order : List Entry) (s : CloudState)
     → Tells (sent who (queue_of tree page) bytes s) (after_posted tree page (record { who = who; bytes = bytes; deleted = false }) (store_of book order s))
 posted_told who tree page bytes book order s =
-    posts_changed tree page (s.messages (queue_of tree page) ++ record { who = who; bytes = bytes; deleted = false } ∷ []) (sent who (queue_of tree page) bytes s).trace book order s
+    posts_changed tree page (s.messages (queue_of tree page) ++ record { who = who; bytes = bytes; deleted = false } ∷ [])
+    (sent who (queue_of tree page) bytes s).trace book order s
 
 -- a message is marked as deleted
-pub log_mark_told : (client id : ℕ) (book : Book) (order : List Entry) (s : CloudState) → Tells (deleted (Atomic client) id s) (after_log_mark client id (store_of book order s))
+pub log_mark_told : (client id : ℕ) (book : Book) (order : List Entry) (s : CloudState)
+    → Tells (deleted (Atomic client) id s) (after_log_mark client id (store_of book order s))
 log_mark_told client id book order s = logged_changed client (marked (s.messages (Atomic client)) id) s.trace book order s
 
 pub post_mark_told : (tree page id : ℕ) (book : Book) (order : List Entry) (s : CloudState)

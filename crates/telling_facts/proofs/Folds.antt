@@ -25,15 +25,18 @@ fold_acts tree r (x ∷ xs) key =
 pub fold_elsewhere : (tree other : ℕ) (r : Records) (xs : List PuItem) → tree ≢ other → fold_onto r (map (taken_entry tree) xs) other ≡ r
 fold_elsewhere tree other r [] ne = refl
 fold_elsewhere tree other r (x ∷ xs) ne =
-    ap (λ (b : Bool). fold_onto (cond b (changed_by r x.rec.change) r) (map (taken_entry tree) xs) other) (ne_eqb tree other ne) ∙ fold_elsewhere tree other r xs ne
+    ap (λ (b : Bool). fold_onto (cond b (changed_by r x.rec.change) r) (map (taken_entry tree) xs) other) (ne_eqb tree other ne)
+    ∙ fold_elsewhere tree other r xs ne
 
 -- items of other keys do nothing at a key
-pub acts_beside : (key : List ℕ) (payload : Option (List ℕ)) (xs : List PuItem) → AllByRecursion (λ x. bytes_same key (key_of x.rec.change) ≡ false) xs → acted_by key payload xs ≡ payload
+pub acts_beside : (key : List ℕ) (payload : Option (List ℕ)) (xs : List PuItem) → AllByRecursion (λ x. bytes_same key (key_of x.rec.change) ≡ false) xs
+    → acted_by key payload xs ≡ payload
 acts_beside key payload [] all = refl
 acts_beside key payload (x ∷ xs) all = ap (λ p. acted_by key p xs) (rw all.0 refl) ∙ acts_beside key payload xs all.1
 
 -- the items that a leaf lacks are of keys that it holds
-pub lacked_beside : (l : Leaf) (queue : ℕ) (xs : List PuItem) (key : List ℕ) → holds l key ≡ false → AllByRecursion (λ x. bytes_same key (key_of x.rec.change) ≡ false) (lacked l queue xs)
+pub lacked_beside : (l : Leaf) (queue : ℕ) (xs : List PuItem) (key : List ℕ) → holds l key ≡ false
+    → AllByRecursion (λ x. bytes_same key (key_of x.rec.change) ≡ false) (lacked l queue xs)
 lacked_beside l queue [] key out = tt
 lacked_beside l queue (x ∷ xs) key out = on (is_lacked l queue x) refl (lacked_beside l queue xs key out)
   where

@@ -32,11 +32,13 @@ use Rattle.decoding_facts.specs.Decodes.{Decodes, IsNext}
 use Rattle.decoding_facts.specs.Kinds.{IsNode}
 use Rattle.decoding_facts.proofs.Newest.{IsLast, last_cases}
 use Rattle.decoding_facts.proofs.Values.{leaf_next}
-use Rattle.telling_facts.specs.Pieces.{first_part, right_of, HaveLanded, leafy, leaf_parts, left_leaf, leaf_links}
+use Rattle.chain_facts.specs.Cuts.{HaveLanded, leaf_node}
+use Rattle.telling_facts.specs.Pieces.{first_part, right_of, leaf_parts, left_leaf, leaf_links}
 use Rattle.telling_facts.specs.Taking.{AreClients, IsLinked, LandsTaken, taking_of}
 use Rattle.telling_facts.specs.Told.{store_of, Tells, own_of}
 use Rattle.telling_facts.proofs.Fences.{Rises, all_parts}
-use Rattle.telling_facts.proofs.Leaves.{leaf_tells, table_is, ranges_are, lands_leaf}
+use Rattle.telling_facts.proofs.Finding.{ranges_are}
+use Rattle.telling_facts.proofs.Leaves.{leaf_tells, table_is, lands_leaf}
 use Rattle.telling_facts.proofs.Leaves as leaves
 use Rattle.telling_facts.proofs.Nodes.{IsNoLeaf, page_told, inner_told, raise_told}
 use Rattle.telling_facts.proofs.Ranges.{last_is, newest_version}
@@ -45,7 +47,8 @@ use Rattle.telling_facts.proofs.Sound.{newest_sound, leaf_rises, pieces_rise}
 -- ---- how a leaf lands
 
 -- the whole leaf lands
-pub whole_taken : (chain : ℕ → List Link) (nodes : ℕ → List Node) (page : ℕ) (l : Leaf) (queue : ℕ) (run : List PuItem) (free : ℕ) → AreClients run → IsLinked (chain 0) page
+pub whole_taken : (chain : ℕ → List Link) (nodes : ℕ → List Node) (page : ℕ) (l : Leaf) (queue : ℕ) (run : List PuItem) (free : ℕ) → AreClients run
+    → IsLinked (chain 0) page
     → LandsTaken chain nodes page l queue run [] free
 whole_taken chain nodes page l queue run free clients linked = record {
   clients = clients;
@@ -57,8 +60,9 @@ whole_taken chain nodes page l queue run free clients linked = record {
 }
 
 -- the first of the pieces of a leaf lands
-pub cut_taken : (chain : ℕ → List Link) (nodes : ℕ → List Node) (page : ℕ) (l : Leaf) (queue : ℕ) (run : List PuItem) (free : ℕ) → AreClients run → IsLinked (chain 0) page
-    → HaveLanded leafy nodes free (right_of (leaf_pieces free (applied l queue run)))
+pub cut_taken : (chain : ℕ → List Link) (nodes : ℕ → List Node) (page : ℕ) (l : Leaf) (queue : ℕ) (run : List PuItem) (free : ℕ) → AreClients run
+    → IsLinked (chain 0) page
+    → HaveLanded leaf_node nodes free (right_of (leaf_pieces free (applied l queue run)))
     → ((piece : Link) → IsIn (leaf_links (cuts_of (length (applied l queue run).records)) free (applied l queue run)) piece → IsUnlinked chain piece.page)
     → LandsTaken chain nodes page l queue run (cuts_of (length (applied l queue run).records)) free
 cut_taken chain nodes page l queue run free clients linked landed unlinked = record {
@@ -98,32 +102,42 @@ module _ (book : Book) (order : List Entry) (s : CloudState) (tree : ℕ) (of_tr
         (pieces_rise s tree free (right_of (leaf_parts sizes free (applied old queue run))) d takes.landed)
 
     pub taken_tells : Tells (put who (object.Page tree page) bytes s) (after_leaf (taking_of tree page old queue run sizes free) (store_of book order s))
-    taken_tells = leaf_tells who book order s tree page queue run sizes free bytes (newest_root (roots_of s) tree).level chained.levels chained.versions chained.newest some (newest_sound s tree page d) takes rise is
+    taken_tells =
+        leaf_tells who book order s tree page queue run sizes free bytes
+        (newest_root (roots_of s) tree).level chained.levels chained.versions chained.newest some (newest_sound s tree page d) takes rise is
 
     pub taken_lands : LandsLeaf (store_of book order s) (taking_of tree page old queue run sizes free)
-    taken_lands = lands_leaf who book order s tree page queue run sizes free bytes (newest_root (roots_of s) tree).level chained.levels chained.versions chained.newest some (newest_sound s tree page d) takes rise is
+    taken_lands =
+        lands_leaf who book order s tree page queue run sizes free bytes
+        (newest_root (roots_of s) tree).level chained.levels chained.versions chained.newest some (newest_sound s tree page d) takes rise is
 
     pub taken_ranges : Ranges book tree page (holds old)
-    taken_ranges = ranges_are who book order s tree page queue run sizes free bytes (newest_root (roots_of s) tree).level chained.levels chained.versions chained.newest some (newest_sound s tree page d) takes rise is
+    taken_ranges = ranges_are book s tree page (newest_root (roots_of s) tree).level chained.levels chained.versions chained.newest takes.linked
 
     pub taken_table : (key : List ℕ) → holds old key ≡ true → (q c : ℕ)
-        → done_number (left_leaf sizes free (applied old queue run)).done q c ≡ done_after (taking_of tree page old queue run sizes free) (tally_of book s).done tree key q c
-    taken_table = table_is who book order s tree page queue run sizes free bytes (newest_root (roots_of s) tree).level chained.levels chained.versions chained.newest some (newest_sound s tree page d) takes rise is
+        → done_number (left_leaf sizes free (applied old queue run)).done q c
+        ≡ done_after (taking_of tree page old queue run sizes free) (tally_of book s).done tree key q c
+    taken_table =
+        table_is who book order s tree page queue run sizes free bytes
+        (newest_root (roots_of s) tree).level chained.levels chained.versions chained.newest some (newest_sound s tree page d) takes rise is
 
     pub taken_next : IsNext s (object.Page tree page) bytes
     taken_next = leaf_next s tree page bytes (left_leaf sizes free (applied old queue run)) d is
-        (leaves.left_version who book order s tree page queue run sizes free bytes (newest_root (roots_of s) tree).level chained.levels chained.versions chained.newest some (newest_sound s tree page d) takes rise is
+        (leaves.left_version who book order s tree page queue run sizes free bytes (newest_root (roots_of s) tree).level
+        chained.levels chained.versions chained.newest some (newest_sound s tree page d) takes rise is
         ∙ ap (λ (n : ℕ). n + 1) (sym version))
       where
         version : version_of (newest_node (nodes_of s tree) page) ≡ old.version
         version =
             subst (λ (p : ℕ). version_of (newest_node (nodes_of s tree) p) ≡ (newest_leaf (nodes_of s) tree p).version) takes.linked.page_is
-            (newest_version (book.chain tree) (nodes_of s tree) (newest_root (roots_of s) tree).level chained.levels chained.versions chained.newest takes.linked.place takes.linked.link takes.linked.linked)
+            (newest_version (book.chain tree) (nodes_of s tree) (newest_root (roots_of s) tree).level
+            chained.levels chained.versions chained.newest takes.linked.place takes.linked.link takes.linked.linked)
 
   -- ---- inner nodes
 
   -- a page of a level above the leaves has no leaf
-  no_leaf : (level : ℕ) (link : Link) → IsIn (book.chain tree level) link → level ≢ 0 → (nodes_of s tree link.page ≡ []) ⊎ ((x : Node) × IsLast (nodes_of s tree link.page) x)
+  no_leaf : (level : ℕ) (link : Link) → IsIn (book.chain tree level) link → level ≢ 0
+      → (nodes_of s tree link.page ≡ []) ⊎ ((x : Node) × IsLast (nodes_of s tree link.page) x)
       → newest_leaf (nodes_of s) tree link.page ≡ empty_leaf
   no_leaf level link there above (inl e) = ap (λ (ns : List Node). leaf_in (last_or (Leafy empty_leaf) ns)) e
   no_leaf level link there above (inr p) =
@@ -134,11 +148,13 @@ module _ (book : Book) (order : List Entry) (s : CloudState) (tree : ℕ) (of_tr
       branch (Leafy l) is = absurd (above is)
       branch (Branch n) is = refl
 
-  pub inner_tells : (who : Caller) (page : ℕ) (bytes : List ℕ) (inner : Inner) (pieces : List Link) → IsInner bytes inner → LandsInner (store_of book order s) tree page inner pieces
+  pub inner_tells : (who : Caller) (page : ℕ) (bytes : List ℕ) (inner : Inner) (pieces : List Link) → IsInner bytes inner
+      → LandsInner (store_of book order s) tree page inner pieces
       → Tells (put who (object.Page tree page) bytes s) (after_inner tree page inner pieces (store_of book order s))
   inner_tells who page bytes inner pieces is lands =
       inner_told who tree page bytes inner pieces book order s is (page_some inner.level page lands.link linked lands.page_is) first above others
-      (subst (λ (p : ℕ). newest_leaf (nodes_of s) tree p ≡ empty_leaf) lands.page_is (no_leaf inner.level lands.link linked above (last_cases (nodes_of s tree lands.link.page))))
+      (subst (λ (p : ℕ). newest_leaf (nodes_of s) tree p ≡ empty_leaf) lands.page_is
+      (no_leaf inner.level lands.link linked above (last_cases (nodes_of s tree lands.link.page))))
     where
       linked : IsIn (book.chain tree inner.level) lands.link
       linked = (lands.place, lands.linked)
@@ -154,11 +170,13 @@ module _ (book : Book) (order : List Entry) (s : CloudState) (tree : ℕ) (of_tr
 
   -- ---- other pages, and roots
 
-  pub page_tells : (who : Caller) (page : ℕ) (bytes : List ℕ) (node : Node) → IsNode bytes node → LandsFirst (store_of book order s) tree page (own_of page node)
+  pub page_tells : (who : Caller) (page : ℕ) (bytes : List ℕ) (node : Node) → IsNode bytes node
+      → LandsFirst (store_of book order s) tree page (own_of page node)
       → Tells (put who (object.Page tree page) bytes s) (after_page tree page node (own_of page node) (store_of book order s))
   page_tells who page bytes node is first = page_told who tree page bytes node book order s is first.page_is (λ link k. first.unlinked 0 link k)
 
-  pub raise_tells : (who : Caller) (bytes : List ℕ) (root : Tree) (level : ℕ) (links : List Link) → IsRoot bytes root → Raises (store_of book order s) tree root level links
+  pub raise_tells : (who : Caller) (bytes : List ℕ) (root : Tree) (level : ℕ) (links : List Link) → IsRoot bytes root
+      → Raises (store_of book order s) tree root level links
       → Tells (put who (object.Tree tree) bytes s) (after_raise tree root level links (store_of book order s))
   raise_tells who bytes root level links is raises = raise_told who tree bytes root level links book order s is above
     where

@@ -1,5 +1,5 @@
 -- A leaf lands with a run applied, whole or cut.
-use Rattle.std.proofs.Common.{◌≡◌, ◌≢◌, ◌+◌, ◌==◌, ◌&&◌, ℕ, zero, suc, Bool, true, false, cond, max, List, [], ◌∷◌, ◌++◌, map, Option, None, refl, sym, ap, subst, ◌∙◌, ◌⊎◌, inl, inr, Some}
+use Rattle.std.proofs.Common.{◌≡◌, ◌≢◌, ◌+◌, ◌==◌, ◌&&◌, ℕ, zero, suc, Bool, true, false, cond, max, List, [], ◌∷◌, ◌++◌, map, None, refl, sym, ap, subst, ◌∙◌, ◌⊎◌, inl, inr}
 use Rattle.std.specs.Prelude.{slice_get, filter, nat_lt}
 use Rattle.std.specs.List.{AllByRecursion}
 use Rattle.std.proofs.lemmas.Bool.{eqb-true, eqb-false, eq-eqb}
@@ -24,27 +24,27 @@ use Rattle.report_types.specs.declared.entry.Entry.{Entry as Change}
 use Rattle.split_plan.specs.Part.{LeafPart, leaf_of_part, part_of_leaf, record_key}
 use Rattle.store_book.specs.Book.{Book, Link, with_pieces}
 use Rattle.store_book.specs.Effects.{done_after, Taking, after_leaf, lacking, is_lacking, taken_entry}
-use Rattle.store_book.specs.Premises.{Ranges}
-use Rattle.store_book.specs.Records.{StandsAt, IsIn}
+use Rattle.store_book.specs.Records.{IsIn}
 use Rattle.store_book.specs.Tally.{Node, Leafy, at2}
 use Rattle.store_book.specs.Telling.{tally_of, last_or, leaf_in, newest_leaf, page_from, page_for, leaf_for, nodes_of, cursor_of}
 use Rattle.chain_facts.specs.Chain.{AreLevels, AreVersions, AreNewest}
 use Rattle.chain_facts.specs.Landing.{LandsOn, LandsLeaf}
 use Rattle.chain_facts.specs.Links.{low_after}
-use Rattle.chain_facts.proofs.Joining.{level_apart}
 use Rattle.chain_facts.proofs.Pieces.{in_first, in_rest, in_cases, none_in}
-use Rattle.telling_facts.specs.Pieces.{right_of, links_from, HaveLanded, leafy, leaf_parts, left_leaf, leaf_links}
+use Rattle.chain_facts.specs.Cuts.{links_on, HaveLanded, leaf_node}
+use Rattle.telling_facts.specs.Pieces.{right_of, leaf_parts, left_leaf, leaf_links}
 use Rattle.telling_facts.specs.Taking.{taking_of, LandsTaken}
 use Rattle.telling_facts.specs.Told.{store_of, Tells, own_of}
 use Rattle.telling_facts.proofs.Cuts.{AreAt, Finds, cut_finds}
 use Rattle.telling_facts.proofs.Easy.{alike}
 use Rattle.telling_facts.proofs.Fences.{Rises, lows_under, cut_common, cut_version, cut_lands, all_common}
+use Rattle.telling_facts.proofs.Finding as finding
 use Rattle.telling_facts.proofs.Folds.{fold_acts, fold_elsewhere, acts_beside, lacked_beside}
 use Rattle.telling_facts.proofs.Names.{at2_same, at2_other}
 use Rattle.telling_facts.proofs.Nodes.{page_nodes, newest_here, newest_there, page_cursors}
-use Rattle.telling_facts.proofs.Ranges.{IsBetween, newest_between, low_of_first, IsBeyond, held, unheld, goes_here, GoesPast, goes_past}
+use Rattle.telling_facts.proofs.Ranges.{IsBetween, low_of_first, held, unheld, goes_here, GoesPast, goes_past}
 use Rattle.telling_facts.proofs.Tables.{AreOfClients, raises_all}
-use Rattle.telling_facts.proofs.Walks.{Split, split_at, IsBefore, stops_here, with_pieces-split}
+use Rattle.telling_facts.proofs.Walks.{Split, with_pieces-split}
 
 -- what has a spelling as a leaf: records in order, and a table of clients
 pub record IsSound (l : Leaf) : Type 0 where
@@ -59,9 +59,11 @@ edited_by_ascends es (x ∷ xs) up = edited_by_ascends (edited es x.rec.change) 
 left_done : (sizes : List ℕ) (free : ℕ) (l : Leaf) → (left_leaf sizes free l).done ≡ l.done
 left_done sizes free l = cut_common record_key (part_of_leaf l) sizes free (part_of_leaf l)
 
-module _ (who : Caller) (book : Book) (order : List Change) (s : CloudState) (tree page : ℕ) (queue : ℕ) (run : List PuItem) (sizes : List ℕ) (free : ℕ) (bytes : List ℕ) (height : ℕ)
+module _ (who : Caller) (book : Book) (order : List Change) (s : CloudState) (tree page : ℕ) (queue : ℕ) (run : List PuItem) (sizes : List ℕ) (free : ℕ)
+    (bytes : List ℕ) (height : ℕ)
     (lv : AreLevels (book.chain tree) height) (vs : AreVersions (book.chain tree) (nodes_of s tree)) (nw : AreNewest (book.chain tree) (nodes_of s tree))
-    (some : page ≢ 0) (sound : IsSound (newest_leaf (nodes_of s) tree page)) (takes : LandsTaken (book.chain tree) (nodes_of s tree) page (newest_leaf (nodes_of s) tree page) queue run sizes free)
+    (some : page ≢ 0) (sound : IsSound (newest_leaf (nodes_of s) tree page))
+    (takes : LandsTaken (book.chain tree) (nodes_of s tree) page (newest_leaf (nodes_of s) tree page) queue run sizes free)
     (rise : AllByRecursion Rises (leaf_parts sizes free (applied (newest_leaf (nodes_of s) tree page) queue run)))
     (is : IsLeaf bytes (left_leaf sizes free (applied (newest_leaf (nodes_of s) tree page) queue run))) where
   -- the leaf before, the whole leaf with the run, the piece that lands, and the links of the others
@@ -86,18 +88,16 @@ module _ (who : Caller) (book : Book) (order : List Change) (s : CloudState) (tr
   abbrev later : ℕ → ℕ → List Node
   later = nodes_of (put who (object.Page tree page) bytes s)
 
-  split : Split links takes.linked.place takes.linked.link
-  split = split_at None links takes.linked.place takes.linked.link (lv.ascends 0) (level_apart (book.chain tree) height lv 0) takes.linked.linked
+  -- the links before that of the page, and those behind it
+  abbrev split : Split links takes.linked.place takes.linked.link
+  split = finding.split book s tree page height lv vs nw takes.linked
 
-  between : IsBetween old takes.linked.link.low (slice_get split.rest 0)
-  between =
-      subst (λ (o : Option Link). IsBetween old takes.linked.link.low o) split.next
-      (subst (λ (p : ℕ). IsBetween (newest_leaf (nodes_of s) tree p) takes.linked.link.low (slice_get links (takes.linked.place + 1))) takes.linked.page_is
-      (newest_between (book.chain tree) (nodes_of s tree) height lv vs nw takes.linked.place takes.linked.link takes.linked.linked))
+  abbrev between : IsBetween old takes.linked.link.low (slice_get split.rest 0)
+  between = finding.between book s tree page height lv vs nw takes.linked
 
   -- where a key goes, before and after
   goes_before : (key : List ℕ) → page_for book tree key ≡ page_from 1 key (split.front ++ takes.linked.link ∷ split.rest)
-  goes_before key = ap (page_from 1 key) split.is
+  goes_before = finding.goes_before book s tree page height lv vs nw takes.linked
 
   goes_after : (key : List ℕ) → page_for after tree key ≡ page_from 1 key (split.front ++ takes.linked.link ∷ (pieces ++ split.rest))
   goes_after key =
@@ -108,17 +108,15 @@ module _ (who : Caller) (book : Book) (order : List Change) (s : CloudState) (tr
   -- ---- keys of the leaf
 
   found_before : (key : List ℕ) → holds old key ≡ true → leaf_for book (nodes_of s) tree key ≡ old
-  found_before key h =
-      let p = held old takes.linked.link split.rest key between h in
-      ap (newest_leaf (nodes_of s) tree)
-      (goes_before key ∙ goes_here key split.front takes.linked.link split.rest split.below p.0 ∙ stops_here key takes.linked.link.page split.rest p.1 ∙ takes.linked.page_is)
+  found_before = finding.found_before book s tree page height lv vs nw takes.linked
 
-  pieces_at : (from : ℕ) (ps : List LeafPart) → HaveLanded leafy (nodes_of s tree) from ps → ((a : Link) → IsIn (links_from from ps) a → a.page ≢ page) → AreAt (newest_leaf later tree) from ps
+  pieces_at : (from : ℕ) (ps : List LeafPart) → HaveLanded leaf_node (nodes_of s tree) from ps → ((a : Link) → IsIn (links_on from ps) a → a.page ≢ page)
+      → AreAt (newest_leaf later tree) from ps
   pieces_at from [] landed apart = tt
   pieces_at from (p ∷ ps) landed apart = (
-    newest_there who tree page bytes (Leafy left) s is tree from (λ e. apart (record { low = p.low; page = from }) (in_first _ (links_from (from + 1) ps)) e.1)
+    newest_there who tree page bytes (Leafy left) s is tree from (λ e. apart (record { low = p.low; page = from }) (in_first _ (links_on (from + 1) ps)) e.1)
         ∙ ap (λ (ns : List Node). leaf_in (last_or (Leafy empty_leaf) ns)) landed.0,
-    pieces_at (from + 1) ps landed.1 (λ a k. apart a (in_rest (record { low = p.low; page = from }) (links_from (from + 1) ps) a k)),
+    pieces_at (from + 1) ps landed.1 (λ a k. apart a (in_rest (record { low = p.low; page = from }) (links_on (from + 1) ps) a k)),
   )
 
   pieces_apart : (a : Link) → IsIn pieces a → a.page ≢ page
@@ -128,10 +126,13 @@ module _ (who : Caller) (book : Book) (order : List Change) (s : CloudState) (tr
   found_after key h =
       let p = held old takes.linked.link split.rest key between h in
       let goes : page_for after tree key ≡ page_from page key (pieces ++ split.rest) =
-      goes_after key ∙ goes_here key split.front takes.linked.link (pieces ++ split.rest) split.below p.0 ∙ ap (λ (q : ℕ). page_from q key (pieces ++ split.rest)) takes.linked.page_is in
+      goes_after key ∙ goes_here key split.front takes.linked.link (pieces ++ split.rest) split.below p.0
+      ∙ ap (λ (q : ℕ). page_from q key (pieces ++ split.rest)) takes.linked.page_is in
       subst (λ (q : ℕ). Finds (newest_leaf later tree q) (part_of_leaf whole) key) (sym goes)
-      (cut_finds (newest_leaf later tree) (part_of_leaf whole) sizes takes.last free page (part_of_leaf whole) takes.can (edited_by_ascends old.records (lacked old queue run) sound.ascends)
-      (newest_here who tree page bytes (Leafy left) s is) (pieces_at free (right_of (leaf_parts sizes free whole)) takes.landed pieces_apart) key split.rest p.1)
+      (cut_finds (newest_leaf later tree) (part_of_leaf whole) sizes takes.last free page (part_of_leaf whole) takes.can
+      (edited_by_ascends old.records (lacked old queue run) sound.ascends)
+      (newest_here who tree page bytes (Leafy left) s is)
+      (pieces_at free (right_of (leaf_parts sizes free whole)) takes.landed pieces_apart) key split.rest p.1)
 
   -- ---- other keys
 
@@ -163,14 +164,17 @@ module _ (who : Caller) (book : Book) (order : List Change) (s : CloudState) (tr
   taking = taking_of tree page old queue run sizes free
 
   done_here : (key : List ℕ) (q c : ℕ) → holds old key ≡ true
-      → done_number (leaf_for after later tree key).done q c ≡ cond (q == queue) (max (done_number (leaf_for book (nodes_of s) tree key).done q c) (greatest_of run c)) (done_number (leaf_for book (nodes_of s) tree key).done q c)
+      → done_number (leaf_for after later tree key).done q c
+      ≡ cond (q == queue) (max (done_number (leaf_for book (nodes_of s) tree key).done q c) (greatest_of run c))
+      (done_number (leaf_for book (nodes_of s) tree key).done q c)
   done_here key q c h =
       ap (λ ds. done_number ds q c) (found_after key h).done
       ∙ raises_all old.done queue run sound.clients takes.clients q c
       ∙ ap (λ (l : Leaf). cond (q == queue) (max (done_number l.done q c) (greatest_of run c)) (done_number l.done q c)) (sym (found_before key h))
 
   done_told : (t : ℕ) (key : List ℕ) (q c : ℕ) → done_number (leaf_for after later t key).done q c
-      ≡ cond (((t == tree) && (q == queue)) && holds old key) (max (done_number (leaf_for book (nodes_of s) t key).done q c) (greatest_of run c)) (done_number (leaf_for book (nodes_of s) t key).done q c)
+      ≡ cond (((t == tree) && (q == queue)) && holds old key) (max (done_number (leaf_for book (nodes_of s) t key).done q c) (greatest_of run c))
+      (done_number (leaf_for book (nodes_of s) t key).done q c)
   done_told t key q c = on (t == tree) refl (holds old key) refl (q == queue) refl
     where
       Goal : ℕ → Bool → Type 0
@@ -195,15 +199,18 @@ module _ (who : Caller) (book : Book) (order : List Change) (s : CloudState) (tr
       same x = on (holds old (key_of x.rec.change)) refl
         where
           on : (h : Bool) → holds old (key_of x.rec.change) ≡ h
-              → (h && nat_lt (done_number (leaf_for book (nodes_of s) tree (key_of x.rec.change)).done queue x.rec.client) x.rec.number) ≡ (h && nat_lt (done_number old.done queue x.rec.client) x.rec.number)
+              → (h && nat_lt (done_number (leaf_for book (nodes_of s) tree (key_of x.rec.change)).done queue x.rec.client) x.rec.number)
+              ≡ (h && nat_lt (done_number old.done queue x.rec.client) x.rec.number)
           on true e = ap (λ (l : Leaf). nat_lt (done_number l.done queue x.rec.client) x.rec.number) (found_before (key_of x.rec.change) e)
           on false e = refl
 
   abbrev payloads : ℕ → Records
   payloads t key = payload_of key (leaf_for book (nodes_of s) t key).records
 
-  payload_told : (t : ℕ) (key : List ℕ) → payload_of key (leaf_for after later t key).records ≡ fold_onto (payloads t) (map (taken_entry tree) (lacking (tally_of book s) taking)) t key
-  payload_told t key = on (t == tree) refl (holds old key) refl ∙ ap (λ (xs : List PuItem). fold_onto (payloads t) (map (taken_entry tree) xs) t key) (sym lacks)
+  payload_told : (t : ℕ) (key : List ℕ)
+      → payload_of key (leaf_for after later t key).records ≡ fold_onto (payloads t) (map (taken_entry tree) (lacking (tally_of book s) taking)) t key
+  payload_told t key =
+      on (t == tree) refl (holds old key) refl ∙ ap (λ (xs : List PuItem). fold_onto (payloads t) (map (taken_entry tree) xs) t key) (sym lacks)
     where
       Goal : ℕ → Type 0
       Goal x = payload_of key (leaf_for after later x key).records ≡ fold_onto (payloads x) (map (taken_entry tree) (lacked old queue run)) x key
@@ -245,10 +252,13 @@ module _ (who : Caller) (book : Book) (order : List Change) (s : CloudState) (tr
       Goal x p b = own_of page (Leafy left) c ≡ cond b (max (cursor_of s x p c) (greatest_of run c)) (cursor_of s x p c)
 
       here : t ≡ tree → q ≡ page → (b : Bool) → (q == queue) ≡ b → Goal t q b
-      here e f b g = subst (λ (x : ℕ). Goal x q b) (sym e) (subst (λ (p : ℕ). Goal tree p b) (sym f) (subst (λ (v : Bool). Goal tree page v) (ap (λ (p : ℕ). p == queue) (sym f) ∙ g) (cursor_here c)))
+      here e f b g =
+          subst (λ (x : ℕ). Goal x q b) (sym e)
+          (subst (λ (p : ℕ). Goal tree p b) (sym f) (subst (λ (v : Bool). Goal tree page v) (ap (λ (p : ℕ). p == queue) (sym f) ∙ g) (cursor_here c)))
 
       on : (u : Bool) → (t == tree) ≡ u → (v : Bool) → (q == page) ≡ v → (w : Bool) → (q == queue) ≡ w
-          → cond (u && v) (own_of page (Leafy left)) (cursor_of s t q) c ≡ cond ((u && w) && v) (max (cursor_of s t q c) (greatest_of run c)) (cursor_of s t q c)
+          → cond (u && v) (own_of page (Leafy left)) (cursor_of s t q) c
+          ≡ cond ((u && w) && v) (max (cursor_of s t q c) (greatest_of run c)) (cursor_of s t q c)
       on true e true f true g = here (eqb-true t tree e) (eqb-true q page f) true g
       on true e true f false g = here (eqb-true t tree e) (eqb-true q page f) false g
       on true e false f true g = refl
@@ -275,7 +285,8 @@ module _ (who : Caller) (book : Book) (order : List Change) (s : CloudState) (tr
       ap (λ ds. done_number ds q c) (left_done sizes free whole)
       ∙ raises_all old.done queue run sound.clients takes.clients q c
       ∙ ap (λ (l : Leaf). cond (q == queue) (max (done_number l.done q c) (greatest_of run c)) (done_number l.done q c)) (sym (found_before key h))
-      ∙ ap (λ (b : Bool). cond b (max (done_number (leaf_for book (nodes_of s) tree key).done q c) (greatest_of run c)) (done_number (leaf_for book (nodes_of s) tree key).done q c)) (sym test)
+      ∙ ap (λ (b : Bool). cond b (max (done_number (leaf_for book (nodes_of s) tree key).done q c) (greatest_of run c))
+      (done_number (leaf_for book (nodes_of s) tree key).done q c)) (sym test)
     where
       on : (v : Bool) → ((true && v) && true) ≡ v
       on true = refl
@@ -284,52 +295,27 @@ module _ (who : Caller) (book : Book) (order : List Change) (s : CloudState) (tr
       test : (((tree == tree) && (q == queue)) && holds old key) ≡ (q == queue)
       test = (λ i. ((eq-eqb tree tree refl i) && (q == queue)) && h i) ∙ on (q == queue)
 
-  between_next : IsBetween old takes.linked.link.low (slice_get links (takes.linked.place + 1))
-  between_next = subst (λ (o : Option Link). IsBetween old takes.linked.link.low o) (sym split.next) between
-
-  -- the range is that of the page's link
-  pub ranges_are : Ranges book tree page (holds old)
-  ranges_are = record {
-    place = takes.linked.place;
-    link = takes.linked.link;
-    linked = takes.linked.linked;
-    page_is = takes.linked.page_is;
-    low = λ key h. (held old takes.linked.link split.rest key between h).0;
-    below = λ next key there h. next_below key next (held old takes.linked.link split.rest key between h).1 (sym split.next ∙ there);
-    whole = λ key h. out key (unheld old takes.linked.link split.rest key between h);
-  }
-    where
-      first_below : (key : List ℕ) (next : Link) (rest : List Link) → IsBefore key rest → slice_get rest 0 ≡ Some next → bytes_below key next.low ≡ true
-      first_below key next [] before e = absurd (cc)
-      first_below key next (x ∷ rest) before e = let same : x ≡ next = cc in ap (λ (a : Link). bytes_below key a.low) (sym same) ∙ before
-
-      next_below : (key : List ℕ) (next : Link) → IsBefore key split.rest → slice_get split.rest 0 ≡ Some next → bytes_below key next.low ≡ true
-      next_below key next before e = first_below key next split.rest before e
-
-      out : (key : List ℕ) → (bytes_below key takes.linked.link.low ≡ true) ⊎ ((bytes_below key takes.linked.link.low ≡ false) × IsBeyond key split.rest)
-          → (bytes_below key takes.linked.link.low ≡ true) ⊎ ((next : Link) × StandsAt links (takes.linked.place + 1) next × (bytes_below key next.low ≡ false))
-      out key (inl e) = inl e
-      out key (inr (e, b)) = inr (b.link, split.next ∙ ap (λ (ls : List Link). slice_get ls 0) b.is, b.from)
-
   -- the left piece lands on the page of its link, and the others behind it
   pub lands_on : LandsOn (book.chain tree) (nodes_of s tree) 0 page (Leafy left) pieces
   lands_on =
+      let next = finding.between_next book s tree page height lv vs nw takes.linked in
       subst (λ (p : ℕ). LandsOn (book.chain tree) (nodes_of s tree) 0 p (Leafy left) pieces) takes.linked.page_is
-      (cut_lands record_key leafy (record { low = λ p. refl; right = λ p. refl; high = λ p. refl }) (book.chain tree) (nodes_of s tree) 0 sizes free (part_of_leaf whole) (λ q e. refl)
-      takes.linked.place takes.linked.link takes.linked.linked between_next.low (record { right = between_next.right; high = between_next.high }) rise tt takes.landed takes.unlinked)
+      (cut_lands record_key leaf_node (record { low = λ p. refl; right = λ p. refl; high = λ p. refl })
+      (book.chain tree) (nodes_of s tree) 0 sizes free (part_of_leaf whole) (λ q e. refl)
+      takes.linked.place takes.linked.link takes.linked.linked next.low (record { right = next.right; high = next.high }) rise tt takes.landed takes.unlinked)
 
   -- the tables of the pieces are that of the whole
-  tables_are : (from : ℕ) (ps : List LeafPart) → HaveLanded leafy (nodes_of s tree) from ps → AllByRecursion (λ (p : LeafPart). p.common ≡ whole.done) ps
-      → (piece : Link) (l : Leaf) → IsIn (links_from from ps) piece → nodes_of s tree piece.page ≡ Leafy l ∷ [] → l.done ≡ whole.done
+  tables_are : (from : ℕ) (ps : List LeafPart) → HaveLanded leaf_node (nodes_of s tree) from ps → AllByRecursion (λ (p : LeafPart). p.common ≡ whole.done) ps
+      → (piece : Link) (l : Leaf) → IsIn (links_on from ps) piece → nodes_of s tree piece.page ≡ Leafy l ∷ [] → l.done ≡ whole.done
   tables_are from [] landed same piece l h k = absurd (none_in piece h)
   tables_are from (p ∷ ps) landed same piece l h k =
-      on (tables_are (from + 1) ps landed.1 same.1 piece l) (in_cases (record { low = p.low; page = from }) (links_from (from + 1) ps) piece h)
+      on (tables_are (from + 1) ps landed.1 same.1 piece l) (in_cases (record { low = p.low; page = from }) (links_on (from + 1) ps) piece h)
     where
-      on : (IsIn (links_from (from + 1) ps) piece → nodes_of s tree piece.page ≡ Leafy l ∷ [] → l.done ≡ whole.done)
-          → (record { low = p.low; page = from } ≡ piece) ⊎ IsIn (links_from (from + 1) ps) piece → l.done ≡ whole.done
+      on : (IsIn (links_on (from + 1) ps) piece → nodes_of s tree piece.page ≡ Leafy l ∷ [] → l.done ≡ whole.done)
+          → (record { low = p.low; page = from } ≡ piece) ⊎ IsIn (links_on (from + 1) ps) piece → l.done ≡ whole.done
       on again (inr j) = again j k
       on again (inl e) =
-          let both : leafy p ∷ [] ≡ Leafy l ∷ [] = sym landed.0 ∙ ap (λ (a : Link). nodes_of s tree a.page) e ∙ k in
+          let both : leaf_node p ∷ [] ≡ Leafy l ∷ [] = sym landed.0 ∙ ap (λ (a : Link). nodes_of s tree a.page) e ∙ k in
           let one : leaf_of_part p ≡ l = cc in
           ap (λ (m : Leaf). m.done) (sym one) ∙ same.0
 
@@ -338,7 +324,8 @@ module _ (who : Caller) (book : Book) (order : List Change) (s : CloudState) (tr
     lands = lands_on;
     table = λ piece l h k q c.
         ap (λ ds. done_number ds q c)
-        (tables_are free (right_of (leaf_parts sizes free whole)) takes.landed (all_common record_key sizes free (part_of_leaf whole)) piece l h k ∙ sym (left_done sizes free whole));
+        (tables_are free (right_of (leaf_parts sizes free whole)) takes.landed
+        (all_common record_key sizes free (part_of_leaf whole)) piece l h k ∙ sym (left_done sizes free whole));
   }
 
   -- its version is the next one

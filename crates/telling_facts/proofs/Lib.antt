@@ -8,6 +8,9 @@ pub mod Walks
 pub mod Fences
 pub mod Cuts
 pub mod Ranges
+pub mod Finding
 pub mod Leaves
 pub mod Sound
 pub mod Laws
+pub mod Asks
+pub mod Ready

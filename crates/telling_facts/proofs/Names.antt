@@ -27,7 +27,8 @@ apart {K} cmp equal k q ne = on (cmp k q) refl
     on Greater e = refl
 
 -- a change at a name of one number, and of two
-put_one : {K V : Type 0} (cmp : K → K → Ordering) → IsTotalOrder cmp → ((a b : K) → cmp a b ≡ Equal → a ≡ b) → (name : ℕ → K) → ((a m : ℕ) → name a ≡ name m → m ≡ a)
+put_one : {K V : Type 0} (cmp : K → K → Ordering) → IsTotalOrder cmp → ((a b : K) → cmp a b ≡ Equal → a ≡ b) → (name : ℕ → K)
+    → ((a m : ℕ) → name a ≡ name m → m ≡ a)
     → (f : K → V) (a : ℕ) (v : V) (m : ℕ) → put_at cmp f (name a) v (name m) ≡ at a v (λ n. f (name n)) m
 put_one {K} {V} cmp total equal name one f a v m = on (m == a) refl
   where
@@ -73,19 +74,23 @@ one_queue a zero m (suc n) e = absurd (cc)
 one_queue a (suc b) m zero e = absurd (cc)
 one_queue a (suc b) m (suc n) e = let x : m ≡ a = cc in let y : suc n ≡ suc b = cc in (x, y)
 
-pub put_head : {V : Type 0} (f : ObjName → V) (a : ℕ) (v : V) (m : ℕ) → put_at object_cmp f (object.Head a) v (object.Head m) ≡ at a v (λ n. f (object.Head n)) m
+pub put_head : {V : Type 0} (f : ObjName → V) (a : ℕ) (v : V) (m : ℕ)
+    → put_at object_cmp f (object.Head a) v (object.Head m) ≡ at a v (λ n. f (object.Head n)) m
 put_head f a v m = put_one object_cmp object_cmp-total object_cmp-equal object.Head one_head f a v m
 
-pub put_tree : {V : Type 0} (f : ObjName → V) (a : ℕ) (v : V) (m : ℕ) → put_at object_cmp f (object.Tree a) v (object.Tree m) ≡ at a v (λ n. f (object.Tree n)) m
+pub put_tree : {V : Type 0} (f : ObjName → V) (a : ℕ) (v : V) (m : ℕ)
+    → put_at object_cmp f (object.Tree a) v (object.Tree m) ≡ at a v (λ n. f (object.Tree n)) m
 put_tree f a v m = put_one object_cmp object_cmp-total object_cmp-equal object.Tree one_tree f a v m
 
-pub put_page : {V : Type 0} (f : ObjName → V) (a b : ℕ) (v : V) (m n : ℕ) → put_at object_cmp f (object.Page a b) v (object.Page m n) ≡ at2 a b v (λ x y. f (object.Page x y)) m n
+pub put_page : {V : Type 0} (f : ObjName → V) (a b : ℕ) (v : V) (m n : ℕ)
+    → put_at object_cmp f (object.Page a b) v (object.Page m n) ≡ at2 a b v (λ x y. f (object.Page x y)) m n
 put_page f a b v m n = put_two object_cmp object_cmp-total object_cmp-equal object.Page one_page f a b v m n
 
 pub put_atomic : {V : Type 0} (f : QueueName → V) (a : ℕ) (v : V) (m : ℕ) → put_at queue_cmp f (Atomic a) v (Atomic m) ≡ at a v (λ n. f (Atomic n)) m
 put_atomic f a v m = put_one queue_cmp queue_cmp-total queue_cmp-equal Atomic one_atomic f a v m
 
-pub put_queue : {V : Type 0} (f : QueueName → V) (a b : ℕ) (v : V) (m n : ℕ) → put_at queue_cmp f (queue_of a b) v (queue_of m n) ≡ at2 a b v (λ x y. f (queue_of x y)) m n
+pub put_queue : {V : Type 0} (f : QueueName → V) (a b : ℕ) (v : V) (m n : ℕ)
+    → put_at queue_cmp f (queue_of a b) v (queue_of m n) ≡ at2 a b v (λ x y. f (queue_of x y)) m n
 put_queue f a b v m n = put_two queue_cmp queue_cmp-total queue_cmp-equal queue_of one_queue f a b v m n
 
 -- ---- images
@@ -98,7 +103,8 @@ at_image {V} {W} g name v w f n e = on (n == name)
     on true = e
     on false = refl
 
-pub at2_image : {V W : Type 0} (g : V → W) (a b : ℕ) (v : V) (w : W) (f : ℕ → ℕ → V) (m n : ℕ) → g v ≡ w → g (at2 a b v f m n) ≡ at2 a b w (λ x y. g (f x y)) m n
+pub at2_image : {V W : Type 0} (g : V → W) (a b : ℕ) (v : V) (w : W) (f : ℕ → ℕ → V) (m n : ℕ) → g v ≡ w
+    → g (at2 a b v f m n) ≡ at2 a b w (λ x y. g (f x y)) m n
 at2_image {V} {W} g a b v w f m n e = on ((m == a) && (n == b))
   where
     on : (c : Bool) → g (cond c v (f m n)) ≡ cond c w (g (f m n))
@@ -115,7 +121,8 @@ last_image g none vs v w e = ap (last_or none) (map_added g vs v w e) ∙ last_a
 
 -- ---- what agrees with a function with another value
 
-pub at2_agree : {V W : Type 0} (g : V → W) (a b : ℕ) (v : V) (f : ℕ → ℕ → V) (m n : ℕ) (w : W) → (m ≡ a → n ≡ b → w ≡ g v) → (((m ≡ a) × (n ≡ b) → ⊥) → w ≡ g (f m n))
+pub at2_agree : {V W : Type 0} (g : V → W) (a b : ℕ) (v : V) (f : ℕ → ℕ → V) (m n : ℕ) (w : W) → (m ≡ a → n ≡ b → w ≡ g v)
+    → (((m ≡ a) × (n ≡ b) → ⊥) → w ≡ g (f m n))
     → w ≡ g (at2 a b v f m n)
 at2_agree {V} {W} g a b v f m n w here there = on ((m == a) && (n == b)) refl
   where

@@ -30,23 +30,29 @@ module _ (who : Caller) (tree page : ℕ) (bytes : List ℕ) (node : Node) (s : 
       ap (map node_in) (put_page s.versions tree page (s.versions (object.Page tree page) ++ record { who = who; bytes = bytes } ∷ []) t p)
       ∙ at2_image (map node_in) tree page (s.versions (object.Page tree page) ++ record { who = who; bytes = bytes } ∷ []) (nodes_of s tree page ++ node ∷ [])
       (λ x y. s.versions (object.Page x y)) t p
-      (map_added node_in (s.versions (object.Page tree page)) (record { who = who; bytes = bytes }) node (node_reads (record { who = who; bytes = bytes }) node is))
+      (map_added node_in (s.versions (object.Page tree page)) (record { who = who; bytes = bytes }) node
+      (node_reads (record { who = who; bytes = bytes }) node is))
 
   -- the newest leaf of the page is the node, and those of other pages are as before
-  pub newest_at : (t p : ℕ) → newest_leaf (nodes_of (landed who (object.Page tree page) bytes s)) t p ≡ at2 tree page (leaf_in node) (newest_leaf (nodes_of s)) t p
+  pub newest_at : (t p : ℕ)
+      → newest_leaf (nodes_of (landed who (object.Page tree page) bytes s)) t p ≡ at2 tree page (leaf_in node) (newest_leaf (nodes_of s)) t p
   newest_at t p =
       ap (λ (ns : List Node). leaf_in (last_or (Leafy empty_leaf) ns)) (page_nodes t p)
       ∙ at2_image (λ (ns : List Node). leaf_in (last_or (Leafy empty_leaf) ns)) tree page (nodes_of s tree page ++ node ∷ []) (leaf_in node) (nodes_of s) t p
       (ap leaf_in (last_added (Leafy empty_leaf) (nodes_of s tree page) node))
 
-  pub newest_there : (t p : ℕ) → ((t ≡ tree) × (p ≡ page) → ⊥) → newest_leaf (nodes_of (landed who (object.Page tree page) bytes s)) t p ≡ newest_leaf (nodes_of s) t p
-  newest_there t p ne = newest_at t p ∙ sym (at2_agree (λ x. x) tree page (leaf_in node) (newest_leaf (nodes_of s)) t p (newest_leaf (nodes_of s) t p) (λ x y. absurd (ne (x, y))) (λ no. refl))
+  pub newest_there : (t p : ℕ) → ((t ≡ tree) × (p ≡ page) → ⊥)
+      → newest_leaf (nodes_of (landed who (object.Page tree page) bytes s)) t p ≡ newest_leaf (nodes_of s) t p
+  newest_there t p ne =
+      newest_at t p
+      ∙ sym (at2_agree (λ x. x) tree page (leaf_in node) (newest_leaf (nodes_of s)) t p (newest_leaf (nodes_of s) t p) (λ x y. absurd (ne (x, y))) (λ no. refl))
 
   pub newest_here : newest_leaf (nodes_of (landed who (object.Page tree page) bytes s)) tree page ≡ leaf_in node
   newest_here = newest_at tree page ∙ at2_same tree page (leaf_in node) (newest_leaf (nodes_of s)) tree page refl refl
 
   -- the numbers of the page's own queue are the node's, and those of other queues are as before
-  pub page_cursors : page ≢ 0 → (t p c : ℕ) → cursor_of (landed who (object.Page tree page) bytes s) t p c ≡ at2 tree page (own_of page node) (cursor_of s) t p c
+  pub page_cursors : page ≢ 0 → (t p c : ℕ)
+      → cursor_of (landed who (object.Page tree page) bytes s) t p c ≡ at2 tree page (own_of page node) (cursor_of s) t p c
   page_cursors some t zero c = at2_agree (λ f. f c) tree page (own_of page node) (cursor_of s) t zero _ (λ x y. absurd (some (sym y))) (λ no. refl)
   page_cursors some t (suc p) c =
       at2_agree (λ f. f c) tree page (own_of page node) (cursor_of s) t (suc p) _
@@ -67,7 +73,8 @@ elsewhere : (book : Book) (tree page t : ℕ) (key : List ℕ) → page ≢ 1 �
 elsewhere book tree page t key above none same e = never_goes book tree page key above none (ap (λ (x : ℕ). page_for book x key) (sym same) ∙ e)
 
 -- a page that is in no chain lands
-pub page_told : (who : Caller) (tree page : ℕ) (bytes : List ℕ) (node : Node) (book : Book) (order : List Entry) (s : CloudState) → IsNode bytes node → 1 < page → IsNoLeaf book tree page
+pub page_told : (who : Caller) (tree page : ℕ) (bytes : List ℕ) (node : Node) (book : Book) (order : List Entry) (s : CloudState) → IsNode bytes node
+    → 1 < page → IsNoLeaf book tree page
     → Tells (landed who (object.Page tree page) bytes s) (after_page tree page node (own_of page node) (store_of book order s))
 page_told who tree page bytes node book order s is above none = alike _ _ (record {
   head = λ c. refl;
@@ -84,7 +91,8 @@ page_told who tree page bytes node book order s is above none = alike _ _ (recor
     leaf t key = leaf_stays who tree page bytes node s is book t key (elsewhere book tree page t key (λ e. omega (arith, e, above)) none)
 
 -- an inner node lands on a page that is no leaf
-pub inner_told : (who : Caller) (tree page : ℕ) (bytes : List ℕ) (inner : Inner) (pieces : List Link) (book : Book) (order : List Entry) (s : CloudState) → IsInner bytes inner
+pub inner_told : (who : Caller) (tree page : ℕ) (bytes : List ℕ) (inner : Inner) (pieces : List Link) (book : Book) (order : List Entry) (s : CloudState)
+    → IsInner bytes inner
     → page ≢ 0 → page ≢ 1 → inner.level ≢ 0 → IsNoLeaf book tree page → newest_leaf (nodes_of s) tree page ≡ empty_leaf
     → Tells (landed who (object.Page tree page) bytes s) (after_inner tree page inner pieces (store_of book order s))
 inner_told who tree page bytes inner pieces book order s is some above level none branch = alike _ _ (record {
@@ -112,7 +120,8 @@ inner_told who tree page bytes inner pieces book order s is some above level non
 
     cursor : (t p c : ℕ) → cursor_of s t p c ≡ at2 tree page (own_of page (Branch inner)) (cursor_of s) t p c
     cursor t p c =
-        at2_agree (λ f. f c) tree page (own_of page (Branch inner)) (cursor_of s) t p (cursor_of s t p c) (λ x y. (λ i. cursor_of s (x i) (y i) c) ∙ own page some branch) (λ no. refl)
+        at2_agree (λ f. f c) tree page (own_of page (Branch inner)) (cursor_of s) t p (cursor_of s t p c)
+        (λ x y. (λ i. cursor_of s (x i) (y i) c) ∙ own page some branch) (λ no. refl)
       where
         own : (p : ℕ) → p ≢ 0 → newest_leaf (nodes_of s) tree p ≡ empty_leaf → cursor_of s tree p c ≡ 0
         own zero ne e = absurd (ne refl)
@@ -156,7 +165,8 @@ root_told who tree bytes root book order s is = alike _ _ (record {
 })
 
 -- a root lands that is one level higher
-pub raise_told : (who : Caller) (tree : ℕ) (bytes : List ℕ) (root : Tree) (level : ℕ) (links : List Link) (book : Book) (order : List Entry) (s : CloudState) → IsTree bytes root → level ≢ 0
+pub raise_told : (who : Caller) (tree : ℕ) (bytes : List ℕ) (root : Tree) (level : ℕ) (links : List Link) (book : Book) (order : List Entry)
+    (s : CloudState) → IsTree bytes root → level ≢ 0
     → Tells (landed who (object.Tree tree) bytes s) (after_raise tree root level links (store_of book order s))
 raise_told who tree bytes root level links book order s is above = alike _ _ (record {
   head = λ c. refl;

@@ -43,7 +43,8 @@ pub record IsBetween (l : Leaf) (least : List ℕ) (next : Option Link) : Type 0
   pub right : l.right ≡ page_after next
   pub high : l.high ≡ low_after next
 
-module _ (chain : ℕ → List Link) (nodes : ℕ → List Node) (height : ℕ) (lv : AreLevels chain height) (vs : AreVersions chain nodes) (nw : AreNewest chain nodes) where
+module _ (chain : ℕ → List Link) (nodes : ℕ → List Node) (height : ℕ) (lv : AreLevels chain height) (vs : AreVersions chain nodes)
+    (nw : AreNewest chain nodes) where
   -- page 1 is that of the empty low key
   pub low_of_first : (link : Link) → IsIn (chain 0) link → link.page ≡ 1 → link.low ≡ []
   low_of_first link linked e =
@@ -59,7 +60,8 @@ module _ (chain : ℕ → List Link) (nodes : ℕ → List Node) (height : ℕ) 
       let v = vs 0 link p.0 (place, linked) (length (nodes link.page) - 1, p.1) in
       subst (λ (n : Node). IsOfLevel 0 n × (low_of n ≡ link.low)) (sym (last_is (Leafy empty_leaf) (nodes link.page) p.0 p.1)) (v.level_is, v.low)
 
-  pub newest_between : (place : ℕ) (link : Link) → StandsAt (chain 0) place link → IsBetween (leaf_in (newest_node nodes link.page)) link.low (slice_get (chain 0) (place + 1))
+  pub newest_between : (place : ℕ) (link : Link) → StandsAt (chain 0) place link
+      → IsBetween (leaf_in (newest_node nodes link.page)) link.low (slice_get (chain 0) (place + 1))
   newest_between place link linked =
       let n = newest_cases place link linked (last_cases (nodes link.page)) in
       record {
@@ -68,7 +70,8 @@ module _ (chain : ℕ → List Link) (nodes : ℕ → List Node) (height : ℕ) 
         high = sym (leaf_high (newest_node nodes link.page) n.0) ∙ (nw.ends 0 place link linked).high;
       }
 
-  pub newest_version : (place : ℕ) (link : Link) → StandsAt (chain 0) place link → version_of (newest_node nodes link.page) ≡ (leaf_in (newest_node nodes link.page)).version
+  pub newest_version : (place : ℕ) (link : Link) → StandsAt (chain 0) place link
+      → version_of (newest_node nodes link.page) ≡ (leaf_in (newest_node nodes link.page)).version
   newest_version place link linked = leaf_version (newest_node nodes link.page) (newest_cases place link linked (last_cases (nodes link.page))).0
 
 -- ---- where keys go
@@ -88,13 +91,16 @@ beyond_of : (key : List ℕ) (rest : List Link) → below_bound key (low_after (
 beyond_of key [] e = absurd (cc)
 beyond_of key (x ∷ rest) e = record { link = x; behind = rest; is = refl; from = e }
 
-holds_is : (l : Leaf) (low : List ℕ) (next : Option Link) (key : List ℕ) → IsBetween l low next → holds l key ≡ (not (bytes_below key low) && below_bound key (low_after next))
+holds_is : (l : Leaf) (low : List ℕ) (next : Option Link) (key : List ℕ) → IsBetween l low next
+    → holds l key ≡ (not (bytes_below key low) && below_bound key (low_after next))
 holds_is l low next key b = λ i. not (bytes_below key (b.low i)) && below_bound key (b.high i)
 
 -- a key that the leaf holds
-pub held : (l : Leaf) (link : Link) (rest : List Link) (key : List ℕ) → IsBetween l link.low (slice_get rest 0) → holds l key ≡ true → (bytes_below key link.low ≡ false) × IsBefore key rest
+pub held : (l : Leaf) (link : Link) (rest : List Link) (key : List ℕ) → IsBetween l link.low (slice_get rest 0) → holds l key ≡ true
+    → (bytes_below key link.low ≡ false) × IsBefore key rest
 held l link rest key b h =
-    let p = and_parts (not (bytes_below key link.low)) (below_bound key (low_after (slice_get rest 0))) (sym (holds_is l link.low (slice_get rest 0) key b) ∙ h) in
+    let p = and_parts (not (bytes_below key link.low)) (below_bound key (low_after (slice_get rest 0)))
+    (sym (holds_is l link.low (slice_get rest 0) key b) ∙ h) in
     (not-true (bytes_below key link.low) p.0, before_of key rest p.1)
 
 -- a key that it does not hold
@@ -102,7 +108,8 @@ pub unheld : (l : Leaf) (link : Link) (rest : List Link) (key : List ℕ) → Is
     → (bytes_below key link.low ≡ true) ⊎ ((bytes_below key link.low ≡ false) × IsBeyond key rest)
 unheld l link rest key b h = on (bytes_below key link.low) refl (below_bound key (low_after (slice_get rest 0))) refl
   where
-    on : (u : Bool) → bytes_below key link.low ≡ u → (v : Bool) → below_bound key (low_after (slice_get rest 0)) ≡ v → (u ≡ true) ⊎ ((u ≡ false) × IsBeyond key rest)
+    on : (u : Bool) → bytes_below key link.low ≡ u → (v : Bool) → below_bound key (low_after (slice_get rest 0)) ≡ v
+        → (u ≡ true) ⊎ ((u ≡ false) × IsBeyond key rest)
     on true e v f = inl refl
     on false e false f = inr (refl, beyond_of key rest f)
     on false e true f =
@@ -111,7 +118,8 @@ unheld l link rest key b h = on (bytes_below key link.low) refl (below_bound key
         absurd cc
 
 -- a key of the leaf goes to its page or a piece behind it
-pub goes_here : (key : List ℕ) (front : List Link) (link : Link) (rest : List Link) → AllByRecursion (λ a. bytes_below a.low link.low ≡ true) front → bytes_below key link.low ≡ false
+pub goes_here : (key : List ℕ) (front : List Link) (link : Link) (rest : List Link) → AllByRecursion (λ a. bytes_below a.low link.low ≡ true) front
+    → bytes_below key link.low ≡ false
     → page_from 1 key (front ++ link ∷ rest) ≡ page_from link.page key rest
 goes_here key front link rest below from = passes key 1 front link rest (from_below key link.low front below from) from
 

@@ -60,7 +60,8 @@ raised_clients ds queue run all =
     both (filter (λ d. nat_lt d.queue queue) ds) (own_entries queue (raised_number ds queue run) 64 ++ filter (λ d. nat_lt queue d.queue) ds)
     (some_of (λ d. nat_lt d.queue queue) ds all)
     (both (own_entries queue (raised_number ds queue run) 64) (filter (λ d. nat_lt queue d.queue) ds)
-    (own-all (λ (d : Done). IsClient d.client) queue (raised_number ds queue run) 64 (omega arith) (λ c n is e. is)) (some_of (λ d. nat_lt queue d.queue) ds all))
+    (own-all (λ (d : Done). IsClient d.client) queue (raised_number ds queue run) 64 (omega arith) (λ c n is e. is))
+    (some_of (λ d. nat_lt queue d.queue) ds all))
 
 -- of the run's queue each number is raised, and the others stay
 pub raises_all : (ds : List Done) (queue : ℕ) (run : List PuItem) → AreOfClients ds → AreClients run → (q c : ℕ)

@@ -27,7 +27,8 @@ all_of : (P : Link → Type 0) (links : List Link) → ((a : Link) → IsIn link
 all_of P [] h = tt
 all_of P (x ∷ links) h = (h x (in_first x links), all_of P links (λ a k. h a (in_rest x links a k)))
 
-pub split_at : (before : Option Link) (links : List Link) (place : ℕ) (link : Link) → Ascend link_below before links → Apart links → StandsAt links place link → Split links place link
+pub split_at : (before : Option Link) (links : List Link) (place : ℕ) (link : Link) → Ascend link_below before links → Apart links
+    → StandsAt links place link → Split links place link
 split_at before [] place link up apart there = absurd (cc)
 split_at before (x ∷ links) zero link up apart there =
     let same : x ≡ link = cc in
@@ -51,12 +52,14 @@ split_at before (x ∷ links) (suc place) link up apart there = let again = spli
 }
 
 -- pieces that join behind the link's page
-pub with_pieces-split : (page : ℕ) (pieces front : List Link) (link : Link) (rest : List Link) → link.page ≡ page → AllByRecursion (λ a. a.page ≢ link.page) front
+pub with_pieces-split : (page : ℕ) (pieces front : List Link) (link : Link) (rest : List Link) → link.page ≡ page
+    → AllByRecursion (λ a. a.page ≢ link.page) front
     → with_pieces page pieces (front ++ link ∷ rest) ≡ front ++ link ∷ (pieces ++ rest)
 with_pieces-split page pieces [] link rest e other =
     ap (λ (b : Bool). cond b (link ∷ (pieces ++ rest)) (link ∷ with_pieces page pieces rest)) (eq-eqb link.page page e)
 with_pieces-split page pieces (x ∷ front) link rest e other =
-    ap (λ (b : Bool). cond b (x ∷ (pieces ++ (front ++ link ∷ rest))) (x ∷ with_pieces page pieces (front ++ link ∷ rest))) (ne_eqb x.page page (λ h. other.0 (h ∙ sym e)))
+    ap (λ (b : Bool). cond b (x ∷ (pieces ++ (front ++ link ∷ rest))) (x ∷ with_pieces page pieces (front ++ link ∷ rest)))
+    (ne_eqb x.page page (λ h. other.0 (h ∙ sym e)))
     ∙ ap (λ (ls : List Link). x ∷ ls) (with_pieces-split page pieces front link rest e other.1)
 
 -- ---- where a key goes
@@ -73,7 +76,8 @@ not_above key low least less from = on (bytes_below key least) refl
     on true e = let h : bytes_below key low ≡ true = below_chain key least low e less in absurd (cc)
     on false e = refl
 
-pub from_below : (key low : List ℕ) (links : List Link) → AllByRecursion (λ a. bytes_below a.low low ≡ true) links → bytes_below key low ≡ false → IsFrom key links
+pub from_below : (key low : List ℕ) (links : List Link) → AllByRecursion (λ a. bytes_below a.low low ≡ true) links → bytes_below key low ≡ false
+    → IsFrom key links
 from_below key low [] below from = tt
 from_below key low (x ∷ links) below from = (not_above key low x.low below.0 from, from_below key low links below.1 from)
 
@@ -100,7 +104,8 @@ stops_here key page [] before = refl
 stops_here key page (x ∷ rest) before = ap (λ (b : Bool). cond b page (page_from x.page key rest)) before
 
 -- the page of a key is that before the links, or none of those that they are not of
-pub goes_other : (key : List ℕ) (before page : ℕ) (links : List Link) → before ≢ page → AllByRecursion (λ a. a.page ≢ page) links → page_from before key links ≢ page
+pub goes_other : (key : List ℕ) (before page : ℕ) (links : List Link) → before ≢ page → AllByRecursion (λ a. a.page ≢ page) links
+    → page_from before key links ≢ page
 goes_other key before page [] ne other = ne
 goes_other key before page (x ∷ links) ne other = on (bytes_below key x.low) (goes_other key x.page page links other.0 other.1)
   where

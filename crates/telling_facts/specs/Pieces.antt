@@ -1,11 +1,11 @@
 -- The pieces of a cut, on their pages.
-use Rattle.std.specs.Prelude.{ℕ, ◌≡◌, ◌+◌, List, [], ◌∷◌}
+use Rattle.std.specs.Prelude.{ℕ, List, [], ◌∷◌}
 use Rattle.leaf_view.specs.Leaf.{Leaf}
 use Rattle.node_codec.specs.Inner.{Inner}
 use Rattle.split_plan.specs.Cut.{cut_by}
 use Rattle.split_plan.specs.Part.{Part, LeafPart, NodePart, leaf_of_part, part_of_leaf, node_of_part, part_of_node, record_key, entry_key}
 use Rattle.store_book.specs.Book.{Link}
-use Rattle.store_book.specs.Tally.{Node, Leafy, Branch}
+use Rattle.chain_facts.specs.Cuts.{links_on}
 
 -- the first of some parts, and those behind it
 abbrev pub first_part : {A X : Type 0} → Part A X → List (Part A X) → Part A X
@@ -15,23 +15,6 @@ first_part none (p ∷ ps) = p
 abbrev pub right_of : {A X : Type 0} → List (Part A X) → List (Part A X)
 right_of [] = []
 right_of (p ∷ ps) = ps
-
--- the links of parts on the pages from this one on
-abbrev pub links_from : {A X : Type 0} → ℕ → List (Part A X) → List Link
-links_from free [] = []
-links_from free (p ∷ ps) = record { low = p.low; page = free } ∷ links_from (free + 1) ps
-
--- each of them has landed once there
-abbrev pub HaveLanded : {A X : Type 0} → (Part A X → Node) → (ℕ → List Node) → ℕ → List (Part A X) → Type 0
-HaveLanded node nodes free [] = Unit {0}
-HaveLanded node nodes free (p ∷ ps) = (nodes free ≡ node p ∷ []) × HaveLanded node nodes (free + 1) ps
-
--- a part as a leaf's or an inner node's version
-abbrev pub leafy : LeafPart → Node
-leafy p = Leafy (leaf_of_part p)
-
-abbrev pub branching : NodePart → Node
-branching p = Branch (node_of_part p)
 
 -- the pieces of these sizes, and a last one; without sizes the whole
 abbrev pub leaf_parts : List ℕ → ℕ → Leaf → List LeafPart
@@ -49,7 +32,7 @@ left_inner sizes free n = node_of_part (first_part (part_of_node n) (node_parts 
 
 -- the links of the others
 abbrev pub leaf_links : List ℕ → ℕ → Leaf → List Link
-leaf_links sizes free l = links_from free (right_of (leaf_parts sizes free l))
+leaf_links sizes free l = links_on free (right_of (leaf_parts sizes free l))
 
 abbrev pub node_links : List ℕ → ℕ → Inner → List Link
-node_links sizes free n = links_from free (right_of (node_parts sizes free n))
+node_links sizes free n = links_on free (right_of (node_parts sizes free n))

@@ -12,7 +12,8 @@ use Rattle.store_book.specs.Effects.{Taking}
 use Rattle.store_book.specs.Records.{StandsAt, IsIn}
 use Rattle.store_book.specs.Tally.{Node}
 use Rattle.chain_facts.specs.Chain.{IsUnlinked}
-use Rattle.telling_facts.specs.Pieces.{right_of, HaveLanded, leafy, leaf_parts, left_leaf, leaf_links}
+use Rattle.chain_facts.specs.Cuts.{HaveLanded, leaf_node}
+use Rattle.telling_facts.specs.Pieces.{right_of, leaf_parts, left_leaf, leaf_links}
 
 -- the items of a run are of clients
 abbrev pub AreClients : List PuItem → Type 0
@@ -39,12 +40,13 @@ pub record IsLinked (links : List Link) (page : ℕ) : Type 0 where
   pub page_is : link.page ≡ page
 
 -- what must be known where the left piece lands
-pub record LandsTaken (chain : ℕ → List Link) (nodes : ℕ → List Node) (page : ℕ) (l : Leaf) (queue : ℕ) (run : List PuItem) (sizes : List ℕ) (free : ℕ) : Type 0 where
+pub record LandsTaken (chain : ℕ → List Link) (nodes : ℕ → List Node) (page : ℕ) (l : Leaf) (queue : ℕ) (run : List PuItem) (sizes : List ℕ)
+    (free : ℕ) : Type 0 where
   pub clients : AreClients run
   pub linked : IsLinked (chain 0) page
   -- the sizes fit, with a last piece
   pub last : ℕ
   pub can : CanCut sizes last (length (applied l queue run).records)
   -- the other pieces landed before, on pages that are in no chain
-  pub landed : HaveLanded leafy nodes free (right_of (leaf_parts sizes free (applied l queue run)))
+  pub landed : HaveLanded leaf_node nodes free (right_of (leaf_parts sizes free (applied l queue run)))
   pub unlinked : (piece : Link) → IsIn (leaf_links sizes free (applied l queue run)) piece → IsUnlinked chain piece.page

@@ -13,7 +13,7 @@ use Rattle.cloud_trait.specs.State.{CloudState, IsEmptyCloud}
 use Rattle.db_base.specs.Ids.{IsTree}
 use Rattle.node_codec.specs.Tree.{Tree}
 use Rattle.store_book.specs.Book.{Link}
-use Rattle.pending_facts.proofs.StaysLemmas.{empty_store}
+use Rattle.store_book.proofs.Empty.{empty_store}
 use Rattle.head_codec.specs.declared.head.Head.{Head}
 use Rattle.head_codec.specs.declared.head.Phase.{Phase}
 use Rattle.head_codec.specs.declared.head.Phase.TheVariants.{Settled, Open}

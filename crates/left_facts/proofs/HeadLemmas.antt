@@ -10,7 +10,7 @@ use Rattle.left_facts.proofs.Holding.{LogHolds, log_of, logged_of, WayHolds, way
 use Rattle.left_facts.proofs.Ways.{ways_other, ways_opened}
 use Rattle.log_codec.specs.declared.record.AtomicRec.{AtomicRec}
 use Rattle.number_facts.specs.Numbers.{Numbers}
-use Rattle.pending_facts.proofs.Ways.{is_way, settled_way, open_way}
+use Rattle.number_facts.proofs.Ways.{is_way, settled_way, open_way}
 use Rattle.store_book.specs.Effects.{after_head}
 use Rattle.store_book.specs.Messages.{IsLogMessage}
 use Rattle.store_book.specs.Premises.{Opens}

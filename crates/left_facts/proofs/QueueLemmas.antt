@@ -10,7 +10,7 @@ use Rattle.left_facts.proofs.Ways.{of_ways}
 use Rattle.left_facts.proofs.MessageLemmas.{copy_more, waits_more, logged_more, IsLast, log_cases, copy_marked, waits_marked, logged_marked, log_marked}
 use Rattle.log_codec.specs.declared.record.AtomicRec.{AtomicRec}
 use Rattle.number_facts.specs.Numbers.{Numbers}
-use Rattle.pending_facts.proofs.Ways.{is_way, way_epoch, way_txn}
+use Rattle.number_facts.proofs.Ways.{is_way, way_epoch, way_txn}
 use Rattle.route_plan.specs.Record.{pu_record_of}
 use Rattle.store_book.specs.Effects.{after_logged, after_posted, after_log_mark, after_post_mark}
 use Rattle.store_book.specs.Messages.{HasCopy, Waits, WaitsLogged, IsMessage, IsLogMessage}

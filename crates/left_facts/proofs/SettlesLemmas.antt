@@ -10,7 +10,7 @@ use Rattle.left_facts.proofs.HeadLemmas.{past_other, way_other}
 use Rattle.left_facts.proofs.MessageLemmas.{copy_of_message}
 use Rattle.left_facts.proofs.Ways.{ways_other}
 use Rattle.log_codec.specs.declared.record.AtomicRec.{AtomicRec}
-use Rattle.pending_facts.proofs.Ways.{is_way}
+use Rattle.number_facts.proofs.Ways.{is_way}
 use Rattle.route_plan.specs.Record.{pu_record_of}
 use Rattle.store_book.specs.Effects.{after_head}
 use Rattle.store_book.specs.Premises.{Settles, SettlesBehind}

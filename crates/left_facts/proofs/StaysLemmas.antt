@@ -15,7 +15,7 @@ use Rattle.node_codec.specs.Inner.{Inner}
 use Rattle.node_codec.specs.Tree.{Tree}
 use Rattle.number_facts.specs.Numbers.{Numbers}
 use Rattle.number_facts.proofs.Known.{IsOfRun, newly_applied}
-use Rattle.pending_facts.proofs.StaysLemmas.{empty_store, no_records}
+use Rattle.store_book.proofs.Empty.{empty_store, no_records}
 use Rattle.route_plan.specs.Record.{pu_record_of}
 use Rattle.store_book.specs.Book.{Link, empty_book}
 use Rattle.store_book.specs.Effects.{Taking, after_leaf, after_page, after_inner, after_root, after_raise}

@@ -7,7 +7,7 @@ use Rattle.head_codec.specs.declared.head.Head.{Head}
 use Rattle.log_codec.specs.declared.record.AtomicRec.{AtomicRec}
 use Rattle.number_facts.proofs.Lists.{filter_there, filter_none, filter_agree}
 use Rattle.number_facts.specs.Numbers.{Numbers, IsUpto}
-use Rattle.pending_facts.proofs.Ways.{is_way, open_way, way_epoch, way_txn, upto_earlier}
+use Rattle.number_facts.proofs.Ways.{is_way, open_way, way_epoch, way_txn, upto_earlier}
 use Rattle.store_book.specs.Effects.{after_head}
 use Rattle.store_book.specs.Premises.{Opens}
 use Rattle.store_book.specs.Records.{StandsAt, IsIn, is_under_way, IsUnderWay, under_way}

@@ -6,3 +6,4 @@ pub mod Runs
 pub mod Kept
 pub mod Known
 pub mod Told
+pub mod Ways

@@ -5,7 +5,7 @@ use Rattle.head_codec.specs.declared.head.Head.{Head}
 use Rattle.head_codec.specs.declared.lists.Pending.{Pending}
 use Rattle.log_codec.specs.declared.record.AtomicRec.{AtomicRec}
 use Rattle.pending_facts.specs.Pending.{IsOwn, IsOfKey, HeadPends}
-use Rattle.pending_facts.proofs.Ways.{is_way}
+use Rattle.number_facts.proofs.Ways.{is_way}
 use Rattle.route_plan.specs.Record.{pending_of}
 use Rattle.store_book.specs.Records.{IsIn, key_in}
 use Rattle.store_book.specs.Tally.{Store}

@@ -1,4 +1,3 @@
-pub mod Ways
 pub mod Holding
 pub mod OpensLemmas
 pub mod SettlesLemmas

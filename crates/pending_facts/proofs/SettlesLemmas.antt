@@ -11,7 +11,7 @@ use Rattle.log_codec.specs.declared.record.AtomicRec.{AtomicRec}
 use Rattle.number_facts.specs.Numbers.{Numbers}
 use Rattle.pending_facts.specs.Pending.{IsOwn, IsOfKey, IsPending, HeadPends, Pends}
 use Rattle.pending_facts.proofs.Holding.{Holds, holds_of, pends_of}
-use Rattle.pending_facts.proofs.Ways.{is_way, settled_way, way_epoch, way_txn}
+use Rattle.number_facts.proofs.Ways.{is_way, settled_way, way_epoch, way_txn}
 use Rattle.route_plan.specs.Record.{pending_of}
 use Rattle.store_book.specs.Effects.{after_head}
 use Rattle.store_book.specs.Premises.{Settles, IsAppliedEntry}

@@ -18,6 +18,7 @@ use Rattle.store_book.specs.Growth.{Grows}
 use Rattle.store_book.specs.Premises.{Takes}
 use Rattle.store_book.specs.Records.{IsIn, IsApplied}
 use Rattle.store_book.specs.Tally.{Store, Node}
+use Rattle.store_book.proofs.Empty.{empty_store, no_records}
 use Rattle.store_book.specs.Telling.{tally_of, last_or, head_in}
 use Rattle.store_book.proofs.GrowthLemmas.{applied_stays, leaf_grows}
 use Rattle.store_book.proofs.Places.{in_none}
@@ -74,13 +75,6 @@ leaf_keeps st p takes numbers pends = record {
     either a b logged (inr page) = inr page
 
 -- ---- the beginning
-
--- the store of a cloud in which nothing happened
-abbrev pub empty_store : CloudState → Store
-empty_store s = record { tally = tally_of empty_book s; book = empty_book; order = [] }
-
-pub no_records : (r : AtomicRec) → IsIn empty_book.log r → ⊥
-no_records r is = in_none empty_book.log r refl is
 
 pub empty_pends : (s : CloudState) → IsEmptyCloud s → Pends (empty_store s)
 empty_pends s empty = record {

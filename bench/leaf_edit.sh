@@ -23,7 +23,7 @@ cat > "$work/crates/merges/src/main.rt" <<RT
 ghost use Rattle.std.specs.Prelude.{◌≤◌};
 ghost use Rattle.std.specs.Vec.{vec_capacity};
 ghost use Rattle.leaf_edit.specs.Applied.{applied_length};
-ghost use Rattle.run_cursor.specs.Run.{IsOrdered};
+ghost use Rattle.log_codec.specs.Order.{IsOrdered};
 
 use db_base::change::Change;
 use db_base::cursor::Cursor;

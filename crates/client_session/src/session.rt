@@ -1,11 +1,10 @@
-ghost use Rattle.std.specs.Prelude.{◌≡◌, ℕ, ◌<◌, ◌≤◌, [], length, Ok, IfOk, IfErr, OnOk, OnErr};
+ghost use Rattle.std.specs.Prelude.{◌≡◌, ◌≤◌, [], length, IfOk, IfErr, OnOk, OnErr};
 ghost use Rattle.std.specs.Option.{option_map, option_copied};
 ghost use Rattle.cloud_trait.specs.Call.{ask_of};
 ghost use Rattle.txn_buffer.specs.Noted.{noted_in};
-ghost use Rattle.recover_run.specs.Recovery.{home_of, calls_left as opening_left, IsSound as IsSoundOpening};
-ghost use Rattle.commit_run.specs.Commit.{calls_left as commit_left, IsSound as IsSoundCommit};
-ghost use Rattle.tree_ckpt.specs.Folding.{calls_left as folding_left};
-ghost use Rattle.client_session.specs.Session.{TakesHome, CommitsOf, StepsWork, StepsOpening, StepsCommit, StepsFolding, calls_left, opened_work, committed_work};
+ghost use Rattle.recover_run.specs.Recovery.{home_of, IsSound as IsSoundOpening};
+ghost use Rattle.commit_run.specs.Commit.{IsSound as IsSoundCommit};
+ghost use Rattle.client_session.specs.Session.{TakesHome, CommitsOf, StepsWork, StepsOpening, StepsCommit, StepsFolding, opened_work, committed_work};
 
 use cloud_trait::call::Call;
 use cloud_trait::cloud::Cloud;
@@ -92,7 +91,7 @@ impl Model for Session {
 }
 
 impl Session {
-    ghost use Rattle.client_session.specs.Session.{Acting, closed_session, rule_of, NoteRefused, AbortRefused, Begins, BeginsOpening, BeginsCommit, BeginsTree, StepsSession, ask_of_work, committing_of, opens_of, applying_of};
+    ghost use Rattle.client_session.specs.Session.{Acting, closed_session, rule_of, opening_rule_of, NoteRefused, AbortRefused, Begins, BeginsOpening, BeginsCommit, BeginsTree, StepsSession, ask_of_work, committing_of, opens_of, applying_of};
 
     /// A closed session without changes. Refused for memory alone.
     pub fn new(alloc: Global) -> Result<Session, Refused>
@@ -116,6 +115,20 @@ impl Session {
             Work::Committing(_) => Some(Refusal::AtWork),
             Work::Folding(_, _) => Some(Refusal::AtWork),
             Work::Broken => Some(Refusal::Broken),
+        }
+    }
+
+    /// The rule that keeps an opening from beginning.
+    fn opening_rule(&self) -> Option<Refusal>
+        ensures { result ≡ opening_rule_of self.now.work }
+    {
+        match &self.work {
+            Work::Closed => None,
+            Work::Idle(_) => Some(Refusal::AlreadyOpen),
+            Work::Opening(_) => Some(Refusal::AtWork),
+            Work::Committing(_) => Some(Refusal::AtWork),
+            Work::Folding(_, _) => Some(Refusal::AtWork),
+            Work::Broken => Some(Refusal::NotBuilt),
         }
     }
 
@@ -159,13 +172,8 @@ impl Session {
     fn begin_opening(&mut self, alloc: Global, client: ClientId) -> Result<Begun, Refused>
         ensures { BeginsOpening client self.old self.new result }
     {
-        match &self.work {
-            Work::Closed => {}
-            Work::Idle(_) => return Err(Refused::Rule(Refusal::AlreadyOpen)),
-            Work::Opening(_) => return Err(Refused::Rule(Refusal::AtWork)),
-            Work::Committing(_) => return Err(Refused::Rule(Refusal::AtWork)),
-            Work::Folding(_, _) => return Err(Refused::Rule(Refusal::AtWork)),
-            Work::Broken => return Err(Refused::Rule(Refusal::NotBuilt)),
+        if let Some(rule) = self.opening_rule() {
+            return Err(Refused::Rule(rule));
         }
         self.buffer.clear();
         self.work = Work::Opening(RecoverRun::new(alloc, client));
@@ -212,8 +220,7 @@ impl Session {
         cloud: &mut C,
         who: Who,
     ) -> Result<Turn<Answer>, Refused>
-        ensures steps { StepsSession who (C.seen cloud.old) (C.seen cloud.new) self.old self.new result }
-        ensures less { result ≡ Ok Turn.More → calls_left self.new.work < calls_left self.old.work }
+        ensures { StepsSession who (C.seen cloud.old) (C.seen cloud.new) self.old self.new result }
     {
         let work = mem::replace(&mut self.work, Work::Closed);
         let (work, turn) = step_work(alloc, cloud, who, work);
@@ -327,8 +334,7 @@ fn step_work<C: Cloud>(
     who: Who,
     work: Work,
 ) -> (Work, Result<Turn<Answer>, Refused>)
-    ensures steps { StepsWork who (C.seen cloud.old) (C.seen cloud.new) work result.0 result.1 }
-    ensures less { result.1 ≡ Ok Turn.More → calls_left result.0 < calls_left work }
+    ensures { StepsWork who (C.seen cloud.old) (C.seen cloud.new) work result.0 result.1 }
 {
     match work {
         Work::Opening(machine) => {
@@ -355,7 +361,6 @@ fn step_opening<C: Cloud>(
 ) -> (Work, Turn<Answer>)
     ensures sound { IsSoundOpening machine }
     ensures steps { StepsOpening who (C.seen cloud.old) (C.seen cloud.new) machine result.0 result.1 }
-    ensures less { result.1 ≡ Turn.More → calls_left result.0 < opening_left machine }
 {
     match machine.step(alloc, cloud, who) {
         Turn::More => (Work::Opening(machine), Turn::More),
@@ -374,7 +379,6 @@ fn step_commit<C: Cloud>(
 ) -> (Work, Turn<Answer>)
     ensures sound { IsSoundCommit machine }
     ensures steps { StepsCommit who (C.seen cloud.old) (C.seen cloud.new) machine result.0 result.1 }
-    ensures less { result.1 ≡ Turn.More → calls_left result.0 < commit_left machine }
 {
     match machine.step(alloc, cloud, who) {
         Turn::More => (Work::Committing(machine), Turn::More),
@@ -393,8 +397,7 @@ fn step_folding<C: Cloud>(
     home: Home,
     mut machine: TreeCkpt,
 ) -> (Work, Turn<Answer>)
-    ensures steps { StepsFolding home who (C.seen cloud.old) (C.seen cloud.new) machine result.0 result.1 }
-    ensures less { result.1 ≡ Turn.More → calls_left result.0 < folding_left machine }
+    ensures { StepsFolding home who (C.seen cloud.old) (C.seen cloud.new) machine result.0 result.1 }
 {
     match machine.step(alloc, cloud, who) {
         Turn::More => (Work::Folding(home, machine), Turn::More),

@@ -1,4 +1,4 @@
-ghost use Rattle.std.specs.Prelude.{◌≡◌, ◌<◌, [], Some, Ok, IfOk, IfErr};
+ghost use Rattle.std.specs.Prelude.{◌≡◌, [], Some, IfOk, IfErr};
 ghost use Rattle.cloud_trait.specs.State.{CloudState};
 ghost use Rattle.world_core.specs.Put.{put_of};
 ghost use Rattle.world_core.specs.Fault.{fault_of};
@@ -39,7 +39,7 @@ pub struct World {
 }
 
 impl World {
-    ghost use Rattle.client_session.specs.Session.{closed_session, calls_left};
+    ghost use Rattle.client_session.specs.Session.{closed_session};
     ghost use Rattle.world_core.specs.Stands.{StandsOn, Grows};
     ghost use Rattle.world_core.specs.Fault.{StepFails};
     ghost use Rattle.world_core.specs.Handled.{Handled, Answers, Does, BeginsOp, Notes, Aborts, Runs, StepsLooked, Reports};
@@ -188,7 +188,6 @@ impl World {
         ensures looked { IfOk result (λ turn. StepsLooked who (C.seen cloud.old) (C.seen cloud.new) self.old self.new turn) }
         ensures fails { IfErr result (λ why. StepFails who (C.seen cloud.old) (C.seen cloud.new) self.old self.new why) }
         ensures grows { Grows who.event (C.seen cloud.old) (C.seen cloud.new) }
-        ensures less { result ≡ Ok (Ok Turn.More) → calls_left self.new.session.work < calls_left self.old.session.work }
     {
         match put_in_hand(alloc, &self.session) {
             Ok(Some(put)) => self.step_put(alloc, cloud, who, &put),
@@ -209,7 +208,6 @@ impl World {
         ensures looked { IfOk result (λ turn. StepsLooked who (C.seen cloud.old) (C.seen cloud.new) self.old self.new turn) }
         ensures fails { IfErr result (λ why. StepFails who (C.seen cloud.old) (C.seen cloud.new) self.old self.new why) }
         ensures grows { Grows who.event (C.seen cloud.old) (C.seen cloud.new) }
-        ensures less { result ≡ Ok (Ok Turn.More) → calls_left self.new.session.work < calls_left self.old.session.work }
     {
         let before = is_newest(cloud, put)?;
         let mark = self.audit.mark();

@@ -1,6 +1,6 @@
 use Rattle.std.proofs.Common.{◌∙◌, ap, Ok, refl}
 use Rattle.world_core.specs.Handled.{start}
-use Rattle.world_core.proofs.Going.{went_further}
+use Rattle.world_core.proofs.Going.{went_further, goes_less}
 use Rattle.world_core.proofs.GrowthLemmas.{grows_same, grows_with}
 use Rattle.world_core.proofs.world.World.run.Goals as goal
 
@@ -25,4 +25,4 @@ returns-in-Ok-Ended-clause-grows g c =
     grows_with _ (record { session = 1; event = c.args.n }) c.first_session-who.result (g.C.Cloud.seen c.args.cloud.now) (g.C.Cloud.seen c.steps.cloud) (g.C.Cloud.seen c.step.new.cloud) c.first_session-who.ensures refl c.steps.invariant.grows c.step.ensures.grows
 
 pub steps-smaller : goal.steps-smaller
-steps-smaller g c = c.in_ok-turn.ensures.less (ap Ok (c.in-Ok-More.is ∙ ap Ok c.in-Ok-More.field-0-is))
+steps-smaller g c = goes_less c.first_session-who.result _ _ c.steps.self c.step.new.self c.in_ok-turn.turn (c.in-Ok-More.is ∙ ap Ok c.in-Ok-More.field-0-is) c.in_ok-turn.ensures.looked

@@ -1,15 +1,19 @@
 -- What each step of a session leaves of all open clients and openings.
-use Rattle.std.proofs.Common.{◌≡◌, ◌≢◌, ◌+◌, ◌<◌, ◌≤◌, ◌⊎◌, inl, inr, ℕ, List, [], Some, refl, sym, ap, subst, ◌∙◌, arith}
+use Rattle.std.proofs.Common.{◌≡◌, ◌≢◌, ◌+◌, ◌<◌, ◌≤◌, ◌⊎◌, inl, inr, ℕ, List, [], Some, refl, sym, ap, subst, ◌∙◌, arith, ◌∷◌, ◌++◌, length}
 use Rattle.std.proofs.lemmas.Bool.{cases_eq}
 use Rattle.db_base.specs.Ids.{IsClient}
 use Rattle.cloud_trait.specs.Claim.{Claim, Lasts}
 use Rattle.cloud_trait.specs.declared.state.Posted.{Posted}
 use Rattle.head_codec.specs.declared.head.Head.{Head}
-use Rattle.home_facts.specs.Homes.{Home, Opening, Part, Away, AtHome, Opens, Parts, IsLastingPart, IsAlone, HomeHolds, OpeningHolds, PartHolds, AreApart, HomesHold}
-use Rattle.left_facts.proofs.MessageLemmas.{IsLast, log_cases, log_marked}
+use Rattle.home_facts.specs.Homes.{Home, Opening, Part, Away, AtHome, Opens, Parts, IsLastingPart, IsAlone, HomeHolds, OpeningHolds, PartHolds, AreApart, HomesHold, IsSpared}
+use Rattle.cloud_trait.specs.State.{marked}
+use Rattle.left_facts.proofs.MessageLemmas.{IsLast, log_cases, log_marked, logged_more, logged_marked}
+use Rattle.log_codec.specs.Atomic.{atomic_of}
 use Rattle.log_codec.specs.declared.record.AtomicRec.{AtomicRec}
 use Rattle.store_book.specs.Effects.{after_head, after_logged, after_log_mark}
-use Rattle.store_book.specs.Messages.{IsLogMessage}
+use Rattle.store_book.specs.Messages.{IsLogMessage, WaitsLogged}
+use Rattle.store_book.specs.Records.{IsIn}
+use Rattle.store_book.proofs.Places.{get_behind, get_single, in_front, in_behind, in_either, in_none}
 use Rattle.store_book.specs.Premises.{Logs}
 use Rattle.store_book.specs.Tally.{Tally, Store, at}
 use Rattle.store_book.proofs.Names.{at_same, at_other, at_by}
@@ -36,9 +40,13 @@ none_home t now = record { each = λ s. tt; apart = λ s u ne. tt }
 opening_later : (t : Tally) (now later : ℕ) (o : Opening) → now ≤ later → OpeningHolds t now o → OpeningHolds t later o
 opening_later t now later o after h = record { is_client = h.is_client; later = h.later; newest = λ lasts. h.newest (omega (arith, lasts, after)) }
 
+home_later : (t : Tally) (now later : ℕ) (g : Home) → now ≤ later → HomeHolds t now g → HomeHolds t later g
+home_later t now later g after h =
+    record { is_client = h.is_client; early = h.early; begun = h.begun; own = h.own; waiting = λ lasts. h.waiting (omega (arith, lasts, after)) }
+
 part_later : (t : Tally) (now later : ℕ) (p : Part) → now ≤ later → PartHolds t now p → PartHolds t later p
 part_later t now later Away after h = tt
-part_later t now later (AtHome home) after h = h
+part_later t now later (AtHome home) after h = home_later t now later home after h
 part_later t now later (Opens o) after h = opening_later t now later o after h
 
 apart_later : (now later : ℕ) (p q : Part) → now ≤ later → AreApart now p q → AreApart later p q
@@ -107,18 +115,43 @@ reads_keeps t now parts session o is_client newest alone h =
     on other ne (AtHome g) e = λ same lasts. absurd (alone other ne (subst (λ q. IsLastingPart now o.client q) (sym e) (same, lasts)))
     on other ne (Opens k) e = tt
 
--- a commit begins: the last transaction of the home is a later one
-pub begins_keeps : (t : Tally) (now : ℕ) (parts : Parts) (session : ℕ) (g : Home) (attempt : ℕ) → parts session ≡ AtHome g → g.attempt ≤ attempt
-    → HomesHold t now parts → HomesHold t now (at session (AtHome (record g { attempt = attempt })) parts)
+-- a commit begins: the last transaction of the home is a later one, of which nothing was sent
+pub begins_keeps : (t : Tally) (now : ℕ) (parts : Parts) (session : ℕ) (g : Home) (attempt : ℕ) → parts session ≡ AtHome g → g.attempt < attempt
+    → HomesHold t now parts → HomesHold t now (at session (AtHome (record g { attempt = attempt; sent = []; needed = [] })) parts)
 begins_keeps t now parts session g attempt is rises h =
-    one_changes t now parts session (AtHome (record g { attempt = attempt }))
-    (record { is_client = mine.is_client; early = mine.early; begun = λ id r m e. let b = mine.begun id r m e in omega (arith, b, rises) })
+    one_changes t now parts session (AtHome (record g { attempt = attempt; sent = []; needed = [] }))
+    (record {
+      is_client = mine.is_client;
+      early = mine.early;
+      begun = λ id r m e. let b = mine.begun id r m e in omega (arith, b, rises);
+      own = λ id r m e f. absurd (never id r m e f);
+      waiting = λ lasts r is. absurd (in_none [] r refl is);
+    })
     (λ other ne. h.each other) (λ other ne. on (parts other) (subst (λ p. AreApart now p (parts other)) is (h.apart session other (λ e. ne (sym e))))) h.apart
   where
-    mine : HomeHolds t g
+    mine : HomeHolds t now g
     mine = subst (λ p. PartHolds t now p) is (h.each session)
 
-    on : (p : Part) → AreApart now (AtHome g) p → AreApart now (AtHome (record g { attempt = attempt })) p
+    never : (id : ℕ) (r : AtomicRec) → IsLogMessage (t.logged g.client) id r → r.epoch ≡ g.epoch → r.txn ≡ attempt → ⊥
+    never id r m e f = let b = mine.begun id r m e in omega (arith, b, rises, f)
+
+    on : (p : Part) → AreApart now (AtHome g) p → AreApart now (AtHome (record g { attempt = attempt; sent = []; needed = [] })) p
+    on Away a = tt
+    on (AtHome k) a = a
+    on (Opens o) a = a
+
+-- a commit is over: it needs its messages no more
+pub rests_keeps : (t : Tally) (now : ℕ) (parts : Parts) (session : ℕ) (g : Home) → parts session ≡ AtHome g → HomesHold t now parts
+    → HomesHold t now (at session (AtHome (record g { needed = [] })) parts)
+rests_keeps t now parts session g is h =
+    one_changes t now parts session (AtHome (record g { needed = [] }))
+    (record { is_client = mine.is_client; early = mine.early; begun = mine.begun; own = mine.own; waiting = λ lasts r is. absurd (in_none [] r refl is) })
+    (λ other ne. h.each other) (λ other ne. on (parts other) (subst (λ p. AreApart now p (parts other)) is (h.apart session other (λ e. ne (sym e))))) h.apart
+  where
+    mine : HomeHolds t now g
+    mine = subst (λ p. PartHolds t now p) is (h.each session)
+
+    on : (p : Part) → AreApart now (AtHome g) p → AreApart now (AtHome (record g { needed = [] })) p
     on Away a = tt
     on (AtHome k) a = a
     on (Opens o) a = a
@@ -127,10 +160,10 @@ begins_keeps t now parts session g attempt is rises h =
 pub renews_keeps : (t : Tally) (now : ℕ) (parts : Parts) (session : ℕ) (g : Home) (lease : Claim) → parts session ≡ AtHome g → (Lasts now lease → Lasts now g.lease)
     → HomesHold t now parts → HomesHold t now (at session (AtHome (record g { lease = lease })) parts)
 renews_keeps t now parts session g lease is lasted h =
-    one_changes t now parts session (AtHome (record g { lease = lease })) (record { is_client = mine.is_client; early = mine.early; begun = mine.begun })
+    one_changes t now parts session (AtHome (record g { lease = lease })) (record { is_client = mine.is_client; early = mine.early; begun = mine.begun; own = mine.own; waiting = λ lasts. mine.waiting (lasted lasts) })
     (λ other ne. h.each other) (λ other ne. on (parts other) (subst (λ p. AreApart now p (parts other)) is (h.apart session other (λ e. ne (sym e))))) h.apart
   where
-    mine : HomeHolds t g
+    mine : HomeHolds t now g
     mine = subst (λ p. PartHolds t now p) is (h.each session)
 
     on : (p : Part) → AreApart now (AtHome g) p → AreApart now (AtHome (record g { lease = lease })) p
@@ -141,14 +174,16 @@ renews_keeps t now parts session g lease is lasted h =
 -- ---- a head lands
 
 -- an open client of another session, behind a later head of its client or not
-home_behind : (st : Store) (client : ℕ) (head : Head) (more : List AtomicRec) (g : Home) → ((st.tally.head client).epoch ≤ head.epoch) → HomeHolds st.tally g
-    → HomeHolds (after_head client head more st).tally g
-home_behind st client head more g rises h = record {
+home_behind : (st : Store) (now client : ℕ) (head : Head) (more : List AtomicRec) (g : Home) → ((st.tally.head client).epoch ≤ head.epoch) → HomeHolds st.tally now g
+    → HomeHolds (after_head client head more st).tally now g
+home_behind st now client head more g rises h = record {
   is_client = h.is_client;
   early = at_by (λ c q. g.client ≡ c → g.epoch ≤ q.epoch) client head st.tally.head
       (λ e. let early : g.epoch ≤ (st.tally.head client).epoch = subst (λ c. g.epoch ≤ (st.tally.head c).epoch) e h.early in omega (arith, early, rises))
       (λ c e. subst (λ k. g.epoch ≤ (st.tally.head k).epoch) e h.early) g.client refl;
   begun = h.begun;
+  own = h.own;
+  waiting = h.waiting;
 }
 
 -- an opening of another session, where nobody else's lease of the landing client lasts, and what landed is later than what it read
@@ -170,20 +205,21 @@ others_behind st now parts session client head more alone rises later h other ne
   where
     on : (p : Part) → parts other ≡ p → PartHolds st.tally now p → PartHolds (after_head client head more st).tally now p
     on Away e k = tt
-    on (AtHome g) e k = home_behind st client head more g rises k
+    on (AtHome g) e k = home_behind st now client head more g rises k
     on (Opens o) e k =
         opening_behind st now client head more o (λ same lasts. alone other ne (subst (λ q. IsLastingPart now client q) (sym e) (same, lasts))) (later other o ne e) k
 
 -- an opening puts the head of the next epoch: it becomes an open client
 pub opened_keeps : (st : Store) (now : ℕ) (parts : Parts) (session : ℕ) (o : Opening) (head : Head) → parts session ≡ Opens o → Lasts now o.lease → head.epoch ≡ o.read.epoch + 1
     → IsAlone now parts session o.client → ((id : ℕ) (r : AtomicRec) → IsLogMessage (st.tally.logged o.client) id r → r.epoch ≤ (st.tally.head o.client).epoch) → HomesHold st.tally now parts
-    → HomesHold (after_head o.client head [] st).tally now (at session (AtHome (record { client = o.client; epoch = head.epoch; attempt = 0; lease = o.lease })) parts)
+    → HomesHold (after_head o.client head [] st).tally now (at session (AtHome (record { client = o.client; epoch = head.epoch; attempt = 0; lease = o.lease; sent = []; needed = [] })) parts)
 opened_keeps st now parts session o head is lasts next alone early h =
-    one_changes (after_head o.client head [] st).tally now parts session (AtHome new) (record { is_client = mine.is_client; early = here; begun = begun })
+    one_changes (after_head o.client head [] st).tally now parts session (AtHome new)
+    (record { is_client = mine.is_client; early = here; begun = begun; own = λ id r m e f. absurd (none id r m e); waiting = λ lasts r is. absurd (in_none [] r refl is) })
     (others_behind st now parts session o.client head [] alone (omega (arith, newest_epoch, next)) later h) (λ other ne. on other ne (parts other) refl) h.apart
   where
     new : Home
-    new = record { client = o.client; epoch = head.epoch; attempt = 0; lease = o.lease }
+    new = record { client = o.client; epoch = head.epoch; attempt = 0; lease = o.lease; sent = []; needed = [] }
 
     mine : OpeningHolds st.tally now o
     mine = subst (λ p. PartHolds st.tally now p) is (h.each session)
@@ -197,11 +233,11 @@ opened_keeps st now parts session o head is lasts next alone early h =
     here : head.epoch ≤ ((after_head o.client head [] st).tally.head o.client).epoch
     here = let e : ((after_head o.client head [] st).tally.head o.client).epoch ≡ head.epoch = ap (λ (q : Head). q.epoch) (at_same o.client head st.tally.head o.client refl) in omega (arith, e)
 
+    none : (id : ℕ) (r : AtomicRec) → IsLogMessage (st.tally.logged o.client) id r → r.epoch ≡ head.epoch → ⊥
+    none id r m e = let low = early id r m in omega (arith, low, e, next, newest_epoch)
+
     begun : (id : ℕ) (r : AtomicRec) → IsLogMessage (st.tally.logged o.client) id r → r.epoch ≡ head.epoch → r.txn ≤ 0
-    begun id r m e = absurd (never (early id r m))
-      where
-        never : r.epoch ≤ (st.tally.head o.client).epoch → ⊥
-        never low = omega (arith, low, e, next, newest_epoch)
+    begun id r m e = absurd (none id r m e)
 
     -- what another opening read is at most what this one read
     later : (other : ℕ) (k : Opening) → other ≢ session → parts other ≡ Opens k → k.client ≡ o.client → k.read.epoch < head.epoch
@@ -231,7 +267,7 @@ commits_keeps st now parts session g head more is lasts epoch newest alone h = r
   apart = h.apart;
 }
   where
-    mine : HomeHolds st.tally g
+    mine : HomeHolds st.tally now g
     mine = subst (λ p. PartHolds st.tally now p) is (h.each session)
 
     -- an opening of the client read an earlier epoch
@@ -243,60 +279,152 @@ commits_keeps st now parts session g head more is lasts epoch newest alone h = r
 
     on : (s : ℕ) → (s ≡ session) ⊎ (s ≢ session) → PartHolds (after_head g.client head more st).tally now (parts s)
     on s (inl e) =
-        subst (λ p. PartHolds (after_head g.client head more st).tally now p) (sym (ap parts e ∙ is)) (home_behind st g.client head more g (omega (arith, newest, epoch)) mine)
+        subst (λ p. PartHolds (after_head g.client head more st).tally now p) (sym (ap parts e ∙ is)) (home_behind st now g.client head more g (omega (arith, newest, epoch)) mine)
     on s (inr ne) = others_behind st now parts session g.client head more alone (omega (arith, newest, epoch)) later h s ne
 
 -- ---- messages
 
--- an open client's commit sends a record of its epoch, of a transaction that it began
-pub logged_keeps : (st : Store) (now : ℕ) (parts : Parts) (session : ℕ) (g : Home) (post : Posted) (r : AtomicRec) → parts session ≡ AtHome g → Logs st g.client post r
-    → r.epoch ≡ g.epoch → r.txn ≤ g.attempt → HomesHold st.tally now parts → HomesHold (after_logged g.client post st).tally now parts
-logged_keeps st now parts session g post r is logs epoch txn h = record {
-  each = λ s. on s (parts s) refl (h.each s);
-  apart = h.apart;
-}
-  where
-    -- another open client of the client is of another epoch
-    begun : (s : ℕ) (k : Home) → parts s ≡ AtHome k → k.client ≡ g.client → r.epoch ≡ k.epoch → r.txn ≤ k.attempt
-    begun s k e same f = turn (cases_eq s session)
-      where
-        turn : (s ≡ session) ⊎ (s ≢ session) → r.txn ≤ k.attempt
-        turn (inl t) = let one : AtHome k ≡ AtHome g = sym e ∙ (ap parts t ∙ is) in subst (λ (x : Home). r.txn ≤ x.attempt) (sym (home_is k g one)) txn
-        turn (inr ne) =
-            let apart : AreApart now (AtHome k) (AtHome g) = subst (λ q. AreApart now (AtHome k) q) is (subst (λ p. AreApart now p (parts session)) e (h.apart s session ne)) in
-            absurd (apart same (sym f ∙ epoch))
+-- what is said of the messages of a client, by the messages
+abbrev Begun : List Posted → Home → Type 0
+Begun ps k = (id : ℕ) (q : AtomicRec) → IsLogMessage ps id q → q.epoch ≡ k.epoch → q.txn ≤ k.attempt
 
-    holds : (s : ℕ) (k : Home) → parts s ≡ AtHome k → HomeHolds st.tally k → HomeHolds (after_logged g.client post st).tally k
+abbrev Own : List Posted → Home → Type 0
+Own ps k = (id : ℕ) (q : AtomicRec) → IsLogMessage ps id q → q.epoch ≡ k.epoch → q.txn ≡ k.attempt → IsIn k.sent q
+
+abbrev Waiting : ℕ → List Posted → Home → Type 0
+Waiting now ps k = Lasts now k.lease → (q : AtomicRec) → IsIn k.needed q → WaitsLogged ps q
+
+-- the new message is a record of another epoch
+beside_begun : (ps : List Posted) (post : Posted) (r : AtomicRec) (k : Home) → atomic_of post.bytes ≡ Some r → (r.epoch ≡ k.epoch → ⊥) → Begun ps k → Begun (ps ++ post ∷ []) k
+beside_begun ps post r k reads other old id q m e = on (log_cases ps post id q m)
+  where
+    on : IsLogMessage ps id q ⊎ IsLast ps post id q → q.txn ≤ k.attempt
+    on (inl n) = old id q n e
+    on (inr l) = absurd (other (ap (λ (x : AtomicRec). x.epoch) (record_is r q (sym reads ∙ l.reads)) ∙ e))
+
+beside_own : (ps : List Posted) (post : Posted) (r : AtomicRec) (k : Home) → atomic_of post.bytes ≡ Some r → (r.epoch ≡ k.epoch → ⊥) → Own ps k → Own (ps ++ post ∷ []) k
+beside_own ps post r k reads other old id q m e f = on (log_cases ps post id q m)
+  where
+    on : IsLogMessage ps id q ⊎ IsLast ps post id q → IsIn k.sent q
+    on (inl n) = old id q n e f
+    on (inr l) = absurd (other (ap (λ (x : AtomicRec). x.epoch) (record_is r q (sym reads ∙ l.reads)) ∙ e))
+
+-- another session's home, behind a record that a home of another epoch of its client sent
+home_beside : (st : Store) (now client : ℕ) (post : Posted) (r : AtomicRec) (k : Home) → atomic_of post.bytes ≡ Some r → (k.client ≡ client → r.epoch ≡ k.epoch → ⊥) → HomeHolds st.tally now k
+    → HomeHolds (after_logged client post st).tally now k
+home_beside st now client post r k reads other h = record {
+  is_client = h.is_client;
+  early = h.early;
+  begun = at_by (λ c ps. k.client ≡ c → Begun ps k) client _ st.tally.logged
+      (λ e. beside_begun (st.tally.logged client) post r k reads (other e) (subst (λ n. Begun (st.tally.logged n) k) e h.begun)) (λ c e. subst (λ n. Begun (st.tally.logged n) k) e h.begun) k.client refl;
+  own = at_by (λ c ps. k.client ≡ c → Own ps k) client _ st.tally.logged
+      (λ e. beside_own (st.tally.logged client) post r k reads (other e) (subst (λ n. Own (st.tally.logged n) k) e h.own)) (λ c e. subst (λ n. Own (st.tally.logged n) k) e h.own) k.client refl;
+  waiting = at_by (λ c ps. k.client ≡ c → Waiting now ps k) client _ st.tally.logged
+      (λ e lasts q is. logged_more (st.tally.logged client) (post ∷ []) q (subst (λ n. Waiting now (st.tally.logged n) k) e h.waiting lasts q is))
+      (λ c e. subst (λ n. Waiting now (st.tally.logged n) k) e h.waiting) k.client refl;
+}
+
+-- the home with one more record of its last transaction sent
+abbrev pub with_sent : Home → AtomicRec → Home
+with_sent g r = record g { sent = g.sent ++ r ∷ []; needed = g.needed ++ r ∷ [] }
+
+-- an open client's commit sends a record of its epoch and last transaction
+pub logged_keeps : (st : Store) (now : ℕ) (parts : Parts) (session : ℕ) (g : Home) (post : Posted) (r : AtomicRec) → parts session ≡ AtHome g → Logs st g.client post r
+    → r.epoch ≡ g.epoch → r.txn ≡ g.attempt → HomesHold st.tally now parts
+    → HomesHold (after_logged g.client post st).tally now (at session (AtHome (with_sent g r)) parts)
+logged_keeps st now parts session g post r is logs epoch txn h =
+    one_changes (after_logged g.client post st).tally now parts session (AtHome (with_sent g r))
+    (record {
+      is_client = mine.is_client;
+      early = mine.early;
+      begun = subst (λ ps. Begun ps (with_sent g r)) (sym same) begun;
+      own = subst (λ ps. Own ps (with_sent g r)) (sym same) own;
+      waiting = subst (λ ps. Waiting now ps (with_sent g r)) (sym same) waiting;
+    })
+    (λ other ne. others other ne (parts other) refl (h.each other))
+    (λ other ne. apart (parts other) (subst (λ p. AreApart now p (parts other)) is (h.apart session other (λ e. ne (sym e))))) h.apart
+  where
+    mine : HomeHolds st.tally now g
+    mine = subst (λ p. PartHolds st.tally now p) is (h.each session)
+
+    same : (after_logged g.client post st).tally.logged g.client ≡ st.tally.logged g.client ++ post ∷ []
+    same = at_same g.client (st.tally.logged g.client ++ post ∷ []) st.tally.logged g.client refl
+
+    one : (id : ℕ) (q : AtomicRec) → IsLast (st.tally.logged g.client) post id q → r ≡ q
+    one id q l = record_is r q (sym logs.reads ∙ l.reads)
+
+    begun : Begun (st.tally.logged g.client ++ post ∷ []) (with_sent g r)
+    begun id q m e = on (log_cases (st.tally.logged g.client) post id q m)
+      where
+        on : IsLogMessage (st.tally.logged g.client) id q ⊎ IsLast (st.tally.logged g.client) post id q → q.txn ≤ g.attempt
+        on (inl n) = mine.begun id q n e
+        on (inr l) = subst (λ (x : AtomicRec). x.txn ≤ g.attempt) (one id q l) (omega (arith, txn))
+
+    own : Own (st.tally.logged g.client ++ post ∷ []) (with_sent g r)
+    own id q m e f = on (log_cases (st.tally.logged g.client) post id q m)
+      where
+        on : IsLogMessage (st.tally.logged g.client) id q ⊎ IsLast (st.tally.logged g.client) post id q → IsIn (g.sent ++ r ∷ []) q
+        on (inl n) = in_front g.sent (r ∷ []) q (mine.own id q n e f)
+        on (inr l) = subst (λ (x : AtomicRec). IsIn (g.sent ++ r ∷ []) x) (one id q l) (in_behind g.sent (r ∷ []) r (0, refl))
+
+    waiting : Waiting now (st.tally.logged g.client ++ post ∷ []) (with_sent g r)
+    waiting lasts q in_needed = on (in_either g.needed (r ∷ []) q in_needed)
+      where
+        new : WaitsLogged (st.tally.logged g.client ++ post ∷ []) r
+        new = record {
+          place = length (st.tally.logged g.client) + 0;
+          message = post;
+          there = get_behind (st.tally.logged g.client) (post ∷ []) 0 post refl;
+          reads = logs.reads;
+          unmarked = logs.unmarked;
+        }
+
+        on : IsIn g.needed q ⊎ IsIn (r ∷ []) q → WaitsLogged (st.tally.logged g.client ++ post ∷ []) q
+        on (inl old) = logged_more (st.tally.logged g.client) (post ∷ []) q (mine.waiting lasts q old)
+        on (inr last) = subst (λ (x : AtomicRec). WaitsLogged (st.tally.logged g.client ++ post ∷ []) x) (get_single r last.0 q last.1) new
+
+    others : (other : ℕ) → other ≢ session → (p : Part) → parts other ≡ p → PartHolds st.tally now p → PartHolds (after_logged g.client post st).tally now p
+    others other ne Away e old = tt
+    others other ne (AtHome k) e old = home_beside st now g.client post r k logs.reads differs old
+      where
+        differs : k.client ≡ g.client → r.epoch ≡ k.epoch → ⊥
+        differs same_client f =
+            let apart_k : AreApart now (AtHome k) (AtHome g) = subst (λ q. AreApart now (AtHome k) q) is (subst (λ p. AreApart now p (parts session)) e (h.apart other session ne)) in
+            apart_k same_client (sym f ∙ epoch)
+    others other ne (Opens o) e old = record { is_client = old.is_client; later = old.later; newest = old.newest }
+
+    apart : (p : Part) → AreApart now (AtHome g) p → AreApart now (AtHome (with_sent g r)) p
+    apart Away a = tt
+    apart (AtHome k) a = a
+    apart (Opens o) a = a
+
+-- a message is marked that no commit needs
+pub marked_keeps : (st : Store) (now : ℕ) (parts : Parts) (client id : ℕ) → IsSpared st.tally now parts client id → HomesHold st.tally now parts
+    → HomesHold (after_log_mark client id st).tally now parts
+marked_keeps st now parts client id spared h = record { each = λ s. on s (parts s) refl (h.each s); apart = h.apart }
+  where
+    holds : (s : ℕ) (k : Home) → parts s ≡ AtHome k → HomeHolds st.tally now k → HomeHolds (after_log_mark client id st).tally now k
     holds s k e old = record {
       is_client = old.is_client;
       early = old.early;
-      begun = at_by (λ c ps. k.client ≡ c → (id : ℕ) (q : AtomicRec) → IsLogMessage ps id q → q.epoch ≡ k.epoch → q.txn ≤ k.attempt) g.client _ st.tally.logged
-          (λ same id q m f. either id q same f (log_cases (st.tally.logged g.client) post id q m))
-          (λ c same id q m f. subst (λ n. (i : ℕ) (x : AtomicRec) → IsLogMessage (st.tally.logged n) i x → x.epoch ≡ k.epoch → x.txn ≤ k.attempt) same old.begun id q m f) k.client refl;
+      begun = at_by (λ c ps. k.client ≡ c → Begun ps k) client _ st.tally.logged
+          (λ same i q m. subst (λ n. Begun (st.tally.logged n) k) same old.begun i q (log_marked (st.tally.logged client) id i q m))
+          (λ c same. subst (λ n. Begun (st.tally.logged n) k) same old.begun) k.client refl;
+      own = at_by (λ c ps. k.client ≡ c → Own ps k) client _ st.tally.logged
+          (λ same i q m. subst (λ n. Own (st.tally.logged n) k) same old.own i q (log_marked (st.tally.logged client) id i q m))
+          (λ c same. subst (λ n. Own (st.tally.logged n) k) same old.own) k.client refl;
+      waiting = at_by (λ c ps. k.client ≡ c → Waiting now ps k) client _ st.tally.logged (λ same lasts q is. still same lasts q is)
+          (λ c same. subst (λ n. Waiting now (st.tally.logged n) k) same old.waiting) k.client refl;
     }
       where
-        either : (id : ℕ) (q : AtomicRec) → k.client ≡ g.client → q.epoch ≡ k.epoch → IsLogMessage (st.tally.logged g.client) id q ⊎ IsLast (st.tally.logged g.client) post id q → q.txn ≤ k.attempt
-        either id q same f (inl m) = subst (λ n. (i : ℕ) (x : AtomicRec) → IsLogMessage (st.tally.logged n) i x → x.epoch ≡ k.epoch → x.txn ≤ k.attempt) same old.begun id q m f
-        either id q same f (inr l) =
-            let one : r ≡ q = record_is r q (sym logs.reads ∙ l.reads) in
-            subst (λ (x : AtomicRec). x.txn ≤ k.attempt) one (begun s k e same (ap (λ (x : AtomicRec). x.epoch) one ∙ f))
+        still : k.client ≡ client → Lasts now k.lease → (q : AtomicRec) → IsIn k.needed q → WaitsLogged (marked (st.tally.logged client) id) q
+        still same lasts q is = turn (logged_marked (st.tally.logged client) id q (subst (λ n. Waiting now (st.tally.logged n) k) same old.waiting lasts q is))
+          where
+            turn : IsLogMessage (st.tally.logged client) id q ⊎ WaitsLogged (marked (st.tally.logged client) id) q → WaitsLogged (marked (st.tally.logged client) id) q
+            turn (inl m) = absurd (spared s k q e same lasts is m)
+            turn (inr w) = w
 
-    on : (s : ℕ) (p : Part) → parts s ≡ p → PartHolds st.tally now p → PartHolds (after_logged g.client post st).tally now p
+    on : (s : ℕ) (p : Part) → parts s ≡ p → PartHolds st.tally now p → PartHolds (after_log_mark client id st).tally now p
     on s Away e old = tt
     on s (AtHome k) e old = holds s k e old
     on s (Opens o) e old = record { is_client = old.is_client; later = old.later; newest = old.newest }
-
--- a mark adds no message
-pub marked_keeps : (st : Store) (now : ℕ) (parts : Parts) (client id : ℕ) → HomesHold st.tally now parts → HomesHold (after_log_mark client id st).tally now parts
-marked_keeps st now parts client id h = record { each = λ s. on (parts s) (h.each s); apart = h.apart }
-  where
-    on : (p : Part) → PartHolds st.tally now p → PartHolds (after_log_mark client id st).tally now p
-    on Away old = tt
-    on (AtHome k) old = record {
-      is_client = old.is_client;
-      early = old.early;
-      begun = at_by (λ c ps. k.client ≡ c → (i : ℕ) (q : AtomicRec) → IsLogMessage ps i q → q.epoch ≡ k.epoch → q.txn ≤ k.attempt) client _ st.tally.logged
-          (λ same i q m f. subst (λ n. (j : ℕ) (x : AtomicRec) → IsLogMessage (st.tally.logged n) j x → x.epoch ≡ k.epoch → x.txn ≤ k.attempt) same old.begun i q (log_marked (st.tally.logged client) id i q m) f)
-          (λ c same i q m f. subst (λ n. (j : ℕ) (x : AtomicRec) → IsLogMessage (st.tally.logged n) j x → x.epoch ≡ k.epoch → x.txn ≤ k.attempt) same old.begun i q m f) k.client refl;
-    }
-    on (Opens o) old = record { is_client = old.is_client; later = old.later; newest = old.newest }

@@ -1,18 +1,22 @@
 -- Open clients and openings under way, of all sessions.
-use Rattle.std.specs.Prelude.{ℕ, ◌≡◌, ◌≢◌, ◌<◌, ◌≤◌, ◌⊎◌}
+use Rattle.std.specs.Prelude.{ℕ, ◌≡◌, ◌≢◌, ◌<◌, ◌≤◌, ◌⊎◌, List}
 use Rattle.db_base.specs.Ids.{IsClient}
 use Rattle.cloud_trait.specs.Claim.{Claim, Lasts}
 use Rattle.head_codec.specs.declared.head.Head.{Head}
 use Rattle.log_codec.specs.declared.record.AtomicRec.{AtomicRec}
-use Rattle.store_book.specs.Messages.{IsLogMessage}
+use Rattle.store_book.specs.Messages.{IsLogMessage, WaitsLogged}
+use Rattle.store_book.specs.Records.{IsIn}
 use Rattle.store_book.specs.Tally.{Tally}
 
--- an open client: its epoch, the last transaction that it began in it, and its lease
+-- an open client: its epoch, the last transaction that it began in it, its lease, the records of that transaction that it sent to its ATOMIC
+-- queue, and those of them that its commit still needs there
 pub record Home : Type 0 where
   pub client : ℕ
   pub epoch : ℕ
   pub attempt : ℕ
   pub lease : Claim
+  pub sent : List AtomicRec
+  pub needed : List AtomicRec
 
 -- an opening that read the head and has not put the next one, and its lease
 pub record Opening : Type 0 where
@@ -39,11 +43,14 @@ IsLastingPart now client (Opens o) = (o.client ≡ client) × Lasts now o.lease
 abbrev pub IsAlone : ℕ → Parts → ℕ → ℕ → Type 0
 IsAlone now parts session client = (other : ℕ) → other ≢ session → IsLastingPart now client (parts other) → ⊥
 
--- an open client is not of a later epoch than the newest head, and no ATOMIC message is of its epoch and a later transaction than it began
-pub record HomeHolds (t : Tally) (h : Home) : Type 0 where
+-- an open client is not of a later epoch than the newest head; no ATOMIC message is of its epoch and a later transaction than it began, and
+-- those of its last transaction are the records that it sent; what its commit needs is not deleted while its lease lasts
+pub record HomeHolds (t : Tally) (now : ℕ) (h : Home) : Type 0 where
   pub is_client : IsClient h.client
   pub early : h.epoch ≤ (t.head h.client).epoch
   pub begun : (id : ℕ) (r : AtomicRec) → IsLogMessage (t.logged h.client) id r → r.epoch ≡ h.epoch → r.txn ≤ h.attempt
+  pub own : (id : ℕ) (r : AtomicRec) → IsLogMessage (t.logged h.client) id r → r.epoch ≡ h.epoch → r.txn ≡ h.attempt → IsIn h.sent r
+  pub waiting : Lasts now h.lease → (r : AtomicRec) → IsIn h.needed r → WaitsLogged (t.logged h.client) r
 
 -- the newest head is the one that an opening read, or of a later epoch; it is the one while the opening's lease lasts
 pub record OpeningHolds (t : Tally) (now : ℕ) (o : Opening) : Type 0 where
@@ -53,7 +60,7 @@ pub record OpeningHolds (t : Tally) (now : ℕ) (o : Opening) : Type 0 where
 
 abbrev pub PartHolds : Tally → ℕ → Part → Type 0
 PartHolds t now Away = Unit {0}
-PartHolds t now (AtHome h) = HomeHolds t h
+PartHolds t now (AtHome h) = HomeHolds t now h
 PartHolds t now (Opens o) = OpeningHolds t now o
 
 -- two sessions: open clients of one client differ in epoch, and one whose lease lasts is of a later epoch than what an opening read
@@ -69,3 +76,8 @@ AreApart now (Opens o) Away = Unit {0}
 pub record HomesHold (t : Tally) (now : ℕ) (parts : Parts) : Type 0 where
   pub each : (session : ℕ) → PartHolds t now (parts session)
   pub apart : (s u : ℕ) → s ≢ u → AreApart now (parts s) (parts u)
+
+-- the ATOMIC message of a number is none that the commit of a session whose lease lasts needs
+abbrev pub IsSpared : Tally → ℕ → Parts → ℕ → ℕ → Type 0
+IsSpared t now parts client id =
+    (session : ℕ) (h : Home) (r : AtomicRec) → parts session ≡ AtHome h → h.client ≡ client → Lasts now h.lease → IsIn h.needed r → IsLogMessage (t.logged client) id r → ⊥

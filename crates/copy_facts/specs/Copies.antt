@@ -1,0 +1,58 @@
+-- The copies of the committed records in the pending update queues: a client's are sent in the order of their numbers.
+use Rattle.std.specs.Prelude.{ℕ, ◌≡◌, ◌+◌, ◌<◌, ◌≤◌, false, List, Some}
+use Rattle.db_base.specs.Ids.{IsClient}
+use Rattle.cloud_trait.specs.declared.message.Message.{Message}
+use Rattle.cloud_trait.specs.declared.state.Posted.{Posted}
+use Rattle.log_codec.specs.Pu.{pu_of}
+use Rattle.log_codec.specs.declared.record.AtomicRec.{AtomicRec}
+use Rattle.log_codec.specs.declared.record.PuRec.{PuRec}
+use Rattle.left_facts.specs.Left.{IsCopied}
+use Rattle.store_book.specs.Records.{StandsAt, IsIn, under_way}
+use Rattle.store_book.specs.Tally.{Store}
+
+-- the message at a place of a queue is a client's record of a number
+pub record IsCopy (posts : List Posted) (client number place : ℕ) : Type 0 where
+  pub message : Posted
+  pub rec : PuRec
+  pub there : StandsAt posts place message
+  pub reads : pu_of message.bytes ≡ Some rec
+  pub client_is : rec.client ≡ client
+  pub number_is : rec.number ≡ number
+
+-- it is the first copy: no earlier message is that record
+pub record IsFirst (posts : List Posted) (client number place : ℕ) : Type 0 where
+  pub copy : IsCopy posts client number place
+  pub earliest : (i : ℕ) → IsCopy posts client number i → place ≤ i
+
+-- a copy stands before a place
+pub record HasBefore (posts : List Posted) (client number place : ℕ) : Type 0 where
+  pub at : ℕ
+  pub copy : IsCopy posts client number at
+  pub before : at < place
+
+pub record Copies (st : Store) : Type 0 where
+  -- before each copy of a number, the number before was sent
+  pub in_turn : (tree page client number place : ℕ) → 1 ≤ number → IsCopy (st.tally.posts tree page) client (number + 1) place
+      → HasBefore (st.tally.posts tree page) client number place
+  -- the first copy of a number above the cursor is not deleted
+  pub unmarked : (tree page client number place : ℕ) → IsClient client → st.tally.cursor tree page client < number
+      → (first : IsFirst (st.tally.posts tree page) client number place) → first.copy.message.deleted ≡ false
+  -- of a client's records under way those sent are a first part, in the log's order
+  pub ways : (client i j : ℕ) (q r : AtomicRec) → i < j → StandsAt (under_way st.tally client st.book.log) i q
+      → StandsAt (under_way st.tally client st.book.log) j r → IsCopied st.tally r → IsCopied st.tally q
+
+-- a record under way is sent only behind those under way of its client before it in the log
+abbrev pub SendsInTurn : Store → AtomicRec → Type 0
+SendsInTurn st r = (i j : ℕ) (q : AtomicRec) → i < j → StandsAt (under_way st.tally r.client st.book.log) i q
+    → StandsAt (under_way st.tally r.client st.book.log) j r → IsCopied st.tally q
+
+-- ---- what a receive finds
+
+-- a client's record of a number is among messages
+pub record IsAmong (messages : List Message) (client number : ℕ) : Type 0 where
+  pub message : Message
+  pub rec : PuRec
+  pub there : IsIn messages message
+  pub reads : pu_of message.bytes ≡ Some rec
+  pub client_is : rec.client ≡ client
+  pub number_is : rec.number ≡ number

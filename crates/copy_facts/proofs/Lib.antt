@@ -5,3 +5,5 @@ pub mod Queues
 pub mod Stays
 pub mod Runs
 pub mod Receives
+pub mod Turns
+pub mod Tops

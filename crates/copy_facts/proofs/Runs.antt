@@ -2,7 +2,7 @@
 use Rattle.std.proofs.Common.{◌≡◌, ◌+◌, ◌-◌, ◌<◌, ◌≤◌, ℕ, zero, suc, false, List, arith}
 use Rattle.db_base.specs.Ids.{IsClient}
 use Rattle.cloud_trait.specs.declared.state.Posted.{Posted}
-use Rattle.copy_facts.specs.Copies.{IsCopy, IsFirst, Copies}
+use Rattle.copy_facts.specs.Copies.{IsCopy, IsFirst, Copies, FirstCopies}
 use Rattle.copy_facts.proofs.CopyLemmas.{copy_at_number, first_of}
 use Rattle.store_book.specs.Tally.{Store}
 
@@ -55,3 +55,10 @@ module _ (st : Store) (h : Copies st) (tree page client : ℕ) where
         within = let x = f.within in let y = u.within in omega (arith, x, y);
         unmarked = h.unmarked tree page client number f.place is above f.first;
       }
+
+  pub first_copies : IsClient client → FirstCopies (st.tally.posts tree page) client (st.tally.cursor tree page client)
+  first_copies is = record {
+    no_gap = λ number upto place above most c. let s = run_stays is number upto place above most c in (s.place, s.first);
+    in_order = λ a b i j above less one other. first_in_order a b i j (omega (arith, above)) less one other;
+    unmarked = λ number place above first. h.unmarked tree page client number place is above first;
+  }

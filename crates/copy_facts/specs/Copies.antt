@@ -5,6 +5,7 @@ use Rattle.cloud_trait.specs.declared.message.Message.{Message}
 use Rattle.cloud_trait.specs.declared.state.Posted.{Posted}
 use Rattle.log_codec.specs.Pu.{pu_of}
 use Rattle.log_codec.specs.declared.record.AtomicRec.{AtomicRec}
+use Rattle.log_codec.specs.declared.record.PuItem.{PuItem}
 use Rattle.log_codec.specs.declared.record.PuRec.{PuRec}
 use Rattle.left_facts.specs.Left.{IsCopied}
 use Rattle.store_book.specs.Records.{StandsAt, IsIn, under_way}
@@ -46,7 +47,15 @@ abbrev pub SendsInTurn : Store → AtomicRec → Type 0
 SendsInTurn st r = (i j : ℕ) (q : AtomicRec) → i < j → StandsAt (under_way st.tally r.client st.book.log) i q
     → StandsAt (under_way st.tally r.client st.book.log) j r → IsCopied st.tally q
 
--- ---- what a receive finds
+-- ---- what settling rests on
+
+-- the first copies of a client's numbers above a cursor
+pub record FirstCopies (posts : List Posted) (client cursor : ℕ) : Type 0 where
+  -- where a number was sent, so was each above the cursor and below it
+  pub no_gap : (number upto place : ℕ) → cursor < number → number ≤ upto → IsCopy posts client upto place → (i : ℕ) × IsFirst posts client number i
+  -- they stand in the order of their numbers
+  pub in_order : (a b i j : ℕ) → cursor < a → a < b → IsFirst posts client a i → IsFirst posts client b j → i < j
+  pub unmarked : (number place : ℕ) → cursor < number → (first : IsFirst posts client number place) → first.copy.message.deleted ≡ false
 
 -- a client's record of a number is among messages
 pub record IsAmong (messages : List Message) (client number : ℕ) : Type 0 where
@@ -56,3 +65,8 @@ pub record IsAmong (messages : List Message) (client number : ℕ) : Type 0 wher
   pub reads : pu_of message.bytes ≡ Some rec
   pub client_is : rec.client ≡ client
   pub number_is : rec.number ≡ number
+
+-- items are the records of messages
+pub record AreItems (messages : List Message) (items : List PuItem) : Type 0 where
+  pub of : (x : PuItem) → IsIn items x → (m : Message) × IsIn messages m × (pu_of m.bytes ≡ Some x.rec)
+  pub all : (m : Message) (rec : PuRec) → IsIn messages m → pu_of m.bytes ≡ Some rec → (x : PuItem) × IsIn items x × (x.rec ≡ rec)

@@ -19,7 +19,8 @@ copy_at_number posts client a b place e c =
     record { message = c.message; rec = c.rec; there = c.there; reads = c.reads; client_is = c.client_is; number_is = c.number_is ∙ e }
 
 -- a record that was sent has a copy before the end
-pub copy_of_sent : (posts : List Posted) (client number : ℕ) (rec : PuRec) → rec.client ≡ client → rec.number ≡ number → HasCopy posts rec → HasBefore posts client number (length posts)
+pub copy_of_sent : (posts : List Posted) (client number : ℕ) (rec : PuRec) → rec.client ≡ client → rec.number ≡ number → HasCopy posts rec
+    → HasBefore posts client number (length posts)
 copy_of_sent posts client number rec own e h = record {
   at = h.place;
   copy = record { message = h.message; rec = rec; there = h.there; reads = h.reads; client_is = own; number_is = e };
@@ -88,11 +89,13 @@ pub record HasFirst (posts : List Posted) (client number upto : ℕ) : Type 0 wh
   pub first : IsFirst posts client number place
   pub within : place ≤ upto
 
-copy_behind : (post : Posted) (posts : List Posted) (client number place : ℕ) → IsCopy (post ∷ posts) client number (suc place) → IsCopy posts client number place
+copy_behind : (post : Posted) (posts : List Posted) (client number place : ℕ) → IsCopy (post ∷ posts) client number (suc place)
+    → IsCopy posts client number place
 copy_behind post posts client number place c =
     record { message = c.message; rec = c.rec; there = c.there; reads = c.reads; client_is = c.client_is; number_is = c.number_is }
 
-copy_further : (post : Posted) (posts : List Posted) (client number place : ℕ) → IsCopy posts client number place → IsCopy (post ∷ posts) client number (suc place)
+copy_further : (post : Posted) (posts : List Posted) (client number place : ℕ) → IsCopy posts client number place
+    → IsCopy (post ∷ posts) client number (suc place)
 copy_further post posts client number place c =
     record { message = c.message; rec = c.rec; there = c.there; reads = c.reads; client_is = c.client_is; number_is = c.number_is }
 
@@ -101,7 +104,10 @@ copy_or_not : (post : Posted) (posts : List Posted) (client number : ℕ) → Is
 copy_or_not post posts client number = on (pu_of post.bytes) refl
   where
     is_front : (c : IsCopy (post ∷ posts) client number 0) → pu_of post.bytes ≡ Some c.rec
-    is_front c = let h : slice_get (post ∷ posts) 0 ≡ Some c.message = c.there in let same : post ≡ c.message = cc in ap (λ (m : Posted). pu_of m.bytes) same ∙ c.reads
+    is_front c =
+        let h : slice_get (post ∷ posts) 0 ≡ Some c.message = c.there in
+        let same : post ≡ c.message = cc in
+        ap (λ (m : Posted). pu_of m.bytes) same ∙ c.reads
 
     same_rec : (a b : PuRec) → Some a ≡ Some b → a ≡ b
     same_rec a b e = cc

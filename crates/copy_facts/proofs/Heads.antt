@@ -19,7 +19,8 @@ use Rattle.store_book.proofs.Names.{at_same}
 use Rattle.store_book.proofs.Places.{in_none}
 
 -- a record that a head opens was not sent: it has a number above the count of its queue
-never_sent : (st : Store) (client : ℕ) (head : Head) (records : List AtomicRec) → Opens st client head records → Numbers st → (place : ℕ) (r : AtomicRec) → StandsAt records place r
+never_sent : (st : Store) (client : ℕ) (head : Head) (records : List AtomicRec) → Opens st client head records → Numbers st
+    → (place : ℕ) (r : AtomicRec) → StandsAt records place r
     → IsCopied st.tally r → ⊥
 never_sent st client head records opens numbers place r there copy =
     let w = opens.records_are place r there in
@@ -34,7 +35,8 @@ never_sent st client head records opens numbers place r there copy =
     ∙ (ap (λ p. count_of r.tree p sent.of.client st.book.log) sent.page_is ∙ ap (λ c. count_of r.tree r.page c st.book.log) client_is) in
     omega (arith, number_is, within, count_is, w.number_is)
 
-pub opens_keeps : (st : Store) (client : ℕ) (head : Head) (records : List AtomicRec) → Opens st client head records → Numbers st → Copies st → Copies (after_head client head records st)
+pub opens_keeps : (st : Store) (client : ℕ) (head : Head) (records : List AtomicRec) → Opens st client head records → Numbers st → Copies st
+    → Copies (after_head client head records st)
 opens_keeps st client head records opens numbers h = record {
   in_turn = h.in_turn;
   unmarked = h.unmarked;
@@ -51,7 +53,8 @@ opens_keeps st client head records opens numbers h = record {
     here c e = ap ways_of e ∙ ways_opened st client head records opens numbers
 
     on : (c i j : ℕ) (q r : AtomicRec) → i < j → StandsAt (under_way (after_head client head records st).tally c (st.book.log ++ records)) i q
-        → StandsAt (under_way (after_head client head records st).tally c (st.book.log ++ records)) j r → IsCopied st.tally r → (c ≡ client) ⊎ (c ≢ client) → IsCopied st.tally q
+        → StandsAt (under_way (after_head client head records st).tally c (st.book.log ++ records)) j r → IsCopied st.tally r
+        → (c ≡ client) ⊎ (c ≢ client) → IsCopied st.tally q
     on c i j q r less one other copy (inl e) = absurd (never_sent st client head records opens numbers j r (subst (λ ws. StandsAt ws j r) (here c e) other) copy)
     on c i j q r less one other copy (inr ne) =
         let same = ways_other st client head records c ne own in
@@ -74,7 +77,8 @@ settles_keeps st client head settles h = record {
         settled_way head r settles.phase (ap (λ g. is_way g r) (sym (at_same client head st.tally.head r.client (own.0 ∙ e))) ∙ own.1)
 
     on : (c i j : ℕ) (q r : AtomicRec) → i < j → StandsAt (under_way (after_head client head [] st).tally c (st.book.log ++ [])) i q
-        → StandsAt (under_way (after_head client head [] st).tally c (st.book.log ++ [])) j r → IsCopied st.tally r → (c ≡ client) ⊎ (c ≢ client) → IsCopied st.tally q
+        → StandsAt (under_way (after_head client head [] st).tally c (st.book.log ++ [])) j r → IsCopied st.tally r → (c ≡ client) ⊎ (c ≢ client)
+        → IsCopied st.tally q
     on c i j q r less one other copy (inl e) = absurd (never c j r e other)
     on c i j q r less one other copy (inr ne) =
         let same = ways_other st client head [] c ne none in

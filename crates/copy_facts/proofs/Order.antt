@@ -32,15 +32,19 @@ filter_order {X} p (z ∷ zs) (suc i) (suc j) x y less e f px py = on (p z) (fil
     on false h = h
 
 -- and the other way round
-pub order_of_filter : {X : Type 0} (p : X → Bool) (xs : List X) (k l : ℕ) (x y : X) → k < l → slice_get (filter p xs) k ≡ Some x → slice_get (filter p xs) l ≡ Some y
+pub order_of_filter : {X : Type 0} (p : X → Bool) (xs : List X) (k l : ℕ) (x y : X) → k < l → slice_get (filter p xs) k ≡ Some x
+    → slice_get (filter p xs) l ≡ Some y
     → Ordered xs x y
 order_of_filter p [] k l x y less e f = absurd (cc)
 order_of_filter {X} p (z ∷ zs) k l x y less e f = on (p z) k l less e f (λ a b c d g. order_of_filter p zs a b x y c d g)
   where
-    on : (b : Bool) (k l : ℕ) → k < l → slice_get (cond b (z ∷ filter p zs) (filter p zs)) k ≡ Some x → slice_get (cond b (z ∷ filter p zs) (filter p zs)) l ≡ Some y
+    on : (b : Bool) (k l : ℕ) → k < l → slice_get (cond b (z ∷ filter p zs) (filter p zs)) k ≡ Some x
+        → slice_get (cond b (z ∷ filter p zs) (filter p zs)) l ≡ Some y
         → ((a b : ℕ) → a < b → slice_get (filter p zs) a ≡ Some x → slice_get (filter p zs) b ≡ Some y → Ordered zs x y) → Ordered (z ∷ zs) x y
     on true zero zero less e f again = absurd (omega (arith, less))
-    on true zero (suc l) less e f again = let rest = filter_there p zs l y f in record { i = 0; j = suc rest.place; less = omega arith; one = e; other = rest.there }
+    on true zero (suc l) less e f again =
+        let rest = filter_there p zs l y f in
+        record { i = 0; j = suc rest.place; less = omega arith; one = e; other = rest.there }
     on true (suc k) zero less e f again = absurd (omega (arith, less))
     on true (suc k) (suc l) less e f again = behind z zs x y (again k l (omega (arith, less)) e f)
     on false k l less e f again = behind z zs x y (again k l less e f)

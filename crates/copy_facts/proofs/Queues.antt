@@ -7,6 +7,7 @@ use Rattle.cloud_trait.specs.State.{marked}
 use Rattle.cloud_trait.specs.declared.state.Posted.{Posted}
 use Rattle.copy_facts.specs.Copies.{IsCopy, IsFirst, HasBefore, Copies, SendsInTurn}
 use Rattle.copy_facts.proofs.CopyLemmas.{copy_of_sent, copy_front, before_front, IsNew, new_cases, before_marked, copy_marked, copy_unmarked, sent_unmarked}
+use Rattle.copy_facts.proofs.Turns.{way_in_log}
 use Rattle.copy_facts.proofs.Order.{Ordered, filter_order, order_of_filter}
 use Rattle.left_facts.specs.Left.{IsCopied, Leaves}
 use Rattle.left_facts.proofs.MessageLemmas.{copy_more, copy_marked as sent_marked}
@@ -16,7 +17,6 @@ use Rattle.log_codec.specs.declared.record.AtomicRec.{AtomicRec}
 use Rattle.log_codec.specs.declared.record.PuRec.{PuRec}
 use Rattle.number_facts.specs.Numbers.{Numbers}
 use Rattle.number_facts.proofs.Known.{record_is, has_number}
-use Rattle.number_facts.proofs.Lists.{filter_there}
 use Rattle.number_facts.proofs.Queues.{IsOfQueue, HasNumber, HasSeat, seat}
 use Rattle.route_plan.specs.Record.{pu_record_of}
 use Rattle.store_book.specs.Effects.{after_logged, after_posted, after_log_mark, after_post_mark}
@@ -78,7 +78,8 @@ copy_of_record st tree page client number q is e copy =
 
 -- the number before that of the record that is sent was sent
 number_before : (st : Store) (tree page : ℕ) (post : Posted) (r : AtomicRec) → Posts st tree page post r → SendsInTurn st r → Numbers st → Leaves st → Copies st
-    → (client number : ℕ) → 1 ≤ number → r.client ≡ client → r.number ≡ number + 1 → HasBefore (st.tally.posts tree page) client number (length (st.tally.posts tree page))
+    → (client number : ℕ) → 1 ≤ number → r.client ≡ client → r.number ≡ number + 1
+    → HasBefore (st.tally.posts tree page) client number (length (st.tally.posts tree page))
 number_before st tree page post r posts turn numbers leaves h client number some own e = on (way_or_past st.tally q.of) (way_or_past st.tally r)
   where
     of_r : IsOfQueue tree page client r
@@ -106,7 +107,8 @@ number_before st tree page post r posts turn numbers leaves h client number some
     less : q.of.number < r.number
     less = let n = q.number_is in omega (arith, n, e)
 
-    on : IsUnderWay st.tally q.of ⊎ IsPast st.tally q.of → IsUnderWay st.tally r ⊎ IsPast st.tally r → HasBefore (st.tally.posts tree page) client number (length (st.tally.posts tree page))
+    on : IsUnderWay st.tally q.of ⊎ IsPast st.tally q.of → IsUnderWay st.tally r ⊎ IsPast st.tally r
+        → HasBefore (st.tally.posts tree page) client number (length (st.tally.posts tree page))
     on (inr past) either = copy_of_record st tree page client number q.of q.is q.number_is (leaves.copied q.of q.logged (inr past))
     on (inl way) (inr past) = again (leaves.copied r posts.logged (inr past))
     on (inl way) (inl way_r) =
@@ -125,7 +127,14 @@ sent_cases posts post r rec reads c = on (new_cases posts post c.place c.message
     on (inl there) = inl (record { place = c.place; message = c.message; there = there; reads = c.reads })
     on (inr new) = inr (same_rec rec (pu_record_of r) (sym c.reads ∙ (sym (ap (λ (m : Posted). pu_of m.bytes) new.message_is) ∙ reads)))
 
-pub posted_keeps : (st : Store) (tree page : ℕ) (post : Posted) (r : AtomicRec) → Posts st tree page post r → SendsInTurn st r → Numbers st → Leaves st → Copies st
+-- a record is the one that is sent
+record IsSentOne (tree page : ℕ) (r x : AtomicRec) : Type 0 where
+  pub tree_is : x.tree ≡ tree
+  pub page_is : x.page ≡ page
+  pub rec_is : pu_record_of x ≡ pu_record_of r
+
+pub posted_keeps : (st : Store) (tree page : ℕ) (post : Posted) (r : AtomicRec) → Posts st tree page post r → SendsInTurn st r → Numbers st
+    → Leaves st → Copies st
     → Copies (after_posted tree page post st)
 posted_keeps st tree page post r posts turn numbers leaves h = record {
   in_turn = λ t p client number place some copy. in_turn client number place some t p copy;
@@ -150,7 +159,8 @@ posted_keeps st tree page post r posts turn numbers leaves h = record {
             (h.in_turn tree page client number place some
             (record { message = c.message; rec = c.rec; there = there; reads = c.reads; client_is = c.client_is; number_is = c.number_is }))
         on c (inr new) =
-            let rec_is : c.rec ≡ pu_record_of r = same_rec c.rec (pu_record_of r) (sym c.reads ∙ (sym (ap (λ (m : Posted). pu_of m.bytes) new.message_is) ∙ posts.reads)) in
+            let rec_is : c.rec ≡ pu_record_of r =
+            same_rec c.rec (pu_record_of r) (sym c.reads ∙ (sym (ap (λ (m : Posted). pu_of m.bytes) new.message_is) ∙ posts.reads)) in
             let own : r.client ≡ client = sym (ap (λ (p : PuRec). p.client) rec_is) ∙ c.client_is in
             let number_is : r.number ≡ number + 1 = sym (ap (λ (p : PuRec). p.number) rec_is) ∙ c.number_is in
             before_front (st.tally.posts tree page) (post ∷ []) client number place
@@ -160,12 +170,14 @@ posted_keeps st tree page post r posts turn numbers leaves h = record {
     unmarked : (client number place : ℕ) → IsClient client → (t p : ℕ) → st.tally.cursor t p client < number
         → (first : IsFirst ((after_posted tree page post st).tally.posts t p) client number place) → first.copy.message.deleted ≡ false
     unmarked client number place is =
-        at2_by (λ t p ps. st.tally.cursor t p client < number → (first : IsFirst ps client number place) → first.copy.message.deleted ≡ false) tree page _ st.tally.posts
+        at2_by (λ t p ps. st.tally.cursor t p client < number → (first : IsFirst ps client number place) → first.copy.message.deleted ≡ false)
+        tree page _ st.tally.posts
         (λ above first. on above first (new_cases (st.tally.posts tree page) post place first.copy.message first.copy.there))
         (λ t p above first. h.unmarked t p client number place is above first)
       where
         on : st.tally.cursor tree page client < number → (first : IsFirst (st.tally.posts tree page ++ post ∷ []) client number place)
-            → (slice_get (st.tally.posts tree page) place ≡ Some first.copy.message) ⊎ IsNew (st.tally.posts tree page) post place first.copy.message → first.copy.message.deleted ≡ false
+            → (slice_get (st.tally.posts tree page) place ≡ Some first.copy.message) ⊎ IsNew (st.tally.posts tree page) post place first.copy.message
+            → first.copy.message.deleted ≡ false
         on above first (inl there) =
             let c = first.copy in
             h.unmarked tree page client number place is above
@@ -176,35 +188,36 @@ posted_keeps st tree page post r posts turn numbers leaves h = record {
         on above first (inr new) = sym (ap (λ (m : Posted). m.deleted) new.message_is) ∙ posts.unmarked
 
     -- what is copied now was before, or is the record that is sent
-    cases : (x : AtomicRec) → IsCopied (after_posted tree page post st).tally x → IsCopied st.tally x ⊎ ((x.tree ≡ tree) × (x.page ≡ page) × (pu_record_of x ≡ pu_record_of r))
+    cases : (x : AtomicRec) → IsCopied (after_posted tree page post st).tally x
+        → IsCopied st.tally x ⊎ IsSentOne tree page r x
     cases x =
-        at2_by (λ t p ps. x.tree ≡ t → x.page ≡ p → HasCopy ps (pu_record_of x) → HasCopy (st.tally.posts t p) (pu_record_of x) ⊎ ((x.tree ≡ tree) × (x.page ≡ page) × (pu_record_of x ≡ pu_record_of r)))
-        tree page _ st.tally.posts (λ a b c. on a b (sent_cases (st.tally.posts tree page) post r (pu_record_of x) posts.reads c)) (λ t p a b c. inl c) x.tree x.page refl refl
+        at2_by (λ t p ps. x.tree ≡ t → x.page ≡ p → HasCopy ps (pu_record_of x) → HasCopy (st.tally.posts t p) (pu_record_of x) ⊎ IsSentOne tree page r x)
+        tree page _ st.tally.posts
+        (λ a b c. on a b (sent_cases (st.tally.posts tree page) post r (pu_record_of x) posts.reads c)) (λ t p a b c. inl c) x.tree x.page refl refl
       where
         on : x.tree ≡ tree → x.page ≡ page → HasCopy (st.tally.posts tree page) (pu_record_of x) ⊎ (pu_record_of x ≡ pu_record_of r)
-            → HasCopy (st.tally.posts tree page) (pu_record_of x) ⊎ ((x.tree ≡ tree) × (x.page ≡ page) × (pu_record_of x ≡ pu_record_of r))
+            → HasCopy (st.tally.posts tree page) (pu_record_of x) ⊎ IsSentOne tree page r x
         on a b (inl c) = inl c
-        on a b (inr e) = inr (a, b, e)
+        on a b (inr e) = inr (record { tree_is = a; page_is = b; rec_is = e })
 
     more : (q : AtomicRec) → IsCopied st.tally q → IsCopied (after_posted tree page post st).tally q
     more q =
         at2_by (λ t p ps. HasCopy (st.tally.posts t p) (pu_record_of q) → HasCopy ps (pu_record_of q)) tree page _ st.tally.posts
         (copy_more (st.tally.posts tree page) (post ∷ []) (pu_record_of q)) (λ t p c. c) q.tree q.page
 
-    ways : (client i j : ℕ) (q x : AtomicRec) → i < j → StandsAt (under_way st.tally client st.book.log) i q → StandsAt (under_way st.tally client st.book.log) j x
-        → IsCopied st.tally x ⊎ ((x.tree ≡ tree) × (x.page ≡ page) × (pu_record_of x ≡ pu_record_of r)) → IsCopied (after_posted tree page post st).tally q
+    ways : (client i j : ℕ) (q x : AtomicRec) → i < j → StandsAt (under_way st.tally client st.book.log) i q
+        → StandsAt (under_way st.tally client st.book.log) j x
+        → IsCopied st.tally x ⊎ IsSentOne tree page r x → IsCopied (after_posted tree page post st).tally q
     ways client i j q x less one other (inl copy) = more q (h.ways client i j q x less one other copy)
     ways client i j q x less one other (inr is) =
         let own = of_ways st.tally client st.book.log j x other in
-        let in_x : IsIn st.book.log x = in_log client j x other in
-        let client_is : x.client ≡ r.client = ap (λ (p : PuRec). p.client) is.2 in
-        let same : x ≡ r = record_is st numbers x r in_x posts.logged (is.0 ∙ sym posts.tree_is) (is.1 ∙ sym posts.page_is) client_is (ap (λ (p : PuRec). p.number) is.2) in
+        let in_x : IsIn st.book.log x = way_in_log st client j x other in
+        let client_is : x.client ≡ r.client = ap (λ (p : PuRec). p.client) is.rec_is in
+        let same : x ≡ r =
+        record_is st numbers x r in_x posts.logged (is.tree_is ∙ sym posts.tree_is) (is.page_is ∙ sym posts.page_is) client_is (ap (λ (p : PuRec). p.number) is.rec_is) in
         let c : client ≡ r.client = sym own.0 ∙ client_is in
         more q (turn i j q less (subst (λ k. StandsAt (under_way st.tally k st.book.log) i q) c one)
         (subst (λ k. StandsAt (under_way st.tally k st.book.log) j r) c (subst (λ y. StandsAt (under_way st.tally client st.book.log) j y) same other)))
-      where
-        in_log : (client j : ℕ) (x : AtomicRec) → StandsAt (under_way st.tally client st.book.log) j x → IsIn st.book.log x
-        in_log client j x there = let p = filter_there (λ (y : AtomicRec). (y.client == client) && is_under_way st.tally y) st.book.log j x there in (p.place, p.there)
 
 -- ---- a pending update message is marked: it is none above the cursor
 
@@ -226,7 +239,8 @@ post_mark_keeps st tree page id marking h = record {
     unmarked : (client number place : ℕ) → IsClient client → (t p : ℕ) → st.tally.cursor t p client < number
         → (first : IsFirst ((after_post_mark tree page id st).tally.posts t p) client number place) → first.copy.message.deleted ≡ false
     unmarked client number place is =
-        at2_by (λ t p ps. st.tally.cursor t p client < number → (first : IsFirst ps client number place) → first.copy.message.deleted ≡ false) tree page _ st.tally.posts
+        at2_by (λ t p ps. st.tally.cursor t p client < number → (first : IsFirst ps client number place) → first.copy.message.deleted ≡ false)
+        tree page _ st.tally.posts
         (λ above first. on above first (cases_eq id (place + 1))) (λ t p above first. h.unmarked t p client number place is above first)
       where
         same_message : (ps : List Posted) (a b : Posted) → slice_get ps place ≡ Some a → slice_get ps place ≡ Some b → a ≡ b
@@ -247,7 +261,8 @@ post_mark_keeps st tree page id marking h = record {
               earliest = λ i d. first.earliest i (copy_marked (st.tally.posts tree page) id client number i d);
             } in
             let same : c.message ≡ first.copy.message =
-            same_message (marked (st.tally.posts tree page) id) c.message first.copy.message (marked_other (st.tally.posts tree page) id place c.message c.there ne) first.copy.there in
+            same_message (marked (st.tally.posts tree page) id) c.message first.copy.message
+            (marked_other (st.tally.posts tree page) id place c.message c.there ne) first.copy.there in
             sym (ap (λ (m : Posted). m.deleted) same) ∙ h.unmarked tree page client number place is above old
 
     before : (r : AtomicRec) → IsCopied (after_post_mark tree page id st).tally r → IsCopied st.tally r

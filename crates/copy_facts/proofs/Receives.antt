@@ -58,7 +58,8 @@ in_front m ms y ys x same is = record { place = 0; message = m; there = refl; by
     early (suc i) a low e is = absurd (omega (arith, low))
 
 -- a message behind one that is not deleted
-behind_left : (m : Posted) (ms : List Posted) (y : Message) (ys : List Message) (k : ℕ) (x : Message) → y.bytes ≡ m.bytes → IsLeft ms ys k x → IsLeft (m ∷ ms) (y ∷ ys) (suc k) x
+behind_left : (m : Posted) (ms : List Posted) (y : Message) (ys : List Message) (k : ℕ) (x : Message) → y.bytes ≡ m.bytes → IsLeft ms ys k x
+    → IsLeft (m ∷ ms) (y ∷ ys) (suc k) x
 behind_left m ms y ys k x same u = record { place = suc u.place; message = u.message; there = u.there; bytes_is = u.bytes_is; earlier = early }
   where
     is_front : (a : Posted) → slice_get (m ∷ ms) 0 ≡ Some a → m ≡ a
@@ -72,11 +73,15 @@ pub left_of : (ms : List Posted) (n k : ℕ) (x : Message) → slice_get (unmark
 left_of [] n k x e = absurd (cc)
 left_of (m ∷ ms) n k x e = on m.deleted refl k e (λ i f. left_of ms (n + 1) i x f)
   where
-    on : (b : Bool) → m.deleted ≡ b → (k : ℕ) → slice_get (cond b (unmarked_from (n + 1) ms) (record { id = n; bytes = m.bytes } ∷ unmarked_from (n + 1) ms)) k ≡ Some x
+    on : (b : Bool) → m.deleted ≡ b → (k : ℕ)
+        → slice_get (cond b (unmarked_from (n + 1) ms) (record { id = n; bytes = m.bytes } ∷ unmarked_from (n + 1) ms)) k ≡ Some x
         → ((i : ℕ) → slice_get (unmarked_from (n + 1) ms) i ≡ Some x → IsLeft ms (unmarked_from (n + 1) ms) i x)
         → IsLeft (m ∷ ms) (cond b (unmarked_from (n + 1) ms) (record { id = n; bytes = m.bytes } ∷ unmarked_from (n + 1) ms)) k x
     on true d k e again = behind_deleted m ms (unmarked_from (n + 1) ms) k x d (again k e)
-    on false d zero e again = let y : Message = record { id = n; bytes = m.bytes } in let same : y ≡ x = cc in in_front m ms y (unmarked_from (n + 1) ms) x refl same
+    on false d zero e again =
+        let y : Message = record { id = n; bytes = m.bytes } in
+        let same : y ≡ x = cc in
+        in_front m ms y (unmarked_from (n + 1) ms) x refl same
     on false d (suc k) e again = behind_left m ms (record { id = n; bytes = m.bytes }) (unmarked_from (n + 1) ms) k x refl (again k e)
 
 -- ---- the first so many
@@ -96,21 +101,27 @@ take_at (suc most) (y ∷ xs) (suc k) x less e = take_at most xs k x (omega (ari
 -- ---- what is received
 
 -- of the first so many messages that are not deleted: where a client's number is among them, so is each behind the cursor up to it
-pub received_is_run : (st : Store) → Copies st → (tree page client most : ℕ) → IsClient client → (number upto : ℕ) → st.tally.cursor tree page client < number → number ≤ upto
+pub received_is_run : (st : Store) → Copies st → (tree page client most : ℕ) → IsClient client → (number upto : ℕ)
+    → st.tally.cursor tree page client < number → number ≤ upto
     → IsAmong (take most (unmarked (st.tally.posts tree page))) client upto → IsAmong (take most (unmarked (st.tally.posts tree page))) client number
 received_is_run st h tree page client most is number upto above up among = found (run_stays st h tree page client is number upto left.place above up copy)
   where
-    at : ℕ
-    at = among.there.0
-
     less : among.there.0 < most
     less = take_within most (unmarked (st.tally.posts tree page)) among.there.0 among.message among.there.1
 
     left : IsLeft (st.tally.posts tree page) (unmarked (st.tally.posts tree page)) among.there.0 among.message
-    left = left_of (st.tally.posts tree page) 1 among.there.0 among.message (take_there most (unmarked (st.tally.posts tree page)) among.there.0 among.message among.there.1)
+    left = left_of (st.tally.posts tree page) 1 among.there.0 among.message
+        (take_there most (unmarked (st.tally.posts tree page)) among.there.0 among.message among.there.1)
 
     copy : IsCopy (st.tally.posts tree page) client upto left.place
-    copy = record { message = left.message; rec = among.rec; there = left.there; reads = ap pu_of left.bytes_is ∙ among.reads; client_is = among.client_is; number_is = among.number_is }
+    copy = record {
+      message = left.message;
+      rec = among.rec;
+      there = left.there;
+      reads = ap pu_of left.bytes_is ∙ among.reads;
+      client_is = among.client_is;
+      number_is = among.number_is;
+    }
 
     found : Stays (st.tally.posts tree page) client number left.place → IsAmong (take most (unmarked (st.tally.posts tree page))) client number
     found s =
@@ -126,13 +137,17 @@ received_is_run st h tree page client most is number upto above up among = found
         }
 
 -- a first copy that is not deleted is among the messages that are not deleted
-pub among_left : (posts : List Posted) (n place : ℕ) (a : Posted) → slice_get posts place ≡ Some a → a.deleted ≡ false → (k : ℕ) × HasBytes (unmarked_from n posts) a.bytes k
+pub among_left : (posts : List Posted) (n place : ℕ) (a : Posted) → slice_get posts place ≡ Some a → a.deleted ≡ false
+    → (k : ℕ) × HasBytes (unmarked_from n posts) a.bytes k
 among_left [] n place a e is = absurd (cc)
 among_left (m ∷ ms) n zero a e is = let same : m ≡ a = cc in on m.deleted same (ap (λ (p : Posted). p.deleted) same ∙ is)
   where
-    on : (b : Bool) → m ≡ a → b ≡ false → (k : ℕ) × HasBytes (cond b (unmarked_from (n + 1) ms) (record { id = n; bytes = m.bytes } ∷ unmarked_from (n + 1) ms)) a.bytes k
+    on : (b : Bool) → m ≡ a → b ≡ false
+        → (k : ℕ) × HasBytes (cond b (unmarked_from (n + 1) ms) (record { id = n; bytes = m.bytes } ∷ unmarked_from (n + 1) ms)) a.bytes k
     on true same e = absurd (cc)
-    on false same e = (0, record { at = 0; message = record { id = n; bytes = m.bytes }; there = refl; bytes_is = ap (λ (p : Posted). p.bytes) same; within = omega arith })
+    on false same e =
+        let y : Message = record { id = n; bytes = m.bytes } in
+        (0, record { at = 0; message = y; there = refl; bytes_is = ap (λ (p : Posted). p.bytes) same; within = omega arith })
 among_left (m ∷ ms) n (suc place) a e is = on m.deleted (among_left ms (n + 1) place a e is)
   where
     on : (b : Bool) → (k : ℕ) × HasBytes (unmarked_from (n + 1) ms) a.bytes k
@@ -141,7 +156,8 @@ among_left (m ∷ ms) n (suc place) a e is = on m.deleted (among_left ms (n + 1)
     on false h = (suc h.0, one_further (record { id = n; bytes = m.bytes }) (unmarked_from (n + 1) ms) a.bytes h.0 h.1)
 
 -- each number behind the cursor up to any that was ever sent is among the messages that are not deleted
-pub left_is_run : (st : Store) → Copies st → (tree page client : ℕ) → IsClient client → (number upto place : ℕ) → st.tally.cursor tree page client < number → number ≤ upto
+pub left_is_run : (st : Store) → Copies st → (tree page client : ℕ) → IsClient client → (number upto place : ℕ)
+    → st.tally.cursor tree page client < number → number ≤ upto
     → IsCopy (st.tally.posts tree page) client upto place → IsAmong (unmarked (st.tally.posts tree page)) client number
 left_is_run st h tree page client is number upto place above up c =
     let s = run_stays st h tree page client is number upto place above up c in

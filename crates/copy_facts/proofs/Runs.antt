@@ -21,15 +21,18 @@ pub record Stays (posts : List Posted) (client number upto : ℕ) : Type 0 where
 
 module _ (st : Store) (h : Copies st) (tree page client : ℕ) where
   -- where a number was sent, so were all before it, none behind it
-  down : (number more place : ℕ) → 1 ≤ number → IsCopy (st.tally.posts tree page) client (number + more) place → HasUpto (st.tally.posts tree page) client number place
-  down number zero place some c = record { at = place; copy = copy_at_number (st.tally.posts tree page) client (number + 0) number place (omega arith) c; within = omega arith }
+  down : (number more place : ℕ) → 1 ≤ number → IsCopy (st.tally.posts tree page) client (number + more) place
+      → HasUpto (st.tally.posts tree page) client number place
+  down number zero place some c =
+      record { at = place; copy = copy_at_number (st.tally.posts tree page) client (number + 0) number place (omega arith) c; within = omega arith }
   down number (suc more) place some c =
       let b = h.in_turn tree page client (number + more) place (omega (arith, some))
       (copy_at_number (st.tally.posts tree page) client (number + suc more) ((number + more) + 1) place (omega arith) c) in
       let u = down number more b.at some b.copy in
       record { at = u.at; copy = u.copy; within = let x = u.within in let y = b.before in omega (arith, x, y) }
 
-  pub sent_below : (number upto place : ℕ) → 1 ≤ number → number ≤ upto → IsCopy (st.tally.posts tree page) client upto place → HasUpto (st.tally.posts tree page) client number place
+  pub sent_below : (number upto place : ℕ) → 1 ≤ number → number ≤ upto → IsCopy (st.tally.posts tree page) client upto place
+      → HasUpto (st.tally.posts tree page) client number place
   sent_below number upto place some most c =
       down number (upto - number) place some (copy_at_number (st.tally.posts tree page) client upto (number + (upto - number)) place (omega (arith, most)) c)
 

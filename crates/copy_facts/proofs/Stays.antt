@@ -13,6 +13,7 @@ use Rattle.store_book.proofs.Names.{at2_by}
 use Rattle.store_book.proofs.Places.{in_none}
 use Rattle.store_book.specs.Book.{Link, empty_book}
 use Rattle.store_book.specs.Effects.{Taking, after_leaf, after_page, after_inner, after_root, after_raise}
+use Rattle.store_book.specs.Growth.{Grows}
 use Rattle.store_book.specs.Premises.{Takes, LandsFirst, CoversApplied}
 use Rattle.store_book.specs.Records.{under_way}
 use Rattle.store_book.specs.Tally.{Store, Node}
@@ -25,14 +26,18 @@ leaf_keeps st p takes h = record {
   in_turn = h.in_turn;
   unmarked = λ tree page client number place is above first.
       h.unmarked tree page client number place is
-      (let rises = (leaf_grows st p takes.ranges.link (takes.ranges.place, takes.ranges.linked) takes.ranges.page_is).cursor tree page client is in omega (arith, rises, above)) first;
+      (let rises = grows.cursor tree page client is in omega (arith, rises, above)) first;
   ways = h.ways;
 }
+  where
+    grows : Grows st (after_leaf p st)
+    grows = leaf_grows st p takes.ranges.link (takes.ranges.place, takes.ranges.linked) takes.ranges.page_is
 
 -- ---- other pages
 
 -- a page that is in no chain had the cursor 0
-pub page_keeps : (st : Store) (tree page : ℕ) (node : Node) (own : ℕ → ℕ) → LandsFirst st tree page own → Numbers st → Copies st → Copies (after_page tree page node own st)
+pub page_keeps : (st : Store) (tree page : ℕ) (node : Node) (own : ℕ → ℕ) → LandsFirst st tree page own → Numbers st → Copies st
+    → Copies (after_page tree page node own st)
 page_keeps st tree page node own lands numbers h = record {
   in_turn = h.in_turn;
   unmarked = λ t p client number place is above first.
@@ -43,7 +48,8 @@ page_keeps st tree page node own lands numbers h = record {
     cursor : (t p client : ℕ) → IsClient client → st.tally.cursor t p client ≤ (after_page tree page node own st).tally.cursor t p client
     cursor t p client is =
         at2_by (λ t p f. st.tally.cursor t p client ≤ f client) tree page own st.tally.cursor
-        (let none = cursor_unlinked st numbers tree page client is lands.page_is (λ link there e. lands.unlinked 0 link there e) in omega (arith, none)) (λ t p. omega arith) t p
+        (let none = cursor_unlinked st numbers tree page client is lands.page_is (λ link there e. lands.unlinked 0 link there e) in omega (arith, none))
+        (λ t p. omega arith) t p
 
 pub inner_keeps : (st : Store) (tree page : ℕ) (inner : Inner) (pieces : List Link) → Copies st → Copies (after_inner tree page inner pieces st)
 inner_keeps st tree page inner pieces h = record { in_turn = h.in_turn; unmarked = h.unmarked; ways = h.ways }
@@ -58,7 +64,8 @@ root_keeps st tree root covers h = record {
   ways = h.ways;
 }
 
-pub raise_keeps : (st : Store) (tree : ℕ) (root : Tree) (level : ℕ) (links : List Link) → CoversApplied st tree root → Copies st → Copies (after_raise tree root level links st)
+pub raise_keeps : (st : Store) (tree : ℕ) (root : Tree) (level : ℕ) (links : List Link) → CoversApplied st tree root → Copies st
+    → Copies (after_raise tree root level links st)
 raise_keeps st tree root level links covers h =
     let k = root_keeps st tree root covers h in
     record { in_turn = k.in_turn; unmarked = k.unmarked; ways = k.ways }

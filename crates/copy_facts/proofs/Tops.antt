@@ -35,7 +35,8 @@ pub of_any : {X : Type 0} (p : X → Bool) (xs : List X) → list_any p xs ≡ t
 of_any p [] some = absurd (cc)
 of_any {X} p (y ∷ ys) some = on (p y) refl some (λ h. of_any p ys h)
   where
-    on : (b : Bool) → p y ≡ b → (b || list_any p ys) ≡ true → (list_any p ys ≡ true → (x : X) × IsIn ys x × (p x ≡ true)) → (x : X) × IsIn (y ∷ ys) x × (p x ≡ true)
+    on : (b : Bool) → p y ≡ b → (b || list_any p ys) ≡ true → (list_any p ys ≡ true → (x : X) × IsIn ys x × (p x ≡ true))
+        → (x : X) × IsIn (y ∷ ys) x × (p x ≡ true)
     on true e some again = (y, (0, refl), e)
     on false e some again = let h = again some in (h.0, (suc h.1.0, h.1.1), h.2)
 
@@ -46,7 +47,8 @@ abbrev spells : ℕ → ℕ → Option PuRec → Bool
 spells client number None = false
 spells client number (Some rec) = (rec.client == client) && (rec.number == number)
 
-among_of : (messages : List Message) (client number : ℕ) (m : Message) → IsIn messages m → (o : Option PuRec) → pu_of m.bytes ≡ o → spells client number o ≡ true
+among_of : (messages : List Message) (client number : ℕ) (m : Message) → IsIn messages m → (o : Option PuRec) → pu_of m.bytes ≡ o
+    → spells client number o ≡ true
     → IsAmong messages client number
 among_of messages client number m is None e h = absurd (cc)
 among_of messages client number m is (Some rec) e h =
@@ -69,12 +71,14 @@ among_moved xs ys client number moves a =
 
 -- where a client's number is delivered, so is each behind the cursor up to it
 pub delivered_is_run : (st : Store) → Copies st → (tree page client most : ℕ) → IsClient client
-    → (answer : List Message) → IsDelivering (st.tally.posts tree page) most answer → (number upto : ℕ) → st.tally.cursor tree page client < number → number ≤ upto
+    → (answer : List Message) → IsDelivering (st.tally.posts tree page) most answer → (number upto : ℕ) → st.tally.cursor tree page client < number
+    → number ≤ upto
     → IsAmong answer client upto → IsAmong answer client number
 delivered_is_run st h tree page client most is answer delivers number upto above up among =
     among_moved (take most (unmarked (st.tally.posts tree page))) answer client number delivers
     (received_is_run st h tree page client most is number upto above up
-    (among_moved answer (take most (unmarked (st.tally.posts tree page))) client upto (IsPermutation-sym (take most (unmarked (st.tally.posts tree page))) answer delivers) among))
+    (among_moved answer (take most (unmarked (st.tally.posts tree page))) client upto
+    (IsPermutation-sym (take most (unmarked (st.tally.posts tree page))) answer delivers) among))
 
 -- so the run behind a number that the cursor does not pass leads up to each number that was received
 pub top_covers : (st : Store) → Copies st → (tree page client most : ℕ) → IsClient client

@@ -6,4 +6,5 @@ pub mod Stays
 pub mod Runs
 pub mod Receives
 pub mod Turns
+pub mod Growth
 pub mod Tops

@@ -42,6 +42,9 @@ copy_front posts more client number place c = record {
 pub before_front : (posts more : List Posted) (client number place : ℕ) → HasBefore posts client number place → HasBefore (posts ++ more) client number place
 before_front posts more client number place h = record { at = h.at; copy = copy_front posts more client number h.at h.copy; before = h.before }
 
+pub sent_more : (posts more : List Posted) (rec : PuRec) → HasCopy posts rec → HasCopy (posts ++ more) rec
+sent_more posts more rec h = record { place = h.place; message = h.message; there = get_front posts more h.place h.message h.there; reads = h.reads }
+
 -- what stands in a queue with one more stood before, or is the new one
 pub record IsNew (posts : List Posted) (post : Posted) (place : ℕ) (message : Posted) : Type 0 where
   pub place_is : place ≡ length posts
@@ -75,6 +78,11 @@ pub copy_unmarked : (posts : List Posted) (id client number place : ℕ) → IsC
 copy_unmarked posts id client number place c =
     let n = marked_bytes posts id place c.message c.there in
     record { message = n.0; rec = c.rec; there = n.1; reads = sym (ap pu_of n.2) ∙ c.reads; client_is = c.client_is; number_is = c.number_is }
+
+pub sent_marked : (posts : List Posted) (id : ℕ) (rec : PuRec) → HasCopy posts rec → HasCopy (marked posts id) rec
+sent_marked posts id rec h =
+    let n = marked_front posts id h.place h.message h.there in
+    record { place = h.place; message = n.0; there = n.1; reads = ap pu_of n.2 ∙ h.reads }
 
 pub sent_unmarked : (posts : List Posted) (id : ℕ) (rec : PuRec) → HasCopy (marked posts id) rec → HasCopy posts rec
 sent_unmarked posts id rec h =

@@ -6,9 +6,8 @@ use Rattle.cloud_trait.specs.Caller.{Caller}
 use Rattle.cloud_trait.specs.Growth.{BeginsWith}
 use Rattle.cloud_trait.specs.Upto.{posts_of}
 use Rattle.cloud_trait.specs.declared.state.Posted.{Posted}
-use Rattle.copy_facts.specs.Copies.{IsCopy, IsFirst}
+use Rattle.copy_facts.specs.Copies.{IsCopy, IsFirst, IsSentOn}
 use Rattle.copy_facts.proofs.CopyLemmas.{copy_within}
-use Rattle.left_facts.specs.Left.{IsCopied}
 use Rattle.log_codec.specs.Pu.{pu_of}
 use Rattle.log_codec.specs.declared.record.AtomicRec.{AtomicRec}
 use Rattle.number_facts.proofs.Lists.{map_there}
@@ -36,13 +35,15 @@ at_within [] i less = absurd (omega (arith, less))
 at_within (x ∷ xs) zero less = (x, refl)
 at_within (x ∷ xs) (suc i) less = at_within xs i (omega (arith, less))
 
-pub copy_stays : (xs ys : List Posted) → BeginsWith (posts_of xs) (posts_of ys) → (client number place : ℕ) → IsCopy xs client number place → IsCopy ys client number place
+pub copy_stays : (xs ys : List Posted) → BeginsWith (posts_of xs) (posts_of ys) → (client number place : ℕ) → IsCopy xs client number place
+    → IsCopy ys client number place
 copy_stays xs ys begins client number place c =
     let s = stayed xs ys begins place c.message c.there in
     record { message = s.message; rec = c.rec; there = s.there; reads = ap pu_of s.bytes_is ∙ c.reads; client_is = c.client_is; number_is = c.number_is }
 
 -- a copy that stands where there was a message was one then
-copy_was : (xs ys : List Posted) → BeginsWith (posts_of xs) (posts_of ys) → (client number place : ℕ) → place < length xs → IsCopy ys client number place → IsCopy xs client number place
+copy_was : (xs ys : List Posted) → BeginsWith (posts_of xs) (posts_of ys) → (client number place : ℕ) → place < length xs
+    → IsCopy ys client number place → IsCopy xs client number place
 copy_was xs ys begins client number place less c =
     let old = at_within xs place less in
     let s = stayed xs ys begins place old.0 old.1 in
@@ -73,7 +74,7 @@ first_stays st su grows tree page client number place first = record {
     on i c (inr low) = low
 
 -- a record that was sent stays so
-pub copied_stays : (st su : Store) → Grows st su → (r : AtomicRec) → IsCopied st.tally r → IsCopied su.tally r
-copied_stays st su grows r c =
+pub sent_stays : (st su : Store) → Grows st su → (r : AtomicRec) → IsSentOn st.tally r → IsSentOn su.tally r
+sent_stays st su grows r c =
     let s = stayed (st.tally.posts r.tree r.page) (su.tally.posts r.tree r.page) (grows.posts r.tree r.page) c.place c.message c.there in
     record { place = c.place; message = s.message; there = s.there; reads = ap pu_of s.bytes_is ∙ c.reads }

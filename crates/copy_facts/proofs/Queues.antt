@@ -1,17 +1,13 @@
 -- What is sent and marked keeps what holds of the copies.
-use Rattle.std.proofs.Common.{◌≡◌, ◌+◌, ◌<◌, ◌≤◌, ◌⊎◌, inl, inr, ℕ, Bool, true, false, List, [], ◌∷◌, ◌++◌, length, Some, ◌==◌, ◌&&◌, refl, sym, ap, subst, ◌∙◌, arith}
-use Rattle.std.proofs.lemmas.Bool.{cases_eq, and_from, eq-eqb}
+use Rattle.std.proofs.Common.{◌≡◌, ◌+◌, ◌<◌, ◌≤◌, ◌⊎◌, inl, inr, ℕ, Bool, true, false, List, [], ◌∷◌, ◌++◌, length, Some, refl, sym, ap, subst, ◌∙◌, arith}
+use Rattle.std.proofs.lemmas.Bool.{cases_eq}
 use Rattle.std.specs.Prelude.{slice_get}
 use Rattle.db_base.specs.Ids.{IsClient}
 use Rattle.cloud_trait.specs.State.{marked}
 use Rattle.cloud_trait.specs.declared.state.Posted.{Posted}
-use Rattle.copy_facts.specs.Copies.{IsCopy, IsFirst, HasBefore, Copies, SendsInTurn}
-use Rattle.copy_facts.proofs.CopyLemmas.{copy_of_sent, copy_front, before_front, IsNew, new_cases, before_marked, copy_marked, copy_unmarked, sent_unmarked}
-use Rattle.copy_facts.proofs.Turns.{way_in_log}
-use Rattle.copy_facts.proofs.Order.{Ordered, filter_order, order_of_filter}
-use Rattle.left_facts.specs.Left.{IsCopied, Leaves}
-use Rattle.left_facts.proofs.MessageLemmas.{copy_more, copy_marked as sent_marked}
-use Rattle.left_facts.proofs.Ways.{of_ways}
+use Rattle.copy_facts.specs.Copies.{IsCopy, IsFirst, HasBefore, IsSentOn, WayBefore, Copies, SendsInTurn, PastIsSent}
+use Rattle.copy_facts.proofs.CopyLemmas.{copy_of_sent, copy_front, before_front, IsNew, new_cases, before_marked, copy_marked, copy_unmarked, sent_unmarked, sent_more, sent_marked}
+use Rattle.copy_facts.proofs.Order.{Ordered, order_of_filter}
 use Rattle.log_codec.specs.Pu.{pu_of}
 use Rattle.log_codec.specs.declared.record.AtomicRec.{AtomicRec}
 use Rattle.log_codec.specs.declared.record.PuRec.{PuRec}
@@ -22,7 +18,7 @@ use Rattle.route_plan.specs.Record.{pu_record_of}
 use Rattle.store_book.specs.Effects.{after_logged, after_posted, after_log_mark, after_post_mark}
 use Rattle.store_book.specs.Messages.{HasCopy}
 use Rattle.store_book.specs.Premises.{Posts, MarksPost}
-use Rattle.store_book.specs.Records.{StandsAt, IsIn, IsUnderWay, IsPast, is_under_way, under_way, is_of_queue, count_of}
+use Rattle.store_book.specs.Records.{IsIn, IsUnderWay, IsPast, is_under_way, is_of_queue, count_of}
 use Rattle.store_book.specs.Tally.{Tally, Store}
 use Rattle.store_book.proofs.Names.{at2_by}
 use Rattle.store_book.proofs.Places.{marked_other}
@@ -44,19 +40,21 @@ way_or_past t r = on (is_under_way t r)
     on true = inl refl
     on false = inr refl
 
--- two records of a queue and client that are under way stand there by their numbers
+-- two records of a queue and client that are under way stand in the log by their numbers
 ways_order : (st : Store) → Numbers st → (tree page client : ℕ) (q r : AtomicRec) → IsIn st.book.log q → IsIn st.book.log r
     → IsOfQueue tree page client q → IsOfQueue tree page client r → q.number < r.number → IsUnderWay st.tally q → IsUnderWay st.tally r
-    → Ordered (under_way st.tally client st.book.log) q r
-ways_order st numbers tree page client q r in_q in_r of_q of_r less way_q way_r =
-    filter_order W st.book.log in_log.i in_log.j q r in_log.less in_log.one in_log.other (passes q of_q.client_is way_q) (passes r of_r.client_is way_r)
+    → WayBefore st.tally.head st.book.log q r
+ways_order st numbers tree page client q r in_q in_r of_q of_r less way_q way_r = record {
+  i = in_log.i;
+  j = in_log.j;
+  before = in_log.less;
+  one = in_log.one;
+  other = in_log.other;
+  client_is = of_q.client_is ∙ sym of_r.client_is;
+  way_one = way_q;
+  way_other = way_r;
+}
   where
-    W : AtomicRec → Bool
-    W x = (x.client == client) && is_under_way st.tally x
-
-    passes : (x : AtomicRec) → x.client ≡ client → IsUnderWay st.tally x → W x ≡ true
-    passes x own way = and_from (x.client == client) (is_under_way st.tally x) (eq-eqb x.client client own) way
-
     seat_q : HasSeat st.book.log tree page client q
     seat_q = seat st.book.log numbers.in_order tree page client q in_q of_q
 
@@ -70,17 +68,18 @@ ways_order st numbers tree page client q r in_q in_r of_q of_r less way_q way_r 
     in_log = order_of_filter (is_of_queue tree page client) st.book.log seat_q.place seat_r.place q r apart seat_q.there seat_r.there
 
 -- the record of a number has a copy, where it is known to be sent
-copy_of_record : (st : Store) (tree page client number : ℕ) (q : AtomicRec) → IsOfQueue tree page client q → q.number ≡ number → IsCopied st.tally q
+copy_of_record : (st : Store) (tree page client number : ℕ) (q : AtomicRec) → IsOfQueue tree page client q → q.number ≡ number → IsSentOn st.tally q
     → HasBefore (st.tally.posts tree page) client number (length (st.tally.posts tree page))
 copy_of_record st tree page client number q is e copy =
     copy_of_sent (st.tally.posts tree page) client number (pu_record_of q) is.client_is e
     (subst (λ p. HasCopy (st.tally.posts tree p) (pu_record_of q)) is.page_is (subst (λ t. HasCopy (st.tally.posts t q.page) (pu_record_of q)) is.tree_is copy))
 
 -- the number before that of the record that is sent was sent
-number_before : (st : Store) (tree page : ℕ) (post : Posted) (r : AtomicRec) → Posts st tree page post r → SendsInTurn st r → Numbers st → Leaves st → Copies st
+number_before : (st : Store) (tree page : ℕ) (post : Posted) (r : AtomicRec) → Posts st tree page post r → SendsInTurn st r → PastIsSent st
+    → Numbers st → Copies st
     → (client number : ℕ) → 1 ≤ number → r.client ≡ client → r.number ≡ number + 1
     → HasBefore (st.tally.posts tree page) client number (length (st.tally.posts tree page))
-number_before st tree page post r posts turn numbers leaves h client number some own e = on (way_or_past st.tally q.of) (way_or_past st.tally r)
+number_before st tree page post r posts turn past_is_sent numbers h client number some own e = on (way_or_past st.tally q.of) (way_or_past st.tally r)
   where
     of_r : IsOfQueue tree page client r
     of_r = record { client_is = own; tree_is = posts.tree_is; page_is = posts.page_is }
@@ -92,28 +91,22 @@ number_before st tree page post r posts turn numbers leaves h client number some
     q = has_number st numbers tree page client number some most
 
     -- the record was sent before
-    again : IsCopied st.tally r → HasBefore (st.tally.posts tree page) client number (length (st.tally.posts tree page))
+    again : IsSentOn st.tally r → HasBefore (st.tally.posts tree page) client number (length (st.tally.posts tree page))
     again copy =
         let c = copy_of_record st tree page client (number + 1) r of_r e copy in
         let b = h.in_turn tree page client number c.at some c.copy in
         record { at = b.at; copy = b.copy; before = let x = b.before in let y = c.before in omega (arith, x, y) }
-
-    sent : Ordered (under_way st.tally client st.book.log) q.of r → IsCopied st.tally q.of
-    sent o =
-        turn o.i o.j q.of o.less
-        (subst (λ c. StandsAt (under_way st.tally c st.book.log) o.i q.of) (sym own) o.one)
-        (subst (λ c. StandsAt (under_way st.tally c st.book.log) o.j r) (sym own) o.other)
 
     less : q.of.number < r.number
     less = let n = q.number_is in omega (arith, n, e)
 
     on : IsUnderWay st.tally q.of ⊎ IsPast st.tally q.of → IsUnderWay st.tally r ⊎ IsPast st.tally r
         → HasBefore (st.tally.posts tree page) client number (length (st.tally.posts tree page))
-    on (inr past) either = copy_of_record st tree page client number q.of q.is q.number_is (leaves.copied q.of q.logged (inr past))
-    on (inl way) (inr past) = again (leaves.copied r posts.logged (inr past))
+    on (inr past) either = copy_of_record st tree page client number q.of q.is q.number_is (past_is_sent q.of q.logged past)
+    on (inl way) (inr past) = again (past_is_sent r posts.logged past)
     on (inl way) (inl way_r) =
         copy_of_record st tree page client number q.of q.is q.number_is
-        (sent (ways_order st numbers tree page client q.of r q.logged posts.logged q.is of_r less way way_r))
+        (turn q.of (ways_order st numbers tree page client q.of r q.logged posts.logged q.is of_r less way way_r))
 
 -- what has a copy in a queue with one more had one before, or is the record that is sent
 sent_cases : (posts : List Posted) (post : Posted) (r : AtomicRec) (rec : PuRec) → pu_of post.bytes ≡ Some (pu_record_of r) → HasCopy (posts ++ post ∷ []) rec
@@ -133,13 +126,13 @@ record IsSentOne (tree page : ℕ) (r x : AtomicRec) : Type 0 where
   pub page_is : x.page ≡ page
   pub rec_is : pu_record_of x ≡ pu_record_of r
 
-pub posted_keeps : (st : Store) (tree page : ℕ) (post : Posted) (r : AtomicRec) → Posts st tree page post r → SendsInTurn st r → Numbers st
-    → Leaves st → Copies st
+pub posted_keeps : (st : Store) (tree page : ℕ) (post : Posted) (r : AtomicRec) → Posts st tree page post r → SendsInTurn st r → PastIsSent st
+    → Numbers st → Copies st
     → Copies (after_posted tree page post st)
-posted_keeps st tree page post r posts turn numbers leaves h = record {
+posted_keeps st tree page post r posts turn past_is_sent numbers h = record {
   in_turn = λ t p client number place some copy. in_turn client number place some t p copy;
   unmarked = λ t p client number place is above first. unmarked client number place is t p above first;
-  ways = λ client i j q x less one other copy. ways client i j q x less one other (cases x copy);
+  ways = λ q x b copy. ways q x b (cases x copy);
 }
   where
     same_rec : (a b : PuRec) → Some a ≡ Some b → a ≡ b
@@ -165,7 +158,7 @@ posted_keeps st tree page post r posts turn numbers leaves h = record {
             let number_is : r.number ≡ number + 1 = sym (ap (λ (p : PuRec). p.number) rec_is) ∙ c.number_is in
             before_front (st.tally.posts tree page) (post ∷ []) client number place
             (subst (λ k. HasBefore (st.tally.posts tree page) client number k) (sym new.place_is)
-            (number_before st tree page post r posts turn numbers leaves h client number some own number_is))
+            (number_before st tree page post r posts turn past_is_sent numbers h client number some own number_is))
 
     unmarked : (client number place : ℕ) → IsClient client → (t p : ℕ) → st.tally.cursor t p client < number
         → (first : IsFirst ((after_posted tree page post st).tally.posts t p) client number place) → first.copy.message.deleted ≡ false
@@ -188,8 +181,8 @@ posted_keeps st tree page post r posts turn numbers leaves h = record {
         on above first (inr new) = sym (ap (λ (m : Posted). m.deleted) new.message_is) ∙ posts.unmarked
 
     -- what is copied now was before, or is the record that is sent
-    cases : (x : AtomicRec) → IsCopied (after_posted tree page post st).tally x
-        → IsCopied st.tally x ⊎ IsSentOne tree page r x
+    cases : (x : AtomicRec) → IsSentOn (after_posted tree page post st).tally x
+        → IsSentOn st.tally x ⊎ IsSentOne tree page r x
     cases x =
         at2_by (λ t p ps. x.tree ≡ t → x.page ≡ p → HasCopy ps (pu_record_of x) → HasCopy (st.tally.posts t p) (pu_record_of x) ⊎ IsSentOne tree page r x)
         tree page _ st.tally.posts
@@ -200,24 +193,19 @@ posted_keeps st tree page post r posts turn numbers leaves h = record {
         on a b (inl c) = inl c
         on a b (inr e) = inr (record { tree_is = a; page_is = b; rec_is = e })
 
-    more : (q : AtomicRec) → IsCopied st.tally q → IsCopied (after_posted tree page post st).tally q
+    more : (q : AtomicRec) → IsSentOn st.tally q → IsSentOn (after_posted tree page post st).tally q
     more q =
         at2_by (λ t p ps. HasCopy (st.tally.posts t p) (pu_record_of q) → HasCopy ps (pu_record_of q)) tree page _ st.tally.posts
-        (copy_more (st.tally.posts tree page) (post ∷ []) (pu_record_of q)) (λ t p c. c) q.tree q.page
+        (sent_more (st.tally.posts tree page) (post ∷ []) (pu_record_of q)) (λ t p c. c) q.tree q.page
 
-    ways : (client i j : ℕ) (q x : AtomicRec) → i < j → StandsAt (under_way st.tally client st.book.log) i q
-        → StandsAt (under_way st.tally client st.book.log) j x
-        → IsCopied st.tally x ⊎ IsSentOne tree page r x → IsCopied (after_posted tree page post st).tally q
-    ways client i j q x less one other (inl copy) = more q (h.ways client i j q x less one other copy)
-    ways client i j q x less one other (inr is) =
-        let own = of_ways st.tally client st.book.log j x other in
-        let in_x : IsIn st.book.log x = way_in_log st client j x other in
+    ways : (q x : AtomicRec) → WayBefore st.tally.head st.book.log q x → IsSentOn st.tally x ⊎ IsSentOne tree page r x
+        → IsSentOn (after_posted tree page post st).tally q
+    ways q x b (inl copy) = more q (h.ways q x b copy)
+    ways q x b (inr is) =
         let client_is : x.client ≡ r.client = ap (λ (p : PuRec). p.client) is.rec_is in
-        let same : x ≡ r =
-        record_is st numbers x r in_x posts.logged (is.tree_is ∙ sym posts.tree_is) (is.page_is ∙ sym posts.page_is) client_is (ap (λ (p : PuRec). p.number) is.rec_is) in
-        let c : client ≡ r.client = sym own.0 ∙ client_is in
-        more q (turn i j q less (subst (λ k. StandsAt (under_way st.tally k st.book.log) i q) c one)
-        (subst (λ k. StandsAt (under_way st.tally k st.book.log) j r) c (subst (λ y. StandsAt (under_way st.tally client st.book.log) j y) same other)))
+        let number_is : x.number ≡ r.number = ap (λ (p : PuRec). p.number) is.rec_is in
+        let same : x ≡ r = record_is st numbers x r (b.j, b.other) posts.logged (is.tree_is ∙ sym posts.tree_is) (is.page_is ∙ sym posts.page_is) client_is number_is in
+        more q (turn q (subst (λ y. WayBefore st.tally.head st.book.log q y) same b))
 
 -- ---- a pending update message is marked: it is none above the cursor
 
@@ -225,7 +213,7 @@ pub post_mark_keeps : (st : Store) (tree page id : ℕ) → MarksPost st tree pa
 post_mark_keeps st tree page id marking h = record {
   in_turn = λ t p client number place some copy. in_turn client number place some t p copy;
   unmarked = λ t p client number place is above first. unmarked client number place is t p above first;
-  ways = λ client i j q r less one other copy. stays q (h.ways client i j q r less one other (before r copy));
+  ways = λ q r b copy. stays q (h.ways q r b (before r copy));
 }
   where
     in_turn : (client number place : ℕ) → 1 ≤ number → (t p : ℕ) → IsCopy ((after_post_mark tree page id st).tally.posts t p) client (number + 1) place
@@ -265,12 +253,12 @@ post_mark_keeps st tree page id marking h = record {
             (marked_other (st.tally.posts tree page) id place c.message c.there ne) first.copy.there in
             sym (ap (λ (m : Posted). m.deleted) same) ∙ h.unmarked tree page client number place is above old
 
-    before : (r : AtomicRec) → IsCopied (after_post_mark tree page id st).tally r → IsCopied st.tally r
+    before : (r : AtomicRec) → IsSentOn (after_post_mark tree page id st).tally r → IsSentOn st.tally r
     before r =
         at2_by (λ t p ps. HasCopy ps (pu_record_of r) → HasCopy (st.tally.posts t p) (pu_record_of r)) tree page _ st.tally.posts
         (sent_unmarked (st.tally.posts tree page) id (pu_record_of r)) (λ t p c. c) r.tree r.page
 
-    stays : (q : AtomicRec) → IsCopied st.tally q → IsCopied (after_post_mark tree page id st).tally q
+    stays : (q : AtomicRec) → IsSentOn st.tally q → IsSentOn (after_post_mark tree page id st).tally q
     stays q =
         at2_by (λ t p ps. HasCopy (st.tally.posts t p) (pu_record_of q) → HasCopy ps (pu_record_of q)) tree page _ st.tally.posts
         (sent_marked (st.tally.posts tree page) id (pu_record_of q)) (λ t p c. c) q.tree q.page

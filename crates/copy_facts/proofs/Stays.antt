@@ -15,7 +15,6 @@ use Rattle.store_book.specs.Book.{Link, empty_book}
 use Rattle.store_book.specs.Effects.{Taking, after_leaf, after_page, after_inner, after_root, after_raise}
 use Rattle.store_book.specs.Growth.{Grows}
 use Rattle.store_book.specs.Premises.{Takes, LandsFirst, CoversApplied}
-use Rattle.store_book.specs.Records.{under_way}
 use Rattle.store_book.specs.Tally.{Store, Node}
 use Rattle.store_book.specs.Telling.{tally_of, queue_of}
 
@@ -76,7 +75,7 @@ pub empty_copies : (s : CloudState) → IsEmptyCloud s → Copies (empty_store s
 empty_copies s empty = record {
   in_turn = λ tree page client number place some c. absurd (none tree page client (number + 1) place c);
   unmarked = λ tree page client number place is above first. absurd (none tree page client number place first.copy);
-  ways = λ client i j q r less one other copy. absurd (in_none (under_way (tally_of empty_book s) client empty_book.log) q refl (i, one));
+  ways = λ q r b copy. absurd (in_none empty_book.log q refl (b.i, b.one));
 }
   where
     none : (tree page client number place : ℕ) → IsCopy ((tally_of empty_book s).posts tree page) client number place → ⊥

@@ -1,2 +1,3 @@
 pub mod LandingLemmas
 pub mod ReportLemmas
+pub mod CopyLaws

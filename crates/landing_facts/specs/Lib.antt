@@ -1,3 +1,4 @@
 pub mod Holding
 pub mod Landing
 pub mod Reporting
+pub mod Turns

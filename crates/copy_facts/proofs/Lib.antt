@@ -1,0 +1,10 @@
+pub mod Order
+pub mod CopyLemmas
+pub mod Heads
+pub mod Queues
+pub mod Stays
+pub mod Runs
+pub mod Receives
+pub mod Turns
+pub mod Growth
+pub mod Tops

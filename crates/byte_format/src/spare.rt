@@ -5,14 +5,19 @@ ghost use Rattle.std.specs.Vec.{vec_capacity};
 ghost use Rattle.std.specs.Int.{w8, w16, w64, to_be_bytes};
 ghost use Rattle.byte_format.specs.Adds.{Adds};
 
+use std::mem;
+
 /// Appends the bytes.
 pub fn add(out: &mut Vec<u8>, bytes: &[u8])
     requires { vec_len out.old + length bytes.now ≤ vec_capacity out.old }
     ensures { Adds out.old out.new bytes.now }
 {
+    let alloc = *out.allocator();
+    let mut held = mem::replace(out, Vec::new(alloc));
     for byte in bytes {
-        out.push_reserved(*byte);
+        held.push_reserved(*byte);
     }
+    *out = held;
 }
 
 /// Appends one byte.

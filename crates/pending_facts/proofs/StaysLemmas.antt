@@ -1,5 +1,5 @@
 -- What changes no head and no record of the log keeps what holds of pending entries.
-use Rattle.std.proofs.Common.{◌≡◌, ◌⊎◌, inl, inr, ℕ, List, [], map, refl, ap}
+use Rattle.std.proofs.Common.{◌≡◌, ◌⊎◌, inl, inr, ℕ, List, map, ap}
 use Rattle.cloud_trait.specs.State.{CloudState, IsEmptyCloud}
 use Rattle.cloud_trait.specs.declared.state.Posted.{Posted}
 use Rattle.db_base.specs.declared.names.ObjName.TheVariants as object

@@ -12,7 +12,7 @@ use Rattle.recover_run.specs.declared.recover.Stage.{Stage}
 use Rattle.recover_run.specs.declared.recover.RecoverAnswer.TheVariants.{Opened}
 use Rattle.cloud_trait.specs.Ask.{Ask, Get, GetHeld, PutHeld, Send, Receive, Delete, Take, Renew, Release}
 use Rattle.cloud_trait.specs.Caller.{Caller}
-use Rattle.cloud_trait.specs.State.{CloudState, Counts, newest}
+use Rattle.cloud_trait.specs.State.{CloudState, newest}
 use Rattle.cloud_trait.specs.Seen.{Seen}
 use Rattle.cloud_trait.specs.Weather.{Leaves}
 use Rattle.cloud_trait.specs.declared.turn.Turn.TheVariants.{More, Ended}

@@ -1,5 +1,5 @@
 -- Counters stay in order as they are raised, and tell the last number of each queue.
-use Rattle.std.proofs.Common.{◌≡◌, ℕ, ◌+◌, ◌<◌, ◌≤◌, Bool, true, false, cond, List, [], ◌∷◌, ◌++◌, Option, Some, None, refl, ap, sym, ◌∙◌, subst, arith, ◌⊎◌, inl, inr, ⊎_elim}
+use Rattle.std.proofs.Common.{◌≡◌, ℕ, ◌<◌, ◌≤◌, Bool, true, false, cond, List, [], ◌∷◌, Option, Some, None, refl, ap, sym, ◌∙◌, arith, ◌⊎◌, inl, inr, ⊎_elim}
 use Rattle.std.specs.Prelude.{find}
 use Rattle.std.specs.declared.cmp.Ordering.{Ordering}
 use Rattle.std.specs.declared.cmp.Ordering.TheVariants.{Less, Equal, Greater}
@@ -14,7 +14,7 @@ use Rattle.log_codec.specs.declared.record.AtomicRec.{AtomicRec}
 use Rattle.route_plan.specs.Heads.{counter_cmp, put_counter, with_counter, raised_by}
 use Rattle.route_plan.specs.Queue.{is_counter_of, number_of_queue}
 use Rattle.route_plan.specs.Record.{counter_of}
-use Rattle.route_plan.specs.Route.{goes_to, last_number}
+use Rattle.route_plan.specs.Route.{last_number}
 
 -- two counters are of one queue
 abbrev AreOfOneQueue : QueueCount → QueueCount → Type 0

@@ -1,5 +1,5 @@
 -- The store of a cloud in which nothing happened.
-use Rattle.std.proofs.Common.{◌≡◌, [], refl}
+use Rattle.std.proofs.Common.{[], refl}
 use Rattle.cloud_trait.specs.State.{CloudState}
 use Rattle.log_codec.specs.declared.record.AtomicRec.{AtomicRec}
 use Rattle.store_book.proofs.Places.{in_none}

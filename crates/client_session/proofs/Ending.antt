@@ -3,9 +3,9 @@ use Rattle.std.proofs.Common.{◌<◌, Ok, sym, subst}
 use Rattle.cloud_trait.specs.declared.turn.Turn.TheVariants.{More}
 use Rattle.cloud_trait.specs.Caller.{Caller}
 use Rattle.cloud_trait.specs.Seen.{Seen}
-use Rattle.recover_run.proofs.Ending.{less as opening_less}
-use Rattle.commit_run.proofs.Ending.{less as commit_less}
-use Rattle.tree_ckpt.proofs.Ending.{less as folding_less}
+use Rattle.first_recover.proofs.Ending.{less as opening_less}
+use Rattle.first_commit.proofs.Ending.{less as commit_less}
+use Rattle.first_tree.proofs.Ending.{less as folding_less}
 use Rattle.client_session.specs.declared.session.Work.{Work}
 use Rattle.client_session.specs.declared.session.Work.TheVariants.{Closed, Idle, Opening, Committing, Folding, Broken}
 use Rattle.client_session.specs.Session.{Acting, StepsSession, StepsAt, calls_left}

@@ -16,13 +16,13 @@ use Rattle.cloud_trait.specs.Seen.{Seen}
 use Rattle.cloud_trait.specs.Machine.{Goes, Ends, LeadsBy, Steps}
 use Rattle.cloud_trait.specs.declared.turn.Turn.{Turn}
 use Rattle.cloud_trait.specs.declared.turn.Turn.TheVariants.{More, Ended, Stopped}
-use Rattle.recover_run.specs.declared.home.Home.{Home}
-use Rattle.recover_run.specs.declared.recover.RecoverAnswer.TheVariants.{Opened}
-use Rattle.recover_run.specs.Recovery.{Recovery, new_recovery, recovery_ask, recovery_next, home_of, KeepsLease, calls_left as opening_left, IsSound as IsSoundOpening}
+use Rattle.first_recover.specs.declared.home.Home.{Home}
+use Rattle.first_recover.specs.declared.recover.RecoverAnswer.TheVariants.{Opened}
+use Rattle.first_recover.specs.Recovery.{Recovery, new_recovery, recovery_ask, recovery_next, home_of, KeepsLease, calls_left as opening_left, IsSound as IsSoundOpening}
 use Rattle.log_codec.specs.declared.record.PuItem.{PuItem}
 use Rattle.cloud_trait.specs.Ask.{Ask}
-use Rattle.tree_ckpt.specs.Folding.{new_folding, folding_ask, FoldingLeads, KeepsLeases, calls_left as folding_left, Folding as Fold}
-use Rattle.commit_run.specs.Commit.{Commit, Readies, new_commit, commit_ask, commit_next, opens_at, KeepsHome, calls_left as commit_left, IsSound as IsSoundCommit}
+use Rattle.first_tree.specs.Folding.{new_folding, folding_ask, FoldingLeads, KeepsLeases, calls_left as folding_left, Folding as Fold}
+use Rattle.first_commit.specs.Commit.{Commit, Readies, new_commit, commit_ask, commit_next, opens_at, KeepsHome, calls_left as commit_left, IsSound as IsSoundCommit}
 use Rattle.client_session.specs.declared.session.Answer.{Answer}
 use Rattle.client_session.specs.declared.session.Answer.TheVariants as answer
 use Rattle.client_session.specs.declared.session.Begun.{Begun}

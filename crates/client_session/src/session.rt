@@ -2,27 +2,27 @@ ghost use Rattle.std.specs.Prelude.{◌≡◌, ◌≤◌, [], length, IfOk, IfEr
 ghost use Rattle.std.specs.Option.{option_map, option_copied};
 ghost use Rattle.cloud_trait.specs.Call.{ask_of};
 ghost use Rattle.txn_buffer.specs.Noted.{noted_in};
-ghost use Rattle.recover_run.specs.Recovery.{home_of, IsSound as IsSoundOpening};
-ghost use Rattle.commit_run.specs.Commit.{IsSound as IsSoundCommit};
+ghost use Rattle.first_recover.specs.Recovery.{home_of, IsSound as IsSoundOpening};
+ghost use Rattle.first_commit.specs.Commit.{IsSound as IsSoundCommit};
 ghost use Rattle.client_session.specs.Session.{TakesHome, CommitsOf, StepsWork, StepsOpening, StepsCommit, StepsFolding, opened_work, committed_work};
 
 use cloud_trait::call::Call;
 use cloud_trait::cloud::Cloud;
 use cloud_trait::turn::{CkptAnswer, Turn};
 use cloud_trait::who::Who;
-use commit_run::commit::CommitRun;
 use db_base::change::Change;
 use db_base::ids::{ClientId, TreeId};
 use db_base::refusal::{Refusal, Refused};
 use db_base::trouble::{CommitAnswer, Trouble};
+use first_commit::commit::CommitRun;
+use first_recover::home::Home;
+use first_recover::recover::{RecoverAnswer, RecoverRun};
+use first_tree::checkpoint::TreeCkpt;
 use head_codec::head::Head;
 use log_codec::record::PuItem;
-use recover_run::home::Home;
-use recover_run::recover::{RecoverAnswer, RecoverRun};
 use std::alloc::Global;
 use std::marker::Model;
 use std::mem;
-use tree_ckpt::checkpoint::TreeCkpt;
 use txn_buffer::buffer::TxnBuffer;
 
 /// What a session has in hand.

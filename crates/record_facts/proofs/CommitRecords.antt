@@ -29,9 +29,9 @@ use Rattle.route_plan.specs.Heads.{opened_head, settled_head}
 use Rattle.route_plan.specs.Queue.{queue_name}
 use Rattle.route_plan.specs.Record.{pu_record_of, pending_of}
 use Rattle.history.specs.Audited.{committed_entry}
-use Rattle.commit_run.specs.declared.commit.Stage.{Stage}
-use Rattle.commit_run.specs.declared.commit.Stage.TheVariants.{Ready, PuttingOpen, Sending, PuttingSettled, Finished}
-use Rattle.commit_run.specs.Commit.{Commit, next_at, send_or_settle, opened_by, not_opened, sent_by, settled_by}
+use Rattle.first_commit.specs.declared.commit.Stage.{Stage}
+use Rattle.first_commit.specs.declared.commit.Stage.TheVariants.{Ready, PuttingOpen, Sending, PuttingSettled, Finished}
+use Rattle.first_commit.specs.Commit.{Commit, next_at, send_or_settle, opened_by, not_opened, sent_by, settled_by}
 use Rattle.record_facts.specs.Records.{count_of, IsOnce, IsUpto, IsRecordOf}
 use Rattle.record_facts.specs.Tally.{Tally, tally_of, Waits, HeadCounts, RecordsHold}
 use Rattle.record_facts.specs.Known.{HomeKnown, Opens, IsToSend, AreOwn, Sends, Settles, CommitKnown, CommitKnownAt}

@@ -29,8 +29,8 @@ use Rattle.node_codec.proofs.SpellingLaws.{tree_only, number_of-raised}
 use Rattle.report_types.specs.declared.entry.Entry.{Entry}
 use Rattle.run_cursor.specs.Run.{Taken, IsRun}
 use Rattle.run_cursor.specs.Covered.{covered_ids, is_covered, new_ones, is_seen}
-use Rattle.tree_ckpt.specs.declared.stage.Stage.TheVariants.{Receiving, TakingPage}
-use Rattle.tree_ckpt.specs.Folding.{Folding, Step, root_read, next_root, is_lone_root, is_lone_leaf, RootGot, stopping_tree, damaged_tree, ReceivedBy, Received, items_of, with_first, item_with, run_taken, has_items, deleting, page_taken_by, PageGot, LeafReadBy, LeafPut, page_put_by, RootRaised, raised_tree, root_put_by, deleted_by, one_deleted, one_left, rest_of}
+use Rattle.first_tree.specs.declared.stage.Stage.TheVariants.{Receiving, TakingPage}
+use Rattle.first_tree.specs.Folding.{Folding, Step, root_read, next_root, is_lone_root, is_lone_leaf, RootGot, stopping_tree, damaged_tree, ReceivedBy, Received, items_of, with_first, item_with, run_taken, has_items, deleting, page_taken_by, PageGot, LeafReadBy, LeafPut, page_put_by, RootRaised, raised_tree, root_put_by, deleted_by, one_deleted, one_left, rest_of}
 use Rattle.tree_meaning.specs.Chain.{IsReadAs}
 use Rattle.record_facts.specs.Records.{IsRecordOf}
 use Rattle.record_facts.specs.Tally.{Tally, root_at, leaf_at, IsRecord, AreRecords, RecordsHold, IsCovered}

@@ -19,7 +19,7 @@ use Rattle.leaf_edit.proofs.TableNumbers.{number_of-raised}
 use Rattle.log_codec.specs.declared.record.PuItem.{PuItem}
 use Rattle.report_types.specs.declared.entry.Entry.{Entry}
 use Rattle.run_cursor.specs.Run.{IsRun}
-use Rattle.tree_ckpt.specs.Folding.{Folding}
+use Rattle.first_tree.specs.Folding.{Folding}
 use Rattle.history.specs.Audited.{applied_entry}
 use Rattle.record_facts.specs.Records.{of_client, of_key, count_of, IsNumbered, IsRecordOf, entry_of}
 use Rattle.record_facts.specs.Tally.{Tally, tally_of, leaf_at, RecordsHold}

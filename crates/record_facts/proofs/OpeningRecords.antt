@@ -20,12 +20,12 @@ use Rattle.head_codec.specs.declared.head.Phase.TheVariants as phase
 use Rattle.head_codec.specs.Head.{empty_head, next_head}
 use Rattle.head_codec.specs.Spelling.{head_of}
 use Rattle.report_types.specs.declared.entry.Entry.{Entry}
-use Rattle.recover_run.specs.declared.recover.Stage.{Stage}
-use Rattle.recover_run.specs.declared.recover.Stage.TheVariants.{Taking, Getting, Putting, Releasing, Finished}
-use Rattle.recover_run.specs.declared.home.Home.{Home}
-use Rattle.recover_run.specs.declared.recover.RecoverAnswer.{RecoverAnswer}
-use Rattle.recover_run.specs.declared.recover.RecoverAnswer.TheVariants.{Opened}
-use Rattle.recover_run.specs.Recovery.{Recovery, next_at, taken_by, got_by, head_read, phase_read, bytes_read, put_by, releasing, home_of, home_with}
+use Rattle.first_recover.specs.declared.recover.Stage.{Stage}
+use Rattle.first_recover.specs.declared.recover.Stage.TheVariants.{Taking, Getting, Putting, Releasing, Finished}
+use Rattle.first_recover.specs.declared.home.Home.{Home}
+use Rattle.first_recover.specs.declared.recover.RecoverAnswer.{RecoverAnswer}
+use Rattle.first_recover.specs.declared.recover.RecoverAnswer.TheVariants.{Opened}
+use Rattle.first_recover.specs.Recovery.{Recovery, next_at, taken_by, got_by, head_read, phase_read, bytes_read, put_by, releasing, home_of, home_with}
 use Rattle.record_facts.specs.Records.{count_of}
 use Rattle.record_facts.specs.Tally.{Tally, tally_of, head_at, Waits, IsUnderWay, HeadCounts, RecordsHold}
 use Rattle.record_facts.specs.Known.{HomeKnown, OpensNext, OpeningKnownAt, OpeningKnown}

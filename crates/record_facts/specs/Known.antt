@@ -12,21 +12,21 @@ use Rattle.log_codec.specs.declared.record.PuItem.{PuItem}
 use Rattle.report_types.specs.declared.entry.Entry.{Entry}
 use Rattle.txn_buffer.specs.Noted.{Noted, AreDistinct}
 use Rattle.node_codec.specs.Tree.{Tree, IsTree}
-use Rattle.recover_run.specs.declared.home.Home.{Home}
-use Rattle.recover_run.specs.declared.recover.Stage.{Stage as OpeningStage}
-use Rattle.recover_run.specs.declared.recover.Stage.TheVariants as opening
-use Rattle.recover_run.specs.Recovery.{Recovery}
-use Rattle.commit_run.specs.declared.commit.Stage.{Stage as CommitStage}
-use Rattle.commit_run.specs.declared.commit.Stage.TheVariants as commit
-use Rattle.commit_run.specs.Commit.{Commit}
+use Rattle.first_recover.specs.declared.home.Home.{Home}
+use Rattle.first_recover.specs.declared.recover.Stage.{Stage as OpeningStage}
+use Rattle.first_recover.specs.declared.recover.Stage.TheVariants as opening
+use Rattle.first_recover.specs.Recovery.{Recovery}
+use Rattle.first_commit.specs.declared.commit.Stage.{Stage as CommitStage}
+use Rattle.first_commit.specs.declared.commit.Stage.TheVariants as commit
+use Rattle.first_commit.specs.Commit.{Commit}
 use Rattle.route_plan.specs.Heads.{opened_head, settled_head}
 use Rattle.route_plan.specs.Queue.{first_queue}
 use Rattle.route_plan.specs.Record.{pu_record_of}
 use Rattle.route_plan.specs.Route.{routed}
 use Rattle.run_cursor.specs.Run.{IsRun}
-use Rattle.tree_ckpt.specs.declared.stage.Stage.{Stage as FoldingStage}
-use Rattle.tree_ckpt.specs.declared.stage.Stage.TheVariants as folding
-use Rattle.tree_ckpt.specs.Folding.{Folding}
+use Rattle.first_tree.specs.declared.stage.Stage.{Stage as FoldingStage}
+use Rattle.first_tree.specs.declared.stage.Stage.TheVariants as folding
+use Rattle.first_tree.specs.Folding.{Folding}
 use Rattle.record_facts.specs.Records.{count_of, IsRecordOf}
 use Rattle.record_facts.specs.Tally.{Tally, Waits, IsCovered}
 

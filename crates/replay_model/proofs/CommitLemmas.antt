@@ -16,9 +16,9 @@ use Rattle.cloud_trait.specs.Ask.{PutHeld}
 use Rattle.cloud_trait.specs.Machine.{Next, Goes, Ends, Stops}
 use Rattle.cloud_trait.specs.Views.{done_of, sent_of}
 use Rattle.cloud_trait.specs.Weather.{Leaves}
-use Rattle.commit_run.specs.declared.commit.Stage.{Stage}
-use Rattle.commit_run.specs.declared.commit.Stage.TheVariants.{Ready, PuttingOpen, Sending, PuttingSettled, Finished}
-use Rattle.commit_run.specs.Commit.{Commit, ask_at, send_ask, next_at, IsSoundAt, SendsRecord, opened_by, not_opened, sent_by, settled_by, send_or_settle}
+use Rattle.first_commit.specs.declared.commit.Stage.{Stage}
+use Rattle.first_commit.specs.declared.commit.Stage.TheVariants.{Ready, PuttingOpen, Sending, PuttingSettled, Finished}
+use Rattle.first_commit.specs.Commit.{Commit, ask_at, send_ask, next_at, IsSoundAt, SendsRecord, opened_by, not_opened, sent_by, settled_by, send_or_settle}
 use Rattle.client_session.specs.declared.session.Work.TheVariants.{Committing}
 use Rattle.history.specs.Audited.{Audited, committed_entry}
 use Rattle.replay_meaning.specs.Standing.{Line}

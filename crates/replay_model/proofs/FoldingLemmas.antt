@@ -23,10 +23,10 @@ use Rattle.cloud_trait.specs.Ask.{Ask, Get, GetHeld, PutHeld, Send, Receive, Del
 use Rattle.cloud_trait.specs.Machine.{Goes, Ends, Stops}
 use Rattle.cloud_trait.specs.Views.{given_of, got_of, received_of, done_of}
 use Rattle.cloud_trait.specs.Weather.{Fits, Leaves}
-use Rattle.recover_run.specs.declared.home.Home.{Home}
-use Rattle.tree_ckpt.specs.declared.stage.Stage.{Stage}
-use Rattle.tree_ckpt.specs.declared.stage.Stage.TheVariants.{TakingTree, GettingTree, Receiving, TakingPage, GettingPage, PuttingPage, ReleasingPage, PuttingTree, Deleting, ReleasingTree, StoppingPage, StoppingTree, Finished}
-use Rattle.tree_ckpt.specs.Folding.{Folding, Step, ask_at, under_tree, under_page, delete_next, LeadsAt, tree_taken_by, root_read, next_root, is_lone_root, is_lone_leaf, RootGot, stopping_tree, damaged_tree, ReceivedBy, Received, items_of, run_taken, has_items, deleting, page_taken_by, PageGot, LeafReadBy, LeafPut, page_put_by, RootRaised, raised_tree, root_put_by, deleted_by, one_deleted, one_left, rest_of}
+use Rattle.first_recover.specs.declared.home.Home.{Home}
+use Rattle.first_tree.specs.declared.stage.Stage.{Stage}
+use Rattle.first_tree.specs.declared.stage.Stage.TheVariants.{TakingTree, GettingTree, Receiving, TakingPage, GettingPage, PuttingPage, ReleasingPage, PuttingTree, Deleting, ReleasingTree, StoppingPage, StoppingTree, Finished}
+use Rattle.first_tree.specs.Folding.{Folding, Step, ask_at, under_tree, under_page, delete_next, LeadsAt, tree_taken_by, root_read, next_root, is_lone_root, is_lone_leaf, RootGot, stopping_tree, damaged_tree, ReceivedBy, Received, items_of, run_taken, has_items, deleting, page_taken_by, PageGot, LeafReadBy, LeafPut, page_put_by, RootRaised, raised_tree, root_put_by, deleted_by, one_deleted, one_left, rest_of}
 use Rattle.client_session.specs.declared.session.Work.TheVariants.{Folding as AtFolding}
 use Rattle.history.specs.Audited.{Audited, applied_entry}
 use Rattle.tree_meaning.specs.Chain.{IsReadAs}

@@ -14,9 +14,9 @@ use Rattle.cloud_trait.specs.declared.message.Message.{Message}
 use Rattle.cloud_trait.specs.Claim.{Claim}
 use Rattle.cloud_trait.specs.Machine.{Goes, Ends, Stops}
 use Rattle.cloud_trait.specs.Views.{given_of, got_of, received_of, done_of}
-use Rattle.tree_ckpt.specs.declared.stage.Stage.{Stage}
-use Rattle.tree_ckpt.specs.declared.stage.Stage.TheVariants.{TakingTree, GettingTree, Receiving, TakingPage, GettingPage, PuttingPage, ReleasingPage, PuttingTree, Deleting, ReleasingTree, StoppingPage, StoppingTree, Finished}
-use Rattle.tree_ckpt.specs.Folding.{Folding, Step, LeadsAt, tree_taken_by, root_read, next_root, is_lone_root, is_lone_leaf, RootGot, stopping_tree, damaged_tree, ReceivedBy, Received, items_of, run_taken, has_items, deleting, page_taken_by, PageGot, LeafReadBy, page_put_by, RootRaised, root_put_by, deleted_by, one_deleted, one_left, rest_of}
+use Rattle.first_tree.specs.declared.stage.Stage.{Stage}
+use Rattle.first_tree.specs.declared.stage.Stage.TheVariants.{TakingTree, GettingTree, Receiving, TakingPage, GettingPage, PuttingPage, ReleasingPage, PuttingTree, Deleting, ReleasingTree, StoppingPage, StoppingTree, Finished}
+use Rattle.first_tree.specs.Folding.{Folding, Step, LeadsAt, tree_taken_by, root_read, next_root, is_lone_root, is_lone_leaf, RootGot, stopping_tree, damaged_tree, ReceivedBy, Received, items_of, run_taken, has_items, deleting, page_taken_by, PageGot, LeafReadBy, page_put_by, RootRaised, root_put_by, deleted_by, one_deleted, one_left, rest_of}
 
 -- where a step goes on it is at this tree
 abbrev IsAtTree : ℕ → Step → Type 0

@@ -22,12 +22,12 @@ use Rattle.cloud_trait.specs.Machine.{Next, Goes, Ends, Stops}
 use Rattle.cloud_trait.specs.Views.{given_of, got_of, done_of}
 use Rattle.cloud_trait.specs.Weather.{Fits, Leaves}
 use Rattle.cloud_trait.proofs.ViewLemmas.{done_of-ok}
-use Rattle.recover_run.specs.declared.home.Home.{Home}
-use Rattle.recover_run.specs.declared.recover.Stage.{Stage}
-use Rattle.recover_run.specs.declared.recover.Stage.TheVariants.{Taking, Getting, Putting, Releasing, Finished}
-use Rattle.recover_run.specs.declared.recover.RecoverAnswer.{RecoverAnswer}
-use Rattle.recover_run.specs.declared.recover.RecoverAnswer.TheVariants.{Opened}
-use Rattle.recover_run.specs.Recovery.{Recovery, ask_at, next_at, home_of, home_with, IsSoundAt, taken_by, got_by, head_read, phase_read, bytes_read, put_by, releasing}
+use Rattle.first_recover.specs.declared.home.Home.{Home}
+use Rattle.first_recover.specs.declared.recover.Stage.{Stage}
+use Rattle.first_recover.specs.declared.recover.Stage.TheVariants.{Taking, Getting, Putting, Releasing, Finished}
+use Rattle.first_recover.specs.declared.recover.RecoverAnswer.{RecoverAnswer}
+use Rattle.first_recover.specs.declared.recover.RecoverAnswer.TheVariants.{Opened}
+use Rattle.first_recover.specs.Recovery.{Recovery, ask_at, next_at, home_of, home_with, IsSoundAt, taken_by, got_by, head_read, phase_read, bytes_read, put_by, releasing}
 use Rattle.client_session.specs.declared.session.Work.TheVariants.{Opening}
 use Rattle.history.specs.Audited.{Audited}
 use Rattle.replay_meaning.specs.Standing.{Line}

@@ -12,8 +12,8 @@ use Rattle.head_codec.specs.Head.{empty_head}
 use Rattle.report_types.specs.declared.entry.Entry.{Entry}
 use Rattle.txn_buffer.specs.Noted.{Noted, noted_in, is_of}
 use Rattle.txn_buffer.proofs.NotedLemmas.{AreDistinct-noted}
-use Rattle.recover_run.specs.declared.home.Home.{Home}
-use Rattle.commit_run.specs.Commit.{Commit, Readies, new_commit, with_attempt, next_records, opening, finished}
+use Rattle.first_recover.specs.declared.home.Home.{Home}
+use Rattle.first_commit.specs.Commit.{Commit, Readies, new_commit, with_attempt, next_records, opening, finished}
 use Rattle.route_plan.specs.Queue.{first_queue}
 use Rattle.record_facts.specs.Tally.{tally_of, head_at}
 use Rattle.record_facts.specs.Known.{HomeKnown, MayCommit, CommitKnown}

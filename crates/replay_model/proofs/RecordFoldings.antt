@@ -27,9 +27,9 @@ use Rattle.cloud_trait.proofs.NameLemmas.{queue_cmp-total}
 use Rattle.cloud_trait.proofs.RowLemmas.{row_by}
 use Rattle.cloud_trait.proofs.ViewLemmas.{done_of-ok}
 use Rattle.cloud_trait.proofs.StateLemmas.{put_at_same, landed_newest, landed_other}
-use Rattle.tree_ckpt.specs.declared.stage.Stage.{Stage}
-use Rattle.tree_ckpt.specs.declared.stage.Stage.TheVariants.{TakingTree, GettingTree, Receiving, TakingPage, GettingPage, PuttingPage, ReleasingPage, PuttingTree, Deleting, ReleasingTree, StoppingPage, StoppingTree, Finished}
-use Rattle.tree_ckpt.specs.Folding.{Folding, ask_at, under_tree, under_page, delete_next, LeadsAt, tree_taken_by}
+use Rattle.first_tree.specs.declared.stage.Stage.{Stage}
+use Rattle.first_tree.specs.declared.stage.Stage.TheVariants.{TakingTree, GettingTree, Receiving, TakingPage, GettingPage, PuttingPage, ReleasingPage, PuttingTree, Deleting, ReleasingTree, StoppingPage, StoppingTree, Finished}
+use Rattle.first_tree.specs.Folding.{Folding, ask_at, under_tree, under_page, delete_next, LeadsAt, tree_taken_by}
 use Rattle.history.specs.Audited.{Audited}
 use Rattle.record_facts.specs.Tally.{Tally, tally_of, root_at, leaf_at, RecordsHold}
 use Rattle.record_facts.specs.Known.{HasCursor, HasRun, HasDone, FoldingKnown, FoldingKnownAt}

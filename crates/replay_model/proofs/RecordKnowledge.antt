@@ -26,12 +26,12 @@ use Rattle.cloud_trait.specs.Names.{queue_cmp}
 use Rattle.cloud_trait.proofs.NameLemmas.{queue_cmp-total}
 use Rattle.cloud_trait.proofs.StateLemmas.{put_at_same}
 use Rattle.std.proofs.lemmas.List.{append-nil}
-use Rattle.recover_run.specs.declared.recover.Stage.{Stage as OpeningStage}
-use Rattle.recover_run.specs.declared.recover.Stage.TheVariants as opening
-use Rattle.recover_run.specs.Recovery.{Recovery, ask_at as opening_ask, next_at as opening_next}
-use Rattle.commit_run.specs.declared.commit.Stage.{Stage as CommitStage}
-use Rattle.commit_run.specs.declared.commit.Stage.TheVariants as commit
-use Rattle.commit_run.specs.Commit.{Commit, ask_at as commit_ask, next_at as commit_next, send_ask, SendsRecord, IsSoundAt as IsSoundCommit, opened_by, not_opened, sent_by, settled_by}
+use Rattle.first_recover.specs.declared.recover.Stage.{Stage as OpeningStage}
+use Rattle.first_recover.specs.declared.recover.Stage.TheVariants as opening
+use Rattle.first_recover.specs.Recovery.{Recovery, ask_at as opening_ask, next_at as opening_next}
+use Rattle.first_commit.specs.declared.commit.Stage.{Stage as CommitStage}
+use Rattle.first_commit.specs.declared.commit.Stage.TheVariants as commit
+use Rattle.first_commit.specs.Commit.{Commit, ask_at as commit_ask, next_at as commit_next, send_ask, SendsRecord, IsSoundAt as IsSoundCommit, opened_by, not_opened, sent_by, settled_by}
 use Rattle.client_session.specs.declared.session.Work.TheVariants.{Committing}
 use Rattle.history.specs.Audited.{Audited}
 use Rattle.record_facts.specs.Tally.{tally_of, head_at}

@@ -16,16 +16,16 @@ use Rattle.cloud_trait.specs.Claim.{Claim}
 use Rattle.cloud_trait.specs.State.{CloudState, Counts, called, newest}
 use Rattle.cloud_trait.specs.Weather.{Leaves}
 use Rattle.cloud_trait.proofs.RowLemmas.{row_by}
-use Rattle.recover_run.specs.declared.home.Home.{Home}
-use Rattle.recover_run.specs.declared.recover.Stage.{Stage as OpeningStage}
-use Rattle.recover_run.specs.declared.recover.Stage.TheVariants as opening
-use Rattle.recover_run.specs.Recovery.{Recovery, ask_at as opening_ask, IsSoundAt as IsSoundOpening}
-use Rattle.commit_run.specs.declared.commit.Stage.{Stage as CommitStage}
-use Rattle.commit_run.specs.declared.commit.Stage.TheVariants as commit
-use Rattle.commit_run.specs.Commit.{Commit, ask_at as commit_ask, send_ask, SendsRecord, IsSoundAt as IsSoundCommit}
-use Rattle.tree_ckpt.specs.declared.stage.Stage.{Stage as FoldingStage}
-use Rattle.tree_ckpt.specs.declared.stage.Stage.TheVariants as folding
-use Rattle.tree_ckpt.specs.Folding.{Folding, ask_at as folding_ask, under_tree, under_page, delete_next}
+use Rattle.first_recover.specs.declared.home.Home.{Home}
+use Rattle.first_recover.specs.declared.recover.Stage.{Stage as OpeningStage}
+use Rattle.first_recover.specs.declared.recover.Stage.TheVariants as opening
+use Rattle.first_recover.specs.Recovery.{Recovery, ask_at as opening_ask, IsSoundAt as IsSoundOpening}
+use Rattle.first_commit.specs.declared.commit.Stage.{Stage as CommitStage}
+use Rattle.first_commit.specs.declared.commit.Stage.TheVariants as commit
+use Rattle.first_commit.specs.Commit.{Commit, ask_at as commit_ask, send_ask, SendsRecord, IsSoundAt as IsSoundCommit}
+use Rattle.first_tree.specs.declared.stage.Stage.{Stage as FoldingStage}
+use Rattle.first_tree.specs.declared.stage.Stage.TheVariants as folding
+use Rattle.first_tree.specs.Folding.{Folding, ask_at as folding_ask, under_tree, under_page, delete_next}
 use Rattle.client_session.specs.declared.session.Work.TheVariants.{Opening, Committing, Folding as AtFolding}
 use Rattle.history.specs.Audited.{Audited, applied_entry}
 use Rattle.tree_meaning.specs.Chain.{IsReadAs}

@@ -8,18 +8,18 @@ use Rattle.reply_text.specs.declared.reply.Reply.TheVariants as reply
 use Rattle.db_base.specs.Ids.{IsClient}
 use Rattle.cloud_trait.specs.declared.answer.Answer.{Answer as CallAnswer}
 use Rattle.cloud_trait.specs.Machine.{Ends}
-use Rattle.recover_run.specs.declared.recover.Stage.{Stage}
-use Rattle.recover_run.specs.declared.recover.RecoverAnswer.TheVariants.{Opened}
+use Rattle.first_recover.specs.declared.recover.Stage.{Stage}
+use Rattle.first_recover.specs.declared.recover.RecoverAnswer.TheVariants.{Opened}
 use Rattle.cloud_trait.specs.Ask.{Ask, Get, GetHeld, PutHeld, Send, Receive, Delete, Take, Renew, Release}
 use Rattle.cloud_trait.specs.Caller.{Caller}
 use Rattle.cloud_trait.specs.State.{CloudState, newest}
 use Rattle.cloud_trait.specs.Seen.{Seen}
 use Rattle.cloud_trait.specs.Weather.{Leaves}
 use Rattle.cloud_trait.specs.declared.turn.Turn.TheVariants.{More, Ended}
-use Rattle.recover_run.specs.declared.home.Home.{Home}
-use Rattle.recover_run.specs.Recovery.{Recovery, recovery_ask, home_of, next_at}
-use Rattle.commit_run.specs.Commit.{commit_ask}
-use Rattle.tree_ckpt.specs.Folding.{Folding as Fold, folding_ask}
+use Rattle.first_recover.specs.declared.home.Home.{Home}
+use Rattle.first_recover.specs.Recovery.{Recovery, recovery_ask, home_of, next_at}
+use Rattle.first_commit.specs.Commit.{commit_ask}
+use Rattle.first_tree.specs.Folding.{Folding as Fold, folding_ask}
 use Rattle.client_session.specs.declared.session.Answer.{Answer}
 use Rattle.client_session.specs.declared.session.Answer.TheVariants as answer
 use Rattle.client_session.specs.declared.session.Work.{Work}

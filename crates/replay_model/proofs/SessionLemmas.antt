@@ -22,12 +22,12 @@ use Rattle.cloud_trait.proofs.StateLemmas.{landed_other}
 use Rattle.txn_buffer.specs.Noted.{Noted as NotedChange}
 use Rattle.reply_text.specs.declared.reply.Reply.{Reply}
 use Rattle.reply_text.specs.declared.reply.Reply.TheVariants as reply
-use Rattle.recover_run.specs.declared.home.Home.{Home}
-use Rattle.recover_run.specs.Recovery.{recovery_ask}
-use Rattle.commit_run.specs.Commit.{Commit, commit_ask}
-use Rattle.tree_ckpt.specs.declared.stage.Stage.{Stage}
-use Rattle.tree_ckpt.specs.declared.stage.Stage.TheVariants.{TakingTree, GettingTree, Receiving, TakingPage, GettingPage, PuttingPage, ReleasingPage, PuttingTree, Deleting, ReleasingTree, StoppingPage, StoppingTree, Finished}
-use Rattle.tree_ckpt.specs.Folding.{Folding as Fold, ask_at, folding_ask, under_tree, under_page, delete_next}
+use Rattle.first_recover.specs.declared.home.Home.{Home}
+use Rattle.first_recover.specs.Recovery.{recovery_ask}
+use Rattle.first_commit.specs.Commit.{Commit, commit_ask}
+use Rattle.first_tree.specs.declared.stage.Stage.{Stage}
+use Rattle.first_tree.specs.declared.stage.Stage.TheVariants.{TakingTree, GettingTree, Receiving, TakingPage, GettingPage, PuttingPage, ReleasingPage, PuttingTree, Deleting, ReleasingTree, StoppingPage, StoppingTree, Finished}
+use Rattle.first_tree.specs.Folding.{Folding as Fold, ask_at, folding_ask, under_tree, under_page, delete_next}
 use Rattle.client_session.specs.declared.session.Answer.{Answer}
 use Rattle.client_session.specs.declared.session.Answer.TheVariants as answer
 use Rattle.client_session.specs.declared.session.Work.{Work}

@@ -25,8 +25,8 @@ use Rattle.leaf_edit.specs.Lacked.{lacked}
 use Rattle.node_codec.specs.Node.{child_of}
 use Rattle.node_codec.specs.Tree.{empty_tree}
 use Rattle.node_codec.proofs.NodeLemmas.{not_below_empty}
-use Rattle.commit_run.specs.Commit.{Commit}
-use Rattle.tree_ckpt.specs.Folding.{Folding, is_first_alone, is_lone_leaf}
+use Rattle.first_commit.specs.Commit.{Commit}
+use Rattle.first_tree.specs.Folding.{Folding, is_first_alone, is_lone_leaf}
 use Rattle.log_codec.specs.declared.record.PuItem.{PuItem}
 use Rattle.history.specs.Audited.{applied_entry}
 use Rattle.tree_meaning.specs.Chain.{IsReadAs, AreLeaves, Walked, pair_of, records_of}

@@ -20,16 +20,16 @@ use Rattle.node_codec.specs.Tree.{Tree, IsTree}
 use Rattle.report_types.specs.declared.entry.Entry.{Entry}
 use Rattle.reply_text.specs.declared.reply.Reply.{Reply}
 use Rattle.reply_text.specs.declared.reply.Reply.TheVariants as reply
-use Rattle.recover_run.specs.declared.home.Home.{Home}
-use Rattle.recover_run.specs.declared.recover.Stage.{Stage as OpeningStage}
-use Rattle.recover_run.specs.declared.recover.Stage.TheVariants as opening
-use Rattle.recover_run.specs.Recovery.{Recovery}
-use Rattle.commit_run.specs.declared.commit.Stage.{Stage as CommitStage}
-use Rattle.commit_run.specs.declared.commit.Stage.TheVariants as commit
-use Rattle.commit_run.specs.Commit.{Commit}
-use Rattle.tree_ckpt.specs.declared.stage.Stage.{Stage as FoldingStage}
-use Rattle.tree_ckpt.specs.declared.stage.Stage.TheVariants as folding
-use Rattle.tree_ckpt.specs.Folding.{Folding, is_lone_root, is_lone_leaf}
+use Rattle.first_recover.specs.declared.home.Home.{Home}
+use Rattle.first_recover.specs.declared.recover.Stage.{Stage as OpeningStage}
+use Rattle.first_recover.specs.declared.recover.Stage.TheVariants as opening
+use Rattle.first_recover.specs.Recovery.{Recovery}
+use Rattle.first_commit.specs.declared.commit.Stage.{Stage as CommitStage}
+use Rattle.first_commit.specs.declared.commit.Stage.TheVariants as commit
+use Rattle.first_commit.specs.Commit.{Commit}
+use Rattle.first_tree.specs.declared.stage.Stage.{Stage as FoldingStage}
+use Rattle.first_tree.specs.declared.stage.Stage.TheVariants as folding
+use Rattle.first_tree.specs.Folding.{Folding, is_lone_root, is_lone_leaf}
 use Rattle.client_session.specs.declared.session.Work.{Work}
 use Rattle.client_session.specs.declared.session.Work.TheVariants as work
 use Rattle.client_session.specs.Session.{Acting}

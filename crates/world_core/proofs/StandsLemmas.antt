@@ -20,8 +20,8 @@ use Rattle.reply_text.specs.declared.reply.Reply.{Reply}
 use Rattle.reply_text.specs.declared.reply.Reply.TheVariants as reply
 use Rattle.report_types.specs.declared.report.Report.{Report as ReportShown}
 use Rattle.txn_buffer.specs.Noted.{Noted, noted_in}
-use Rattle.recover_run.specs.declared.home.Home.{Home}
-use Rattle.commit_run.specs.Commit.{Commit, Readies, new_commit, with_attempt, next_records, opening, finished}
+use Rattle.first_recover.specs.declared.home.Home.{Home}
+use Rattle.first_commit.specs.Commit.{Commit, Readies, new_commit, with_attempt, next_records, opening, finished}
 use Rattle.cloud_trait.specs.Machine.{Goes, Ends}
 use Rattle.cloud_trait.specs.Caller.{Caller}
 use Rattle.cloud_trait.specs.Growth.{BeginsWith}

@@ -4,20 +4,10 @@
 # It makes a program beside copies of the crates in a folder of its own under /tmp, proves and builds it, and runs it.
 # Each is to take under 25 microseconds; a plain copy of the same bytes is printed beside them.
 set -eu
-top=$(cd "$(dirname "$0")/.." && pwd)
 rounds=${1:-20000}
-work=$(mktemp -d -t leaf_edit_bench.XXXXXX)
-trap 'rm -rf "$work"' EXIT
-for crate in db_base byte_format leaf_view change_codec log_codec run_cursor leaf_edit; do
-    mkdir -p "$work/crates/$crate"
-    for part in src specs proofs out; do
-        if [ -d "$top/crates/$crate/$part" ]; then cp -r "$top/crates/$crate/$part" "$work/crates/$crate/"; fi
-    done
-    grep -E "^$crate:" "$top/crates.txt" >> "$work/crates.txt"
-done
-echo 'merges: leaf_edit leaf_view run_cursor log_codec db_base' >> "$work/crates.txt"
-mkdir -p "$work/crates/merges/src" "$work/crates/merges/proofs/merges"
-cat > "$work/crates/merges/src/main.rt" <<RT
+. "$(dirname "$0")/beside.sh"
+beside merges 'db_base byte_format leaf_view change_codec log_codec run_cursor leaf_edit' 'leaf_edit leaf_view run_cursor log_codec db_base'
+cat > src/main.rt <<RT
 #![tactic(auto)]
 
 ghost use Rattle.std.specs.Prelude.{◌≤◌};
@@ -143,9 +133,10 @@ fn main(rt: HostRuntime) -> io::Result<()> {
     Ok(())
 }
 RT
-cat > "$work/crates/merges/proofs/Lib.antt" <<'ANTT'
+mkdir -p proofs/merges
+cat > proofs/Lib.antt <<'ANTT'
 ANTT
-cat > "$work/crates/merges/proofs/merges/Invariants.antt" <<'ANTT'
+cat > proofs/merges/Invariants.antt <<'ANTT'
 use Rattle.std.proofs.Common.{◌≤◌}
 use Rattle.std.specs.Vec.{vec_capacity}
 use Rattle.leaf_edit.specs.Applied.{applied_length}
@@ -154,5 +145,4 @@ use Rattle.merges.proofs.merges.Given as goal
 abbrev pub invariant-loop-n : goal.invariant-loop-n
 invariant-loop-n l = applied_length l.leaf 1 l.run ≤ vec_capacity l.out
 ANTT
-cd "$work/crates/merges"
 rt run

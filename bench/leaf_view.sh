@@ -4,20 +4,9 @@
 # It makes a program beside copies of the crates in a folder of its own under /tmp, proves and builds it, and runs it.
 # A read is to take a few microseconds at most, whatever the payloads' lengths, and a look-up less than one.
 set -eu
-top=$(cd "$(dirname "$0")/.." && pwd)
 rounds=${1:-100000}
-work=$(mktemp -d /tmp/leaf_view_bench.XXXXXX)
-trap 'rm -rf "$work"' EXIT
-mkdir -p "$work/crates/timings/src"
-for crate in db_base byte_format leaf_view; do
-    mkdir -p "$work/crates/$crate"
-    for part in src specs proofs; do
-        if [ -d "$top/crates/$crate/$part" ]; then cp -r "$top/crates/$crate/$part" "$work/crates/$crate/"; fi
-    done
-done
-grep -E '^(db_base|byte_format|leaf_view):' "$top/crates.txt" > "$work/crates.txt"
-echo 'timings: leaf_view' >> "$work/crates.txt"
-cd "$work/crates/timings"
+. "$(dirname "$0")/beside.sh"
+beside timings 'db_base byte_format leaf_view' 'leaf_view'
 cat > src/main.rt <<END
 #![tactic(auto)]
 

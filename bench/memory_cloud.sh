@@ -5,19 +5,8 @@
 # times the program alone: the processor's time of a run, as the mean of fifty, less that of a run of no round. A call
 # is to take as long after many rounds as after few, so the last line compares the rates: they should be within 1.5.
 set -euo pipefail
-top=$(cd "$(dirname "$0")/.." && pwd)
-work=$(mktemp -d /tmp/memory_cloud_bench.XXXXXX)
-trap 'rm -rf "$work"' EXIT
-mkdir -p "$work/crates/rounds/src"
-for crate in db_base cloud_trait memory_cloud; do
-    mkdir -p "$work/crates/$crate"
-    for part in src specs proofs out; do
-        if [ -d "$top/crates/$crate/$part" ]; then cp -r "$top/crates/$crate/$part" "$work/crates/$crate/"; fi
-    done
-done
-grep -E '^(db_base|cloud_trait|memory_cloud):' "$top/crates.txt" > "$work/crates.txt"
-echo 'rounds: memory_cloud cloud_trait db_base' >> "$work/crates.txt"
-cd "$work/crates/rounds"
+. "$(dirname "$0")/beside.sh"
+beside rounds 'db_base cloud_trait memory_cloud' 'memory_cloud cloud_trait db_base'
 cat > src/main.rt <<'END'
 #![tactic(auto)]
 

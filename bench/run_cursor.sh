@@ -4,20 +4,9 @@
 # It makes a program beside copies of the crates in a folder of its own under /tmp, proves and builds it, and runs it.
 # A run is to take under 30 microseconds more than a plain copy of the same items, which is printed beside it.
 set -eu
-top=$(cd "$(dirname "$0")/.." && pwd)
 rounds=${1:-2000}
-work=$(mktemp -d -t run_cursor_bench.XXXXXX)
-trap 'rm -rf "$work"' EXIT
-for crate in db_base byte_format change_codec log_codec run_cursor; do
-    mkdir -p "$work/crates/$crate"
-    for part in src specs proofs out; do
-        if [ -d "$top/crates/$crate/$part" ]; then cp -r "$top/crates/$crate/$part" "$work/crates/$crate/"; fi
-    done
-    grep -E "^$crate:" "$top/crates.txt" >> "$work/crates.txt"
-done
-echo 'timings: run_cursor log_codec db_base' >> "$work/crates.txt"
-mkdir -p "$work/crates/timings/src"
-cd "$work/crates/timings"
+. "$(dirname "$0")/beside.sh"
+beside timings 'db_base byte_format change_codec log_codec run_cursor' 'run_cursor log_codec db_base'
 cat > src/main.rt <<END
 #![tactic(auto)]
 

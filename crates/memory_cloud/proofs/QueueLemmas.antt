@@ -1,16 +1,15 @@
 -- What is kept of a queue.
-use Rattle.std.proofs.Common.{◌≡◌, ◌<◌, ◌≤◌, ◌+◌, ◌-◌, ◌++◌, ℕ, zero, suc, List, [], ◌∷◌, length, take, drop, refl, ap, sym, ◌∙◌, inl, inr, ◌⊎◌, arith, add-one, ◌&&◌, Bool, true, false, cond, not}
-use Rattle.std.specs.Prelude.{count_by, slice_set, slice_index_or}
+use Rattle.std.proofs.Common.{◌≡◌, ◌<◌, ◌≤◌, ◌+◌, ◌-◌, ◌++◌, ℕ, zero, suc, List, [], ◌∷◌, length, take, refl, ap, sym, subst, ◌∙◌, arith, Bool, true, false, cond, eqb, ltb, Option, Some, None}
+use Rattle.std.specs.Prelude.{slice_get, slice_set, slice_index_or}
+use Rattle.std.specs.List.{position, position_or_len, remove}
+use Rattle.std.specs.Option.{option_map_or, option_map}
+use Rattle.std.proofs.lemmas.Bool.{eqb-true, eqb-false, ne_eqb, ltb-true, ltb-false}
 use Rattle.std.proofs.lemmas.List.{append-nil, append_assoc, length-append}
-use Rattle.std.proofs.lemmas.List.Recursion.{is_count_by}
-use Rattle.std.proofs.Math.Seq.{take-nil}
 use Rattle.cloud_trait.specs.declared.state.Posted.{Posted}
 use Rattle.cloud_trait.specs.declared.message.Message.{Message}
-use Rattle.cloud_trait.specs.State.{mark_at, message_at}
+use Rattle.cloud_trait.specs.State.{mark_at, marked, message_at}
 use Rattle.cloud_trait.specs.Delivery.{unmarked_from, unmarked}
-use Rattle.std.specs.Option.{option_map_or}
-use Rattle.std.proofs.Common.{Option, Some, None}
-use Rattle.memory_cloud.specs.Choice.{all_deleted, open_at, chosen, chosen_at}
+use Rattle.memory_cloud.specs.Choice.{open_from, chosen, chosen_at}
 
 -- a message that is written back with its mark is marked
 pub mark_at-set : (xs : List Posted) (i : ℕ) (m : Posted) → i < length xs → m ≡ slice_index_or xs i m → slice_set xs i (record { who = m.who; bytes = m.bytes; deleted = true }) ≡ mark_at xs i
@@ -24,86 +23,113 @@ mark_at-past [] i h = refl
 mark_at-past (x ∷ xs) zero h = absurd (omega arith)
 mark_at-past (x ∷ xs) (suc i) h = ap (λ ys. x ∷ ys) (mark_at-past xs i (omega arith))
 
--- one deleted message more at the front
-all_deleted-suc : (xs : List Posted) (i : ℕ) (m : Posted) → i < length xs → all_deleted (take i xs) ≡ true → m ≡ slice_index_or xs i m → m.deleted ≡ true → all_deleted (take (suc i) xs) ≡ true
-all_deleted-suc [] i m h a e d = absurd (omega arith)
-all_deleted-suc (x ∷ xs) zero m h a e d = let f : x.deleted ≡ true = sym (ap (λ (y : Posted). y.deleted) e) ∙ d in rw f
-all_deleted-suc (x ∷ xs) (suc i) m h a e d = on x.deleted a (λ g. all_deleted-suc xs i m (omega arith) g e d) where
-  on : (c : Bool) → (c && all_deleted (take i xs)) ≡ true → (all_deleted (take i xs) ≡ true → all_deleted (take (suc i) xs) ≡ true) → (c && all_deleted (take (suc i) xs)) ≡ true
-  on true g more = more g
-  on false g more = absurd (cc)
+-- where a number stands among those that are kept
+abbrev pub place_of : ℕ → List ℕ → ℕ
+place_of id ids = position_or_len (λ k. eqb k id) ids
 
-pub all_deleted-more : (xs : List Posted) (i : ℕ) (m : Posted) → i < length xs → all_deleted (take i xs) ≡ true → m ≡ slice_index_or xs i m → m.deleted ≡ true → all_deleted (take (i + 1) xs) ≡ true
-all_deleted-more xs i m h a e d = rw add-one (all_deleted-suc xs i m h a e d)
+-- a number below that of the first message is not kept
+absent : (n id : ℕ) (ms : List Posted) → id < n → place_of id (open_from n ms) ≡ length (open_from n ms)
+absent n id [] h = refl
+absent n id (m ∷ ms) h = on m.deleted (eqb n id) refl (absent (n + 1) id ms (omega arith)) where
+  on : (d same : Bool) → eqb n id ≡ same → place_of id (open_from (n + 1) ms) ≡ length (open_from (n + 1) ms)
+      → place_of id (cond d (open_from (n + 1) ms) (n ∷ open_from (n + 1) ms)) ≡ length (cond d (open_from (n + 1) ms) (n ∷ open_from (n + 1) ms))
+  on true same e again = again
+  on false true e again = absurd (let f = eqb-true n id e in omega arith)
+  on false false e again = rw e (omega (arith, again))
 
--- a mark keeps the deleted ones at the front
-pub all_deleted-mark_at : (xs : List Posted) (i k : ℕ) → all_deleted (take k xs) ≡ true → all_deleted (take k (mark_at xs i)) ≡ true
-all_deleted-mark_at [] i k h = h
-all_deleted-mark_at (x ∷ xs) i zero h = refl
-all_deleted-mark_at (x ∷ xs) zero (suc k) h = on x.deleted h where
-  on : (c : Bool) → (c && all_deleted (take k xs)) ≡ true → all_deleted (take k xs) ≡ true
-  on true g = g
-  on false g = absurd (cc)
-all_deleted-mark_at (x ∷ xs) (suc i) (suc k) h = on x.deleted h (all_deleted-mark_at xs i k) where
-  on : (c : Bool) → (c && all_deleted (take k xs)) ≡ true → (all_deleted (take k xs) ≡ true → all_deleted (take k (mark_at xs i)) ≡ true) → (c && all_deleted (take k (mark_at xs i))) ≡ true
-  on true g more = more g
-  on false g more = absurd (cc)
+one-more : (k : ℕ) → 1 + k ≡ suc k
+one-more k = omega arith
 
-pub length-mark_at : (xs : List Posted) (i : ℕ) → length (mark_at xs i) ≡ length xs
-length-mark_at [] i = refl
-length-mark_at (x ∷ xs) zero = refl
-length-mark_at (x ∷ xs) (suc i) = ap suc (length-mark_at xs i)
+-- a message that is kept is no longer so once it is marked
+pub marks-kept : (n i id : ℕ) (ms : List Posted) → id ≡ n + i → place_of id (open_from n ms) < length (open_from n ms)
+    → remove (open_from n ms) (place_of id (open_from n ms)) ≡ open_from n (mark_at ms i)
+marks-kept n i id [] e h = absurd (omega arith)
+marks-kept n zero id (m ∷ ms) e h = on m.deleted (eqb n id) refl h where
+  on : (d same : Bool) → eqb n id ≡ same
+      → place_of id (cond d (open_from (n + 1) ms) (n ∷ open_from (n + 1) ms)) < length (cond d (open_from (n + 1) ms) (n ∷ open_from (n + 1) ms))
+      → remove (cond d (open_from (n + 1) ms) (n ∷ open_from (n + 1) ms)) (place_of id (cond d (open_from (n + 1) ms) (n ∷ open_from (n + 1) ms))) ≡ open_from (n + 1) ms
+  on true same f g = absurd (let a = absent (n + 1) id ms (omega arith) in omega arith)
+  on false true f g = rw f refl
+  on false false f g = absurd (eqb-false n id f (omega arith))
+marks-kept n (suc i) id (m ∷ ms) e h = on m.deleted (eqb n id) refl h (marks-kept (n + 1) i id ms (omega arith)) where
+  on : (d same : Bool) → eqb n id ≡ same
+      → place_of id (cond d (open_from (n + 1) ms) (n ∷ open_from (n + 1) ms)) < length (cond d (open_from (n + 1) ms) (n ∷ open_from (n + 1) ms))
+      → (place_of id (open_from (n + 1) ms) < length (open_from (n + 1) ms)
+      → remove (open_from (n + 1) ms) (place_of id (open_from (n + 1) ms)) ≡ open_from (n + 1) (mark_at ms i))
+      → remove (cond d (open_from (n + 1) ms) (n ∷ open_from (n + 1) ms)) (place_of id (cond d (open_from (n + 1) ms) (n ∷ open_from (n + 1) ms)))
+      ≡ cond d (open_from (n + 1) (mark_at ms i)) (n ∷ open_from (n + 1) (mark_at ms i))
+  on true same f g again = again g
+  on false true f g again = absurd (let a = eqb-true n id f in omega arith)
+  on false false f g again = rw (f, one-more (place_of id (open_from (n + 1) ms))) (ap (λ ids. n ∷ ids) (again (omega (arith, (rw f at g)))))
 
--- deleted messages at the front are passed over
-pub unmarked_from-drop : (n k o : ℕ) (xs : List Posted) → o ≡ n + k → k ≤ length xs → all_deleted (take k xs) ≡ true → unmarked_from n xs ≡ unmarked_from o (drop k xs)
-unmarked_from-drop n zero o xs e h a = let f : o ≡ n = omega arith in rw f
-unmarked_from-drop n (suc k) o [] e h a = absurd (omega arith)
-unmarked_from-drop n (suc k) o (x ∷ xs) e h a = on x.deleted a (unmarked_from-drop (n + 1) k o xs (omega arith) (omega arith)) where
-  on : (c : Bool) → (c && all_deleted (take k xs)) ≡ true → (all_deleted (take k xs) ≡ true → unmarked_from (n + 1) xs ≡ unmarked_from o (drop k xs)) → cond c (unmarked_from (n + 1) xs) (record { id = n; bytes = x.bytes } ∷ unmarked_from (n + 1) xs) ≡ unmarked_from o (drop k xs)
-  on true g more = more g
-  on false g more = absurd (cc)
+-- a message that is not kept is marked already, or is not there
+pub marks-past : (n i id : ℕ) (ms : List Posted) → id ≡ n + i → length (open_from n ms) ≤ place_of id (open_from n ms) → mark_at ms i ≡ ms
+marks-past n i id [] e h = refl
+marks-past n zero id (m ∷ ms) e h = on m.deleted (eqb n id) refl refl h where
+  on : (d same : Bool) → eqb n id ≡ same → m.deleted ≡ d
+      → length (cond d (open_from (n + 1) ms) (n ∷ open_from (n + 1) ms)) ≤ place_of id (cond d (open_from (n + 1) ms) (n ∷ open_from (n + 1) ms))
+      → mark_at (m ∷ ms) zero ≡ m ∷ ms
+  on true same f deleted g = ap (λ d. record { who = m.who; bytes = m.bytes; deleted = d } ∷ ms) (sym deleted)
+  on false true f deleted g = absurd (let a : place_of id (n ∷ open_from (n + 1) ms) ≡ 0 = rw f refl in omega arith)
+  on false false f deleted g = absurd (eqb-false n id f (omega arith))
+marks-past n (suc i) id (m ∷ ms) e h = ap (λ xs. m ∷ xs) (on m.deleted (eqb n id) refl h (marks-past (n + 1) i id ms (omega arith))) where
+  on : (d same : Bool) → eqb n id ≡ same
+      → length (cond d (open_from (n + 1) ms) (n ∷ open_from (n + 1) ms)) ≤ place_of id (cond d (open_from (n + 1) ms) (n ∷ open_from (n + 1) ms))
+      → (length (open_from (n + 1) ms) ≤ place_of id (open_from (n + 1) ms) → mark_at ms i ≡ ms) → mark_at ms i ≡ ms
+  on true same f g again = again g
+  on false true f g again = absurd (let a = eqb-true n id f in omega arith)
+  on false false f g again = again (omega (arith, (rw f at g)))
 
-length-cond : (c : Bool) (x : Message) (xs : List Message) → length (cond c xs (x ∷ xs)) ≡ cond (not c) (1 + length xs) (length xs)
-length-cond true x xs = refl
-length-cond false x xs = omega arith
+-- a message that is sent is kept
+pub sends-kept : (n : ℕ) (ms : List Posted) (m : Posted) → open_from n (ms ++ m ∷ []) ≡ open_from n ms ++ cond m.deleted [] ((n + length ms) ∷ [])
+sends-kept n [] m = on m.deleted where
+  on : (d : Bool) → cond d [] (n ∷ []) ≡ cond d [] ((n + 0) ∷ [])
+  on true = refl
+  on false = ap (λ k. k ∷ []) (omega arith)
+sends-kept n (x ∷ ms) m = on x.deleted (sends-kept (n + 1) ms m ∙ ap (λ k. open_from (n + 1) ms ++ cond m.deleted [] (k ∷ [])) (omega arith)) where
+  on : (d : Bool) → open_from (n + 1) (ms ++ m ∷ []) ≡ open_from (n + 1) ms ++ cond m.deleted [] ((n + suc (length ms)) ∷ [])
+      → cond d (open_from (n + 1) (ms ++ m ∷ [])) (n ∷ open_from (n + 1) (ms ++ m ∷ []))
+      ≡ cond d (open_from (n + 1) ms) (n ∷ open_from (n + 1) ms) ++ cond m.deleted [] ((n + suc (length ms)) ∷ [])
+  on true again = again
+  on false again = ap (λ ids. n ∷ ids) again
 
--- how many messages are kept does not depend on the number of the first
-length-unmarked_from_any : (n o : ℕ) (xs : List Posted) → length (unmarked_from n xs) ≡ length (unmarked_from o xs)
-length-unmarked_from_any n o [] = refl
-length-unmarked_from_any n o (x ∷ xs) =
-    let e = length-unmarked_from_any (n + 1) (o + 1) xs in
-    length-cond x.deleted (record { id = n; bytes = x.bytes }) (unmarked_from (n + 1) xs)
-    ∙ ap (λ k. cond (not x.deleted) (1 + k) k) e
-    ∙ sym (length-cond x.deleted (record { id = o; bytes = x.bytes }) (unmarked_from (o + 1) xs))
+-- how many are kept
+pub length-kept : (n : ℕ) (ms : List Posted) → length (open_from n ms) ≡ length (unmarked_from n ms)
+length-kept n [] = refl
+length-kept n (m ∷ ms) = on m.deleted (length-kept (n + 1) ms) where
+  on : (d : Bool) → length (open_from (n + 1) ms) ≡ length (unmarked_from (n + 1) ms)
+      → length (cond d (open_from (n + 1) ms) (n ∷ open_from (n + 1) ms)) ≡ length (cond d (unmarked_from (n + 1) ms) (record { id = n; bytes = m.bytes } ∷ unmarked_from (n + 1) ms))
+  on true again = again
+  on false again = ap suc again
 
-pub length-unmarked_from : (n : ℕ) (xs : List Posted) → length (unmarked_from n xs) ≡ count_by (λ (m : Posted). not m.deleted) xs
-length-unmarked_from n xs =
-    is_count_by (λ ys. length (unmarked_from n ys)) (λ (m : Posted). not m.deleted) refl
-    (λ y ys. length-cond y.deleted (record { id = n; bytes = y.bytes }) (unmarked_from (n + 1) ys) ∙ ap (λ k. cond (not y.deleted) (1 + k) k) (length-unmarked_from_any (n + 1) n ys)) xs
+-- the message behind so many
+behind : (front : List Posted) (m : Posted) (rest : List Posted) → slice_get (front ++ m ∷ rest) (length front) ≡ Some m
+behind [] m rest = refl
+behind (x ∷ front) m rest = behind front m rest
+
+told-at : (all : List Posted) (n k : ℕ) (m : Posted) → n ≡ k + 1 → slice_get all k ≡ Some m → message_at all n ≡ Some m.bytes
+told-at all n k m e is =
+    let at : n - 1 ≡ k = omega arith in
+    let some : eqb n 0 ≡ false = ne_eqb n 0 (λ z. absurd (omega arith)) in
+    rw (some, at) (ap (option_map (λ (x : Posted). x.bytes)) is)
+
+-- those that are kept are the messages that are not deleted
+chosen-from : (front rest all : List Posted) (n : ℕ) → n ≡ length front + 1 → all ≡ front ++ rest → chosen all (open_from n rest) ≡ unmarked_from n rest
+chosen-from front [] all n e is = refl
+chosen-from front (m ∷ rest) all n e is =
+    on m.deleted (told-at all n (length front) m e (rw is (behind front m rest)))
+    (chosen-from (front ++ m ∷ []) rest all (n + 1) (omega (arith, length-append front (m ∷ []))) (is ∙ sym (append_assoc front (m ∷ []) rest))) where
+      on : (d : Bool) → message_at all n ≡ Some m.bytes → chosen all (open_from (n + 1) rest) ≡ unmarked_from (n + 1) rest
+          → chosen all (cond d (open_from (n + 1) rest) (n ∷ open_from (n + 1) rest)) ≡ cond d (unmarked_from (n + 1) rest) (record { id = n; bytes = m.bytes } ∷ unmarked_from (n + 1) rest)
+      on true there again = again
+      on false there again = rw there (ap (λ ms. record { id = n; bytes = m.bytes } ∷ ms) again)
+
+pub chosen-kept : (ms : List Posted) → chosen ms (open_from 1 ms) ≡ unmarked ms
+chosen-kept ms = chosen-from [] ms ms 1 refl refl
 
 -- one item more of what is taken
 takes-more : {X : Type 0} (out : List X) (x : X) (xs : List X) (j k : ℕ) → j ≡ suc k → (out ++ x ∷ []) ++ take k xs ≡ out ++ take j (x ∷ xs)
 takes-more out x xs j k e = rw (e, append_assoc)
-
--- a step of a delivery
-pub deliver-step : (out : List Message) (most id : ℕ) (m : Posted) (rest : List Posted) → length out < most → (out ++ open_at id m) ++ take (most - length (out ++ open_at id m)) (unmarked_from (id + 1) rest) ≡ out ++ take (most - length out) (unmarked_from id (m ∷ rest))
-deliver-step out most id m rest h = on m.deleted where
-  on : (c : Bool) → (out ++ cond c [] (record { id = id; bytes = m.bytes } ∷ [])) ++ take (most - length (out ++ cond c [] (record { id = id; bytes = m.bytes } ∷ []))) (unmarked_from (id + 1) rest) ≡ out ++ take (most - length out) (cond c (unmarked_from (id + 1) rest) (record { id = id; bytes = m.bytes } ∷ unmarked_from (id + 1) rest))
-  on true = rw (append-nil out)
-  on false = takes-more out _ (unmarked_from (id + 1) rest) (most - length out) (most - length (out ++ record { id = id; bytes = m.bytes } ∷ [])) (omega (arith, length-append out (record { id = id; bytes = m.bytes } ∷ [])))
-
--- the end of a delivery: nothing is left, or there is enough
-pub deliver-end : {X : Type 0} (out all left : List X) (k : ℕ) → out ++ take k left ≡ all → (left ≡ []) ⊎ (k ≡ 0) → out ≡ all
-deliver-end out all left k e (inl h) = sym (append-nil out) ∙ (let f : take k left ≡ [] = rw h (take-nil k) in rw f at e)
-deliver-end out all left k e (inr h) = sym (append-nil out) ∙ (rw h at e)
-
--- what is kept of a queue is what follows the deleted ones at its front
-pub unmarked-kept : (xs kept : List Posted) (first : ℕ) → first ≤ length xs → all_deleted (take first xs) ≡ true → kept ≡ drop first xs → unmarked xs ≡ unmarked_from (first + 1) kept
-unmarked-kept xs kept first h a e = rw e (unmarked_from-drop 1 first (first + 1) xs (omega arith) h a)
-
-pub length-unmarked-kept : (xs kept : List Posted) (first : ℕ) → first ≤ length xs → all_deleted (take first xs) ≡ true → kept ≡ drop first xs → count_by (λ (m : Posted). not m.deleted) kept ≡ length (unmarked xs)
-length-unmarked-kept xs kept first h a e =
-    sym (length-unmarked_from (first + 1) kept) ∙ ap length (sym (unmarked-kept xs kept first h a e))
 
 -- a step of a choice
 pub choose-step : (out : List Message) (most p : ℕ) (ms : List Posted) (ps : List ℕ) → length out < most → (out ++ chosen_at ms p) ++ take (most - length (out ++ chosen_at ms p)) (chosen ms ps) ≡ out ++ take (most - length out) (chosen ms (p ∷ ps))
@@ -111,3 +137,40 @@ choose-step out most p ms ps h = on (message_at ms p) where
   on : (o : Option (List ℕ)) → (out ++ option_map_or (λ bytes. record { id = p; bytes = bytes } ∷ []) o []) ++ take (most - length (out ++ option_map_or (λ bytes. record { id = p; bytes = bytes } ∷ []) o [])) (chosen ms ps) ≡ out ++ take (most - length out) (option_map_or (λ bytes. record { id = p; bytes = bytes } ∷ chosen ms ps) o (chosen ms ps))
   on None = rw (append-nil out)
   on (Some bytes) = takes-more out _ (chosen ms ps) (most - length out) (most - length (out ++ record { id = p; bytes = bytes } ∷ [])) (omega (arith, length-append out (record { id = p; bytes = bytes } ∷ [])))
+
+-- ---- what is kept after each call
+
+pub added : (ms ns : List Posted) (m : Posted) (ids : List ℕ) (id : ℕ) → ids ≡ open_from 1 ms → ns ≡ ms ++ m ∷ [] → m.deleted ≡ false → id ≡ length ns → ids ++ id ∷ [] ≡ open_from 1 ns
+added ms ns m ids id e is d at =
+    let n : id ≡ 1 + length ms = omega (arith, ap length is, length-append ms (m ∷ [])) in
+    rw (is, e, n) (sym (sends-kept 1 ms m ∙ ap (λ b. open_from 1 ms ++ cond b [] ((1 + length ms) ∷ [])) d))
+
+pub added-deleted : (ms ns : List Posted) (m : Posted) (ids : List ℕ) → ids ≡ open_from 1 ms → ns ≡ ms ++ m ∷ [] → m.deleted ≡ true → ids ≡ open_from 1 ns
+added-deleted ms ns m ids e is d =
+    rw (is, e) (sym (sends-kept 1 ms m ∙ ap (λ b. open_from 1 ms ++ cond b [] ((1 + length ms) ∷ [])) d ∙ append-nil (open_from 1 ms)))
+
+place-some : (p : ℕ → Bool) (ids : List ℕ) (place : ℕ) → position p ids ≡ Some place → (position_or_len p ids ≡ place) × (place < length ids)
+place-some p ids place e = on (ltb (position_or_len p ids) (length ids)) refl e where
+  on : (b : Bool) → ltb (position_or_len p ids) (length ids) ≡ b → cond b (Some (position_or_len p ids)) None ≡ Some place → (position_or_len p ids ≡ place) × (place < length ids)
+  on true h is = let same : position_or_len p ids ≡ place = cc in (same, (let l = ltb-true (position_or_len p ids) (length ids) h in omega arith))
+  on false h is = absurd cc
+
+place-none : (p : ℕ → Bool) (ids : List ℕ) → position p ids ≡ None → length ids ≤ position_or_len p ids
+place-none p ids e = on (ltb (position_or_len p ids) (length ids)) refl e where
+  on : (b : Bool) → ltb (position_or_len p ids) (length ids) ≡ b → cond b (Some (position_or_len p ids)) None ≡ None → length ids ≤ position_or_len p ids
+  on true h is = absurd cc
+  on false h is = let l = ltb-false (position_or_len p ids) (length ids) h in omega arith
+
+pub marks : (ms : List Posted) (ids : List ℕ) (id place : ℕ) → ids ≡ open_from 1 ms → 1 ≤ id → position (λ k. eqb k id) ids ≡ Some place
+    → remove ids place ≡ open_from 1 (mark_at ms (id - 1))
+marks ms ids id place e some is =
+    let there = place-some (λ k. eqb k id) ids place is in
+    let at : place_of id (open_from 1 ms) ≡ place = subst (λ (xs : List ℕ). place_of id xs ≡ place) e there.0 in
+    let within : place < length (open_from 1 ms) = subst (λ (xs : List ℕ). place < length xs) e there.1 in
+    rw (e, sym at) (marks-kept 1 (id - 1) id ms (omega arith) (omega arith))
+
+pub marks-none : (ms : List Posted) (ids : List ℕ) (id : ℕ) → ids ≡ open_from 1 ms → 1 ≤ id → position (λ k. eqb k id) ids ≡ None → ms ≡ marked ms id
+marks-none ms ids id e some is =
+    let past : length (open_from 1 ms) ≤ place_of id (open_from 1 ms) = subst (λ (xs : List ℕ). length xs ≤ place_of id xs) e (place-none (λ k. eqb k id) ids is) in
+    let number : eqb id 0 ≡ false = ne_eqb id 0 (λ z. absurd (omega arith)) in
+    rw number (sym (marks-past 1 (id - 1) id ms (omega arith) past))

@@ -1,6 +1,5 @@
 -- The messages that a wish names.
-use Rattle.std.specs.Prelude.{ℕ, List, [], ◌∷◌, Bool, cond}
-use Rattle.std.specs.List.{list_all}
+use Rattle.std.specs.Prelude.{ℕ, ◌+◌, List, [], ◌∷◌, cond}
 use Rattle.std.specs.Option.{option_map_or}
 use Rattle.cloud_trait.specs.declared.state.Posted.{Posted}
 use Rattle.cloud_trait.specs.declared.message.Message.{Message}
@@ -11,14 +10,11 @@ abbrev pub chosen : List Posted → List ℕ → List Message
 chosen ms [] = []
 chosen ms (p ∷ ps) = option_map_or (λ bytes. record { id = p; bytes = bytes } ∷ chosen ms ps) (message_at ms p) (chosen ms ps)
 
--- the message under its number, unless it is deleted
-abbrev pub open_at : ℕ → Posted → List Message
-open_at id m = cond m.deleted [] (record { id = id; bytes = m.bytes } ∷ [])
-
 -- the message at a position, if there is one
 abbrev pub chosen_at : List Posted → ℕ → List Message
 chosen_at ms p = option_map_or (λ bytes. record { id = p; bytes = bytes } ∷ []) (message_at ms p) []
 
--- each message is deleted
-abbrev pub all_deleted : List Posted → Bool
-all_deleted ms = list_all (λ (m : Posted). m.deleted) ms
+-- the numbers of the messages that are not deleted, the first of the list having this number
+abbrev pub open_from : ℕ → List Posted → List ℕ
+open_from n [] = []
+open_from n (m ∷ ms) = cond m.deleted (open_from (n + 1) ms) (n ∷ open_from (n + 1) ms)

@@ -1,11 +1,19 @@
-use Rattle.std.proofs.Common.{arith, ap, length, ◌-◌}
-use Rattle.memory_cloud.proofs.QueueLemmas.{all_deleted-mark_at, length-mark_at}
+use Rattle.std.proofs.Common.{◌∙◌, ◌≤◌, arith, sym}
+use Rattle.memory_cloud.proofs.QueueLemmas.{marks, marks-none}
 use Rattle.memory_cloud.proofs.queue.Queue.mark.Goals as goal
 
-pub first_kept-self-requires-clause-within : goal.first_kept-self-requires-clause-within
-first_kept-self-requires-clause-within c =
-    omega (arith, c.args.self.now.within, length-mark_at c.args.self.now.messages.items (c.get-number.result - 1), ap length c.mark_in.ensures, ap length c.as_slice.ensures.value)
+pub invariant_of-self : goal.invariant_of-self
+invariant_of-self c =
+    let kept = c.as_slice.ensures.value ∙ c.args.self.now.kept_are in
+    let some : 1 ≤ c.get-number.result = omega (arith, c.get-number.ensures.range, c.if-number-eq0.false) in
+    record {
+      kept_are = c.remove.ensures.items ∙ rw (sym c.as_slice.ensures.value, c.mark_in.ensures)
+          (marks c.args.self.now.messages.items c.as_slice.result.now c.get-number.result c.in-Some.place kept some (sym c.place_of.ensures ∙ c.in-Some.is));
+    }
 
-pub first_kept-self-requires-clause-gone : goal.first_kept-self-requires-clause-gone
-first_kept-self-requires-clause-gone c =
-    rw (c.as_slice.ensures.value, c.mark_in.ensures) (all_deleted-mark_at c.args.self.now.messages.items (c.get-number.result - 1) c.args.self.now.first c.args.self.now.gone)
+pub returns-in_default : goal.returns-in_default
+returns-in_default c =
+    let kept = c.as_slice.ensures.value ∙ c.args.self.now.kept_are in
+    let some : 1 ≤ c.get-number.result = omega (arith, c.get-number.ensures.range, c.if-number-eq0.false) in
+    rw (sym c.get-number.ensures.number)
+    (marks-none c.args.self.now.messages.items c.as_slice.result.now c.get-number.result kept some (sym c.place_of.ensures ∙ c.in_default.is))

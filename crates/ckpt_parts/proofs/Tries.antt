@@ -1,7 +1,7 @@
 -- Laws of deletions under way.
-use Rattle.std.proofs.Common.{◌≡◌, ℕ, ◌<◌, ◌≤◌, ◌+◌, Bool, true, false, List, [], ◌∷◌, length, drop, refl, sym, ap, subst, arith}
-use Rattle.std.proofs.lemmas.List.{drop_more, drop_all}
-use Rattle.ckpt_parts.specs.Deleting.{Deleting, tried_of}
+use Rattle.std.proofs.Common.{◌≡◌, ℕ, ◌<◌, ◌+◌, true, false, List, length, drop, refl, arith}
+use Rattle.std.proofs.lemmas.List.{drop_more}
+use Rattle.ckpt_parts.specs.Deleting.{tried_of}
 
 -- a deletion more went, where one was left
 pub tried_went : (xs : List ℕ) (d l : ℕ) → d + l < length xs
@@ -16,8 +16,3 @@ pub tried_failed : (xs : List ℕ) (d l : ℕ) → d + l < length xs
 tried_failed xs d l h =
     let more : d + (l + 1) ≡ (d + l) + 1 = omega arith in
     rw (more, drop_more xs (d + l) 0 h) refl
-
--- nothing changes where none was left
-pub tried_none : (xs : List ℕ) (d l : ℕ) (b : Bool) → length xs ≤ d + l
-    → record { ids = drop (d + l) xs; deleted = d; left = l } ≡ tried_of (drop (d + l) xs) (record { ids = drop (d + l) xs; deleted = d; left = l }) b
-tried_none xs d l b h = rw (drop_all (d + l) xs h) refl

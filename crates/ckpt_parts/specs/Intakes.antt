@@ -1,5 +1,5 @@
 -- What a receive brings: records, their run behind a cursor, and the ids that the run covers.
-use Rattle.std.specs.Prelude.{ℕ, ◌≡◌, ◌≢◌, Bool, true, false, List, [], ◌∷◌, map, Option, Some, None, Result, Ok, Err}
+use Rattle.std.specs.Prelude.{ℕ, ◌≡◌, Bool, true, false, List, [], ◌∷◌, map, Option, Some, None, Result, Ok, Err}
 use Rattle.db_base.specs.declared.names.QueueName.{QueueName}
 use Rattle.db_base.specs.declared.names.Place.TheVariants as place
 use Rattle.db_base.specs.declared.trouble.Trouble.{Trouble}
@@ -10,6 +10,8 @@ use Rattle.log_codec.specs.Pu.{pu_of, pu_offset}
 use Rattle.run_cursor.specs.Run.{Taken, IsRun}
 use Rattle.run_cursor.specs.Covered.{covered_ids}
 use Rattle.cloud_trait.specs.declared.message.Message.{Message}
+use Rattle.ckpt_parts.specs.declared.fault.Fault.{Fault}
+use Rattle.ckpt_parts.specs.declared.fault.Fault.TheVariants.{Stops, Memory}
 use Rattle.ckpt_parts.specs.declared.intake.Intake.{Intake}
 use Rattle.ckpt_parts.specs.Deleting.{to_delete}
 
@@ -35,13 +37,16 @@ items_of (m ∷ ms) = with_first m (pu_of m.bytes) (items_of ms)
 abbrev pub message_damage : QueueName → Message → Trouble
 message_damage q m = trouble.Damaged (place.Message q m.id) (pu_offset m.bytes)
 
--- why a message was not read: it is no record, unless memory ran out
-abbrev pub FaultsAt : QueueName → Trouble → Message → Type 0
-FaultsAt q t m = t ≢ trouble.Memory → (pu_of m.bytes ≡ None) × (t ≡ message_damage q m)
+-- why a message was not read: it is no record, or memory ran out
+abbrev pub FaultsAt : QueueName → Fault → Message → Type 0
+FaultsAt q (Stops t) m = (pu_of m.bytes ≡ None) × (t ≡ message_damage q m)
+FaultsAt q Memory m = Unit {0}
 
--- why messages were not read: the first that is no record, unless memory ran out
-abbrev pub Faults : QueueName → Trouble → Result (List PuItem) Message → Type 0
-Faults q t read = t ≢ trouble.Memory → (m : Message) × (read ≡ Err m) × (t ≡ message_damage q m)
+-- why messages were not read: the first that is no record, or want of memory
+abbrev pub Faults : QueueName → Fault → Result (List PuItem) Message → Type 0
+Faults q (Stops t) (Ok read) = ⊥
+Faults q (Stops t) (Err m) = t ≡ message_damage q m
+Faults q Memory read = Unit {0}
 
 -- a run has no item, and is that of a receive that brought nothing new
 abbrev pub no_run : Taken

@@ -6,6 +6,7 @@ ghost use Rattle.ckpt_parts.specs.Intakes.{ids_of, item_with, items_of, message_
 ghost use Rattle.ckpt_parts.specs.Unless.{UnlessMemory};
 
 use crate::deletions::Deletions;
+use crate::fault::Fault;
 use cloud_trait::message::Message;
 use db_base::cursor::Cursor;
 use db_base::ids::MsgId;
@@ -43,7 +44,7 @@ pub fn ids_of(alloc: Global, messages: &[Message]) -> Result<Vec<MsgId>, AllocEr
 }
 
 /// The record of a message of a queue.
-fn item_of(alloc: Global, queue: &QueueName, message: &Message) -> Result<PuItem, Trouble>
+fn item_of(alloc: Global, queue: &QueueName, message: &Message) -> Result<PuItem, Fault>
     ensures record { IfOk result (λ x. pu_of message.now.bytes ≡ Some x.rec) }
     ensures item { IfOk result (λ x. x ≡ item_with message.now.id x.rec) }
     ensures err { IfErr result (λ t. FaultsAt queue.now t message.now) }
@@ -53,20 +54,16 @@ fn item_of(alloc: Global, queue: &QueueName, message: &Message) -> Result<PuItem
             id: message.id,
             rec,
         }),
-        Err(RecFault::NotRecord { offset }) => Err(Trouble::Damaged {
+        Err(RecFault::NotRecord { offset }) => Err(Fault::Stops(Trouble::Damaged {
             place: Place::Message(*queue, message.id),
             offset,
-        }),
-        Err(RecFault::Memory) => Err(Trouble::Memory),
+        })),
+        Err(RecFault::Memory) => Err(Fault::Memory),
     }
 }
 
 /// The records of messages of a queue, in order of receipt. The first message that is none is damage.
-fn items_of(
-    alloc: Global,
-    queue: &QueueName,
-    messages: &[Message],
-) -> Result<Vec<PuItem>, Trouble>
+fn items_of(alloc: Global, queue: &QueueName, messages: &[Message]) -> Result<Vec<PuItem>, Fault>
     ensures ok { IfOk result (λ items. items_of messages.now ≡ Ok items.items) }
     ensures err { IfErr result (λ t. Faults queue.now t (items_of messages.now)) }
 {
@@ -75,7 +72,7 @@ fn items_of(
     while let Some((message, rest)) = left.split_first() {
         let item = item_of(alloc, queue, message)?;
         if items.push(item).is_err() {
-            return Err(Trouble::Memory);
+            return Err(Fault::Memory);
         }
         left = rest;
     }
@@ -83,18 +80,18 @@ fn items_of(
 }
 
 /// The run of items behind a cursor, and what its top covers. Refused for memory alone.
-fn run_of(alloc: Global, cursor: &Cursor, items: &[PuItem]) -> Result<Intake, Trouble>
+fn run_of(alloc: Global, cursor: &Cursor, items: &[PuItem]) -> Result<Intake, Fault>
     ensures { UnlessMemory (TakesRun cursor.now items.now) result }
 {
     let Ok(run) = take_run(alloc, cursor, items) else {
-        return Err(Trouble::Memory);
+        return Err(Fault::Memory);
     };
     match covered(alloc, run.top(), items) {
         Ok(ids) => Ok(Intake {
             run,
             deletions: Deletions::of(ids),
         }),
-        Err(_) => Err(Trouble::Memory),
+        Err(_) => Err(Fault::Memory),
     }
 }
 
@@ -105,7 +102,7 @@ pub fn take_in(
     queue: &QueueName,
     cursor: &Cursor,
     messages: &[Message],
-) -> Result<Intake, Trouble>
+) -> Result<Intake, Fault>
     ensures { UnlessMemory (TakesIn queue.now cursor.now messages.now) result }
 {
     let items = items_of(alloc, queue, messages)?;

@@ -2,13 +2,15 @@
 #![tactic(auto)]
 
 mod deletions;
+mod fault;
 mod intake;
 mod lacked;
-mod leaves;
 mod leases;
+mod leaves;
 
 pub use deletions::Deletions;
+pub use fault::Fault;
 pub use intake::{Intake, MAX_MESSAGES, ids_of, take_in};
 pub use lacked::lacked_of;
-pub use leaves::{bad_fence, held_leaf, is_fenced, page_damage};
 pub use leases::{Leases, PAGE_TICKS};
+pub use leaves::{held_leaf, linked_leaf, page_damage};

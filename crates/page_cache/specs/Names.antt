@@ -1,15 +1,8 @@
--- Whether two names are of one object.
-use Rattle.std.specs.Prelude.{Bool, false, ◌&&◌, nat_eq}
+-- The names of objects, as the maps of a cache compare them.
+use Rattle.std.specs.Prelude.{Bool}
 use Rattle.db_base.specs.declared.names.ObjName.{ObjName}
-use Rattle.db_base.specs.declared.names.ObjName.TheVariants.{Head, Tree, Page}
+use Rattle.db_base.specs.contracts.names.ObjNamePartialEq.TheImpl as names
 
+-- whether two names are of one object
 abbrev pub same_name : ObjName → ObjName → Bool
-same_name (Head one) (Head two) = nat_eq one two
-same_name (Tree one) (Tree two) = nat_eq one two
-same_name (Page tree one) (Page other two) = nat_eq tree other && nat_eq one two
-same_name (Head one) (Tree two) = false
-same_name (Head one) (Page other two) = false
-same_name (Tree one) (Head two) = false
-same_name (Tree one) (Page other two) = false
-same_name (Page tree one) (Head two) = false
-same_name (Page tree one) (Tree two) = false
+same_name = names.eq-value.it

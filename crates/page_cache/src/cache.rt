@@ -2,7 +2,7 @@ ghost use Rattle.std.specs.Prelude.{◌≡◌, ◌↔◌, [], length, IfOk, IfEr
 ghost use Rattle.page_cache.specs.Cache.{IsCache, empty_cache, kept_at, served_at, placed, served, dropped, Did, accepts, accepts_none, accepts_no_leaf, accepts_leaf, accepts_read, accepts_version};
 ghost use Rattle.page_cache.specs.Held.{leaf_at, inner_at, root_at};
 ghost use Rattle.page_cache.specs.Spelled.{IsSpelled, version_read};
-ghost use Rattle.page_cache.specs.Fetched.{Fetched};
+ghost use Rattle.page_cache.specs.Fetched.{Fetched, Gets};
 
 use crate::objects::Objects;
 use crate::reading::{inner_of, leaf_of, root_of, version_of};
@@ -59,44 +59,48 @@ impl PageCache {
     /// An object that is no page is read as a root; a page as a leaf, or else as an inner node.
     /// Stale where a leaf is below the greatest version served, or a page is absent; Damaged where the bytes are
     /// in no spelling of their kind; Memory. A refusal changes nothing.
-    pub fn accept(
-        &mut self,
-        name: ObjName,
-        got: Option<Blob>,
-        leaf: bool,
-    ) -> Result<u64, Trouble>
+    pub fn accept(&mut self, name: ObjName, got: Option<Blob>, leaf: bool) -> Result<u64, Trouble>
         ensures { Did (accepts self.old name leaf got) self.old self.new result }
     {
+        self.take(&name, got, leaf)
+    }
+
+    // Takes the answer of a get.
+    fn take(&mut self, name: &ObjName, got: Option<Blob>, leaf: bool) -> Result<u64, Trouble>
+        ensures { Did (accepts self.old name.now leaf got) self.old self.new result }
+    {
         match got {
-            Some(bytes) => self.accept_bytes(name, bytes, leaf),
-            None => self.accept_none(name, leaf),
+            Some(bytes) => self.take_bytes(name, bytes, leaf),
+            None => self.take_none(name, leaf),
         }
     }
 
     // Keeps an object first, and gives its version.
-    fn place(&mut self, name: ObjName, bytes: Option<Blob>, version: u64) -> Result<u64, Trouble>
-        requires { IsSpelled name bytes }
-        ensures { Did (Ok (version, placed self.old name bytes)) self.old self.new result }
+    fn place(&mut self, name: &ObjName, bytes: Option<Blob>, version: u64) -> Result<u64, Trouble>
+        requires { IsSpelled name.now bytes }
+        ensures { Did (Ok (version, placed self.old name.now bytes)) self.old self.new result }
     {
-        self.objects.put(name, bytes)?;
-        Ok(version)
+        match self.objects.put(*name, bytes) {
+            Ok(()) => Ok(version),
+            Err(trouble) => Err(trouble),
+        }
     }
 
-    // Keeps a leaf first, notes its version and gives it.
-    fn serve(&mut self, name: ObjName, bytes: Blob, version: u64) -> Result<u64, Trouble>
-        requires { IsSpelled name (Some bytes) }
-        ensures { Did (Ok (version, served (placed self.old name (Some bytes)) name version)) self.old self.new result }
+    // Keeps a leaf first, notes its version and gives it. Room for the version is made first, so that a refusal changes nothing.
+    fn serve(&mut self, name: &ObjName, bytes: Blob, version: u64) -> Result<u64, Trouble>
+        requires { IsSpelled name.now (Some bytes) }
+        ensures { Did (Ok (version, served (placed self.old name.now (Some bytes)) name.now version)) self.old self.new result }
     {
         self.versions.make_room()?;
-        self.objects.put(name, Some(bytes))?;
-        self.versions.note(name, version);
+        self.objects.put(*name, Some(bytes))?;
+        self.versions.note(*name, version);
         Ok(version)
     }
 
     // Takes that a leaf is absent.
-    fn accept_no_leaf(&mut self, name: ObjName, page: PageId) -> Result<u64, Trouble>
-        requires { (page ≡ 1) → IsSpelled name None }
-        ensures { Did (accepts_no_leaf self.old name page (served_at self.old name)) self.old self.new result }
+    fn take_no_leaf(&mut self, name: &ObjName, page: PageId) -> Result<u64, Trouble>
+        requires { page ≡ 1 → IsSpelled name.now None }
+        ensures { Did (accepts_no_leaf self.old name.now page (served_at self.old name.now)) self.old self.new result }
     {
         let least = self.versions.of(name);
         if page.get() == 1 && least == 0 {
@@ -111,13 +115,13 @@ impl PageCache {
     }
 
     // Takes that an object is absent.
-    fn accept_none(&mut self, name: ObjName, leaf: bool) -> Result<u64, Trouble>
-        ensures { Did (accepts_none self.old name leaf) self.old self.new result }
+    fn take_none(&mut self, name: &ObjName, leaf: bool) -> Result<u64, Trouble>
+        ensures { Did (accepts_none self.old name.now leaf) self.old self.new result }
     {
-        match name {
+        match *name {
             ObjName::Page(_, page) => {
                 if leaf {
-                    self.accept_no_leaf(name, page)
+                    self.take_no_leaf(name, page)
                 } else {
                     Err(Trouble::Stale {
                         page,
@@ -132,15 +136,15 @@ impl PageCache {
     }
 
     // Takes the version of a leaf.
-    fn accept_leaf(
+    fn take_leaf(
         &mut self,
-        name: ObjName,
+        name: &ObjName,
         page: PageId,
         bytes: Blob,
         version: u64,
     ) -> Result<u64, Trouble>
-        requires { IsSpelled name (Some bytes) }
-        ensures { Did (accepts_leaf self.old name page bytes (served_at self.old name) version) self.old self.new result }
+        requires { IsSpelled name.now (Some bytes) }
+        ensures { Did (accepts_leaf self.old name.now page bytes (served_at self.old name.now) version) self.old self.new result }
     {
         let least = self.versions.of(name);
         if version < least {
@@ -155,20 +159,20 @@ impl PageCache {
     }
 
     // Takes bytes that are in the spelling of their kind, with their version.
-    fn accept_version(
+    fn take_version(
         &mut self,
-        name: ObjName,
+        name: &ObjName,
         leaf: bool,
         bytes: Blob,
         version: u64,
     ) -> Result<u64, Trouble>
-        requires { IsSpelled name (Some bytes) }
-        ensures { Did (accepts_version self.old name leaf bytes version) self.old self.new result }
+        requires { IsSpelled name.now (Some bytes) }
+        ensures { Did (accepts_version self.old name.now leaf bytes version) self.old self.new result }
     {
-        match name {
+        match *name {
             ObjName::Page(_, page) => {
                 if leaf {
-                    self.accept_leaf(name, page, bytes, version)
+                    self.take_leaf(name, page, bytes, version)
                 } else {
                     self.place(name, Some(bytes), version)
                 }
@@ -179,13 +183,13 @@ impl PageCache {
     }
 
     // Takes the bytes of an object.
-    fn accept_bytes(&mut self, name: ObjName, bytes: Blob, leaf: bool) -> Result<u64, Trouble>
-        ensures { Did (accepts_read self.old name leaf bytes (version_read name leaf bytes)) self.old self.new result }
+    fn take_bytes(&mut self, name: &ObjName, bytes: Blob, leaf: bool) -> Result<u64, Trouble>
+        ensures { Did (accepts_read self.old name.now leaf bytes (version_read name.now leaf bytes)) self.old self.new result }
     {
-        match version_of(&name, leaf, bytes.as_slice()) {
-            Ok(version) => self.accept_version(name, leaf, bytes, version),
+        match version_of(name, leaf, bytes.as_slice()) {
+            Ok(version) => self.take_version(name, leaf, bytes, version),
             Err(offset) => Err(Trouble::Damaged {
-                place: Place::Object(name),
+                place: Place::Object(*name),
                 offset,
             }),
         }
@@ -270,9 +274,16 @@ impl PageCache {
     ) -> Result<u64, Trouble>
         ensures { Fetched who name leaf (C.seen cloud.old) (C.seen cloud.new) self.old self.new result }
     {
-        match perform(cloud, who, &Call::Get(name)).got() {
-            Ok(got) => self.accept(name, got, leaf),
+        match got_of(cloud, who, &name) {
+            Ok(got) => self.take(&name, got, leaf),
             Err(trouble) => Err(trouble),
         }
     }
+}
+
+// Gets an object.
+fn got_of<C: Cloud>(cloud: &mut C, who: Who, name: &ObjName) -> Result<Option<Blob>, Trouble>
+    ensures { Gets who name.now (C.seen cloud.old) (C.seen cloud.new) result }
+{
+    perform(cloud, who, &Call::Get(*name)).got()
 }

@@ -25,10 +25,10 @@ impl Versions {
     }
 
     /// The greatest version served of a leaf, 0 where none was.
-    pub fn of(&self, name: ObjName) -> u64
-        ensures { result ≡ unwrap_or (lookup (same_name name) self.now.served.entries) 0 }
+    pub fn of(&self, name: &ObjName) -> u64
+        ensures { result ≡ unwrap_or (lookup (same_name name.now) self.now.served.entries) 0 }
     {
-        match self.served.get(&name) {
+        match self.served.get(name) {
             Some(version) => *version,
             None => 0,
         }

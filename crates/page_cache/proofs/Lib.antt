@@ -1,0 +1,5 @@
+pub mod NameLemmas
+pub mod EntryLemmas
+pub mod ObjectLemmas
+pub mod ReadingLemmas
+pub mod CacheLemmas

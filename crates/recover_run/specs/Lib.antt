@@ -1,1 +1,5 @@
+pub mod Gathering
 pub mod Holding
+pub mod Ids
+pub mod Items
+pub mod Kept

@@ -1,5 +1,5 @@
 -- Sets of message ids, in the order in which they came.
-use Rattle.std.specs.Prelude.{ℕ, ◌==◌, ◌++◌, List, [], ◌∷◌, Bool, true, false, if◌then◌else◌}
+use Rattle.std.specs.Prelude.{ℕ, ◌==◌, ◌++◌, List, [], ◌∷◌, Bool, true, false, if◌then◌else◌, drop}
 use Rattle.std.specs.List.{list_any}
 
 -- whether an id is in the set
@@ -18,5 +18,4 @@ has_some (id ∷ ids) = true
 
 -- the ids behind the first
 abbrev pub rest_of : List ℕ → List ℕ
-rest_of [] = []
-rest_of (id ∷ ids) = ids
+rest_of ids = drop 1 ids

@@ -3,3 +3,5 @@ pub mod Holding
 pub mod Ids
 pub mod Items
 pub mod Kept
+pub mod Recovery
+pub mod Sending

@@ -6,5 +6,7 @@ pub mod home;
 mod ids;
 pub mod items;
 mod kept;
+pub mod recover;
+mod sending;
 pub mod stage;
 pub mod wanted;

@@ -2,6 +2,7 @@
 use Rattle.std.proofs.Common.{◌≡◌, ℕ, zero, suc, ◌+◌, ◌≤◌, ◌⊎◌, inl, inr, Bool, true, false, cond, List, [], ◌∷◌, length, take, Option, Some, None, refl, sym, ap, ◌∙◌, subst, arith}
 use Rattle.std.specs.List.{AllByRecursion, IsDistinct}
 use Rattle.std.specs.Map.{keys_of, lookup, lookup_entry, remove_entry}
+use Rattle.indexmap.specs.IndexMap.{insert_entry}
 
 module _ {K X : Type 0} (test : K → Bool) where
   -- what holds of each pair holds of each that is left
@@ -99,3 +100,41 @@ module _ {K X : Type 0} where
   whole_front zero (e ∷ es) h = absurd (omega (arith, h))
   whole_front (suc n) [] h = refl
   whole_front (suc n) (e ∷ es) h = ap (λ (l : List (K × X)). e ∷ l) (whole_front n es (omega (arith, h)))
+
+-- a look-up by a test that no removed key passes
+module _ {K X : Type 0} (test : K → Bool) where
+  pub lookup-others : (gone : K → Bool) → ((k : K) → gone k ≡ true → test k ≡ false) → (es : List (K × X)) → lookup test (remove_entry gone es) ≡ lookup test es
+  lookup-others gone apart [] = refl
+  lookup-others gone apart (e ∷ es) = on (gone e.0) refl (lookup-others gone apart es)
+    where
+      on : (b : Bool) → gone e.0 ≡ b → lookup test (remove_entry gone es) ≡ lookup test es
+          → lookup test (cond b es (e ∷ remove_entry gone es)) ≡ cond (test e.0) (Some e.1) (lookup test es)
+      on true is rest = sym (ap (λ (b : Bool). cond b (Some e.1) (lookup test es)) (apart e.0 is))
+      on false is rest = ap (λ (o : Option X). cond (test e.0) (Some e.1) o) rest
+
+  -- an entry for another key changes no look-up
+  pub lookup-inserted_other : (eq : K → K → Bool) (es : List (K × X)) (k : K) (v : X) → ((j : K) → eq k j ≡ true → test j ≡ false) → test k ≡ false
+      → lookup test (insert_entry eq es k v) ≡ lookup test es
+  lookup-inserted_other eq [] k v other own = ap (λ (b : Bool). cond b (Some v) None) own
+  lookup-inserted_other eq (e ∷ es) k v other own = on (eq k e.0) refl (lookup-inserted_other eq es k v other own)
+    where
+      on : (b : Bool) → eq k e.0 ≡ b → lookup test (insert_entry eq es k v) ≡ lookup test es
+          → lookup test (cond b ((e.0, v) ∷ es) (e ∷ insert_entry eq es k v)) ≡ cond (test e.0) (Some e.1) (lookup test es)
+      on true is rest =
+          ap (λ (b : Bool). cond b (Some v) (lookup test es)) (other e.0 is) ∙ sym (ap (λ (b : Bool). cond b (Some e.1) (lookup test es)) (other e.0 is))
+      on false is rest = ap (λ (o : Option X). cond (test e.0) (Some e.1) o) rest
+
+-- an inserted entry is found
+pub lookup-inserted : {K X : Type 0} (eq : K → K → Bool) (es : List (K × X)) (k : K) (v : X) → eq k k ≡ true → lookup (eq k) (insert_entry eq es k v) ≡ Some v
+lookup-inserted {X = X} eq [] k v same = ap (λ (b : Bool). cond b (Some v) None) same
+lookup-inserted {K = K} {X = X} eq (e ∷ es) k v same = on (eq k e.0) refl (lookup-inserted eq es k v same)
+  where
+    on : (b : Bool) → eq k e.0 ≡ b → lookup (eq k) (insert_entry eq es k v) ≡ Some v
+        → lookup (eq k) (cond b ((e.0, v) ∷ es) (e ∷ insert_entry eq es k v)) ≡ Some v
+    on true is rest = ap (λ (b : Bool). cond b (Some v) (lookup (eq k) es)) is
+    on false is rest = ap (λ (b : Bool). cond b (Some e.1) (lookup (eq k) (insert_entry eq es k v))) is ∙ rest
+
+-- where no key passes, nothing is found
+pub lookup-nothing : {K X : Type 0} (test : K → Bool) (es : List (K × X)) → AllByRecursion (λ y. test y ≡ false) (keys_of es) → lookup test es ≡ None
+lookup-nothing test [] h = refl
+lookup-nothing test (e ∷ es) h = ap (λ (b : Bool). cond b (Some e.1) (lookup test es)) h.0 ∙ lookup-nothing test es h.1

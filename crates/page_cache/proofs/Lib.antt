@@ -3,3 +3,5 @@ pub mod EntryLemmas
 pub mod ObjectLemmas
 pub mod ReadingLemmas
 pub mod CacheLemmas
+pub mod RefusalLemmas
+pub mod ViewLemmas

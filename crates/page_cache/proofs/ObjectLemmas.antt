@@ -33,7 +33,7 @@ alike : (name other : ObjName) (es : List Object) → same_name name other ≡ t
 alike name other es same h = subst (λ (n : ObjName). AllByRecursion (λ y. same_name n y ≡ false) (keys_of es)) (sym (same_name-is name other same)) h
 
 -- none of those that are left has the name
-none_left : (name : ObjName) (es : List Object) → IsDistinct same_name (keys_of es) → AllByRecursion (λ y. same_name name y ≡ false) (keys_of (remove_entry (same_name name) es))
+pub none_left : (name : ObjName) (es : List Object) → IsDistinct same_name (keys_of es) → AllByRecursion (λ y. same_name name y ≡ false) (keys_of (remove_entry (same_name name) es))
 unfolding IsDistinct
 none_left name [] h = tt
 none_left name (e ∷ es) h = on (same_name name e.0) refl (none_left name es h.1)

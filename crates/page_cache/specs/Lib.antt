@@ -3,3 +3,4 @@ pub mod Spelled
 pub mod Cache
 pub mod Held
 pub mod Fetched
+pub mod Refused

@@ -2,9 +2,11 @@
 #![tactic(auto)]
 
 mod cache;
+mod laws;
 mod objects;
 mod reading;
 mod versions;
 
 pub use cache::PageCache;
+pub use laws::{accept_laws, drop_laws, refusal_law, view_laws};
 pub use objects::MOST_OBJECTS;

@@ -44,7 +44,7 @@ promised_low key (Some s) h = h
 pub fence_holds : (w : Walk) (low : List ℕ) → IsWalk w → bytes_same low (spot_of w).low ≡ true → bytes_below (sought w) low ≡ false
 fence_holds w low ok same =
     let is : low ≡ (spot_of w).low = same_is low (spot_of w).low same in
-    subst (λ (k : List ℕ). bytes_below (sought w) k ≡ false) (sym is) (promised_low (sought w) w.spot ok)
+    subst (λ (k : List ℕ). bytes_below (sought w) k ≡ false) (sym is) (promised_low (sought w) w.spot ok.promised)
 
 -- ---- from the tree object
 

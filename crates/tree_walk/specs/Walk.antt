@@ -1,5 +1,5 @@
 -- A walk down a tree as a machine beside the cache: what it knows, what it asks, and where each answer leads.
-use Rattle.std.specs.Prelude.{ℕ, zero, suc, ◌≡◌, ◌-◌, ◌==◌, ◌||◌, Bool, true, false, List, [], ◌∷◌, ◌++◌, map, fold, Option, Some, None, Result, Ok, Err, if◌then◌else◌, unwrap_or}
+use Rattle.std.specs.Prelude.{ℕ, zero, suc, ◌≡◌, ◌+◌, ◌-◌, ◌^◌, ◌==◌, ◌||◌, Bool, true, false, List, [], ◌∷◌, ◌++◌, length, map, fold, Option, Some, None, Result, Ok, Err, if◌then◌else◌, unwrap_or}
 use Rattle.std.specs.List.{list_any}
 use Rattle.std.specs.Option.{option_map}
 use Rattle.byte_format.specs.Order.{bytes_below, bytes_same}
@@ -9,7 +9,7 @@ use Rattle.db_base.specs.declared.names.Place.TheVariants as place
 use Rattle.db_base.specs.declared.trouble.Trouble.{Trouble}
 use Rattle.db_base.specs.declared.trouble.Trouble.TheVariants as trouble
 use Rattle.leaf_view.specs.Leaf.{Leaf}
-use Rattle.leaf_view.specs.Lookup.{page_at}
+use Rattle.leaf_view.specs.Lookup.{page_at, holds}
 use Rattle.node_codec.specs.Node.{Entry, child_of}
 use Rattle.node_codec.specs.Node.{page_at as node_at}
 use Rattle.node_codec.specs.Inner.{Inner}
@@ -53,9 +53,19 @@ abbrev pub IsPromised : List ℕ → Option Spot → Type 0
 IsPromised key None = Unit {0}
 IsPromised key (Some s) = bytes_below key s.low ≡ false
 
+-- whether a page is among others
+abbrev pub is_among : List ℕ → ℕ → Bool
+is_among pages page = list_any (λ p. p == page) pages
+
+-- a leaf in hand is none of the inner nodes
+abbrev pub IsApart : List ℕ → Option Spot → Type 0
+IsApart nodes None = Unit {0}
+IsApart nodes (Some s) = s.level ≡ 0 → is_among nodes s.page ≡ false
+
 -- what holds of every walk
-abbrev pub IsWalk : Walk → Type 0
-IsWalk w = IsPromised (sought w) w.spot
+pub record IsWalk (w : Walk) : Type 0 where
+  pub promised : IsPromised (sought w) w.spot
+  pub apart : IsApart w.nodes w.spot
 
 -- ---- what is in hand
 
@@ -100,9 +110,6 @@ abbrev pub is_page : ℕ → Option Spot → Bool
 is_page page None = false
 is_page page (Some s) = s.page == page
 
-abbrev pub is_among : List ℕ → ℕ → Bool
-is_among pages page = list_any (λ p. p == page) pages
-
 -- whether the walk has come to the page: it has it in hand, or passed it
 abbrev pub came_to : Walk → ℕ → Bool
 came_to w page = is_page page w.spot || (is_among w.nodes page || is_among w.leaves page)
@@ -125,11 +132,10 @@ use_of w = record w { used = Some (object_of w) }
 abbrev pub linked : Walk → Spot → Next Walk ℕ
 linked w s = if came_to w s.page then Stops w (trouble.Loop s.page) else Goes (record w { spot = Some s })
 
--- the page to the right and its low key, where the key is not below the high key
+-- the page to the right and its low key, where the key is not below the high key; with a high key there is a right page
 abbrev pub right_of : List ℕ → Option (List ℕ) → Option ℕ → Option (ℕ × List ℕ)
 right_of key None page = None
-right_of key (Some high) None = None
-right_of key (Some high) (Some page) = if bytes_below key high then None else Some (page, high)
+right_of key (Some high) page = if bytes_below key high then None else Some (unwrap_or page 1, high)
 
 -- to the right, on the same level
 abbrev pub right_to : Walk → ℕ → ℕ × List ℕ → Next Walk ℕ
@@ -262,3 +268,25 @@ walk_next m a = beside (got_by (rested m.0) m.1 (got_of a))
 -- want of memory keeps nothing in particular: a walk has no lease
 abbrev pub KeepsNothing : Walk × Cache → Answer → Walk × Cache → Type 0
 KeepsNothing m a n = Unit {0}
+
+-- ---- what is said of it
+
+abbrev pub spots : Option Spot → ℕ
+spots None = 0
+spots (Some s) = 1
+
+-- how many pages a walk has come to, each once
+abbrev pub pages : Walk → ℕ
+pages w = (length w.nodes + length w.leaves) + spots w.spot
+
+-- how many calls it has left at most: no two lists are longer than this together
+abbrev pub calls_left : Walk → ℕ
+calls_left w = 2 ^ 66 - pages w
+
+-- the walk is at a leaf that the cache keeps and whose range holds the key; without a key it is the leaf at the left end
+pub record IsAtLeaf (w : Walk) (c : Cache) (page : ℕ) : Type 0 where
+  pub leaf : Leaf
+  pub in_hand : object_of w ≡ object.Page w.tree page
+  pub kept : leaf_at c (object.Page w.tree page) ≡ Some leaf
+  pub holds : holds leaf (sought w) ≡ true
+  pub leftmost : w.key ≡ None → leaf.low ≡ []

@@ -1,4 +1,4 @@
-ghost use Rattle.std.specs.Prelude.{◌≡◌, ◌≢◌, if◌then◌else◌, false, fold, Option, Some, IfSome};
+ghost use Rattle.std.specs.Prelude.{◌≡◌, ◌≢◌, ◌<◌, ℕ, if◌then◌else◌, false, fold, Option, Some, IfSome};
 ghost use Rattle.std.specs.Option.{option_copied, option_map};
 ghost use Rattle.byte_format.specs.Order.{bytes_below};
 ghost use Rattle.cloud_trait.specs.Call.{ask_of};
@@ -82,20 +82,15 @@ fn right_of<'a>(
     ensures next { option_map (λ x. (x.0, x.1.now)) result ≡ right_of key.now (option_copied high.entry) page }
     ensures above { IfSome result (λ x. bytes_below key.now x.1.now ≡ false) }
 {
-    match (high, page) {
-        (Some(high), Some(page)) => {
-            if is_below(key, high) {
-                None
-            } else {
-                Some((page, high))
-            }
-        }
-        _ => None,
+    let high = high?;
+    if is_below(key, high) {
+        return None;
     }
+    Some((page.unwrap_or(PageId::first()), high))
 }
 
 impl Walk {
-    ghost use Rattle.tree_walk.specs.Walk.{new_walk, asks, sought, object_of, walk_ask, spot_of, is_leaf, is_got, came_to, linked, right_to, down_to, bad_fence, bad_level, root_read, node_left, node_read, leaf_left, leaf_read, read_from, read_kept, goes_on, passed, left_by, beside, walk_ready, got_read, got_by, walk_next, KeepsNothing};
+    ghost use Rattle.tree_walk.specs.Walk.{IsAtLeaf, calls_left, new_walk, asks, sought, object_of, walk_ask, spot_of, is_leaf, is_got, came_to, linked, right_to, down_to, bad_fence, bad_level, root_read, node_left, node_read, leaf_left, leaf_read, read_from, read_kept, goes_on, passed, left_by, beside, walk_ready, got_read, got_by, walk_next, KeepsNothing};
 
     /// A walk in a tree to a key, or without one to the tree's left end; a fresh one gets the tree object anew. Takes no memory.
     pub fn new(alloc: Global, tree: TreeId, key: Option<Key>, fresh: bool) -> Walk
@@ -113,8 +108,15 @@ impl Walk {
         }
     }
 
+    /// The tree.
+    pub fn tree(&self) -> TreeId
+        ensures { result ≡ self.now.tree }
+    {
+        self.tree
+    }
+
     /// The key that leads, empty where there is none.
-    fn sought(&self) -> &[u8]
+    pub fn sought(&self) -> &[u8]
         ensures { result.now ≡ sought self.now }
     {
         match &self.key {
@@ -123,8 +125,8 @@ impl Walk {
         }
     }
 
-    /// The object in hand.
-    fn object(&self) -> ObjName
+    /// The object in hand: at its end the leaf.
+    pub fn object(&self) -> ObjName
         ensures { result ≡ object_of self.now }
     {
         match &self.spot {
@@ -287,6 +289,7 @@ impl Walk {
     }
 
     fn read_node(&mut self, alloc: Global, view: &InnerView<'_>) -> Turn<PageId>
+        requires { is_leaf self.old ≡ false }
         ensures { Moves (node_read self.old view.now) self.new result }
     {
         if view.level() != self.level() {
@@ -453,7 +456,12 @@ impl Walk {
         cache: &mut PageCache,
     ) -> Turn<PageId>
         ensures steps { Steps asks (LeadsBy walk_next) KeepsNothing who (C.seen cloud.old) (C.seen cloud.new) (self.old, cache.old) (self.new, cache.new) result }
+        // It comes to one more page with each call that it goes on from.
+        ensures less { result ≡ Turn.More → calls_left self.new < calls_left self.old }
+        ensures ends { (page : ℕ) → result ≡ Turn.Ended page → IsAtLeaf self.new cache.new page }
     {
+        // Read for the clauses `less` and `ends`.
+        let _ = &self.nodes;
         let answer = perform(cloud, who, &self.in_hand());
         self.absorb(alloc, cache, answer)
     }

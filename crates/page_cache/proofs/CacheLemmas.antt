@@ -1,17 +1,16 @@
 -- What an accept leaves of a cache, and what a drop does.
-use Rattle.std.proofs.Common.{◌≡◌, ℕ, zero, suc, ◌+◌, ◌≤◌, ◌<◌, ◌⊎◌, inl, inr, Bool, true, false, cond, ◌&&◌, ◌==◌, nat_lt, List, [], ◌∷◌, take, Option, Some, None, Result, Ok, Err, refl, sym, ap, ◌∙◌, subst, true≢false, arith}
+use Rattle.std.proofs.Common.{◌≡◌, ℕ, ◌≤◌, ◌⊎◌, inl, inr, Bool, true, false, cond, ◌&&◌, ◌==◌, nat_lt, List, take, Option, Some, None, Result, Ok, Err, refl, sym, ap, ◌∙◌, subst, true≢false, arith}
 use Rattle.std.specs.Prelude.{max, unwrap_or}
 use Rattle.std.specs.Map.{lookup, remove_entry}
 use Rattle.std.specs.Result.{is_ok}
-use Rattle.std.proofs.lemmas.Bool.{ltb-false, ltb-true, and_parts, eqb-true}
-use Rattle.indexmap.specs.IndexMap.{insert_entry}
+use Rattle.std.proofs.lemmas.Bool.{ltb-false, and_parts, eqb-true}
 use Rattle.db_base.specs.declared.names.ObjName.{ObjName}
 use Rattle.db_base.specs.declared.names.ObjName.TheVariants.{Head, Tree, Page}
 use Rattle.db_base.specs.declared.names.Place.TheVariants as place
 use Rattle.db_base.specs.declared.trouble.Trouble.{Trouble}
-use Rattle.db_base.specs.declared.trouble.Trouble.TheVariants.{Stale, Damaged, Memory}
+use Rattle.db_base.specs.declared.trouble.Trouble.TheVariants.{Stale, Damaged}
 use Rattle.page_cache.specs.Names.{same_name}
-use Rattle.page_cache.specs.Spelled.{version_read, leaf_version, inner_version}
+use Rattle.page_cache.specs.Spelled.{version_read}
 use Rattle.page_cache.specs.Cache.{Cache, kept_at, served_at, placed, served, dropped, accepts, accepts_no_leaf, accepts_leaf, accepts_read, IsCache}
 use Rattle.page_cache.proofs.NameLemmas.{same_name-refl, same_name-is, other_name}
 use Rattle.page_cache.proofs.EntryLemmas.{lookup-take, lookup-others, lookup-inserted, lookup-inserted_other, lookup-nothing}

@@ -1,5 +1,5 @@
 -- The objects that are kept, after one is put and after one is forgotten.
-use Rattle.std.proofs.Common.{◌≡◌, ℕ, ◌+◌, ◌-◌, ◌≤◌, Bool, true, false, cond, List, [], ◌∷◌, length, take, Option, Some, None, Result, Ok, Err, refl, sym, ap, ◌∙◌, subst, arith}
+use Rattle.std.proofs.Common.{◌≡◌, ℕ, ◌-◌, ◌≤◌, Bool, true, false, cond, List, [], ◌∷◌, length, take, Option, Some, None, Result, Ok, Err, refl, sym, ap, ◌∙◌, subst, arith}
 use Rattle.std.specs.Prelude.{OnOk, OnErr}
 use Rattle.std.specs.List.{AllByRecursion, IsDistinct}
 use Rattle.std.specs.Map.{keys_of, lookup_entry, remove_entry}
@@ -10,7 +10,7 @@ use Rattle.page_cache.specs.Names.{same_name}
 use Rattle.page_cache.specs.Spelled.{IsSpelled}
 use Rattle.page_cache.specs.Cache.{AreObjects, placed_in}
 use Rattle.page_cache.proofs.NameLemmas.{same_name-is}
-use Rattle.page_cache.proofs.EntryLemmas.{all_left, keys_left, distinct_left, no_more_left, one_fewer, all_stay, all_front, distinct_front, few_front, whole_front}
+use Rattle.page_cache.proofs.EntryLemmas.{all_left, distinct_left, no_more_left, one_fewer, all_stay, all_front, distinct_front, few_front, whole_front}
 
 abbrev Object : Type 0
 Object = ObjName × Option (List ℕ)

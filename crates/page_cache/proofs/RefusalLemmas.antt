@@ -1,5 +1,5 @@
 -- Why an accept refuses.
-use Rattle.std.proofs.Common.{◌≡◌, ℕ, zero, suc, ◌+◌, ◌≤◌, ◌<◌, ◌⊎◌, inl, inr, Bool, true, false, cond, ◌&&◌, ◌==◌, nat_lt, List, Option, Some, None, Result, Ok, Err, refl, sym, ap, ◌∙◌, subst, true≢false, arith}
+use Rattle.std.proofs.Common.{◌≡◌, ℕ, ◌<◌, ◌⊎◌, inl, inr, Bool, true, false, cond, ◌&&◌, ◌==◌, nat_lt, List, Option, Some, None, Result, Ok, Err, refl, sym, ap, ◌∙◌, subst, arith}
 use Rattle.std.specs.Prelude.{max}
 use Rattle.std.proofs.Math.Nat.{le-max_left, max-eq_right}
 use Rattle.std.proofs.lemmas.Bool.{ltb-true}
@@ -10,7 +10,7 @@ use Rattle.db_base.specs.declared.trouble.Trouble.{Trouble}
 use Rattle.db_base.specs.declared.trouble.Trouble.TheVariants.{Stale, Damaged}
 use Rattle.page_cache.specs.Spelled.{version_read}
 use Rattle.page_cache.specs.Cache.{Cache, served_at, placed, served, accepts, accepts_no_leaf, accepts_leaf, accepts_read}
-use Rattle.page_cache.specs.Refused.{IsStale, IsDamaged, least_of}
+use Rattle.page_cache.specs.Refused.{IsStale, IsDamaged}
 use Rattle.page_cache.proofs.CacheLemmas.{Outcome, never, the_trouble}
 
 -- a greatest version that a version is below is the least that may be seen
@@ -24,7 +24,10 @@ no_leaf_stale c tree page t h = on ((page == 1) && (served_at c (Page tree page)
     on : (b : Bool) → ◌≡◌ {A = Outcome} (cond b (Ok (0, placed c (Page tree page) None)) (Err (Stale page (max 1 (served_at c (Page tree page))) 0))) (Err t) → IsStale c (Page tree page) true t
     on true here = absurd (never t (0, placed c (Page tree page) None) (sym here))
     on false here = record {
-      tree = tree; page = page; found = 0; of = refl;
+      tree = tree;
+      page = page;
+      found = 0;
+      of = refl;
       is = sym (the_trouble (Stale page (max 1 (served_at c (Page tree page))) 0) t here);
       below = le-max_left 1 (served_at c (Page tree page));
     }
@@ -41,7 +44,10 @@ a_leaf_stale c tree page bytes n t h = on (nat_lt n (served_at c (Page tree page
         let below : n < served_at c (Page tree page) = ltb-true n (served_at c (Page tree page)) is in
         let least = least_is n (served_at c (Page tree page)) below in
         record {
-          tree = tree; page = page; found = n; of = refl;
+          tree = tree;
+          page = page;
+          found = n;
+          of = refl;
           is = sym (the_trouble (Stale page (served_at c (Page tree page)) n) t here) ∙ ap (λ (m : ℕ). Stale page m n) least;
           below = subst (λ (m : ℕ). n < m) least below;
         }

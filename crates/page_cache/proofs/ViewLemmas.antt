@@ -1,7 +1,6 @@
 -- What a cache hands out of an object that it accepted.
 use Rattle.std.proofs.Common.{◌≡◌, ℕ, Bool, true, false, List, Option, Some, None, Result, Ok, Err, refl, sym, ap, ◌∙◌}
 use Rattle.std.specs.Result.{result_ok}
-use Rattle.byte_format.specs.Format.{Format}
 use Rattle.byte_format.specs.Whole.{whole, offset}
 use Rattle.byte_format.proofs.Steps.{ok_is, never_err}
 use Rattle.db_base.specs.declared.names.ObjName.TheVariants.{Tree, Page}

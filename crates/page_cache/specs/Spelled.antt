@@ -1,6 +1,5 @@
 -- What the bytes of an object are read as: a page as a leaf or as an inner node, all else as a root.
 use Rattle.std.specs.Prelude.{◌≡◌, ℕ, Bool, if◌then◌else◌, List, Option, Some, None, Result, Ok, Err, ◌⊎◌}
-use Rattle.byte_format.specs.Format.{Format}
 use Rattle.byte_format.specs.Whole.{whole, offset}
 use Rattle.db_base.specs.declared.names.ObjName.{ObjName}
 use Rattle.db_base.specs.declared.names.ObjName.TheVariants.{Head, Tree, Page}

@@ -52,7 +52,7 @@ impl PageCache {
     pub fn kept(&self, name: ObjName) -> bool
         ensures { result ≡ is_some (kept_at self.now name) }
     {
-        self.objects.get(name).is_some()
+        self.objects.get(&name).is_some()
     }
 
     /// Takes the answer of a get and gives its version: 0 of an absent root or page 1, which are kept as absent.
@@ -80,7 +80,7 @@ impl PageCache {
         requires { IsSpelled name.now bytes }
         ensures { Did (Ok (version, placed self.old name.now bytes)) self.old self.new result }
     {
-        match self.objects.put(*name, bytes) {
+        match self.objects.put(name, bytes) {
             Ok(()) => Ok(version),
             Err(trouble) => Err(trouble),
         }
@@ -92,7 +92,7 @@ impl PageCache {
         ensures { Did (Ok (version, served (placed self.old name.now (Some bytes)) name.now version)) self.old self.new result }
     {
         self.versions.make_room()?;
-        self.objects.put(*name, Some(bytes))?;
+        self.objects.put(name, Some(bytes))?;
         self.versions.note(*name, version);
         Ok(version)
     }
@@ -215,7 +215,7 @@ impl PageCache {
         ensures { result ≡ leaf_at self.now name }
     {
         match name {
-            ObjName::Page(_, _) => match self.objects.get(name)? {
+            ObjName::Page(_, _) => match self.objects.get(&name)? {
                 Some(bytes) => leaf_of(bytes.as_slice()),
                 None => Some(LeafView::empty()),
             },
@@ -228,7 +228,7 @@ impl PageCache {
         ensures { result ≡ inner_at self.now name }
     {
         match name {
-            ObjName::Page(_, _) => match self.objects.get(name)? {
+            ObjName::Page(_, _) => match self.objects.get(&name)? {
                 Some(bytes) => inner_of(bytes.as_slice()),
                 None => None,
             },
@@ -241,7 +241,7 @@ impl PageCache {
         ensures { result ≡ root_at self.now name }
     {
         match name {
-            ObjName::Tree(_) => match self.objects.get(name)? {
+            ObjName::Tree(_) => match self.objects.get(&name)? {
                 Some(bytes) => root_of(bytes.as_slice()),
                 None => Some(TreeView::empty()),
             },
@@ -253,7 +253,7 @@ impl PageCache {
     pub fn drop_kept(&mut self, name: ObjName)
         ensures { self.new ≡ dropped self.old name }
     {
-        self.objects.remove(name);
+        self.objects.remove(&name);
     }
 
     /// Forgets all bytes and versions. Takes no memory.

@@ -50,30 +50,30 @@ impl Objects {
     }
 
     /// What is kept of an object: nothing, its bytes, or that it is absent.
-    pub fn get(&self, name: ObjName) -> Option<&Option<Blob>>
-        ensures { option_copied result ≡ lookup (same_name name) self.now }
+    pub fn get(&self, name: &ObjName) -> Option<&Option<Blob>>
+        ensures { option_copied result ≡ lookup (same_name name.now) self.now }
     {
-        self.kept.peek(&name)
+        self.kept.peek(name)
     }
 
     /// Puts an object first; of 65 the last goes. Memory alone is refused, and then nothing changes.
-    pub fn put(&mut self, name: ObjName, bytes: Option<Blob>) -> Result<(), Trouble>
-        requires { IsSpelled name bytes }
-        ensures ok { OnOk result (self.new ≡ placed_in self.old name bytes) }
+    pub fn put(&mut self, name: &ObjName, bytes: Option<Blob>) -> Result<(), Trouble>
+        requires { IsSpelled name.now bytes }
+        ensures ok { OnOk result (self.new ≡ placed_in self.old name.now bytes) }
         ensures err { OnErr result (self.new ≡ self.old) }
         ensures memory { IfErr result (λ e. e ≡ Trouble.Memory) }
     {
-        match self.kept.put(name, bytes) {
+        match self.kept.put(*name, bytes) {
             Ok(_) => Ok(()),
             Err(_) => Err(Trouble::Memory),
         }
     }
 
     /// Forgets an object.
-    pub fn remove(&mut self, name: ObjName)
-        ensures { self.new ≡ remove_entry (same_name name) self.old }
+    pub fn remove(&mut self, name: &ObjName)
+        ensures { self.new ≡ remove_entry (same_name name.now) self.old }
     {
-        self.kept.pop(&name);
+        self.kept.pop(name);
     }
 
     /// Forgets all objects.

@@ -1,0 +1,94 @@
+-- Where the turns of a scan lead, by those of its walk.
+use Rattle.std.proofs.Common.{◌≡◌, ◌≢◌, ℕ, Bool, true, false, List, Option, Some, None, Result, Ok, Err, refl, ap, sym, subst, ◌∙◌}
+use Rattle.std.specs.Prelude.{is_some}
+use Rattle.db_base.specs.declared.trouble.Trouble.{Trouble}
+use Rattle.db_base.specs.declared.trouble.Trouble.TheVariants as trouble
+use Rattle.cloud_trait.specs.declared.answer.Answer.{Answer}
+use Rattle.cloud_trait.specs.declared.turn.Turn.{Turn}
+use Rattle.cloud_trait.specs.declared.turn.Turn.TheVariants.{More, Ended, Stopped}
+use Rattle.cloud_trait.specs.Ask.{Get}
+use Rattle.cloud_trait.specs.Caller.{Caller}
+use Rattle.cloud_trait.specs.Seen.{Seen}
+use Rattle.cloud_trait.specs.Machine.{Next, Goes, Ends, Stops, LeadsBy, Took, Steps}
+use Rattle.cloud_trait.specs.Views.{got_of}
+use Rattle.cloud_trait.specs.Weather.{Makes}
+use Rattle.page_cache.specs.Cache.{Cache}
+use Rattle.tree_walk.specs.Moves.{Moves, MovesBeside}
+use Rattle.tree_walk.specs.Walk.{Spot, Walk, asks, walk_next}
+use Rattle.tree_walk.specs.Walk.{KeepsNothing as KeepsNoWalk}
+use Rattle.range_scan.specs.Scan.{Scan, scan_asks, scan_object_at, scan_beside, walked_on, walked_by, right_got, next_at, scan_next, KeepsNothing}
+
+-- what was done beside the cache
+beside_moves : (n : Next Scan ℕ) (c : Cache) (new : Scan) (turn : Turn ℕ) → Moves n new turn → Moves (scan_beside (n, c)) (new, c) turn
+beside_moves n c new More h = ap (λ (m : Next Scan ℕ). scan_beside (m, c)) h
+beside_moves n c new (Ended page) h = ap (λ (m : Next Scan ℕ). scan_beside (m, c)) h
+beside_moves n c new (Stopped t) h = λ other. ap (λ (m : Next Scan ℕ). scan_beside (m, c)) (h other)
+
+-- the trouble of a stop
+trouble_in : Trouble → Next Scan ℕ → Trouble
+trouble_in d (Goes s) = d
+trouble_in d (Ends s page) = d
+trouble_in d (Stops s t) = t
+
+same_trouble : (s new : Scan) (t u : Trouble) → ◌≡◌ {A = Next Scan ℕ} (Stops s t) (Stops new u) → t ≡ u
+unfolding trouble_in
+same_trouble s new t u e = ap (trouble_in t) e
+
+-- a turn of the walk, and then the scan's own work
+pub walked_moves : (s : Scan) (x : Next (Walk × Cache) ℕ) (w : Walk) (c : Cache) (turn result : Turn ℕ) (new : Scan) → Moves x (w, c) turn
+    → Moves (walked_on (record s { walk = w }) c turn) new result → Moves (walked_by s x) (new, c) result
+walked_moves s x w c More result new e h =
+    let P : Next (Scan × Cache) ℕ → Type 0 = λ y. Moves y (new, c) result in
+    subst P (sym (ap (walked_by s) e)) (beside_moves (walked_on (record s { walk = w }) c More) c new result h)
+walked_moves s x w c (Ended page) result new e h =
+    let P : Next (Scan × Cache) ℕ → Type 0 = λ y. Moves y (new, c) result in
+    subst P (sym (ap (walked_by s) e)) (beside_moves (walked_on (record s { walk = w }) c (Ended page)) c new result h)
+walked_moves s x w c (Stopped t) More new e h = absurd (cc (h))
+walked_moves s x w c (Stopped t) (Ended page) new e h = absurd (cc (h))
+walked_moves s x w c (Stopped t) (Stopped u) new e h =
+    λ other. ap (walked_by s) (e (λ m. other (sym (same_trouble (record s { walk = w }) new t u (h other)) ∙ m)))
+    ∙ ap (λ (m : Next Scan ℕ). scan_beside (m, c)) (h other)
+
+took_moves : (m : Walk × Cache) (a : Answer) (n : Walk × Cache) (turn : Turn ℕ) → Took (LeadsBy walk_next) KeepsNoWalk m a n turn → Moves (walk_next m a) n turn
+took_moves m a n More h = h
+took_moves m a n (Ended page) h = h
+took_moves m a n (Stopped t) h = h.0
+
+moves_took : (m : Scan × Cache) (a : Answer) (n : Scan × Cache) (turn : Turn ℕ) → Moves (scan_next m a) n turn → Took (LeadsBy scan_next) KeepsNothing m a n turn
+moves_took m a n More h = h
+moves_took m a n (Ended page) h = h
+moves_took m a n (Stopped t) h = (h, λ memory. tt)
+
+pub none_of : (o : Option Spot) → is_some o ≡ false → o ≡ None
+none_of None e = refl
+none_of (Some spot) e = absurd (cc (e))
+
+-- a step of the walk is one of the scan
+pub walk_steps : (who : Caller) (before after : Seen) (s : Scan) (c : Cache) (w : Walk) (d : Cache) (turn result : Turn ℕ) (new : Scan) → s.spot ≡ None
+    → Steps asks (LeadsBy walk_next) KeepsNoWalk who before after (s.walk, c) (w, d) turn
+    → Moves (walked_on (record s { walk = w }) d turn) new result → Steps scan_asks (LeadsBy scan_next) KeepsNothing who before after (s, c) (new, d) result
+walk_steps who before after s c w d turn result new e h moved =
+    let P : Option Spot → Type 0 = λ o. Moves (next_at o (s, c) h.answer) (new, d) result in
+    let Q : Option Spot → Type 0 = λ o. Makes who (Get (scan_object_at s o)) h.answer before after in
+    let walked : Moves (walked_by s (walk_next (s.walk, c) h.answer)) (new, d) result =
+        walked_moves s (walk_next (s.walk, c) h.answer) w d turn result new (took_moves (s.walk, c) h.answer (w, d) turn h.took) moved in
+    record { answer = h.answer; made = subst Q (sym e) h.made; took = moves_took (s, c) h.answer (new, d) result (subst P (sym e) walked) }
+
+-- ---- a right page
+
+right_next : (o : Option Spot) (s : Scan) (c : Cache) (a : Answer) → is_some o ≡ true → next_at o (s, c) a ≡ scan_beside (right_got s c (got_of a))
+right_next None s c a h = absurd (cc (h))
+right_next (Some spot) s c a h = refl
+
+beside_took : (x : Next Scan ℕ × Cache) (new : Scan) (d : Cache) (turn : Turn ℕ) → MovesBeside x new d turn → Moves (scan_beside x) (new, d) turn
+beside_took x new d More h = ap scan_beside (ap (λ (n : Next Scan ℕ). (n, x.1)) h.0 ∙ ap (λ (c : Cache). (Goes new, c)) h.1)
+beside_took x new d (Ended page) h = ap scan_beside (ap (λ (n : Next Scan ℕ). (n, x.1)) h.0 ∙ ap (λ (c : Cache). (Ends new page, c)) h.1)
+beside_took x new d (Stopped t) h =
+    λ other. ap scan_beside (ap (λ (n : Next Scan ℕ). (n, x.1)) (h other).0 ∙ ap (λ (c : Cache). (Stops new t, c)) (h other).1)
+
+pub right_took : (s : Scan) (c : Cache) (a : Answer) (g : Result (Option (List ℕ)) Trouble) (new : Scan) (d : Cache) (turn : Turn ℕ) → is_some s.spot ≡ true → g ≡ got_of a
+    → MovesBeside (right_got s c g) new d turn → Took (LeadsBy scan_next) KeepsNothing (s, c) a (new, d) turn
+right_took s c a g new d turn some is h =
+    let P : Next (Scan × Cache) ℕ → Type 0 = λ y. Moves y (new, d) turn in
+    let Q : Result (Option (List ℕ)) Trouble → Type 0 = λ r. MovesBeside (right_got s c r) new d turn in
+    moves_took (s, c) a (new, d) turn (subst P (sym (right_next s.spot s c a some)) (beside_took (right_got s c (got_of a)) new d turn (subst Q is h)))

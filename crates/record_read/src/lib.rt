@@ -1,0 +1,6 @@
+//! Reads of one record.
+#![tactic(auto)]
+
+mod read;
+
+pub use read::RecordRead;

@@ -1,0 +1,90 @@
+ghost use Rattle.std.specs.Prelude.{◌≡◌, ◌<◌, ℕ, Some, false};
+ghost use Rattle.std.specs.Option.{option_copied};
+ghost use Rattle.cloud_trait.specs.Call.{ask_of};
+ghost use Rattle.cloud_trait.specs.Machine.{LeadsBy, Steps};
+ghost use Rattle.tree_walk.specs.Moves.{Moves};
+ghost use Rattle.tree_walk.specs.Walk.{new_walk, asks, walk_ask, walk_ready, walk_next, KeepsNothing, calls_left, IsAtLeaf};
+ghost use Rattle.record_read.specs.Read.{read_value};
+
+use cloud_trait::call::Call;
+use cloud_trait::cloud::Cloud;
+use cloud_trait::turn::Turn;
+use cloud_trait::who::Who;
+use db_base::ids::{ClientId, PageId, TreeId};
+use db_base::key::Key;
+use head_codec::head::Head;
+use page_cache::PageCache;
+use route_plan::seen::seen;
+use std::alloc::Global;
+use std::marker::Model;
+use tree_walk::Walk;
+use txn_buffer::buffer::TxnBuffer;
+
+/// A read of one record: a walk to its key.
+#[derive(Drop)]
+pub struct RecordRead {
+    walk: Walk,
+}
+
+impl Model for RecordRead {
+    ghost use Rattle.tree_walk.specs.Walk.{Walk as State};
+
+    ghost Value = { State };
+
+    ghost view = { λ r. r.walk };
+}
+
+impl RecordRead {
+    /// The read of a key in a tree. Takes no memory.
+    pub fn new(alloc: Global, tree: TreeId, key: Key) -> RecordRead
+        ensures { result ≡ new_walk tree (Some key) false }
+    {
+        RecordRead {
+            walk: Walk::new(alloc, tree, Some(key), false),
+        }
+    }
+
+    /// The service call that the next step makes.
+    pub fn in_hand(&self) -> Call<'_>
+        ensures { ask_of result ≡ walk_ask self.now }
+    {
+        self.walk.in_hand()
+    }
+
+    /// Does the local work before the first call; it is called once.
+    pub fn ready(&mut self, alloc: Global, cache: &mut PageCache) -> Turn<PageId>
+        ensures { Moves (walk_ready (self.old, cache.old)) (self.new, cache.new) result }
+    {
+        self.walk.ready(alloc, cache)
+    }
+
+    /// Makes the call in hand, and does the local work up to the next one. At its end the leaf whose range holds the key stands
+    /// in the cache.
+    pub fn step<C: Cloud>(
+        &mut self,
+        alloc: Global,
+        cloud: &mut C,
+        who: Who,
+        cache: &mut PageCache,
+    ) -> Turn<PageId>
+        ensures steps { Steps asks (LeadsBy walk_next) KeepsNothing who (C.seen cloud.old) (C.seen cloud.new) (self.old, cache.old) (self.new, cache.new) result }
+        ensures less { result ≡ Turn.More → calls_left self.new < calls_left self.old }
+        ensures ends { (page : ℕ) → result ≡ Turn.Ended page → IsAtLeaf self.new cache.new page }
+    {
+        self.walk.step(alloc, cloud, who, cache)
+    }
+
+    /// The payload of the key as its client sees it, once the read ended. Takes no memory.
+    pub fn value<'a>(
+        &self,
+        cache: &'a PageCache,
+        client: ClientId,
+        head: &'a Head,
+        buffer: &'a TxnBuffer,
+    ) -> Option<&'a [u8]>
+        ensures { option_copied result ≡ read_value self.now cache.now client head.now buffer.now }
+    {
+        let leaf = cache.leaf(self.walk.object())?;
+        seen(&leaf, self.walk.tree(), self.walk.sought(), client, head, buffer)
+    }
+}

@@ -37,7 +37,12 @@ fn bound_of(alloc: Global, bound: Option<&[u8]>) -> Result<Option<Blob>, AllocEr
 }
 
 /// The leaf of a tree with the range of this version. Fails for memory alone.
-pub(crate) fn ended_of(alloc: Global, tree: TreeId, page: PageId, view: &LeafView<'_>) -> Result<EndedLeaf, AllocError>
+pub(crate) fn ended_of(
+    alloc: Global,
+    tree: TreeId,
+    page: PageId,
+    view: &LeafView<'_>,
+) -> Result<EndedLeaf, AllocError>
     ensures { IfOk result (λ e. e ≡ ended_of tree page view.now) }
 {
     Ok(EndedLeaf {

@@ -40,11 +40,17 @@ fn is_update(change: &Change) -> bool
 fn has_pending(pending: &[Pending], tree: TreeId, key: &[u8]) -> bool
     ensures { result ≡ has_pending pending.now tree key.now }
 {
-    pending.iter().any(|entry| entry.tree.get() == tree.get() && entry.change.key().as_slice() == key)
+    pending.iter().any(|entry| entry.tree.get() == tree.get()
+        && entry.change.key().as_slice() == key)
 }
 
 /// The page of a change that needs no walk, and None where it needs one.
-fn page_without(pending: &[Pending], ended: &[EndedLeaf], tree: TreeId, change: &Change) -> Option<PageId>
+fn page_without(
+    pending: &[Pending],
+    ended: &[EndedLeaf],
+    tree: TreeId,
+    change: &Change,
+) -> Option<PageId>
     ensures { result ≡ page_without pending.now ended.now (record { tree = tree; change = change.now }) }
 {
     let key = change.key().as_slice();
@@ -86,7 +92,13 @@ impl LeafPlan {
     }
 
     /// Notes that a walk ended at a leaf. An `Err` comes for memory alone and changes nothing.
-    pub fn add_leaf(&mut self, alloc: Global, tree: TreeId, page: PageId, view: &LeafView<'_>) -> Result<(), AllocError>
+    pub fn add_leaf(
+        &mut self,
+        alloc: Global,
+        tree: TreeId,
+        page: PageId,
+        view: &LeafView<'_>,
+    ) -> Result<(), AllocError>
         ensures ok { OnOk result (self.new ≡ with_leaf self.old tree page view.now) }
         ensures err { OnErr result (self.new ≡ self.old) }
     {
@@ -105,7 +117,12 @@ impl LeafPlan {
 }
 
 /// The page of the change at a place, where one is there and needs no walk.
-fn page_next(pending: &[Pending], ended: &[EndedLeaf], changes: &TxnBuffer, place: usize) -> Option<PageId>
+fn page_next(
+    pending: &[Pending],
+    ended: &[EndedLeaf],
+    changes: &TxnBuffer,
+    place: usize,
+) -> Option<PageId>
     ensures { result ≡ page_next pending.now ended.now (slice_get changes.now place) }
 {
     match changes.at(place) {

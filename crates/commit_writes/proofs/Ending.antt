@@ -13,7 +13,7 @@ use Rattle.cloud_trait.specs.Machine.{Next, Goes, Ends, Stops, LeadsBy, Took}
 use Rattle.cloud_trait.specs.Views.{sent_of, done_of}
 use Rattle.commit_writes.specs.declared.stage.Stage.{Stage}
 use Rattle.commit_writes.specs.declared.stage.Stage.TheVariants.{Waiting, Logging, Opening, Sending, Settling, Deleting, Finished}
-use Rattle.commit_writes.specs.Writing.{Writing, writing_ask, writing_next, next_at, logged_by, opened_by, not_opened, sent_by, settled_by, deleted_by, log_or_open, send_or_settle, delete_or_end, KeepsHome}
+use Rattle.commit_writes.specs.Writing.{Writing, writing_next, next_at, logged_by, opened_by, not_opened, sent_by, settled_by, deleted_by, log_or_open, send_or_settle, delete_or_end, KeepsHome}
 use Rattle.commit_writes.specs.Sound.{IsSound, IsSoundAt, LogsRecord, SendsRecord, IsThere}
 use Rattle.commit_writes.specs.Ending.{left_at, calls_left}
 

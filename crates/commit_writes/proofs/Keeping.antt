@@ -1,5 +1,5 @@
 -- What a commit puts and sends has a spelling.
-use Rattle.std.proofs.Common.{◌≡◌, ◌≤◌, ℕ, List, length, not}
+use Rattle.std.proofs.Common.{◌≤◌, ℕ, List, length, not}
 use Rattle.std.specs.List.{AllByRecursion}
 use Rattle.head_codec.specs.declared.head.Head.{Head}
 use Rattle.head_codec.specs.Spelling.{HasSpelling}

@@ -1,6 +1,7 @@
 -- What is known of a commit at each stage of what it writes, by its calls so far, the oldest first.
 use Rattle.std.proofs.Common.{◌≡◌, ℕ, ◌++◌, List, length, Some}
 use Rattle.std.specs.Prelude.{slice_get, take}
+use Rattle.std.specs.List.{AllByRecursion}
 use Rattle.db_base.specs.declared.trouble.Trouble.TheVariants as trouble
 use Rattle.db_base.specs.declared.trouble.CommitAnswer.{CommitAnswer}
 use Rattle.head_codec.specs.Spelling.{head_bytes}
@@ -15,7 +16,7 @@ use Rattle.commit_writes.specs.declared.stage.Stage.{Stage}
 use Rattle.commit_writes.specs.declared.stage.Stage.TheVariants.{Waiting, Logging, Opening, Sending, Settling, Deleting, Finished}
 use Rattle.commit_writes.specs.Writing.{Writing, with_head, before_of}
 use Rattle.commit_writes.specs.Calls.{Calls, logged_calls, deleted_calls, opened_of, settled_of, all_logged, all_posted, all_settled}
-use Rattle.commit_writes.specs.Meaning.{Means}
+use Rattle.commit_writes.specs.Meaning.{Means, WasTried}
 
 -- the records before the next one are in the ATOMIC queue
 pub record KnowsLogging (h : Home) (cs : Calls) (w : Writing) : Type 0 where
@@ -64,6 +65,7 @@ pub record KnowsDeleting (h : Home) (cs : Calls) (w : Writing) : Type 0 where
   pub posted : length posts ≡ length w.records
   pub answers : List Answer
   pub deleted : length answers ≡ w.place
+  pub tried : AllByRecursion WasTried answers
   pub calls : cs ≡ all_settled h w.records w.ids posts ++ deleted_calls h.client (take w.place w.ids) answers
 
 abbrev pub KnowsAt : Stage → Home → Calls → Writing → Type 0

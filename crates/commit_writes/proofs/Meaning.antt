@@ -1,6 +1,7 @@
 -- What each step of a commit's writes makes of what is known.
-use Rattle.std.proofs.Common.{◌≡◌, ◌≢◌, ◌≤◌, ◌<◌, ◌+◌, ℕ, zero, suc, List, [], ◌∷◌, ◌++◌, length, Option, Some, None, Result, Ok, Err, refl, ap, sym, subst, ◌∙◌, inl, inr, arith, length-append}
+use Rattle.std.proofs.Common.{◌≡◌, ◌≢◌, ◌≤◌, ◌<◌, ◌+◌, ℕ, zero, suc, List, [], ◌∷◌, ◌++◌, length, Option, Some, None, refl, ap, sym, subst, ◌∙◌, inl, inr, arith, length-append}
 use Rattle.std.specs.Prelude.{slice_get, take}
+use Rattle.std.specs.List.{AllByRecursion}
 use Rattle.std.proofs.lemmas.List.{append_assoc, append-nil, take_all, length-take-le}
 use Rattle.std.proofs.lemmas.Option.{slice_get_within}
 use Rattle.route_plan.proofs.Places.{past_none}
@@ -15,22 +16,23 @@ use Rattle.log_codec.specs.declared.record.AtomicRec.{AtomicRec}
 use Rattle.log_codec.specs.Atomic.{atomic_bytes}
 use Rattle.log_codec.specs.Pu.{pu_bytes}
 use Rattle.route_plan.specs.Record.{pu_record_of}
-use Rattle.route_plan.specs.Heads.{opened_head, settled_head}
+use Rattle.route_plan.specs.Heads.{settled_head}
 use Rattle.route_plan.specs.Queue.{queue_name}
 use Rattle.cloud_trait.specs.declared.answer.Answer.{Answer}
-use Rattle.cloud_trait.specs.declared.answer.Answer.TheVariants.{Got, Sent, Received, Done, Given, Held, Renewed, Late, Failed, Memory}
+use Rattle.cloud_trait.specs.declared.answer.Answer.TheVariants.{Sent, Done, Late, Failed, Memory}
 use Rattle.cloud_trait.specs.declared.turn.Turn.{Turn}
 use Rattle.cloud_trait.specs.declared.turn.Turn.TheVariants.{More, Ended, Stopped}
 use Rattle.cloud_trait.specs.Ask.{Ask, PutHeld, Send, Delete}
-use Rattle.cloud_trait.specs.Machine.{Next, Goes, Ends, Stops, LeadsBy, Took, Came, Deed}
+use Rattle.cloud_trait.specs.Machine.{Goes, LeadsBy, Took, Came, Deed}
 use Rattle.cloud_trait.specs.Views.{sent_of, done_of}
 use Rattle.cloud_trait.specs.Weather.{Fits}
+use Rattle.txn_buffer.specs.Noted.{Noted}
 use Rattle.first_recover.specs.declared.home.Home.{Home}
 use Rattle.commit_writes.specs.declared.stage.Stage.{Stage}
 use Rattle.commit_writes.specs.declared.stage.Stage.TheVariants.{Waiting, Logging, Opening, Sending, Settling, Deleting, Finished}
 use Rattle.commit_writes.specs.Writing.{Writing, waiting, with_head, before_of, restored, begun, writing_ask, writing_next, ask_at, next_at, head_ask, log_ask, send_ask, delete_ask, logged_by, opened_by, sent_by, settled_by, deleted_by, log_or_open, send_or_settle, delete_or_end, KeepsHome}
 use Rattle.commit_writes.specs.Calls.{Calls, told, log_of, logged_calls, post_of, posted_calls, deleted_calls, put_of, opened_of, settled_of, all_logged, all_opened, all_posted, all_settled}
-use Rattle.commit_writes.specs.Meaning.{IsCommitted, IsLogFailed, IsOpenAnswered, IsPostFailed, IsSettleAnswered, Means, MeansTurn}
+use Rattle.commit_writes.specs.Meaning.{WasTried, IsOpenAnswered, IsSettleAnswered, MeansTurn}
 use Rattle.commit_writes.proofs.Knowing.{KnowsLogging, KnowsOpening, KnowsSending, KnowsSettling, KnowsDeleting, KnowsAt, Knows, KnowsNext}
 
 -- ---- lists of calls with one more
@@ -70,14 +72,16 @@ to_log : (h : Home) (cs : Calls) (w : Writing) (o : Option AtomicRec) → slice_
     → w.place ≤ length w.records → cs ≡ logged_calls h.client (take w.place w.records) w.ids → KnowsNext h w.records cs (log_or_open w o)
 to_log h cs w (Some r) e home logged within calls = (refl, record { r = r; here = e; out = refl; home = home; logged = logged; calls = calls })
 to_log h cs w None e home logged within calls =
-    let past : length w.records ≤ w.place = past_none w.records w.place e in
-    (refl, record {
-      out = ap (λ (x : Home). head_bytes (opened_of x w.records)) home;
-      home = ap (λ (x : Home). with_head x (opened_of x w.records)) home;
-      before = ap (λ (x : Home). before_of x.head) home;
-      logged = omega (arith, logged, past, within);
-      calls = calls ∙ ap (λ rs. logged_calls h.client rs w.ids) (take_all w.place w.records past);
-    })
+    let past : length w.records ≤ w.place = past_none w.records w.place e in (
+      refl,
+      record {
+        out = ap (λ (x : Home). head_bytes (opened_of x w.records)) home;
+        home = ap (λ (x : Home). with_head x (opened_of x w.records)) home;
+        before = ap (λ (x : Home). before_of x.head) home;
+        logged = omega (arith, logged, past, within);
+        calls = calls ∙ ap (λ rs. logged_calls h.client rs w.ids) (take_all w.place w.records past);
+      },
+    )
 
 to_send : (h : Home) (cs : Calls) (w : Writing) (posts : List ℕ) (o : Option AtomicRec) → slice_get w.records w.place ≡ o → w.home ≡ with_head h (opened_of h w.records)
     → length w.ids ≡ length w.records → length posts ≡ w.place → w.place ≤ length w.records
@@ -85,32 +89,38 @@ to_send : (h : Home) (cs : Calls) (w : Writing) (posts : List ℕ) (o : Option A
 to_send h cs w posts (Some r) e home logged posted within calls =
     (refl, record { r = r; here = e; out = refl; home = home; logged = logged; posts = posts; posted = posted; calls = calls })
 to_send h cs w posts None e home logged posted within calls =
-    let past : length w.records ≤ w.place = past_none w.records w.place e in
-    (refl, record {
-      out = ap (λ (x : Home). head_bytes (settled_head x.head w.records)) home;
-      home = ap (λ (x : Home). with_head x (settled_head x.head w.records)) home;
-      logged = logged;
-      posts = posts;
-      posted = omega (arith, posted, past, within);
-      calls = calls ∙ ap (λ rs. all_posted h w.records w.ids rs posts) (take_all w.place w.records past);
-    })
+    let past : length w.records ≤ w.place = past_none w.records w.place e in (
+      refl,
+      record {
+        out = ap (λ (x : Home). head_bytes (settled_head x.head w.records)) home;
+        home = ap (λ (x : Home). with_head x (settled_head x.head w.records)) home;
+        logged = logged;
+        posts = posts;
+        posted = omega (arith, posted, past, within);
+        calls = calls ∙ ap (λ rs. all_posted h w.records w.ids rs posts) (take_all w.place w.records past);
+      },
+    )
 
 to_delete : (h : Home) (cs : Calls) (w : Writing) (posts : List ℕ) (answers : List Answer) (o : Option ℕ) → slice_get w.ids w.place ≡ o → w.home ≡ with_head h (settled_of h w.records)
-    → length w.ids ≡ length w.records → length posts ≡ length w.records → length answers ≡ w.place → w.place ≤ length w.ids
+    → length w.ids ≡ length w.records → length posts ≡ length w.records → length answers ≡ w.place → AllByRecursion WasTried answers → w.place ≤ length w.ids
     → cs ≡ all_settled h w.records w.ids posts ++ deleted_calls h.client (take w.place w.ids) answers → KnowsNext h w.records cs (delete_or_end w o)
-to_delete h cs w posts answers (Some id) e home logged posted deleted within calls =
-    (refl, record { id = id; here = e; home = home; logged = logged; posts = posts; posted = posted; answers = answers; deleted = deleted; calls = calls })
-to_delete h cs w posts answers None e home logged posted deleted within calls =
-    let past : length w.ids ≤ w.place = past_none w.ids w.place e in
-    (ap (λ (x : Home). x.attempt) home, record {
-      ids = w.ids;
-      posts = posts;
-      answers = answers;
-      logged = logged;
-      posted = posted;
-      deleted = omega (arith, deleted, past, within, logged);
-      are = calls ∙ ap (λ ids. all_settled h w.records w.ids posts ++ deleted_calls h.client ids answers) (take_all w.place w.ids past);
-    }, home)
+to_delete h cs w posts answers (Some id) e home logged posted deleted tried within calls =
+    (refl, record { id = id; here = e; home = home; logged = logged; posts = posts; posted = posted; answers = answers; deleted = deleted; tried = tried; calls = calls })
+to_delete h cs w posts answers None e home logged posted deleted tried within calls =
+    let past : length w.ids ≤ w.place = past_none w.ids w.place e in (
+      ap (λ (x : Home). x.attempt) home,
+      record {
+        ids = w.ids;
+        posts = posts;
+        answers = answers;
+        logged = logged;
+        posted = posted;
+        deleted = omega (arith, deleted, past, within, logged);
+        tried = tried;
+        are = calls ∙ ap (λ ids. all_settled h w.records w.ids posts ++ deleted_calls h.client ids answers) (take_all w.place w.ids past);
+      },
+      home,
+    )
 
 -- ---- the calls that are made, as what they are
 
@@ -145,14 +155,19 @@ logging_next h cs w (Sent id) k fits ample =
     (one_more cs (logged_calls h.client (take w.place w.records) w.ids) (log_ask w, Sent id) (log_of h.client k.r, Sent id) k.calls (ap (λ q. (q, Sent id)) (log_asked h w k.r k.home k.out))
     ∙ (sym (logged_push h.client (take w.place w.records) w.ids k.r id front)
     ∙ ap (λ rs. logged_calls h.client rs (w.ids ++ id ∷ [])) (sym (take_more w.records w.place k.r k.here))))
-logging_next h cs w Failed k fits ample =
-    (inl (refl, record {
+logging_next h cs w Failed k fits ample = (
+  inl (
+    refl,
+    record {
       sent = w.place;
       last = k.r;
       here = k.here;
       ids = w.ids;
       are = one_more cs (logged_calls h.client (take w.place w.records) w.ids) (log_ask w, Failed) (log_of h.client k.r, Failed) k.calls (ap (λ q. (q, Failed)) (log_asked h w k.r k.home k.out));
-    }), k.home)
+    },
+  ),
+  k.home,
+)
 logging_next h cs w Memory k fits ample = absurd (ample refl)
 logging_next h cs w a k fits ample = absurd fits
 
@@ -169,9 +184,10 @@ opening_next h cs w Done k fits ample =
     let m = record w { place = 0 } in
     to_send h (cs ++ (head_ask w, Done) ∷ []) m [] (slice_get w.records 0) refl k.home k.logged refl (omega arith)
     (open_called h cs w Done k ∙ sym (append-nil (all_opened h w.records w.ids)))
-opening_next h cs w (Late end now) k fits ample =
-    (inr (end, now, refl, open_answered h cs w (Late end now) k),
-    ap (λ (x : Home). with_head x (restored x.head w.before)) k.home ∙ ap (λ b. with_head h (restored (opened_of h w.records) b)) k.before)
+opening_next h cs w (Late end now) k fits ample = (
+  inr (end, now, refl, open_answered h cs w (Late end now) k),
+  ap (λ (x : Home). with_head x (restored x.head w.before)) k.home ∙ ap (λ b. with_head h (restored (opened_of h w.records) b)) k.before,
+)
 opening_next h cs w Failed k fits ample = open_answered h cs w Failed k
 opening_next h cs w Memory k fits ample = absurd (ample refl)
 opening_next h cs w a k fits ample = absurd fits
@@ -219,7 +235,7 @@ settling_next : (h : Home) (cs : Calls) (w : Writing) (a : Answer) → KnowsSett
     → KnowsNext h w.records (cs ++ (head_ask w, a) ∷ []) (settled_by w (done_of a))
 settling_next h cs w Done k fits ample =
     let m = record w { place = 0 } in
-    to_delete h (cs ++ (head_ask w, Done) ∷ []) m k.posts [] (slice_get w.ids 0) refl k.home k.logged k.posted refl (omega arith)
+    to_delete h (cs ++ (head_ask w, Done) ∷ []) m k.posts [] (slice_get w.ids 0) refl k.home k.logged k.posted refl tt (omega arith)
     (settle_called h cs w Done k
     ∙ (sym (append-nil (all_settled h w.records w.ids k.posts))
     ∙ ap (λ l. all_settled h w.records w.ids k.posts ++ l) (none_deleted w.ids)))
@@ -233,24 +249,33 @@ settling_next h cs w Memory k fits ample = absurd (ample refl)
 settling_next h cs w a k fits ample = absurd fits
 
 -- one message more is deleted, whatever that answered
-delete_more : (h : Home) (cs : Calls) (w : Writing) (a : Answer) (k : KnowsDeleting h cs w)
+tried_push : (answers : List Answer) (a : Answer) → AllByRecursion WasTried answers → WasTried a → AllByRecursion WasTried (answers ++ a ∷ [])
+tried_push [] a all this = (this, tt)
+tried_push (b ∷ answers) a all this = (all.0, tried_push answers a all.1 this)
+
+delete_more : (h : Home) (cs : Calls) (w : Writing) (a : Answer) (k : KnowsDeleting h cs w) → WasTried a
     → KnowsNext h w.records (cs ++ (delete_ask w (slice_get w.ids w.place), a) ∷ []) (delete_or_end (record w { place = w.place + 1 }) (slice_get w.ids (w.place + 1)))
-delete_more h cs w a k =
+delete_more h cs w a k this =
     let within : w.place < length w.ids = slice_get_within w.ids w.place k.id k.here in
     let front : length k.answers ≡ length (take w.place w.ids) = k.deleted ∙ sym (length-take-le w.place w.ids (omega (arith, within))) in
     let m = record w { place = w.place + 1 } in
     to_delete h (cs ++ (delete_ask w (slice_get w.ids w.place), a) ∷ []) m k.posts (k.answers ++ a ∷ []) (slice_get w.ids (w.place + 1)) refl k.home k.logged k.posted
-    (omega (arith, length-append k.answers (a ∷ []), k.deleted)) (omega (arith, within))
+    (omega (arith, length-append k.answers (a ∷ []), k.deleted)) (tried_push k.answers a k.tried this) (omega (arith, within))
     (one_more cs (all_settled h w.records w.ids k.posts ++ deleted_calls h.client (take w.place w.ids) k.answers) (delete_ask w (slice_get w.ids w.place), a) (Delete (queue.Atomic h.client) k.id, a) k.calls
     (ap (λ q. (q, a)) (delete_asked h w (slice_get w.ids w.place) k.id (settled_of h w.records) k.here k.home))
     ∙ (append_assoc (all_settled h w.records w.ids k.posts) (deleted_calls h.client (take w.place w.ids) k.answers) ((Delete (queue.Atomic h.client) k.id, a) ∷ [])
     ∙ (ap (λ l. all_settled h w.records w.ids k.posts ++ l) (sym (deleted_push h.client (take w.place w.ids) k.answers k.id a front))
     ∙ ap (λ ids. all_settled h w.records w.ids k.posts ++ deleted_calls h.client ids (k.answers ++ a ∷ [])) (sym (take_more w.ids w.place k.id k.here)))))
 
-deleting_next : (h : Home) (cs : Calls) (w : Writing) (a : Answer) (k : KnowsDeleting h cs w) → a ≢ Memory
+fits_delete : (w : Writing) (o : Option ℕ) (id : ℕ) (a : Answer) → o ≡ Some id → Fits (delete_ask w o) a → Fits (Delete (queue.Atomic w.home.client) id) a
+fits_delete w o id a e fits = subst (λ x. Fits (delete_ask w x) a) e fits
+
+deleting_next : (h : Home) (cs : Calls) (w : Writing) (a : Answer) (k : KnowsDeleting h cs w) → Fits (Delete (queue.Atomic w.home.client) k.id) a → a ≢ Memory
     → KnowsNext h w.records (cs ++ (delete_ask w (slice_get w.ids w.place), a) ∷ []) (deleted_by w (done_of a))
-deleting_next h cs w Memory k ample = absurd (ample refl)
-deleting_next h cs w a k ample = delete_more h cs w a k
+deleting_next h cs w Done k fits ample = delete_more h cs w Done k (inl refl)
+deleting_next h cs w Failed k fits ample = delete_more h cs w Failed k (inr refl)
+deleting_next h cs w Memory k fits ample = absurd (ample refl)
+deleting_next h cs w a k fits ample = absurd fits
 
 -- what is known where a step leads, by the stage
 knows_at : (stage : Stage) (h : Home) (cs : Calls) (w : Writing) (a : Answer) → KnowsAt stage h cs w → Fits (ask_at stage w) a → a ≢ Memory
@@ -260,7 +285,7 @@ knows_at Logging h cs w a k fits ample = logging_next h cs w a k fits ample
 knows_at Opening h cs w a k fits ample = opening_next h cs w a k fits ample
 knows_at Sending h cs w a k fits ample = sending_next h cs w a k (fits_post w (slice_get w.records w.place) k.r a k.here fits) ample
 knows_at Settling h cs w a k fits ample = settling_next h cs w a k fits ample
-knows_at Deleting h cs w a k fits ample = deleting_next h cs w a k ample
+knows_at Deleting h cs w a k fits ample = deleting_next h cs w a k (fits_delete w (slice_get w.ids w.place) k.id a k.here fits) ample
 knows_at Finished h cs w a k fits ample = absurd k
 
 pub knows_next : (h : Home) (rs : List AtomicRec) (cs : Calls) (w : Writing) (a : Answer) → Knows h rs cs w → Fits (writing_ask w) a → a ≢ Memory
@@ -275,9 +300,9 @@ none_logged client [] = refl
 none_logged client (r ∷ rs) = refl
 
 -- before its first call
-knows_begun : (h : Home) (rs : List AtomicRec) (start : Writing) → begun (waiting h) rs ≡ Goes start → Knows h rs [] start
-knows_begun h rs start goes =
-    subst (KnowsNext h rs []) goes (to_log h [] (record (waiting h) { records = rs; place = 0 }) (slice_get rs 0) refl refl refl (omega arith) (none_logged h.client rs))
+knows_begun : (h : Home) (changes : List Noted) (rs : List AtomicRec) (start : Writing) → begun (waiting h changes) rs ≡ Goes start → Knows h rs [] start
+knows_begun h changes rs start goes =
+    subst (KnowsNext h rs []) goes (to_log h [] (record (waiting h changes) { records = rs; place = 0 }) (slice_get rs 0) refl refl refl (omega arith) (none_logged h.client rs))
 
 -- a step does not go on at want of memory
 memory_ends : (stage : Stage) (w n : Writing) → next_at stage w Memory ≡ Goes n → ⊥
@@ -296,11 +321,11 @@ knows_more h rs cs from m ask a k asked fits goes =
     subst (λ q. Knows h rs (cs ++ (q, a) ∷ []) m) (sym asked)
     (subst (KnowsNext h rs (cs ++ (writing_ask from, a) ∷ [])) goes (knows_next h rs cs from a k (subst (λ q. Fits q a) asked fits) ample))
 
-came_knows : (h : Home) (rs : List AtomicRec) (start : Writing) → begun (waiting h) rs ≡ Goes start → (ds : List Deed) (m : Writing)
+came_knows : (h : Home) (changes : List Noted) (rs : List AtomicRec) (start : Writing) → begun (waiting h changes) rs ≡ Goes start → (ds : List Deed) (m : Writing)
     → Came writing_ask (LeadsBy writing_next) start ds m → Knows h rs (told ds) m
-came_knows h rs start goes [] m came = subst (Knows h rs []) (sym came) (knows_begun h rs start goes)
-came_knows h rs start goes (d ∷ ds) m (from, came, asked, made, leads, follows) =
-    knows_more h rs (told ds) from m d.ask d.answer (came_knows h rs start goes ds from came) asked made.fits leads
+came_knows h changes rs start goes [] m came = subst (Knows h rs []) (sym came) (knows_begun h changes rs start goes)
+came_knows h changes rs start goes (d ∷ ds) m (from, came, asked, made, leads, follows) =
+    knows_more h rs (told ds) from m d.ask d.answer (came_knows h changes rs start goes ds from came) asked made.fits leads
 
 only_memory : (t : Trouble) → (t ≢ trouble.Memory → t ≡ trouble.Memory) → t ≡ trouble.Memory
 only_memory trouble.Memory f = refl
@@ -324,6 +349,6 @@ step_means h rs cs old new a turn k fits stops took = ample_means h rs cs old ne
 
 -- what a step of the code means by the whole run
 pub came_means : (old new : Writing) (a : Answer) (turn : Turn CommitAnswer) → Fits (writing_ask old) a → (a ≡ Memory → turn ≡ Stopped trouble.Memory)
-    → Took (LeadsBy writing_next) KeepsHome old a new turn → (h : Home) (rs : List AtomicRec) (start : Writing) (ds : List Deed) → begun (waiting h) rs ≡ Goes start
+    → Took (LeadsBy writing_next) KeepsHome old a new turn → (h : Home) (rs : List AtomicRec) (start : Writing) (ds : List Deed) → begun (waiting h old.changes) rs ≡ Goes start
     → Came writing_ask (LeadsBy writing_next) start ds old → MeansTurn h rs (told ds ++ (writing_ask old, a) ∷ []) new.home turn
-came_means old new a turn fits stops took h rs start ds goes came = step_means h rs (told ds) old new a turn (came_knows h rs start goes ds old came) fits stops took
+came_means old new a turn fits stops took h rs start ds goes came = step_means h rs (told ds) old new a turn (came_knows h old.changes rs start goes ds old came) fits stops took

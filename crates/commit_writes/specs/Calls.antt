@@ -1,5 +1,5 @@
 -- The calls of a commit with what it writes, the oldest first, each with its answer.
-use Rattle.std.specs.Prelude.{ℕ, ◌≡◌, List, [], ◌∷◌, ◌++◌, length, None}
+use Rattle.std.specs.Prelude.{ℕ, List, [], ◌∷◌, ◌++◌, None}
 use Rattle.db_base.specs.declared.names.ObjName.TheVariants as object
 use Rattle.db_base.specs.declared.names.QueueName.TheVariants as queue
 use Rattle.head_codec.specs.declared.head.Head.{Head}

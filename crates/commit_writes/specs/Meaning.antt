@@ -1,12 +1,13 @@
 -- What a commit did with what it writes, by its whole run.
-use Rattle.std.specs.Prelude.{ℕ, ◌≡◌, ◌≢◌, ◌⊎◌, List, [], ◌∷◌, ◌++◌, length, take, slice_get, Some}
+use Rattle.std.specs.Prelude.{ℕ, ◌≡◌, ◌⊎◌, List, [], ◌∷◌, ◌++◌, length, take, slice_get, Some}
+use Rattle.std.specs.List.{AllByRecursion}
 use Rattle.db_base.specs.declared.trouble.Trouble.{Trouble}
 use Rattle.db_base.specs.declared.trouble.Trouble.TheVariants as trouble
 use Rattle.db_base.specs.declared.trouble.CommitAnswer.{CommitAnswer}
 use Rattle.db_base.specs.declared.trouble.CommitAnswer.TheVariants.{Committed, NotCommitted, InDoubt, CommittedOpen}
 use Rattle.log_codec.specs.declared.record.AtomicRec.{AtomicRec}
 use Rattle.cloud_trait.specs.declared.answer.Answer.{Answer}
-use Rattle.cloud_trait.specs.declared.answer.Answer.TheVariants.{Late, Failed}
+use Rattle.cloud_trait.specs.declared.answer.Answer.TheVariants.{Done, Late, Failed}
 use Rattle.cloud_trait.specs.declared.turn.Turn.{Turn}
 use Rattle.cloud_trait.specs.declared.turn.Turn.TheVariants.{More, Ended, Stopped}
 use Rattle.cloud_trait.specs.Caller.{Caller}
@@ -15,7 +16,11 @@ use Rattle.cloud_trait.specs.Weather.{Makes}
 use Rattle.cloud_trait.specs.Machine.{Goes, LeadsBy, Came, Deed}
 use Rattle.first_recover.specs.declared.home.Home.{Home}
 use Rattle.commit_writes.specs.Writing.{Writing, with_head, waiting, begun, writing_ask, writing_next}
-use Rattle.commit_writes.specs.Calls.{Calls, told, log_of, logged_calls, post_of, put_of, deleted_calls, opened_of, settled_of, all_logged, all_opened, all_posted, all_settled}
+use Rattle.commit_writes.specs.Calls.{Calls, told, log_of, logged_calls, post_of, put_of, deleted_calls, opened_of, settled_of, all_logged, all_posted, all_settled}
+
+-- a deletion was done, or it failed
+abbrev pub WasTried : Answer → Type 0
+WasTried a = (a ≡ Done) ⊎ (a ≡ Failed)
 
 -- the four things landed in their order: each record in the ATOMIC queue, the head that commits, each record in its pending
 -- update queue, the head that settles; then each ATOMIC message was deleted, whatever that answered
@@ -26,6 +31,7 @@ pub record IsCommitted (home : Home) (records : List AtomicRec) (calls : Calls) 
   pub logged : length ids ≡ length records
   pub posted : length posts ≡ length records
   pub deleted : length answers ≡ length records
+  pub tried : AllByRecursion WasTried answers
   pub are : calls ≡ all_settled home records ids posts ++ deleted_calls home.client ids answers
 
 -- a send to the ATOMIC queue failed behind the sends of the records before it
@@ -94,5 +100,5 @@ MeansTurn home records calls left (Stopped t) = t ≡ trouble.Memory
 pub record Meant (who : Caller) (before after : Seen) (old new : Writing) (turn : Turn CommitAnswer) : Type 0 where
   pub answer : Answer
   pub made : Makes who (writing_ask old) answer before after
-  pub means : (home : Home) (records : List AtomicRec) (start : Writing) (h : List Deed) → begun (waiting home) records ≡ Goes start
+  pub means : (home : Home) (records : List AtomicRec) (start : Writing) (h : List Deed) → begun (waiting home old.changes) records ≡ Goes start
       → Came writing_ask (LeadsBy writing_next) start h old → MeansTurn home records (told h ++ (writing_ask old, answer) ∷ []) new.home turn

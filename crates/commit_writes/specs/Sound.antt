@@ -1,5 +1,5 @@
 -- What the bytes in hand spell, and what a commit keeps while it writes.
-use Rattle.std.specs.Prelude.{ℕ, ◌≡◌, ◌≤◌, List, length, slice_get, Option, Some, None}
+use Rattle.std.specs.Prelude.{ℕ, ◌≡◌, ◌≤◌, length, slice_get, Option, Some, None}
 use Rattle.std.specs.List.{AllByRecursion}
 use Rattle.head_codec.specs.Counters.{AreCounters}
 use Rattle.head_codec.specs.Spelling.{IsPhase, head_of}
@@ -44,8 +44,9 @@ pub record IsBefore (b : Before) : Type 0 where
   pub phase : IsPhase b.phase
   pub counters : AreCounters None b.counters
 
--- what a commit keeps: what it sends and puts has spellings, and the bytes in hand are those of the call that they are for
+-- what a commit keeps: a change is there, what it sends and puts has spellings, and the bytes in hand are those of the call that they are for
 pub record IsKept (w : Writing) : Type 0 where
+  pub some : 1 ≤ length w.changes
   pub few : length w.records ≤ 200
   pub before : IsBefore w.before
   pub placed : AllByRecursion HasPlace w.records

@@ -1,9 +1,11 @@
 -- What a commit writes as a machine: what it knows, what it asks, and where each answer leads.
-use Rattle.std.specs.Prelude.{ℕ, ◌≡◌, ◌+◌, ◌-◌, ◌^◌, ◌==◌, Bool, if◌then◌else◌, List, [], ◌∷◌, ◌++◌, slice_get, Option, Some, None, Result, Ok, Err}
+use Rattle.std.specs.Prelude.{ℕ, ◌≡◌, ◌+◌, ◌-◌, ◌^◌, ◌==◌, Bool, nat_le, if◌then◌else◌, List, [], ◌∷◌, ◌++◌, length, replicate, slice_get, Option, Some, None, Result, Ok, Err}
+use Rattle.std.specs.List.{list_any}
 use Rattle.db_base.specs.declared.names.ObjName.TheVariants as object
 use Rattle.db_base.specs.declared.names.QueueName.TheVariants as queue
 use Rattle.db_base.specs.declared.trouble.Trouble.{Trouble}
 use Rattle.db_base.specs.declared.trouble.Trouble.TheVariants as trouble
+use Rattle.db_base.specs.declared.trouble.Counter.TheVariants as counter
 use Rattle.db_base.specs.declared.trouble.CommitAnswer.{CommitAnswer}
 use Rattle.db_base.specs.declared.trouble.CommitAnswer.TheVariants.{Committed, NotCommitted, InDoubt, CommittedOpen}
 use Rattle.head_codec.specs.declared.head.Head.{Head}
@@ -16,6 +18,8 @@ use Rattle.log_codec.specs.Pu.{pu_bytes}
 use Rattle.route_plan.specs.Queue.{queue_name}
 use Rattle.route_plan.specs.Record.{pu_record_of}
 use Rattle.route_plan.specs.Heads.{opened_head, settled_head}
+use Rattle.route_plan.specs.Route.{routed}
+use Rattle.txn_buffer.specs.Noted.{Noted}
 use Rattle.cloud_trait.specs.declared.answer.Answer.{Answer}
 use Rattle.cloud_trait.specs.Ask.{Ask, PutHeld, Send, Delete}
 use Rattle.cloud_trait.specs.Machine.{Next, Goes, Ends, Stops}
@@ -37,19 +41,20 @@ abbrev pub restored : Head → Before → Head
 restored h b = record h { txn = b.txn; phase = b.phase; counters = b.counters }
 
 -- where a commit stands: the home with the head that the put in hand makes or an earlier one made, what that head was before,
--- the stage, the records, how many calls of the stage were made, the ids of the ATOMIC messages, and the bytes of the put or send in hand
+-- the changes, the stage, the records, how many calls of the stage were made, the ids of the ATOMIC messages, and the bytes of the put or send in hand
 pub record Writing : Type 0 where
   pub home : Home
   pub before : Before
+  pub changes : List Noted
   pub stage : Stage
   pub records : List AtomicRec
   pub place : ℕ
   pub ids : List ℕ
   pub out : List ℕ
 
--- a home of which nothing is written yet
-abbrev pub waiting : Home → Writing
-waiting home = record { home = home; before = record (before_of home.head) { counters = [] }; stage = Waiting; records = []; place = 0; ids = []; out = [] }
+-- the commit of changes by a home, before its first write
+abbrev pub waiting : Home → List Noted → Writing
+waiting home changes = record { home = home; before = record (before_of home.head) { counters = [] }; changes = changes; stage = Waiting; records = []; place = 0; ids = []; out = [] }
 
 abbrev pub with_head : Home → Head → Home
 with_head home head = record home { head = head }
@@ -109,6 +114,10 @@ writing_ask w = ask_at w.stage w
 abbrev pub finished : Writing → Writing
 finished w = record w { stage = Finished }
 
+-- nothing was committed
+abbrev pub not_committed : Writing → Trouble → Next Writing CommitAnswer
+not_committed w t = Ends (finished w) (NotCommitted t)
+
 -- the head that commits is put: open, with the counters raised, and without the records among its pending entries
 abbrev pub opened : Writing → Head
 opened w = opened_head w.home.head w.home.attempt w.records
@@ -127,6 +136,27 @@ log_at w n = log_or_open (record w { place = n }) (slice_get w.records n)
 -- the first record of the commit is sent
 abbrev pub begun : Writing → List AtomicRec → Next Writing CommitAnswer
 begun w records = log_at (record w { records = records }) 0
+
+-- the records of changes by a home, each with the leaf that it came to
+abbrev pub routed_of : Home → List Noted → List ℕ → List AtomicRec
+routed_of home changes leaves = routed home.client home.head.epoch home.attempt home.head changes leaves
+
+-- a number would pass the greatest u64
+abbrev pub passes : List AtomicRec → Bool
+passes records = list_any (λ (r : AtomicRec). nat_le (2 ^ 64) r.number) records
+
+-- the records of the changes are written, unless a number would pass the greatest one
+abbrev pub routing : Writing → List ℕ → Next Writing CommitAnswer
+routing w leaves =
+    if passes (routed_of w.home w.changes leaves) then not_committed w (trouble.Exhausted counter.Number) else begun w (routed_of w.home w.changes leaves)
+
+-- page 1 for each change
+abbrev pub first_leaves : List Noted → List ℕ
+first_leaves changes = replicate (length changes) 1
+
+-- without walks: the next attempt number is taken, and each change counts as having come to page 1
+abbrev pub writing_ready : Writing → Next Writing CommitAnswer
+writing_ready w = if is_spent w.home then not_committed w (trouble.Exhausted counter.Txn) else routing (numbered w) (first_leaves w.changes)
 
 -- the head that settles is put: with the records at the end of its pending entries
 abbrev pub settled : Writing → Head
@@ -154,10 +184,6 @@ delete_at w n = delete_or_end (record w { place = n }) (slice_get w.ids n)
 -- the head has again what the put that commits would have changed
 abbrev pub closed_again : Writing → Writing
 closed_again w = record w { home = with_head w.home (restored w.home.head w.before); before = record w.before { counters = [] } }
-
--- nothing was committed
-abbrev pub not_committed : Writing → Trouble → Next Writing CommitAnswer
-not_committed w t = Ends (finished w) (NotCommitted t)
 
 -- the head stays open
 abbrev pub left_open : Writing → Trouble → Next Writing CommitAnswer
@@ -213,6 +239,10 @@ opens_at Sending w = None
 opens_at Settling w = None
 opens_at Deleting w = None
 opens_at Finished w = None
+
+-- before the first write: but for its head and its attempt
+abbrev pub KeepsLease : Writing → Answer → Writing → Type 0
+KeepsLease w a n = n.home ≡ record w.home { head = n.home.head; attempt = n.home.attempt }
 
 -- at want of memory the home is as it was but for its head
 abbrev pub KeepsHome : Writing → Answer → Writing → Type 0

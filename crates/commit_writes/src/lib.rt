@@ -3,6 +3,7 @@
 #![tactic(auto)]
 
 mod pruning;
+mod routing;
 mod spelling;
 pub mod stage;
 pub mod writes;

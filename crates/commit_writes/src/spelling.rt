@@ -60,7 +60,11 @@ pub(crate) fn what_changes(alloc: Global, head: &Head) -> Result<Saved, AllocErr
 
 /// Makes the home's head the one that commits the records, and gives its bytes. After an `Err` the head may be either.
 #[tactic(auto, using(crate::proofs::Keeping::opened_spelled))]
-pub(crate) fn open_home(alloc: Global, home: &mut Home, records: &[AtomicRec]) -> Result<Blob, AllocError>
+pub(crate) fn open_home(
+    alloc: Global,
+    home: &mut Home,
+    records: &[AtomicRec],
+) -> Result<Blob, AllocError>
     requires some { 1 ≤ length records.now }
     requires few { length records.now ≤ 200 }
     requires placed { AllByRecursion HasPlace records.now }
@@ -75,7 +79,11 @@ pub(crate) fn open_home(alloc: Global, home: &mut Home, records: &[AtomicRec]) -
 
 /// Makes the home's head the one that settles the records, and gives its bytes. After an `Err` the head may be either.
 #[tactic(auto, using(crate::proofs::Keeping::settled_spelled))]
-pub(crate) fn settle_home(alloc: Global, home: &mut Home, records: &[AtomicRec]) -> Result<Blob, AllocError>
+pub(crate) fn settle_home(
+    alloc: Global,
+    home: &mut Home,
+    records: &[AtomicRec],
+) -> Result<Blob, AllocError>
     requires placed { AllByRecursion HasPlace records.now }
     ensures home { OnOk result (home.new ≡ with_head home.old (settled_head home.old.head records.now)) }
     ensures kept { home.new ≡ with_head home.old home.new.head }

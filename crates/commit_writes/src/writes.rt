@@ -7,6 +7,7 @@ ghost use Rattle.cloud_trait.specs.Machine.{LeadsBy, Took, Steps};
 ghost use Rattle.cloud_trait.specs.Weather.{Makes};
 
 use crate::pruning::{prune_home_leaf, prune_home_tree};
+use crate::routing::{first_leaves, records_of};
 use crate::spelling::{log_bytes, open_home, queue_bytes, settle_home, what_changes};
 use crate::stage::{Saved, Stage};
 use cloud_trait::answer::Answer;
@@ -16,9 +17,9 @@ use cloud_trait::perform::perform;
 use cloud_trait::turn::Turn;
 use cloud_trait::who::Who;
 use db_base::blob::Blob;
-use db_base::ids::{MsgId, TreeId};
+use db_base::ids::{MsgId, PageId, TreeId};
 use db_base::names::{ObjName, QueueName};
-use db_base::trouble::{CommitAnswer, Trouble};
+use db_base::trouble::{CommitAnswer, Counter, Trouble};
 use first_recover::home::Home;
 use head_codec::head::Head;
 use head_codec::lists::CounterList;
@@ -29,13 +30,15 @@ use route_plan::queue::queue_name;
 use std::alloc::Global;
 use std::marker::Model;
 use std::mem;
+use txn_buffer::buffer::TxnBuffer;
 
-/// A client's home with what a commit writes: the records go to the client's ATOMIC queue, the head is put open, the records go to
+/// A client's home and changes with what their commit writes: the records go to the client's ATOMIC queue, the head is put open, the records go to
 /// their pending update queues, the head is put settled, and the ATOMIC messages are deleted.
 #[derive(Drop)]
 pub struct CommitWrites {
     home: Home,
     before: Saved,
+    changes: TxnBuffer,
     stage: Stage,
     records: Vec<AtomicRec>,
     place: usize,
@@ -49,21 +52,22 @@ impl Model for CommitWrites {
 
     ghost Value = { Writing };
 
-    ghost view = { λ w. record { home = w.home; before = record { txn = w.before.txn; phase = w.before.phase; counters = w.before.counters.items }; stage = w.stage; records = w.records.items; place = w.place; ids = w.ids.items; out = w.out } };
+    ghost view = { λ w. record { home = w.home; before = record { txn = w.before.txn; phase = w.before.phase; counters = w.before.counters.items }; changes = w.changes; stage = w.stage; records = w.records.items; place = w.place; ids = w.ids.items; out = w.out } };
 
-    ghost invariant = { λ w. IsKept (record { home = w.home; before = record { txn = w.before.txn; phase = w.before.phase; counters = w.before.counters.items }; stage = w.stage; records = w.records.items; place = w.place; ids = w.ids.items; out = w.out }) };
+    ghost invariant = { λ w. IsKept (record { home = w.home; before = record { txn = w.before.txn; phase = w.before.phase; counters = w.before.counters.items }; changes = w.changes; stage = w.stage; records = w.records.items; place = w.place; ids = w.ids.items; out = w.out }) };
 }
 
 impl CommitWrites {
-    ghost use Rattle.commit_writes.specs.Writing.{Writing, waiting, begun, writing_ask, writing_next, log_at, opening, send_at, settling, delete_at, logged_by, opened_by, sent_by, settled_by, deleted_by, not_committed, left_open, closed_again, finished, KeepsHome, is_spent, numbered, pruned, opens_at};
+    ghost use Rattle.commit_writes.specs.Writing.{Writing, waiting, writing_ready, routing, begun, writing_ask, writing_next, log_at, opening, send_at, settling, delete_at, logged_by, opened_by, sent_by, settled_by, deleted_by, not_committed, left_open, closed_again, finished, KeepsHome, KeepsLease, is_spent, numbered, pruned, opens_at};
     ghost use Rattle.commit_writes.specs.Meaning.{Meant};
     ghost use Rattle.route_plan.specs.Prune.{pruned_by_leaf, pruned_by_tree};
     ghost use Rattle.commit_writes.specs.Ending.{calls_left};
     ghost use Rattle.commit_writes.specs.Sound.{IsSound};
 
-    /// A home of which nothing is written yet.
-    pub fn new(alloc: Global, home: Home) -> CommitWrites
-        ensures { result ≡ waiting home }
+    /// The commit of changes by a home, before its first write. Takes no memory.
+    pub fn new(alloc: Global, home: Home, changes: TxnBuffer) -> CommitWrites
+        requires { 1 ≤ length changes }
+        ensures { result ≡ waiting home changes }
     {
         let before = Saved {
             txn: home.head.txn,
@@ -73,6 +77,7 @@ impl CommitWrites {
         CommitWrites {
             home,
             before,
+            changes,
             stage: Stage::Waiting,
             records: Vec::new(alloc),
             place: 0,
@@ -86,6 +91,13 @@ impl CommitWrites {
         ensures { result ≡ self.home }
     {
         self.home
+    }
+
+    /// The changes that it commits.
+    pub fn changes(&self) -> &TxnBuffer
+        ensures { result.now ≡ self.now.changes }
+    {
+        &self.changes
     }
 
     /// The home, with the head as the put in hand makes it or an earlier one made it.
@@ -146,7 +158,12 @@ impl CommitWrites {
     {
         let atomic = QueueName::Atomic(self.home.client);
         let bytes = self.out.as_slice();
-        let put = Call::PutHeld(ObjName::Head(self.home.client), bytes, &self.home.lease, None);
+        let put = Call::PutHeld(
+            ObjName::Head(self.home.client),
+            bytes,
+            &self.home.lease,
+            None,
+        );
         match self.stage {
             Stage::Logging => Call::Send(atomic, bytes),
             Stage::Sending => match self.records.as_slice().get(self.place) {
@@ -164,8 +181,36 @@ impl CommitWrites {
         }
     }
 
-    /// Begins to write the records; the first send is in hand where it answers More.
-    pub fn begin(&mut self, alloc: Global, records: Vec<AtomicRec>) -> Turn<CommitAnswer>
+    /// Takes the next attempt number and writes the records, each change as if it had come to page 1; the first send is in hand
+    /// where it answers More. It is called once, before the first step, where the client makes no walks.
+    pub fn ready(&mut self, alloc: Global) -> Turn<CommitAnswer>
+        ensures { Took (λ w _ n. writing_ready w ≡ n) KeepsLease self.old Answer.Failed self.new result }
+    {
+        if !self.take_number() {
+            return self.not_committed(Trouble::Exhausted { what: Counter::Txn });
+        }
+        match first_leaves(alloc, self.changes.len()) {
+            Ok(leaves) => self.route(alloc, leaves.as_slice()),
+            Err(_) => Turn::Stopped(Trouble::Memory),
+        }
+    }
+
+    /// Writes the records of the changes, each with the leaf that it came to; the first send is in hand where it answers More.
+    pub fn route(&mut self, alloc: Global, leaves: &[PageId]) -> Turn<CommitAnswer>
+        requires leaves { length leaves.now ≡ length self.old.changes }
+        requires attempt { 1 ≤ self.old.home.attempt }
+        ensures took { Took (λ w _ n. routing w leaves.now ≡ n) KeepsHome self.old Answer.Failed self.new result }
+        ensures calls { result ≡ Turn.More → calls_left self.new ≡ 3 * length self.old.changes + length self.old.ids + 2 }
+    {
+        match records_of(alloc, &self.home, &self.changes, leaves) {
+            Ok(records) => self.begin(alloc, records),
+            Err(Trouble::Memory) => Turn::Stopped(Trouble::Memory),
+            Err(trouble) => self.not_committed(trouble),
+        }
+    }
+
+    /// Begins to write the records.
+    fn begin(&mut self, alloc: Global, records: Vec<AtomicRec>) -> Turn<CommitAnswer>
         requires some { 1 ≤ length records.items }
         requires few { length records.items ≤ 200 }
         requires placed { AllByRecursion HasPlace records.items }

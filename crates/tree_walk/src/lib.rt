@@ -1,0 +1,8 @@
+//! Walks down a tree, beside a cache, to the leaf whose range holds a key.
+#![tactic(auto)]
+
+mod spot;
+mod walk;
+
+pub use spot::Spot;
+pub use walk::Walk;

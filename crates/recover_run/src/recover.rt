@@ -1,0 +1,635 @@
+ghost use Rattle.std.specs.Prelude.{◌≡◌, ◌≤◌, ◌+◌, Ok, None, IfSome, IfNone, slice_get};
+ghost use Rattle.std.specs.List.{AllByRecursion};
+ghost use Rattle.head_codec.specs.declared.lists.Pending.{Pending};
+ghost use Rattle.head_codec.specs.Counters.{AreCounters};
+ghost use Rattle.head_codec.specs.Spelling.{HasSpelling, head_of};
+ghost use Rattle.cloud_trait.specs.Ask.{Release};
+ghost use Rattle.cloud_trait.specs.Call.{ask_of, Lends};
+ghost use Rattle.cloud_trait.specs.Machine.{LeadsBy, Took, Steps};
+ghost use Rattle.cloud_trait.specs.Weather.{Makes};
+ghost use Rattle.recover_run.specs.Kept.{AllPlaced};
+
+use crate::gathering::Gathering;
+use crate::home::Home;
+use crate::ids::IdSet;
+use crate::items::{AtomicItem, ItemFault, ids_of, items_of};
+use crate::sending::{add_pending, head_bytes, sent_bytes};
+use crate::stage::{Aim, RecoverAnswer, Stage};
+use crate::wanted::Wanted;
+use cloud_trait::answer::Answer;
+use cloud_trait::call::Call;
+use cloud_trait::cloud::Cloud;
+use cloud_trait::lease::Lease;
+use cloud_trait::message::{Message, MessageList};
+use cloud_trait::perform::{let_go, perform};
+use cloud_trait::turn::Turn;
+use cloud_trait::who::Who;
+use db_base::blob::Blob;
+use db_base::ids::{ClientId, MsgId};
+use db_base::names::{Lock, ObjName, Place, QueueName};
+use db_base::trouble::{Counter, Trouble};
+use head_codec::head::{Head, HeadFault, Phase};
+use route_plan::queue::queue_name;
+use std::alloc::Global;
+use std::collections::VecDeque;
+use std::marker::Model;
+
+/// How long a client's lease is given for, in ticks.
+pub const CLIENT_TICKS: u64 = 600;
+
+/// The most messages of one receive.
+pub const MAX_MESSAGES: u16 = 256;
+
+/// An opening or a settling of a client: under the client's lease its head is read; the records of an open one are gathered from the
+/// client's ATOMIC queue and sent on; the head is put in the next epoch; and what past epochs left in the queue is deleted.
+#[derive(Drop)]
+pub struct RecoverRun {
+    client: ClientId,
+    aim: Aim,
+    stage: Stage,
+    former: Option<Lease>,
+    lease: Option<Lease>,
+    wanted: Wanted,
+    head: Head,
+    gathering: Gathering,
+    ids: VecDeque<MsgId>,
+    sent: usize,
+    swept: IdSet,
+    out: Blob,
+    ending: Option<Result<RecoverAnswer, Trouble>>,
+}
+
+impl Model for RecoverRun {
+    ghost use Rattle.recover_run.specs.Recovery.{Recovery, IsSound};
+
+    ghost Value = { Recovery };
+
+    ghost view = { λ r. record {
+      client = r.client;
+      aim = r.aim;
+      stage = r.stage;
+      former = r.former;
+      lease = r.lease;
+      wanted = r.wanted;
+      head = r.head;
+      gathered = r.gathering;
+      ids = r.ids.items;
+      sent = r.sent;
+      swept = r.swept;
+      out = r.out;
+      ending = r.ending;
+    } };
+
+    ghost invariant = { λ r. IsSound (record {
+      client = r.client;
+      aim = r.aim;
+      stage = r.stage;
+      former = r.former;
+      lease = r.lease;
+      wanted = r.wanted;
+      head = r.head;
+      gathered = r.gathering;
+      ids = r.ids.items;
+      sent = r.sent;
+      swept = r.swept;
+      out = r.out;
+      ending = r.ending;
+    }) };
+}
+
+impl RecoverRun {
+    ghost use Rattle.recover_run.specs.Recovery.{Recovery, new_recovery, recovery_ask, recovery_next, handed_over, SameLeases, KeepsLeases, IsSound, home_of, releasing, stopping, old_released, taken_by, got_by, head_read, bytes_read, none_read, phase_read, putting, send_at, decided, next_deletion, gathered_by, received_by, deleted_by, sent_by, next_clearing, put_by, clearing_kept, cleared, opened, swept_by, swept_with, released, damaged_message, next_sweep, with_pending, delete_next, send_next, take_lease};
+    ghost use Rattle.recover_run.specs.Items.{items_of};
+
+    /// The recovery of a client. A lease that is handed in is given back first. Takes no memory.
+    pub fn new(alloc: Global, client: ClientId, aim: Aim, old: Option<Lease>) -> RecoverRun
+        ensures { result ≡ new_recovery client aim old }
+    {
+        let head = Head::empty(alloc);
+        RecoverRun {
+            client,
+            aim,
+            stage: match old {
+                Some(_) => Stage::ReleasingOld,
+                None => Stage::Taking,
+            },
+            former: old,
+            lease: None,
+            wanted: Wanted::of(&head),
+            head,
+            gathering: Gathering::new(alloc),
+            ids: VecDeque::new(alloc),
+            sent: 0,
+            swept: IdSet::new(alloc),
+            out: Blob::new(alloc),
+            ending: None,
+        }
+    }
+
+    // ---- the call in hand
+
+    fn queue(&self) -> QueueName
+        ensures { result ≡ QueueName.Atomic self.now.client }
+    {
+        QueueName::Atomic(self.client)
+    }
+
+    fn take_call(&self) -> Call<'_>
+        ensures { ask_of result ≡ take_lease self.now }
+    {
+        Call::Take(Lock::Client(self.client), CLIENT_TICKS)
+    }
+
+    fn delete_call(&self) -> Call<'_>
+        ensures { ask_of result ≡ delete_next self.now self.now.ids }
+    {
+        match self.ids.front() {
+            Some(id) => Call::Delete(self.queue(), *id),
+            None => self.take_call(),
+        }
+    }
+
+    fn send_call(&self) -> Call<'_>
+        ensures { ask_of result ≡ send_next self.now (slice_get self.now.gathered.kept self.now.sent) }
+    {
+        match self.gathering.kept().get(self.sent) {
+            Some(item) => Call::Send(
+                queue_name(item.rec.tree, item.rec.page),
+                self.out.as_slice(),
+            ),
+            None => self.take_call(),
+        }
+    }
+
+    /// The service call that the next step makes.
+    pub fn in_hand(&self) -> Call<'_>
+        ensures { ask_of result ≡ recovery_ask self.now }
+    {
+        let head = ObjName::Head(self.client);
+        match (self.stage, &self.former, &self.lease) {
+            (Stage::ReleasingOld, Some(former), _) => Call::Release(former),
+            (Stage::Getting, _, Some(lease)) => Call::GetHeld(head, lease),
+            (Stage::Receiving, _, _) => Call::Receive(self.queue(), MAX_MESSAGES),
+            (Stage::Deleting, _, _) => self.delete_call(),
+            (Stage::Sending, _, _) => self.send_call(),
+            (Stage::Putting, _, Some(lease)) => {
+                Call::PutHeld(head, self.out.as_slice(), lease, None)
+            }
+            (Stage::Clearing, _, _) => self.delete_call(),
+            (Stage::Sweeping, _, _) => Call::Receive(self.queue(), MAX_MESSAGES),
+            (Stage::Releasing, _, Some(lease)) => Call::Release(lease),
+            _ => self.take_call(),
+        }
+    }
+
+    /// The lease that the call in hand gives back, where it gives one back.
+    fn leaving(&mut self) -> Option<Lease>
+        ensures lease { IfSome result (λ l. recovery_ask self.old ≡ Release l) }
+        ensures none { IfNone result (Lends (recovery_ask self.new)) }
+        ensures same { IfNone result (recovery_ask self.new ≡ recovery_ask self.old) }
+        ensures left { self.new ≡ handed_over self.old }
+    {
+        match self.stage {
+            Stage::ReleasingOld => self.former.take(),
+            Stage::Releasing => self.lease.take(),
+            _ => None,
+        }
+    }
+
+    /// Makes the call in hand; a release hands its lease out.
+    fn call<C: Cloud>(&mut self, cloud: &mut C, who: Who) -> Answer
+        ensures made { Makes who (recovery_ask self.old) result (C.seen cloud.old) (C.seen cloud.new) }
+        ensures left { self.new ≡ handed_over self.old }
+    {
+        match self.leaving() {
+            Some(lease) => let_go(cloud, who, lease),
+            None => perform(cloud, who, &self.in_hand()),
+        }
+    }
+
+    // ---- the lease
+
+    /// Gives the lease back next, and then ends or stops so.
+    fn releasing(&mut self, ending: Result<RecoverAnswer, Trouble>) -> Turn<RecoverAnswer>
+        ensures { Took (λ r _ n. releasing r ending ≡ n) SameLeases self.old Answer.Failed self.new result }
+    {
+        self.stage = Stage::Releasing;
+        self.ending = Some(ending);
+        Turn::More
+    }
+
+    fn stop(&mut self, trouble: Trouble) -> Turn<RecoverAnswer>
+        ensures { Took (λ r _ n. stopping r trouble ≡ n) SameLeases self.old Answer.Failed self.new result }
+    {
+        self.releasing(Err(trouble))
+    }
+
+    fn old_released(&mut self) -> Turn<RecoverAnswer>
+        ensures { Took (λ r _ n. old_released r ≡ n) SameLeases self.old Answer.Failed self.new result }
+    {
+        self.stage = Stage::Taking;
+        self.former = None;
+        Turn::More
+    }
+
+    fn taken(&mut self, given: Result<Lease, Trouble>) -> Turn<RecoverAnswer>
+        ensures { Took (λ r _ n. taken_by r given ≡ n) SameLeases self.old Answer.Failed self.new result }
+    {
+        match given {
+            Ok(lease) => {
+                self.stage = Stage::Getting;
+                self.lease = Some(lease);
+                Turn::More
+            }
+            Err(trouble) => Turn::Stopped(trouble),
+        }
+    }
+
+    fn released(&mut self) -> Turn<RecoverAnswer>
+        requires { self.old.stage ≡ Stage.Releasing }
+        ensures { Took (λ r _ n. released r ≡ n) KeepsLeases self.old Answer.Failed self.new result }
+    {
+        self.stage = Stage::Finished;
+        self.lease = None;
+        match self.ending.take() {
+            Some(Ok(answer)) => Turn::Ended(answer),
+            Some(Err(trouble)) => Turn::Stopped(trouble),
+            None => Turn::Stopped(Trouble::Failed),
+        }
+    }
+
+    // ---- the head
+
+    fn got(&mut self, alloc: Global, got: Result<Option<Blob>, Trouble>) -> Turn<RecoverAnswer>
+        ensures { Took (λ r _ n. got_by r got ≡ n) SameLeases self.old Answer.Failed self.new result }
+    {
+        match got {
+            Ok(None) => self.got_none(alloc),
+            Ok(Some(bytes)) => self.got_bytes(alloc, bytes.as_slice()),
+            Err(trouble) => self.stop(trouble),
+        }
+    }
+
+    fn got_none(&mut self, alloc: Global) -> Turn<RecoverAnswer>
+        ensures { Took (λ r _ n. none_read r.aim r ≡ n) SameLeases self.old Answer.Failed self.new result }
+    {
+        match self.aim {
+            Aim::Opening => self.read(alloc, Head::empty(alloc)),
+            Aim::Settling => self.releasing(Ok(RecoverAnswer::Nothing)),
+        }
+    }
+
+    fn got_bytes(&mut self, alloc: Global, bytes: &[u8]) -> Turn<RecoverAnswer>
+        ensures { Took (λ r _ n. bytes_read r bytes.now (head_of bytes.now) ≡ n) SameLeases self.old Answer.Failed self.new result }
+    {
+        match Head::read(alloc, bytes) {
+            Ok(head) => self.read(alloc, head),
+            Err(HeadFault::NotHead { offset }) => self.stop(Trouble::Damaged {
+                place: Place::Object(ObjName::Head(self.client)),
+                offset,
+            }),
+            Err(_) => Turn::Stopped(Trouble::Memory),
+        }
+    }
+
+    /// Keeps what the head wants, and begins the epoch behind it.
+    fn read(&mut self, alloc: Global, mut head: Head) -> Turn<RecoverAnswer>
+        requires counters { AreCounters None head.counters }
+        requires pending { AllByRecursion (λ (p : Pending). 1 ≤ p.number) head.pending }
+        ensures { Took (λ r _ n. head_read r head ≡ n) SameLeases self.old Answer.Failed self.new result }
+    {
+        let wanted = Wanted::of(&head);
+        let phase = head.phase;
+        if head.next_epoch().is_err() {
+            return self.stop(Trouble::Exhausted {
+                what: Counter::Epoch,
+            });
+        }
+        self.stage = Stage::Receiving;
+        self.wanted = wanted;
+        self.head = head;
+        match phase {
+            Phase::Settled => self.putting(alloc, self.sent),
+            Phase::Open(_) => Turn::More,
+        }
+    }
+
+    /// Puts the head of the next epoch next, with so many records sent.
+    fn putting(&mut self, alloc: Global, sent: usize) -> Turn<RecoverAnswer>
+        requires { HasSpelling self.old.head }
+        ensures { Took (λ r _ n. putting (record r { sent = sent }) ≡ n) SameLeases self.old Answer.Failed self.new result }
+    {
+        match head_bytes(alloc, &self.head) {
+            Ok(out) => {
+                self.stage = Stage::Putting;
+                self.sent = sent;
+                self.out = out;
+                Turn::More
+            }
+            Err(_) => Turn::Stopped(Trouble::Memory),
+        }
+    }
+
+    // ---- the records of an open head
+
+    fn received(
+        &mut self,
+        alloc: Global,
+        received: Result<MessageList, Trouble>,
+    ) -> Turn<RecoverAnswer>
+        requires { HasSpelling self.old.head }
+        ensures { Took (λ r _ n. received_by r received ≡ n) SameLeases self.old Answer.Failed self.new result }
+    {
+        match received {
+            Ok(messages) => self.gather(alloc, messages.as_slice()),
+            Err(trouble) => self.stop(trouble),
+        }
+    }
+
+    fn gather(&mut self, alloc: Global, messages: &[Message]) -> Turn<RecoverAnswer>
+        requires { HasSpelling self.old.head }
+        ensures { Took (λ r _ n. gathered_by r (items_of messages.now) ≡ n) SameLeases self.old Answer.Failed self.new result }
+    {
+        match items_of(alloc, &self.queue(), messages) {
+            Ok(items) => self.gather_items(alloc, items),
+            Err(ItemFault::NotRecord(trouble)) => self.stop(trouble),
+            Err(ItemFault::Memory) => Turn::Stopped(Trouble::Memory),
+        }
+    }
+
+    fn gather_items(&mut self, alloc: Global, items: Vec<AtomicItem>) -> Turn<RecoverAnswer>
+        requires spelled { HasSpelling self.old.head }
+        requires placed { AllPlaced items.items }
+        ensures { Took (λ r _ n. gathered_by r (Ok items.items) ≡ n) SameLeases self.old Answer.Failed self.new result }
+    {
+        self.stage = Stage::Receiving;
+        match self.gathering.add(alloc, self.wanted, items) {
+            Ok(ids) => {
+                self.ids = ids;
+                self.delete_next(alloc)
+            }
+            Err(_) => Turn::Stopped(Trouble::Memory),
+        }
+    }
+
+    /// Deletes the next lost record next, or decides where there is none.
+    fn delete_next(&mut self, alloc: Global) -> Turn<RecoverAnswer>
+        requires { HasSpelling self.old.head }
+        ensures { Took (λ r _ n. next_deletion r r.ids ≡ n) SameLeases self.old Answer.Failed self.new result }
+    {
+        if self.ids.is_empty() {
+            return self.decide(alloc);
+        }
+        self.stage = Stage::Deleting;
+        Turn::More
+    }
+
+    fn deleted(&mut self, alloc: Global, done: Result<(), Trouble>) -> Turn<RecoverAnswer>
+        requires { HasSpelling self.old.head }
+        ensures { Took (λ r _ n. deleted_by r done ≡ n) SameLeases self.old Answer.Failed self.new result }
+    {
+        match done {
+            Ok(()) => {
+                let _ = self.ids.pop_front();
+                self.delete_next(alloc)
+            }
+            Err(trouble) => self.stop(trouble),
+        }
+    }
+
+    /// Sends on what is kept where that is all, receives again where the newest receive brought something new, and stops else.
+    fn decide(&mut self, alloc: Global) -> Turn<RecoverAnswer>
+        requires { HasSpelling self.old.head }
+        ensures { Took (λ r _ n. decided r ≡ n) SameLeases self.old Answer.Failed self.new result }
+    {
+        let have = self.gathering.have();
+        if have == usize::from(self.wanted.count) {
+            return self.send_at(alloc, 0);
+        }
+        if self.gathering.is_fresh() {
+            self.stage = Stage::Receiving;
+            return Turn::More;
+        }
+        self.stop(Trouble::Waiting {
+            have: have as u64,
+            need: u64::from(self.wanted.count),
+        })
+    }
+
+    /// Sends the kept record at a place next, or puts the head where all are sent.
+    fn send_at(&mut self, alloc: Global, place: usize) -> Turn<RecoverAnswer>
+        requires { HasSpelling self.old.head }
+        ensures { Took (λ r _ n. send_at r place ≡ n) SameLeases self.old Answer.Failed self.new result }
+    {
+        match self.gathering.kept().get(place) {
+            Some(item) => match sent_bytes(alloc, &item.rec) {
+                Ok(out) => {
+                    self.stage = Stage::Sending;
+                    self.sent = place;
+                    self.out = out;
+                    Turn::More
+                }
+                Err(_) => Turn::Stopped(Trouble::Memory),
+            },
+            None => self.putting(alloc, place),
+        }
+    }
+
+    fn sent(&mut self, alloc: Global, sent: Result<MsgId, Trouble>) -> Turn<RecoverAnswer>
+        requires { self.old.stage ≡ Stage.Sending }
+        ensures { Took (λ r _ n. sent_by r sent ≡ n) SameLeases self.old Answer.Failed self.new result }
+    {
+        match sent {
+            Ok(_) => self.pass_record(alloc),
+            Err(trouble) => self.stop(trouble),
+        }
+    }
+
+    /// Makes the record that was sent pending, and goes on behind it.
+    fn pass_record(&mut self, alloc: Global) -> Turn<RecoverAnswer>
+        requires { self.old.stage ≡ Stage.Sending }
+        ensures { Took (λ r _ n. send_at (with_pending r (slice_get r.gathered.kept r.sent)) (r.sent + 1) ≡ n) SameLeases self.old Answer.Failed self.new result }
+    {
+        let Some(next) = self.sent.checked_add(1) else {
+            return Turn::Stopped(Trouble::Memory);
+        };
+        let Some(item) = self.gathering.kept().get(self.sent) else {
+            return self.send_at(alloc, next);
+        };
+        match add_pending(alloc, &mut self.head, &item.rec) {
+            Ok(()) => self.send_at(alloc, next),
+            Err(_) => Turn::Stopped(Trouble::Memory),
+        }
+    }
+
+    // ---- behind the put
+
+    fn put(&mut self, alloc: Global, done: Result<(), Trouble>) -> Turn<RecoverAnswer>
+        requires { HasSpelling self.old.head }
+        ensures { Took (λ r _ n. put_by r done ≡ n) SameLeases self.old Answer.Failed self.new result }
+    {
+        match done {
+            Ok(()) => self.clear_kept(alloc),
+            Err(trouble) => self.stop(trouble),
+        }
+    }
+
+    /// Deletes the messages of the kept records next.
+    fn clear_kept(&mut self, alloc: Global) -> Turn<RecoverAnswer>
+        requires { HasSpelling self.old.head }
+        ensures { Took (λ r _ n. clearing_kept r ≡ n) SameLeases self.old Answer.Failed self.new result }
+    {
+        let Ok(kept) = ids_of(alloc, self.gathering.kept()) else {
+            return Turn::Stopped(Trouble::Memory);
+        };
+        let mut swept = IdSet::new(alloc);
+        match swept.add_all(alloc, kept.as_slice()) {
+            Ok(ids) => {
+                self.swept = swept;
+                self.ids = ids;
+                self.clear_next()
+            }
+            Err(_) => Turn::Stopped(Trouble::Memory),
+        }
+    }
+
+    /// Deletes the next message next, or receives again where there is none.
+    fn clear_next(&mut self) -> Turn<RecoverAnswer>
+        requires { HasSpelling self.old.head }
+        ensures { Took (λ r _ n. next_clearing r r.ids ≡ n) SameLeases self.old Answer.Failed self.new result }
+    {
+        self.stage = if self.ids.is_empty() {
+            Stage::Sweeping
+        } else {
+            Stage::Clearing
+        };
+        Turn::More
+    }
+
+    fn cleared(&mut self) -> Turn<RecoverAnswer>
+        requires { HasSpelling self.old.head }
+        ensures { Took (λ r _ n. cleared r ≡ n) SameLeases self.old Answer.Failed self.new result }
+    {
+        let _ = self.ids.pop_front();
+        self.clear_next()
+    }
+
+    fn swept(
+        &mut self,
+        alloc: Global,
+        received: Result<MessageList, Trouble>,
+    ) -> Turn<RecoverAnswer>
+        requires { HasSpelling self.old.head }
+        ensures { Took (λ r _ n. swept_by r received ≡ n) SameLeases self.old Answer.Failed self.new result }
+    {
+        match received {
+            Ok(messages) => self.sweep(alloc, messages.as_slice()),
+            Err(trouble) => self.stop(trouble),
+        }
+    }
+
+    fn sweep(&mut self, alloc: Global, messages: &[Message]) -> Turn<RecoverAnswer>
+        requires { HasSpelling self.old.head }
+        ensures { Took (λ r _ n. swept_with r (items_of messages.now) ≡ n) SameLeases self.old Answer.Failed self.new result }
+    {
+        match items_of(alloc, &self.queue(), messages) {
+            Ok(items) => self.sweep_items(alloc, items.as_slice()),
+            Err(ItemFault::NotRecord(trouble)) => self.stop(trouble),
+            Err(ItemFault::Memory) => Turn::Stopped(Trouble::Memory),
+        }
+    }
+
+    /// Deletes the messages of past epochs that are new next; where there is none, the client is open.
+    fn sweep_items(&mut self, alloc: Global, items: &[AtomicItem]) -> Turn<RecoverAnswer>
+        requires { HasSpelling self.old.head }
+        ensures { Took (λ r _ n. swept_with r (Ok items.now) ≡ n) SameLeases self.old Answer.Failed self.new result }
+    {
+        let Ok(past) = self.wanted.past_ids(alloc, items) else {
+            return Turn::Stopped(Trouble::Memory);
+        };
+        match self.swept.add_all(alloc, past.as_slice()) {
+            Ok(ids) => {
+                self.ids = ids;
+                self.sweep_next()
+            }
+            Err(_) => Turn::Stopped(Trouble::Memory),
+        }
+    }
+
+    fn sweep_next(&mut self) -> Turn<RecoverAnswer>
+        requires { HasSpelling self.old.head }
+        ensures { Took (λ r _ n. next_sweep r r.ids ≡ n) SameLeases self.old Answer.Failed self.new result }
+    {
+        if self.ids.is_empty() {
+            return self.opened();
+        }
+        self.stage = Stage::Clearing;
+        Turn::More
+    }
+
+    /// An opening keeps the lease; a settling gives it back.
+    fn opened(&mut self) -> Turn<RecoverAnswer>
+        requires { HasSpelling self.old.head }
+        ensures { Took (λ r _ n. opened r.aim r ≡ n) SameLeases self.old Answer.Failed self.new result }
+    {
+        let answer = RecoverAnswer::Opened {
+            epoch: self.head.epoch,
+        };
+        match self.aim {
+            Aim::Opening => {
+                self.stage = Stage::Finished;
+                Turn::Ended(answer)
+            }
+            Aim::Settling => self.releasing(Ok(answer)),
+        }
+    }
+
+    // ---- the step
+
+    /// Takes the answer of the call in hand. A lease that the call gave back has left.
+    fn absorb(&mut self, alloc: Global, answer: Answer) -> Turn<RecoverAnswer>
+        requires { KeepsLeases self.old answer self.old }
+        ensures { Took (LeadsBy recovery_next) KeepsLeases self.old answer self.new result }
+    {
+        match (self.stage, answer) {
+            (_, Answer::Memory) => Turn::Stopped(Trouble::Memory),
+            (Stage::ReleasingOld, _) => self.old_released(),
+            (Stage::Taking, answer) => self.taken(answer.given(Lock::Client(self.client))),
+            (Stage::Getting, answer) => self.got(alloc, answer.got()),
+            (Stage::Receiving, answer) => self.received(alloc, answer.received()),
+            (Stage::Deleting, answer) => self.deleted(alloc, answer.done()),
+            (Stage::Sending, answer) => self.sent(alloc, answer.sent()),
+            (Stage::Putting, answer) => self.put(alloc, answer.done()),
+            (Stage::Clearing, _) => self.cleared(),
+            (Stage::Sweeping, answer) => self.swept(alloc, answer.received()),
+            (Stage::Releasing, _) => self.released(),
+            (Stage::Finished, _) => Turn::Stopped(Trouble::Failed),
+        }
+    }
+
+    /// Makes the call in hand, and does the local work up to the next one.
+    pub fn step<C: Cloud>(&mut self, alloc: Global, cloud: &mut C, who: Who) -> Turn<RecoverAnswer>
+        ensures steps { Steps recovery_ask (LeadsBy recovery_next) KeepsLeases who (C.seen cloud.old) (C.seen cloud.new) self.old self.new result }
+        ensures sound { IsSound self.old }
+    {
+        // Read for the clause `sound`.
+        let _ = &self.stage;
+        let answer = self.call(cloud, who);
+        self.absorb(alloc, answer)
+    }
+
+    /// What the session has in hand after Opened in an opening; none before, and none after a settling.
+    pub fn finish(self) -> Option<Home>
+        ensures { result ≡ home_of self }
+    {
+        match (self.stage, self.lease) {
+            (Stage::Finished, Some(lease)) => Some(Home {
+                client: self.client,
+                lease,
+                head: self.head,
+                attempt: 0,
+            }),
+            _ => None,
+        }
+    }
+}

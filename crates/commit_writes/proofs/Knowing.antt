@@ -11,7 +11,7 @@ use Rattle.log_codec.specs.Pu.{pu_bytes}
 use Rattle.route_plan.specs.Record.{pu_record_of}
 use Rattle.cloud_trait.specs.declared.answer.Answer.{Answer}
 use Rattle.cloud_trait.specs.Machine.{Next, Goes, Ends, Stops}
-use Rattle.first_recover.specs.declared.home.Home.{Home}
+use Rattle.recover_run.specs.declared.home.Home.{Home}
 use Rattle.commit_writes.specs.declared.stage.Stage.{Stage}
 use Rattle.commit_writes.specs.declared.stage.Stage.TheVariants.{Waiting, Logging, Opening, Sending, Settling, Deleting, Finished}
 use Rattle.commit_writes.specs.Writing.{Writing, with_head, before_of}

@@ -11,7 +11,7 @@ use Rattle.log_codec.specs.declared.record.AtomicRec.{AtomicRec}
 use Rattle.txn_buffer.specs.Noted.{Noted}
 use Rattle.route_plan.specs.Route.{AllFit, PassesGreatest}
 use Rattle.route_plan.proofs.CommitLaws.{HasPlace-routed, length-routed}
-use Rattle.first_recover.specs.declared.home.Home.{Home}
+use Rattle.recover_run.specs.declared.home.Home.{Home}
 use Rattle.commit_writes.specs.Writing.{routed_of, passes}
 
 -- there is a record for each change

@@ -14,7 +14,7 @@ use Rattle.cloud_trait.specs.declared.answer.Answer.{Answer}
 use Rattle.cloud_trait.specs.declared.answer.Answer.TheVariants.{Sent, Done}
 use Rattle.cloud_trait.specs.Ask.{Ask, PutHeld, Send, Delete}
 use Rattle.cloud_trait.specs.Machine.{Deed}
-use Rattle.first_recover.specs.declared.home.Home.{Home}
+use Rattle.recover_run.specs.declared.home.Home.{Home}
 
 -- what calls asked and answered
 abbrev pub Calls : Type 0

@@ -14,7 +14,7 @@ use Rattle.cloud_trait.specs.Caller.{Caller}
 use Rattle.cloud_trait.specs.Seen.{Seen}
 use Rattle.cloud_trait.specs.Weather.{Makes}
 use Rattle.cloud_trait.specs.Machine.{Goes, LeadsBy, Came, Deed}
-use Rattle.first_recover.specs.declared.home.Home.{Home}
+use Rattle.recover_run.specs.declared.home.Home.{Home}
 use Rattle.commit_writes.specs.Writing.{Writing, with_head, waiting, begun, writing_ask, writing_next}
 use Rattle.commit_writes.specs.Calls.{Calls, told, log_of, logged_calls, post_of, put_of, deleted_calls, opened_of, settled_of, all_logged, all_posted, all_settled}
 

@@ -24,7 +24,7 @@ use Rattle.cloud_trait.specs.declared.answer.Answer.{Answer}
 use Rattle.cloud_trait.specs.Ask.{Ask, PutHeld, Send, Delete}
 use Rattle.cloud_trait.specs.Machine.{Next, Goes, Ends, Stops}
 use Rattle.cloud_trait.specs.Views.{sent_of, done_of}
-use Rattle.first_recover.specs.declared.home.Home.{Home}
+use Rattle.recover_run.specs.declared.home.Home.{Home}
 use Rattle.commit_writes.specs.declared.stage.Stage.{Stage}
 use Rattle.commit_writes.specs.declared.stage.Stage.TheVariants.{Waiting, Logging, Opening, Sending, Settling, Deleting, Finished}
 

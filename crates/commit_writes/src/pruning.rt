@@ -5,7 +5,7 @@ ghost use Rattle.route_plan.specs.Prune.{pruned_by_leaf, pruned_by_tree};
 ghost use Rattle.commit_writes.specs.Writing.{with_head};
 
 use db_base::ids::TreeId;
-use first_recover::home::Home;
+use recover_run::home::Home;
 use leaf_view::LeafView;
 use node_codec::TreeView;
 use route_plan::prune::{prune_leaf, prune_tree};

@@ -8,7 +8,7 @@ ghost use Rattle.commit_writes.specs.Writing.{routed_of, passes};
 
 use db_base::ids::PageId;
 use db_base::trouble::{Counter, Trouble};
-use first_recover::home::Home;
+use recover_run::home::Home;
 use log_codec::record::AtomicRec;
 use route_plan::route::route;
 use std::alloc::{AllocError, Global};

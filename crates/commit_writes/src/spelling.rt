@@ -12,7 +12,7 @@ ghost use Rattle.commit_writes.specs.Writing.{with_head};
 
 use crate::stage::Saved;
 use db_base::blob::Blob;
-use first_recover::home::Home;
+use recover_run::home::Home;
 use head_codec::head::Head;
 use log_codec::record::AtomicRec;
 use route_plan::heads::{open_head, settle_head};

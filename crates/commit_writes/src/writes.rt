@@ -20,7 +20,7 @@ use db_base::blob::Blob;
 use db_base::ids::{MsgId, PageId, TreeId};
 use db_base::names::{ObjName, QueueName};
 use db_base::trouble::{CommitAnswer, Counter, Trouble};
-use first_recover::home::Home;
+use recover_run::home::Home;
 use head_codec::head::Head;
 use head_codec::lists::CounterList;
 use leaf_view::LeafView;

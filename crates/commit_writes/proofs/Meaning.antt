@@ -349,6 +349,6 @@ step_means h rs cs old new a turn k fits stops took = ample_means h rs cs old ne
 
 -- what a step of the code means by the whole run
 pub came_means : (old new : Writing) (a : Answer) (turn : Turn CommitAnswer) → Fits (writing_ask old) a → (a ≡ Memory → turn ≡ Stopped trouble.Memory)
-    → Took (LeadsBy writing_next) KeepsHome old a new turn → (h : Home) (rs : List AtomicRec) (start : Writing) (ds : List Deed) → begun (waiting h old.changes) rs ≡ Goes start
+    → Took (LeadsBy writing_next) KeepsHome old a new turn → (h : Home) (changes : List Noted) (rs : List AtomicRec) (start : Writing) (ds : List Deed) → begun (waiting h changes) rs ≡ Goes start
     → Came writing_ask (LeadsBy writing_next) start ds old → MeansTurn h rs (told ds ++ (writing_ask old, a) ∷ []) new.home turn
-came_means old new a turn fits stops took h rs start ds goes came = step_means h rs (told ds) old new a turn (came_knows h old.changes rs start goes ds old came) fits stops took
+came_means old new a turn fits stops took h changes rs start ds goes came = step_means h rs (told ds) old new a turn (came_knows h changes rs start goes ds old came) fits stops took

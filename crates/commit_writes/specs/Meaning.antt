@@ -14,6 +14,7 @@ use Rattle.cloud_trait.specs.Caller.{Caller}
 use Rattle.cloud_trait.specs.Seen.{Seen}
 use Rattle.cloud_trait.specs.Weather.{Makes}
 use Rattle.cloud_trait.specs.Machine.{Goes, LeadsBy, Came, Deed}
+use Rattle.txn_buffer.specs.Noted.{Noted}
 use Rattle.recover_run.specs.declared.home.Home.{Home}
 use Rattle.commit_writes.specs.Writing.{Writing, with_head, waiting, begun, writing_ask, writing_next}
 use Rattle.commit_writes.specs.Calls.{Calls, told, log_of, logged_calls, post_of, put_of, deleted_calls, opened_of, settled_of, all_logged, all_posted, all_settled}
@@ -100,5 +101,5 @@ MeansTurn home records calls left (Stopped t) = t ≡ trouble.Memory
 pub record Meant (who : Caller) (before after : Seen) (old new : Writing) (turn : Turn CommitAnswer) : Type 0 where
   pub answer : Answer
   pub made : Makes who (writing_ask old) answer before after
-  pub means : (home : Home) (records : List AtomicRec) (start : Writing) (h : List Deed) → begun (waiting home old.changes) records ≡ Goes start
+  pub means : (home : Home) (changes : List Noted) (records : List AtomicRec) (start : Writing) (h : List Deed) → begun (waiting home changes) records ≡ Goes start
       → Came writing_ask (LeadsBy writing_next) start h old → MeansTurn home records (told h ++ (writing_ask old, answer) ∷ []) new.home turn

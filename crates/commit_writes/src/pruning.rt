@@ -1,0 +1,29 @@
+//! What a home no longer has to keep.
+
+ghost use Rattle.std.specs.Prelude.{◌≡◌};
+ghost use Rattle.route_plan.specs.Prune.{pruned_by_leaf, pruned_by_tree};
+ghost use Rattle.commit_writes.specs.Writing.{with_head};
+
+use db_base::ids::TreeId;
+use recover_run::home::Home;
+use leaf_view::LeafView;
+use node_codec::TreeView;
+use route_plan::prune::{prune_leaf, prune_tree};
+
+/// Removes the pending entries of the home's head that a leaf of a tree shows to be applied.
+#[tactic(auto, using(crate::proofs::Keeping::leaf_pruned_spelled))]
+pub(crate) fn prune_home_leaf(home: &mut Home, tree: TreeId, view: &LeafView<'_>)
+    ensures { home.new ≡ with_head home.old (pruned_by_leaf home.old.head home.old.client tree view.now) }
+{
+    let client = home.client;
+    prune_leaf(&mut home.head, client, tree, view);
+}
+
+/// Removes the pending entries of the home's head that a tree object shows to be applied.
+#[tactic(auto, using(crate::proofs::Keeping::tree_pruned_spelled))]
+pub(crate) fn prune_home_tree(home: &mut Home, tree: TreeId, view: &TreeView<'_>)
+    ensures { home.new ≡ with_head home.old (pruned_by_tree home.old.head home.old.client tree view.now) }
+{
+    let client = home.client;
+    prune_tree(&mut home.head, client, tree, view);
+}

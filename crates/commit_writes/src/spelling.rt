@@ -1,0 +1,107 @@
+//! The bytes of what a commit sends and puts.
+
+ghost use Rattle.std.specs.Prelude.{◌≡◌, ◌≤◌, length, Some, IfOk, OnOk};
+ghost use Rattle.std.specs.List.{AllByRecursion};
+ghost use Rattle.head_codec.specs.Spelling.{HasSpelling, head_bytes, head_of};
+ghost use Rattle.log_codec.specs.Atomic.{HasPlace, atomic_bytes, atomic_of};
+ghost use Rattle.log_codec.specs.Pu.{pu_bytes, pu_of};
+ghost use Rattle.log_codec.specs.declared.record.AtomicRec.{AtomicRec};
+ghost use Rattle.route_plan.specs.Heads.{opened_head, settled_head};
+ghost use Rattle.route_plan.specs.Record.{pu_record_of};
+ghost use Rattle.commit_writes.specs.Writing.{with_head};
+
+use crate::stage::Saved;
+use db_base::blob::Blob;
+use recover_run::home::Home;
+use head_codec::head::Head;
+use log_codec::record::AtomicRec;
+use route_plan::heads::{open_head, settle_head};
+use route_plan::record::pu_of_record;
+use std::alloc::{AllocError, Global};
+
+/// The bytes of a record as it stands in the ATOMIC queue.
+pub(crate) fn log_bytes(alloc: Global, record: &AtomicRec) -> Result<Blob, AllocError>
+    requires { HasPlace «record».now }
+    ensures bytes { IfOk result (λ b. b ≡ atomic_bytes «record».now) }
+    ensures decoded { IfOk result (λ b. atomic_of b ≡ Some «record».now) }
+{
+    match record.write(alloc) {
+        Ok(out) => Ok(out),
+        Err(_) => Err(AllocError),
+    }
+}
+
+/// The bytes of a record as it stands in its pending update queue.
+pub(crate) fn queue_bytes(alloc: Global, sent: &AtomicRec) -> Result<Blob, AllocError>
+    requires { HasPlace sent.now }
+    ensures bytes { IfOk result (λ b. b ≡ pu_bytes (pu_record_of sent.now)) }
+    ensures decoded { IfOk result (λ b. pu_of b ≡ Some (pu_record_of sent.now)) }
+{
+    let record = pu_of_record(alloc, sent)?;
+    match record.write(alloc) {
+        Ok(out) => Ok(out),
+        Err(_) => Err(AllocError),
+    }
+}
+
+/// What the put that commits changes in a head.
+pub(crate) fn what_changes(alloc: Global, head: &Head) -> Result<Saved, AllocError>
+    ensures txn { IfOk result (λ b. b.txn ≡ head.now.txn) }
+    ensures phase { IfOk result (λ b. b.phase ≡ head.now.phase) }
+    ensures counters { IfOk result (λ b. b.counters.items ≡ head.now.counters) }
+{
+    let counters = Vec::from_slice(alloc, head.counters.as_slice())?;
+    Ok(Saved {
+        txn: head.txn,
+        phase: head.phase,
+        counters,
+    })
+}
+
+/// Makes the home's head the one that commits the records, and gives its bytes. After an `Err` the head may be either.
+#[tactic(auto, using(crate::proofs::Keeping::opened_spelled))]
+pub(crate) fn open_home(
+    alloc: Global,
+    home: &mut Home,
+    records: &[AtomicRec],
+) -> Result<Blob, AllocError>
+    requires some { 1 ≤ length records.now }
+    requires few { length records.now ≤ 200 }
+    requires placed { AllByRecursion HasPlace records.now }
+    ensures home { OnOk result (home.new ≡ with_head home.old (opened_head home.old.head home.old.attempt records.now)) }
+    ensures kept { home.new ≡ with_head home.old home.new.head }
+    ensures out { IfOk result (λ out. out ≡ head_bytes home.new.head) }
+    ensures decoded { IfOk result (λ out. head_of out ≡ Some home.new.head) }
+{
+    open_head(alloc, &mut home.head, home.attempt, records)?;
+    bytes_of(alloc, &home.head)
+}
+
+/// Makes the home's head the one that settles the records, and gives its bytes. After an `Err` the head may be either.
+#[tactic(auto, using(crate::proofs::Keeping::settled_spelled))]
+pub(crate) fn settle_home(
+    alloc: Global,
+    home: &mut Home,
+    records: &[AtomicRec],
+) -> Result<Blob, AllocError>
+    requires placed { AllByRecursion HasPlace records.now }
+    ensures home { OnOk result (home.new ≡ with_head home.old (settled_head home.old.head records.now)) }
+    ensures kept { home.new ≡ with_head home.old home.new.head }
+    ensures out { IfOk result (λ out. out ≡ head_bytes home.new.head) }
+    ensures decoded { IfOk result (λ out. head_of out ≡ Some home.new.head) }
+{
+    settle_head(alloc, &mut home.head, records)?;
+    bytes_of(alloc, &home.head)
+}
+
+/// The spelling of a head.
+fn bytes_of(alloc: Global, head: &Head) -> Result<Blob, AllocError>
+    requires { HasSpelling head.now }
+    ensures bytes { IfOk result (λ out. out ≡ head_bytes head.now) }
+    ensures decoded { IfOk result (λ out. head_of out ≡ Some head.now) }
+{
+    match head.write(alloc) {
+        Ok(out) => Ok(out),
+        Err(_) => Err(AllocError),
+    }
+}

@@ -4,10 +4,10 @@ ghost use Rattle.std.specs.Prelude.{◌≡◌, IfOk, OnOk, Ok, Some, None};
 ghost use Rattle.cloud_trait.specs.Machine.{Goes, Ends, Stops};
 ghost use Rattle.std.specs.Option.{option_copied};
 ghost use Rattle.cloud_trait.specs.Call.{ask_of};
-ghost use Rattle.tree_parts.specs.Fault.{Went};
+ghost use Rattle.tree_parts.specs.Going.{Went};
 ghost use Rattle.leaf_fold.specs.Folding.{begun, folding_ask, folding_next, leaf_got, leaf_at, to_right, handle, put_planned, placed, leaf_put, handled_to, turned, bad_low, applying};
 
-use crate::lacked::lacked_of;
+use ckpt_parts::lacked_of;
 use crate::plan::{LeafPlan, leaf_plan};
 use byte_format::{is_below, is_same};
 use cloud_trait::answer::Answer;
@@ -21,7 +21,7 @@ use leaf_view::LeafView;
 use log_codec::record::PuItem;
 use std::alloc::{AllocError, Global};
 use tree_parts::chart::Chart;
-use tree_parts::fault::Fault;
+use ckpt_parts::Fault;
 use tree_parts::items::ItemList;
 use tree_parts::link::{Link, add_links};
 use tree_parts::pace::Pace;
@@ -228,7 +228,7 @@ impl Folding {
             &self.chart.run,
         ) {
             Ok(plan) => self.put_planned(alloc, view, ItemList::of(lacked), plan),
-            Err(Fault::Found(trouble)) => Pace::Stopped(trouble),
+            Err(Fault::Stops(trouble)) => Pace::Stopped(trouble),
             Err(Fault::Memory) => Pace::Memory,
         }
     }

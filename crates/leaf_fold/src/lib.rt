@@ -2,5 +2,4 @@
 #![tactic(auto)]
 
 pub mod folding;
-mod lacked;
 pub mod plan;

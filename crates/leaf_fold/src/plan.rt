@@ -2,7 +2,7 @@
 
 ghost use Rattle.std.specs.Prelude.{◌≡◌, ◌+◌, ◌-◌, ◌≤◌, Ok, length, IfOk};
 ghost use Rattle.split_plan.specs.Sizes.{count_of};
-ghost use Rattle.tree_parts.specs.Fault.{Finds};
+ghost use Rattle.tree_parts.specs.Going.{Finds};
 ghost use Rattle.leaf_fold.specs.Plan.{planned, leaf_plan, in_pieces};
 
 use db_base::ids::PageId;
@@ -15,7 +15,7 @@ use split_plan::count::pieces;
 use split_plan::entry_list::EntryList;
 use split_plan::leaf::plan_leaf;
 use std::alloc::Global;
-use tree_parts::fault::Fault;
+use ckpt_parts::Fault;
 use tree_parts::placing::{Placing, PutQueue};
 use tree_parts::reserve::{Reserved, reserve, version_spent};
 
@@ -62,7 +62,7 @@ fn planned(
     let count = pieces(buf.len() as u64) - 1;
     match reserve(alloc, root, page, count) {
         Ok(reserved) => in_pieces(alloc, page, buf, reserved),
-        Err(Fault::Found(trouble)) => Err(Fault::Found(trouble)),
+        Err(Fault::Stops(trouble)) => Err(Fault::Stops(trouble)),
         Err(Fault::Memory) => Err(Fault::Memory),
     }
 }
@@ -79,7 +79,7 @@ pub(crate) fn leaf_plan(
 {
     match apply(alloc, view, 0, run.items()) {
         Ok(buf) => planned(alloc, root, page, buf),
-        Err(EditFault::Exhausted) => Err(Fault::Found(version_spent())),
+        Err(EditFault::Exhausted) => Err(Fault::Stops(version_spent())),
         Err(EditFault::Memory) => Err(Fault::Memory),
     }
 }

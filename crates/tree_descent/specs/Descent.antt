@@ -12,8 +12,8 @@ use Rattle.cloud_trait.specs.Views.{got_of}
 use Rattle.node_codec.specs.Inner.{Inner}
 use Rattle.run_cursor.specs.Covered.{is_seen}
 use Rattle.tree_parts.specs.declared.chart.Chart.{Chart}
-use Rattle.tree_parts.specs.declared.fault.Fault.{Fault}
-use Rattle.tree_parts.specs.Fault.{Finds}
+use Rattle.ckpt_parts.specs.declared.fault.Fault.{Fault}
+use Rattle.tree_parts.specs.Going.{Finds}
 use Rattle.tree_parts.specs.declared.kept.KeptNode.{KeptNode}
 use Rattle.tree_parts.specs.declared.link.Link.{Link}
 use Rattle.tree_parts.specs.Kept.{with_kept}

@@ -1,7 +1,7 @@
 ghost use Rattle.std.specs.Prelude.{◌≡◌, length, Result, OnOk};
 ghost use Rattle.db_base.specs.declared.trouble.Trouble.{Trouble};
 ghost use Rattle.cloud_trait.specs.Call.{ask_of};
-ghost use Rattle.tree_parts.specs.Fault.{Finds, Went};
+ghost use Rattle.tree_parts.specs.Going.{Finds, Went};
 ghost use Rattle.tree_descent.specs.declared.fork.Fork.{Fork};
 ghost use Rattle.tree_descent.specs.Descent.{descent_ask, descent_next, begun, forked, fork_of, passed, FindsKept, kept_at, go_on, stride, walk, arrive, absent_node, with_node, got_node};
 
@@ -17,7 +17,7 @@ use db_base::trouble::Trouble;
 use node_codec::InnerView;
 use std::alloc::{AllocError, Global};
 use tree_parts::chart::Chart;
-use tree_parts::fault::Fault;
+use ckpt_parts::Fault;
 use tree_parts::kept::KeptNode;
 use tree_parts::link::Link;
 use tree_parts::pace::Pace;
@@ -75,14 +75,14 @@ impl Descent {
         ensures { Finds result (forked self.now node.now) }
     {
         if node.level() != self.level {
-            return Err(Fault::Found(damaged(self.chart.tree, self.page, 10)));
+            return Err(Fault::Stops(damaged(self.chart.tree, self.page, 10)));
         }
         let key = self.chart.key.as_slice();
         if is_same(node.low(), self.low.as_slice()) && !is_below(key, node.low()) {
             return forked_on(alloc, key, node);
         }
         match bad_fence(alloc, self.page, self.low.as_slice(), node.low()) {
-            Ok(trouble) => Err(Fault::Found(trouble)),
+            Ok(trouble) => Err(Fault::Stops(trouble)),
             Err(_) => Err(Fault::Memory),
         }
     }
@@ -93,7 +93,7 @@ impl Descent {
     {
         match inner_view(self.chart.tree, self.page, bytes) {
             Ok(node) => self.fork(alloc, &node),
-            Err(trouble) => Err(Fault::Found(trouble)),
+            Err(trouble) => Err(Fault::Stops(trouble)),
         }
     }
 
@@ -132,7 +132,7 @@ impl Descent {
                 Ok(()) => Pace::More,
                 Err(_) => Pace::Memory,
             },
-            Err(Fault::Found(trouble)) => Pace::Stopped(trouble),
+            Err(Fault::Stops(trouble)) => Pace::Stopped(trouble),
             Err(Fault::Memory) => Pace::Memory,
         }
     }
@@ -237,7 +237,7 @@ impl Descent {
     {
         match self.fork_of(alloc, bytes.as_slice()) {
             Ok(fork) => self.got_fork(alloc, bytes, fork),
-            Err(Fault::Found(trouble)) => Pace::Stopped(trouble),
+            Err(Fault::Stops(trouble)) => Pace::Stopped(trouble),
             Err(Fault::Memory) => Pace::Memory,
         }
     }

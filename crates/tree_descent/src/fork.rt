@@ -1,6 +1,6 @@
 ghost use Rattle.std.specs.Prelude.{◌≡◌, false};
 ghost use Rattle.byte_format.specs.Order.{bytes_below};
-ghost use Rattle.tree_parts.specs.Fault.{Finds};
+ghost use Rattle.tree_parts.specs.Going.{Finds};
 ghost use Rattle.tree_descent.specs.Fork.{down_from, forked_on, bad_fence};
 ghost use Rattle.std.specs.Prelude.{Ok, IfOk};
 
@@ -10,7 +10,7 @@ use db_base::ids::PageId;
 use db_base::trouble::Trouble;
 use node_codec::InnerView;
 use std::alloc::{AllocError, Global};
-use tree_parts::fault::Fault;
+use ckpt_parts::Fault;
 
 /// Where an inner node leads for a key: a low key, and the page that begins there.
 #[derive(Debug, Drop)]

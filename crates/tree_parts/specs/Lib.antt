@@ -1,4 +1,4 @@
-pub mod Fault
+pub mod Going
 pub mod Kept
 pub mod Read
 pub mod Reserve

@@ -32,7 +32,7 @@ impl Model for KeptList {
 }
 
 impl KeptList {
-    ghost use Rattle.std.specs.Prelude.{◌≡◌, [], ◌==◌, find, drop, length, OnOk, OnErr};
+    ghost use Rattle.std.specs.Prelude.{◌≡◌, [], ◌==◌, find, drop, length, slice_get, OnOk, OnErr};
     ghost use Rattle.std.specs.Option.{option_copied};
     ghost use Rattle.tree_parts.specs.Kept.{with_kept};
 
@@ -50,6 +50,13 @@ impl KeptList {
         ensures { option_copied result ≡ find (λ n. n.page == page) self.now }
     {
         self.nodes.iter().find(|node| node.page.get() == page.get())
+    }
+
+    /// The node at a place, from 0.
+    pub fn at(&self, place: usize) -> Option<&KeptNode>
+        ensures { option_copied result ≡ slice_get self.now place }
+    {
+        self.nodes.as_slice().get(place)
     }
 
     /// How many nodes.

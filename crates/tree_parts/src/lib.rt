@@ -2,7 +2,6 @@
 #![tactic(auto)]
 
 pub mod chart;
-pub mod fault;
 pub mod items;
 pub mod kept;
 pub mod link;

@@ -2,10 +2,10 @@
 
 ghost use Rattle.std.specs.Prelude.{◌≡◌, ◌+◌, ◌≤◌, Ok, IfOk};
 ghost use Rattle.node_codec.specs.Tree.{tree_bytes};
-ghost use Rattle.tree_parts.specs.Fault.{Finds};
+ghost use Rattle.tree_parts.specs.Going.{Finds};
 ghost use Rattle.tree_parts.specs.Reserve.{reservation, reserved, next_tree, version_spent, pages_spent};
 
-use crate::fault::Fault;
+use ckpt_parts::Fault;
 use db_base::blob::Blob;
 use db_base::ids::PageId;
 use db_base::pair::EditFault;
@@ -37,7 +37,7 @@ pub fn next_tree(alloc: Global, view: &TreeView<'_>) -> Result<TreeBuf, Fault>
 {
     match TreeBuf::of(alloc, view) {
         Ok(buf) => Ok(buf),
-        Err(EditFault::Exhausted) => Err(Fault::Found(version_spent())),
+        Err(EditFault::Exhausted) => Err(Fault::Stops(version_spent())),
         Err(EditFault::Memory) => Err(Fault::Memory),
     }
 }
@@ -80,7 +80,7 @@ pub fn reserve(
     }
     let buf = match next_tree(alloc, view) {
         Ok(buf) => buf,
-        Err(Fault::Found(trouble)) => return Err(Fault::Found(trouble)),
+        Err(Fault::Stops(trouble)) => return Err(Fault::Stops(trouble)),
         Err(Fault::Memory) => return Err(Fault::Memory),
     };
     reserve_in(alloc, buf, count)
@@ -100,6 +100,6 @@ fn reserve_in(alloc: Global, buf: TreeBuf, count: u64) -> Result<Reserved, Fault
             }),
             Err(_) => Err(Fault::Memory),
         },
-        Err(_) => Err(Fault::Found(pages_spent())),
+        Err(_) => Err(Fault::Stops(pages_spent())),
     }
 }

@@ -42,12 +42,12 @@ next_touched r = r.at + touched_at r.chart.tree r.chart.links (drop r.at r.chart
 
 -- what was planned for a node is put next, and its new pieces are noted for the level above
 abbrev pub put_node : Rising → ℕ → ℕ → Result NodePlan Trouble → Step
-put_node r at level (Ok p) = Goes (record r {
+put_node r next level (Ok p) = Goes (record r {
   chart = record r.chart { links = r.chart.links ++ links_at level p.entries };
-  at = at + 1;
+  at = next;
   placing = p.placing;
 })
-put_node r at level (Err t) = Stops r t
+put_node r next level (Err t) = Stops r t
 
 -- ---- the tree object
 
@@ -67,7 +67,7 @@ finish r = put_root r (last_plan r)
 
 -- the next node that a link goes to is put, and the tree object where there is none
 abbrev pub rise_at : Rising → ℕ → Option KeptNode → Step
-rise_at r at (Some k) = put_node r at (k.level + 1) (node_plan (tree_held r.chart.root) r.chart.tree k r.chart.links)
+rise_at r at (Some k) = put_node r (at + 1) (k.level + 1) (node_plan (tree_held r.chart.root) r.chart.tree k r.chart.links)
 rise_at r at None = finish r
 
 abbrev pub rise : Rising → Step

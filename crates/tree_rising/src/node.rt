@@ -2,7 +2,7 @@
 
 ghost use Rattle.std.specs.Prelude.{◌≡◌, ◌+◌, ◌-◌, ◌≤◌, Ok, Some, length, IfErr, OnOk};
 ghost use Rattle.split_plan.specs.Sizes.{count_of};
-ghost use Rattle.tree_parts.specs.Fault.{Finds};
+ghost use Rattle.tree_parts.specs.Going.{Finds};
 ghost use Rattle.tree_rising.specs.Nodes.{goes_to, is_touched, touches, with_links, linked, in_pieces, planned, node_plan, touched_at};
 
 use byte_format::{is_below, is_below_bound};
@@ -13,7 +13,7 @@ use split_plan::count::pieces;
 use split_plan::entry_list::EntryList;
 use split_plan::inner::plan_inner;
 use std::alloc::Global;
-use tree_parts::fault::Fault;
+use ckpt_parts::Fault;
 use tree_parts::kept::KeptNode;
 use tree_parts::link::Link;
 use tree_parts::placing::{Placing, PutQueue};
@@ -59,7 +59,7 @@ fn touches(tree: TreeId, kept: &KeptNode, links: &[Link]) -> bool
 {
     match inner_view(tree, kept.page, kept.bytes.as_slice()) {
         Ok(node) => is_touched(&node, links),
-        Err(_) => true,
+        Err(_trouble) => true,
     }
 }
 
@@ -106,7 +106,7 @@ fn linked(alloc: Global, node: &InnerView<'_>, links: &[Link]) -> Result<InnerBu
             Ok(()) => Ok(buf),
             Err(_) => Err(Fault::Memory),
         },
-        Err(EditFault::Exhausted) => Err(Fault::Found(version_spent())),
+        Err(EditFault::Exhausted) => Err(Fault::Stops(version_spent())),
         Err(EditFault::Memory) => Err(Fault::Memory),
     }
 }
@@ -145,7 +145,7 @@ fn planned(
     let count = pieces(buf.len() as u64) - 1;
     match reserve(alloc, root, page, count) {
         Ok(reserved) => in_pieces(alloc, page, buf, reserved),
-        Err(Fault::Found(trouble)) => Err(Fault::Found(trouble)),
+        Err(Fault::Stops(trouble)) => Err(Fault::Stops(trouble)),
         Err(Fault::Memory) => Err(Fault::Memory),
     }
 }
@@ -163,9 +163,9 @@ pub(crate) fn node_plan(
     match inner_view(tree, kept.page, kept.bytes.as_slice()) {
         Ok(node) => match linked(alloc, &node, links) {
             Ok(buf) => planned(alloc, root, kept.page, buf),
-            Err(Fault::Found(trouble)) => Err(Fault::Found(trouble)),
+            Err(Fault::Stops(trouble)) => Err(Fault::Stops(trouble)),
             Err(Fault::Memory) => Err(Fault::Memory),
         },
-        Err(trouble) => Err(Fault::Found(trouble)),
+        Err(trouble) => Err(Fault::Stops(trouble)),
     }
 }

@@ -1,7 +1,7 @@
-ghost use Rattle.std.specs.Prelude.{◌≡◌, Result};
+ghost use Rattle.std.specs.Prelude.{◌≡◌, ◌<◌, ◌+◌, length, Result};
 ghost use Rattle.db_base.specs.declared.trouble.Trouble.{Trouble};
 ghost use Rattle.cloud_trait.specs.Call.{ask_of};
-ghost use Rattle.tree_parts.specs.Fault.{Finds, Went};
+ghost use Rattle.tree_parts.specs.Going.{Finds, Went};
 ghost use Rattle.tree_rising.specs.declared.node.NodePlan.{NodePlan};
 ghost use Rattle.tree_rising.specs.declared.root.RootPlan.{RootPlan};
 ghost use Rattle.tree_rising.specs.Rising.{begun, rising_ask, rising_next, next_touched, rise, finish, put_node, last_plan, put_root, put_landed};
@@ -16,7 +16,7 @@ use db_base::names::ObjName;
 use db_base::trouble::Trouble;
 use std::alloc::Global;
 use tree_parts::chart::Chart;
-use tree_parts::fault::Fault;
+use ckpt_parts::Fault;
 use tree_parts::link::add_links;
 use tree_parts::pace::Pace;
 use tree_parts::placing::Placing;
@@ -74,13 +74,21 @@ impl Rising {
         self.at.saturating_add(place)
     }
 
+    /// The place behind a node.
+    fn behind(&self, at: usize) -> usize
+        ensures { at < length self.now.chart.nodes → result ≡ at + 1 }
+    {
+        self.chart.nodes.len().min(at.saturating_add(1))
+    }
+
     /// Puts the next inner node that a link goes to next, or the tree object where there is none.
     pub fn rise(&mut self, alloc: Global) -> Pace<()>
         ensures { Went (rise self.old) self.new result }
     {
         let at = self.next_touched();
-        match self.chart.nodes.as_slice().get(at) {
+        match self.chart.nodes.at(at) {
             Some(kept) => {
+                let next = self.behind(at);
                 let level = kept.level as u64 + 1;
                 let plan = node_plan(
                     alloc,
@@ -89,7 +97,7 @@ impl Rising {
                     kept,
                     self.chart.links.as_slice(),
                 );
-                self.put_node(alloc, at, level, plan)
+                self.put_node(alloc, next, level, plan)
             }
             None => self.finish(alloc),
         }
@@ -99,11 +107,11 @@ impl Rising {
     fn put_node(
         &mut self,
         alloc: Global,
-        at: usize,
+        next: usize,
         level: u64,
         plan: Result<NodePlan, Fault>,
     ) -> Pace<()>
-        ensures { (wanted : Result NodePlan Trouble) → Finds plan wanted → Went (put_node self.old at level wanted) self.new result }
+        ensures { (wanted : Result NodePlan Trouble) → Finds plan wanted → Went (put_node self.old next level wanted) self.new result }
     {
         match plan {
             Ok(plan) => {
@@ -112,10 +120,10 @@ impl Rising {
                     return Pace::Memory;
                 }
                 self.placing = placing;
-                self.at = at.saturating_add(1);
+                self.at = next;
                 Pace::More
             }
-            Err(Fault::Found(trouble)) => Pace::Stopped(trouble),
+            Err(Fault::Stops(trouble)) => Pace::Stopped(trouble),
             Err(Fault::Memory) => Pace::Memory,
         }
     }
@@ -135,7 +143,7 @@ impl Rising {
         let root = tree_view(&self.chart.root);
         match raised_root(alloc, &root, self.chart.links.as_slice(), self.chart.run.top()) {
             Ok(buf) => root_plan(alloc, &root, buf),
-            Err(Fault::Found(trouble)) => Err(Fault::Found(trouble)),
+            Err(Fault::Stops(trouble)) => Err(Fault::Stops(trouble)),
             Err(Fault::Memory) => Err(Fault::Memory),
         }
     }
@@ -151,7 +159,7 @@ impl Rising {
                 self.last = Some(last);
                 Pace::More
             }
-            Err(Fault::Found(trouble)) => Pace::Stopped(trouble),
+            Err(Fault::Stops(trouble)) => Pace::Stopped(trouble),
             Err(Fault::Memory) => Pace::Memory,
         }
     }

@@ -2,7 +2,7 @@
 
 ghost use Rattle.std.specs.Prelude.{◌≡◌, ◌+◌, ◌<◌, ◌≤◌, Ok, length, IfErr, OnOk};
 ghost use Rattle.split_plan.specs.Sizes.{count_of};
-ghost use Rattle.tree_parts.specs.Fault.{Finds};
+ghost use Rattle.tree_parts.specs.Going.{Finds};
 ghost use Rattle.tree_parts.specs.Reserve.{next_tree};
 ghost use Rattle.tree_rising.specs.Root.{is_named, with_named, risen, raised_root, root_plan, root_cut, cut_at, lowered};
 
@@ -14,7 +14,7 @@ use node_codec::{TreeBuf, TreeView};
 use split_plan::count::pieces;
 use split_plan::root::plan_root;
 use std::alloc::Global;
-use tree_parts::fault::Fault;
+use ckpt_parts::Fault;
 use tree_parts::link::Link;
 use tree_parts::placing::{Placing, PutQueue};
 use tree_parts::read::tree_view;
@@ -62,7 +62,7 @@ pub(crate) fn raised_root(
 {
     match next_tree(alloc, root) {
         Ok(buf) => raised(buf, root.level() as u64, links, top),
-        Err(Fault::Found(trouble)) => Err(Fault::Found(trouble)),
+        Err(Fault::Stops(trouble)) => Err(Fault::Stops(trouble)),
         Err(Fault::Memory) => Err(Fault::Memory),
     }
 }
@@ -132,7 +132,7 @@ fn cut_at(
     let mut buf = buf;
     match buf.reserve(count) {
         Ok(first) => lowered(alloc, buf, first, reserved),
-        Err(_) => Err(Fault::Found(pages_spent())),
+        Err(_) => Err(Fault::Stops(pages_spent())),
     }
 }
 
@@ -145,10 +145,10 @@ fn root_cut(alloc: Global, root: &TreeView<'_>, buf: TreeBuf) -> Result<RootPlan
     match reserve(alloc, root, PageId::first(), count) {
         Ok(reserved) => match again(alloc, &buf) {
             Ok(buf) => cut_at(alloc, buf, count, reserved.put),
-            Err(Fault::Found(trouble)) => Err(Fault::Found(trouble)),
+            Err(Fault::Stops(trouble)) => Err(Fault::Stops(trouble)),
             Err(Fault::Memory) => Err(Fault::Memory),
         },
-        Err(Fault::Found(trouble)) => Err(Fault::Found(trouble)),
+        Err(Fault::Stops(trouble)) => Err(Fault::Stops(trouble)),
         Err(Fault::Memory) => Err(Fault::Memory),
     }
 }

@@ -3,15 +3,15 @@ use Rattle.std.specs.Prelude.{◌≡◌, Result, Ok, Err}
 use Rattle.db_base.specs.declared.trouble.Trouble.{Trouble}
 use Rattle.cloud_trait.specs.declared.answer.Answer.{Answer}
 use Rattle.cloud_trait.specs.Machine.{Next, Goes, Ends, Stops}
-use Rattle.tree_parts.specs.declared.fault.Fault.{Fault}
-use Rattle.tree_parts.specs.declared.fault.Fault.TheVariants as fault
+use Rattle.ckpt_parts.specs.declared.fault.Fault.{Fault}
+use Rattle.ckpt_parts.specs.declared.fault.Fault.TheVariants as fault
 use Rattle.tree_parts.specs.declared.pace.Pace.{Pace}
 use Rattle.tree_parts.specs.declared.pace.Pace.TheVariants as pace
 
 -- the code found what there is to find, or memory ran out
 abbrev pub Finds : {A : Type 0} → Result A Fault → Result A Trouble → Type 0
 Finds (Ok a) wanted = wanted ≡ Ok a
-Finds (Err (fault.Found t)) wanted = wanted ≡ Err t
+Finds (Err (fault.Stops t)) wanted = wanted ≡ Err t
 Finds (Err fault.Memory) wanted = Unit {0}
 
 -- a phase went where its step leads, or memory ran out

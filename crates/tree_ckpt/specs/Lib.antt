@@ -1,0 +1,2 @@
+pub mod Ckpt
+pub mod Keys

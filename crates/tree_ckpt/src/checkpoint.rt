@@ -1,15 +1,14 @@
-ghost use Rattle.std.specs.Prelude.{◌≡◌, ◌∷◌, [], ℕ, List, Option, Result};
-ghost use Rattle.db_base.specs.declared.trouble.Trouble.{Trouble};
+ghost use Rattle.std.specs.Prelude.{◌≡◌, ◌∷◌, []};
 ghost use Rattle.cloud_trait.specs.Call.{ask_of};
-ghost use Rattle.cloud_trait.specs.Claim.{Claim};
-ghost use Rattle.cloud_trait.specs.Machine.{Next, Steps};
-ghost use Rattle.cloud_trait.specs.Weather.{Makes};
+ghost use Rattle.cloud_trait.specs.Machine.{Next};
+ghost use Rattle.cloud_trait.specs.Views.{done_of};
 ghost use Rattle.leaf_fold.specs.declared.folding.Folding.{Folding};
 ghost use Rattle.leaf_fold.specs.declared.folding.Left.{Left};
+ghost use Rattle.node_codec.specs.Tree.{tree_of};
 ghost use Rattle.tree_descent.specs.declared.descent.Descent.{Descent};
 ghost use Rattle.tree_parts.specs.Going.{Went};
 ghost use Rattle.tree_rising.specs.declared.rising.Rising.{Rising};
-ghost use Rattle.tree_ckpt.specs.Ckpt.{new_ckpt, ckpt_ask, CkptLeads, Keeps, Turned, ckpt_applying, at, stopping, taken_by, root_got, root_read, ReceivedBy, TakenIn, after_intake, on_to_next, with_key, descended, reached, page_taken_by, folded, left_for, risen, deleting, deleted_by, released_by, after_leaf};
+ghost use Rattle.tree_ckpt.specs.Ckpt.{Step, new_ckpt, ckpt_ask, Turned, ckpt_applying, stopping, taken_by, damage_of, root_got, root_read, ReceivedBy, TakenIn, after_intake, on_to_next, down_for, descended, reached, page_taken_by, folded, left_for, risen, deleting, deleted_by, released_by, after_leaf};
 
 use crate::ids::IdList;
 use crate::key::{first_child, next_key, start_chart};
@@ -121,7 +120,8 @@ impl TreeCkpt {
 
     /// Memory ran out under the tree's lease.
     fn spent(&mut self, lease: Lease) -> Turn<CkptAnswer>
-        ensures { (Leads : Next (TreeCkpt) CkptAnswer → Type 0) → Turned Leads (lease ∷ []) self.new result }
+        ensures turn { result ≡ Turn.Stopped Trouble.Memory }
+        ensures kept { leases_of self.new.work ≡ lease ∷ [] }
     {
         self.work = Work::Releasing(lease, Outcome::Stopped(Trouble::Memory));
         Turn::Stopped(Trouble::Memory)
@@ -129,22 +129,25 @@ impl TreeCkpt {
 
     /// Memory ran out under both leases.
     fn spent_in_leaf(&mut self, lease: Lease, page: Lease) -> Turn<CkptAnswer>
-        ensures { (Leads : Next (TreeCkpt) CkptAnswer → Type 0) → Turned Leads (page ∷ lease ∷ []) self.new result }
+        ensures turn { result ≡ Turn.Stopped Trouble.Memory }
+        ensures kept { leases_of self.new.work ≡ page ∷ lease ∷ [] }
     {
         self.work = Work::Leaving(lease, page, After::Stopped(Trouble::Memory));
         Turn::Stopped(Trouble::Memory)
     }
 
-    fn taken(&mut self, answer: Answer) -> Turn<CkptAnswer>
-        ensures { Turned (λ n. n ≡ taken_by self.old (given_of (Lock.Tree self.old.tree) answer)) [] self.new result }
+    fn taken(&mut self, given: Result<Lease, Trouble>) -> Turn<CkptAnswer>
+        ensures { Turned (λ n. n ≡ taken_by self.old given) [] self.new result }
     {
-        self.work = Work::Finished;
-        match answer.given(Lock::Tree(self.tree)) {
+        match given {
             Ok(lease) => {
                 self.work = Work::Getting(lease);
                 Turn::More
             }
-            Err(trouble) => Turn::Stopped(trouble),
+            Err(trouble) => {
+                self.work = Work::Finished;
+                Turn::Stopped(trouble)
+            }
         }
     }
 
@@ -174,7 +177,7 @@ impl TreeCkpt {
         }
     }
 
-    fn receive(
+    fn received_by(
         &mut self,
         alloc: Global,
         lease: Lease,
@@ -428,6 +431,339 @@ impl TreeCkpt {
         match outcome {
             Outcome::Ended(answer) => Turn::Ended(answer),
             Outcome::Stopped(trouble) => Turn::Stopped(trouble),
+        }
+    }
+}
+
+ghost use Rattle.cloud_trait.specs.Machine.{Steps};
+ghost use Rattle.tree_ckpt.specs.Ckpt.{CkptLeads, LeadsAt, Keeps, at, leases_of};
+
+impl TreeCkpt {
+    /// Makes the call in hand, and does the local work up to the next one.
+    pub fn step<C: Cloud>(&mut self, alloc: Global, cloud: &mut C, who: Who) -> Turn<CkptAnswer>
+        ensures steps { Steps ckpt_ask CkptLeads Keeps who (C.seen cloud.old) (C.seen cloud.new) self.old self.new result }
+    {
+        match mem::replace(&mut self.work, Work::Finished) {
+            Work::Taking => self.take(cloud, who),
+            Work::Getting(lease) => self.get(cloud, who, lease),
+            Work::Receiving(lease, root) => self.receive(alloc, cloud, who, lease, root),
+            Work::Descending(lease, descent) => self.descend(alloc, cloud, who, lease, descent),
+            Work::Reaching(lease, leaf) => self.reach_leaf(alloc, cloud, who, lease, leaf),
+            Work::Folding(lease, folding) => self.fold(alloc, cloud, who, lease, folding),
+            Work::Leaving(lease, page, after) => {
+                self.leave_leaf(alloc, cloud, who, lease, page, after)
+            }
+            Work::Rising(lease, rising) => self.rise(alloc, cloud, who, lease, rising),
+            Work::Deleting(lease, id, applied) => self.delete(cloud, who, lease, id, applied),
+            Work::Releasing(lease, outcome) => self.release(cloud, who, lease, outcome),
+            Work::Finished => self.idle(cloud, who),
+        }
+    }
+
+    /// Takes the tree's lease.
+    fn take<C: Cloud>(
+        &mut self,
+        cloud: &mut C,
+        who: Who,
+    ) -> Turn<CkptAnswer>
+        ensures { Steps ckpt_ask CkptLeads Keeps who (C.seen cloud.old) (C.seen cloud.new) (at self.old Work.Taking) self.new result }
+    {
+        let answer = perform(cloud, who, &Call::Take(Lock::Tree(self.tree), TREE_TICKS));
+        self.taken(answer.given(Lock::Tree(self.tree)))
+    }
+
+    /// Gets the tree object.
+    fn get<C: Cloud>(
+        &mut self,
+        cloud: &mut C,
+        who: Who,
+        lease: Lease,
+    ) -> Turn<CkptAnswer>
+        ensures { Steps ckpt_ask CkptLeads Keeps who (C.seen cloud.old) (C.seen cloud.new) (at self.old (Work.Getting lease)) self.new result }
+    {
+        let answer = perform(cloud, who, &Call::GetHeld(ObjName::Tree(self.tree), &lease));
+        self.with_root(lease, answer)
+    }
+
+    /// Receives from the tree's queue.
+    fn receive<C: Cloud>(
+        &mut self,
+        alloc: Global,
+        cloud: &mut C,
+        who: Who,
+        lease: Lease,
+        root: Option<Blob>,
+    ) -> Turn<CkptAnswer>
+        ensures { Steps ckpt_ask CkptLeads Keeps who (C.seen cloud.old) (C.seen cloud.new) (at self.old (Work.Receiving lease root)) self.new result }
+    {
+        let answer = perform(cloud, who, &Call::Receive(self.queue(), MAX_MESSAGES));
+        self.with_messages(alloc, lease, root, answer)
+    }
+
+    /// Gets an inner node.
+    fn descend<C: Cloud>(
+        &mut self,
+        alloc: Global,
+        cloud: &mut C,
+        who: Who,
+        lease: Lease,
+        descent: Descent,
+    ) -> Turn<CkptAnswer>
+        ensures { Steps ckpt_ask CkptLeads Keeps who (C.seen cloud.old) (C.seen cloud.new) (at self.old (Work.Descending lease descent)) self.new result }
+    {
+        let answer = perform(cloud, who, &descent.in_hand(&lease));
+        self.with_node(alloc, lease, descent, answer)
+    }
+
+    /// Takes a leaf's lease.
+    fn reach_leaf<C: Cloud>(
+        &mut self,
+        alloc: Global,
+        cloud: &mut C,
+        who: Who,
+        lease: Lease,
+        leaf: Reached,
+    ) -> Turn<CkptAnswer>
+        ensures { Steps ckpt_ask CkptLeads Keeps who (C.seen cloud.old) (C.seen cloud.new) (at self.old (Work.Reaching lease leaf)) self.new result }
+    {
+        let answer = perform(cloud, who, &Call::Take(Lock::Page(self.tree, leaf.page), PAGE_TICKS));
+        self.with_page(alloc, lease, leaf, answer)
+    }
+
+    /// Makes the leaf's call.
+    fn fold<C: Cloud>(
+        &mut self,
+        alloc: Global,
+        cloud: &mut C,
+        who: Who,
+        lease: Lease,
+        folding: Folding,
+    ) -> Turn<CkptAnswer>
+        ensures { Steps ckpt_ask CkptLeads Keeps who (C.seen cloud.old) (C.seen cloud.new) (at self.old (Work.Folding lease folding)) self.new result }
+    {
+        let answer = perform(cloud, who, &folding.in_hand(&lease));
+        self.with_leaf(alloc, lease, folding, answer)
+    }
+
+    /// Gives the leaf's lease back.
+    fn leave_leaf<C: Cloud>(
+        &mut self,
+        alloc: Global,
+        cloud: &mut C,
+        who: Who,
+        lease: Lease,
+        page: Lease,
+        after: After,
+    ) -> Turn<CkptAnswer>
+        ensures { Steps ckpt_ask CkptLeads Keeps who (C.seen cloud.old) (C.seen cloud.new) (at self.old (Work.Leaving lease page after)) self.new result }
+    {
+        let answer = let_go(cloud, who, page);
+        self.without_leaf(alloc, lease, after, answer)
+    }
+
+    /// Makes the put of the way up.
+    fn rise<C: Cloud>(
+        &mut self,
+        alloc: Global,
+        cloud: &mut C,
+        who: Who,
+        lease: Lease,
+        rising: Rising,
+    ) -> Turn<CkptAnswer>
+        ensures { Steps ckpt_ask CkptLeads Keeps who (C.seen cloud.old) (C.seen cloud.new) (at self.old (Work.Rising lease rising)) self.new result }
+    {
+        let answer = perform(cloud, who, &rising.in_hand(&lease));
+        self.with_put(alloc, lease, rising, answer)
+    }
+
+    /// Deletes a message.
+    fn delete<C: Cloud>(
+        &mut self,
+        cloud: &mut C,
+        who: Who,
+        lease: Lease,
+        id: MsgId,
+        applied: u64,
+    ) -> Turn<CkptAnswer>
+        ensures { Steps ckpt_ask CkptLeads Keeps who (C.seen cloud.old) (C.seen cloud.new) (at self.old (Work.Deleting lease id applied)) self.new result }
+    {
+        let answer = perform(cloud, who, &Call::Delete(self.queue(), id));
+        self.with_deletion(lease, applied, answer)
+    }
+
+    /// Gives the tree's lease back.
+    fn release<C: Cloud>(
+        &mut self,
+        cloud: &mut C,
+        who: Who,
+        lease: Lease,
+        outcome: Outcome,
+    ) -> Turn<CkptAnswer>
+        ensures { Steps ckpt_ask CkptLeads Keeps who (C.seen cloud.old) (C.seen cloud.new) (at self.old (Work.Releasing lease outcome)) self.new result }
+    {
+        let answer = let_go(cloud, who, lease);
+        self.without_tree(outcome, answer)
+    }
+
+    /// No call is left: a step behind the end is no part of a checkpoint.
+    fn idle<C: Cloud>(
+        &mut self,
+        cloud: &mut C,
+        who: Who,
+    ) -> Turn<CkptAnswer>
+        ensures { Steps ckpt_ask CkptLeads Keeps who (C.seen cloud.old) (C.seen cloud.new) (at self.old Work.Finished) self.new result }
+    {
+        let answer = perform(cloud, who, &Call::Take(Lock::Tree(self.tree), TREE_TICKS));
+        let _answer = answer;
+        self.work = Work::Finished;
+        Turn::Stopped(Trouble::Failed)
+    }
+}
+
+impl TreeCkpt {
+    fn with_root(
+        &mut self,
+        lease: Lease,
+        answer: Answer,
+    ) -> Turn<CkptAnswer>
+        ensures { Turned (LeadsAt self.old (Work.Getting lease) answer) (lease ∷ []) self.new result }
+    {
+        match answer {
+            Answer::Memory => self.spent(lease),
+            answer => self.root_got(lease, answer.got()),
+        }
+    }
+
+    fn with_messages(
+        &mut self,
+        alloc: Global,
+        lease: Lease,
+        root: Option<Blob>,
+        answer: Answer,
+    ) -> Turn<CkptAnswer>
+        ensures { Turned (LeadsAt self.old (Work.Receiving lease root) answer) (lease ∷ []) self.new result }
+    {
+        match answer {
+            Answer::Memory => self.spent(lease),
+            answer => self.received_by(alloc, lease, root, answer.received()),
+        }
+    }
+
+    fn with_node(
+        &mut self,
+        alloc: Global,
+        lease: Lease,
+        descent: Descent,
+        answer: Answer,
+    ) -> Turn<CkptAnswer>
+        ensures { Turned (LeadsAt self.old (Work.Descending lease descent) answer) (lease ∷ []) self.new result }
+    {
+        match answer {
+            Answer::Memory => self.spent(lease),
+            answer => {
+                let mut descent = descent;
+                let pace = descent.absorb(alloc, answer);
+                self.descended(lease, descent, pace)
+            }
+        }
+    }
+
+    fn with_page(
+        &mut self,
+        alloc: Global,
+        lease: Lease,
+        leaf: Reached,
+        answer: Answer,
+    ) -> Turn<CkptAnswer>
+        ensures { Turned (LeadsAt self.old (Work.Reaching lease leaf) answer) (lease ∷ []) self.new result }
+    {
+        match answer {
+            Answer::Memory => self.spent(lease),
+            answer => {
+                let given = answer.given(Lock::Page(self.tree, leaf.page));
+                self.page_taken(alloc, lease, leaf, given)
+            }
+        }
+    }
+
+    fn with_leaf(
+        &mut self,
+        alloc: Global,
+        lease: Lease,
+        folding: Folding,
+        answer: Answer,
+    ) -> Turn<CkptAnswer>
+        ensures { Turned (LeadsAt self.old (Work.Folding lease folding) answer) (folding.lease ∷ lease ∷ []) self.new result }
+    {
+        match answer {
+            Answer::Memory => self.spent_in_leaf(lease, folding.lease),
+            answer => {
+                let mut folding = folding;
+                let pace = folding.absorb(alloc, answer);
+                self.folded(lease, folding, pace)
+            }
+        }
+    }
+
+    fn with_put(
+        &mut self,
+        alloc: Global,
+        lease: Lease,
+        rising: Rising,
+        answer: Answer,
+    ) -> Turn<CkptAnswer>
+        ensures { Turned (LeadsAt self.old (Work.Rising lease rising) answer) (lease ∷ []) self.new result }
+    {
+        match answer {
+            Answer::Memory => self.spent(lease),
+            answer => {
+                let mut rising = rising;
+                let pace = rising.absorb(alloc, answer);
+                self.risen(lease, rising, pace)
+            }
+        }
+    }
+
+    /// The leaf's lease was given back, whatever the release answered.
+    fn without_leaf(
+        &mut self,
+        alloc: Global,
+        lease: Lease,
+        after: After,
+        answer: Answer,
+    ) -> Turn<CkptAnswer>
+        ensures { Turned (λ n. n ≡ after_leaf self.old lease after) (lease ∷ []) self.new result }
+    {
+        match answer {
+            Answer::Memory => self.spent(lease),
+            _ => self.after_leaf(alloc, lease, after),
+        }
+    }
+
+    fn with_deletion(
+        &mut self,
+        lease: Lease,
+        applied: u64,
+        answer: Answer,
+    ) -> Turn<CkptAnswer>
+        ensures { Turned (λ n. n ≡ deleted_by self.old lease applied (done_of answer)) (lease ∷ []) self.new result }
+    {
+        match answer {
+            Answer::Memory => self.spent(lease),
+            answer => self.deleted(lease, applied, answer.done()),
+        }
+    }
+
+    /// The tree's lease was given back, whatever the release answered.
+    fn without_tree(&mut self, outcome: Outcome, answer: Answer) -> Turn<CkptAnswer>
+        ensures { Turned (λ n. n ≡ released_by self.old outcome) [] self.new result }
+    {
+        match answer {
+            Answer::Memory => {
+                self.work = Work::Finished;
+                Turn::Stopped(Trouble::Memory)
+            }
+            _ => self.released(outcome),
         }
     }
 }

@@ -1,5 +1,5 @@
 -- What was found and made below goes up, as a machine.
-use Rattle.std.specs.Prelude.{ℕ, ◌+◌, ◌||◌, not, Bool, List, [], ◌++◌, drop, slice_get, Option, Some, None, is_some, Result, Ok, Err, unwrap_or, if◌then◌else◌}
+use Rattle.std.specs.Prelude.{ℕ, ◌≡◌, ◌+◌, ◌||◌, not, Bool, List, [], ◌++◌, drop, slice_get, Option, Some, None, is_some, Result, Ok, Err, unwrap_or, if◌then◌else◌}
 use Rattle.db_base.specs.declared.names.ObjName.TheVariants as object
 use Rattle.db_base.specs.declared.trouble.Trouble.{Trouble}
 use Rattle.cloud_trait.specs.declared.answer.Answer.{Answer}
@@ -8,6 +8,8 @@ use Rattle.cloud_trait.specs.Claim.{Claim}
 use Rattle.cloud_trait.specs.Machine.{Next, Goes, Ends, Stops}
 use Rattle.cloud_trait.specs.Views.{done_of}
 use Rattle.node_codec.specs.Tree.{Tree}
+use Rattle.ckpt_parts.specs.declared.fault.Fault.{Fault}
+use Rattle.tree_parts.specs.Going.{Finds}
 use Rattle.tree_parts.specs.declared.chart.Chart.{Chart}
 use Rattle.tree_parts.specs.declared.kept.KeptNode.{KeptNode}
 use Rattle.tree_parts.specs.Kept.{links_at}
@@ -65,13 +67,25 @@ put_root r (Err t) = Stops r t
 abbrev pub finish : Rising → Step
 finish r = put_root r (last_plan r)
 
+-- the next node that a link goes to
+abbrev pub touched_node : Rising → Option KeptNode
+touched_node r = slice_get r.chart.nodes (next_touched r)
+
+-- the code found what is put for a node, with the place behind it and the level above it, or that there is no node
+abbrev pub FindsPlan : Rising → Option (ℕ × ℕ × Result NodePlan Fault) → Option KeptNode → Type 0
+FindsPlan r (Some x) (Some k) =
+    (x.0 ≡ next_touched r + 1) × (x.1 ≡ k.level + 1) × Finds x.2 (node_plan (tree_held r.chart.root) r.chart.tree k r.chart.links)
+FindsPlan r None None = Unit {0}
+FindsPlan r (Some x) None = ⊥
+FindsPlan r None (Some k) = ⊥
+
 -- the next node that a link goes to is put, and the tree object where there is none
 abbrev pub rise_at : Rising → ℕ → Option KeptNode → Step
 rise_at r at (Some k) = put_node r (at + 1) (k.level + 1) (node_plan (tree_held r.chart.root) r.chart.tree k r.chart.links)
 rise_at r at None = finish r
 
 abbrev pub rise : Rising → Step
-rise r = rise_at r (next_touched r) (slice_get r.chart.nodes (next_touched r))
+rise r = rise_at r (next_touched r) (touched_node r)
 
 -- ---- the puts
 

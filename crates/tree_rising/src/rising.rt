@@ -4,7 +4,7 @@ ghost use Rattle.cloud_trait.specs.Call.{ask_of};
 ghost use Rattle.tree_parts.specs.Going.{Finds, Went};
 ghost use Rattle.tree_rising.specs.declared.node.NodePlan.{NodePlan};
 ghost use Rattle.tree_rising.specs.declared.root.RootPlan.{RootPlan};
-ghost use Rattle.tree_rising.specs.Rising.{begun, rising_ask, rising_next, next_touched, rise, finish, put_node, last_plan, put_root, put_landed};
+ghost use Rattle.tree_rising.specs.Rising.{begun, rising_ask, rising_next, next_touched, touched_node, FindsPlan, rise, finish, put_node, last_plan, put_root, put_landed};
 
 use crate::node::{NodePlan, node_plan, touched_at};
 use crate::root::{RootPlan, raised_root, root_plan};
@@ -81,15 +81,13 @@ impl Rising {
         self.chart.nodes.len().min(at.saturating_add(1))
     }
 
-    /// Puts the next inner node that a link goes to next, or the tree object where there is none.
-    pub fn rise(&mut self, alloc: Global) -> Pace<()>
-        ensures { Went (rise self.old) self.new result }
+    /// What is put for the next node that a link goes to, with the place behind it and the level above it; none behind the last one.
+    fn next_plan(&self, alloc: Global) -> Option<(usize, u64, Result<NodePlan, Fault>)>
+        ensures { FindsPlan self.now result (touched_node self.now) }
     {
         let at = self.next_touched();
         match self.chart.nodes.at(at) {
             Some(kept) => {
-                let next = self.behind(at);
-                let level = kept.level as u64 + 1;
                 let plan = node_plan(
                     alloc,
                     &tree_view(&self.chart.root),
@@ -97,8 +95,18 @@ impl Rising {
                     kept,
                     self.chart.links.as_slice(),
                 );
-                self.put_node(alloc, next, level, plan)
+                Some((self.behind(at), kept.level as u64 + 1, plan))
             }
+            None => None,
+        }
+    }
+
+    /// Puts the next inner node that a link goes to next, or the tree object where there is none.
+    pub fn rise(&mut self, alloc: Global) -> Pace<()>
+        ensures { Went (rise self.old) self.new result }
+    {
+        match self.next_plan(alloc) {
+            Some((next, level, plan)) => self.put_node(alloc, next, level, plan),
             None => self.finish(alloc),
         }
     }

@@ -1,0 +1,3 @@
+pub mod Ckpt
+pub mod Keys
+pub mod Leasing

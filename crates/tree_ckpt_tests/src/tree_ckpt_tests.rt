@@ -1,0 +1,5 @@
+mod bench;
+mod cuts;
+mod levels;
+mod links;
+mod runs;

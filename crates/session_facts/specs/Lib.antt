@@ -1,0 +1,7 @@
+pub mod Beside
+pub mod Others
+pub mod Opening
+pub mod Committing
+pub mod Checkpoint
+pub mod Noting
+pub mod Sessions

@@ -1,0 +1,79 @@
+-- What holds of a cloud and of all sessions that act on it.
+use Rattle.std.specs.Prelude.{ℕ, ◌≡◌, List, [], ◌∷◌, ◌++◌}
+use Rattle.cloud_trait.specs.Claim.{Claim}
+use Rattle.cloud_trait.specs.State.{CloudState, newest}
+use Rattle.client_session.specs.Session.{Acting}
+use Rattle.client_session.specs.declared.session.Op.{Op}
+use Rattle.client_session.specs.declared.session.Op.TheVariants as op
+use Rattle.client_session.specs.declared.session.Work.{Work}
+use Rattle.client_session.specs.declared.session.Work.TheVariants.{Closed, Idle, Opening, Committing, Folding, Broken}
+use Rattle.db_base.specs.Ids.{IsClient, IsTree}
+use Rattle.history.specs.Audited.{Audited}
+use Rattle.lease_facts.specs.Leases.{Hands, LeasesHold}
+use Rattle.report_types.specs.declared.entry.Entry.{Entry}
+use Rattle.store_book.specs.Book.{Book}
+use Rattle.store_book.specs.Growth.{Grows}
+use Rattle.store_book.specs.Records.{entries_of}
+use Rattle.store_book.specs.Tally.{Store, at}
+use Rattle.telling_facts.specs.Told.{store_of}
+use Rattle.session_facts.specs.Beside.{Logged, StandsBeside, IsLone}
+use Rattle.session_facts.specs.Checkpoint.{KnowsFolding}
+use Rattle.session_facts.specs.Committing.{KnowsCommit, MayCommit}
+use Rattle.session_facts.specs.Noting.{audited}
+use Rattle.session_facts.specs.Opening.{KnowsHome, KnowsOpening, of_option}
+
+-- the leases in hand
+abbrev pub leases_of : Work → List Claim
+leases_of Closed = []
+leases_of (Idle home) = home.lease ∷ []
+leases_of (Opening r) = of_option r.lease
+leases_of (Committing c) = c.home.lease ∷ []
+leases_of (Folding home f) = home.lease ∷ (of_option f.tree_lease ++ of_option f.page_lease)
+leases_of Broken = []
+
+-- what a session knows of a store at a moment, by what it has in hand
+abbrev pub KnowsWork : Store → ℕ → Work → Type 0
+KnowsWork st now Closed = Unit {0}
+KnowsWork st now (Idle home) = KnowsHome st now home
+KnowsWork st now (Opening r) = KnowsOpening st now r
+KnowsWork st now (Committing c) = KnowsCommit st now c
+KnowsWork st now (Folding home f) = KnowsHome st now home × KnowsFolding st now f
+KnowsWork st now Broken = Unit {0}
+
+-- and what it noted may be committed
+pub record Knows (st : Store) (now : ℕ) (session : Acting) : Type 0 where
+  pub work : KnowsWork st now session.work
+  pub buffer : MayCommit session.buffer
+
+-- every session by its number
+abbrev pub Sessions : Type 0
+Sessions = ℕ → Acting
+
+abbrev pub hands_of : Sessions → Hands
+hands_of sessions session = leases_of (sessions session).work
+
+-- a cloud stands under a book, with an order, and so do all sessions
+pub record SessionsStand (book : Book) (order : List Entry) (s : CloudState) (sessions : Sessions) : Type 0 where
+  pub logged : Logged
+  pub cloud : StandsBeside logged book order s
+  pub lone : IsLone book
+  pub leases : LeasesHold s.now s.locks (hands_of sessions)
+  pub each : (session : ℕ) → Knows (store_of book order s) s.now (sessions session)
+
+-- an operation names a client, or a tree
+abbrev pub IsRightOp : Op → Type 0
+IsRightOp (op.Open client) = IsClient client
+IsRightOp op.Commit = Unit {0}
+IsRightOp (op.Tree tree) = IsTree tree
+
+-- what an audit has seen where it saw all: the committed entries, and the order
+abbrev pub audit_of : Book → List Entry → Audited
+audit_of book order = record { committed = entries_of book.log; order = order }
+
+-- what a call of a session leaves: a book and an order for all sessions, of which one is new, that go on exactly by what was seen to land
+pub record Goes (book : Book) (order : List Entry) (s t : CloudState) (sessions : Sessions) (session : ℕ) (new : Acting) : Type 0 where
+  pub book_after : Book
+  pub order_after : List Entry
+  pub stand : SessionsStand book_after order_after t (at session new sessions)
+  pub grows : Grows (store_of book order s) (store_of book_after order_after t)
+  pub noted : audited (newest s) (newest t) (sessions session).work (audit_of book order) ≡ audit_of book_after order_after

@@ -1,5 +1,5 @@
 -- A cloud under a book, beside the ATOMIC messages that its commits would have sent.
-use Rattle.std.specs.Prelude.{ℕ, ◌≡◌, List, if◌then◌else◌, ◌==◌, []}
+use Rattle.std.specs.Prelude.{ℕ, ◌≡◌, List}
 use Rattle.cloud_trait.specs.declared.state.Posted.{Posted}
 use Rattle.cloud_trait.specs.State.{CloudState}
 use Rattle.decoding_facts.specs.Decodes.{Decodes}
@@ -25,12 +25,14 @@ with_messages logged st = record { tally = record st.tally { logged = logged }; 
 abbrev pub beside : Logged → Book → List Entry → CloudState → Store
 beside logged book order s = record { tally = record (tally_of book s) { logged = logged }; book = book; order = order }
 
--- a cloud stands under a book, with an order, beside messages: all that is told holds, the messages are of committed records, and all bytes
--- decode
+-- a cloud stands under a book, with an order, beside messages: all that is told holds, and all bytes decode
 pub record StandsBeside (logged : Logged) (book : Book) (order : List Entry) (s : CloudState) : Type 0 where
   pub holds : Holds (beside logged book order s)
-  pub of_log : (client id : ℕ) (r : AtomicRec) → IsLogMessage (logged client) id r → IsIn book.log r
   pub decodes : Decodes s
+
+-- the messages are of committed records
+abbrev pub AreCommitted : Logged → Book → Type 0
+AreCommitted logged book = (client id : ℕ) (r : AtomicRec) → IsLogMessage (logged client) id r → IsIn book.log r
 
 -- each tree has one leaf, and nothing above it but its root
 abbrev pub IsLone : Book → Type 0

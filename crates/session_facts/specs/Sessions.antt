@@ -16,10 +16,11 @@ use Rattle.store_book.specs.Growth.{Grows}
 use Rattle.store_book.specs.Records.{entries_of}
 use Rattle.store_book.specs.Tally.{Store, at}
 use Rattle.telling_facts.specs.Told.{store_of}
-use Rattle.session_facts.specs.Beside.{Logged, StandsBeside, IsLone}
+use Rattle.session_facts.specs.Beside.{Logged, StandsBeside, AreCommitted, IsLone}
 use Rattle.session_facts.specs.Checkpoint.{KnowsFolding}
 use Rattle.session_facts.specs.Committing.{KnowsCommit, MayCommit}
 use Rattle.session_facts.specs.Noting.{audited}
+use Rattle.session_facts.specs.Others.{Passes}
 use Rattle.session_facts.specs.Opening.{KnowsHome, KnowsOpening, of_option}
 
 -- the leases in hand
@@ -56,6 +57,7 @@ hands_of sessions session = leases_of (sessions session).work
 pub record SessionsStand (book : Book) (order : List Entry) (s : CloudState) (sessions : Sessions) : Type 0 where
   pub logged : Logged
   pub cloud : StandsBeside logged book order s
+  pub messages : AreCommitted logged book
   pub lone : IsLone book
   pub leases : LeasesHold s.now s.locks (hands_of sessions)
   pub each : (session : ℕ) → Knows (store_of book order s) s.now (sessions session)
@@ -69,6 +71,19 @@ IsRightOp (op.Tree tree) = IsTree tree
 -- what an audit has seen where it saw all: the committed entries, and the order
 abbrev pub audit_of : Book → List Entry → Audited
 audit_of book order = record { committed = entries_of book.log; order = order }
+
+-- what a call of the work in hand leaves, the leases apart: what stands goes on exactly by what was seen to land, and what is in hand then is
+-- known
+pub record Outcome (book : Book) (order : List Entry) (s t : CloudState) (work after : Work) : Type 0 where
+  pub logged_after : Logged
+  pub book_after : Book
+  pub order_after : List Entry
+  pub cloud : StandsBeside logged_after book_after order_after t
+  pub messages : AreCommitted logged_after book_after
+  pub lone : IsLone book_after
+  pub passes : Passes (store_of book order s) (store_of book_after order_after t)
+  pub knows : KnowsWork (store_of book_after order_after t) t.now after
+  pub noted : audited (newest s) (newest t) work (audit_of book order) ≡ audit_of book_after order_after
 
 -- what a call of a session leaves: a book and an order for all sessions, of which one is new, that go on exactly by what was seen to land
 pub record Goes (book : Book) (order : List Entry) (s t : CloudState) (sessions : Sessions) (session : ℕ) (new : Acting) : Type 0 where

@@ -1,9 +1,10 @@
 -- What a session may rely on of a call of another one.
 use Rattle.std.specs.Prelude.{ℕ, ◌≡◌, ◌<◌, ◌⊎◌, List}
 use Rattle.cloud_trait.specs.Claim.{Claim, Lasts}
+use Rattle.db_base.specs.Ids.{IsTree}
 use Rattle.db_base.specs.declared.names.Lock.TheVariants as lock
 use Rattle.head_codec.specs.declared.head.Head.{Head}
-use Rattle.left_facts.specs.Left.{IsCopied, IsWaiting}
+use Rattle.left_facts.specs.Left.{IsWaiting}
 use Rattle.log_codec.specs.declared.record.AtomicRec.{AtomicRec}
 use Rattle.store_book.specs.Growth.{Grows}
 use Rattle.store_book.specs.Records.{IsIn, IsApplied}
@@ -28,4 +29,4 @@ pub record Others (mine : List Claim) (later : ℕ) (st su : Store) : Type 0 whe
   pub passes : Passes st su
   pub head : (l : Claim) (client : ℕ) → IsIn mine l → l.lock ≡ lock.Client client → Lasts later l → su.tally.head client ≡ st.tally.head client
   pub roots : (l : Claim) (tree : ℕ) → IsIn mine l → l.lock ≡ lock.Tree tree → Lasts later l → su.tally.roots tree ≡ st.tally.roots tree
-  pub leaf : (l : Claim) (tree : ℕ) → IsIn mine l → l.lock ≡ lock.Page tree 1 → Lasts later l → su.tally.nodes tree 1 ≡ st.tally.nodes tree 1
+  pub leaf : (l : Claim) (tree : ℕ) → IsTree tree → IsIn mine l → l.lock ≡ lock.Page tree 1 → Lasts later l → su.tally.nodes tree 1 ≡ st.tally.nodes tree 1

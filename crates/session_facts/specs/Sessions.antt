@@ -1,6 +1,7 @@
 -- What holds of a cloud and of all sessions that act on it.
 use Rattle.std.specs.Prelude.{ℕ, ◌≡◌, List, [], ◌∷◌, ◌++◌}
 use Rattle.cloud_trait.specs.Claim.{Claim}
+use Rattle.cloud_trait.specs.Growth.{BeginsWith}
 use Rattle.cloud_trait.specs.State.{CloudState, newest}
 use Rattle.client_session.specs.Session.{Acting}
 use Rattle.client_session.specs.declared.session.Op.{Op}
@@ -12,11 +13,9 @@ use Rattle.history.specs.Audited.{Audited}
 use Rattle.lease_facts.specs.Leases.{Hands, LeasesHold}
 use Rattle.report_types.specs.declared.entry.Entry.{Entry}
 use Rattle.store_book.specs.Book.{Book}
-use Rattle.store_book.specs.Growth.{Grows}
 use Rattle.store_book.specs.Records.{entries_of}
 use Rattle.store_book.specs.Tally.{Store, at}
-use Rattle.telling_facts.specs.Told.{store_of}
-use Rattle.session_facts.specs.Beside.{Logged, StandsBeside, AreCommitted, IsLone}
+use Rattle.session_facts.specs.Beside.{Logged, beside, StandsBeside, AreCommitted, IsLone}
 use Rattle.session_facts.specs.Checkpoint.{KnowsFolding}
 use Rattle.session_facts.specs.Committing.{KnowsCommit, MayCommit}
 use Rattle.session_facts.specs.Noting.{audited}
@@ -60,7 +59,7 @@ pub record SessionsStand (book : Book) (order : List Entry) (s : CloudState) (se
   pub messages : AreCommitted logged book
   pub lone : IsLone book
   pub leases : LeasesHold s.now s.locks (hands_of sessions)
-  pub each : (session : ℕ) → Knows (store_of book order s) s.now (sessions session)
+  pub each : (session : ℕ) → Knows (beside logged book order s) s.now (sessions session)
 
 -- an operation names a client, or a tree
 abbrev pub IsRightOp : Op → Type 0
@@ -74,15 +73,15 @@ audit_of book order = record { committed = entries_of book.log; order = order }
 
 -- what a call of the work in hand leaves, the leases apart: what stands goes on exactly by what was seen to land, and what is in hand then is
 -- known
-pub record Outcome (book : Book) (order : List Entry) (s t : CloudState) (work after : Work) : Type 0 where
+pub record Outcome (logged : Logged) (book : Book) (order : List Entry) (s t : CloudState) (work after : Work) : Type 0 where
   pub logged_after : Logged
   pub book_after : Book
   pub order_after : List Entry
   pub cloud : StandsBeside logged_after book_after order_after t
   pub messages : AreCommitted logged_after book_after
   pub lone : IsLone book_after
-  pub passes : Passes (store_of book order s) (store_of book_after order_after t)
-  pub knows : KnowsWork (store_of book_after order_after t) t.now after
+  pub passes : Passes (beside logged book order s) (beside logged_after book_after order_after t)
+  pub knows : KnowsWork (beside logged_after book_after order_after t) t.now after
   pub noted : audited (newest s) (newest t) work (audit_of book order) ≡ audit_of book_after order_after
 
 -- what a call of a session leaves: a book and an order for all sessions, of which one is new, that go on exactly by what was seen to land
@@ -90,5 +89,6 @@ pub record Goes (book : Book) (order : List Entry) (s t : CloudState) (sessions 
   pub book_after : Book
   pub order_after : List Entry
   pub stand : SessionsStand book_after order_after t (at session new sessions)
-  pub grows : Grows (store_of book order s) (store_of book_after order_after t)
+  pub log_goes_on : BeginsWith book.log book_after.log
+  pub order_goes_on : BeginsWith order order_after
   pub noted : audited (newest s) (newest t) (sessions session).work (audit_of book order) ≡ audit_of book_after order_after

@@ -1,7 +1,5 @@
-pub mod Passing
-pub mod Landed
-pub mod Lone
-pub mod Calls
 pub mod Outcomes
-pub mod Heads
 pub mod OpeningLemmas
+pub mod OpeningHands
+pub mod Keeping
+pub mod Laws

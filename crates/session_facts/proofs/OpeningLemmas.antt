@@ -49,49 +49,17 @@ use Rattle.store_book.specs.Records.{IsIn, IsUnderWay, entries_of}
 use Rattle.store_book.specs.Tally.{Store, at}
 use Rattle.store_book.proofs.Names.{at_same}
 use Rattle.store_book.proofs.Places.{in_front}
-use Rattle.session_facts.specs.Beside.{Logged, beside, StandsBeside, AreCommitted, IsLone}
-use Rattle.session_facts.specs.Opening.{KnowsHome, of_option, HasClient, OpensNext, KnowsOpeningAt, KnowsOpening}
-use Rattle.session_facts.specs.Others.{Others}
+use Rattle.machine_facts.specs.Beside.{Logged, beside, StandsBeside, AreCommitted, IsLone}
+use Rattle.machine_facts.specs.Opening.{KnowsHome, of_option, HasClient, OpensNext, KnowsOpeningAt, KnowsOpening}
+use Rattle.machine_facts.specs.Others.{Others}
 use Rattle.session_facts.specs.Sessions.{KnowsWork, audit_of, Outcome}
+use Rattle.machine_facts.specs.Call.{IsCall}
 use Rattle.session_facts.specs.Noting.{noted_at, noted_in_hand}
-use Rattle.session_facts.proofs.Calls.{IsCall, call_of, put_cases}
-use Rattle.session_facts.proofs.Heads.{head_at, newest_head, held_seen}
+use Rattle.machine_facts.proofs.Calls.{call_of, put_cases}
+use Rattle.machine_facts.proofs.Heads.{head_at, newest_head, held_seen}
+use Rattle.machine_facts.proofs.OpeningOthers.{in_option, opening_others, others_itself}
+use Rattle.machine_facts.proofs.OpeningPuts.{settles_next}
 use Rattle.session_facts.proofs.Outcomes.{stays, put_landed, quiet}
-use Rattle.session_facts.proofs.Passing.{passes_itself}
-
--- ---- what others do
-
-in_option : (o : Option Claim) (l : Claim) → o ≡ Some l → IsIn (of_option o) l
-in_option o l e = subst (λ (p : Option Claim). IsIn (of_option p) l) (sym e) (zero, refl)
-
--- nothing changes
-pub others_itself : (mine : List Claim) (later : ℕ) (st : Store) → Others mine later st st
-others_itself mine later st = record { passes = passes_itself st; head = λ l c is e lasts. refl; roots = λ l tree is e lasts. refl; leaf = λ l tree of is e lasts. refl }
-
-pub home_others : (st su : Store) (now later : ℕ) (home : Home) (mine : List Claim) → now ≤ later → IsIn mine home.lease → Others mine later st su → KnowsHome st now home → KnowsHome su later home
-home_others st su now later home mine after here o k = record {
-  client = k.client;
-  lock = k.lock;
-  attempt = k.attempt;
-  settled = k.settled;
-  newest = λ lasts. o.head home.lease home.client here k.lock lasts ∙ k.newest (omega (arith, lasts, after));
-}
-
-pub opening_others : (st su : Store) (now later : ℕ) (r : Recovery) → now ≤ later → Others (of_option r.lease) later st su → KnowsOpening st now r → KnowsOpening su later r
-opening_others st su now later r after o k = record { client = k.client; at = on r.stage k.at }
-  where
-    on : (stage : Stage) → KnowsOpeningAt stage st now r → KnowsOpeningAt stage su later r
-    on Taking a = a
-    on Getting a = a
-    on Putting a = record {
-      held = a.held;
-      before = a.before;
-      settled = a.settled;
-      next = a.next;
-      newest = λ lasts. o.head a.held.lease r.client (in_option r.lease a.held.lease a.held.is) a.held.lock lasts ∙ a.newest (omega (arith, lasts, after));
-    }
-    on Releasing a = a
-    on Finished a = a
 
 -- ---- what an opening knows where its answer leads
 
@@ -155,57 +123,49 @@ put_next u now r (Err t) c held settled zero_txn is = releases u now r t c held
 
 -- ---- one step
 
--- a step by its answer, and what it leaves in hand
+-- what a step leaves in hand
+abbrev pub LeadsTo : Step → Work → Type 0
+LeadsTo (Goes new) work = work ≡ Opening new
+LeadsTo (Ends new a) work = work ≡ opened_work (home_of new)
+LeadsTo (Stops new t) work = work ≡ Closed
+
+knows_work : (u : Store) (now : ℕ) (step : Step) (work : Work) → LeadsTo step work → KnowsNext u now step → KnowsWork u now work
+knows_work u now (Goes new) work is k = subst (KnowsWork u now) (sym is) k
+knows_work u now (Ends new a) work is k = subst (KnowsWork u now) (sym is) k
+knows_work u now (Stops new t) work is k = subst (KnowsWork u now) (sym is) tt
+
+-- a step by its answer: it led to what is in hand, or memory ran out
 pub record IsStep (who : Caller) (s t : CloudState) (r : Recovery) (work : Work) : Type 0 where
   pub reply : Answer
   pub fits : Fits (recovery_ask r) reply
   pub call : IsCall who (recovery_ask r) reply s t
-  pub leads : (u : Store) (now : ℕ) → KnowsNext u now (recovery_next r reply) → KnowsWork u now work
+  pub leads : LeadsTo (recovery_next r reply) work ⊎ (work ≡ Closed)
 
-step_of : (who : Caller) (before after : Seen) (s t : CloudState) (r : Recovery) (work : Work) (turn : Turn SessionAnswer) → before.state ≡ Some s → after.state ≡ Some t
+pub step_of : (who : Caller) (before after : Seen) (s t : CloudState) (r : Recovery) (work : Work) (turn : Turn SessionAnswer) → before.state ≡ Some s → after.state ≡ Some t
     → StepsOpening who before after r work turn → IsStep who s t r work
 step_of who before after s t r work More e f (n, steps, is) = record {
   reply = steps.answer;
   fits = steps.made.fits;
   call = call_of who (recovery_ask r) steps.answer before after s t steps.made e f;
-  leads = λ u now k. subst (KnowsWork u now) (sym is) (subst (KnowsNext u now) steps.took k);
+  leads = inl (subst (λ (next : Step). LeadsTo next work) (sym steps.took) is);
 }
 step_of who before after s t r work (Ended (answer.Opened epoch)) e f (n, steps, is) = record {
   reply = steps.answer;
   fits = steps.made.fits;
   call = call_of who (recovery_ask r) steps.answer before after s t steps.made e f;
-  leads = λ u now k. subst (KnowsWork u now) (sym is) (subst (KnowsNext u now) steps.took k);
+  leads = inl (subst (λ (next : Step). LeadsTo next work) (sym steps.took) is);
 }
 step_of who before after s t r work (Ended (answer.Trouble k)) e f (n, steps, is) = record {
   reply = steps.answer;
   fits = steps.made.fits;
   call = call_of who (recovery_ask r) steps.answer before after s t steps.made e f;
-  leads = λ u now k. subst (KnowsWork u now) (sym is) tt;
+  leads = inr is;
 }
 step_of who before after s t r work (Ended (answer.Commit a)) e f never = absurd never
 step_of who before after s t r work (Ended (answer.Done n)) e f never = absurd never
 step_of who before after s t r work (Stopped k) e f never = absurd never
 
--- ---- the put
-
-settles_next : (st : Store) (client : ℕ) (head before : Head) → IsClient client → st.tally.head client ≡ before → before.phase ≡ phase.Settled → head ≡ next_head before → Settles st client head
-settles_next st client head before is newest settled next = record {
-  is_client = is;
-  phase = ap (λ (h : Head). h.phase) next;
-  behind = inr (ap (λ (h : Head). h.epoch) next ∙ ap (λ (h : Head). h.epoch + 1) (sym newest));
-  counters = λ tree page. ap (λ (h : Head). number_of_queue h.counters tree page) next ∙ ap (λ (h : Head). number_of_queue h.counters tree page) (sym newest);
-  sent = λ r logged own way. absurd (never r own way);
-  copied = λ r logged own way. absurd (never r own way);
-  pending_kept = λ p in_old. inl (subst (λ ps. IsIn ps p) pending in_old);
-  pending_taken = λ r logged own way. absurd (never r own way);
-  pending_from = λ p in_new. inl (subst (λ ps. IsIn ps p) (sym pending) in_new);
-}
-  where
-    pending : (st.tally.head client).pending ≡ head.pending
-    pending = ap (λ (h : Head). h.pending) newest ∙ sym (ap (λ (h : Head). h.pending) next)
-
-    never : (r : AtomicRec) → r.client ≡ client → IsUnderWay st.tally r → ⊥
-    never r own way = settled_way before r settled (subst (λ (h : Head). is_way h r ≡ true) (ap st.tally.head own ∙ newest) way)
+-- ---- by its stage
 
 module _ (who : Caller) (s t : CloudState) (logged : Logged) (book : Book) (order : List Entry) (r : Recovery) (work : Work) (stands : StandsBeside logged book order s)
     (messages : AreCommitted logged book) (lone : IsLone book) (client : IsClient r.client) (step : IsStep who s t r work) where
@@ -217,7 +177,11 @@ module _ (who : Caller) (s t : CloudState) (logged : Logged) (book : Book) (orde
   asks stage e = ap (λ (g : Stage). ask_at g r.lease r) e
 
   leads_at : (stage : Stage) → r.stage ≡ stage → (u : Store) → KnowsNext u t.now (next_at stage r step.reply) → KnowsWork u t.now work
-  leads_at stage e u k = step.leads u t.now (subst (λ (g : Stage). KnowsNext u t.now (next_at g r step.reply)) (sym e) k)
+  leads_at stage e u k = on step.leads
+    where
+      on : LeadsTo (recovery_next r step.reply) work ⊎ (work ≡ Closed) → KnowsWork u t.now work
+      on (inl leads) = knows_work u t.now (recovery_next r step.reply) work leads (subst (λ (g : Stage). KnowsNext u t.now (next_at g r step.reply)) (sym e) k)
+      on (inr closed) = subst (KnowsWork u t.now) (sym closed) tt
 
   quiet_at : (ask : Ask) → recovery_ask r ≡ ask → PutsNothing ask → TouchesNoMessage ask → KnowsWork st t.now work → Outcome logged book order s t (Opening r) work
   quiet_at ask is puts touches knows =

@@ -24,13 +24,14 @@ use Rattle.landing_facts.specs.Landing as lands_nothing
 use Rattle.report_types.specs.declared.entry.Entry.{Entry}
 use Rattle.store_book.specs.Book.{Book}
 use Rattle.store_book.specs.Tally.{Store}
-use Rattle.session_facts.specs.Beside.{Logged, beside, StandsBeside, AreCommitted, IsLone}
+use Rattle.machine_facts.specs.Beside.{Logged, beside, StandsBeside, AreCommitted, IsLone}
 use Rattle.session_facts.specs.Noting.{Newest, has_bytes, has_landed, noted_in_hand, audited}
-use Rattle.session_facts.specs.Others.{Passes}
+use Rattle.machine_facts.specs.Others.{Passes}
 use Rattle.session_facts.specs.Sessions.{KnowsWork, audit_of, Outcome}
-use Rattle.session_facts.proofs.Calls.{IsCall, landed_or_not}
-use Rattle.session_facts.proofs.Landed.{landing_told, landing_spells, landing_stands, same_stands}
-use Rattle.session_facts.proofs.Passing.{landing_passes, passes_itself}
+use Rattle.machine_facts.specs.Call.{IsCall}
+use Rattle.machine_facts.proofs.Calls.{landed_or_not}
+use Rattle.machine_facts.proofs.Landed.{landing_told, landing_spells, landing_stands, same_stands}
+use Rattle.machine_facts.proofs.Passing.{landing_passes, passes_itself}
 
 -- ---- whether a put was seen to land
 

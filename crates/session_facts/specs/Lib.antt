@@ -1,7 +1,2 @@
-pub mod Beside
-pub mod Others
-pub mod Opening
-pub mod Committing
-pub mod Checkpoint
 pub mod Noting
 pub mod Sessions

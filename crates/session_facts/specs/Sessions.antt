@@ -1,5 +1,10 @@
 -- What holds of a cloud and of all sessions that act on it.
-use Rattle.std.specs.Prelude.{ℕ, ◌≡◌, List, [], ◌∷◌, ◌++◌}
+use Rattle.std.specs.Prelude.{ℕ, ◌≡◌, ◌⊎◌, List, [], ◌∷◌, ◌++◌}
+use Rattle.cloud_trait.specs.declared.answer.Answer.{Answer}
+use Rattle.cloud_trait.specs.declared.answer.Answer.TheVariants.{Given}
+use Rattle.cloud_trait.specs.Ask.{Ask, Take, Renew}
+use Rattle.cloud_trait.specs.Caller.{Caller}
+use Rattle.machine_facts.specs.Call.{IsCall}
 use Rattle.cloud_trait.specs.Claim.{Claim}
 use Rattle.cloud_trait.specs.Growth.{BeginsWith}
 use Rattle.cloud_trait.specs.State.{CloudState, newest}
@@ -10,17 +15,18 @@ use Rattle.client_session.specs.declared.session.Work.{Work}
 use Rattle.client_session.specs.declared.session.Work.TheVariants.{Closed, Idle, Opening, Committing, Folding, Broken}
 use Rattle.db_base.specs.Ids.{IsClient, IsTree}
 use Rattle.history.specs.Audited.{Audited}
-use Rattle.lease_facts.specs.Leases.{Hands, LeasesHold}
+use Rattle.lease_facts.specs.Leases.{Hands, LeasesHold, Owns, KeptBy}
+use Rattle.lease_facts.specs.Guards.{IsGuarded}
 use Rattle.report_types.specs.declared.entry.Entry.{Entry}
 use Rattle.store_book.specs.Book.{Book}
-use Rattle.store_book.specs.Records.{entries_of}
+use Rattle.store_book.specs.Records.{IsIn, entries_of}
 use Rattle.store_book.specs.Tally.{Store, at}
-use Rattle.session_facts.specs.Beside.{Logged, beside, StandsBeside, AreCommitted, IsLone}
-use Rattle.session_facts.specs.Checkpoint.{KnowsFolding}
-use Rattle.session_facts.specs.Committing.{KnowsCommit, MayCommit}
+use Rattle.machine_facts.specs.Beside.{Logged, beside, StandsBeside, AreCommitted, IsLone}
+use Rattle.machine_facts.specs.Checkpoint.{KnowsFolding}
+use Rattle.machine_facts.specs.Committing.{KnowsCommit, MayCommit}
 use Rattle.session_facts.specs.Noting.{audited}
-use Rattle.session_facts.specs.Others.{Passes}
-use Rattle.session_facts.specs.Opening.{KnowsHome, KnowsOpening, of_option}
+use Rattle.machine_facts.specs.Others.{Passes}
+use Rattle.machine_facts.specs.Opening.{KnowsHome, KnowsOpening, of_option}
 
 -- the leases in hand
 abbrev pub leases_of : Work → List Claim
@@ -44,6 +50,20 @@ KnowsWork st now Broken = Unit {0}
 pub record Knows (st : Store) (now : ℕ) (session : Acting) : Type 0 where
   pub work : KnowsWork st now session.work
   pub buffer : MayCommit session.buffer
+
+-- ---- a call
+
+-- it renews no lease
+abbrev pub RenewsNothing : Ask → Type 0
+RenewsNothing (Renew l ticks) = ⊥
+RenewsNothing ask = Unit {0}
+
+-- the lease that it was given
+abbrev pub GivenBy : Ask → Answer → Claim → Type 0
+GivenBy (Take lock ticks) (Given l) x = x ≡ l
+GivenBy ask reply x = ⊥
+
+-- ---- all sessions
 
 -- every session by its number
 abbrev pub Sessions : Type 0
@@ -83,6 +103,16 @@ pub record Outcome (logged : Logged) (book : Book) (order : List Entry) (s t : C
   pub passes : Passes (beside logged book order s) (beside logged_after book_after order_after t)
   pub knows : KnowsWork (beside logged_after book_after order_after t) t.now after
   pub noted : audited (newest s) (newest t) work (audit_of book order) ≡ audit_of book_after order_after
+
+-- what a call does to the leases in hand: it names the session's own, which guard what it puts, and none but one that it was given is new
+pub record Handles (who : Caller) (s t : CloudState) (work after : Work) : Type 0 where
+  pub ask : Ask
+  pub reply : Answer
+  pub call : IsCall who ask reply s t
+  pub owns : Owns (λ session. leases_of work) who.session ask
+  pub guarded : IsGuarded s ask
+  pub renews : RenewsNothing ask
+  pub own : (x : Claim) → IsIn (leases_of after) x → (IsIn (leases_of work) x × KeptBy ask x) ⊎ GivenBy ask reply x
 
 -- what a call of a session leaves: a book and an order for all sessions, of which one is new, that go on exactly by what was seen to land
 pub record Goes (book : Book) (order : List Entry) (s t : CloudState) (sessions : Sessions) (session : ℕ) (new : Acting) : Type 0 where

@@ -21,7 +21,7 @@ use Rattle.store_book.specs.Tally.{Store}
 use Rattle.store_book.proofs.GrowthLemmas.{applied_stays, grows_itself}
 use Rattle.store_book.proofs.Names.{at2_by}
 use Rattle.store_book.proofs.Places.{in_either, in_none}
-use Rattle.session_facts.specs.Others.{WasSentOn, IsNewer, Passes}
+use Rattle.machine_facts.specs.Others.{WasSentOn, IsNewer, Passes}
 
 -- ---- what was sent on stays so
 

@@ -58,6 +58,7 @@ IsCoveredBy upto st tree id = (rec : PuRec) × IsMessage (st.tally.posts tree 0)
 pub record HasRun (st : Store) (f : Folding) : Type 0 where
   pub received : List PuItem
   pub is_run : IsRun f.cursor received f.run.items f.run.top
+  pub clients : (x : PuItem) → IsIn f.run.items x → IsClient x.rec.client
   pub items : (x : PuItem) → IsIn received x → IsItemOf st f.tree 0 x
   pub ids : (id : ℕ) → IsIn f.ids id → IsCoveredBy (number_of f.run.top) st f.tree id
 

@@ -28,7 +28,7 @@ use Rattle.telling_facts.proofs.Easy.{head_told, logged_told, posted_told, log_m
 use Rattle.telling_facts.proofs.Laws.{taken_tells, taken_next, inner_tells, page_tells, raise_tells}
 use Rattle.telling_facts.proofs.Nodes.{root_told}
 use Rattle.telling_facts.proofs.Ready.{first_next}
-use Rattle.session_facts.specs.Beside.{Logged, with_messages, beside, StandsBeside}
+use Rattle.machine_facts.specs.Beside.{Logged, with_messages, beside, StandsBeside}
 
 -- ---- what is told after a call
 

@@ -16,7 +16,7 @@ use Rattle.route_plan.specs.Route.{routed, AllFit}
 use Rattle.store_book.specs.Records.{StandsAt, IsIn}
 use Rattle.store_book.specs.Tally.{Store}
 use Rattle.txn_buffer.specs.Noted.{Noted, AreNoted}
-use Rattle.session_facts.specs.Others.{WasSentOn}
+use Rattle.machine_facts.specs.Others.{WasSentOn}
 
 -- changes that may be committed: at most 200, one for each tree and key, each of a tree and with a key and a payload
 pub record MayCommit (changes : List Noted) : Type 0 where

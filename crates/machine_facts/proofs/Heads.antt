@@ -16,7 +16,7 @@ use Rattle.head_codec.specs.Head.{empty_head}
 use Rattle.head_codec.specs.Spelling.{head_of}
 use Rattle.head_codec.specs.declared.head.Head.{Head}
 use Rattle.store_book.specs.Telling.{last_or, head_in}
-use Rattle.session_facts.proofs.Calls.{IsCall}
+use Rattle.machine_facts.specs.Call.{IsCall}
 
 -- the head that the newest bytes spell, the empty one where there are none
 abbrev pub head_at : Option (List ℕ) → Head

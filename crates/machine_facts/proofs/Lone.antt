@@ -18,7 +18,7 @@ use Rattle.store_book.specs.Book.{Book, Link}
 use Rattle.store_book.specs.Records.{IsIn}
 use Rattle.store_book.specs.Tally.{Node, Leafy, Branch}
 use Rattle.store_book.specs.Telling.{nodes_of, newest_leaf, leaf_in, leaf_of_bytes}
-use Rattle.session_facts.specs.Beside.{Logged, StandsBeside, IsLone}
+use Rattle.machine_facts.specs.Beside.{Logged, StandsBeside, IsLone}
 
 -- the first leaf is a link of the leaf chain
 pub first_linked : (book : Book) → IsLone book → (tree : ℕ) → IsIn (book.chain tree 0) first_link

@@ -10,16 +10,10 @@ use Rattle.cloud_trait.specs.Views.{done_of, sent_of}
 use Rattle.cloud_trait.specs.Ask.{Ask, PutHeld, Send, Lands}
 use Rattle.cloud_trait.specs.Caller.{Caller}
 use Rattle.cloud_trait.specs.Seen.{Seen}
-use Rattle.cloud_trait.specs.State.{CloudState, Counts, called}
+use Rattle.cloud_trait.specs.State.{CloudState, called}
 use Rattle.cloud_trait.specs.Weather.{Weather, FirstOver, Leaves, Makes}
 use Rattle.cloud_trait.proofs.RowLemmas.{lands_or_not}
-
--- the call was made between these states, and was answered so
-pub record IsCall (who : Caller) (ask : Ask) (answer : Answer) (s t : CloudState) : Type 0 where
-  pub before : Counts
-  pub after : Counts
-  pub later : s.now ≤ t.now
-  pub row : Weather who ask answer before after (called who t.now s) t
+use Rattle.machine_facts.specs.Call.{IsCall}
 
 state_is : (s t : CloudState) → Some s ≡ Some t → s ≡ t
 state_is s t e = cc

@@ -1,0 +1,11 @@
+pub mod Passing
+pub mod Landed
+pub mod Lone
+pub mod Calls
+pub mod Heads
+pub mod Copies
+pub mod OpeningOthers
+pub mod OpeningPuts
+pub mod CommitOthers
+pub mod CheckpointOthers
+pub mod Noted

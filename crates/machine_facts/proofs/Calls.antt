@@ -7,7 +7,7 @@ use Rattle.cloud_trait.specs.declared.answer.Answer.{Answer}
 use Rattle.cloud_trait.specs.declared.answer.Answer.TheVariants.{Got, Sent, Received, Done, Given, Held, Renewed, Late, Failed, Memory}
 use Rattle.cloud_trait.specs.Claim.{Claim, Lasts}
 use Rattle.cloud_trait.specs.Views.{done_of, sent_of}
-use Rattle.cloud_trait.specs.Ask.{Ask, PutHeld, Send, Lands}
+use Rattle.cloud_trait.specs.Ask.{Ask, PutHeld, Send, Permits, Lands}
 use Rattle.cloud_trait.specs.Caller.{Caller}
 use Rattle.cloud_trait.specs.Seen.{Seen}
 use Rattle.cloud_trait.specs.State.{CloudState, called}
@@ -69,10 +69,20 @@ send_cases who queue bytes (Renewed e) s t c = absurd c.row
 -- a late put found its lease over
 pub put_late : (who : Caller) (name : ObjName) (bytes : List ℕ) (one : Claim) (answer : Answer) (s t : CloudState) → IsCall who (PutHeld name bytes one None) answer s t → (end now : ℕ)
     → done_of answer ≡ Err (trouble.Late end now) → Lasts t.now one → ⊥
-put_late who name bytes one (Late e n) s t c end now is lasts = on c.row.1.0
+put_late who name bytes one (Late e n) s t c end now is lasts = on c.row.1
   where
     on : FirstOver t.now one None e → ⊥
     on (inl p) = omega (arith, p.0, lasts)
     on (inr p) = absurd p.1
 put_late who name bytes one Done s t c end now is lasts = cc
 put_late who name bytes one answer s t c end now is lasts = cc
+
+-- a call that landed was permitted
+pub permitted : (who : Caller) (ask : Ask) (b t : CloudState) → Lands who ask b t → Permits ask b
+permitted who ask b t lands = lands.1
+
+pub put_lasts : (who : Caller) (name : ObjName) (bytes : List ℕ) (one : Claim) (two : Option Claim) (b t : CloudState) → Lands who (PutHeld name bytes one two) b t → Lasts b.now one
+put_lasts who name bytes one two b t lands = both (permitted who (PutHeld name bytes one two) b t lands)
+  where
+    both : Permits (PutHeld name bytes one two) b → Lasts b.now one
+    both p = p.0

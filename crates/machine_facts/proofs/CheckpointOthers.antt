@@ -43,6 +43,7 @@ module _ (st su : Store) (now later : ℕ) (f : Folding) (after : now ≤ later)
   }
 
   raises_stays : RaisesRoot st now f → RaisesRoot su later f
+  unfolding root_stays
   raises_stays k = record { read = root_stays k.read; next = k.next }
 
   covered_stays : (upto : ℕ → ℕ) (id : ℕ) → IsCoveredBy upto st f.tree id → IsCoveredBy upto su f.tree id
@@ -77,6 +78,7 @@ module _ (st su : Store) (now later : ℕ) (f : Folding) (after : now ≤ later)
       newest_of nodes = leaf_in (last_or (Leafy empty_leaf) nodes)
 
   puts_stays : PutsRoot st now f → PutsRoot su later f
+  unfolding root_stays
   puts_stays k = record { read = root_stays k.read; root = k.root; next = k.next; puts = k.puts }
 
   delete_stays : MayDelete st f → MayDelete su f
@@ -103,9 +105,9 @@ folding_others st su now later f after o k = record { tree = k.tree; at = on f.s
     on GettingPage a = (raises_stays st su now later f after o k.tree a.0, run_stays st su now later f after o k.tree a.1, a.2)
     on PuttingPage a = (raises_stays st su now later f after o k.tree a.0, run_stays st su now later f after o k.tree a.1, leaf_stays st su now later f after o k.tree a.2)
     on ReleasingPage a =
-        (raises_stays st su now later f after o k.tree a.0, run_stays st su now later f after o k.tree a.1, a.2.0, applied_stays st su now later f after o k.tree a.1 a.2.1)
+        (raises_stays st su now later f after o k.tree a.0, run_stays st su now later f after o k.tree a.1, a.2, applied_stays st su now later f after o k.tree a.1 a.3)
     on PuttingTree a =
-        (puts_stays st su now later f after o k.tree a.0, run_stays st su now later f after o k.tree a.1, applied_stays st su now later f after o k.tree a.1 a.2.0, a.2.1)
+        (puts_stays st su now later f after o k.tree a.0, run_stays st su now later f after o k.tree a.1, applied_stays st su now later f after o k.tree a.1 a.2, a.3)
     on Deleting a = (a.0, delete_stays st su now later f after o k.tree a.1, a.2)
     on ReleasingTree a = a
     on StoppingPage a = a

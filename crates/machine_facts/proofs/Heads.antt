@@ -36,5 +36,5 @@ pub held_seen : (who : Caller) (name : ObjName) (l : Claim) (answer : Answer) (s
     → v ≡ newest s name
 held_seen who name l (Got w) s t call v e =
     let same : w ≡ v = cc in
-    sym same ∙ call.row.2.1
+    sym same ∙ call.row.2
 held_seen who name l answer s t call v e = absurd (cc)

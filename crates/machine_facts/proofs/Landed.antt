@@ -1,7 +1,8 @@
 -- Every call that lands keeps what holds of a cloud beside messages.
-use Rattle.std.proofs.Common.{◌≡◌, ℕ, List, [], refl, sym, subst}
+use Rattle.std.proofs.Common.{◌≡◌, ℕ, false, List, [], refl, sym, subst}
 use Rattle.db_base.specs.Ids.{IsTree}
 use Rattle.db_base.specs.declared.names.ObjName.TheVariants as object
+use Rattle.db_base.specs.declared.names.QueueName.TheVariants.{Atomic}
 use Rattle.cloud_trait.specs.Ask.{Ask, Get, GetHeld, PutHeld, Send, Receive, Delete, Take, Renew, Release, effect, PutsNothing, TouchesNoMessage}
 use Rattle.cloud_trait.specs.Caller.{Caller}
 use Rattle.cloud_trait.specs.State.{CloudState, IsEmptyCloud, landed as put, sent, deleted}
@@ -17,11 +18,13 @@ use Rattle.landing_facts.specs.Landing.{Spells as SpellsNode}
 use Rattle.landing_facts.proofs.LandingLemmas.{landing_keeps, empty_holds, opens_later, settles_later}
 use Rattle.leaf_view.specs.Leaf.{IsLeaf}
 use Rattle.report_types.specs.declared.entry.Entry.{Entry}
-use Rattle.store_book.specs.Book.{Book, empty_book}
+use Rattle.node_codec.specs.Tree.{Tree}
+use Rattle.store_book.specs.Book.{Book, Link, empty_book}
+use Rattle.chain_facts.specs.Landing.{Raises}
 use Rattle.store_book.specs.Effects.{Taking, after_head, after_logged, after_posted, after_log_mark, after_post_mark, after_leaf, after_page, after_inner, after_root, after_raise}
 use Rattle.store_book.specs.Premises.{Takes, LandsFirst}
 use Rattle.store_book.specs.Tally.{Node, Leafy, Branch, Store}
-use Rattle.store_book.specs.Telling.{tally_of}
+use Rattle.store_book.specs.Telling.{tally_of, queue_of}
 use Rattle.telling_facts.specs.Told.{store_of, Tells}
 use Rattle.telling_facts.proofs.Asks.{quiet_tells}
 use Rattle.telling_facts.proofs.Easy.{head_told, logged_told, posted_told, log_mark_told, post_mark_told, same_told}
@@ -56,32 +59,45 @@ page_told who logged book order s tree page (Leafy l) bytes is h d e first =
 page_told who logged book order s tree page (Branch n) bytes is h d e first =
     page_tells book order s tree is h d who page bytes (Branch n) e (first_of logged book order s tree page (own_of page (Branch n)) first)
 
+raises_of : (logged : Logged) (book : Book) (order : List Entry) (s : CloudState) (tree : ℕ) (t : Tree) (level : ℕ) (links : List Link) → Raises (beside logged book order s) tree t level links
+    → Raises (store_of book order s) tree t level links
+raises_of logged book order s tree t level links r = record {
+  level_is = r.level_is;
+  height = r.height;
+  next = r.next;
+  names = r.names;
+  begins = r.begins;
+  ascends = r.ascends;
+  pieces_are = r.pieces_are;
+  new = r.new;
+}
+
 pub landing_told : (who : Caller) (logged : Logged) (book : Book) (order : List Entry) (s : CloudState) (ask : Ask) (su : Store) → ChainHolds (store_of book order s)
     → Decodes s → (l : Landing who (beside logged book order s) ask su) → Follows who (beside logged book order s) ask su l
     → beside su.tally.logged su.book su.order (effect who ask s) ≡ su
 landing_told who logged book order s ask su h d (opens client head records bytes one two e o) f =
-    swapped logged _ (after_head client head records (store_of book order s)) (head_told who client bytes head records book order s e)
+    swapped logged (put who (object.Head client) bytes s) (after_head client head records (store_of book order s)) (head_told who client bytes head records book order s e)
 landing_told who logged book order s ask su h d (settles client head bytes one two e o) f =
-    swapped logged _ (after_head client head [] (store_of book order s)) (head_told who client bytes head [] book order s e)
+    swapped logged (put who (object.Head client) bytes s) (after_head client head [] (store_of book order s)) (head_told who client bytes head [] book order s e)
 landing_told who logged book order s ask su h d (logs client bytes r o) f =
-    swapped su.tally.logged _ (after_logged client (record { who = who; bytes = bytes; deleted = false }) (store_of book order s)) (logged_told who client bytes book order s)
+    swapped su.tally.logged (sent who (Atomic client) bytes s) (after_logged client (record { who = who; bytes = bytes; deleted = false }) (store_of book order s)) (logged_told who client bytes book order s)
 landing_told who logged book order s ask su h d (posts tree page bytes r o) f =
-    swapped logged _ (after_posted tree page (record { who = who; bytes = bytes; deleted = false }) (store_of book order s)) (posted_told who tree page bytes book order s)
+    swapped logged (sent who (queue_of tree page) bytes s) (after_posted tree page (record { who = who; bytes = bytes; deleted = false }) (store_of book order s)) (posted_told who tree page bytes book order s)
 landing_told who logged book order s ask su h d (marks_log client id o) f =
-    swapped su.tally.logged _ (after_log_mark client id (store_of book order s)) (log_mark_told client id book order s)
+    swapped su.tally.logged (deleted (Atomic client) id s) (after_log_mark client id (store_of book order s)) (log_mark_told client id book order s)
 landing_told who logged book order s ask su h d (marks_post tree page id o) f =
-    swapped logged _ (after_post_mark tree page id (store_of book order s)) (post_mark_told tree page id book order s)
+    swapped logged (deleted (queue_of tree page) id s) (after_post_mark tree page id (store_of book order s)) (post_mark_told tree page id book order s)
 landing_told who logged book order s ask su h d (puts_leaf p bytes one two e takes lands) f =
-    swapped logged _ (after_leaf p (store_of book order s)) (leaf_told who logged book order s p bytes h d e takes f)
+    swapped logged (put who (object.Page p.tree p.page) bytes s) (after_leaf p (store_of book order s)) (leaf_told who logged book order s p bytes h d e takes f)
 landing_told who logged book order s ask su h d (puts_page tree page node bytes one two is e first lands) f =
-    swapped logged _ (after_page tree page node (own_of page node) (store_of book order s)) (page_told who logged book order s tree page node bytes is h d e first)
+    swapped logged (put who (object.Page tree page) bytes s) (after_page tree page node (own_of page node) (store_of book order s)) (page_told who logged book order s tree page node bytes is h d e first)
 landing_told who logged book order s ask su h d (puts_inner tree page node pieces bytes one two is e lands) f =
-    swapped logged _ (after_inner tree page node pieces (store_of book order s)) (inner_tells book order s tree is h d who page bytes node pieces e lands)
+    swapped logged (put who (object.Page tree page) bytes s) (after_inner tree page node pieces (store_of book order s)) (inner_tells book order s tree is h d who page bytes node pieces e lands)
 landing_told who logged book order s ask su h d (puts_root tree t bytes one two is e covers lands) f =
-    swapped logged _ (after_root tree t (store_of book order s)) (root_told who tree bytes t book order s e)
+    swapped logged (put who (object.Tree tree) bytes s) (after_root tree t (store_of book order s)) (root_told who tree bytes t book order s e)
 landing_told who logged book order s ask su h d (raises_root tree t level links bytes one two is e covers lands) f =
-    swapped logged _ (after_raise tree t level links (store_of book order s)) (raise_tells book order s tree is h d who bytes t level links e lands)
-landing_told who logged book order s ask su h d (stays asked puts touches) f = swapped logged _ (store_of book order s) (quiet_tells who asked book order s puts touches)
+    swapped logged (put who (object.Tree tree) bytes s) (after_raise tree t level links (store_of book order s)) (raise_tells book order s tree is h d who bytes t level links e (raises_of logged book order s tree t level links lands))
+landing_told who logged book order s ask su h d (stays asked puts touches) f = swapped logged (effect who asked s) (store_of book order s) (quiet_tells who asked book order s puts touches)
 
 -- ---- what the bytes of a call spell
 

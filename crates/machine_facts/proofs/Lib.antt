@@ -9,3 +9,5 @@ pub mod OpeningPuts
 pub mod CommitOthers
 pub mod CheckpointOthers
 pub mod Noted
+pub mod Searching
+pub mod Routing

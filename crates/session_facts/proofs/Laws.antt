@@ -81,7 +81,7 @@ owned hands session mine (Renew l ticks) e o = subst (λ ls. IsIn ls l) (sym e) 
 owned hands session mine (Release l) e o = subst (λ ls. IsIn ls l) (sym e) o
 
 -- what a call leaves of a state, of a call between two states
-leaves_of : (who : Caller) (ask : Ask) (reply : Reply) (s t : CloudState) → (c : IsCall who ask reply s t) → Leaves who ask reply c.before c.after s (Some t)
+abbrev leaves_of : (who : Caller) (ask : Ask) (reply : Reply) (s t : CloudState) → (c : IsCall who ask reply s t) → Leaves who ask reply c.before c.after s (Some t)
 leaves_of who ask reply s t c = record { after = t; told = refl; later = c.later; row = c.row }
 
 -- ---- one session changes
@@ -208,7 +208,10 @@ rest_keeps book order s t sessions versions messages locks later stand = record 
 
 -- the same sessions
 pub same_sessions : (book : Book) (order : List Entry) (s : CloudState) (f g : Sessions) → ((n : ℕ) → g n ≡ f n) → SessionsStand book order s f → SessionsStand book order s g
-same_sessions book order s f g same = subst (SessionsStand book order s) (λ i n. same n (~ i))
+same_sessions book order s f g same = subst (SessionsStand book order s) (sym alike)
+  where
+    alike : g ≡ f
+    alike = λ i n. same n i
 
 -- ---- the beginning
 

@@ -60,17 +60,17 @@ head_fewer : (r : Recovery) (h : Head) → Fewer r (head_read r h)
 head_fewer r h = on (h.epoch == 2 ^ 64 - 1)
   where
     on : (b : Bool) → Fewer r (cond b (releasing r (trouble.Exhausted counter.Epoch)) (phase_read r h.phase h))
-    on true x is = is
+    on true = λ x is. is
     on false = phase_fewer r h h.phase
 
 bytes_fewer : (r : Recovery) (bytes : List ℕ) (o : Option Head) → Fewer r (bytes_read r bytes o)
 bytes_fewer r bytes (Some h) = head_fewer r h
-bytes_fewer r bytes None x is = is
+bytes_fewer r bytes None = λ x is. is
 
 got_fewer : (r : Recovery) (g : Result (Option (List ℕ)) Trouble) → Fewer r (got_by r g)
 got_fewer r (Ok None) = head_fewer r empty_head
 got_fewer r (Ok (Some bytes)) = bytes_fewer r bytes (head_of bytes)
-got_fewer r (Err t) x is = is
+got_fewer r (Err t) = λ x is. is
 
 home_fewer : (r : Recovery) (lease : Option Claim) (x : Claim) → IsIn (leases_of (opened_work (home_with (record r { stage = Finished }) lease))) x → IsIn (of_option lease) x
 home_fewer r None x is = is

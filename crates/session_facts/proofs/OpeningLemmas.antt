@@ -55,7 +55,7 @@ use Rattle.machine_facts.specs.Others.{Others}
 use Rattle.session_facts.specs.Sessions.{KnowsWork, audit_of, Outcome}
 use Rattle.machine_facts.specs.Call.{IsCall}
 use Rattle.session_facts.specs.Noting.{noted_at, noted_in_hand}
-use Rattle.machine_facts.proofs.Calls.{call_of, put_cases}
+use Rattle.machine_facts.proofs.Calls.{call_of, put_cases, put_lasts}
 use Rattle.machine_facts.proofs.Heads.{head_at, newest_head, held_seen}
 use Rattle.machine_facts.proofs.OpeningOthers.{in_option, opening_others, others_itself}
 use Rattle.machine_facts.proofs.OpeningPuts.{settles_next}
@@ -232,7 +232,7 @@ module _ (who : Caller) (s t : CloudState) (logged : Logged) (book : Book) (orde
       on (inl p) = stays who logged book order s t (Opening r) work p.0 stands messages lone (knows st (λ done. absurd (p.1 done)))
       on (inr lands) =
           put_landed who logged logged book order s t (Opening r) work (object.Head r.client) r.out k.held.lease None su (λ c. begins_itself (posts_of (logged c))) lands stands
-          (settles r.client r.head r.out k.held.lease None sound.1 (settles_next st r.client r.head k.before client (k.newest lands.1.0) k.settled k.next)) tt
+          (settles r.client r.head r.out k.held.lease None sound.1 (settles_next st r.client r.head k.before client (k.newest (put_lasts who (object.Head r.client) r.out k.held.lease None (called who t.now s) t lands)) k.settled k.next)) tt
           (λ c id q m. in_front book.log [] q (messages c id q m)) lone (knows su (λ done. at_same r.client r.head st.tally.head r.client refl))
           (ap (λ (a : Ask). Some a) ask_is) (noted ask_is)
         where

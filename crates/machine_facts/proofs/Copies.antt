@@ -1,5 +1,5 @@
 -- What was sent and what is committed stays so.
-use Rattle.std.proofs.Common.{◌≡◌, ℕ, zero, suc, List, [], ◌∷◌, ◌++◌, map, Some, refl, sym, ap, subst, ◌∙◌}
+use Rattle.std.proofs.Common.{◌≡◌, ℕ, zero, suc, List, [], ◌∷◌, ◌++◌, map, Some, refl, sym, ap, subst, ◌∙◌, append_assoc}
 use Rattle.std.specs.Prelude.{slice_get}
 use Rattle.cloud_trait.specs.Caller.{Caller}
 use Rattle.cloud_trait.specs.Growth.{BeginsWith}
@@ -16,6 +16,10 @@ use Rattle.store_book.specs.Premises.{IsItemOf}
 use Rattle.store_book.specs.Records.{IsIn}
 use Rattle.store_book.specs.Tally.{Store}
 use Rattle.store_book.proofs.Places.{get_front, get_map, in_front}
+
+-- a list that goes on from one that goes on
+pub begins_on : {X : Type 0} (xs ys zs : List X) → BeginsWith xs ys → BeginsWith ys zs → BeginsWith xs zs
+begins_on xs ys zs (m, e) (n, f) = (m ++ n, f ∙ (ap (λ l. l ++ n) e ∙ append_assoc xs m n))
 
 -- a message that was sent stands at its place still, with its bytes
 mapped : (ms : List Posted) (place : ℕ) (b : Caller × List ℕ) → slice_get (posts_of ms) place ≡ Some b → (m : Posted) × (slice_get ms place ≡ Some m) × (m.bytes ≡ b.1)

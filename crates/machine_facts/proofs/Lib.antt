@@ -11,3 +11,5 @@ pub mod CheckpointOthers
 pub mod Noted
 pub mod Searching
 pub mod Routing
+pub mod Ghosts
+pub mod Opened

@@ -30,6 +30,7 @@ use Rattle.machine_facts.specs.Others.{Passes}
 use Rattle.session_facts.specs.Sessions.{KnowsWork, audit_of, Outcome}
 use Rattle.machine_facts.specs.Call.{IsCall}
 use Rattle.machine_facts.proofs.Calls.{landed_or_not}
+use Rattle.machine_facts.proofs.Copies.{begins_on}
 use Rattle.machine_facts.proofs.Landed.{landing_told, landing_spells, landing_stands, same_stands}
 use Rattle.machine_facts.proofs.Passing.{landing_passes, passes_itself}
 
@@ -102,9 +103,6 @@ stays who logged book order s t work after e stands messages lone knows = record
 -- ---- a call that landed
 
 -- what passes from a store beside fewer messages
-begins_on : {X : Type 0} (xs ys zs : List X) → BeginsWith xs ys → BeginsWith ys zs → BeginsWith xs zs
-begins_on xs ys zs (m, e) (n, f) = (m ++ n, f ∙ (ap (λ l. l ++ n) e ∙ append_assoc xs m n))
-
 pub passes_from : (logged mid : Logged) (book : Book) (order : List Entry) (s : CloudState) (su : Store) → ((client : ℕ) → BeginsWith (posts_of (logged client)) (posts_of (mid client)))
     → Passes (beside mid book order s) su → Passes (beside logged book order s) su
 passes_from logged mid book order s su begins p = record {

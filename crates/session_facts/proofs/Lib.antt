@@ -3,3 +3,4 @@ pub mod OpeningLemmas
 pub mod OpeningHands
 pub mod Keeping
 pub mod Laws
+pub mod Begins

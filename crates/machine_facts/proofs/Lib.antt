@@ -13,3 +13,8 @@ pub mod Searching
 pub mod Routing
 pub mod Ghosts
 pub mod Opened
+pub mod Settled
+pub mod Received
+pub mod Takes
+pub mod Covers
+pub mod Roots

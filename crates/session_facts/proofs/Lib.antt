@@ -4,3 +4,8 @@ pub mod OpeningHands
 pub mod Keeping
 pub mod Laws
 pub mod Begins
+pub mod CommitLemmas
+pub mod CommitHands
+pub mod CheckpointNexts
+pub mod CheckpointLemmas
+pub mod CheckpointHands

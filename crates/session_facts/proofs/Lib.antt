@@ -9,3 +9,4 @@ pub mod CommitHands
 pub mod CheckpointNexts
 pub mod CheckpointLemmas
 pub mod CheckpointHands
+pub mod Calling

@@ -44,7 +44,7 @@ use Rattle.machine_facts.proofs.Received.{consecutive, run_in, upto_greatest}
 pub lone_page : (book : Book) → IsLone book → (tree : ℕ) (key : List ℕ) → page_for book tree key ≡ 1
 lone_page book lone tree key = ap (page_from 1 key) (lone tree 0) ∙ on (bytes_below key [])
   where
-    on : (b : Bool) → cond b 1 1 ≡ 1
+    on : (b : Bool) → cond {A = ℕ} b 1 1 ≡ 1
     on true = refl
     on false = refl
 

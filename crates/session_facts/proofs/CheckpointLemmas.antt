@@ -43,7 +43,7 @@ use Rattle.first_tree.specs.declared.stage.Stage.{Stage}
 use Rattle.first_tree.specs.declared.stage.Stage.TheVariants.{TakingTree, GettingTree, Receiving, TakingPage, GettingPage, PuttingPage, ReleasingPage, PuttingTree, Deleting, ReleasingTree, StoppingPage, StoppingTree, Finished}
 use Rattle.first_tree.specs.Folding.{Folding, Step, ask_at, folding_ask, under_tree, under_page, delete_next, take_tree, first_page, LeadsAt, FoldingLeads, next_root, raised_tree}
 use Rattle.history.specs.Audited.{Audited, applied_entry}
-use Rattle.landing_facts.specs.Landing.{marks_post, puts_leaf, puts_root}
+use Rattle.landing_facts.specs.Landing.{Landing, marks_post, puts_leaf, puts_root}
 use Rattle.leaf_edit.specs.Applied.{applied}
 use Rattle.leaf_edit.specs.Lacked.{lacked}
 use Rattle.leaf_view.specs.Leaf.{Leaf, IsLeaf}
@@ -56,7 +56,8 @@ use Rattle.node_codec.specs.Node.{raised}
 use Rattle.node_codec.specs.Tree.{Tree, empty_tree, tree_of, IsTree as SpellsTree}
 use Rattle.report_types.specs.declared.entry.Entry.{Entry}
 use Rattle.store_book.specs.Book.{Book}
-use Rattle.store_book.specs.Effects.{after_leaf, after_root, after_post_mark, taken_entries, taken_entry}
+use Rattle.store_book.specs.Effects.{Taking, after_leaf, after_root, after_post_mark}
+use Rattle.store_book.specs.Premises.{CoversApplied}
 use Rattle.store_book.specs.Growth.{Grows}
 use Rattle.store_book.specs.Messages.{IsMessage}
 use Rattle.store_book.specs.Records.{IsIn}
@@ -67,7 +68,7 @@ use Rattle.machine_facts.specs.Call.{IsCall}
 use Rattle.machine_facts.specs.Checkpoint.{IsHeld, HasTree, HasPage, ReadRoot, RaisesRoot, IsCoveredBy, HasRun, HasApplied, PutsLeaf, PutsRoot, MayDelete, HasIds, KnowsFoldingAt, KnowsFolding}
 use Rattle.machine_facts.specs.Opening.{KnowsHome, of_option}
 use Rattle.machine_facts.specs.Others.{Passes}
-use Rattle.machine_facts.proofs.Calls.{call_of, put_cases, put_lasts, landed_or_not}
+use Rattle.machine_facts.proofs.Calls.{call_of, permitted, put_cases, put_lasts, landed_or_not}
 use Rattle.machine_facts.proofs.CheckpointOthers.{raises_stays, run_stays, applied_stays, covered_stays, delete_stays, folding_others}
 use Rattle.machine_facts.proofs.Covers.{lone_names, lone_level, next_is, raised_number, covers, may_mark}
 use Rattle.machine_facts.proofs.Heads.{held_seen}
@@ -269,11 +270,8 @@ module _ (who : Caller) (s t : CloudState) (logged : Logged) (book : Book) (orde
 
     module _ (lands : Lands who page_put (called who t.now s) t) where
       page_lasts : Lasts t.now puts.held.lease
-      page_lasts = second f.page_lease puts.held.is (permits lands)
+      page_lasts = second f.page_lease puts.held.is (permitted who page_put (called who t.now s) t lands)
         where
-          permits : Lands who page_put (called who t.now s) t → Lasts t.now tree_lease × IfSome f.page_lease (Lasts t.now)
-          permits l = l.1
-
           second : (o : Option Claim) → o ≡ Some puts.held.lease → Lasts t.now tree_lease × IfSome o (Lasts t.now) → Lasts t.now puts.held.lease
           second (Some l) same p = let one : l ≡ puts.held.lease = cc in subst (Lasts t.now) one p.1
           second None same p = absurd (cc)
@@ -281,17 +279,19 @@ module _ (who : Caller) (s t : CloudState) (logged : Logged) (book : Book) (orde
       newest_is : newest_leaf (nodes_of s) f.tree 1 ≡ puts.leaf
       newest_is = puts.newest page_lasts
 
-      abbrev p = taken logged book order s stands lone f.tree of_tree f.run.items run.clients
+      abbrev leaf_taken : Taking
+      leaf_taken = taken logged book order s stands lone f.tree of_tree f.run.items run.clients
 
       spells : IsLeaf f.out (applied (newest_leaf (nodes_of s) f.tree 1) 0 f.run.items)
       spells = subst (λ (l : Leaf). IsLeaf f.out (applied l 0 f.run.items)) (sym newest_is) puts.puts
 
-      landing = puts_leaf {who = who} {st = st} p f.out tree_lease f.page_lease spells
+      abbrev landing : Landing who st page_put (after_leaf leaf_taken st)
+      landing = puts_leaf leaf_taken f.out tree_lease f.page_lease spells
           (takes logged book order s stands lone f.tree of_tree f.run.items run.clients who f.out spells f.cursor run.received f.run.top run.is_run (raises.read).covered run.items)
           (leaf_lands logged book order s stands lone f.tree of_tree f.run.items run.clients who f.out spells)
 
-      su : Store
-      su = after_leaf p st
+      abbrev su : Store
+      su = after_leaf leaf_taken st
 
       grows : Grows st su
       grows = (landing_passes who st page_put su stands.holds landing).grows
@@ -363,6 +363,7 @@ module _ (who : Caller) (s t : CloudState) (logged : Logged) (book : Book) (orde
       abbrev to : Tree
       to = raised_tree root f.run.top
 
+      covered : CoversApplied st f.tree to
       covered = covers st f.tree stands.holds.numbers root f.cursor f.run.top run.received f.run.items run.is_run cursor_told run.items applied_all cursor_same
 
       lands_root : LandsRoot st f.tree to
@@ -375,9 +376,10 @@ module _ (who : Caller) (s t : CloudState) (logged : Logged) (book : Book) (orde
       version_is : to.version ≡ (top_of (st.tally.roots f.tree)).version + 1
       version_is = ap (λ (r : Tree). r.version) root_is ∙ ap (λ (r : Tree). r.version + 1) (sym newest_root_is)
 
-      landing = puts_root {who = who} {st = st} f.tree to f.out root_lease None of_tree puts.puts covered lands_root
+      abbrev landing : Landing who st root_put (after_root f.tree to st)
+      landing = puts_root f.tree to f.out root_lease None of_tree puts.puts covered lands_root
 
-      su : Store
+      abbrev su : Store
       su = after_root f.tree to st
 
       grows : Grows st su
@@ -429,7 +431,8 @@ module _ (who : Caller) (s t : CloudState) (logged : Logged) (book : Book) (orde
       knows : (u : Store) → KnowsHome u t.now home → MayDelete u f → KnowsWork u t.now work
       knows u h m = leads_at Deleting e u h (λ next to. subst (KnowsNext u t.now) (sym to) (nexts.deleted u t.now f of_tree (done_of step.reply) held none m))
 
-      landing = marks_post {who = who} {st = st} f.tree 0 id (may_mark st f.tree id (may id (subst (λ ids. IsIn ids id) (sym ids_are) (zero, refl))))
+      landing : Landing who st delete (after_post_mark f.tree 0 id st)
+      landing = marks_post f.tree 0 id (may_mark st f.tree id (may id (subst (λ ids. IsIn ids id) (sym ids_are) (zero, refl))))
 
       su : Store
       su = after_post_mark f.tree 0 id st

@@ -30,12 +30,12 @@ use Rattle.client_session.specs.declared.session.Work.TheVariants.{Idle, Committ
 use Rattle.first_commit.specs.declared.commit.Stage.{Stage}
 use Rattle.first_commit.specs.declared.commit.Stage.TheVariants.{Ready, PuttingOpen, Sending, PuttingSettled, Finished}
 use Rattle.first_commit.specs.Commit.{Commit, ask_at, commit_ask, commit_next, next_at, send_ask, send_or_settle, send_at, closed_again, not_opened, opened_by, sent_by as sent_next, settled_by, finished, before_of, opens_at, SendsRecord, IsSoundAt, IsSound}
-use Rattle.head_codec.specs.Spelling.{head_of}
+use Rattle.head_codec.specs.Spelling.{HasSpelling, FitsTypes, head_bytes, head_of}
 use Rattle.head_codec.proofs.HeadLaws.{head_of-some}
 use Rattle.head_codec.specs.declared.head.Head.{Head}
 use Rattle.head_codec.specs.declared.head.Phase.TheVariants as phase
 use Rattle.history.specs.Audited.{Audited, committed_entry}
-use Rattle.landing_facts.specs.Landing.{opens, settles, posts, sent_by}
+use Rattle.landing_facts.specs.Landing.{Landing, opens, settles, posts, sent_by}
 use Rattle.landing_facts.proofs.LandingLemmas.{settles_later}
 use Rattle.left_facts.specs.Left.{IsCopied}
 use Rattle.log_codec.specs.Pu.{pu_of}
@@ -242,6 +242,7 @@ module _ (who : Caller) (s t : CloudState) (logged : Logged) (book : Book) (orde
       fits : AllFit recs
       fits = subst AllFit records_are a.fits
 
+      spelled : HasSpelling c.home.head × FitsTypes c.home.head × (c.out ≡ head_bytes c.home.head)
       spelled = head_of-some c.out c.home.head sound
 
       -- the messages that were sent before
@@ -272,7 +273,7 @@ module _ (who : Caller) (s t : CloudState) (logged : Logged) (book : Book) (orde
           opened.opens stm client c.home.attempt c.changes c.home.head is lone (sent.1).holds.numbers ((sent.1).holds.pends.heads client is) may a.some settled later head_is
           (sent.1).waits (sent.1).own
 
-      su : Store
+      abbrev su : Store
       su = after_head client c.home.head recs stm
 
       here : su.tally.head client ≡ c.home.head
@@ -343,10 +344,11 @@ module _ (who : Caller) (s t : CloudState) (logged : Logged) (book : Book) (orde
     is_logged : (q : AtomicRec) → IsIn c.records q → IsIn book.log q
     is_logged q in_records = (h.logged q in_records).0
 
-    sent_store : Store
+    abbrev sent_store : Store
     sent_store = after_posted r.tree r.page (sent_by who c.out) st
 
-    landing = posts {who = who} {st = st} r.tree r.page c.out r (posts_record st who r c.out (is_logged r (c.sent, there)) reads)
+    abbrev landing : Landing who st send sent_store
+    landing = posts r.tree r.page c.out r (posts_record st who r c.out (is_logged r (c.sent, there)) reads)
 
     passes : Passes st sent_store
     passes = landing_passes who st send sent_store stands.holds landing
@@ -397,7 +399,7 @@ module _ (who : Caller) (s t : CloudState) (logged : Logged) (book : Book) (orde
       newest = λ lasts. newest_head done;
     }))
 
-    settled_store : Store
+    abbrev settled_store : Store
     settled_store = after_head client c.home.head [] st
 
     at_settling : Outcome logged book order s t (Committing c) work

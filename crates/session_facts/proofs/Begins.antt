@@ -3,7 +3,7 @@ use Rattle.std.proofs.Common.{◌≡◌, ◌<◌, ◌≤◌, ◌+◌, ◌⊎◌,
 use Rattle.cloud_trait.specs.Claim.{Claim}
 use Rattle.cloud_trait.specs.Machine.{Next, Goes, Ends, Stops}
 use Rattle.cloud_trait.specs.State.{CloudState}
-use Rattle.client_session.specs.Session.{Acting, Begins, BeginsOpening, BeginsCommit, BeginsTree, CommitsOf, CommitsNoted, FoldsFor}
+use Rattle.client_session.specs.Session.{Acting, Begins, BeginsOpening, BeginsWith, HasInHand, folding_begun_by, CommitsOf, CommitsNothing, CommitsIn}
 use Rattle.client_session.specs.declared.session.Answer.TheVariants as answer
 use Rattle.client_session.specs.declared.session.Begun.{Begun}
 use Rattle.client_session.specs.declared.session.Begun.TheVariants.{Working, Answered}
@@ -142,36 +142,37 @@ module _ (st : Store) (now : ℕ) where
       on (Answered (answer.Done n)) never = absurd never
       on (Answered (answer.Trouble t)) (memory, e) = well Broken e (λ x is. absurd (in_none [] x refl is)) tt
 
-  begins_commit : (old new : Acting) (result : Result Begun Refused) → Knows st now old → BeginsCommit old new result → BeginsWell st now old new
-  begins_commit old new (Ok begun) k b = on old.work refl k.work b
+  home_known : (old : Acting) (home : Home) → old.work ≡ Idle home → Knows st now old → KnowsHome st now home
+  home_known old home idle k = subst (KnowsWork st now) idle k.work
+
+  -- nothing was noted
+  nothing_well : (home : Home) (old new : Acting) (begun : Begun) → old.work ≡ Idle home → KnowsHome st now home → new.buffer ≡ [] → CommitsNothing home old.buffer new.work begun
+      → BeginsWell st now old new
+  nothing_well home old new begun idle k none nothing = record {
+    fewer = λ x is. subst (λ (w : Work). IsIn (leases_of w) x) (nothing.work_is ∙ sym idle) is;
+    knows = record { work = subst (KnowsWork st now) (sym nothing.work_is) k; buffer = subst MayCommit (sym none) may_none };
+  }
+
+  begins_commit : (old new : Acting) (result : Result Begun Refused) → Knows st now old → BeginsWith (CommitsIn old.buffer) old new result → BeginsWell st now old new
+  begins_commit old new (Ok begun) k (home, idle, does) = on does.1
     where
-      on : (w : Work) → old.work ≡ w → KnowsWork st now w → CommitsNoted w old new begun → BeginsWell st now old new
-      on (Idle home) e h (inl p) = same_well old new p.1 k
-      on (Idle home) e h (inr p) = commit_well home old new begun e h k.buffer p.0 p.1 p.2
-      on Closed e h never = absurd never
-      on (Opening m) e h never = absurd never
-      on (Committing m) e h never = absurd never
-      on (Folding home m) e h never = absurd never
-      on Broken e h never = absurd never
+      known : KnowsHome st now home
+      known = home_known old home idle k
+
+      on : CommitsNothing home old.buffer new.work begun ⊎ ((1 ≤ length old.buffer) × CommitsOf home old.buffer new.work begun) → BeginsWell st now old new
+      on (inl nothing) = nothing_well home old new begun idle known does.0 nothing
+      on (inr p) = commit_well home old new begun idle known k.buffer p.0 does.0 p.1
   begins_commit old new (Err (refused.Rule r)) k b = same_well old new b.1 k
   begins_commit old new (Err refused.Memory) k b = absurd b
 
   -- ---- a checkpoint
 
-  begins_tree : (tree : ℕ) (old new : Acting) (result : Result Begun Refused) → IsTree tree → Knows st now old → BeginsTree tree old new result → BeginsWell st now old new
-  begins_tree tree old new (Ok Working) t k b = on old.work refl k.work b
-    where
-      on : (w : Work) → old.work ≡ w → KnowsWork st now w → FoldsFor tree w old new → BeginsWell st now old new
-      on (Idle home) e h is = subst (BeginsWell st now old) (sym is) (record {
-        fewer = λ x there. subst (λ (w : Work). IsIn (leases_of w) x) (sym e) there;
-        knows = record { work = (h, record { tree = t; at = (refl, refl) }); buffer = k.buffer };
-      })
-      on Closed e h never = absurd never
-      on (Opening m) e h never = absurd never
-      on (Committing m) e h never = absurd never
-      on (Folding home m) e h never = absurd never
-      on Broken e h never = absurd never
-  begins_tree tree old new (Ok (Answered a)) t k b = absurd b
+  begins_tree : (tree : ℕ) (old new : Acting) (result : Result Begun Refused) → IsTree tree → Knows st now old
+      → BeginsWith (λ home. HasInHand old.buffer (folding_begun_by tree home)) old new result → BeginsWell st now old new
+  begins_tree tree old new (Ok begun) t k (home, idle, does) = subst (BeginsWell st now old) (sym does.1) (record {
+    fewer = λ x there. subst (λ (w : Work). IsIn (leases_of w) x) (sym idle) there;
+    knows = record { work = (home_known old home idle k, record { tree = t; at = (refl, refl) }); buffer = k.buffer };
+  })
   begins_tree tree old new (Err (refused.Rule r)) t k b = same_well old new b.1 k
   begins_tree tree old new (Err refused.Memory) t k b = absurd b
 

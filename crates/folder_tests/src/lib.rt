@@ -1,0 +1,5 @@
+//! Tests of the names of a folder's files.
+#![tactic(auto)]
+
+#[cfg(test)]
+mod folder_names_tests;

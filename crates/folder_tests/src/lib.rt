@@ -2,4 +2,6 @@
 #![tactic(auto)]
 
 #[cfg(test)]
+mod folder_cloud_tests;
+#[cfg(test)]
 mod folder_names_tests;

@@ -1,0 +1,253 @@
+ghost use Rattle.std.specs.Prelude.{◌≡◌, ℕ, Err, IfSome};
+ghost use Rattle.std.specs.Option.{option_copied};
+ghost use Rattle.cloud_trait.specs.Answers.{fault_answer, held_fault_answer};
+ghost use Rattle.cloud_trait.specs.Ask.{Ask};
+ghost use Rattle.cloud_trait.specs.Bench.{Looks};
+ghost use Rattle.cloud_trait.specs.Caller.{Caller};
+ghost use Rattle.cloud_trait.specs.Claim.{Claim};
+ghost use Rattle.cloud_trait.specs.Weather.{Makes, RenewsLease, FirstOver};
+ghost use Rattle.folder_cloud.specs.Counting.{counted};
+
+use crate::clock::Clock;
+use crate::fault::FolderFault;
+use crate::folder::Folder;
+use crate::ticks::Ticks;
+use cloud_trait::cloud::{Bench, Cloud};
+use cloud_trait::fault::{CloudFault, HeldFault};
+use cloud_trait::grant::Grant;
+use cloud_trait::lease::Lease;
+use cloud_trait::message::Message;
+use cloud_trait::who::Who;
+use db_base::blob::Blob;
+use db_base::ids::MsgId;
+use db_base::names::{Lock, ObjName, QueueName};
+use db_base::wish::Wish;
+use std::fs::File;
+use std::rt::Files;
+
+/// A cloud in a folder. Its clock is read at the opening and at the begin of each service call, in ticks, and never
+/// falls. It tells no state, and ignores wishes and waits.
+#[derive(Drop)]
+pub struct FolderCloud<R, K> {
+    folder: Folder<R>,
+    clock: Clock<K>,
+    faults: u64,
+    dark: u64,
+}
+
+impl<R: Files<File = File> + AllocGlobal + Drop, K: Ticks + Drop> FolderCloud<R, K> {
+    /// The cloud in the folder at a path, which is made where there is none. Failed or Memory.
+    pub fn open(rt: R, dir: &str, clock: K) -> Result<FolderCloud<R, K>, CloudFault> {
+        match Folder::open(rt, dir) {
+            Ok(folder) => Ok(FolderCloud {
+                folder,
+                clock: Clock::start(clock),
+                faults: 0,
+                dark: 0,
+            }),
+            Err(FolderFault::Failed) => Err(CloudFault::Failed),
+            Err(FolderFault::Memory) => Err(CloudFault::Memory),
+        }
+    }
+
+    // A service call failed. Memory where the count of failures can't rise.
+    fn fail(&mut self, fault: FolderFault) -> CloudFault
+        ensures made { (who : Caller) (ask : Ask) → Makes who ask (fault_answer result) (counted self.old.faults self.old.dark) (counted self.new.faults self.new.dark) }
+        ensures lease { (who : Caller) (ticks : ℕ) (l : Claim) → RenewsLease who ticks l l (fault_answer result) (counted self.old.faults self.old.dark) (counted self.new.faults self.new.dark) }
+    {
+        match fault {
+            FolderFault::Memory => CloudFault::Memory,
+            FolderFault::Failed => {
+                if self.faults == u64::MAX {
+                    return CloudFault::Memory;
+                }
+                self.faults += 1;
+                CloudFault::Failed
+            }
+        }
+    }
+
+    // The same of a call under a lease.
+    fn fail_held(&mut self, fault: FolderFault) -> HeldFault
+        ensures made { (who : Caller) (ask : Ask) → Makes who ask (held_fault_answer result) (counted self.old.faults self.old.dark) (counted self.new.faults self.new.dark) }
+        ensures lease { (who : Caller) (ticks : ℕ) (l : Claim) → RenewsLease who ticks l l (held_fault_answer result) (counted self.old.faults self.old.dark) (counted self.new.faults self.new.dark) }
+    {
+        match self.fail(fault) {
+            CloudFault::Failed => HeldFault::Failed,
+            CloudFault::Memory => HeldFault::Memory,
+        }
+    }
+
+    // A look failed. Memory where the count of failed looks can't rise.
+    fn fail_look(&mut self, fault: FolderFault) -> CloudFault
+        ensures { Looks {A = ℕ} (Err result) (counted self.old.faults self.old.dark) (counted self.new.faults self.new.dark) }
+    {
+        match fault {
+            FolderFault::Memory => CloudFault::Memory,
+            FolderFault::Failed => {
+                if self.dark == u64::MAX {
+                    return CloudFault::Memory;
+                }
+                self.dark += 1;
+                CloudFault::Failed
+            }
+        }
+    }
+}
+
+impl<R: Files<File = File> + AllocGlobal + Drop, K: Ticks + Drop> Cloud for FolderCloud<R, K> {
+    ghost seen = { λ c. counted c.faults c.dark };
+
+    fn now(&self) -> u64 {
+        self.clock.latest()
+    }
+
+    fn get(&mut self, _who: Who, name: ObjName) -> Result<Option<Blob>, CloudFault> {
+        self.clock.read();
+        match self.folder.get(&name) {
+            Ok(bytes) => Ok(bytes),
+            Err(fault) => Err(self.fail(fault)),
+        }
+    }
+
+    fn get_held(
+        &mut self,
+        _who: Who,
+        name: ObjName,
+        lease: &Lease,
+    ) -> Result<Option<Blob>, HeldFault> {
+        let now = self.clock.read();
+        if lease.end() <= now {
+            return Err(HeldFault::Late {
+                end: lease.end(),
+                now,
+            });
+        }
+        match self.folder.get(&name) {
+            Ok(bytes) => Ok(bytes),
+            Err(fault) => Err(self.fail_held(fault)),
+        }
+    }
+
+    fn put_held(
+        &mut self,
+        _who: Who,
+        name: ObjName,
+        bytes: &[u8],
+        first: &Lease,
+        second: Option<&Lease>,
+    ) -> Result<(), HeldFault> {
+        let now = self.clock.read();
+        if let Some(end) = first_over(now, first, second) {
+            return Err(HeldFault::Late { end, now });
+        }
+        match self.folder.put(&name, bytes) {
+            Ok(()) => Ok(()),
+            Err(fault) => Err(self.fail_held(fault)),
+        }
+    }
+
+    fn send(&mut self, _who: Who, queue: QueueName, bytes: &[u8]) -> Result<MsgId, CloudFault> {
+        self.clock.read();
+        match self.folder.send(&queue, bytes) {
+            Ok(id) => Ok(id),
+            Err(fault) => Err(self.fail(fault)),
+        }
+    }
+
+    fn receive(
+        &mut self,
+        _who: Who,
+        queue: QueueName,
+        max: u16,
+    ) -> Result<Vec<Message>, CloudFault> {
+        self.clock.read();
+        match self.folder.receive(&queue, max) {
+            Ok(messages) => Ok(messages),
+            Err(fault) => Err(self.fail(fault)),
+        }
+    }
+
+    fn delete(&mut self, _who: Who, queue: QueueName, id: MsgId) -> Result<(), CloudFault> {
+        self.clock.read();
+        match self.folder.delete(&queue, id) {
+            Ok(()) => Ok(()),
+            Err(fault) => Err(self.fail(fault)),
+        }
+    }
+
+    fn take(&mut self, _who: Who, lock: Lock, ticks: u64) -> Result<Grant, CloudFault> {
+        let now = self.clock.read();
+        let until = now.saturating_add(ticks);
+        match self.folder.take(&lock, now, until) {
+            Ok(grant) => Ok(grant),
+            Err(fault) => Err(self.fail(fault)),
+        }
+    }
+
+    fn renew(&mut self, _who: Who, lease: &mut Lease, ticks: u64) -> Result<(), HeldFault> {
+        let now = self.clock.read();
+        let end = lease.end();
+        if end <= now {
+            return Err(HeldFault::Late { end, now });
+        }
+        let until = now.saturating_add(ticks);
+        match self.folder.move_end(lease, until) {
+            Ok(()) => {
+                lease.extend(until);
+                Ok(())
+            }
+            Err(fault) => Err(self.fail_held(fault)),
+        }
+    }
+
+    fn release(&mut self, _who: Who, lease: Lease) -> Result<(), CloudFault> {
+        let now = self.clock.read();
+        if lease.end() <= now {
+            return Ok(());
+        }
+        match self.folder.move_end(&lease, now) {
+            Ok(()) => Ok(()),
+            Err(fault) => Err(self.fail(fault)),
+        }
+    }
+}
+
+impl<R: Files<File = File> + AllocGlobal + Drop, K: Ticks + Drop> Bench for FolderCloud<R, K> {
+    fn wish(&mut self, _wish: Wish) {}
+
+    fn wait(&mut self, _ticks: u64) {}
+
+    fn peek(&mut self, name: ObjName) -> Result<Option<Blob>, CloudFault> {
+        match self.folder.get(&name) {
+            Ok(bytes) => Ok(bytes),
+            Err(fault) => Err(self.fail_look(fault)),
+        }
+    }
+
+    fn backlog(&mut self, queue: QueueName) -> Result<u64, CloudFault> {
+        match self.folder.backlog(&queue) {
+            Ok(count) => Ok(count),
+            Err(fault) => Err(self.fail_look(fault)),
+        }
+    }
+}
+
+// The end of the first lease that is over.
+fn first_over(now: u64, first: &Lease, second: Option<&Lease>) -> Option<u64>
+    ensures { IfSome result (λ end. FirstOver now first.now (option_copied second.entry) end) }
+{
+    if first.end() <= now {
+        return Some(first.end());
+    }
+    match second {
+        Some(lease) => {
+            if lease.end() <= now {
+                Some(lease.end())
+            } else {
+                None
+            }
+        }
+        None => None,
+    }
+}

@@ -1,1 +1,2 @@
+pub mod Leasing
 pub mod Stepping

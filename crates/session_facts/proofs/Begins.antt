@@ -57,6 +57,10 @@ module _ (st : Store) (now : ℕ) where
 
   -- ---- a commit
 
+  -- two steps are one
+  abbrev AreSame : Next Commit CommitAnswer → Next Commit CommitAnswer → Type 0
+  AreSame a b = a ≡ b
+
   goes_no_end : (c d : Commit) (a : CommitAnswer) → Goes c ≡ Ends d a → ⊥
   goes_no_end c d a e = cc
 
@@ -83,7 +87,7 @@ module _ (st : Store) (now : ℕ) where
         };
       })
     where
-      state_is : {c d : Commit} → Goes {A = CommitAnswer} c ≡ Goes d → c ≡ d
+      state_is : {c d : Commit} → AreSame (Goes c) (Goes d) → c ≡ d
       state_is {c} {d} e = cc
 
   -- a commit that is answered at once

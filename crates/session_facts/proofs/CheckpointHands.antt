@@ -269,8 +269,8 @@ module _ (who : Caller) (s t : CloudState) (home : Home) (f : Folding) (work : W
   }
 
   module _ (logged : Logged) (book : Book) (order : List Entry) (stands : StandsBeside logged book order s) (lone : IsLone book) (of_tree : IsTree f.tree) where
-    pub folding_hands : {st : Store} {now : ℕ} → KnowsFoldingAt f.stage st now f → Handles who s t (Checkpointing home f) work
-    folding_hands {st} {now} k = on f.stage refl k
+    pub folding_hands : (st : Store) (now : ℕ) → KnowsFoldingAt f.stage st now f → Handles who s t (Checkpointing home f) work
+    folding_hands st now k = on f.stage refl k
       where
         takes_tree : f.stage ≡ TakingTree → f.page_lease ≡ None → (x : Claim) → IsIn (leases_of work) x → (IsIn mine x × Unit {0}) ⊎ GivenBy (take_tree f) step.reply x
         takes_tree e none x is = turn (own_cases x is)

@@ -1,2 +1,1 @@
-pub mod Leasing
 pub mod Stepping

@@ -1,5 +1,5 @@
 -- A step is the call in hand and what its answer leads to.
-use Rattle.std.proofs.Common.{◌≡◌, List, sym, ap, subst}
+use Rattle.std.proofs.Common.{◌≡◌, sym, subst}
 use Rattle.cloud_trait.specs.declared.answer.Answer.{Answer}
 use Rattle.cloud_trait.specs.declared.turn.CkptAnswer.{CkptAnswer}
 use Rattle.cloud_trait.specs.declared.turn.Turn.{Turn}
@@ -9,6 +9,7 @@ use Rattle.cloud_trait.specs.Caller.{Caller}
 use Rattle.cloud_trait.specs.Seen.{Seen}
 use Rattle.cloud_trait.specs.Machine.{Took, Steps}
 use Rattle.cloud_trait.specs.Weather.{Makes}
+use Rattle.tree_ckpt.specs.declared.book.Book.{Book}
 use Rattle.tree_ckpt.specs.declared.checkpoint.TreeCkpt.{TreeCkpt}
 use Rattle.tree_ckpt.specs.declared.work.Work.{Work}
 use Rattle.tree_ckpt.specs.Ckpt.{ckpt_ask, CkptLeads, Keeps, Turned, at, leases_left}
@@ -27,7 +28,7 @@ steps_by who ask answer before after old new turn made e h = record {
   took = took_by old new answer turn h;
 }
 
--- the work that was at hand
-pub steps_from : (who : Caller) (before after : Seen) (old new : TreeCkpt) (work : Work) (turn : Turn CkptAnswer)
-    → old.work ≡ work → Steps ckpt_ask CkptLeads Keeps who before after (at old work) new turn → Steps ckpt_ask CkptLeads Keeps who before after old new turn
-steps_from who before after old new work turn e h = subst (λ (x : TreeCkpt). Steps ckpt_ask CkptLeads Keeps who before after x new turn) (sym (ap (at old) e)) h
+-- a step from where the checkpoint stood
+pub steps_from : (who : Caller) (before after : Seen) (b : Book) (work stand : Work) (new : TreeCkpt) (turn : Turn CkptAnswer)
+    → work ≡ stand → Steps ckpt_ask CkptLeads Keeps who before after (at b stand) new turn → Steps ckpt_ask CkptLeads Keeps who before after (at b work) new turn
+steps_from who before after b work stand new turn e h = subst (λ (w : Work). Steps ckpt_ask CkptLeads Keeps who before after (at b w) new turn) (sym e) h

@@ -36,6 +36,7 @@ use Rattle.tree_parts.specs.Read.{tree_held}
 use Rattle.tree_rising.specs.declared.rising.Rising.{Rising as Way}
 use Rattle.tree_rising.specs.Rising.{rising_ask, rising_next, rise}
 use Rattle.tree_rising.specs.Rising.{begun as rising_begun}
+use Rattle.tree_ckpt.specs.declared.book.Book.{Book}
 use Rattle.tree_ckpt.specs.declared.checkpoint.TreeCkpt.{TreeCkpt}
 use Rattle.tree_ckpt.specs.declared.work.After.{After}
 use Rattle.tree_ckpt.specs.declared.work.After.TheVariants as after
@@ -51,7 +52,7 @@ Step = Next TreeCkpt CkptAnswer
 
 -- the checkpoint of a tree before its first call
 abbrev pub new_ckpt : ℕ → TreeCkpt
-new_ckpt tree = record { tree = tree; received = []; deletions = to_delete []; work = Taking }
+new_ckpt tree = record { book = record { tree = tree; received = []; deletions = to_delete [] }; work = Taking }
 
 -- ---- the call in hand
 
@@ -69,7 +70,7 @@ ask_at tree (Releasing l end) = Release l
 ask_at tree Finished = Take (lock.Tree tree) 60
 
 abbrev pub ckpt_ask : TreeCkpt → Ask
-ckpt_ask c = ask_at c.tree c.work
+ckpt_ask c = ask_at c.book.tree c.work
 
 -- the items that the put in hand applies
 abbrev pub ckpt_applying : Work → List PuItem
@@ -127,14 +128,14 @@ Turned Leads kept new (Stopped t) = (t ≢ trouble.Memory → Leads (Stops new t
 
 -- ---- where an answer leads
 
-abbrev pub at : TreeCkpt → Work → TreeCkpt
-at c work = record c { work = work }
+abbrev pub at : Book → Work → TreeCkpt
+at b work = record { book = b; work = work }
 
 -- the tree's lease is given back, and then the checkpoint stops
-abbrev pub stopping : TreeCkpt → Claim → Trouble → Step
+abbrev pub stopping : Book → Claim → Trouble → Step
 stopping c l t = Goes (at c (Releasing l (outcome.Stopped t)))
 
-abbrev pub taken_by : TreeCkpt → Result Claim Trouble → Step
+abbrev pub taken_by : Book → Result Claim Trouble → Step
 taken_by c (Ok l) = Goes (at c (Getting l))
 taken_by c (Err t) = Stops (at c Finished) t
 
@@ -143,15 +144,15 @@ abbrev pub damage_of : ℕ → List ℕ → Option Tree → Option Trouble
 damage_of tree bytes (Some t) = None
 damage_of tree bytes None = Some (trouble.Damaged (place.Object (object.Tree tree)) (offset tree_format bytes))
 
-abbrev pub read_on : TreeCkpt → Claim → List ℕ → Option Trouble → Step
+abbrev pub read_on : Book → Claim → List ℕ → Option Trouble → Step
 read_on c l bytes None = Goes (at c (Receiving l (Some bytes)))
 read_on c l bytes (Some t) = stopping c l t
 
-abbrev pub root_read : TreeCkpt → Claim → List ℕ → Option Tree → Step
+abbrev pub root_read : Book → Claim → List ℕ → Option Tree → Step
 root_read c l bytes t = read_on c l bytes (damage_of c.tree bytes t)
 
 -- after the held get of the tree object
-abbrev pub root_got : TreeCkpt → Claim → Result (Option (List ℕ)) Trouble → Step
+abbrev pub root_got : Book → Claim → Result (Option (List ℕ)) Trouble → Step
 root_got c l (Ok (Some bytes)) = root_read c l bytes (tree_of bytes)
 root_got c l (Ok None) = Goes (at c (Receiving l None))
 root_got c l (Err t) = stopping c l t
@@ -159,28 +160,28 @@ root_got c l (Err t) = stopping c l t
 -- ---- deletions
 
 -- the next message is deleted, or all are
-abbrev pub delete_at : TreeCkpt → Claim → ℕ → Option ℕ → Step
+abbrev pub delete_at : Book → Claim → ℕ → Option ℕ → Step
 delete_at c l applied (Some id) = Goes (at c (Deleting l id applied))
 delete_at c l applied None =
     Goes (at c (Releasing l (outcome.Ended (record { applied = applied; deleted = c.deletions.deleted; left = c.deletions.left }))))
 
-abbrev pub deleting : TreeCkpt → Claim → ℕ → Step
+abbrev pub deleting : Book → Claim → ℕ → Step
 deleting c l applied = delete_at c l applied (next_id c.deletions.ids)
 
 -- after a deletion
-abbrev pub deleted_by : {A : Type 0} → TreeCkpt → Claim → ℕ → Result A Trouble → Step
+abbrev pub deleted_by : {A : Type 0} → Book → Claim → ℕ → Result A Trouble → Step
 deleted_by c l applied done = deleting (record c { deletions = tried c.deletions (is_ok done) }) l applied
 
 -- ---- the way down
 
 -- the leaf's lease is taken next, unless its page was passed on the way
-abbrev pub reached : TreeCkpt → Claim → Descent → Step
+abbrev pub reached : Book → Claim → Descent → Step
 reached c l d =
     if is_seen d.visited d.page
     then stopping c l (trouble.Loop d.page)
     else Goes (at c (Reaching l (record { chart = d.chart; page = d.page; low = d.low; visited = d.visited })))
 
-abbrev pub descended : TreeCkpt → Claim → Next Descent (Unit {0}) → Step
+abbrev pub descended : Book → Claim → Next Descent (Unit {0}) → Step
 descended c l (Goes d) = Goes (at c (Descending l d))
 descended c l (Ends d u) = reached c l d
 descended c l (Stops d t) = stopping c l t
@@ -188,85 +189,85 @@ descended c l (Stops d t) = stopping c l t
 abbrev pub with_key : Chart → List ℕ → Chart
 with_key chart key = record chart { key = key }
 
-abbrev pub down_at : TreeCkpt → Claim → Chart → Option Entry → Step
+abbrev pub down_at : Book → Claim → Chart → Option Entry → Step
 down_at c l chart (Some e) = descended c l (arrive (descent_begun chart e.0 e.1))
 down_at c l chart None = descended c l (arrive (descent_begun chart [] 1))
 
-abbrev pub down_for : TreeCkpt → Claim → Chart → List ℕ → Step
+abbrev pub down_for : Book → Claim → Chart → List ℕ → Step
 down_for c l chart key = down_at c l (with_key chart key) (first_child chart.root key)
 
 -- ---- the way up
 
-abbrev pub risen : TreeCkpt → Claim → Next Way (Unit {0}) → Step
+abbrev pub risen : Book → Claim → Next Way (Unit {0}) → Step
 risen c l (Goes r) = Goes (at c (Rising l r))
 risen c l (Ends r u) = deleting c l r.chart.applied
 risen c l (Stops r t) = stopping c l t
 
 -- down for the least key that is not handled, or up where all are
-abbrev pub next_at : TreeCkpt → Claim → Chart → Option (List ℕ) → Step
+abbrev pub next_at : Book → Claim → Chart → Option (List ℕ) → Step
 next_at c l chart (Some key) = down_for c l chart key
 next_at c l chart None = risen c l (rise (rising_begun chart))
 
-abbrev pub on_to_next : TreeCkpt → Claim → Chart → Step
+abbrev pub on_to_next : Book → Claim → Chart → Step
 on_to_next c l chart = next_at c l chart (next_key chart)
 
 -- ---- the receive
 
 -- a run is applied, and then the messages that its top covers are deleted; where it is empty, they are at once
-abbrev pub after_intake : TreeCkpt → Claim → Option (List ℕ) → Intake → Step
+abbrev pub after_intake : Book → Claim → Option (List ℕ) → Intake → Step
 after_intake c l root x =
     if has_items x.run.items
     then on_to_next (record c { deletions = x.deletions }) l (start_chart c.tree root x.run)
     else deleting (record c { deletions = x.deletions }) l 0
 
-abbrev pub taken_in : TreeCkpt → Claim → Option (List ℕ) → Result Intake Trouble → Step
+abbrev pub taken_in : Book → Claim → Option (List ℕ) → Result Intake Trouble → Step
 taken_in c l root (Ok x) = after_intake c l root x
 taken_in c l root (Err t) = stopping c l t
 
 -- any run of the received items behind the tree object's cursor may be taken
-abbrev pub TakenIn : TreeCkpt → Claim → Option (List ℕ) → List Message → Step → Type 0
+abbrev pub TakenIn : Book → Claim → Option (List ℕ) → List Message → Step → Type 0
 TakenIn c l root ms next =
     (taken : Result Intake Trouble)
     × TakesIn (queue.TreePu c.tree) (tree_held root).cursor ms taken
     × (next ≡ taken_in (record c { received = ids_of ms }) l root taken)
 
 -- after the receive
-abbrev pub ReceivedBy : TreeCkpt → Claim → Option (List ℕ) → Result (List Message) Trouble → Step → Type 0
+abbrev pub ReceivedBy : Book → Claim → Option (List ℕ) → Result (List Message) Trouble → Step → Type 0
 ReceivedBy c l root (Ok ms) next = TakenIn c l root ms next
 ReceivedBy c l root (Err t) next = next ≡ stopping c l t
 
 -- ---- a leaf
 
-abbrev pub page_taken_by : TreeCkpt → Claim → Reached → Result Claim Trouble → Step
+abbrev pub page_taken_by : Book → Claim → Reached → Result Claim Trouble → Step
 page_taken_by c l leaf (Ok m) = Goes (at c (Folding l (leaf_begun leaf.chart m leaf.page leaf.low leaf.visited)))
 page_taken_by c l leaf (Err t) = stopping c l t
 
 -- the leaf's lease is given back, and then the page on the right is taken, or the leaf's part of the run is handled
-abbrev pub left_for : TreeCkpt → Claim → Leaf → Left → Step
+abbrev pub left_for : Book → Claim → Leaf → Left → Step
 left_for c l f (left.Right low page) =
     Goes (at c (Leaving l f.lease (after.Right (record { chart = f.chart; page = page; low = low; visited = f.visited }))))
 left_for c l f left.Handled = Goes (at c (Leaving l f.lease (after.Handled f.chart)))
 
-abbrev pub folded : TreeCkpt → Claim → Next Leaf Left → Step
+abbrev pub folded : Book → Claim → Next Leaf Left → Step
 folded c l (Goes f) = Goes (at c (Folding l f))
 folded c l (Ends f how) = left_for c l f how
 folded c l (Stops f t) = Goes (at c (Leaving l f.lease (after.Stopped t)))
 
-abbrev pub after_leaf : TreeCkpt → Claim → After → Step
+abbrev pub after_leaf : Book → Claim → After → Step
 after_leaf c l (after.Right leaf) = Goes (at c (Reaching l leaf))
 after_leaf c l (after.Handled chart) = on_to_next c l chart
 after_leaf c l (after.Stopped t) = stopping c l t
 
 -- ---- the end
 
-abbrev pub released_by : TreeCkpt → Outcome → Step
+abbrev pub released_by : Book → Outcome → Step
 released_by c (outcome.Ended a) = Ends (at c Finished) a
 released_by c (outcome.Stopped t) = Stops (at c Finished) t
 
 -- ---- the machine
 
 -- the steps that an answer may lead to: one, but for the receive, which any run of the received items may follow
-abbrev pub LeadsAt : TreeCkpt → Work → Answer → Step → Type 0
+abbrev pub LeadsAt : Book → Work → Answer → Step → Type 0
 LeadsAt c Taking a next = next ≡ taken_by c (given_of (lock.Tree c.tree) a)
 LeadsAt c (Getting l) a next = next ≡ root_got c l (got_of a)
 LeadsAt c (Receiving l root) a next = ReceivedBy c l root (received_of a) next
@@ -280,4 +281,4 @@ LeadsAt c (Releasing l how) a next = next ≡ released_by c how
 LeadsAt c Finished a next = next ≡ Stops (at c Finished) trouble.Failed
 
 abbrev pub CkptLeads : TreeCkpt → Answer → Step → Type 0
-CkptLeads c a next = LeadsAt c c.work a next
+CkptLeads c a next = LeadsAt c.book c.work a next

@@ -1,0 +1,10 @@
+use Rattle.std.proofs.Common.{refl}
+use Rattle.tree_ckpt.specs.Ckpt.{at}
+use Rattle.tree_ckpt.specs.declared.work.Work.TheVariants.{Leaving}
+use Rattle.tree_ckpt.proofs.Stepping.{steps_by}
+use Rattle.tree_ckpt.proofs.arms.leave_leaf.Goals as goal
+
+pub returns : goal.returns
+returns g c =
+    steps_by _ _ c.let_go-answer.result _ _ (at c.args.book.now (Leaving c.args.lease c.args.page c.args.after)) (at c.args.book.now c.without_leaf.result.0) c.without_leaf.result.1 c.let_go-answer.ensures
+    refl c.without_leaf.ensures

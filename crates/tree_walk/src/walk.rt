@@ -203,9 +203,7 @@ impl Walk {
             Some(spot) => spot.page == page,
             None => false,
         };
-        in_hand
-            || self.nodes.as_slice().contains(&page)
-            || self.leaves.as_slice().contains(&page)
+        in_hand || self.nodes.as_slice().contains(&page) || self.leaves.as_slice().contains(&page)
     }
 
     /// The tree object or leaf that the newest turn used, kept or got. After More and Ended the cache keeps it.

@@ -100,7 +100,14 @@ fn stops_at_loops_and_bad_fences(rt: HostRuntime) -> Result<(), Fail> {
     };
     assert!(rt; scan.go_on());
     let end = leaf_of(alloc, &mut scan, &mut cloud, &mut cache, &mut calls)?;
-    let Turn::Stopped(Trouble::BadFence { page, expected, found }) = end else {
+    let Turn::Stopped(
+        Trouble::BadFence {
+            page,
+            expected,
+            found,
+        },
+    ) = end
+    else {
         return Err(Fail::from("another end"));
     };
     assert_eq!(rt; page.get(), 3);

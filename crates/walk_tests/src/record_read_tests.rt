@@ -44,7 +44,9 @@ fn reads_a_record_and_the_buffered_change_on_it(rt: HostRuntime) -> Result<(), F
     let mut first = RecordRead::new(alloc, tree()?, Key::new(alloc, b"n")?);
     let calls = ended(alloc, &mut first, &mut cloud, &mut cache)?;
     assert_eq!(rt; calls.as_slice(), [0, 8, 3].as_slice());
-    let value = first.value(&cache, client, &head, &buffer).ok_or("no record")?;
+    let value = first
+        .value(&cache, client, &head, &buffer)
+        .ok_or("no record")?;
     assert_eq!(rt; value, b"v".as_slice());
     // The second read of the kept tree makes one get.
     let mut second = RecordRead::new(alloc, tree()?, Key::new(alloc, b"p")?);
@@ -58,7 +60,9 @@ fn reads_a_record_and_the_buffered_change_on_it(rt: HostRuntime) -> Result<(), F
             payload: Payload::new(alloc, b"own")?,
         },
     )?;
-    let value = second.value(&cache, client, &head, &buffer).ok_or("no change")?;
+    let value = second
+        .value(&cache, client, &head, &buffer)
+        .ok_or("no change")?;
     assert_eq!(rt; value, b"own".as_slice());
     Ok(())
 }

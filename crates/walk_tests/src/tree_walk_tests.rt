@@ -174,7 +174,12 @@ fn stops_at_bad_fences_and_levels(rt: HostRuntime) -> Result<(), Fail> {
     put(&mut cloud, 3, &leaf(alloc, 1, b"n", 4, b"t", b"o")?)?;
     let (calls, trouble) = stopped(alloc, &mut cloud, &mut cache, b"p")?;
     assert_eq!(rt; calls.as_slice(), [0, 8, 3].as_slice());
-    let Trouble::BadFence { page, expected, found } = trouble else {
+    let Trouble::BadFence {
+        page,
+        expected,
+        found,
+    } = trouble
+    else {
         return Err(Fail::from("another trouble"));
     };
     assert_eq!(rt; page.get(), 3);

@@ -139,8 +139,16 @@ pub fn put(cloud: &mut MemoryCloud, number: u64, bytes: &Blob) -> Result<(), Fai
 pub fn three_levels(alloc: Global) -> Result<MemoryCloud, Fail> {
     let mut cloud = MemoryCloud::new(alloc);
     put(&mut cloud, 0, &root(alloc, 2, &[(b"", 7), (b"m", 8)])?)?;
-    put(&mut cloud, 7, &node(alloc, 1, b"", 8, b"m", &[(b"", 1), (b"g", 2)])?)?;
-    put(&mut cloud, 8, &node(alloc, 1, b"m", 0, b"", &[(b"m", 3), (b"t", 4)])?)?;
+    put(
+        &mut cloud,
+        7,
+        &node(alloc, 1, b"", 8, b"m", &[(b"", 1), (b"g", 2)])?,
+    )?;
+    put(
+        &mut cloud,
+        8,
+        &node(alloc, 1, b"m", 0, b"", &[(b"m", 3), (b"t", 4)])?,
+    )?;
     put(&mut cloud, 1, &leaf(alloc, 1, b"", 2, b"g", b"bc")?)?;
     put(&mut cloud, 2, &leaf(alloc, 1, b"g", 3, b"m", b"hi")?)?;
     put(&mut cloud, 3, &leaf(alloc, 1, b"m", 4, b"t", b"no")?)?;

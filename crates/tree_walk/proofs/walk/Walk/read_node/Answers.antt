@@ -10,5 +10,5 @@ leave_node-requires c =
     let found : c.low.result.now ≡ c.args.view.now.low = c.low.ensures in
     let same : bytes_same c.low.result.now (spot_of c.args.self.now).low ≡ true = sym c.is_promised.ensures ∙ c.if-not-is_promised.false in
     let is : bytes_same c.args.view.now.low (spot_of c.args.self.now).low ≡ true =
-        sym (ap (λ (k : List ℕ). bytes_same k (spot_of c.args.self.now).low) found) ∙ same in
+    sym (ap (λ (k : List ℕ). bytes_same k (spot_of c.args.self.now).low) found) ∙ same in
     subst (λ (v : Walk). bytes_below (sought v) c.args.view.now.low ≡ false) (sym c.self.view_is) (fence_holds c.args.self.now c.args.view.now.low ok is)

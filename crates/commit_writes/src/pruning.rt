@@ -5,9 +5,9 @@ ghost use Rattle.route_plan.specs.Prune.{pruned_by_leaf, pruned_by_tree};
 ghost use Rattle.commit_writes.specs.Writing.{with_head};
 
 use db_base::ids::TreeId;
-use recover_run::home::Home;
 use leaf_view::LeafView;
 use node_codec::TreeView;
+use recover_run::home::Home;
 use route_plan::prune::{prune_leaf, prune_tree};
 
 /// Removes the pending entries of the home's head that a leaf of a tree shows to be applied.

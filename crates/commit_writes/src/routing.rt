@@ -8,8 +8,8 @@ ghost use Rattle.commit_writes.specs.Writing.{routed_of, passes};
 
 use db_base::ids::PageId;
 use db_base::trouble::{Counter, Trouble};
-use recover_run::home::Home;
 use log_codec::record::AtomicRec;
+use recover_run::home::Home;
 use route_plan::route::route;
 use std::alloc::{AllocError, Global};
 use txn_buffer::buffer::TxnBuffer;

@@ -12,9 +12,9 @@ ghost use Rattle.commit_writes.specs.Writing.{with_head};
 
 use crate::stage::Saved;
 use db_base::blob::Blob;
-use recover_run::home::Home;
 use head_codec::head::Head;
 use log_codec::record::AtomicRec;
+use recover_run::home::Home;
 use route_plan::heads::{open_head, settle_head};
 use route_plan::record::pu_of_record;
 use std::alloc::{AllocError, Global};

@@ -7,9 +7,9 @@ ghost use Rattle.cloud_trait.specs.Call.{ask_of};
 ghost use Rattle.tree_parts.specs.Going.{Went};
 ghost use Rattle.leaf_fold.specs.Folding.{begun, folding_ask, folding_next, leaf_got, leaf_at, to_right, handle, put_planned, placed, leaf_put, handled_to, turned, bad_low, applying};
 
-use ckpt_parts::lacked_of;
 use crate::plan::{LeafPlan, leaf_plan};
 use byte_format::{is_below, is_same};
+use ckpt_parts::{Fault, lacked_of};
 use cloud_trait::answer::Answer;
 use cloud_trait::call::Call;
 use cloud_trait::lease::Lease;
@@ -21,7 +21,6 @@ use leaf_view::LeafView;
 use log_codec::record::PuItem;
 use std::alloc::{AllocError, Global};
 use tree_parts::chart::Chart;
-use ckpt_parts::Fault;
 use tree_parts::items::ItemList;
 use tree_parts::link::{Link, add_links};
 use tree_parts::pace::Pace;

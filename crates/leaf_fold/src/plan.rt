@@ -5,6 +5,7 @@ ghost use Rattle.split_plan.specs.Sizes.{count_of};
 ghost use Rattle.tree_parts.specs.Going.{Finds};
 ghost use Rattle.leaf_fold.specs.Plan.{planned, leaf_plan, in_pieces};
 
+use ckpt_parts::Fault;
 use db_base::ids::PageId;
 use db_base::pair::EditFault;
 use leaf_edit::{LeafBuf, apply};
@@ -15,7 +16,6 @@ use split_plan::count::pieces;
 use split_plan::entry_list::EntryList;
 use split_plan::leaf::plan_leaf;
 use std::alloc::Global;
-use ckpt_parts::Fault;
 use tree_parts::placing::{Placing, PutQueue};
 use tree_parts::reserve::{Reserved, reserve, version_spent};
 

@@ -24,7 +24,7 @@ sent_others st su records upto p logged sent place r below there =
     (p.sent_on r (logged r (place, there)) old.0, copied_stays st su r p.grows old.1)
 
 -- what a commit that opened knows
-opened_others : (st su : Store) (now later : ℕ) (c : Commit) (opened : Head) → now ≤ later → (Lasts later c.home.lease → su.tally.head c.home.client ≡ st.tally.head c.home.client)
+pub opened_others : (st su : Store) (now later : ℕ) (c : Commit) (opened : Head) → now ≤ later → (Lasts later c.home.lease → su.tally.head c.home.client ≡ st.tally.head c.home.client)
     → Passes st su → HasOpened st now c opened → HasOpened su later c opened
 opened_others st su now later c opened after still p k = record {
   phase = k.phase;

@@ -2,7 +2,6 @@
 use Rattle.std.proofs.Common.{◌≡◌, ℕ, ◌<◌, ◌≤◌, ◌+◌, ◌-◌, ◌*◌, ◌^◌, Bool, true, false, cond, List, [], ◌∷◌, ◌++◌, length, length-append, Option, Some, None, Result, Ok, Err, refl, sym, ap, subst, inl, inr, arith}
 use Rattle.std.specs.Prelude.{map, filter}
 use Rattle.std.proofs.lemmas.List.{length-map}
-use Rattle.db_base.specs.Cursor.{number_of}
 use Rattle.db_base.specs.declared.names.Lock.TheVariants as lock
 use Rattle.db_base.specs.declared.names.QueueName.{QueueName}
 use Rattle.db_base.specs.declared.trouble.Trouble.{Trouble}
@@ -23,18 +22,18 @@ use Rattle.cloud_trait.specs.declared.turn.Turn.{Turn}
 use Rattle.cloud_trait.specs.declared.turn.Turn.TheVariants.{More}
 use Rattle.cloud_trait.specs.Ask.{Receive}
 use Rattle.cloud_trait.specs.Claim.{Claim}
-use Rattle.cloud_trait.specs.Machine.{Next, Goes, Ends, Stops, Took}
+use Rattle.cloud_trait.specs.Machine.{Goes, Ends, Stops, Took}
 use Rattle.cloud_trait.specs.Views.{given_of, got_of, done_of, received_of}
 use Rattle.cloud_trait.specs.Weather.{Fits}
 use Rattle.ckpt_parts.specs.declared.intake.Intake.{Intake}
 use Rattle.ckpt_parts.specs.declared.leases.Leases.{Leases}
-use Rattle.ckpt_parts.specs.Deleting.{Deleting, next_id, tried}
+use Rattle.ckpt_parts.specs.Deleting.{next_id, tried}
 use Rattle.ckpt_parts.specs.Intakes.{item_with, with_first, items_of, has_items, ids_of, intake_of, TakesIn, TakesItems}
 use Rattle.ckpt_parts.specs.Leasing.{newest_lease}
 use Rattle.page_ckpt.specs.declared.link.Link.{Link}
 use Rattle.page_ckpt.specs.declared.stage.Stage.{Stage}
 use Rattle.page_ckpt.specs.declared.stage.Stage.TheVariants.{TakingHome, GettingHome, Receiving, TakingRight, GettingRight, PuttingRight, ReleasingRight, PuttingHome, Deleting as DeletingNext, Releasing, Finished}
-use Rattle.page_ckpt.specs.Paging.{Paging, Step, paging_ask, ask_at, own_queue, handed, held_after, stopping, deleting, deleting_by, home_taken_by, HomeGot, home_read, link_of, is_visited, LeafPut, to_right, GoesOn, RunStarted, with_intake, IntakeTaken, MessagesRead, ReceivedBy, right_taken_by, RightLacks, RightRead, RightGot, without_onward, right_put_by, home_put_by, went, deleted_by, with_applied, finished_by, released_by, AbsorbsAt, Absorbs, PagingLeads, KeepsLeases, without_right}
+use Rattle.page_ckpt.specs.Paging.{Paging, Step, paging_ask, ask_at, own_queue, handed, held_after, stopping, deleting, deleting_by, home_taken_by, HomeGot, home_read, link_of, is_visited, LeafPut, to_right, GoesOn, RunStarted, with_intake, IntakeTaken, MessagesRead, ReceivedBy, right_taken_by, RightLacks, RightRead, RightGot, right_put_by, home_put_by, went, with_applied, finished_by, released_by, AbsorbsAt, PagingLeads, KeepsLeases, without_right}
 use Rattle.page_ckpt.specs.Ending.{left_at, held_count, calls_left}
 
 -- where a step goes on, fewer calls are left than this, unless there are too many right pages

@@ -1,5 +1,5 @@
 -- Laws of where a step leads.
-use Rattle.std.proofs.Common.{◌≡◌, ℕ, List, Option, Some, None, Result, Ok, Err, refl, sym, subst, ap, ◌∙◌}
+use Rattle.std.proofs.Common.{◌≡◌, ℕ, List, Option, Result, Ok, Err, refl, subst, ap, ◌∙◌}
 use Rattle.db_base.specs.Cursor.{number_of}
 use Rattle.db_base.specs.declared.trouble.Trouble.{Trouble}
 use Rattle.leaf_view.specs.Leaf.{Leaf}
@@ -14,7 +14,7 @@ use Rattle.ckpt_parts.specs.declared.intake.Intake.{Intake}
 use Rattle.ckpt_parts.specs.Intakes.{TakesIn}
 use Rattle.ckpt_parts.specs.Leaves.{HoldsLinked}
 use Rattle.page_ckpt.specs.declared.stage.Stage.TheVariants.{Receiving}
-use Rattle.page_ckpt.specs.Paging.{Paging, Step, leaf_or_empty, found_home, stopping, own_queue, HoldsNamed, HomeGot, RightGot, RightRead, MessagesRead, IntakeTaken, Absorbs, PagingLeads, SameLeases, KeepsLeases, handed}
+use Rattle.page_ckpt.specs.Paging.{Paging, leaf_or_empty, found_home, stopping, own_queue, HoldsNamed, HomeGot, RightGot, RightRead, MessagesRead, IntakeTaken, Absorbs, PagingLeads, SameLeases, KeepsLeases, handed}
 
 -- the page that a get brought is kept
 pub home_took : (p : Paging) (got : Option (List ℕ)) (home : Option Leaf) → HoldsNamed p.tree p.page got (found_home (Ok home))

@@ -1,10 +1,10 @@
 //! The machine.
 
-ghost use Rattle.std.specs.Prelude.{◌≡◌, ◌<◌, ◌≤◌, ◌+◌, ◌^◌, ◌==◌, length, IfSome, IfNone, IfOk};
+ghost use Rattle.std.specs.Prelude.{◌≡◌, ◌<◌, ◌≤◌, ◌+◌, ◌^◌, ◌==◌, List, length, IfSome, IfNone, IfOk};
 ghost use Rattle.std.specs.List.{list_any};
 ghost use Rattle.cloud_trait.specs.Ask.{Release};
 ghost use Rattle.cloud_trait.specs.Call.{ask_of, Lends};
-ghost use Rattle.cloud_trait.specs.Machine.{Took, Steps};
+ghost use Rattle.cloud_trait.specs.Machine.{Took, Steps, Deed};
 ghost use Rattle.cloud_trait.specs.Weather.{Makes};
 
 use crate::leaf::{Made, held_bytes, made_leaf, named_leaf};
@@ -86,7 +86,8 @@ impl PageCkpt {
     ghost use Rattle.leaf_edit.specs.Lacked.{lacked};
     ghost use Rattle.ckpt_parts.specs.Deleting.{next_id};
     ghost use Rattle.ckpt_parts.specs.Intakes.{has_items};
-    ghost use Rattle.ckpt_parts.specs.Leasing.{newest_lease};
+    ghost use Rattle.ckpt_parts.specs.Leasing.{newest_lease, claims_of, outstanding};
+    ghost use Rattle.page_ckpt.specs.Standing.{Went, Names, GivesBack, AreFew};
     ghost use Rattle.leaf_view.specs.Lookup.{page_at};
     ghost use Rattle.log_codec.specs.Order.{IsOrdered};
     ghost use Rattle.page_ckpt.specs.Ending.{calls_left};
@@ -625,6 +626,13 @@ impl PageCkpt {
     pub fn step<C: Cloud>(&mut self, alloc: Global, cloud: &mut C, who: Who) -> Turn<CkptAnswer>
         ensures steps { Steps paging_ask PagingLeads KeepsLeases who (C.seen cloud.old) (C.seen cloud.new) self.old self.new result }
         ensures less { result ≡ Turn.More → calls_left self.new < calls_left self.old }
+        // The leases that it holds are those that it took and has not given back.
+        ensures leases { (h : List Deed) → Went h self.old → claims_of self.old.held ≡ outstanding h }
+        // The call names leases that it holds, and takes no lock that it holds.
+        ensures names { (h : List Deed) → Went h self.old → Names (paging_ask self.old) (outstanding h) }
+        // Before an end all leases are given back.
+        ensures gives_back { (h : List Deed) → Went h self.old → GivesBack self.new result }
+        ensures few { (h : List Deed) → Went h self.old → AreFew self.old (length h + 1) }
     {
         let answer = self.call(cloud, who);
         let turn = self.absorb(alloc, answer);

@@ -71,7 +71,7 @@ walk_steps who before after s c w d turn result new e h moved =
     let P : Option Spot → Type 0 = λ o. Moves (next_at o (s, c) h.answer) (new, d) result in
     let Q : Option Spot → Type 0 = λ o. Makes who (Get (scan_object_at s o)) h.answer before after in
     let walked : Moves (walked_by s (walk_next (s.walk, c) h.answer)) (new, d) result =
-        walked_moves s (walk_next (s.walk, c) h.answer) w d turn result new (took_moves (s.walk, c) h.answer (w, d) turn h.took) moved in
+    walked_moves s (walk_next (s.walk, c) h.answer) w d turn result new (took_moves (s.walk, c) h.answer (w, d) turn h.took) moved in
     record { answer = h.answer; made = subst Q (sym e) h.made; took = moves_took (s, c) h.answer (new, d) result (subst P (sym e) walked) }
 
 -- ---- a right page

@@ -85,6 +85,7 @@ impl RecordRead {
         ensures { option_copied result ≡ read_value self.now cache.now client head.now buffer.now }
     {
         let leaf = cache.leaf(self.walk.object())?;
-        seen(&leaf, self.walk.tree(), self.walk.sought(), client, head, buffer)
+        let key = self.walk.sought();
+        seen(&leaf, self.walk.tree(), key, client, head, buffer)
     }
 }

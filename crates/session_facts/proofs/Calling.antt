@@ -77,7 +77,7 @@ module _ (who : Caller) (before after : Seen) (s t : CloudState) (book : Book) (
   works (Folding home f) turn is k steps =
       call_goes who s t book order sessions new (Folding home f) is buffer stand
       (folding_hands who s t home f new.work (checkpoint.step_of who before after s t home f new.work turn told told_after steps) k.0.lock stand.logged book order stand.cloud stand.lone
-      k.1.tree k.1.at)
+      k.1.tree st s.now k.1.at)
       (folding_goes who before after s t stand.logged book order home f new.work turn told told_after stand.cloud stand.messages stand.lone k.0 k.1 steps)
   works Closed turn is k never = absurd never
   works (Idle home) turn is k never = absurd never

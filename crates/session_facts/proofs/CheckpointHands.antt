@@ -232,8 +232,7 @@ module _ (who : Caller) (s t : CloudState) (home : Home) (f : Folding) (work : W
       on (inr none) = absurd (in_none [] x refl none)
       on (inl there) =
           let only : IsIn (h.lease ∷ []) x = subst (λ (o : Option Claim). IsIn (of_option o) x) h.is there in
-          let same : h.lease ≡ x = get_single h.lease only.0 x only.1 in
-          (
+          let same : h.lease ≡ x = get_single h.lease only.0 x only.1 in (
             in_front (of_option f.tree_lease) (of_option f.page_lease) x there,
             λ e. tree_no_page f.tree f.tree 1 (sym h.lock_is ∙ (ap (λ (c : Claim). c.lock) same ∙ (e ∙ p.lock_is))),
           )
@@ -269,8 +268,8 @@ module _ (who : Caller) (s t : CloudState) (home : Home) (f : Folding) (work : W
   }
 
   module _ (logged : Logged) (book : Book) (order : List Entry) (stands : StandsBeside logged book order s) (lone : IsLone book) (of_tree : IsTree f.tree) where
-    pub folding_hands : {st : Store} {now : ℕ} → KnowsFoldingAt f.stage st now f → Handles who s t (Checkpointing home f) work
-    folding_hands {st} {now} k = on f.stage refl k
+    pub folding_hands : (st : Store) (now : ℕ) → KnowsFoldingAt f.stage st now f → Handles who s t (Checkpointing home f) work
+    folding_hands st now k = on f.stage refl k
       where
         takes_tree : f.stage ≡ TakingTree → f.page_lease ≡ None → (x : Claim) → IsIn (leases_of work) x → (IsIn mine x × Unit {0}) ⊎ GivenBy (take_tree f) step.reply x
         takes_tree e none x is = turn (own_cases x is)

@@ -376,39 +376,39 @@ module _ (who : Caller) (s t : CloudState) (logged : Logged) (book : Book) (orde
       version_is : to.version ≡ (top_of (st.tally.roots f.tree)).version + 1
       version_is = ap (λ (r : Tree). r.version) root_is ∙ ap (λ (r : Tree). r.version + 1) (sym newest_root_is)
 
-      abbrev landing : Landing who st root_put (after_root f.tree to st)
-      landing = puts_root f.tree to f.out root_lease None of_tree puts.puts covered lands_root
+      abbrev root_landing : Landing who st root_put (after_root f.tree to st)
+      root_landing = puts_root f.tree to f.out root_lease None of_tree puts.puts covered lands_root
 
-      abbrev su : Store
-      su = after_root f.tree to st
+      abbrev root_store : Store
+      root_store = after_root f.tree to st
 
-      grows : Grows st su
-      grows = (landing_passes who st root_put su stands.holds landing).grows
+      root_grows : Grows st root_store
+      root_grows = (landing_passes who st root_put root_store stands.holds root_landing).grows
 
-      may_delete : MayDelete su f
+      may_delete : MayDelete root_store f
       may_delete id is =
-          let m = covered_stays st su f.tree (number_of f.run.top) id grows (run.covers id is) in
+          let m = covered_stays st root_store f.tree (number_of f.run.top) id root_grows (run.covers id is) in
           (m.0, m.1, on m.0 m.2 (client_of m.0 m.1))
         where
-          client_of : (rec : PuRec) → IsMessage (su.tally.posts f.tree 0) id rec → IsClient rec.client
+          client_of : (rec : PuRec) → IsMessage (root_store.tally.posts f.tree 0) id rec → IsClient rec.client
           client_of rec m = (pu_of-some m.message.bytes rec m.reads).0.client
 
-          on : (rec : PuRec) → rec.number ≤ number_of f.run.top rec.client → IsClient rec.client → rec.number ≤ su.tally.cursor f.tree 0 rec.client
+          on : (rec : PuRec) → rec.number ≤ number_of f.run.top rec.client → IsClient rec.client → rec.number ≤ root_store.tally.cursor f.tree 0 rec.client
           on rec below is_client =
-              let at : su.tally.cursor f.tree 0 rec.client ≡ number_of (raised root.cursor f.run.top) rec.client =
+              let at : root_store.tally.cursor f.tree 0 rec.client ≡ number_of (raised root.cursor f.run.top) rec.client =
               ap (λ (c : ℕ → ℕ). c rec.client) (at2_same f.tree 0 (λ client. number_of (raised root.cursor f.run.top) client) st.tally.cursor) in
               let greater = raised_number root.cursor f.run.top rec.client is_client in
               omega (arith, below, at, greater)
 
-      noted : noted_in_hand (Checkpointing home f) (ask_of_work (Checkpointing home f)) (audit_of book order) ≡ audit_of su.book su.order
-      noted = ap (λ (q : Ask). noted_at (Checkpointing home f) q (audit_of book order)) root_put_is
+      root_noted : noted_in_hand (Checkpointing home f) (ask_of_work (Checkpointing home f)) (audit_of book order) ≡ audit_of root_store.book root_store.order
+      root_noted = ap (λ (q : Ask). noted_at (Checkpointing home f) q (audit_of book order)) root_put_is
 
       root_outcome : Out
       root_outcome =
-          put_landed who logged logged book order s t (Checkpointing home f) work (object.Tree f.tree) f.out root_lease None su (λ c. begins_itself (posts_of (logged c))) lands stands
-          landing version_is messages lone
-          (root_knows su (record { client = home_is.client; lock = home_is.lock; attempt = home_is.attempt; settled = home_is.settled; newest = home_is.newest }) (λ done. may_delete))
-          (ap (λ (q : Ask). Some q) root_put_is) noted
+          put_landed who logged logged book order s t (Checkpointing home f) work (object.Tree f.tree) f.out root_lease None root_store (λ c. begins_itself (posts_of (logged c))) lands stands
+          root_landing version_is messages lone
+          (root_knows root_store (record { client = home_is.client; lock = home_is.lock; attempt = home_is.attempt; settled = home_is.settled; newest = home_is.newest }) (λ done. may_delete))
+          (ap (λ (q : Ask). Some q) root_put_is) root_noted
 
     at_putting_tree : Out
     at_putting_tree = on (put_cases who (object.Tree f.tree) f.out root_lease None step.reply s t (call_at root_put root_put_is))

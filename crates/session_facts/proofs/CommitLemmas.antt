@@ -120,10 +120,13 @@ not_opened_knows : (u : Store) (now : ℕ) (c : Commit) (t : Trouble) → ((end 
 not_opened_knows u now c (trouble.Late end late) home = home end late refl
 not_opened_knows u now c t home = tt
 
+abbrev err_of : Trouble → Result (Unit {0}) Trouble
+err_of t = Err t
+
 opened_knows : (u : Store) (now : ℕ) (c : Commit) (g : Result (Unit {0}) Trouble) → (g ≡ Ok tt → KnowsNext u now (send_at c 0))
     → ((end late : ℕ) → g ≡ Err (trouble.Late end late) → KnowsHome u now (closed_again c).home) → KnowsNext u now (opened_by c g)
 opened_knows u now c (Ok tt) done home = done refl
-opened_knows u now c (Err t) done home = not_opened_knows u now c t (λ end late e. home end late (ap (λ (x : Trouble). Err {A = Unit {0}} x) e))
+opened_knows u now c (Err t) done home = not_opened_knows u now c t (λ end late e. home end late (ap err_of e))
 
 sent_knows : (u : Store) (now : ℕ) (c : Commit) (g : Result ℕ Trouble) → ((id : ℕ) → g ≡ Ok id → KnowsNext u now (send_at c (c.sent + 1))) → KnowsNext u now (sent_next c g)
 sent_knows u now c (Ok id) done = done id refl
@@ -425,8 +428,8 @@ module _ (who : Caller) (s t : CloudState) (logged : Logged) (book : Book) (orde
     where
       sending : (e : c.stage ≡ Sending) → HasOpened st t.now c c.home.head → AreSentOn st c.records c.sent → (o : Option AtomicRec) → slice_get c.records c.sent ≡ o → SendsRecord c o
           → Outcome logged book order s t (Committing c) work
-      sending e h sent (Some r) there reads = at_sending e h sent r there reads
-      sending e h sent None there never = absurd never
+      sending e h upto (Some r) there reads = at_sending e h upto r there reads
+      sending e h upto None there never = absurd never
 
       on : (stage : Stage) → c.stage ≡ stage → KnowsCommitAt stage st t.now c → IsSoundAt stage c → Outcome logged book order s t (Committing c) work
       on Ready e never w = absurd never

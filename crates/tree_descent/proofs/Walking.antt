@@ -7,7 +7,6 @@ use Rattle.tree_descent.specs.declared.descent.Descent.{Descent}
 use Rattle.tree_descent.specs.declared.descent.Reach.{Reach}
 use Rattle.tree_descent.specs.Descent.{stride, follow, walk}
 
-
 -- a stride that goes on leaves one fewer
 pub walk_more : (n : ℕ) (d e : Descent) → 0 < n → stride d ≡ Goes e → walk n d ≡ walk (n - 1) e
 unfolding walk

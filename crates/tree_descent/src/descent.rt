@@ -7,6 +7,7 @@ ghost use Rattle.tree_descent.specs.Descent.{descent_ask, descent_next, begun, f
 
 use crate::fork::{Fork, bad_fence, forked_on};
 use byte_format::{is_below, is_same};
+use ckpt_parts::Fault;
 use cloud_trait::answer::Answer;
 use cloud_trait::call::Call;
 use cloud_trait::lease::Lease;
@@ -17,7 +18,6 @@ use db_base::trouble::Trouble;
 use node_codec::InnerView;
 use std::alloc::{AllocError, Global};
 use tree_parts::chart::Chart;
-use ckpt_parts::Fault;
 use tree_parts::kept::KeptNode;
 use tree_parts::link::Link;
 use tree_parts::pace::Pace;

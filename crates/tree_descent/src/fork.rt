@@ -5,12 +5,12 @@ ghost use Rattle.tree_descent.specs.Fork.{down_from, forked_on, bad_fence};
 ghost use Rattle.std.specs.Prelude.{Ok, IfOk};
 
 use byte_format::is_below;
+use ckpt_parts::Fault;
 use db_base::blob::Blob;
 use db_base::ids::PageId;
 use db_base::trouble::Trouble;
 use node_codec::InnerView;
 use std::alloc::{AllocError, Global};
-use ckpt_parts::Fault;
 
 /// Where an inner node leads for a key: a low key, and the page that begins there.
 #[derive(Debug, Drop)]

@@ -23,7 +23,7 @@ found_some r at next level root ls k plan e get n l t same h =
     let node : Some k ≡ touched_node r = get ∙ ap (slice_get r.chart.nodes) e in
     let held : Finds plan (node_plan (tree_held r.chart.root) r.chart.tree k ls) = subst (λ (x : Tree). Finds plan (node_plan x r.chart.tree k ls)) t h in
     let linked : Finds plan (node_plan (tree_held r.chart.root) r.chart.tree k r.chart.links) =
-          subst (λ (x : List Link). Finds plan (node_plan (tree_held r.chart.root) r.chart.tree k x)) same held in
+    subst (λ (x : List Link). Finds plan (node_plan (tree_held r.chart.root) r.chart.tree k x)) same held in
     subst (λ (o : Option KeptNode). FindsPlan r (Some (next, level, plan)) o) node (n ∙ ap (λ (i : ℕ). i + 1) e, l, linked)
 
 pub found_none : (r : Rising) (at : ℕ) → at ≡ next_touched r → None ≡ slice_get r.chart.nodes at → FindsPlan r None (touched_node r)

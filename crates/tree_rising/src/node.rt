@@ -6,6 +6,7 @@ ghost use Rattle.tree_parts.specs.Going.{Finds};
 ghost use Rattle.tree_rising.specs.Nodes.{goes_to, is_touched, touches, with_links, linked, in_pieces, planned, node_plan, touched_at};
 
 use byte_format::{is_below, is_below_bound};
+use ckpt_parts::Fault;
 use db_base::ids::{PageId, TreeId};
 use db_base::pair::EditFault;
 use node_codec::{InnerBuf, InnerView, TreeView};
@@ -13,7 +14,6 @@ use split_plan::count::pieces;
 use split_plan::entry_list::EntryList;
 use split_plan::inner::plan_inner;
 use std::alloc::Global;
-use ckpt_parts::Fault;
 use tree_parts::kept::KeptNode;
 use tree_parts::link::Link;
 use tree_parts::placing::{Placing, PutQueue};

@@ -8,6 +8,7 @@ ghost use Rattle.tree_rising.specs.Rising.{begun, rising_ask, rising_next, next_
 
 use crate::node::{NodePlan, node_plan, touched_at};
 use crate::root::{RootPlan, raised_root, root_plan};
+use ckpt_parts::Fault;
 use cloud_trait::answer::Answer;
 use cloud_trait::call::Call;
 use cloud_trait::lease::Lease;
@@ -16,7 +17,6 @@ use db_base::names::ObjName;
 use db_base::trouble::Trouble;
 use std::alloc::Global;
 use tree_parts::chart::Chart;
-use ckpt_parts::Fault;
 use tree_parts::link::add_links;
 use tree_parts::pace::Pace;
 use tree_parts::placing::Placing;
@@ -149,7 +149,12 @@ impl Rising {
         ensures { Finds result (last_plan self.now) }
     {
         let root = tree_view(&self.chart.root);
-        match raised_root(alloc, &root, self.chart.links.as_slice(), self.chart.run.top()) {
+        match raised_root(
+            alloc,
+            &root,
+            self.chart.links.as_slice(),
+            self.chart.run.top(),
+        ) {
             Ok(buf) => root_plan(alloc, &root, buf),
             Err(Fault::Stops(trouble)) => Err(Fault::Stops(trouble)),
             Err(Fault::Memory) => Err(Fault::Memory),

@@ -6,6 +6,7 @@ ghost use Rattle.tree_parts.specs.Going.{Finds};
 ghost use Rattle.tree_parts.specs.Reserve.{next_tree};
 ghost use Rattle.tree_rising.specs.Root.{is_named, with_named, risen, raised_root, root_plan, root_cut, cut_at, lowered};
 
+use ckpt_parts::Fault;
 use db_base::blob::Blob;
 use db_base::cursor::Cursor;
 use db_base::ids::PageId;
@@ -14,7 +15,6 @@ use node_codec::{TreeBuf, TreeView};
 use split_plan::count::pieces;
 use split_plan::root::plan_root;
 use std::alloc::Global;
-use ckpt_parts::Fault;
 use tree_parts::link::Link;
 use tree_parts::placing::{Placing, PutQueue};
 use tree_parts::read::tree_view;
@@ -154,11 +154,7 @@ fn root_cut(alloc: Global, root: &TreeView<'_>, buf: TreeBuf) -> Result<RootPlan
 }
 
 /// The puts of a tree object under edit: it is cut where it has more than 64 entries, unless its level is 255.
-pub(crate) fn root_plan(
-    alloc: Global,
-    root: &TreeView<'_>,
-    buf: TreeBuf,
-) -> Result<RootPlan, Fault>
+pub(crate) fn root_plan(alloc: Global, root: &TreeView<'_>, buf: TreeBuf) -> Result<RootPlan, Fault>
     requires { buf.level ≡ root.now.level }
     ensures { Finds result (root_plan root.now buf) }
 {

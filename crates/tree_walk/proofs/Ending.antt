@@ -77,6 +77,7 @@ read_above w c = on w.spot refl where
       → IfSome (if b then option_map (leaf_read w) (leaf_at c (object.Page w.tree s.page)) else option_map (node_read w) (inner_at c (object.Page w.tree s.page))) (Above (pages w))
   page s true = if_map (Above (pages w)) (leaf_read w) (leaf_at c (object.Page w.tree s.page)) (leaf_above w)
   page s false = if_map (Above (pages w)) (node_read w) (inner_at c (object.Page w.tree s.page)) (node_above w)
+
   on : (o : Option Spot) → w.spot ≡ o → IfSome (read_at w c o) (Above (pages w))
   on None e = if_map (Above (pages w)) (root_read w) (root_at c (object.Tree w.tree)) (λ t. root_above w t e)
   on (Some s) e = page s (s.level == 0)
@@ -132,6 +133,7 @@ more_pages m n a h = on (got_by (rested m.0) m.1 (got_of a)) (by_above (rested m
   at (Goes w) c above e = subst (λ (k : Walk × Cache). pages m.0 < pages k.0) (ap (goes_to (w, c)) e) above
   at (Ends w page) c above e = absurd (cc (e))
   at (Stops w t) c above e = absurd (cc (e))
+
   on : (x : Next Walk ℕ × Cache) → Above (pages m.0) x.0 → beside x ≡ Goes n → pages m.0 < pages n.0
   on x above e = at x.0 x.1 above e
 

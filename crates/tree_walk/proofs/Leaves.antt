@@ -58,9 +58,11 @@ kept_unended w c = on w.spot where
   root : (b : Bool) → IfSome (if b then None else option_map (root_read w) (root_at c (object.Tree w.tree))) Unended
   root true = tt
   root false = if_map Unended (root_read w) (root_at c (object.Tree w.tree)) (λ t e. root_unended w t)
+
   page : (s : Spot) (b : Bool) → IfSome (if b then None else (if b then option_map (leaf_read w) (leaf_at c (object.Page w.tree s.page)) else option_map (node_read w) (inner_at c (object.Page w.tree s.page)))) Unended
   page s true = tt
   page s false = if_map Unended (node_read w) (inner_at c (object.Page w.tree s.page)) (λ n e. node_unended w n)
+
   on : (o : Option Spot) → IfSome (if is_got_at w.fresh o then None else read_at w c o) Unended
   on None = root w.fresh
   on (Some s) = page s (s.level == 0)
@@ -73,6 +75,7 @@ through_unended c (suc k) w = on (through_unended c k) (read_kept w c) (kept_une
   follows more (Goes v) h = more v
   follows more (Ends v page) h = h
   follows more (Stops v t) h = tt
+
   on : ((v : Walk) → Unended (goes_through c k v)) → (o : Option (Next Walk ℕ)) → IfSome o Unended → Unended (onward (goes_through c k) w o)
   on more None h = tt
   on more (Some m) h = follows more m h
@@ -112,8 +115,10 @@ leaf_ends : (w : Walk) (c : Cache) (l : Leaf) (s : Spot) → IsWalk w → w.spot
 leaf_ends w c l s ok e bottom kept = on (bytes_same l.low (spot_of w).low) refl (right_of (sought w) l.high (page_at l.right)) refl where
   the_page : (spot_of w).page ≡ s.page
   the_page = ap (λ (o : Option Spot). (unwrap_or o (record { page = 1; level = 0; low = [] })).page) e
+
   apart : is_among w.nodes s.page ≡ false
   apart = let A : Option Spot → Type 0 = λ o. IsApart w.nodes o in subst A e ok.apart bottom
+
   at_end : bytes_below (sought w) l.low ≡ false → right_of (sought w) l.high (page_at l.right) ≡ None → IsAtLeaf (use_of w) c (spot_of w).page
   at_end low right = record {
     leaf = l;
@@ -122,8 +127,10 @@ leaf_ends w c l s ok e bottom kept = on (bytes_same l.low (spot_of w).low) refl 
     holds = both_hold (bytes_below (sought w) l.low) (below_bound (sought w) l.high) low (below_high (sought w) l.high (page_at l.right) right);
     leftmost = leftmost_of w.key l.low low;
   }
+
   right_at : (next : ℕ × List ℕ) → AtLeaf c (leaf_left (use_of w) (Some next))
   right_at next = unended_at c (leaf_left (use_of w) (Some next)) (linked_unended (record (leaf_passed (use_of w)) { turned = true }) (record { page = next.0; level = (spot_of w).level; low = next.1 }))
+
   on : (b : Bool) → bytes_same l.low (spot_of w).low ≡ b → (o : Option (ℕ × List ℕ)) → right_of (sought w) l.high (page_at l.right) ≡ o
       → AtLeaf c (if b then leaf_left (use_of w) o else Stops w (bad_fence w l.low))
   on false same o right = tt
@@ -136,6 +143,7 @@ read_ends w c ok = on w.spot refl where
       → IfSome (if b then option_map (leaf_read w) (leaf_at c (object.Page w.tree s.page)) else option_map (node_read w) (inner_at c (object.Page w.tree s.page))) (AtLeaf c)
   page s e true bottom = if_map (AtLeaf c) (leaf_read w) (leaf_at c (object.Page w.tree s.page)) (λ l kept. leaf_ends w c l s ok e (eqb-true s.level 0 bottom) kept)
   page s e false above = if_map (AtLeaf c) (node_read w) (inner_at c (object.Page w.tree s.page)) (λ n kept. unended_at c (node_read w n) (node_unended w n))
+
   on : (o : Option Spot) → w.spot ≡ o → IfSome (read_at w c o) (AtLeaf c)
   on None e = if_map (AtLeaf c) (root_read w) (root_at c (object.Tree w.tree)) (λ t kept. unended_at c (root_read w t) (root_unended w t))
   on (Some s) e = page s e (s.level == 0) refl
@@ -146,6 +154,7 @@ got_ends w c ok = on (read_from w c) (read_ends w c ok) where
   follows (Goes v) h = unended_at c (goes_on c v) (through_unended c 64 v)
   follows (Ends v page) h = h
   follows (Stops v t) h = tt
+
   on : (o : Option (Next Walk ℕ)) → IfSome o (AtLeaf c) → AtLeaf c (follow (goes_on c) (unwrap_or o (Stops w trouble.Failed)))
   on None h = tt
   on (Some m) h = follows m h
@@ -176,6 +185,7 @@ others_dropped [] c tree page h = refl
 others_dropped (p ∷ ps) c tree page h = on (p == page) refl (others_dropped ps (dropped c (object.Page tree p)) tree page) h where
   other : (p == page) ≡ false → object.Page tree page ≡ object.Page tree p → ⊥
   other ne e = eqb-false p page ne (sym (ap page_in e))
+
   on : (b : Bool) → (p == page) ≡ b
       → (is_among ps page ≡ false → kept_at (fold dropped (dropped c (object.Page tree p)) (map (λ q. object.Page tree q) ps)) (object.Page tree page) ≡ kept_at (dropped c (object.Page tree p)) (object.Page tree page))
       → (b || is_among ps page) ≡ false
@@ -207,6 +217,7 @@ ends_at m n a page ok h = on (got_by (rested m.0) m.1 (got_of a)) (by_ends (rest
   at (Goes w) c h e = absurd (cc (e))
   at (Ends w p) c h e = subst (λ (k : (Walk × Cache) × ℕ). IsAtLeaf k.0.0 k.0.1 k.1) (ap (ends_with ((w, left_by w c), p)) e) (stays_at w c p h.0 h.1)
   at (Stops w t) c h e = absurd (cc (e))
+
   on : (x : Next Walk ℕ × Cache) → AtLeaf x.1 x.0 → beside x ≡ Ends n page → IsAtLeaf n.0 n.1 page
   on x h e = at x.0 x.1 h e
 

@@ -24,6 +24,7 @@ child_at_most key (x ∷ xs) e h = rest (child_of key xs) (child_at_most key xs 
   first : (b : Bool) → bytes_below key x.0 ≡ b → (if b then None else Some x) ≡ Some e → bytes_below key e.0 ≡ false
   first true same h = absurd (cc (h))
   first false same h = let is : x ≡ e = cc (h) in subst (λ (y : Entry). bytes_below key y.0 ≡ false) is same
+
   rest : (o : Option Entry) → (o ≡ Some e → bytes_below key e.0 ≡ false) → later_of (if bytes_below key x.0 then None else Some x) o ≡ Some e → bytes_below key e.0 ≡ false
   rest (Some y) below h = below h
   rest None below h = first (bytes_below key x.0) refl h

@@ -1,6 +1,6 @@
 ghost use Rattle.std.specs.Prelude.{◌≡◌, ◌≢◌, ◌<◌, ℕ, if◌then◌else◌, false, fold, Option, Some, IfSome};
 ghost use Rattle.std.specs.Option.{option_copied, option_map};
-ghost use Rattle.byte_format.specs.Order.{bytes_below};
+ghost use Rattle.byte_format.specs.Order.{bytes_below, bytes_same};
 ghost use Rattle.cloud_trait.specs.Call.{ask_of};
 ghost use Rattle.cloud_trait.specs.Machine.{LeadsBy, Steps};
 ghost use Rattle.node_codec.specs.Node.{page_at as node_at};
@@ -162,6 +162,13 @@ impl Walk {
         }
     }
 
+    /// Whether a low key is the one that the link promised.
+    fn is_promised(&self, low: &[u8]) -> bool
+        ensures { result ≡ bytes_same low.now (spot_of self.now).low }
+    {
+        is_same(low, self.low())
+    }
+
     fn is_leaf(&self) -> bool
         ensures { result ≡ is_leaf self.now }
     {
@@ -196,9 +203,7 @@ impl Walk {
             Some(spot) => spot.page == page,
             None => false,
         };
-        in_hand
-            || self.nodes.as_slice().contains(&page)
-            || self.leaves.as_slice().contains(&page)
+        in_hand || self.nodes.as_slice().contains(&page) || self.leaves.as_slice().contains(&page)
     }
 
     /// The tree object or leaf that the newest turn used, kept or got. After More and Ended the cache keeps it.
@@ -295,7 +300,7 @@ impl Walk {
         if view.level() != self.level() {
             return Turn::Stopped(self.bad_level());
         }
-        if !is_same(view.low(), self.low()) {
+        if !self.is_promised(view.low()) {
             return Turn::Stopped(self.bad_fence(alloc, view.low()));
         }
         let page = self.page();
@@ -320,7 +325,7 @@ impl Walk {
     fn read_leaf(&mut self, alloc: Global, view: &LeafView<'_>) -> Turn<PageId>
         ensures { Moves (leaf_read self.old view.now) self.new result }
     {
-        if !is_same(view.low(), self.low()) {
+        if !self.is_promised(view.low()) {
             return Turn::Stopped(self.bad_fence(alloc, view.low()));
         }
         self.used = Some(self.object());

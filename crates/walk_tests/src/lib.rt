@@ -3,3 +3,11 @@
 
 #[cfg(test)]
 mod page_cache_tests;
+#[cfg(test)]
+mod range_scan_tests;
+#[cfg(test)]
+mod record_read_tests;
+#[cfg(test)]
+mod tree_walk_tests;
+#[cfg(test)]
+mod trees;

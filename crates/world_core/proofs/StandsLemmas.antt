@@ -37,7 +37,7 @@ use Rattle.client_session.specs.declared.session.Begun.TheVariants.{Working, Ans
 use Rattle.client_session.specs.declared.session.Op.TheVariants as op
 use Rattle.client_session.specs.declared.session.Work.{Work}
 use Rattle.client_session.specs.declared.session.Work.TheVariants as work
-use Rattle.client_session.specs.Session.{Acting, BeginsOpening, BeginsWith, HasInHand, CommitsNothing, CommitsNoted, CommitsIn, CommitsOf, folding_begun_by, is_working}
+use Rattle.client_session.specs.Session.{Acting, BeginsOpening, BeginsWith as BeginsByHome, HasInHand, CommitsNothing, CommitsNoted, CommitsIn, CommitsOf, folding_begun_by, is_working}
 use Rattle.history.specs.Fold.{fold, of_tree}
 use Rattle.history.specs.Legal.{IsLegal}
 use Rattle.report_types.specs.declared.entry.Entry.{Entry}
@@ -270,7 +270,7 @@ folding_begins lines k tree r before after buffer home audit new t begun ready h
 
 folding_begun : (lines : List Line) (k tree : ℕ) (r : Reply) (before after : Seen) (old new : World) (t : CloudState) (begun : Result Begun Refused)
     → Ready lines (event.Tree k tree) before after old new t
-    → BeginsWith (λ home. HasInHand old.session.buffer (folding_begun_by tree home)) old.session new.session begun → BegunReply begun (Ok r)
+    → BeginsByHome (λ home. HasInHand old.session.buffer (folding_begun_by tree home)) old.session new.session begun → BegunReply begun (Ok r)
     → StandsFor (lines ++ line_of (event.Tree k tree) r ∷ []) new after r
 folding_begun lines k tree r before after old new t (Ok begun) ready begins replies =
     folding_begins lines k tree r before after old.session.buffer begins.0 old.audit new t begun
@@ -358,7 +358,7 @@ commit_noted lines k r before after buffer home audit new t begun ready empty (i
 commit_noted lines k r before after buffer home audit new t begun ready empty (inr some) replies = commit_of lines k r before after buffer home audit new t begun ready empty some.1 replies
 
 commit_begun : (lines : List Line) (k : ℕ) (r : Reply) (before after : Seen) (old new : World) (t : CloudState) (begun : Result Begun Refused)
-    → Ready lines (event.Commit k) before after old new t → BeginsWith (CommitsIn old.session.buffer) old.session new.session begun → BegunReply begun (Ok r)
+    → Ready lines (event.Commit k) before after old new t → BeginsByHome (CommitsIn old.session.buffer) old.session new.session begun → BegunReply begun (Ok r)
     → StandsFor (lines ++ line_of (event.Commit k) r ∷ []) new after r
 commit_begun lines k r before after old new t (Ok begun) ready begins replies =
     commit_noted lines k r before after old.session.buffer begins.0 old.audit new t begun

@@ -9,7 +9,6 @@ use Rattle.ckpt_parts.specs.declared.fault.Fault.{Fault}
 use Rattle.ckpt_parts.specs.declared.fault.Fault.TheVariants.{Stops}
 use Rattle.ckpt_parts.specs.Leaves.{HoldsLinked}
 use Rattle.ckpt_parts.specs.Unless.{UnlessMemory}
-use Rattle.page_ckpt.specs.contracts.checkpoint.PageCkpt.{the_view}
 use Rattle.page_ckpt.specs.Paging.{Paging, Step, stopping, SameLeases}
 use Rattle.page_ckpt.proofs.Leading.{right_stopped}
 use Rattle.page_ckpt.proofs.checkpoint.PageCkpt.read_right_bytes.Goals as goal

@@ -8,8 +8,7 @@ pub leave_node-requires : goal.leave_node-requires
 leave_node-requires c =
     let ok : IsWalk c.args.self.now = subst IsWalk c.self.view_is c.self.invariant in
     let found : c.low.result.now ≡ c.args.view.now.low = c.low.ensures in
-    let promised : c.low-2.result.now ≡ (spot_of c.args.self.now).low = c.low-2.ensures in
-    let same : bytes_same c.low.result.now c.low-2.result.now ≡ true = sym c.is_same.ensures ∙ c.if-not-is_same.false in
+    let same : bytes_same c.low.result.now (spot_of c.args.self.now).low ≡ true = sym c.is_promised.ensures ∙ c.if-not-is_promised.false in
     let is : bytes_same c.args.view.now.low (spot_of c.args.self.now).low ≡ true =
-        sym (ap (λ (k : List ℕ). bytes_same k c.low-2.result.now) found ∙ ap (λ (k : List ℕ). bytes_same c.args.view.now.low k) promised) ∙ same in
+    sym (ap (λ (k : List ℕ). bytes_same k (spot_of c.args.self.now).low) found) ∙ same in
     subst (λ (v : Walk). bytes_below (sought v) c.args.view.now.low ≡ false) (sym c.self.view_is) (fence_holds c.args.self.now c.args.view.now.low ok is)

@@ -1,0 +1,4 @@
+mod bench;
+mod happy;
+mod late;
+mod stops;

@@ -1,3 +1,0 @@
-pub mod Ckpt
-pub mod Keys
-pub mod Leasing

@@ -1,7 +1,0 @@
-//! The tree checkpoint: the run of a tree's pending update queue is applied to all leaves that it touches, under leases.
-#![tactic(auto)]
-
-pub mod checkpoint;
-pub mod ids;
-mod key;
-pub mod work;

@@ -1,5 +1,0 @@
-mod bench;
-mod cuts;
-mod levels;
-mod links;
-mod runs;

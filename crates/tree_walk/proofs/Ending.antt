@@ -1,5 +1,5 @@
 -- A walk comes to one more page with each call that it goes on from.
-use Rattle.std.proofs.Common.{◌≡◌, ℕ, zero, suc, ◌+◌, ◌-◌, ◌^◌, ◌<◌, ◌≤◌, Bool, true, false, List, [], ◌∷◌, ◌++◌, length, Option, Some, None, Result, Ok, Err, unwrap_or, refl, ap, sym, subst, ◌∙◌, arith, length-append}
+use Rattle.std.proofs.Common.{◌≡◌, ℕ, zero, suc, ◌+◌, ◌-◌, ◌^◌, ◌<◌, ◌≤◌, Bool, true, false, List, [], ◌∷◌, ◌++◌, length, Option, Some, None, Result, Ok, Err, unwrap_or, refl, ap, subst, arith, length-append}
 use Rattle.std.specs.Prelude.{if◌then◌else◌, IfSome, ◌==◌}
 use Rattle.std.specs.Option.{option_map}
 use Rattle.byte_format.specs.Order.{bytes_same}
@@ -13,7 +13,7 @@ use Rattle.node_codec.specs.Inner.{Inner}
 use Rattle.node_codec.specs.Tree.{Tree}
 use Rattle.cloud_trait.specs.declared.answer.Answer.{Answer}
 use Rattle.cloud_trait.specs.declared.turn.Turn.{Turn}
-use Rattle.cloud_trait.specs.declared.turn.Turn.TheVariants.{More, Ended, Stopped}
+use Rattle.cloud_trait.specs.declared.turn.Turn.TheVariants.{More}
 use Rattle.cloud_trait.specs.Machine.{Next, Goes, Ends, Stops}
 use Rattle.cloud_trait.specs.Views.{got_of}
 use Rattle.page_cache.specs.Cache.{Cache, accepts}

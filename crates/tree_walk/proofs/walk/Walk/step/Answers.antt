@@ -1,4 +1,4 @@
-use Rattle.std.proofs.Common.{ℕ, ◌+◌, ◌<◌, ◌^◌, length, subst, arith}
+use Rattle.std.proofs.Common.{◌+◌, ◌<◌, ◌^◌, length, subst, arith}
 use Rattle.tree_walk.specs.Walk.{Walk, IsWalk, pages, spots}
 use Rattle.tree_walk.proofs.Ending.{moved_less, spots_most}
 use Rattle.tree_walk.proofs.Leaves.{moved_ends}

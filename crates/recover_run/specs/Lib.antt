@@ -1,7 +1,10 @@
+pub mod Bound
+pub mod Calls
 pub mod Gathering
 pub mod Holding
 pub mod Ids
 pub mod Items
 pub mod Kept
+pub mod Meaning
 pub mod Recovery
 pub mod Sending

@@ -1,5 +1,5 @@
 -- An opening or a recovery as a machine: what it knows, what it asks, and where each answer leads.
-use Rattle.std.specs.Prelude.{ℕ, ◌≡◌, ◌+◌, ◌-◌, ◌^◌, ◌==◌, ◌++◌, Bool, if◌then◌else◌, List, [], ◌∷◌, length, slice_get, Option, Some, None, Result, Ok, Err}
+use Rattle.std.specs.Prelude.{ℕ, ◌≡◌, ◌≤◌, ◌+◌, ◌-◌, ◌^◌, ◌==◌, ◌++◌, Bool, if◌then◌else◌, List, [], ◌∷◌, length, slice_get, Option, Some, None, Result, Ok, Err}
 use Rattle.db_base.specs.declared.names.Lock.TheVariants as lock
 use Rattle.db_base.specs.declared.names.ObjName.TheVariants as object
 use Rattle.db_base.specs.declared.names.QueueName.{QueueName}
@@ -359,14 +359,15 @@ IsSoundAt ReleasingOld r = Unit {0}
 IsSoundAt Taking r = Unit {0}
 IsSoundAt Getting r = Unit {0}
 IsSoundAt Receiving r = HasSpelling r.head
-IsSoundAt Deleting r = HasSpelling r.head
+IsSoundAt Deleting r = HasSpelling r.head × (1 ≤ length r.ids)
 IsSoundAt Sending r = HasSpelling r.head × SendsRecord r (slice_get r.gathered.kept r.sent)
 IsSoundAt Putting r = HasSpelling r.head × (head_of r.out ≡ Some r.head)
-IsSoundAt Clearing r = HasSpelling r.head
+IsSoundAt Clearing r = HasSpelling r.head × (1 ≤ length r.ids)
 IsSoundAt Sweeping r = HasSpelling r.head
 IsSoundAt Releasing r = Unit {0}
 IsSoundAt Finished r = IsSpelled r.lease r.head
 
--- behind the get the head of the next epoch has a spelling; a send in hand sends the next kept record, and a put puts that head
+-- behind the get the head of the next epoch has a spelling; a deletion in hand has an id, a send sends the next kept record, and a put
+-- puts that head
 abbrev pub IsSound : Recovery → Type 0
 IsSound r = IsSoundAt r.stage r

@@ -1,4 +1,4 @@
-ghost use Rattle.std.specs.Prelude.{◌≡◌, length, IfOk};
+ghost use Rattle.std.specs.Prelude.{◌≡◌, ◌<◌, ◌^◌, length, IfOk};
 ghost use Rattle.recover_run.specs.Gathering.{nothing_gathered, gathered_with, lost_now};
 ghost use Rattle.recover_run.specs.Kept.{AllPlaced};
 
@@ -61,6 +61,15 @@ impl Gathering {
         ensures { result ≡ self.now.fresh }
     {
         self.fresh
+    }
+
+    /// No more ids than memory has places.
+    pub fn few(&self)
+        ensures seen { length self.now.seen < 2 ^ 64 }
+        ensures lost { length self.now.lost < 2 ^ 64 }
+    {
+        self.seen.few();
+        self.lost.few();
     }
 
     /// Takes what a receive brought, and answers the ids of lost records that are to be deleted.

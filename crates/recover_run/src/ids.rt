@@ -1,4 +1,4 @@
-ghost use Rattle.std.specs.Prelude.{◌≡◌, [], ◌++◌, ◌∷◌, not, IfOk, if◌then◌else◌};
+ghost use Rattle.std.specs.Prelude.{◌≡◌, ◌<◌, ◌^◌, [], ◌++◌, ◌∷◌, length, not, IfOk, if◌then◌else◌};
 ghost use Rattle.recover_run.specs.Ids.{has_id, new_ids};
 
 use db_base::ids::MsgId;
@@ -28,6 +28,13 @@ impl IdSet {
         IdSet {
             ids: Vec::new(alloc),
         }
+    }
+
+    /// No more ids than memory has places.
+    pub fn few(&self)
+        ensures { length self.now < 2 ^ 64 }
+    {
+        let _ = self.ids.len();
     }
 
     /// Whether an id is in the set.

@@ -1,4 +1,4 @@
-ghost use Rattle.std.specs.Prelude.{◌≡◌, ◌≤◌, ◌+◌, Ok, None, IfSome, IfNone, slice_get};
+ghost use Rattle.std.specs.Prelude.{◌≡◌, ◌≤◌, ◌<◌, ◌+◌, ◌^◌, Ok, None, IfSome, IfNone, slice_get};
 ghost use Rattle.std.specs.List.{AllByRecursion};
 ghost use Rattle.head_codec.specs.declared.lists.Pending.{Pending};
 ghost use Rattle.head_codec.specs.Counters.{AreCounters};
@@ -99,6 +99,8 @@ impl Model for RecoverRun {
 
 impl RecoverRun {
     ghost use Rattle.recover_run.specs.Recovery.{Recovery, new_recovery, recovery_ask, recovery_next, handed_over, SameLeases, KeepsLeases, IsSound, home_of, releasing, stopping, old_released, taken_by, got_by, head_read, bytes_read, none_read, phase_read, putting, send_at, decided, next_deletion, gathered_by, received_by, deleted_by, sent_by, next_clearing, put_by, clearing_kept, cleared, opened, swept_by, swept_with, released, damaged_message, next_sweep, with_pending, delete_next, send_next, take_lease};
+    ghost use Rattle.recover_run.specs.Bound.{calls_left, KnowsAtMost};
+    ghost use Rattle.recover_run.specs.Meaning.{Meant};
     ghost use Rattle.recover_run.specs.Items.{items_of};
 
     /// The recovery of a client. A lease that is handed in is given back first. Takes no memory.
@@ -390,6 +392,7 @@ impl RecoverRun {
     {
         match done {
             Ok(()) => {
+                self.stage = Stage::Receiving;
                 let _ = self.ids.pop_front();
                 self.delete_next(alloc)
             }
@@ -485,6 +488,7 @@ impl RecoverRun {
         let mut swept = IdSet::new(alloc);
         match swept.add_all(alloc, kept.as_slice()) {
             Ok(ids) => {
+                self.stage = Stage::Sweeping;
                 self.swept = swept;
                 self.ids = ids;
                 self.clear_next()
@@ -510,6 +514,7 @@ impl RecoverRun {
         requires { HasSpelling self.old.head }
         ensures { Took (λ r _ n. cleared r ≡ n) SameLeases self.old Answer.Failed self.new result }
     {
+        self.stage = Stage::Sweeping;
         let _ = self.ids.pop_front();
         self.clear_next()
     }
@@ -549,6 +554,7 @@ impl RecoverRun {
         };
         match self.swept.add_all(alloc, past.as_slice()) {
             Ok(ids) => {
+                self.stage = Stage::Sweeping;
                 self.ids = ids;
                 self.sweep_next()
             }
@@ -610,12 +616,26 @@ impl RecoverRun {
     /// Makes the call in hand, and does the local work up to the next one.
     pub fn step<C: Cloud>(&mut self, alloc: Global, cloud: &mut C, who: Who) -> Turn<RecoverAnswer>
         ensures steps { Steps recovery_ask (LeadsBy recovery_next) KeepsLeases who (C.seen cloud.old) (C.seen cloud.new) self.old self.new result }
+        ensures means { Meant who (C.seen cloud.old) (C.seen cloud.new) self.old self.new result }
         ensures sound { IsSound self.old }
+        ensures less { result ≡ Turn.More → calls_left (2 ^ 64) 255 self.new < calls_left (2 ^ 64) 255 self.old }
     {
         // Read for the clause `sound`.
         let _ = &self.stage;
         let answer = self.call(cloud, who);
-        self.absorb(alloc, answer)
+        let turn = self.absorb(alloc, answer);
+        // Read for the clause `less`.
+        self.few();
+        turn
+    }
+
+    /// No more ids than memory has places, and no more records than a head can count.
+    fn few(&self)
+        ensures { KnowsAtMost (2 ^ 64) 255 self.now }
+    {
+        self.gathering.few();
+        self.swept.few();
+        let _count = self.wanted.count;
     }
 
     /// What the session has in hand after Opened in an opening; none before, and none after a settling.

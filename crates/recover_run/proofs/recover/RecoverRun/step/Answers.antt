@@ -1,8 +1,25 @@
+use Rattle.std.proofs.Common.{◌^◌, subst}
+use Rattle.recover_run.specs.Recovery.{IsSound}
+use Rattle.recover_run.proofs.Ending.{took_less}
 use Rattle.recover_run.proofs.Handing.{handed_keeps, took_handed}
+use Rattle.recover_run.proofs.Meaning.{came_means}
 use Rattle.recover_run.proofs.recover.RecoverRun.step.Goals as goal
 
-pub absorb-requires : goal.absorb-requires
-absorb-requires g c = handed_keeps c.args.self.now _ c.call-answer.result c.call-answer.ensures.left
+pub absorb-turn-requires : goal.absorb-turn-requires
+absorb-turn-requires g c = handed_keeps c.args.self.now _ c.call-answer.result c.call-answer.ensures.left
 
 pub returns-clause-steps : goal.returns-clause-steps
-returns-clause-steps g c = record { answer = c.call-answer.result; made = c.call-answer.ensures.made; took = took_handed c.args.self.now _ _ _ _ c.call-answer.ensures.left c.absorb.ensures }
+returns-clause-steps g c =
+    record { answer = c.call-answer.result; made = c.call-answer.ensures.made; took = took_handed c.args.self.now _ _ _ _ c.call-answer.ensures.left c.absorb-turn.ensures }
+
+pub returns-clause-less : goal.returns-clause-less
+returns-clause-less g c =
+    took_less (2 ^ 64) 255 c.args.self.now _ c.call-answer.result _ (subst IsSound c.self.view_is c.self.invariant) c.few.ensures
+    (took_handed c.args.self.now _ _ _ _ c.call-answer.ensures.left c.absorb-turn.ensures)
+
+pub returns-clause-means : goal.returns-clause-means
+returns-clause-means g c = record {
+  answer = c.call-answer.result;
+  made = c.call-answer.ensures.made;
+  means = came_means c.args.self.now _ c.call-answer.result _ (took_handed c.args.self.now _ _ _ _ c.call-answer.ensures.left c.absorb-turn.ensures);
+}

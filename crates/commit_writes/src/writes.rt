@@ -95,7 +95,8 @@ impl CommitWrites {
 
     /// The changes that it commits.
     pub fn changes(&self) -> &TxnBuffer
-        ensures { result.now ≡ self.now.changes }
+        ensures is { result.now ≡ self.now.changes }
+        ensures some { 1 ≤ length self.now.changes }
     {
         &self.changes
     }

@@ -1,3 +1,5 @@
 pub mod Leading
 pub mod Ending
 pub mod Standing
+pub mod Knowing
+pub mod Causing

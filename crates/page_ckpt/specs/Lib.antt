@@ -1,3 +1,5 @@
 pub mod Paging
 pub mod Ending
 pub mod Standing
+pub mod Meaning
+pub mod Causing

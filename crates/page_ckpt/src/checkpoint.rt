@@ -87,6 +87,8 @@ impl PageCkpt {
     ghost use Rattle.ckpt_parts.specs.Deleting.{next_id};
     ghost use Rattle.ckpt_parts.specs.Intakes.{has_items};
     ghost use Rattle.ckpt_parts.specs.Leasing.{newest_lease, claims_of, outstanding};
+    ghost use Rattle.page_ckpt.specs.Causing.{Causes};
+    ghost use Rattle.page_ckpt.specs.Meaning.{MeansDone};
     ghost use Rattle.page_ckpt.specs.Standing.{Went, Names, GivesBack, AreFew};
     ghost use Rattle.leaf_view.specs.Lookup.{page_at};
     ghost use Rattle.log_codec.specs.Order.{IsOrdered};
@@ -632,6 +634,11 @@ impl PageCkpt {
         ensures names { (h : List Deed) → Went h self.old → Names (paging_ask self.old) (outstanding h) }
         // Before an end all leases are given back.
         ensures gives_back { (h : List Deed) → Went h self.old → GivesBack self.new result }
+        // A trouble that it keeps or answers was shown by the answer of a step.
+        ensures causes { (h : List Deed) → Went h self.old → Causes who (C.seen cloud.old) (C.seen cloud.new) self.old self.new result }
+        // At Done the calls were these, in this order.
+        ensures done { (h : List Deed) → Went h self.old → MeansDone (paging_ask self.old) self.new h result }
+        // Five calls, one for each id that is deleted, and four for each right page that is come to, are all.
         ensures few { (h : List Deed) → Went h self.old → AreFew self.old (length h + 1) }
     {
         let answer = self.call(cloud, who);

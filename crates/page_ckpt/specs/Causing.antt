@@ -1,0 +1,83 @@
+-- Why a page checkpoint stops: each trouble is shown by the answer of the step that brings it.
+use Rattle.std.specs.Prelude.{ℕ, ◌≡◌, ◌≢◌, Bool, true, false, List, Option, Some, None, Result, Ok, Err, ◌⊎◌}
+use Rattle.db_base.specs.declared.names.Place.{Place}
+use Rattle.db_base.specs.declared.names.Place.TheVariants as place
+use Rattle.db_base.specs.declared.names.ObjName.TheVariants as object
+use Rattle.db_base.specs.declared.trouble.Trouble.{Trouble}
+use Rattle.db_base.specs.declared.trouble.Trouble.TheVariants as trouble
+use Rattle.db_base.specs.declared.trouble.Counter.{Counter}
+use Rattle.db_base.specs.declared.trouble.Counter.TheVariants as counter
+use Rattle.byte_format.specs.Order.{bytes_same}
+use Rattle.byte_format.specs.Whole.{offset}
+use Rattle.leaf_view.specs.Leaf.{Leaf, leaf}
+use Rattle.node_codec.specs.Inner.{Inner, IsInner}
+use Rattle.log_codec.specs.Pu.{pu_offset}
+use Rattle.cloud_trait.specs.declared.answer.Answer.{Answer}
+use Rattle.cloud_trait.specs.declared.answer.Answer.TheVariants as call
+use Rattle.cloud_trait.specs.declared.message.Message.{Message}
+use Rattle.cloud_trait.specs.declared.turn.CkptAnswer.{CkptAnswer}
+use Rattle.cloud_trait.specs.declared.turn.Turn.{Turn}
+use Rattle.cloud_trait.specs.declared.turn.Turn.TheVariants.{More, Ended, Stopped}
+use Rattle.cloud_trait.specs.Ask.{Ask, Take}
+use Rattle.cloud_trait.specs.Caller.{Caller}
+use Rattle.cloud_trait.specs.Seen.{Seen}
+use Rattle.cloud_trait.specs.Weather.{Makes}
+use Rattle.ckpt_parts.specs.Intakes.{items_of}
+use Rattle.ckpt_parts.specs.Leaves.{IsNoLeaf, HoldsLeaf}
+use Rattle.page_ckpt.specs.declared.stage.Stage.{Stage}
+use Rattle.page_ckpt.specs.declared.stage.Stage.TheVariants.{GettingHome, GettingRight}
+use Rattle.page_ckpt.specs.Paging.{Paging, paging_ask, own_queue, IsNoInner, is_visited}
+
+-- the page that the held get in hand reads: the checkpoint's own, or the right page at hand
+abbrev pub Reads : Paging → ℕ → Type 0
+Reads p page = ((p.stage ≡ GettingHome) × (page ≡ p.page)) ⊎ ((p.stage ≡ GettingRight) × (page ≡ p.at.page))
+
+-- bytes of a page that spell no leaf, and, of the named page, no inner node either
+abbrev pub BreaksPage : Paging → Answer → ℕ → ℕ → Type 0
+BreaksPage p a page at =
+    Reads p page × ((bytes : List ℕ) × (a ≡ call.Got (Some bytes)) × IsNoLeaf bytes × (at ≡ offset leaf bytes)
+    × (p.stage ≡ GettingHome → IsNoInner bytes))
+
+-- a received message that is no record, the first such
+abbrev pub BreaksMessage : Paging → Answer → Place → ℕ → Type 0
+BreaksMessage p a where_it_is at =
+    (ms : List Message) × ((m : Message) × (a ≡ call.Received ms) × (items_of ms ≡ Err m) × (where_it_is ≡ place.Message (own_queue p) m.id)
+    × (at ≡ pu_offset m.bytes))
+
+-- a right page whose low key is not the one that led there
+abbrev pub BreaksFence : Paging → Answer → ℕ → List ℕ → List ℕ → Type 0
+BreaksFence p a page expected found =
+    (page ≡ p.at.page) × (expected ≡ p.at.low) × (bytes_same expected found ≡ false)
+    × ((got : Option (List ℕ)) × ((l : Leaf) × (a ≡ call.Got got) × HoldsLeaf p.tree page got (Ok l) × (found ≡ l.low)))
+
+-- what the answer to the call in hand must be where this trouble comes of it; want of memory is free
+abbrev pub Shows : Paging → Answer → Trouble → Type 0
+Shows p a trouble.Failed = a ≡ call.Failed
+Shows p a (trouble.Late e n) = a ≡ call.Late e n
+Shows p a (trouble.Busy lock until) = (paging_ask p ≡ Take lock 30) × (a ≡ call.Held until)
+Shows p a (trouble.Absent page) = Reads p page × (page ≢ 1) × (a ≡ call.Got None)
+Shows p a (trouble.NotALeaf page) =
+    (page ≡ p.page) × (p.stage ≡ GettingHome) × ((bytes : List ℕ) × ((n : Inner) × (a ≡ call.Got (Some bytes)) × IsInner bytes n))
+Shows p a (trouble.Damaged where_it_is at) =
+    ((page : ℕ) × (where_it_is ≡ place.Object (object.Page p.tree page)) × BreaksPage p a page at) ⊎ BreaksMessage p a where_it_is at
+Shows p a (trouble.BadFence page expected found) = BreaksFence p a page expected found
+Shows p a (trouble.Loop page) = is_visited p page ≡ true
+Shows p a (trouble.Exhausted what) = what ≡ counter.Version
+Shows p a (trouble.Waiting have need) = ⊥
+Shows p a (trouble.Stale page least got) = ⊥
+Shows p a trouble.Memory = Unit {0}
+
+-- a trouble that is kept or answered after a call was kept before it, or the call's answer shows it
+abbrev pub IsShown : Paging → Answer → Trouble → Type 0
+IsShown p a t = (p.trouble ≡ Some t) ⊎ Shows p a t
+
+abbrev pub Tells : Paging → Answer → Paging → Turn CkptAnswer → Type 0
+Tells p a n More = (t : Trouble) → n.trouble ≡ Some t → IsShown p a t
+Tells p a n (Ended answer) = p.trouble ≡ None
+Tells p a n (Stopped t) = t ≢ trouble.Memory → IsShown p a t
+
+-- what a step tells of its trouble, by the answer that the cloud gave
+pub record Causes (who : Caller) (before after : Seen) (old new : Paging) (turn : Turn CkptAnswer) : Type 0 where
+  pub answer : Answer
+  pub made : Makes who (paging_ask old) answer before after
+  pub tells : Tells old answer new turn

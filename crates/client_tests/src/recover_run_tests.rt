@@ -14,6 +14,12 @@ use recover_run::stage::{Aim, RecoverAnswer};
 use std::alloc::Global;
 use std::test::Fail;
 
+// What the call in hand does, and to what.
+fn in_hand(run: &RecoverRun) -> (CallKind, Target) {
+    let call = run.in_hand();
+    (call.kind(), call.name())
+}
+
 // Makes so many calls, each of which leaves one in hand, and lists all that were in hand.
 fn calls_of(
     alloc: Global,
@@ -23,12 +29,12 @@ fn calls_of(
 ) -> Result<Vec<(CallKind, Target)>, Fail> {
     let mut calls: Vec<(CallKind, Target)> = Vec::new(alloc);
     for _ in 0..count {
-        calls.push((run.in_hand().kind(), run.in_hand().name()))?;
+        calls.push(in_hand(run))?;
         let Turn::More = run.step(alloc, cloud, session()?) else {
             return Err(Fail::from("an end"));
         };
     }
-    calls.push((run.in_hand().kind(), run.in_hand().name()))?;
+    calls.push(in_hand(run))?;
     Ok(calls)
 }
 

@@ -2,7 +2,7 @@
 
 ghost use Rattle.std.specs.Prelude.{◌≡◌, Some, OnOk};
 ghost use Rattle.client_session.specs.Session.{opens_of, committing_of};
-ghost use Rattle.replay_model.specs.Noting.{noted_head};
+ghost use Rattle.session_facts.specs.Noting.{noted_head};
 ghost use Rattle.world_core.specs.Put.{noted_put, kept_of};
 
 use client_session::session::Session;
@@ -47,11 +47,11 @@ fn note_head(
     }
 }
 
-/// Keeps what was noted since the mark where the put landed: its bytes were not the newest, and are.
-pub(crate) fn keep_landed(audit: &mut Audit, mark: Mark, before: bool, after: bool)
+/// Keeps what was noted since the mark where the put was seen to land: its bytes were not the newest, and are.
+pub(crate) fn keep_landed(audit: &mut Audit, mark: Mark, before: Option<bool>, after: Option<bool>)
     ensures { audit.new ≡ kept_of before after mark audit.old }
 {
-    if before || !after {
+    if before.unwrap_or(false) || !after.unwrap_or(false) {
         audit.withdraw(mark);
     }
 }

@@ -65,10 +65,17 @@ AbortRefused s refused.Memory = ⊥
 
 -- ---- what a begin does
 
--- the home is taken out of the work of an open client, for what begins; the rule refuses another's, which stays
-abbrev pub TakesHome : Work → Work → Result Home Refusal → Type 0
-TakesHome old new (Ok home) = (old ≡ Idle home) × (new ≡ Broken)
-TakesHome old new (Err r) = (rule_of old ≡ Some r) × (new ≡ old)
+-- the home is taken out of what an open client has in hand; the rule refuses another's, which stays
+abbrev pub GivesHome : Work → Work → Result Home Refused → Type 0
+GivesHome work left (Ok home) = (work ≡ Idle home) × (left ≡ Closed)
+GivesHome work left (Err (refused.Rule r)) = (rule_of work ≡ Some r) × (left ≡ work)
+GivesHome work left (Err refused.Memory) = ⊥
+
+-- and so of a session
+abbrev pub TakesHome : Acting → Acting → Result Home Refused → Type 0
+TakesHome old new (Ok home) = (old.work ≡ Idle home) × (new ≡ record { buffer = old.buffer; work = Closed })
+TakesHome old new (Err (refused.Rule r)) = (rule_of old.work ≡ Some r) × (new ≡ old)
+TakesHome old new (Err refused.Memory) = ⊥
 
 -- the rule that refuses an opening, where one does
 abbrev pub opening_rule_of : Work → Option Refusal
@@ -86,49 +93,44 @@ BeginsOpening client old new (Ok (Answered answer)) = ⊥
 BeginsOpening client old new (Err (refused.Rule r)) = (opening_rule_of old.work ≡ Some r) × (new ≡ old)
 BeginsOpening client old new (Err refused.Memory) = ⊥
 
+-- an operation of an open client begins with its home, and has this effect; another's is refused and changes nothing
+abbrev pub BeginsWith : (Home → Acting → Begun → Type 0) → Acting → Acting → Result Begun Refused → Type 0
+BeginsWith Does old new (Ok begun) = (home : Home) × (old.work ≡ Idle home) × Does home new begun
+BeginsWith Does old new (Err (refused.Rule r)) = (rule_of old.work ≡ Some r) × (new ≡ old)
+BeginsWith Does old new (Err refused.Memory) = ⊥
+
+-- this is in hand then, and what was noted stays
+abbrev pub HasInHand : List Noted → Work → Acting → Begun → Type 0
+HasInHand buffer work new begun = (begun ≡ Working) × (new ≡ record { buffer = buffer; work = work })
+
+-- the checkpoint of a tree that a home begins
+abbrev pub folding_begun_by : ℕ → Home → Work
+folding_begun_by tree home = Folding home (new_folding tree)
+
 -- a commit of changes by a home: it is in hand, or it is answered at once and the home stays; for want of memory it is in doubt
 abbrev pub CommitsOf : Home → List Noted → Work → Begun → Type 0
 CommitsOf home changes work Working = (c : Commit) × Readies (new_commit home changes) (Goes c) × (work ≡ Committing c)
 CommitsOf home changes work (Answered (answer.Commit a)) = (c : Commit) × Readies (new_commit home changes) (Ends c a) × (work ≡ Idle c.home)
-CommitsOf home changes work (Answered (answer.Opened epoch)) = ⊥
-CommitsOf home changes work (Answered (answer.Done n)) = ⊥
 CommitsOf home changes work (Answered (answer.Trouble t)) = (t ≡ trouble.Memory) × (work ≡ Broken)
+CommitsOf home changes work (Answered answer) = ⊥
 
--- nothing is noted and the commit is answered at once, or the home commits what was noted and the buffer is empty
-abbrev pub CommitsNoted : Work → Acting → Acting → Begun → Type 0
-CommitsNoted (Idle home) old new begun =
-    ((old.buffer ≡ []) × (new ≡ old) × (begun ≡ Answered (answer.Commit (Committed 0))))
-    ⊎ ((1 ≤ length old.buffer) × (new.buffer ≡ []) × CommitsOf home old.buffer new.work begun)
-CommitsNoted Closed old new begun = ⊥
-CommitsNoted (Opening m) old new begun = ⊥
-CommitsNoted (Committing m) old new begun = ⊥
-CommitsNoted (Folding home m) old new begun = ⊥
-CommitsNoted Broken old new begun = ⊥
+-- nothing is noted and the commit is answered at once
+pub record CommitsNothing (home : Home) (buffer : List Noted) (work : Work) (begun : Begun) : Type 0 where
+  pub none : buffer ≡ []
+  pub work_is : work ≡ Idle home
+  pub answer : begun ≡ Answered (answer.Commit (Committed 0))
 
-abbrev pub BeginsCommit : Acting → Acting → Result Begun Refused → Type 0
-BeginsCommit old new (Ok begun) = CommitsNoted old.work old new begun
-BeginsCommit old new (Err (refused.Rule r)) = (rule_of old.work ≡ Some r) × (new ≡ old)
-BeginsCommit old new (Err refused.Memory) = ⊥
+-- what was noted is committed, where something was; the buffer is empty then
+abbrev pub CommitsNoted : Home → List Noted → Work → Begun → Type 0
+CommitsNoted home buffer work begun = CommitsNothing home buffer work begun ⊎ ((1 ≤ length buffer) × CommitsOf home buffer work begun)
 
--- an open client's checkpoint is in hand
-abbrev pub FoldsFor : ℕ → Work → Acting → Acting → Type 0
-FoldsFor tree (Idle home) old new = new ≡ record old { work = Folding home (new_folding tree) }
-FoldsFor tree Closed old new = ⊥
-FoldsFor tree (Opening m) old new = ⊥
-FoldsFor tree (Committing m) old new = ⊥
-FoldsFor tree (Folding home m) old new = ⊥
-FoldsFor tree Broken old new = ⊥
-
-abbrev pub BeginsTree : ℕ → Acting → Acting → Result Begun Refused → Type 0
-BeginsTree tree old new (Ok Working) = FoldsFor tree old.work old new
-BeginsTree tree old new (Ok (Answered answer)) = ⊥
-BeginsTree tree old new (Err (refused.Rule r)) = (rule_of old.work ≡ Some r) × (new ≡ old)
-BeginsTree tree old new (Err refused.Memory) = ⊥
+abbrev pub CommitsIn : List Noted → Home → Acting → Begun → Type 0
+CommitsIn buffer home new begun = (new.buffer ≡ []) × CommitsNoted home buffer new.work begun
 
 abbrev pub Begins : Op → Acting → Acting → Result Begun Refused → Type 0
 Begins (op.Open client) old new result = BeginsOpening client old new result
-Begins op.Commit old new result = BeginsCommit old new result
-Begins (op.Tree tree) old new result = BeginsTree tree old new result
+Begins op.Commit old new result = BeginsWith (CommitsIn old.buffer) old new result
+Begins (op.Tree tree) old new result = BeginsWith (λ home. HasInHand old.buffer (folding_begun_by tree home)) old new result
 
 -- ---- what a step does
 

@@ -4,7 +4,7 @@ ghost use Rattle.cloud_trait.specs.Call.{ask_of};
 ghost use Rattle.txn_buffer.specs.Noted.{noted_in};
 ghost use Rattle.first_recover.specs.Recovery.{home_of, IsSound as IsSoundOpening};
 ghost use Rattle.first_commit.specs.Commit.{IsSound as IsSoundCommit};
-ghost use Rattle.client_session.specs.Session.{TakesHome, CommitsOf, StepsWork, StepsOpening, StepsCommit, StepsFolding, opened_work, committed_work};
+ghost use Rattle.client_session.specs.Session.{GivesHome, CommitsOf, CommitsNoted, StepsWork, StepsOpening, StepsCommit, StepsFolding, opened_work, committed_work};
 
 use cloud_trait::call::Call;
 use cloud_trait::cloud::Cloud;
@@ -91,7 +91,7 @@ impl Model for Session {
 }
 
 impl Session {
-    ghost use Rattle.client_session.specs.Session.{Acting, closed_session, rule_of, opening_rule_of, NoteRefused, AbortRefused, Begins, BeginsOpening, BeginsCommit, BeginsTree, StepsSession, ask_of_work, committing_of, opens_of, applying_of};
+    ghost use Rattle.client_session.specs.Session.{Acting, closed_session, rule_of, opening_rule_of, NoteRefused, AbortRefused, Begins, BeginsOpening, BeginsWith, HasInHand, folding_begun_by, TakesHome, CommitsIn, StepsSession, ask_of_work, committing_of, opens_of, applying_of};
 
     /// A closed session without changes. Refused for memory alone.
     pub fn new(alloc: Global) -> Result<Session, Refused>
@@ -157,6 +157,14 @@ impl Session {
         Ok(())
     }
 
+    /// Closes the session at once, whatever it has in hand: no call is made, and leases run out by themselves.
+    pub fn crash(&mut self)
+        ensures { self.new ≡ closed_session }
+    {
+        self.buffer.clear();
+        self.has(Work::Closed);
+    }
+
     /// Begins an operation. A refusal changes nothing.
     pub fn begin(&mut self, alloc: Global, op: Op) -> Result<Begun, Refused>
         ensures { Begins op self.old self.new result }
@@ -176,41 +184,43 @@ impl Session {
             return Err(Refused::Rule(rule));
         }
         self.buffer.clear();
-        self.work = Work::Opening(RecoverRun::new(alloc, client));
+        self.has(Work::Opening(RecoverRun::new(alloc, client)));
         Ok(Begun::Working)
     }
 
     /// Begins the commit of what was noted; that of nothing is answered at once.
     fn begin_commit(&mut self, alloc: Global) -> Result<Begun, Refused>
-        ensures { BeginsCommit self.old self.new result }
+        ensures { BeginsWith (CommitsIn self.old.buffer) self.old self.new result }
     {
-        if let Some(rule) = self.rule() {
-            return Err(Refused::Rule(rule));
-        }
-        if self.buffer.is_empty() {
-            return Ok(Begun::Answered(Answer::Commit(CommitAnswer::Committed { txn: 0 })));
-        }
-        match take_home(&mut self.work) {
-            Ok(home) => {
-                let (work, begun) = commit_of(alloc, home, self.buffer.take());
-                self.work = work;
-                Ok(begun)
-            }
-            Err(rule) => Err(Refused::Rule(rule)),
-        }
+        let home = self.take_home()?;
+        let (work, begun) = commit_noted(alloc, home, self.buffer.take());
+        self.has(work);
+        Ok(begun)
     }
 
     /// Begins a checkpoint of a tree.
     fn begin_tree(&mut self, alloc: Global, tree: TreeId) -> Result<Begun, Refused>
-        ensures { BeginsTree tree self.old self.new result }
+        ensures { BeginsWith (λ home. HasInHand self.old.buffer (folding_begun_by tree home)) self.old self.new result }
     {
-        match take_home(&mut self.work) {
-            Ok(home) => {
-                self.work = Work::Folding(home, TreeCkpt::new(alloc, tree));
-                Ok(Begun::Working)
-            }
-            Err(rule) => Err(Refused::Rule(rule)),
-        }
+        let home = self.take_home()?;
+        self.has(Work::Folding(home, TreeCkpt::new(alloc, tree)));
+        Ok(Begun::Working)
+    }
+
+    /// Takes the home of an open client, for what begins. A refusal changes nothing.
+    fn take_home(&mut self) -> Result<Home, Refused>
+        ensures { TakesHome self.old self.new result }
+    {
+        let (work, home) = home_of_work(mem::replace(&mut self.work, Work::Closed));
+        self.has(work);
+        home
+    }
+
+    /// Has this in hand from now on. It is the one place where what was in hand is dropped.
+    fn has(&mut self, work: Work)
+        ensures { self.new ≡ record self.old { work = work } }
+    {
+        self.work = work;
     }
 
     /// Makes the call in hand of the operation at work, and does the local work up to the next one.
@@ -224,7 +234,7 @@ impl Session {
     {
         let work = mem::replace(&mut self.work, Work::Closed);
         let (work, turn) = step_work(alloc, cloud, who, work);
-        self.work = work;
+        self.has(work);
         turn
     }
 
@@ -285,30 +295,35 @@ impl Session {
     }
 }
 
-/// Takes the home of an open client out of its work, for what begins. A refusal changes nothing.
-fn take_home(work: &mut Work) -> Result<Home, Refusal>
-    ensures { TakesHome work.old work.new result }
+/// Takes the home out of what an open client has in hand; what else is in hand stays.
+fn home_of_work(work: Work) -> (Work, Result<Home, Refused>)
+    ensures { GivesHome work result.0 result.1 }
 {
-    match mem::replace(work, Work::Broken) {
-        Work::Idle(home) => Ok(home),
-        Work::Closed => {
-            *work = Work::Closed;
-            Err(Refusal::NotOpen)
-        }
-        Work::Broken => Err(Refusal::Broken),
-        Work::Opening(machine) => {
-            *work = Work::Opening(machine);
-            Err(Refusal::AtWork)
-        }
-        Work::Committing(machine) => {
-            *work = Work::Committing(machine);
-            Err(Refusal::AtWork)
-        }
-        Work::Folding(home, machine) => {
-            *work = Work::Folding(home, machine);
-            Err(Refusal::AtWork)
-        }
+    match work {
+        Work::Idle(home) => (Work::Closed, Ok(home)),
+        Work::Closed => (Work::Closed, Err(Refused::Rule(Refusal::NotOpen))),
+        Work::Broken => (Work::Broken, Err(Refused::Rule(Refusal::Broken))),
+        Work::Opening(machine) => (Work::Opening(machine), Err(Refused::Rule(Refusal::AtWork))),
+        Work::Committing(machine) => (
+            Work::Committing(machine),
+            Err(Refused::Rule(Refusal::AtWork)),
+        ),
+        Work::Folding(home, machine) => (
+            Work::Folding(home, machine),
+            Err(Refused::Rule(Refusal::AtWork)),
+        ),
     }
+}
+
+/// Begins the commit of what a home's session noted: what is in hand then. That of nothing is answered at once.
+fn commit_noted(alloc: Global, home: Home, changes: TxnBuffer) -> (Work, Begun)
+    ensures { CommitsNoted home changes result.0 result.1 }
+{
+    if changes.is_empty() {
+        let answer = CommitAnswer::Committed { txn: 0 };
+        return (Work::Idle(home), Begun::Answered(Answer::Commit(answer)));
+    }
+    commit_of(alloc, home, changes)
 }
 
 /// Begins the commit of changes by a home: what is in hand then.

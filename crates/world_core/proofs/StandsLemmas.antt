@@ -37,7 +37,7 @@ use Rattle.client_session.specs.declared.session.Begun.TheVariants.{Working, Ans
 use Rattle.client_session.specs.declared.session.Op.TheVariants as op
 use Rattle.client_session.specs.declared.session.Work.{Work}
 use Rattle.client_session.specs.declared.session.Work.TheVariants as work
-use Rattle.client_session.specs.Session.{Acting, BeginsOpening, BeginsTree, FoldsFor, BeginsCommit, CommitsNoted, CommitsOf, is_working}
+use Rattle.client_session.specs.Session.{Acting, BeginsOpening, BeginsWith, HasInHand, CommitsNothing, CommitsNoted, CommitsIn, CommitsOf, folding_begun_by, is_working}
 use Rattle.history.specs.Fold.{fold, of_tree}
 use Rattle.history.specs.Legal.{IsLegal}
 use Rattle.report_types.specs.declared.entry.Entry.{Entry}
@@ -250,26 +250,31 @@ opening_begun lines k client r before after old new t (Ok (Answered a)) is_clien
 opening_begun lines k client r before after old new t (Err (refused.Rule rule)) is_client ready begins replies = refuses_session lines (event.Open k client) r rule before after old new t ready replies begins.1
 opening_begun lines k client r before after old new t (Err refused.Memory) is_client ready begins replies = absurd begins
 
+-- an operation of an open client begins with its home
+begins_home : (lines : List Line) (event : Event) (before after : Seen) (old new : World) (t : CloudState) (home : Home) → old.session.work ≡ work.Idle home
+    → Ready lines event before after old new t
+    → Ready lines event before after (record { session = record { buffer = old.session.buffer; work = work.Idle home }; audit = old.audit }) new t
+begins_home lines event before after old new t home is ready =
+    subst (λ (w : Work). Ready lines event before after (record { session = record { buffer = old.session.buffer; work = w }; audit = old.audit }) new t) is ready
+
 -- a checkpoint begins beside an open client
-folding_begins : (lines : List Line) (k tree : ℕ) (r : Reply) (before after : Seen) (buffer : List Noted) (w : Work) (audit : Audited) (new : World) (t : CloudState)
-    → Ready lines (event.Tree k tree) before after (record { session = record { buffer = buffer; work = w }; audit = audit }) new t
-    → FoldsFor tree w (record { buffer = buffer; work = w }) new.session → IsOk (Ok r) reply.Begun
+folding_begins : (lines : List Line) (k tree : ℕ) (r : Reply) (before after : Seen) (buffer : List Noted) (home : Home) (audit : Audited) (new : World) (t : CloudState) (begun : Begun)
+    → Ready lines (event.Tree k tree) before after (record { session = record { buffer = buffer; work = work.Idle home }; audit = audit }) new t
+    → HasInHand buffer (folding_begun_by tree home) new.session begun → BegunReply (Ok begun) (Ok r)
     → StandsFor (lines ++ line_of (event.Tree k tree) r ∷ []) new after r
-folding_begins lines k tree r before after buffer (work.Idle home) audit new t ready folds replies =
+folding_begins lines k tree r before after buffer home audit new t begun ready has replies =
     let acts = ready.stands.session.acts in
-    begins_session lines (event.Tree k tree) r before after _ new t _ ready replies folds (ready.stands.session.knows, record { root = tt; puts = tt })
+    let is : IsOk (Ok r) reply.Begun = subst (λ b. BegunReply (Ok b) (Ok r)) has.0 replies in
+    begins_session lines (event.Tree k tree) r before after _ new t _ ready is has.1 (ready.stands.session.knows, record { root = tt; puts = tt })
     (record { buffer = acts.buffer; work = (refl, acts.work.1) }) (ready.stands.records.known, tt) ready.stands.records.buffer
-folding_begins lines k tree r before after buffer work.Closed audit new t ready folds replies = absurd folds
-folding_begins lines k tree r before after buffer (work.Opening m) audit new t ready folds replies = absurd folds
-folding_begins lines k tree r before after buffer (work.Committing m) audit new t ready folds replies = absurd folds
-folding_begins lines k tree r before after buffer (work.Folding home m) audit new t ready folds replies = absurd folds
-folding_begins lines k tree r before after buffer work.Broken audit new t ready folds replies = absurd folds
 
 folding_begun : (lines : List Line) (k tree : ℕ) (r : Reply) (before after : Seen) (old new : World) (t : CloudState) (begun : Result Begun Refused)
-    → Ready lines (event.Tree k tree) before after old new t → BeginsTree tree old.session new.session begun → BegunReply begun (Ok r)
+    → Ready lines (event.Tree k tree) before after old new t
+    → BeginsWith (λ home. HasInHand old.session.buffer (folding_begun_by tree home)) old.session new.session begun → BegunReply begun (Ok r)
     → StandsFor (lines ++ line_of (event.Tree k tree) r ∷ []) new after r
-folding_begun lines k tree r before after old new t (Ok Working) ready begins replies = folding_begins lines k tree r before after old.session.buffer old.session.work old.audit new t ready begins replies
-folding_begun lines k tree r before after old new t (Ok (Answered a)) ready begins replies = absurd begins
+folding_begun lines k tree r before after old new t (Ok begun) ready begins replies =
+    folding_begins lines k tree r before after old.session.buffer begins.0 old.audit new t begun
+    (begins_home lines (event.Tree k tree) before after old new t begins.0 begins.1 ready) begins.2 replies
 folding_begun lines k tree r before after old new t (Err (refused.Rule rule)) ready begins replies = refuses_session lines (event.Tree k tree) r rule before after old new t ready replies begins.1
 folding_begun lines k tree r before after old new t (Err refused.Memory) ready begins replies = absurd begins
 
@@ -328,31 +333,36 @@ commit_of lines k r before after buffer home audit new t (Answered (answer.Opene
 commit_of lines k r before after buffer home audit new t (Answered (answer.Done n)) ready empty commits replies = absurd commits
 commit_of lines k r before after buffer home audit new t (Answered (answer.Trouble z)) ready empty commits replies = absurd (cc (replies))
 
--- nothing was noted, or the home commits what was
-commit_noted : (lines : List Line) (k : ℕ) (r : Reply) (before after : Seen) (buffer : List Noted) (w : Work) (audit : Audited) (new : World) (t : CloudState) (begun : Begun)
-    → Ready lines (event.Commit k) before after (record { session = record { buffer = buffer; work = w }; audit = audit }) new t
-    → CommitsNoted w (record { buffer = buffer; work = w }) new.session begun → BegunReply (Ok begun) (Ok r)
+-- nothing was noted, and the commit is answered at once
+commits_nothing : (lines : List Line) (k : ℕ) (r : Reply) (before after : Seen) (buffer : List Noted) (home : Home) (audit : Audited) (new : World) (t : CloudState) (begun : Begun)
+    → Ready lines (event.Commit k) before after (record { session = record { buffer = buffer; work = work.Idle home }; audit = audit }) new t
+    → new.session.buffer ≡ [] → CommitsNothing home buffer new.session.work begun → BegunReply (Ok begun) (Ok r)
     → StandsFor (lines ++ line_of (event.Commit k) r ∷ []) new after r
-commit_noted lines k r before after buffer (work.Idle home) audit new t begun ready (inl none) replies =
-    let answered : BegunReply (Ok (Answered (answer.Commit (Committed 0)))) (Ok r) = subst (λ b. BegunReply (Ok b) (Ok r)) none.2 replies in
+commits_nothing lines k r before after buffer home audit new t begun ready empty nothing replies =
+    let answered : BegunReply (Ok (Answered (answer.Commit (Committed 0)))) (Ok r) = subst (λ b. BegunReply (Ok b) (Ok r)) nothing.answer replies in
     let e : r ≡ reply.Commit (Committed 0) = cc in
+    let same : new.session ≡ record { buffer = buffer; work = work.Idle home } = acting_is new.session buffer (work.Idle home) (empty ∙ sym nothing.none) nothing.work_is in
     let P : Reply → Type 0 = λ z. StandsFor (lines ++ line_of (event.Commit k) z ∷ []) new after z in
     subst P (sym e) (leaves_session lines (event.Commit k) (reply.Commit (Committed 0)) before after _ new t ready
-    (subst (λ (x : Acting). Knows (newest t) x.work) (sym none.1) ready.stands.session.knows)
-    (subst (λ x. ActsAs x (standing lines 1)) (sym none.1) ready.stands.session.acts)
-    (subst (λ x. RecordsStand x audit t) (sym none.1) ready.stands.records)
+    (subst (λ (x : Acting). Knows (newest t) x.work) (sym same) ready.stands.session.knows)
+    (subst (λ x. ActsAs x (standing lines 1)) (sym same) ready.stands.session.acts)
+    (subst (λ x. RecordsStand x audit t) (sym same) ready.stands.records)
     tt tt tt)
-commit_noted lines k r before after buffer (work.Idle home) audit new t begun ready (inr some) replies = commit_of lines k r before after buffer home audit new t begun ready some.1 some.2 replies
-commit_noted lines k r before after buffer work.Closed audit new t begun ready commits replies = absurd commits
-commit_noted lines k r before after buffer (work.Opening m) audit new t begun ready commits replies = absurd commits
-commit_noted lines k r before after buffer (work.Committing m) audit new t begun ready commits replies = absurd commits
-commit_noted lines k r before after buffer (work.Folding home m) audit new t begun ready commits replies = absurd commits
-commit_noted lines k r before after buffer work.Broken audit new t begun ready commits replies = absurd commits
+
+-- nothing was noted, or the home commits what was
+commit_noted : (lines : List Line) (k : ℕ) (r : Reply) (before after : Seen) (buffer : List Noted) (home : Home) (audit : Audited) (new : World) (t : CloudState) (begun : Begun)
+    → Ready lines (event.Commit k) before after (record { session = record { buffer = buffer; work = work.Idle home }; audit = audit }) new t
+    → new.session.buffer ≡ [] → CommitsNoted home buffer new.session.work begun → BegunReply (Ok begun) (Ok r)
+    → StandsFor (lines ++ line_of (event.Commit k) r ∷ []) new after r
+commit_noted lines k r before after buffer home audit new t begun ready empty (inl nothing) replies = commits_nothing lines k r before after buffer home audit new t begun ready empty nothing replies
+commit_noted lines k r before after buffer home audit new t begun ready empty (inr some) replies = commit_of lines k r before after buffer home audit new t begun ready empty some.1 replies
 
 commit_begun : (lines : List Line) (k : ℕ) (r : Reply) (before after : Seen) (old new : World) (t : CloudState) (begun : Result Begun Refused)
-    → Ready lines (event.Commit k) before after old new t → BeginsCommit old.session new.session begun → BegunReply begun (Ok r)
+    → Ready lines (event.Commit k) before after old new t → BeginsWith (CommitsIn old.session.buffer) old.session new.session begun → BegunReply begun (Ok r)
     → StandsFor (lines ++ line_of (event.Commit k) r ∷ []) new after r
-commit_begun lines k r before after old new t (Ok begun) ready begins replies = commit_noted lines k r before after old.session.buffer old.session.work old.audit new t begun ready begins replies
+commit_begun lines k r before after old new t (Ok begun) ready begins replies =
+    commit_noted lines k r before after old.session.buffer begins.0 old.audit new t begun
+    (begins_home lines (event.Commit k) before after old new t begins.0 begins.1 ready) begins.2.0 begins.2.1 replies
 commit_begun lines k r before after old new t (Err (refused.Rule rule)) ready begins replies = refuses_session lines (event.Commit k) r rule before after old new t ready replies begins.1
 commit_begun lines k r before after old new t (Err refused.Memory) ready begins replies = absurd begins
 

@@ -123,3 +123,11 @@ refused_own (event.Crash session done) rule s = refl
 refused_own (event.Wait ticks) rule s = refl
 refused_own (event.Report tree) rule s = refl
 refused_own event.Settle rule s = refl
+
+-- a call leaves one session so that it stands as before
+pub acts_set : (lines : List Line) (k : ℕ) (sessions : Sessions) (new : Acting) → AllAct lines sessions → ActsAs new (standing lines k) → AllAct lines (at k new sessions)
+acts_set lines k sessions new acts mine n = on (cases_eq n k)
+  where
+    on : (n ≡ k) ⊎ (n ≢ k) → ActsAs (at k new sessions n) (standing lines n)
+    on (inl e) = subst (λ j. ActsAs (at k new sessions n) (standing lines j)) (sym e) (subst (λ z. ActsAs z (standing lines k)) (sym (at_same k new sessions n e)) mine)
+    on (inr ne) = subst (λ z. ActsAs z (standing lines n)) (sym (at_other k new sessions n ne)) (acts n)

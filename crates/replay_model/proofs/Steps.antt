@@ -32,7 +32,8 @@ use Rattle.machine_facts.specs.Beside.{Logged, beside}
 use Rattle.machine_facts.proofs.Heads.{head_at, newest_head}
 use Rattle.session_facts.specs.Noting.{audited}
 use Rattle.session_facts.specs.Sessions.{KnowsWork, Sessions, SessionsStand, audit_of, Goes}
-use Rattle.session_facts.proofs.Laws.{session_keeps}
+use Rattle.session_facts.proofs.Laws.{session_keeps, rest_keeps}
+use Rattle.db_base.specs.declared.wish.Wish.{Wish}
 use Rattle.replay_model.specs.Facts.{IsPlaced, CloudStands, WorksAs, ActsAs, CloudHolds, GoesOn}
 use Rattle.replay_model.proofs.Commits.{CommitsAs, opening_as, commit_as, folding_as, audited_commits}
 use Rattle.replay_model.proofs.CommittedLemmas.{placed_effect, placed_called}
@@ -167,3 +168,37 @@ call_holds lines who before after x sessions new turn a b blind blind_after even
       seen = seen;
       reported = reported_more lines h.order goes.order_after goes.order_goes_on h.reported;
     }
+
+-- ---- what is no call
+
+-- a wish that is set leaves all that holds
+pub wish_holds : (n : ℕ) (lines : List Line) (sessions : Sessions) (a : Audited) (blind : Bool) (x : CloudState) (wish : Wish) → CloudHolds n lines sessions a blind x
+    → CloudHolds n lines sessions a blind (record x { wish = wish })
+wish_holds n lines sessions a blind x wish h = record {
+  book = h.book;
+  order = h.order;
+  stand = rest_keeps h.book h.order x (record x { wish = wish }) sessions refl refl refl (omega arith) h.stand;
+  cloud = record {
+    placed = h.cloud.placed;
+    upto = record { versions = h.cloud.upto.versions; messages = h.cloud.upto.messages; trace = h.cloud.upto.trace };
+    committed = h.cloud.committed;
+  };
+  seen = h.seen;
+  reported = h.reported;
+}
+
+-- and so does a wait
+pub wait_holds : (n : ℕ) (lines : List Line) (sessions : Sessions) (a : Audited) (blind : Bool) (x : CloudState) (now waits : ℕ) → x.now ≤ now → CloudHolds n lines sessions a blind x
+    → CloudHolds n lines sessions a blind (record x { now = now; waits = waits })
+wait_holds n lines sessions a blind x now waits later h = record {
+  book = h.book;
+  order = h.order;
+  stand = rest_keeps h.book h.order x (record x { now = now; waits = waits }) sessions refl refl refl later h.stand;
+  cloud = record {
+    placed = h.cloud.placed;
+    upto = record { versions = h.cloud.upto.versions; messages = h.cloud.upto.messages; trace = h.cloud.upto.trace };
+    committed = h.cloud.committed;
+  };
+  seen = h.seen;
+  reported = h.reported;
+}

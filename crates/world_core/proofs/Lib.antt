@@ -1,4 +1,6 @@
 pub mod Going
 pub mod Landing
-pub mod StandsLemmas
 pub mod GrowthLemmas
+pub mod StandsLemmas
+pub mod BeginLemmas
+pub mod EveryLine

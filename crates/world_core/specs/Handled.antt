@@ -15,7 +15,7 @@ use Rattle.reply_text.specs.declared.reply.Reply.{Reply}
 use Rattle.reply_text.specs.declared.reply.Reply.TheVariants as reply
 use Rattle.cloud_trait.specs.Bench.{IsNoCall, Waits}
 use Rattle.cloud_trait.specs.Caller.{Caller}
-use Rattle.cloud_trait.specs.State.{CloudState, newest}
+use Rattle.cloud_trait.specs.State.{CloudState, newest, greatest}
 use Rattle.cloud_trait.specs.Seen.{Seen}
 use Rattle.cloud_trait.specs.Weather.{Rose}
 use Rattle.cloud_trait.specs.declared.turn.Turn.{Turn}
@@ -205,6 +205,7 @@ Serves n number (Err why) before after old new result = Declines why before afte
 -- the clock goes on, once more
 pub record WaitsFor (ticks : ℕ) (before after : Seen) (result : Result Reply WorldFault) : Type 0 where
   pub within : ticks ≤ 1000000
+  pub clock : (s : CloudState) → before.state ≡ Some s → s.now ≤ greatest
   pub no_call : IsNoCall before after
   pub waited : (s : CloudState) → before.state ≡ Some s → Waits ticks s after.state
   pub replies : result ≡ Ok reply.Waited

@@ -1,5 +1,5 @@
 -- Sessions of which one changes.
-use Rattle.std.specs.Prelude.{ℕ, ◌≡◌, ◌-◌, [], List, slice_get, slice_set, Option, Some, None, Result, Ok, Err}
+use Rattle.std.specs.Prelude.{ℕ, ◌≡◌, ◌-◌, ◌≤◌, [], List, length, slice_get, slice_set, Option, Some, None, Result, Ok, Err}
 use Rattle.db_base.specs.declared.change.Change.{Change}
 use Rattle.db_base.specs.declared.refusal.Refused.{Refused}
 use Rattle.txn_buffer.specs.Noted.{noted_in}
@@ -18,7 +18,8 @@ pub record Changes (number : ℕ) (Does : Acting → Acting → Type 0) (old new
 
 -- a change is noted in an open session; a refusal changes nothing
 abbrev pub NotesIn : ℕ → Change → Acting → Acting → Result (Unit {0}) Refused → Type 0
-NotesIn tree change before after (Ok done) = (after ≡ record before { buffer = noted_in before.buffer tree change }) × (rule_of before.work ≡ None)
+NotesIn tree change before after (Ok done) =
+    (after ≡ record before { buffer = noted_in before.buffer tree change }) × (rule_of before.work ≡ None) × (length after.buffer ≤ 200)
 NotesIn tree change before after (Err why) = (after ≡ before) × NoteRefused before tree change why
 
 -- the changes of an open session are dropped; a refusal changes nothing

@@ -355,6 +355,8 @@ fn wait<C: Bench>(cloud: &mut C, ticks: u64) -> Result<Reply, WorldFault>
     if ticks > MAX_WAIT {
         return Ok(Reply::Refused(Refusal::BadNumber));
     }
+    // Read for the clause that the clock is no later than the greatest moment.
+    let _ = cloud.now();
     cloud.wait(ticks);
     Ok(Reply::Waited)
 }

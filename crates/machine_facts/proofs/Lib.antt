@@ -1,0 +1,16 @@
+pub mod Passing
+pub mod Landed
+pub mod Lone
+pub mod Calls
+pub mod Heads
+pub mod Copies
+pub mod OpeningOthers
+pub mod OpeningPuts
+pub mod CommitOthers
+pub mod CheckpointOthers
+pub mod Noted
+pub mod Searching
+pub mod Routing
+pub mod Ghosts
+pub mod Opened
+pub mod Settled

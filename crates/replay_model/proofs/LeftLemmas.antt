@@ -72,7 +72,7 @@ lone_page : (book : Book) (r : AtomicRec) → IsLone book → IsRouted book r �
 lone_page book r lone (inl e) = omega (arith, e)
 lone_page book r lone (inr at) =
     let there : slice_get (first_leaf 0) at.linked.0 ≡ Some at.link = ap (λ ls. slice_get ls at.linked.0) (sym (lone r.tree 0)) ∙ at.linked.1 in
-    omega (arith, only at.linked.0 there ∙ sym (at.page_is))
+    omega (arith, only at.linked.0 there ∙ at.page_is)
   where
     only : (place : ℕ) → slice_get (first_leaf 0) place ≡ Some at.link → 1 ≡ at.link.page
     only zero e = let is : record { low = []; page = 1 } ≡ at.link = cc in ap (λ (l : Link). l.page) is
@@ -124,8 +124,8 @@ any_of tree head (x ∷ log) place r there is epoch txn = on (λ k h. any_of tre
 
 open_one : (client tree : ℕ) (entries : List Entry) (found : Option Head) → is_open (unwrap_or found empty_head).phase ≡ true
     → list_any (is_of client tree (unwrap_or found empty_head)) entries ≡ true → open_count client tree entries found ≡ 1
-open_one client tree entries None open any = absurd (cc)
-open_one client tree entries (Some head) open any = on head.phase refl open
+open_one client tree entries None is any = absurd (cc)
+open_one client tree entries (Some head) is any = on head.phase refl is
   where
     on : (p : Phase) → head.phase ≡ p → is_open p ≡ true → open_count client tree entries (Some head) ≡ 1
     on (Open n) e f = ap (λ q. cond (is_under_way q && list_any (is_of client tree head) entries) 1 0) e ∙ ap (λ b. cond b 1 0) any

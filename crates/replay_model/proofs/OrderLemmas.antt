@@ -3,22 +3,13 @@ use Rattle.std.proofs.Common.{◌≡◌, ◌+◌, ℕ, List, [], ◌∷◌, ◌+
 use Rattle.std.specs.Prelude.{slice_get, ◌==◌}
 use Rattle.std.proofs.lemmas.List.{append_assoc}
 use Rattle.std.proofs.lemmas.List.Elements.{filter-append}
-use Rattle.db_base.specs.declared.names.ObjName.TheVariants as object
-use Rattle.cloud_trait.specs.Ask.{Ask, Get, GetHeld, PutHeld, Send, Receive, Delete, Take, Renew, Release}
 use Rattle.cloud_trait.specs.Growth.{BeginsWith}
-use Rattle.cloud_trait.proofs.EffectLemmas.{begins_itself, begins_same}
-use Rattle.head_codec.specs.declared.head.Head.{Head}
 use Rattle.history.specs.Fold.{of_tree}
 use Rattle.report_types.specs.declared.entry.Entry.{Entry}
 use Rattle.reply_text.specs.declared.reply.Reply.{Reply}
 use Rattle.reply_text.specs.declared.reply.Reply.TheVariants as reply
-use Rattle.txn_buffer.specs.Noted.{Noted}
-use Rattle.client_session.specs.declared.session.Work.{Work}
-use Rattle.client_session.specs.Session.{ask_of_work, committing_of, opens_of, applying_of}
-use Rattle.history.specs.Audited.{Audited, applied_entry}
 use Rattle.replay_model.proofs.Lists.{get_cases, get_single}
 use Rattle.replay_meaning.specs.Standing.{Line}
-use Rattle.replay_model.specs.Noting.{Newest, noted_head, noted_at, noted_in_hand, noted_by, has_landed, audited}
 use Rattle.replay_model.specs.Facts.{IsFrontOf, Reported}
 
 -- an order that goes on begins where the reported one does

@@ -32,7 +32,8 @@ use Rattle.machine_facts.specs.Beside.{Logged, beside}
 use Rattle.machine_facts.proofs.Heads.{head_at, newest_head}
 use Rattle.session_facts.specs.Noting.{audited}
 use Rattle.session_facts.specs.Sessions.{KnowsWork, Sessions, SessionsStand, audit_of, Goes}
-use Rattle.session_facts.proofs.Laws.{session_keeps, rest_keeps}
+use Rattle.session_facts.proofs.Calling.{session_keeps}
+use Rattle.session_facts.proofs.Laws.{rest_keeps}
 use Rattle.db_base.specs.declared.wish.Wish.{Wish}
 use Rattle.replay_model.specs.Facts.{IsPlaced, CloudStands, WorksAs, ActsAs, CloudHolds, GoesOn}
 use Rattle.replay_model.proofs.Commits.{CommitsAs, opening_as, commit_as, folding_as, audited_commits}
@@ -73,6 +74,7 @@ made_call who before after Broken new turn p = absurd p
 commits : (lines : List Line) (who : Caller) (logged : Logged) (book : Book) (order : List Entry) (s : CloudState) (now : ℕ) (before after : Seen) (w new : Work) (turn : Turn Answer)
     → s.now ≤ now → who.event ≡ length lines + 1 → KnowsWork (beside logged book order s) s.now w → WorksAs w (standing lines who.session)
     → (p : StepsAt who before after w new turn) → CommitsAs lines who w s now (made_call who before after w new turn p).ask
+unfolding made_call
 commits lines who logged book order s now before after w new turn later event knows acts p = on w turn knows acts p
   where
     st : Store

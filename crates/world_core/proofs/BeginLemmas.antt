@@ -31,7 +31,8 @@ use Rattle.client_session.specs.declared.session.Work.{Work}
 use Rattle.client_session.specs.declared.session.Work.TheVariants as work
 use Rattle.client_session.specs.Session.{Acting, Begins, BeginsOpening, BeginsWith, HasInHand, CommitsNothing, CommitsNoted, CommitsIn, CommitsOf, folding_begun_by, rule_of}
 use Rattle.session_facts.specs.Sessions.{Sessions, SessionsStand, IsRightOp}
-use Rattle.session_facts.proofs.Laws.{begins_keeps, buffer_keeps, same_sessions}
+use Rattle.session_facts.proofs.Begins.{begins_keeps}
+use Rattle.session_facts.proofs.Laws.{buffer_keeps, same_sessions}
 use Rattle.machine_facts.specs.Committing.{MayCommit}
 use Rattle.machine_facts.proofs.Noted.{may_note, may_none}
 use Rattle.store_book.specs.Tally.{at}

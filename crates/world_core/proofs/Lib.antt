@@ -1,4 +1,5 @@
 pub mod Going
+pub mod Stopping
 pub mod Landing
 pub mod GrowthLemmas
 pub mod StandsLemmas

@@ -108,7 +108,7 @@ pub record StepsLooked (who : Caller) (wish : Wish) (before after : Seen) (old n
   pub session : Changes who.session (λ a b. StepsSession who under to a b (Ok turn)) old.sessions new.sessions
   pub look_after : Looked to after
   pub saw : new.blind ≡ false → old.blind ≡ false
-  pub blinded : new.blind ≡ true → (old.blind ≡ true) ⊎ Rose before.counts.dark after.counts.dark
+  pub blinded : new.blind ≡ true → (old.blind ≡ true) ⊎ (Rose before.counts.dark from.counts.dark ⊎ Rose to.counts.dark after.counts.dark)
   pub audit : new.blind ≡ false → (x y : CloudState) → before.state ≡ Some x → to.state ≡ Some y → new.audit ≡ audited (newest x) (newest y) session.before.work old.audit
 
 pub record RefusesStep (number : ℕ) (before after : Seen) (old new : World) (result : Result Reply WorldFault) : Type 0 where
@@ -181,10 +181,14 @@ pub record DiesIdle (number : ℕ) (before after : Seen) (old new : World) (resu
   pub idle : IsNotWorking number old.sessions
   pub dies : Dies number before after old new result
 
+-- or memory ran out
+abbrev pub CrashesDone : Caller → Seen → Seen → World → World → Result Reply WorldFault → Type 0
+CrashesDone who before after old new result = DiesDone who.event who.session before after old new result ⊎ FindsNoMemory result
+
 abbrev pub Crashes : ℕ → ℕ → Bool → Seen → Seen → World → World → Result Reply WorldFault → Type 0
 Crashes n number false before after old new result = Dies number before after old new result
 Crashes n number true before after old new result =
-    DiesIdle number before after old new result ⊎ (DiesDone n number before after old new result ⊎ FindsNoMemory result)
+    DiesIdle number before after old new result ⊎ CrashesDone (record { session = number; event = n }) before after old new result
 
 -- ---- what a session does that a line asks of it
 

@@ -7,6 +7,7 @@ ghost use Rattle.cloud_trait.specs.Weather.{Rose};
 ghost use Rattle.world_audit.specs.Look.{Looked};
 ghost use Rattle.world_core.specs.Put.{put_of, put_of_ask, SeesNewest};
 
+use crate::world::WorldFault;
 use client_session::session::Session;
 use cloud_trait::call::Call;
 use cloud_trait::cloud::Bench;
@@ -55,7 +56,7 @@ pub(crate) fn put_in_hand(alloc: Global, session: &Session) -> Result<Option<Put
 }
 
 /// Whether the newest version of the put's object has its bytes; none where the look failed.
-pub(crate) fn is_newest<C: Bench>(cloud: &mut C, put: &Put) -> Result<Option<bool>, AllocError>
+pub(crate) fn is_newest<C: Bench>(cloud: &mut C, put: &Put) -> Result<Option<bool>, WorldFault>
     ensures looked { Looked (C.seen cloud.old) (C.seen cloud.new) }
     ensures dark { result ≡ Ok None → Rose (C.seen cloud.old).counts.dark (C.seen cloud.new).counts.dark }
     ensures newest { (s : CloudState) → (C.seen cloud.old).state ≡ Some s → IfOk result (SeesNewest (newest s) put.now) }
@@ -64,6 +65,6 @@ pub(crate) fn is_newest<C: Bench>(cloud: &mut C, put: &Put) -> Result<Option<boo
         Ok(Some(newest)) => Ok(Some(newest.as_slice() == put.bytes.as_slice())),
         Ok(None) => Ok(Some(false)),
         Err(CloudFault::Failed) => Ok(None),
-        Err(CloudFault::Memory) => Err(AllocError),
+        Err(CloudFault::Memory) => Err(WorldFault::Memory),
     }
 }

@@ -38,7 +38,7 @@ impl Sessions {
         ensures memory { IfErr result (λ e. e ≡ Refused.Memory) }
     {
         let mut list = Vec::new(alloc);
-        for _ in 0..16 {
+        for _count in 0..16 {
             list.push(Session::new(alloc)?)?;
         }
         Ok(Sessions { list })

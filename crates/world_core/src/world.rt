@@ -1,4 +1,5 @@
-ghost use Rattle.std.specs.Prelude.{◌≡◌, ◌≤◌, ◌<◌, true, false, [], replicate, IfOk, IfErr};
+ghost use Rattle.std.specs.Prelude.{◌≡◌, ◌≤◌, ◌<◌, ◌⊎◌, true, false, [], replicate, Some, None, Ok, IfOk, IfErr};
+ghost use Rattle.world_core.specs.Put.{is_blind};
 ghost use Rattle.world_core.specs.Fault.{trouble_reply, reply_of};
 ghost use Rattle.world_core.specs.Handled.{begun_reply, done_reply, turn_reply, declined, WaitsFor};
 
@@ -45,7 +46,7 @@ impl World {
     ghost use Rattle.client_session.specs.Session.{closed_session};
     ghost use Rattle.world_core.specs.Stands.{StandsOn, Grows};
     ghost use Rattle.world_core.specs.Sessions.{Changes, IsNotWorking, IsAtWork, HasPut};
-    ghost use Rattle.world_core.specs.Handled.{Handled, Answers, Does, BeginsOp, NotesChange, DropsChanges, MakesStep, Runs, RunsOn, Crashes, StepsLooked, Reports};
+    ghost use Rattle.world_core.specs.Handled.{Handled, Answers, Does, BeginsOp, NotesChange, DropsChanges, MakesStep, Runs, RunsOn, Crashes, CrashesDone, StepsLooked, Reports};
 
     /// A world whose sessions are closed, and that saw nothing. Refused for memory alone.
     pub fn new(alloc: Global) -> Result<World, Refused>
@@ -226,16 +227,17 @@ impl World {
         ensures grows { Grows who.event (C.seen cloud.old) (C.seen cloud.new) }
     {
         'steps: loop {
-            match self.step_under(alloc, cloud, who, Wish::Plain) {
-                Ok(Turn::More) => {}
-                Ok(Turn::Ended(answer)) => return reply_of(answer),
-                Ok(Turn::Stopped(_)) => unreachable!(),
-                Err(fault) => return Err(fault),
+            let turn = self.step_under(alloc, cloud, who, Wish::Plain)?;
+            match turn {
+                Turn::More => {}
+                Turn::Ended(answer) => return reply_of(answer),
+                Turn::Stopped(_) => unreachable!(),
             }
         }
     }
 
     /// Lets the session die: at once, or once its call in hand is made.
+    #[tactic(auto, using(crate::proofs::GrowthLemmas::grows_not))]
     fn crash<C: Bench>(
         &mut self,
         alloc: Global,
@@ -248,12 +250,27 @@ impl World {
         ensures grows { Grows who.event (C.seen cloud.old) (C.seen cloud.new) }
     {
         if done && self.works(who.session) {
-            match self.step_under(alloc, cloud, who, Wish::Plain) {
-                Ok(_) => {}
-                Err(fault) => return Err(fault),
-            }
+            return self.crash_done(alloc, cloud, who);
         }
         self.sessions.crash(who.session);
+        Ok(Reply::Crashed)
+    }
+
+    /// Makes the call in hand plainly, and lets the session die then.
+    fn crash_done<C: Bench>(
+        &mut self,
+        alloc: Global,
+        cloud: &mut C,
+        who: Who,
+    ) -> Result<Reply, WorldFault>
+        requires session { 1 ≤ who.session }
+        requires works { IsAtWork who.session self.old.sessions }
+        ensures dies { CrashesDone who (C.seen cloud.old) (C.seen cloud.new) self.old self.new result }
+        ensures grows { Grows who.event (C.seen cloud.old) (C.seen cloud.new) }
+    {
+        let turn = self.step_under(alloc, cloud, who, Wish::Plain)?;
+        self.sessions.crash(who.session);
+        unanswered(turn);
         Ok(Reply::Crashed)
     }
 
@@ -310,9 +327,7 @@ impl World {
         ensures looked { IfOk result (λ turn. StepsLooked who wish (C.seen cloud.old) (C.seen cloud.new) self.old self.new turn) }
         ensures grows { Grows who.event (C.seen cloud.old) (C.seen cloud.new) }
     {
-        let Ok(before) = is_newest(cloud, put) else {
-            return Err(WorldFault::Memory);
-        };
+        let before = is_newest(cloud, put)?;
         let mark = self.audit.mark();
         let session = self.sessions.get(who.session);
         match note_put(alloc, &mut self.audit, session, put.name) {
@@ -321,11 +336,9 @@ impl World {
         }
         cloud.wish(wish);
         let turn = self.sessions.step(alloc, cloud, who);
-        let Ok(after) = is_newest(cloud, put) else {
-            return Err(WorldFault::Memory);
-        };
+        let after = is_newest(cloud, put)?;
         keep_landed(&mut self.audit, mark, before, after);
-        self.blind = self.blind || before.is_none() || after.is_none();
+        self.blind = is_blinded(self.blind, before, after);
         Ok(turn)
     }
 
@@ -345,6 +358,17 @@ impl World {
             Err(trouble) => trouble_reply(trouble),
         }
     }
+}
+
+/// Forgets what a step came to.
+fn unanswered(_turn: Turn<Answer>) {}
+
+/// Whether a look failed, in earlier steps or before or after the put of this one.
+fn is_blinded(blind: bool, before: Option<bool>, after: Option<bool>) -> bool
+    ensures saw { result ≡ false → (blind ≡ false) × (is_blind before ≡ false) × (is_blind after ≡ false) }
+    ensures blinded { result ≡ true → (blind ≡ true) ⊎ ((before ≡ None) ⊎ (after ≡ None)) }
+{
+    blind || before.is_none() || after.is_none()
 }
 
 /// Lets the clock go on.

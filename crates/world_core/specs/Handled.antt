@@ -97,6 +97,11 @@ pub record SetsWish (wish : Wish) (before after : Seen) : Type 0 where
   pub no_call : IsNoCall before after
   pub set : (s : CloudState) → before.state ≡ Some s → after.state ≡ Some (record s { wish = wish })
 
+-- the newest call is the session's at this line, under the wish, and no wait was counted
+abbrev pub IsNewestCall : Caller → Wish → Seen → Seen → Type 0
+IsNewestCall who wish before after =
+    (x : CloudState) → before.state ≡ Some x → (y : CloudState) × (after.state ≡ Some y) × (y.last ≡ Some (who, wish)) × (y.waits ≡ x.waits)
+
 -- one step of a session under a wish, between two looks where it is a put: the audit takes what the put in hand commits or applies where it
 -- was seen to land, and a look that failed blinds it
 pub record StepsLooked (who : Caller) (wish : Wish) (before after : Seen) (old new : World) (turn : Turn Answer) : Type 0 where
@@ -107,6 +112,7 @@ pub record StepsLooked (who : Caller) (wish : Wish) (before after : Seen) (old n
   pub wishes : SetsWish wish from under
   pub session : Changes who.session (λ a b. StepsSession who under to a b (Ok turn)) old.sessions new.sessions
   pub look_after : Looked to after
+  pub newest_call : IsNewestCall who wish before after
   pub saw : new.blind ≡ false → old.blind ≡ false
   pub blinded : new.blind ≡ true → (old.blind ≡ true) ⊎ (Rose before.counts.dark from.counts.dark ⊎ Rose to.counts.dark after.counts.dark)
   pub audit : new.blind ≡ false → (x y : CloudState) → before.state ≡ Some x → to.state ≡ Some y → new.audit ≡ audited (newest x) (newest y) session.before.work old.audit

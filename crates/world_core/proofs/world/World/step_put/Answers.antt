@@ -3,6 +3,7 @@ use Rattle.cloud_trait.specs.State.{newest}
 use Rattle.world_core.proofs.Going.{put_before, noted_of, blinds}
 use Rattle.world_core.proofs.GrowthLemmas.{grows_between}
 use Rattle.world_core.proofs.Landing.{audited_put}
+use Rattle.world_core.proofs.Marks.{newest_call}
 use Rattle.world_core.proofs.world.World.step_put.Goals as goal
 
 pub returns-clause-looked : goal.returns-clause-looked
@@ -14,6 +15,8 @@ returns-clause-looked g c = record {
   wishes = record { no_call = c.wish.ensures.no_call; set = c.wish.ensures.set };
   session = c.step-turn.ensures;
   look_after = c.is_newest-2.ensures.looked;
+  newest_call = newest_call c.args.who c.args.wish _ _ _ _ _ c.args.who.session _ _ c.step-turn.result
+      c.is_newest.ensures.looked (record { no_call = c.wish.ensures.no_call; set = c.wish.ensures.set }) c.step-turn.ensures c.is_newest-2.ensures.looked;
   saw = λ e. (c.is_blinded.ensures.saw e).0;
   blinded = λ e. let first : c.is_newest.result ≡ Ok c.in_ok-before.before = cc in let last : c.is_newest-2.result ≡ Ok c.in_ok-after.after = cc in
       blinds c.args.self.now.blind c.in_ok-before.before c.in_ok-after.after c.is_newest.result c.is_newest-2.result _ _ first last c.is_newest.ensures.dark c.is_newest-2.ensures.dark (c.is_blinded.ensures.blinded e);

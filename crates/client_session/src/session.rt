@@ -137,11 +137,15 @@ impl Session {
         ensures ok { OnOk result ((self.new ≡ record self.old { buffer = noted_in self.old.buffer tree change }) × (rule_of self.old.work ≡ None)) }
         ensures err { OnErr result (self.new ≡ self.old) }
         ensures cause { IfErr result (NoteRefused self.old tree change) }
+        ensures few { OnOk result (length self.new.buffer ≤ 200) }
     {
         if let Some(rule) = self.rule() {
             return Err(Refused::Rule(rule));
         }
-        self.buffer.note(tree, change)
+        let noted = self.buffer.note(tree, change);
+        // Read for the clause `few`.
+        let _ = self.buffer.len();
+        noted
     }
 
     /// Drops the changes of an open client. A refusal changes nothing.

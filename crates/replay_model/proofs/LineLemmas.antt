@@ -13,7 +13,7 @@ use Rattle.client_session.specs.Session.{Acting}
 use Rattle.history.specs.Audited.{Audited}
 use Rattle.store_book.specs.Tally.{at}
 use Rattle.store_book.proofs.Names.{at_same, at_other}
-use Rattle.session_facts.specs.Sessions.{Sessions}
+use Rattle.session_facts.specs.Sessions.{Sessions, SessionsStand}
 use Rattle.session_facts.proofs.Laws.{same_sessions}
 use Rattle.replay_meaning.specs.Standing.{Line, Standing, standing, after_line, after_own, session_of}
 use Rattle.replay_model.specs.Facts.{ActsAs, AllAct, CloudHolds, IsFrontOf, Stands, GoesOn}
@@ -39,6 +39,22 @@ begins_line lines sessions a blind t s = record {
     reported = s.holds.reported;
   };
   acts = s.acts;
+}
+
+-- sessions that stand under the same book go on within the next line too
+pub begins_with : (lines : List Line) (sessions others : Sessions) (a : Audited) (blind : Bool) (t : CloudState) → (h : CloudHolds (length lines) lines sessions a blind t)
+    → SessionsStand h.book h.order t others → CloudHolds (length lines + 1) lines others a blind t
+begins_with lines sessions others a blind t h stand = record {
+  book = h.book;
+  order = h.order;
+  stand = stand;
+  cloud = record {
+    placed = h.cloud.placed;
+    upto = upto_more (length lines) (length lines + 1) t (omega arith) h.cloud.upto;
+    committed = h.cloud.committed;
+  };
+  seen = h.seen;
+  reported = h.reported;
 }
 
 -- how all sessions stand with one line more

@@ -206,18 +206,18 @@ same_stands lines event k before after old new t Does ready c same =
 
 -- what a session works on does not look at the buffer of an open client
 works_with : (w : Work) (s : Standing) (buffer : List Noted) → rule_of w ≡ None → WorksAs w s → WorksAs w (record s { buffer = buffer })
-works_with (work.Idle home) s buffer open works = works
-works_with work.Closed s buffer open works = absurd (cc)
-works_with (work.Opening m) s buffer open works = absurd (cc)
-works_with (work.Committing m) s buffer open works = absurd (cc)
-works_with (work.Folding home m) s buffer open works = absurd (cc)
-works_with work.Broken s buffer open works = absurd (cc)
+works_with (work.Idle home) s buffer opened works = works
+works_with work.Closed s buffer opened works = absurd (cc)
+works_with (work.Opening m) s buffer opened works = absurd (cc)
+works_with (work.Committing m) s buffer opened works = absurd (cc)
+works_with (work.Folding home m) s buffer opened works = absurd (cc)
+works_with work.Broken s buffer opened works = absurd (cc)
 
 -- another buffer of an open client
 buffer_line : (lines : List Line) (event : Event) (r : Reply) (k : ℕ) (before after : Seen) (old new : World) (t : CloudState) (Does : Acting → Acting → Type 0) (buffer : List Noted)
     → (ready : Ready lines event k before after old new t) → (c : Changes k Does old.sessions new.sessions) → c.after ≡ record c.before { buffer = buffer } → rule_of c.before.work ≡ None
     → MayCommit buffer → after_own event r (standing lines k) ≡ record (standing lines k) { buffer = buffer } → IsNoReport r → StandsFor (lines ++ line_of event r ∷ []) new after r
-buffer_line lines event r k before after old new t Does buffer ready c is open may own plain =
+buffer_line lines event r k before after old new t Does buffer ready c is opened may own plain =
     quiet_line lines event r k before after old new t Does ready c stand (subst (ActsAs c.after) (sym own) acts) plain
   where
     f : Sessions
@@ -236,7 +236,7 @@ buffer_line lines event r k before after old new t Does buffer ready c is open m
     acts =
         let had = acts_before lines event k before after old new t Does ready c in
         subst (λ a. ActsAs a (record (standing lines k) { buffer = buffer })) (sym is)
-        (record { buffer = refl; work = works_with c.before.work (standing lines k) buffer open had.work })
+        (record { buffer = refl; work = works_with c.before.work (standing lines k) buffer opened had.work })
 
 -- a line that notes a change
 pub notes : (lines : List Line) (event : Event) (k tree : ℕ) (change : Change) (r : Reply) (before after : Seen) (old new : World) (t : CloudState) → IsTree tree → IsChange change

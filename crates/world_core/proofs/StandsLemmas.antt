@@ -36,11 +36,11 @@ use Rattle.store_book.proofs.Names.{at_same, at_other}
 use Rattle.session_facts.specs.Noting.{audited}
 use Rattle.session_facts.specs.Sessions.{Sessions, SessionsStand, audit_of}
 use Rattle.session_facts.proofs.Laws.{crash_keeps}
-use Rattle.replay_meaning.specs.Standing.{Line, Standing, standing, after_own, session_of, steps}
+use Rattle.replay_meaning.specs.Standing.{Line, Standing, standing, after_line, after_own, session_of, steps}
 use Rattle.replay_meaning.specs.Right.{ReportIsRight}
 use Rattle.replay_model.specs.Facts.{session_at, ActsAs, AllAct, CloudHolds, IsFrontOf, Stands, GoesOn}
 use Rattle.replay_model.proofs.Acting.{IsReplyTo, goes_as, ends_as}
-use Rattle.replay_model.proofs.LineLemmas.{line_of, AllActWith, begins_line, line_through, holds_same, own_line, still_line, refused_own, acts_set}
+use Rattle.replay_model.proofs.LineLemmas.{line_of, AllActWith, begins_line, begins_with, line_through, holds_same, own_line, still_line, refused_own, acts_set}
 use Rattle.replay_model.proofs.Lists.{session_there, session_set}
 use Rattle.replay_model.proofs.Steps.{CallLeaves, call_holds, wish_holds, wait_holds}
 use Rattle.replay_model.proofs.ReportLemmas.{IsShown, report_right}
@@ -145,16 +145,13 @@ pub quiet_line : (lines : List Line) (event : Event) (r : Reply) (number : ℕ) 
     → ActsAs c.after (after_own event r (standing lines number)) → IsNoReport r → StandsFor (lines ++ line_of event r ∷ []) new after r
 quiet_line lines event r number before after old new t Does ready c stand acts plain =
     through lines event r after new t (ap (λ (z : Seen). z.state) ready.quiet.seen ∙ ready.told) holds
-    (λ n. subst (λ a. ActsAs a _) (sym (same n)) (own_line lines number event r (session_at old.sessions) c.after ready.own ready.stands.acts acts n)) plain
+    (λ n. subst (λ a. ActsAs a (after_line n (standing lines n) (line_of event r))) (sym (same n)) (own_line lines number event r (session_at old.sessions) c.after ready.own ready.stands.acts acts n)) plain
   where
     same : (n : ℕ) → session_at new.sessions n ≡ at number c.after (session_at old.sessions) n
     same = changed_at number Does old.sessions new.sessions ready.some c
 
-    h : CloudHolds (length lines + 1) lines (session_at old.sessions) old.audit old.blind t
-    h = (begins_line lines (session_at old.sessions) old.audit old.blind t ready.stands).holds
-
     own : CloudHolds (length lines + 1) lines (at number c.after (session_at old.sessions)) old.audit old.blind t
-    own = record { book = h.book; order = h.order; stand = stand; cloud = h.cloud; seen = h.seen; reported = h.reported }
+    own = begins_with lines (session_at old.sessions) (at number c.after (session_at old.sessions)) old.audit old.blind t ready.stands.holds stand
 
     At : Audited → Bool → Type 0
     At a b = CloudHolds (length lines + 1) lines (session_at new.sessions) a b t
@@ -297,7 +294,7 @@ step_ends lines event who wish before after old new a r own_is does number some 
     let all : AllActWith lines (line_of event r) (at who.session p.session.after f) =
     own_line lines who.session event r f p.session.after own_is way.goes.acts (subst (ActsAs p.session.after) (sym (does (standing lines who.session))) mine) in
     through lines event r after new s.state s.told s.holds
-    (λ n. subst (λ z. ActsAs z _) (sym (sessions_after lines who wish before after old new (Ended a) number some way p n)) (all n)) is.1
+    (λ n. subst (λ z. ActsAs z (after_line n (standing lines n) (line_of event r))) (sym (sessions_after lines who wish before after old new (Ended a) number some way p n)) (all n)) is.1
 
 -- ---- the lines that make steps
 
@@ -375,7 +372,7 @@ dies lines k done r before after old new t some told stands h =
     let S : Acting → Type 0 = λ a. SessionsStand stands.holds.book stands.holds.order t (at k a (session_at old.sessions)) in
     subst P (sym is) (quiet_line lines (event.Crash k done) reply.Crashed k before after old new t _ ready h.closed
     (subst S (sym h.closed.does) (crash_keeps stands.holds.book stands.holds.order t (session_at old.sessions) k stands.holds.stand))
-    (subst (λ a. ActsAs a _) (sym h.closed.does) (crashed_own k done (standing lines k))) tt)
+    (subst (λ a. ActsAs a (after_own (event.Crash k done) reply.Crashed (standing lines k))) (sym h.closed.does) (crashed_own k done (standing lines k))) tt)
 
 -- closing a session that a step changed closes it
 closed_twice : (k : ℕ) (a : Acting) (f g h : Sessions) → ((n : ℕ) → g n ≡ at k a f n) → ((n : ℕ) → h n ≡ at k closed_session g n) → (n : ℕ) → h n ≡ at k closed_session f n
@@ -430,7 +427,7 @@ dies_done lines k n r before after old new t at_n some told stands h =
 
     acts : AllActWith lines (line_of (event.Crash k true) reply.Crashed) (session_at new.sessions)
     acts m =
-        subst (λ z. ActsAs z _)
+        subst (λ z. ActsAs z (after_line m (standing lines m) (line_of (event.Crash k true) reply.Crashed)))
         (sym (closed_twice k h.steps.session.after f g (session_at new.sessions) (sessions_after lines who Plain before after old h.world h.turn (sym at_n) some way h.steps) closed m))
         (own_line lines k (event.Crash k true) reply.Crashed f closed_session refl way.goes.acts (crashed_own k true (standing lines k)) m)
 

@@ -1,5 +1,6 @@
-ghost use Rattle.std.specs.Prelude.{◌≡◌, ◌≤◌, ◌<◌, ◌⊎◌, true, false, [], replicate, Some, None, Ok, IfOk, IfErr};
+ghost use Rattle.std.specs.Prelude.{◌≡◌, ℕ, ◌≤◌, ◌<◌, ◌⊎◌, true, false, [], replicate, Some, None, Ok, IfOk, IfErr};
 ghost use Rattle.world_core.specs.Put.{is_blind};
+ghost use Rattle.world_core.specs.Stands.{Grows};
 ghost use Rattle.world_core.specs.Fault.{trouble_reply, reply_of};
 ghost use Rattle.world_core.specs.Handled.{begun_reply, done_reply, turn_reply, declined, WaitsFor};
 
@@ -44,7 +45,7 @@ pub struct World {
 
 impl World {
     ghost use Rattle.client_session.specs.Session.{closed_session};
-    ghost use Rattle.world_core.specs.Stands.{StandsOn, Grows};
+    ghost use Rattle.world_core.specs.Stands.{StandsOn};
     ghost use Rattle.world_core.specs.Sessions.{Changes, IsNotWorking, IsAtWork, HasPut};
     ghost use Rattle.world_core.specs.Handled.{Handled, Answers, Does, BeginsOp, NotesChange, DropsChanges, MakesStep, Runs, RunsOn, Crashes, CrashesDone, StepsLooked, Reports};
 
@@ -112,7 +113,7 @@ impl World {
     {
         match SessionNo::new(number) {
             Ok(session) => match request {
-                Ok(request) => self.serve(alloc, cloud, Who::new(session, n), request),
+                Ok(request) => self.serve(alloc, cloud, Who { session, event: n }, request),
                 Err(why) => declined(why),
             },
             Err(rule) => declined(Refused::Rule(rule)),
@@ -372,9 +373,11 @@ fn is_blinded(blind: bool, before: Option<bool>, after: Option<bool>) -> bool
 }
 
 /// Lets the clock go on.
+#[tactic(auto, using(crate::proofs::GrowthLemmas::grows_not, crate::proofs::GrowthLemmas::grows_wait))]
 fn wait<C: Bench>(cloud: &mut C, ticks: u64) -> Result<Reply, WorldFault>
     ensures within { ticks ≤ 1000000 → WaitsFor ticks (C.seen cloud.old) (C.seen cloud.new) result }
     ensures beyond { 1000000 < ticks → (result ≡ Ok (Reply.Refused Refusal.BadNumber)) × (C.seen cloud.new ≡ C.seen cloud.old) }
+    ensures grows { (n : ℕ) → Grows n (C.seen cloud.old) (C.seen cloud.new) }
 {
     if ticks > MAX_WAIT {
         return Ok(Reply::Refused(Refusal::BadNumber));

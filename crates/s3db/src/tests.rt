@@ -109,7 +109,8 @@ fn replies_to_a_failed_call(rt: HostRuntime) -> Result<(), Fail> {
 }
 
 /// What the worked example reports, behind the number of the line.
-const ONE: &str = "report 1\ncommitted 1\n1 1 1 insert 6b 76\norder 1\n1 1 1 insert 6b 76\ncontents 1\n6b 76\n";
+const ONE: &str =
+    "report 1\ncommitted 1\n1 1 1 insert 6b 76\norder 1\n1 1 1 insert 6b 76\ncontents 1\n6b 76\n";
 
 /// Two open clients, of which the first committed one insert; and what is written of it.
 const TWO: &str = "open 1 1\nrun 1\nopen 2 2\nrun 2\ninsert 1 1 6b 76\ncommit 1\nrun 1\n";
@@ -119,8 +120,11 @@ const TWO_OPEN: &str =
 
 #[test]
 fn receives_what_the_schedule_gives(rt: HostRuntime) -> Result<(), Fail> {
-    let input = "open 1 1\nrun 1\ninsert 1 1 6b 76\ncommit 1\nrun 1\ntree 1 1\nstep 1 plain\nstep 1 plain\nstep 1 give 1 1 1\nrun 1\ntree 1 1\nstep 1 plain\nstep 1 plain\nstep 1 give 1\nrun 1\nreport 1\n";
-    let want = format!(in rt.alloc(); "1 begun\n2 opened 1\n3 noted\n4 begun\n5 committed 1\n6 begun\n7 called\n8 called\n9 called\n10 done 1 1 0\n11 begun\n12 called\n13 called\n14 called\n15 done 0 1 0\n16 {ONE}left 0 0\n")?;
+    let input =
+        "open 1 1\nrun 1\ninsert 1 1 6b 76\ncommit 1\nrun 1\ntree 1 1\nstep 1 plain\nstep 1 plain\nstep 1 give 1 1 1\nrun 1\ntree 1 1\nstep 1 plain\nstep 1 plain\nstep 1 give 1\nrun 1\nreport 1\n";
+    let want = format!(in rt.alloc();
+        "1 begun\n2 opened 1\n3 noted\n4 begun\n5 committed 1\n6 begun\n7 called\n8 called\n9 called\n10 done 1 1 0\n11 begun\n12 called\n13 called\n14 called\n15 done 0 1 0\n16 {ONE}left 0 0\n"
+    )?;
     let (status, sink) = replayed(rt.alloc(), input.as_bytes(), &[], &[])?;
     assert_eq!(rt; status, Status::Done);
     assert_eq!(rt; sink.written(), want.as_bytes());
@@ -129,10 +133,14 @@ fn receives_what_the_schedule_gives(rt: HostRuntime) -> Result<(), Fail> {
 
 #[test]
 fn leaves_a_gap_alone(rt: HostRuntime) -> Result<(), Fail> {
-    let input = b"open 1 1\nrun 1\ninsert 1 1 61 76\ninsert 1 1 62 76\ninsert 1 1 63 76\ncommit 1\nrun 1\ntree 1 1\nstep 1 plain\nstep 1 plain\nstep 1 give 2 3\nrun 1\ntree 1 1\nrun 1\n";
+    let input =
+        b"open 1 1\nrun 1\ninsert 1 1 61 76\ninsert 1 1 62 76\ninsert 1 1 63 76\ncommit 1\nrun 1\ntree 1 1\nstep 1 plain\nstep 1 plain\nstep 1 give 2 3\nrun 1\ntree 1 1\nrun 1\n";
     let (status, sink) = replayed(rt.alloc(), input, &[], &[])?;
     assert_eq!(rt; status, Status::Done);
-    assert!(rt; sink.written().ends_with(b"11 called\n12 done 0 0 0\n13 begun\n14 done 3 3 0\n"));
+    assert!(rt;
+        sink.written()
+            .ends_with(b"11 called\n12 done 0 0 0\n13 begun\n14 done 3 3 0\n")
+    );
     Ok(())
 }
 
@@ -144,8 +152,12 @@ fn goes_on_behind_a_crash(rt: HostRuntime) -> Result<(), Fail> {
     for _ in 0..8 {
         input.extend_from_slice(b"step 1 plain\n")?;
     }
-    input.extend_from_slice(b"crash 1\nopen 2 2\nrun 2\ntree 2 1\nrun 2\nwait 60\ntree 2 1\nrun 2\nreport 1\n")?;
-    let want = format!(in rt.alloc(); "14 called\n15 crashed\n16 begun\n17 opened 1\n18 begun\n19 busy tree:1 60\n20 waited\n21 begun\n22 done 0 1 0\n23 {ONE}left 0 0\n")?;
+    input.extend_from_slice(
+        b"crash 1\nopen 2 2\nrun 2\ntree 2 1\nrun 2\nwait 60\ntree 2 1\nrun 2\nreport 1\n",
+    )?;
+    let want = format!(in rt.alloc();
+        "14 called\n15 crashed\n16 begun\n17 opened 1\n18 begun\n19 busy tree:1 60\n20 waited\n21 begun\n22 done 0 1 0\n23 {ONE}left 0 0\n"
+    )?;
     let (status, sink) = replayed(rt.alloc(), input.as_slice(), &[], &[])?;
     assert_eq!(rt; status, Status::Done);
     assert!(rt; sink.written().ends_with(want.as_bytes()));
@@ -169,7 +181,9 @@ fn holds_a_late_holder_off(rt: HostRuntime) -> Result<(), Fail> {
     ] {
         let steps = "step 1 plain\nstep 1 plain\nstep 1 plain\nstep 1 plain\nstep 1 plain\n";
         let input = format!(in rt.alloc(); "{TWO}tree 1 1\n{steps}{behind}")?;
-        let want = format!(in rt.alloc(); "{TWO_OPEN}8 begun\n9 called\n10 called\n11 called\n12 called\n13 called\n{ends}")?;
+        let want = format!(in rt.alloc();
+            "{TWO_OPEN}8 begun\n9 called\n10 called\n11 called\n12 called\n13 called\n{ends}"
+        )?;
         let (status, sink) = replayed(rt.alloc(), input.as_bytes(), &[], &[])?;
         assert_eq!(rt; status, Status::Done);
         assert_eq!(rt; sink.written(), want.as_bytes());
@@ -180,11 +194,21 @@ fn holds_a_late_holder_off(rt: HostRuntime) -> Result<(), Fail> {
 #[test]
 fn leaves_a_session_in_doubt(rt: HostRuntime) -> Result<(), Fail> {
     for (wish, behind) in [
-        ("lost", "7 refused 99 not-built\n8 report 1\ncommitted 1\n1 1 1 insert 6b 76\norder 0\ncontents 0\nleft 1 0\n"),
-        ("fail", "7 refused 99 not-built\n8 report 1\ncommitted 0\norder 0\ncontents 0\nleft 0 0\n"),
+        (
+            "lost",
+            "7 refused 99 not-built\n8 report 1\ncommitted 1\n1 1 1 insert 6b 76\norder 0\ncontents 0\nleft 1 0\n",
+        ),
+        (
+            "fail",
+            "7 refused 99 not-built\n8 report 1\ncommitted 0\norder 0\ncontents 0\nleft 0 0\n",
+        ),
     ] {
-        let input = format!(in rt.alloc(); "open 1 1\nrun 1\ninsert 1 1 6b 76\ncommit 1\nstep 1 {wish}\ninsert 1 1 6c 76\nopen 1 1\nreport 1\n")?;
-        let want = format!(in rt.alloc(); "1 begun\n2 opened 1\n3 noted\n4 begun\n5 in-doubt\n6 refused 8 broken\n{behind}")?;
+        let input = format!(in rt.alloc();
+            "open 1 1\nrun 1\ninsert 1 1 6b 76\ncommit 1\nstep 1 {wish}\ninsert 1 1 6c 76\nopen 1 1\nreport 1\n"
+        )?;
+        let want = format!(in rt.alloc();
+            "1 begun\n2 opened 1\n3 noted\n4 begun\n5 in-doubt\n6 refused 8 broken\n{behind}"
+        )?;
         let (status, sink) = replayed(rt.alloc(), input.as_bytes(), &[], &[])?;
         assert_eq!(rt; status, Status::Done);
         assert_eq!(rt; sink.written(), want.as_bytes());
@@ -194,7 +218,8 @@ fn leaves_a_session_in_doubt(rt: HostRuntime) -> Result<(), Fail> {
 
 #[test]
 fn leaves_a_commit_open(rt: HostRuntime) -> Result<(), Fail> {
-    let input = b"open 1 1\nrun 1\ninsert 1 1 6b 76\ncommit 1\nstep 1 plain\nstep 1 fail\nreport 1\n";
+    let input =
+        b"open 1 1\nrun 1\ninsert 1 1 6b 76\ncommit 1\nstep 1 plain\nstep 1 fail\nreport 1\n";
     let (status, sink) = replayed(rt.alloc(), input, &[], &[])?;
     assert_eq!(rt; status, Status::Done);
     assert_eq!(rt;

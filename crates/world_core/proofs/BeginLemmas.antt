@@ -131,9 +131,11 @@ commits_of k r lines buffer home b Working same idle empty commits e =
     let is : r ≡ reply.Begun = cc in
     let go = readies_goes home buffer commits.0 commits.1 in
     let P : Reply → Type 0 = λ z. LeavesSession (event.Commit k) z k lines b in
-    subst P (sym is)
-    (acts_by b (work.Committing commits.0) (after_own (event.Commit k) reply.Begun (standing lines k)) commits.2 empty
-    (ap (λ cs. WorkingOn (Noting cs)) (sym same ∙ sym go.0), idle.1 ∙ sym go.1), tt)
+    subst P (sym is) (
+      acts_by b (work.Committing commits.0) (after_own (event.Commit k) reply.Begun (standing lines k)) commits.2 empty
+          (ap (λ cs. WorkingOn (Noting cs)) (sym same ∙ sym go.0), idle.1 ∙ sym go.1),
+      tt,
+    )
 commits_of k r lines buffer home b (Answered (answer.Commit a)) same idle empty commits e =
     let end = readies_ends home buffer commits.0 a commits.1 in
     let f : r ≡ reply.Commit a = cc in

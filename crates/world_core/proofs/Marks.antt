@@ -19,8 +19,7 @@ pub newest_call : (who : Caller) (wish : Wish) (before from under to after : See
 newest_call who wish before from under to after number old new turn first sets step last x told =
     let wished : CloudState = record x { wish = wish } in
     let call : MadeCall who under to step.before.work = made_call who under to step.before.work step.after.work turn step.does.work in
-    let l : Leaves who call.ask call.answer under.counts to.counts wished to.state = call.made.state wished (sets.set x (first.stays x told)) in
-    (
+    let l : Leaves who call.ask call.answer under.counts to.counts wished to.state = call.made.state wished (sets.set x (first.stays x told)) in (
       l.after,
       last.stays l.after l.told,
       leaves_last who call.ask call.answer under.counts to.counts wished to.state l,

@@ -151,12 +151,7 @@ impl World {
         begun(self.sessions.begin(alloc, number, op))
     }
 
-    fn note(
-        &mut self,
-        number: SessionNo,
-        tree: TreeId,
-        change: Change,
-    ) -> Result<Reply, WorldFault>
+    fn note(&mut self, number: SessionNo, tree: TreeId, change: Change) -> Result<Reply, WorldFault>
         requires { 1 ≤ number }
         ensures session { Changes number (NotesChange tree change result) self.old.sessions self.new.sessions }
         ensures audit { self.new.audit ≡ self.old.audit }

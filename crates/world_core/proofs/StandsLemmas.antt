@@ -117,11 +117,11 @@ declines lines event r refused.Memory before after old new t is told stands = ab
 -- ---- one session changes
 
 -- the sessions of a list of which one changes
-changed_at : (number : ℕ) (Does : Acting → Acting → Type 0) (old new : List Acting) → 1 ≤ number → (c : Changes number Does old new) → (n : ℕ)
+pub changed_at : (number : ℕ) (Does : Acting → Acting → Type 0) (old new : List Acting) → 1 ≤ number → (c : Changes number Does old new) → (n : ℕ)
     → session_at new n ≡ at number c.after (session_at old) n
 changed_at number Does old new some c n = ap (λ l. session_at l n) c.rest ∙ session_set old number c.before c.after some c.there n
 
-changed_was : (number : ℕ) (Does : Acting → Acting → Type 0) (old new : List Acting) → 1 ≤ number → (c : Changes number Does old new) → session_at old number ≡ c.before
+pub changed_was : (number : ℕ) (Does : Acting → Acting → Type 0) (old new : List Acting) → 1 ≤ number → (c : Changes number Does old new) → session_at old number ≡ c.before
 changed_was number Does old new some c = session_there old number c.before some c.there
 
 -- what is known of a line that makes no call, before its session is looked at

@@ -5,7 +5,9 @@ use Rattle.db_base.specs.declared.refusal.Refused.{Refused}
 use Rattle.txn_buffer.specs.Noted.{noted_in}
 use Rattle.client_session.specs.Session.{Acting, rule_of, NoteRefused, AbortRefused, ask_of_work}
 use Rattle.cloud_trait.specs.Ask.{Ask}
-use Rattle.world_core.specs.Put.{put_of}
+use Rattle.db_base.specs.declared.names.ObjName.{ObjName}
+use Rattle.history.specs.Audited.{Audited}
+use Rattle.world_core.specs.Put.{put_of, noted_put}
 use Rattle.world_core.specs.declared.put.Put.{Put}
 
 -- the session of a number does this, and the others stay
@@ -45,3 +47,9 @@ pub record HasPut (number : ℕ) (sessions : List Acting) (put : Option Put) : T
   pub session : Acting
   pub there : slice_get sessions (number - 1) ≡ Some session
   pub put_is : put_of session.work ≡ put
+
+-- the audit has what a put of the object by the session of a number commits or applies
+pub record NotesPut (number : ℕ) (sessions : List Acting) (name : ObjName) (old new : Audited) : Type 0 where
+  pub session : Acting
+  pub there : slice_get sessions (number - 1) ≡ Some session
+  pub noted : new ≡ noted_put name session.work old

@@ -33,12 +33,13 @@ impl Sessions {
     ghost use Rattle.world_core.specs.Sessions.{Changes, IsAtWork, NotesIn, AbortsIn};
 
     /// Closed sessions. Refused for memory alone.
+    #[tactic(auto, using(crate::proofs::Closed::replicate_more, crate::proofs::Closed::sixteen))]
     pub fn new(alloc: Global) -> Result<Sessions, Refused>
         ensures ok { IfOk result (λ s. s ≡ replicate 16 closed_session) }
         ensures memory { IfErr result (λ e. e ≡ Refused.Memory) }
     {
         let mut list = Vec::new(alloc);
-        for _count in 0..16 {
+        for _count in 0..16u64 {
             list.push(Session::new(alloc)?)?;
         }
         Ok(Sessions { list })

@@ -325,8 +325,13 @@ impl World {
     {
         let before = is_newest(cloud, put)?;
         let mark = self.audit.mark();
-        let session = self.sessions.get(who.session);
-        match note_put(alloc, &mut self.audit, session, put.name) {
+        match note_put(
+            alloc,
+            &mut self.audit,
+            &self.sessions,
+            who.session,
+            put.name,
+        ) {
             Ok(()) => {}
             Err(_) => return Err(WorldFault::Memory),
         }

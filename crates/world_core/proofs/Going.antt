@@ -90,9 +90,11 @@ less_further who before after old new turn is step = goes_less who Plain before 
 -- ---- what a step that is a put leaves of the audit
 
 -- what was noted is what the session that then stepped had in hand
-pub noted_of : (number : ℕ) (sessions : List Acting) (a b : Acting) (name : ObjName) (old new : Audited) → slice_get sessions (number - 1) ≡ Some a → slice_get sessions (number - 1) ≡ Some b
-    → new ≡ noted_put name a.work old → new ≡ noted_put name b.work old
-noted_of number sessions a b name old new e f noted = noted ∙ ap (λ (z : Acting). noted_put name z.work old) (same_session sessions (number - 1) a b e f)
+pub noted_of : (other number : ℕ) (sessions : List Acting) (a b : Acting) (name : ObjName) (old new : Audited) → other ≡ number → slice_get sessions (other - 1) ≡ Some a
+    → slice_get sessions (number - 1) ≡ Some b → new ≡ noted_put name a.work old → new ≡ noted_put name b.work old
+noted_of other number sessions a b name old new same e f noted =
+    let there : slice_get sessions (number - 1) ≡ Some a = subst (λ n. slice_get sessions (n - 1) ≡ Some a) same e in
+    noted ∙ ap (λ (z : Acting). noted_put name z.work old) (same_session sessions (number - 1) a b there f)
 
 -- a world that is blind was so, or a look of this step failed
 pub blinds : (blind : Bool) (before after : Option Bool) (first last : Result (Option Bool) WorldFault) (P Q : Type 0) → first ≡ Ok before → last ≡ Ok after

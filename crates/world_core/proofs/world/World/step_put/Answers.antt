@@ -1,4 +1,5 @@
-use Rattle.std.proofs.Common.{◌≡◌, Ok}
+use Rattle.std.proofs.Common.{◌≡◌, Ok, ap}
+use Rattle.cloud_trait.specs.Caller.{Caller}
 use Rattle.cloud_trait.specs.State.{newest}
 use Rattle.world_core.proofs.Going.{put_before, noted_of, blinds}
 use Rattle.world_core.proofs.GrowthLemmas.{grows_between}
@@ -24,8 +25,8 @@ returns-clause-looked g c = record {
       (put_before c.args.who.session c.args.self.now.sessions _ c.step-turn.ensures.before c.requires.puts c.step-turn.ensures.there)
       (c.is_blinded-self.ensures.saw e).1 (c.is_blinded-self.ensures.saw e).2 (c.in_ok-before.ensures.newest x first) (c.in_ok-after.ensures.newest y second)
       c.mark-mark.ensures.committed c.mark-mark.ensures.order
-      (noted_of c.args.who.session c.args.self.now.sessions c.in-Ok.ensures.session c.step-turn.ensures.before c.args.put.now.name c.args.self.now.audit c.note_put.new.audit
-      c.in-Ok.ensures.there c.step-turn.ensures.there c.in-Ok.ensures.noted) c.keep_landed.ensures;
+      (noted_of c.who.inside.session c.args.who.session c.args.self.now.sessions c.in-Ok.ensures.session c.step-turn.ensures.before c.args.put.now.name c.args.self.now.audit c.note_put.new.audit
+      (ap (λ (w : Caller). w.session) c.who.view_is) c.in-Ok.ensures.there c.step-turn.ensures.there c.in-Ok.ensures.noted) c.keep_landed.ensures;
 }
 
 pub returns-clause-grows : goal.returns-clause-grows

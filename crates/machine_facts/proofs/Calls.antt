@@ -1,5 +1,5 @@
 -- A service call between two told states.
-use Rattle.std.proofs.Common.{◌≡◌, ◌≤◌, ◌⊎◌, inl, inr, ℕ, List, Option, Some, None, Ok, Err, sym, subst, ◌∙◌, arith}
+use Rattle.std.proofs.Common.{◌≡◌, ◌⊎◌, inl, inr, ℕ, List, Option, Some, None, Ok, Err, sym, subst, ◌∙◌, arith}
 use Rattle.db_base.specs.declared.names.ObjName.{ObjName}
 use Rattle.db_base.specs.declared.names.QueueName.{QueueName}
 use Rattle.db_base.specs.declared.trouble.Trouble.TheVariants as trouble
@@ -11,7 +11,7 @@ use Rattle.cloud_trait.specs.Ask.{Ask, PutHeld, Send, Permits, Lands}
 use Rattle.cloud_trait.specs.Caller.{Caller}
 use Rattle.cloud_trait.specs.Seen.{Seen}
 use Rattle.cloud_trait.specs.State.{CloudState, called}
-use Rattle.cloud_trait.specs.Weather.{Weather, FirstOver, Leaves, Makes}
+use Rattle.cloud_trait.specs.Weather.{FirstOver, Leaves, Makes}
 use Rattle.cloud_trait.proofs.RowLemmas.{lands_or_not}
 use Rattle.machine_facts.specs.Call.{IsCall}
 

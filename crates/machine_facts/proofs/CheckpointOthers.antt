@@ -1,7 +1,6 @@
 -- What a checkpoint knows survives the calls of others.
-use Rattle.std.proofs.Common.{◌≡◌, ◌≤◌, ◌<◌, ◌⊎◌, inl, inr, ℕ, List, [], ◌∷◌, ◌++◌, Option, refl, sym, ap, subst, ◌∙◌, arith}
+use Rattle.std.proofs.Common.{◌≡◌, ◌≤◌, ℕ, List, ◌++◌, Option, refl, sym, ap, ◌∙◌, arith}
 use Rattle.cloud_trait.specs.Claim.{Claim, Lasts}
-use Rattle.cloud_trait.specs.Growth.{BeginsWith}
 use Rattle.db_base.specs.Change.{key_of}
 use Rattle.db_base.specs.Cursor.{number_of}
 use Rattle.db_base.specs.Ids.{IsClient}
@@ -19,13 +18,12 @@ use Rattle.log_codec.proofs.PuLaws.{pu_of-some}
 use Rattle.log_codec.specs.declared.record.PuItem.{PuItem}
 use Rattle.log_codec.specs.declared.record.PuRec.{PuRec}
 use Rattle.store_book.specs.Messages.{IsMessage}
-use Rattle.store_book.specs.Records.{IsIn}
 use Rattle.store_book.specs.Tally.{Node, Leafy, Store}
 use Rattle.store_book.specs.Telling.{leaf_in, last_or}
 use Rattle.store_book.proofs.Places.{in_front, in_behind}
 use Rattle.machine_facts.specs.Checkpoint.{IsHeld, HasTree, HasPage, ReadRoot, RaisesFrom, RaisesRoot, IsCoveredBy, TookRun, HasRun, HasApplied, PutsApplied, PutsRaised, MayDelete, KnowsFoldingAt, KnowsFolding}
 use Rattle.machine_facts.specs.Opening.{of_option}
-use Rattle.machine_facts.specs.Others.{Passes, Others}
+use Rattle.machine_facts.specs.Others.{Others}
 use Rattle.machine_facts.proofs.Copies.{is_message_stays, item_stays}
 use Rattle.machine_facts.proofs.OpeningOthers.{in_option}
 

@@ -1,19 +1,15 @@
 -- What a commit knows survives the calls of others.
-use Rattle.std.proofs.Common.{◌≡◌, ◌≤◌, ◌<◌, ◌⊎◌, inl, inr, ℕ, List, [], ◌∷◌, refl, sym, ap, subst, ◌∙◌, arith}
-use Rattle.cloud_trait.specs.Claim.{Claim, Lasts}
-use Rattle.cloud_trait.specs.Growth.{BeginsWith}
-use Rattle.cloud_trait.specs.Upto.{posts_of}
+use Rattle.std.proofs.Common.{◌≡◌, ◌≤◌, ◌⊎◌, inl, inr, ℕ, List, [], ◌∷◌, refl, ap, ◌∙◌, arith}
+use Rattle.cloud_trait.specs.Claim.{Lasts}
 use Rattle.first_commit.specs.declared.commit.Stage.{Stage}
 use Rattle.first_commit.specs.declared.commit.Stage.TheVariants.{Ready, PuttingOpen, Sending, PuttingSettled, Finished}
 use Rattle.first_commit.specs.Commit.{Commit}
 use Rattle.head_codec.specs.declared.head.Head.{Head}
-use Rattle.left_facts.specs.Left.{IsCopied}
 use Rattle.log_codec.specs.declared.record.AtomicRec.{AtomicRec}
-use Rattle.store_book.specs.Records.{StandsAt, IsIn}
+use Rattle.store_book.specs.Records.{IsIn}
 use Rattle.store_book.specs.Tally.{Store}
-use Rattle.store_book.proofs.Places.{in_front}
-use Rattle.machine_facts.specs.Committing.{OpensBehind, IsOfOpened, HasOpened, AreSentOn, SettlesOpened, KnowsCommitAt, KnowsCommit}
-use Rattle.machine_facts.specs.Others.{WasSentOn, IsNewer, Passes, Others}
+use Rattle.machine_facts.specs.Committing.{IsOfOpened, HasOpened, AreSentOn, KnowsCommitAt, KnowsCommit}
+use Rattle.machine_facts.specs.Others.{IsNewer, Passes, Others}
 use Rattle.machine_facts.proofs.Copies.{copied_stays, log_stays}
 
 -- the records that were sent on stay so

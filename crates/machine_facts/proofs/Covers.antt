@@ -1,30 +1,27 @@
 -- What the put of a checkpoint's root, and its deletions, rest on.
-use Rattle.std.proofs.Common.{◌≡◌, ◌≢◌, ◌+◌, ◌-◌, ◌<◌, ◌≤◌, ◌==◌, ◌&&◌, ◌^◌, ◌⊎◌, inl, inr, max, ℕ, zero, suc, Bool, true, false, cond, List, [], ◌∷◌, Option, Some, None, refl, sym, ap, subst, ◌∙◌, arith}
+use Rattle.std.proofs.Common.{◌≡◌, ◌+◌, ◌-◌, ◌<◌, ◌≤◌, ◌==◌, ◌^◌, ◌⊎◌, inl, inr, max, ℕ, zero, suc, Bool, true, false, cond, List, [], ◌∷◌, Some, None, refl, sym, ap, subst, ◌∙◌, arith}
 use Rattle.std.specs.Prelude.{slice_get}
 use Rattle.std.specs.Str.{bytes_eq}
 use Rattle.std.proofs.lemmas.Bool.{and_parts, cases_lt, eqb-true}
 use Rattle.std.proofs.lemmas.Slice.Eq.{bytes_eq-Decides}
-use Rattle.chain_facts.specs.Landing.{LandsRoot}
-use Rattle.chain_facts.specs.Links.{first_link, link_of, top_of, NamesLinks, NamesBelow}
-use Rattle.cloud_trait.specs.State.{CloudState}
+use Rattle.chain_facts.specs.Links.{link_of, NamesBelow}
 use Rattle.cloud_trait.specs.declared.state.Posted.{Posted}
 use Rattle.db_base.specs.Change.{key_of}
 use Rattle.db_base.specs.Cursor.{number_of}
-use Rattle.db_base.specs.Ids.{IsClient, IsTree}
+use Rattle.db_base.specs.Ids.{IsClient}
 use Rattle.first_tree.specs.Folding.{is_first_alone, is_lone_root, next_root, raised_tree}
 use Rattle.log_codec.specs.Pu.{pu_of}
 use Rattle.log_codec.specs.declared.record.AtomicRec.{AtomicRec}
 use Rattle.log_codec.specs.declared.record.PuItem.{PuItem}
 use Rattle.log_codec.specs.declared.record.PuRec.{PuRec}
 use Rattle.node_codec.proofs.SpellingLaws.{number_of-raised}
-use Rattle.node_codec.specs.Inner.{first_low_of}
 use Rattle.node_codec.specs.Node.{Entry as Child, raised}
 use Rattle.node_codec.specs.Tree.{Tree}
 use Rattle.number_facts.specs.Numbers.{Numbers}
 use Rattle.number_facts.proofs.Known.{record_is}
 use Rattle.number_facts.proofs.Runs.{item_client, item_number, item_key, item_within}
 use Rattle.run_cursor.specs.Run.{IsRun}
-use Rattle.store_book.specs.Book.{Book, Link}
+use Rattle.store_book.specs.Book.{Book}
 use Rattle.store_book.specs.Messages.{IsMessage}
 use Rattle.store_book.specs.Premises.{IsItemOf, CoversApplied, MarksPost}
 use Rattle.store_book.specs.Records.{IsIn, key_in, count_of, IsApplied}

@@ -1,5 +1,5 @@
 -- The ATOMIC messages that a commit would have sent before its head opens.
-use Rattle.std.proofs.Common.{◌≡◌, ◌≤◌, ◌<◌, ◌+◌, ◌⊎◌, inl, inr, ℕ, zero, suc, false, List, [], ◌∷◌, ◌++◌, length, Some, refl, sym, ap, subst, ◌∙◌, append_assoc, arith}
+use Rattle.std.proofs.Common.{◌≡◌, ◌≤◌, ◌+◌, ◌⊎◌, inl, inr, ℕ, zero, false, List, [], ◌∷◌, ◌++◌, length, Some, refl, sym, ap, subst, ◌∙◌, append_assoc, arith}
 use Rattle.std.specs.Prelude.{slice_get}
 use Rattle.std.proofs.lemmas.List.{append-nil, map-append}
 use Rattle.cloud_trait.specs.Ask.{Send}
@@ -14,7 +14,7 @@ use Rattle.landing_facts.specs.Holding.{Holds}
 use Rattle.landing_facts.specs.Landing.{logs as sends}
 use Rattle.landing_facts.proofs.LandingLemmas.{landing_keeps}
 use Rattle.left_facts.proofs.MessageLemmas.{IsLast, log_cases, logged_more}
-use Rattle.log_codec.specs.Atomic.{IsAtomicRecord, atomic_bytes, atomic_of}
+use Rattle.log_codec.specs.Atomic.{IsAtomicRecord, atomic_bytes}
 use Rattle.log_codec.specs.declared.record.AtomicRec.{AtomicRec}
 use Rattle.log_codec.proofs.AtomicLaws.{atomic_of-bytes}
 use Rattle.report_types.specs.declared.entry.Entry.{Entry}
@@ -23,9 +23,9 @@ use Rattle.store_book.specs.Effects.{after_logged}
 use Rattle.store_book.specs.Messages.{IsLogMessage, WaitsLogged}
 use Rattle.store_book.specs.Premises.{Logs}
 use Rattle.store_book.specs.Records.{StandsAt, IsIn}
-use Rattle.store_book.specs.Tally.{Store, at}
+use Rattle.store_book.specs.Tally.{at}
 use Rattle.store_book.proofs.Names.{at_by, at_same}
-use Rattle.store_book.proofs.Places.{get_front, get_behind, get_single, get_within, in_either, in_front, in_behind, in_none}
+use Rattle.store_book.proofs.Places.{get_front, get_behind, get_single, get_within, in_either, in_front, in_behind}
 use Rattle.machine_facts.specs.Beside.{Logged, beside}
 use Rattle.machine_facts.proofs.Copies.{begins_on}
 

@@ -1,5 +1,5 @@
 -- Every call that lands keeps what holds of a cloud beside messages.
-use Rattle.std.proofs.Common.{◌≡◌, ℕ, false, List, [], refl, sym, subst}
+use Rattle.std.proofs.Common.{◌≡◌, ℕ, false, List, [], sym, subst}
 use Rattle.db_base.specs.Ids.{IsTree}
 use Rattle.db_base.specs.declared.names.ObjName.TheVariants as object
 use Rattle.db_base.specs.declared.names.QueueName.TheVariants.{Atomic}

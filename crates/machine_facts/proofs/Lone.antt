@@ -1,5 +1,5 @@
 -- Trees of one leaf.
-use Rattle.std.proofs.Common.{◌≡◌, ◌<◌, ℕ, zero, List, [], ◌∷◌, Option, Some, None, refl, sym, ap, subst, ◌∙◌, arith}
+use Rattle.std.proofs.Common.{◌≡◌, ℕ, zero, List, Option, Some, None, refl, ap, subst, arith}
 use Rattle.std.specs.Prelude.{slice_get}
 use Rattle.cloud_trait.specs.State.{CloudState, newest}
 use Rattle.db_base.specs.Ids.{IsTree}
@@ -10,8 +10,7 @@ use Rattle.chain_facts.proofs.Newest.{newest_is}
 use Rattle.decoding_facts.specs.Kinds.{IsNode}
 use Rattle.decoding_facts.proofs.Reading.{leaf_only}
 use Rattle.decoding_facts.proofs.Values.{newest_page_decodes}
-use Rattle.leaf_view.specs.Leaf.{Leaf, IsLeaf}
-use Rattle.leaf_view.specs.Lookup.{empty_leaf}
+use Rattle.leaf_view.specs.Leaf.{Leaf}
 use Rattle.lease_facts.specs.Guards.{guard_of_leaf, guard_of_page, guard}
 use Rattle.report_types.specs.declared.entry.Entry.{Entry}
 use Rattle.store_book.specs.Book.{Book, Link}

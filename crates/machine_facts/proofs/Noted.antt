@@ -1,6 +1,5 @@
 -- Changes that may be committed.
-use Rattle.std.proofs.Common.{◌≡◌, ◌≤◌, ℕ, Bool, true, false, cond, List, [], ◌∷◌, length, zero, suc, Option, Some, None, refl, sym, ap, subst, ◌∙◌, arith}
-use Rattle.std.specs.Prelude.{slice_get}
+use Rattle.std.proofs.Common.{◌≡◌, ◌≤◌, ℕ, Bool, true, false, cond, List, [], ◌∷◌, length, zero, suc, refl, subst, arith}
 use Rattle.db_base.specs.Change.{key_of, net, IsChange}
 use Rattle.db_base.specs.Ids.{IsTree}
 use Rattle.db_base.specs.declared.change.Change.{Change}

@@ -1,41 +1,37 @@
 -- What the put that commits rests on.
-use Rattle.std.proofs.Common.{◌≡◌, ◌≢◌, ◌<◌, ◌≤◌, ◌+◌, ◌^◌, ◌⊎◌, inl, inr, ℕ, zero, suc, Bool, true, false, cond, List, [], ◌∷◌, ◌++◌, length, map, take, replicate, count_by, Option, Some, None, refl, sym, ap, subst, ◌∙◌, arith}
-use Rattle.std.specs.Prelude.{slice_get, ◌&&◌, nat_eq}
+use Rattle.std.proofs.Common.{◌≡◌, ◌<◌, ◌≤◌, ◌+◌, ◌^◌, inl, ℕ, zero, suc, Bool, true, false, cond, List, [], ◌∷◌, ◌++◌, length, map, take, replicate, count_by, Some, None, refl, sym, ap, subst, ◌∙◌, arith}
+use Rattle.std.specs.Prelude.{slice_get, nat_eq}
 use Rattle.std.specs.Str.{bytes_eq}
 use Rattle.std.proofs.lemmas.Bool.{and_from, eq-eqb}
-use Rattle.std.proofs.lemmas.List.{length-replicate}
 use Rattle.std.proofs.lemmas.Option.{get_or_from_slice_get}
 use Rattle.std.proofs.lemmas.Slice.Eq.{bytes_eq-Decides}
 use Rattle.change_codec.specs.Change.{IsChange as IsSpelledChange}
 use Rattle.db_base.specs.Change.{key_of, IsChange}
-use Rattle.db_base.specs.Ids.{IsClient, IsTree}
+use Rattle.db_base.specs.Ids.{IsClient}
 use Rattle.db_base.specs.declared.change.Change.{Change}
 use Rattle.db_base.specs.declared.change.Change.TheVariants.{Insert, Update, Delete}
-use Rattle.head_codec.specs.Spelling.{HasSpelling, FitsTypes, head_of}
-use Rattle.head_codec.proofs.HeadLaws.{head_of-some}
+use Rattle.head_codec.specs.Spelling.{HasSpelling, FitsTypes}
 use Rattle.head_codec.specs.declared.head.Head.{Head}
-use Rattle.head_codec.specs.declared.head.Phase.TheVariants.{Settled, Open}
-use Rattle.head_codec.specs.declared.lists.Pending.{Pending}
+use Rattle.head_codec.specs.declared.head.Phase.TheVariants.{Settled}
 use Rattle.history.specs.Audited.{committed_entry}
 use Rattle.log_codec.specs.Atomic.{IsAtomicRecord}
 use Rattle.log_codec.specs.declared.record.AtomicRec.{AtomicRec}
 use Rattle.number_facts.specs.Numbers.{Numbers}
 use Rattle.pending_facts.specs.Pending.{HeadPends}
-use Rattle.report_types.specs.declared.entry.Entry.{Entry}
 use Rattle.route_plan.specs.Heads.{opened_head}
-use Rattle.route_plan.specs.Queue.{number_of_queue, queue_of}
+use Rattle.route_plan.specs.Queue.{number_of_queue}
 use Rattle.route_plan.specs.Route.{goes_to, record_behind, routed, routed_behind, AllFit}
 use Rattle.route_plan.proofs.CommitLaws.{number_of_queue-opened_head}
 use Rattle.store_book.specs.Messages.{IsLogMessage, WaitsLogged}
-use Rattle.store_book.specs.Premises.{IsRecordAt, IsLeafAtMost, IsRouted, Opens}
-use Rattle.store_book.specs.Records.{StandsAt, IsIn, key_in, count_of, entry_of}
+use Rattle.store_book.specs.Premises.{IsRecordAt, Opens}
+use Rattle.store_book.specs.Records.{StandsAt, IsIn, key_in, entry_of}
 use Rattle.store_book.specs.Tally.{Store}
 use Rattle.store_book.proofs.Places.{get_within}
 use Rattle.txn_buffer.specs.Noted.{Noted, is_of, found_in, AreDistinct}
 use Rattle.machine_facts.specs.Beside.{IsLone}
 use Rattle.machine_facts.specs.Committing.{MayCommit}
 use Rattle.machine_facts.proofs.Ghosts.{IsOfTransaction}
-use Rattle.machine_facts.proofs.Routing.{records, count_is, IsOfChange, record_at, sticky, goes, page_small}
+use Rattle.machine_facts.proofs.Routing.{records, count_is, record_at, sticky, goes, page_small}
 
 -- ---- distinct changes
 

@@ -1,6 +1,6 @@
 -- What an opening and an open client know survives the calls of others.
-use Rattle.std.proofs.Common.{◌≡◌, ◌≤◌, ℕ, zero, List, Option, Some, refl, sym, ap, subst, ◌∙◌, arith}
-use Rattle.cloud_trait.specs.Claim.{Claim, Lasts}
+use Rattle.std.proofs.Common.{◌≡◌, ◌≤◌, ℕ, zero, List, Option, Some, refl, sym, subst, ◌∙◌, arith}
+use Rattle.cloud_trait.specs.Claim.{Claim}
 use Rattle.first_recover.specs.declared.home.Home.{Home}
 use Rattle.first_recover.specs.declared.recover.Stage.{Stage}
 use Rattle.first_recover.specs.declared.recover.Stage.TheVariants.{Taking, Getting, Putting, Releasing, Finished}

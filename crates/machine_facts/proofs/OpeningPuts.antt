@@ -1,5 +1,5 @@
 -- What the put of an opening rests on.
-use Rattle.std.proofs.Common.{◌≡◌, ◌+◌, inl, inr, ℕ, List, true, refl, sym, ap, subst, ◌∙◌}
+use Rattle.std.proofs.Common.{◌≡◌, ◌+◌, inl, inr, ℕ, true, sym, ap, subst, ◌∙◌}
 use Rattle.db_base.specs.Ids.{IsClient}
 use Rattle.head_codec.specs.Head.{next_head}
 use Rattle.head_codec.specs.declared.head.Head.{Head}

@@ -1,9 +1,9 @@
 -- The items of received messages, and the runs of them.
-use Rattle.std.proofs.Common.{◌≡◌, ◌≢◌, ◌+◌, ◌-◌, ◌<◌, ◌≤◌, ◌==◌, ◌&&◌, ◌||◌, ◌⊎◌, inl, inr, ℕ, zero, suc, Bool, true, false, cond, max, eqb, eqb-true, List, [], ◌∷◌, ◌++◌, length, map, filter, count_by, Option, Some, None, Result, Ok, Err, refl, sym, ap, subst, ◌∙◌, arith}
-use Rattle.std.specs.Prelude.{slice_get, find, All, nat_le}
-use Rattle.std.specs.List.{AllByRecursion, list_any}
+use Rattle.std.proofs.Common.{◌≡◌, ◌+◌, ◌-◌, ◌<◌, ◌≤◌, ◌==◌, ◌⊎◌, inl, inr, ℕ, zero, suc, Bool, true, false, cond, max, eqb, eqb-true, List, [], ◌∷◌, ◌++◌, map, filter, Option, Some, None, Result, Ok, Err, refl, sym, ap, subst, ◌∙◌, arith}
+use Rattle.std.specs.Prelude.{slice_get, All}
+use Rattle.std.specs.List.{AllByRecursion}
 use Rattle.std.specs.Option.{option_map}
-use Rattle.std.proofs.lemmas.Bool.{and_parts, and_from, cases_lt, eq-eqb, leb-true}
+use Rattle.std.proofs.lemmas.Bool.{and_parts, cases_lt, eq-eqb, leb-true}
 use Rattle.std.proofs.lemmas.Option.{get_or_from_slice_get}
 use Rattle.cloud_trait.specs.Delivery.{WasSent}
 use Rattle.cloud_trait.specs.State.{message_at}
@@ -22,7 +22,6 @@ use Rattle.number_facts.proofs.Runs.{counted_there, greatest_upto}
 use Rattle.route_plan.specs.Record.{pu_record_of}
 use Rattle.run_cursor.specs.Covered.{is_covered, is_seen, new_ones, covered_ids}
 use Rattle.run_cursor.specs.Run.{is_at, first_at, IsWithin, IsRun}
-use Rattle.store_book.specs.Messages.{HasCopy, IsMessage}
 use Rattle.store_book.specs.Premises.{IsItemOf, IsConsecutive}
 use Rattle.store_book.specs.Records.{IsIn}
 use Rattle.store_book.specs.Tally.{Store}

@@ -1,5 +1,5 @@
 -- What is told of objects that are absent.
-use Rattle.std.proofs.Common.{◌≡◌, ◌⊎◌, inl, inr, ℕ, List, [], map, Option, Some, None, refl, sym, ap, subst, ◌∙◌}
+use Rattle.std.proofs.Common.{◌≡◌, ◌⊎◌, inl, inr, ℕ, List, [], map, Option, Some, None, sym, ap, ◌∙◌}
 use Rattle.std.specs.Option.{option_map}
 use Rattle.cloud_trait.specs.State.{CloudState, newest, newest_of}
 use Rattle.cloud_trait.specs.declared.state.Version.{Version}

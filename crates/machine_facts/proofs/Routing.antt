@@ -1,14 +1,13 @@
 -- The records of a commit.
-use Rattle.std.proofs.Common.{◌≡◌, ◌≢◌, ◌<◌, ◌≤◌, ◌+◌, ◌^◌, ◌⊎◌, inl, inr, ◌==◌, ◌&&◌, ℕ, zero, suc, Bool, true, false, cond, List, [], ◌∷◌, ◌++◌, length, map, take, replicate, reverse, count_by, Option, Some, None, refl, sym, ap, subst, ◌∙◌, arith}
-use Rattle.std.specs.Prelude.{slice_get, find}
+use Rattle.std.proofs.Common.{◌≡◌, ◌<◌, ◌≤◌, ◌⊎◌, inl, inr, ◌==◌, ℕ, zero, suc, true, false, List, [], ◌∷◌, length, take, replicate, reverse, Option, Some, None, refl, sym, ap, subst, ◌∙◌, arith}
+use Rattle.std.specs.Prelude.{slice_get}
 use Rattle.std.specs.Option.{option_map_or}
-use Rattle.std.proofs.lemmas.Bool.{and_parts, and_from, eqb-true, eq-eqb, cases_eq}
+use Rattle.std.proofs.lemmas.Bool.{and_parts, and_from, eqb-true, eq-eqb}
 use Rattle.std.proofs.lemmas.List.{length-replicate}
 use Rattle.std.proofs.lemmas.Slice.Eq.{bytes_eq-Decides}
 use Rattle.std.specs.Str.{bytes_eq}
 use Rattle.byte_format.specs.Order.{bytes_below}
 use Rattle.db_base.specs.Change.{key_of}
-use Rattle.db_base.specs.Ids.{IsClient, IsTree}
 use Rattle.db_base.specs.declared.change.Change.{Change}
 use Rattle.db_base.specs.declared.change.Change.TheVariants.{Insert, Update, Delete}
 use Rattle.head_codec.specs.declared.head.Head.{Head}
@@ -16,14 +15,14 @@ use Rattle.head_codec.specs.declared.lists.Pending.{Pending}
 use Rattle.log_codec.specs.declared.record.AtomicRec.{AtomicRec}
 use Rattle.node_codec.proofs.NodeLemmas.{not_below_empty}
 use Rattle.number_facts.specs.Numbers.{Numbers}
-use Rattle.pending_facts.specs.Pending.{HeadPends, IsOfKey}
-use Rattle.route_plan.specs.Queue.{number_of_queue, is_pending_of, last_pending, first_queue, queue_of}
+use Rattle.pending_facts.specs.Pending.{HeadPends}
+use Rattle.route_plan.specs.Queue.{is_pending_of, last_pending, first_queue, queue_of}
 use Rattle.route_plan.specs.Record.{pending_of}
-use Rattle.route_plan.specs.Route.{goes_to, record_behind, routed}
+use Rattle.route_plan.specs.Route.{record_behind, routed}
 use Rattle.route_plan.proofs.CommitLaws.{routed_behind-at, length-routed}
 use Rattle.store_book.specs.Book.{Book, Link}
 use Rattle.store_book.specs.Premises.{IsLeafAtMost, IsRouted}
-use Rattle.store_book.specs.Records.{StandsAt, IsIn, key_in}
+use Rattle.store_book.specs.Records.{StandsAt, IsIn}
 use Rattle.store_book.specs.Tally.{Store}
 use Rattle.chain_facts.specs.Links.{first_link}
 use Rattle.txn_buffer.specs.Noted.{Noted}

@@ -1,13 +1,11 @@
 -- What the put that settles, and a send to a queue, rest on.
-use Rattle.std.proofs.Common.{◌≡◌, ◌<◌, ◌≤◌, ◌+◌, ◌⊎◌, inl, inr, ℕ, zero, suc, true, false, List, [], ◌∷◌, ◌++◌, length, map, Some, refl, sym, ap, subst, ◌∙◌, arith}
-use Rattle.std.specs.Prelude.{slice_get, ◌==◌, cond}
+use Rattle.std.proofs.Common.{◌≡◌, ◌+◌, ◌⊎◌, inl, inr, ℕ, zero, suc, true, List, [], ◌∷◌, ◌++◌, length, map, Some, refl, sym, ap, subst, ◌∙◌, arith}
+use Rattle.std.specs.Prelude.{◌==◌, cond}
 use Rattle.std.proofs.lemmas.Bool.{and_from, eq-eqb, ne_eqb}
-use Rattle.cloud_trait.specs.Ask.{Send}
 use Rattle.cloud_trait.specs.Caller.{Caller}
 use Rattle.cloud_trait.specs.Claim.{Lasts}
 use Rattle.cloud_trait.specs.declared.state.Posted.{Posted}
 use Rattle.db_base.specs.Ids.{IsClient}
-use Rattle.db_base.specs.declared.names.QueueName.{QueueName}
 use Rattle.db_base.specs.declared.names.QueueName.TheVariants.{TreePu, PagePu}
 use Rattle.first_commit.specs.Commit.{Commit}
 use Rattle.head_codec.specs.declared.head.Head.{Head}
@@ -17,18 +15,17 @@ use Rattle.left_facts.specs.Left.{IsCopied, IsWaiting}
 use Rattle.log_codec.specs.Pu.{pu_of}
 use Rattle.log_codec.specs.declared.record.AtomicRec.{AtomicRec}
 use Rattle.number_facts.proofs.Ways.{is_way, open_way, way_epoch, way_txn}
-use Rattle.route_plan.specs.Heads.{settled_head}
 use Rattle.route_plan.specs.Queue.{number_of_queue, queue_name}
 use Rattle.route_plan.specs.Record.{pu_record_of, pending_of}
 use Rattle.store_book.specs.Effects.{after_posted}
 use Rattle.store_book.specs.Messages.{HasCopy, Waits, IsMessage}
 use Rattle.store_book.specs.Premises.{Settles, Posts}
-use Rattle.store_book.specs.Records.{StandsAt, IsIn, IsApplied, IsUnderWay, is_open}
+use Rattle.store_book.specs.Records.{IsIn, IsUnderWay, is_open}
 use Rattle.store_book.specs.Tally.{Store, at2}
 use Rattle.store_book.specs.Telling.{queue_of}
 use Rattle.store_book.proofs.Places.{get_behind, get_map, get_within, in_either, in_front, in_behind}
 use Rattle.left_facts.proofs.MessageLemmas.{copy_of_waits}
-use Rattle.machine_facts.specs.Committing.{IsOfOpened, HasOpened, AreSentOn, SettlesOpened}
+use Rattle.machine_facts.specs.Committing.{IsOfOpened, SettlesOpened}
 use Rattle.machine_facts.specs.Others.{WasSentOn}
 
 -- ---- the put that settles

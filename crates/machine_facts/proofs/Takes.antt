@@ -1,8 +1,7 @@
 -- What the put of a checkpoint's leaf rests on.
-use Rattle.std.proofs.Common.{◌≡◌, ◌≢◌, ◌+◌, ◌<◌, ◌≤◌, ◌⊎◌, inl, inr, ℕ, zero, suc, Bool, true, false, cond, List, [], ◌∷◌, ◌++◌, map, filter, max, Option, Some, None, refl, sym, ap, subst, ◌∙◌, arith}
+use Rattle.std.proofs.Common.{◌≡◌, ◌+◌, ◌<◌, ◌≤◌, ◌⊎◌, inl, inr, ℕ, zero, suc, Bool, true, false, cond, List, [], ◌∷◌, filter, max, Some, refl, sym, ap, subst, ◌∙◌, arith}
 use Rattle.std.specs.Prelude.{slice_get, ◌==◌, ◌&&◌, nat_lt}
 use Rattle.std.proofs.lemmas.Bool.{and_from, eq-eqb, ltb-false}
-use Rattle.std.specs.List.{AllByRecursion}
 use Rattle.byte_format.specs.Order.{bytes_below}
 use Rattle.db_base.specs.Change.{key_of}
 use Rattle.db_base.specs.Cursor.{number_of}
@@ -25,14 +24,13 @@ use Rattle.log_codec.specs.declared.record.PuItem.{PuItem}
 use Rattle.report_types.specs.declared.entry.Entry.{Entry}
 use Rattle.run_cursor.specs.Run.{IsRun}
 use Rattle.store_book.specs.Book.{Book, Link, first_leaf, with_pieces}
-use Rattle.store_book.specs.Effects.{Taking, is_lacking, lacking, done_after, after_leaf}
+use Rattle.store_book.specs.Effects.{Taking, is_lacking, lacking, after_leaf}
 use Rattle.store_book.specs.Premises.{IsItemOf, Ranges, Takes}
 use Rattle.store_book.specs.Records.{StandsAt, IsIn}
-use Rattle.store_book.specs.Tally.{Store, at2}
+use Rattle.store_book.specs.Tally.{Store}
 use Rattle.store_book.specs.Telling.{page_from, page_for, nodes_of, roots_of, newest_leaf, newest_root, tally_of}
 use Rattle.store_book.proofs.Names.{at2_by}
 use Rattle.telling_facts.specs.Taking.{AreClients, taking_of, IsLinked, LandsTaken}
-use Rattle.telling_facts.specs.Told.{store_of}
 use Rattle.telling_facts.proofs.Laws.{whole_taken, taken_lands, taken_ranges, taken_table}
 use Rattle.machine_facts.specs.Beside.{Logged, beside, StandsBeside, IsLone}
 use Rattle.machine_facts.proofs.Lone.{first_linked}

@@ -20,7 +20,7 @@ use Rattle.run_cursor.specs.Run.{Taken, IsRun}
 use Rattle.store_book.specs.Messages.{IsMessage}
 use Rattle.store_book.specs.Premises.{IsItemOf}
 use Rattle.store_book.specs.Records.{IsIn}
-use Rattle.store_book.specs.Tally.{Tally, Store}
+use Rattle.store_book.specs.Tally.{Store}
 use Rattle.store_book.specs.Telling.{newest_leaf}
 
 -- ---- leases

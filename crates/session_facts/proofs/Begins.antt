@@ -100,8 +100,7 @@ module _ (st : Store) (now : ℕ) where
       end_is : {c d : Commit} {a b : CommitAnswer} → Ends c a ≡ Ends d b → c ≡ d
       end_is {c} {d} {a} {b} e = cc
   ended_knows home changes c a k (inr (inl full)) =
-      let same : c ≡ finished (record (new_commit home changes) { home = with_attempt home }) = end_is full.is in
-      (
+      let same : c ≡ finished (record (new_commit home changes) { home = with_attempt home }) = end_is full.is in (
         subst (λ (d : Commit). KnowsHome st now d.home) (sym same)
             (record { client = k.client; lock = k.lock; attempt = let b = k.attempt in omega (arith, b); settled = k.settled; newest = k.newest }),
         ap (λ (d : Commit). d.home.lease) same,

@@ -232,8 +232,7 @@ module _ (who : Caller) (s t : CloudState) (home : Home) (f : Folding) (work : W
       on (inr none) = absurd (in_none [] x refl none)
       on (inl there) =
           let only : IsIn (h.lease ∷ []) x = subst (λ (o : Option Claim). IsIn (of_option o) x) h.is there in
-          let same : h.lease ≡ x = get_single h.lease only.0 x only.1 in
-          (
+          let same : h.lease ≡ x = get_single h.lease only.0 x only.1 in (
             in_front (of_option f.tree_lease) (of_option f.page_lease) x there,
             λ e. tree_no_page f.tree f.tree 1 (sym h.lock_is ∙ (ap (λ (c : Claim). c.lock) same ∙ (e ∙ p.lock_is))),
           )

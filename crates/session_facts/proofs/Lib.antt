@@ -10,3 +10,4 @@ pub mod CheckpointNexts
 pub mod CheckpointLemmas
 pub mod CheckpointHands
 pub mod Calling
+pub mod HeadPuts

@@ -3,22 +3,13 @@ use Rattle.std.proofs.Common.{◌≡◌, ◌+◌, ℕ, List, [], ◌∷◌, ◌+
 use Rattle.std.specs.Prelude.{slice_get, ◌==◌}
 use Rattle.std.proofs.lemmas.List.{append_assoc}
 use Rattle.std.proofs.lemmas.List.Elements.{filter-append}
-use Rattle.db_base.specs.declared.names.ObjName.TheVariants as object
-use Rattle.cloud_trait.specs.Ask.{Ask, Get, GetHeld, PutHeld, Send, Receive, Delete, Take, Renew, Release}
 use Rattle.cloud_trait.specs.Growth.{BeginsWith}
-use Rattle.cloud_trait.proofs.EffectLemmas.{begins_itself, begins_same}
-use Rattle.head_codec.specs.declared.head.Head.{Head}
 use Rattle.history.specs.Fold.{of_tree}
 use Rattle.report_types.specs.declared.entry.Entry.{Entry}
 use Rattle.reply_text.specs.declared.reply.Reply.{Reply}
 use Rattle.reply_text.specs.declared.reply.Reply.TheVariants as reply
-use Rattle.txn_buffer.specs.Noted.{Noted}
-use Rattle.client_session.specs.declared.session.Work.{Work}
-use Rattle.client_session.specs.Session.{ask_of_work, committing_of, opens_of, applying_of}
-use Rattle.history.specs.Audited.{Audited, applied_entry}
-use Rattle.record_facts.proofs.Places.{get_cases, get_single}
+use Rattle.replay_model.proofs.Lists.{get_cases, get_single}
 use Rattle.replay_meaning.specs.Standing.{Line}
-use Rattle.replay_model.specs.Noting.{Newest, noted_head, noted_at, noted_in_hand, noted_by, has_landed, audited}
 use Rattle.replay_model.specs.Facts.{IsFrontOf, Reported}
 
 -- an order that goes on begins where the reported one does
@@ -40,34 +31,3 @@ reported_line lines line order all front k other at = on (get_cases lines (line 
     on : (slice_get lines k ≡ Some other) ⊎ ((j : ℕ) × (k ≡ length lines + j) × (slice_get (line ∷ []) j ≡ Some other)) → IsFrontOf order other.reply
     on (inl h) = all k other h
     on (inr p) = subst (λ (l : Line). IsFrontOf order l.reply) (get_single line p.0 other p.2) front
-
--- ---- what the audit takes of a call
-
-head_order : (client : ℕ) (opened : Option Head) (changes : Option (List Noted)) (a : Audited) → (noted_head client opened changes a).order ≡ a.order
-head_order client (Some head) (Some changes) a = refl
-head_order client (Some head) None a = refl
-head_order client None changes a = refl
-
-noted_order : (w : Work) (ask : Ask) (a : Audited) → BeginsWith a.order (noted_at w ask a).order
-noted_order w (PutHeld (object.Head client) bytes one two) a = begins_same a.order _ (head_order client (opens_of w) (committing_of w) a)
-noted_order w (PutHeld (object.Page tree page) bytes one two) a = (map (applied_entry tree) (applying_of w), refl)
-noted_order w (PutHeld (object.Tree tree) bytes one two) a = begins_itself a.order
-noted_order w (Get name) a = begins_itself a.order
-noted_order w (GetHeld name k) a = begins_itself a.order
-noted_order w (Send queue bytes) a = begins_itself a.order
-noted_order w (Receive queue most) a = begins_itself a.order
-noted_order w (Delete queue id) a = begins_itself a.order
-noted_order w (Take k ticks) a = begins_itself a.order
-noted_order w (Renew k ticks) a = begins_itself a.order
-noted_order w (Release k) a = begins_itself a.order
-
-hand_order : (w : Work) (o : Option Ask) (a : Audited) → BeginsWith a.order (noted_in_hand w o a).order
-hand_order w (Some ask) a = noted_order w ask a
-hand_order w None a = begins_itself a.order
-
-pub audited_grows : (before after : Newest) (w : Work) (a : Audited) → BeginsWith a.order (audited before after w a).order
-audited_grows before after w a = on (has_landed before after (ask_of_work w))
-  where
-    on : (b : Bool) → BeginsWith a.order (cond b (noted_by w a) a).order
-    on true = hand_order w (ask_of_work w) a
-    on false = begins_itself a.order

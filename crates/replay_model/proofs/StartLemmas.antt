@@ -1,28 +1,35 @@
 -- What stands before the first line.
-use Rattle.std.proofs.Common.{◌≡◌, ℕ, [], None, refl, sym, ap, subst, arith}
-use Rattle.db_base.specs.declared.names.ObjName.{ObjName}
-use Rattle.cloud_trait.specs.State.{CloudState, IsEmptyCloud, newest, newest_of}
-use Rattle.client_session.specs.Session.{closed_session}
-use Rattle.record_facts.proofs.EmptyRecords.{empty_holds}
-use Rattle.replay_model.specs.Noting.{Newest}
-use Rattle.replay_model.specs.Facts.{TreeStands, Stands}
-use Rattle.replay_model.proofs.TreeLemmas.{nothing_stands}
+use Rattle.std.proofs.Common.{◌≡◌, ℕ, zero, suc, List, [], refl, sym, subst, false}
+use Rattle.std.specs.Prelude.{replicate, slice_get, unwrap_or}
+use Rattle.cloud_trait.specs.State.{CloudState, IsEmptyCloud}
+use Rattle.client_session.specs.Session.{Acting, closed_session}
+use Rattle.store_book.specs.Book.{empty_book}
+use Rattle.replay_meaning.specs.Standing.{unnamed}
+use Rattle.session_facts.proofs.Laws.{starts}
+use Rattle.replay_model.specs.Facts.{session_at, ActsAs, Stands}
 use Rattle.replay_model.proofs.CommittedLemmas.{empty_committed, empty_placed, empty_upto}
+use Rattle.replay_model.proofs.LineLemmas.{holds_same}
 
--- of an empty cloud no object has a newest version
-none_newest : (t : CloudState) → IsEmptyCloud t → newest t ≡ (λ (name : ObjName). None)
-none_newest t empty = λ i name. ap newest_of (empty.versions name) i
+-- of closed sessions each is closed
+all_closed : (count place : ℕ) → unwrap_or (slice_get (replicate count closed_session) place) closed_session ≡ closed_session
+all_closed zero place = refl
+all_closed (suc count) zero = refl
+all_closed (suc count) (suc place) = all_closed count place
 
--- over an empty cloud a closed session and an empty audit stand for no lines
-pub nothing_stands_yet : (t : CloudState) → IsEmptyCloud t → Stands [] closed_session (record { committed = []; order = [] }) t
-nothing_stands_yet t empty = record {
-  cloud = record {
-    trees = subst (λ (look : Newest). (tree : ℕ) → TreeStands look [] tree) (sym (none_newest t empty)) nothing_stands;
-    placed = empty_placed t empty;
-    upto = empty_upto t empty;
-    committed = sym (empty_committed [] t empty);
-  };
-  session = record { knows = tt; acts = record { buffer = refl; work = refl } };
-  reported = λ k line at. absurd (cc);
-  records = record { hold = empty_holds t empty; known = tt; buffer = record { distinct = tt; plain = λ k d low. absurd (omega arith) } };
+pub closed_at : (count n : ℕ) → session_at (replicate count closed_session) n ≡ closed_session
+closed_at count zero = refl
+closed_at count (suc place) = all_closed count place
+
+-- over an empty cloud closed sessions and an empty audit stand for no lines
+pub nothing_stands_yet : (count : ℕ) (t : CloudState) → IsEmptyCloud t → Stands [] (session_at (replicate count closed_session)) (record { committed = []; order = [] }) false t
+nothing_stands_yet count t empty = record {
+  holds = holds_same _ [] (λ n. closed_session) (session_at (replicate count closed_session)) _ false t (closed_at count) (record {
+    book = empty_book;
+    order = [];
+    stand = starts t empty;
+    cloud = record { placed = empty_placed t empty; upto = empty_upto t empty; committed = sym (empty_committed [] t empty) };
+    seen = λ e. refl;
+    reported = λ k line at. absurd (cc);
+  });
+  acts = λ n. subst (λ (a : Acting). ActsAs a unnamed) (sym (closed_at count n)) (record { buffer = refl; work = refl });
 }

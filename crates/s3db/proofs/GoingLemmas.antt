@@ -1,11 +1,11 @@
 -- The lines of a replay, one after another.
 use Rattle.std.proofs.Common.{suc, ◌≡◌, ◌<◌, ◌≤◌, ◌+◌, ◌⊎◌, ℕ, List, [], ◌∷◌, ◌++◌, length, take, Option, Some, Result, Ok, Err, refl, sym, ap, subst, ◌∙◌, inl, inr, append_assoc, arith, length-append}
-use Rattle.std.specs.Prelude.{slice_get}
+use Rattle.std.specs.Prelude.{slice_get, replicate, false}
 use Rattle.std.proofs.lemmas.List.{append-nil, take-append-le, take_all, get_or_append_left}
 use Rattle.std.proofs.lemmas.Option.{slice_get_within, slice_get-get_or}
 use Rattle.std.proofs.lemmas.Bool.{cases_lt}
 use Rattle.client_session.specs.Session.{closed_session}
-use Rattle.cloud_trait.specs.State.{CloudState}
+use Rattle.cloud_trait.specs.State.{CloudState, IsEmptyCloud}
 use Rattle.cloud_trait.specs.Seen.{Seen}
 use Rattle.cloud_trait.specs.Upto.{upto, AgreeUpto, IsUpto}
 use Rattle.db_base.specs.declared.names.ObjName.{ObjName}
@@ -19,16 +19,16 @@ use Rattle.reply_text.specs.declared.reply.Reply.{Reply}
 use Rattle.reply_text.specs.declared.reply.Reply.TheVariants as reply
 use Rattle.replay_meaning.specs.Standing.{Line}
 use Rattle.replay_meaning.specs.Right.{ReportIsRight}
-use Rattle.replay_model.specs.Facts.{Stands}
+use Rattle.replay_model.specs.Facts.{session_at, Stands}
 use Rattle.replay_model.proofs.UptoRight.{right_same}
 use Rattle.replay_model.proofs.StartLemmas.{nothing_stands_yet}
 use Rattle.world_core.specs.declared.world.World.{World}
 use Rattle.world_core.specs.declared.world.WorldFault.{WorldFault}
 use Rattle.world_core.specs.declared.world.WorldFault.TheVariants as world
 use Rattle.world_core.specs.Handled.{Handled}
-use Rattle.world_core.specs.Stands.{StandsOn, Grows}
+use Rattle.world_core.specs.Stands.{WorldStands, StandsOn, Grows}
 use Rattle.s3db.specs.declared.replay.LineFault.{LineFault}
-use Rattle.s3db.specs.declared.replay.LineFault.TheVariants.{BadLine, WriteFault, Memory, CloudFault}
+use Rattle.s3db.specs.declared.replay.LineFault.TheVariants.{BadLine, WriteFault, Memory}
 use Rattle.s3db.specs.Replay.{WasWithin}
 use Rattle.s3db.specs.Answered.{IsNew, start, further, AreAnswered}
 use Rattle.s3db.specs.Replayed.{AreSpelled, reply_line, replies_from, replies, bad_line, ReportsAreRight, KeepsTheTheorem, WroteFront, reply_cut, refusal_cut, EndedBy, between, writing, handling, Ended, WentThrough, Handles, IsAt, IsAnswered, LineWent, event_handled, refused, unread}
@@ -109,8 +109,8 @@ reports_more lines line u v agree all so new k l at = on (cases_lt k (length lin
 
 -- what stood and was right stands and is right with one line more
 stands_more : (lines : List Line) (line : Line) (n : ℕ) (t z : Seen) (old new : World) → n ≡ 1 + length lines
-    → StandsOn n line.event t z old new (Ok line.reply) → Grows n t z → (u : CloudState) → t.state ≡ Some u → Stands lines old.session old.audit u → ReportsAreRight lines u
-    → (v : CloudState) × (z.state ≡ Some v) × Stands (lines ++ line ∷ []) new.session new.audit v × ReportsAreRight (lines ++ line ∷ []) v
+    → StandsOn n line.event t z old new (Ok line.reply) → Grows n t z → (u : CloudState) → t.state ≡ Some u → WorldStands lines old u → ReportsAreRight lines u
+    → (v : CloudState) × (z.state ≡ Some v) × WorldStands (lines ++ line ∷ []) new v × ReportsAreRight (lines ++ line ∷ []) v
 stands_more lines line n t z old new k on grows u told stands so =
     let f = on lines u (omega arith) told stands in
     let g = grows u told in
@@ -118,7 +118,7 @@ stands_more lines line n t z old new k on grows u told stands so =
     let is : g.0 ≡ f.after = cc in
     let agree : (j : ℕ) → j < length lines + 1 → AgreeUpto j u f.after = λ j less. subst (λ v. AgreeUpto j u v) is (g.2 j (omega arith)) in
     let m : length (lines ++ line ∷ []) ≡ length lines + 1 = omega (arith, length-append lines (line ∷ [])) in
-    let upto_all : IsUpto (length lines + 1) f.after = subst (λ m. IsUpto m f.after) m f.stands.cloud.upto in
+    let upto_all : IsUpto (length lines + 1) f.after = subst (λ m. IsUpto m f.after) m f.stands.holds.cloud.upto in
     (f.after, f.told, f.stands, reports_more lines line u f.after agree upto_all so f.right)
 
 -- the lines that were handled, with one more
@@ -137,6 +137,13 @@ lines_more texts text n w v u s t z first old new line count h spells a grows ad
       stands = λ x told empty. let o = h.stands x told empty in stands_more h.lines line n t z old new k a.stands grows o.0 o.1 o.2 o.3;
     }
 
+-- a new world stands for no lines over an empty cloud
+fresh_stands : (world : World) (t : CloudState) → IsNew world → IsEmptyCloud t → WorldStands [] world t
+fresh_stands world t fresh empty =
+    subst (λ b. Stands [] (session_at world.sessions) world.audit b t) (sym fresh.sees)
+    (subst (λ l. Stands [] (session_at l) world.audit false t) (sym fresh.sessions)
+    (subst (λ a. Stands [] (session_at (replicate 16 closed_session)) a false t) (sym fresh.audit) (nothing_stands_yet 16 t empty)))
+
 -- ---- the lines of a text
 
 pub at_start : (text : List ℕ) (w : Told) (s : Seen) (world : World) → IsNew world → IsAt text text 0 w w s s world world
@@ -152,7 +159,7 @@ at_start text w s world fresh = record {
     stands = λ t told empty. (
       t,
       told,
-      subst (λ x. Stands [] x world.audit t) (sym fresh.session) (subst (λ a. Stands [] closed_session a t) (sym fresh.audit) (nothing_stands_yet t empty)),
+      fresh_stands world t fresh empty,
       λ k line at. absurd (cc),
     );
   };
@@ -345,9 +352,6 @@ by_fault {text} {rest} {behind} {line} {n} {m} {w} {v} {s} {t} {z} {first} {old}
 by_fault {text} {rest} {behind} {line} {n} {m} {w} {v} {s} {t} {z} {first} {old} u new Memory met (unread e f same) =
     let h = met.is.handles in
     ends_before (Err Memory) u met (between (before_unmoved met f) (subst (λ x. Adds w x (replies h.lines)) (sym same) h.wrote))
-by_fault {text} {rest} {behind} {line} {n} {m} {w} {v} {s} {t} {z} {first} {old} u new CloudFault met (event_handled event spells p) = ends_before (Err CloudFault) u met (no_answer met u new event world.Cloud spells p.0 p.1)
-by_fault {text} {rest} {behind} {line} {n} {m} {w} {v} {s} {t} {z} {first} {old} u new CloudFault met (refused bad e p) = absurd p
-by_fault {text} {rest} {behind} {line} {n} {m} {w} {v} {s} {t} {z} {first} {old} u new CloudFault met (unread e f same) = absurd (cc)
 
 pub at_fault : (text rest behind line : List ℕ) (n m : ℕ) (w v u : Told) (s t z : Seen) (first old new : World) (fault : LineFault)
     → IsNew first → IsAt text rest n w v s t first old → lines_of rest ≡ line ∷ lines_of behind → m ≡ n + 1

@@ -1,5 +1,5 @@
 -- Lines that a world handles, one behind another.
-use Rattle.std.specs.Prelude.{◌≡◌, ◌+◌, List, [], ◌∷◌, ◌++◌, length, Ok, Err}
+use Rattle.std.specs.Prelude.{◌≡◌, ◌+◌, false, List, [], ◌∷◌, ◌++◌, length, replicate, Ok, Err}
 use Rattle.client_session.specs.Session.{closed_session}
 use Rattle.cloud_trait.specs.Seen.{Seen}
 use Rattle.event_text.specs.declared.event.Event.{Event}
@@ -8,10 +8,11 @@ use Rattle.world_core.specs.declared.world.World.{World}
 use Rattle.world_core.specs.declared.world.WorldFault.{WorldFault}
 use Rattle.world_core.specs.Handled.{Handled}
 
--- a world whose session is closed, and that saw nothing
+-- a world whose sessions are closed, and that saw nothing
 pub record IsNew (world : World) : Type 0 where
-  pub session : world.session ≡ closed_session
+  pub sessions : world.sessions ≡ replicate 16 closed_session
   pub audit : world.audit ≡ record { committed = []; order = [] }
+  pub sees : world.blind ≡ false
 
 -- these lines were handled one behind another: each did what its event asks for, and its reply is the reply to that
 pub data WentOn (before : Seen) (old : World) : List Line → Seen → World → Type 0 where

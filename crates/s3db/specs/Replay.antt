@@ -8,7 +8,7 @@ use Rattle.line_io.specs.Lines.{lines_of}
 use Rattle.s3db.specs.declared.status.Status.{Status}
 use Rattle.s3db.specs.declared.status.Status.TheVariants as status
 use Rattle.s3db.specs.declared.replay.LineFault.{LineFault}
-use Rattle.s3db.specs.declared.replay.LineFault.TheVariants.{BadLine, WriteFault, Memory, CloudFault}
+use Rattle.s3db.specs.declared.replay.LineFault.TheVariants.{BadLine, WriteFault, Memory}
 use Rattle.command_words.specs.Words.{shape_of}
 use Rattle.command_words.specs.declared.shape.Shape.TheVariants.{Replay}
 
@@ -48,7 +48,6 @@ status_of (Ok done) = status.Done
 status_of (Err BadLine) = status.BadLine
 status_of (Err WriteFault) = status.WriteFault
 status_of (Err Memory) = status.Memory
-status_of (Err CloudFault) = status.CloudFault
 
 -- a status that the lines of an input lead to
 abbrev pub IsOfLines : Status → Type 0
@@ -56,7 +55,6 @@ IsOfLines status.Done = Unit {0}
 IsOfLines status.BadLine = Unit {0}
 IsOfLines status.WriteFault = Unit {0}
 IsOfLines status.Memory = Unit {0}
-IsOfLines status.CloudFault = Unit {0}
 IsOfLines status.BadWords = ⊥
 IsOfLines status.ReadFault = ⊥
 IsOfLines status.TooLong = ⊥

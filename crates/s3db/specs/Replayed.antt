@@ -14,14 +14,13 @@ use Rattle.reply_text.specs.declared.reply.Reply.{Reply}
 use Rattle.reply_text.specs.Reply.{reply_text}
 use Rattle.replay_meaning.specs.Standing.{Line}
 use Rattle.replay_meaning.specs.Right.{ReportIsRight}
-use Rattle.replay_model.specs.Facts.{Stands}
 use Rattle.world_core.specs.declared.world.World.{World}
 use Rattle.world_core.specs.declared.world.WorldFault.{WorldFault}
 use Rattle.world_core.specs.declared.world.WorldFault.TheVariants as world
 use Rattle.world_core.specs.Handled.{Handled}
-use Rattle.world_core.specs.Stands.{StandsOn}
+use Rattle.world_core.specs.Stands.{WorldStands, StandsOn}
 use Rattle.s3db.specs.declared.replay.LineFault.{LineFault}
-use Rattle.s3db.specs.declared.replay.LineFault.TheVariants.{BadLine, WriteFault, Memory, CloudFault}
+use Rattle.s3db.specs.declared.replay.LineFault.TheVariants.{BadLine, WriteFault, Memory}
 use Rattle.s3db.specs.declared.status.Status.{Status}
 use Rattle.s3db.specs.declared.status.Status.TheVariants as status
 use Rattle.s3db.specs.Answered.{WentOn, AreAnswered, IsUnanswered}
@@ -102,7 +101,6 @@ Ended (Err BadLine) lines later written now_written start now =
     BeginsBad later × AreAnswered lines start now × Adds written now_written (replies lines ++ bad_line (length lines + 1))
 Ended (Err WriteFault) lines later written now_written start now = AreAnswered lines start now × WroteFront lines later written now_written
 Ended (Err Memory) lines later written now_written start now = RanOut lines later written now_written start now
-Ended (Err CloudFault) lines later written now_written start now = EndedBy world.Cloud lines later written now_written start now
 
 -- a text was handled line by line up to this end: the first lines of it spell the lines that were handled
 pub record WentThrough (text : List ℕ) (ended : Result (Unit {0}) LineFault) (written now_written : Told) (start now : Seen) : Type 0 where
@@ -123,7 +121,7 @@ pub record Handles (texts : List (List ℕ)) (written now_written : Told) (start
   pub wrote : Adds written now_written (replies lines)
   pub went : WentOn start first lines now world
   pub stands : (t : CloudState) → start.state ≡ Some t → IsEmptyCloud t
-      → (u : CloudState) × (now.state ≡ Some u) × Stands lines world.session world.audit u × ReportsAreRight lines u
+      → (u : CloudState) × (now.state ≡ Some u) × WorldStands lines world u × ReportsAreRight lines u
 
 -- so many lines of the text stand before the rest, and were handled
 pub record IsAt (text rest : List ℕ) (n : ℕ) (written now_written : Told) (start now : Seen) (first world : World) : Type 0 where
@@ -149,14 +147,12 @@ LineHandled (Err WriteFault) n event written now_written start now old new =
 LineHandled (Err Memory) n event written now_written start now old new =
     ((reply : Reply) × IsAnswered n event start now old new reply × AddsPrefix written now_written (reply_line n reply))
     ⊎ (Handled n event start now old new (Err world.Memory) × (now_written ≡ written))
-LineHandled (Err CloudFault) n event written now_written start now old new = Handled n event start now old new (Err world.Cloud) × (now_written ≡ written)
 
 -- what a line did whose text is in no grammar: nothing of it was handled, and its refusal is written, or a part of it
 abbrev pub LineRefused : Result (Unit {0}) LineFault → ℕ → Told → Told → Type 0
 LineRefused (Err BadLine) n written now_written = Adds written now_written (bad_line n)
 LineRefused (Err WriteFault) n written now_written = AddsPrefix written now_written (bad_line n)
 LineRefused (Err Memory) n written now_written = AddsPrefix written now_written (bad_line n)
-LineRefused (Err CloudFault) n written now_written = ⊥
 LineRefused (Ok done) n written now_written = ⊥
 
 -- what a line did: its event was handled, or it is in no grammar, or memory ran out before
@@ -185,7 +181,6 @@ abbrev pub WentBy : Status → List ℕ → Told → Told → Seen → Seen → 
 WentBy status.Done text written now_written start now = WentThrough text (Ok tt) written now_written start now
 WentBy status.BadLine text written now_written start now = WentThrough text (Err BadLine) written now_written start now
 WentBy status.WriteFault text written now_written start now = WentThrough text (Err WriteFault) written now_written start now
-WentBy status.CloudFault text written now_written start now = WentThrough text (Err CloudFault) written now_written start now
 WentBy status.Memory text written now_written start now = NothingRan written now_written start now ⊎ WentThrough text (Err Memory) written now_written start now
 WentBy status.BadWords text written now_written start now = ⊥
 WentBy status.ReadFault text written now_written start now = ⊥
@@ -196,7 +191,6 @@ abbrev pub Ran : Status → Told → Told → Told → Told → Seen → Seen �
 Ran status.Done left rest written now_written start now = ReadAndWent (Ok tt) left rest written now_written start now
 Ran status.BadLine left rest written now_written start now = ReadAndWent (Err BadLine) left rest written now_written start now
 Ran status.WriteFault left rest written now_written start now = ReadAndWent (Err WriteFault) left rest written now_written start now
-Ran status.CloudFault left rest written now_written start now = ReadAndWent (Err CloudFault) left rest written now_written start now
 Ran status.Memory left rest written now_written start now = NothingRan written now_written start now ⊎ ReadAndWent (Err Memory) left rest written now_written start now
 Ran status.BadWords left rest written now_written start now = NothingRan written now_written start now
 Ran status.ReadFault left rest written now_written start now = NothingRan written now_written start now

@@ -49,7 +49,6 @@ fn status_of(ended: Result<(), LineFault>) -> Status
         Err(LineFault::BadLine) => Status::BadLine,
         Err(LineFault::WriteFault) => Status::WriteFault,
         Err(LineFault::Memory) => Status::Memory,
-        Err(LineFault::CloudFault) => Status::CloudFault,
     }
 }
 
@@ -90,7 +89,6 @@ pub(crate) enum LineFault {
     BadLine,
     WriteFault,
     Memory,
-    CloudFault,
 }
 
 /// Handles one line, and writes its reply.
@@ -145,7 +143,6 @@ fn handle<O: Sink, C: Bench>(
             Err(OutputFault::WriteFault) => Err(LineFault::WriteFault),
             Err(OutputFault::Memory) => Err(LineFault::Memory),
         },
-        Err(WorldFault::Cloud) => Err(LineFault::CloudFault),
         Err(WorldFault::Memory) => Err(LineFault::Memory),
     }
 }

@@ -20,8 +20,6 @@ pub enum Status {
     TooLong,
     /// Memory ran out.
     Memory,
-    /// An operation met a trouble of the cloud, which has no reply yet.
-    CloudFault,
 }
 
 impl Status {
@@ -37,7 +35,6 @@ impl Status {
             Status::WriteFault => 4,
             Status::TooLong => 6,
             Status::Memory => 9,
-            Status::CloudFault => 10,
         }
     }
 }

@@ -1,26 +1,104 @@
 -- One more step of a world.
-use Rattle.std.proofs.Common.{◌≡◌, ◌<◌, Result, Ok, subst}
-use Rattle.db_base.specs.declared.refusal.Refused.{Refused}
+use Rattle.std.proofs.Common.{◌≡◌, ◌≢◌, ◌≤◌, ◌<◌, ◌-◌, ℕ, List, length, Option, Some, None, Result, Ok, refl, sym, ap, subst, ◌∙◌, ◌⊎◌, inl, inr, Bool, true}
+use Rattle.std.specs.Prelude.{slice_get, slice_set, unwrap_or}
+use Rattle.std.proofs.lemmas.List.{get_or-set_same, length-set}
+use Rattle.std.proofs.lemmas.Option.{slice_get_within, slice_get-get_or}
 use Rattle.cloud_trait.specs.Caller.{Caller}
 use Rattle.cloud_trait.specs.Seen.{Seen}
-use Rattle.cloud_trait.specs.declared.turn.Turn.{Turn}
 use Rattle.cloud_trait.specs.declared.turn.Turn.TheVariants.{More}
-use Rattle.client_session.specs.declared.session.Answer.{Answer}
-use Rattle.client_session.specs.Session.{StepsSession, calls_left}
+use Rattle.db_base.specs.declared.wish.Wish.{Wish}
+use Rattle.first_recover.specs.Recovery.{recovery_ask}
+use Rattle.first_commit.specs.Commit.{commit_ask}
+use Rattle.client_session.specs.declared.session.Work.{Work}
+use Rattle.client_session.specs.declared.session.Work.TheVariants.{Closed, Idle, Opening, Committing, Folding, Broken}
+use Rattle.client_session.specs.Session.{Acting, closed_session, StepsSession, StepsAt, ask_of_work, calls_left}
 use Rattle.client_session.proofs.Ending.{session_less}
+use Rattle.cloud_trait.specs.Ask.{Ask}
+use Rattle.world_core.specs.declared.put.Put.{Put}
 use Rattle.world_core.specs.declared.world.World.{World}
-use Rattle.world_core.specs.Handled.{Went, StepsLooked, further}
+use Rattle.world_core.specs.Put.{put_of}
+use Rattle.db_base.specs.declared.names.ObjName.{ObjName}
+use Rattle.history.specs.Audited.{Audited}
+use Rattle.db_base.specs.declared.wish.Wish.TheVariants.{Plain}
+use Rattle.cloud_trait.specs.declared.turn.Turn.{Turn}
+use Rattle.client_session.specs.declared.session.Answer.{Answer}
+use Rattle.world_core.specs.Sessions.{Changes, IsAtWork, HasPut}
+use Rattle.world_core.specs.Put.{noted_put}
+use Rattle.world_core.specs.declared.world.WorldFault.{WorldFault}
+use Rattle.world_core.specs.Handled.{StepsLooked, Went, further}
 
-pub went_further : (who w : Caller) (before mid after : Seen) (old world new : World) (r : Result (Turn Answer) Refused)
-    → w ≡ who → r ≡ Ok More → Went who before old mid world → StepsLooked w mid after world new r → Went who before old after new
-went_further who w before mid after old world new r same more went step =
-    let Step : Caller → Type 0 = λ v. StepsLooked v mid after world new (Ok More) in
-    let At : Result (Turn Answer) Refused → Type 0 = λ x. StepsLooked w mid after world new x in
-    further mid after world new went (subst Step same (subst At more step))
+-- the session of a number that has one is no other
+same_session : (sessions : List Acting) (place : ℕ) (a b : Acting) → slice_get sessions place ≡ Some a → slice_get sessions place ≡ Some b → a ≡ b
+same_session sessions place a b e f = let g : Some a ≡ Some b = sym e ∙ f in cc
 
--- it leaves fewer calls than before
-pub goes_less : (who : Caller) (before after : Seen) (old new : World) (r : Result (Turn Answer) Refused)
-    → r ≡ Ok More → StepsLooked who before after old new r → calls_left new.session.work < calls_left old.session.work
-goes_less who before after old new r is step =
-    let At : Result (Turn Answer) Refused → Type 0 = λ x. StepsSession who step.from step.to old.session new.session x in
-    session_less who step.from step.to old.session new.session (subst At is step.steps)
+pub put_before : (number : ℕ) (sessions : List Acting) (put : Option Put) (a : Acting) → HasPut number sessions put → slice_get sessions (number - 1) ≡ Some a → put_of a.work ≡ put
+put_before number sessions put a has there = ap (λ (z : Acting). put_of z.work) (same_session sessions (number - 1) a has.session there has.there) ∙ has.put_is
+
+-- what is in hand of the session of a number
+abbrev pub in_hand : List Acting → ℕ → Work
+in_hand sessions number = (unwrap_or (slice_get sessions (number - 1)) closed_session).work
+
+set_there : (sessions : List Acting) (place : ℕ) (before after : Acting) → slice_get sessions place ≡ Some before → slice_get (slice_set sessions place after) place ≡ Some after
+set_there sessions place before after there =
+    let within : place < length sessions = slice_get_within sessions place before there in
+    let more : place < length (slice_set sessions place after) = subst (λ n. place < n) (sym (length-set sessions place after)) within in
+    slice_get-get_or (slice_set sessions place after) place after more ∙ ap Some (get_or-set_same sessions place after after within)
+
+pub after_there : (number : ℕ) (Does : Acting → Acting → Type 0) (old new : List Acting) → (c : Changes number Does old new) → slice_get new (number - 1) ≡ Some c.after
+after_there number Does old new c = ap (λ l. slice_get l (number - 1)) c.rest ∙ set_there old (number - 1) c.before c.after c.there
+
+-- a step that goes on leaves a call in hand
+more_asks : (who : Caller) (before after : Seen) (w new : Work) → StepsAt who before after w new More → (ask : Ask) × (ask_of_work new ≡ Some ask)
+more_asks who before after (Opening m) new p = (_, ap ask_of_work p.1.2)
+more_asks who before after (Committing m) new p = (_, ap ask_of_work p.1.2)
+more_asks who before after (Folding home f) new p = (_, ap ask_of_work p.2)
+more_asks who before after Closed new p = absurd p
+more_asks who before after (Idle home) new p = absurd p
+more_asks who before after Broken new p = absurd p
+
+pub works_on : (who : Caller) (wish : Wish) (before after : Seen) (old new : World) → StepsLooked who wish before after old new More → IsAtWork who.session new.sessions
+works_on who wish before after old new p =
+    let asks = more_asks who p.under p.to p.session.before.work p.session.after.work p.session.does.work in
+    record { session = p.session.after; there = after_there who.session _ old.sessions new.sessions p.session; ask = asks.0; hand = asks.1 }
+
+-- and fewer calls than before
+pub goes_less : (who : Caller) (wish : Wish) (before after : Seen) (old new : World) → StepsLooked who wish before after old new More
+    → calls_left (in_hand new.sessions who.session) < calls_left (in_hand old.sessions who.session)
+goes_less who wish before after old new p =
+    let less = session_less who p.under p.to p.session.before p.session.after p.session.does in
+    let was : in_hand old.sessions who.session ≡ p.session.before.work = ap (λ o. (unwrap_or o closed_session).work) p.session.there in
+    let is : in_hand new.sessions who.session ≡ p.session.after.work =
+    ap (λ o. (unwrap_or o closed_session).work) (after_there who.session _ old.sessions new.sessions p.session) in
+    subst (λ w. calls_left (in_hand new.sessions who.session) < calls_left w) (sym was)
+    (subst (λ w. calls_left w < calls_left p.session.before.work) (sym is) less)
+
+-- ---- the last of some steps
+
+pub went_further : (who : Caller) (before mid after : Seen) (old world new : World) (turn : Turn Answer) → turn ≡ More → Went who before old mid world
+    → StepsLooked who Plain mid after world new turn → Went who before old after new
+went_further who before mid after old world new turn is went step =
+    further mid after world new went (subst (λ t. StepsLooked who Plain mid after world new t) is step)
+
+pub works_further : (who : Caller) (before after : Seen) (old new : World) (turn : Turn Answer) → turn ≡ More → StepsLooked who Plain before after old new turn
+    → IsAtWork who.session new.sessions
+works_further who before after old new turn is step = works_on who Plain before after old new (subst (λ t. StepsLooked who Plain before after old new t) is step)
+
+pub less_further : (who : Caller) (before after : Seen) (old new : World) (turn : Turn Answer) → turn ≡ More → StepsLooked who Plain before after old new turn
+    → calls_left (in_hand new.sessions who.session) < calls_left (in_hand old.sessions who.session)
+less_further who before after old new turn is step = goes_less who Plain before after old new (subst (λ t. StepsLooked who Plain before after old new t) is step)
+
+-- ---- what a step that is a put leaves of the audit
+
+-- what was noted is what the session that then stepped had in hand
+pub noted_of : (other number : ℕ) (sessions : List Acting) (a b : Acting) (name : ObjName) (old new : Audited) → other ≡ number → slice_get sessions (other - 1) ≡ Some a
+    → slice_get sessions (number - 1) ≡ Some b → new ≡ noted_put name a.work old → new ≡ noted_put name b.work old
+noted_of other number sessions a b name old new same e f noted =
+    let there : slice_get sessions (number - 1) ≡ Some a = subst (λ n. slice_get sessions (n - 1) ≡ Some a) same e in
+    noted ∙ ap (λ (z : Acting). noted_put name z.work old) (same_session sessions (number - 1) a b there f)
+
+-- a world that is blind was so, or a look of this step failed
+pub blinds : (blind : Bool) (before after : Option Bool) (first last : Result (Option Bool) WorldFault) (P Q : Type 0) → first ≡ Ok before → last ≡ Ok after
+    → (first ≡ Ok None → P) → (last ≡ Ok None → Q) → (blind ≡ true) ⊎ ((before ≡ None) ⊎ (after ≡ None)) → (blind ≡ true) ⊎ (P ⊎ Q)
+blinds blind before after first last P Q e f p q (inl was) = inl was
+blinds blind before after first last P Q e f p q (inr (inl none)) = inr (inl (p (e ∙ ap Ok none)))
+blinds blind before after first last P Q e f p q (inr (inr none)) = inr (inr (q (f ∙ ap Ok none)))

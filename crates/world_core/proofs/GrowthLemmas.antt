@@ -1,7 +1,7 @@
 -- What a line leaves of earlier ones, whatever its result.
-use Rattle.std.proofs.Common.{◌≡◌, ℕ, Some, Result, Ok, Err, refl, ap, ◌∙◌, subst}
-use Rattle.db_base.specs.declared.refusal.Refused.{Refused}
-use Rattle.db_base.specs.declared.refusal.Refused.TheVariants as refused
+use Rattle.std.proofs.Common.{◌≡◌, ℕ, List, Some, Ok, refl, ap, ◌∙◌, subst}
+use Rattle.db_base.specs.declared.wish.Wish.{Wish}
+use Rattle.cloud_trait.specs.Bench.{Waits}
 use Rattle.cloud_trait.specs.declared.answer.Answer.{Answer as CallAnswer}
 use Rattle.cloud_trait.specs.declared.turn.Turn.{Turn}
 use Rattle.cloud_trait.specs.declared.turn.Turn.TheVariants.{More, Ended, Stopped}
@@ -18,6 +18,9 @@ use Rattle.client_session.specs.declared.session.Work.{Work}
 use Rattle.client_session.specs.declared.session.Work.TheVariants.{Closed, Idle, Opening, Committing, Folding, Broken}
 use Rattle.client_session.specs.Session.{Acting, StepsSession, StepsAt}
 use Rattle.world_audit.specs.Look.{Looked}
+use Rattle.world_core.specs.declared.world.World.{World}
+use Rattle.world_core.specs.Sessions.{Changes}
+use Rattle.world_core.specs.Handled.{SetsWish, StepsLooked}
 use Rattle.world_core.specs.Stands.{Grows}
 
 -- a told state that stays as it is
@@ -65,20 +68,28 @@ grows_work who before after Closed new turn p = absurd p
 grows_work who before after (Idle home) new turn p = absurd p
 grows_work who before after Broken new turn p = absurd p
 
--- a step of a session, whatever it answers
-pub grows_step : (who : Caller) (before after : Seen) (old new : Acting) (r : Result (Turn Answer) Refused) → StepsSession who before after old new r → Grows who.event before after
-grows_step who before after old new (Ok turn) p = grows_work who before after old.work new.work turn p.work
-grows_step who before after old new (Err (refused.Rule rule)) p = grows_same who.event before after p.work.3
-grows_step who before after old new (Err refused.Memory) p = absurd p.work
+-- a step of a session
+pub grows_step : (who : Caller) (before after : Seen) (old new : Acting) (turn : Turn Answer) → StepsSession who before after old new (Ok turn) → Grows who.event before after
+grows_step who before after old new turn p = grows_work who before after old.work new.work turn p.work
+
+-- a wish that is set
+pub grows_wish : (n : ℕ) (wish : Wish) (before after : Seen) → SetsWish wish before after → Grows n before after
+grows_wish n wish before after sets x told = (record x { wish = wish }, sets.set x told, λ k less. agree_itself k x (record x { wish = wish }) refl refl refl)
+
+-- a wait
+pub grows_wait : (n ticks : ℕ) (before after : Seen) → ((s : CloudState) → before.state ≡ Some s → Waits ticks s after.state) → Grows n before after
+grows_wait n ticks before after waits x told =
+    let w = waits x told in
+    (w.after, w.told, λ k less. agree_itself k x w.after (ap (λ (z : CloudState). z.versions) w.rest) (ap (λ (z : CloudState). z.messages) w.rest) (ap (λ (z : CloudState). z.trace) w.rest))
 
 -- a step between two looks
-pub grows_between : (who : Caller) (before from to after : Seen) (old new : Acting) (r : Result (Turn Answer) Refused)
-    → Looked before from → StepsSession who from to old new r → Looked to after → Grows who.event before after
-grows_between who before from to after old new r first step last =
-    grows_on who.event before from after (grows_looked who.event before from first) (grows_on who.event from to after (grows_step who from to old new r step) (grows_looked who.event to after last))
+pub grows_between : (who : Caller) (wish : Wish) (before from under to after : Seen) (number : ℕ) (old new : List Acting) (turn : Turn Answer)
+    → Looked before from → SetsWish wish from under → Changes number (λ a b. StepsSession who under to a b (Ok turn)) old new → Looked to after → Grows who.event before after
+grows_between who wish before from under to after number old new turn first sets step last =
+    grows_on who.event before from after (grows_looked who.event before from first)
+    (grows_on who.event from under after (grows_wish who.event wish from under sets)
+    (grows_on who.event under to after (grows_step who under to step.before step.after turn step.does) (grows_looked who.event to after last)))
 
--- further steps at the line
-pub grows_with : (n : ℕ) (who caller : Caller) (before mid after : Seen) → caller ≡ who → who.event ≡ n → Grows n before mid → Grows caller.event mid after → Grows n before after
-grows_with n who caller before mid after same at f g =
-    let e : caller.event ≡ n = ap (λ (w : Caller). w.event) same ∙ at in
-    grows_on n before mid after f (subst (λ k. Grows k mid after) e g)
+pub grows_stepped : (who : Caller) (wish : Wish) (before after : Seen) (old new : World) (turn : Turn Answer) → StepsLooked who wish before after old new turn → Grows who.event before after
+grows_stepped who wish before after old new turn p =
+    grows_between who wish before p.from p.under p.to after who.session old.sessions new.sessions turn p.look_before p.wishes p.session p.look_after

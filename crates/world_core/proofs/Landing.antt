@@ -1,6 +1,6 @@
 -- The audit after a put is what `audited` says: what the put commits or applies joins it where the put was seen to land.
 use Rattle.std.proofs.Common.{◌≡◌, ℕ, refl, sym, ap, ◌∙◌, subst, List, length, ◌++◌, take}
-use Rattle.std.specs.Prelude.{Bool, false, not, ◌&&◌, if◌then◌else◌, Option, Some, None}
+use Rattle.std.specs.Prelude.{Bool, true, false, not, ◌&&◌, if◌then◌else◌, Option, Some, None}
 use Rattle.std.proofs.Math.Seq.{take-append_seam, take-length}
 use Rattle.db_base.specs.declared.names.ObjName.{ObjName}
 use Rattle.db_base.specs.declared.names.ObjName.TheVariants as object
@@ -13,9 +13,9 @@ use Rattle.client_session.specs.declared.session.Work.{Work}
 use Rattle.client_session.specs.Session.{ask_of_work, opens_of, committing_of}
 use Rattle.history.specs.Audited.{Audited}
 use Rattle.world_audit.specs.declared.mark.Mark.{Mark}
-use Rattle.replay_model.specs.Noting.{Newest, noted_head, noted_in_hand, noted_by, has_landed, audited}
+use Rattle.session_facts.specs.Noting.{Newest, noted_head, noted_in_hand, noted_by, has_landed, audited}
 use Rattle.world_core.specs.declared.put.Put.{Put}
-use Rattle.world_core.specs.Put.{put_of_hand, put_of, is_newest, noted_put, back_at, kept_of}
+use Rattle.world_core.specs.Put.{Look, is_blind, SeesNewest, put_of_hand, put_of, is_newest, noted_put, back_at, kept_of}
 
 -- ---- by the put in hand
 
@@ -78,11 +78,11 @@ back_noted (object.Tree tree) w a mark c o = both _ _ a (back_none mark.committe
 pub audited_none : (before after : Newest) (w : Work) (a : Audited) → put_of w ≡ None → a ≡ audited before after w a
 audited_none before after w a e = sym (ap (λ (b : Bool). if b then noted_by w a else a) (landed_none before after (ask_of_work w) e))
 
-pub audited_put : (before after : Newest) (w : Work) (a b n : Audited) (mark : Mark) (put : Put) (was is : Bool)
-    → put_of w ≡ Some put → was ≡ is_newest before put → is ≡ is_newest after put
+pub audited_put : (before after : Newest) (w : Work) (a b n : Audited) (mark : Mark) (put : Put) (was is : Look)
+    → put_of w ≡ Some put → is_blind was ≡ false → is_blind is ≡ false → SeesNewest before put was → SeesNewest after put is
     → mark.committed ≡ length a.committed → mark.order ≡ length a.order
     → b ≡ noted_put put.name w a → n ≡ kept_of was is mark b → n ≡ audited before after w a
-audited_put before after w a b n mark put was is hand was_is is_is c o noted kept =
+audited_put before after w a b n mark put (Some was) (Some is) hand sees_was sees_is was_is is_is c o noted kept =
     let seen : (not was && is) ≡ (not (is_newest before put) && is_newest after put) =
     ap (λ (x : Bool). not x && is) was_is ∙ ap (λ (x : Bool). not (is_newest before put) && x) is_is in
     let lands : (not was && is) ≡ has_landed before after (ask_of_work w) = seen ∙ sym (landed_as before after (ask_of_work w) put hand) in
@@ -92,3 +92,5 @@ audited_put before after w a b n mark put was is hand was_is is_is c o noted kep
     ∙ ap (λ (x : Bool). if x then b else back_at mark b) lands
     ∙ ap (λ (x : Audited). if has_landed before after (ask_of_work w) then x else back_at mark b) adds
     ∙ ap (λ (x : Audited). if has_landed before after (ask_of_work w) then noted_by w a else x) back
+audited_put before after w a b n mark put None is hand sees_was sees_is was_is is_is c o noted kept = absurd (cc)
+audited_put before after w a b n mark put (Some was) None hand sees_was sees_is was_is is_is c o noted kept = absurd (cc)

@@ -1,4 +1,9 @@
+pub mod Closed
 pub mod Going
+pub mod Stopping
 pub mod Landing
-pub mod StandsLemmas
 pub mod GrowthLemmas
+pub mod Marks
+pub mod StandsLemmas
+pub mod BeginLemmas
+pub mod EveryLine

@@ -1,623 +1,518 @@
 -- A line keeps what stands.
-use Rattle.std.proofs.Common.{◌≡◌, ◌+◌, ℕ, List, [], ◌∷◌, ◌++◌, length, Option, Some, Result, Ok, Err, refl, sym, ap, subst, ◌∙◌, inl, inr, Bool, true, false, cond}
-use Rattle.std.proofs.lemmas.Bool.{eqb-true}
-use Rattle.std.specs.Prelude.{◌==◌, MatchBool}
-use Rattle.db_base.specs.Ids.{IsClient}
-use Rattle.db_base.specs.declared.change.Change.TheVariants.{Insert}
+use Rattle.std.proofs.Common.{◌≡◌, ◌+◌, ◌-◌, ◌≤◌, ℕ, List, [], ◌∷◌, ◌++◌, length, Option, Some, Result, Ok, Err, refl, sym, ap, subst, ◌∙◌, inl, inr, Bool, true, false, ◌⊎◌, ◌≢◌, arith}
+use Rattle.std.proofs.lemmas.Bool.{cases_eq}
+use Rattle.std.specs.Prelude.{slice_get}
+use Rattle.db_base.specs.Ids.{IsTree}
 use Rattle.db_base.specs.declared.refusal.Refusal.{Refusal}
 use Rattle.db_base.specs.declared.refusal.Refusal.TheVariants as refusal
 use Rattle.db_base.specs.declared.refusal.Refused.{Refused}
 use Rattle.db_base.specs.declared.refusal.Refused.TheVariants as refused
-use Rattle.db_base.specs.declared.blob.Blob.{Blob}
 use Rattle.db_base.specs.declared.trouble.Trouble.{Trouble}
 use Rattle.db_base.specs.declared.trouble.Trouble.TheVariants as trouble
-use Rattle.db_base.specs.declared.trouble.Counter.TheVariants as counter
-use Rattle.db_base.specs.declared.trouble.CommitAnswer.{CommitAnswer}
-use Rattle.db_base.specs.declared.trouble.CommitAnswer.TheVariants.{Committed, NotCommitted, InDoubt, CommittedOpen}
+use Rattle.db_base.specs.declared.wish.Wish.{Wish}
+use Rattle.db_base.specs.declared.wish.Wish.TheVariants.{Plain}
 use Rattle.event_text.specs.declared.event.Event.{Event}
 use Rattle.event_text.specs.declared.event.Event.TheVariants as event
 use Rattle.reply_text.specs.declared.reply.Reply.{Reply}
 use Rattle.reply_text.specs.declared.reply.Reply.TheVariants as reply
+use Rattle.report_types.specs.declared.entry.Entry.{Entry}
 use Rattle.report_types.specs.declared.report.Report.{Report as ReportShown}
-use Rattle.txn_buffer.specs.Noted.{Noted, noted_in}
-use Rattle.first_recover.specs.declared.home.Home.{Home}
-use Rattle.first_commit.specs.Commit.{Commit, Readies, new_commit, with_attempt, next_records, opening, finished}
-use Rattle.cloud_trait.specs.Machine.{Goes, Ends}
 use Rattle.cloud_trait.specs.Caller.{Caller}
-use Rattle.cloud_trait.specs.Growth.{BeginsWith}
-use Rattle.cloud_trait.proofs.EffectLemmas.{begins_same}
-use Rattle.cloud_trait.specs.State.{CloudState, newest}
+use Rattle.cloud_trait.specs.State.{CloudState, newest, greatest, end_after}
 use Rattle.cloud_trait.specs.Seen.{Seen}
 use Rattle.cloud_trait.specs.declared.turn.Turn.{Turn}
 use Rattle.cloud_trait.specs.declared.turn.Turn.TheVariants.{More, Ended, Stopped}
+use Rattle.cloud_trait.proofs.EffectLemmas.{begins_same}
 use Rattle.client_session.specs.declared.session.Answer.{Answer}
 use Rattle.client_session.specs.declared.session.Answer.TheVariants as answer
-use Rattle.client_session.specs.declared.session.Begun.{Begun}
-use Rattle.client_session.specs.declared.session.Begun.TheVariants.{Working, Answered}
-use Rattle.client_session.specs.declared.session.Op.TheVariants as op
 use Rattle.client_session.specs.declared.session.Work.{Work}
-use Rattle.client_session.specs.declared.session.Work.TheVariants as work
-use Rattle.client_session.specs.Session.{Acting, BeginsOpening, BeginsWith as BeginsByHome, HasInHand, CommitsNothing, CommitsNoted, CommitsIn, CommitsOf, folding_begun_by, is_working}
-use Rattle.history.specs.Fold.{fold, of_tree}
-use Rattle.history.specs.Legal.{IsLegal}
-use Rattle.report_types.specs.declared.entry.Entry.{Entry}
+use Rattle.client_session.specs.declared.session.Work.TheVariants.{Closed, Idle, Opening, Committing, Folding, Broken}
+use Rattle.client_session.specs.Session.{Acting, closed_session, StepsSession, StepsAt}
 use Rattle.history.specs.Audited.{Audited}
-use Rattle.tree_meaning.specs.Chain.{AreLeaves}
+use Rattle.history.specs.Fold.{of_tree}
 use Rattle.world_audit.specs.Counts.{heads_upto, AreWaiting}
-use Rattle.record_facts.specs.Tally.{tally_of}
-use Rattle.record_facts.specs.Known.{MayCommit}
-use Rattle.record_facts.proofs.TreeRecords.{legal_in_tree, complete_in_tree}
-use Rattle.replay_meaning.specs.Standing.{Line, Standing, Working as WorkingOn, Committing as Noting, standing, after_line, after_own, session_of}
-use Rattle.replay_meaning.specs.Committed.{committed}
-use Rattle.tree_meaning.specs.Index.{Finds}
-use Rattle.replay_model.specs.Noting.{Newest, audited}
-use Rattle.replay_meaning.specs.Right.{ReportIsRight, IsRight, HoldsAll, GoesOnFrom, payload_at}
-use Rattle.replay_model.specs.Facts.{HomeStands, CommitStands, Knows, ActsAs, WorksAs, CloudStands, RecordsKnown, RecordsStand, IsFrontOf, Reported, Stands, GoesOn}
-use Rattle.replay_model.proofs.LineLemmas.{begins_line, line_through, own_line}
-use Rattle.replay_model.proofs.TreeLemmas.{report_of}
-use Rattle.replay_model.proofs.RecordBegins.{may_nothing, may_insert, opens_known, left_known}
-use Rattle.replay_model.proofs.RecordSession.{IsReplyTo}
-use Rattle.replay_model.proofs.SessionLemmas.{step_goes_on, step_ends}
+use Rattle.store_book.specs.Tally.{at}
+use Rattle.store_book.proofs.Names.{at_same, at_other}
+use Rattle.session_facts.specs.Noting.{audited}
+use Rattle.session_facts.specs.Sessions.{Sessions, SessionsStand, audit_of}
+use Rattle.session_facts.proofs.Laws.{crash_keeps}
+use Rattle.replay_meaning.specs.Standing.{Line, Standing, standing, after_line, after_own, session_of, steps}
+use Rattle.replay_meaning.specs.Right.{ReportIsRight}
+use Rattle.replay_model.specs.Facts.{session_at, ActsAs, AllAct, CloudHolds, IsFrontOf, Stands, GoesOn}
+use Rattle.replay_model.proofs.Acting.{IsReplyTo, goes_as, ends_as}
+use Rattle.replay_model.proofs.LineLemmas.{line_of, AllActWith, begins_line, begins_with, line_through, holds_same, own_line, still_line, refused_own, acts_set}
+use Rattle.replay_model.proofs.Lists.{session_there, session_set}
+use Rattle.replay_model.proofs.Steps.{CallLeaves, call_holds, wish_holds, wait_holds}
+use Rattle.replay_model.proofs.ReportLemmas.{IsShown, report_right}
 use Rattle.world_core.specs.declared.world.World.{World}
 use Rattle.world_core.specs.declared.world.WorldFault.{WorldFault}
-use Rattle.world_core.specs.declared.asked.Request.{Request}
-use Rattle.world_core.specs.declared.asked.Request.TheVariants.{Begin, Note, Abort, Run}
-use Rattle.world_core.specs.declared.asked.Asked.{Asked}
-use Rattle.world_core.specs.declared.asked.Asked.TheVariants.{Session, Report, Unbuilt}
-use Rattle.world_core.specs.Asked.{IsOpening, IsFolding, IsNoted, OfSession, Asks}
-use Rattle.world_core.specs.Handled.{Declines, MakesNoCall, BegunReply, Notes, Aborts, Does, Serves, Answers, Handled, Replies, StepsLooked, Went, start, further, RunReply, RunsTo, Shows, Reports}
-use Rattle.world_core.specs.Stands.{StandsFor, StandsOn, IsLeft, LeftIsRight}
+use Rattle.world_core.specs.declared.world.WorldFault.TheVariants.{Memory}
+use Rattle.world_core.specs.Fault.{trouble_reply, reply_of}
+use Rattle.world_core.specs.Sessions.{Changes}
+use Rattle.world_core.specs.Handled.{declined, Declines, MakesNoCall, StepsLooked, RefusesStep, turn_reply, StepsTo, MakesStep, Went, start, further, RunsTo, RunsOn, Runs, Dies, DiesDone, Crashes, WaitsFor, WaitsTooLong, Shows, Reports}
+use Rattle.world_core.specs.Stands.{WorldStands, StandsFor, IsLeft, LeftIsRight}
 
--- a line has this reply
-abbrev IsOk : Result Reply WorldFault → Reply → Type 0
-IsOk result r = result ≡ Ok r
+-- ---- replies that are no report
 
--- the line with its reply
-abbrev line_of : Event → Reply → Line
-line_of event r = record { event = event; reply = r }
+abbrev pub IsNoReport : Reply → Type 0
+IsNoReport (reply.Report r) = ⊥
+IsNoReport r = Unit {0}
 
--- a line that makes no call stands where the session that it leaves does
-no_call : (lines : List Line) (event : Event) (r : Reply) (before after : Seen) (old new : World) (t : CloudState)
-    → after ≡ before → new.audit ≡ old.audit → before.state ≡ Some t → Stands lines old.session old.audit t
-    → Knows (newest t) new.session.work → ActsAs new.session (after_line 1 (standing lines 1) (line_of event r)) → RecordsStand new.session old.audit t → IsFrontOf old.audit.order r
-    → ReportIsRight (lines ++ line_of event r ∷ []) t r → LeftIsRight t r → StandsFor (lines ++ line_of event r ∷ []) new after r
-no_call lines event r before after old new t same audit told stands knows acts records front right left = record {
+no_report_right : (lines : List Line) (t : CloudState) (r : Reply) → IsNoReport r → ReportIsRight lines t r
+no_report_right lines t (reply.Report r) h = absurd h
+no_report_right lines t r h = tt
+
+no_report_left : (t : CloudState) (r : Reply) → IsNoReport r → LeftIsRight t r
+no_report_left t (reply.Report r) h = absurd h
+no_report_left t r h = tt
+
+no_report_front : (order : List Entry) (r : Reply) → IsNoReport r → IsFrontOf order r
+no_report_front order (reply.Report r) h = absurd h
+no_report_front order r h = tt
+
+-- ---- a line that is through
+
+-- where all holds within a line and each session stands as the line says, it is one of the lines
+pub through : (lines : List Line) (event : Event) (r : Reply) (after : Seen) (new : World) (t : CloudState) → after.state ≡ Some t
+    → CloudHolds (length lines + 1) lines (session_at new.sessions) new.audit new.blind t → AllActWith lines (line_of event r) (session_at new.sessions) → IsNoReport r
+    → StandsFor (lines ++ line_of event r ∷ []) new after r
+through lines event r after new t told holds acts plain = record {
   after = t;
-  told = ap (λ (z : Seen). z.state) same ∙ told;
-  stands = line_through lines (line_of event r) new.session new.audit t
-      (subst (λ a. CloudStands (length lines + 1) lines a t) (sym audit) (begins_line lines old.session old.audit t stands).cloud) knows acts
-      (subst (λ a. RecordsStand new.session a t) (sym audit) records)
-      (subst (λ (a : Audited). Reported lines a.order) (sym audit) stands.reported) (subst (λ (a : Audited). IsFrontOf a.order r) (sym audit) front);
-  right = right;
-  left = left;
+  told = told;
+  stands = line_through lines (line_of event r) (session_at new.sessions) new.audit new.blind t holds acts (no_report_front holds.order r plain);
+  right = no_report_right (lines ++ line_of event r ∷ []) t r plain;
+  left = no_report_left t r plain;
 }
 
--- a line that leaves the session too
-leaves_all : (lines : List Line) (event : Event) (r : Reply) (before after : Seen) (old new : World) (t : CloudState)
-    → after ≡ before → new ≡ old → before.state ≡ Some t → Stands lines old.session old.audit t
-    → after_line 1 (standing lines 1) (line_of event r) ≡ standing lines 1 → IsFrontOf old.audit.order r
-    → ReportIsRight (lines ++ line_of event r ∷ []) t r → LeftIsRight t r → StandsFor (lines ++ line_of event r ∷ []) new after r
-leaves_all lines event r before after old new t same world told stands stays front right left =
-    no_call lines event r before after old new t same (ap (λ (w : World). w.audit) world) told stands
-    (subst (λ (w : World). Knows (newest t) w.session.work) (sym world) stands.session.knows)
-    (subst (λ z. ActsAs new.session z) (sym stays) (subst (λ (w : World). ActsAs w.session (standing lines 1)) (sym world) stands.session.acts))
-    (subst (λ (w : World). RecordsStand w.session old.audit t) (sym world) stands.records) front right left
+-- a world that stays
+world_holds : (lines : List Line) (old new : World) (t : CloudState) → new ≡ old → WorldStands lines old t
+    → CloudHolds (length lines + 1) lines (session_at new.sessions) new.audit new.blind t
+world_holds lines old new t same stands =
+    let P : World → Type 0 = λ w. CloudHolds (length lines + 1) lines (session_at w.sessions) w.audit w.blind t in
+    subst P (sym same) (begins_line lines (session_at old.sessions) old.audit old.blind t stands).holds
 
--- a refusal changes nothing of how a session stands
-refused_own : (event : Event) (rule : Refusal) (s : Standing) → after_own event (reply.Refused rule) s ≡ s
-refused_own (event.Open session client) rule s = refl
-refused_own (event.Close session) rule s = refl
-refused_own (event.Renew session) rule s = refl
-refused_own (event.Insert session tree key payload) rule s = refl
-refused_own (event.Update session tree key payload) rule s = refl
-refused_own (event.Delete session tree key) rule s = refl
-refused_own (event.Commit session) rule s = refl
-refused_own (event.Abort session) rule s = refl
-refused_own (event.Read session tree key) rule s = refl
-refused_own (event.Scan session tree from to) rule s = refl
-refused_own (event.Page session tree page) rule s = refl
-refused_own (event.Tree session tree) rule s = refl
-refused_own (event.Step session wish) rule s = refl
-refused_own (event.Run session) rule s = refl
-refused_own (event.Crash session done) rule s = refl
-refused_own (event.Wait ticks) rule s = refl
-refused_own (event.Report tree) rule s = refl
-refused_own event.Settle rule s = refl
-
-refused_line : (event : Event) (rule : Refusal) (s : Standing) → after_line 1 s (line_of event (reply.Refused rule)) ≡ s
-refused_line event rule s = on (session_of event == 1) where
-  on : (b : Bool) → cond b (after_own event (reply.Refused rule) s) s ≡ s
-  on true = refused_own event rule s
-  on false = refl
+world_acts : (lines : List Line) (old new : World) (t : CloudState) → new ≡ old → WorldStands lines old t → AllAct lines (session_at new.sessions)
+world_acts lines old new t same stands =
+    let P : World → Type 0 = λ w. AllAct lines (session_at w.sessions) in
+    subst P (sym same) stands.acts
 
 -- a line that is refused leaves all
-refuses : (lines : List Line) (event : Event) (r : Reply) (rule : Refusal) (before after : Seen) (old new : World) (t : CloudState)
-    → IsOk (Ok r) (reply.Refused rule) → after ≡ before → new ≡ old → before.state ≡ Some t → Stands lines old.session old.audit t
-    → StandsFor (lines ++ line_of event r ∷ []) new after r
+pub refuses : (lines : List Line) (event : Event) (r : Reply) (rule : Refusal) (before after : Seen) (old new : World) (t : CloudState)
+    → r ≡ reply.Refused rule → after ≡ before → new ≡ old → before.state ≡ Some t → WorldStands lines old t → StandsFor (lines ++ line_of event r ∷ []) new after r
 refuses lines event r rule before after old new t is same world told stands =
-    let e : r ≡ reply.Refused rule = cc in
     let P : Reply → Type 0 = λ z. StandsFor (lines ++ line_of event z ∷ []) new after z in
-    subst P (sym e) (leaves_all lines event (reply.Refused rule) before after old new t same world told stands (refused_line event rule (standing lines 1)) tt tt tt)
+    subst P (sym is) (through lines event (reply.Refused rule) after new t (ap (λ (z : Seen). z.state) same ∙ told)
+    (world_holds lines old new t world stands)
+    (still_line lines event (reply.Refused rule) (session_at new.sessions) (refused_own event rule) (world_acts lines old new t world stands)) tt)
 
--- and so does one that is not done
-declines : (lines : List Line) (event : Event) (r : Reply) (why : Refused) (before after : Seen) (old new : World) (t : CloudState)
-    → Declines why before after old new (Ok r) → before.state ≡ Some t → Stands lines old.session old.audit t → StandsFor (lines ++ line_of event r ∷ []) new after r
-declines lines event r (refused.Rule rule) before after old new t is told stands = refuses lines event r rule before after old new t is.reply is.seen is.world told stands
+refused_is : (r : Reply) (rule : Refusal) → (let result : Result Reply WorldFault = Ok r in result ≡ declined (refused.Rule rule)) → r ≡ reply.Refused rule
+refused_is r rule e = cc
+
+pub declines : (lines : List Line) (event : Event) (r : Reply) (why : Refused) (before after : Seen) (old new : World) (t : CloudState)
+    → Declines why before after old new (Ok r) → before.state ≡ Some t → WorldStands lines old t → StandsFor (lines ++ line_of event r ∷ []) new after r
+declines lines event r (refused.Rule rule) before after old new t is told stands =
+    refuses lines event r rule before after old new t (refused_is r rule is.reply) is.seen is.world told stands
 declines lines event r refused.Memory before after old new t is told stands = absurd (cc (is.reply))
 
--- ---- small facts
+-- ---- one session changes
 
--- what a session works on does not look at its buffer
-works_with : (w : Work) (s : Standing) (buffer : List Noted) → WorksAs w s → WorksAs w (record s { buffer = buffer })
-works_with work.Closed s buffer h = h
-works_with (work.Idle home) s buffer h = h
-works_with (work.Opening m) s buffer h = h
-works_with (work.Committing m) s buffer h = h
-works_with (work.Folding home m) s buffer h = h
-works_with work.Broken s buffer h = h
+-- the sessions of a list of which one changes
+pub changed_at : (number : ℕ) (Does : Acting → Acting → Type 0) (old new : List Acting) → 1 ≤ number → (c : Changes number Does old new) → (n : ℕ)
+    → session_at new n ≡ at number c.after (session_at old) n
+changed_at number Does old new some c n = ap (λ l. session_at l n) c.rest ∙ session_set old number c.before c.after some c.there n
 
--- a session is its buffer and its work
-acting_is : (a : Acting) (buffer : List Noted) (w : Work) → a.buffer ≡ buffer → a.work ≡ w → a ≡ record { buffer = buffer; work = w }
-acting_is a buffer w e f = λ i. record { buffer = e i; work = f i }
-
--- where nothing is at work the audit stays
-idle_audit : (before after : Newest) (w : Work) (a : Audited) → is_working w ≡ false → audited before after w a ≡ a
-idle_audit before after work.Closed a e = refl
-idle_audit before after (work.Idle home) a e = refl
-idle_audit before after work.Broken a e = refl
-idle_audit before after (work.Opening m) a e = absurd (cc)
-idle_audit before after (work.Committing m) a e = absurd (cc)
-idle_audit before after (work.Folding home m) a e = absurd (cc)
-
--- an answer is no report
-answer_no_report : (lines : List Line) (t : CloudState) (a : Answer) (r : Reply) → IsReplyTo a r → ReportIsRight lines t r
-answer_no_report lines t (answer.Opened epoch) r is = subst (λ z. ReportIsRight lines t z) (sym is) tt
-answer_no_report lines t (answer.Done n) r is = subst (λ z. ReportIsRight lines t z) (sym is) tt
-answer_no_report lines t (answer.Commit (Committed txn)) r is = subst (λ z. ReportIsRight lines t z) (sym is) tt
-answer_no_report lines t (answer.Commit (NotCommitted z)) r is = absurd is
-answer_no_report lines t (answer.Commit InDoubt) r is = absurd is
-answer_no_report lines t (answer.Commit (CommittedOpen z)) r is = absurd is
-answer_no_report lines t (answer.Trouble z) r is = absurd is
-
-answer_no_left : (t : CloudState) (a : Answer) (r : Reply) → IsReplyTo a r → LeftIsRight t r
-answer_no_left t (answer.Opened epoch) r is = subst (λ z. LeftIsRight t z) (sym is) tt
-answer_no_left t (answer.Done n) r is = subst (λ z. LeftIsRight t z) (sym is) tt
-answer_no_left t (answer.Commit (Committed txn)) r is = subst (λ z. LeftIsRight t z) (sym is) tt
-answer_no_left t (answer.Commit (NotCommitted z)) r is = absurd is
-answer_no_left t (answer.Commit InDoubt) r is = absurd is
-answer_no_left t (answer.Commit (CommittedOpen z)) r is = absurd is
-answer_no_left t (answer.Trouble z) r is = absurd is
-
-answer_no_front : (order : List Entry) (a : Answer) (r : Reply) → IsReplyTo a r → IsFrontOf order r
-answer_no_front order (answer.Opened epoch) r is = subst (λ z. IsFrontOf order z) (sym is) tt
-answer_no_front order (answer.Done n) r is = subst (λ z. IsFrontOf order z) (sym is) tt
-answer_no_front order (answer.Commit (Committed txn)) r is = subst (λ z. IsFrontOf order z) (sym is) tt
-answer_no_front order (answer.Commit (NotCommitted z)) r is = absurd is
-answer_no_front order (answer.Commit InDoubt) r is = absurd is
-answer_no_front order (answer.Commit (CommittedOpen z)) r is = absurd is
-answer_no_front order (answer.Trouble z) r is = absurd is
-
--- ---- lines that begin an operation
+pub changed_was : (number : ℕ) (Does : Acting → Acting → Type 0) (old new : List Acting) → 1 ≤ number → (c : Changes number Does old new) → session_at old number ≡ c.before
+changed_was number Does old new some c = session_there old number c.before some c.there
 
 -- what is known of a line that makes no call, before its session is looked at
-pub record Ready (lines : List Line) (event : Event) (before after : Seen) (old new : World) (t : CloudState) : Type 0 where
-  pub own : session_of event ≡ 1
-  pub same : after ≡ before
-  pub audit : new.audit ≡ old.audit
+pub record Ready (lines : List Line) (event : Event) (number : ℕ) (before after : Seen) (old new : World) (t : CloudState) : Type 0 where
+  pub own : session_of event ≡ number
+  pub some : 1 ≤ number
+  pub quiet : MakesNoCall before after old new
   pub told : before.state ≡ Some t
-  pub stands : Stands lines old.session old.audit t
+  pub stands : WorldStands lines old t
 
--- the session that a line of its own leaves stands as the line and its reply say
-leaves_session : (lines : List Line) (event : Event) (r : Reply) (before after : Seen) (old new : World) (t : CloudState) → Ready lines event before after old new t
-    → Knows (newest t) new.session.work → ActsAs new.session (after_own event r (standing lines 1)) → RecordsStand new.session old.audit t → IsFrontOf old.audit.order r → ReportIsRight (lines ++ line_of event r ∷ []) t r → LeftIsRight t r
-    → StandsFor (lines ++ line_of event r ∷ []) new after r
-leaves_session lines event r before after old new t ready knows acts records front right left =
-    no_call lines event r before after old new t ready.same ready.audit ready.told ready.stands knows
-    (subst (λ z. ActsAs new.session z) (sym (own_line event r (standing lines 1) ready.own)) acts) records front right left
+-- how the session stood before
+pub acts_before : (lines : List Line) (event : Event) (number : ℕ) (before after : Seen) (old new : World) (t : CloudState) (Does : Acting → Acting → Type 0)
+    → Ready lines event number before after old new t → (c : Changes number Does old.sessions new.sessions) → ActsAs c.before (standing lines number)
+acts_before lines event number before after old new t Does ready c =
+    subst (λ a. ActsAs a (standing lines number)) (changed_was number Does old.sessions new.sessions ready.some c) (ready.stands.acts number)
 
--- a line that is refused leaves its session
-refuses_session : (lines : List Line) (event : Event) (r : Reply) (rule : Refusal) (before after : Seen) (old new : World) (t : CloudState) → Ready lines event before after old new t
-    → IsOk (Ok r) (reply.Refused rule) → new.session ≡ old.session → StandsFor (lines ++ line_of event r ∷ []) new after r
-refuses_session lines event r rule before after old new t ready is same =
-    let e : r ≡ reply.Refused rule = cc in
+-- the session that a line leaves without a call stands as the line and its reply say
+pub quiet_line : (lines : List Line) (event : Event) (r : Reply) (number : ℕ) (before after : Seen) (old new : World) (t : CloudState) (Does : Acting → Acting → Type 0)
+    → (ready : Ready lines event number before after old new t) → (c : Changes number Does old.sessions new.sessions)
+    → SessionsStand ready.stands.holds.book ready.stands.holds.order t (at number c.after (session_at old.sessions))
+    → ActsAs c.after (after_own event r (standing lines number)) → IsNoReport r → StandsFor (lines ++ line_of event r ∷ []) new after r
+quiet_line lines event r number before after old new t Does ready c stand acts plain =
+    through lines event r after new t (ap (λ (z : Seen). z.state) ready.quiet.seen ∙ ready.told) holds
+    (λ n. subst (λ a. ActsAs a (after_line n (standing lines n) (line_of event r))) (sym (same n)) (own_line lines number event r (session_at old.sessions) c.after ready.own ready.stands.acts acts n)) plain
+  where
+    same : (n : ℕ) → session_at new.sessions n ≡ at number c.after (session_at old.sessions) n
+    same = changed_at number Does old.sessions new.sessions ready.some c
+
+    own : CloudHolds (length lines + 1) lines (at number c.after (session_at old.sessions)) old.audit old.blind t
+    own = begins_with lines (session_at old.sessions) (at number c.after (session_at old.sessions)) old.audit old.blind t ready.stands.holds stand
+
+    At : Audited → Bool → Type 0
+    At a b = CloudHolds (length lines + 1) lines (session_at new.sessions) a b t
+
+    holds : CloudHolds (length lines + 1) lines (session_at new.sessions) new.audit new.blind t
+    holds =
+        subst (λ a. At a new.blind) (sym ready.quiet.audit) (subst (At old.audit) (sym ready.quiet.blind)
+        (holds_same (length lines + 1) lines (at number c.after (session_at old.sessions)) (session_at new.sessions) old.audit old.blind t same own))
+
+-- a line that leaves its session as it was
+pub quiet_refused : (lines : List Line) (event : Event) (r : Reply) (rule : Refusal) (number : ℕ) (before after : Seen) (old new : World) (t : CloudState) (Does : Acting → Acting → Type 0)
+    → (ready : Ready lines event number before after old new t) → (c : Changes number Does old.sessions new.sessions)
+    → SessionsStand ready.stands.holds.book ready.stands.holds.order t (at number c.after (session_at old.sessions))
+    → r ≡ reply.Refused rule → c.after ≡ c.before → StandsFor (lines ++ line_of event r ∷ []) new after r
+quiet_refused lines event r rule number before after old new t Does ready c stand is same =
     let P : Reply → Type 0 = λ z. StandsFor (lines ++ line_of event z ∷ []) new after z in
-    subst P (sym e) (leaves_session lines event (reply.Refused rule) before after old new t ready
-    (subst (λ (x : Acting). Knows (newest t) x.work) (sym same) ready.stands.session.knows)
-    (subst (λ z. ActsAs new.session z) (sym (refused_own event rule (standing lines 1))) (subst (λ x. ActsAs x (standing lines 1)) (sym same) ready.stands.session.acts))
-    (subst (λ x. RecordsStand x old.audit t) (sym same) ready.stands.records)
-    tt tt tt)
+    subst P (sym is) (quiet_line lines event (reply.Refused rule) number before after old new t Does ready c stand
+    (subst (λ z. ActsAs c.after z) (sym (refused_own event rule (standing lines number)))
+    (subst (λ a. ActsAs a (standing lines number)) (sym same) (acts_before lines event number before after old new t Does ready c))) tt)
 
--- an operation that begins has its first call in hand
-begins_session : (lines : List Line) (event : Event) (r : Reply) (before after : Seen) (old new : World) (t : CloudState) (session : Acting) → Ready lines event before after old new t
-    → IsOk (Ok r) reply.Begun → new.session ≡ session → Knows (newest t) session.work → ActsAs session (after_own event reply.Begun (standing lines 1)) → RecordsKnown (tally_of t) old.audit.committed session.work → MayCommit session.buffer
-    → StandsFor (lines ++ line_of event r ∷ []) new after r
-begins_session lines event r before after old new t session ready is same knows acts known buffer =
-    let e : r ≡ reply.Begun = cc in
-    let P : Reply → Type 0 = λ z. StandsFor (lines ++ line_of event z ∷ []) new after z in
-    subst P (sym e) (leaves_session lines event reply.Begun before after old new t ready
-    (subst (λ (x : Acting). Knows (newest t) x.work) (sym same) knows)
-    (subst (λ x. ActsAs x (after_own event reply.Begun (standing lines 1))) (sym same) acts)
-    (subst (λ x. RecordsStand x old.audit t) (sym same) (record { hold = ready.stands.records.hold; known = known; buffer = buffer }))
-    tt tt tt)
+-- ---- steps
 
-opening_begun : (lines : List Line) (k client : ℕ) (r : Reply) (before after : Seen) (old new : World) (t : CloudState) (begun : Result Begun Refused) → IsClient client
-    → Ready lines (event.Open k client) before after old new t → BeginsOpening client old.session new.session begun → BegunReply begun (Ok r)
-    → StandsFor (lines ++ line_of (event.Open k client) r ∷ []) new after r
-opening_begun lines k client r before after old new t (Ok Working) is_client ready begins replies =
-    begins_session lines (event.Open k client) r before after old new t _ ready replies begins.1 tt (record { buffer = refl; work = (refl, refl) })
-    (record { client = is_client; at = tt }) may_nothing
-opening_begun lines k client r before after old new t (Ok (Answered a)) is_client ready begins replies = absurd begins
-opening_begun lines k client r before after old new t (Err (refused.Rule rule)) is_client ready begins replies = refuses_session lines (event.Open k client) r rule before after old new t ready replies begins.1
-opening_begun lines k client r before after old new t (Err refused.Memory) is_client ready begins replies = absurd begins
-
--- an operation of an open client begins with its home
-begins_home : (lines : List Line) (event : Event) (before after : Seen) (old new : World) (t : CloudState) (home : Home) → old.session.work ≡ work.Idle home
-    → Ready lines event before after old new t
-    → Ready lines event before after (record { session = record { buffer = old.session.buffer; work = work.Idle home }; audit = old.audit }) new t
-begins_home lines event before after old new t home is ready =
-    subst (λ (w : Work). Ready lines event before after (record { session = record { buffer = old.session.buffer; work = w }; audit = old.audit }) new t) is ready
-
--- a checkpoint begins beside an open client
-folding_begins : (lines : List Line) (k tree : ℕ) (r : Reply) (before after : Seen) (buffer : List Noted) (home : Home) (audit : Audited) (new : World) (t : CloudState) (begun : Begun)
-    → Ready lines (event.Tree k tree) before after (record { session = record { buffer = buffer; work = work.Idle home }; audit = audit }) new t
-    → HasInHand buffer (folding_begun_by tree home) new.session begun → BegunReply (Ok begun) (Ok r)
-    → StandsFor (lines ++ line_of (event.Tree k tree) r ∷ []) new after r
-folding_begins lines k tree r before after buffer home audit new t begun ready has replies =
-    let acts = ready.stands.session.acts in
-    let is : IsOk (Ok r) reply.Begun = subst (λ b. BegunReply (Ok b) (Ok r)) has.0 replies in
-    begins_session lines (event.Tree k tree) r before after _ new t _ ready is has.1 (ready.stands.session.knows, record { root = tt; puts = tt })
-    (record { buffer = acts.buffer; work = (refl, acts.work.1) }) (ready.stands.records.known, tt) ready.stands.records.buffer
-
-folding_begun : (lines : List Line) (k tree : ℕ) (r : Reply) (before after : Seen) (old new : World) (t : CloudState) (begun : Result Begun Refused)
-    → Ready lines (event.Tree k tree) before after old new t
-    → BeginsByHome (λ home. HasInHand old.session.buffer (folding_begun_by tree home)) old.session new.session begun → BegunReply begun (Ok r)
-    → StandsFor (lines ++ line_of (event.Tree k tree) r ∷ []) new after r
-folding_begun lines k tree r before after old new t (Ok begun) ready begins replies =
-    folding_begins lines k tree r before after old.session.buffer begins.0 old.audit new t begun
-    (begins_home lines (event.Tree k tree) before after old new t begins.0 begins.1 ready) begins.2 replies
-folding_begun lines k tree r before after old new t (Err (refused.Rule rule)) ready begins replies = refuses_session lines (event.Tree k tree) r rule before after old new t ready replies begins.1
-folding_begun lines k tree r before after old new t (Err refused.Memory) ready begins replies = absurd begins
-
--- ---- commits
-
--- the put that commits opens a head that was settled
-opens_head : (look : Newest) (home : Home) (changes : List Noted) (c : Commit) → HomeStands look home → Readies (new_commit home changes) (Goes c)
-    → CommitStands look c.stage c × (c.changes ≡ changes) × (c.home.client ≡ home.client)
-opens_head look home changes c stands (inl spent) = absurd (cc (spent.is))
-opens_head look home changes c stands (inr (inl full)) = absurd (cc (full.is))
-opens_head look home changes c stands (inr (inr ready)) =
-    let e : c ≡ opening (new_commit home changes) (with_attempt home) (next_records (new_commit home changes)) = cc (ready.is) in
-    let P : Commit → Type 0 = λ z. CommitStands look z.stage z × (z.changes ≡ changes) × (z.home.client ≡ home.client) in
-    subst P (sym e) (record { before = home.head; newest = stands.head; settled = stands.settled; opens = refl }, refl, refl)
-
--- a commit that is answered at once leaves the home with its head
-home_left : (look : Newest) (home : Home) (changes : List Noted) (c : Commit) (a : CommitAnswer) → HomeStands look home → Readies (new_commit home changes) (Ends c a)
-    → HomeStands look c.home × (c.home.client ≡ home.client) × ((t : Trouble) × (a ≡ NotCommitted t))
-home_left look home changes c a stands (inl spent) =
-    let e : c ≡ finished (new_commit home changes) = cc (spent.is) in
-    let f : a ≡ NotCommitted (trouble.Exhausted counter.Txn) = cc (spent.is) in
-    (subst (λ (z : Commit). HomeStands look z.home) (sym e) stands, ap (λ (z : Commit). z.home.client) e, (_, f))
-home_left look home changes c a stands (inr (inl full)) =
-    let e : c ≡ finished (record (new_commit home changes) { home = with_attempt home }) = cc (full.is) in
-    let f : a ≡ NotCommitted (trouble.Exhausted counter.Number) = cc (full.is) in
-    let left : HomeStands look (with_attempt home) = record { head = record { bytes = stands.head.bytes; newest = stands.head.newest; spells = stands.head.spells }; settled = stands.settled } in
-    (subst (λ (z : Commit). HomeStands look z.home) (sym e) left, ap (λ (z : Commit). z.home.client) e, (_, f))
-home_left look home changes c a stands (inr (inr ready)) = absurd (cc (ready.is))
-
--- a commit of what was noted by a home
-commit_of : (lines : List Line) (k : ℕ) (r : Reply) (before after : Seen) (buffer : List Noted) (home : Home) (audit : Audited) (new : World) (t : CloudState) (begun : Begun)
-    → Ready lines (event.Commit k) before after (record { session = record { buffer = buffer; work = work.Idle home }; audit = audit }) new t
-    → new.session.buffer ≡ [] → CommitsOf home buffer new.session.work begun → BegunReply (Ok begun) (Ok r)
-    → StandsFor (lines ++ line_of (event.Commit k) r ∷ []) new after r
-commit_of lines k r before after buffer home audit new t Working ready empty commits replies =
-    let acts = ready.stands.session.acts in
-    let is : new.session ≡ record { buffer = []; work = work.Committing commits.0 } = acting_is new.session [] _ empty commits.2 in
-    let o = opens_head (newest t) home buffer commits.0 ready.stands.session.knows commits.1 in
-    begins_session lines (event.Commit k) r before after _ new t _ ready replies is o.0
-    (record { buffer = refl; work = (ap (λ cs. WorkingOn (Noting cs)) (sym acts.buffer ∙ sym o.1), acts.work.1 ∙ sym o.2) })
-    (opens_known t audit.committed home buffer commits.0 ready.stands.session.knows ready.stands.records.known ready.stands.records.buffer commits.1) may_nothing
-commit_of lines k r before after buffer home audit new t (Answered (answer.Commit a)) ready empty commits replies =
-    let acts = ready.stands.session.acts in
-    let is : new.session ≡ record { buffer = []; work = work.Idle commits.0.home } = acting_is new.session [] _ empty commits.2 in
-    let o = home_left (newest t) home buffer commits.0 a ready.stands.session.knows commits.1 in
-    let f : r ≡ reply.Commit a = cc in
-    let e : r ≡ reply.Commit (NotCommitted o.2.0) = f ∙ ap (λ z. reply.Commit z) o.2.1 in
-    let P : Reply → Type 0 = λ z. StandsFor (lines ++ line_of (event.Commit k) z ∷ []) new after z in
-    subst P (sym e) (leaves_session lines (event.Commit k) (reply.Commit (NotCommitted o.2.0)) before after _ new t ready
-    (subst (λ (x : Acting). Knows (newest t) x.work) (sym is) o.0)
-    (subst (λ x. ActsAs x (record (standing lines 1) { buffer = [] })) (sym is) (record { buffer = refl; work = (acts.work.0, acts.work.1 ∙ sym o.1) }))
-    (subst (λ (x : Acting). RecordsStand x audit t) (sym is)
-    (record { hold = ready.stands.records.hold; known = left_known home buffer commits.0 a ready.stands.records.known commits.1; buffer = may_nothing }))
-    tt tt tt)
-commit_of lines k r before after buffer home audit new t (Answered (answer.Opened epoch)) ready empty commits replies = absurd commits
-commit_of lines k r before after buffer home audit new t (Answered (answer.Done n)) ready empty commits replies = absurd commits
-commit_of lines k r before after buffer home audit new t (Answered (answer.Trouble z)) ready empty commits replies = absurd (cc (replies))
-
--- nothing was noted, and the commit is answered at once
-commits_nothing : (lines : List Line) (k : ℕ) (r : Reply) (before after : Seen) (buffer : List Noted) (home : Home) (audit : Audited) (new : World) (t : CloudState) (begun : Begun)
-    → Ready lines (event.Commit k) before after (record { session = record { buffer = buffer; work = work.Idle home }; audit = audit }) new t
-    → new.session.buffer ≡ [] → CommitsNothing home buffer new.session.work begun → BegunReply (Ok begun) (Ok r)
-    → StandsFor (lines ++ line_of (event.Commit k) r ∷ []) new after r
-commits_nothing lines k r before after buffer home audit new t begun ready empty nothing replies =
-    let answered : BegunReply (Ok (Answered (answer.Commit (Committed 0)))) (Ok r) = subst (λ b. BegunReply (Ok b) (Ok r)) nothing.answer replies in
-    let e : r ≡ reply.Commit (Committed 0) = cc in
-    let same : new.session ≡ record { buffer = buffer; work = work.Idle home } = acting_is new.session buffer (work.Idle home) (empty ∙ sym nothing.none) nothing.work_is in
-    let P : Reply → Type 0 = λ z. StandsFor (lines ++ line_of (event.Commit k) z ∷ []) new after z in
-    subst P (sym e) (leaves_session lines (event.Commit k) (reply.Commit (Committed 0)) before after _ new t ready
-    (subst (λ (x : Acting). Knows (newest t) x.work) (sym same) ready.stands.session.knows)
-    (subst (λ x. ActsAs x (standing lines 1)) (sym same) ready.stands.session.acts)
-    (subst (λ x. RecordsStand x audit t) (sym same) ready.stands.records)
-    tt tt tt)
-
--- nothing was noted, or the home commits what was
-commit_noted : (lines : List Line) (k : ℕ) (r : Reply) (before after : Seen) (buffer : List Noted) (home : Home) (audit : Audited) (new : World) (t : CloudState) (begun : Begun)
-    → Ready lines (event.Commit k) before after (record { session = record { buffer = buffer; work = work.Idle home }; audit = audit }) new t
-    → new.session.buffer ≡ [] → CommitsNoted home buffer new.session.work begun → BegunReply (Ok begun) (Ok r)
-    → StandsFor (lines ++ line_of (event.Commit k) r ∷ []) new after r
-commit_noted lines k r before after buffer home audit new t begun ready empty (inl nothing) replies = commits_nothing lines k r before after buffer home audit new t begun ready empty nothing replies
-commit_noted lines k r before after buffer home audit new t begun ready empty (inr some) replies = commit_of lines k r before after buffer home audit new t begun ready empty some.1 replies
-
-commit_begun : (lines : List Line) (k : ℕ) (r : Reply) (before after : Seen) (old new : World) (t : CloudState) (begun : Result Begun Refused)
-    → Ready lines (event.Commit k) before after old new t → BeginsByHome (CommitsIn old.session.buffer) old.session new.session begun → BegunReply begun (Ok r)
-    → StandsFor (lines ++ line_of (event.Commit k) r ∷ []) new after r
-commit_begun lines k r before after old new t (Ok begun) ready begins replies =
-    commit_noted lines k r before after old.session.buffer begins.0 old.audit new t begun
-    (begins_home lines (event.Commit k) before after old new t begins.0 begins.1 ready) begins.2.0 begins.2.1 replies
-commit_begun lines k r before after old new t (Err (refused.Rule rule)) ready begins replies = refuses_session lines (event.Commit k) r rule before after old new t ready replies begins.1
-commit_begun lines k r before after old new t (Err refused.Memory) ready begins replies = absurd begins
-
--- ---- lines that note and drop
-
-notes : (lines : List Line) (k tree : ℕ) (key payload : Blob) (r : Reply) (before after : Seen) (old new : World) (t : CloudState)
-    → Ready lines (event.Insert k tree key payload) before after old new t → Notes tree (Insert key payload) old.session new.session (Ok r)
-    → StandsFor (lines ++ line_of (event.Insert k tree key payload) r ∷ []) new after r
-notes lines k tree key payload reply.Noted before after old new t ready h =
-    let acts = ready.stands.session.acts in
-    leaves_session lines (event.Insert k tree key payload) reply.Noted before after old new t ready
-    (subst (λ (x : Acting). Knows (newest t) x.work) (sym h.0) ready.stands.session.knows)
-    (subst (λ x. ActsAs x (after_own (event.Insert k tree key payload) reply.Noted (standing lines 1))) (sym h.0)
-    (record { buffer = ap (λ b. noted_in b tree (Insert key payload)) acts.buffer; work = works_with old.session.work (standing lines 1) _ acts.work }))
-    (subst (λ (x : Acting). RecordsStand x old.audit t) (sym h.0)
-    (record { hold = ready.stands.records.hold; known = ready.stands.records.known; buffer = may_insert old.session.buffer tree key payload ready.stands.records.buffer }))
-    tt tt tt
-notes lines k tree key payload (reply.Refused rule) before after old new t ready h = refuses_session lines (event.Insert k tree key payload) (reply.Refused rule) rule before after old new t ready refl h.0
-notes lines k tree key payload r before after old new t ready h = absurd h
-
-aborts : (lines : List Line) (k : ℕ) (r : Reply) (before after : Seen) (old new : World) (t : CloudState)
-    → Ready lines (event.Abort k) before after old new t → Aborts old.session new.session (Ok r) → StandsFor (lines ++ line_of (event.Abort k) r ∷ []) new after r
-aborts lines k reply.Aborted before after old new t ready h =
-    let acts = ready.stands.session.acts in
-    leaves_session lines (event.Abort k) reply.Aborted before after old new t ready
-    (subst (λ (x : Acting). Knows (newest t) x.work) (sym h.0) ready.stands.session.knows)
-    (subst (λ x. ActsAs x (record (standing lines 1) { buffer = [] })) (sym h.0) (record { buffer = refl; work = works_with old.session.work (standing lines 1) [] acts.work }))
-    (subst (λ (x : Acting). RecordsStand x old.audit t) (sym h.0) (record { hold = ready.stands.records.hold; known = ready.stands.records.known; buffer = may_nothing }))
-    tt tt tt
-aborts lines k (reply.Refused rule) before after old new t ready h = refuses_session lines (event.Abort k) (reply.Refused rule) rule before after old new t ready refl h.0
-aborts lines k r before after old new t ready h = absurd h
-
--- ---- a line that runs
-
-replies_to : (a : Answer) (r : Reply) → Replies a (Ok r) → IsReplyTo a r
-replies_to (answer.Opened epoch) r h = cc
-replies_to (answer.Done n) r h = cc
-replies_to (answer.Commit (Committed txn)) r h = cc
-replies_to (answer.Commit (NotCommitted t)) r h = absurd (cc (h))
-replies_to (answer.Commit InDoubt) r h = absurd (cc (h))
-replies_to (answer.Commit (CommittedOpen t)) r h = absurd (cc (h))
-replies_to (answer.Trouble t) r h = absurd (cc (h))
-
--- where a session is after some steps
+-- where the sessions are after some steps
 pub record IsUnderWay (lines : List Line) (world : World) (seen : Seen) : Type 0 where
   pub after : CloudState
   pub told : seen.state ≡ Some after
-  pub goes : GoesOn lines world.session world.audit after
+  pub goes : GoesOn lines (session_at world.sessions) world.audit world.blind after
 
-step_more : (lines : List Line) (who : Caller) (before after : Seen) (old new : World) → who.session ≡ 1 → who.event ≡ length lines + 1
-    → IsUnderWay lines old before → StepsLooked who before after old new (Ok More) → IsUnderWay lines new after
-step_more lines who before after old new session event way step =
-    let k = step_goes_on lines who step.from step.to way.after old.session new.session old.audit new.audit session event
-    (step.look_before.stays way.after way.told) way.goes step.steps (λ y. step.audit way.after y way.told) in
-    record { after = k.0; told = step.look_after.stays k.0 k.1; goes = k.2 }
+pub way_begins : (lines : List Line) (before : Seen) (old : World) (t : CloudState) → before.state ≡ Some t → WorldStands lines old t → IsUnderWay lines old before
+way_begins lines before old t told stands = record { after = t; told = told; goes = begins_line lines (session_at old.sessions) old.audit old.blind t stands }
 
-went_on : (lines : List Line) (who : Caller) (before : Seen) (old : World) (after : Seen) (new : World) → who.session ≡ 1 → who.event ≡ length lines + 1
-    → IsUnderWay lines old before → Went who before old after new → IsUnderWay lines new after
-went_on lines who before old after new session number way start = way
-went_on lines who before old after new session number way (further mid _ world _ went step) =
-    step_more lines who mid after world new session number (went_on lines who before old mid world session number way went) step
+-- what a step leaves, but for how its session stands
+pub record IsStepped (lines : List Line) (new : World) (after : Seen) : Type 0 where
+  pub state : CloudState
+  pub told : after.state ≡ Some state
+  pub holds : CloudHolds (length lines + 1) lines (session_at new.sessions) new.audit new.blind state
 
--- the last step of a run
-ends_run : (lines : List Line) (k : ℕ) (who : Caller) (before after : Seen) (old new : World) (last : Result (Turn Answer) Refused) (r : Reply)
-    → k ≡ 1 → who.session ≡ 1 → who.event ≡ length lines + 1 → IsUnderWay lines old before → StepsLooked who before after old new last → RunReply last (Ok r)
-    → StandsFor (lines ++ line_of (event.Run k) r ∷ []) new after r
-ends_run lines k who before after old new (Ok (Ended a)) r own session number way step replies =
-    let is = replies_to a r replies in
-    let k' = step_ends lines who step.from step.to way.after old.session new.session old.audit new.audit a r session number
-    (step.look_before.stays way.after way.told) way.goes step.steps is (λ y. step.audit way.after y way.told) in
+module _ (lines : List Line) (who : Caller) (wish : Wish) (before after : Seen) (old new : World) (turn : Turn Answer)
+    (event : who.event ≡ length lines + 1) (some : 1 ≤ who.session) (way : IsUnderWay lines old before) (p : StepsLooked who wish before after old new turn) where
+  abbrev f : Sessions
+  f = session_at old.sessions
+
+  abbrev x : CloudState
+  x = way.after
+
+  abbrev wished : CloudState
+  wished = record way.after { wish = wish }
+
+  was : f who.session ≡ p.session.before
+  was = changed_was who.session _ old.sessions new.sessions some p.session
+
+  pub steps_own : StepsSession who p.under p.to (f who.session) p.session.after (Ok turn)
+  steps_own = subst (λ a. StepsSession who p.under p.to a p.session.after (Ok turn)) (sym was) p.session.does
+
+  told_under : p.under.state ≡ Some wished
+  told_under = p.wishes.set x (p.look_before.stays x way.told)
+
+  call : CallLeaves lines p.to f who.session p.session.after new.audit new.blind
+  call =
+      call_holds lines who p.under p.to wished f p.session.after turn old.audit new.audit old.blind new.blind event told_under
+      (wish_holds (length lines + 1) lines f old.audit old.blind x wish way.goes.holds) (way.goes.acts who.session).work steps_own
+      (record {
+        saw = p.saw;
+        audit = λ e y to. p.audit e x y way.told to ∙ ap (λ (a : Acting). audited (newest x) (newest y) a.work old.audit) (sym was);
+      })
+
+  pub stepped : IsStepped lines new after
+  stepped = record {
+    state = call.state;
+    told = p.look_after.stays call.state call.told;
+    holds = holds_same (length lines + 1) lines (at who.session p.session.after f) (session_at new.sessions) new.audit new.blind call.state
+        (changed_at who.session _ old.sessions new.sessions some p.session) call.holds;
+  }
+
+  -- the session is the changed one, the others are as they were
+  pub sessions_after : (n : ℕ) → session_at new.sessions n ≡ at who.session p.session.after f n
+  sessions_after = changed_at who.session _ old.sessions new.sessions some p.session
+
+step_more : (lines : List Line) (who : Caller) (wish : Wish) (before after : Seen) (old new : World) → who.event ≡ length lines + 1 → 1 ≤ who.session
+    → IsUnderWay lines old before → StepsLooked who wish before after old new More → IsUnderWay lines new after
+step_more lines who wish before after old new event some way p =
+    let f : Sessions = session_at old.sessions in
+    let s = stepped lines who wish before after old new More event some way p in
+    let own = steps_own lines who wish before after old new More event some way p in
+    let acts = way.goes.acts who.session in
+    let mine : ActsAs p.session.after (standing lines who.session) = record {
+      buffer = own.buffer ∙ acts.buffer;
+      work = goes_as _ _ who p.under p.to (f who.session).work p.session.after.work (standing lines who.session) (way.goes.holds.stand.each who.session).work own.work acts.work;
+    } in
+    let all : AllAct lines (at who.session p.session.after f) = acts_set lines who.session f p.session.after way.goes.acts mine in
     record {
-      after = k'.after;
-      told = step.look_after.stays k'.after k'.told;
-      stands = line_through lines (line_of (event.Run k) r) new.session new.audit k'.after k'.cloud k'.knows
-          (subst (λ z. ActsAs new.session z) (sym (own_line (event.Run k) r (standing lines 1) own)) k'.acts) k'.records k'.reported (answer_no_front new.audit.order a r is);
-      right = answer_no_report (lines ++ line_of (event.Run k) r ∷ []) k'.after a r is;
-      left = answer_no_left k'.after a r is;
+      after = s.state;
+      told = s.told;
+      goes = record {
+        holds = s.holds;
+        acts = λ n. subst (λ a. ActsAs a (standing lines n)) (sym (sessions_after lines who wish before after old new More event some way p n)) (all n);
+      };
     }
-ends_run lines k who before after old new (Err (refused.Rule rule)) r own session number way step replies =
-    let e : r ≡ reply.Refused rule = cc in
-    let P : Reply → Type 0 = λ z. StandsFor (lines ++ line_of (event.Run k) z ∷ []) new after z in
-    let same : new.session ≡ old.session = acting_is new.session _ _ step.steps.buffer step.steps.work.2 in
-    let told : step.to.state ≡ Some way.after = ap (λ (z : Seen). z.state) step.steps.work.3 ∙ step.look_before.stays way.after way.told in
-    let audit : new.audit ≡ old.audit = step.audit way.after way.after way.told told ∙ idle_audit (newest way.after) (newest way.after) old.session.work old.audit step.steps.work.1 in
-    subst P (sym e) (record {
-      after = way.after;
-      told = step.look_after.stays way.after told;
-      stands = line_through lines (line_of (event.Run k) (reply.Refused rule)) new.session new.audit way.after
-          (subst (λ a. CloudStands (length lines + 1) lines a way.after) (sym audit) way.goes.cloud)
-          (subst (λ (x : Acting). Knows (newest way.after) x.work) (sym same) way.goes.session.knows)
-          (subst (λ z. ActsAs new.session z) (sym (refused_line (event.Run k) rule (standing lines 1))) (subst (λ x. ActsAs x (standing lines 1)) (sym same) way.goes.session.acts))
-          (subst (λ a. RecordsStand new.session a way.after) (sym audit) (subst (λ x. RecordsStand x old.audit way.after) (sym same) way.goes.records))
-          (subst (λ (a : Audited). Reported lines a.order) (sym audit) way.goes.reported) tt;
-      right = tt;
-      left = tt;
-    })
-ends_run lines k who before after old new (Ok More) r own session number way step replies = absurd replies
-ends_run lines k who before after old new (Ok (Stopped t)) r own session number way step replies = absurd replies
-ends_run lines k who before after old new (Err refused.Memory) r own session number way step replies = absurd replies
 
-runs : (lines : List Line) (k n : ℕ) (r : Reply) (before after : Seen) (old new : World) (t : CloudState)
-    → k ≡ 1 → length lines + 1 ≡ n → before.state ≡ Some t → Stands lines old.session old.audit t → RunsTo n before after old new (Ok r)
-    → StandsFor (lines ++ line_of (event.Run k) r ∷ []) new after r
-runs lines k n r before after old new t own at told stands run =
-    let who : Caller = record { session = 1; event = n } in
-    let way : IsUnderWay lines old before = record { after = t; told = told; goes = begins_line lines old.session old.audit t stands } in
-    ends_run lines k who run.mid after run.world new run.last r own refl (sym at)
-    (went_on lines who before old run.mid run.world refl (sym at) way run.went) run.steps run.replies
+went_on : (lines : List Line) (who : Caller) (before : Seen) (old : World) (after : Seen) (new : World) → who.event ≡ length lines + 1 → 1 ≤ who.session
+    → IsUnderWay lines old before → Went who before old after new → IsUnderWay lines new after
+went_on lines who before old after new number some way start = way
+went_on lines who before old after new number some way (further mid _ world _ went step) =
+    step_more lines who Plain mid after world new number some (went_on lines who before old mid world number some way went) step
+
+-- the reply to an answer is no report
+replies_to : (a : Answer) (r : Reply) → (let result : Result Reply WorldFault = Ok r in result ≡ reply_of a) → IsReplyTo a r × IsNoReport r
+replies_to (answer.Opened epoch) r e = let is : r ≡ reply.Opened epoch = cc in (is, subst IsNoReport (sym is) tt)
+replies_to (answer.Done n) r e = let is : r ≡ reply.Done n = cc in (is, subst IsNoReport (sym is) tt)
+replies_to (answer.Commit a) r e = let is : r ≡ reply.Commit a = cc in (is, subst IsNoReport (sym is) tt)
+replies_to (answer.Trouble t) r e = on t e
+  where
+    on : (t : Trouble) → (let result : Result Reply WorldFault = Ok r in result ≡ trouble_reply t) → ((r ≡ reply.Trouble t) × (t ≡ trouble.Memory → ⊥)) × IsNoReport r
+    on trouble.Memory e = absurd (cc)
+    on trouble.Failed e = let is : r ≡ reply.Trouble trouble.Failed = cc in ((is, λ m. absurd (cc)), subst IsNoReport (sym is) tt)
+    on (trouble.Late end now) e = let is : r ≡ reply.Trouble (trouble.Late end now) = cc in ((is, λ m. absurd (cc)), subst IsNoReport (sym is) tt)
+    on (trouble.Busy lock until) e = let is : r ≡ reply.Trouble (trouble.Busy lock until) = cc in ((is, λ m. absurd (cc)), subst IsNoReport (sym is) tt)
+    on (trouble.Waiting have need) e = let is : r ≡ reply.Trouble (trouble.Waiting have need) = cc in ((is, λ m. absurd (cc)), subst IsNoReport (sym is) tt)
+    on (trouble.Stale page least got) e = let is : r ≡ reply.Trouble (trouble.Stale page least got) = cc in ((is, λ m. absurd (cc)), subst IsNoReport (sym is) tt)
+    on (trouble.Absent page) e = let is : r ≡ reply.Trouble (trouble.Absent page) = cc in ((is, λ m. absurd (cc)), subst IsNoReport (sym is) tt)
+    on (trouble.NotALeaf page) e = let is : r ≡ reply.Trouble (trouble.NotALeaf page) = cc in ((is, λ m. absurd (cc)), subst IsNoReport (sym is) tt)
+    on (trouble.Damaged place offset) e = let is : r ≡ reply.Trouble (trouble.Damaged place offset) = cc in ((is, λ m. absurd (cc)), subst IsNoReport (sym is) tt)
+    on (trouble.BadFence page expected found) e = let is : r ≡ reply.Trouble (trouble.BadFence page expected found) = cc in ((is, λ m. absurd (cc)), subst IsNoReport (sym is) tt)
+    on (trouble.Loop page) e = let is : r ≡ reply.Trouble (trouble.Loop page) = cc in ((is, λ m. absurd (cc)), subst IsNoReport (sym is) tt)
+    on (trouble.Exhausted what) e = let is : r ≡ reply.Trouble (trouble.Exhausted what) = cc in ((is, λ m. absurd (cc)), subst IsNoReport (sym is) tt)
+
+-- a line whose last step is answered
+step_ends : (lines : List Line) (event : Event) (who : Caller) (wish : Wish) (before after : Seen) (old new : World) (a : Answer) (r : Reply)
+    → session_of event ≡ who.session → ((s : Standing) → after_own event r s ≡ steps r s) → who.event ≡ length lines + 1 → 1 ≤ who.session
+    → IsUnderWay lines old before → StepsLooked who wish before after old new (Ended a) → (let result : Result Reply WorldFault = Ok r in result ≡ reply_of a)
+    → StandsFor (lines ++ line_of event r ∷ []) new after r
+step_ends lines event who wish before after old new a r own_is does number some way p replies =
+    let f : Sessions = session_at old.sessions in
+    let s = stepped lines who wish before after old new (Ended a) number some way p in
+    let own = steps_own lines who wish before after old new (Ended a) number some way p in
+    let acts = way.goes.acts who.session in
+    let is = replies_to a r replies in
+    let ended = ends_as _ _ who p.under p.to (f who.session).work p.session.after.work (standing lines who.session) a r (way.goes.holds.stand.each who.session).work own.work is.0 acts.work in
+    let mine : ActsAs p.session.after (steps r (standing lines who.session)) = record { buffer = own.buffer ∙ acts.buffer ∙ sym ended.buffer; work = ended.work } in
+    let all : AllActWith lines (line_of event r) (at who.session p.session.after f) =
+    own_line lines who.session event r f p.session.after own_is way.goes.acts (subst (ActsAs p.session.after) (sym (does (standing lines who.session))) mine) in
+    through lines event r after new s.state s.told s.holds
+    (λ n. subst (λ z. ActsAs z (after_line n (standing lines n) (line_of event r))) (sym (sessions_after lines who wish before after old new (Ended a) number some way p n)) (all n)) is.1
+
+-- ---- the lines that make steps
+
+stops_work : (who : Caller) (before after : Seen) (w new : Work) (t : Trouble) → StepsAt who before after w new (Stopped t) → ⊥
+stops_work who before after (Opening m) new t p = p.1
+stops_work who before after (Committing m) new t p = p.1
+stops_work who before after (Folding home f) new t p = p
+stops_work who before after Closed new t p = p
+stops_work who before after (Idle home) new t p = p
+stops_work who before after Broken new t p = p
+
+no_stop : (who : Caller) (before after : Seen) (old new : Acting) (t : Trouble) → StepsSession who before after old new (Ok (Stopped t)) → ⊥
+no_stop who before after old new t p = stops_work who before after old.work new.work t p.work
+
+refused_step : (lines : List Line) (event : Event) (r : Reply) (number : ℕ) (before after : Seen) (old new : World) (t : CloudState)
+    → RefusesStep number before after old new (Ok r) → before.state ≡ Some t → WorldStands lines old t → StandsFor (lines ++ line_of event r ∷ []) new after r
+refused_step lines event r number before after old new t h told stands = declines lines event r _ before after old new t h.declines told stands
+
+no_memory : (r : Reply) → (let result : Result Reply WorldFault = Ok r in let fault : Result Reply WorldFault = Err Memory in result ≡ fault) → ⊥
+no_memory r e = absurd (cc)
+
+runs_to : (lines : List Line) (k n : ℕ) (r : Reply) (before after : Seen) (old new : World) (t : CloudState) → length lines + 1 ≡ n → 1 ≤ k
+    → before.state ≡ Some t → WorldStands lines old t → RunsTo n k before after old new (Ok r) → StandsFor (lines ++ line_of (event.Run k) r ∷ []) new after r
+runs_to lines k n r before after old new t at some told stands run =
+    let who : Caller = record { session = k; event = n } in
+    step_ends lines (event.Run k) who Plain run.mid after run.world new run.answer r refl (λ s. refl) (sym at) some
+    (went_on lines who before old run.mid run.world (sym at) some (way_begins lines before old t told stands) run.went) run.steps run.replies
+
+pub runs : (lines : List Line) (k n : ℕ) (r : Reply) (before after : Seen) (old new : World) (t : CloudState) → length lines + 1 ≡ n → 1 ≤ k
+    → before.state ≡ Some t → WorldStands lines old t → Runs n k before after old new (Ok r) → StandsFor (lines ++ line_of (event.Run k) r ∷ []) new after r
+runs lines k n r before after old new t at some told stands (inl refused) = refused_step lines (event.Run k) r k before after old new t refused told stands
+runs lines k n r before after old new t at some told stands (inr (inl run)) = runs_to lines k n r before after old new t at some told stands run
+runs lines k n r before after old new t at some told stands (inr (inr memory)) = absurd (no_memory r memory)
+
+-- a step that goes on
+called_line : (lines : List Line) (event : Event) (who : Caller) (wish : Wish) (before after : Seen) (old new : World)
+    → ((s : Standing) → after_own event reply.Called s ≡ s) → who.event ≡ length lines + 1 → 1 ≤ who.session
+    → IsUnderWay lines old before → StepsLooked who wish before after old new More → StandsFor (lines ++ line_of event reply.Called ∷ []) new after reply.Called
+called_line lines event who wish before after old new still number some way p =
+    let on = step_more lines who wish before after old new number some way p in
+    through lines event reply.Called after new on.after on.told on.goes.holds (still_line lines event reply.Called (session_at new.sessions) still on.goes.acts) tt
+
+step_to : (lines : List Line) (k n : ℕ) (wish : Wish) (r : Reply) (before after : Seen) (old new : World) (t : CloudState) (turn : Turn Answer) → length lines + 1 ≡ n → 1 ≤ k
+    → before.state ≡ Some t → WorldStands lines old t → StepsLooked (record { session = k; event = n }) wish before after old new turn
+    → (let result : Result Reply WorldFault = Ok r in result ≡ turn_reply turn) → StandsFor (lines ++ line_of (event.Step k wish) r ∷ []) new after r
+step_to lines k n wish r before after old new t More at some told stands p replies =
+    let is : r ≡ reply.Called = cc in
+    let P : Reply → Type 0 = λ z. StandsFor (lines ++ line_of (event.Step k wish) z ∷ []) new after z in
+    subst P (sym is) (called_line lines (event.Step k wish) (record { session = k; event = n }) wish before after old new (λ s. refl) (sym at) some
+    (way_begins lines before old t told stands) p)
+step_to lines k n wish r before after old new t (Ended a) at some told stands p replies =
+    step_ends lines (event.Step k wish) (record { session = k; event = n }) wish before after old new a r refl (λ s. refl) (sym at) some
+    (way_begins lines before old t told stands) p replies
+step_to lines k n wish r before after old new t (Stopped trouble) at some told stands p replies =
+    absurd (no_stop _ p.under p.to p.session.before p.session.after trouble p.session.does)
+
+pub makes_step : (lines : List Line) (k n : ℕ) (wish : Wish) (r : Reply) (before after : Seen) (old new : World) (t : CloudState) → length lines + 1 ≡ n → 1 ≤ k
+    → before.state ≡ Some t → WorldStands lines old t → MakesStep n k wish before after old new (Ok r) → StandsFor (lines ++ line_of (event.Step k wish) r ∷ []) new after r
+makes_step lines k n wish r before after old new t at some told stands (inl refused) = refused_step lines (event.Step k wish) r k before after old new t refused told stands
+makes_step lines k n wish r before after old new t at some told stands (inr (inl step)) =
+    step_to lines k n wish r before after old new t step.turn at some told stands step.steps step.replies
+makes_step lines k n wish r before after old new t at some told stands (inr (inr memory)) = absurd (no_memory r memory)
+
+-- ---- a session that dies
+
+crashed_own : (k : ℕ) (done : Bool) (s : Standing) → ActsAs closed_session (after_own (event.Crash k done) reply.Crashed s)
+crashed_own k done s = record { buffer = refl; work = refl }
+
+dies : (lines : List Line) (k : ℕ) (done : Bool) (r : Reply) (before after : Seen) (old new : World) (t : CloudState) → 1 ≤ k
+    → before.state ≡ Some t → WorldStands lines old t → Dies k before after old new (Ok r) → StandsFor (lines ++ line_of (event.Crash k done) r ∷ []) new after r
+dies lines k done r before after old new t some told stands h =
+    let is : r ≡ reply.Crashed = cc (h.replies) in
+    let P : Reply → Type 0 = λ z. StandsFor (lines ++ line_of (event.Crash k done) z ∷ []) new after z in
+    let ready : Ready lines (event.Crash k done) k before after old new t = record { own = refl; some = some; quiet = h.quiet; told = told; stands = stands } in
+    let S : Acting → Type 0 = λ a. SessionsStand stands.holds.book stands.holds.order t (at k a (session_at old.sessions)) in
+    subst P (sym is) (quiet_line lines (event.Crash k done) reply.Crashed k before after old new t _ ready h.closed
+    (subst S (sym h.closed.does) (crash_keeps stands.holds.book stands.holds.order t (session_at old.sessions) k stands.holds.stand))
+    (subst (λ a. ActsAs a (after_own (event.Crash k done) reply.Crashed (standing lines k))) (sym h.closed.does) (crashed_own k done (standing lines k))) tt)
+
+-- closing a session that a step changed closes it
+closed_twice : (k : ℕ) (a : Acting) (f g h : Sessions) → ((n : ℕ) → g n ≡ at k a f n) → ((n : ℕ) → h n ≡ at k closed_session g n) → (n : ℕ) → h n ≡ at k closed_session f n
+closed_twice k a f g h first second n = second n ∙ on (cases_eq n k)
+  where
+    on : (n ≡ k) ⊎ (n ≢ k) → at k closed_session g n ≡ at k closed_session f n
+    on (inl e) = at_same k closed_session g n e ∙ sym (at_same k closed_session f n e)
+    on (inr ne) = at_other k closed_session g n ne ∙ first n ∙ at_other k a f n ne ∙ sym (at_other k closed_session f n ne)
+
+dies_done : (lines : List Line) (k n : ℕ) (r : Reply) (before after : Seen) (old new : World) (t : CloudState) → length lines + 1 ≡ n → 1 ≤ k
+    → before.state ≡ Some t → WorldStands lines old t → DiesDone n k before after old new (Ok r) → StandsFor (lines ++ line_of (event.Crash k true) r ∷ []) new after r
+dies_done lines k n r before after old new t at_n some told stands h =
+    let is : r ≡ reply.Crashed = cc (h.replies) in
+    let P : Reply → Type 0 = λ z. StandsFor (lines ++ line_of (event.Crash k true) z ∷ []) new after z in
+    subst P (sym is) (through lines (event.Crash k true) reply.Crashed after new s.state s.told holds acts tt)
+  where
+    who : Caller
+    who = record { session = k; event = n }
+
+    way : IsUnderWay lines old before
+    way = way_begins lines before old t told stands
+
+    f : Sessions
+    f = session_at old.sessions
+
+    g : Sessions
+    g = session_at h.world.sessions
+
+    s : IsStepped lines h.world after
+    s = stepped lines who Plain before after old h.world h.turn (sym at_n) some way h.steps
+
+    closed : (m : ℕ) → session_at new.sessions m ≡ at k closed_session g m
+    closed m = changed_at k _ h.world.sessions new.sessions some h.closed m ∙ ap (λ a. at k a g m) h.closed.does
+
+    own : CloudHolds (length lines + 1) lines (at k closed_session g) h.world.audit h.world.blind s.state
+    own = record {
+      book = s.holds.book;
+      order = s.holds.order;
+      stand = crash_keeps s.holds.book s.holds.order s.state g k s.holds.stand;
+      cloud = s.holds.cloud;
+      seen = s.holds.seen;
+      reported = s.holds.reported;
+    }
+
+    At : Audited → Bool → Type 0
+    At a b = CloudHolds (length lines + 1) lines (session_at new.sessions) a b s.state
+
+    holds : CloudHolds (length lines + 1) lines (session_at new.sessions) new.audit new.blind s.state
+    holds =
+        subst (λ a. At a new.blind) (sym h.audit) (subst (At h.world.audit) (sym h.blind)
+        (holds_same (length lines + 1) lines (at k closed_session g) (session_at new.sessions) h.world.audit h.world.blind s.state closed own))
+
+    acts : AllActWith lines (line_of (event.Crash k true) reply.Crashed) (session_at new.sessions)
+    acts m =
+        subst (λ z. ActsAs z (after_line m (standing lines m) (line_of (event.Crash k true) reply.Crashed)))
+        (sym (closed_twice k h.steps.session.after f g (session_at new.sessions) (sessions_after lines who Plain before after old h.world h.turn (sym at_n) some way h.steps) closed m))
+        (own_line lines k (event.Crash k true) reply.Crashed f closed_session refl way.goes.acts (crashed_own k true (standing lines k)) m)
+
+pub crashes : (lines : List Line) (k n : ℕ) (done : Bool) (r : Reply) (before after : Seen) (old new : World) (t : CloudState) → length lines + 1 ≡ n → 1 ≤ k
+    → before.state ≡ Some t → WorldStands lines old t → Crashes n k done before after old new (Ok r) → StandsFor (lines ++ line_of (event.Crash k done) r ∷ []) new after r
+crashes lines k n false r before after old new t at some told stands h = dies lines k false r before after old new t some told stands h
+crashes lines k n true r before after old new t at some told stands (inl idle) = dies lines k true r before after old new t some told stands idle.dies
+crashes lines k n true r before after old new t at some told stands (inr (inl done)) = dies_done lines k n r before after old new t at some told stands done
+crashes lines k n true r before after old new t at some told stands (inr (inr memory)) = absurd (no_memory r memory)
+
+-- ---- waits
+
+end_later : (now ticks after : ℕ) → now ≤ greatest → end_after now ticks ≤ after → now ≤ after
+end_later now ticks after within later = omega arith
+
+pub waits : (lines : List Line) (ticks : ℕ) (r : Reply) (before after : Seen) (old new : World) (t : CloudState) → before.state ≡ Some t → WorldStands lines old t
+    → (WaitsFor ticks before after (Ok r) × (new ≡ old)) ⊎ WaitsTooLong ticks before after old new (Ok r) → StandsFor (lines ++ line_of (event.Wait ticks) r ∷ []) new after r
+waits lines ticks r before after old new t told stands (inl h) =
+    let is : r ≡ reply.Waited = cc (h.0.replies) in
+    let w = h.0.waited t told in
+    let P : Reply → Type 0 = λ z. StandsFor (lines ++ line_of (event.Wait ticks) z ∷ []) new after z in
+    let S : CloudState → Type 0 = λ u. CloudHolds (length lines + 1) lines (session_at new.sessions) new.audit new.blind u in
+    let later : t.now ≤ w.after.now = end_later t.now ticks w.after.now (h.0.clock t told) w.later in
+    subst P (sym is) (through lines (event.Wait ticks) reply.Waited after new w.after w.told
+    (subst S (sym w.rest) (wait_holds (length lines + 1) lines (session_at new.sessions) new.audit new.blind t w.after.now _ later (world_holds lines old new t h.1 stands)))
+    (still_line lines (event.Wait ticks) reply.Waited (session_at new.sessions) (λ s. refl) (world_acts lines old new t h.1 stands)) tt)
+waits lines ticks r before after old new t told stands (inr long) = declines lines (event.Wait ticks) r _ before after old new t long.declines told stands
 
 -- ---- reports
 
--- a report by the audit and by looks is right
-right_of : (lines : List Line) (tree : ℕ) (session : Acting) (audit : Audited) (s : Option CloudState) (t : CloudState) (r : ReportShown) → Stands lines session audit t → Shows tree s audit r → s ≡ Some t → IsRight lines t r
-right_of lines tree session audit s t r stands shows told =
-    let found = report_of t tree audit.order r.contents (stands.cloud.trees tree) (shows.contents t told) in
-    let at : tree ≡ r.tree = sym shows.tree_is in
-    record {
-      committed = shows.committed ∙ ap (λ es. of_tree tree es) stands.cloud.committed ∙ ap (λ k. of_tree k (committed lines t)) at;
-      leaves = found.leaves;
-      chain = subst (λ k. AreLeaves t k found.leaves) at found.chain;
-      contents = found.contents_are;
-      found = λ key. subst (λ k. Finds t k key (payload_at key r.contents)) at (found.found key);
-      folded = λ key. found.folded_own key ∙ ap (λ es. fold es tree key) (sym shows.order) ∙ ap (λ k. fold r.order k key) at;
-      legal = of_lists IsLegal (legal_in_tree (tally_of t) audit.committed audit.order tree stands.records.hold);
-      grown = λ k line there. grown line.reply (stands.reported k line there);
-      complete = λ heads messages. of_lists HoldsAll (complete_in_tree t audit.committed audit.order tree stands.records.hold (sym (shows.heads t told) ∙ heads) (subst (AreWaiting t tree) messages (shows.messages t told)));
-    }
-  where
-    of_lists : (P : List Entry → List Entry → Type 0) → P (of_tree tree audit.order) (of_tree tree audit.committed) → P r.order r.committed
-    of_lists P h = subst (λ os. P os r.committed) (sym shows.order) (subst (P (of_tree tree audit.order)) (sym shows.committed) h)
-
-    grown : (q : Reply) → IsFrontOf audit.order q → GoesOnFrom r.tree r.order q
-    grown (reply.Report q) front = λ same. subst (BeginsWith q.order) (ap (λ k. of_tree k audit.order) (same ∙ shows.tree_is) ∙ sym shows.order) front
-    grown q front = tt
-
--- and so are its two numbers
 left_of : (tree : ℕ) (audit : Audited) (s : Option CloudState) (t : CloudState) (r : ReportShown) → Shows tree s audit r → s ≡ Some t → IsLeft t r
 left_of tree audit s t r shows told =
-    let at : tree ≡ r.tree = sym shows.tree_is in
+    let is : tree ≡ r.tree = sym shows.tree_is in
     record {
-      heads = shows.heads t told ∙ ap (λ es. heads_upto t tree es 64) (sym shows.committed) ∙ ap (λ k. heads_upto t k r.committed 64) at;
-      messages = subst (λ k. AreWaiting t k r.messages) at (shows.messages t told);
+      heads = shows.heads t told ∙ ap (λ es. heads_upto t tree es 64) (sym shows.committed) ∙ ap (λ k. heads_upto t k r.committed 64) is;
+      messages = subst (λ k. AreWaiting t k r.messages) is (shows.messages t told);
     }
 
--- the order of a report is where the audit's begins
-front_of : (tree : ℕ) (audit : Audited) (r : ReportShown) → r.tree ≡ tree → r.order ≡ of_tree tree audit.order → IsFrontOf audit.order (reply.Report r)
-front_of tree audit r at is = begins_same r.order (of_tree r.tree audit.order) (ap (λ k. of_tree k audit.order) at ∙ sym is)
+shown_of : (tree : ℕ) (audit : Audited) (s : Option CloudState) (t : CloudState) (r : ReportShown) → Shows tree s audit r → s ≡ Some t → IsShown tree t audit r
+shown_of tree audit s t r shows told = record {
+  tree_is = shows.tree_is;
+  committed = shows.committed;
+  order = shows.order;
+  contents = shows.contents t told;
+  heads = shows.heads t told;
+  messages = shows.messages t told;
+}
 
-reports : (lines : List Line) (tree : ℕ) (r : Reply) (before after : Seen) (old new : World) (t : CloudState)
-    → before.state ≡ Some t → Stands lines old.session old.audit t → Reports tree before after old new (Ok r)
-    → StandsFor (lines ++ line_of (event.Report tree) r ∷ []) new after r
+report_shown : (lines : List Line) (tree : ℕ) (r : ReportShown) (before after : Seen) (world : World) (t : CloudState)
+    → before.state ≡ Some t → after.state ≡ Some t → WorldStands lines world t → IsTree tree → world.blind ≡ false → Shows tree before.state world.audit r
+    → StandsFor (lines ++ line_of (event.Report tree) (reply.Report r) ∷ []) world after (reply.Report r)
+report_shown lines tree r before after world t told still stands is sees shows = record {
+  after = t;
+  told = still;
+  stands = stood;
+  right = report_right (lines ++ line ∷ []) tree (session_at world.sessions) world.audit t r (subst (λ b. Stands (lines ++ line ∷ []) (session_at world.sessions) world.audit b t) sees stood)
+      is (shown_of tree world.audit before.state t r shows told);
+  left = left_of tree world.audit before.state t r shows told;
+}
+  where
+    line : Line
+    line = line_of (event.Report tree) (reply.Report r)
+
+    h : CloudHolds (length lines + 1) lines (session_at world.sessions) world.audit world.blind t
+    h = (begins_line lines (session_at world.sessions) world.audit world.blind t stands).holds
+
+    front : IsFrontOf h.order (reply.Report r)
+    front =
+        begins_same r.order (of_tree r.tree h.order)
+        (ap (λ k. of_tree k h.order) shows.tree_is ∙ ap (λ (a : Audited). of_tree tree a.order) (sym (h.seen sees)) ∙ sym shows.order)
+
+    stood : WorldStands (lines ++ line ∷ []) world t
+    stood =
+        line_through lines line (session_at world.sessions) world.audit world.blind t h
+        (still_line lines (event.Report tree) (reply.Report r) (session_at world.sessions) (λ s. refl) stands.acts) front
+
+pub reports : (lines : List Line) (tree : ℕ) (r : Reply) (before after : Seen) (old new : World) (t : CloudState) → before.state ≡ Some t → WorldStands lines old t
+    → Reports tree before after old new (Ok r) → StandsFor (lines ++ line_of (event.Report tree) r ∷ []) new after r
 reports lines tree (reply.Report r) before after old new t told stands h =
-    let line : Line = line_of (event.Report tree) (reply.Report r) in
-    let shows : Shows tree before.state new.audit r = subst (λ (w : World). Shows tree before.state w.audit r) (sym h.world) h.reply in
-    let stood : Stands (lines ++ line ∷ []) new.session new.audit t =
-    line_through lines line new.session new.audit t
-    (subst (λ (w : World). CloudStands (length lines + 1) lines w.audit t) (sym h.world) (begins_line lines old.session old.audit t stands).cloud)
-    (subst (λ (w : World). Knows (newest t) w.session.work) (sym h.world) stands.session.knows)
-    (subst (λ (w : World). ActsAs w.session (standing lines 1)) (sym h.world) stands.session.acts)
-    (subst (λ (w : World). RecordsStand w.session w.audit t) (sym h.world) stands.records)
-    (subst (λ (w : World). Reported lines w.audit.order) (sym h.world) stands.reported) (front_of tree new.audit r (shows.tree_is) (shows.order)) in
-    record { after = t; told = h.looked.stays t told; stands = stood; right = right_of (lines ++ line ∷ []) tree new.session new.audit before.state t r stood shows told; left = left_of tree new.audit before.state t r shows told }
+    let P : World → Type 0 = λ w. StandsFor (lines ++ line_of (event.Report tree) (reply.Report r) ∷ []) w after (reply.Report r) in
+    subst P (sym h.world) (report_shown lines tree r before after old t told (h.looked.stays t told) stands h.reply.0 h.reply.1 h.reply.2)
+reports lines tree (reply.Trouble trouble) before after old new t told stands h =
+    through lines (event.Report tree) (reply.Trouble trouble) after new t (h.looked.stays t told) (world_holds lines old new t h.world stands)
+    (still_line lines (event.Report tree) (reply.Trouble trouble) (session_at new.sessions) (λ s. refl) (world_acts lines old new t h.world stands)) tt
 reports lines tree (reply.Refused rule) before after old new t told stands h =
-    let line : Line = line_of (event.Report tree) (reply.Refused rule) in
-    let stood : Stands (lines ++ line ∷ []) new.session new.audit t =
-    line_through lines line new.session new.audit t
-    (subst (λ (w : World). CloudStands (length lines + 1) lines w.audit t) (sym h.world) (begins_line lines old.session old.audit t stands).cloud)
-    (subst (λ (w : World). Knows (newest t) w.session.work) (sym h.world) stands.session.knows)
-    (subst (λ (w : World). ActsAs w.session (standing lines 1)) (sym h.world) stands.session.acts)
-    (subst (λ (w : World). RecordsStand w.session w.audit t) (sym h.world) stands.records)
-    (subst (λ (w : World). Reported lines w.audit.order) (sym h.world) stands.reported) tt in
-    record { after = t; told = h.looked.stays t told; stands = stood; right = tt; left = tt }
+    through lines (event.Report tree) (reply.Refused rule) after new t (h.looked.stays t told) (world_holds lines old new t h.world stands)
+    (still_line lines (event.Report tree) (reply.Refused rule) (session_at new.sessions) (λ s. refl) (world_acts lines old new t h.world stands)) tt
 reports lines tree r before after old new t told stands h = absurd h.reply
-
--- ---- every line
-
-ready_of : (lines : List Line) (event : Event) (before after : Seen) (old new : World) (t : CloudState)
-    → session_of event ≡ 1 → MakesNoCall before after old new → before.state ≡ Some t → Stands lines old.session old.audit t → Ready lines event before after old new t
-ready_of lines event before after old new t own none told stands =
-    record { own = own; same = none.seen; audit = none.audit; told = told; stands = stands }
-
--- a request to a session: it is of session 1 and served, or not done
-request_stands : (n k : ℕ) (event : Event) (Is : Result Request Refused → Type 0) (asked : Asked) (before after : Seen) (old new : World) (r : Reply) (lines : List Line) (t : CloudState)
-    → OfSession k Is asked → Answers n asked before after old new (Ok r) → before.state ≡ Some t → Stands lines old.session old.audit t
-    → ((request : Result Request Refused) → k ≡ 1 → Is request → Serves n request before after old new (Ok r) → StandsFor (lines ++ line_of event r ∷ []) new after r)
-    → StandsFor (lines ++ line_of event r ∷ []) new after r
-request_stands n k event Is (Session number request) before after old new r lines t belongs answers told stands served = on (number == 1) refl answers where
-  on : (b : Bool) → (number == 1) ≡ b → MatchBool b (Serves n request before after old new (Ok r)) (Declines (refused.Rule refusal.NotBuilt) before after old new (Ok r)) → StandsFor (lines ++ line_of event r ∷ []) new after r
-  on true e serves = served request (sym belongs.0 ∙ eqb-true number 1 e) belongs.1 serves
-  on false e left = declines lines event r _ before after old new t left told stands
-request_stands n k event Is (Report tree) before after old new r lines t belongs answers told stands served = absurd belongs
-request_stands n k event Is Unbuilt before after old new r lines t belongs answers told stands served = absurd belongs
-
-opens : (n k client : ℕ) (request : Result Request Refused) (before after : Seen) (old new : World) (r : Reply) (lines : List Line) (t : CloudState)
-    → k ≡ 1 → IsOpening client request → Serves n request before after old new (Ok r) → before.state ≡ Some t → Stands lines old.session old.audit t → StandsFor (lines ++ line_of (event.Open k client) r ∷ []) new after r
-opens n k client (Ok request) before after old new r lines t own is serves told stands =
-    let done : Does n (Begin (op.Open client)) before after old new (Ok r) = subst (λ z. Does n z before after old new (Ok r)) is.1 serves in
-    opening_begun lines k client r before after old new t done.1.begun is.0 (ready_of lines (event.Open k client) before after old new t own done.0 told stands) done.1.begins done.1.replies
-opens n k client (Err why) before after old new r lines t own is serves told stands = declines lines (event.Open k client) r why before after old new t serves told stands
-
-folds : (n k tree : ℕ) (request : Result Request Refused) (before after : Seen) (old new : World) (r : Reply) (lines : List Line) (t : CloudState)
-    → k ≡ 1 → IsFolding tree request → Serves n request before after old new (Ok r) → before.state ≡ Some t → Stands lines old.session old.audit t → StandsFor (lines ++ line_of (event.Tree k tree) r ∷ []) new after r
-folds n k tree (Ok request) before after old new r lines t own is serves told stands =
-    let done : Does n (Begin (op.Tree tree)) before after old new (Ok r) = subst (λ z. Does n z before after old new (Ok r)) is.1 serves in
-    folding_begun lines k tree r before after old new t done.1.begun (ready_of lines (event.Tree k tree) before after old new t own done.0 told stands) done.1.begins done.1.replies
-folds n k tree (Err why) before after old new r lines t own is serves told stands = declines lines (event.Tree k tree) r why before after old new t serves told stands
-
-inserts : (n k tree : ℕ) (key payload : Blob) (request : Result Request Refused) (before after : Seen) (old new : World) (r : Reply) (lines : List Line) (t : CloudState)
-    → k ≡ 1 → IsNoted tree key payload request → Serves n request before after old new (Ok r) → before.state ≡ Some t → Stands lines old.session old.audit t
-    → StandsFor (lines ++ line_of (event.Insert k tree key payload) r ∷ []) new after r
-inserts n k tree key payload (Ok request) before after old new r lines t own is serves told stands =
-    let done : Does n (Note tree (Insert key payload)) before after old new (Ok r) = subst (λ z. Does n z before after old new (Ok r)) is.0 serves in
-    notes lines k tree key payload r before after old new t (ready_of lines (event.Insert k tree key payload) before after old new t own done.0 told stands) done.1
-inserts n k tree key payload (Err why) before after old new r lines t own is serves told stands = declines lines (event.Insert k tree key payload) r why before after old new t serves told stands
-
--- a line that asks this very request
-does : (n : ℕ) (request : Result Request Refused) (own : Request) (before after : Seen) (old new : World) (r : Reply) → request ≡ Ok own → Serves n request before after old new (Ok r) → Does n own before after old new (Ok r)
-does n request own before after old new r is serves = subst (λ z. Serves n z before after old new (Ok r)) is serves
-
--- a line that is not served yet
-unbuilt : (n : ℕ) (event : Event) (asked : Asked) (before after : Seen) (old new : World) (r : Reply) (lines : List Line) (t : CloudState)
-    → asked ≡ Unbuilt → Answers n asked before after old new (Ok r) → before.state ≡ Some t → Stands lines old.session old.audit t → StandsFor (lines ++ line_of event r ∷ []) new after r
-unbuilt n event asked before after old new r lines t is answers told stands =
-    declines lines event r _ before after old new t (subst (λ z. Answers n z before after old new (Ok r)) is answers) told stands
-
-asked_stands : (n : ℕ) (event : Event) (asked : Asked) (before after : Seen) (old new : World) (r : Reply) (lines : List Line) (t : CloudState)
-    → Asks event asked → Answers n asked before after old new (Ok r) → length lines + 1 ≡ n → before.state ≡ Some t → Stands lines old.session old.audit t
-    → StandsFor (lines ++ line_of event r ∷ []) new after r
-asked_stands n (event.Open k client) asked before after old new r lines t asks answers at told stands =
-    request_stands n k (event.Open k client) (IsOpening client) asked before after old new r lines t asks answers told stands
-    (λ request own is serves. opens n k client request before after old new r lines t own is serves told stands)
-asked_stands n (event.Insert k tree key payload) asked before after old new r lines t asks answers at told stands =
-    request_stands n k (event.Insert k tree key payload) (IsNoted tree key payload) asked before after old new r lines t asks answers told stands
-    (λ request own is serves. inserts n k tree key payload request before after old new r lines t own is serves told stands)
-asked_stands n (event.Tree k tree) asked before after old new r lines t asks answers at told stands =
-    request_stands n k (event.Tree k tree) (IsFolding tree) asked before after old new r lines t asks answers told stands
-    (λ request own is serves. folds n k tree request before after old new r lines t own is serves told stands)
-asked_stands n (event.Commit k) asked before after old new r lines t asks answers at told stands =
-    request_stands n k (event.Commit k) (λ request. request ≡ Ok (Begin op.Commit)) asked before after old new r lines t asks answers told stands
-    (λ request own is serves.
-    let h = does n request (Begin op.Commit) before after old new r is serves in
-    commit_begun lines k r before after old new t h.1.begun (ready_of lines (event.Commit k) before after old new t own h.0 told stands) h.1.begins h.1.replies)
-asked_stands n (event.Abort k) asked before after old new r lines t asks answers at told stands =
-    request_stands n k (event.Abort k) (λ request. request ≡ Ok Abort) asked before after old new r lines t asks answers told stands
-    (λ request own is serves.
-    let h = does n request Abort before after old new r is serves in
-    aborts lines k r before after old new t (ready_of lines (event.Abort k) before after old new t own h.0 told stands) h.1)
-asked_stands n (event.Run k) asked before after old new r lines t asks answers at told stands =
-    request_stands n k (event.Run k) (λ request. request ≡ Ok Run) asked before after old new r lines t asks answers told stands
-    (λ request own is serves. runs lines k n r before after old new t own at told stands (does n request Run before after old new r is serves))
-asked_stands n (event.Report tree) asked before after old new r lines t asks answers at told stands =
-    reports lines tree r before after old new t told stands (subst (λ z. Answers n z before after old new (Ok r)) asks answers)
-asked_stands n event asked before after old new r lines t asks answers at told stands = unbuilt n event asked before after old new r lines t asks answers told stands
-
-pub stands_after : (n : ℕ) (event : Event) (before after : Seen) (old new : World) (result : Result Reply WorldFault)
-    → Handled n event before after old new result → StandsOn n event before after old new result
-stands_after n event before after old new (Ok r) h = λ lines t at told stands. asked_stands n event h.asked before after old new r lines t h.asks h.answers at told stands
-stands_after n event before after old new (Err fault) h = tt

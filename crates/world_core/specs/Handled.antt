@@ -1,136 +1,229 @@
 -- What a line does to the world, and its reply.
-use Rattle.std.specs.Prelude.{ℕ, ◌≡◌, ◌==◌, [], ◌⊎◌, Option, Some, None, Result, Ok, Err, MatchBool}
-use Rattle.db_base.specs.Ids.{IsTree}
+use Rattle.std.specs.Prelude.{ℕ, ◌≡◌, ◌-◌, ◌≤◌, ◌<◌, Bool, true, false, List, [], ◌⊎◌, Option, Some, None, Result, Ok, Err}
+use Rattle.db_base.specs.Ids.{IsTree, IsSession}
 use Rattle.db_base.specs.declared.change.Change.{Change}
 use Rattle.db_base.specs.declared.refusal.Refusal.TheVariants as rule
 use Rattle.db_base.specs.declared.refusal.Refused.{Refused}
 use Rattle.db_base.specs.declared.refusal.Refused.TheVariants as refused
-use Rattle.db_base.specs.declared.trouble.CommitAnswer.TheVariants.{Committed, NotCommitted, InDoubt, CommittedOpen}
-use Rattle.txn_buffer.specs.Noted.{noted_in}
+use Rattle.db_base.specs.declared.trouble.Trouble.{Trouble}
+use Rattle.db_base.specs.declared.trouble.Trouble.TheVariants as trouble
+use Rattle.db_base.specs.declared.wish.Wish.{Wish}
+use Rattle.db_base.specs.declared.wish.Wish.TheVariants.{Plain}
 use Rattle.event_text.specs.declared.event.Event.{Event}
 use Rattle.report_types.specs.declared.report.Report.{Report as ReportShown}
 use Rattle.reply_text.specs.declared.reply.Reply.{Reply}
 use Rattle.reply_text.specs.declared.reply.Reply.TheVariants as reply
+use Rattle.cloud_trait.specs.Bench.{IsNoCall, Waits}
 use Rattle.cloud_trait.specs.Caller.{Caller}
-use Rattle.cloud_trait.specs.State.{CloudState, newest}
+use Rattle.cloud_trait.specs.State.{CloudState, newest, greatest}
 use Rattle.cloud_trait.specs.Seen.{Seen}
+use Rattle.cloud_trait.specs.Weather.{Rose}
 use Rattle.cloud_trait.specs.declared.turn.Turn.{Turn}
 use Rattle.cloud_trait.specs.declared.turn.Turn.TheVariants.{More, Ended, Stopped}
 use Rattle.client_session.specs.declared.session.Answer.{Answer}
-use Rattle.client_session.specs.declared.session.Answer.TheVariants as answer
 use Rattle.client_session.specs.declared.session.Begun.{Begun}
 use Rattle.client_session.specs.declared.session.Begun.TheVariants.{Working, Answered}
 use Rattle.client_session.specs.declared.session.Op.{Op}
-use Rattle.client_session.specs.Session.{Acting, rule_of, NoteRefused, Begins, StepsSession}
+use Rattle.client_session.specs.Session.{Acting, closed_session, Begins, StepsSession}
 use Rattle.history.specs.Fold.{of_tree}
 use Rattle.history.specs.Audited.{Audited}
 use Rattle.world_audit.specs.Look.{Looked}
+use Rattle.world_audit.specs.Stop.{Stopped as StopsReport}
 use Rattle.tree_meaning.specs.Chain.{Walked}
 use Rattle.world_audit.specs.Counts.{heads_upto, AreWaiting}
-use Rattle.replay_model.specs.Noting.{audited}
+use Rattle.session_facts.specs.Noting.{audited}
 use Rattle.world_core.specs.declared.asked.Request.{Request}
-use Rattle.world_core.specs.declared.asked.Request.TheVariants.{Begin, Note, Abort, Run}
+use Rattle.world_core.specs.declared.asked.Request.TheVariants.{Begin, Note, Abort, Step, Run, Crash}
 use Rattle.world_core.specs.declared.asked.Asked.{Asked}
-use Rattle.world_core.specs.declared.asked.Asked.TheVariants.{Session, Report, Unbuilt}
+use Rattle.world_core.specs.declared.asked.Asked.TheVariants.{Session, Wait, Report, Unbuilt}
 use Rattle.world_core.specs.declared.world.World.{World}
 use Rattle.world_core.specs.declared.world.WorldFault.{WorldFault}
 use Rattle.world_core.specs.declared.world.WorldFault.TheVariants as fault
 use Rattle.world_core.specs.Asked.{Asks}
-use Rattle.world_core.specs.Fault.{fault_of, StepFails, ReportFails}
+use Rattle.world_core.specs.Fault.{trouble_reply, reply_of}
+use Rattle.world_core.specs.Sessions.{Changes, IsNotWorking, NotesIn, AbortsIn}
 
--- the answer to a line that is not done: the rule that refuses it, or want of memory
+-- ---- a line that is not done
+
+-- the answer to it: the rule that refuses it, or want of memory
 abbrev pub declined : Refused → Result Reply WorldFault
 declined (refused.Rule r) = Ok (reply.Refused r)
 declined refused.Memory = Err fault.Memory
 
--- a line that is not done changes neither the world nor the cloud
+-- it changes neither the world nor the cloud
 pub record Declines (why : Refused) (before after : Seen) (old new : World) (result : Result Reply WorldFault) : Type 0 where
   pub reply : result ≡ declined why
   pub world : new ≡ old
   pub seen : after ≡ before
 
--- the reply to the begin of an operation; a trouble and want of memory have none, and are a fault
-abbrev pub BegunReply : Result Begun Refused → Result Reply WorldFault → Type 0
-BegunReply (Ok Working) result = result ≡ Ok reply.Begun
-BegunReply (Ok (Answered (answer.Commit a))) result = result ≡ Ok (reply.Commit a)
-BegunReply (Ok (Answered (answer.Opened epoch))) result = result ≡ Ok (reply.Opened epoch)
-BegunReply (Ok (Answered (answer.Done n))) result = result ≡ Ok (reply.Done n)
-BegunReply (Ok (Answered (answer.Trouble t))) result = result ≡ Err (fault_of t)
-BegunReply (Err (refused.Rule r)) result = result ≡ Ok (reply.Refused r)
-BegunReply (Err refused.Memory) result = result ≡ Err fault.Memory
+-- ---- lines that make no call
 
--- an operation begins, or is refused
-pub record BeginsOp (op : Op) (old new : Acting) (result : Result Reply WorldFault) : Type 0 where
+-- no call is made, and the audit stays
+pub record MakesNoCall (before after : Seen) (old new : World) : Type 0 where
+  pub seen : after ≡ before
+  pub audit : new.audit ≡ old.audit
+  pub blind : new.blind ≡ old.blind
+
+-- the reply to the begin of an operation
+abbrev pub begun_reply : Result Begun Refused → Result Reply WorldFault
+begun_reply (Ok Working) = Ok reply.Begun
+begun_reply (Ok (Answered a)) = reply_of a
+begun_reply (Err why) = declined why
+
+pub record BeginsOp (op : Op) (result : Result Reply WorldFault) (old new : Acting) : Type 0 where
   pub begun : Result Begun Refused
   pub begins : Begins op old new begun
-  pub replies : BegunReply begun result
+  pub replies : result ≡ begun_reply begun
 
--- a change is noted, or it is refused and the session stays; without a reply memory ran out
-abbrev pub Notes : ℕ → Change → Acting → Acting → Result Reply WorldFault → Type 0
-Notes tree change old new (Ok reply.Noted) = (new ≡ record old { buffer = noted_in old.buffer tree change }) × (rule_of old.work ≡ None)
-Notes tree change old new (Ok (reply.Refused r)) = (new ≡ old) × NoteRefused old tree change (refused.Rule r)
-Notes tree change old new (Ok r) = ⊥
-Notes tree change old new (Err why) = (new ≡ old) × (why ≡ fault.Memory)
+-- the reply to a change that is noted, and to the drop of changes
+abbrev pub done_reply : Reply → Result (Unit {0}) Refused → Result Reply WorldFault
+done_reply r (Ok done) = Ok r
+done_reply r (Err why) = declined why
 
--- the changes are dropped, or that is refused; it takes no memory
-abbrev pub Aborts : Acting → Acting → Result Reply WorldFault → Type 0
-Aborts old new (Ok reply.Aborted) = (new ≡ record old { buffer = [] }) × (rule_of old.work ≡ None)
-Aborts old new (Ok (reply.Refused r)) = (new ≡ old) × (rule_of old.work ≡ Some r)
-Aborts old new (Ok r) = ⊥
-Aborts old new (Err why) = ⊥
+pub record NotesChange (tree : ℕ) (change : Change) (result : Result Reply WorldFault) (old new : Acting) : Type 0 where
+  pub noted : Result (Unit {0}) Refused
+  pub notes : NotesIn tree change old new noted
+  pub replies : result ≡ done_reply reply.Noted noted
 
--- the reply to the answer of an operation; a trouble, and a commit that is not committed, in doubt or open, have none yet, and are a fault
-abbrev pub Replies : Answer → Result Reply WorldFault → Type 0
-Replies (answer.Opened epoch) result = result ≡ Ok (reply.Opened epoch)
-Replies (answer.Done n) result = result ≡ Ok (reply.Done n)
-Replies (answer.Commit (Committed txn)) result = result ≡ Ok (reply.Commit (Committed txn))
-Replies (answer.Commit (NotCommitted t)) result = result ≡ Err (fault_of t)
-Replies (answer.Commit InDoubt) result = result ≡ Err fault.Cloud
-Replies (answer.Commit (CommittedOpen t)) result = result ≡ Err (fault_of t)
-Replies (answer.Trouble t) result = result ≡ Err (fault_of t)
+pub record DropsChanges (result : Result Reply WorldFault) (old new : Acting) : Type 0 where
+  pub dropped : Result (Unit {0}) Refused
+  pub drops : AbortsIn old new dropped
+  pub replies : result ≡ done_reply reply.Aborted dropped
 
--- one step of the session between two looks: the audit takes what the put in hand commits or applies where it was seen to land
-pub record StepsLooked (who : Caller) (before after : Seen) (old new : World) (r : Result (Turn Answer) Refused) : Type 0 where
+-- ---- steps
+
+-- the wish for the next call is set, and nothing else is done
+pub record SetsWish (wish : Wish) (before after : Seen) : Type 0 where
+  pub no_call : IsNoCall before after
+  pub set : (s : CloudState) → before.state ≡ Some s → after.state ≡ Some (record s { wish = wish })
+
+-- the newest call is the session's at this line, under the wish, and no wait was counted
+abbrev pub IsNewestCall : Caller → Wish → Seen → Seen → Type 0
+IsNewestCall who wish before after =
+    (x : CloudState) → before.state ≡ Some x → (y : CloudState) × (after.state ≡ Some y) × (y.last ≡ Some (who, wish)) × (y.waits ≡ x.waits)
+
+-- one step of a session under a wish, between two looks where it is a put: the audit takes what the put in hand commits or applies where it
+-- was seen to land, and a look that failed blinds it
+pub record StepsLooked (who : Caller) (wish : Wish) (before after : Seen) (old new : World) (turn : Turn Answer) : Type 0 where
   pub from : Seen
+  pub under : Seen
   pub to : Seen
   pub look_before : Looked before from
-  pub steps : StepsSession who from to old.session new.session r
+  pub wishes : SetsWish wish from under
+  pub session : Changes who.session (λ a b. StepsSession who under to a b (Ok turn)) old.sessions new.sessions
   pub look_after : Looked to after
-  pub audit : (x y : CloudState) → before.state ≡ Some x → to.state ≡ Some y → new.audit ≡ audited (newest x) (newest y) old.session.work old.audit
+  pub newest_call : IsNewestCall who wish before after
+  pub saw : new.blind ≡ false → old.blind ≡ false
+  pub blinded : new.blind ≡ true → (old.blind ≡ true) ⊎ (Rose before.counts.dark from.counts.dark ⊎ Rose to.counts.dark after.counts.dark)
+  pub audit : new.blind ≡ false → (x y : CloudState) → before.state ≡ Some x → to.state ≡ Some y → new.audit ≡ audited (newest x) (newest y) session.before.work old.audit
 
--- the world went on by some steps, each one service call
+pub record RefusesStep (number : ℕ) (before after : Seen) (old new : World) (result : Result Reply WorldFault) : Type 0 where
+  pub idle : IsNotWorking number old.sessions
+  pub declines : Declines (refused.Rule rule.NotWorking) before after old new result
+
+-- the reply to a step
+abbrev pub turn_reply : Turn Answer → Result Reply WorldFault
+turn_reply More = Ok reply.Called
+turn_reply (Ended a) = reply_of a
+turn_reply (Stopped t) = trouble_reply t
+
+-- one step was made under the wish, and its answer is the reply
+pub record StepsTo (n number : ℕ) (wish : Wish) (before after : Seen) (old new : World) (result : Result Reply WorldFault) : Type 0 where
+  pub turn : Turn Answer
+  pub steps : StepsLooked (record { session = number; event = n }) wish before after old new turn
+  pub replies : result ≡ turn_reply turn
+
+-- want of memory has no reply
+abbrev pub FindsNoMemory : Result Reply WorldFault → Type 0
+FindsNoMemory result = result ≡ Err fault.Memory
+
+-- a step is refused, or it is made; or memory ran out on its way
+abbrev pub MakesStep : ℕ → ℕ → Wish → Seen → Seen → World → World → Result Reply WorldFault → Type 0
+MakesStep n number wish before after old new result =
+    RefusesStep number before after old new result ⊎ (StepsTo n number wish before after old new result ⊎ FindsNoMemory result)
+
+-- the world went on by some plain steps, each one service call
 pub data Went (who : Caller) (before : Seen) (old : World) : Seen → World → Type 0 where
   start : Went who before old before old
-  further : (mid after : Seen) (world new : World) → Went who before old mid world → StepsLooked who mid after world new (Ok More) → Went who before old after new
+  further : (mid after : Seen) (world new : World) → Went who before old mid world → StepsLooked who Plain mid after world new More → Went who before old after new
 
--- the last step of a run: an answer, or there was nothing to work on
-abbrev pub RunReply : Result (Turn Answer) Refused → Result Reply WorldFault → Type 0
-RunReply (Ok (Ended a)) result = Replies a result
-RunReply (Ok More) result = ⊥
-RunReply (Ok (Stopped t)) result = ⊥
-RunReply (Err (refused.Rule r)) result = result ≡ Ok (reply.Refused r)
-RunReply (Err refused.Memory) result = ⊥
-
--- plain steps of session 1 up to the first answer
-pub record RunsTo (n : ℕ) (before after : Seen) (old new : World) (result : Result Reply WorldFault) : Type 0 where
+-- plain steps up to the first answer, which is the reply
+pub record RunsTo (n number : ℕ) (before after : Seen) (old new : World) (result : Result Reply WorldFault) : Type 0 where
   pub mid : Seen
   pub world : World
-  pub went : Went (record { session = 1; event = n }) before old mid world
-  pub last : Result (Turn Answer) Refused
-  pub steps : StepsLooked (record { session = 1; event = n }) mid after world new last
-  pub replies : RunReply last result
+  pub went : Went (record { session = number; event = n }) before old mid world
+  pub answer : Answer
+  pub steps : StepsLooked (record { session = number; event = n }) Plain mid after world new (Ended answer)
+  pub replies : result ≡ reply_of answer
 
--- plain steps of session 1 up to one that has no outcome
-pub record RunFails (n : ℕ) (before after : Seen) (old new : World) (why : WorldFault) : Type 0 where
-  pub mid : Seen
+-- or memory ran out on the way
+abbrev pub RunsOn : Caller → Seen → Seen → World → World → Result Reply WorldFault → Type 0
+RunsOn who before after old new result = RunsTo who.event who.session before after old new result ⊎ FindsNoMemory result
+
+abbrev pub Runs : ℕ → ℕ → Seen → Seen → World → World → Result Reply WorldFault → Type 0
+Runs n number before after old new result =
+    RefusesStep number before after old new result ⊎ RunsOn (record { session = number; event = n }) before after old new result
+
+-- ---- a session that dies
+
+-- it is closed, and no call is made
+pub record Dies (number : ℕ) (before after : Seen) (old new : World) (result : Result Reply WorldFault) : Type 0 where
+  pub quiet : MakesNoCall before after old new
+  pub closed : Changes number (λ a b. b ≡ closed_session) old.sessions new.sessions
+  pub replies : result ≡ Ok reply.Crashed
+
+-- the call in hand is made plainly, and then it is closed, unanswered
+pub record DiesDone (n number : ℕ) (before after : Seen) (old new : World) (result : Result Reply WorldFault) : Type 0 where
   pub world : World
-  pub went : Went (record { session = 1; event = n }) before old mid world
-  pub fails : StepFails (record { session = 1; event = n }) mid after world new why
+  pub turn : Turn Answer
+  pub steps : StepsLooked (record { session = number; event = n }) Plain before after old world turn
+  pub closed : Changes number (λ a b. b ≡ closed_session) world.sessions new.sessions
+  pub audit : new.audit ≡ world.audit
+  pub blind : new.blind ≡ world.blind
+  pub replies : result ≡ Ok reply.Crashed
 
--- a run that has a reply made its steps; one that has none did so too, up to an answer that is a fault or to a step that has no outcome
-abbrev pub Runs : ℕ → Seen → Seen → World → World → Result Reply WorldFault → Type 0
-Runs n before after old new (Ok r) = RunsTo n before after old new (Ok r)
-Runs n before after old new (Err why) = RunsTo n before after old new (Err why) ⊎ RunFails n before after old new why
+-- where it has no call in hand it dies at once
+pub record DiesIdle (number : ℕ) (before after : Seen) (old new : World) (result : Result Reply WorldFault) : Type 0 where
+  pub idle : IsNotWorking number old.sessions
+  pub dies : Dies number before after old new result
+
+-- or memory ran out
+abbrev pub CrashesDone : Caller → Seen → Seen → World → World → Result Reply WorldFault → Type 0
+CrashesDone who before after old new result = DiesDone who.event who.session before after old new result ⊎ FindsNoMemory result
+
+abbrev pub Crashes : ℕ → ℕ → Bool → Seen → Seen → World → World → Result Reply WorldFault → Type 0
+Crashes n number false before after old new result = Dies number before after old new result
+Crashes n number true before after old new result =
+    DiesIdle number before after old new result ⊎ CrashesDone (record { session = number; event = n }) before after old new result
+
+-- ---- what a session does that a line asks of it
+
+abbrev pub Does : ℕ → ℕ → Request → Seen → Seen → World → World → Result Reply WorldFault → Type 0
+Does n number (Begin op) before after old new result = MakesNoCall before after old new × Changes number (BeginsOp op result) old.sessions new.sessions
+Does n number (Note tree change) before after old new result = MakesNoCall before after old new × Changes number (NotesChange tree change result) old.sessions new.sessions
+Does n number Abort before after old new result = MakesNoCall before after old new × Changes number (DropsChanges result) old.sessions new.sessions
+Does n number (Step wish) before after old new result = MakesStep n number wish before after old new result
+Does n number Run before after old new result = Runs n number before after old new result
+Does n number (Crash done) before after old new result = Crashes n number done before after old new result
+
+abbrev pub Serves : ℕ → ℕ → Result Request Refused → Seen → Seen → World → World → Result Reply WorldFault → Type 0
+Serves n number (Ok request) before after old new result = Does n number request before after old new result
+Serves n number (Err why) before after old new result = Declines why before after old new result
+
+-- ---- waits and reports
+
+-- the clock goes on, once more
+pub record WaitsFor (ticks : ℕ) (before after : Seen) (result : Result Reply WorldFault) : Type 0 where
+  pub within : ticks ≤ 1000000
+  pub clock : (s : CloudState) → before.state ≡ Some s → s.now ≤ greatest
+  pub no_call : IsNoCall before after
+  pub waited : (s : CloudState) → before.state ≡ Some s → Waits ticks s after.state
+  pub replies : result ≡ Ok reply.Waited
+
+-- a wait for too long is refused
+pub record WaitsTooLong (ticks : ℕ) (before after : Seen) (old new : World) (result : Result Reply WorldFault) : Type 0 where
+  pub beyond : 1000000 < ticks
+  pub declines : Declines (refused.Rule rule.BadNumber) before after old new result
 
 -- a report shows the tree's part of the audit, the records of its newest leaves, its open heads, and the messages that wait for it
 pub record Shows (tree : ℕ) (s : Option CloudState) (audit : Audited) (r : ReportShown) : Type 0 where
@@ -141,39 +234,37 @@ pub record Shows (tree : ℕ) (s : Option CloudState) (audit : Audited) (r : Rep
   pub heads : (x : CloudState) → s ≡ Some x → r.heads ≡ heads_upto x tree (of_tree tree audit.committed) 64
   pub messages : (x : CloudState) → s ≡ Some x → AreWaiting x tree r.messages
 
+-- why a tree has no report: a trouble stopped it, which is a failure only where a look failed in it or an earlier one blinded the audit, and
+-- which else stands in the cloud where it is told
+pub record StopsBy (tree : ℕ) (before after : Seen) (blind : Bool) (t : Trouble) : Type 0 where
+  pub failed : t ≡ trouble.Failed → (blind ≡ true) ⊎ Rose before.counts.dark after.counts.dark
+  pub stands : blind ≡ false → (x : CloudState) → before.state ≡ Some x → StopsReport x tree t
+
 -- the reply to the report of a tree; a number that is no tree's is refused
-abbrev pub ReportReply : ℕ → Seen → Seen → Audited → Result Reply WorldFault → Type 0
-ReportReply tree before after audit (Ok (reply.Report r)) = Shows tree before.state audit r
-ReportReply tree before after audit (Ok (reply.Refused r)) = (r ≡ rule.BadNumber) × (IsTree tree → ⊥)
-ReportReply tree before after audit (Ok r) = ⊥
-ReportReply tree before after audit (Err why) = ReportFails tree before after why
+abbrev pub ReportReply : ℕ → Seen → Seen → World → Result Reply WorldFault → Type 0
+ReportReply tree before after world (Ok (reply.Report r)) = IsTree tree × (world.blind ≡ false) × Shows tree before.state world.audit r
+ReportReply tree before after world (Ok (reply.Trouble t)) = IsTree tree × StopsBy tree before after world.blind t
+ReportReply tree before after world (Ok (reply.Refused r)) = (r ≡ rule.BadNumber) × (IsTree tree → ⊥)
+ReportReply tree before after world (Ok r) = ⊥
+ReportReply tree before after world (Err why) = Unit {0}
 
 -- a report looks alone, and leaves the world as it is
 pub record Reports (tree : ℕ) (before after : Seen) (old new : World) (result : Result Reply WorldFault) : Type 0 where
   pub world : new ≡ old
   pub looked : Looked before after
-  pub reply : ReportReply tree before after old.audit result
+  pub reply : ReportReply tree before after old result
 
--- no call is made, and the audit stays
-pub record MakesNoCall (before after : Seen) (old new : World) : Type 0 where
-  pub seen : after ≡ before
-  pub audit : new.audit ≡ old.audit
+-- ---- every line
 
--- what a session does that a line asks of it
-abbrev pub Does : ℕ → Request → Seen → Seen → World → World → Result Reply WorldFault → Type 0
-Does n (Begin op) before after old new result = MakesNoCall before after old new × BeginsOp op old.session new.session result
-Does n (Note tree change) before after old new result = MakesNoCall before after old new × Notes tree change old.session new.session result
-Does n Abort before after old new result = MakesNoCall before after old new × Aborts old.session new.session result
-Does n Run before after old new result = Runs n before after old new result
+-- a number that is no session's is refused
+pub record IsNoSession (number : ℕ) (before after : Seen) (old new : World) (result : Result Reply WorldFault) : Type 0 where
+  pub none : IsSession number → ⊥
+  pub declines : Declines (refused.Rule rule.BadNumber) before after old new result
 
-abbrev pub Serves : ℕ → Result Request Refused → Seen → Seen → World → World → Result Reply WorldFault → Type 0
-Serves n (Ok request) before after old new result = Does n request before after old new result
-Serves n (Err why) before after old new result = Declines why before after old new result
-
--- what is asked of session 1 and reports are served; the rest is not yet
 abbrev pub Answers : ℕ → Asked → Seen → Seen → World → World → Result Reply WorldFault → Type 0
 Answers n (Session number request) before after old new result =
-    MatchBool (number == 1) (Serves n request before after old new result) (Declines (refused.Rule rule.NotBuilt) before after old new result)
+    (IsSession number × Serves n number request before after old new result) ⊎ IsNoSession number before after old new result
+Answers n (Wait ticks) before after old new result = (WaitsFor ticks before after result × (new ≡ old)) ⊎ WaitsTooLong ticks before after old new result
 Answers n (Report tree) before after old new result = Reports tree before after old new result
 Answers n Unbuilt before after old new result = Declines (refused.Rule rule.NotBuilt) before after old new result
 

@@ -1,3 +1,4 @@
+pub mod Sessions
 pub mod Put
 pub mod Asked
 pub mod Fault

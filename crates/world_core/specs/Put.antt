@@ -1,5 +1,5 @@
 -- A put that a session has in hand, and what the audit keeps of it.
-use Rattle.std.specs.Prelude.{Bool, not, ◌&&◌, ◌++◌, map, take, if◌then◌else◌, Option, Some, None}
+use Rattle.std.specs.Prelude.{◌≡◌, Bool, true, false, not, ◌&&◌, ◌++◌, map, take, if◌then◌else◌, Option, Some, None}
 use Rattle.db_base.specs.declared.names.ObjName.{ObjName}
 use Rattle.db_base.specs.declared.names.ObjName.TheVariants as object
 use Rattle.cloud_trait.specs.Ask.{Ask, PutHeld}
@@ -7,7 +7,7 @@ use Rattle.client_session.specs.declared.session.Work.{Work}
 use Rattle.client_session.specs.Session.{ask_of_work, committing_of, opens_of, applying_of}
 use Rattle.history.specs.Audited.{Audited, applied_entry}
 use Rattle.world_audit.specs.declared.mark.Mark.{Mark}
-use Rattle.replay_model.specs.Noting.{Newest, noted_head, has_bytes}
+use Rattle.session_facts.specs.Noting.{Newest, noted_head, has_bytes}
 use Rattle.world_core.specs.declared.put.Put.{Put}
 
 -- the object and bytes of a call that is a put
@@ -27,6 +27,11 @@ put_of w = put_of_hand (ask_of_work w)
 abbrev pub is_newest : Newest → Put → Bool
 is_newest look put = has_bytes (look put.name) put.bytes
 
+-- a look that did not fail saw whether it has
+abbrev pub SeesNewest : Newest → Put → Option Bool → Type 0
+SeesNewest look put (Some is) = is ≡ is_newest look put
+SeesNewest look put None = Unit {0}
+
 -- the audit with what a put of the object by the work commits or applies
 abbrev pub noted_put : ObjName → Work → Audited → Audited
 noted_put (object.Head client) w a = noted_head client (opens_of w) (committing_of w) a
@@ -37,6 +42,19 @@ noted_put (object.Tree tree) w a = a
 abbrev pub back_at : Mark → Audited → Audited
 back_at mark a = record { committed = take mark.committed a.committed; order = take mark.order a.order }
 
+-- what a look at a put's object saw: whether the newest version has its bytes, where it did not fail
+abbrev pub Look : Type 0
+Look = Option Bool
+
+-- a look failed
+abbrev pub is_blind : Look → Bool
+is_blind (Some is) = false
+is_blind None = true
+
+abbrev pub saw : Look → Bool
+saw (Some is) = is
+saw None = false
+
 -- what was noted of a put stays where the put was seen to land: its bytes were not the newest, and are
-abbrev pub kept_of : Bool → Bool → Mark → Audited → Audited
-kept_of before after mark a = if not before && after then a else back_at mark a
+abbrev pub kept_of : Look → Look → Mark → Audited → Audited
+kept_of before after mark a = if not (saw before) && saw after then a else back_at mark a

@@ -10,7 +10,7 @@ use Rattle.reply_text.specs.declared.reply.Reply.TheVariants as reply
 use Rattle.world_audit.specs.Counts.{heads_upto, AreWaiting}
 use Rattle.replay_meaning.specs.Standing.{Line}
 use Rattle.replay_meaning.specs.Right.{ReportIsRight}
-use Rattle.replay_model.specs.Facts.{Stands}
+use Rattle.replay_model.specs.Facts.{session_at, Stands}
 use Rattle.world_core.specs.declared.world.World.{World}
 use Rattle.world_core.specs.declared.world.WorldFault.{WorldFault}
 
@@ -23,18 +23,22 @@ abbrev pub LeftIsRight : CloudState → Reply → Type 0
 LeftIsRight t (reply.Report r) = IsLeft t r
 LeftIsRight t reply = Unit {0}
 
+-- a world and a cloud stand for these lines
+abbrev pub WorldStands : List Line → World → CloudState → Type 0
+WorldStands lines world t = Stands lines (session_at world.sessions) world.audit world.blind t
+
 -- the world and a cloud that is told stand for these lines, the last of which has this reply; a report is right
 pub record StandsFor (lines : List Line) (world : World) (seen : Seen) (reply : Reply) : Type 0 where
   pub after : CloudState
   pub told : seen.state ≡ Some after
-  pub stands : Stands lines world.session world.audit after
+  pub stands : WorldStands lines world after
   pub right : ReportIsRight lines after reply
   pub left : LeftIsRight after reply
 
 -- whatever lines a world and a cloud stood for before a line, they stand for these and the line with its reply after it
 abbrev pub StandsOn : ℕ → Event → Seen → Seen → World → World → Result Reply WorldFault → Type 0
 StandsOn n event before after old new (Ok reply) =
-    (lines : List Line) (t : CloudState) → length lines + 1 ≡ n → before.state ≡ Some t → Stands lines old.session old.audit t
+    (lines : List Line) (t : CloudState) → length lines + 1 ≡ n → before.state ≡ Some t → WorldStands lines old t
     → StandsFor (lines ++ record { event = event; reply = reply } ∷ []) new after reply
 StandsOn n event before after old new (Err fault) = Unit {0}
 

@@ -1,7 +1,7 @@
 //! What a line asks, and of which session.
 
 ghost use Rattle.std.specs.Prelude.{◌≡◌};
-ghost use Rattle.world_core.specs.Asked.{Asks, IsInsert, IsOpening, IsFolding, IsNoted};
+ghost use Rattle.world_core.specs.Asked.{Asks, IsDelete, IsInsert, IsUpdate, IsOpening, IsFolding, IsNoted, IsStep};
 
 use client_session::session::Op;
 use db_base::blob::Blob;
@@ -9,6 +9,7 @@ use db_base::change::Change;
 use db_base::ids::{ClientId, TreeId};
 use db_base::key::{Key, Payload};
 use db_base::refusal::Refused;
+use db_base::wish::{Positions, Wish};
 use event_text::event::Event;
 use std::alloc::Global;
 
@@ -21,8 +22,12 @@ pub enum Request {
     Note(TreeId, Change),
     /// To drop the changes that it noted.
     Abort,
+    /// To make one step under a wish.
+    Step(Wish),
     /// To make plain steps until the answer.
     Run,
+    /// To die: at once, or once the call in hand is made.
+    Crash(bool),
 }
 
 /// What a line asks.
@@ -30,6 +35,8 @@ pub enum Request {
 pub enum Asked {
     /// Something of the session of this number, or why it is refused.
     Session(u64, Result<Request, Refused>),
+    /// That the clock goes on for some ticks.
+    Wait(u64),
     /// The report of the tree of this number.
     Report(u64),
     /// What is not served yet.
@@ -48,22 +55,29 @@ impl Asked {
                 tree,
                 key,
                 payload,
-            } => Asked::Session(*session, noted_of(alloc, *tree, key, payload)),
+            } => Asked::Session(*session, insert_noted(alloc, *tree, key, payload)),
+            Event::Update {
+                session,
+                tree,
+                key,
+                payload,
+            } => Asked::Session(*session, update_noted(alloc, *tree, key, payload)),
+            Event::Delete { session, tree, key } => {
+                Asked::Session(*session, delete_noted(alloc, *tree, key))
+            }
             Event::Commit { session } => Asked::Session(*session, Ok(Request::Begin(Op::Commit))),
             Event::Abort { session } => Asked::Session(*session, Ok(Request::Abort)),
             Event::Tree { session, tree } => Asked::Session(*session, folding_of(*tree)),
             Event::Run { session } => Asked::Session(*session, Ok(Request::Run)),
+            Event::Step { session, wish } => Asked::Session(*session, step_of(alloc, wish)),
+            Event::Crash { session, done } => Asked::Session(*session, Ok(Request::Crash(*done))),
+            Event::Wait { ticks } => Asked::Wait(*ticks),
             Event::Report { tree } => Asked::Report(*tree),
             Event::Close { .. }
             | Event::Renew { .. }
-            | Event::Update { .. }
-            | Event::Delete { .. }
             | Event::Read { .. }
             | Event::Scan { .. }
             | Event::Page { .. }
-            | Event::Step { .. }
-            | Event::Crash { .. }
-            | Event::Wait { .. }
             | Event::Settle => Asked::Unbuilt,
         }
     }
@@ -89,15 +103,60 @@ fn folding_of(tree: u64) -> Result<Request, Refused>
     }
 }
 
+/// One step under a copy of the wish. Refused for memory alone.
+fn step_of(alloc: Global, wish: &Wish) -> Result<Request, Refused>
+    ensures { IsStep wish.now result }
+{
+    match wish {
+        Wish::Plain => Ok(Request::Step(Wish::Plain)),
+        Wish::Fail => Ok(Request::Step(Wish::Fail)),
+        Wish::Lost => Ok(Request::Step(Wish::Lost)),
+        Wish::Hide => Ok(Request::Step(Wish::Hide)),
+        Wish::Old(version) => Ok(Request::Step(Wish::Old(*version))),
+        Wish::Give(positions) => match Positions::new(alloc, positions.as_slice()) {
+            Ok(positions) => Ok(Request::Step(Wish::Give(positions))),
+            Err(_) => Err(Refused::Memory),
+        },
+    }
+}
+
 /// The insert of a key and payload into the tree of this number.
-fn noted_of(alloc: Global, tree: u64, key: &Blob, payload: &Blob) -> Result<Request, Refused>
-    ensures { IsNoted tree key.now payload.now result }
+fn insert_noted(alloc: Global, tree: u64, key: &Blob, payload: &Blob) -> Result<Request, Refused>
+    ensures { IsNoted tree (IsInsert key.now payload.now) result }
 {
     let tree = match TreeId::new(tree) {
         Ok(tree) => tree,
         Err(rule) => return Err(Refused::Rule(rule)),
     };
     match insert_of(alloc, key, payload) {
+        Ok(change) => Ok(Request::Note(tree, change)),
+        Err(why) => Err(why),
+    }
+}
+
+/// The update of a key by a payload in the tree of this number.
+fn update_noted(alloc: Global, tree: u64, key: &Blob, payload: &Blob) -> Result<Request, Refused>
+    ensures { IsNoted tree (IsUpdate key.now payload.now) result }
+{
+    let tree = match TreeId::new(tree) {
+        Ok(tree) => tree,
+        Err(rule) => return Err(Refused::Rule(rule)),
+    };
+    match update_of(alloc, key, payload) {
+        Ok(change) => Ok(Request::Note(tree, change)),
+        Err(why) => Err(why),
+    }
+}
+
+/// The deletion of a key in the tree of this number.
+fn delete_noted(alloc: Global, tree: u64, key: &Blob) -> Result<Request, Refused>
+    ensures { IsNoted tree (IsDelete key.now) result }
+{
+    let tree = match TreeId::new(tree) {
+        Ok(tree) => tree,
+        Err(rule) => return Err(Refused::Rule(rule)),
+    };
+    match delete_of(alloc, key) {
         Ok(change) => Ok(Request::Note(tree, change)),
         Err(why) => Err(why),
     }
@@ -110,4 +169,21 @@ fn insert_of(alloc: Global, key: &Blob, payload: &Blob) -> Result<Change, Refuse
     let key = Key::new(alloc, key.as_slice())?;
     let payload = Payload::new(alloc, payload.as_slice())?;
     Ok(Change::Insert { key, payload })
+}
+
+/// The update of a key by a payload, where they are ones.
+fn update_of(alloc: Global, key: &Blob, payload: &Blob) -> Result<Change, Refused>
+    ensures { IsUpdate key.now payload.now result }
+{
+    let key = Key::new(alloc, key.as_slice())?;
+    let payload = Payload::new(alloc, payload.as_slice())?;
+    Ok(Change::Update { key, payload })
+}
+
+/// The deletion of a key, where it is one.
+fn delete_of(alloc: Global, key: &Blob) -> Result<Change, Refused>
+    ensures { IsDelete key.now result }
+{
+    let key = Key::new(alloc, key.as_slice())?;
+    Ok(Change::Delete { key })
 }

@@ -4,4 +4,5 @@
 pub mod asked;
 mod noting;
 mod put;
+pub mod sessions;
 pub mod world;

@@ -1,20 +1,36 @@
 //! What the audit takes of a put that a session has in hand.
 
-ghost use Rattle.std.specs.Prelude.{◌≡◌, Some, OnOk};
+ghost use Rattle.std.specs.Prelude.{◌≡◌, ◌≤◌, Some, OnOk};
 ghost use Rattle.client_session.specs.Session.{opens_of, committing_of};
-ghost use Rattle.replay_model.specs.Noting.{noted_head};
+ghost use Rattle.session_facts.specs.Noting.{noted_head};
 ghost use Rattle.world_core.specs.Put.{noted_put, kept_of};
+ghost use Rattle.world_core.specs.Sessions.{NotesPut};
 
+use crate::sessions::Sessions;
 use client_session::session::Session;
-use db_base::ids::ClientId;
+use db_base::ids::{ClientId, SessionNo};
 use db_base::names::ObjName;
 use db_base::refusal::Refused;
 use std::alloc::Global;
 use world_audit::audit::Audit;
 use world_audit::mark::Mark;
 
-/// Notes what a put of the object by the session commits or applies. Refused for memory alone.
+/// Notes what a put of the object by the session of a number commits or applies. Refused for memory alone.
 pub(crate) fn note_put(
+    alloc: Global,
+    audit: &mut Audit,
+    sessions: &Sessions,
+    number: SessionNo,
+    name: ObjName,
+) -> Result<(), Refused>
+    requires { 1 ≤ number }
+    ensures { OnOk result (NotesPut number sessions.now name audit.old audit.new) }
+{
+    note_put_of(alloc, audit, sessions.get(number), name)
+}
+
+/// Notes what a put of the object by the session commits or applies.
+fn note_put_of(
     alloc: Global,
     audit: &mut Audit,
     session: &Session,
@@ -47,11 +63,11 @@ fn note_head(
     }
 }
 
-/// Keeps what was noted since the mark where the put landed: its bytes were not the newest, and are.
-pub(crate) fn keep_landed(audit: &mut Audit, mark: Mark, before: bool, after: bool)
+/// Keeps what was noted since the mark where the put was seen to land: its bytes were not the newest, and are.
+pub(crate) fn keep_landed(audit: &mut Audit, mark: Mark, before: Option<bool>, after: Option<bool>)
     ensures { audit.new ≡ kept_of before after mark audit.old }
 {
-    if before || !after {
+    if before.unwrap_or(false) || !after.unwrap_or(false) {
         audit.withdraw(mark);
     }
 }

@@ -1,11 +1,11 @@
 //! Looks at the object of a put that a session has in hand.
 
-ghost use Rattle.std.specs.Prelude.{◌≡◌, Some, Err, IfOk};
+ghost use Rattle.std.specs.Prelude.{◌≡◌, Some, None, Ok, IfOk};
 ghost use Rattle.cloud_trait.specs.Call.{ask_of};
 ghost use Rattle.cloud_trait.specs.State.{CloudState, newest};
 ghost use Rattle.cloud_trait.specs.Weather.{Rose};
 ghost use Rattle.world_audit.specs.Look.{Looked};
-ghost use Rattle.world_core.specs.Put.{put_of, put_of_ask, is_newest};
+ghost use Rattle.world_core.specs.Put.{put_of, put_of_ask, SeesNewest};
 
 use crate::world::WorldFault;
 use client_session::session::Session;
@@ -55,16 +55,16 @@ pub(crate) fn put_in_hand(alloc: Global, session: &Session) -> Result<Option<Put
     }
 }
 
-/// Whether the newest version of the put's object has its bytes.
-pub(crate) fn is_newest<C: Bench>(cloud: &mut C, put: &Put) -> Result<bool, WorldFault>
+/// Whether the newest version of the put's object has its bytes; none where the look failed.
+pub(crate) fn is_newest<C: Bench>(cloud: &mut C, put: &Put) -> Result<Option<bool>, WorldFault>
     ensures looked { Looked (C.seen cloud.old) (C.seen cloud.new) }
-    ensures dark { result ≡ Err WorldFault.Cloud → Rose (C.seen cloud.old).counts.dark (C.seen cloud.new).counts.dark }
-    ensures newest { (s : CloudState) → (C.seen cloud.old).state ≡ Some s → IfOk result (λ is. is ≡ is_newest (newest s) put.now) }
+    ensures dark { result ≡ Ok None → Rose (C.seen cloud.old).counts.dark (C.seen cloud.new).counts.dark }
+    ensures newest { (s : CloudState) → (C.seen cloud.old).state ≡ Some s → IfOk result (SeesNewest (newest s) put.now) }
 {
     match cloud.peek(put.name) {
-        Ok(Some(newest)) => Ok(newest.as_slice() == put.bytes.as_slice()),
-        Ok(None) => Ok(false),
-        Err(CloudFault::Failed) => Err(WorldFault::Cloud),
+        Ok(Some(newest)) => Ok(Some(newest.as_slice() == put.bytes.as_slice())),
+        Ok(None) => Ok(Some(false)),
+        Err(CloudFault::Failed) => Ok(None),
         Err(CloudFault::Memory) => Err(WorldFault::Memory),
     }
 }

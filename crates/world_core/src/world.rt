@@ -1,63 +1,70 @@
-ghost use Rattle.std.specs.Prelude.{◌≡◌, [], Some, IfOk, IfErr};
-ghost use Rattle.cloud_trait.specs.State.{CloudState};
-ghost use Rattle.world_core.specs.Put.{put_of};
-ghost use Rattle.world_core.specs.Fault.{fault_of};
-ghost use Rattle.world_core.specs.Handled.{BegunReply, Replies, declined};
+ghost use Rattle.std.specs.Prelude.{◌≡◌, ℕ, ◌≤◌, ◌<◌, ◌⊎◌, true, false, [], replicate, Some, None, Ok, IfOk, IfErr};
+ghost use Rattle.world_core.specs.Put.{is_blind};
+ghost use Rattle.world_core.specs.Stands.{Grows};
+ghost use Rattle.world_core.specs.Fault.{trouble_reply, reply_of};
+ghost use Rattle.world_core.specs.Handled.{begun_reply, done_reply, turn_reply, declined, WaitsFor};
 
 use crate::asked::{Asked, Request};
 use crate::noting::{keep_landed, note_put};
 use crate::put::{Put, is_newest, put_in_hand};
-use client_session::session::{Answer, Begun, Op, Session};
+use crate::sessions::Sessions;
+use client_session::session::{Answer, Begun, Op};
 use cloud_trait::cloud::Bench;
 use cloud_trait::turn::Turn;
 use cloud_trait::who::Who;
 use db_base::change::Change;
 use db_base::ids::{SessionNo, TreeId};
 use db_base::refusal::{Refusal, Refused};
-use db_base::trouble::{CommitAnswer, Trouble};
+use db_base::trouble::Trouble;
+use db_base::wish::Wish;
 use event_text::event::Event;
 use reply_text::reply::Reply;
 use std::alloc::Global;
 use world_audit::audit::Audit;
 
+/// The most ticks that a line waits for.
+pub const MAX_WAIT: u64 = 1_000_000;
+
 /// Why a line has no reply.
 #[derive(Clone, Copy, Debug, PartialEq, Eq)]
 pub enum WorldFault {
-    /// An operation stopped with a trouble, which has no reply yet, or a look at the cloud failed.
-    Cloud,
     /// Memory ran out.
     Memory,
 }
 
-/// The sessions of a replay, of which one is served yet, and what was seen of them.
+/// The sessions of a replay, and what was seen of them.
 #[derive(Drop)]
 pub struct World {
-    /// Session 1.
-    pub session: Session,
+    /// The sessions, by their numbers.
+    pub sessions: Sessions,
     /// What was seen to commit and to be applied.
     pub audit: Audit,
+    /// Whether a look at the object of a put failed: the audit does not know then whether the put landed.
+    pub blind: bool,
 }
 
 impl World {
     ghost use Rattle.client_session.specs.Session.{closed_session};
-    ghost use Rattle.world_core.specs.Stands.{StandsOn, Grows};
-    ghost use Rattle.world_core.specs.Fault.{StepFails};
-    ghost use Rattle.world_core.specs.Handled.{Handled, Answers, Does, BeginsOp, Notes, Aborts, Runs, StepsLooked, Reports};
+    ghost use Rattle.world_core.specs.Stands.{StandsOn};
+    ghost use Rattle.world_core.specs.Sessions.{Changes, IsNotWorking, IsAtWork, HasPut};
+    ghost use Rattle.world_core.specs.Handled.{Handled, Answers, Does, BeginsOp, NotesChange, DropsChanges, MakesStep, Runs, RunsOn, Crashes, CrashesDone, StepsLooked, Reports};
 
-    /// A world whose session is closed, and that saw nothing. Refused for memory alone.
+    /// A world whose sessions are closed, and that saw nothing. Refused for memory alone.
     pub fn new(alloc: Global) -> Result<World, Refused>
-        ensures session { IfOk result (λ w. w.session ≡ closed_session) }
+        ensures sessions { IfOk result (λ w. w.sessions ≡ replicate 16 closed_session) }
         ensures audit { IfOk result (λ w. w.audit ≡ record { committed = []; order = [] }) }
+        ensures sees { IfOk result (λ w. w.blind ≡ false) }
         ensures memory { IfErr result (λ e. e ≡ Refused.Memory) }
     {
         Ok(World {
-            session: Session::new(alloc)?,
+            sessions: Sessions::new(alloc)?,
             audit: Audit::new(alloc),
+            blind: false,
         })
     }
 
-    /// Handles the line of a number: what it does to the world, and the reply. Lines of session 1 and reports are
-    /// served. A line that is not served yet is refused and changes nothing.
+    /// Handles the line of a number: what it does to the world, and the reply. A line that is not served yet is
+    /// refused and changes nothing.
     pub fn event<C: Bench>(
         &mut self,
         alloc: Global,
@@ -85,12 +92,13 @@ impl World {
     {
         match Asked::of(alloc, event) {
             Asked::Session(number, request) => self.ask(alloc, cloud, n, number, request),
+            Asked::Wait(ticks) => wait(cloud, ticks),
             Asked::Report(tree) => self.report(alloc, cloud, tree),
             Asked::Unbuilt => declined(Refused::Rule(Refusal::NotBuilt)),
         }
     }
 
-    /// Does what is asked of the session of this number, where it is one that is served.
+    /// Does what is asked of the session of this number, where it is one.
     #[tactic(auto, using(crate::proofs::GrowthLemmas::grows_not))]
     fn ask<C: Bench>(
         &mut self,
@@ -103,12 +111,12 @@ impl World {
         ensures answers { Answers n (Asked.Session number request) (C.seen cloud.old) (C.seen cloud.new) self.old self.new result }
         ensures grows { Grows n (C.seen cloud.old) (C.seen cloud.new) }
     {
-        if number != 1 {
-            return declined(Refused::Rule(Refusal::NotBuilt));
-        }
-        match request {
-            Ok(request) => self.serve(alloc, cloud, n, request),
-            Err(why) => declined(why),
+        match SessionNo::new(number) {
+            Ok(session) => match request {
+                Ok(request) => self.serve(alloc, cloud, Who { session, event: n }, request),
+                Err(why) => declined(why),
+            },
+            Err(rule) => declined(Refused::Rule(rule)),
         }
     }
 
@@ -117,83 +125,187 @@ impl World {
         &mut self,
         alloc: Global,
         cloud: &mut C,
-        n: u64,
+        who: Who,
         request: Request,
     ) -> Result<Reply, WorldFault>
-        ensures does { Does n request (C.seen cloud.old) (C.seen cloud.new) self.old self.new result }
-        ensures grows { Grows n (C.seen cloud.old) (C.seen cloud.new) }
+        requires { 1 ≤ who.session }
+        ensures does { Does who.event who.session request (C.seen cloud.old) (C.seen cloud.new) self.old self.new result }
+        ensures grows { Grows who.event (C.seen cloud.old) (C.seen cloud.new) }
     {
         match request {
-            Request::Begin(op) => self.begin(alloc, op),
-            Request::Note(tree, change) => self.note(tree, change),
-            Request::Abort => self.abort(),
-            Request::Run => self.run(alloc, cloud, n),
+            Request::Begin(op) => self.begin(alloc, who.session, op),
+            Request::Note(tree, change) => self.note(who.session, tree, change),
+            Request::Abort => self.abort(who.session),
+            Request::Step(wish) => self.step(alloc, cloud, who, wish),
+            Request::Run => self.run(alloc, cloud, who),
+            Request::Crash(done) => self.crash(alloc, cloud, who, done),
         }
     }
 
-    fn begin(&mut self, alloc: Global, op: Op) -> Result<Reply, WorldFault>
-        ensures session { BeginsOp op self.old.session self.new.session result }
+    fn begin(&mut self, alloc: Global, number: SessionNo, op: Op) -> Result<Reply, WorldFault>
+        requires { 1 ≤ number }
+        ensures session { Changes number (BeginsOp op result) self.old.sessions self.new.sessions }
         ensures audit { self.new.audit ≡ self.old.audit }
+        ensures blind { self.new.blind ≡ self.old.blind }
     {
-        begun(self.session.begin(alloc, op))
+        begun(self.sessions.begin(alloc, number, op))
     }
 
-    fn note(&mut self, tree: TreeId, change: Change) -> Result<Reply, WorldFault>
-        ensures session { Notes tree change self.old.session self.new.session result }
+    fn note(&mut self, number: SessionNo, tree: TreeId, change: Change) -> Result<Reply, WorldFault>
+        requires { 1 ≤ number }
+        ensures session { Changes number (NotesChange tree change result) self.old.sessions self.new.sessions }
         ensures audit { self.new.audit ≡ self.old.audit }
+        ensures blind { self.new.blind ≡ self.old.blind }
     {
-        match self.session.note(tree, change) {
-            Ok(()) => Ok(Reply::Noted),
-            Err(Refused::Rule(rule)) => Ok(Reply::Refused(rule)),
-            Err(Refused::Memory) => Err(WorldFault::Memory),
-        }
+        done(Reply::Noted, self.sessions.note(number, tree, change))
     }
 
-    fn abort(&mut self) -> Result<Reply, WorldFault>
-        ensures session { Aborts self.old.session self.new.session result }
+    fn abort(&mut self, number: SessionNo) -> Result<Reply, WorldFault>
+        requires { 1 ≤ number }
+        ensures session { Changes number (DropsChanges result) self.old.sessions self.new.sessions }
         ensures audit { self.new.audit ≡ self.old.audit }
+        ensures blind { self.new.blind ≡ self.old.blind }
     {
-        match self.session.abort() {
-            Ok(()) => Ok(Reply::Aborted),
-            Err(Refused::Rule(rule)) => Ok(Reply::Refused(rule)),
-            Err(Refused::Memory) => unreachable!(),
-        }
+        done(Reply::Aborted, self.sessions.abort(number))
     }
 
-    /// Makes plain steps until the answer.
-    fn run<C: Bench>(&mut self, alloc: Global, cloud: &mut C, n: u64) -> Result<Reply, WorldFault>
-        ensures runs { Runs n (C.seen cloud.old) (C.seen cloud.new) self.old self.new result }
-        ensures grows { Grows n (C.seen cloud.old) (C.seen cloud.new) }
+    /// Whether the session has a call in hand.
+    fn works(&self, number: SessionNo) -> bool
+        requires { 1 ≤ number }
+        ensures idle { result ≡ false → IsNotWorking number self.now.sessions }
+        ensures works { result ≡ true → IsAtWork number self.now.sessions }
     {
-        let who = first_session(n);
-        'steps: loop {
-            let turn = self.step(alloc, cloud, who)?;
-            match turn {
-                Ok(Turn::More) => {}
-                Ok(Turn::Ended(answer)) => return reply_of(answer),
-                Ok(Turn::Stopped(_)) => unreachable!(),
-                Err(Refused::Rule(rule)) => return Ok(Reply::Refused(rule)),
-                Err(Refused::Memory) => unreachable!(),
-            }
-        }
+        self.sessions.get(number).in_hand().is_some()
     }
 
-    /// Makes a step of the session, between two looks where it is a put.
+    /// Makes one step under a wish.
     fn step<C: Bench>(
         &mut self,
         alloc: Global,
         cloud: &mut C,
         who: Who,
-    ) -> Result<Result<Turn<Answer>, Refused>, WorldFault>
-        ensures looked { IfOk result (λ turn. StepsLooked who (C.seen cloud.old) (C.seen cloud.new) self.old self.new turn) }
-        ensures fails { IfErr result (λ why. StepFails who (C.seen cloud.old) (C.seen cloud.new) self.old self.new why) }
+        wish: Wish,
+    ) -> Result<Reply, WorldFault>
+        requires { 1 ≤ who.session }
+        ensures steps { MakesStep who.event who.session wish (C.seen cloud.old) (C.seen cloud.new) self.old self.new result }
         ensures grows { Grows who.event (C.seen cloud.old) (C.seen cloud.new) }
     {
-        match put_in_hand(alloc, &self.session) {
-            Ok(Some(put)) => self.step_put(alloc, cloud, who, &put),
-            Ok(None) => Ok(self.session.step(alloc, cloud, who)),
+        if !self.works(who.session) {
+            return Ok(Reply::Refused(Refusal::NotWorking));
+        }
+        match self.step_under(alloc, cloud, who, wish) {
+            Ok(turn) => turn_reply(turn),
+            Err(fault) => Err(fault),
+        }
+    }
+
+    /// Makes plain steps until the answer.
+    fn run<C: Bench>(&mut self, alloc: Global, cloud: &mut C, who: Who) -> Result<Reply, WorldFault>
+        requires { 1 ≤ who.session }
+        ensures runs { Runs who.event who.session (C.seen cloud.old) (C.seen cloud.new) self.old self.new result }
+        ensures grows { Grows who.event (C.seen cloud.old) (C.seen cloud.new) }
+    {
+        if !self.works(who.session) {
+            return Ok(Reply::Refused(Refusal::NotWorking));
+        }
+        self.run_on(alloc, cloud, who)
+    }
+
+    fn run_on<C: Bench>(
+        &mut self,
+        alloc: Global,
+        cloud: &mut C,
+        who: Who,
+    ) -> Result<Reply, WorldFault>
+        requires session { 1 ≤ who.session }
+        requires works { IsAtWork who.session self.old.sessions }
+        ensures runs { RunsOn who (C.seen cloud.old) (C.seen cloud.new) self.old self.new result }
+        ensures grows { Grows who.event (C.seen cloud.old) (C.seen cloud.new) }
+    {
+        'steps: loop {
+            let turn = self.step_under(alloc, cloud, who, Wish::Plain)?;
+            match turn {
+                Turn::More => {}
+                Turn::Ended(answer) => return reply_of(answer),
+                Turn::Stopped(_) => unreachable!(),
+            }
+        }
+    }
+
+    /// Lets the session die: at once, or once its call in hand is made.
+    #[tactic(auto, using(crate::proofs::GrowthLemmas::grows_not))]
+    fn crash<C: Bench>(
+        &mut self,
+        alloc: Global,
+        cloud: &mut C,
+        who: Who,
+        done: bool,
+    ) -> Result<Reply, WorldFault>
+        requires { 1 ≤ who.session }
+        ensures crashes { Crashes who.event who.session done (C.seen cloud.old) (C.seen cloud.new) self.old self.new result }
+        ensures grows { Grows who.event (C.seen cloud.old) (C.seen cloud.new) }
+    {
+        if done && self.works(who.session) {
+            return self.crash_done(alloc, cloud, who);
+        }
+        self.sessions.crash(who.session);
+        Ok(Reply::Crashed)
+    }
+
+    /// Makes the call in hand plainly, and lets the session die then.
+    fn crash_done<C: Bench>(
+        &mut self,
+        alloc: Global,
+        cloud: &mut C,
+        who: Who,
+    ) -> Result<Reply, WorldFault>
+        requires session { 1 ≤ who.session }
+        requires works { IsAtWork who.session self.old.sessions }
+        ensures dies { CrashesDone who (C.seen cloud.old) (C.seen cloud.new) self.old self.new result }
+        ensures grows { Grows who.event (C.seen cloud.old) (C.seen cloud.new) }
+    {
+        let turn = self.step_under(alloc, cloud, who, Wish::Plain)?;
+        self.sessions.crash(who.session);
+        unanswered(turn);
+        Ok(Reply::Crashed)
+    }
+
+    /// Makes a step of a session that is at work under a wish, between two looks where it is a put.
+    fn step_under<C: Bench>(
+        &mut self,
+        alloc: Global,
+        cloud: &mut C,
+        who: Who,
+        wish: Wish,
+    ) -> Result<Turn<Answer>, WorldFault>
+        requires session { 1 ≤ who.session }
+        requires works { IsAtWork who.session self.old.sessions }
+        ensures looked { IfOk result (λ turn. StepsLooked who wish (C.seen cloud.old) (C.seen cloud.new) self.old self.new turn) }
+        ensures grows { Grows who.event (C.seen cloud.old) (C.seen cloud.new) }
+    {
+        match put_in_hand(alloc, self.sessions.get(who.session)) {
+            Ok(Some(put)) => self.step_put(alloc, cloud, who, wish, &put),
+            Ok(None) => self.step_other(alloc, cloud, who, wish),
             Err(_) => Err(WorldFault::Memory),
         }
+    }
+
+    /// Makes a step that is no put.
+    fn step_other<C: Bench>(
+        &mut self,
+        alloc: Global,
+        cloud: &mut C,
+        who: Who,
+        wish: Wish,
+    ) -> Result<Turn<Answer>, WorldFault>
+        requires session { 1 ≤ who.session }
+        requires works { IsAtWork who.session self.old.sessions }
+        requires no_put { HasPut who.session self.old.sessions None }
+        ensures looked { IfOk result (λ turn. StepsLooked who wish (C.seen cloud.old) (C.seen cloud.new) self.old self.new turn) }
+        ensures grows { Grows who.event (C.seen cloud.old) (C.seen cloud.new) }
+    {
+        cloud.wish(wish);
+        Ok(self.sessions.step(alloc, cloud, who))
     }
 
     /// Makes a step that is a put, and notes what it commits or applies where it is seen to land.
@@ -202,26 +314,36 @@ impl World {
         alloc: Global,
         cloud: &mut C,
         who: Who,
+        wish: Wish,
         put: &Put,
-    ) -> Result<Result<Turn<Answer>, Refused>, WorldFault>
-        requires { put_of self.old.session.work ≡ Some put.now }
-        ensures looked { IfOk result (λ turn. StepsLooked who (C.seen cloud.old) (C.seen cloud.new) self.old self.new turn) }
-        ensures fails { IfErr result (λ why. StepFails who (C.seen cloud.old) (C.seen cloud.new) self.old self.new why) }
+    ) -> Result<Turn<Answer>, WorldFault>
+        requires session { 1 ≤ who.session }
+        requires works { IsAtWork who.session self.old.sessions }
+        requires puts { HasPut who.session self.old.sessions (Some put.now) }
+        ensures looked { IfOk result (λ turn. StepsLooked who wish (C.seen cloud.old) (C.seen cloud.new) self.old self.new turn) }
         ensures grows { Grows who.event (C.seen cloud.old) (C.seen cloud.new) }
     {
         let before = is_newest(cloud, put)?;
         let mark = self.audit.mark();
-        match note_put(alloc, &mut self.audit, &self.session, put.name) {
+        match note_put(
+            alloc,
+            &mut self.audit,
+            &self.sessions,
+            who.session,
+            put.name,
+        ) {
             Ok(()) => {}
             Err(_) => return Err(WorldFault::Memory),
         }
-        let turn = self.session.step(alloc, cloud, who);
+        cloud.wish(wish);
+        let turn = self.sessions.step(alloc, cloud, who);
         let after = is_newest(cloud, put)?;
         keep_landed(&mut self.audit, mark, before, after);
+        self.blind = is_blinded(self.blind, before, after);
         Ok(turn)
     }
 
-    /// Reports on a tree.
+    /// Reports on a tree. Where an earlier look failed it answers that it failed.
     fn report<C: Bench>(&self, alloc: Global, cloud: &mut C, tree: u64) -> Result<Reply, WorldFault>
         ensures { Reports tree (C.seen cloud.old) (C.seen cloud.new) self.now self.now result }
     {
@@ -229,11 +351,41 @@ impl World {
             Ok(tree) => tree,
             Err(rule) => return Ok(Reply::Refused(rule)),
         };
+        if self.blind {
+            return Ok(Reply::Trouble(Trouble::Failed));
+        }
         match self.audit.report(alloc, cloud, tree) {
             Ok(report) => Ok(Reply::Report(report)),
-            Err(trouble) => Err(fault_of(&trouble)),
+            Err(trouble) => trouble_reply(trouble),
         }
     }
+}
+
+/// Forgets what a step came to.
+fn unanswered(_turn: Turn<Answer>) {}
+
+/// Whether a look failed, in earlier steps or before or after the put of this one.
+fn is_blinded(blind: bool, before: Option<bool>, after: Option<bool>) -> bool
+    ensures saw { result ≡ false → (blind ≡ false) × (is_blind before ≡ false) × (is_blind after ≡ false) }
+    ensures blinded { result ≡ true → (blind ≡ true) ⊎ ((before ≡ None) ⊎ (after ≡ None)) }
+{
+    blind || before.is_none() || after.is_none()
+}
+
+/// Lets the clock go on.
+#[tactic(auto, using(crate::proofs::GrowthLemmas::grows_not, crate::proofs::GrowthLemmas::grows_wait))]
+fn wait<C: Bench>(cloud: &mut C, ticks: u64) -> Result<Reply, WorldFault>
+    ensures within { ticks ≤ 1000000 → WaitsFor ticks (C.seen cloud.old) (C.seen cloud.new) result }
+    ensures beyond { 1000000 < ticks → (result ≡ Ok (Reply.Refused Refusal.BadNumber)) × (C.seen cloud.new ≡ C.seen cloud.old) }
+    ensures grows { (n : ℕ) → Grows n (C.seen cloud.old) (C.seen cloud.new) }
+{
+    if ticks > MAX_WAIT {
+        return Ok(Reply::Refused(Refusal::BadNumber));
+    }
+    // Read for the clause that the clock is no later than the greatest moment.
+    let _ = cloud.now();
+    cloud.wait(ticks);
+    Ok(Reply::Waited)
 }
 
 /// The answer to a line that is not done.
@@ -248,62 +400,76 @@ fn declined(why: Refused) -> Result<Reply, WorldFault>
 
 /// The reply to the begin of an operation.
 fn begun(begun: Result<Begun, Refused>) -> Result<Reply, WorldFault>
-    ensures { BegunReply begun result }
+    ensures { result ≡ begun_reply begun }
 {
     match begun {
         Ok(Begun::Working) => Ok(Reply::Begun),
-        Ok(Begun::Answered(Answer::Commit(answer))) => Ok(Reply::Commit(answer)),
-        Ok(Begun::Answered(Answer::Opened { epoch })) => Ok(Reply::Opened { epoch }),
-        Ok(Begun::Answered(Answer::Done(answer))) => Ok(Reply::Done(answer)),
-        Ok(Begun::Answered(Answer::Trouble(trouble))) => Err(fault_of(&trouble)),
-        Err(Refused::Rule(rule)) => Ok(Reply::Refused(rule)),
-        Err(Refused::Memory) => Err(WorldFault::Memory),
+        Ok(Begun::Answered(answer)) => reply_of(answer),
+        Err(why) => declined(why),
     }
 }
 
-/// The fault that a trouble is: want of memory has its own.
-fn fault_of(trouble: &Trouble) -> WorldFault
-    ensures { result ≡ fault_of trouble.now }
+/// The reply to what was done, where it was.
+fn done(reply: Reply, done: Result<(), Refused>) -> Result<Reply, WorldFault>
+    ensures { result ≡ done_reply reply done }
 {
-    match trouble {
-        Trouble::Memory => WorldFault::Memory,
-        Trouble::Failed
-        | Trouble::Late { .. }
-        | Trouble::Busy { .. }
-        | Trouble::Waiting { .. }
-        | Trouble::Stale { .. }
-        | Trouble::Absent { .. }
-        | Trouble::NotALeaf { .. }
-        | Trouble::Damaged { .. }
-        | Trouble::BadFence { .. }
-        | Trouble::Loop { .. }
-        | Trouble::Exhausted { .. } => WorldFault::Cloud,
+    match done {
+        Ok(()) => Ok(reply),
+        Err(why) => declined(why),
     }
 }
 
-/// The reply to the answer of an operation; none where it is not known how it ended or a trouble stopped it.
+/// The reply to a step.
+fn turn_reply(turn: Turn<Answer>) -> Result<Reply, WorldFault>
+    ensures { result ≡ turn_reply turn }
+{
+    match turn {
+        Turn::More => Ok(Reply::Called),
+        Turn::Ended(answer) => reply_of(answer),
+        Turn::Stopped(trouble) => trouble_reply(trouble),
+    }
+}
+
+/// The reply to the answer of an operation.
 fn reply_of(answer: Answer) -> Result<Reply, WorldFault>
-    ensures { Replies answer result }
+    ensures { result ≡ reply_of answer }
 {
     match answer {
         Answer::Opened { epoch } => Ok(Reply::Opened { epoch }),
         Answer::Done(answer) => Ok(Reply::Done(answer)),
-        Answer::Commit(CommitAnswer::Committed { txn }) => Ok(Reply::Commit(
-            CommitAnswer::Committed { txn },
-        )),
-        Answer::Commit(CommitAnswer::NotCommitted(trouble)) => Err(fault_of(&trouble)),
-        Answer::Commit(CommitAnswer::InDoubt) => Err(WorldFault::Cloud),
-        Answer::Commit(CommitAnswer::CommittedOpen(trouble)) => Err(fault_of(&trouble)),
-        Answer::Trouble(trouble) => Err(fault_of(&trouble)),
+        Answer::Commit(answer) => Ok(Reply::Commit(answer)),
+        Answer::Trouble(trouble) => trouble_reply(trouble),
     }
 }
 
-/// Session 1 at a line.
-fn first_session(n: u64) -> Who
-    ensures { result ≡ record { session = 1; event = n } }
+/// The reply to a trouble; want of memory has none.
+fn trouble_reply(trouble: Trouble) -> Result<Reply, WorldFault>
+    ensures { result ≡ trouble_reply trouble }
 {
-    match SessionNo::new(1) {
-        Ok(session) => Who::new(session, n),
-        Err(_) => unreachable!(),
+    match trouble {
+        Trouble::Memory => Err(WorldFault::Memory),
+        Trouble::Failed => Ok(Reply::Trouble(Trouble::Failed)),
+        Trouble::Late { end, now } => Ok(Reply::Trouble(Trouble::Late { end, now })),
+        Trouble::Busy { lock, until } => Ok(Reply::Trouble(Trouble::Busy { lock, until })),
+        Trouble::Waiting { have, need } => Ok(Reply::Trouble(Trouble::Waiting { have, need })),
+        Trouble::Stale { page, least, got } => {
+            Ok(Reply::Trouble(Trouble::Stale { page, least, got }))
+        }
+        Trouble::Absent { page } => Ok(Reply::Trouble(Trouble::Absent { page })),
+        Trouble::NotALeaf { page } => Ok(Reply::Trouble(Trouble::NotALeaf { page })),
+        Trouble::Damaged { place, offset } => {
+            Ok(Reply::Trouble(Trouble::Damaged { place, offset }))
+        }
+        Trouble::BadFence {
+            page,
+            expected,
+            found,
+        } => Ok(Reply::Trouble(Trouble::BadFence {
+            page,
+            expected,
+            found,
+        })),
+        Trouble::Loop { page } => Ok(Reply::Trouble(Trouble::Loop { page })),
+        Trouble::Exhausted { what } => Ok(Reply::Trouble(Trouble::Exhausted { what })),
     }
 }

@@ -1,4 +1,4 @@
-use Rattle.world_core.proofs.StandsLemmas.{stands_after}
+use Rattle.world_core.proofs.EveryLine.{stands_after}
 use Rattle.world_core.proofs.world.World.event.Goals as goal
 
 pub returns-clause-stands : goal.returns-clause-stands

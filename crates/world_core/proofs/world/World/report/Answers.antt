@@ -1,17 +1,15 @@
-use Rattle.std.proofs.Common.{refl, subst}
+use Rattle.std.proofs.Common.{refl, sym, subst, inr}
 use Rattle.world_audit.specs.Stop.{Stopped}
+use Rattle.world_core.specs.Handled.{ReportReply}
+use Rattle.world_core.proofs.Stopping.{report_stops}
 use Rattle.world_core.proofs.world.World.report.Goals as goal
 
--- src/world.rt:297:5
 pub returns-in-Err-report : goal.returns-in-Err-report
 returns-in-Err-report g c = record {
   world = refl;
   looked = c.in-Err-report.ensures.looked;
-  reply = record {
-    is_tree = c.in-Ok.ensures.valid.0 refl;
-    stopped = c.in-Err-report.trouble;
-    failed = c.in-Err-report.ensures.failed;
-    stands = λ x told. subst (λ k. Stopped x k c.in-Err-report.trouble) c.in-Ok.ensures.ok (c.in-Err-report.ensures.stopped x told);
-    is = c.fault_of.ensures;
-  };
+  reply = subst (λ r. ReportReply c.args.tree (g.C.Cloud.seen c.args.cloud.now) (g.C.Cloud.seen c.report.new.cloud) c.args.self.now r) (sym c.trouble_reply.ensures) (report_stops c.args.tree (g.C.Cloud.seen c.args.cloud.now) (g.C.Cloud.seen c.report.new.cloud) c.args.self.now c.in-Err-report.trouble (c.in-Ok.ensures.valid.0 refl) (record {
+    failed = λ e. inr (c.in-Err-report.ensures.failed e);
+    stands = λ sees x told. subst (λ k. Stopped x k c.in-Err-report.trouble) c.in-Ok.ensures.ok (c.in-Err-report.ensures.stopped x told);
+  }));
 }

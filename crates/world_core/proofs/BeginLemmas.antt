@@ -1,0 +1,279 @@
+-- Lines that begin an operation, note a change or drop what was noted.
+use Rattle.std.proofs.Common.{◌≡◌, ◌+◌, ◌≤◌, ℕ, List, [], ◌∷◌, ◌++◌, length, Some, None, Result, Ok, Err, refl, sym, ap, subst, ◌∙◌, ◌⊎◌, inl, inr, ◌≢◌}
+use Rattle.std.proofs.lemmas.Bool.{cases_eq}
+use Rattle.db_base.specs.Ids.{IsClient, IsTree}
+use Rattle.db_base.specs.Change.{IsChange}
+use Rattle.db_base.specs.declared.change.Change.{Change}
+use Rattle.db_base.specs.declared.refusal.Refusal.{Refusal}
+use Rattle.db_base.specs.declared.refusal.Refused.{Refused}
+use Rattle.db_base.specs.declared.refusal.Refused.TheVariants as refused
+use Rattle.db_base.specs.declared.trouble.Trouble.{Trouble}
+use Rattle.db_base.specs.declared.trouble.Trouble.TheVariants as trouble
+use Rattle.db_base.specs.declared.trouble.Counter.TheVariants as counter
+use Rattle.db_base.specs.declared.trouble.CommitAnswer.{CommitAnswer}
+use Rattle.db_base.specs.declared.trouble.CommitAnswer.TheVariants.{Committed, NotCommitted, InDoubt, CommittedOpen}
+use Rattle.event_text.specs.declared.event.Event.{Event}
+use Rattle.event_text.specs.declared.event.Event.TheVariants as event
+use Rattle.reply_text.specs.declared.reply.Reply.{Reply}
+use Rattle.reply_text.specs.declared.reply.Reply.TheVariants as reply
+use Rattle.txn_buffer.specs.Noted.{Noted, noted_in}
+use Rattle.cloud_trait.specs.Machine.{Goes, Ends}
+use Rattle.cloud_trait.specs.State.{CloudState}
+use Rattle.cloud_trait.specs.Seen.{Seen}
+use Rattle.first_recover.specs.declared.home.Home.{Home}
+use Rattle.first_commit.specs.Commit.{Commit, Readies, new_commit, with_attempt, next_records, opening, finished}
+use Rattle.client_session.specs.declared.session.Answer.TheVariants as answer
+use Rattle.client_session.specs.declared.session.Begun.{Begun}
+use Rattle.client_session.specs.declared.session.Begun.TheVariants.{Working, Answered}
+use Rattle.client_session.specs.declared.session.Op.{Op}
+use Rattle.client_session.specs.declared.session.Op.TheVariants as op
+use Rattle.client_session.specs.declared.session.Work.{Work}
+use Rattle.client_session.specs.declared.session.Work.TheVariants as work
+use Rattle.client_session.specs.Session.{Acting, Begins, BeginsOpening, BeginsWith, HasInHand, CommitsNothing, CommitsNoted, CommitsIn, CommitsOf, folding_begun_by, rule_of}
+use Rattle.session_facts.specs.Sessions.{Sessions, SessionsStand, IsRightOp}
+use Rattle.session_facts.proofs.Begins.{begins_keeps}
+use Rattle.session_facts.proofs.Laws.{buffer_keeps, same_sessions}
+use Rattle.machine_facts.specs.Committing.{MayCommit}
+use Rattle.machine_facts.proofs.Noted.{may_note, may_none}
+use Rattle.store_book.specs.Tally.{at}
+use Rattle.store_book.proofs.Names.{at_same, at_other}
+use Rattle.replay_meaning.specs.Standing.{Line, Standing, Working as WorkingOn, Committing as Noting, standing, after_own, session_of, notes as notes_own}
+use Rattle.replay_model.specs.Facts.{session_at, ActsAs, WorksAs}
+use Rattle.replay_model.proofs.LineLemmas.{line_of, refused_own}
+use Rattle.world_core.specs.declared.world.World.{World}
+use Rattle.world_core.specs.declared.world.WorldFault.{WorldFault}
+use Rattle.world_core.specs.Sessions.{Changes, NotesIn, AbortsIn}
+use Rattle.world_core.specs.Handled.{declined, begun_reply, done_reply, BeginsOp, NotesChange, DropsChanges}
+use Rattle.world_core.specs.Stands.{StandsFor}
+use Rattle.world_core.proofs.StandsLemmas.{IsNoReport, Ready, acts_before, changed_was, quiet_line, quiet_refused}
+
+-- the reply of a line
+abbrev IsOk : Reply → Result Reply WorldFault → Type 0
+IsOk r result = (let own : Result Reply WorldFault = Ok r in own ≡ result)
+
+refused_is : (r : Reply) (rule : Refusal) → IsOk r (declined (refused.Rule rule)) → r ≡ reply.Refused rule
+refused_is r rule e = cc
+
+-- ---- an operation begins
+
+-- the operation of a line keeps what stands
+begun_stands : (lines : List Line) (event : Event) (k : ℕ) (before after : Seen) (old new : World) (t : CloudState) (o : Op) (result : Result Reply WorldFault) → IsRightOp o
+    → (ready : Ready lines event k before after old new t) → (c : Changes k (BeginsOp o result) old.sessions new.sessions)
+    → SessionsStand ready.stands.holds.book ready.stands.holds.order t (at k c.after (session_at old.sessions))
+begun_stands lines event k before after old new t o result right ready c =
+    begins_keeps o ready.stands.holds.book ready.stands.holds.order t (session_at old.sessions) k c.after c.does.begun right ready.stands.holds.stand
+    (subst (λ a. Begins o a c.after c.does.begun) (sym (changed_was k _ old.sessions new.sessions ready.some c)) c.does.begins)
+
+-- how the session stands after it
+abbrev LeavesSession : Event → Reply → ℕ → List Line → Acting → Type 0
+LeavesSession event r k lines a = ActsAs a (after_own event r (standing lines k)) × IsNoReport r
+
+refused_session : (event : Event) (r : Reply) (rule : Refusal) (k : ℕ) (lines : List Line) (a b : Acting) → IsOk r (declined (refused.Rule rule)) → b ≡ a → ActsAs a (standing lines k)
+    → LeavesSession event r k lines b
+refused_session event r rule k lines a b e same acts =
+    let is : r ≡ reply.Refused rule = refused_is r rule e in
+    let P : Reply → Type 0 = λ z. LeavesSession event z k lines b in
+    subst P (sym is) (subst (ActsAs b) (sym (refused_own event rule (standing lines k))) (subst (λ z. ActsAs z (standing lines k)) (sym same) acts), tt)
+
+opens : (k client : ℕ) (r : Reply) (lines : List Line) (a b : Acting) (begun : Result Begun Refused) → ActsAs a (standing lines k) → BeginsOpening client a b begun → IsOk r (begun_reply begun)
+    → LeavesSession (event.Open k client) r k lines b
+opens k client r lines a b (Ok Working) acts begins e =
+    let is : r ≡ reply.Begun = cc in
+    let P : Reply → Type 0 = λ z. LeavesSession (event.Open k client) z k lines b in
+    subst P (sym is) (subst (λ z. ActsAs z (after_own (event.Open k client) reply.Begun (standing lines k))) (sym begins.1) (record { buffer = refl; work = (refl, refl, refl) }), tt)
+opens k client r lines a b (Ok (Answered x)) acts begins e = absurd begins
+opens k client r lines a b (Err (refused.Rule rule)) acts begins e = refused_session (event.Open k client) r rule k lines a b e begins.1 acts
+opens k client r lines a b (Err refused.Memory) acts begins e = absurd begins
+
+-- what the lines say of an open client
+idle_of : (k : ℕ) (lines : List Line) (a : Acting) (home : Home) → a.work ≡ work.Idle home → ActsAs a (standing lines k) → WorksAs (work.Idle home) (standing lines k)
+idle_of k lines a home e acts = subst (λ w. WorksAs w (standing lines k)) e acts.work
+
+folds : (k tree : ℕ) (r : Reply) (lines : List Line) (a b : Acting) (begun : Result Begun Refused) → ActsAs a (standing lines k)
+    → BeginsWith (λ home. HasInHand a.buffer (folding_begun_by tree home)) a b begun → IsOk r (begun_reply begun) → LeavesSession (event.Tree k tree) r k lines b
+folds k tree r lines a b (Ok begun) acts begins e =
+    let idle = idle_of k lines a begins.0 begins.1 acts in
+    let answered : IsOk r (begun_reply (Ok Working)) = subst (λ x. IsOk r (begun_reply (Ok x))) begins.2.0 e in
+    let is : r ≡ reply.Begun = cc in
+    let P : Reply → Type 0 = λ z. LeavesSession (event.Tree k tree) z k lines b in
+    subst P (sym is)
+    (subst (λ z. ActsAs z (after_own (event.Tree k tree) reply.Begun (standing lines k))) (sym begins.2.1) (record { buffer = acts.buffer; work = (refl, idle.1) }), tt)
+folds k tree r lines a b (Err (refused.Rule rule)) acts begins e = refused_session (event.Tree k tree) r rule k lines a b e begins.1 acts
+folds k tree r lines a b (Err refused.Memory) acts begins e = absurd begins
+
+-- the commit that is in hand is one of what was noted, by the client
+readies_goes : (home : Home) (changes : List Noted) (c : Commit) → Readies (new_commit home changes) (Goes c) → (c.changes ≡ changes) × (c.home.client ≡ home.client)
+readies_goes home changes c (inl spent) = absurd (cc (spent.is))
+readies_goes home changes c (inr (inl full)) = absurd (cc (full.is))
+readies_goes home changes c (inr (inr ready)) =
+    let e : c ≡ opening (new_commit home changes) (with_attempt home) (next_records (new_commit home changes)) = cc (ready.is) in
+    (ap (λ (z : Commit). z.changes) e, ap (λ (z : Commit). z.home.client) e)
+
+readies_ends : (home : Home) (changes : List Noted) (c : Commit) (a : CommitAnswer) → Readies (new_commit home changes) (Ends c a)
+    → (c.home.client ≡ home.client) × ((t : Trouble) × (a ≡ NotCommitted t))
+readies_ends home changes c a (inl spent) =
+    let e : c ≡ finished (new_commit home changes) = cc (spent.is) in
+    let f : a ≡ NotCommitted (trouble.Exhausted counter.Txn) = cc (spent.is) in
+    (ap (λ (z : Commit). z.home.client) e, (_, f))
+readies_ends home changes c a (inr (inl full)) =
+    let e : c ≡ finished (record (new_commit home changes) { home = with_attempt home }) = cc (full.is) in
+    let f : a ≡ NotCommitted (trouble.Exhausted counter.Number) = cc (full.is) in
+    (ap (λ (z : Commit). z.home.client) e, (_, f))
+readies_ends home changes c a (inr (inr ready)) = absurd (cc (ready.is))
+
+-- a session is its buffer and its work
+acts_by : (b : Acting) (w : Work) (s : Standing) → b.work ≡ w → b.buffer ≡ s.buffer → WorksAs w s → ActsAs b s
+acts_by b w s e buffer works = record { buffer = buffer; work = subst (λ z. WorksAs z s) (sym e) works }
+
+commits_of : (k : ℕ) (r : Reply) (lines : List Line) (buffer : List Noted) (home : Home) (b : Acting) (begun : Begun) → buffer ≡ (standing lines k).buffer
+    → WorksAs (work.Idle home) (standing lines k) → b.buffer ≡ [] → CommitsOf home buffer b.work begun → IsOk r (begun_reply (Ok begun)) → LeavesSession (event.Commit k) r k lines b
+commits_of k r lines buffer home b Working same idle empty commits e =
+    let is : r ≡ reply.Begun = cc in
+    let go = readies_goes home buffer commits.0 commits.1 in
+    let P : Reply → Type 0 = λ z. LeavesSession (event.Commit k) z k lines b in
+    subst P (sym is) (
+      acts_by b (work.Committing commits.0) (after_own (event.Commit k) reply.Begun (standing lines k)) commits.2 empty
+          (ap (λ cs. WorkingOn (Noting cs)) (sym same ∙ sym go.0), idle.1 ∙ sym go.1),
+      tt,
+    )
+commits_of k r lines buffer home b (Answered (answer.Commit a)) same idle empty commits e =
+    let end = readies_ends home buffer commits.0 a commits.1 in
+    let f : r ≡ reply.Commit a = cc in
+    let is : r ≡ reply.Commit (NotCommitted end.1.0) = f ∙ ap (λ z. reply.Commit z) end.1.1 in
+    let P : Reply → Type 0 = λ z. LeavesSession (event.Commit k) z k lines b in
+    subst P (sym is)
+    (acts_by b (work.Idle commits.0.home) (after_own (event.Commit k) (reply.Commit (NotCommitted end.1.0)) (standing lines k)) commits.2 empty (idle.0, idle.1 ∙ sym end.0), tt)
+commits_of k r lines buffer home b (Answered (answer.Trouble z)) same idle empty commits e = absurd (on z commits.0 e)
+  where
+    on : (z : Trouble) → z ≡ trouble.Memory → IsOk r (begun_reply (Ok (Answered (answer.Trouble z)))) → ⊥
+    on z same e = let own : IsOk r (begun_reply (Ok (Answered (answer.Trouble trouble.Memory)))) = subst (λ x. IsOk r (begun_reply (Ok (Answered (answer.Trouble x))))) same e in absurd (cc)
+commits_of k r lines buffer home b (Answered (answer.Opened epoch)) same idle empty commits e = absurd commits
+commits_of k r lines buffer home b (Answered (answer.Done n)) same idle empty commits e = absurd commits
+
+commits_nothing : (k : ℕ) (r : Reply) (lines : List Line) (buffer : List Noted) (home : Home) (b : Acting) (begun : Begun) → buffer ≡ (standing lines k).buffer
+    → WorksAs (work.Idle home) (standing lines k) → b.buffer ≡ [] → CommitsNothing home buffer b.work begun → IsOk r (begun_reply (Ok begun)) → LeavesSession (event.Commit k) r k lines b
+commits_nothing k r lines buffer home b begun same idle empty nothing e =
+    let answered : IsOk r (begun_reply (Ok (Answered (answer.Commit (Committed 0))))) = subst (λ x. IsOk r (begun_reply (Ok x))) nothing.answer e in
+    let is : r ≡ reply.Commit (Committed 0) = cc in
+    let P : Reply → Type 0 = λ z. LeavesSession (event.Commit k) z k lines b in
+    subst P (sym is) (acts_by b (work.Idle home) (standing lines k) nothing.work_is (empty ∙ sym nothing.none ∙ same) idle, tt)
+
+commits : (k : ℕ) (r : Reply) (lines : List Line) (a b : Acting) (begun : Result Begun Refused) → ActsAs a (standing lines k) → BeginsWith (CommitsIn a.buffer) a b begun
+    → IsOk r (begun_reply begun) → LeavesSession (event.Commit k) r k lines b
+commits k r lines a b (Ok begun) acts begins e = on begins.2.1
+  where
+    on : CommitsNoted begins.0 a.buffer b.work begun → LeavesSession (event.Commit k) r k lines b
+    on (inl nothing) = commits_nothing k r lines a.buffer begins.0 b begun acts.buffer (idle_of k lines a begins.0 begins.1 acts) begins.2.0 nothing e
+    on (inr some) = commits_of k r lines a.buffer begins.0 b begun acts.buffer (idle_of k lines a begins.0 begins.1 acts) begins.2.0 some.1 e
+commits k r lines a b (Err (refused.Rule rule)) acts begins e = refused_session (event.Commit k) r rule k lines a b e begins.1 acts
+commits k r lines a b (Err refused.Memory) acts begins e = absurd begins
+
+pub opening_begun : (lines : List Line) (k client : ℕ) (r : Reply) (before after : Seen) (old new : World) (t : CloudState) → IsClient client
+    → Ready lines (event.Open k client) k before after old new t → Changes k (BeginsOp (op.Open client) (Ok r)) old.sessions new.sessions
+    → StandsFor (lines ++ line_of (event.Open k client) r ∷ []) new after r
+opening_begun lines k client r before after old new t is ready c =
+    let left = opens k client r lines c.before c.after c.does.begun (acts_before lines (event.Open k client) k before after old new t _ ready c) c.does.begins c.does.replies in
+    quiet_line lines (event.Open k client) r k before after old new t _ ready c (begun_stands lines (event.Open k client) k before after old new t (op.Open client) (Ok r) is ready c) left.0 left.1
+
+pub folding_begun : (lines : List Line) (k tree : ℕ) (r : Reply) (before after : Seen) (old new : World) (t : CloudState) → IsTree tree
+    → Ready lines (event.Tree k tree) k before after old new t → Changes k (BeginsOp (op.Tree tree) (Ok r)) old.sessions new.sessions
+    → StandsFor (lines ++ line_of (event.Tree k tree) r ∷ []) new after r
+folding_begun lines k tree r before after old new t is ready c =
+    let left = folds k tree r lines c.before c.after c.does.begun (acts_before lines (event.Tree k tree) k before after old new t _ ready c) c.does.begins c.does.replies in
+    quiet_line lines (event.Tree k tree) r k before after old new t _ ready c (begun_stands lines (event.Tree k tree) k before after old new t (op.Tree tree) (Ok r) is ready c) left.0 left.1
+
+pub commit_begun : (lines : List Line) (k : ℕ) (r : Reply) (before after : Seen) (old new : World) (t : CloudState)
+    → Ready lines (event.Commit k) k before after old new t → Changes k (BeginsOp op.Commit (Ok r)) old.sessions new.sessions
+    → StandsFor (lines ++ line_of (event.Commit k) r ∷ []) new after r
+commit_begun lines k r before after old new t ready c =
+    let left = commits k r lines c.before c.after c.does.begun (acts_before lines (event.Commit k) k before after old new t _ ready c) c.does.begins c.does.replies in
+    quiet_line lines (event.Commit k) r k before after old new t _ ready c (begun_stands lines (event.Commit k) k before after old new t op.Commit (Ok r) tt ready c) left.0 left.1
+
+-- ---- changes are noted and dropped
+
+-- a session that stays
+same_stands : (lines : List Line) (event : Event) (k : ℕ) (before after : Seen) (old new : World) (t : CloudState) (Does : Acting → Acting → Type 0)
+    → (ready : Ready lines event k before after old new t) → (c : Changes k Does old.sessions new.sessions) → c.after ≡ c.before
+    → SessionsStand ready.stands.holds.book ready.stands.holds.order t (at k c.after (session_at old.sessions))
+same_stands lines event k before after old new t Does ready c same =
+    same_sessions ready.stands.holds.book ready.stands.holds.order t (session_at old.sessions) (at k c.after (session_at old.sessions)) each ready.stands.holds.stand
+  where
+    each : (n : ℕ) → at k c.after (session_at old.sessions) n ≡ session_at old.sessions n
+    each n = on (cases_eq n k)
+      where
+        on : (n ≡ k) ⊎ (n ≢ k) → at k c.after (session_at old.sessions) n ≡ session_at old.sessions n
+        on (inl e) =
+            at_same k c.after (session_at old.sessions) n e ∙ same ∙ sym (changed_was k Does old.sessions new.sessions ready.some c) ∙ ap (session_at old.sessions) (sym e)
+        on (inr ne) = at_other k c.after (session_at old.sessions) n ne
+
+-- what a session works on does not look at the buffer of an open client
+works_with : (w : Work) (s : Standing) (buffer : List Noted) → rule_of w ≡ None → WorksAs w s → WorksAs w (record s { buffer = buffer })
+works_with (work.Idle home) s buffer opened works = works
+works_with work.Closed s buffer opened works = absurd (cc)
+works_with (work.Opening m) s buffer opened works = absurd (cc)
+works_with (work.Committing m) s buffer opened works = absurd (cc)
+works_with (work.Folding home m) s buffer opened works = absurd (cc)
+works_with work.Broken s buffer opened works = absurd (cc)
+
+-- another buffer of an open client
+buffer_line : (lines : List Line) (event : Event) (r : Reply) (k : ℕ) (before after : Seen) (old new : World) (t : CloudState) (Does : Acting → Acting → Type 0) (buffer : List Noted)
+    → (ready : Ready lines event k before after old new t) → (c : Changes k Does old.sessions new.sessions) → c.after ≡ record c.before { buffer = buffer } → rule_of c.before.work ≡ None
+    → MayCommit buffer → after_own event r (standing lines k) ≡ record (standing lines k) { buffer = buffer } → IsNoReport r → StandsFor (lines ++ line_of event r ∷ []) new after r
+buffer_line lines event r k before after old new t Does buffer ready c is opened may own plain =
+    quiet_line lines event r k before after old new t Does ready c stand (subst (ActsAs c.after) (sym own) acts) plain
+  where
+    f : Sessions
+    f = session_at old.sessions
+
+    was : f k ≡ c.before
+    was = changed_was k Does old.sessions new.sessions ready.some c
+
+    stand : SessionsStand ready.stands.holds.book ready.stands.holds.order t (at k c.after f)
+    stand =
+        let S : Acting → Type 0 = λ a. SessionsStand ready.stands.holds.book ready.stands.holds.order t (at k a f) in
+        subst S (ap (λ (a : Acting). record a { buffer = buffer }) was ∙ sym is)
+        (buffer_keeps ready.stands.holds.book ready.stands.holds.order t f k buffer may ready.stands.holds.stand)
+
+    acts : ActsAs c.after (record (standing lines k) { buffer = buffer })
+    acts =
+        let had = acts_before lines event k before after old new t Does ready c in
+        subst (λ a. ActsAs a (record (standing lines k) { buffer = buffer })) (sym is)
+        (record { buffer = refl; work = works_with c.before.work (standing lines k) buffer opened had.work })
+
+-- a line that notes a change
+pub notes : (lines : List Line) (event : Event) (k tree : ℕ) (change : Change) (r : Reply) (before after : Seen) (old new : World) (t : CloudState) → IsTree tree → IsChange change
+    → ((q : Reply) (s : Standing) → after_own event q s ≡ notes_own tree change q s)
+    → Ready lines event k before after old new t → Changes k (NotesChange tree change (Ok r)) old.sessions new.sessions → StandsFor (lines ++ line_of event r ∷ []) new after r
+notes lines event k tree change r before after old new t is_tree is_change own ready c = on c.does.noted c.does.notes c.does.replies
+  where
+    s : Standing
+    s = standing lines k
+
+    on : (noted : Result (Unit {0}) Refused) → NotesIn tree change c.before c.after noted → IsOk r (done_reply reply.Noted noted) → StandsFor (lines ++ line_of event r ∷ []) new after r
+    on (Ok done) h e =
+        let is : r ≡ reply.Noted = cc in
+        let P : Reply → Type 0 = λ z. StandsFor (lines ++ line_of event z ∷ []) new after z in
+        let had = acts_before lines event k before after old new t _ ready c in
+        let few : length (noted_in c.before.buffer tree change) ≤ 200 = subst (λ (a : Acting). length a.buffer ≤ 200) h.0 h.2 in
+        let may : MayCommit c.before.buffer =
+        subst (λ (a : Acting). MayCommit a.buffer) (changed_was k _ old.sessions new.sessions ready.some c) (ready.stands.holds.stand.each k).buffer in
+        subst P (sym is) (buffer_line lines event reply.Noted k before after old new t _ (noted_in c.before.buffer tree change) ready c h.0 h.1
+        (may_note c.before.buffer tree change is_tree is_change few may)
+        (own reply.Noted s ∙ ap (λ b. record s { buffer = noted_in b tree change }) (sym had.buffer)) tt)
+    on (Err (refused.Rule rule)) h e =
+        quiet_refused lines event r rule k before after old new t _ ready c (same_stands lines event k before after old new t _ ready c h.0) (refused_is r rule e) h.0
+    on (Err refused.Memory) h e = absurd (cc (e))
+
+-- a line that drops what was noted
+pub aborts : (lines : List Line) (k : ℕ) (r : Reply) (before after : Seen) (old new : World) (t : CloudState)
+    → Ready lines (event.Abort k) k before after old new t → Changes k (DropsChanges (Ok r)) old.sessions new.sessions → StandsFor (lines ++ line_of (event.Abort k) r ∷ []) new after r
+aborts lines k r before after old new t ready c = on c.does.dropped c.does.drops c.does.replies
+  where
+    on : (dropped : Result (Unit {0}) Refused) → AbortsIn c.before c.after dropped → IsOk r (done_reply reply.Aborted dropped) → StandsFor (lines ++ line_of (event.Abort k) r ∷ []) new after r
+    on (Ok done) h e =
+        let is : r ≡ reply.Aborted = cc in
+        let P : Reply → Type 0 = λ z. StandsFor (lines ++ line_of (event.Abort k) z ∷ []) new after z in
+        subst P (sym is) (buffer_line lines (event.Abort k) reply.Aborted k before after old new t _ [] ready c h.0 h.1 may_none refl tt)
+    on (Err (refused.Rule rule)) h e =
+        quiet_refused lines (event.Abort k) r rule k before after old new t _ ready c (same_stands lines (event.Abort k) k before after old new t _ ready c h.0) (refused_is r rule e) h.0
+    on (Err refused.Memory) h e = absurd h.1

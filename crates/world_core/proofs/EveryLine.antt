@@ -1,0 +1,151 @@
+-- Every line keeps what stands.
+use Rattle.std.proofs.Common.{◌≡◌, ◌+◌, ◌≤◌, ℕ, List, [], ◌∷◌, ◌++◌, length, Some, Result, Ok, Err, refl, sym, ap, subst, ◌∙◌, inl, inr, ◌⊎◌, Bool, arith}
+use Rattle.db_base.specs.Ids.{IsTree, IsSession}
+use Rattle.db_base.specs.Change.{IsChange}
+use Rattle.db_base.specs.Key.{IsKey, IsPayload}
+use Rattle.db_base.specs.declared.blob.Blob.{Blob}
+use Rattle.db_base.specs.declared.change.Change.{Change}
+use Rattle.db_base.specs.declared.change.Change.TheVariants.{Insert, Update, Delete}
+use Rattle.db_base.specs.declared.refusal.Refused.{Refused}
+use Rattle.db_base.specs.declared.wish.Wish.{Wish}
+use Rattle.event_text.specs.declared.event.Event.{Event}
+use Rattle.event_text.specs.declared.event.Event.TheVariants as event
+use Rattle.reply_text.specs.declared.reply.Reply.{Reply}
+use Rattle.cloud_trait.specs.State.{CloudState}
+use Rattle.cloud_trait.specs.Seen.{Seen}
+use Rattle.client_session.specs.declared.session.Op.TheVariants as op
+use Rattle.replay_meaning.specs.Standing.{Line, Standing, after_own, session_of, notes as notes_own}
+use Rattle.replay_model.proofs.LineLemmas.{line_of}
+use Rattle.world_core.specs.declared.world.World.{World}
+use Rattle.world_core.specs.declared.world.WorldFault.{WorldFault}
+use Rattle.world_core.specs.declared.asked.Request.{Request}
+use Rattle.world_core.specs.declared.asked.Request.TheVariants.{Begin, Note, Abort, Step, Run, Crash}
+use Rattle.world_core.specs.declared.asked.Asked.{Asked}
+use Rattle.world_core.specs.declared.asked.Asked.TheVariants.{Session, Wait, Report, Unbuilt}
+use Rattle.world_core.specs.Asked.{IsOpening, IsFolding, IsInsert, IsUpdate, IsDelete, IsNoted, IsStep, OfSession, Asks}
+use Rattle.world_core.specs.Handled.{MakesNoCall, Does, Serves, Answers, Handled}
+use Rattle.world_core.specs.Stands.{WorldStands, StandsFor, StandsOn}
+use Rattle.world_core.proofs.StandsLemmas.{Ready, declines, runs, makes_step, crashes, waits, reports}
+use Rattle.world_core.proofs.BeginLemmas.{opening_begun, folding_begun, commit_begun, notes, aborts}
+
+-- the line of a session, and what is known before it is looked at
+pub record Served (lines : List Line) (n k : ℕ) (t : CloudState) (before : Seen) (old : World) : Type 0 where
+  pub session : IsSession k
+  pub at : length lines + 1 ≡ n
+  pub told : before.state ≡ Some t
+  pub stands : WorldStands lines old t
+
+ready_of : (lines : List Line) (event : Event) (n k : ℕ) (before after : Seen) (old new : World) (t : CloudState) → session_of event ≡ k → Served lines n k t before old
+    → MakesNoCall before after old new → Ready lines event k before after old new t
+ready_of lines event n k before after old new t own s quiet = record { own = own; some = s.session.some; quiet = quiet; told = s.told; stands = s.stands }
+
+-- a request to a session is served, or it is not done
+request_stands : (n k : ℕ) (event : Event) (Is : Result Request Refused → Type 0) (asked : Asked) (before after : Seen) (old new : World) (r : Reply) (lines : List Line) (t : CloudState)
+    → OfSession k Is asked → Answers n asked before after old new (Ok r) → length lines + 1 ≡ n → before.state ≡ Some t → WorldStands lines old t
+    → ((request : Request) → Served lines n k t before old → Is (Ok request) → Does n k request before after old new (Ok r) → StandsFor (lines ++ line_of event r ∷ []) new after r)
+    → StandsFor (lines ++ line_of event r ∷ []) new after r
+request_stands n k event Is (Session number (Ok request)) before after old new r lines t belongs (inl p) at told stands served =
+    served request
+    (record { session = subst IsSession belongs.0 p.0; at = at; told = told; stands = stands }) belongs.1
+    (subst (λ j. Does n j request before after old new (Ok r)) belongs.0 p.1)
+request_stands n k event Is (Session number (Err why)) before after old new r lines t belongs (inl p) at told stands served =
+    declines lines event r why before after old new t p.1 told stands
+request_stands n k event Is (Session number request) before after old new r lines t belongs (inr none) at told stands served =
+    declines lines event r _ before after old new t none.declines told stands
+request_stands n k event Is (Wait ticks) before after old new r lines t belongs answers at told stands served = absurd belongs
+request_stands n k event Is (Report tree) before after old new r lines t belongs answers at told stands served = absurd belongs
+request_stands n k event Is Unbuilt before after old new r lines t belongs answers at told stands served = absurd belongs
+
+-- ---- a change is noted
+
+insert_is : (key payload : List ℕ) → IsKey key → IsPayload payload → IsChange (Insert key payload)
+insert_is key payload k p = record { key = k; payload = p }
+
+update_is : (key payload : List ℕ) → IsKey key → IsPayload payload → IsChange (Update key payload)
+update_is key payload k p = record { key = k; payload = p }
+
+delete_is : (key : List ℕ) → IsKey key → IsChange (Delete key)
+delete_is key k = record { key = k; payload = omega arith }
+
+noted_line : (lines : List Line) (event : Event) (n k tree : ℕ) (change : Change) (request : Request) (before after : Seen) (old new : World) (r : Reply) (t : CloudState) (Is : Result Change Refused → Type 0)
+    → session_of event ≡ k → ((q : Reply) (s : Standing) → after_own event q s ≡ notes_own tree change q s) → ((c : Change) → Is (Ok c) → (c ≡ change) × IsChange change)
+    → Served lines n k t before old → IsNoted tree Is (Ok request) → Does n k request before after old new (Ok r) → StandsFor (lines ++ line_of event r ∷ []) new after r
+noted_line lines event n k tree change (Note tree_of c) before after old new r t Is own does is_change s noted done =
+    let is = is_change c noted.2 in
+    let Own : ℕ → Change → Type 0 = λ j d. Does n k (Note j d) before after old new (Ok r) in
+    let h : Does n k (Note tree change) before after old new (Ok r) = subst (λ d. Own tree d) is.0 (subst (λ j. Own j c) noted.0 done) in
+    notes lines event k tree change r before after old new t noted.1 is.1 does (ready_of lines event n k before after old new t own s h.0) h.1
+noted_line lines event n k tree change (Begin o) before after old new r t Is own does is_change s noted done = absurd noted
+noted_line lines event n k tree change Abort before after old new r t Is own does is_change s noted done = absurd noted
+noted_line lines event n k tree change (Step wish) before after old new r t Is own does is_change s noted done = absurd noted
+noted_line lines event n k tree change Run before after old new r t Is own does is_change s noted done = absurd noted
+noted_line lines event n k tree change (Crash d) before after old new r t Is own does is_change s noted done = absurd noted
+
+-- what is done is what was asked
+does_own : (n k : ℕ) (request own : Request) (before after : Seen) (old new : World) (r : Reply) → request ≡ own → Does n k request before after old new (Ok r)
+    → Does n k own before after old new (Ok r)
+does_own n k request own before after old new r is done = subst (λ z. Does n k z before after old new (Ok r)) is done
+
+asked_is : (request own : Request) → (let a : Result Request Refused = Ok request in let b : Result Request Refused = Ok own in a ≡ b) → request ≡ own
+asked_is request own e = cc
+
+unbuilt : (n : ℕ) (event : Event) (asked : Asked) (before after : Seen) (old new : World) (r : Reply) (lines : List Line) (t : CloudState)
+    → asked ≡ Unbuilt → Answers n asked before after old new (Ok r) → before.state ≡ Some t → WorldStands lines old t → StandsFor (lines ++ line_of event r ∷ []) new after r
+unbuilt n event asked before after old new r lines t is answers told stands =
+    declines lines event r _ before after old new t (subst (λ z. Answers n z before after old new (Ok r)) is answers) told stands
+
+asked_stands : (n : ℕ) (event : Event) (asked : Asked) (before after : Seen) (old new : World) (r : Reply) (lines : List Line) (t : CloudState)
+    → Asks event asked → Answers n asked before after old new (Ok r) → length lines + 1 ≡ n → before.state ≡ Some t → WorldStands lines old t
+    → StandsFor (lines ++ line_of event r ∷ []) new after r
+asked_stands n (event.Open k client) asked before after old new r lines t asks answers at told stands =
+    request_stands n k (event.Open k client) (IsOpening client) asked before after old new r lines t asks answers at told stands
+    (λ request s is done.
+    let h = does_own n k request (Begin (op.Open client)) before after old new r is.1 done in
+    opening_begun lines k client r before after old new t is.0 (ready_of lines (event.Open k client) n k before after old new t refl s h.0) h.1)
+asked_stands n (event.Insert k tree key payload) asked before after old new r lines t asks answers at told stands =
+    request_stands n k (event.Insert k tree key payload) (IsNoted tree (IsInsert key payload)) asked before after old new r lines t asks answers at told stands
+    (λ request s is done. noted_line lines (event.Insert k tree key payload) n k tree (Insert key payload) request before after old new r t (IsInsert key payload) refl (λ q z. refl)
+    (λ c h. (h.0, insert_is key payload h.1 h.2)) s is done)
+asked_stands n (event.Update k tree key payload) asked before after old new r lines t asks answers at told stands =
+    request_stands n k (event.Update k tree key payload) (IsNoted tree (IsUpdate key payload)) asked before after old new r lines t asks answers at told stands
+    (λ request s is done. noted_line lines (event.Update k tree key payload) n k tree (Update key payload) request before after old new r t (IsUpdate key payload) refl (λ q z. refl)
+    (λ c h. (h.0, update_is key payload h.1 h.2)) s is done)
+asked_stands n (event.Delete k tree key) asked before after old new r lines t asks answers at told stands =
+    request_stands n k (event.Delete k tree key) (IsNoted tree (IsDelete key)) asked before after old new r lines t asks answers at told stands
+    (λ request s is done. noted_line lines (event.Delete k tree key) n k tree (Delete key) request before after old new r t (IsDelete key) refl (λ q z. refl)
+    (λ c h. (h.0, delete_is key h.1)) s is done)
+asked_stands n (event.Tree k tree) asked before after old new r lines t asks answers at told stands =
+    request_stands n k (event.Tree k tree) (IsFolding tree) asked before after old new r lines t asks answers at told stands
+    (λ request s is done.
+    let h = does_own n k request (Begin (op.Tree tree)) before after old new r is.1 done in
+    folding_begun lines k tree r before after old new t is.0 (ready_of lines (event.Tree k tree) n k before after old new t refl s h.0) h.1)
+asked_stands n (event.Commit k) asked before after old new r lines t asks answers at told stands =
+    request_stands n k (event.Commit k) (λ request. request ≡ Ok (Begin op.Commit)) asked before after old new r lines t asks answers at told stands
+    (λ request s is done.
+    let h = does_own n k request (Begin op.Commit) before after old new r (asked_is request (Begin op.Commit) is) done in
+    commit_begun lines k r before after old new t (ready_of lines (event.Commit k) n k before after old new t refl s h.0) h.1)
+asked_stands n (event.Abort k) asked before after old new r lines t asks answers at told stands =
+    request_stands n k (event.Abort k) (λ request. request ≡ Ok Abort) asked before after old new r lines t asks answers at told stands
+    (λ request s is done.
+    let h = does_own n k request Abort before after old new r (asked_is request Abort is) done in
+    aborts lines k r before after old new t (ready_of lines (event.Abort k) n k before after old new t refl s h.0) h.1)
+asked_stands n (event.Step k wish) asked before after old new r lines t asks answers at told stands =
+    request_stands n k (event.Step k wish) (IsStep wish) asked before after old new r lines t asks answers at told stands
+    (λ request s is done. makes_step lines k n wish r before after old new t s.at s.session.some s.told s.stands (does_own n k request (Step wish) before after old new r is done))
+asked_stands n (event.Run k) asked before after old new r lines t asks answers at told stands =
+    request_stands n k (event.Run k) (λ request. request ≡ Ok Run) asked before after old new r lines t asks answers at told stands
+    (λ request s is done. runs lines k n r before after old new t s.at s.session.some s.told s.stands (does_own n k request Run before after old new r (asked_is request Run is) done))
+asked_stands n (event.Crash k d) asked before after old new r lines t asks answers at told stands =
+    request_stands n k (event.Crash k d) (λ request. request ≡ Ok (Crash d)) asked before after old new r lines t asks answers at told stands
+    (λ request s is done.
+    crashes lines k n d r before after old new t s.at s.session.some s.told s.stands (does_own n k request (Crash d) before after old new r (asked_is request (Crash d) is) done))
+asked_stands n (event.Wait ticks) asked before after old new r lines t asks answers at told stands =
+    waits lines ticks r before after old new t told stands (subst (λ z. Answers n z before after old new (Ok r)) asks answers)
+asked_stands n (event.Report tree) asked before after old new r lines t asks answers at told stands =
+    reports lines tree r before after old new t told stands (subst (λ z. Answers n z before after old new (Ok r)) asks answers)
+asked_stands n event asked before after old new r lines t asks answers at told stands = unbuilt n event asked before after old new r lines t asks answers told stands
+
+pub stands_after : (n : ℕ) (event : Event) (before after : Seen) (old new : World) (result : Result Reply WorldFault)
+    → Handled n event before after old new result → StandsOn n event before after old new result
+stands_after n event before after old new (Ok r) h = λ lines t at told stands. asked_stands n event h.asked before after old new r lines t h.asks h.answers at told stands
+stands_after n event before after old new (Err fault) h = tt

@@ -1,0 +1,118 @@
+ghost use Rattle.std.specs.Prelude.{◌≡◌, ◌-◌, ◌≤◌, ◌<◌};
+
+use client_session::session::{Answer, Begun, Op, Session};
+use cloud_trait::cloud::Cloud;
+use cloud_trait::turn::Turn;
+use cloud_trait::who::Who;
+use db_base::change::Change;
+use db_base::ids::{SessionNo, TreeId};
+use db_base::refusal::Refused;
+use std::alloc::Global;
+use std::marker::Model;
+
+/// The sessions of a replay, by their numbers from 1 to 16.
+#[derive(Drop)]
+pub struct Sessions {
+    list: Vec<Session>,
+}
+
+impl Model for Sessions {
+    ghost use Rattle.std.specs.Prelude.{List, ◌≡◌, length};
+    ghost use Rattle.client_session.specs.Session.{Acting};
+
+    ghost Value = { List Acting };
+
+    ghost view = { λ s. s.list.items };
+
+    ghost invariant = { λ s. length s.list.items ≡ 16 };
+}
+
+impl Sessions {
+    ghost use Rattle.std.specs.Prelude.{replicate, slice_get, IfOk, IfErr, Some, Ok};
+    ghost use Rattle.client_session.specs.Session.{closed_session, Begins, StepsSession};
+    ghost use Rattle.world_core.specs.Sessions.{Changes, IsAtWork, NotesIn, AbortsIn};
+
+    /// Closed sessions. Refused for memory alone.
+    #[tactic(auto, using(crate::proofs::Closed::replicate_more, crate::proofs::Closed::sixteen))]
+    pub fn new(alloc: Global) -> Result<Sessions, Refused>
+        ensures ok { IfOk result (λ s. s ≡ replicate 16 closed_session) }
+        ensures memory { IfErr result (λ e. e ≡ Refused.Memory) }
+    {
+        let mut list = Vec::new(alloc);
+        for _count in 0..16u64 {
+            list.push(Session::new(alloc)?)?;
+        }
+        Ok(Sessions { list })
+    }
+
+    /// The session of a number.
+    pub(crate) fn get(&self, number: SessionNo) -> &Session
+        requires { 1 ≤ number }
+        ensures { slice_get self.now (number - 1) ≡ Some result.now }
+    {
+        &self.list[place_of(number)]
+    }
+
+    /// Begins an operation of the session of a number.
+    pub(crate) fn begin(
+        &mut self,
+        alloc: Global,
+        number: SessionNo,
+        op: Op,
+    ) -> Result<Begun, Refused>
+        requires { 1 ≤ number }
+        ensures { Changes number (λ a b. Begins op a b result) self.old self.new }
+    {
+        self.list[place_of(number)].begin(alloc, op)
+    }
+
+    /// Notes a change in the session of a number.
+    pub(crate) fn note(
+        &mut self,
+        number: SessionNo,
+        tree: TreeId,
+        change: Change,
+    ) -> Result<(), Refused>
+        requires { 1 ≤ number }
+        ensures { Changes number (λ a b. NotesIn tree change a b result) self.old self.new }
+    {
+        self.list[place_of(number)].note(tree, change)
+    }
+
+    /// Drops the changes of the session of a number.
+    pub(crate) fn abort(&mut self, number: SessionNo) -> Result<(), Refused>
+        requires { 1 ≤ number }
+        ensures { Changes number (λ a b. AbortsIn a b result) self.old self.new }
+    {
+        self.list[place_of(number)].abort()
+    }
+
+    /// Closes the session of a number at once.
+    pub(crate) fn crash(&mut self, number: SessionNo)
+        requires { 1 ≤ number }
+        ensures { Changes number (λ a b. b ≡ closed_session) self.old self.new }
+    {
+        self.list[place_of(number)].crash();
+    }
+
+    /// Makes a step of the session of a number, which has a call in hand.
+    pub(crate) fn step<C: Cloud>(&mut self, alloc: Global, cloud: &mut C, who: Who) -> Turn<Answer>
+        requires number { 1 ≤ who.session }
+        requires works { IsAtWork who.session self.old }
+        ensures { Changes who.session (λ a b. StepsSession who (C.seen cloud.old) (C.seen cloud.new) a b (Ok result)) self.old self.new }
+    {
+        match self.list[place_of(who.session)].step(alloc, cloud, who) {
+            Ok(turn) => turn,
+            Err(_) => unreachable!(),
+        }
+    }
+}
+
+/// The place of the session of a number.
+fn place_of(number: SessionNo) -> usize
+    requires { 1 ≤ number }
+    ensures is { result ≡ number - 1 }
+    ensures within { result < 16 }
+{
+    (number.get() - 1) as usize
+}

@@ -1,4 +1,0 @@
-mod bench;
-mod happy;
-mod late;
-mod stops;

@@ -1,1 +1,5 @@
 pub mod Standing
+pub mod Call
+pub mod Others
+pub mod Looks
+pub mod Acting

@@ -44,12 +44,15 @@ abbrev pub IsAlone : ℕ → Parts → ℕ → ℕ → Type 0
 IsAlone now parts session client = (other : ℕ) → other ≢ session → IsLastingPart now client (parts other) → ⊥
 
 -- an open client is not of a later epoch than the newest head; no ATOMIC message is of its epoch and a later transaction than it began, and
--- those of its last transaction are the records that it sent; what its commit needs is not deleted while its lease lasts
+-- those of its last transaction are the records that it sent; while its lease lasts the newest head is of its epoch, and what its commit
+-- needs, which is of its epoch, is not deleted
 pub record HomeHolds (t : Tally) (now : ℕ) (h : Home) : Type 0 where
   pub is_client : IsClient h.client
   pub early : h.epoch ≤ (t.head h.client).epoch
   pub begun : (id : ℕ) (r : AtomicRec) → IsLogMessage (t.logged h.client) id r → r.epoch ≡ h.epoch → r.txn ≤ h.attempt
   pub own : (id : ℕ) (r : AtomicRec) → IsLogMessage (t.logged h.client) id r → r.epoch ≡ h.epoch → r.txn ≡ h.attempt → IsIn h.sent r
+  pub newest : Lasts now h.lease → (t.head h.client).epoch ≡ h.epoch
+  pub needs : (r : AtomicRec) → IsIn h.needed r → r.epoch ≡ h.epoch
   pub waiting : Lasts now h.lease → (r : AtomicRec) → IsIn h.needed r → WaitsLogged (t.logged h.client) r
 
 -- the newest head is the one that an opening read, or of a later epoch; it is the one while the opening's lease lasts

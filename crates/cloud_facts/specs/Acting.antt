@@ -8,7 +8,7 @@ use Rattle.cloud_trait.specs.declared.answer.Answer.{Answer}
 use Rattle.cloud_trait.specs.Ask.{Ask}
 use Rattle.cloud_trait.specs.Caller.{Caller}
 use Rattle.cloud_trait.specs.Claim.{Claim, Lasts}
-use Rattle.cloud_trait.specs.State.{CloudState, newest}
+use Rattle.cloud_trait.specs.State.{CloudState, called, newest}
 use Rattle.db_base.specs.Ids.{IsClient}
 use Rattle.db_base.specs.declared.names.Lock.TheVariants as lock
 use Rattle.head_codec.specs.declared.head.Head.{Head}
@@ -81,5 +81,5 @@ pub record Handles (who : Caller) (s t : CloudState) (ask : Ask) (reply : Answer
   pub owns : Owns (λ session. mine) who.session ask
   pub guarded : IsGuarded s ask
   pub renewed : Claim
-  pub renews : RenewedTo who ask renewed s t
+  pub renews : RenewedTo who ask renewed (called who t.now s) t
   pub own : (x : Claim) → IsIn after x → (IsIn mine x × KeptBy ask x) ⊎ GainedBy ask reply renewed x

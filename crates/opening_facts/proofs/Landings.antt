@@ -1,5 +1,5 @@
 -- What the calls of an opening leave that touch an object or a message, whether they land or not.
-use Rattle.std.proofs.Common.{◌≡◌, ◌+◌, ◌<◌, ◌≤◌, ◌⊎◌, inl, inr, ℕ, List, [], ◌∷◌, ◌++◌, length, Option, Some, None, Result, Ok, Err, refl, sym, ap, subst, ◌∙◌, arith}
+use Rattle.std.proofs.Common.{◌≡◌, ◌+◌, ◌<◌, ◌≤◌, ◌⊎◌, inl, inr, ℕ, List, [], ◌∷◌, length, Some, None, Result, Ok, Err, refl, sym, ap, subst, ◌∙◌, arith}
 use Rattle.std.specs.Prelude.{slice_get}
 use Rattle.std.specs.List.{AllByRecursion}
 use Rattle.std.proofs.lemmas.List.{append-nil}
@@ -13,7 +13,7 @@ use Rattle.cloud_facts.proofs.Passing.{landing_passes, passes_itself}
 use Rattle.cloud_trait.specs.declared.answer.Answer.{Answer}
 use Rattle.cloud_trait.specs.Ask.{Ask, PutHeld, Send, Delete, Lands}
 use Rattle.cloud_trait.specs.Caller.{Caller}
-use Rattle.cloud_trait.specs.Claim.{Claim, Lasts}
+use Rattle.cloud_trait.specs.Claim.{Lasts}
 use Rattle.cloud_trait.specs.State.{CloudState, called}
 use Rattle.cloud_trait.specs.Views.{sent_of, done_of}
 use Rattle.db_base.specs.Ids.{IsClient}
@@ -22,8 +22,7 @@ use Rattle.db_base.specs.declared.names.QueueName.TheVariants as queue
 use Rattle.db_base.specs.declared.trouble.Trouble.{Trouble}
 use Rattle.head_codec.specs.Spelling.{head_of}
 use Rattle.head_codec.specs.declared.head.Head.{Head}
-use Rattle.history.specs.Audited.{Audited}
-use Rattle.home_facts.specs.Homes.{Home, Opening, Part, Parts, Away, AtHome, Opens, PartHolds, HomesHold, HomeHolds, OpeningHolds, IsSpared}
+use Rattle.home_facts.specs.Homes.{Home, Part, Parts, AtHome, PartHolds, HomesHold, HomeHolds, OpeningHolds, IsSpared}
 use Rattle.home_facts.proofs.HomeLemmas.{keeps_part, opened_keeps, marked_keeps, aside_keeps, spared_read, spared_early}
 use Rattle.landing_facts.specs.Landing.{Landing, settles, posts, marks_log, sent_by}
 use Rattle.left_facts.specs.Left.{IsCopied}
@@ -36,12 +35,11 @@ use Rattle.opening_facts.proofs.Kept.{each_in, wanted_ids}
 use Rattle.opening_facts.proofs.Leading.{Leads, away_from, stops_lead}
 use Rattle.opening_facts.proofs.Marks.{past_low, marks_past, lost_low, marks_lost}
 use Rattle.opening_facts.proofs.Others.{lease_in_hand, gathers_passes, sends_pass, messages_pass, put_passes}
-use Rattle.opening_facts.proofs.Sends.{queue_is, posts_record, posted_sent, settles_read}
+use Rattle.opening_facts.proofs.Sends.{posts_record, posted_sent, settles_read}
 use Rattle.recover_run.specs.declared.items.AtomicItem.{AtomicItem}
 use Rattle.recover_run.specs.declared.wanted.Wanted.{Wanted}
 use Rattle.recover_run.specs.Gathering.{is_lost, is_past}
-use Rattle.recover_run.specs.Meaning.{head_behind}
-use Rattle.recover_run.specs.Recovery.{Recovery, Step, deleted_by, cleared, sent_by as sent_next, put_by, recovery_ask}
+use Rattle.recover_run.specs.Recovery.{Recovery, Step, deleted_by, cleared, sent_by as sent_next, put_by}
 use Rattle.report_types.specs.declared.entry.Entry.{Entry}
 use Rattle.route_plan.specs.Record.{pu_record_of}
 use Rattle.store_book.specs.Book.{Book}

@@ -2,6 +2,7 @@
 use Rattle.std.proofs.Common.{◌≡◌, ◌≤◌, ℕ, List, [], ◌∷◌, length, Option, Some, None, Ok, refl, sym, ap, subst, ◌∙◌, arith}
 use Rattle.std.specs.Prelude.{slice_get, All}
 use Rattle.std.specs.List.{AllByRecursion}
+use Rattle.std.proofs.lemmas.List.Elements.{recursion_from_All}
 use Rattle.cloud_facts.specs.Acting.{Setting, Outcome}
 use Rattle.cloud_facts.specs.Call.{IsCall}
 use Rattle.cloud_facts.proofs.Heads.{head_at, newest_head, held_seen}
@@ -36,7 +37,7 @@ use Rattle.recover_run.specs.declared.items.AtomicItem.{AtomicItem}
 use Rattle.recover_run.specs.declared.stage.Stage.{Stage}
 use Rattle.recover_run.specs.declared.stage.Stage.TheVariants.{ReleasingOld, Taking, Getting, Receiving, Deleting, Sending, Putting, Clearing, Sweeping, Releasing, Finished}
 use Rattle.recover_run.specs.Gathering.{is_lost, is_past}
-use Rattle.recover_run.specs.Recovery.{Recovery, Step, recovery_ask, ask_at, under, delete_next, send_next, recovery_next, next_at, SendsRecord, IsSoundAt, IsSound}
+use Rattle.recover_run.specs.Recovery.{Recovery, recovery_ask, ask_at, under, delete_next, send_next, recovery_next, next_at, SendsRecord, IsSoundAt, IsSound}
 use Rattle.report_types.specs.declared.entry.Entry.{Entry}
 use Rattle.store_book.specs.Book.{Book}
 use Rattle.store_book.specs.Tally.{Store, at}
@@ -123,9 +124,10 @@ module _ (who : Caller) (s t : CloudState) (book : Book) (order : List Entry) (p
 
       seen : (v : Option (List ℕ)) → got_of reply ≡ Ok v → (st.tally.head r.client ≡ head_at v) × IsAlone t.now parts who.session r.client
       seen v got =
-          let of = call_at get asked in
-          (newest_head (s.versions (object.Head r.client)) ∙ ap head_at (sym (held_seen who (object.Head r.client) held.now reply s t of v got)),
-          setting.alone held.now r.client (lease_in_hand r.former r.lease held.now held.is) held.lock (held_lasts who (object.Head r.client) held.now reply s t of v got))
+          let of = call_at get asked in (
+            newest_head (s.versions (object.Head r.client)) ∙ ap head_at (sym (held_seen who (object.Head r.client) held.now reply s t of v got)),
+            setting.alone held.now r.client (lease_in_hand r.former r.lease held.now held.is) held.lock (held_lasts who (object.Head r.client) held.now reply s t of v got),
+          )
 
   at_releasing : r.stage ≡ Releasing → HasLease r.client r.former r.lease → Out
   at_releasing e held =

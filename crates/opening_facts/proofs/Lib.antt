@@ -9,3 +9,5 @@ pub mod Gathering
 pub mod Clears
 pub mod Landings
 pub mod Outcomes
+pub mod HeadPuts
+pub mod Hands

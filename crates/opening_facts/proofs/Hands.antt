@@ -36,8 +36,11 @@ use Rattle.recover_run.specs.Gathering.{gathered_with, lost_now, past_ids}
 use Rattle.recover_run.specs.Ids.{new_ids, rest_of}
 use Rattle.recover_run.specs.Items.{items_of}
 use Rattle.recover_run.specs.Recovery.{Recovery, Step, take_lease, ask_at, recovery_ask, under, delete_next, send_next, recovery_next, next_at, taken_by, behind, phase_read, head_read, bytes_read, none_read, got_by, goes_to, stopping, send_or_put, send_at, decided, deleting, gathered_by, received_by, deleted_by, with_pending, sent_by, clearing, kept_ids, put_by, opened, sweeping, swept_with, swept_by, ended, home_with}
+use Rattle.report_types.specs.declared.entry.Entry.{Entry}
+use Rattle.store_book.specs.Book.{Book}
 use Rattle.store_book.specs.Records.{IsIn}
 use Rattle.store_book.specs.Tally.{Store}
+use Rattle.telling_facts.specs.Told.{store_of}
 use Rattle.store_book.proofs.Places.{get_single, in_either, in_front, in_behind, in_none}
 
 -- ---- steps that take no lease
@@ -239,6 +242,6 @@ module _ (who : Caller) (s t : CloudState) (r : Recovery) (reply : Answer) where
       on Finished e a = absurd a
 
 -- the leases of a call of an opening, and those in hand where it leads
-pub opening_handles : (who : Caller) (s t : CloudState) (st : Store) (now : ℕ) (r : Recovery) (part : Part) (reply : Answer) → KnowsOpening st now r part
+pub opening_handles : (who : Caller) (book : Book) (order : List Entry) (s t : CloudState) (r : Recovery) (part : Part) (reply : Answer) → KnowsOpening (store_of book order s) t.now r part
     → Handles who s t (recovery_ask r) reply (leases_of_recovery r) (leases_of_next (recovery_next r reply))
-opening_handles who s t st now r part reply k = by_stage who s t r reply st now part k.at
+opening_handles who book order s t r part reply k = by_stage who s t r reply (store_of book order s) t.now part k.at

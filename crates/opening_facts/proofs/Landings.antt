@@ -52,7 +52,7 @@ use Rattle.store_book.specs.Telling.{queue_of}
 use Rattle.store_book.proofs.Names.{at_same}
 use Rattle.telling_facts.specs.Told.{store_of}
 
-module _ (who : Caller) (s t : CloudState) (book : Book) (order : List Entry) (parts : Parts) (r : Recovery) (part : Part) (reply : Answer)
+module _ (who : Caller) (book : Book) (order : List Entry) (s t : CloudState) (parts : Parts) (r : Recovery) (part : Part) (reply : Answer)
     (setting : Setting book order s t.now parts who.session (leases_of_recovery r)) (mine : parts who.session ≡ part) (is : IsClient r.client) where
   abbrev st : Store
   st = store_of book order s

@@ -64,7 +64,7 @@ received_sent who q a s t call ms got = absurd (cc)
 
 -- ---- by the stage
 
-module _ (who : Caller) (s t : CloudState) (book : Book) (order : List Entry) (parts : Parts) (r : Recovery) (part : Part) (reply : Answer)
+module _ (who : Caller) (book : Book) (order : List Entry) (s t : CloudState) (parts : Parts) (r : Recovery) (part : Part) (reply : Answer)
     (setting : Setting book order s t.now parts who.session (leases_of_recovery r)) (mine : parts who.session ≡ part) (is : IsClient r.client) (call : IsCall who (recovery_ask r) reply s t)
     (fits : Fits (recovery_ask r) reply) where
   abbrev st : Store
@@ -160,7 +160,7 @@ module _ (who : Caller) (s t : CloudState) (book : Book) (order : List Entry) (p
       on (id ∷ ids) ids_are =
           let asked : recovery_ask r ≡ Delete (queue.Atomic r.client) id = asks Deleting e ∙ ap (delete_next r) ids_are in
           out_at Deleting e (Delete (queue.Atomic r.client) id) asked
-          (lost_deleted who s t book order parts r part reply setting mine is id ids ids_are (call_at (Delete (queue.Atomic r.client) id) asked) k all)
+          (lost_deleted who book order s t parts r part reply setting mine is id ids ids_are (call_at (Delete (queue.Atomic r.client) id) asked) k all)
 
   at_clearing : r.stage ≡ Clearing → KnowsPut st t.now r part → AllByRecursion (IsMessageThat st r.client (is_past r.wanted)) r.ids → 1 ≤ length r.ids → Out
   at_clearing e k all some = on r.ids refl
@@ -170,7 +170,7 @@ module _ (who : Caller) (s t : CloudState) (book : Book) (order : List Entry) (p
       on (id ∷ ids) ids_are =
           let asked : recovery_ask r ≡ Delete (queue.Atomic r.client) id = asks Clearing e ∙ ap (delete_next r) ids_are in
           out_at Clearing e (Delete (queue.Atomic r.client) id) asked
-          (past_deleted who s t book order parts r part reply setting mine is id ids ids_are (call_at (Delete (queue.Atomic r.client) id) asked) k all)
+          (past_deleted who book order s t parts r part reply setting mine is id ids ids_are (call_at (Delete (queue.Atomic r.client) id) asked) k all)
 
   -- ---- sends, and the put
 
@@ -181,12 +181,12 @@ module _ (who : Caller) (s t : CloudState) (book : Book) (order : List Entry) (p
       on None there w = absurd w
       on (Some x) there reads =
           let asked = asks Sending e ∙ (ap (send_next r) there ∙ ap (λ q. Send q r.out) (queue_is x.rec.tree x.rec.page)) in
-          out_at Sending e _ asked (record_sent who s t book order parts r part reply setting mine is x there reads k (call_at _ asked))
+          out_at Sending e _ asked (record_sent who book order s t parts r part reply setting mine is x there reads k (call_at _ asked))
 
   at_putting : r.stage ≡ Putting → KnowsSending st r part (length r.gathered.kept) → IsSoundAt Putting r → Out
   at_putting e k sound =
       let asked = under_lease Putting e r.lease k.read.held.now (λ l. PutHeld (object.Head r.client) r.out l None) refl k.read.held.is in
-      out_at Putting e _ asked (head_put who s t book order parts r part reply setting mine is k sound.1 (call_at _ asked))
+      out_at Putting e _ asked (head_put who book order s t parts r part reply setting mine is k sound.1 (call_at _ asked))
 
   -- ---- the whole
 
@@ -207,7 +207,7 @@ module _ (who : Caller) (s t : CloudState) (book : Book) (order : List Entry) (p
       on Finished e a w = absurd a
 
 -- a call of an opening
-pub opening_outcome : (who : Caller) (s t : CloudState) (book : Book) (order : List Entry) (parts : Parts) (r : Recovery) (part : Part) (reply : Answer)
+pub opening_outcome : (who : Caller) (book : Book) (order : List Entry) (s t : CloudState) (parts : Parts) (r : Recovery) (part : Part) (reply : Answer)
     → Setting book order s t.now parts who.session (leases_of_recovery r) → parts who.session ≡ part → KnowsOpening (store_of book order s) t.now r part → IsSound r
     → IsCall who (recovery_ask r) reply s t → Fits (recovery_ask r) reply → Outcome who book order s t parts (recovery_ask r) (λ a. a) (KnowsNext (recovery_next r reply))
-opening_outcome who s t book order parts r part reply setting mine k sound call fits = by_stage who s t book order parts r part reply setting mine k.client call fits k.at sound
+opening_outcome who book order s t parts r part reply setting mine k sound call fits = by_stage who book order s t parts r part reply setting mine k.client call fits k.at sound

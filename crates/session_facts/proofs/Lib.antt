@@ -1,13 +1,9 @@
-pub mod Outcomes
-pub mod OpeningLemmas
-pub mod OpeningHands
 pub mod Keeping
 pub mod Laws
 pub mod Begins
-pub mod CommitLemmas
-pub mod CommitHands
-pub mod CheckpointNexts
-pub mod CheckpointLemmas
-pub mod CheckpointHands
+pub mod LeaseSteps
+pub mod OpeningSteps
+pub mod CommitSteps
+pub mod FoldingSteps
 pub mod Calling
 pub mod HeadPuts

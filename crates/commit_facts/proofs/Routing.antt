@@ -28,7 +28,7 @@ use Rattle.chain_facts.specs.Links.{first_link}
 use Rattle.txn_buffer.specs.Noted.{Noted}
 use Rattle.cloud_facts.specs.Acting.{IsLone}
 use Rattle.cloud_facts.proofs.Lone.{first_linked}
-use Rattle.commit_facts.proofs.Searching.{stands_below, replicate_at, found, not_found, in_reverse, from_reverse}
+use Rattle.cloud_facts.proofs.Searching.{stands_below, replicate_at, found, not_found, in_reverse, from_reverse}
 use Rattle.store_book.proofs.Places.{get_within, get_single}
 
 -- ---- the record at a place

@@ -101,40 +101,37 @@ pub commit_others : (st su : Store) (now later : ℕ) (w : Writing) (part : Part
 commit_others st su now later w part after o joins k =
     record { client = k.client; lock = k.lock; changes = k.changes; home = k.home; at_home = k.at_home; at = on w.stage k.at }
   where
-    abbrev x : Attempt
-    x = attempt_of w
-
     still : Lasts later w.home.lease → su.tally.head w.home.client ≡ st.tally.head w.home.client
     still lasts = o.head w.home.lease w.home.client (0, refl) k.lock lasts
 
-    none : NoneOf x st su
-    none = none_of x part k.home st su k.at_home joins
+    none : NoneOf (attempt_of w) st su
+    none = none_of (attempt_of w) part k.home st su k.at_home joins
 
     stays : (r : AtomicRec) → IsIn st.book.log r → IsIn su.book.log r
     stays r is = log_stays st su r (o.passes).grows is
 
-    messages : AreMessagesOf st x w.ids → AreMessagesOf su x w.ids
-    messages = messages_stay st su x w.ids (o.passes).grows
+    messages : AreMessagesOf st (attempt_of w) w.ids → AreMessagesOf su (attempt_of w) w.ids
+    messages = messages_stay st su (attempt_of w) w.ids (o.passes).grows
 
     on : (stage : Stage) → KnowsCommitAt stage st now w k.home → KnowsCommitAt stage su later w k.home
     on Waiting never = never
-    on Logging a = record { routes = routes_others st su now later x after still none w.changes w.records w.home.head a.routes; has = a.has; messages = messages a.messages }
+    on Logging a = record { routes = routes_others st su now later (attempt_of w) after still none w.changes w.records w.home.head a.routes; has = a.has; messages = messages a.messages }
     on Opening a = record {
       base = a.base;
-      routes = routes_others st su now later x after still none w.changes w.records a.base a.routes;
+      routes = routes_others st su now later (attempt_of w) after still none w.changes w.records a.base a.routes;
       head = a.head;
       before = a.before;
       has = a.has;
       messages = messages a.messages;
     }
     on Sending a = record {
-      has = opened_others st su now later x after still none w.records w.home.head stays a.has;
+      has = opened_others st su now later (attempt_of w) after still none w.records w.home.head stays a.has;
       sent = sent_others st su w.records w.place o.passes (λ r is. ((a.has).logged r is).0) a.sent;
       messages = messages a.messages;
     }
     on Settling a = record {
       opened = a.opened;
-      has = opened_others st su now later x after still none w.records a.opened stays a.has;
+      has = opened_others st su now later (attempt_of w) after still none w.records a.opened stays a.has;
       head = a.head;
       sent = sent_others st su w.records _ o.passes (λ r is. ((a.has).logged r is).0) a.sent;
       messages = messages a.messages;

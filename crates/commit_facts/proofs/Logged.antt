@@ -66,13 +66,10 @@ module _ (st : Store) (now : ℕ) (w : Writing) (g : Home) (a : Deletes st now w
 
   -- the transaction is not that of an open newest head
   pub marks : MarksLog st w.home.client id
-  marks = record { past = λ r m open epoch txn. on r (of_attempt r m) open epoch txn a.past }
+  marks = record { past = λ r m opened epoch txn. on r (of_attempt r m) opened epoch txn a.past }
     where
-      abbrev head : Head
-      head = st.tally.head w.home.client
-
       closed : (p : Phase) → p ≡ Settled → is_open p ≡ true → ⊥
-      closed p e open = never (sym (ap is_open e) ∙ open)
+      closed p e opened = never (sym (ap is_open e) ∙ opened)
         where
           never : false ≡ true → ⊥
           never q = cc
@@ -81,12 +78,12 @@ module _ (st : Store) (now : ℕ) (w : Writing) (g : Home) (a : Deletes st now w
       stays Settled q e rises = rises
       stays (Open n) q e rises = absurd (cc)
 
-      on : (r : AtomicRec) → (r.epoch ≡ w.home.head.epoch) × (r.txn ≡ w.home.head.txn) → is_open head.phase ≡ true → r.epoch ≡ head.epoch → r.txn ≡ head.txn
-          → (head ≡ w.home.head) ⊎ IsLater w.home.head head → ⊥
-      on r of open epoch txn (inl same) = closed head.phase (ap (λ (h : Head). h.phase) same ∙ a.settled) open
-      on r of open epoch txn (inr (inl e)) = let own = of.0 in omega (arith, e, own, epoch)
-      on r of open epoch txn (inr (inr (e, inl t))) = let own = of.1 in omega (arith, t, own, txn)
-      on r of open epoch txn (inr (inr (e, inr t))) = stays w.home.head.phase head.phase a.settled t.1
+      on : (r : AtomicRec) → (r.epoch ≡ w.home.head.epoch) × (r.txn ≡ w.home.head.txn) → is_open (st.tally.head w.home.client).phase ≡ true → r.epoch ≡ (st.tally.head w.home.client).epoch → r.txn ≡ (st.tally.head w.home.client).txn
+          → (st.tally.head w.home.client ≡ w.home.head) ⊎ IsLater w.home.head (st.tally.head w.home.client) → ⊥
+      on r of opened epoch txn (inl same) = closed (st.tally.head w.home.client).phase (ap (λ (h : Head). h.phase) same ∙ a.settled) opened
+      on r of opened epoch txn (inr (inl e)) = let own = of.0 in omega (arith, e, own, epoch)
+      on r of opened epoch txn (inr (inr (e, inl t))) = let own = of.1 in omega (arith, t, own, txn)
+      on r of opened epoch txn (inr (inr (e, inr t))) = stays w.home.head.phase (st.tally.head w.home.client).phase a.settled t.1
 
   -- and no other commit needs the message
   pub spared : (parts : Parts) (session : ℕ) (part : Part) → IsHomeOf (attempt_of w) part g → parts session ≡ part → HomesHold st.tally now parts

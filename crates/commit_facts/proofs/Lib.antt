@@ -1,0 +1,15 @@
+pub mod Noted
+pub mod Distinct
+pub mod Routing
+pub mod Attempts
+pub mod Opened
+pub mod CommitOthers
+pub mod Logged
+pub mod Nexts
+pub mod Settled
+pub mod Ready
+pub mod Logging
+pub mod PutOpened
+pub mod SentOn
+pub mod PutSettled
+pub mod Deleting

@@ -19,7 +19,7 @@ use Rattle.cloud_trait.specs.State.{CloudState, newest}
 use Rattle.commit_facts.specs.Committing.{MayCommit}
 use Rattle.commit_facts.proofs.Noted.{may_none}
 use Rattle.checkpoint_facts.specs.Checkpoint.{folding_note}
-use Rattle.commit_facts.specs.Committing.{commit_note}
+use Rattle.commit_facts.specs.Noting.{commit_note}
 use Rattle.commit_writes.specs.Writing.{writing_ask}
 use Rattle.db_base.specs.declared.names.ObjName.TheVariants as object
 use Rattle.db_base.specs.declared.refusal.Refused.{Refused}
@@ -122,6 +122,9 @@ module _ (who : Caller) (before after : Seen) (s t : CloudState) (book : Book) (
   setting_at : (work : Work) → old ≡ work → s.now ≤ t.now → Setting book order s t.now stand.parts who.session (leases_of work)
   setting_at work is later = subst (λ w. Setting book order s t.now stand.parts who.session (leases_of w)) is (setting_of book order s sessions stand t.now who.session later)
 
+  known_now : (work : Work) → old ≡ work → KnowsWork st s.now work (stand.parts who.session)
+  known_now work is = subst (λ w. KnowsWork st s.now w (stand.parts who.session)) is (stand.each who.session).work
+
   known_in : (work : Work) → old ≡ work → s.now ≤ t.now → KnowsWork st t.now work (stand.parts who.session)
   known_in work is later = subst (λ w. KnowsWork st t.now w (stand.parts who.session)) is (known_at book order s sessions stand t.now who.session later)
 
@@ -132,18 +135,18 @@ module _ (who : Caller) (before after : Seen) (s t : CloudState) (book : Book) (
       (opening_step who before after book order s t stand.parts r (setting_at (Opening r) is) (known_in (Opening r) is) steps.0 told told_after new.work turn steps.1))
   works (Committing w) turn is steps =
       goes_by (writing_ask w) (commit_note w (writing_ask w)) (ap ask_of_work is)
-      (sym (ap (λ q. noted_at q (writing_ask w) (audit_of book order)) is ∙ commit_noted w (writing_ask w) (audit_of book order)))
+      (sym (ap (λ q. noted_at q (writing_ask w) (audit_of book order)) is ∙ commit_noted w (writing_ask w) (audit_of book order) refl))
       (subst (Stepped (writing_ask w) (commit_note w (writing_ask w))) (sym is)
       (commit_step who before after book order s t stand.parts w (setting_at (Committing w) is) (known_in (Committing w) is) steps.0 told told_after new.work turn steps.1))
   works (Folding home f) turn is steps =
       goes_by (folding_ask f) (folding_note f (folding_ask f)) (ap ask_of_work is)
       (sym (ap (λ q. noted_at q (folding_ask f) (audit_of book order)) is ∙ folding_noted home f (folding_ask f) (audit_of book order)))
       (subst (Stepped (folding_ask f) (folding_note f (folding_ask f))) (sym is)
-      (folding_step who before after book order s t stand.parts home f (setting_at (Folding home f) is) (known_in (Folding home f) is) told told_after new.work turn steps))
+      (folding_step who before after book order s t stand.parts home f (setting_at (Folding home f) is) (known_now (Folding home f) is).0 (known_now (Folding home f) is).1 told told_after new.work turn steps))
   works (Closing l) turn is steps =
       goes_by (Release l) (λ a. a) (ap ask_of_work is) (sym (ap (λ w. noted_at w (Release l) (audit_of book order)) is))
       (subst (Stepped (Release l) (λ a. a)) (sym is)
-      (closing_step who before after book order s t stand.parts l (setting_at (Closing l) is) (subst (λ w. KnowsWork st s.now w (stand.parts who.session)) is (stand.each who.session).work) told told_after
+      (closing_step who before after book order s t stand.parts l (setting_at (Closing l) is) (known_now (Closing l) is) told told_after
       new.work turn steps))
   works (Renewing home) turn is steps =
       goes_by (Renew home.lease 600) (λ a. a) (ap ask_of_work is) (sym (ap (λ w. noted_at w (Renew home.lease 600) (audit_of book order)) is))

@@ -12,7 +12,7 @@ use Rattle.cloud_facts.proofs.OthersLemmas.{others_itself, home_others}
 use Rattle.cloud_trait.specs.Claim.{Claim, Lasts}
 use Rattle.cloud_trait.specs.State.{CloudState}
 use Rattle.cloud_trait.specs.declared.state.Version.{Version}
-use Rattle.commit_facts.proofs.Others.{commit_others, commit_lease}
+use Rattle.commit_facts.proofs.CommitOthers.{commit_others, commit_lease}
 use Rattle.db_base.specs.Ids.{IsTree}
 use Rattle.db_base.specs.declared.names.Lock.TheVariants as lock
 use Rattle.db_base.specs.declared.names.ObjName.{ObjName}

@@ -1,6 +1,7 @@
 pub mod Keeping
 pub mod Laws
 pub mod Begins
+pub mod Troubles
 pub mod LeaseSteps
 pub mod OpeningSteps
 pub mod CommitSteps

@@ -1,0 +1,29 @@
+-- What is told of objects that are absent.
+use Rattle.std.proofs.Common.{◌≡◌, ◌⊎◌, inl, inr, ℕ, List, [], map, Option, Some, None, sym, ap, ◌∙◌}
+use Rattle.std.specs.Option.{option_map}
+use Rattle.cloud_trait.specs.State.{CloudState, newest, newest_of}
+use Rattle.cloud_trait.specs.declared.state.Version.{Version}
+use Rattle.chain_facts.specs.Links.{top_of}
+use Rattle.db_base.specs.declared.names.ObjName.TheVariants as object
+use Rattle.decoding_facts.proofs.Newest.{IsLast, last_cases}
+use Rattle.leaf_view.specs.Lookup.{empty_leaf}
+use Rattle.node_codec.specs.Tree.{empty_tree}
+use Rattle.store_book.specs.Tally.{Leafy}
+use Rattle.store_book.specs.Telling.{last_or, root_in, node_in, leaf_in, nodes_of, roots_of, newest_leaf}
+
+-- an object without newest bytes has no version
+none_landed : (vs : List Version) → newest_of vs ≡ None → vs ≡ []
+none_landed vs none = on (last_cases vs)
+  where
+    on : (vs ≡ []) ⊎ ((v : Version) × IsLast vs v) → vs ≡ []
+    on (inl e) = e
+    on (inr (v, last)) =
+        let some : newest_of vs ≡ Some v.bytes = ap (λ (o : Option Version). option_map (λ (w : Version). w.bytes) o) last in
+        let clash : None ≡ Some v.bytes = sym none ∙ some in
+        absurd (cc)
+
+pub absent_root : (s : CloudState) (tree : ℕ) → newest s (object.Tree tree) ≡ None → top_of (roots_of s tree) ≡ empty_tree
+absent_root s tree none = ap (λ (vs : List Version). last_or empty_tree (map root_in vs)) (none_landed (s.versions (object.Tree tree)) none)
+
+pub absent_leaf : (s : CloudState) (tree : ℕ) → newest s (object.Page tree 1) ≡ None → newest_leaf (nodes_of s) tree 1 ≡ empty_leaf
+absent_leaf s tree none = ap (λ (vs : List Version). leaf_in (last_or (Leafy empty_leaf) (map node_in vs))) (none_landed (s.versions (object.Page tree 1)) none)

@@ -13,3 +13,6 @@ pub mod PutOpened
 pub mod SentOn
 pub mod PutSettled
 pub mod Deleting
+pub mod CommitLemmas
+pub mod HeadPuts
+pub mod CommitHands

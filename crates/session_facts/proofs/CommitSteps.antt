@@ -21,8 +21,8 @@ use Rattle.cloud_trait.specs.State.{CloudState}
 use Rattle.cloud_trait.specs.Weather.{Makes}
 use Rattle.commit_facts.specs.Committing.{KnowsCommit, KnowsEnd, KnowsNext}
 use Rattle.commit_facts.specs.Noting.{commit_note, noted_head as adds_head}
-use Rattle.commit_facts.proofs.Hands.{LeaseStays, next_lease, commit_handles}
-use Rattle.commit_facts.proofs.Outcomes.{commit_outcome}
+use Rattle.commit_facts.proofs.CommitHands.{commit_handles}
+use Rattle.commit_facts.proofs.CommitLemmas.{commit_outcome}
 use Rattle.commit_writes.specs.Sound.{IsSound}
 use Rattle.commit_writes.specs.Writing.{Writing, writing_ask, writing_next, opens_at, KeepsHome}
 use Rattle.db_base.specs.declared.names.ObjName.TheVariants as object
@@ -36,6 +36,7 @@ use Rattle.recover_run.specs.declared.home.Home.{Home}
 use Rattle.report_types.specs.declared.entry.Entry.{Entry}
 use Rattle.session_facts.specs.Noting.{noted_head, noted_at}
 use Rattle.session_facts.specs.Sessions.{leases_of, KnowsWork}
+use Rattle.session_facts.proofs.CommitLeases.{LeaseStays, next_lease}
 use Rattle.session_facts.proofs.LeaseSteps.{IsStepOf}
 use Rattle.session_facts.proofs.Troubles.{memory_or}
 use Rattle.store_book.specs.Book.{Book}
@@ -108,10 +109,10 @@ module _ (who : Caller) (before after : Seen) (book : Book) (order : List Entry)
     call = call_of who (writing_ask w) reply before after s t made e f
 
     outcome : Outcome who book order s t parts (writing_ask w) note (KnowsNext (writing_next w reply))
-    outcome = commit_outcome who book order s t parts w (parts who.session) reply (setting call.later) refl (knows call.later) sound call made.fits
+    outcome = commit_outcome who book order s t parts w reply (parts who.session) (setting call.later) refl (knows call.later) sound call
 
     handles : Handles who s t (writing_ask w) reply (w.home.lease ∷ []) (w.home.lease ∷ [])
-    handles = commit_handles who book order s t w (parts who.session) reply (knows call.later) call
+    handles = commit_handles who s t w reply (store_of book order s) t.now (parts who.session) (knows call.later) sound
 
     by_next : (step : Next Writing CommitAnswer) → writing_next w reply ≡ step → (work : Work) → LeadsTo step work → Stepped work
     by_next step is work leads = record {

@@ -1,6 +1,6 @@
 -- What each session knows survives a call of another one, and time.
 use Rattle.std.proofs.Common.{◌≡◌, ◌≢◌, ◌≤◌, ◌⊎◌, inl, inr, ℕ, List, [], ◌∷◌, ◌++◌, map, refl, sym, ap, subst, ◌∙◌}
-use Rattle.checkpoint_facts.proofs.CheckpointOthers.{folding_others}
+use Rattle.checkpoint_facts.proofs.FoldingOthers.{folding_others}
 use Rattle.client_session.specs.Session.{Acting}
 use Rattle.client_session.specs.declared.work.Work.{Work}
 use Rattle.client_session.specs.declared.work.Work.TheVariants.{Closed, Idle, Opening, Committing, Folding, Closing, Renewing, Broken}

@@ -4,6 +4,7 @@ pub mod Begins
 pub mod Troubles
 pub mod LeaseSteps
 pub mod OpeningSteps
+pub mod CommitLeases
 pub mod CommitSteps
 pub mod FoldingSteps
 pub mod Calling

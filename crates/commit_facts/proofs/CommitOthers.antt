@@ -78,7 +78,6 @@ module _ (st su : Store) (now later : ℕ) (x : Attempt) (after : now ≤ later)
     later = a.later;
     some = a.some;
     records_are = a.records_are;
-    fits = a.fits;
     newest = λ lasts. still lasts ∙ a.newest (earlier lasts);
     uncommitted = λ r is of. a.uncommitted r (none r is of) of;
   }

@@ -19,7 +19,7 @@ use Rattle.left_facts.specs.Left.{IsCopied}
 use Rattle.log_codec.specs.declared.record.AtomicRec.{AtomicRec}
 use Rattle.recover_run.specs.declared.home.Home.{Home as Held}
 use Rattle.route_plan.specs.Heads.{opened_head, settled_head}
-use Rattle.route_plan.specs.Route.{routed, AllFit}
+use Rattle.route_plan.specs.Route.{routed}
 use Rattle.store_book.specs.Growth.{IsLater}
 use Rattle.store_book.specs.Messages.{IsLogMessage}
 use Rattle.store_book.specs.Records.{StandsAt, IsIn}
@@ -67,7 +67,6 @@ pub record Routes (st : Store) (now : ℕ) (x : Attempt) (changes : List Noted) 
   pub later : base.txn < x.txn
   pub some : 1 ≤ length changes
   pub records_are : records ≡ routed x.client base.epoch x.txn base changes (first_leaves changes)
-  pub fits : AllFit records
   pub newest : Lasts now x.lease → st.tally.head x.client ≡ base
   pub uncommitted : (r : AtomicRec) → IsIn st.book.log r → IsOfAttempt x r → ⊥
 

@@ -366,8 +366,8 @@ folding_handles who s t book order parts leases f reply setting k call home clie
         on (inr n) = inr (record { next = next; leads = leads; there = n })
 
 -- and wherever it leads the home's lease is in hand
-pub folding_rests : (who : Caller) (s t : CloudState) (book : Book) (order : List Entry) (parts : Parts) (leases : List Claim) (f : Folding) (reply : Answer)
+pub folding_home_handles : (who : Caller) (s t : CloudState) (book : Book) (order : List Entry) (parts : Parts) (leases : List Claim) (f : Folding) (reply : Answer)
     → Setting book order s t.now parts who.session leases → KnowsFolding (store_of book order s) s.now f → IsCall who (folding_ask f) reply s t → (home : Claim) (client : ℕ)
     → home.lock ≡ lock.Client client → Handles who s t (folding_ask f) reply (home ∷ leases_of_folding f) (home ∷ [])
-folding_rests who s t book order parts leases f reply setting k call home client home_lock =
+folding_home_handles who s t book order parts leases f reply setting k call home client home_lock =
     hands_at who s t home client home_lock f reply (home ∷ []) call (λ x is. inl (get_single home is.0 x is.1)) book order setting.cloud setting.lone k.tree (store_of book order s) s.now k.at

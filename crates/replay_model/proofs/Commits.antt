@@ -1,5 +1,5 @@
 -- What the audit takes of a call is what its row of the trace commits by the lines.
-use Rattle.std.proofs.Common.{◌≡◌, ◌≤◌, ◌⊎◌, ◌+◌, ℕ, List, [], ◌∷◌, ◌++◌, length, map, Option, Some, None, refl, sym, ap, subst, ◌∙◌, inl, inr, Bool, true, false, cond, arith}
+use Rattle.std.proofs.Common.{◌≡◌, ◌≤◌, ◌+◌, ℕ, List, [], ◌∷◌, ◌++◌, length, map, Option, Some, None, refl, sym, ap, ◌∙◌, Bool, true, false, cond, arith}
 use Rattle.std.specs.Prelude.{All, not, ◌&&◌, slice_get, unwrap_or}
 use Rattle.std.specs.Str.{bytes_eq}
 use Rattle.std.proofs.lemmas.List.{append-nil}
@@ -27,21 +27,21 @@ use Rattle.first_recover.specs.declared.recover.Stage.TheVariants as opening
 use Rattle.first_recover.specs.Recovery.{Recovery, ask_at as opening_ask, IsSoundAt as IsSoundOpening}
 use Rattle.first_commit.specs.declared.commit.Stage.{Stage as CommitStage}
 use Rattle.first_commit.specs.declared.commit.Stage.TheVariants as commit
-use Rattle.first_commit.specs.Commit.{Commit, ask_at as commit_ask, send_ask, opens_at, IsSoundAt as IsSoundCommit, SendsRecord}
+use Rattle.first_commit.specs.Commit.{Commit, ask_at as commit_ask, send_ask, IsSoundAt as IsSoundCommit, SendsRecord}
 use Rattle.first_tree.specs.declared.stage.Stage.{Stage as FoldingStage}
 use Rattle.first_tree.specs.declared.stage.Stage.TheVariants as folding
 use Rattle.first_tree.specs.Folding.{Folding, ask_at as folding_ask, under_tree, under_page, delete_next}
 use Rattle.client_session.specs.declared.session.Work.{Work}
 use Rattle.client_session.specs.declared.session.Work.TheVariants as work
-use Rattle.client_session.specs.Session.{ask_of_work, committing_of, opens_of, applying_of}
-use Rattle.replay_meaning.specs.Standing.{Line, Standing, Posture, Working, Committing, standing}
+use Rattle.client_session.specs.Session.{ask_of_work}
+use Rattle.replay_meaning.specs.Standing.{Line, Posture, Working, Committing, standing}
 use Rattle.replay_meaning.specs.Committed.{committed, entries_of_bytes, entries_of_head, entries_of_phase, changes_at}
 use Rattle.store_book.specs.Tally.{Store}
 use Rattle.machine_facts.specs.Opening.{KnowsOpeningAt}
-use Rattle.machine_facts.specs.Committing.{KnowsCommitAt, OpensBehind}
-use Rattle.session_facts.specs.Noting.{Newest, has_bytes, has_landed, noted_at, noted_head, noted_in_hand, noted_by, audited}
-use Rattle.replay_model.specs.Facts.{IsPlaced, WorksAs}
-use Rattle.replay_model.proofs.CommittedLemmas.{put_entries, committed_effect, committed_called, placed_effect, now_entries}
+use Rattle.machine_facts.specs.Committing.{KnowsCommitAt}
+use Rattle.session_facts.specs.Noting.{has_bytes, has_landed, noted_at, noted_in_hand, audited}
+use Rattle.replay_model.specs.Facts.{IsPlaced}
+use Rattle.replay_model.proofs.CommittedLemmas.{put_entries, committed_effect, now_entries}
 
 -- ---- where bytes are the newest
 

@@ -1,5 +1,5 @@
 -- What a call of a session leaves of all that holds.
-use Rattle.std.proofs.Common.{◌≡◌, ◌≤◌, ◌+◌, ℕ, List, [], ◌∷◌, length, Option, Some, Ok, refl, sym, ap, subst, ◌∙◌, Bool, false, arith}
+use Rattle.std.proofs.Common.{◌≡◌, ◌≤◌, ◌+◌, ℕ, List, length, Some, Ok, refl, sym, ap, ◌∙◌, Bool, false, arith}
 use Rattle.std.specs.Prelude.{All, unwrap_or}
 use Rattle.db_base.specs.declared.names.ObjName.TheVariants as object
 use Rattle.head_codec.specs.Head.{empty_head}
@@ -7,7 +7,7 @@ use Rattle.head_codec.specs.Spelling.{head_of}
 use Rattle.cloud_trait.specs.declared.answer.Answer.{Answer as CallAnswer}
 use Rattle.cloud_trait.specs.declared.turn.Turn.{Turn}
 use Rattle.cloud_trait.specs.declared.turn.Turn.TheVariants.{More, Ended, Stopped}
-use Rattle.cloud_trait.specs.Ask.{Ask, effect}
+use Rattle.cloud_trait.specs.Ask.{Ask}
 use Rattle.cloud_trait.specs.Caller.{Caller}
 use Rattle.cloud_trait.specs.Seen.{Seen}
 use Rattle.cloud_trait.specs.State.{CloudState, called, newest}
@@ -23,7 +23,7 @@ use Rattle.client_session.specs.declared.session.Answer.TheVariants as answer
 use Rattle.client_session.specs.declared.session.Work.{Work}
 use Rattle.client_session.specs.declared.session.Work.TheVariants.{Closed, Idle, Opening, Committing, Folding, Broken}
 use Rattle.client_session.specs.Session.{Acting, StepsSession, StepsAt, ask_of_work}
-use Rattle.replay_meaning.specs.Standing.{Line, Standing, standing}
+use Rattle.replay_meaning.specs.Standing.{Line, standing}
 use Rattle.replay_meaning.specs.Committed.{committed}
 use Rattle.store_book.specs.Book.{Book}
 use Rattle.store_book.specs.Records.{entries_of}
@@ -31,11 +31,11 @@ use Rattle.store_book.specs.Tally.{Store, at}
 use Rattle.machine_facts.specs.Beside.{Logged, beside}
 use Rattle.machine_facts.proofs.Heads.{head_at, newest_head}
 use Rattle.session_facts.specs.Noting.{audited}
-use Rattle.session_facts.specs.Sessions.{KnowsWork, Sessions, SessionsStand, audit_of, Goes}
+use Rattle.session_facts.specs.Sessions.{KnowsWork, Sessions, audit_of, Goes}
 use Rattle.session_facts.proofs.Calling.{session_keeps}
 use Rattle.session_facts.proofs.Laws.{rest_keeps}
 use Rattle.db_base.specs.declared.wish.Wish.{Wish}
-use Rattle.replay_model.specs.Facts.{IsPlaced, CloudStands, WorksAs, ActsAs, CloudHolds, GoesOn}
+use Rattle.replay_model.specs.Facts.{IsPlaced, WorksAs, CloudHolds}
 use Rattle.replay_model.proofs.Commits.{CommitsAs, opening_as, commit_as, folding_as, audited_commits}
 use Rattle.replay_model.proofs.CommittedLemmas.{placed_effect, placed_called}
 use Rattle.replay_model.proofs.OrderLemmas.{reported_more}

@@ -1,13 +1,11 @@
 -- Every line keeps what stands.
-use Rattle.std.proofs.Common.{◌≡◌, ◌+◌, ◌≤◌, ℕ, List, [], ◌∷◌, ◌++◌, length, Some, Result, Ok, Err, refl, sym, ap, subst, ◌∙◌, inl, inr, ◌⊎◌, Bool, arith}
-use Rattle.db_base.specs.Ids.{IsTree, IsSession}
+use Rattle.std.proofs.Common.{◌≡◌, ◌+◌, ℕ, List, [], ◌∷◌, ◌++◌, length, Some, Result, Ok, Err, refl, subst, inl, inr, arith}
+use Rattle.db_base.specs.Ids.{IsSession}
 use Rattle.db_base.specs.Change.{IsChange}
 use Rattle.db_base.specs.Key.{IsKey, IsPayload}
-use Rattle.db_base.specs.declared.blob.Blob.{Blob}
 use Rattle.db_base.specs.declared.change.Change.{Change}
 use Rattle.db_base.specs.declared.change.Change.TheVariants.{Insert, Update, Delete}
 use Rattle.db_base.specs.declared.refusal.Refused.{Refused}
-use Rattle.db_base.specs.declared.wish.Wish.{Wish}
 use Rattle.event_text.specs.declared.event.Event.{Event}
 use Rattle.event_text.specs.declared.event.Event.TheVariants as event
 use Rattle.reply_text.specs.declared.reply.Reply.{Reply}
@@ -23,7 +21,7 @@ use Rattle.world_core.specs.declared.asked.Request.TheVariants.{Begin, Note, Abo
 use Rattle.world_core.specs.declared.asked.Asked.{Asked}
 use Rattle.world_core.specs.declared.asked.Asked.TheVariants.{Session, Wait, Report, Unbuilt}
 use Rattle.world_core.specs.Asked.{IsOpening, IsFolding, IsInsert, IsUpdate, IsDelete, IsNoted, IsStep, OfSession, Asks}
-use Rattle.world_core.specs.Handled.{MakesNoCall, Does, Serves, Answers, Handled}
+use Rattle.world_core.specs.Handled.{MakesNoCall, Does, Answers, Handled}
 use Rattle.world_core.specs.Stands.{WorldStands, StandsFor, StandsOn}
 use Rattle.world_core.proofs.StandsLemmas.{Ready, declines, runs, makes_step, crashes, waits, reports}
 use Rattle.world_core.proofs.BeginLemmas.{opening_begun, folding_begun, commit_begun, notes, aborts}

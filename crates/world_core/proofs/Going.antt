@@ -1,5 +1,5 @@
 -- One more step of a world.
-use Rattle.std.proofs.Common.{◌≡◌, ◌≢◌, ◌≤◌, ◌<◌, ◌-◌, ℕ, List, length, Option, Some, None, Result, Ok, refl, sym, ap, subst, ◌∙◌, ◌⊎◌, inl, inr, Bool, true}
+use Rattle.std.proofs.Common.{◌≡◌, ◌<◌, ◌-◌, ℕ, List, length, Option, Some, None, Result, Ok, sym, ap, subst, ◌∙◌, ◌⊎◌, inl, inr, Bool, true}
 use Rattle.std.specs.Prelude.{slice_get, slice_set, unwrap_or}
 use Rattle.std.proofs.lemmas.List.{get_or-set_same, length-set}
 use Rattle.std.proofs.lemmas.Option.{slice_get_within, slice_get-get_or}
@@ -7,11 +7,9 @@ use Rattle.cloud_trait.specs.Caller.{Caller}
 use Rattle.cloud_trait.specs.Seen.{Seen}
 use Rattle.cloud_trait.specs.declared.turn.Turn.TheVariants.{More}
 use Rattle.db_base.specs.declared.wish.Wish.{Wish}
-use Rattle.first_recover.specs.Recovery.{recovery_ask}
-use Rattle.first_commit.specs.Commit.{commit_ask}
 use Rattle.client_session.specs.declared.session.Work.{Work}
 use Rattle.client_session.specs.declared.session.Work.TheVariants.{Closed, Idle, Opening, Committing, Folding, Broken}
-use Rattle.client_session.specs.Session.{Acting, closed_session, StepsSession, StepsAt, ask_of_work, calls_left}
+use Rattle.client_session.specs.Session.{Acting, closed_session, StepsAt, ask_of_work, calls_left}
 use Rattle.client_session.proofs.Ending.{session_less}
 use Rattle.cloud_trait.specs.Ask.{Ask}
 use Rattle.world_core.specs.declared.put.Put.{Put}

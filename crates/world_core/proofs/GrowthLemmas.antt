@@ -1,5 +1,5 @@
 -- What a line leaves of earlier ones, whatever its result.
-use Rattle.std.proofs.Common.{◌≡◌, ℕ, List, Some, Ok, refl, ap, ◌∙◌, subst}
+use Rattle.std.proofs.Common.{◌≡◌, ℕ, List, Some, Ok, refl, ap, ◌∙◌}
 use Rattle.db_base.specs.declared.wish.Wish.{Wish}
 use Rattle.cloud_trait.specs.Bench.{Waits}
 use Rattle.cloud_trait.specs.declared.answer.Answer.{Answer as CallAnswer}

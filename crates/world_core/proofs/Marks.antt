@@ -1,5 +1,5 @@
 -- The newest call after a step.
-use Rattle.std.proofs.Common.{◌≡◌, ◌-◌, ℕ, List, Some, Ok}
+use Rattle.std.proofs.Common.{ℕ, List, Ok}
 use Rattle.cloud_trait.specs.Caller.{Caller}
 use Rattle.cloud_trait.specs.State.{CloudState}
 use Rattle.cloud_trait.specs.Seen.{Seen}

@@ -1,10 +1,8 @@
 -- A line keeps what stands.
-use Rattle.std.proofs.Common.{◌≡◌, ◌+◌, ◌-◌, ◌≤◌, ℕ, List, [], ◌∷◌, ◌++◌, length, Option, Some, Result, Ok, Err, refl, sym, ap, subst, ◌∙◌, inl, inr, Bool, true, false, ◌⊎◌, ◌≢◌, arith}
+use Rattle.std.proofs.Common.{◌≡◌, ◌+◌, ◌≤◌, ℕ, List, [], ◌∷◌, ◌++◌, length, Option, Some, Result, Ok, Err, refl, sym, ap, subst, ◌∙◌, inl, inr, Bool, true, false, ◌⊎◌, ◌≢◌, arith}
 use Rattle.std.proofs.lemmas.Bool.{cases_eq}
-use Rattle.std.specs.Prelude.{slice_get}
 use Rattle.db_base.specs.Ids.{IsTree}
 use Rattle.db_base.specs.declared.refusal.Refusal.{Refusal}
-use Rattle.db_base.specs.declared.refusal.Refusal.TheVariants as refusal
 use Rattle.db_base.specs.declared.refusal.Refused.{Refused}
 use Rattle.db_base.specs.declared.refusal.Refused.TheVariants as refused
 use Rattle.db_base.specs.declared.trouble.Trouble.{Trouble}
@@ -34,7 +32,7 @@ use Rattle.world_audit.specs.Counts.{heads_upto, AreWaiting}
 use Rattle.store_book.specs.Tally.{at}
 use Rattle.store_book.proofs.Names.{at_same, at_other}
 use Rattle.session_facts.specs.Noting.{audited}
-use Rattle.session_facts.specs.Sessions.{Sessions, SessionsStand, audit_of}
+use Rattle.session_facts.specs.Sessions.{Sessions, SessionsStand}
 use Rattle.session_facts.proofs.Laws.{crash_keeps}
 use Rattle.replay_meaning.specs.Standing.{Line, Standing, standing, after_line, after_own, session_of, steps}
 use Rattle.replay_meaning.specs.Right.{ReportIsRight}
@@ -49,7 +47,7 @@ use Rattle.world_core.specs.declared.world.WorldFault.{WorldFault}
 use Rattle.world_core.specs.declared.world.WorldFault.TheVariants.{Memory}
 use Rattle.world_core.specs.Fault.{trouble_reply, reply_of}
 use Rattle.world_core.specs.Sessions.{Changes}
-use Rattle.world_core.specs.Handled.{declined, Declines, MakesNoCall, StepsLooked, RefusesStep, turn_reply, StepsTo, MakesStep, Went, start, further, RunsTo, RunsOn, Runs, Dies, DiesDone, Crashes, WaitsFor, WaitsTooLong, Shows, Reports}
+use Rattle.world_core.specs.Handled.{declined, Declines, MakesNoCall, StepsLooked, RefusesStep, turn_reply, MakesStep, Went, start, further, RunsTo, Runs, Dies, DiesDone, Crashes, WaitsFor, WaitsTooLong, Shows, Reports}
 use Rattle.world_core.specs.Stands.{WorldStands, StandsFor, IsLeft, LeftIsRight}
 
 -- ---- replies that are no report

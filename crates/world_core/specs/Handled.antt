@@ -1,5 +1,5 @@
 -- What a line does to the world, and its reply.
-use Rattle.std.specs.Prelude.{ℕ, ◌≡◌, ◌-◌, ◌≤◌, ◌<◌, Bool, true, false, List, [], ◌⊎◌, Option, Some, None, Result, Ok, Err}
+use Rattle.std.specs.Prelude.{ℕ, ◌≡◌, ◌≤◌, ◌<◌, Bool, true, false, ◌⊎◌, Option, Some, Result, Ok, Err}
 use Rattle.db_base.specs.Ids.{IsTree, IsSession}
 use Rattle.db_base.specs.declared.change.Change.{Change}
 use Rattle.db_base.specs.declared.refusal.Refusal.TheVariants as rule

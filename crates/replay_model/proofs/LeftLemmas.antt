@@ -17,8 +17,8 @@ use Rattle.leaf_view.proofs.Split.{range_is}
 use Rattle.left_facts.specs.Left.{NothingLeft}
 use Rattle.log_codec.specs.declared.record.AtomicRec.{AtomicRec}
 use Rattle.log_codec.specs.declared.record.PuRec.{PuRec}
-use Rattle.machine_facts.proofs.Heads.{head_at, newest_head}
-use Rattle.machine_facts.specs.Beside.{IsLone}
+use Rattle.cloud_facts.proofs.Heads.{head_at, newest_head}
+use Rattle.cloud_facts.specs.Acting.{IsLone}
 use Rattle.node_codec.proofs.TreeLemmas.{tree_fits}
 use Rattle.number_facts.specs.Numbers.{Numbers}
 use Rattle.report_types.specs.declared.entry.Entry.{Entry}

@@ -115,8 +115,8 @@ commit_ends s m new (CommittedOpen t) home r e works client is =
 
 -- a trouble that is answered leaves the client open
 stopped_idle : (t : Trouble) (home : Home) → (t ≡ trouble.Memory → ⊥) → stopped_work t home ≡ Idle home
-stopped_idle trouble.Memory home no = absurd (no refl)
-stopped_idle t home no = refl
+stopped_idle trouble.Memory home never = absurd (never refl)
+stopped_idle t home never = refl
 
 pub ends_as : (who : Caller) (before after : Seen) (w new : Work) (s : Standing) (a : Answer) (r : Reply) → StepsAt who before after w new (Ended a) → IsReplyTo a r → WorksAs w s
     → StandsEnded w new s (steps r s)

@@ -21,7 +21,8 @@ use Rattle.store_book.specs.Records.{entries_of}
 use Rattle.store_book.specs.Tally.{Store}
 use Rattle.telling_facts.specs.Told.{store_of}
 use Rattle.world_audit.specs.Counts.{heads_upto, AreWaiting}
-use Rattle.session_facts.specs.Sessions.{Sessions, SessionsStand, audit_of}
+use Rattle.cloud_facts.specs.Looks.{audit_of}
+use Rattle.session_facts.specs.Sessions.{Sessions, SessionsStand}
 use Rattle.session_facts.proofs.Laws.{reports as reports_well, chains, decodes, numbers}
 use Rattle.replay_meaning.specs.Standing.{Line}
 use Rattle.replay_meaning.specs.Committed.{committed}

@@ -215,11 +215,7 @@ same_stands lines event k before after old new t Does ready c same =
 -- what a session works on does not look at the buffer of an open client
 works_with : (w : Work) (s : Standing) (buffer : List Noted) → rule_of w ≡ None → WorksAs w s → WorksAs w (record s { buffer = buffer })
 works_with (work.Idle home) s buffer opened works = works
-works_with work.Closed s buffer opened works = absurd (cc)
-works_with (work.Opening m) s buffer opened works = absurd (cc)
-works_with (work.Committing m) s buffer opened works = absurd (cc)
-works_with (work.Folding home m) s buffer opened works = absurd (cc)
-works_with work.Broken s buffer opened works = absurd (cc)
+works_with w s buffer opened works = absurd (cc)
 
 -- another buffer of an open client
 buffer_line : (lines : List Line) (event : Event) (r : Reply) (k : ℕ) (before after : Seen) (old new : World) (t : CloudState) (Does : Acting → Acting → Type 0) (buffer : List Noted)

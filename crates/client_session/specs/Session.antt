@@ -304,7 +304,7 @@ calls_left (Broken lease) = 0
 -- the call in hand, where something is at work
 abbrev pub ask_of_work : Work → Option Ask
 ask_of_work (Opening m) = Some (recovery_ask m)
-ask_of_work (Committing m) = Some (commit_ask m)
+ask_of_work (Committing m) = Some (writing_ask m)
 ask_of_work (Folding home m) = Some (folding_ask m)
 ask_of_work Closed = None
 ask_of_work (Idle home) = None

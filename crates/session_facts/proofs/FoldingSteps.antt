@@ -1,7 +1,7 @@
 -- One step of a session's tree checkpoint.
 use Rattle.std.proofs.Common.{◌≡◌, ◌≢◌, ◌≤◌, ◌⊎◌, inl, inr, ℕ, List, [], ◌∷◌, ◌++◌, Option, Some, None, refl, sym, ap, subst, ◌∙◌}
 use Rattle.checkpoint_facts.specs.Checkpoint.{KnowsFolding, KnowsNext, KnowsAfter, leases_of_folding, leases_next, folding_note}
-use Rattle.checkpoint_facts.proofs.Hands.{folding_handles, folding_rests}
+use Rattle.checkpoint_facts.proofs.Hands.{folding_handles, folding_home_handles}
 use Rattle.checkpoint_facts.proofs.Steps.{folding_outcome}
 use Rattle.client_session.specs.Session.{StepsFolding, stopped_work}
 use Rattle.client_session.specs.declared.answer.Answer.{Answer}
@@ -78,7 +78,7 @@ module _ (who : Caller) (before after : Seen) (book : Book) (order : List Entry)
     outcome = folding_outcome who s t book order parts (leases_of (FoldingTree home f)) f reply (setting call.later) knows call
 
     home_handles : Handles who s t (folding_ask f) reply (leases_of (FoldingTree home f)) (home.lease ∷ [])
-    home_handles = folding_rests who s t book order parts (leases_of (FoldingTree home f)) f reply (setting call.later) knows call home.lease home.client knows_home.lock_is
+    home_handles = folding_home_handles who s t book order parts (leases_of (FoldingTree home f)) f reply (setting call.later) knows call home.lease home.client knows_home.lock_is
 
     -- the home is as it was
     at_home : (u : Store) (part : Part) → Known u t.now part → IsHome u t.now home part

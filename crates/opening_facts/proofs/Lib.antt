@@ -4,3 +4,6 @@ pub mod Sends
 pub mod Marks
 pub mod Begins
 pub mod Others
+pub mod Leading
+pub mod Gathering
+pub mod Clears

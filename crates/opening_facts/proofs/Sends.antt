@@ -72,7 +72,7 @@ posted_sent st who r bytes reads =
 
 -- ---- what is under way of the head that was read
 
-there_at : {X : Type 0} (xs : List X) (k : ℕ) → k < length xs → (x : X) × (slice_get xs k ≡ Some x)
+pub there_at : {X : Type 0} (xs : List X) (k : ℕ) → k < length xs → (x : X) × (slice_get xs k ≡ Some x)
 there_at {X} xs k within = on (slice_get xs k) refl
   where
     on : (o : Option X) → slice_get xs k ≡ o → (x : X) × (slice_get xs k ≡ Some x)

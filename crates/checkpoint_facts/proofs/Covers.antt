@@ -1,19 +1,15 @@
--- What the put of a checkpoint's root, and its deletions, rest on.
+-- What the put of a checkpoint's root rests on.
 use Rattle.std.proofs.Common.{◌≡◌, ◌+◌, ◌-◌, ◌<◌, ◌≤◌, ◌==◌, ◌^◌, ◌⊎◌, inl, inr, max, ℕ, zero, suc, Bool, true, false, cond, List, [], ◌∷◌, Some, None, refl, sym, ap, subst, ◌∙◌, arith}
-use Rattle.std.specs.Prelude.{slice_get}
 use Rattle.std.specs.Str.{bytes_eq}
 use Rattle.std.proofs.lemmas.Bool.{and_parts, cases_lt, eqb-true}
 use Rattle.std.proofs.lemmas.Slice.Eq.{bytes_eq-Decides}
 use Rattle.chain_facts.specs.Links.{link_of, NamesBelow}
-use Rattle.cloud_trait.specs.declared.state.Posted.{Posted}
 use Rattle.db_base.specs.Change.{key_of}
 use Rattle.db_base.specs.Cursor.{number_of}
 use Rattle.db_base.specs.Ids.{IsClient}
 use Rattle.first_tree.specs.Folding.{is_first_alone, is_lone_root, next_root, raised_tree}
-use Rattle.log_codec.specs.Pu.{pu_of}
 use Rattle.log_codec.specs.declared.record.AtomicRec.{AtomicRec}
 use Rattle.log_codec.specs.declared.record.PuItem.{PuItem}
-use Rattle.log_codec.specs.declared.record.PuRec.{PuRec}
 use Rattle.node_codec.proofs.SpellingLaws.{number_of-raised}
 use Rattle.node_codec.specs.Node.{Entry as Child, raised}
 use Rattle.node_codec.specs.Tree.{Tree}
@@ -22,14 +18,12 @@ use Rattle.number_facts.proofs.Known.{record_is}
 use Rattle.number_facts.proofs.Runs.{item_client, item_number, item_key, item_within}
 use Rattle.run_cursor.specs.Run.{IsRun}
 use Rattle.store_book.specs.Book.{Book}
-use Rattle.store_book.specs.Messages.{IsMessage}
-use Rattle.store_book.specs.Premises.{IsItemOf, CoversApplied, MarksPost}
+use Rattle.store_book.specs.Premises.{IsItemOf, CoversApplied}
 use Rattle.store_book.specs.Records.{IsIn, key_in, count_of, IsApplied}
 use Rattle.store_book.specs.Tally.{Store}
 use Rattle.cloud_facts.specs.Acting.{IsLone}
-use Rattle.checkpoint_facts.specs.Checkpoint.{IsCoveredBy}
 use Rattle.cloud_facts.proofs.Lone.{first_linked}
-use Rattle.checkpoint_facts.proofs.Received.{run_in, run_has}
+use Rattle.run_facts.proofs.Runs.{run_in, run_has}
 
 -- ---- a root of one leaf
 
@@ -130,24 +124,3 @@ module _ (st : Store) (tree : ℕ) (numbers : Numbers st) (root : Tree) (cursor 
           let under : r.number ≤ st.tally.cursor tree 0 r.client = omega (arith, below, c) in
           numbers.covered r logged
           (subst (λ t. r.number ≤ st.tally.cursor t r.page r.client) (sym tree_is) (subst (λ p. r.number ≤ st.tally.cursor tree p r.client) (sym page_is) under))
-
--- ---- deletions
-
-message_is : (posts : List Posted) (id : ℕ) (a b : PuRec) → IsMessage posts id a → IsMessage posts id b → a ≡ b
-message_is posts id a b m n =
-    let place : m.place ≡ n.place = omega (arith, m.id_is, n.id_is) in
-    let both : Some m.message ≡ Some n.message = sym m.there ∙ (ap (slice_get posts) place ∙ n.there) in
-    let one : m.message ≡ n.message = posted_is m.message n.message both in
-    rec_is a b (sym m.reads ∙ (ap (λ (p : Posted). pu_of p.bytes) one ∙ n.reads))
-  where
-    posted_is : (x y : Posted) → Some x ≡ Some y → x ≡ y
-    posted_is x y e = cc
-
-    rec_is : (x y : PuRec) → Some x ≡ Some y → x ≡ y
-    rec_is x y e = cc
-
--- a message that the cursor covers may be marked
-pub may_mark : (st : Store) (tree id : ℕ) → IsCoveredBy (st.tally.cursor tree 0) st tree id → MarksPost st tree 0 id
-may_mark st tree id (rec, m, below) = record {
-  covered = λ other n. subst (λ (r : PuRec). r.number ≤ st.tally.cursor tree 0 r.client) (message_is (st.tally.posts tree 0) id rec other m n) below;
-}

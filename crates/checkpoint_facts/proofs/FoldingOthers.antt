@@ -2,11 +2,8 @@
 use Rattle.std.proofs.Common.{◌≡◌, ◌≤◌, ℕ, List, Option, refl, sym, ap, ◌∙◌, arith}
 use Rattle.cloud_trait.specs.Claim.{Claim, Lasts}
 use Rattle.db_base.specs.Change.{key_of}
-use Rattle.db_base.specs.Cursor.{number_of}
-use Rattle.db_base.specs.Ids.{IsClient}
 use Rattle.db_base.specs.declared.names.Lock.TheVariants as lock
 use Rattle.node_codec.specs.Tree.{Tree}
-use Rattle.run_cursor.specs.Run.{Taken}
 use Rattle.store_book.specs.Growth.{Grows}
 use Rattle.chain_facts.specs.Links.{top_of}
 use Rattle.first_tree.specs.declared.stage.Stage.{Stage}
@@ -14,17 +11,14 @@ use Rattle.first_tree.specs.declared.stage.Stage.TheVariants.{TakingTree, Gettin
 use Rattle.first_tree.specs.Folding.{Folding, next_root}
 use Rattle.leaf_view.specs.Leaf.{Leaf}
 use Rattle.leaf_view.specs.Lookup.{empty_leaf}
-use Rattle.log_codec.proofs.PuLaws.{pu_of-some}
 use Rattle.log_codec.specs.declared.record.PuItem.{PuItem}
-use Rattle.log_codec.specs.declared.record.PuRec.{PuRec}
-use Rattle.store_book.specs.Messages.{IsMessage}
 use Rattle.store_book.specs.Tally.{Node, Leafy, Store}
 use Rattle.store_book.specs.Telling.{leaf_in, last_or}
 use Rattle.store_book.proofs.Places.{in_front, in_behind}
-use Rattle.checkpoint_facts.specs.Checkpoint.{IsHeld, HasTree, HasPage, ReadRoot, RaisesFrom, RaisesRoot, IsCoveredBy, TookRun, HasRun, HasApplied, PutsApplied, PutsRaised, MayDelete, KnowsFoldingAt, KnowsFolding, leases_of_folding}
+use Rattle.checkpoint_facts.specs.Checkpoint.{IsHeld, HasTree, HasPage, ReadRoot, RaisesFrom, RaisesRoot, HasRun, HasApplied, PutsApplied, PutsRaised, KnowsFoldingAt, KnowsFolding, leases_of_folding}
 use Rattle.cloud_facts.specs.Acting.{of_option}
 use Rattle.cloud_facts.specs.Others.{Others}
-use Rattle.cloud_facts.proofs.Copies.{is_message_stays, item_stays}
+use Rattle.run_facts.proofs.Marks.{run_stays, delete_stays}
 use Rattle.cloud_facts.proofs.OthersLemmas.{in_option, others_itself}
 
 -- a root that was read, where the tree's lease keeps others from it
@@ -57,18 +51,6 @@ puts_stays st su now later tree lease cursor top out after grows roots k =
     let r = root_stays st su now later tree lease cursor after grows roots k.read in
     record { read = r.0; root = k.root; next = ap next_root r.1 ∙ k.next; puts = k.puts }
 
-pub covered_stays : (st su : Store) (tree : ℕ) (upto : ℕ → ℕ) (id : ℕ) → Grows st su → IsCoveredBy upto st tree id → IsCoveredBy upto su tree id
-covered_stays st su tree upto id grows (rec, m, below) = (rec, is_message_stays (st.tally.posts tree 0) (su.tally.posts tree 0) id rec (grows.posts tree 0) m, below)
-
-pub run_stays : (st su : Store) (tree : ℕ) (cursor : List (ℕ × ℕ)) (run : Taken) (ids : List ℕ) → Grows st su → TookRun st tree cursor run ids → TookRun su tree cursor run ids
-run_stays st su tree cursor run ids grows k = record {
-  received = k.received;
-  is_run = k.is_run;
-  clients = k.clients;
-  items = λ x is. item_stays st su tree 0 x grows (k.items x is);
-  covers = λ id is. covered_stays st su tree (number_of run.top) id grows (k.covers id is);
-}
-
 pub applied_stays : (st su : Store) (f : Folding) → Grows st su → HasRun st f → HasApplied st f → HasApplied su f
 applied_stays st su f grows k a x is =
     let old = a x is in
@@ -89,18 +71,6 @@ leaf_stays st su now later tree lease run applying out after leaf k = record {
     newest_of : List Node → Leaf
     newest_of nodes = leaf_in (last_or (Leafy empty_leaf) nodes)
 
--- what may be deleted may be still
-pub delete_stays : (st su : Store) (f : Folding) → Grows st su → MayDelete st f → MayDelete su f
-delete_stays st su f grows k id is =
-    let m = covered_stays st su f.tree (st.tally.cursor f.tree 0) id grows (k id is) in
-    (m.0, m.1, on m.0 m.2 (client_of m.0 m.1))
-  where
-    client_of : (rec : PuRec) → IsMessage (su.tally.posts f.tree 0) id rec → IsClient rec.client
-    client_of rec m = (pu_of-some m.message.bytes rec m.reads).0.client
-
-    on : (rec : PuRec) → rec.number ≤ st.tally.cursor f.tree 0 rec.client → IsClient rec.client → rec.number ≤ su.tally.cursor f.tree 0 rec.client
-    on rec below is_client = let rises = grows.cursor f.tree 0 rec.client is_client in omega (arith, below, rises)
-
 pub folding_others : (st su : Store) (now later : ℕ) (f : Folding) → now ≤ later → Others (leases_of_folding f) later st su → KnowsFolding st now f
     → KnowsFolding su later f
 folding_others st su now later f after o k = record { tree = k.tree; at = on f.stage k.at }
@@ -118,7 +88,7 @@ folding_others st su now later f after o k = record { tree = k.tree; at = on f.s
     raises a = raises_stays st su now later f.tree f.tree_lease f.cursor f.root after grows roots a
 
     run : HasRun st f → HasRun su f
-    run a = run_stays st su f.tree f.cursor f.run f.ids grows a
+    run a = run_stays st su f.tree 0 f.cursor f.run f.ids grows a
 
     on : (stage : Stage) → KnowsFoldingAt stage st now f → KnowsFoldingAt stage su later f
     on TakingTree a = a
@@ -129,7 +99,7 @@ folding_others st su now later f after o k = record { tree = k.tree; at = on f.s
     on PuttingPage a = (raises a.0, run a.1, leaf_stays st su now later f.tree f.page_lease f.run.items f.applying f.out after leaf a.2)
     on ReleasingPage a = (raises a.0, run a.1, a.2, applied_stays st su f grows a.1 a.3)
     on PuttingTree a = (puts_stays st su now later f.tree f.tree_lease f.cursor f.run.top f.out after grows roots a.0, run a.1, applied_stays st su f grows a.1 a.2, a.3)
-    on Deleting a = (a.0, delete_stays st su f grows a.1, a.2, a.3)
+    on Deleting a = (a.0, delete_stays st su f.tree 0 f.ids grows a.1, a.2, a.3)
     on ReleasingTree a = a
     on StoppingPage a = a
     on StoppingTree a = a

@@ -1,4 +1,4 @@
-mod Received
+mod Items
 mod Takes
 mod Covers
 mod Roots

@@ -28,8 +28,11 @@ use Rattle.store_book.specs.Messages.{IsMessage}
 use Rattle.store_book.specs.Records.{IsIn}
 use Rattle.store_book.specs.Tally.{Store}
 use Rattle.store_book.specs.Telling.{newest_leaf}
-use Rattle.checkpoint_facts.specs.Checkpoint.{HasTree, HasPage, RaisesRoot, IsCoveredBy, TookRun, HasRun, HasApplied, MayDelete, KnowsNext}
-use Rattle.checkpoint_facts.proofs.Received.{each_in, IsSentItem, items_sent, item_of, item_client, ids_covered, run_in, empty_top}
+use Rattle.checkpoint_facts.specs.Checkpoint.{HasTree, HasPage, RaisesRoot, HasRun, HasApplied, KnowsNext, CoversIds}
+use Rattle.checkpoint_facts.proofs.Items.{items_same}
+use Rattle.run_facts.specs.Runs.{IsSentItem, IsCoveredBy, TookRun}
+use Rattle.run_facts.proofs.Received.{each_in, items_sent, item_of, item_client, ids_covered}
+use Rattle.run_facts.proofs.Runs.{run_in, empty_top}
 
 module _ (u : Store) (now : ℕ) (f : Folding) (of_tree : IsTree f.tree) where
   -- ---- on the way to a stop
@@ -76,7 +79,7 @@ module _ (u : Store) (now : ℕ) (f : Folding) (of_tree : IsTree f.tree) where
 
   -- ---- deletions
 
-  pub deletes : (ids : List ℕ) → HasTree f → f.page_lease ≡ None → ((id : ℕ) → IsIn ids id → IsCoveredBy (u.tally.cursor f.tree 0) u f.tree id) → KnowsNext u now (deleting f ids)
+  pub deletes : (ids : List ℕ) → HasTree f → f.page_lease ≡ None → ((id : ℕ) → IsIn ids id → IsCoveredBy (u.tally.cursor f.tree 0) u f.tree 0 id) → KnowsNext u now (deleting f ids)
   deletes (id ∷ ids) held none covered = record { tree = of_tree; at = (held, covered, none, (id, ids, refl)) }
   deletes [] held none covered = record { tree = of_tree; at = (held, none) }
 
@@ -96,17 +99,18 @@ module _ (u : Store) (now : ℕ) (f : Folding) (of_tree : IsTree f.tree) where
       sent_in : (x : PuItem) → IsIn items x → IsSentItem (u.tally.posts f.tree 0) x
       sent_in = each_in (IsSentItem (u.tally.posts f.tree 0)) items sent
 
-      took : TookRun u f.tree f.cursor run ids
+      took : TookRun u f.tree 0 f.cursor run ids
       took = record {
         received = items;
         is_run = is_run;
+        behind = (raises.read).covered;
         clients = λ x is. item_client (u.tally.posts f.tree 0) x (sent_in x (run_in f.cursor items run.items run.top is_run x is));
-        items = λ x is. item_of u f.tree x numbers (sent_in x is);
-        covers = ids_covered u f.tree run.top items sent;
+        items = λ x is. item_of u f.tree 0 x numbers (sent_in x is);
+        covers = ids_covered u f.tree 0 run.top items sent;
       }
 
       -- where the run is empty the cursor covers what is to be deleted
-      covered : run.items ≡ [] → (id : ℕ) → IsIn ids id → IsCoveredBy (u.tally.cursor f.tree 0) u f.tree id
+      covered : run.items ≡ [] → (id : ℕ) → IsIn ids id → IsCoveredBy (u.tally.cursor f.tree 0) u f.tree 0 id
       covered e id is =
           let m = took.covers id is in
           let top = empty_top f.cursor items run.top run.items is_run e m.0.client in
@@ -121,7 +125,7 @@ module _ (u : Store) (now : ℕ) (f : Folding) (of_tree : IsTree f.tree) where
       on true e = record { tree = of_tree; at = (raises, took, none) }
       on false e = deletes_with ids (covered (no_items run.items e))
         where
-          deletes_with : (ids : List ℕ) → ((id : ℕ) → IsIn ids id → IsCoveredBy (u.tally.cursor f.tree 0) u f.tree id) → KnowsNext u now (deleting (record f { run = run }) ids)
+          deletes_with : (ids : List ℕ) → ((id : ℕ) → IsIn ids id → IsCoveredBy (u.tally.cursor f.tree 0) u f.tree 0 id) → KnowsNext u now (deleting (record f { run = run }) ids)
           deletes_with (id ∷ ids) c = record { tree = of_tree; at = ((raises.read).held, c, none, (id, ids, refl)) }
           deletes_with [] c = record { tree = of_tree; at = ((raises.read).held, none) }
 
@@ -129,7 +133,7 @@ module _ (u : Store) (now : ℕ) (f : Folding) (of_tree : IsTree f.tree) where
       → AllByRecursion (WasSent (u.tally.posts f.tree 0)) ms → items_of ms ≡ g → Received f g next → KnowsNext u now next
   items_known (Err m) ms next raises none numbers was e is = subst (KnowsNext u now) (sym is) (stops_tree _ (raises.read).held none)
   items_known (Ok items) ms next raises none numbers was e p =
-      subst (KnowsNext u now) (sym p.2) (run_known items p.0 raises none numbers p.1 (items_sent (u.tally.posts f.tree 0) ms items was e))
+      subst (KnowsNext u now) (sym p.2) (run_known items p.0 raises none numbers p.1 (items_sent (u.tally.posts f.tree 0) ms items was (items_same ms ∙ e)))
 
   pub received : (g : Result (List Message) Trouble) (next : Step) → RaisesRoot u now f → f.page_lease ≡ None → Numbers u
       → ((ms : List Message) → g ≡ Ok ms → AllByRecursion (WasSent (u.tally.posts f.tree 0)) ms) → ReceivedBy f g next → KnowsNext u now next
@@ -187,13 +191,13 @@ module _ (u : Store) (now : ℕ) (f : Folding) (of_tree : IsTree f.tree) where
     pub page_released : (next : Step) → HasApplied u f → RootRaised f f.root next → KnowsNext u now next
     page_released next applied is = root_raised f.root next refl applied is
 
-  pub root_put : (g : Result (Unit {0}) Trouble) → HasTree f → f.page_lease ≡ None → (g ≡ Ok tt → MayDelete u f) → KnowsNext u now (root_put_by f g)
+  pub root_put : (g : Result (Unit {0}) Trouble) → HasTree f → f.page_lease ≡ None → (g ≡ Ok tt → CoversIds u f) → KnowsNext u now (root_put_by f g)
   root_put (Ok tt) held none may = deletes f.ids held none (may refl)
   root_put (Err t) held none may = stops_tree t held none
 
   -- ---- a deletion
 
-  rest_deletes : (n : CkptAnswer) (ids : List ℕ) → HasTree f → f.page_lease ≡ None → ((id : ℕ) → IsIn ids id → IsCoveredBy (u.tally.cursor f.tree 0) u f.tree id)
+  rest_deletes : (n : CkptAnswer) (ids : List ℕ) → HasTree f → f.page_lease ≡ None → ((id : ℕ) → IsIn ids id → IsCoveredBy (u.tally.cursor f.tree 0) u f.tree 0 id)
       → KnowsNext u now (deleting (record f { counted = n }) ids)
   rest_deletes n (id ∷ ids) held none covered = record { tree = of_tree; at = (held, covered, none, (id, ids, refl)) }
   rest_deletes n [] held none covered = record { tree = of_tree; at = (held, none) }
@@ -202,6 +206,6 @@ module _ (u : Store) (now : ℕ) (f : Folding) (of_tree : IsTree f.tree) where
   in_rest [] id is = is
   in_rest (x ∷ ids) id is = (suc is.0, is.1)
 
-  pub deleted : (g : Result (Unit {0}) Trouble) → HasTree f → f.page_lease ≡ None → MayDelete u f → KnowsNext u now (deleted_by f g)
+  pub deleted : (g : Result (Unit {0}) Trouble) → HasTree f → f.page_lease ≡ None → CoversIds u f → KnowsNext u now (deleted_by f g)
   deleted (Ok tt) held none may = rest_deletes _ (rest_of f.ids) held none (λ id is. may id (in_rest f.ids id is))
   deleted (Err t) held none may = rest_deletes _ (rest_of f.ids) held none (λ id is. may id (in_rest f.ids id is))

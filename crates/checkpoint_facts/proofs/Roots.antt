@@ -1,4 +1,4 @@
--- What is told of objects that are absent.
+-- What is told of a root that is absent.
 use Rattle.std.proofs.Common.{◌≡◌, ◌⊎◌, inl, inr, ℕ, List, [], map, Option, Some, None, sym, ap, ◌∙◌}
 use Rattle.std.specs.Option.{option_map}
 use Rattle.cloud_trait.specs.State.{CloudState, newest, newest_of}
@@ -6,10 +6,8 @@ use Rattle.cloud_trait.specs.declared.state.Version.{Version}
 use Rattle.chain_facts.specs.Links.{top_of}
 use Rattle.db_base.specs.declared.names.ObjName.TheVariants as object
 use Rattle.decoding_facts.proofs.Newest.{IsLast, last_cases}
-use Rattle.leaf_view.specs.Lookup.{empty_leaf}
 use Rattle.node_codec.specs.Tree.{empty_tree}
-use Rattle.store_book.specs.Tally.{Leafy}
-use Rattle.store_book.specs.Telling.{last_or, root_in, node_in, leaf_in, nodes_of, roots_of, newest_leaf}
+use Rattle.store_book.specs.Telling.{last_or, root_in, roots_of}
 
 -- an object without newest bytes has no version
 none_landed : (vs : List Version) → newest_of vs ≡ None → vs ≡ []
@@ -24,6 +22,3 @@ none_landed vs none = on (last_cases vs)
 
 pub absent_root : (s : CloudState) (tree : ℕ) → newest s (object.Tree tree) ≡ None → top_of (roots_of s tree) ≡ empty_tree
 absent_root s tree none = ap (λ (vs : List Version). last_or empty_tree (map root_in vs)) (none_landed (s.versions (object.Tree tree)) none)
-
-pub absent_leaf : (s : CloudState) (tree : ℕ) → newest s (object.Page tree 1) ≡ None → newest_leaf (nodes_of s) tree 1 ≡ empty_leaf
-absent_leaf s tree none = ap (λ (vs : List Version). leaf_in (last_or (Leafy empty_leaf) (map node_in vs))) (none_landed (s.versions (object.Page tree 1)) none)

@@ -21,9 +21,7 @@ use Rattle.cloud_trait.specs.State.{CloudState, called, newest}
 use Rattle.cloud_trait.specs.Views.{given_of, got_of, received_of, done_of}
 use Rattle.chain_facts.specs.Landing.{LandsRoot}
 use Rattle.chain_facts.specs.Links.{top_of, NamesBelow}
-use Rattle.decoding_facts.proofs.Reading.{leaf_only}
-use Rattle.decoding_facts.proofs.Values.{newest_page_decodes, newest_root_decodes}
-use Rattle.decoding_facts.specs.Kinds.{IsNode}
+use Rattle.decoding_facts.proofs.Values.{newest_root_decodes}
 use Rattle.first_tree.specs.declared.stage.Stage.{Stage}
 use Rattle.first_tree.specs.declared.stage.Stage.TheVariants.{TakingTree, GettingTree, Receiving, TakingPage, GettingPage, PuttingPage, ReleasingPage, PuttingTree, Deleting, ReleasingTree, StoppingPage, StoppingTree, Finished}
 use Rattle.first_tree.specs.Folding.{Folding, Step, ask_at, folding_ask, under_tree, under_page, delete_next, take_tree, first_page, LeadsAt, raised_tree}
@@ -46,19 +44,21 @@ use Rattle.store_book.specs.Premises.{CoversApplied}
 use Rattle.store_book.specs.Growth.{Grows}
 use Rattle.store_book.specs.Messages.{IsMessage}
 use Rattle.store_book.specs.Records.{IsIn}
-use Rattle.store_book.specs.Tally.{Leafy, Store, at}
-use Rattle.store_book.specs.Telling.{nodes_of, roots_of, newest_leaf, newest_root, leaf_of_bytes}
+use Rattle.store_book.specs.Tally.{Store, at}
+use Rattle.store_book.specs.Telling.{nodes_of, roots_of, newest_leaf, newest_root}
 use Rattle.cloud_facts.specs.Call.{IsCall}
-use Rattle.checkpoint_facts.specs.Checkpoint.{HasTree, HasPage, RaisesRoot, HasRun, HasApplied, PutsLeaf, PutsRoot, MayDelete, HasIds, KnowsFoldingAt, KnowsFolding, KnowsNext, KnowsAfter, folding_note}
+use Rattle.checkpoint_facts.specs.Checkpoint.{HasTree, HasPage, RaisesRoot, HasRun, HasApplied, PutsLeaf, PutsRoot, CoversIds, HasIds, KnowsFoldingAt, KnowsFolding, KnowsNext, KnowsAfter, folding_note}
 use Rattle.cloud_facts.proofs.Calls.{permitted, put_cases, put_lasts, landed_or_not}
-use Rattle.checkpoint_facts.proofs.FoldingOthers.{raises_stays, run_stays, covered_stays, delete_stays, folding_later}
-use Rattle.checkpoint_facts.proofs.Covers.{lone_names, next_is, raised_number, covers, may_mark}
+use Rattle.checkpoint_facts.proofs.FoldingOthers.{raises_stays, folding_later}
+use Rattle.checkpoint_facts.proofs.Covers.{lone_names, next_is, raised_number, covers}
 use Rattle.cloud_facts.proofs.Heads.{held_seen}
-use Rattle.cloud_facts.proofs.Lone.{newest_leafy}
 use Rattle.cloud_facts.proofs.Passing.{landing_passes}
-use Rattle.checkpoint_facts.proofs.Roots.{absent_root, absent_leaf}
+use Rattle.checkpoint_facts.proofs.Roots.{absent_root}
 use Rattle.telling_facts.proofs.Names.{at2_same}
-use Rattle.checkpoint_facts.proofs.Takes.{taken, is_taken, leaf_lands, takes, lacking_is, still_lone, nothing_lacked, run_applied}
+use Rattle.checkpoint_facts.proofs.Takes.{nothing_lacked, run_applied}
+use Rattle.run_facts.proofs.Takes.{taken, is_taken, leaf_lands, takes, lacking_is, still_lone}
+use Rattle.run_facts.proofs.Leaves.{absent_leaf, spelled_leaf}
+use Rattle.run_facts.proofs.Marks.{run_stays, covered_stays, delete_stays, may_mark}
 use Rattle.cloud_facts.specs.Acting.{IsLone, Setting, Outcome, Aside}
 use Rattle.cloud_facts.specs.Looks.{audit_of}
 use Rattle.cloud_facts.specs.Standing.{StandsUnder}
@@ -191,16 +191,10 @@ module _ (who : Caller) (s t : CloudState) (book : Book) (order : List Entry) (p
       seen v = held_seen who (object.Page f.tree 1) page.lease reply s t (call_at get is) v
 
       absent : got_of reply ≡ Ok None → newest_leaf st.tally.nodes f.tree 1 ≡ empty_leaf
-      absent got = absent_leaf s f.tree (sym (seen None got))
+      absent got = absent_leaf s f.tree 1 (sym (seen None got))
 
       there : (bytes : List ℕ) (l : Leaf) → got_of reply ≡ Ok (Some bytes) → IsLeaf bytes l → newest_leaf st.tally.nodes f.tree 1 ≡ l
-      there bytes l got spells =
-          let node : IsNode bytes (Leafy (newest_leaf (nodes_of s) f.tree 1)) =
-          subst (IsNode bytes) (newest_leafy book order s stands lone f.tree of_tree) (newest_page_decodes s f.tree 1 bytes stands.decodes (sym (seen (Some bytes) got))) in
-          one (leaf_only bytes (newest_leaf (nodes_of s) f.tree 1) node) (leaf_only bytes l spells)
-        where
-          one : {a b : Leaf} → leaf_of_bytes bytes ≡ Some a → leaf_of_bytes bytes ≡ Some b → a ≡ b
-          one {a} {b} p q = let both : Some a ≡ Some b = sym p ∙ q in cc
+      there bytes l got spells = spelled_leaf s f.tree 1 bytes l (sym (seen (Some bytes) got)) spells
 
   -- ---- the put of the leaf
 
@@ -229,15 +223,15 @@ module _ (who : Caller) (s t : CloudState) (book : Book) (order : List Entry) (p
       newest_is = puts.newest page_lasts
 
       abbrev leaf_taken : Taking
-      leaf_taken = taken book order s stands lone f.tree of_tree f.run.items run.clients
+      leaf_taken = taken book order s stands lone f.tree 1 0 refl of_tree f.run.items run.clients
 
       spells : IsLeaf f.out (applied (newest_leaf (nodes_of s) f.tree 1) 0 f.run.items)
       spells = subst (λ (l : Leaf). IsLeaf f.out (applied l 0 f.run.items)) (sym newest_is) puts.puts
 
       abbrev landing : Landing who st page_put (after_leaf leaf_taken st)
       landing = puts_leaf leaf_taken f.out tree_lease f.page_lease spells
-          (takes book order s stands lone f.tree of_tree f.run.items run.clients who f.out spells f.cursor run.received f.run.top run.is_run (raises.read).covered run.items)
-          (leaf_lands book order s stands lone f.tree of_tree f.run.items run.clients who f.out spells)
+          (takes book order s stands lone f.tree 1 0 refl of_tree f.run.items run.clients who f.out spells f.cursor run.received f.run.top run.is_run (raises.read).covered run.items)
+          (leaf_lands book order s stands lone f.tree 1 0 refl of_tree f.run.items run.clients who f.out spells)
 
       abbrev su : Store
       su = after_leaf leaf_taken st
@@ -248,17 +242,17 @@ module _ (who : Caller) (s t : CloudState) (book : Book) (order : List Entry) (p
       noted : folding_note f page_put (audit_of book order) ≡ audit_of su.book su.order
       noted =
           ap (λ (xs : List PuItem). audit_of book (order ++ map (applied_entry f.tree) xs))
-          (puts.applies ∙ (ap (λ (l : Leaf). lacked l 0 f.run.items) (sym newest_is) ∙ sym (lacking_is book order s stands lone f.tree of_tree f.run.items run.clients)))
+          (puts.applies ∙ (ap (λ (l : Leaf). lacked l 0 f.run.items) (sym newest_is) ∙ sym (lacking_is book order s stands lone f.tree 1 0 refl of_tree f.run.items run.clients)))
 
       leaf_outcome : Out
       leaf_outcome =
           as_asked page_put page_put_is
           (put_landed who book order s t parts (folding_note f page_put) (Aside st mine (KnowsAfter f reply)) (object.Page f.tree 1) f.out tree_lease f.page_lease su lands stands landing
-          (is_taken book order s stands lone f.tree of_tree f.run.items run.clients) tt (still_lone book order s stands lone f.tree of_tree f.run.items run.clients) mine
+          (is_taken book order s stands lone f.tree 1 0 refl of_tree f.run.items run.clients) tt (still_lone book order s stands lone f.tree 1 0 refl of_tree f.run.items run.clients) mine
           (aside_keeps st.tally su.tally t.now (at who.session mine parts) refl refl still)
           (known su (λ client. refl)
           (page_knows su (raises_stays st su t.now t.now f.tree f.tree_lease f.cursor f.root (omega arith) grows (λ h lasts. refl) raises)
-          (run_stays st su f.tree f.cursor f.run f.ids grows run) (λ done. run_applied book order s stands lone f.tree of_tree f.run.items run.clients)))
+          (run_stays st su f.tree 0 f.cursor f.run f.ids grows run) (λ done. run_applied book order s stands lone f.tree of_tree f.run.items run.clients)))
           noted)
 
     at_putting_page : Out
@@ -285,7 +279,7 @@ module _ (who : Caller) (s t : CloudState) (book : Book) (order : List Entry) (p
     root_put_is : folding_ask f ≡ root_put
     root_put_is = tree_ask PuttingTree (λ l. PutHeld (object.Tree f.tree) f.out l None) e refl (puts.read).held
 
-    root_knows : (u : Store) → (done_of reply ≡ Ok tt → MayDelete u f) → KnowsAfter f reply u t.now
+    root_knows : (u : Store) → (done_of reply ≡ Ok tt → CoversIds u f) → KnowsAfter f reply u t.now
     root_knows u may = leads_at PuttingTree e u (λ next is. subst (KnowsNext u t.now) (sym is) (nexts.root_put u t.now f of_tree (done_of reply) (puts.read).held none may))
 
     module _ (lands : Lands who root_put (called who t.now s) t) where
@@ -333,9 +327,9 @@ module _ (who : Caller) (s t : CloudState) (book : Book) (order : List Entry) (p
       root_grows : Grows st root_store
       root_grows = (landing_passes who st root_put root_store stands.holds root_landing).grows
 
-      may_delete : MayDelete root_store f
+      may_delete : CoversIds root_store f
       may_delete id is =
-          let m = covered_stays st root_store f.tree (number_of f.run.top) id root_grows (run.covers id is) in
+          let m = covered_stays st root_store f.tree 0 (number_of f.run.top) id root_grows (run.covers id is) in
           (m.0, m.1, on m.0 m.2 (client_of m.0 m.1))
         where
           client_of : (rec : PuRec) → IsMessage (root_store.tally.posts f.tree 0) id rec → IsClient rec.client
@@ -364,7 +358,7 @@ module _ (who : Caller) (s t : CloudState) (book : Book) (order : List Entry) (p
 
   -- ---- a deletion
 
-  at_deleting : f.stage ≡ Deleting → HasTree f → MayDelete st f → f.page_lease ≡ None → HasIds f → Out
+  at_deleting : f.stage ≡ Deleting → HasTree f → CoversIds st f → f.page_lease ≡ None → HasIds f → Out
   at_deleting e held may none (id, rest, ids_are) = on (landed_or_not who delete reply s t (call_at delete is))
     where
       delete : Ask
@@ -373,11 +367,11 @@ module _ (who : Caller) (s t : CloudState) (book : Book) (order : List Entry) (p
       is : folding_ask f ≡ delete
       is = asks Deleting e ∙ ap (delete_next f) ids_are
 
-      knows : (u : Store) → MayDelete u f → KnowsAfter f reply u t.now
+      knows : (u : Store) → CoversIds u f → KnowsAfter f reply u t.now
       knows u m = leads_at Deleting e u (λ next to. subst (KnowsNext u t.now) (sym to) (nexts.deleted u t.now f of_tree (done_of reply) held none m))
 
       landing : Landing who st delete (after_post_mark f.tree 0 id st)
-      landing = marks_post f.tree 0 id (may_mark st f.tree id (may id (subst (λ ids. IsIn ids id) (sym ids_are) (zero, refl))))
+      landing = marks_post f.tree 0 id (may_mark st f.tree 0 id (may id (subst (λ ids. IsIn ids id) (sym ids_are) (zero, refl))))
 
       su : Store
       su = after_post_mark f.tree 0 id st
@@ -390,7 +384,7 @@ module _ (who : Caller) (s t : CloudState) (book : Book) (order : List Entry) (p
       on (inr lands) =
           as_asked delete is
           (other_landed who book order s t parts delete (folding_note f delete) (Aside st mine (KnowsAfter f reply)) su lands stands landing tt tt lone mine
-          (aside_keeps st.tally su.tally t.now (at who.session mine parts) refl refl still) (known su (λ client. refl) (knows su (delete_stays st su f grows may))) (λ look new. refl) refl)
+          (aside_keeps st.tally su.tally t.now (at who.session mine parts) refl refl still) (known su (λ client. refl) (knows su (delete_stays st su f.tree 0 f.ids grows may))) (λ look new. refl) refl)
 
   -- ---- the ends
 

@@ -20,11 +20,8 @@ use Rattle.leaf_edit.specs.Applied.{applied}
 use Rattle.leaf_edit.specs.Lacked.{lacked}
 use Rattle.leaf_view.specs.Leaf.{Leaf, IsLeaf}
 use Rattle.log_codec.specs.declared.record.PuItem.{PuItem}
-use Rattle.log_codec.specs.declared.record.PuRec.{PuRec}
 use Rattle.node_codec.specs.Tree.{Tree, IsTree as SpellsTree}
-use Rattle.run_cursor.specs.Run.{Taken, IsRun}
-use Rattle.store_book.specs.Messages.{IsMessage}
-use Rattle.store_book.specs.Premises.{IsItemOf}
+use Rattle.run_facts.specs.Runs.{TookRun, MayDelete}
 use Rattle.store_book.specs.Records.{IsIn}
 use Rattle.store_book.specs.Tally.{Store}
 use Rattle.store_book.specs.Telling.{newest_leaf}
@@ -65,20 +62,9 @@ pub record RaisesFrom (st : Store) (now tree : ℕ) (lease : Option Claim) (curs
 abbrev pub RaisesRoot : Store → ℕ → Folding → Type 0
 RaisesRoot st now f = RaisesFrom st now f.tree f.tree_lease f.cursor f.root
 
--- a message of the tree's queue is a record that the numbers cover
-abbrev pub IsCoveredBy : (ℕ → ℕ) → Store → ℕ → ℕ → Type 0
-IsCoveredBy upto st tree id = (rec : PuRec) × IsMessage (st.tally.posts tree 0) id rec × (rec.number ≤ upto rec.client)
-
--- a run is one of committed records behind a cursor, and it covers the messages that are to be deleted
-pub record TookRun (st : Store) (tree : ℕ) (cursor : List (ℕ × ℕ)) (run : Taken) (ids : List ℕ) : Type 0 where
-  pub received : List PuItem
-  pub is_run : IsRun cursor received run.items run.top
-  pub clients : (x : PuItem) → IsIn run.items x → IsClient x.rec.client
-  pub items : (x : PuItem) → IsIn received x → IsItemOf st tree 0 x
-  pub covers : (id : ℕ) → IsIn ids id → IsCoveredBy (number_of run.top) st tree id
-
+-- a run was taken
 abbrev pub HasRun : Store → Folding → Type 0
-HasRun st f = TookRun st f.tree f.cursor f.run f.ids
+HasRun st f = TookRun st f.tree 0 f.cursor f.run f.ids
 
 -- all records of the run are applied
 abbrev pub HasApplied : Store → Folding → Type 0
@@ -106,8 +92,8 @@ abbrev pub PutsRoot : Store → ℕ → Folding → Type 0
 PutsRoot st now f = PutsRaised st now f.tree f.tree_lease f.cursor f.run.top f.out
 
 -- the messages that are to be deleted are at or below the tree's cursor
-abbrev pub MayDelete : Store → Folding → Type 0
-MayDelete st f = (id : ℕ) → IsIn f.ids id → IsCoveredBy (st.tally.cursor f.tree 0) st f.tree id
+abbrev pub CoversIds : Store → Folding → Type 0
+CoversIds st f = MayDelete st f.tree 0 f.ids
 
 -- there is one
 abbrev pub HasIds : Folding → Type 0
@@ -122,7 +108,7 @@ KnowsFoldingAt GettingPage st now f = RaisesRoot st now f × HasRun st f × HasP
 KnowsFoldingAt PuttingPage st now f = RaisesRoot st now f × HasRun st f × PutsLeaf st now f
 KnowsFoldingAt ReleasingPage st now f = RaisesRoot st now f × HasRun st f × HasPage f × HasApplied st f
 KnowsFoldingAt PuttingTree st now f = PutsRoot st now f × HasRun st f × HasApplied st f × (f.page_lease ≡ None)
-KnowsFoldingAt Deleting st now f = HasTree f × MayDelete st f × (f.page_lease ≡ None) × HasIds f
+KnowsFoldingAt Deleting st now f = HasTree f × CoversIds st f × (f.page_lease ≡ None) × HasIds f
 KnowsFoldingAt ReleasingTree st now f = HasTree f × (f.page_lease ≡ None)
 KnowsFoldingAt StoppingPage st now f = HasTree f × HasPage f
 KnowsFoldingAt StoppingTree st now f = HasTree f × (f.page_lease ≡ None)

@@ -1,0 +1,5 @@
+pub mod Copies
+pub mod Found
+pub mod Received
+pub mod Runs
+pub mod Marks

@@ -1,1 +1,9 @@
 pub mod StandingLemmas
+pub mod Calls
+pub mod Passing
+pub mod Copies
+pub mod Searching
+pub mod Heads
+pub mod Lone
+pub mod OthersLemmas
+pub mod Outcomes

@@ -1,5 +1,5 @@
 -- Every call that lands keeps what holds of a cloud.
-use Rattle.std.proofs.Common.{ℕ, List, [], sym, subst}
+use Rattle.std.proofs.Common.{◌≡◌, ℕ, List, [], sym, subst}
 use Rattle.db_base.specs.Ids.{IsTree}
 use Rattle.db_base.specs.declared.names.ObjName.TheVariants as object
 use Rattle.cloud_trait.specs.Ask.{Ask, Get, GetHeld, PutHeld, Send, Receive, Delete, Take, Renew, Release, effect, PutsNothing, TouchesNoMessage}
@@ -9,7 +9,7 @@ use Rattle.chain_facts.specs.Chain.{ChainHolds}
 use Rattle.cloud_facts.specs.Standing.{StandsUnder, IsTaken, Follows}
 use Rattle.decoding_facts.specs.Decodes.{Decodes, IsNext, Spells}
 use Rattle.decoding_facts.specs.Kinds.{IsNode}
-use Rattle.decoding_facts.proofs.Landing.{empty_decodes, effect_decodes}
+use Rattle.decoding_facts.proofs.Landing.{empty_decodes, effect_decodes, same_decodes}
 use Rattle.decoding_facts.proofs.Values.{head_next, inner_next, root_next, atomic_message, pu_message}
 use Rattle.landing_facts.specs.Holding.{Holds}
 use Rattle.landing_facts.specs.Landing.{Landing, opens, settles, logs, posts, marks_log, marks_post, puts_leaf, puts_page, puts_inner, puts_root, raises_root, stays}
@@ -23,9 +23,10 @@ use Rattle.store_book.specs.Growth.{Grows}
 use Rattle.store_book.specs.Premises.{Takes, LandsFirst}
 use Rattle.landing_facts.specs.Landing.{own_of}
 use Rattle.store_book.specs.Tally.{Node, Leafy, Branch, Store}
+use Rattle.store_book.specs.Telling.{tally_of}
 use Rattle.telling_facts.specs.Told.{store_of, Tells}
 use Rattle.telling_facts.proofs.Asks.{quiet_tells, told_by}
-use Rattle.telling_facts.proofs.Easy.{head_told, logged_told, posted_told, log_mark_told, post_mark_told}
+use Rattle.telling_facts.proofs.Easy.{head_told, logged_told, posted_told, log_mark_told, post_mark_told, same_told}
 use Rattle.telling_facts.proofs.Laws.{taken_tells, taken_next, inner_tells, page_tells, raise_tells}
 use Rattle.telling_facts.proofs.Nodes.{root_told}
 use Rattle.telling_facts.proofs.Ready.{first_next}
@@ -128,6 +129,18 @@ pub effect_grows : (who : Caller) (book : Book) (order : List Entry) (s : CloudS
 effect_grows who book order s ask su stands l f =
     told_by (Grows (store_of book order s)) (effect who ask s) su (landing_tells who book order s ask su stands.holds.chains stands.decodes l f)
     (landing_grows who (store_of book order s) ask su stands.holds l)
+
+-- what is told of a cloud is of its versions and messages alone
+pub same_store : (book : Book) (order : List Entry) (s t : CloudState) → t.versions ≡ s.versions → t.messages ≡ s.messages → store_of book order t ≡ store_of book order s
+same_store book order s t versions messages =
+    let told : tally_of book t ≡ tally_of book s = same_told book s t versions messages in
+    λ i. record { tally = told i; book = book; order = order }
+
+pub same_stands : (book : Book) (order : List Entry) (s t : CloudState) → t.versions ≡ s.versions → t.messages ≡ s.messages → StandsUnder book order s → StandsUnder book order t
+same_stands book order s t versions messages stands = record {
+  holds = subst Holds (sym (same_store book order s t versions messages)) stands.holds;
+  decodes = same_decodes s t versions messages stands.decodes;
+}
 
 -- an empty cloud stands under the empty book
 pub empty_stands : (s : CloudState) → IsEmptyCloud s → StandsUnder empty_book [] s

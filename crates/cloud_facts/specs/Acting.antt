@@ -1,8 +1,7 @@
 -- A call of one session beside all others: what stands before it, and what it leaves, whatever machine made it.
-use Rattle.std.specs.Prelude.{ℕ, ◌≡◌, ◌≤◌, ◌⊎◌, List, Option, Some, None}
-use Rattle.cloud_facts.specs.Call.{IsCall}
+use Rattle.std.specs.Prelude.{ℕ, ◌≡◌, ◌≤◌, ◌⊎◌, List, [], ◌∷◌, Option, Some, None}
 use Rattle.cloud_facts.specs.Looks.{audited_at, audit_of}
-use Rattle.cloud_facts.specs.Others.{Passes}
+use Rattle.cloud_facts.specs.Others.{Passes, IsOfPart}
 use Rattle.cloud_facts.specs.Standing.{StandsUnder}
 use Rattle.cloud_trait.specs.declared.answer.Answer.{Answer}
 use Rattle.cloud_trait.specs.Ask.{Ask}
@@ -17,6 +16,7 @@ use Rattle.history.specs.Audited.{Audited}
 use Rattle.home_facts.specs.Homes.{Home, Part, Away, AtHome, Opens, Parts, IsAlone, HomesHold}
 use Rattle.lease_facts.specs.Guards.{IsGuarded}
 use Rattle.lease_facts.specs.Leases.{Owns, KeptBy, GainedBy, RenewedTo}
+use Rattle.log_codec.specs.declared.record.AtomicRec.{AtomicRec}
 use Rattle.report_types.specs.declared.entry.Entry.{Entry}
 use Rattle.store_book.specs.Book.{Book, first_leaf}
 use Rattle.store_book.specs.Records.{IsIn}
@@ -42,6 +42,11 @@ pub record KnowsHome (st : Store) (now client : ℕ) (lease : Claim) (head : Hea
   pub lease_is : home.lease ≡ lease
   pub epoch_is : home.epoch ≡ head.epoch
   pub begun : home.attempt ≤ attempt
+
+-- the leases in hand of one that may have none
+abbrev pub of_option : Option Claim → List Claim
+of_option (Some l) = l ∷ []
+of_option None = []
 
 -- the lease of a part is in hand, and of its client
 abbrev pub HasLeaseOf : List Claim → Part → Type 0
@@ -70,6 +75,8 @@ pub record Outcome (who : Caller) (book : Book) (order : List Entry) (s t : Clou
   pub cloud : StandsUnder book_after order_after t
   pub lone : IsLone book_after
   pub passes : Passes (store_of book order s) (store_of book_after order_after t)
+  -- what joins the log is of the session's own home
+  pub joins : (r : AtomicRec) → IsIn book_after.log r → IsIn book.log r ⊎ IsOfPart (parts who.session) r
   pub part : Part
   pub homes : HomesHold (store_of book_after order_after t).tally t.now (at who.session part parts)
   pub knows : Knows (store_of book_after order_after t) t.now part

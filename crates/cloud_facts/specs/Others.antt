@@ -4,6 +4,7 @@ use Rattle.cloud_trait.specs.Claim.{Claim, Lasts}
 use Rattle.db_base.specs.Ids.{IsTree}
 use Rattle.db_base.specs.declared.names.Lock.TheVariants as lock
 use Rattle.head_codec.specs.declared.head.Head.{Head}
+use Rattle.home_facts.specs.Homes.{Part, Away, AtHome, Opens}
 use Rattle.left_facts.specs.Left.{IsWaiting}
 use Rattle.log_codec.specs.declared.record.AtomicRec.{AtomicRec}
 use Rattle.store_book.specs.Growth.{Grows}
@@ -23,6 +24,16 @@ pub record Passes (st su : Store) : Type 0 where
   pub grows : Grows st su
   pub sent_on : (r : AtomicRec) → IsIn st.book.log r → WasSentOn st.tally r → WasSentOn su.tally r
   pub joined : (r : AtomicRec) → IsIn su.book.log r → IsIn st.book.log r ⊎ IsNewer (st.tally.head r.client) r
+
+-- a record of a home
+abbrev pub IsOfPart : Part → AtomicRec → Type 0
+IsOfPart Away r = ⊥
+IsOfPart (AtHome h) r = (r.client ≡ h.client) × (r.epoch ≡ h.epoch)
+IsOfPart (Opens o) r = ⊥
+
+-- no record of a home joins the log
+abbrev pub NoneJoins : Part → Store → Store → Type 0
+NoneJoins part st su = (r : AtomicRec) → IsIn su.book.log r → IsOfPart part r → IsIn st.book.log r
 
 -- what a call of another session leaves of what the leases in hand guard that last behind it
 pub record Others (mine : List Claim) (later : ℕ) (st su : Store) : Type 0 where

@@ -5,6 +5,7 @@ use Rattle.cloud_trait.specs.Caller.{Caller}
 use Rattle.cloud_trait.specs.State.{CloudState}
 use Rattle.chain_facts.specs.Links.{newest_node, top_of}
 use Rattle.decoding_facts.specs.Decodes.{Decodes}
+use Rattle.home_facts.specs.Homes.{Home, Part, AtHome}
 use Rattle.landing_facts.specs.Holding.{Holds}
 use Rattle.landing_facts.specs.Landing.{Landing, opens, settles, logs, posts, marks_log, marks_post, puts_leaf, puts_page, puts_inner, puts_root, raises_root, stays}
 use Rattle.report_types.specs.declared.entry.Entry.{Entry}
@@ -41,3 +42,18 @@ Follows who st ask su (puts_inner tree page node pieces bytes one two is e lands
 Follows who st ask su (puts_root tree t bytes one two is e covers lands) = t.version ≡ (top_of (st.tally.roots tree)).version + 1
 Follows who st ask su (raises_root tree t level links bytes one two is e covers lands) = t.version ≡ (top_of (st.tally.roots tree)).version + 1
 Follows who st ask su (stays asked puts touches) = Unit {0}
+
+-- what joins the log is of the session's own home
+abbrev pub Commits : (who : Caller) (st : Store) → Part → (ask : Ask) (su : Store) → Landing who st ask su → Type 0
+Commits who st part ask su (opens client head records bytes one two e o) = (g : Home) × (part ≡ AtHome g) × (client ≡ g.client) × (head.epoch ≡ g.epoch)
+Commits who st part ask su (settles client head bytes one two e o) = Unit {0}
+Commits who st part ask su (logs client bytes r o) = Unit {0}
+Commits who st part ask su (posts tree page bytes r o) = Unit {0}
+Commits who st part ask su (marks_log client id o) = Unit {0}
+Commits who st part ask su (marks_post tree page id o) = Unit {0}
+Commits who st part ask su (puts_leaf p bytes one two e takes lands) = Unit {0}
+Commits who st part ask su (puts_page tree page node bytes one two is e first lands) = Unit {0}
+Commits who st part ask su (puts_inner tree page node pieces bytes one two is e lands) = Unit {0}
+Commits who st part ask su (puts_root tree t bytes one two is e covers lands) = Unit {0}
+Commits who st part ask su (raises_root tree t level links bytes one two is e covers lands) = Unit {0}
+Commits who st part ask su (stays asked puts touches) = Unit {0}

@@ -27,6 +27,9 @@ home_in none (Opens o) = none
 home_is : (k g : Home) → AtHome k ≡ AtHome g → k ≡ g
 home_is k g e = ap (home_in k) e
 
+never_both : (o : Opening) (g : Home) → Opens o ≡ AtHome g → ⊥
+never_both o g e = cc
+
 record_is : (r q : AtomicRec) → Some r ≡ Some q → r ≡ q
 record_is r q e = cc
 
@@ -42,7 +45,15 @@ opening_later t now later o after h = record { is_client = h.is_client; later = 
 
 home_later : (t : Tally) (now later : ℕ) (g : Home) → now ≤ later → HomeHolds t now g → HomeHolds t later g
 home_later t now later g after h =
-    record { is_client = h.is_client; early = h.early; begun = h.begun; own = h.own; waiting = λ lasts. h.waiting (omega (arith, lasts, after)) }
+    record {
+      is_client = h.is_client;
+      early = h.early;
+      begun = h.begun;
+      own = h.own;
+      newest = λ lasts. h.newest (omega (arith, lasts, after));
+      needs = h.needs;
+      waiting = λ lasts. h.waiting (omega (arith, lasts, after));
+    }
 
 part_later : (t : Tally) (now later : ℕ) (p : Part) → now ≤ later → PartHolds t now p → PartHolds t later p
 part_later t now later Away after h = tt
@@ -99,6 +110,32 @@ one_changes t now parts session new mine others from_mine between = record {
     both s u ne (inr e) (inr f) =
         subst (λ p. AreApart now p (at session new parts u)) (sym (at_other session new parts s e)) (subst (λ q. AreApart now (parts s) q) (sym (at_other session new parts u f)) (between s u ne))
 
+-- the part of a session that changes twice
+pub part_again : (session : ℕ) (first new : Part) (parts : Parts) → at session new (at session first parts) ≡ at session new parts
+part_again session first new parts = λ i n. same n i
+  where
+    same : (n : ℕ) → at session new (at session first parts) n ≡ at session new parts n
+    same n = on (cases_eq n session)
+      where
+        on : (n ≡ session) ⊎ (n ≢ session) → at session new (at session first parts) n ≡ at session new parts n
+        on (inl e) = at_same session new (at session first parts) n e ∙ sym (at_same session new parts n e)
+        on (inr ne) = at_other session new (at session first parts) n ne ∙ (at_other session first parts n ne ∙ sym (at_other session new parts n ne))
+
+-- and of one that does not change
+pub part_stays : (session : ℕ) (part : Part) (parts : Parts) → parts session ≡ part → at session part parts ≡ parts
+part_stays session part parts is = λ i n. same n i
+  where
+    same : (n : ℕ) → at session part parts n ≡ parts n
+    same n = on (cases_eq n session)
+      where
+        on : (n ≡ session) ⊎ (n ≢ session) → at session part parts n ≡ parts n
+        on (inl e) = at_same session part parts n e ∙ (sym is ∙ ap parts (sym e))
+        on (inr ne) = at_other session part parts n ne
+
+-- a session keeps its part
+pub keeps_part : (t : Tally) (now : ℕ) (parts : Parts) (session : ℕ) (part : Part) → parts session ≡ part → HomesHold t now parts → HomesHold t now (at session part parts)
+keeps_part t now parts session part is h = subst (λ (ps : Parts). HomesHold t now ps) (sym (part_stays session part parts is)) h
+
 -- a session drops its part
 pub away_keeps : (t : Tally) (now : ℕ) (parts : Parts) (session : ℕ) → HomesHold t now parts → HomesHold t now (at session Away parts)
 away_keeps t now parts session h = one_changes t now parts session Away tt (λ other ne. h.each other) (λ other ne. tt) h.apart
@@ -125,6 +162,8 @@ begins_keeps t now parts session g attempt is rises h =
       early = mine.early;
       begun = λ id r m e. let b = mine.begun id r m e in omega (arith, b, rises);
       own = λ id r m e f. absurd (never id r m e f);
+      newest = mine.newest;
+      needs = λ r is. absurd (in_none [] r refl is);
       waiting = λ lasts r is. absurd (in_none [] r refl is);
     })
     (λ other ne. h.each other) (λ other ne. on (parts other) (subst (λ p. AreApart now p (parts other)) is (h.apart session other (λ e. ne (sym e))))) h.apart
@@ -145,7 +184,15 @@ pub rests_keeps : (t : Tally) (now : ℕ) (parts : Parts) (session : ℕ) (g : H
     → HomesHold t now (at session (AtHome (record g { needed = [] })) parts)
 rests_keeps t now parts session g is h =
     one_changes t now parts session (AtHome (record g { needed = [] }))
-    (record { is_client = mine.is_client; early = mine.early; begun = mine.begun; own = mine.own; waiting = λ lasts r is. absurd (in_none [] r refl is) })
+    (record {
+      is_client = mine.is_client;
+      early = mine.early;
+      begun = mine.begun;
+      own = mine.own;
+      newest = mine.newest;
+      needs = λ r is. absurd (in_none [] r refl is);
+      waiting = λ lasts r is. absurd (in_none [] r refl is);
+    })
     (λ other ne. h.each other) (λ other ne. on (parts other) (subst (λ p. AreApart now p (parts other)) is (h.apart session other (λ e. ne (sym e))))) h.apart
   where
     mine : HomeHolds t now g
@@ -160,7 +207,16 @@ rests_keeps t now parts session g is h =
 pub renews_keeps : (t : Tally) (now : ℕ) (parts : Parts) (session : ℕ) (g : Home) (lease : Claim) → parts session ≡ AtHome g → (Lasts now lease → Lasts now g.lease)
     → HomesHold t now parts → HomesHold t now (at session (AtHome (record g { lease = lease })) parts)
 renews_keeps t now parts session g lease is lasted h =
-    one_changes t now parts session (AtHome (record g { lease = lease })) (record { is_client = mine.is_client; early = mine.early; begun = mine.begun; own = mine.own; waiting = λ lasts. mine.waiting (lasted lasts) })
+    one_changes t now parts session (AtHome (record g { lease = lease }))
+    (record {
+      is_client = mine.is_client;
+      early = mine.early;
+      begun = mine.begun;
+      own = mine.own;
+      newest = λ lasts. mine.newest (lasted lasts);
+      needs = mine.needs;
+      waiting = λ lasts. mine.waiting (lasted lasts);
+    })
     (λ other ne. h.each other) (λ other ne. on (parts other) (subst (λ p. AreApart now p (parts other)) is (h.apart session other (λ e. ne (sym e))))) h.apart
   where
     mine : HomeHolds t now g
@@ -174,15 +230,18 @@ renews_keeps t now parts session g lease is lasted h =
 -- ---- a head lands
 
 -- an open client of another session, behind a later head of its client or not
-home_behind : (st : Store) (now client : ℕ) (head : Head) (more : List AtomicRec) (g : Home) → ((st.tally.head client).epoch ≤ head.epoch) → HomeHolds st.tally now g
-    → HomeHolds (after_head client head more st).tally now g
-home_behind st now client head more g rises h = record {
+home_behind : (st : Store) (now client : ℕ) (head : Head) (more : List AtomicRec) (g : Home) → ((st.tally.head client).epoch ≤ head.epoch)
+    → (g.client ≡ client → Lasts now g.lease → head.epoch ≡ g.epoch) → HomeHolds st.tally now g → HomeHolds (after_head client head more st).tally now g
+home_behind st now client head more g rises newest h = record {
   is_client = h.is_client;
   early = at_by (λ c q. g.client ≡ c → g.epoch ≤ q.epoch) client head st.tally.head
       (λ e. let early : g.epoch ≤ (st.tally.head client).epoch = subst (λ c. g.epoch ≤ (st.tally.head c).epoch) e h.early in omega (arith, early, rises))
       (λ c e. subst (λ k. g.epoch ≤ (st.tally.head k).epoch) e h.early) g.client refl;
   begun = h.begun;
   own = h.own;
+  newest = λ lasts. at_by (λ c q. g.client ≡ c → q.epoch ≡ g.epoch) client head st.tally.head (λ e. newest e lasts)
+      (λ c e. subst (λ k. (st.tally.head k).epoch ≡ g.epoch) e (h.newest lasts)) g.client refl;
+  needs = h.needs;
   waiting = h.waiting;
 }
 
@@ -205,7 +264,8 @@ others_behind st now parts session client head more alone rises later h other ne
   where
     on : (p : Part) → parts other ≡ p → PartHolds st.tally now p → PartHolds (after_head client head more st).tally now p
     on Away e k = tt
-    on (AtHome g) e k = home_behind st now client head more g rises k
+    on (AtHome g) e k =
+        home_behind st now client head more g rises (λ same lasts. absurd (alone other ne (subst (λ q. IsLastingPart now client q) (sym e) (same, lasts)))) k
     on (Opens o) e k =
         opening_behind st now client head more o (λ same lasts. alone other ne (subst (λ q. IsLastingPart now client q) (sym e) (same, lasts))) (later other o ne e) k
 
@@ -215,7 +275,15 @@ pub opened_keeps : (st : Store) (now : ℕ) (parts : Parts) (session : ℕ) (o :
     → HomesHold (after_head o.client head [] st).tally now (at session (AtHome (record { client = o.client; epoch = head.epoch; attempt = 0; lease = o.lease; sent = []; needed = [] })) parts)
 opened_keeps st now parts session o head is lasts next alone early h =
     one_changes (after_head o.client head [] st).tally now parts session (AtHome new)
-    (record { is_client = mine.is_client; early = here; begun = begun; own = λ id r m e f. absurd (none id r m e); waiting = λ lasts r is. absurd (in_none [] r refl is) })
+    (record {
+      is_client = mine.is_client;
+      early = omega (arith, here);
+      begun = begun;
+      own = λ id r m e f. absurd (none id r m e);
+      newest = λ l. here;
+      needs = λ r is. absurd (in_none [] r refl is);
+      waiting = λ l r is. absurd (in_none [] r refl is);
+    })
     (others_behind st now parts session o.client head [] alone (omega (arith, newest_epoch, next)) later h) (λ other ne. on other ne (parts other) refl) h.apart
   where
     new : Home
@@ -230,8 +298,8 @@ opened_keeps st now parts session o head is lasts next alone early h =
     newest_epoch : (st.tally.head o.client).epoch ≡ o.read.epoch
     newest_epoch = ap (λ (q : Head). q.epoch) newest
 
-    here : head.epoch ≤ ((after_head o.client head [] st).tally.head o.client).epoch
-    here = let e : ((after_head o.client head [] st).tally.head o.client).epoch ≡ head.epoch = ap (λ (q : Head). q.epoch) (at_same o.client head st.tally.head o.client refl) in omega (arith, e)
+    here : ((after_head o.client head [] st).tally.head o.client).epoch ≡ head.epoch
+    here = ap (λ (q : Head). q.epoch) (at_same o.client head st.tally.head o.client refl)
 
     none : (id : ℕ) (r : AtomicRec) → IsLogMessage (st.tally.logged o.client) id r → r.epoch ≡ head.epoch → ⊥
     none id r m e = let low = early id r m in omega (arith, low, e, next, newest_epoch)
@@ -279,7 +347,7 @@ commits_keeps st now parts session g head more is lasts epoch newest alone h = r
 
     on : (s : ℕ) → (s ≡ session) ⊎ (s ≢ session) → PartHolds (after_head g.client head more st).tally now (parts s)
     on s (inl e) =
-        subst (λ p. PartHolds (after_head g.client head more st).tally now p) (sym (ap parts e ∙ is)) (home_behind st now g.client head more g (omega (arith, newest, epoch)) mine)
+        subst (λ p. PartHolds (after_head g.client head more st).tally now p) (sym (ap parts e ∙ is)) (home_behind st now g.client head more g (omega (arith, newest, epoch)) (λ same l. epoch) mine)
     on s (inr ne) = others_behind st now parts session g.client head more alone (omega (arith, newest, epoch)) later h s ne
 
 -- ---- messages
@@ -319,6 +387,8 @@ home_beside st now client post r k reads other h = record {
       (λ e. beside_begun (st.tally.logged client) post r k reads (other e) (subst (λ n. Begun (st.tally.logged n) k) e h.begun)) (λ c e. subst (λ n. Begun (st.tally.logged n) k) e h.begun) k.client refl;
   own = at_by (λ c ps. k.client ≡ c → Own ps k) client _ st.tally.logged
       (λ e. beside_own (st.tally.logged client) post r k reads (other e) (subst (λ n. Own (st.tally.logged n) k) e h.own)) (λ c e. subst (λ n. Own (st.tally.logged n) k) e h.own) k.client refl;
+  newest = h.newest;
+  needs = h.needs;
   waiting = at_by (λ c ps. k.client ≡ c → Waiting now ps k) client _ st.tally.logged
       (λ e lasts q is. logged_more (st.tally.logged client) (post ∷ []) q (subst (λ n. Waiting now (st.tally.logged n) k) e h.waiting lasts q is))
       (λ c e. subst (λ n. Waiting now (st.tally.logged n) k) e h.waiting) k.client refl;
@@ -339,6 +409,8 @@ logged_keeps st now parts session g post r is logs epoch txn h =
       early = mine.early;
       begun = subst (λ ps. Begun ps (with_sent g r)) (sym same) begun;
       own = subst (λ ps. Own ps (with_sent g r)) (sym same) own;
+      newest = mine.newest;
+      needs = λ q is. needs q (in_either g.needed (r ∷ []) q is);
       waiting = subst (λ ps. Waiting now ps (with_sent g r)) (sym same) waiting;
     })
     (λ other ne. others other ne (parts other) refl (h.each other))
@@ -352,6 +424,10 @@ logged_keeps st now parts session g post r is logs epoch txn h =
 
     one : (id : ℕ) (q : AtomicRec) → IsLast (st.tally.logged g.client) post id q → r ≡ q
     one id q l = record_is r q (sym logs.reads ∙ l.reads)
+
+    needs : (q : AtomicRec) → IsIn g.needed q ⊎ IsIn (r ∷ []) q → q.epoch ≡ g.epoch
+    needs q (inl old) = mine.needs q old
+    needs q (inr last) = subst (λ (x : AtomicRec). x.epoch ≡ g.epoch) (get_single r last.0 q last.1) epoch
 
     begun : Begun (st.tally.logged g.client ++ post ∷ []) (with_sent g r)
     begun id q m e = on (log_cases (st.tally.logged g.client) post id q m)
@@ -413,6 +489,8 @@ marked_keeps st now parts client id spared h = record { each = λ s. on s (parts
       own = at_by (λ c ps. k.client ≡ c → Own ps k) client _ st.tally.logged
           (λ same i q m. subst (λ n. Own (st.tally.logged n) k) same old.own i q (log_marked (st.tally.logged client) id i q m))
           (λ c same. subst (λ n. Own (st.tally.logged n) k) same old.own) k.client refl;
+      newest = old.newest;
+      needs = old.needs;
       waiting = at_by (λ c ps. k.client ≡ c → Waiting now ps k) client _ st.tally.logged (λ same lasts q is. still same lasts q is)
           (λ c same. subst (λ n. Waiting now (st.tally.logged n) k) same old.waiting) k.client refl;
     }
@@ -428,3 +506,44 @@ marked_keeps st now parts client id spared h = record { each = λ s. on s (parts
     on s Away e old = tt
     on s (AtHome k) e old = holds s k e old
     on s (Opens o) e old = record { is_client = old.is_client; later = old.later; newest = old.newest }
+
+-- ---- which messages are spared
+
+-- what a home needs and a message of it have one epoch
+needed_epoch : (t : Tally) (now : ℕ) (parts : Parts) (session : ℕ) (h : Home) (r : AtomicRec) → parts session ≡ AtHome h → IsIn h.needed r → HomesHold t now parts → r.epoch ≡ h.epoch
+needed_epoch t now parts session h r is needed holds = (subst (λ p. PartHolds t now p) is (holds.each session)).needs r needed
+
+-- an opening marks what is of no later epoch than it read
+pub spared_read : (t : Tally) (now : ℕ) (parts : Parts) (session : ℕ) (o : Opening) (id : ℕ) → parts session ≡ Opens o → ((r : AtomicRec) → IsLogMessage (t.logged o.client) id r → r.epoch ≤ o.read.epoch)
+    → HomesHold t now parts → IsSpared t now parts o.client id
+spared_read t now parts session o id is low holds other h r at_home same lasts needed m = omega (arith, apart same lasts, low r m, needed_epoch t now parts other h r at_home needed holds)
+  where
+    differs : session ≢ other
+    differs e = absurd (never_both o h (sym is ∙ (ap parts e ∙ at_home)))
+
+    apart : h.client ≡ o.client → Lasts now h.lease → o.read.epoch < h.epoch
+    apart = subst (λ q. AreApart now (Opens o) q) at_home (subst (λ p. AreApart now p (parts other)) is (holds.apart session other differs))
+
+-- a commit that needs nothing more marks what is of an earlier epoch
+pub spared_early : (t : Tally) (now : ℕ) (parts : Parts) (session : ℕ) (g : Home) (id : ℕ) → parts session ≡ AtHome g → ((r : AtomicRec) → IsLogMessage (t.logged g.client) id r → r.epoch < g.epoch)
+    → HomesHold t now parts → IsSpared t now parts g.client id
+spared_early t now parts session g id is low holds other h r at_home same lasts needed m =
+    omega (arith, newest, early, low r m, needed_epoch t now parts other h r at_home needed holds)
+  where
+    newest : (t.head g.client).epoch ≡ h.epoch
+    newest = subst (λ c. (t.head c).epoch ≡ h.epoch) same ((subst (λ p. PartHolds t now p) at_home (holds.each other)).newest lasts)
+
+    early : g.epoch ≤ (t.head g.client).epoch
+    early = (subst (λ p. PartHolds t now p) is (holds.each session)).early
+
+-- and what is of its own epoch
+pub spared_own : (t : Tally) (now : ℕ) (parts : Parts) (session : ℕ) (g : Home) (id : ℕ) → parts session ≡ AtHome g → g.needed ≡ [] → ((r : AtomicRec) → IsLogMessage (t.logged g.client) id r → r.epoch ≡ g.epoch)
+    → HomesHold t now parts → IsSpared t now parts g.client id
+spared_own t now parts session g id is none own holds other h r at_home same lasts needed m = on (cases_eq other session)
+  where
+    on : (other ≡ session) ⊎ (other ≢ session) → ⊥
+    on (inl e) = in_none h.needed r (ap (λ (k : Home). k.needed) (home_is h g (sym at_home ∙ (ap parts e ∙ is))) ∙ none) needed
+    on (inr ne) = apart same (sym (needed_epoch t now parts other h r at_home needed holds) ∙ own r m)
+      where
+        apart : h.client ≡ g.client → h.epoch ≢ g.epoch
+        apart = subst (λ q. AreApart now (AtHome h) q) is (subst (λ p. AreApart now p (parts session)) at_home (holds.apart other session ne))

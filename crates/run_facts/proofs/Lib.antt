@@ -1,5 +1,6 @@
-pub mod Copies
-pub mod Found
+pub mod Asides
 pub mod Received
 pub mod Runs
 pub mod Marks
+pub mod Leaves
+pub mod Takes

@@ -12,7 +12,7 @@ use Rattle.store_book.specs.Messages.{IsMessage}
 use Rattle.store_book.specs.Premises.{MarksPost}
 use Rattle.store_book.specs.Tally.{Store}
 use Rattle.run_facts.specs.Runs.{IsCoveredBy, TookRun, MayDelete}
-use Rattle.run_facts.proofs.Copies.{is_message_stays, item_stays}
+use Rattle.cloud_facts.proofs.Copies.{is_message_stays, item_stays}
 use Rattle.run_facts.proofs.Received.{message_client}
 
 -- ---- what was known stays so

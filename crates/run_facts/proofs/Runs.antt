@@ -1,5 +1,5 @@
 -- The runs of received items.
-use Rattle.std.proofs.Common.{◌≡◌, ◌+◌, ◌<◌, ◌≤◌, ◌==◌, ◌⊎◌, inl, inr, ℕ, zero, suc, Bool, true, false, cond, max, eqb, eqb-true, List, [], ◌∷◌, Some, refl, sym, ap, subst, arith}
+use Rattle.std.proofs.Common.{◌≡◌, ◌<◌, ◌≤◌, ◌==◌, ◌⊎◌, inl, inr, ℕ, zero, suc, cond, max, eqb, eqb-true, List, [], ◌∷◌, Some, refl, ap, subst, arith}
 use Rattle.std.proofs.lemmas.Bool.{and_parts, cases_lt, eq-eqb}
 use Rattle.db_base.specs.Cursor.{number_of}
 use Rattle.db_base.specs.Ids.{IsClient}
@@ -10,7 +10,7 @@ use Rattle.run_cursor.specs.Run.{is_at, first_at, IsWithin, IsRun}
 use Rattle.store_book.specs.Premises.{IsConsecutive}
 use Rattle.store_book.specs.Records.{IsIn}
 use Rattle.store_book.specs.Tally.{Store}
-use Rattle.run_facts.proofs.Found.{found}
+use Rattle.cloud_facts.proofs.Searching.{found}
 use Rattle.run_facts.proofs.Received.{all_in}
 
 -- an item of a run was received

@@ -7,7 +7,7 @@ use Rattle.ckpt_parts.specs.Deleting.{next_id}
 use Rattle.ckpt_parts.specs.Leasing.{newest_lease, without_newest}
 use Rattle.ckpt_parts.specs.declared.leases.Leases.{Leases}
 use Rattle.chain_facts.specs.Links.{first_link}
-use Rattle.cloud_facts.specs.Acting.{KnowsHome, Setting, Outcome}
+use Rattle.cloud_facts.specs.Acting.{Setting, Outcome, Aside}
 use Rattle.cloud_facts.specs.Call.{IsCall}
 use Rattle.cloud_facts.specs.Looks.{audit_of}
 use Rattle.cloud_facts.proofs.Calls.{landed_or_not, put_cases, put_lasts}
@@ -31,10 +31,9 @@ use Rattle.db_base.specs.declared.names.ObjName.TheVariants as object
 use Rattle.db_base.specs.declared.names.QueueName.{QueueName}
 use Rattle.db_base.specs.declared.names.QueueName.TheVariants as queue
 use Rattle.db_base.specs.declared.trouble.Trouble.{Trouble}
-use Rattle.head_codec.specs.declared.head.Head.{Head}
 use Rattle.history.specs.Audited.{applied_entry}
 use Rattle.home_facts.specs.Homes.{Part, Parts, HomesHold}
-use Rattle.home_facts.proofs.HomeLemmas.{keeps_part}
+use Rattle.home_facts.proofs.HomeLemmas.{aside_keeps, keeps_part}
 use Rattle.landing_facts.specs.Landing.{Landing, marks_post, puts_leaf}
 use Rattle.leaf_edit.specs.Applied.{applied}
 use Rattle.leaf_edit.specs.Lacked.{lacked}
@@ -45,11 +44,9 @@ use Rattle.page_ckpt.specs.Paging.{Paging, Step, ask_at, paging_ask, under, dele
 use Rattle.page_ckpt.specs.declared.stage.Stage.{Stage}
 use Rattle.page_ckpt.specs.declared.stage.Stage.TheVariants.{TakingHome, GettingHome, Receiving, TakingRight, GettingRight, PuttingRight, ReleasingRight, PuttingHome, Deleting as DeletingNext, Releasing, Finished}
 use Rattle.report_types.specs.declared.entry.Entry.{Entry}
-use Rattle.run_facts.proofs.Asides.{homes_aside, home_aside}
 use Rattle.run_facts.proofs.Leaves.{absent_leaf, spelled_leaf, own_cursor, own_queue, last_leaf}
 use Rattle.run_facts.proofs.Marks.{covered_stays, covered_more, delete_stays, may_mark}
 use Rattle.run_facts.proofs.Takes.{taken, is_taken, leaf_lands, takes, lacking_is, still_lone, cursor_upto}
-use Rattle.run_facts.specs.Aside.{Aside}
 use Rattle.run_facts.specs.Runs.{TookRun, MayDelete}
 use Rattle.store_book.specs.Book.{Book, Link}
 use Rattle.store_book.specs.Effects.{Taking, after_leaf, after_post_mark}
@@ -62,12 +59,9 @@ use Rattle.telling_facts.specs.Told.{store_of}
 use Rattle.page_facts.specs.Checkpoint.{HoldsPage, HasPage, ReadHome, PutsHome, HasIds, KnowsPagingAt, KnowsStep, noted_at}
 use Rattle.page_facts.proofs.Nexts as nexts
 
--- what is known beside an open client where an answer may have led
+-- what is known where an answer may have led
 abbrev pub Leads : Paging → Answer → Store → ℕ → Type 0
 Leads p reply u now = (next : Step) → PagingLeads p reply next → KnowsStep u now next
-
-abbrev pub KnowsAfter : ℕ → Claim → Head → ℕ → Paging → Answer → Store → ℕ → Part → Type 0
-KnowsAfter client lease head attempt p reply u now part = KnowsHome u now client lease head attempt part × Leads p reply u now
 
 -- a lease that was given is of the lock that was asked for
 given : (who : Caller) (k : Lock) (ticks : ℕ) (a : Answer) (s t : CloudState) → IsCall who (Take k ticks) a s t → (l : Claim) → given_of k a ≡ Ok l → l.lock ≡ k
@@ -88,10 +82,8 @@ finished : (u : Store) (now : ℕ) (p : Paging) (t : Option Trouble) → KnowsSt
 finished u now p (Some t) = tt
 finished u now p None = tt
 
-module _ (who : Caller) (s t : CloudState) (book : Book) (order : List Entry) (parts : Parts) (mine : List Claim) (client : ℕ) (lease : Claim) (head : Head) (attempt : ℕ) (p : Paging)
-    (reply : Answer) (setting : Setting book order s t.now parts who.session mine)
-    (home_is : KnowsHome (store_of book order s) t.now client lease head attempt (parts who.session)) (of_tree : IsTree p.tree) (of_page : IsPage p.page)
-    (call : IsCall who (paging_ask p) reply s t) where
+module _ (who : Caller) (s t : CloudState) (book : Book) (order : List Entry) (parts : Parts) (mine : List Claim) (p : Paging) (reply : Answer)
+    (setting : Setting book order s t.now parts who.session mine) (of_tree : IsTree p.tree) (of_page : IsPage p.page) (call : IsCall who (paging_ask p) reply s t) where
   abbrev st : Store
   st = store_of book order s
 
@@ -99,7 +91,7 @@ module _ (who : Caller) (s t : CloudState) (book : Book) (order : List Entry) (p
   own = parts who.session
 
   abbrev K : Store → ℕ → Part → Type 0
-  K = KnowsAfter client lease head attempt p reply
+  K = Aside st own (Leads p reply)
 
   abbrev OutBy : Ask → Type 0
   OutBy ask = Outcome who book order s t parts ask (noted_at p ask) K
@@ -129,14 +121,13 @@ module _ (who : Caller) (s t : CloudState) (book : Book) (order : List Entry) (p
   homes_at : (u : Store) → HomesHold u.tally t.now parts → HomesHold u.tally t.now (at who.session own parts)
   homes_at u h = keeps_part u.tally t.now parts who.session own refl h
 
-  home_at : (u : Store) → ((c : ℕ) → u.tally.head c ≡ st.tally.head c) → KnowsHome u t.now client lease head attempt own
-  home_at u heads =
-      home_aside st u t.now t.now client lease head attempt own own (λ v now. Unit {0}) (omega arith) home_is (record { part_is = refl; heads = heads; knows = tt })
+  aside : (u : Store) → ((client : ℕ) → u.tally.head client ≡ st.tally.head client) → Leads p reply u t.now → K u t.now own
+  aside u heads leads = record { part_is = refl; heads = heads; knows = leads }
 
   quiet_at : (ask : Ask) → paging_ask p ≡ ask → PutsNothing ask → TouchesNoMessage ask → Leads p reply st t.now → Out
   quiet_at ask is puts touches leads =
       by_ask ask is
-      (quiet who book order s t parts ask (noted_at p ask) K reply (call_at ask is) puts touches setting.cloud setting.lone own (homes_at st setting.homes) (home_is, leads))
+      (quiet who book order s t parts ask (noted_at p ask) K reply (call_at ask is) puts touches setting.cloud setting.lone own (homes_at st setting.homes) (aside st (λ c. refl) leads))
 
   -- ---- reads
 
@@ -274,7 +265,7 @@ module _ (who : Caller) (s t : CloudState) (book : Book) (order : List Entry) (p
           put_landed who book order s t parts (noted_at p put) K (home_name p) p.out has_page.lease None su lands setting.cloud landing
           (is_taken book order s setting.cloud setting.lone p.tree p.page p.page puts.first of_tree p.run.items clients) tt
           (still_lone book order s setting.cloud setting.lone p.tree p.page p.page puts.first of_tree p.run.items clients) own
-          (homes_at su (homes_aside st.tally su.tally t.now parts setting.homes)) (home_at su (λ c. refl), put_leads su (λ done. may)) noted
+          (homes_at su (aside_keeps st.tally su.tally t.now parts refl refl setting.homes)) (aside su (λ c. refl) (put_leads su (λ done. may))) noted
 
     at_putting_home : Out
     at_putting_home = by_ask put put_is (on (put_cases who (home_name p) p.out has_page.lease None reply s t (call_at put put_is)))
@@ -282,7 +273,7 @@ module _ (who : Caller) (s t : CloudState) (book : Book) (order : List Entry) (p
         on : ((t ≡ called who t.now s) × (done_of reply ≡ Ok tt → ⊥)) ⊎ Lands who put (called who t.now s) t → OutBy put
         on (inl q) =
             stays who book order s t parts put (noted_at p put) K q.0 setting.cloud setting.lone own (homes_at st setting.homes)
-            (home_is, put_leads st (λ done. absurd (q.1 done)))
+            (aside st (λ c. refl) (put_leads st (λ done. absurd (q.1 done))))
         on (inr lands) = put_outcome lands
 
   -- ---- a deletion
@@ -311,10 +302,10 @@ module _ (who : Caller) (s t : CloudState) (book : Book) (order : List Entry) (p
       grows = (landing_passes who st delete su setting.cloud.holds landing).grows
 
       on : (t ≡ called who t.now s) ⊎ Lands who delete (called who t.now s) t → OutBy delete
-      on (inl q) = stays who book order s t parts delete (noted_at p delete) K q setting.cloud setting.lone own (homes_at st setting.homes) (home_is, leads st may)
+      on (inl q) = stays who book order s t parts delete (noted_at p delete) K q setting.cloud setting.lone own (homes_at st setting.homes) (aside st (λ c. refl) (leads st may))
       on (inr lands) =
           other_landed who book order s t parts delete (noted_at p delete) K su lands setting.cloud landing tt tt setting.lone own
-          (homes_at su (homes_aside st.tally su.tally t.now parts setting.homes)) (home_at su (λ c. refl), leads su (delete_stays st su p.tree p.page p.deletions.ids grows may))
+          (homes_at su (aside_keeps st.tally su.tally t.now parts refl refl setting.homes)) (aside su (λ c. refl) (leads su (delete_stays st su p.tree p.page p.deletions.ids grows may)))
           (λ look new. refl) refl
 
   -- ---- the whole

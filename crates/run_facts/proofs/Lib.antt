@@ -1,4 +1,3 @@
-pub mod Asides
 pub mod Received
 pub mod Runs
 pub mod Marks

@@ -1,5 +1,5 @@
 -- What a page checkpoint knows after each of its calls.
-use Rattle.std.proofs.Common.{◌≡◌, ◌≤◌, ◌+◌, ◌⊎◌, inl, inr, ℕ, zero, suc, List, [], ◌∷◌, ◌++◌, map, Option, Some, None, Result, Ok, Err, refl, sym, ap, subst, ◌∙◌, arith}
+use Rattle.std.proofs.Common.{◌≡◌, ◌⊎◌, inl, inr, ℕ, zero, suc, List, [], ◌∷◌, ◌++◌, map, Option, Some, None, Ok, refl, sym, ap, subst, ◌∙◌, arith}
 use Rattle.std.specs.List.{AllByRecursion}
 use Rattle.std.specs.Prelude.{All, slice_get}
 use Rattle.std.proofs.lemmas.List.Elements.{recursion_from_All}
@@ -16,7 +16,7 @@ use Rattle.cloud_facts.proofs.Outcomes.{stays, put_landed, other_landed, quiet}
 use Rattle.cloud_facts.proofs.Passing.{landing_passes}
 use Rattle.cloud_trait.specs.Ask.{Ask, GetHeld, PutHeld, Receive, Delete, Take, Release, Lands, PutsNothing, TouchesNoMessage}
 use Rattle.cloud_trait.specs.Caller.{Caller}
-use Rattle.cloud_trait.specs.Claim.{Claim, Lasts}
+use Rattle.cloud_trait.specs.Claim.{Claim}
 use Rattle.cloud_trait.specs.Delivery.{WasSent}
 use Rattle.cloud_trait.specs.State.{CloudState, called, newest}
 use Rattle.cloud_trait.specs.Views.{given_of, got_of, received_of, done_of}
@@ -27,7 +27,6 @@ use Rattle.db_base.specs.Cursor.{number_of}
 use Rattle.db_base.specs.Ids.{IsClient, IsTree, IsPage}
 use Rattle.db_base.specs.declared.names.Lock.{Lock}
 use Rattle.db_base.specs.declared.names.Lock.TheVariants as lock
-use Rattle.db_base.specs.declared.names.ObjName.TheVariants as object
 use Rattle.db_base.specs.declared.names.QueueName.{QueueName}
 use Rattle.db_base.specs.declared.names.QueueName.TheVariants as queue
 use Rattle.db_base.specs.declared.trouble.Trouble.{Trouble}
@@ -47,16 +46,16 @@ use Rattle.report_types.specs.declared.entry.Entry.{Entry}
 use Rattle.run_facts.proofs.Leaves.{absent_leaf, spelled_leaf, own_cursor, own_queue, last_leaf}
 use Rattle.run_facts.proofs.Marks.{covered_stays, covered_more, delete_stays, may_mark}
 use Rattle.run_facts.proofs.Takes.{taken, is_taken, leaf_lands, takes, lacking_is, still_lone, cursor_upto}
-use Rattle.run_facts.specs.Runs.{TookRun, MayDelete}
+use Rattle.run_facts.specs.Runs.{MayDelete}
 use Rattle.store_book.specs.Book.{Book, Link}
 use Rattle.store_book.specs.Effects.{Taking, after_leaf, after_post_mark}
 use Rattle.store_book.specs.Growth.{Grows}
 use Rattle.store_book.specs.Premises.{IsItemOf, IsRouted, IsLeafAtMost}
 use Rattle.store_book.specs.Records.{IsIn, key_in}
 use Rattle.store_book.specs.Tally.{Store, at}
-use Rattle.store_book.specs.Telling.{queue_of, nodes_of, newest_leaf, cursor_of}
+use Rattle.store_book.specs.Telling.{queue_of, nodes_of, newest_leaf}
 use Rattle.telling_facts.specs.Told.{store_of}
-use Rattle.page_facts.specs.Checkpoint.{HoldsPage, HasPage, ReadHome, PutsHome, HasIds, KnowsPagingAt, KnowsStep, noted_at}
+use Rattle.page_facts.specs.Checkpoint.{HasPage, ReadHome, PutsHome, HasIds, KnowsPagingAt, KnowsStep, noted_at}
 use Rattle.page_facts.proofs.Nexts as nexts
 
 -- what is known where an answer may have led

@@ -1,11 +1,10 @@
 -- What a page checkpoint knows where its answers lead.
-use Rattle.std.proofs.Common.{◌≡◌, ◌≢◌, ◌≤◌, ◌==◌, ◌⊎◌, inl, inr, ℕ, zero, suc, Bool, true, false, cond, List, [], ◌∷◌, Option, Some, None, Result, Ok, Err, refl, sym, ap, subst, ◌∙◌, arith}
+use Rattle.std.proofs.Common.{◌≡◌, ◌≤◌, ◌==◌, inl, inr, ℕ, zero, suc, Bool, true, false, cond, List, [], ◌∷◌, Option, Some, None, Result, Ok, Err, refl, sym, ap, subst, ◌∙◌, arith}
 use Rattle.std.specs.List.{AllByRecursion}
 use Rattle.ckpt_parts.specs.Deleting.{Deleting, next_id, tried, tried_of}
 use Rattle.ckpt_parts.specs.Intakes.{items_of, ids_of, has_items, intake_of, TakesItems}
-use Rattle.ckpt_parts.specs.Leaves.{absent_leaf, ReadsLeaf}
 use Rattle.ckpt_parts.specs.declared.intake.Intake.{Intake}
-use Rattle.cloud_trait.specs.Claim.{Claim, Lasts}
+use Rattle.cloud_trait.specs.Claim.{Claim}
 use Rattle.cloud_trait.specs.Delivery.{WasSent}
 use Rattle.cloud_trait.specs.declared.message.Message.{Message}
 use Rattle.db_base.specs.Cursor.{number_of}
@@ -17,7 +16,7 @@ use Rattle.leaf_view.specs.Leaf.{Leaf, IsLeaf}
 use Rattle.leaf_view.specs.Lookup.{AreNumbers, empty_leaf, page_at, number_of as done_number}
 use Rattle.log_codec.specs.declared.record.PuItem.{PuItem}
 use Rattle.number_facts.specs.Numbers.{Numbers}
-use Rattle.page_ckpt.specs.Paging.{Paging, Step, stopping, deleting_by, deleting, home_taken_by, HoldsNamed, HomeGot, home_read, own_queue, LeafPut, link_by, link_of, reaches_beyond, GoesOn, RunStarted, with_intake, IntakeTaken, MessagesRead, ReceivedBy, with_applied, without_applying, home_put_by, went, deleted_by}
+use Rattle.page_ckpt.specs.Paging.{Paging, Step, stopping, deleting_by, deleting, home_taken_by, HoldsNamed, HomeGot, home_read, own_queue, LeafPut, link_by, link_of, reaches_beyond, GoesOn, RunStarted, with_intake, IntakeTaken, ReceivedBy, with_applied, home_put_by, went, deleted_by}
 use Rattle.page_ckpt.specs.declared.link.Link.{Link}
 use Rattle.page_ckpt.specs.declared.stage.Stage.TheVariants.{PuttingHome}
 use Rattle.run_cursor.specs.Covered.{covered_ids}
@@ -30,7 +29,7 @@ use Rattle.store_book.specs.Premises.{IsItemOf}
 use Rattle.store_book.specs.Records.{IsIn}
 use Rattle.store_book.specs.Tally.{Store}
 use Rattle.store_book.specs.Telling.{newest_leaf}
-use Rattle.page_facts.specs.Checkpoint.{HoldsPage, HasPage, ReadHome, KnowsStep}
+use Rattle.page_facts.specs.Checkpoint.{HasPage, ReadHome, KnowsStep}
 
 -- an id that is left to be deleted was to be deleted
 still_there : (d : Deleting) (went : Bool) (id : ℕ) → IsIn (tried d went).ids id → IsIn d.ids id

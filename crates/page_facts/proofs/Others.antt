@@ -1,10 +1,9 @@
 -- What a page checkpoint knows survives the calls of others.
-use Rattle.std.proofs.Common.{◌≡◌, ◌≤◌, ℕ, zero, List, Option, refl, sym, ap, subst, ◌∙◌, arith}
+use Rattle.std.proofs.Common.{◌≡◌, ◌≤◌, ℕ, zero, List, refl, sym, ap, subst, ◌∙◌, arith}
 use Rattle.ckpt_parts.specs.Leasing.{claims_of}
 use Rattle.ckpt_parts.specs.declared.leases.Leases.{Leases}
 use Rattle.cloud_facts.specs.Others.{Others}
-use Rattle.cloud_trait.specs.Claim.{Claim, Lasts}
-use Rattle.db_base.specs.Ids.{IsClient}
+use Rattle.cloud_trait.specs.Claim.{Lasts}
 use Rattle.db_base.specs.declared.names.Lock.TheVariants as lock
 use Rattle.leaf_view.specs.Leaf.{Leaf}
 use Rattle.leaf_view.specs.Lookup.{empty_leaf}
@@ -16,7 +15,7 @@ use Rattle.store_book.specs.Growth.{Grows}
 use Rattle.store_book.specs.Records.{IsIn}
 use Rattle.store_book.specs.Tally.{Node, Leafy, Store}
 use Rattle.store_book.specs.Telling.{leaf_in, last_or}
-use Rattle.page_facts.specs.Checkpoint.{HoldsPage, HasPage, ReadLeaf, ReadHome, PutsLeaf, PutsHome, KnowsPagingAt, KnowsPaging}
+use Rattle.page_facts.specs.Checkpoint.{HoldsPage, HasPage, ReadLeaf, ReadHome, KnowsPagingAt, KnowsPaging}
 
 -- the page's lease is in hand
 pub in_held : (tree page : ℕ) (held : Leases) (h : HoldsPage tree page held) → IsIn (claims_of held) h.lease

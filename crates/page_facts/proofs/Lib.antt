@@ -1,5 +1,5 @@
-pub mod Others
+pub mod PagingOthers
+pub mod Begins
 pub mod Nexts
-pub mod Goes
+pub mod Steps
 pub mod Hands
-pub mod Laws

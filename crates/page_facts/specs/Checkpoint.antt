@@ -5,6 +5,7 @@ use Rattle.ckpt_parts.specs.Leasing.{no_leases, claims_of}
 use Rattle.cloud_trait.specs.Ask.{Ask, PutHeld}
 use Rattle.cloud_trait.specs.Claim.{Claim, Lasts}
 use Rattle.cloud_trait.specs.Machine.{Goes, Ends, Stops}
+use Rattle.cloud_trait.specs.declared.answer.Answer.{Answer}
 use Rattle.db_base.specs.Ids.{IsClient, IsTree, IsPage}
 use Rattle.db_base.specs.declared.names.Lock.TheVariants as lock
 use Rattle.db_base.specs.declared.names.ObjName.TheVariants as object
@@ -14,7 +15,7 @@ use Rattle.leaf_edit.specs.Lacked.{lacked}
 use Rattle.leaf_view.specs.Leaf.{Leaf, IsLeaf}
 use Rattle.leaf_view.specs.Lookup.{number_of as done_number}
 use Rattle.log_codec.specs.declared.record.PuItem.{PuItem}
-use Rattle.page_ckpt.specs.Paging.{Paging, Step}
+use Rattle.page_ckpt.specs.Paging.{Paging, Step, PagingLeads}
 use Rattle.page_ckpt.specs.declared.stage.Stage.{Stage}
 use Rattle.page_ckpt.specs.declared.stage.Stage.TheVariants.{TakingHome, GettingHome, Receiving, TakingRight, GettingRight, PuttingRight, ReleasingRight, PuttingHome, Deleting as DeletingNext, Releasing, Finished}
 use Rattle.run_cursor.specs.Run.{Taken}
@@ -83,20 +84,26 @@ pub record KnowsPaging (st : Store) (now : ℕ) (p : Paging) : Type 0 where
   pub page : IsPage p.page
   pub at : KnowsPagingAt p.stage st now p
 
--- where an answer led it knows so much, and nothing once it ended
-abbrev pub KnowsStep : Store → ℕ → Step → Type 0
-KnowsStep st now (Goes p) = KnowsPaging st now p
-KnowsStep st now (Ends p a) = Unit {0}
-KnowsStep st now (Stops p t) = Unit {0}
+-- what it knows where an answer leads
+abbrev pub KnowsNext : Store → ℕ → Step → Type 0
+KnowsNext st now (Goes p) = KnowsPaging st now p
+KnowsNext st now (Ends p a) = Unit {0}
+KnowsNext st now (Stops p t) = Unit {0}
 
--- the leases that it has then
-abbrev pub leases_then : Step → List Claim
-leases_then (Goes p) = claims_of p.held
-leases_then (Ends p a) = []
-leases_then (Stops p t) = []
+-- what it knows after an answer, wherever that leads
+abbrev pub KnowsAfter : Paging → Answer → Store → ℕ → Type 0
+KnowsAfter p reply st now = (next : Step) → PagingLeads p reply next → KnowsNext st now next
 
--- ---- what its put adds to the audit
+-- ---- its leases, and what its put adds to the audit
 
-abbrev pub noted_at : Paging → Ask → Audited → Audited
-noted_at p (PutHeld (object.Page tree page) bytes one two) a = record a { order = a.order ++ map (applied_entry tree) p.applying }
-noted_at p ask a = a
+abbrev pub leases_of_paging : Paging → List Claim
+leases_of_paging p = claims_of p.held
+
+abbrev pub leases_next : Step → List Claim
+leases_next (Goes p) = leases_of_paging p
+leases_next (Ends p a) = []
+leases_next (Stops p t) = []
+
+abbrev pub paging_note : Paging → Ask → Audited → Audited
+paging_note p (PutHeld (object.Page tree page) bytes one two) a = record a { order = a.order ++ map (applied_entry tree) p.applying }
+paging_note p ask a = a

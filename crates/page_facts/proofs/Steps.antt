@@ -39,7 +39,7 @@ use Rattle.leaf_edit.specs.Lacked.{lacked}
 use Rattle.leaf_view.specs.Leaf.{Leaf, IsLeaf}
 use Rattle.leaf_view.specs.Lookup.{empty_leaf, number_of as done_number}
 use Rattle.log_codec.specs.declared.record.PuItem.{PuItem}
-use Rattle.page_ckpt.specs.Paging.{Paging, Step, ask_at, paging_ask, under, delete_next, take_home, home_name, held_after, AbsorbsAt, PagingLeads, finished_by, released_by}
+use Rattle.page_ckpt.specs.Paging.{Paging, Step, ask_at, paging_ask, under, delete_next, take_home, home_name, held_after, AbsorbsAt, finished_by, released_by}
 use Rattle.page_ckpt.specs.declared.stage.Stage.{Stage}
 use Rattle.page_ckpt.specs.declared.stage.Stage.TheVariants.{TakingHome, GettingHome, Receiving, TakingRight, GettingRight, PuttingRight, ReleasingRight, PuttingHome, Deleting as DeletingNext, Releasing, Finished}
 use Rattle.report_types.specs.declared.entry.Entry.{Entry}
@@ -55,12 +55,9 @@ use Rattle.store_book.specs.Records.{IsIn, key_in}
 use Rattle.store_book.specs.Tally.{Store, at}
 use Rattle.store_book.specs.Telling.{queue_of, nodes_of, newest_leaf}
 use Rattle.telling_facts.specs.Told.{store_of}
-use Rattle.page_facts.specs.Checkpoint.{HasPage, ReadHome, PutsHome, HasIds, KnowsPagingAt, KnowsStep, noted_at}
+use Rattle.page_facts.specs.Checkpoint.{HasPage, ReadHome, PutsHome, HasIds, KnowsPagingAt, KnowsPaging, KnowsNext, KnowsAfter, paging_note}
 use Rattle.page_facts.proofs.Nexts as nexts
-
--- what is known where an answer may have led
-abbrev pub Leads : Paging → Answer → Store → ℕ → Type 0
-Leads p reply u now = (next : Step) → PagingLeads p reply next → KnowsStep u now next
+use Rattle.page_facts.proofs.PagingOthers.{paging_later}
 
 -- a lease that was given is of the lock that was asked for
 given : (who : Caller) (k : Lock) (ticks : ℕ) (a : Answer) (s t : CloudState) → IsCall who (Take k ticks) a s t → (l : Claim) → given_of k a ≡ Ok l → l.lock ≡ k
@@ -77,12 +74,12 @@ sent who q most (Received ns) s t call ms got =
     recursion_from_All (WasSent (s.messages q)) ms (subst (All (WasSent (s.messages q))) same call.row.1)
 sent who q most a s t call ms got = absurd (cc)
 
-finished : (u : Store) (now : ℕ) (p : Paging) (t : Option Trouble) → KnowsStep u now (finished_by p t)
+finished : (u : Store) (now : ℕ) (p : Paging) (t : Option Trouble) → KnowsNext u now (finished_by p t)
 finished u now p (Some t) = tt
 finished u now p None = tt
 
-module _ (who : Caller) (s t : CloudState) (book : Book) (order : List Entry) (parts : Parts) (mine : List Claim) (p : Paging) (reply : Answer)
-    (setting : Setting book order s t.now parts who.session mine) (of_tree : IsTree p.tree) (of_page : IsPage p.page) (call : IsCall who (paging_ask p) reply s t) where
+module _ (who : Caller) (s t : CloudState) (book : Book) (order : List Entry) (parts : Parts) (leases : List Claim) (p : Paging) (reply : Answer)
+    (setting : Setting book order s t.now parts who.session leases) (of_tree : IsTree p.tree) (of_page : IsPage p.page) (call : IsCall who (paging_ask p) reply s t) where
   abbrev st : Store
   st = store_of book order s
 
@@ -90,10 +87,10 @@ module _ (who : Caller) (s t : CloudState) (book : Book) (order : List Entry) (p
   own = parts who.session
 
   abbrev K : Store → ℕ → Part → Type 0
-  K = Aside st own (Leads p reply)
+  K = Aside st own (KnowsAfter p reply)
 
   abbrev OutBy : Ask → Type 0
-  OutBy ask = Outcome who book order s t parts ask (noted_at p ask) K
+  OutBy ask = Outcome who book order s t parts ask (paging_note p ask) K
 
   abbrev Out : Type 0
   Out = OutBy (paging_ask p)
@@ -113,27 +110,27 @@ module _ (who : Caller) (s t : CloudState) (book : Book) (order : List Entry) (p
 
   -- where the answer may lead by the stage
   leads_at : (stage : Stage) → p.stage ≡ stage → (u : Store)
-      → ((next : Step) → AbsorbsAt stage (record p { held = held_after stage p.held }) reply next → KnowsStep u t.now next) → Leads p reply u t.now
+      → ((next : Step) → AbsorbsAt stage (record p { held = held_after stage p.held }) reply next → KnowsNext u t.now next) → KnowsAfter p reply u t.now
   leads_at stage e u k next leads = k next (subst (λ (g : Stage). AbsorbsAt g (record p { held = held_after g p.held }) reply next) e leads)
 
   -- the session's part stays
   homes_at : (u : Store) → HomesHold u.tally t.now parts → HomesHold u.tally t.now (at who.session own parts)
   homes_at u h = keeps_part u.tally t.now parts who.session own refl h
 
-  aside : (u : Store) → ((client : ℕ) → u.tally.head client ≡ st.tally.head client) → Leads p reply u t.now → K u t.now own
+  aside : (u : Store) → ((client : ℕ) → u.tally.head client ≡ st.tally.head client) → KnowsAfter p reply u t.now → K u t.now own
   aside u heads leads = record { part_is = refl; heads = heads; knows = leads }
 
-  quiet_at : (ask : Ask) → paging_ask p ≡ ask → PutsNothing ask → TouchesNoMessage ask → Leads p reply st t.now → Out
+  quiet_at : (ask : Ask) → paging_ask p ≡ ask → PutsNothing ask → TouchesNoMessage ask → KnowsAfter p reply st t.now → Out
   quiet_at ask is puts touches leads =
       by_ask ask is
-      (quiet who book order s t parts ask (noted_at p ask) K reply (call_at ask is) puts touches setting.cloud setting.lone own (homes_at st setting.homes) (aside st (λ c. refl) leads))
+      (quiet who book order s t parts ask (paging_note p ask) K reply (call_at ask is) puts touches setting.cloud setting.lone own (homes_at st setting.homes) (aside st (λ c. refl) leads))
 
   -- ---- reads
 
   at_taking_home : p.stage ≡ TakingHome → Out
   at_taking_home e =
       quiet_at (take_home p) (asks TakingHome e) tt tt
-      (leads_at TakingHome e st (λ next is. subst (KnowsStep st t.now) (sym is)
+      (leads_at TakingHome e st (λ next is. subst (KnowsNext st t.now) (sym is)
       (nexts.home_taken st t.now p of_tree of_page (given_of (lock.Page p.tree p.page) reply)
       (given who (lock.Page p.tree p.page) 30 reply s t (call_at (take_home p) (asks TakingHome e))))))
 
@@ -193,7 +190,7 @@ module _ (who : Caller) (s t : CloudState) (book : Book) (order : List Entry) (p
   at_releasing : p.stage ≡ Releasing → HasPage p → Out
   at_releasing e has =
       quiet_at (Release has.lease) is tt tt
-      (leads_at Releasing e st (λ next to. subst (KnowsStep st t.now) (sym (to ∙ ap (released_by left) none)) (finished st t.now left p.trouble)))
+      (leads_at Releasing e st (λ next to. subst (KnowsNext st t.now) (sym (to ∙ ap (released_by left) none)) (finished st t.now left p.trouble)))
     where
       left : Paging
       left = record p { held = without_newest p.held }
@@ -216,8 +213,8 @@ module _ (who : Caller) (s t : CloudState) (book : Book) (order : List Entry) (p
     put_is : paging_ask p ≡ put
     put_is = page_ask PuttingHome (λ l. PutHeld (home_name p) p.out l None) e refl has_page
 
-    put_leads : (u : Store) → (done_of reply ≡ Ok tt → MayDelete u p.tree p.page p.deletions.ids) → Leads p reply u t.now
-    put_leads u may = leads_at PuttingHome e u (λ next is. subst (KnowsStep u t.now) (sym is) (nexts.home_put u t.now p of_tree of_page (done_of reply) has_page may))
+    put_leads : (u : Store) → (done_of reply ≡ Ok tt → MayDelete u p.tree p.page p.deletions.ids) → KnowsAfter p reply u t.now
+    put_leads u may = leads_at PuttingHome e u (λ next is. subst (KnowsNext u t.now) (sym is) (nexts.home_put u t.now p of_tree of_page (done_of reply) has_page may))
 
     module _ (lands : Lands who put (called who t.now s) t) where
       newest_is : newest_leaf (nodes_of s) p.tree p.page ≡ p.home
@@ -252,7 +249,7 @@ module _ (who : Caller) (s t : CloudState) (book : Book) (order : List Entry) (p
           (puts.took).behind)
           (covered_stays st su p.tree p.page (number_of p.run.top) id grows ((puts.took).covers id is))
 
-      noted : noted_at p put (audit_of book order) ≡ audit_of su.book su.order
+      noted : paging_note p put (audit_of book order) ≡ audit_of su.book su.order
       noted =
           ap (λ (xs : List PuItem). audit_of book (order ++ map (applied_entry p.tree) xs))
           (puts.applies
@@ -261,7 +258,7 @@ module _ (who : Caller) (s t : CloudState) (book : Book) (order : List Entry) (p
 
       put_outcome : OutBy put
       put_outcome =
-          put_landed who book order s t parts (noted_at p put) K (home_name p) p.out has_page.lease None su lands setting.cloud landing
+          put_landed who book order s t parts (paging_note p put) K (home_name p) p.out has_page.lease None su lands setting.cloud landing
           (is_taken book order s setting.cloud setting.lone p.tree p.page p.page puts.first of_tree p.run.items clients) tt
           (still_lone book order s setting.cloud setting.lone p.tree p.page p.page puts.first of_tree p.run.items clients) own
           (homes_at su (aside_keeps st.tally su.tally t.now parts refl refl setting.homes)) (aside su (λ c. refl) (put_leads su (λ done. may))) noted
@@ -271,7 +268,7 @@ module _ (who : Caller) (s t : CloudState) (book : Book) (order : List Entry) (p
       where
         on : ((t ≡ called who t.now s) × (done_of reply ≡ Ok tt → ⊥)) ⊎ Lands who put (called who t.now s) t → OutBy put
         on (inl q) =
-            stays who book order s t parts put (noted_at p put) K q.0 setting.cloud setting.lone own (homes_at st setting.homes)
+            stays who book order s t parts put (paging_note p put) K q.0 setting.cloud setting.lone own (homes_at st setting.homes)
             (aside st (λ c. refl) (put_leads st (λ done. absurd (q.1 done))))
         on (inr lands) = put_outcome lands
 
@@ -288,8 +285,8 @@ module _ (who : Caller) (s t : CloudState) (book : Book) (order : List Entry) (p
           asks DeletingNext e
           ∙ (ap (λ (ids : List ℕ). delete_next p (next_id ids)) ids_are ∙ ap (λ (q : QueueName). Delete q id) (sym (own_queue p.tree p.page of_page)))
 
-      leads : (u : Store) → MayDelete u p.tree p.page p.deletions.ids → Leads p reply u t.now
-      leads u m = leads_at DeletingNext e u (λ next to. subst (KnowsStep u t.now) (sym to) (nexts.deleted u t.now p of_tree of_page (done_of reply) has m))
+      leads : (u : Store) → MayDelete u p.tree p.page p.deletions.ids → KnowsAfter p reply u t.now
+      leads u m = leads_at DeletingNext e u (λ next to. subst (KnowsNext u t.now) (sym to) (nexts.deleted u t.now p of_tree of_page (done_of reply) has m))
 
       landing : Landing who st delete (after_post_mark p.tree p.page id st)
       landing = marks_post p.tree p.page id (may_mark st p.tree p.page id (may id (subst (λ ids. IsIn ids id) (sym ids_are) (zero, refl))))
@@ -301,16 +298,16 @@ module _ (who : Caller) (s t : CloudState) (book : Book) (order : List Entry) (p
       grows = (landing_passes who st delete su setting.cloud.holds landing).grows
 
       on : (t ≡ called who t.now s) ⊎ Lands who delete (called who t.now s) t → OutBy delete
-      on (inl q) = stays who book order s t parts delete (noted_at p delete) K q setting.cloud setting.lone own (homes_at st setting.homes) (aside st (λ c. refl) (leads st may))
+      on (inl q) = stays who book order s t parts delete (paging_note p delete) K q setting.cloud setting.lone own (homes_at st setting.homes) (aside st (λ c. refl) (leads st may))
       on (inr lands) =
-          other_landed who book order s t parts delete (noted_at p delete) K su lands setting.cloud landing tt tt setting.lone own
+          other_landed who book order s t parts delete (paging_note p delete) K su lands setting.cloud landing tt tt setting.lone own
           (homes_at su (aside_keeps st.tally su.tally t.now parts refl refl setting.homes)) (aside su (λ c. refl) (leads su (delete_stays st su p.tree p.page p.deletions.ids grows may)))
           (λ look new. refl) refl
 
   -- ---- the whole
 
-  pub by_stage : KnowsPagingAt p.stage st t.now p → Out
-  by_stage k = on p.stage refl k
+  outcome_at : KnowsPagingAt p.stage st t.now p → Out
+  outcome_at k = on p.stage refl k
     where
       on : (stage : Stage) → p.stage ≡ stage → KnowsPagingAt stage st t.now p → Out
       on TakingHome e a = at_taking_home e
@@ -324,3 +321,10 @@ module _ (who : Caller) (s t : CloudState) (book : Book) (order : List Entry) (p
       on DeletingNext e a = at_deleting e a.0 a.1 a.2
       on Releasing e a = at_releasing e a
       on Finished e never = absurd never
+
+-- a call of a page checkpoint: whatever was answered, and whether it landed or not
+pub paging_outcome : (who : Caller) (s t : CloudState) (book : Book) (order : List Entry) (parts : Parts) (leases : List Claim) (p : Paging) (reply : Answer)
+    → Setting book order s t.now parts who.session leases → KnowsPaging (store_of book order s) s.now p → IsCall who (paging_ask p) reply s t
+    → Outcome who book order s t parts (paging_ask p) (paging_note p (paging_ask p)) (Aside (store_of book order s) (parts who.session) (KnowsAfter p reply))
+paging_outcome who s t book order parts leases p reply setting k call =
+    outcome_at who s t book order parts leases p reply setting k.tree k.page call (paging_later (store_of book order s) s.now t.now p call.later k).at

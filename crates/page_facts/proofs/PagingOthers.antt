@@ -2,6 +2,7 @@
 use Rattle.std.proofs.Common.{◌≡◌, ◌≤◌, ℕ, zero, List, refl, sym, ap, subst, ◌∙◌, arith}
 use Rattle.ckpt_parts.specs.Leasing.{claims_of}
 use Rattle.ckpt_parts.specs.declared.leases.Leases.{Leases}
+use Rattle.cloud_facts.proofs.OthersLemmas.{others_itself}
 use Rattle.cloud_facts.specs.Others.{Others}
 use Rattle.cloud_trait.specs.Claim.{Lasts}
 use Rattle.db_base.specs.declared.names.Lock.TheVariants as lock
@@ -15,7 +16,7 @@ use Rattle.store_book.specs.Growth.{Grows}
 use Rattle.store_book.specs.Records.{IsIn}
 use Rattle.store_book.specs.Tally.{Node, Leafy, Store}
 use Rattle.store_book.specs.Telling.{leaf_in, last_or}
-use Rattle.page_facts.specs.Checkpoint.{HoldsPage, HasPage, ReadLeaf, ReadHome, KnowsPagingAt, KnowsPaging}
+use Rattle.page_facts.specs.Checkpoint.{HoldsPage, HasPage, ReadLeaf, ReadHome, KnowsPagingAt, KnowsPaging, leases_of_paging}
 
 -- the page's lease is in hand
 pub in_held : (tree page : ℕ) (held : Leases) (h : HoldsPage tree page held) → IsIn (claims_of held) h.lease
@@ -35,7 +36,7 @@ read_stays st su now later tree page held home after grows leaf k = record {
     newest_of : List Node → Leaf
     newest_of nodes = leaf_in (last_or (Leafy empty_leaf) nodes)
 
-pub paging_others : (st su : Store) (now later : ℕ) (p : Paging) → now ≤ later → Others (claims_of p.held) later st su → KnowsPaging st now p → KnowsPaging su later p
+pub paging_others : (st su : Store) (now later : ℕ) (p : Paging) → now ≤ later → Others (leases_of_paging p) later st su → KnowsPaging st now p → KnowsPaging su later p
 paging_others st su now later p after o k = record { tree = k.tree; page = k.page; at = on p.stage k.at }
   where
     grows : Grows st su
@@ -68,3 +69,7 @@ paging_others st su now later p after o k = record { tree = k.tree; page = k.pag
     on DeletingNext a = (a.0, delete_stays st su p.tree p.page p.deletions.ids grows a.1, a.2)
     on Releasing a = a
     on Finished never = never
+
+-- time goes on
+pub paging_later : (st : Store) (now later : ℕ) (p : Paging) → now ≤ later → KnowsPaging st now p → KnowsPaging st later p
+paging_later st now later p after k = paging_others st st now later p after (others_itself (leases_of_paging p) later st) k

@@ -52,8 +52,8 @@ module _ (who : Caller) (book : Book) (order : List Entry) (s t : CloudState) (p
   outcome_at Deleting a sound call = deleting a (slice_get w.ids w.place) refl sound call
   outcome_at Finished never sound call = absurd never
 
-pub commit_outcome : (who : Caller) (book : Book) (order : List Entry) (s t : CloudState) (parts : Parts) (w : Writing) (part : Part) (reply : Answer)
+pub commit_outcome : (who : Caller) (book : Book) (order : List Entry) (s t : CloudState) (parts : Parts) (w : Writing) (reply : Answer) (part : Part)
     → Setting book order s t.now parts who.session (w.home.lease ∷ []) → parts who.session ≡ part → KnowsCommit (store_of book order s) t.now w part → IsSound w
     → IsCall who (writing_ask w) reply s t → Outcome who book order s t parts (writing_ask w) (commit_note w (writing_ask w)) (KnowsNext (writing_next w reply))
-commit_outcome who book order s t parts w part reply setting is k sound call =
+commit_outcome who book order s t parts w reply part setting is k sound call =
     outcome_at who book order s t parts w reply part k.home (record { setting = setting; is = is; stands = stands_of (store_of book order s) t.now w part k }) w.stage k.at sound call

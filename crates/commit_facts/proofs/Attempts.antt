@@ -1,19 +1,18 @@
 -- The records of a transaction, and its messages.
-use Rattle.std.proofs.Common.{◌≡◌, ◌<◌, ◌≤◌, ◌+◌, ℕ, zero, suc, List, [], ◌∷◌, ◌++◌, length, take, Some, None, refl, sym, ap, subst, ◌∙◌, arith}
+use Rattle.std.proofs.Common.{◌≡◌, ◌<◌, ◌≤◌, ◌+◌, ℕ, zero, suc, List, [], ◌∷◌, ◌++◌, length, take, Some, refl, sym, ap, subst, ◌∙◌, arith}
 use Rattle.std.specs.Prelude.{slice_get}
 use Rattle.cloud_facts.proofs.Copies.{message_stays}
 use Rattle.cloud_trait.specs.Growth.{BeginsWith}
 use Rattle.cloud_trait.specs.Upto.{posts_of}
 use Rattle.cloud_trait.specs.declared.state.Posted.{Posted}
-use Rattle.commit_facts.specs.Committing.{Attempt, IsOfAttempt, IsMessageOf, AreMessagesOf, Routes}
+use Rattle.commit_facts.specs.Committing.{Attempt, IsOfAttempt, AreMessagesOf, Routes}
 use Rattle.commit_facts.proofs.Routing.{record_at}
 use Rattle.log_codec.specs.Atomic.{atomic_of}
 use Rattle.log_codec.specs.declared.record.AtomicRec.{AtomicRec}
 use Rattle.head_codec.specs.declared.head.Head.{Head}
-use Rattle.route_plan.specs.Route.{record_behind}
 use Rattle.store_book.specs.Growth.{Grows}
 use Rattle.store_book.specs.Messages.{IsLogMessage}
-use Rattle.store_book.specs.Records.{StandsAt, IsIn}
+use Rattle.store_book.specs.Records.{StandsAt}
 use Rattle.store_book.specs.Tally.{Store}
 use Rattle.txn_buffer.specs.Noted.{Noted}
 

@@ -1,5 +1,5 @@
 -- The lease of a commit.
-use Rattle.std.proofs.Common.{◌≡◌, inl, ℕ, List, [], ◌∷◌, Option, Some, None, refl}
+use Rattle.std.proofs.Common.{◌≡◌, inl, ℕ, [], ◌∷◌, Option, Some, None, refl}
 use Rattle.std.specs.Prelude.{slice_get}
 use Rattle.cloud_facts.specs.Acting.{Handles}
 use Rattle.cloud_trait.specs.declared.answer.Answer.{Answer}

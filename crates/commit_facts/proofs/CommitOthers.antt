@@ -4,7 +4,7 @@ use Rattle.cloud_facts.specs.Others.{Passes, Others, IsOfPart, NoneJoins}
 use Rattle.cloud_facts.specs.Acting.{HasLeaseOf}
 use Rattle.cloud_facts.proofs.Copies.{copied_stays, log_stays}
 use Rattle.cloud_trait.specs.Claim.{Claim, Lasts}
-use Rattle.commit_facts.specs.Committing.{Attempt, attempt_of, IsOfAttempt, AreMessagesOf, Routes, HasOpened, AreSentOn, Deletes, KnowsCommitAt, IsHomeOf, KnowsCommit}
+use Rattle.commit_facts.specs.Committing.{Attempt, attempt_of, IsOfAttempt, AreMessagesOf, Routes, HasOpened, AreSentOn, KnowsCommitAt, IsHomeOf, KnowsCommit}
 use Rattle.commit_facts.proofs.Attempts.{messages_stay}
 use Rattle.commit_writes.specs.declared.stage.Stage.{Stage}
 use Rattle.commit_writes.specs.declared.stage.Stage.TheVariants.{Waiting, Logging, Opening, Sending, Settling, Deleting, Finished}
@@ -13,7 +13,7 @@ use Rattle.db_base.specs.declared.names.Lock.TheVariants as lock
 use Rattle.head_codec.specs.declared.head.Head.{Head}
 use Rattle.head_codec.specs.declared.head.Phase.{Phase}
 use Rattle.head_codec.specs.declared.head.Phase.TheVariants.{Settled, Open}
-use Rattle.home_facts.specs.Homes.{Home, Part, AtHome}
+use Rattle.home_facts.specs.Homes.{Home, Part}
 use Rattle.log_codec.specs.declared.record.AtomicRec.{AtomicRec}
 use Rattle.store_book.specs.Growth.{PhaseRises, IsLater}
 use Rattle.store_book.specs.Records.{IsIn}

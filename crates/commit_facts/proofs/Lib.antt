@@ -16,3 +16,4 @@ pub mod Deleting
 pub mod CommitLemmas
 pub mod HeadPuts
 pub mod CommitHands
+pub mod Begins

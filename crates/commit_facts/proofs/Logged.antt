@@ -1,8 +1,8 @@
 -- What a send to the ATOMIC queue, and a deletion there, rest on.
-use Rattle.std.proofs.Common.{◌≡◌, ◌<◌, ◌≤◌, ◌+◌, ◌⊎◌, inl, inr, ℕ, true, false, List, [], take, Some, refl, sym, ap, subst, ◌∙◌, arith}
+use Rattle.std.proofs.Common.{◌≡◌, ◌≤◌, ◌⊎◌, inl, inr, ℕ, true, false, take, Some, refl, sym, ap, subst, ◌∙◌, arith}
 use Rattle.std.specs.Prelude.{slice_get}
 use Rattle.cloud_trait.specs.Caller.{Caller}
-use Rattle.commit_facts.specs.Committing.{attempt_of, IsMessageOf, IsHomeOf, LogsNext, Deletes}
+use Rattle.commit_facts.specs.Committing.{attempt_of, IsHomeOf, LogsNext, Deletes}
 use Rattle.commit_facts.proofs.Attempts.{in_take, record_of, one_record}
 use Rattle.commit_writes.specs.Writing.{Writing}
 use Rattle.db_base.specs.Ids.{IsClient}

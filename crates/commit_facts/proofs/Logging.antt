@@ -1,5 +1,5 @@
 -- What a send to the ATOMIC queue leaves.
-use Rattle.std.proofs.Common.{◌≡◌, ◌≤◌, ◌+◌, ◌⊎◌, inl, inr, ℕ, suc, List, [], ◌∷◌, ◌++◌, length, take, Some, Result, Ok, Err, refl, sym, ap, subst, ◌∙◌, arith}
+use Rattle.std.proofs.Common.{◌≡◌, ◌+◌, ◌⊎◌, inl, inr, ℕ, suc, List, [], ◌∷◌, ◌++◌, length, take, Some, Ok, refl, sym, ap, subst, ◌∙◌, arith}
 use Rattle.std.specs.Prelude.{slice_get}
 use Rattle.cloud_facts.specs.Acting.{KnowsHome}
 use Rattle.cloud_facts.specs.Call.{IsCall}
@@ -8,19 +8,19 @@ use Rattle.cloud_facts.proofs.Outcomes.{stays, other_landed}
 use Rattle.cloud_trait.specs.declared.answer.Answer.{Answer}
 use Rattle.cloud_trait.specs.declared.answer.Answer.TheVariants.{Sent}
 use Rattle.cloud_trait.specs.declared.state.Posted.{Posted}
-use Rattle.cloud_trait.specs.Ask.{Ask, Send, Lands}
+use Rattle.cloud_trait.specs.Ask.{Send, Lands}
 use Rattle.cloud_trait.specs.Caller.{Caller}
 use Rattle.cloud_trait.specs.State.{CloudState, called}
 use Rattle.cloud_trait.specs.Views.{sent_of}
-use Rattle.commit_facts.specs.Committing.{Attempt, attempt_of, IsOfAttempt, IsMessageOf, AreMessagesOf, HasSent, LogsNext, IsHomeOf, KnowsNext}
+use Rattle.commit_facts.specs.Committing.{attempt_of, IsOfAttempt, IsMessageOf, AreMessagesOf, HasSent, LogsNext, KnowsNext}
 use Rattle.commit_facts.specs.Noting.{noted_at}
 use Rattle.commit_facts.proofs.Attempts.{take_next, record_of, messages_stay}
 use Rattle.commit_facts.proofs.CommitOthers.{routes_others}
 use Rattle.commit_facts.proofs.Logged.{logs}
-use Rattle.commit_facts.proofs.Nexts.{Step, Known, Stands, part_next, next_homes, knows_home, logs_at, logged_known}
+use Rattle.commit_facts.proofs.Nexts.{Step, Stands, part_next, next_homes, knows_home, logs_at, logged_known}
 use Rattle.commit_facts.proofs.Ready.{Ready, OutcomeAt, at_home, holds, homes}
 use Rattle.commit_writes.specs.declared.stage.Stage.TheVariants.{Logging}
-use Rattle.commit_writes.specs.Writing.{Writing, log_ask, log_at, next_at}
+use Rattle.commit_writes.specs.Writing.{Writing, log_ask, next_at}
 use Rattle.db_base.specs.declared.names.QueueName.{QueueName}
 use Rattle.db_base.specs.declared.names.QueueName.TheVariants.{Atomic}
 use Rattle.home_facts.specs.Homes.{Home, Part, AtHome, Parts, HomesHold}

@@ -1,12 +1,12 @@
 -- What a commit knows where an answer leads.
-use Rattle.std.proofs.Common.{◌≡◌, ◌≤◌, ◌<◌, ◌+◌, ◌⊎◌, ℕ, List, [], ◌∷◌, ◌++◌, length, take, Option, Some, None, Result, Ok, Err, refl, sym, ap, subst, ◌∙◌, arith}
+use Rattle.std.proofs.Common.{◌≡◌, ◌≤◌, ◌+◌, ℕ, List, [], ◌∷◌, ◌++◌, take, Option, Some, None, Result, Ok, Err, refl, sym, ap, subst, ◌∙◌, arith}
 use Rattle.std.specs.Prelude.{slice_get}
 use Rattle.cloud_facts.specs.Acting.{KnowsHome}
 use Rattle.cloud_trait.specs.Claim.{Lasts}
 use Rattle.cloud_trait.specs.Machine.{Next, Goes, Ends, Stops}
-use Rattle.commit_facts.specs.Committing.{MayCommit, Attempt, attempt_of, IsMessageOf, AreMessagesOf, Routes, HasSent, HasOpened, AreSentOn, Deletes, IsHomeOf, KnowsCommitAt, KnowsCommit, KnowsEnd, KnowsNext}
+use Rattle.commit_facts.specs.Committing.{MayCommit, Attempt, attempt_of, AreMessagesOf, Routes, HasSent, HasOpened, AreSentOn, Deletes, IsHomeOf, KnowsCommitAt, KnowsCommit, KnowsNext}
 use Rattle.commit_facts.proofs.Attempts.{take_all}
-use Rattle.commit_writes.specs.Writing.{Writing, before_of, restored, log_or_open, log_at, send_or_settle, send_at, delete_or_end, delete_at, closed_again, not_committed, not_opened, left_open, logged_by, opened_by, sent_by, settled_by, deleted_by}
+use Rattle.commit_writes.specs.Writing.{Writing, before_of, restored, log_or_open, log_at, send_or_settle, send_at, delete_or_end, delete_at, not_opened, logged_by, opened_by, sent_by, settled_by, deleted_by}
 use Rattle.db_base.specs.Ids.{IsClient}
 use Rattle.db_base.specs.declared.names.Lock.TheVariants as lock
 use Rattle.db_base.specs.declared.trouble.CommitAnswer.{CommitAnswer}
@@ -15,12 +15,11 @@ use Rattle.db_base.specs.declared.trouble.Trouble.{Trouble}
 use Rattle.db_base.specs.declared.trouble.Trouble.TheVariants as trouble
 use Rattle.head_codec.specs.declared.head.Head.{Head}
 use Rattle.head_codec.specs.declared.head.Phase.TheVariants as phase
-use Rattle.home_facts.specs.Homes.{Home, Part, Away, AtHome, Parts, HomesHold}
+use Rattle.home_facts.specs.Homes.{Home, Part, Away, Parts, HomesHold}
 use Rattle.home_facts.proofs.HomeLemmas.{away_keeps, part_again}
 use Rattle.log_codec.specs.declared.record.AtomicRec.{AtomicRec}
 use Rattle.route_plan.specs.Heads.{opened_head}
 use Rattle.route_plan.proofs.Places.{past_none}
-use Rattle.store_book.specs.Messages.{IsLogMessage}
 use Rattle.store_book.specs.Tally.{Tally, Store, at}
 use Rattle.txn_buffer.specs.Noted.{Noted}
 

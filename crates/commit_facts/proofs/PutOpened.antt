@@ -1,21 +1,20 @@
 -- What the put that commits leaves.
-use Rattle.std.proofs.Common.{◌≡◌, ◌≤◌, ◌<◌, ◌⊎◌, inl, inr, ℕ, List, [], ◌∷◌, ◌++◌, length, map, Some, None, Ok, refl, sym, ap, subst, ◌∙◌, arith}
-use Rattle.std.specs.Prelude.{slice_get}
+use Rattle.std.proofs.Common.{◌≡◌, ◌<◌, ◌⊎◌, inl, inr, ℕ, List, ◌++◌, map, Some, None, Ok, refl, sym, ap, subst, ◌∙◌, arith}
 use Rattle.std.proofs.lemmas.List.{map-append}
 use Rattle.cloud_facts.specs.Call.{IsCall}
 use Rattle.cloud_facts.specs.Looks.{audit_of}
 use Rattle.cloud_facts.proofs.Calls.{put_cases, put_lasts, put_late}
 use Rattle.cloud_facts.proofs.Outcomes.{stays, put_landed}
 use Rattle.cloud_trait.specs.declared.answer.Answer.{Answer}
-use Rattle.cloud_trait.specs.Ask.{Ask, Lands}
+use Rattle.cloud_trait.specs.Ask.{Lands}
 use Rattle.cloud_trait.specs.Caller.{Caller}
 use Rattle.cloud_trait.specs.Claim.{Lasts}
 use Rattle.cloud_trait.specs.State.{CloudState, called}
 use Rattle.cloud_trait.specs.Views.{done_of}
-use Rattle.commit_facts.specs.Committing.{Attempt, attempt_of, IsOfAttempt, AreMessagesOf, OpensBehind, HasOpened, KnowsNext}
+use Rattle.commit_facts.specs.Committing.{attempt_of, IsOfAttempt, AreMessagesOf, OpensBehind, HasOpened, KnowsNext}
 use Rattle.commit_facts.specs.Noting.{noted_at}
 use Rattle.commit_facts.proofs.Attempts.{record_of, messages_stay}
-use Rattle.commit_facts.proofs.Nexts.{Step, Stands, IsLeft, part_next, next_homes, knows_home, sends_at, opened_known, restored_is}
+use Rattle.commit_facts.proofs.Nexts.{Step, IsLeft, part_next, next_homes, knows_home, sends_at, opened_known, restored_is}
 use Rattle.commit_facts.proofs.Opened as opened
 use Rattle.commit_facts.proofs.Ready.{Ready, OutcomeAt, at_home, holds, homes, lasting, alone}
 use Rattle.commit_facts.proofs.Routing.{records}
@@ -26,7 +25,7 @@ use Rattle.head_codec.specs.Spelling.{head_of}
 use Rattle.head_codec.specs.declared.head.Head.{Head}
 use Rattle.head_codec.specs.declared.head.Phase.TheVariants as phase
 use Rattle.history.specs.Audited.{committed_entry}
-use Rattle.home_facts.specs.Homes.{Home, Part, AtHome, Parts, HomesHold}
+use Rattle.home_facts.specs.Homes.{Home, Part, Parts, HomesHold}
 use Rattle.home_facts.proofs.HomeLemmas.{commits_keeps, keeps_part}
 use Rattle.landing_facts.specs.Landing as landing
 use Rattle.landing_facts.proofs.LandingLemmas.{opens_later}

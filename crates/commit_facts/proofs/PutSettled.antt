@@ -1,12 +1,12 @@
 -- What the put that settles leaves.
-use Rattle.std.proofs.Common.{◌≡◌, ◌≤◌, ◌⊎◌, inl, inr, ℕ, List, [], Some, None, Ok, refl, sym, ap, subst, ◌∙◌}
+use Rattle.std.proofs.Common.{◌≡◌, ◌⊎◌, inl, inr, ℕ, List, [], Some, None, Ok, refl, sym, ap, subst, ◌∙◌}
 use Rattle.std.proofs.lemmas.List.{append-nil}
 use Rattle.cloud_facts.specs.Call.{IsCall}
 use Rattle.cloud_facts.specs.Looks.{audit_of}
 use Rattle.cloud_facts.proofs.Calls.{put_cases, put_lasts}
 use Rattle.cloud_facts.proofs.Outcomes.{stays, put_landed}
 use Rattle.cloud_trait.specs.declared.answer.Answer.{Answer}
-use Rattle.cloud_trait.specs.Ask.{Ask, Lands}
+use Rattle.cloud_trait.specs.Ask.{Lands}
 use Rattle.cloud_trait.specs.Caller.{Caller}
 use Rattle.cloud_trait.specs.Claim.{Lasts}
 use Rattle.cloud_trait.specs.State.{CloudState, called}

@@ -1,11 +1,11 @@
 -- What stands before a call of a commit, and what that says of its home.
-use Rattle.std.proofs.Common.{◌≡◌, ◌≤◌, ℕ, List, [], ◌∷◌, refl, sym, ap, subst, ◌∙◌}
+use Rattle.std.proofs.Common.{◌≡◌, ℕ, List, [], ◌∷◌, refl, sym, subst, ◌∙◌}
 use Rattle.cloud_facts.specs.Acting.{Setting, Outcome}
 use Rattle.cloud_trait.specs.declared.answer.Answer.{Answer}
 use Rattle.cloud_trait.specs.Caller.{Caller}
 use Rattle.cloud_trait.specs.Claim.{Claim, Lasts}
 use Rattle.cloud_trait.specs.State.{CloudState}
-use Rattle.commit_facts.specs.Committing.{attempt_of, IsHomeOf, KnowsNext}
+use Rattle.commit_facts.specs.Committing.{attempt_of, KnowsNext}
 use Rattle.commit_facts.specs.Noting.{noted_at}
 use Rattle.commit_facts.proofs.Nexts.{Stands}
 use Rattle.commit_writes.specs.declared.stage.Stage.{Stage}
@@ -14,7 +14,7 @@ use Rattle.home_facts.specs.Homes.{Home, Part, AtHome, Parts, IsAlone, HomeHolds
 use Rattle.home_facts.proofs.HomeLemmas.{keeps_part}
 use Rattle.report_types.specs.declared.entry.Entry.{Entry}
 use Rattle.store_book.specs.Book.{Book}
-use Rattle.store_book.specs.Tally.{Store, at}
+use Rattle.store_book.specs.Tally.{at}
 use Rattle.telling_facts.specs.Told.{store_of}
 
 -- the part of the session is at home for the transaction

@@ -21,7 +21,7 @@ use Rattle.commit_facts.proofs.Nexts.{Step, part_next, next_homes, sends_at, sen
 use Rattle.commit_facts.proofs.Ready.{Ready, homes}
 use Rattle.commit_facts.proofs.Settled.{queue_is, posts_record, posted_waits, posted_copied}
 use Rattle.commit_writes.specs.declared.stage.Stage.TheVariants.{Sending}
-use Rattle.commit_writes.specs.Writing.{Writing, send_at, next_at}
+use Rattle.commit_writes.specs.Writing.{Writing, next_at}
 use Rattle.home_facts.specs.Homes.{Home, Part, Parts}
 use Rattle.home_facts.proofs.HomeLemmas.{aside_keeps}
 use Rattle.landing_facts.specs.Landing.{Landing, sent_by}
@@ -34,7 +34,7 @@ use Rattle.route_plan.specs.Queue.{queue_name}
 use Rattle.route_plan.specs.Record.{pu_record_of}
 use Rattle.store_book.specs.Book.{Book}
 use Rattle.store_book.specs.Effects.{after_posted}
-use Rattle.store_book.specs.Records.{StandsAt, IsIn}
+use Rattle.store_book.specs.Records.{IsIn}
 use Rattle.store_book.specs.Tally.{Store, at}
 use Rattle.store_book.specs.Telling.{queue_of}
 use Rattle.store_book.proofs.GrowthLemmas.{posted_grows}

@@ -7,3 +7,5 @@ pub mod Others
 pub mod Leading
 pub mod Gathering
 pub mod Clears
+pub mod Landings
+pub mod Outcomes

@@ -134,7 +134,7 @@ module _ (book : Book) (order : List Entry) (s : CloudState) (sessions : Session
   commit_well : (home : Home) (w : Writing) (new : Acting) → old.work ≡ Idle home → writing_ready (waiting home old.buffer) ≡ Goes w → 1 ≤ length old.buffer
       → new ≡ record { buffer = []; work = Committing w } → After new
   commit_well home w new idle ready some e =
-      let begins = commit_begins st s.now stand.parts session home old.buffer w (home_known home idle) known.buffer some stand.homes ready in
+      let begins = commit_begins st s.now stand.parts session home old.buffer w (home_known home idle) known.buffer some stand.homes stand.cloud.holds.leaves ready in
       subst After (sym e)
       (session_changes book order s sessions session (record { buffer = []; work = Committing w }) begins.part stand
       (λ x is. mine home idle x (subst (λ l. IsIn (l ∷ []) x) begins.lease is)) begins.homes (record { work = begins.knows; buffer = may_none }))

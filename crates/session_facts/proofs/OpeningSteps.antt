@@ -72,7 +72,7 @@ module _ (who : Caller) (before after : Seen) (book : Book) (order : List Entry)
     outcome = opening_outcome who book order s t parts r (parts who.session) reply (setting call.later) refl (knows call.later) sound call made.fits
 
     handles : Handles who s t (recovery_ask r) reply (leases_of_recovery r) (leases_of_next (recovery_next r reply))
-    handles = opening_handles who book order s t r (parts who.session) reply (knows call.later) call made.fits
+    handles = opening_handles who book order s t r (parts who.session) reply (knows call.later)
 
     by_next : (step : Step) → recovery_next r reply ≡ step → (work : Work) → LeadsTo step work → Stepped work
     by_next step is work leads = record {

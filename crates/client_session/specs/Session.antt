@@ -32,6 +32,8 @@ use Rattle.recover_run.specs.Recovery.{Recovery, new_recovery, recovery_ask, rec
 use Rattle.commit_writes.specs.Ending.{calls_left as commit_left}
 use Rattle.commit_writes.specs.Sound.{IsSound as IsSoundCommit}
 use Rattle.commit_writes.specs.Writing.{Writing, waiting, writing_ready, writing_ask, writing_next, opens_at, KeepsHome}
+use Rattle.page_ckpt.specs.Ending.{calls_left as paging_left}
+use Rattle.page_ckpt.specs.Paging.{new_paging, paging_ask, PagingLeads, KeepsLeases as KeepsPageLeases, Paging as Page}
 use Rattle.first_tree.specs.Folding.{new_folding, folding_ask, FoldingLeads, KeepsLeases as KeepsFoldLeases, calls_left as folding_left, Folding as Fold}
 use Rattle.client_session.specs.declared.answer.Answer.{Answer}
 use Rattle.client_session.specs.declared.answer.Answer.TheVariants as answer
@@ -40,7 +42,7 @@ use Rattle.client_session.specs.declared.answer.Begun.TheVariants.{Working, Answ
 use Rattle.client_session.specs.declared.op.Op.{Op}
 use Rattle.client_session.specs.declared.op.Op.TheVariants as op
 use Rattle.client_session.specs.declared.work.Work.{Work}
-use Rattle.client_session.specs.declared.work.Work.TheVariants.{Closed, Idle, Opening, Committing, Folding, Closing, Renewing, Broken}
+use Rattle.client_session.specs.declared.work.Work.TheVariants.{Closed, Idle, Opening, Committing, Paging, Folding, Closing, Renewing, Broken}
 
 -- a session: the changes that it noted, and what it has in hand
 pub record Acting : Type 0 where
@@ -71,6 +73,7 @@ rule_of Closed = Some rule.NotOpen
 rule_of (Idle home) = None
 rule_of (Opening m) = Some rule.AtWork
 rule_of (Committing m) = Some rule.AtWork
+rule_of (Paging home m) = Some rule.AtWork
 rule_of (Folding home m) = Some rule.AtWork
 rule_of (Closing lease) = Some rule.AtWork
 rule_of (Renewing home) = Some rule.AtWork
@@ -110,6 +113,7 @@ opening_rule_of Closed = None
 opening_rule_of (Idle home) = Some rule.AlreadyOpen
 opening_rule_of (Opening m) = Some rule.AtWork
 opening_rule_of (Committing m) = Some rule.AtWork
+opening_rule_of (Paging home m) = Some rule.AtWork
 opening_rule_of (Folding home m) = Some rule.AtWork
 opening_rule_of (Closing lease) = Some rule.AtWork
 opening_rule_of (Renewing home) = Some rule.AtWork
@@ -122,6 +126,7 @@ old_lease Closed = None
 old_lease (Idle home) = None
 old_lease (Opening m) = None
 old_lease (Committing m) = None
+old_lease (Paging home m) = None
 old_lease (Folding home m) = None
 old_lease (Closing lease) = None
 old_lease (Renewing home) = None
@@ -146,6 +151,10 @@ BeginsWith Does old new (Err refused.Memory) = ⊥
 -- this is in hand then, and what was noted stays
 abbrev pub HasInHand : List Noted → Work → Acting → Begun → Type 0
 HasInHand buffer work new begun = (begun ≡ Working) × (new ≡ record { buffer = buffer; work = work })
+
+-- the checkpoint of a page that a home begins
+abbrev pub paging_begun_by : ℕ → ℕ → Home → Work
+paging_begun_by tree page home = Paging home (new_paging tree page)
 
 -- the checkpoint of a tree that a home begins
 abbrev pub folding_begun_by : ℕ → Home → Work
@@ -176,6 +185,7 @@ Begins (op.Open client) old new result = BeginsOpening client old new result
 Begins op.Close old new result = BeginsWith (λ home. HasInHand old.buffer (Closing home.lease)) old new result
 Begins op.Renew old new result = BeginsWith (λ home. HasInHand old.buffer (Renewing home)) old new result
 Begins op.Commit old new result = BeginsWith (CommitsIn old.buffer) old new result
+Begins (op.Page tree page) old new result = BeginsWith (λ home. HasInHand old.buffer (paging_begun_by tree page home)) old new result
 Begins (op.Tree tree) old new result = BeginsWith (λ home. HasInHand old.buffer (folding_begun_by tree home)) old new result
 
 -- ---- what a step does
@@ -219,7 +229,15 @@ StepsCommit who before after old work (Ended (answer.Trouble k)) =
     (m : Writing) × Steps writing_ask (LeadsBy writing_next) KeepsHome who before after old m (Stopped k) × (work ≡ Broken m.home.lease)
 StepsCommit who before after old work turn = ⊥
 
--- one step of a checkpoint, and what it leaves in hand
+-- one step of a page checkpoint, and what it leaves in hand
+abbrev pub StepsPaging : Home → Caller → Seen → Seen → Page → Work → Turn Answer → Type 0
+StepsPaging home who before after old work More = (m : Page) × Steps paging_ask PagingLeads KeepsPageLeases who before after old m More × (work ≡ Paging home m) × (paging_left m < paging_left old)
+StepsPaging home who before after old work (Ended (answer.Done n)) = (m : Page) × Steps paging_ask PagingLeads KeepsPageLeases who before after old m (Ended n) × (work ≡ Idle home)
+StepsPaging home who before after old work (Ended (answer.Trouble k)) =
+    (m : Page) × Steps paging_ask PagingLeads KeepsPageLeases who before after old m (Stopped k) × (work ≡ stopped_work k home)
+StepsPaging home who before after old work turn = ⊥
+
+-- one step of a tree checkpoint, and what it leaves in hand
 abbrev pub StepsFolding : Home → Caller → Seen → Seen → Fold → Work → Turn Answer → Type 0
 StepsFolding home who before after old work More = (f : Fold) × Steps folding_ask FoldingLeads KeepsFoldLeases who before after old f More × (work ≡ Folding home f)
 StepsFolding home who before after old work (Ended (answer.Done n)) = (f : Fold) × Steps folding_ask FoldingLeads KeepsFoldLeases who before after old f (Ended n) × (work ≡ Idle home)
@@ -257,6 +275,7 @@ StepsRenewing home who before after work turn = ⊥
 abbrev pub StepsAt : Caller → Seen → Seen → Work → Work → Turn Answer → Type 0
 StepsAt who before after (Opening m) work turn = IsSoundOpening m × StepsOpening who before after m work turn
 StepsAt who before after (Committing m) work turn = IsSoundCommit m × StepsCommit who before after m work turn
+StepsAt who before after (Paging home m) work turn = StepsPaging home who before after m work turn
 StepsAt who before after (Folding home m) work turn = StepsFolding home who before after m work turn
 StepsAt who before after (Closing lease) work turn = StepsClosing lease who before after work turn
 StepsAt who before after (Renewing home) work turn = StepsRenewing home who before after work turn
@@ -267,6 +286,7 @@ StepsAt who before after (Broken lease) work turn = ⊥
 abbrev pub is_working : Work → Bool
 is_working (Opening m) = true
 is_working (Committing m) = true
+is_working (Paging home m) = true
 is_working (Folding home m) = true
 is_working Closed = false
 is_working (Idle home) = false
@@ -294,6 +314,7 @@ pub record StepsSession (who : Caller) (before after : Seen) (old new : Acting) 
 abbrev pub calls_left : Work → ℕ
 calls_left (Opening m) = opening_left m
 calls_left (Committing m) = commit_left m
+calls_left (Paging home m) = paging_left m
 calls_left (Folding home m) = folding_left m
 calls_left Closed = 0
 calls_left (Idle home) = 0
@@ -305,6 +326,7 @@ calls_left (Broken lease) = 0
 abbrev pub ask_of_work : Work → Option Ask
 ask_of_work (Opening m) = Some (recovery_ask m)
 ask_of_work (Committing m) = Some (writing_ask m)
+ask_of_work (Paging home m) = Some (paging_ask m)
 ask_of_work (Folding home m) = Some (folding_ask m)
 ask_of_work Closed = None
 ask_of_work (Idle home) = None
@@ -316,6 +338,7 @@ ask_of_work (Broken lease) = None
 abbrev pub committing_of : Work → Option (List Noted)
 committing_of (Committing m) = Some m.changes
 committing_of (Opening m) = None
+committing_of (Paging home m) = None
 committing_of (Folding home m) = None
 committing_of Closed = None
 committing_of (Idle home) = None
@@ -327,6 +350,7 @@ committing_of (Broken lease) = None
 abbrev pub opens_of : Work → Option Head
 opens_of (Committing m) = opens_at m.stage m
 opens_of (Opening m) = None
+opens_of (Paging home m) = None
 opens_of (Folding home m) = None
 opens_of Closed = None
 opens_of (Idle home) = None
@@ -336,6 +360,7 @@ opens_of (Broken lease) = None
 
 -- the items that the put in hand applies
 abbrev pub applying_of : Work → List PuItem
+applying_of (Paging home m) = m.applying
 applying_of (Folding home m) = m.applying
 applying_of (Committing m) = []
 applying_of (Opening m) = []

@@ -7,6 +7,7 @@ mod committing;
 mod folding;
 pub mod op;
 mod opening;
+mod paging;
 mod renewing;
 pub mod session;
 mod stepping;

@@ -1,4 +1,4 @@
-use db_base::ids::{ClientId, TreeId};
+use db_base::ids::{ClientId, PageId, TreeId};
 
 /// An operation that a session can begin.
 #[derive(Clone, Copy, Debug, PartialEq, Eq)]
@@ -11,6 +11,8 @@ pub enum Op {
     Renew,
     /// Commits the noted changes.
     Commit,
+    /// Checkpoints a page of a tree.
+    Page(TreeId, PageId),
     /// Checkpoints a tree.
     Tree(TreeId),
 }

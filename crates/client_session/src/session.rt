@@ -14,11 +14,12 @@ use cloud_trait::cloud::Cloud;
 use cloud_trait::turn::Turn;
 use cloud_trait::who::Who;
 use db_base::change::Change;
-use db_base::ids::{ClientId, TreeId};
+use db_base::ids::{ClientId, PageId, TreeId};
 use db_base::refusal::{Refusal, Refused};
 use first_tree::checkpoint::TreeCkpt;
 use head_codec::head::Head;
 use log_codec::record::PuItem;
+use page_ckpt::PageCkpt;
 use recover_run::home::Home;
 use std::alloc::Global;
 use std::marker::Model;
@@ -43,7 +44,7 @@ impl Model for Session {
 }
 
 impl Session {
-    ghost use Rattle.client_session.specs.Session.{Acting, closed_session, rule_of, NoteRefused, AbortRefused, Begins, BeginsOpening, BeginsWith, HasInHand, IsOfClient, folding_begun_by, TakesHome, CommitsIn, StepsSession, noted_behind, old_lease, ask_of_work, committing_of, opens_of, applying_of};
+    ghost use Rattle.client_session.specs.Session.{Acting, closed_session, rule_of, NoteRefused, AbortRefused, Begins, BeginsOpening, BeginsWith, HasInHand, IsOfClient, folding_begun_by, paging_begun_by, TakesHome, CommitsIn, StepsSession, noted_behind, old_lease, ask_of_work, committing_of, opens_of, applying_of};
 
     /// A closed session without changes. Refused for memory alone.
     pub fn new(alloc: Global) -> Result<Session, Refused>
@@ -102,6 +103,7 @@ impl Session {
             Op::Close => self.begin_close(),
             Op::Renew => self.begin_renewal(),
             Op::Commit => self.begin_commit(alloc),
+            Op::Page(tree, page) => self.begin_page(alloc, tree, page),
             Op::Tree(tree) => self.begin_tree(alloc, tree),
         }
     }
@@ -146,6 +148,15 @@ impl Session {
         let (work, begun) = commit_noted(alloc, home, self.buffer.take());
         self.has(work);
         Ok(begun)
+    }
+
+    /// Begins a checkpoint of a page.
+    fn begin_page(&mut self, alloc: Global, tree: TreeId, page: PageId) -> Result<Begun, Refused>
+        ensures { BeginsWith (λ home. HasInHand self.old.buffer (paging_begun_by tree page home)) self.old self.new result }
+    {
+        let home = self.take_home()?;
+        self.has(Work::Paging(home, PageCkpt::new(alloc, tree, page)));
+        Ok(Begun::Working)
     }
 
     /// Begins a checkpoint of a tree.

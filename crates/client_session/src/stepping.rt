@@ -5,6 +5,7 @@ use crate::closing::step_close;
 use crate::committing::step_commit;
 use crate::folding::step_folding;
 use crate::opening::step_opening;
+use crate::paging::step_paging;
 use crate::renewing::step_renewal;
 use crate::work::Work;
 use cloud_trait::cloud::Cloud;
@@ -27,6 +28,7 @@ pub(crate) fn step_work<C: Cloud>(
     let (work, turn) = match work {
         Work::Opening(machine) => step_opening(alloc, cloud, who, machine),
         Work::Committing(machine) => step_commit(alloc, cloud, who, machine),
+        Work::Paging(home, machine) => step_paging(alloc, cloud, who, home, machine),
         Work::Folding(home, machine) => step_folding(alloc, cloud, who, home, machine),
         Work::Closing(lease) => step_close(cloud, who, lease),
         Work::Renewing(home) => step_renewal(cloud, who, home),

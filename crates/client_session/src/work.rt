@@ -11,6 +11,7 @@ use db_base::trouble::Trouble;
 use first_tree::checkpoint::TreeCkpt;
 use head_codec::head::Head;
 use log_codec::record::PuItem;
+use page_ckpt::PageCkpt;
 use recover_run::home::Home;
 use recover_run::recover::{CLIENT_TICKS, RecoverRun};
 use txn_buffer::buffer::TxnBuffer;
@@ -26,6 +27,8 @@ pub enum Work {
     Opening(RecoverRun),
     /// A commit under way.
     Committing(CommitWrites),
+    /// A page checkpoint under way, beside the open client.
+    Paging(Home, PageCkpt),
     /// A tree checkpoint under way, beside the open client.
     Folding(Home, TreeCkpt),
     /// The lease of a client that is being closed.
@@ -48,6 +51,7 @@ impl Work {
             Work::Idle(_) => None,
             Work::Opening(_) => Some(Refusal::AtWork),
             Work::Committing(_) => Some(Refusal::AtWork),
+            Work::Paging(_, _) => Some(Refusal::AtWork),
             Work::Folding(_, _) => Some(Refusal::AtWork),
             Work::Closing(_) => Some(Refusal::AtWork),
             Work::Renewing(_) => Some(Refusal::AtWork),
@@ -64,6 +68,7 @@ impl Work {
             Work::Idle(_) => Some(Refusal::AlreadyOpen),
             Work::Opening(_) => Some(Refusal::AtWork),
             Work::Committing(_) => Some(Refusal::AtWork),
+            Work::Paging(_, _) => Some(Refusal::AtWork),
             Work::Folding(_, _) => Some(Refusal::AtWork),
             Work::Closing(_) => Some(Refusal::AtWork),
             Work::Renewing(_) => Some(Refusal::AtWork),
@@ -78,6 +83,7 @@ impl Work {
         match self {
             Work::Opening(machine) => Some(machine.in_hand()),
             Work::Committing(machine) => Some(machine.in_hand()),
+            Work::Paging(_, machine) => Some(machine.in_hand()),
             Work::Folding(_, machine) => Some(machine.in_hand()),
             Work::Closing(lease) => Some(Call::Release(lease)),
             Work::Renewing(home) => Some(Call::Renew(&home.lease, CLIENT_TICKS)),
@@ -96,6 +102,7 @@ impl Work {
             Work::Closed => None,
             Work::Idle(_) => None,
             Work::Opening(_) => None,
+            Work::Paging(_, _) => None,
             Work::Folding(_, _) => None,
             Work::Closing(_) => None,
             Work::Renewing(_) => None,
@@ -112,6 +119,7 @@ impl Work {
             Work::Closed => None,
             Work::Idle(_) => None,
             Work::Opening(_) => None,
+            Work::Paging(_, _) => None,
             Work::Folding(_, _) => None,
             Work::Closing(_) => None,
             Work::Renewing(_) => None,
@@ -124,6 +132,7 @@ impl Work {
         ensures { result.now ≡ applying_of self.now }
     {
         match self {
+            Work::Paging(_, machine) => machine.applying(),
             Work::Folding(_, machine) => machine.applying(),
             Work::Closed => &[],
             Work::Idle(_) => &[],
@@ -148,6 +157,10 @@ pub(crate) fn home_of_work(work: Work) -> (Work, Result<Home, Refused>)
         Work::Opening(machine) => (Work::Opening(machine), Err(Refused::Rule(Refusal::AtWork))),
         Work::Committing(machine) => (
             Work::Committing(machine),
+            Err(Refused::Rule(Refusal::AtWork)),
+        ),
+        Work::Paging(home, machine) => (
+            Work::Paging(home, machine),
             Err(Refused::Rule(Refusal::AtWork)),
         ),
         Work::Folding(home, machine) => (

@@ -1,13 +1,13 @@
 -- What an operation that begins leaves.
 use Rattle.std.proofs.Common.{◌≡◌, ◌≤◌, ◌⊎◌, inl, inr, ℕ, List, [], ◌∷◌, length, Option, Some, None, Result, Ok, Err, refl, sym, ap, subst, ◌∙◌}
-use Rattle.client_session.specs.Session.{Acting, Begins, BeginsOpening, BeginsWith, HasInHand, folding_begun_by, opening_rule_of, opening_of, old_lease, CommitsOf, CommitsNothing, CommitsIn}
+use Rattle.client_session.specs.Session.{Acting, Begins, BeginsOpening, BeginsWith, HasInHand, folding_begun_by, paging_begun_by, opening_rule_of, opening_of, old_lease, CommitsOf, CommitsNothing, CommitsIn}
 use Rattle.client_session.specs.declared.answer.Answer.TheVariants as answer
 use Rattle.client_session.specs.declared.answer.Begun.{Begun}
 use Rattle.client_session.specs.declared.answer.Begun.TheVariants.{Working, Answered}
 use Rattle.client_session.specs.declared.op.Op.{Op}
 use Rattle.client_session.specs.declared.op.Op.TheVariants as op
 use Rattle.client_session.specs.declared.work.Work.{Work}
-use Rattle.client_session.specs.declared.work.Work.TheVariants.{Closed, Idle, Opening, Committing, Folding, Closing, Renewing, Broken}
+use Rattle.client_session.specs.declared.work.Work.TheVariants.{Closed, Idle, Opening, Committing, Folding, Paging, Closing, Renewing, Broken}
 use Rattle.checkpoint_facts.proofs.Begins.{folding_begins}
 use Rattle.cloud_trait.specs.Claim.{Claim}
 use Rattle.cloud_trait.specs.Machine.{Goes, Ends}
@@ -16,7 +16,7 @@ use Rattle.commit_facts.specs.Committing.{MayCommit, KnowsCommit}
 use Rattle.commit_facts.proofs.Begins.{commit_begins, commit_ends_at_once}
 use Rattle.commit_facts.proofs.Noted.{may_none}
 use Rattle.commit_writes.specs.Writing.{Writing, waiting, writing_ready}
-use Rattle.db_base.specs.Ids.{IsClient, IsTree}
+use Rattle.db_base.specs.Ids.{IsClient, IsTree, IsPage}
 use Rattle.db_base.specs.declared.refusal.Refused.{Refused}
 use Rattle.db_base.specs.declared.refusal.Refused.TheVariants as refused
 use Rattle.db_base.specs.declared.trouble.CommitAnswer.{CommitAnswer}
@@ -25,6 +25,7 @@ use Rattle.opening_facts.specs.Opening.{leases_of_recovery, KnowsOpening}
 use Rattle.opening_facts.proofs.Begins.{opening_begins}
 use Rattle.recover_run.specs.declared.home.Home.{Home}
 use Rattle.recover_run.specs.declared.stage.Aim.TheVariants as aim
+use Rattle.page_facts.proofs.Begins.{paging_begins}
 use Rattle.recover_run.specs.Recovery.{new_recovery}
 use Rattle.report_types.specs.declared.entry.Entry.{Entry}
 use Rattle.session_facts.specs.Sessions.{leases_of, IsHome, KnowsWork, Knows, Sessions, SessionsStand, IsRightOp}
@@ -63,6 +64,7 @@ module _ (book : Book) (order : List Entry) (s : CloudState) (sessions : Session
   no_part (Opening r) part e k = absurd (cc)
   no_part (Committing w) part e k = absurd (cc)
   no_part (Folding home f) part e k = absurd (cc)
+  no_part (Paging home p) part e k = absurd (cc)
   no_part (Closing l) part e k = absurd (cc)
   no_part (Renewing home) part e k = absurd (cc)
 
@@ -74,6 +76,7 @@ module _ (book : Book) (order : List Entry) (s : CloudState) (sessions : Session
   old_within (Opening r) client x is = absurd (in_none [] x refl is)
   old_within (Committing w) client x is = absurd (in_none [] x refl is)
   old_within (Folding home f) client x is = absurd (in_none [] x refl is)
+  old_within (Paging home p) client x is = absurd (in_none [] x refl is)
   old_within (Closing l) client x is = absurd (in_none [] x refl is)
   old_within (Renewing home) client x is = absurd (in_none [] x refl is)
 
@@ -128,6 +131,10 @@ module _ (book : Book) (order : List Entry) (s : CloudState) (sessions : Session
   begins_tree tree new result t = begins_with (λ home. HasInHand old.buffer (folding_begun_by tree home)) new result
       (λ home begun idle d. hands_on new old.buffer (folding_begun_by tree home) known.buffer d.1 (mine home idle) (home_known home idle, folding_begins st s.now tree t))
 
+  begins_page : (tree page : ℕ) (new : Acting) (result : Result Begun Refused) → IsTree tree → IsPage page → BeginsWith (λ home. HasInHand old.buffer (paging_begun_by tree page home)) old new result → After new
+  begins_page tree page new result t g = begins_with (λ home. HasInHand old.buffer (paging_begun_by tree page home)) new result
+      (λ home begun idle d. hands_on new old.buffer (paging_begun_by tree page home) known.buffer d.1 (mine home idle) (home_known home idle, paging_begins st s.now tree page t g))
+
   -- ---- a commit
 
   -- a commit is in hand, of the home's next attempt
@@ -171,6 +178,7 @@ module _ (book : Book) (order : List Entry) (s : CloudState) (sessions : Session
   begins_all op.Renew new result right b = begins_renew new result b
   begins_all op.Commit new result right b = begins_commit new result b
   begins_all (op.Tree tree) new result right b = begins_tree tree new result right b
+  begins_all (op.Page tree page) new result right b = begins_page tree page new result right.0 right.1 b
 
 -- an operation begins, is refused, or is answered at once
 pub begins_keeps : (o : Op) (book : Book) (order : List Entry) (s : CloudState) (sessions : Sessions) (session : ℕ) (new : Acting) (result : Result Begun Refused) → IsRightOp o

@@ -6,7 +6,7 @@ use Rattle.std.proofs.lemmas.List.{append-nil}
 use Rattle.client_session.specs.Session.{Acting, StepsSession, StepsWork, StepsAt, ask_of_work, opens_of, committing_of, applying_of, is_working, noted_behind}
 use Rattle.client_session.specs.declared.answer.Answer.{Answer}
 use Rattle.client_session.specs.declared.work.Work.{Work}
-use Rattle.client_session.specs.declared.work.Work.TheVariants.{Closed, Idle, Opening, Committing, Folding, Closing, Renewing, Broken}
+use Rattle.client_session.specs.declared.work.Work.TheVariants.{Closed, Idle, Opening, Committing, Folding, Paging, Closing, Renewing, Broken}
 use Rattle.cloud_facts.specs.Acting.{Setting, Outcome}
 use Rattle.cloud_facts.specs.Looks.{Newest, has_landed, audited_at, audit_of}
 use Rattle.cloud_facts.proofs.Outcomes.{none_lands}
@@ -27,6 +27,8 @@ use Rattle.db_base.specs.declared.refusal.Refused.TheVariants as refused
 use Rattle.first_tree.specs.Folding.{folding_ask}
 use Rattle.history.specs.Audited.{Audited, applied_entry}
 use Rattle.home_facts.specs.Homes.{Part, Parts}
+use Rattle.page_ckpt.specs.Paging.{paging_ask}
+use Rattle.page_facts.specs.Checkpoint.{paging_note}
 use Rattle.recover_run.specs.Recovery.{recovery_ask}
 use Rattle.report_types.specs.declared.entry.Entry.{Entry}
 use Rattle.session_facts.specs.Noting.{noted_head, noted_at, noted_in_hand, audited}
@@ -36,6 +38,7 @@ use Rattle.session_facts.proofs.FoldingSteps.{folding_step, folding_noted}
 use Rattle.session_facts.proofs.Laws.{call_goes, same_sessions, setting_of, known_at}
 use Rattle.session_facts.proofs.LeaseSteps.{IsStepOf, closing_step, renewing_step}
 use Rattle.session_facts.proofs.OpeningSteps.{opening_step}
+use Rattle.session_facts.proofs.PagingSteps.{paging_step, paging_noted}
 use Rattle.store_book.specs.Book.{Book}
 use Rattle.store_book.specs.Tally.{Store, at}
 use Rattle.store_book.proofs.Names.{at_same, at_other}
@@ -146,6 +149,11 @@ module _ (who : Caller) (before after : Seen) (s t : CloudState) (book : Book) (
       (sym (ap (λ q. noted_at q (folding_ask f) (audit_of book order)) is ∙ folding_noted home f (folding_ask f) (audit_of book order)))
       (subst (Stepped (folding_ask f) (folding_note f (folding_ask f))) (sym is)
       (folding_step who before after book order s t stand.parts home f (setting_at (Folding home f) is) (known_now (Folding home f) is).0 (known_now (Folding home f) is).1 told told_after new.work turn steps))
+  works (Paging home p) turn is steps =
+      goes_by (paging_ask p) (paging_note p (paging_ask p)) (ap ask_of_work is)
+      (sym (ap (λ q. noted_at q (paging_ask p) (audit_of book order)) is ∙ paging_noted home p (paging_ask p) (audit_of book order)))
+      (subst (Stepped (paging_ask p) (paging_note p (paging_ask p))) (sym is)
+      (paging_step who before after book order s t stand.parts home p (setting_at (Paging home p) is) (known_now (Paging home p) is).0 (known_now (Paging home p) is).1 told told_after new.work turn steps))
   works (Closing l) turn is steps =
       goes_by (Release l) (λ a. a) (ap ask_of_work is) (sym (ap (λ w. noted_at w (Release l) (audit_of book order)) is))
       (subst (Stepped (Release l) (λ a. a)) (sym is)
@@ -174,6 +182,7 @@ module _ (who : Caller) (before after : Seen) (s t : CloudState) (book : Book) (
       stays (Opening r) e = refl
       stays (Committing w) e = refl
       stays (Folding home f) e = refl
+      stays (Paging home p) e = refl
       stays (Renewing home) e = refl
       stays (Closing l) e = absurd (cc)
   steps_keep (Err refused.Memory) buffer never = absurd never
@@ -187,6 +196,7 @@ noted_may (Broken l) buffer may = may
 noted_may (Opening r) buffer may = may
 noted_may (Committing w) buffer may = may
 noted_may (Folding home f) buffer may = may
+noted_may (Paging home p) buffer may = may
 noted_may (Renewing home) buffer may = may
 
 -- a call of a session: any answer, landed or not

@@ -3,7 +3,7 @@ use Rattle.std.proofs.Common.{◌≡◌, ◌≢◌, ◌≤◌, ◌⊎◌, inl, i
 use Rattle.checkpoint_facts.proofs.FoldingOthers.{folding_others}
 use Rattle.client_session.specs.Session.{Acting}
 use Rattle.client_session.specs.declared.work.Work.{Work}
-use Rattle.client_session.specs.declared.work.Work.TheVariants.{Closed, Idle, Opening, Committing, Folding, Closing, Renewing, Broken}
+use Rattle.client_session.specs.declared.work.Work.TheVariants.{Closed, Idle, Opening, Committing, Folding, Paging, Closing, Renewing, Broken}
 use Rattle.cloud_facts.specs.Acting.{of_option, IsLone, HasLeaseOf}
 use Rattle.cloud_facts.specs.Others.{NoneJoins, Passes, Others}
 use Rattle.cloud_facts.specs.Standing.{StandsUnder}
@@ -23,6 +23,8 @@ use Rattle.lease_facts.specs.Guards.{guard, Allowed}
 use Rattle.lease_facts.specs.Leases.{Hands, LeasesHold}
 use Rattle.lease_facts.proofs.GuardLemmas.{guarded_stays}
 use Rattle.opening_facts.proofs.Others.{opening_others, opening_lease}
+use Rattle.page_facts.specs.Checkpoint.{leases_of_paging}
+use Rattle.page_facts.proofs.PagingOthers.{paging_others}
 use Rattle.recover_run.specs.declared.home.Home.{Home}
 use Rattle.report_types.specs.declared.entry.Entry.{Entry}
 use Rattle.session_facts.specs.Sessions.{leases_of, IsHome, KnowsWork, Knows}
@@ -74,6 +76,11 @@ work_others st su now later (Folding home f) part after o j k = (
       (λ l is. in_behind (home.lease ∷ []) (of_option f.tree_lease ++ of_option f.page_lease) l is) o)
       k.1,
 )
+work_others st su now later (Paging home p) part after o j k = (
+  home_stays st su now later home part (leases_of (Paging home p)) after (0, refl) o k.0,
+  paging_others st su now later p after
+      (fewer (leases_of_paging p) (leases_of (Paging home p)) later st su (λ l is. in_behind (home.lease ∷ []) (leases_of_paging p) l is) o) k.1,
+)
 work_others st su now later (Closing l) part after o j k = k
 work_others st su now later (Renewing home) part after o j k = home_stays st su now later home part (home.lease ∷ []) after (0, refl) o k
 work_others st su now later (Broken l) part after o j k = k
@@ -102,6 +109,7 @@ part_lease st now (Idle home) part k = home_lease st now home part (home.lease �
 part_lease st now (Opening r) part k = opening_lease st now r part k
 part_lease st now (Committing w) part k = commit_lease st now w part k
 part_lease st now (Folding home f) part k = home_lease st now home part (leases_of (Folding home f)) (0, refl) k.0
+part_lease st now (Paging home p) part k = home_lease st now home part (leases_of (Paging home p)) (0, refl) k.0
 part_lease st now (Closing l) part k = away_lease (l ∷ []) part k
 part_lease st now (Renewing home) part k = home_lease st now home part (home.lease ∷ []) (0, refl) k
 part_lease st now (Broken l) part k = away_lease (l ∷ []) part k

@@ -7,5 +7,6 @@ pub mod OpeningSteps
 pub mod CommitLeases
 pub mod CommitSteps
 pub mod FoldingSteps
+pub mod PagingSteps
 pub mod Calling
 pub mod HeadPuts

@@ -5,7 +5,7 @@ use Rattle.client_session.specs.Session.{Acting}
 use Rattle.client_session.specs.declared.op.Op.{Op}
 use Rattle.client_session.specs.declared.op.Op.TheVariants as op
 use Rattle.client_session.specs.declared.work.Work.{Work}
-use Rattle.client_session.specs.declared.work.Work.TheVariants.{Closed, Idle, Opening, Committing, Folding, Closing, Renewing, Broken}
+use Rattle.client_session.specs.declared.work.Work.TheVariants.{Closed, Idle, Opening, Committing, Folding, Paging, Closing, Renewing, Broken}
 use Rattle.cloud_facts.specs.Acting.{of_option, IsLone, KnowsHome}
 use Rattle.cloud_facts.specs.Looks.{audit_of}
 use Rattle.cloud_facts.specs.Standing.{StandsUnder}
@@ -13,10 +13,11 @@ use Rattle.cloud_trait.specs.Claim.{Claim}
 use Rattle.cloud_trait.specs.Growth.{BeginsWith}
 use Rattle.cloud_trait.specs.State.{CloudState, newest}
 use Rattle.commit_facts.specs.Committing.{KnowsCommit, MayCommit}
-use Rattle.db_base.specs.Ids.{IsClient, IsTree}
+use Rattle.db_base.specs.Ids.{IsClient, IsTree, IsPage}
 use Rattle.home_facts.specs.Homes.{Part, Away, Parts, HomesHold}
 use Rattle.lease_facts.specs.Leases.{Hands, LeasesHold}
 use Rattle.opening_facts.specs.Opening.{KnowsOpening, leases_of_recovery}
+use Rattle.page_facts.specs.Checkpoint.{KnowsPaging, leases_of_paging}
 use Rattle.recover_run.specs.declared.home.Home.{Home}
 use Rattle.report_types.specs.declared.entry.Entry.{Entry}
 use Rattle.session_facts.specs.Noting.{audited}
@@ -31,6 +32,7 @@ leases_of (Idle home) = home.lease ∷ []
 leases_of (Opening r) = leases_of_recovery r
 leases_of (Committing w) = w.home.lease ∷ []
 leases_of (Folding home f) = home.lease ∷ (of_option f.tree_lease ++ of_option f.page_lease)
+leases_of (Paging home p) = home.lease ∷ leases_of_paging p
 leases_of (Closing l) = l ∷ []
 leases_of (Renewing home) = home.lease ∷ []
 leases_of (Broken l) = l ∷ []
@@ -46,6 +48,7 @@ KnowsWork st now (Idle home) part = IsHome st now home part
 KnowsWork st now (Opening r) part = KnowsOpening st now r part
 KnowsWork st now (Committing w) part = KnowsCommit st now w part
 KnowsWork st now (Folding home f) part = IsHome st now home part × KnowsFolding st now f
+KnowsWork st now (Paging home p) part = IsHome st now home part × KnowsPaging st now p
 KnowsWork st now (Closing l) part = part ≡ Away
 KnowsWork st now (Renewing home) part = IsHome st now home part
 KnowsWork st now (Broken l) part = part ≡ Away
@@ -73,13 +76,14 @@ pub record SessionsStand (book : Book) (order : List Entry) (s : CloudState) (se
   pub homes : HomesHold (store_of book order s).tally s.now parts
   pub each : (session : ℕ) → Knows (store_of book order s) s.now (sessions session) (parts session)
 
--- an operation names a client, or a tree
+-- an operation names a client, a tree, or a page of a tree
 abbrev pub IsRightOp : Op → Type 0
 IsRightOp (op.Open client) = IsClient client
 IsRightOp op.Close = Unit {0}
 IsRightOp op.Renew = Unit {0}
 IsRightOp op.Commit = Unit {0}
 IsRightOp (op.Tree tree) = IsTree tree
+IsRightOp (op.Page tree page) = IsTree tree × IsPage page
 
 -- what a call of a session leaves: a book and an order for all sessions, of which one is new, that go on exactly by what was seen to land
 pub record Goes (book : Book) (order : List Entry) (s t : CloudState) (sessions : Sessions) (session : ℕ) (new : Acting) : Type 0 where

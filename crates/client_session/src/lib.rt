@@ -1,4 +1,13 @@
 //! A session of a client: it notes changes and works on one operation at a time.
 #![tactic(auto)]
 
+pub mod answer;
+mod closing;
+mod committing;
+mod folding;
+pub mod op;
+mod opening;
+mod renewing;
 pub mod session;
+mod stepping;
+pub mod work;

@@ -1,0 +1,9 @@
+pub mod Kept
+pub mod Messages
+pub mod Sends
+pub mod Marks
+pub mod Begins
+pub mod Others
+pub mod Leading
+pub mod Gathering
+pub mod Clears

@@ -136,7 +136,7 @@ module _ (who : Caller) (before after : Seen) (book : Book) (order : List Entry)
 
   pub paging_step : (work : Work) (turn : Turn Answer) → StepsPaging home who before after p work turn → Stepped work
   paging_step work More (n, steps, is, less) = subst Stepped (sym is) (goes_on steps.answer steps.made n steps.took)
-  paging_step work (Ended (answer.Done done)) (n, steps, is) = subst Stepped (sym is) (ends steps.answer steps.made (Ends n done) steps.took)
+  paging_step work (Ended (answer.Done done)) (n, steps, is) = ends steps.answer steps.made work is
   paging_step work (Ended (answer.Trouble k)) (n, steps, is) = stops steps.answer steps.made k work is
   paging_step work (Stopped k) never = absurd never
   paging_step work (Ended answer.Closed) never = absurd never

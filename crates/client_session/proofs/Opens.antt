@@ -1,5 +1,5 @@
 -- An opening opens a client to its end: it never answers as a settling does.
-use Rattle.std.proofs.Common.{◌≡◌, ◌+◌, ◌-◌, ◌^◌, List, [], ◌∷◌, ◌++◌, length, Option, Some, None, Result, Ok, Err, refl, sym, subst, Bool, true, false, cond}
+use Rattle.std.proofs.Common.{◌≡◌, ◌+◌, ◌-◌, ◌^◌, ℕ, List, [], ◌∷◌, ◌++◌, length, Option, Some, None, Result, Ok, Err, sym, subst, Bool, true, false, cond}
 use Rattle.std.specs.Prelude.{◌==◌, slice_get}
 use Rattle.db_base.specs.declared.names.Lock.TheVariants as lock
 use Rattle.db_base.specs.declared.trouble.Trouble.{Trouble}
@@ -18,7 +18,6 @@ use Rattle.cloud_trait.specs.Claim.{Claim}
 use Rattle.cloud_trait.specs.Machine.{Goes, Ends, Stops, LeadsBy, Took}
 use Rattle.cloud_trait.specs.Views.{given_of, got_of, sent_of, received_of, done_of}
 use Rattle.recover_run.specs.declared.items.AtomicItem.{AtomicItem}
-use Rattle.recover_run.specs.declared.stage.Aim.TheVariants.{Opening}
 use Rattle.recover_run.specs.declared.stage.Stage.{Stage}
 use Rattle.recover_run.specs.declared.stage.Stage.TheVariants.{ReleasingOld, Taking, Getting, Receiving, Deleting, Sending, Putting, Clearing, Sweeping, Releasing, Finished}
 use Rattle.recover_run.specs.declared.stage.RecoverAnswer.{RecoverAnswer}
@@ -26,7 +25,7 @@ use Rattle.recover_run.specs.declared.stage.RecoverAnswer.TheVariants.{Opened, N
 use Rattle.recover_run.specs.Gathering.{gathered_with, lost_now, past_ids}
 use Rattle.recover_run.specs.Ids.{new_ids, rest_of}
 use Rattle.recover_run.specs.Items.{items_of}
-use Rattle.recover_run.specs.Recovery.{Recovery, Step, recovery_next, next_at, taken_by, got_by, none_read, bytes_read, head_read, phase_read, behind, stopping, goes_to, received_by, gathered_by, deleting, next_deletion, decided, deleted_by, send_at, send_or_put, sent_by, with_pending, put_by, kept_ids, clearing, next_clearing, swept_by, swept_with, sweeping, next_sweep, opened, ended, KeepsLeases}
+use Rattle.recover_run.specs.Recovery.{Recovery, Step, recovery_next, next_at, taken_by, got_by, none_read, bytes_read, head_read, phase_read, behind, stopping, goes_to, received_by, gathered_by, deleting, next_deletion, decided, deleted_by, send_at, send_or_put, sent_by, with_pending, put_by, kept_ids, clearing, swept_by, swept_with, sweeping, opened, ended, KeepsLeases}
 use Rattle.client_session.specs.Session.{IsOpening, StopsAtMost}
 
 -- a step goes on with an opening, or ends as one

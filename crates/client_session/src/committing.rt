@@ -26,7 +26,6 @@ pub(crate) fn commit_noted(alloc: Global, home: Home, changes: TxnBuffer) -> (Wo
 }
 
 /// Begins the commit of changes by a home: what is in hand then.
-#[tactic(auto, using(crate::proofs::Readying::no_stop))]
 fn commit_of(alloc: Global, home: Home, changes: TxnBuffer) -> (Work, Begun)
     requires { 1 ≤ length changes }
     ensures commits { CommitsOf home changes result.0 result.1 }

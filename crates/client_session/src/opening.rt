@@ -22,7 +22,6 @@ pub(crate) fn opening(alloc: Global, client: ClientId, old: Option<Lease>) -> Wo
 }
 
 /// Makes the call in hand of an opening.
-#[tactic(auto, using(crate::proofs::Opens::goes_on, crate::proofs::Opens::never_nothing))]
 pub(crate) fn step_opening<C: Cloud>(
     alloc: Global,
     cloud: &mut C,

@@ -82,6 +82,12 @@ pub record Outcome (who : Caller) (book : Book) (order : List Entry) (s t : Clou
   pub knows : Knows (store_of book_after order_after t) t.now part
   pub noted : audited_at (newest s) (newest t) ask note (audit_of book order) ≡ audit_of book_after order_after
 
+-- what a machine knows that touches neither the session's part nor any head
+pub record Aside (st : Store) (before : Part) (Knows : Store → ℕ → Type 0) (u : Store) (now : ℕ) (part : Part) : Type 0 where
+  pub part_is : part ≡ before
+  pub heads : (client : ℕ) → u.tally.head client ≡ st.tally.head client
+  pub knows : Knows u now
+
 -- what a call does to the leases in hand: it names the session's own, which guard what it puts, and none is new but one that it was given
 -- or that a renewal left
 pub record Handles (who : Caller) (s t : CloudState) (ask : Ask) (reply : Answer) (mine after : List Claim) : Type 0 where

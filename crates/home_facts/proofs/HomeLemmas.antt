@@ -547,3 +547,31 @@ spared_own t now parts session g id is none own holds other h r at_home same las
       where
         apart : h.client ≡ g.client → h.epoch ≢ g.epoch
         apart = subst (λ q. AreApart now (AtHome h) q) is (subst (λ p. AreApart now p (parts session)) at_home (holds.apart other session ne))
+
+-- ---- neither heads nor messages of ATOMIC queues change
+
+opening_aside : (t u : Tally) (now : ℕ) (o : Opening) → u.head ≡ t.head → OpeningHolds t now o → OpeningHolds u now o
+opening_aside t u now o heads k = record {
+  is_client = k.is_client;
+  later = subst (λ (h : ℕ → Head). (h o.client ≡ o.read) ⊎ (o.read.epoch < (h o.client).epoch)) (sym heads) k.later;
+  newest = λ lasts. subst (λ (h : ℕ → Head). h o.client ≡ o.read) (sym heads) (k.newest lasts);
+}
+
+home_aside : (t u : Tally) (now : ℕ) (g : Home) → u.head ≡ t.head → u.logged ≡ t.logged → HomeHolds t now g → HomeHolds u now g
+home_aside t u now g heads logs k = record {
+  is_client = k.is_client;
+  early = subst (λ (h : ℕ → Head). g.epoch ≤ (h g.client).epoch) (sym heads) k.early;
+  begun = subst (λ (l : ℕ → List Posted). Begun (l g.client) g) (sym logs) k.begun;
+  own = subst (λ (l : ℕ → List Posted). Own (l g.client) g) (sym logs) k.own;
+  newest = λ lasts. subst (λ (h : ℕ → Head). (h g.client).epoch ≡ g.epoch) (sym heads) (k.newest lasts);
+  needs = k.needs;
+  waiting = subst (λ (l : ℕ → List Posted). Waiting now (l g.client) g) (sym logs) k.waiting;
+}
+
+pub aside_keeps : (t u : Tally) (now : ℕ) (parts : Parts) → u.head ≡ t.head → u.logged ≡ t.logged → HomesHold t now parts → HomesHold u now parts
+aside_keeps t u now parts heads logs h = record { each = λ s. on (parts s) (h.each s); apart = h.apart }
+  where
+    on : (p : Part) → PartHolds t now p → PartHolds u now p
+    on Away k = tt
+    on (AtHome g) k = home_aside t u now g heads logs k
+    on (Opens o) k = opening_aside t u now o heads k

@@ -1,0 +1,5 @@
+pub mod Received
+pub mod Runs
+pub mod Marks
+pub mod Leaves
+pub mod Takes

@@ -28,7 +28,7 @@ use Rattle.decoding_facts.specs.Kinds.{MomentsDiffer}
 use Rattle.decoding_facts.proofs.Newest.{newest_last}
 use Rattle.history.specs.Audited.{Audited, committed_entry}
 use Rattle.client_session.specs.declared.work.Work.{Work}
-use Rattle.client_session.specs.declared.work.Work.TheVariants.{Closed, Idle, Opening, Committing, Folding, Closing, Renewing, Broken}
+use Rattle.client_session.specs.declared.work.Work.TheVariants.{Closed, Idle, Opening, Committing, Paging, Folding, Closing, Renewing, Broken}
 use Rattle.client_session.specs.Session.{ask_of_work, committing_of, opens_of}
 use Rattle.replay_meaning.specs.Standing.{Line, Standing, standing}
 use Rattle.replay_meaning.specs.Committed.{committed, entries_of_bytes, entries_of_head, entries_of_phase, changes_at}
@@ -131,6 +131,7 @@ opened_entries client bytes head count changes e f = ap (λ o. entries_of_head c
 pub working_changes : (w : Work) (s : Standing) (changes : List Noted) → WorksAs w s → committing_of w ≡ Some changes → changes_at s.posture ≡ changes
 working_changes (Committing m) s changes acts e = let same : m.changes ≡ changes = cc in ap changes_at acts.0 ∙ same
 working_changes (Opening m) s changes acts e = absurd (cc)
+working_changes (Paging home p) s changes acts e = absurd (cc)
 working_changes (Folding home f) s changes acts e = absurd (cc)
 working_changes (Closing lease) s changes acts e = absurd (cc)
 working_changes (Renewing home) s changes acts e = absurd (cc)

@@ -2,6 +2,7 @@ pub mod Lists
 pub mod CommittedLemmas
 pub mod OrderLemmas
 pub mod FoldingTree
+pub mod PagingPage
 pub mod OpeningSteps
 pub mod CommitSteps
 pub mod Commits

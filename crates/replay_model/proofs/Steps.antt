@@ -17,10 +17,11 @@ use Rattle.history.specs.Audited.{Audited}
 use Rattle.recover_run.specs.Recovery.{recovery_ask}
 use Rattle.commit_writes.specs.Writing.{writing_ask}
 use Rattle.first_tree.specs.Folding.{folding_ask}
+use Rattle.page_ckpt.specs.Paging.{paging_ask}
 use Rattle.client_session.specs.declared.answer.Answer.{Answer}
 use Rattle.client_session.specs.declared.answer.Answer.TheVariants as answer
 use Rattle.client_session.specs.declared.work.Work.{Work}
-use Rattle.client_session.specs.declared.work.Work.TheVariants.{Closed, Idle, Opening, Committing, Folding, Closing, Renewing, Broken}
+use Rattle.client_session.specs.declared.work.Work.TheVariants.{Closed, Idle, Opening, Committing, Paging, Folding, Closing, Renewing, Broken}
 use Rattle.client_session.specs.Session.{Acting, StepsSession, StepsAt, ask_of_work}
 use Rattle.replay_meaning.specs.Standing.{Line, standing}
 use Rattle.replay_meaning.specs.Committed.{committed}
@@ -54,6 +55,10 @@ made_call who before after (Committing m) new More p = record { ask = writing_as
 made_call who before after (Committing m) new (Ended (answer.Commit a)) p = record { ask = writing_ask m; answer = p.1.1.answer; hand = refl; made = p.1.1.made }
 made_call who before after (Committing m) new (Ended (answer.Trouble k)) p = record { ask = writing_ask m; answer = p.1.1.answer; hand = refl; made = p.1.1.made }
 made_call who before after (Committing m) new turn p = absurd p.1
+made_call who before after (Paging home m) new More p = record { ask = paging_ask m; answer = p.1.answer; hand = refl; made = p.1.made }
+made_call who before after (Paging home m) new (Ended (answer.Done n)) p = record { ask = paging_ask m; answer = p.1.answer; hand = refl; made = p.1.made }
+made_call who before after (Paging home m) new (Ended (answer.Trouble k)) p = record { ask = paging_ask m; answer = p.1.answer; hand = refl; made = p.1.made }
+made_call who before after (Paging home m) new turn p = absurd p
 made_call who before after (Folding home f) new More p = record { ask = folding_ask f; answer = p.1.answer; hand = refl; made = p.1.made }
 made_call who before after (Folding home f) new (Ended (answer.Done n)) p = record { ask = folding_ask f; answer = p.1.answer; hand = refl; made = p.1.made }
 made_call who before after (Folding home f) new (Ended (answer.Trouble k)) p = record { ask = folding_ask f; answer = p.1.answer; hand = refl; made = p.1.made }
@@ -72,6 +77,7 @@ made_call who before after (Broken lease) new turn p = absurd p
 pub never_stops : (who : Caller) (before after : Seen) (w new : Work) (t : Trouble) → StepsAt who before after w new (Stopped t) → ⊥
 never_stops who before after (Opening m) new t p = p.1
 never_stops who before after (Committing m) new t p = p.1
+never_stops who before after (Paging home m) new t p = p
 never_stops who before after (Folding home f) new t p = p
 never_stops who before after (Closing lease) new t p = p
 never_stops who before after (Renewing home) new t p = p
@@ -83,6 +89,7 @@ never_stops who before after (Broken lease) new t p = p
 sound_of : (who : Caller) (before after : Seen) (w new : Work) (turn : Turn Answer) → StepsAt who before after w new turn → IsSoundWork w
 sound_of who before after (Opening m) new turn p = p.0
 sound_of who before after (Committing m) new turn p = p.0
+sound_of who before after (Paging home m) new turn p = tt
 sound_of who before after (Folding home f) new turn p = tt
 sound_of who before after (Closing lease) new turn p = tt
 sound_of who before after (Renewing home) new turn p = tt

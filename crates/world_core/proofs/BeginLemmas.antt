@@ -1,7 +1,7 @@
 -- Lines that begin an operation, note a change or drop what was noted.
 use Rattle.std.proofs.Common.{◌≡◌, ◌+◌, ◌≤◌, ℕ, List, [], ◌∷◌, ◌++◌, length, None, Result, Ok, Err, refl, sym, ap, subst, ◌∙◌, ◌⊎◌, inl, inr, ◌≢◌}
 use Rattle.std.proofs.lemmas.Bool.{cases_eq}
-use Rattle.db_base.specs.Ids.{IsClient, IsTree}
+use Rattle.db_base.specs.Ids.{IsClient, IsTree, IsPage}
 use Rattle.db_base.specs.Change.{IsChange}
 use Rattle.db_base.specs.declared.change.Change.{Change}
 use Rattle.db_base.specs.declared.refusal.Refusal.{Refusal}
@@ -26,7 +26,7 @@ use Rattle.client_session.specs.declared.op.Op.{Op}
 use Rattle.client_session.specs.declared.op.Op.TheVariants as op
 use Rattle.client_session.specs.declared.work.Work.{Work}
 use Rattle.client_session.specs.declared.work.Work.TheVariants as work
-use Rattle.client_session.specs.Session.{Acting, Begins, BeginsOpening, BeginsWith, HasInHand, CommitsNothing, CommitsNoted, CommitsIn, CommitsOf, folding_begun_by, old_lease, rule_of}
+use Rattle.client_session.specs.Session.{Acting, Begins, BeginsOpening, BeginsWith, HasInHand, CommitsNothing, CommitsNoted, CommitsIn, CommitsOf, paging_begun_by, folding_begun_by, old_lease, rule_of}
 use Rattle.session_facts.specs.Sessions.{Sessions, SessionsStand, IsRightOp}
 use Rattle.session_facts.proofs.Begins.{begins_keeps}
 use Rattle.session_facts.proofs.Laws.{buffer_keeps, same_sessions}
@@ -173,6 +173,13 @@ pub folding_begun : (lines : List Line) (k tree : ℕ) (r : Reply) (before after
 folding_begun lines k tree r before after old new t is ready c =
     in_hand_begun lines (event.Tree k tree) k r before after old new t ready (op.Tree tree) (folding_begun_by tree) is c
     (λ home idle. record { buffer = same_buffer lines (event.Tree k tree) k r before after old new t ready (op.Tree tree) c; work = (refl, idle.1) }) c.does.begins
+
+pub paging_begun : (lines : List Line) (k tree page : ℕ) (r : Reply) (before after : Seen) (old new : World) (t : CloudState) → IsTree tree → IsPage page
+    → Ready lines (event.Page k tree page) k before after old new t → Changes k (BeginsOp (op.Page tree page) (Ok r)) old.sessions new.sessions
+    → StandsFor (lines ++ line_of (event.Page k tree page) r ∷ []) new after r
+paging_begun lines k tree page r before after old new t is_tree is_page ready c =
+    in_hand_begun lines (event.Page k tree page) k r before after old new t ready (op.Page tree page) (paging_begun_by tree page) (is_tree, is_page) c
+    (λ home idle. record { buffer = same_buffer lines (event.Page k tree page) k r before after old new t ready (op.Page tree page) c; work = (refl, idle.1) }) c.does.begins
 
 pub close_begun : (lines : List Line) (k : ℕ) (r : Reply) (before after : Seen) (old new : World) (t : CloudState)
     → Ready lines (event.Close k) k before after old new t → Changes k (BeginsOp op.Close (Ok r)) old.sessions new.sessions

@@ -1,6 +1,6 @@
 -- What a line asks, and of which session.
 use Rattle.std.specs.Prelude.{ℕ, ◌≡◌, ◌<◌, List, length, ◌⊎◌, Result, Ok, Err}
-use Rattle.db_base.specs.Ids.{IsClient, IsTree}
+use Rattle.db_base.specs.Ids.{IsClient, IsTree, IsPage}
 use Rattle.db_base.specs.Key.{IsKey, IsPayload}
 use Rattle.db_base.specs.declared.change.Change.{Change}
 use Rattle.db_base.specs.declared.change.Change.TheVariants.{Insert, Update, Delete}
@@ -21,6 +21,11 @@ use Rattle.db_base.specs.declared.wish.Wish.{Wish}
 abbrev pub IsOpening : ℕ → Result Request Refused → Type 0
 IsOpening client (Ok request) = IsClient client × (request ≡ Begin (op.Open client))
 IsOpening client (Err why) = (IsClient client → ⊥) × (why ≡ refused.Rule rule.BadNumber)
+
+-- the checkpoint of a page of a tree, or one of the two numbers is none
+abbrev pub IsPaging : ℕ → ℕ → Result Request Refused → Type 0
+IsPaging tree page (Ok request) = IsTree tree × IsPage page × (request ≡ Begin (op.Page tree page))
+IsPaging tree page (Err why) = (IsTree tree → IsPage page → ⊥) × (why ≡ refused.Rule rule.BadNumber)
 
 -- the checkpoint of a tree, or its number is no tree's
 abbrev pub IsFolding : ℕ → Result Request Refused → Type 0
@@ -86,6 +91,7 @@ Asks (event.Close session) asked = OfSession session (λ request. request ≡ Ok
 Asks (event.Renew session) asked = OfSession session (λ request. request ≡ Ok (Begin op.Renew)) asked
 Asks (event.Commit session) asked = OfSession session (λ request. request ≡ Ok (Begin op.Commit)) asked
 Asks (event.Abort session) asked = OfSession session (λ request. request ≡ Ok Abort) asked
+Asks (event.Page session tree page) asked = OfSession session (IsPaging tree page) asked
 Asks (event.Tree session tree) asked = OfSession session (IsFolding tree) asked
 Asks (event.Run session) asked = OfSession session (λ request. request ≡ Ok Run) asked
 Asks (event.Step session wish) asked = OfSession session (IsStep wish) asked

@@ -1,12 +1,12 @@
 //! What a line asks, and of which session.
 
 ghost use Rattle.std.specs.Prelude.{◌≡◌};
-ghost use Rattle.world_core.specs.Asked.{Asks, IsDelete, IsInsert, IsUpdate, IsOpening, IsFolding, IsNoted, IsStep};
+ghost use Rattle.world_core.specs.Asked.{Asks, IsDelete, IsInsert, IsUpdate, IsOpening, IsPaging, IsFolding, IsNoted, IsStep};
 
 use client_session::op::Op;
 use db_base::blob::Blob;
 use db_base::change::Change;
-use db_base::ids::{ClientId, TreeId};
+use db_base::ids::{ClientId, PageId, TreeId};
 use db_base::key::{Key, Payload};
 use db_base::refusal::Refused;
 use db_base::wish::{Positions, Wish};
@@ -69,15 +69,18 @@ impl Asked {
             Event::Renew { session } => Asked::Session(*session, Ok(Request::Begin(Op::Renew))),
             Event::Commit { session } => Asked::Session(*session, Ok(Request::Begin(Op::Commit))),
             Event::Abort { session } => Asked::Session(*session, Ok(Request::Abort)),
+            Event::Page {
+                session,
+                tree,
+                page,
+            } => Asked::Session(*session, paging_of(*tree, *page)),
             Event::Tree { session, tree } => Asked::Session(*session, folding_of(*tree)),
             Event::Run { session } => Asked::Session(*session, Ok(Request::Run)),
             Event::Step { session, wish } => Asked::Session(*session, step_of(alloc, wish)),
             Event::Crash { session, done } => Asked::Session(*session, Ok(Request::Crash(*done))),
             Event::Wait { ticks } => Asked::Wait(*ticks),
             Event::Report { tree } => Asked::Report(*tree),
-            Event::Read { .. } | Event::Scan { .. } | Event::Page { .. } | Event::Settle => {
-                Asked::Unbuilt
-            }
+            Event::Read { .. } | Event::Scan { .. } | Event::Settle => Asked::Unbuilt,
         }
     }
 }
@@ -88,6 +91,20 @@ fn opening_of(client: u64) -> Result<Request, Refused>
 {
     match ClientId::new(client) {
         Ok(client) => Ok(Request::Begin(Op::Open(client))),
+        Err(rule) => Err(Refused::Rule(rule)),
+    }
+}
+
+/// The checkpoint of the page of this number, of the tree of this number.
+fn paging_of(tree: u64, page: u64) -> Result<Request, Refused>
+    ensures { IsPaging tree page result }
+{
+    let tree = match TreeId::new(tree) {
+        Ok(tree) => tree,
+        Err(rule) => return Err(Refused::Rule(rule)),
+    };
+    match PageId::new(page) {
+        Ok(page) => Ok(Request::Begin(Op::Page(tree, page))),
         Err(rule) => Err(Refused::Rule(rule)),
     }
 }

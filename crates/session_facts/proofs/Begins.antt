@@ -1,6 +1,6 @@
 -- What an operation that begins leaves.
 use Rattle.std.proofs.Common.{◌≡◌, ◌≤◌, ◌⊎◌, inl, inr, ℕ, List, [], ◌∷◌, length, Option, Some, None, Result, Ok, Err, refl, sym, ap, subst, ◌∙◌}
-use Rattle.client_session.specs.Session.{Acting, Begins, BeginsOpening, BeginsWith, HasInHand, folding_begun_by, opening_rule_of, opening_after, old_lease, CommitsOf, CommitsNothing, CommitsIn}
+use Rattle.client_session.specs.Session.{Acting, Begins, BeginsOpening, BeginsWith, HasInHand, folding_begun_by, opening_rule_of, opening_of, old_lease, CommitsOf, CommitsNothing, CommitsIn}
 use Rattle.client_session.specs.declared.answer.Answer.TheVariants as answer
 use Rattle.client_session.specs.declared.answer.Begun.{Begun}
 use Rattle.client_session.specs.declared.answer.Begun.TheVariants.{Working, Answered}
@@ -77,9 +77,9 @@ module _ (book : Book) (order : List Entry) (s : CloudState) (sessions : Session
   old_within (Closing l) client x is = absurd (in_none [] x refl is)
   old_within (Renewing home) client x is = absurd (in_none [] x refl is)
 
-  opening_after_all : (client : ℕ) → IsClient client → opening_rule_of old.work ≡ None → After (record { buffer = []; work = opening_after old.work client })
+  opening_after_all : (client : ℕ) → IsClient client → opening_rule_of old.work ≡ None → After (record { buffer = []; work = opening_of client (old_lease old.work) })
   opening_after_all client c none =
-      session_rests book order s sessions session (record { buffer = []; work = opening_after old.work client }) stand (λ x is. old_within old.work client x is)
+      session_rests book order s sessions session (record { buffer = []; work = opening_of client (old_lease old.work) }) stand (λ x is. old_within old.work client x is)
       (record {
         work = subst (λ p. KnowsOpening st s.now (new_recovery client aim.Opening (old_lease old.work)) p) (sym (no_part old.work (stand.parts session) none known.work))
             (opening_begins st s.now client aim.Opening (old_lease old.work) c);

@@ -3,7 +3,7 @@ use Rattle.std.proofs.Common.{◌≡◌, ◌≢◌, ◌≤◌, ◌⊎◌, inl, i
 use Rattle.std.specs.Prelude.{map}
 use Rattle.std.proofs.lemmas.Bool.{cases_eq}
 use Rattle.std.proofs.lemmas.List.{append-nil}
-use Rattle.client_session.specs.Session.{Acting, StepsSession, StepsWork, StepsAt, ask_of_work, opens_of, applying_of, is_working, noted_behind}
+use Rattle.client_session.specs.Session.{Acting, StepsSession, StepsWork, StepsAt, ask_of_work, opens_of, committing_of, applying_of, is_working, noted_behind}
 use Rattle.client_session.specs.declared.answer.Answer.{Answer}
 use Rattle.client_session.specs.declared.work.Work.{Work}
 use Rattle.client_session.specs.declared.work.Work.TheVariants.{Closed, Idle, Opening, Committing, Folding, Closing, Renewing, Broken}
@@ -46,7 +46,10 @@ use Rattle.txn_buffer.specs.Noted.{Noted}
 
 -- what is at work and neither commits nor applies adds nothing
 nothing_noted : (work : Work) (ask : Ask) (a : Audited) → opens_of work ≡ None → applying_of work ≡ [] → noted_at work ask a ≡ a
-nothing_noted work (PutHeld (object.Head client) bytes one two) a opens applies = ap (λ o. noted_head client o _ a) opens
+nothing_noted work (PutHeld (object.Head client) bytes one two) a opens applies = ap (λ o. noted_head client o (committing_of work) a) opens ∙ none_opens (committing_of work)
+  where
+    none_opens : (changes : Option (List Noted)) → noted_head client None changes a ≡ a
+    none_opens changes = refl
 nothing_noted work (PutHeld (object.Page tree page) bytes one two) a opens applies =
     ap (λ items. record a { order = a.order ++ map (applied_entry tree) items }) applies ∙ ap (λ es. record a { order = es }) (append-nil a.order)
 nothing_noted work (PutHeld (object.Tree tree) bytes one two) a opens applies = refl

@@ -24,7 +24,11 @@ use Rattle.commit_facts.specs.Noting.{commit_note, noted_head as adds_head}
 use Rattle.commit_facts.proofs.CommitHands.{commit_handles}
 use Rattle.commit_facts.proofs.CommitLemmas.{commit_outcome}
 use Rattle.commit_writes.specs.Sound.{IsSound}
-use Rattle.commit_writes.specs.Writing.{Writing, writing_ask, writing_next, opens_at, KeepsHome}
+use Rattle.commit_writes.specs.declared.stage.Stage.{Stage}
+use Rattle.commit_writes.specs.declared.stage.Stage.TheVariants.{Waiting, Logging, Opening, Sending, Settling, Deleting, Finished}
+use Rattle.commit_writes.specs.Writing.{Writing, send_ask, delete_ask, ask_at, writing_ask, writing_next, opens_at, KeepsHome}
+use Rattle.std.specs.Prelude.{Bool, true, false, slice_get}
+use Rattle.log_codec.specs.declared.record.AtomicRec.{AtomicRec}
 use Rattle.db_base.specs.declared.names.ObjName.TheVariants as object
 use Rattle.db_base.specs.declared.trouble.Trouble.TheVariants as trouble
 use Rattle.db_base.specs.declared.trouble.CommitAnswer.{CommitAnswer}
@@ -50,7 +54,35 @@ head_noted : (client : ℕ) (o : Option Head) (changes : List Noted) (a : Audite
 head_noted client (Some head) changes a = refl
 head_noted client None changes a = refl
 
--- a commit applies nothing, so a put of a page that it does not make would add nothing
+-- a commit puts no page
+abbrev puts_page : Ask → Bool
+puts_page (PutHeld (object.Page tree page) bytes one two) = true
+puts_page ask = false
+
+send_none : (w : Writing) (o : Option AtomicRec) → puts_page (send_ask w o) ≡ false
+send_none w (Some r) = refl
+send_none w None = refl
+
+delete_none : (w : Writing) (o : Option ℕ) → puts_page (delete_ask w o) ≡ false
+delete_none w (Some id) = refl
+delete_none w None = refl
+
+asks_none : (w : Writing) (stage : Stage) → puts_page (ask_at stage w) ≡ false
+asks_none w Waiting = refl
+asks_none w Logging = refl
+asks_none w Opening = refl
+asks_none w Sending = send_none w (slice_get w.records w.place)
+asks_none w Settling = refl
+asks_none w Deleting = delete_none w (slice_get w.ids w.place)
+asks_none w Finished = refl
+
+no_page : (w : Writing) (tree page : ℕ) (bytes : List ℕ) (one : Claim) (two : Option Claim) → writing_ask w ≡ PutHeld (object.Page tree page) bytes one two → ⊥
+no_page w tree page bytes one two e = never (sym (ap puts_page e) ∙ asks_none w w.stage)
+  where
+    never : true ≡ false → ⊥
+    never same = cc
+
+-- so all that it adds is at the put of a head
 pub commit_noted : (w : Writing) (ask : Ask) (a : Audited) → writing_ask w ≡ ask → noted_at (Committing w) ask a ≡ commit_note w ask a
 commit_noted w (PutHeld (object.Head client) bytes one two) a is = head_noted client (opens_at w.stage w) w.changes a
 commit_noted w (PutHeld (object.Page tree page) bytes one two) a is = absurd (no_page w tree page bytes one two is)

@@ -136,7 +136,7 @@ module _ (who : Caller) (before after : Seen) (book : Book) (order : List Entry)
 
   pub folding_step : (work : Work) (turn : Turn Answer) → StepsFolding home who before after f work turn → Stepped work
   folding_step work More (n, steps, is) = subst Stepped (sym is) (goes_on steps.answer steps.made n steps.took)
-  folding_step work (Ended (answer.Done done)) (n, steps, is) = subst Stepped (sym is) (ends steps.answer steps.made (Ends n done) steps.took)
+  folding_step work (Ended (answer.Done done)) (n, steps, is) = ends steps.answer steps.made work is
   folding_step work (Ended (answer.Trouble k)) (n, steps, is) = stops steps.answer steps.made k work is
   folding_step work (Stopped k) never = absurd never
   folding_step work (Ended answer.Closed) never = absurd never

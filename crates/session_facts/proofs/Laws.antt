@@ -81,7 +81,7 @@ hands_beside : (sessions : Sessions) (session : ℕ) (new : Acting) (n : ℕ) �
 hands_beside sessions session new n ne = ap (λ (a : Acting). leases_of a.work) (at_other session new sessions n ne)
 
 module _ (who : Caller) (s t : CloudState) (sessions : Sessions) (ask : Ask) (reply : Reply) (call : IsCall who ask reply s t) where
-  mine : List Claim
+  abbrev mine : List Claim
   mine = hands_of sessions who.session
 
   -- the leases of all after a call of one
@@ -97,6 +97,10 @@ module _ (who : Caller) (s t : CloudState) (sessions : Sessions) (ask : Ask) (re
 -- ---- what stands before a call
 
 module _ (book : Book) (order : List Entry) (s : CloudState) (sessions : Sessions) (stand : SessionsStand book order s sessions) where
+  -- the lease of each part is in hand
+  lease_there : (other : ℕ) → HasLeaseOf (hands_of sessions other) (stand.parts other)
+  lease_there other = part_lease (store_of book order s) s.now (sessions other).work (stand.parts other) (stand.each other).work
+
   -- a lease in hand of a client that lasts later lasts now, and no other session has a lasting one
   alone_at : (now session : ℕ) (l : Claim) (client : ℕ) → s.now ≤ now → IsIn (hands_of sessions session) l → l.lock ≡ lock.Client client → Lasts now l → IsAlone now stand.parts session client
   alone_at now session l client later here at lasts other ne = on (stand.parts other) refl
@@ -115,17 +119,11 @@ module _ (book : Book) (order : List Entry) (s : CloudState) (sessions : Session
       on : (p : Part) → stand.parts other ≡ p → IsLastingPart now client p → ⊥
       on Away e never_lasts = never_lasts
       on (AtHome h) e (same, lasting) =
-          let has = subst (λ p. HasLease p) e (part_lease (store_of book order s) s.now (sessions other).work (stand.parts other) (stand.each other).work) in
+          let has : HasLeaseOf (hands_of sessions other) (AtHome h) = subst (HasLeaseOf (hands_of sessions other)) e (lease_there other) in
           never h.lease has.0 (has.1 ∙ ap (λ c. lock.Client c) same) lasting
-        where
-          abbrev HasLease : Part → Type 0
-          HasLease p = HasLeaseOf (hands_of sessions other) p
       on (Opens o) e (same, lasting) =
-          let has = subst (λ p. HasLease p) e (part_lease (store_of book order s) s.now (sessions other).work (stand.parts other) (stand.each other).work) in
+          let has : HasLeaseOf (hands_of sessions other) (Opens o) = subst (HasLeaseOf (hands_of sessions other)) e (lease_there other) in
           never o.lease has.0 (has.1 ∙ ap (λ c. lock.Client c) same) lasting
-        where
-          abbrev HasLease : Part → Type 0
-          HasLease p = HasLeaseOf (hands_of sessions other) p
 
   pub setting_of : (now session : ℕ) → s.now ≤ now → Setting book order s now stand.parts session (leases_of (sessions session).work)
   setting_of now session later = record {
@@ -249,7 +247,7 @@ buffer_keeps book order s sessions session buffer may stand =
 pub rest_keeps : (book : Book) (order : List Entry) (s t : CloudState) (sessions : Sessions) → t.versions ≡ s.versions → t.messages ≡ s.messages → t.locks ≡ s.locks → s.now ≤ t.now
     → SessionsStand book order s sessions → SessionsStand book order t sessions
 rest_keeps book order s t sessions versions messages locks later stand = record {
-  cloud = same_stands book order s t stand.cloud versions messages;
+  cloud = same_stands book order s t versions messages stand.cloud;
   lone = stand.lone;
   leases = subst (λ (ls : Lock → Hold). LeasesHold t.now ls (hands_of sessions)) (sym locks) (later_keeps s.now t.now s.locks (hands_of sessions) later stand.leases);
   parts = stand.parts;

@@ -2,8 +2,8 @@
 use Rattle.std.specs.Prelude.{ℕ, ◌≡◌, List, [], ◌∷◌, ◌++◌}
 use Rattle.checkpoint_facts.specs.Checkpoint.{KnowsFolding}
 use Rattle.client_session.specs.Session.{Acting}
-use Rattle.client_session.specs.declared.session.Op.{Op}
-use Rattle.client_session.specs.declared.session.Op.TheVariants as op
+use Rattle.client_session.specs.declared.op.Op.{Op}
+use Rattle.client_session.specs.declared.op.Op.TheVariants as op
 use Rattle.client_session.specs.declared.work.Work.{Work}
 use Rattle.client_session.specs.declared.work.Work.TheVariants.{Closed, Idle, Opening, Committing, Folding, Closing, Renewing, Broken}
 use Rattle.cloud_facts.specs.Acting.{of_option, IsLone, KnowsHome}

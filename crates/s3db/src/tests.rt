@@ -297,10 +297,45 @@ fn renews_and_closes(rt: HostRuntime) -> Result<(), Fail> {
             b"open 1 1\nrun 1\nclose 1\nstep 1 fail\nclose 1\nopen 2 1\nrun 2\nwait 600\nopen 2 1\nrun 2\n".as_slice(),
             b"1 begun\n2 opened 1\n3 begun\n4 failed\n5 refused 6 not-open\n6 begun\n7 busy client:1 600\n8 waited\n9 begun\n10 opened 2\n".as_slice(),
         ),
+        // A session that dies in its close or in its renewal, once the call is made.
+        (
+            b"open 1 1\nrun 1\nclose 1\ncrash 1 done\nopen 2 1\nrun 2\n".as_slice(),
+            b"1 begun\n2 opened 1\n3 begun\n4 crashed\n5 begun\n6 opened 2\n".as_slice(),
+        ),
+        (
+            b"open 1 1\nrun 1\nwait 100\nrenew 1\ncrash 1 done\nopen 2 1\nrun 2\n".as_slice(),
+            b"1 begun\n2 opened 1\n3 waited\n4 begun\n5 crashed\n6 begun\n7 busy client:1 700\n".as_slice(),
+        ),
+        // A session in doubt opens another client, and its first one is free at once.
+        (
+            b"open 1 1\nrun 1\ninsert 1 1 6b 76\ncommit 1\nstep 1 plain\nstep 1 fail\nopen 1 2\nrun 1\nopen 2 1\nrun 2\n".as_slice(),
+            b"1 begun\n2 opened 1\n3 noted\n4 begun\n5 called\n6 in-doubt\n7 begun\n8 opened 1\n9 begun\n10 opened 2\n".as_slice(),
+        ),
         // A renewal that fails leaves the client open.
         (
             b"renew 1\nopen 1 1\nrun 1\nwait 100\nrenew 1\nstep 1 lost\nrenew 1\nrun 1\n".as_slice(),
             b"1 refused 6 not-open\n2 begun\n3 opened 1\n4 waited\n5 begun\n6 failed\n7 begun\n8 renewed 700\n".as_slice(),
+        ),
+    ] {
+        let (status, sink) = replayed(rt.alloc(), input, &[], &[])?;
+        assert_eq!(rt; status, Status::Done);
+        assert_eq!(rt; sink.written(), output);
+    }
+    Ok(())
+}
+
+#[test]
+fn checkpoints_pages(rt: HostRuntime) -> Result<(), Fail> {
+    for (input, output) in [
+        // An update of a key with a pending entry follows that entry to the tree queue.
+        (
+            b"open 1 1\nrun 1\ninsert 1 1 6b 76\ncommit 1\nrun 1\nupdate 1 1 6b 77\ncommit 1\nrun 1\npage 1 1 1\nrun 1\ntree 1 1\nrun 1\nreport 1\n".as_slice(),
+            b"1 begun\n2 opened 1\n3 noted\n4 begun\n5 committed 1\n6 noted\n7 begun\n8 committed 2\n9 begun\n10 done 0 0 0\n11 begun\n12 done 2 2 0\n13 report 1\ncommitted 2\n1 1 1 insert 6b 76\n1 1 2 update 6b 77\norder 2\n1 1 1 insert 6b 76\n1 1 2 update 6b 77\ncontents 1\n6b 77\nleft 0 0\n".as_slice(),
+        ),
+        // Another client's update waits in the page's queue.
+        (
+            b"open 1 1\nrun 1\nopen 2 2\nrun 2\ninsert 1 1 6b 76\ncommit 1\nrun 1\ntree 1 1\nrun 1\nupdate 2 1 6b 77\ncommit 2\nrun 2\npage 1 1 1\nrun 1\nreport 1\npage 1 1 2\nrun 1\npage 1 1 0\n".as_slice(),
+            b"1 begun\n2 opened 1\n3 begun\n4 opened 1\n5 noted\n6 begun\n7 committed 1\n8 begun\n9 done 1 1 0\n10 noted\n11 begun\n12 committed 1\n13 begun\n14 done 1 1 0\n15 report 1\ncommitted 2\n1 1 1 insert 6b 76\n2 1 1 update 6b 77\norder 2\n1 1 1 insert 6b 76\n2 1 1 update 6b 77\ncontents 1\n6b 77\nleft 0 0\n16 begun\n17 absent 2\n18 refused 5 bad-number\n".as_slice(),
         ),
     ] {
         let (status, sink) = replayed(rt.alloc(), input, &[], &[])?;

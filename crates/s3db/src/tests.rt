@@ -229,8 +229,7 @@ fn finishes_a_commit_that_stays_open(rt: HostRuntime) -> Result<(), Fail> {
             "5 not-committed failed\n6 report 1\ncommitted 0\norder 0\ncontents 0\nleft 0 0\n",
         ),
     ] {
-        let input =
-            format!(in rt.alloc(); "open 1 1\nrun 1\ninsert 1 1 6b 76\ncommit 1\n{steps}")?;
+        let input = format!(in rt.alloc(); "open 1 1\nrun 1\ninsert 1 1 6b 76\ncommit 1\n{steps}")?;
         let want = format!(in rt.alloc(); "1 begun\n2 opened 1\n3 noted\n4 begun\n{replies}")?;
         let (status, sink) = replayed(rt.alloc(), input.as_bytes(), &[], &[])?;
         assert_eq!(rt; status, Status::Done);

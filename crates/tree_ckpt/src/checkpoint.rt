@@ -1,0 +1,105 @@
+//! The machine.
+
+ghost use Rattle.std.specs.Prelude.{◌≡◌, List, OnOk, OnErr};
+ghost use Rattle.cloud_trait.specs.Call.{ask_of};
+ghost use Rattle.cloud_trait.specs.Machine.{Steps};
+
+use ckpt_parts::ids_of;
+use cloud_trait::answer::Answer;
+use cloud_trait::call::Call;
+use cloud_trait::cloud::Cloud;
+use cloud_trait::turn::{CkptAnswer, Turn};
+use cloud_trait::who::Who;
+use db_base::ids::{MsgId, TreeId};
+use db_base::trouble::Trouble;
+use log_codec::record::PuItem;
+use std::alloc::{AllocError, Global};
+use std::marker::Model;
+use std::mem;
+use tree_moves::absorbed::absorbed;
+use tree_moves::called::{Called, make_call};
+use tree_moves::moved::Moved;
+use tree_moves::work::Work;
+
+/// A checkpoint of a tree (the right links and the cuts after Lehman and Yao, 1981).
+#[derive(Drop)]
+pub struct TreeCkpt {
+    tree: TreeId,
+    received: Vec<MsgId>,
+    work: Work,
+}
+
+impl Model for TreeCkpt {
+    ghost use Rattle.tree_ckpt.specs.Making.{Making};
+
+    ghost Value = { Making };
+
+    ghost view = { λ c. record { tree = c.tree; received = c.received.items; work = c.work } };
+}
+
+impl TreeCkpt {
+    ghost use Rattle.tree_moves.specs.Work.{applying_in};
+    ghost use Rattle.tree_ckpt.specs.Making.{new_making, making_ask, with_received, MakingLeads, KeepsLeases};
+
+    /// The checkpoint of a tree. Takes no memory.
+    pub fn new(alloc: Global, tree: TreeId) -> TreeCkpt
+        ensures { result ≡ new_making tree }
+    {
+        TreeCkpt {
+            tree,
+            received: Vec::new(alloc),
+            work: Work::TakingTree,
+        }
+    }
+
+    /// The messages that the receive answered, in order of receipt.
+    pub fn received(&self) -> &[MsgId]
+        ensures { result.now ≡ self.now.received }
+    {
+        self.received.as_slice()
+    }
+
+    /// The items that the put in hand applies, in the order in which it applies them: those of a leaf's own put.
+    pub fn applying(&self) -> &[PuItem]
+        ensures { result.now ≡ applying_in self.now.work }
+    {
+        match &self.work {
+            Work::Folding(_, folding) => folding.applying(),
+            _ => &[],
+        }
+    }
+
+    /// The service call that the next step makes.
+    pub fn in_hand(&self) -> Call<'_>
+        ensures { ask_of result ≡ making_ask self.now }
+    {
+        self.work.in_hand(self.tree)
+    }
+
+    /// Keeps the ids of a receive's messages. Refused for memory alone.
+    fn note(&mut self, alloc: Global, answer: &Answer) -> Result<(), AllocError>
+        ensures ok { OnOk result (self.new ≡ with_received self.old answer.now) }
+        ensures err { OnErr result (self.new ≡ self.old) }
+    {
+        if let Answer::Received(messages) = answer {
+            self.received = ids_of(alloc, messages.as_slice())?;
+        }
+        Ok(())
+    }
+
+    /// Makes the call in hand, and does the local work up to the next one.
+    pub fn step<C: Cloud>(&mut self, alloc: Global, cloud: &mut C, who: Who) -> Turn<CkptAnswer>
+        ensures { Steps making_ask MakingLeads KeepsLeases who (C.seen cloud.old) (C.seen cloud.new) self.old self.new result }
+    {
+        let tree = self.tree;
+        let work = mem::replace(&mut self.work, Work::Finished);
+        let Called { answer, work } = make_call(cloud, who, tree, work);
+        if self.note(alloc, &answer).is_err() {
+            self.work = work;
+            return Turn::Stopped(Trouble::Memory);
+        }
+        let Moved { work, turn } = absorbed(alloc, tree, work, answer);
+        self.work = work;
+        turn
+    }
+}

@@ -1,9 +1,10 @@
 //! The machine.
 
-ghost use Rattle.std.specs.Prelude.{◌≡◌, List, OnOk, OnErr};
+ghost use Rattle.std.specs.Prelude.{◌≡◌, ◌<◌, List, OnOk, OnErr};
 ghost use Rattle.cloud_trait.specs.Call.{ask_of};
-ghost use Rattle.cloud_trait.specs.Machine.{Steps};
+ghost use Rattle.cloud_trait.specs.Machine.{Steps, Deed};
 
+use crate::short::work_is_short;
 use ckpt_parts::ids_of;
 use cloud_trait::answer::Answer;
 use cloud_trait::call::Call;
@@ -38,7 +39,10 @@ impl Model for TreeCkpt {
 }
 
 impl TreeCkpt {
-    ghost use Rattle.tree_moves.specs.Work.{applying_in};
+    ghost use Rattle.ckpt_parts.specs.Leasing.{outstanding};
+    ghost use Rattle.tree_moves.specs.Work.{applying_in, claims_in};
+    ghost use Rattle.tree_ckpt.specs.Ending.{calls_in};
+    ghost use Rattle.tree_ckpt.specs.Standing.{Went, Names, GivesBack};
     ghost use Rattle.tree_ckpt.specs.Making.{new_making, making_ask, with_received, MakingLeads, KeepsLeases};
 
     /// The checkpoint of a tree. Takes no memory.
@@ -89,7 +93,15 @@ impl TreeCkpt {
 
     /// Makes the call in hand, and does the local work up to the next one.
     pub fn step<C: Cloud>(&mut self, alloc: Global, cloud: &mut C, who: Who) -> Turn<CkptAnswer>
-        ensures { Steps making_ask MakingLeads KeepsLeases who (C.seen cloud.old) (C.seen cloud.new) self.old self.new result }
+        ensures steps { Steps making_ask MakingLeads KeepsLeases who (C.seen cloud.old) (C.seen cloud.new) self.old self.new result }
+        // Each step that goes on leaves fewer calls.
+        ensures less { (h : List Deed) → Went h self.old → result ≡ Turn.More → calls_in self.new.work < calls_in self.old.work }
+        // The leases that it holds are those that it took and has not given back.
+        ensures leases { (h : List Deed) → Went h self.old → claims_in self.old.work ≡ outstanding h }
+        // The call names leases that it holds, and takes no lock that it holds.
+        ensures names { (h : List Deed) → Went h self.old → Names (making_ask self.old) (outstanding h) }
+        // Before an end all leases are given back.
+        ensures gives_back { (h : List Deed) → Went h self.old → GivesBack self.new result }
     {
         let tree = self.tree;
         let work = mem::replace(&mut self.work, Work::Finished);
@@ -99,6 +111,7 @@ impl TreeCkpt {
             return Turn::Stopped(Trouble::Memory);
         }
         let Moved { work, turn } = absorbed(alloc, tree, work, answer);
+        work_is_short(&work);
         self.work = work;
         turn
     }

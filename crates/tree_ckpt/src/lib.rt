@@ -3,5 +3,6 @@
 #![tactic(auto)]
 
 mod checkpoint;
+mod short;
 
 pub use checkpoint::TreeCkpt;

@@ -2,6 +2,7 @@
 
 ghost use Rattle.std.specs.Prelude.{◌≡◌, [], ◌∷◌};
 ghost use Rattle.cloud_trait.specs.Machine.{Next};
+ghost use Rattle.cloud_trait.specs.Views.{given_of};
 ghost use Rattle.tree_parts.specs.Going.{Went};
 ghost use Rattle.leaf_fold.specs.declared.folding.Folding.{Folding};
 ghost use Rattle.leaf_fold.specs.declared.folding.Left.{Left};
@@ -44,6 +45,21 @@ fn risen(alloc: Global, held: Held, rising: Rising, answer: Answer) -> Moved
     let mut rising = rising;
     let pace = rising.absorb(alloc, answer);
     ascend(held, rising, pace)
+}
+
+/// The lock of a leaf that was come to.
+fn lock_of(coming: &Coming) -> Lock
+    ensures { result ≡ Lock.Page coming.now.chart.tree coming.now.page }
+{
+    Lock::Page(coming.chart.tree, coming.page)
+}
+
+/// A leaf's lease was taken.
+fn page_answered(alloc: Global, held: Held, coming: Coming, answer: Answer) -> Moved
+    ensures { MovesOn (page_taken held coming (given_of (Lock.Page coming.chart.tree coming.page) answer)) (held.lease ∷ []) result }
+{
+    let given = answer.given(lock_of(&coming));
+    page_taken(alloc, held, coming, given)
 }
 
 /// A leaf's lease was given, or it was not.
@@ -121,25 +137,16 @@ fn page_left(alloc: Global, held: Held, onward: Onward) -> Moved
     }
 }
 
-/// Takes the answer of the call in hand. A lease that the call gave back has left.
-pub fn absorbed(alloc: Global, tree: TreeId, work: Work, answer: Answer) -> Moved
+/// Goes where an answer leads. A lease that the call gave back has left.
+fn lead(alloc: Global, tree: TreeId, work: Work, answer: Answer) -> Moved
     ensures { Moves (Absorbs tree work answer) (claims_in work) result }
 {
-    if matches!(answer, Answer::Memory) {
-        return Moved {
-            work,
-            turn: Turn::Stopped(Trouble::Memory),
-        };
-    }
     match work {
         Work::TakingTree => tree_taken(answer.given(Lock::Tree(tree))),
         Work::GettingTree(lease) => tree_got(tree, lease, answer.got()),
         Work::Receiving(lease, root) => received(alloc, tree, lease, root, answer.received()),
         Work::Descending(held, descent) => descended(alloc, held, descent, answer),
-        Work::TakingPage(held, coming) => {
-            let lock = Lock::Page(coming.chart.tree, coming.page);
-            page_taken(alloc, held, coming, answer.given(lock))
-        }
+        Work::TakingPage(held, coming) => page_answered(alloc, held, coming, answer),
         Work::Folding(held, folding) => folded(alloc, held, folding, answer),
         Work::ReleasingPage(_, _, _) => Moved::finished(Err(Trouble::Failed)),
         Work::LeftPage(held, onward) => page_left(alloc, held, onward),
@@ -147,5 +154,18 @@ pub fn absorbed(alloc: Global, tree: TreeId, work: Work, answer: Answer) -> Move
         Work::Deleting(held, applied) => deleted(held, applied, answer.done()),
         Work::Releasing(held, end) => released(held, end),
         Work::Finished => Moved::finished(Err(Trouble::Failed)),
+    }
+}
+
+/// Takes the answer of the call in hand. At want of memory it stays where it is.
+pub fn absorbed(alloc: Global, tree: TreeId, work: Work, answer: Answer) -> Moved
+    ensures { Moves (Absorbs tree work answer) (claims_in work) result }
+{
+    match answer {
+        Answer::Memory => Moved {
+            work,
+            turn: Turn::Stopped(Trouble::Memory),
+        },
+        answer => lead(alloc, tree, work, answer),
     }
 }

@@ -112,19 +112,18 @@ fn intake_of(
     ensures { UnlessMemory (TakesIn (QueueName.TreePu tree) (tree_held root.now).cursor messages.now) result }
 {
     match tree_view(root).whole_cursor(alloc) {
-        Ok(cursor) => take_in(alloc, &QueueName::TreePu(tree), &cursor, messages.as_slice()),
+        Ok(cursor) => take_in(
+            alloc,
+            &QueueName::TreePu(tree),
+            &cursor,
+            messages.as_slice(),
+        ),
         Err(_) => Err(Fault::Memory),
     }
 }
 
 /// A run is applied key by key; the deletions come at once where it is empty.
-fn taken(
-    alloc: Global,
-    tree: TreeId,
-    lease: Lease,
-    root: Option<Blob>,
-    intake: Intake,
-) -> Moved
+fn taken(alloc: Global, tree: TreeId, lease: Lease, root: Option<Blob>, intake: Intake) -> Moved
     ensures { MovesOn (intake_taken tree lease root (Ok intake)) (lease ∷ []) result }
 {
     let Intake { run, deletions } = intake;

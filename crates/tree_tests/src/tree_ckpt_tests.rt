@@ -155,8 +155,14 @@ fn is_done(rt: &impl Abort, story: &Story, count: u64) -> Result<(), Fail> {
     let Turn::Ended(answer) = &story.turn else {
         return Err(Fail::from("no end"));
     };
-    assert_eq!(rt; (answer.applied, answer.deleted, answer.left), (count, count, 0));
-    assert_eq!(rt; (story.applied as u64, story.received as u64), (count, count));
+    assert_eq!(rt;
+        (answer.applied, answer.deleted, answer.left),
+        (count, count, 0)
+    );
+    assert_eq!(rt;
+        (story.applied as u64, story.received as u64),
+        (count, count)
+    );
     Ok(())
 }
 
@@ -193,7 +199,8 @@ fn one_record(rt: HostRuntime) -> Result<(), Fail> {
             (CallKind::Release, 1),
             (CallKind::PutHeld, 0),
             (CallKind::Release, 0),
-        ].as_slice()
+        ]
+        .as_slice()
     );
     let bytes = page(alloc, &mut cloud, 1)?;
     assert!(rt; LeafView::read(bytes.as_slice())?.find(b"k") == Some(b"v".as_slice()));
@@ -217,7 +224,8 @@ fn nothing_to_do(rt: HostRuntime) -> Result<(), Fail> {
             (CallKind::GetHeld, 0),
             (CallKind::Receive, 0),
             (CallKind::Release, 0),
-        ].as_slice()
+        ]
+        .as_slice()
     );
     Ok(())
 }
@@ -243,7 +251,8 @@ fn a_leaf_is_cut(rt: HostRuntime) -> Result<(), Fail> {
             (CallKind::Release, 1),
             (CallKind::PutHeld, 0),
             (CallKind::Release, 0),
-        ].as_slice()
+        ]
+        .as_slice()
     );
     let bytes = root(alloc, &mut cloud)?;
     let view = TreeView::read(bytes.as_slice())?;
@@ -282,10 +291,14 @@ fn an_update_goes_right(rt: HostRuntime) -> Result<(), Fail> {
             (CallKind::Release, 2),
             (CallKind::PutHeld, 0),
             (CallKind::Release, 0),
-        ].as_slice()
+        ]
+        .as_slice()
     );
     let bytes = root(alloc, &mut cloud)?;
-    assert_eq!(rt; TreeView::read(bytes.as_slice())?.child(b"p").1, PageId::new(2)?);
+    assert_eq!(rt;
+        TreeView::read(bytes.as_slice())?.child(b"p").1,
+        PageId::new(2)?
+    );
     Ok(())
 }
 
@@ -325,7 +338,8 @@ fn the_root_is_cut(rt: HostRuntime) -> Result<(), Fail> {
             (CallKind::PutHeld, 66),
             (CallKind::PutHeld, 0),
             (CallKind::Release, 0),
-        ].as_slice()
+        ]
+        .as_slice()
     );
     let bytes = root(alloc, &mut cloud)?;
     let view = TreeView::read(bytes.as_slice())?;
@@ -336,11 +350,7 @@ fn the_root_is_cut(rt: HostRuntime) -> Result<(), Fail> {
 }
 
 /// The next checkpoint goes down over an inner node, and names a new leaf in it.
-fn over_an_inner_node(
-    rt: &impl Abort,
-    alloc: Global,
-    cloud: &mut MemoryCloud,
-) -> Result<(), Fail> {
+fn over_an_inner_node(rt: &impl Abort, alloc: Global, cloud: &mut MemoryCloud) -> Result<(), Fail> {
     send_many(alloc, cloud, 65, 0x60, 32)?;
     let story = run(alloc, cloud)?;
     is_done(rt, &story, 32)?;
@@ -360,7 +370,8 @@ fn over_an_inner_node(
             (CallKind::PutHeld, 66),
             (CallKind::PutHeld, 0),
             (CallKind::Release, 0),
-        ].as_slice()
+        ]
+        .as_slice()
     );
     let bytes = page(alloc, cloud, 66)?;
     let node = InnerView::read(bytes.as_slice())?;
@@ -393,7 +404,11 @@ fn a_late_put_stops(rt: HostRuntime) -> Result<(), Fail> {
         }
     }
     assert_eq!(rt; (calls, last), (3, (CallKind::Release, 0)));
-    assert!(rt; cloud.get(who()?, ObjName::Page(tree()?, PageId::first()))?.is_none());
+    assert!(rt;
+        cloud
+            .get(who()?, ObjName::Page(tree()?, PageId::first()))?
+            .is_none()
+    );
     Ok(())
 }
 

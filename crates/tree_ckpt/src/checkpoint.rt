@@ -2,7 +2,8 @@
 
 ghost use Rattle.std.specs.Prelude.{◌≡◌, ◌<◌, List, OnOk, OnErr};
 ghost use Rattle.cloud_trait.specs.Call.{ask_of};
-ghost use Rattle.cloud_trait.specs.Machine.{Steps, Deed};
+ghost use Rattle.cloud_trait.specs.Weather.{Makes};
+ghost use Rattle.cloud_trait.specs.Machine.{Took, Steps, Deed};
 
 use crate::short::work_is_short;
 use ckpt_parts::ids_of;
@@ -41,9 +42,9 @@ impl Model for TreeCkpt {
 impl TreeCkpt {
     ghost use Rattle.ckpt_parts.specs.Leasing.{outstanding};
     ghost use Rattle.tree_moves.specs.Work.{applying_in, claims_in};
-    ghost use Rattle.tree_ckpt.specs.Ending.{calls_in};
+    ghost use Rattle.tree_ckpt.specs.Ending.{calls_in, IsShort};
     ghost use Rattle.tree_ckpt.specs.Standing.{Went, Names, GivesBack};
-    ghost use Rattle.tree_ckpt.specs.Making.{new_making, making_ask, with_received, MakingLeads, KeepsLeases};
+    ghost use Rattle.tree_ckpt.specs.Making.{new_making, making_ask, with_received, with_work, handed_over, AbsorbsBy, WentBy, SameLeases, MakingLeads, KeepsLeases};
 
     /// The checkpoint of a tree. Takes no memory.
     pub fn new(alloc: Global, tree: TreeId) -> TreeCkpt
@@ -91,6 +92,64 @@ impl TreeCkpt {
         Ok(())
     }
 
+    /// Its tree.
+    fn tree(&self) -> TreeId
+        ensures { result ≡ self.now.tree }
+    {
+        self.tree
+    }
+
+    /// Hands out where it stands.
+    fn take_work(&mut self) -> Work
+        ensures work { result ≡ self.old.work }
+        ensures left { self.new ≡ with_work self.old Work.Finished }
+    {
+        mem::replace(&mut self.work, Work::Finished)
+    }
+
+    /// It stands so.
+    fn keep(&mut self, work: Work)
+        ensures { self.new ≡ with_work self.old work }
+    {
+        self.work = work;
+    }
+
+    /// Makes the call in hand; a release hands its lease out.
+    fn call<C: Cloud>(&mut self, cloud: &mut C, who: Who) -> Answer
+        ensures made { Makes who (making_ask self.old) result (C.seen cloud.old) (C.seen cloud.new) }
+        ensures left { self.new ≡ handed_over self.old }
+    {
+        let tree = self.tree();
+        let work = self.take_work();
+        let Called { answer, work } = make_call(cloud, who, tree, work);
+        self.keep(work);
+        answer
+    }
+
+    /// Goes where the answer of the call in hand leads.
+    fn go(&mut self, alloc: Global, answer: Answer) -> Turn<CkptAnswer>
+        ensures went { WentBy self.old answer self.new result }
+        ensures short { IsShort self.new.work }
+    {
+        let tree = self.tree();
+        let work = self.take_work();
+        let Moved { work, turn } = absorbed(alloc, tree, work, answer);
+        work_is_short(&work);
+        self.keep(work);
+        turn
+    }
+
+    /// Takes the answer of the call in hand. A lease that the call gave back has left.
+    fn absorb(&mut self, alloc: Global, answer: Answer) -> Turn<CkptAnswer>
+        ensures took { Took AbsorbsBy SameLeases self.old answer self.new result }
+        ensures short { result ≡ Turn.More → IsShort self.new.work }
+    {
+        match self.note(alloc, &answer) {
+            Ok(()) => self.go(alloc, answer),
+            Err(_) => Turn::Stopped(Trouble::Memory),
+        }
+    }
+
     /// Makes the call in hand, and does the local work up to the next one.
     pub fn step<C: Cloud>(&mut self, alloc: Global, cloud: &mut C, who: Who) -> Turn<CkptAnswer>
         ensures steps { Steps making_ask MakingLeads KeepsLeases who (C.seen cloud.old) (C.seen cloud.new) self.old self.new result }
@@ -103,16 +162,7 @@ impl TreeCkpt {
         // Before an end all leases are given back.
         ensures gives_back { (h : List Deed) → Went h self.old → GivesBack self.new result }
     {
-        let tree = self.tree;
-        let work = mem::replace(&mut self.work, Work::Finished);
-        let Called { answer, work } = make_call(cloud, who, tree, work);
-        if self.note(alloc, &answer).is_err() {
-            self.work = work;
-            return Turn::Stopped(Trouble::Memory);
-        }
-        let Moved { work, turn } = absorbed(alloc, tree, work, answer);
-        work_is_short(&work);
-        self.work = work;
-        turn
+        let answer = self.call(cloud, who);
+        self.absorb(alloc, answer)
     }
 }

@@ -51,7 +51,7 @@ use Rattle.tree_ckpt.specs.Ending.{most, above, unhandled, behind_key, from_on_o
 use Rattle.tree_ckpt.specs.Making.{Making, making_ask, MakingLeads, KeepsLeases}
 use Rattle.tree_ckpt.specs.Standing.{HoldsAt, IsPlanned}
 use Rattle.tree_ckpt.proofs.Charts.{IsFurther, GoesFurther, arrive_further, descent_further}
-use Rattle.tree_ckpt.proofs.Folds.{IsHandled, IsTurned, GetLeaves, PutLeaves, got_leaves, put_leaves}
+use Rattle.tree_ckpt.proofs.Folds.{not_empty, GetLeaves, PutLeaves, got_leaves, put_leaves}
 use Rattle.tree_ckpt.proofs.Keys.{next_fewer, above_most}
 use Rattle.tree_ckpt.proofs.Receiving.{takes_length, received_most}
 
@@ -166,10 +166,10 @@ below_start h tree root i few = on (next_key (chart_of tree root i.run)) where
   on (Some key) =
       let with_key : Chart = record (chart_of tree root i.run) { key = key } in
       begin with_key (above_most key i.run.items) (down_from with_key (root_entry with_key)) (arrive_further (way.begun with_key (root_entry with_key).0 (root_entry with_key).1)) where
-    begin : (c : Chart) → behind_key c ≤ length c.run.items → (next : Next Descent (Unit {0})) → GoesFurther 0 c next → Below whole (descending_on h next)
-    begin c all (Goes d) f = λ short. omega (arith, all, few, short.run, short.nodes, short.links, behind_same c d.chart f.run f.key, ap (λ (r : _). length r.items) f.run)
-    begin c all (Ends d x) f = λ short. omega (arith, all, few, short.run, short.nodes, short.links, behind_same c d.chart f.run f.key, ap (λ (r : _). length r.items) f.run)
-    begin c all (Stops d t) f = λ short. omega arith
+        begin : (c : Chart) → behind_key c ≤ length c.run.items → (next : Next Descent (Unit {0})) → GoesFurther 0 c next → Below whole (descending_on h next)
+        begin c all (Goes d) f = λ short. omega (arith, all, few, short.run, short.nodes, short.links, behind_same c d.chart f.run f.key, ap (λ (r : _). length r.items) f.run)
+        begin c all (Ends d x) f = λ short. omega (arith, all, few, short.run, short.nodes, short.links, behind_same c d.chart f.run f.key, ap (λ (r : _). length r.items) f.run)
+        begin c all (Stops d t) f = λ short. omega arith
   on None =
       below_rising whole ((most + 3) * most + 2 * most + 5) h (rise.rise (rise.begun (chart_of tree root i.run))) (any_rising (rise.rise (rise.begun (chart_of tree root i.run))))
       (omega (arith, few)) (omega (arith, few))
@@ -198,8 +198,7 @@ nothing_false : (p : Placing) → 0 < length p.puts → has_nothing p ≡ false
 nothing_false p some = on p.reserved p.puts some where
   on : (reserved : Option (List ℕ)) (puts : List PagePut) → 0 < length puts → has_nothing (record { reserved = reserved; puts = puts }) ≡ false
   on (Some bytes) puts some = refl
-  on None [] some = absurd (omega (arith, some))
-  on None (x ∷ xs) some = refl
+  on None puts some = not_empty puts some
 
 calls_at : (h : Held) (f : Folding) (b : Bool) → has_nothing f.placing ≡ b
     → calls_in (work.Folding h f) ≡ cond b (on_the_way h f.chart (behind_key f.chart) (most + 6)) (on_the_way h f.chart (unhandled f.chart) (puts_left f.placing + 2))
@@ -304,14 +303,15 @@ risen_up r (Err t) = tt
 
 -- ---- deletions and releases
 
+below_none : (h : Held) (applied : ℕ) → Below 2 (deleting_by h applied None)
+unfolding Below
+below_none h applied = λ short. omega arith
+
 below_deleted : (h : Held) (applied : ℕ) (done : Result (Unit {0}) Trouble) → Below (ids_in h + 2) (deleted_by h applied done)
 below_deleted h applied done = on h.deletions.ids h.deletions.deleted h.deletions.left (went done) where
   on : (ids : List ℕ) (deleted left : ℕ) (b : Bool)
       → Below (length ids + 2) (deleting (record h { deletions = tried (record { ids = ids; deleted = deleted; left = left }) b }) applied)
-  on [] deleted left b = below_deletes_none (record h { deletions = record { ids = []; deleted = deleted; left = left } }) where
-    below_deletes_none : (k : Held) → Below 2 (deleting_by k applied None)
-    unfolding Below
-    below_deletes_none k = λ short. omega arith
+  on [] deleted left b = below_none (record h { deletions = record { ids = []; deleted = deleted; left = left } }) applied
   on (id ∷ ids) deleted left true =
       below_deletes (length (id ∷ ids) + 2) (record h { deletions = record { ids = ids; deleted = deleted + 1; left = left } }) applied (omega arith)
   on (id ∷ ids) deleted left false =

@@ -1,6 +1,7 @@
 -- What the work at a leaf leaves to be done.
 use Rattle.std.proofs.Common.{◌≡◌, ◌<◌, ◌≤◌, ◌+◌, ◌-◌, ℕ, zero, suc, Bool, true, false, cond, List, [], ◌∷◌, ◌++◌, length, length-append, drop, Option, Some, None, Result, Ok, Err, refl, sym, ap, subst, ◌∙◌, arith}
 use Rattle.std.specs.Prelude.{◌==◌, ◌||◌, ◌&&◌, map, reverse, is_none}
+use Rattle.std.proofs.lemmas.Bool.{ne_eqb}
 use Rattle.std.proofs.lemmas.List.{length-map, length-reverse}
 use Rattle.byte_format.specs.Order.{bytes_below, bytes_same}
 use Rattle.db_base.specs.declared.trouble.Trouble.{Trouble}
@@ -16,10 +17,10 @@ use Rattle.log_codec.specs.declared.record.PuItem.{PuItem}
 use Rattle.node_codec.specs.Tree.{Tree}
 use Rattle.run_cursor.specs.Covered.{is_seen}
 use Rattle.split_plan.specs.declared.put_list.PagePut.{PagePut}
-use Rattle.split_plan.specs.Cut.{cut_by, cuts_of}
+use Rattle.split_plan.specs.Cut.{cut_by}
 use Rattle.split_plan.specs.Part.{Part, LeafPart, record_key, part_of_leaf}
 use Rattle.split_plan.specs.Plan.{put_of, on_pages, leaf_bytes, leaf_pieces}
-use Rattle.split_plan.specs.Sizes.{count_of}
+use Rattle.split_plan.specs.Sizes.{count_of, cuts_of}
 use Rattle.tree_parts.specs.declared.chart.Chart.{Chart}
 use Rattle.tree_parts.specs.declared.link.Link.{Link}
 use Rattle.tree_parts.specs.declared.placing.Placing.{Placing}
@@ -161,9 +162,8 @@ PutLeaves f (Ends g Handled) =
     (g.chart.run ≡ f.chart.run) × (g.chart.from ≡ f.chart.from) × (g.chart.nodes ≡ f.chart.nodes) × (g.chart.links ≡ f.chart.links)
 PutLeaves f (Stops g t) = Unit {0}
 
-not_empty : {X : Type 0} (xs : List X) → 0 < length xs → (length xs == 0) ≡ false
-not_empty [] h = absurd (omega (arith, h))
-not_empty (x ∷ xs) h = refl
+pub not_empty : {X : Type 0} (xs : List X) → 0 < length xs → (length xs == 0) ≡ false
+not_empty xs h = ne_eqb (length xs) 0 (λ e. omega (arith, e, h))
 
 fewer : (reserved : Option (List ℕ)) (puts : List PagePut) → (is_none reserved && (length puts == 1)) ≡ false → 0 < length puts
     → (puts_left (record { reserved = None; puts = puts_after reserved puts }) + 1 ≤ puts_left (record { reserved = reserved; puts = puts }))

@@ -60,8 +60,10 @@ first_left : (from low : List ℕ) (x : PuItem) (xs : List PuItem) → bytes_bel
 first_left from low x xs f same = on (bytes_below low (key x)) refl where
   itself : bytes_below low (key x) ≡ false
   itself = subst (λ (m : List ℕ). bytes_below low m ≡ false) (sym same) (not_itself low)
+
   all : above low xs ≤ from_on from xs
   all = above_from low from xs (subst (λ (k : List ℕ). bytes_below k from ≡ false) same f)
+
   on : (b : Bool) → bytes_below low (key x) ≡ b → cond b (above low xs + 1) (above low xs) + 1 ≤ from_on from xs + 1
   on true h = absurd (let n : bytes_below low (key x) ≡ false = itself in cc)
   on false h = omega (arith, all)

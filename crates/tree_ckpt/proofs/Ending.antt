@@ -1,0 +1,374 @@
+-- A tree checkpoint ends: each step that goes on leaves fewer calls.
+use Rattle.std.proofs.Common.{◌≡◌, ◌<◌, ◌≤◌, ◌+◌, ◌-◌, ◌*◌, ℕ, Bool, true, false, cond, List, [], ◌∷◌, length, Option, Some, None, Result, Ok, Err, refl, sym, ap, subst, ◌∙◌, arith}
+use Rattle.std.specs.Prelude.{◌==◌, ◌&&◌, ◌||◌, not, is_none, is_some, slice_get}
+use Rattle.std.proofs.lemmas.Option.{slice_get_within}
+use Rattle.db_base.specs.declared.names.Lock.TheVariants as lock
+use Rattle.db_base.specs.declared.names.QueueName.TheVariants as queue
+use Rattle.db_base.specs.declared.trouble.Trouble.{Trouble}
+use Rattle.cloud_trait.specs.declared.answer.Answer.{Answer}
+use Rattle.cloud_trait.specs.declared.message.Message.{Message}
+use Rattle.cloud_trait.specs.declared.turn.CkptAnswer.{CkptAnswer}
+use Rattle.cloud_trait.specs.declared.turn.Turn.{Turn}
+use Rattle.cloud_trait.specs.declared.turn.Turn.TheVariants.{More}
+use Rattle.cloud_trait.specs.Claim.{Claim}
+use Rattle.cloud_trait.specs.Machine.{Next, Goes, Ends, Stops, Took}
+use Rattle.cloud_trait.specs.Views.{given_of, got_of, done_of, received_of}
+use Rattle.cloud_trait.specs.Weather.{Fits}
+use Rattle.log_codec.specs.declared.record.PuItem.{PuItem}
+use Rattle.node_codec.specs.Tree.{Tree, tree_of}
+use Rattle.split_plan.specs.declared.put_list.PagePut.{PagePut}
+use Rattle.ckpt_parts.specs.declared.intake.Intake.{Intake}
+use Rattle.ckpt_parts.specs.declared.leases.Leases.{Leases}
+use Rattle.ckpt_parts.specs.Deleting.{Deleting, next_id, tried}
+use Rattle.ckpt_parts.specs.Intakes.{has_items, TakesIn}
+use Rattle.ckpt_parts.specs.Leasing.{claims_of, newest_lease, without_newest}
+use Rattle.tree_parts.specs.declared.chart.Chart.{Chart}
+use Rattle.tree_parts.specs.declared.kept.KeptNode.{KeptNode}
+use Rattle.tree_parts.specs.declared.placing.Placing.{Placing}
+use Rattle.tree_parts.specs.Placing.{has_nothing, landed_placing, puts_after}
+use Rattle.tree_parts.specs.Read.{tree_held}
+use Rattle.tree_descent.specs.declared.descent.Descent.{Descent}
+use Rattle.tree_descent.specs.Descent.{descent_next}
+use Rattle.tree_descent.specs.Descent as way
+use Rattle.leaf_fold.specs.declared.folding.Folding.{Folding}
+use Rattle.leaf_fold.specs.declared.folding.Left.{Left}
+use Rattle.leaf_fold.specs.declared.folding.Left.TheVariants.{Right, Handled}
+use Rattle.leaf_fold.specs.Folding as fold
+use Rattle.tree_rising.specs.declared.node.NodePlan.{NodePlan}
+use Rattle.tree_rising.specs.declared.root.RootPlan.{RootPlan}
+use Rattle.tree_rising.specs.declared.rising.Rising.{Rising}
+use Rattle.tree_rising.specs.Nodes.{node_plan, touched_at}
+use Rattle.tree_rising.specs.Rising as rise
+use Rattle.tree_moves.specs.declared.work.Coming.{Coming}
+use Rattle.tree_moves.specs.declared.work.Held.{Held}
+use Rattle.tree_moves.specs.declared.work.Onward.{Onward}
+use Rattle.tree_moves.specs.declared.work.Onward.TheVariants as onward
+use Rattle.tree_moves.specs.declared.work.Work.{Work}
+use Rattle.tree_moves.specs.declared.work.Work.TheVariants as work
+use Rattle.tree_moves.specs.Work.{work_ask, one_lease, handed}
+use Rattle.tree_moves.specs.Moves.{Step, stopping, finished, released_by, deleting, deleting_by, deleted_by, went, rising_on, descending_on, root_entry, down_from, key_from_or_none, next_key, going, going_by, page_taken, folding_on, page_left, tree_taken, tree_read, tree_got, chart_of, started, intake_taken, ReceivedBy, Absorbs, Leads}
+use Rattle.tree_ckpt.specs.Ending.{most, above, unhandled, behind_key, from_on_or_none, room, a_key, puts_left, up_by, up_left, the_end, ids_in, on_the_way, calls_in, IsShortChart, IsShort}
+use Rattle.tree_ckpt.specs.Making.{Making, making_ask, MakingLeads, KeepsLeases}
+use Rattle.tree_ckpt.specs.Standing.{HoldsAt, IsPlanned}
+use Rattle.tree_ckpt.proofs.Charts.{IsFurther, GoesFurther, arrive_further, descent_further}
+use Rattle.tree_ckpt.proofs.Folds.{not_empty, GetLeaves, PutLeaves, got_leaves, put_leaves}
+use Rattle.tree_ckpt.proofs.Keys.{next_fewer, above_most}
+use Rattle.tree_ckpt.proofs.Receiving.{takes_length, received_most}
+
+-- where a step goes on, fewer calls are left than this, unless a list is too long
+Below : ℕ → Step → Type 0
+Below n (Goes w) = IsShort w → calls_in w < n
+Below n (Ends w a) = Unit {0}
+Below n (Stops w t) = Unit {0}
+
+below_by : (n : ℕ) (next made : Step) → next ≡ made → Below n made → Below n next
+below_by n next made e below = subst (Below n) (sym e) below
+
+below_stop : (n : ℕ) (l : Claim) (t : Trouble) → 1 < n → Below n (stopping (one_lease l) t)
+unfolding Below
+below_stop n l t h = λ short. omega (arith, h)
+
+below_deletes : (n : ℕ) (h : Held) (applied : ℕ) → ids_in h + 2 < n → Below n (deleting h applied)
+unfolding Below
+below_deletes n h applied few = on (next_id h.deletions.ids) where
+  on : (id : Option ℕ) → Below n (deleting_by h applied id)
+  on (Some id) = λ short. few
+  on None = λ short. omega (arith, few)
+
+-- ---- up
+
+up_most_by : (last : Option (List ℕ)) (at puts : ℕ) → puts ≤ most + 1 → up_by last at puts ≤ (most + 3) * most + 2 * most + 4
+up_most_by None at puts few = omega (arith, few)
+up_most_by (Some bytes) at puts few = omega (arith, few)
+
+reserved_most : (p : Placing) → length p.puts ≤ most → puts_left p ≤ most + 1
+reserved_most p few = on p.reserved p.puts few where
+  on : (reserved : Option (List ℕ)) (puts : List PagePut) → length puts ≤ most → puts_left (record { reserved = reserved; puts = puts }) ≤ most + 1
+  on (Some bytes) puts few = omega (arith, few)
+  on None puts few = omega (arith, few)
+
+up_most : (r : Rising) → length r.placing.puts ≤ most → up_left r ≤ (most + 3) * most + 2 * most + 4
+up_most r few = up_most_by r.last r.at (puts_left r.placing) (reserved_most r.placing few)
+
+-- where the way up goes on
+BelowUp : ℕ → Next Rising (Unit {0}) → Type 0
+BelowUp n (Goes r) = length r.chart.nodes ≤ most → length r.placing.puts ≤ most → up_left r < n
+BelowUp n (Ends r x) = Unit {0}
+BelowUp n (Stops r t) = Unit {0}
+
+below_rising : (n m : ℕ) (h : Held) (next : Next Rising (Unit {0})) → BelowUp m next → ids_in h + 3 + m ≤ n → ids_in h + 2 < n → Below n (rising_on h next)
+unfolding Below BelowUp
+below_rising n m h (Goes r) up few some = λ short. omega (arith, up short.0 short.1, few)
+below_rising n m h (Ends r x) up few some = below_deletes n h r.chart.applied some
+below_rising n m h (Stops r t) up few some = below_stop n h.lease t (omega (arith, some))
+
+any_rising : (next : Next Rising (Unit {0})) → BelowUp ((most + 3) * most + 2 * most + 5) next
+unfolding BelowUp
+any_rising (Goes r) = λ nodes puts. omega (arith, up_most r puts)
+any_rising (Ends r x) = tt
+any_rising (Stops r t) = tt
+
+-- ---- down
+
+behind_same : (c e : Chart) → e.run ≡ c.run → e.key ≡ c.key → behind_key e ≡ behind_key c
+behind_same c e run key = ap (λ (k : List ℕ). above k e.run.items) key ∙ ap (λ (r : _). above c.key r.items) run
+
+below_descending : (n more : ℕ) (h : Held) (c : Chart) (next : Next Descent (Unit {0})) → GoesFurther more c next
+    → (length c.nodes + more ≤ most → the_end (ids_in h) + ((most - (length c.nodes + more)) + 4 * (most - length c.links)) + a_key * behind_key c + (most + 8) < n)
+    → 1 < n → Below n (descending_on h next)
+unfolding Below
+below_descending n more h c (Goes d) f few some = λ short.
+    omega (arith, few (omega (arith, f.nodes, short.nodes)), f.nodes, f.links, short.nodes, short.links, behind_same c d.chart f.run f.key)
+below_descending n more h c (Ends d x) f few some = λ short.
+    omega (arith, few (omega (arith, f.nodes, short.nodes)), f.nodes, f.links, short.nodes, short.links, behind_same c d.chart f.run f.key)
+below_descending n more h c (Stops d t) f few some = below_stop n h.lease t some
+
+fewer_keys : (from : Option (List ℕ)) (key : List ℕ) (xs : List PuItem) → key_from_or_none from xs ≡ Some key → above key xs + 1 ≤ from_on_or_none from xs
+fewer_keys (Some from) key xs e = next_fewer from key xs e
+fewer_keys None key xs e = absurd (cc (e))
+
+below_going : (n : ℕ) (h : Held) (c : Chart) → on_the_way h c (unhandled c) 0 < n → Below n (going h c)
+below_going n h c few = on (next_key c) refl where
+  on : (key : Option (List ℕ)) → next_key c ≡ key → Below n (going_by h c key)
+  on (Some key) e =
+      let with_key : Chart = record c { key = key } in
+      below_descending n 0 h with_key (down_from with_key (root_entry with_key))
+      (arrive_further (way.begun with_key (root_entry with_key).0 (root_entry with_key).1)) (λ nodes. omega (arith, few, fewer_keys c.from key c.run.items e)) (omega (arith, few))
+  on None e = below_rising n ((most + 3) * most + 2 * most + 5) h (rise.rise (rise.begun c)) (any_rising (rise.rise (rise.begun c))) (omega (arith, few)) (omega (arith, few))
+
+-- ---- opening
+
+-- what all of it comes to, behind the receive
+abbrev whole : ℕ
+whole = the_end 256 + 5 * most + a_key * most + most + 12
+
+below_tree_taken : (g : Result Claim Trouble) → Below (whole + 2) (tree_taken g)
+unfolding Below
+below_tree_taken (Ok l) = λ short. omega arith
+below_tree_taken (Err t) = tt
+
+below_tree_read : (tree : ℕ) (l : Claim) (bytes : List ℕ) (t : Option Tree) → Below (whole + 1) (tree_read tree l bytes t)
+unfolding Below
+below_tree_read tree l bytes (Some t) = λ short. omega arith
+below_tree_read tree l bytes None = λ short. omega arith
+
+below_tree_got : (tree : ℕ) (l : Claim) (g : Result (Option (List ℕ)) Trouble) → Below (whole + 1) (tree_got tree l g)
+unfolding Below
+below_tree_got tree l (Ok (Some bytes)) = below_tree_read tree l bytes (tree_of bytes)
+below_tree_got tree l (Ok None) = λ short. omega arith
+below_tree_got tree l (Err t) = λ short. omega arith
+
+-- a key fewer is behind the one at hand, and there are no more of them than the run has records
+below_start : (h : Held) (tree : ℕ) (root : Option (List ℕ)) (i : Intake) → ids_in h ≤ 256 → Below whole (going h (chart_of tree root i.run))
+unfolding Below
+below_start h tree root i few = on (next_key (chart_of tree root i.run)) where
+  on : (key : Option (List ℕ)) → Below whole (going_by h (chart_of tree root i.run) key)
+  on (Some key) =
+      let with_key : Chart = record (chart_of tree root i.run) { key = key } in
+      begin with_key (above_most key i.run.items) (down_from with_key (root_entry with_key)) (arrive_further (way.begun with_key (root_entry with_key).0 (root_entry with_key).1)) where
+        begin : (c : Chart) → behind_key c ≤ length c.run.items → (next : Next Descent (Unit {0})) → GoesFurther 0 c next → Below whole (descending_on h next)
+        begin c all (Goes d) f = λ short. omega (arith, all, few, short.run, short.nodes, short.links, behind_same c d.chart f.run f.key, ap (λ (r : _). length r.items) f.run)
+        begin c all (Ends d x) f = λ short. omega (arith, all, few, short.run, short.nodes, short.links, behind_same c d.chart f.run f.key, ap (λ (r : _). length r.items) f.run)
+        begin c all (Stops d t) f = λ short. omega arith
+  on None =
+      below_rising whole ((most + 3) * most + 2 * most + 5) h (rise.rise (rise.begun (chart_of tree root i.run))) (any_rising (rise.rise (rise.begun (chart_of tree root i.run))))
+      (omega (arith, few)) (omega (arith, few))
+
+below_started : (h : Held) (tree : ℕ) (root : Option (List ℕ)) (i : Intake) (b : Bool) → ids_in h ≤ 256 → Below whole (started h (chart_of tree root i.run) b)
+below_started h tree root i true few = below_start h tree root i few
+below_started h tree root i false few = below_deletes whole h 0 (omega (arith, few))
+
+below_intake : (tree : ℕ) (l : Claim) (root : Option (List ℕ)) (ms : List Message) (taken : Result Intake Trouble) → length ms ≤ 256
+    → TakesIn (queue.TreePu tree) (tree_held root).cursor ms taken → Below whole (intake_taken tree l root taken)
+unfolding Below
+below_intake tree l root ms (Ok i) few takes =
+    below_started (record { lease = l; deletions = i.deletions }) tree root i (has_items i.run.items)
+    (omega (arith, few, takes_length (queue.TreePu tree) (tree_held root).cursor ms i takes))
+below_intake tree l root ms (Err t) few takes = λ short. omega arith
+
+below_received : (tree : ℕ) (l : Claim) (root : Option (List ℕ)) (g : Result (List Message) Trouble) (next : Step)
+    → ((ms : List Message) → g ≡ Ok ms → length ms ≤ 256) → ReceivedBy tree l root g next → Below whole next
+unfolding Below
+below_received tree l root (Ok ms) next few h = below_by whole next _ h.2 (below_intake tree l root ms h.0 (few ms refl) h.1)
+below_received tree l root (Err t) next few h = below_by whole next _ h (λ short. omega arith)
+
+-- ---- a leaf
+
+nothing_false : (p : Placing) → 0 < length p.puts → has_nothing p ≡ false
+nothing_false p some = on p.reserved p.puts some where
+  on : (reserved : Option (List ℕ)) (puts : List PagePut) → 0 < length puts → has_nothing (record { reserved = reserved; puts = puts }) ≡ false
+  on (Some bytes) puts some = refl
+  on None puts some = not_empty puts some
+
+calls_at : (h : Held) (f : Folding) (b : Bool) → has_nothing f.placing ≡ b
+    → calls_in (work.Folding h f) ≡ cond b (on_the_way h f.chart (behind_key f.chart) (most + 6)) (on_the_way h f.chart (unhandled f.chart) (puts_left f.placing + 2))
+calls_at h f b e = ap (λ (n : Bool). cond n (on_the_way h f.chart (behind_key f.chart) (most + 6)) (on_the_way h f.chart (unhandled f.chart) (puts_left f.placing + 2))) e
+
+below_page_taken : (h : Held) (c : Coming) (g : Result Claim Trouble) → Below (on_the_way h c.chart (behind_key c.chart) (most + 7)) (page_taken h c g)
+unfolding Below
+below_page_taken h c (Ok l) = λ short. omega arith
+below_page_taken h c (Err t) = λ short. omega arith
+
+below_got : (h : Held) (f : Folding) (next : Next Folding Left) → GetLeaves f next
+    → Below (on_the_way h f.chart (behind_key f.chart) (most + 6)) (folding_on h next)
+unfolding Below
+below_got h f (Goes g) got = λ short.
+    omega (arith, calls_at h g false (nothing_false g.placing got.1), got.0.left, got.0.nodes, got.0.links, reserved_most g.placing short.1, short.0.nodes, short.0.links)
+below_got h f (Ends g (Right low page)) got = λ short.
+    omega (arith, got.links, ap (λ (ns : List KeptNode). length ns) got.nodes, short.links, behind_same f.chart g.chart got.run got.key)
+below_got h f (Ends g Handled) got = λ short. omega (arith, got.left, got.nodes, got.links)
+below_got h f (Stops g t) got = λ short. omega arith
+
+unhandled_same : (c e : Chart) → e.run ≡ c.run → e.from ≡ c.from → unhandled e ≡ unhandled c
+unhandled_same c e run from = ap (λ (k : Option (List ℕ)). from_on_or_none k e.run.items) from ∙ ap (λ (r : _). from_on_or_none c.from r.items) run
+
+below_put : (h : Held) (f : Folding) (next : Next Folding Left) → PutLeaves f next
+    → Below (on_the_way h f.chart (unhandled f.chart) (puts_left f.placing + 2)) (folding_on h next)
+unfolding Below
+below_put h f (Goes g) put = λ short.
+    omega (arith, calls_at h g false put.5, put.4, unhandled_same f.chart g.chart put.0 put.1, ap (λ (ns : List KeptNode). length ns) put.2, ap (λ (ls : _). length ls) put.3)
+below_put h f (Ends g (Right low page)) put = absurd put
+below_put h f (Ends g Handled) put = λ short.
+    omega (arith, unhandled_same f.chart g.chart put.0 put.1, ap (λ (ns : List KeptNode). length ns) put.2, ap (λ (ls : _). length ls) put.3)
+below_put h f (Stops g t) put = λ short. omega arith
+
+-- ---- the way up
+
+up_more : (n m : ℕ) (next : Next Rising (Unit {0})) → n ≤ m → BelowUp n next → BelowUp m next
+unfolding BelowUp
+up_more n m (Goes r) more h = λ nodes puts. omega (arith, h nodes puts, more)
+up_more n m (Ends r x) more h = tt
+up_more n m (Stops r t) more h = tt
+
+finish_up : (r : Rising) (plan : Result RootPlan Trouble) → BelowUp (most + 3) (rise.put_root r plan)
+unfolding BelowUp
+finish_up r (Ok p) = λ nodes puts. omega (arith, reserved_most p.placing puts)
+finish_up r (Err t) = tt
+
+node_up : (r : Rising) (at level : ℕ) (plan : Result NodePlan Trouble) → r.last ≡ None → r.at ≤ at → at < length r.chart.nodes
+    → BelowUp ((most + 3) * (most - r.at) + (most + 3)) (rise.put_node r (at + 1) level plan)
+unfolding BelowUp
+node_up r at level (Ok p) none from within = λ nodes puts.
+    omega (arith, nodes, from, within, reserved_most p.placing puts, ap (λ (last : Option (List ℕ)). up_by last (at + 1) (puts_left p.placing)) none)
+node_up r at level (Err t) none from within = tt
+
+rise_up : (r : Rising) → r.last ≡ None → BelowUp ((most + 3) * (most - r.at) + (most + 3)) (rise.rise r)
+rise_up r none = on (rise.touched_node r) refl where
+  on : (k : Option KeptNode) → rise.touched_node r ≡ k → BelowUp ((most + 3) * (most - r.at) + (most + 3)) (rise.rise_at r (rise.next_touched r) k)
+  on (Some k) e =
+      node_up r (rise.next_touched r) (k.level + 1) (node_plan (tree_held r.chart.root) r.chart.tree k r.chart.links) none (omega arith)
+      (slice_get_within r.chart.nodes (rise.next_touched r) k e)
+  on None e = up_more (most + 3) ((most + 3) * (most - r.at) + (most + 3)) (rise.finish r) (omega arith) (finish_up r (rise.last_plan r))
+
+one_fewer : (p : Placing) → has_nothing p ≡ false → puts_left (landed_placing p) + 1 ≤ puts_left p
+one_fewer p e = on p.reserved p.puts e where
+  on : (reserved : Option (List ℕ)) (puts : List PagePut) → has_nothing (record { reserved = reserved; puts = puts }) ≡ false
+      → puts_left (landed_placing (record { reserved = reserved; puts = puts })) + 1 ≤ puts_left (record { reserved = reserved; puts = puts })
+  on (Some bytes) puts e = omega arith
+  on None [] e = absurd (cc (e))
+  on None (x ∷ xs) e = omega arith
+
+fewer_up : (last : Option (List ℕ)) (at n m : ℕ) → n + 1 ≤ m → up_by last at n < up_by last at m
+fewer_up None at n m h = omega (arith, h)
+fewer_up (Some bytes) at n m h = omega (arith, h)
+
+none_of : (last : Option (List ℕ)) → is_some last ≡ false → last ≡ None
+none_of None e = refl
+none_of (Some bytes) e = absurd (cc (e))
+
+or_right : (a b : Bool) → (a || b) ≡ false → b ≡ false
+or_right true b e = absurd (cc (e))
+or_right false b e = e
+
+up_none : (last : Option (List ℕ)) (at puts : ℕ) → last ≡ None → (most + 3) * (most - at) + (most + 3) ≤ up_by last at puts
+up_none None at puts e = omega arith
+up_none (Some bytes) at puts e = absurd (cc (e))
+
+landed_up : (r : Rising) → has_nothing r.placing ≡ false → BelowUp (up_left r) (rise.after_put (rise.landed r))
+unfolding BelowUp
+landed_up r e = on (not (has_nothing (landed_placing r.placing)) || is_some r.last) refl where
+  on : (b : Bool) → (not (has_nothing (landed_placing r.placing)) || is_some r.last) ≡ b → BelowUp (up_left r) (cond b (Goes (rise.landed r)) (rise.rise (rise.landed r)))
+  on true f = λ nodes puts. fewer_up r.last r.at (puts_left (landed_placing r.placing)) (puts_left r.placing) (one_fewer r.placing e)
+  on false f =
+      let none : r.last ≡ None = none_of r.last (or_right (not (has_nothing (landed_placing r.placing))) (is_some r.last) f) in
+      up_more ((most + 3) * (most - r.at) + (most + 3)) (up_left r) (rise.rise (rise.landed r)) (up_none r.last r.at (puts_left r.placing) none) (rise_up (rise.landed r) none)
+
+risen_up : (r : Rising) (done : Result (Unit {0}) Trouble) → BelowUp (up_left r) (rise.risen_by r done)
+unfolding BelowUp
+risen_up r (Ok x) = on (has_nothing r.placing) refl where
+  on : (b : Bool) → has_nothing r.placing ≡ b → BelowUp (up_left r) (cond b (Ends r tt) (rise.after_put (rise.landed r)))
+  on true e = tt
+  on false e = landed_up r e
+risen_up r (Err t) = tt
+
+-- ---- deletions and releases
+
+below_none : (h : Held) (applied : ℕ) → Below 2 (deleting_by h applied None)
+unfolding Below
+below_none h applied = λ short. omega arith
+
+below_deleted : (h : Held) (applied : ℕ) (done : Result (Unit {0}) Trouble) → Below (ids_in h + 2) (deleted_by h applied done)
+below_deleted h applied done = on h.deletions.ids h.deletions.deleted h.deletions.left (went done) where
+  on : (ids : List ℕ) (deleted left : ℕ) (b : Bool)
+      → Below (length ids + 2) (deleting (record h { deletions = tried (record { ids = ids; deleted = deleted; left = left }) b }) applied)
+  on [] deleted left b = below_none (record h { deletions = record { ids = []; deleted = deleted; left = left } }) applied
+  on (id ∷ ids) deleted left true =
+      below_deletes (length (id ∷ ids) + 2) (record h { deletions = record { ids = ids; deleted = deleted + 1; left = left } }) applied (omega arith)
+  on (id ∷ ids) deleted left false =
+      below_deletes (length (id ∷ ids) + 2) (record h { deletions = record { ids = ids; deleted = deleted; left = left + 1 } }) applied (omega arith)
+
+below_finished : (n : ℕ) (end : Result CkptAnswer Trouble) → Below n (finished end)
+unfolding Below
+below_finished n (Ok a) = tt
+below_finished n (Err t) = tt
+
+below_released : (first second : Option Claim) (end : Result CkptAnswer Trouble)
+    → Below (length (claims_of (record { first = first; second = second })))
+    (released_by (without_newest (record { first = first; second = second })) end (newest_lease (without_newest (record { first = first; second = second }))))
+unfolding Below
+below_released (Some l) (Some r) end = λ short. omega arith
+below_released (Some l) None end = below_finished 1 end
+below_released None (Some r) end = below_finished 1 end
+below_released None None end = below_finished 0 end
+
+-- ---- all
+
+below_folded : (h : Held) (f : Folding) (a : Answer) → IsPlanned f → Below (calls_in (work.Folding h f)) (folding_on h (fold.folding_next f a))
+below_folded h f a planned = on (has_nothing f.placing) refl where
+  on : (b : Bool) → has_nothing f.placing ≡ b
+      → Below (cond b (on_the_way h f.chart (behind_key f.chart) (most + 6)) (on_the_way h f.chart (unhandled f.chart) (puts_left f.placing + 2)))
+      (folding_on h (cond b (fold.leaf_got f (got_of a)) (fold.leaf_put f (done_of a))))
+  on true e = below_got h f (fold.leaf_got f (got_of a)) (got_leaves f (got_of a))
+  on false e = below_put h f (fold.leaf_put f (done_of a)) (put_leaves f (done_of a) (planned e))
+
+below_left : (h : Held) (l : Claim) (o : Onward) → Below (calls_in (work.ReleasingPage h l o)) (page_left h o)
+unfolding Below
+below_left h l (onward.Right c) = λ short. omega arith
+below_left h l (onward.Handled c) = below_going (on_the_way h c (unhandled c) 1) h c (omega arith)
+
+below_at : (tree : ℕ) (w : Work) (a : Answer) (next : Step) → HoldsAt tree w → Fits (work_ask tree w) a → Leads tree w a next → Below (calls_in w) next
+unfolding Below
+below_at tree work.TakingTree a next own fits e = below_by _ next _ e (below_tree_taken (given_of (lock.Tree tree) a))
+below_at tree (work.GettingTree l) a next own fits e = below_by _ next _ e (below_tree_got tree l (got_of a))
+below_at tree (work.Receiving l root) a next own fits h =
+    below_received tree l root (received_of a) next (λ ms e. received_most (queue.TreePu tree) 256 a ms fits e) h
+below_at tree (work.Descending k d) a next own fits e =
+    below_by _ next _ e (below_descending _ 1 k d.chart (descent_next d a) (descent_further d a) (λ short. omega (arith, short)) (omega arith))
+below_at tree (work.TakingPage k c) a next own fits e = below_by _ next _ e (below_page_taken k c (given_of (lock.Page c.chart.tree c.page) a))
+below_at tree (work.Folding k f) a next own fits e = below_by _ next _ e (below_folded k f a own.2)
+below_at tree (work.ReleasingPage k l o) a next own fits e = below_by _ next _ e (below_left k l o)
+below_at tree (work.LeftPage k o) a next own fits e = absurd own
+below_at tree (work.Rising k r) a next own fits e =
+    below_by _ next _ e (below_rising _ (up_left r) k (rise.rising_next r a) (risen_up r (done_of a)) (omega arith) (omega arith))
+below_at tree (work.Deleting k applied) a next own fits e = below_by _ next _ e (below_deleted k applied (done_of a))
+below_at tree (work.Releasing held end) a next own fits e = below_by _ next _ e (below_released held.first held.second end)
+below_at tree work.Finished a next own fits e = absurd own
+
+-- the same of the code's step
+pub took_less : (old new : Making) (a : Answer) (turn : Turn CkptAnswer) → HoldsAt old.tree old.work → Fits (making_ask old) a → IsShort new.work
+    → Took MakingLeads KeepsLeases old a new turn → turn ≡ More → calls_in new.work < calls_in old.work
+unfolding Below
+took_less old new a turn own fits short took more =
+    let At : Turn CkptAnswer → Type 0 = Took MakingLeads KeepsLeases old a new in
+    let leads : MakingLeads old a (Goes new) = subst At more took in
+    below_at old.tree old.work a (Goes new.work) own fits leads.1 short

@@ -1,0 +1,9 @@
+pub mod Leading
+pub mod Leaving
+pub mod Standing
+pub mod Receiving
+pub mod Keys
+pub mod Fences
+pub mod Charts
+pub mod Folds
+pub mod Ending

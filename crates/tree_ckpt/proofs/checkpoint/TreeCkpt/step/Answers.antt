@@ -1,0 +1,27 @@
+use Rattle.tree_ckpt.proofs.Ending.{took_less}
+use Rattle.tree_ckpt.proofs.Leading.{took_handed}
+use Rattle.tree_ckpt.proofs.Standing.{went_stands, stands_names, stands_gives}
+use Rattle.tree_ckpt.proofs.checkpoint.TreeCkpt.step.Goals as goal
+
+pub returns-clause-steps : goal.returns-clause-steps
+returns-clause-steps g c = record {
+  answer = c.call-answer.result;
+  made = c.call-answer.ensures.made;
+  took = took_handed c.args.self.now _ _ c.call-answer.result _ c.call-answer.ensures.left c.absorb.ensures.took;
+}
+
+pub returns-clause-less : goal.returns-clause-less
+returns-clause-less g c = λ h went more.
+    took_less c.args.self.now _ c.call-answer.result _ (went_stands c.args.self.now h went).own c.call-answer.ensures.made.fits (c.absorb.ensures.short more)
+    (took_handed c.args.self.now _ _ c.call-answer.result _ c.call-answer.ensures.left c.absorb.ensures.took) more
+
+pub returns-clause-leases : goal.returns-clause-leases
+returns-clause-leases g c = λ h went. (went_stands c.args.self.now h went).held
+
+pub returns-clause-names : goal.returns-clause-names
+returns-clause-names g c = λ h went. stands_names c.args.self.now h (went_stands c.args.self.now h went)
+
+pub returns-clause-gives_back : goal.returns-clause-gives_back
+returns-clause-gives_back g c = λ h went.
+    stands_gives c.args.self.now _ h c.call-answer.result _ (went_stands c.args.self.now h went) c.call-answer.ensures.made.fits
+    (took_handed c.args.self.now _ _ c.call-answer.result _ c.call-answer.ensures.left c.absorb.ensures.took)

@@ -1,0 +1,5 @@
+pub mod PagingOthers
+pub mod Begins
+pub mod Nexts
+pub mod Steps
+pub mod Hands

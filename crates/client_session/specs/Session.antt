@@ -1,5 +1,5 @@
 -- How a session stands.
-use Rattle.std.specs.Prelude.{ℕ, ◌≡◌, ◌≤◌, ◌⊎◌, Bool, true, false, List, [], length, Option, Some, None, Result, Ok, Err}
+use Rattle.std.specs.Prelude.{ℕ, ◌≡◌, ◌≤◌, ◌<◌, ◌⊎◌, ◌^◌, Bool, true, false, List, [], length, Option, Some, None, Result, Ok, Err}
 use Rattle.db_base.specs.declared.refusal.Refusal.{Refusal}
 use Rattle.db_base.specs.declared.refusal.Refusal.TheVariants as rule
 use Rattle.head_codec.specs.declared.head.Head.{Head}
@@ -8,29 +8,41 @@ use Rattle.db_base.specs.declared.change.Change.{Change}
 use Rattle.txn_buffer.specs.Noted.{Noted, found_in}
 use Rattle.db_base.specs.declared.refusal.Refused.{Refused}
 use Rattle.db_base.specs.declared.refusal.Refused.TheVariants as refused
+use Rattle.db_base.specs.declared.trouble.Trouble.{Trouble}
 use Rattle.db_base.specs.declared.trouble.Trouble.TheVariants as trouble
 use Rattle.db_base.specs.declared.trouble.CommitAnswer.{CommitAnswer}
 use Rattle.db_base.specs.declared.trouble.CommitAnswer.TheVariants.{Committed, NotCommitted, InDoubt, CommittedOpen}
-use Rattle.cloud_trait.specs.Caller.{Caller}
-use Rattle.cloud_trait.specs.Seen.{Seen}
-use Rattle.cloud_trait.specs.Machine.{Goes, Ends, LeadsBy, Steps}
+use Rattle.log_codec.specs.declared.record.PuItem.{PuItem}
+use Rattle.cloud_trait.specs.declared.answer.Answer.{Answer as Heard}
 use Rattle.cloud_trait.specs.declared.turn.Turn.{Turn}
 use Rattle.cloud_trait.specs.declared.turn.Turn.TheVariants.{More, Ended, Stopped}
-use Rattle.first_recover.specs.declared.home.Home.{Home}
-use Rattle.first_recover.specs.declared.recover.RecoverAnswer.TheVariants.{Opened}
-use Rattle.first_recover.specs.Recovery.{Recovery, new_recovery, recovery_ask, recovery_next, home_of, KeepsLease, calls_left as opening_left, IsSound as IsSoundOpening}
-use Rattle.log_codec.specs.declared.record.PuItem.{PuItem}
-use Rattle.cloud_trait.specs.Ask.{Ask}
-use Rattle.first_tree.specs.Folding.{new_folding, folding_ask, FoldingLeads, KeepsLeases, calls_left as folding_left, Folding as Fold}
-use Rattle.first_commit.specs.Commit.{Commit, Readies, new_commit, commit_ask, commit_next, opens_at, KeepsHome, calls_left as commit_left, IsSound as IsSoundCommit}
-use Rattle.client_session.specs.declared.session.Answer.{Answer}
-use Rattle.client_session.specs.declared.session.Answer.TheVariants as answer
-use Rattle.client_session.specs.declared.session.Begun.{Begun}
-use Rattle.client_session.specs.declared.session.Begun.TheVariants.{Working, Answered}
-use Rattle.client_session.specs.declared.session.Op.{Op}
-use Rattle.client_session.specs.declared.session.Op.TheVariants as op
-use Rattle.client_session.specs.declared.session.Work.{Work}
-use Rattle.client_session.specs.declared.session.Work.TheVariants.{Closed, Idle, Opening, Committing, Folding, Broken}
+use Rattle.cloud_trait.specs.Ask.{Ask, Renew, Release}
+use Rattle.cloud_trait.specs.Caller.{Caller}
+use Rattle.cloud_trait.specs.Claim.{Claim}
+use Rattle.cloud_trait.specs.Machine.{Goes, Ends, LeadsBy, Steps}
+use Rattle.cloud_trait.specs.Seen.{Seen}
+use Rattle.cloud_trait.specs.Views.{done_of, renewed_of}
+use Rattle.cloud_trait.specs.Weather.{Makes, RenewsLease}
+use Rattle.recover_run.specs.declared.home.Home.{Home}
+use Rattle.recover_run.specs.declared.stage.Aim.TheVariants as aim
+use Rattle.recover_run.specs.declared.stage.RecoverAnswer.{RecoverAnswer}
+use Rattle.recover_run.specs.declared.stage.RecoverAnswer.TheVariants.{Opened}
+use Rattle.recover_run.specs.Bound.{calls_left as recovery_left}
+use Rattle.recover_run.specs.Recovery.{Recovery, new_recovery, recovery_ask, recovery_next, home_of, KeepsLeases, IsSound as IsSoundOpening}
+use Rattle.commit_writes.specs.Ending.{calls_left as commit_left}
+use Rattle.commit_writes.specs.Sound.{IsSound as IsSoundCommit}
+use Rattle.commit_writes.specs.Writing.{Writing, waiting, writing_ready, writing_ask, writing_next, opens_at, KeepsHome}
+use Rattle.page_ckpt.specs.Ending.{calls_left as paging_left}
+use Rattle.page_ckpt.specs.Paging.{new_paging, paging_ask, PagingLeads, KeepsLeases as KeepsPageLeases, Paging as Page}
+use Rattle.first_tree.specs.Folding.{new_folding, folding_ask, FoldingLeads, KeepsLeases as KeepsFoldLeases, calls_left as folding_left, Folding as Fold}
+use Rattle.client_session.specs.declared.answer.Answer.{Answer}
+use Rattle.client_session.specs.declared.answer.Answer.TheVariants as answer
+use Rattle.client_session.specs.declared.answer.Begun.{Begun}
+use Rattle.client_session.specs.declared.answer.Begun.TheVariants.{Working, Answered}
+use Rattle.client_session.specs.declared.op.Op.{Op}
+use Rattle.client_session.specs.declared.op.Op.TheVariants as op
+use Rattle.client_session.specs.declared.work.Work.{Work}
+use Rattle.client_session.specs.declared.work.Work.TheVariants.{Closed, Idle, Opening, Committing, Paging, Folding, Closing, Renewing, Broken}
 
 -- a session: the changes that it noted, and what it has in hand
 pub record Acting : Type 0 where
@@ -40,14 +52,32 @@ pub record Acting : Type 0 where
 abbrev pub closed_session : Acting
 closed_session = record { buffer = []; work = Closed }
 
+-- no answer waits for the release of the lease
+abbrev pub StopsAtMost : Option (Result RecoverAnswer Trouble) → Type 0
+StopsAtMost (Some (Ok a)) = ⊥
+StopsAtMost (Some (Err t)) = Unit {0}
+StopsAtMost None = Unit {0}
+
+-- a recovery opens a client, and settles none
+abbrev pub IsOpening : Recovery → Type 0
+IsOpening m = (m.aim ≡ aim.Opening) × StopsAtMost m.ending
+
+-- an opening in hand is one
+abbrev pub IsOfClient : Work → Type 0
+IsOfClient (Opening m) = IsOpening m
+IsOfClient work = Unit {0}
+
 -- the rule that refuses an operation of an open client, where one does
 abbrev pub rule_of : Work → Option Refusal
 rule_of Closed = Some rule.NotOpen
 rule_of (Idle home) = None
 rule_of (Opening m) = Some rule.AtWork
 rule_of (Committing m) = Some rule.AtWork
+rule_of (Paging home m) = Some rule.AtWork
 rule_of (Folding home m) = Some rule.AtWork
-rule_of Broken = Some rule.Broken
+rule_of (Closing lease) = Some rule.AtWork
+rule_of (Renewing home) = Some rule.AtWork
+rule_of (Broken lease) = Some rule.Broken
 
 -- ---- what is refused
 
@@ -83,12 +113,31 @@ opening_rule_of Closed = None
 opening_rule_of (Idle home) = Some rule.AlreadyOpen
 opening_rule_of (Opening m) = Some rule.AtWork
 opening_rule_of (Committing m) = Some rule.AtWork
+opening_rule_of (Paging home m) = Some rule.AtWork
 opening_rule_of (Folding home m) = Some rule.AtWork
-opening_rule_of Broken = Some rule.NotBuilt
+opening_rule_of (Closing lease) = Some rule.AtWork
+opening_rule_of (Renewing home) = Some rule.AtWork
+opening_rule_of (Broken lease) = None
 
--- a closed session begins opening a client, and has noted nothing; another is refused and stays
+-- the lease that a broken session still has
+abbrev pub old_lease : Work → Option Claim
+old_lease (Broken lease) = Some lease
+old_lease Closed = None
+old_lease (Idle home) = None
+old_lease (Opening m) = None
+old_lease (Committing m) = None
+old_lease (Paging home m) = None
+old_lease (Folding home m) = None
+old_lease (Closing lease) = None
+old_lease (Renewing home) = None
+
+-- the opening of a client, behind the release of an old lease where one is left
+abbrev pub opening_of : ℕ → Option Claim → Work
+opening_of client old = Opening (new_recovery client aim.Opening old)
+
+-- a closed or broken session begins opening a client, and has noted nothing; another is refused and stays
 abbrev pub BeginsOpening : ℕ → Acting → Acting → Result Begun Refused → Type 0
-BeginsOpening client old new (Ok Working) = (opening_rule_of old.work ≡ None) × (new ≡ record { buffer = []; work = Opening (new_recovery client) })
+BeginsOpening client old new (Ok Working) = (opening_rule_of old.work ≡ None) × (new ≡ record { buffer = []; work = opening_of client (old_lease old.work) })
 BeginsOpening client old new (Ok (Answered answer)) = ⊥
 BeginsOpening client old new (Err (refused.Rule r)) = (opening_rule_of old.work ≡ Some r) × (new ≡ old)
 BeginsOpening client old new (Err refused.Memory) = ⊥
@@ -103,15 +152,19 @@ BeginsWith Does old new (Err refused.Memory) = ⊥
 abbrev pub HasInHand : List Noted → Work → Acting → Begun → Type 0
 HasInHand buffer work new begun = (begun ≡ Working) × (new ≡ record { buffer = buffer; work = work })
 
+-- the checkpoint of a page that a home begins
+abbrev pub paging_begun_by : ℕ → ℕ → Home → Work
+paging_begun_by tree page home = Paging home (new_paging tree page)
+
 -- the checkpoint of a tree that a home begins
 abbrev pub folding_begun_by : ℕ → Home → Work
 folding_begun_by tree home = Folding home (new_folding tree)
 
--- a commit of changes by a home: it is in hand, or it is answered at once and the home stays; for want of memory it is in doubt
+-- the commit of changes by a home: it is in hand, or it is answered at once and the home stays; want of memory leaves the lease alone
 abbrev pub CommitsOf : Home → List Noted → Work → Begun → Type 0
-CommitsOf home changes work Working = (c : Commit) × Readies (new_commit home changes) (Goes c) × (work ≡ Committing c)
-CommitsOf home changes work (Answered (answer.Commit a)) = (c : Commit) × Readies (new_commit home changes) (Ends c a) × (work ≡ Idle c.home)
-CommitsOf home changes work (Answered (answer.Trouble t)) = (t ≡ trouble.Memory) × (work ≡ Broken)
+CommitsOf home changes work Working = (m : Writing) × (writing_ready (waiting home changes) ≡ Goes m) × (work ≡ Committing m)
+CommitsOf home changes work (Answered (answer.Commit a)) = (m : Writing) × (writing_ready (waiting home changes) ≡ Ends m a) × (work ≡ Idle m.home)
+CommitsOf home changes work (Answered (answer.Trouble t)) = (t ≡ trouble.Memory) × (work ≡ Broken home.lease)
 CommitsOf home changes work (Answered answer) = ⊥
 
 -- nothing is noted and the commit is answered at once
@@ -129,7 +182,10 @@ CommitsIn buffer home new begun = (new.buffer ≡ []) × CommitsNoted home buffe
 
 abbrev pub Begins : Op → Acting → Acting → Result Begun Refused → Type 0
 Begins (op.Open client) old new result = BeginsOpening client old new result
+Begins op.Close old new result = BeginsWith (λ home. HasInHand old.buffer (Closing home.lease)) old new result
+Begins op.Renew old new result = BeginsWith (λ home. HasInHand old.buffer (Renewing home)) old new result
 Begins op.Commit old new result = BeginsWith (CommitsIn old.buffer) old new result
+Begins (op.Page tree page) old new result = BeginsWith (λ home. HasInHand old.buffer (paging_begun_by tree page home)) old new result
 Begins (op.Tree tree) old new result = BeginsWith (λ home. HasInHand old.buffer (folding_begun_by tree home)) old new result
 
 -- ---- what a step does
@@ -138,56 +194,105 @@ abbrev pub opened_work : Option Home → Work
 opened_work (Some home) = Idle home
 opened_work None = Closed
 
+-- a commit in doubt, or one that stays open, leaves the lease alone
 abbrev pub committed_work : CommitAnswer → Home → Work
-committed_work InDoubt home = Broken
-committed_work (CommittedOpen t) home = Broken
+committed_work InDoubt home = Broken home.lease
+committed_work (CommittedOpen t) home = Broken home.lease
 committed_work (Committed txn) home = Idle home
 committed_work (NotCommitted t) home = Idle home
 
+-- and so does want of memory
+abbrev pub stopped_work : Trouble → Home → Work
+stopped_work trouble.Memory home = Broken home.lease
+stopped_work t home = Idle home
+
+-- how many calls an opening has left at most
+abbrev pub opening_left : Recovery → ℕ
+opening_left m = recovery_left (2 ^ 64) 255 m
+
 -- one step of an opening, and what it leaves in hand
 abbrev pub StepsOpening : Caller → Seen → Seen → Recovery → Work → Turn Answer → Type 0
-StepsOpening who before after old work More = (r : Recovery) × Steps recovery_ask (LeadsBy recovery_next) KeepsLease who before after old r More × (work ≡ Opening r)
+StepsOpening who before after old work More =
+    (m : Recovery) × Steps recovery_ask (LeadsBy recovery_next) KeepsLeases who before after old m More × (work ≡ Opening m) × (opening_left m < opening_left old)
 StepsOpening who before after old work (Ended (answer.Opened epoch)) =
-    (r : Recovery) × Steps recovery_ask (LeadsBy recovery_next) KeepsLease who before after old r (Ended (Opened epoch)) × (work ≡ opened_work (home_of r))
-StepsOpening who before after old work (Ended (answer.Commit a)) = ⊥
-StepsOpening who before after old work (Ended (answer.Done n)) = ⊥
-StepsOpening who before after old work (Ended (answer.Trouble k)) = (r : Recovery) × Steps recovery_ask (LeadsBy recovery_next) KeepsLease who before after old r (Stopped k) × (work ≡ Closed)
-StepsOpening who before after old work (Stopped k) = ⊥
+    (m : Recovery) × Steps recovery_ask (LeadsBy recovery_next) KeepsLeases who before after old m (Ended (Opened epoch)) × (work ≡ opened_work (home_of m))
+StepsOpening who before after old work (Ended (answer.Trouble k)) =
+    (m : Recovery) × Steps recovery_ask (LeadsBy recovery_next) KeepsLeases who before after old m (Stopped k) × (work ≡ Closed)
+StepsOpening who before after old work turn = ⊥
 
 -- one step of a commit, and what it leaves in hand
-abbrev pub StepsCommit : Caller → Seen → Seen → Commit → Work → Turn Answer → Type 0
-StepsCommit who before after old work More = (m : Commit) × Steps commit_ask (LeadsBy commit_next) KeepsHome who before after old m More × (work ≡ Committing m)
-StepsCommit who before after old work (Ended (answer.Opened epoch)) = ⊥
-StepsCommit who before after old work (Ended (answer.Done n)) = ⊥
-StepsCommit who before after old work (Ended (answer.Commit a)) = (m : Commit) × Steps commit_ask (LeadsBy commit_next) KeepsHome who before after old m (Ended a) × (work ≡ committed_work a m.home)
-StepsCommit who before after old work (Ended (answer.Trouble k)) = (m : Commit) × Steps commit_ask (LeadsBy commit_next) KeepsHome who before after old m (Stopped k) × (work ≡ Broken)
-StepsCommit who before after old work (Stopped k) = ⊥
+abbrev pub StepsCommit : Caller → Seen → Seen → Writing → Work → Turn Answer → Type 0
+StepsCommit who before after old work More = (m : Writing) × Steps writing_ask (LeadsBy writing_next) KeepsHome who before after old m More × (work ≡ Committing m)
+StepsCommit who before after old work (Ended (answer.Commit a)) =
+    (m : Writing) × Steps writing_ask (LeadsBy writing_next) KeepsHome who before after old m (Ended a) × (work ≡ committed_work a m.home)
+StepsCommit who before after old work (Ended (answer.Trouble k)) =
+    (m : Writing) × Steps writing_ask (LeadsBy writing_next) KeepsHome who before after old m (Stopped k) × (work ≡ Broken m.home.lease)
+StepsCommit who before after old work turn = ⊥
 
--- one step of a checkpoint, and what it leaves in hand
+-- one step of a page checkpoint, and what it leaves in hand
+abbrev pub StepsPaging : Home → Caller → Seen → Seen → Page → Work → Turn Answer → Type 0
+StepsPaging home who before after old work More = (m : Page) × Steps paging_ask PagingLeads KeepsPageLeases who before after old m More × (work ≡ Paging home m) × (paging_left m < paging_left old)
+StepsPaging home who before after old work (Ended (answer.Done n)) = (m : Page) × Steps paging_ask PagingLeads KeepsPageLeases who before after old m (Ended n) × (work ≡ Idle home)
+StepsPaging home who before after old work (Ended (answer.Trouble k)) =
+    (m : Page) × Steps paging_ask PagingLeads KeepsPageLeases who before after old m (Stopped k) × (work ≡ stopped_work k home)
+StepsPaging home who before after old work turn = ⊥
+
+-- one step of a tree checkpoint, and what it leaves in hand
 abbrev pub StepsFolding : Home → Caller → Seen → Seen → Fold → Work → Turn Answer → Type 0
-StepsFolding home who before after old work More = (f : Fold) × Steps folding_ask FoldingLeads KeepsLeases who before after old f More × (work ≡ Folding home f)
-StepsFolding home who before after old work (Ended (answer.Done n)) = (f : Fold) × Steps folding_ask FoldingLeads KeepsLeases who before after old f (Ended n) × (work ≡ Idle home)
-StepsFolding home who before after old work (Ended (answer.Opened epoch)) = ⊥
-StepsFolding home who before after old work (Ended (answer.Commit a)) = ⊥
-StepsFolding home who before after old work (Ended (answer.Trouble k)) = (f : Fold) × Steps folding_ask FoldingLeads KeepsLeases who before after old f (Stopped k) × (work ≡ Idle home)
-StepsFolding home who before after old work (Stopped k) = ⊥
+StepsFolding home who before after old work More = (f : Fold) × Steps folding_ask FoldingLeads KeepsFoldLeases who before after old f More × (work ≡ Folding home f)
+StepsFolding home who before after old work (Ended (answer.Done n)) = (f : Fold) × Steps folding_ask FoldingLeads KeepsFoldLeases who before after old f (Ended n) × (work ≡ Idle home)
+StepsFolding home who before after old work (Ended (answer.Trouble k)) =
+    (f : Fold) × Steps folding_ask FoldingLeads KeepsFoldLeases who before after old f (Stopped k) × (work ≡ stopped_work k home)
+StepsFolding home who before after old work turn = ⊥
+
+-- a lease is given back: what the call answered, and what that comes to
+pub record GivesBack (lease : Claim) (who : Caller) (before after : Seen) (result : Result (Unit {0}) Trouble) : Type 0 where
+  pub answer : Heard
+  pub made : Makes who (Release lease) answer before after
+  pub took : done_of answer ≡ result
+
+-- the one step of a close: whatever the release answers, nothing is in hand any more
+abbrev pub StepsClosing : Claim → Caller → Seen → Seen → Work → Turn Answer → Type 0
+StepsClosing lease who before after work (Ended answer.Closed) = GivesBack lease who before after (Ok tt) × (work ≡ Closed)
+StepsClosing lease who before after work (Ended (answer.Trouble k)) = GivesBack lease who before after (Err k) × (work ≡ Closed)
+StepsClosing lease who before after work turn = ⊥
+
+-- a home's lease is renewed for 600 ticks: what the call answered, what that comes to, and what it leaves of the lease
+pub record RenewsHome (old new : Home) (who : Caller) (before after : Seen) (result : Result ℕ Trouble) : Type 0 where
+  pub answer : Heard
+  pub made : Makes who (Renew old.lease 600) answer before after
+  pub took : renewed_of answer ≡ result
+  pub lease : RenewsLease who 600 old.lease new.lease answer before after
+  pub home : new ≡ record old { lease = new.lease }
+
+-- the one step of a renewal: the client stays open, unless memory ran out
+abbrev pub StepsRenewing : Home → Caller → Seen → Seen → Work → Turn Answer → Type 0
+StepsRenewing home who before after work (Ended (answer.Renewed end)) = (new : Home) × RenewsHome home new who before after (Ok end) × (work ≡ Idle new)
+StepsRenewing home who before after work (Ended (answer.Trouble k)) = (new : Home) × RenewsHome home new who before after (Err k) × (work ≡ stopped_work k new)
+StepsRenewing home who before after work turn = ⊥
 
 -- one step of what is at work: an opening or a commit has the bytes in hand that it is to put or send
 abbrev pub StepsAt : Caller → Seen → Seen → Work → Work → Turn Answer → Type 0
 StepsAt who before after (Opening m) work turn = IsSoundOpening m × StepsOpening who before after m work turn
 StepsAt who before after (Committing m) work turn = IsSoundCommit m × StepsCommit who before after m work turn
+StepsAt who before after (Paging home m) work turn = StepsPaging home who before after m work turn
 StepsAt who before after (Folding home m) work turn = StepsFolding home who before after m work turn
+StepsAt who before after (Closing lease) work turn = StepsClosing lease who before after work turn
+StepsAt who before after (Renewing home) work turn = StepsRenewing home who before after work turn
 StepsAt who before after Closed work turn = ⊥
 StepsAt who before after (Idle home) work turn = ⊥
-StepsAt who before after Broken work turn = ⊥
+StepsAt who before after (Broken lease) work turn = ⊥
 
 abbrev pub is_working : Work → Bool
 is_working (Opening m) = true
 is_working (Committing m) = true
+is_working (Paging home m) = true
 is_working (Folding home m) = true
 is_working Closed = false
 is_working (Idle home) = false
-is_working Broken = false
+is_working (Closing lease) = true
+is_working (Renewing home) = true
+is_working (Broken lease) = false
 
 -- one step of what is in hand; where nothing is at work it is refused and changes nothing
 abbrev pub StepsWork : Caller → Seen → Seen → Work → Work → Result (Turn Answer) Refused → Type 0
@@ -195,52 +300,72 @@ StepsWork who before after old new (Ok turn) = StepsAt who before after old new 
 StepsWork who before after old new (Err (refused.Rule r)) = (r ≡ rule.NotWorking) × (is_working old ≡ false) × (new ≡ old) × (after ≡ before)
 StepsWork who before after old new (Err refused.Memory) = ⊥
 
--- one step of a session: what it noted stays
+-- a close drops what was noted, and nothing else does
+abbrev pub noted_behind : Work → List Noted → List Noted
+noted_behind (Closing lease) buffer = []
+noted_behind work buffer = buffer
+
+-- one step of a session
 pub record StepsSession (who : Caller) (before after : Seen) (old new : Acting) (result : Result (Turn Answer) Refused) : Type 0 where
-  pub buffer : new.buffer ≡ old.buffer
+  pub buffer : new.buffer ≡ noted_behind old.work old.buffer
   pub work : StepsWork who before after old.work new.work result
 
 -- how many calls the work has left at most
 abbrev pub calls_left : Work → ℕ
 calls_left (Opening m) = opening_left m
 calls_left (Committing m) = commit_left m
+calls_left (Paging home m) = paging_left m
 calls_left (Folding home m) = folding_left m
 calls_left Closed = 0
 calls_left (Idle home) = 0
-calls_left Broken = 0
+calls_left (Closing lease) = 1
+calls_left (Renewing home) = 1
+calls_left (Broken lease) = 0
 
 -- the call in hand, where something is at work
 abbrev pub ask_of_work : Work → Option Ask
 ask_of_work (Opening m) = Some (recovery_ask m)
-ask_of_work (Committing m) = Some (commit_ask m)
+ask_of_work (Committing m) = Some (writing_ask m)
+ask_of_work (Paging home m) = Some (paging_ask m)
 ask_of_work (Folding home m) = Some (folding_ask m)
 ask_of_work Closed = None
 ask_of_work (Idle home) = None
-ask_of_work Broken = None
+ask_of_work (Closing lease) = Some (Release lease)
+ask_of_work (Renewing home) = Some (Renew home.lease 600)
+ask_of_work (Broken lease) = None
 
 -- the changes of the commit at work
 abbrev pub committing_of : Work → Option (List Noted)
 committing_of (Committing m) = Some m.changes
 committing_of (Opening m) = None
+committing_of (Paging home m) = None
 committing_of (Folding home m) = None
 committing_of Closed = None
 committing_of (Idle home) = None
-committing_of Broken = None
+committing_of (Closing lease) = None
+committing_of (Renewing home) = None
+committing_of (Broken lease) = None
 
 -- the head that the put in hand opens, where it commits
 abbrev pub opens_of : Work → Option Head
 opens_of (Committing m) = opens_at m.stage m
 opens_of (Opening m) = None
+opens_of (Paging home m) = None
 opens_of (Folding home m) = None
 opens_of Closed = None
 opens_of (Idle home) = None
-opens_of Broken = None
+opens_of (Closing lease) = None
+opens_of (Renewing home) = None
+opens_of (Broken lease) = None
 
 -- the items that the put in hand applies
 abbrev pub applying_of : Work → List PuItem
+applying_of (Paging home m) = m.applying
 applying_of (Folding home m) = m.applying
 applying_of (Committing m) = []
 applying_of (Opening m) = []
 applying_of Closed = []
 applying_of (Idle home) = []
-applying_of Broken = []
+applying_of (Closing lease) = []
+applying_of (Renewing home) = []
+applying_of (Broken lease) = []

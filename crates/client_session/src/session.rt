@@ -2,78 +2,29 @@ ghost use Rattle.std.specs.Prelude.{◌≡◌, ◌≤◌, [], length, IfOk, IfEr
 ghost use Rattle.std.specs.Option.{option_map, option_copied};
 ghost use Rattle.cloud_trait.specs.Call.{ask_of};
 ghost use Rattle.txn_buffer.specs.Noted.{noted_in};
-ghost use Rattle.first_recover.specs.Recovery.{home_of, IsSound as IsSoundOpening};
-ghost use Rattle.first_commit.specs.Commit.{IsSound as IsSoundCommit};
-ghost use Rattle.client_session.specs.Session.{GivesHome, CommitsOf, CommitsNoted, StepsWork, StepsOpening, StepsCommit, StepsFolding, opened_work, committed_work};
 
+use crate::answer::{Answer, Begun};
+use crate::committing::commit_noted;
+use crate::op::Op;
+use crate::opening::opening;
+use crate::stepping::step_work;
+use crate::work::{Work, home_of_work, lease_of_work};
 use cloud_trait::call::Call;
 use cloud_trait::cloud::Cloud;
-use cloud_trait::turn::{CkptAnswer, Turn};
+use cloud_trait::turn::Turn;
 use cloud_trait::who::Who;
 use db_base::change::Change;
-use db_base::ids::{ClientId, TreeId};
+use db_base::ids::{ClientId, PageId, TreeId};
 use db_base::refusal::{Refusal, Refused};
-use db_base::trouble::{CommitAnswer, Trouble};
-use first_commit::commit::CommitRun;
-use first_recover::home::Home;
-use first_recover::recover::{RecoverAnswer, RecoverRun};
 use first_tree::checkpoint::TreeCkpt;
 use head_codec::head::Head;
 use log_codec::record::PuItem;
+use page_ckpt::PageCkpt;
+use recover_run::home::Home;
 use std::alloc::Global;
 use std::marker::Model;
 use std::mem;
 use txn_buffer::buffer::TxnBuffer;
-
-/// What a session has in hand.
-#[derive(Drop)]
-pub enum Work {
-    /// Nothing: no client is open.
-    Closed,
-    /// An open client.
-    Idle(Home),
-    /// An opening under way.
-    Opening(RecoverRun),
-    /// A commit under way.
-    Committing(CommitRun),
-    /// A tree checkpoint under way, beside the open client.
-    Folding(Home, TreeCkpt),
-    /// A client whose newest operation left it in doubt.
-    Broken,
-}
-
-/// An operation that a session can begin.
-#[derive(Clone, Copy, Debug, PartialEq, Eq)]
-pub enum Op {
-    /// Opens a client.
-    Open(ClientId),
-    /// Commits the noted changes.
-    Commit,
-    /// Checkpoints a tree.
-    Tree(TreeId),
-}
-
-/// What the begin of an operation answers.
-#[derive(Debug, Drop)]
-pub enum Begun {
-    /// The operation has a call in hand.
-    Working,
-    /// It is answered at once, without a call.
-    Answered(Answer),
-}
-
-/// What an operation answers.
-#[derive(Debug, Drop)]
-pub enum Answer {
-    /// The client is open in this epoch.
-    Opened { epoch: u64 },
-    /// How a commit ended.
-    Commit(CommitAnswer),
-    /// What a checkpoint did.
-    Done(CkptAnswer),
-    /// Why the operation stopped.
-    Trouble(Trouble),
-}
 
 /// A session of a client. It is closed at first.
 #[derive(Drop)]
@@ -83,15 +34,17 @@ pub struct Session {
 }
 
 impl Model for Session {
-    ghost use Rattle.client_session.specs.Session.{Acting};
+    ghost use Rattle.client_session.specs.Session.{Acting, IsOfClient};
 
     ghost Value = { Acting };
 
     ghost view = { λ s. record { buffer = s.buffer; work = s.work } };
+
+    ghost invariant = { λ s. IsOfClient s.work };
 }
 
 impl Session {
-    ghost use Rattle.client_session.specs.Session.{Acting, closed_session, rule_of, opening_rule_of, NoteRefused, AbortRefused, Begins, BeginsOpening, BeginsWith, HasInHand, folding_begun_by, TakesHome, CommitsIn, StepsSession, ask_of_work, committing_of, opens_of, applying_of};
+    ghost use Rattle.client_session.specs.Session.{Acting, closed_session, rule_of, NoteRefused, AbortRefused, Begins, BeginsOpening, BeginsWith, HasInHand, IsOfClient, folding_begun_by, paging_begun_by, TakesHome, CommitsIn, StepsSession, noted_behind, old_lease, ask_of_work, committing_of, opens_of, applying_of};
 
     /// A closed session without changes. Refused for memory alone.
     pub fn new(alloc: Global) -> Result<Session, Refused>
@@ -104,34 +57,6 @@ impl Session {
         })
     }
 
-    /// The rule that keeps an open client's operation from beginning.
-    fn rule(&self) -> Option<Refusal>
-        ensures { result ≡ rule_of self.now.work }
-    {
-        match &self.work {
-            Work::Closed => Some(Refusal::NotOpen),
-            Work::Idle(_) => None,
-            Work::Opening(_) => Some(Refusal::AtWork),
-            Work::Committing(_) => Some(Refusal::AtWork),
-            Work::Folding(_, _) => Some(Refusal::AtWork),
-            Work::Broken => Some(Refusal::Broken),
-        }
-    }
-
-    /// The rule that keeps an opening from beginning.
-    fn opening_rule(&self) -> Option<Refusal>
-        ensures { result ≡ opening_rule_of self.now.work }
-    {
-        match &self.work {
-            Work::Closed => None,
-            Work::Idle(_) => Some(Refusal::AlreadyOpen),
-            Work::Opening(_) => Some(Refusal::AtWork),
-            Work::Committing(_) => Some(Refusal::AtWork),
-            Work::Folding(_, _) => Some(Refusal::AtWork),
-            Work::Broken => Some(Refusal::NotBuilt),
-        }
-    }
-
     /// Notes a change of an open client. A refusal changes nothing.
     pub fn note(&mut self, tree: TreeId, change: Change) -> Result<(), Refused>
         ensures ok { OnOk result ((self.new ≡ record self.old { buffer = noted_in self.old.buffer tree change }) × (rule_of self.old.work ≡ None)) }
@@ -139,7 +64,7 @@ impl Session {
         ensures cause { IfErr result (NoteRefused self.old tree change) }
         ensures few { OnOk result (length self.new.buffer ≤ 200) }
     {
-        if let Some(rule) = self.rule() {
+        if let Some(rule) = self.work.rule() {
             return Err(Refused::Rule(rule));
         }
         let noted = self.buffer.note(tree, change);
@@ -154,7 +79,7 @@ impl Session {
         ensures err { OnErr result (self.new ≡ self.old) }
         ensures cause { IfErr result (AbortRefused self.old) }
     {
-        if let Some(rule) = self.rule() {
+        if let Some(rule) = self.work.rule() {
             return Err(Refused::Rule(rule));
         }
         self.buffer.clear();
@@ -175,20 +100,43 @@ impl Session {
     {
         match op {
             Op::Open(client) => self.begin_opening(alloc, client),
+            Op::Close => self.begin_close(),
+            Op::Renew => self.begin_renewal(),
             Op::Commit => self.begin_commit(alloc),
+            Op::Page(tree, page) => self.begin_page(alloc, tree, page),
             Op::Tree(tree) => self.begin_tree(alloc, tree),
         }
     }
 
-    /// Begins opening a client, in a closed session alone. It drops what was noted.
+    /// Begins opening a client, in a closed session, or in a broken one with its old lease. It drops what was noted.
     fn begin_opening(&mut self, alloc: Global, client: ClientId) -> Result<Begun, Refused>
         ensures { BeginsOpening client self.old self.new result }
     {
-        if let Some(rule) = self.opening_rule() {
+        if let Some(rule) = self.work.opening_rule() {
             return Err(Refused::Rule(rule));
         }
         self.buffer.clear();
-        self.has(Work::Opening(RecoverRun::new(alloc, client)));
+        let (work, old) = lease_of_work(self.take_work());
+        self.has(work);
+        self.has(opening(alloc, client, old));
+        Ok(Begun::Working)
+    }
+
+    /// Begins closing the client.
+    fn begin_close(&mut self) -> Result<Begun, Refused>
+        ensures { BeginsWith (λ home. HasInHand self.old.buffer (Work.Closing home.lease)) self.old self.new result }
+    {
+        let home = self.take_home()?;
+        self.has(Work::Closing(home.lease));
+        Ok(Begun::Working)
+    }
+
+    /// Begins renewing the client's lease.
+    fn begin_renewal(&mut self) -> Result<Begun, Refused>
+        ensures { BeginsWith (λ home. HasInHand self.old.buffer (Work.Renewing home)) self.old self.new result }
+    {
+        let home = self.take_home()?;
+        self.has(Work::Renewing(home));
         Ok(Begun::Working)
     }
 
@@ -200,6 +148,15 @@ impl Session {
         let (work, begun) = commit_noted(alloc, home, self.buffer.take());
         self.has(work);
         Ok(begun)
+    }
+
+    /// Begins a checkpoint of a page.
+    fn begin_page(&mut self, alloc: Global, tree: TreeId, page: PageId) -> Result<Begun, Refused>
+        ensures { BeginsWith (λ home. HasInHand self.old.buffer (paging_begun_by tree page home)) self.old self.new result }
+    {
+        let home = self.take_home()?;
+        self.has(Work::Paging(home, PageCkpt::new(alloc, tree, page)));
+        Ok(Begun::Working)
     }
 
     /// Begins a checkpoint of a tree.
@@ -215,13 +172,23 @@ impl Session {
     fn take_home(&mut self) -> Result<Home, Refused>
         ensures { TakesHome self.old self.new result }
     {
-        let (work, home) = home_of_work(mem::replace(&mut self.work, Work::Closed));
+        let (work, home) = home_of_work(self.take_work());
         self.has(work);
         home
     }
 
+    /// Takes what is in hand.
+    fn take_work(&mut self) -> Work
+        ensures taken { result ≡ self.old.work }
+        ensures left { self.new ≡ record self.old { work = Work.Closed } }
+        ensures client { IsOfClient result }
+    {
+        mem::replace(&mut self.work, Work::Closed)
+    }
+
     /// Has this in hand from now on. It is the one place where what was in hand is dropped.
     fn has(&mut self, work: Work)
+        requires { IsOfClient work }
         ensures { self.new ≡ record self.old { work = work } }
     {
         self.work = work;
@@ -236,213 +203,47 @@ impl Session {
     ) -> Result<Turn<Answer>, Refused>
         ensures { StepsSession who (C.seen cloud.old) (C.seen cloud.new) self.old self.new result }
     {
-        let work = mem::replace(&mut self.work, Work::Closed);
-        let (work, turn) = step_work(alloc, cloud, who, work);
+        self.drop_at_close();
+        let (work, turn) = step_work(alloc, cloud, who, self.take_work());
         self.has(work);
         turn
+    }
+
+    /// A close drops what was noted.
+    fn drop_at_close(&mut self)
+        ensures { self.new ≡ record self.old { buffer = noted_behind self.old.work self.old.buffer } }
+    {
+        match &self.work {
+            Work::Closing(_) => self.buffer.clear(),
+            _ => {}
+        }
     }
 
     /// The service call that the next step makes; none where nothing is at work.
     pub fn in_hand(&self) -> Option<Call<'_>>
         ensures { option_map ask_of result ≡ ask_of_work self.now.work }
     {
-        match &self.work {
-            Work::Opening(machine) => Some(machine.in_hand()),
-            Work::Committing(machine) => Some(machine.in_hand()),
-            Work::Folding(_, machine) => Some(machine.in_hand()),
-            Work::Closed => None,
-            Work::Idle(_) => None,
-            Work::Broken => None,
-        }
+        self.work.in_hand()
     }
 
     /// The changes of the commit at work; none where none is.
     pub fn committing(&self) -> Option<&TxnBuffer>
         ensures { option_copied result ≡ committing_of self.now.work }
     {
-        match &self.work {
-            Work::Committing(machine) => Some(machine.changes()),
-            Work::Opening(_) => None,
-            Work::Folding(_, _) => None,
-            Work::Closed => None,
-            Work::Idle(_) => None,
-            Work::Broken => None,
-        }
+        self.work.committing()
     }
 
     /// The head that the put in hand opens, where it is the one that commits.
     pub fn opens(&self) -> Option<&Head>
         ensures { option_copied result ≡ opens_of self.now.work }
     {
-        match &self.work {
-            Work::Committing(machine) => machine.opens(),
-            Work::Opening(_) => None,
-            Work::Folding(_, _) => None,
-            Work::Closed => None,
-            Work::Idle(_) => None,
-            Work::Broken => None,
-        }
+        self.work.opens()
     }
 
     /// The items that the put in hand of a checkpoint applies.
     pub fn applying(&self) -> &[PuItem]
         ensures { result.now ≡ applying_of self.now.work }
     {
-        match &self.work {
-            Work::Folding(_, machine) => machine.applying(),
-            Work::Committing(_) => &[],
-            Work::Opening(_) => &[],
-            Work::Closed => &[],
-            Work::Idle(_) => &[],
-            Work::Broken => &[],
-        }
-    }
-}
-
-/// Takes the home out of what an open client has in hand; what else is in hand stays.
-fn home_of_work(work: Work) -> (Work, Result<Home, Refused>)
-    ensures { GivesHome work result.0 result.1 }
-{
-    match work {
-        Work::Idle(home) => (Work::Closed, Ok(home)),
-        Work::Closed => (Work::Closed, Err(Refused::Rule(Refusal::NotOpen))),
-        Work::Broken => (Work::Broken, Err(Refused::Rule(Refusal::Broken))),
-        Work::Opening(machine) => (Work::Opening(machine), Err(Refused::Rule(Refusal::AtWork))),
-        Work::Committing(machine) => (
-            Work::Committing(machine),
-            Err(Refused::Rule(Refusal::AtWork)),
-        ),
-        Work::Folding(home, machine) => (
-            Work::Folding(home, machine),
-            Err(Refused::Rule(Refusal::AtWork)),
-        ),
-    }
-}
-
-/// Begins the commit of what a home's session noted: what is in hand then. That of nothing is answered at once.
-fn commit_noted(alloc: Global, home: Home, changes: TxnBuffer) -> (Work, Begun)
-    ensures { CommitsNoted home changes result.0 result.1 }
-{
-    if changes.is_empty() {
-        let answer = CommitAnswer::Committed { txn: 0 };
-        return (Work::Idle(home), Begun::Answered(Answer::Commit(answer)));
-    }
-    commit_of(alloc, home, changes)
-}
-
-/// Begins the commit of changes by a home: what is in hand then.
-fn commit_of(alloc: Global, home: Home, changes: TxnBuffer) -> (Work, Begun)
-    requires { 1 ≤ length changes }
-    ensures { CommitsOf home changes result.0 result.1 }
-{
-    let mut commit = CommitRun::new(alloc, home, changes);
-    match commit.ready(alloc) {
-        Turn::More => (Work::Committing(commit), Begun::Working),
-        Turn::Ended(answer) => (
-            Work::Idle(commit.finish()),
-            Begun::Answered(Answer::Commit(answer)),
-        ),
-        Turn::Stopped(trouble) => (Work::Broken, Begun::Answered(Answer::Trouble(trouble))),
-    }
-}
-
-/// Makes the call in hand of what is at work: what is in hand then, and what it came to.
-fn step_work<C: Cloud>(
-    alloc: Global,
-    cloud: &mut C,
-    who: Who,
-    work: Work,
-) -> (Work, Result<Turn<Answer>, Refused>)
-    ensures { StepsWork who (C.seen cloud.old) (C.seen cloud.new) work result.0 result.1 }
-{
-    match work {
-        Work::Opening(machine) => {
-            let (work, turn) = step_opening(alloc, cloud, who, machine);
-            (work, Ok(turn))
-        }
-        Work::Committing(machine) => {
-            let (work, turn) = step_commit(alloc, cloud, who, machine);
-            (work, Ok(turn))
-        }
-        Work::Folding(home, machine) => {
-            let (work, turn) = step_folding(alloc, cloud, who, home, machine);
-            (work, Ok(turn))
-        }
-        other => (other, Err(Refused::Rule(Refusal::NotWorking))),
-    }
-}
-
-fn step_opening<C: Cloud>(
-    alloc: Global,
-    cloud: &mut C,
-    who: Who,
-    mut machine: RecoverRun,
-) -> (Work, Turn<Answer>)
-    ensures sound { IsSoundOpening machine }
-    ensures steps { StepsOpening who (C.seen cloud.old) (C.seen cloud.new) machine result.0 result.1 }
-{
-    match machine.step(alloc, cloud, who) {
-        Turn::More => (Work::Opening(machine), Turn::More),
-        Turn::Ended(RecoverAnswer::Opened { epoch }) => {
-            (opened(machine), Turn::Ended(Answer::Opened { epoch }))
-        }
-        Turn::Stopped(trouble) => (Work::Closed, Turn::Ended(Answer::Trouble(trouble))),
-    }
-}
-
-fn step_commit<C: Cloud>(
-    alloc: Global,
-    cloud: &mut C,
-    who: Who,
-    mut machine: CommitRun,
-) -> (Work, Turn<Answer>)
-    ensures sound { IsSoundCommit machine }
-    ensures steps { StepsCommit who (C.seen cloud.old) (C.seen cloud.new) machine result.0 result.1 }
-{
-    match machine.step(alloc, cloud, who) {
-        Turn::More => (Work::Committing(machine), Turn::More),
-        Turn::Ended(answer) => (
-            committed(&answer, machine),
-            Turn::Ended(Answer::Commit(answer)),
-        ),
-        Turn::Stopped(trouble) => (Work::Broken, Turn::Ended(Answer::Trouble(trouble))),
-    }
-}
-
-fn step_folding<C: Cloud>(
-    alloc: Global,
-    cloud: &mut C,
-    who: Who,
-    home: Home,
-    mut machine: TreeCkpt,
-) -> (Work, Turn<Answer>)
-    ensures { StepsFolding home who (C.seen cloud.old) (C.seen cloud.new) machine result.0 result.1 }
-{
-    match machine.step(alloc, cloud, who) {
-        Turn::More => (Work::Folding(home, machine), Turn::More),
-        Turn::Ended(answer) => (Work::Idle(home), Turn::Ended(Answer::Done(answer))),
-        Turn::Stopped(trouble) => (Work::Idle(home), Turn::Ended(Answer::Trouble(trouble))),
-    }
-}
-
-/// An open client after its opening.
-fn opened(machine: RecoverRun) -> Work
-    ensures { result ≡ opened_work (home_of machine) }
-{
-    match machine.finish() {
-        Some(home) => Work::Idle(home),
-        None => Work::Closed,
-    }
-}
-
-/// A client after its commit: in doubt where it is not known whether the commit or all of its records landed.
-fn committed(answer: &CommitAnswer, machine: CommitRun) -> Work
-    ensures { result ≡ committed_work answer.now machine.home }
-{
-    match answer {
-        CommitAnswer::InDoubt => Work::Broken,
-        CommitAnswer::CommittedOpen(_) => Work::Broken,
-        CommitAnswer::Committed { .. } => Work::Idle(machine.finish()),
-        CommitAnswer::NotCommitted(_) => Work::Idle(machine.finish()),
+        self.work.applying()
     }
 }

@@ -5,14 +5,15 @@ use Rattle.db_base.specs.Ids.{IsClient}
 use Rattle.head_codec.specs.declared.head.Head.{Head}
 use Rattle.head_codec.specs.declared.head.Phase.{Phase}
 use Rattle.head_codec.specs.declared.head.Phase.TheVariants.{Settled, Open}
-use Rattle.left_facts.specs.Left.{IsCopied, IsWaiting, HasWay, AreLogged, Leaves}
+use Rattle.left_facts.specs.Left.{IsCopied, IsWaiting, WasLogged, HasWay, AreLogged, Leaves}
+use Rattle.left_facts.proofs.MessageLemmas.{message_of_logged}
 use Rattle.left_facts.proofs.Holding.{LogHolds, log_of, logged_of, WayHolds, way_of, has_way}
 use Rattle.left_facts.proofs.Ways.{ways_other, ways_opened}
 use Rattle.log_codec.specs.declared.record.AtomicRec.{AtomicRec}
 use Rattle.number_facts.specs.Numbers.{Numbers}
 use Rattle.number_facts.proofs.Ways.{is_way, settled_way, open_way}
 use Rattle.store_book.specs.Effects.{after_head}
-use Rattle.store_book.specs.Messages.{IsLogMessage}
+use Rattle.store_book.specs.Messages.{WaitsLogged, IsLogMessage}
 use Rattle.store_book.specs.Premises.{Opens}
 use Rattle.store_book.specs.Records.{StandsAt, IsIn, IsApplied, IsUnderWay, IsPast, under_way, key_in, count_of}
 use Rattle.store_book.specs.Tally.{Tally, Store}
@@ -153,8 +154,15 @@ opens_keeps st client head records opens numbers h = record {
   waiting = opened_waiting st client head records opens h;
   ways = λ c count is phase. way c count is phase (cases_eq c client);
   logged = λ c is. log c is (cases_eq c client);
+  sent = λ r is. sent r (in_either st.book.log records r is);
 }
   where
+    sent : (r : AtomicRec) → IsIn st.book.log r ⊎ IsIn records r → WasLogged st.tally r
+    sent r (inl old) = h.sent r old
+    sent r (inr (place, new)) =
+        let w = opens.records_are place r new in
+        message_of_logged (st.tally.logged r.client) r (subst (λ c. WaitsLogged (st.tally.logged c) r) (sym w.client_is) w.logged)
+
     own : (i : ℕ) (r : AtomicRec) → StandsAt records i r → r.client ≡ client
     own i r there = (opens.records_are i r there).client_is
 

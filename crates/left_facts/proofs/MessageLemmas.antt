@@ -81,3 +81,13 @@ copy_of_message posts id rec h = record { place = h.place; message = h.message; 
 
 pub message_of_logged : (posts : List Posted) (r : AtomicRec) → WaitsLogged posts r → (id : ℕ) × IsLogMessage posts id r
 message_of_logged posts r h = (h.place + 1, record { place = h.place; message = h.message; id_is = refl; there = h.there; reads = h.reads })
+
+-- ---- a message stays
+
+pub log_message_more : (posts more : List Posted) (id : ℕ) (r : AtomicRec) → IsLogMessage posts id r → IsLogMessage (posts ++ more) id r
+log_message_more posts more id r h = record { place = h.place; message = h.message; id_is = h.id_is; there = get_front posts more h.place h.message h.there; reads = h.reads }
+
+pub log_message_marked : (posts : List Posted) (marks id : ℕ) (r : AtomicRec) → IsLogMessage posts id r → IsLogMessage (marked posts marks) id r
+log_message_marked posts marks id r h =
+    let n = marked_front posts marks h.place h.message h.there in
+    record { place = h.place; message = n.0; id_is = h.id_is; there = n.1; reads = ap atomic_of n.2 ∙ h.reads }

@@ -4,10 +4,10 @@ use Rattle.db_base.specs.Ids.{IsClient}
 use Rattle.cloud_trait.specs.State.{marked}
 use Rattle.cloud_trait.specs.declared.state.Posted.{Posted}
 use Rattle.head_codec.specs.declared.head.Phase.TheVariants.{Open}
-use Rattle.left_facts.specs.Left.{IsCopied, IsWaiting, Leaves}
+use Rattle.left_facts.specs.Left.{IsCopied, IsWaiting, WasLogged, Leaves}
 use Rattle.left_facts.proofs.Holding.{LogHolds, log_of, logged_of, WayHolds, way_of, has_way}
 use Rattle.left_facts.proofs.Ways.{of_ways}
-use Rattle.left_facts.proofs.MessageLemmas.{copy_more, waits_more, logged_more, IsLast, log_cases, copy_marked, waits_marked, logged_marked, log_marked}
+use Rattle.left_facts.proofs.MessageLemmas.{copy_more, waits_more, logged_more, IsLast, log_cases, copy_marked, waits_marked, logged_marked, log_marked, log_message_more, log_message_marked}
 use Rattle.log_codec.specs.declared.record.AtomicRec.{AtomicRec}
 use Rattle.number_facts.specs.Numbers.{Numbers}
 use Rattle.number_facts.proofs.Ways.{is_way, way_epoch, way_txn}
@@ -74,8 +74,16 @@ logged_keeps st client post r logs h = record {
   waiting = h.waiting;
   ways = λ c count is opens. has_way (after_logged client post st) c count (way c count is opens);
   logged = λ c is. logged_of (after_logged client post st) c (log c is);
+  sent = λ q logged. sent q (h.sent q logged);
 }
   where
+    sent : (q : AtomicRec) → WasLogged st.tally q → WasLogged (after_logged client post st).tally q
+    sent q (id, m) = (
+      id,
+      at_by (λ c ps. IsLogMessage (st.tally.logged c) id q → IsLogMessage ps id q) client _ st.tally.logged
+          (log_message_more (st.tally.logged client) (post ∷ []) id q) (λ c n. n) q.client m,
+    )
+
     log : (c : ℕ) → IsClient c → LogHolds (at client (st.tally.logged client ++ post ∷ []) st.tally.logged c) (st.tally.head c).epoch st.book.log c
     log =
         at_by (λ c ps. IsClient c → LogHolds ps (st.tally.head c).epoch st.book.log c) client _ st.tally.logged
@@ -123,8 +131,16 @@ log_mark_keeps st client id marking h = record {
   waiting = h.waiting;
   ways = λ c count is opens. has_way (after_log_mark client id st) c count (way c count is opens);
   logged = λ c is. logged_of (after_log_mark client id st) c (log c is);
+  sent = λ q logged. sent q (h.sent q logged);
 }
   where
+    sent : (q : AtomicRec) → WasLogged st.tally q → WasLogged (after_log_mark client id st).tally q
+    sent q (sent_id, m) = (
+      sent_id,
+      at_by (λ c ps. IsLogMessage (st.tally.logged c) sent_id q → IsLogMessage ps sent_id q) client _ st.tally.logged
+          (log_message_marked (st.tally.logged client) id sent_id q) (λ c n. n) q.client m,
+    )
+
     log : (c : ℕ) → IsClient c → LogHolds (at client (marked (st.tally.logged client) id) st.tally.logged c) (st.tally.head c).epoch st.book.log c
     log =
         at_by (λ c ps. IsClient c → LogHolds ps (st.tally.head c).epoch st.book.log c) client _ st.tally.logged
@@ -145,6 +161,7 @@ posted_keeps st tree page post h = record {
   waiting = λ r logged. on r (h.waiting r logged);
   ways = λ c count is opens. has_way (after_posted tree page post st) c count (way_of st c count (h.ways c count is opens));
   logged = λ c is. logged_of (after_posted tree page post st) c (log_of st c (h.logged c is));
+  sent = h.sent;
 }
   where
     copy : (r : AtomicRec) → IsCopied st.tally r → IsCopied (after_posted tree page post st).tally r
@@ -170,6 +187,7 @@ post_mark_keeps st tree page id marking numbers h = record {
   waiting = λ r logged. on r logged (h.waiting r logged);
   ways = λ c count is opens. has_way (after_post_mark tree page id st) c count (way_of st c count (h.ways c count is opens));
   logged = λ c is. logged_of (after_post_mark tree page id st) c (log_of st c (h.logged c is));
+  sent = h.sent;
 }
   where
     copy : (r : AtomicRec) → IsCopied st.tally r → IsCopied (after_post_mark tree page id st).tally r

@@ -83,6 +83,7 @@ settles_keeps st client head settles h = record {
   waiting = settled_waiting st client head settles h;
   ways = λ c count is phase. way c count is phase (cases_eq c client);
   logged = λ c is. log c is (cases_eq c client);
+  sent = λ r is. h.sent r (only_old st.book.log r is);
 }
   where
     none : (i : ℕ) (r : AtomicRec) → StandsAt [] i r → r.client ≡ client

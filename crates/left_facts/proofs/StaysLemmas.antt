@@ -35,6 +35,7 @@ page_keeps st tree page node own h = record {
   waiting = h.waiting;
   ways = λ c count is opens. has_way (after_page tree page node own st) c count (way_of st c count (h.ways c count is opens));
   logged = λ c is. logged_of (after_page tree page node own st) c (log_of st c (h.logged c is));
+  sent = h.sent;
 }
 
 pub inner_keeps : (st : Store) (tree page : ℕ) (inner : Inner) (pieces : List Link) → Leaves st → Leaves (after_inner tree page inner pieces st)
@@ -43,6 +44,7 @@ inner_keeps st tree page inner pieces h = record {
   waiting = h.waiting;
   ways = λ c count is opens. has_way (after_inner tree page inner pieces st) c count (way_of st c count (h.ways c count is opens));
   logged = λ c is. logged_of (after_inner tree page inner pieces st) c (log_of st c (h.logged c is));
+  sent = h.sent;
 }
 
 pub root_keeps : (st : Store) (tree : ℕ) (root : Tree) → Leaves st → Leaves (after_root tree root st)
@@ -51,6 +53,7 @@ root_keeps st tree root h = record {
   waiting = h.waiting;
   ways = λ c count is opens. has_way (after_root tree root st) c count (way_of st c count (h.ways c count is opens));
   logged = λ c is. logged_of (after_root tree root st) c (log_of st c (h.logged c is));
+  sent = h.sent;
 }
 
 pub raise_keeps : (st : Store) (tree : ℕ) (root : Tree) (level : ℕ) (links : List Link) → Leaves st → Leaves (after_raise tree root level links st)
@@ -59,6 +62,7 @@ raise_keeps st tree root level links h = record {
   waiting = h.waiting;
   ways = λ c count is opens. has_way (after_raise tree root level links st) c count (way_of st c count (h.ways c count is opens));
   logged = λ c is. logged_of (after_raise tree root level links st) c (log_of st c (h.logged c is));
+  sent = h.sent;
 }
 
 -- ---- leaves
@@ -70,6 +74,7 @@ leaf_keeps st p takes numbers h = record {
   waiting = λ r logged. on r logged (h.waiting r logged);
   ways = λ c count is opens. has_way (after_leaf p st) c count (way_of st c count (h.ways c count is opens));
   logged = λ c is. logged_of (after_leaf p st) c (log_of st c (h.logged c is));
+  sent = h.sent;
 }
   where
     grows : Grows st (after_leaf p st)
@@ -106,6 +111,7 @@ empty_leaves s empty = record {
     distinct = λ i j a b m. absurd (none c i a m);
     committed = λ id r q m. absurd (none c id r m);
   };
+  sent = λ r is. absurd (no_records r is);
 }
   where
     head_is : (c : ℕ) → (tally_of empty_book s).head c ≡ empty_head

@@ -17,6 +17,10 @@ IsCopied t r = HasCopy (t.posts r.tree r.page) (pu_record_of r)
 abbrev pub IsWaiting : Tally → AtomicRec → Type 0
 IsWaiting t r = Waits (t.posts r.tree r.page) (pu_record_of r)
 
+-- a record was ever sent to its client's ATOMIC queue
+abbrev pub WasLogged : Tally → AtomicRec → Type 0
+WasLogged t r = (id : ℕ) × IsLogMessage (t.logged r.client) id r
+
 -- the record at a place of those under way of an open head of so many
 pub record IsWayAt (logged : List Posted) (count place : ℕ) (r : AtomicRec) : Type 0 where
   pub index_is : r.index ≡ place + 1
@@ -47,6 +51,8 @@ pub record Leaves (st : Store) : Type 0 where
   pub waiting : (r : AtomicRec) → IsIn st.book.log r → IsApplied st.tally r ⊎ (IsUnderWay st.tally r ⊎ IsWaiting st.tally r)
   pub ways : (client count : ℕ) → IsClient client → (st.tally.head client).phase ≡ Open count → HasWay st client count
   pub logged : (client : ℕ) → IsClient client → AreLogged st client
+  -- each committed record was sent to its client's ATOMIC queue
+  pub sent : (r : AtomicRec) → IsIn st.book.log r → WasLogged st.tally r
 
 -- no record of a tree is under way, and no message of its queues waits
 pub record NothingLeft (st : Store) (tree : ℕ) : Type 0 where

@@ -3,3 +3,4 @@ pub mod Begins
 pub mod Nexts
 pub mod Steps
 pub mod Hands
+pub mod HeadPuts

@@ -1,5 +1,5 @@
 -- Where a report counts no open head and no message that waits, nothing of its tree is left.
-use Rattle.std.proofs.Common.{◌≡◌, ◌+◌, ◌<◌, ◌≤◌, ℕ, zero, suc, List, [], ◌∷◌, length, min, Some, None, Option, refl, sym, ap, subst, ◌∙◌, ◌⊎◌, inl, inr, Bool, true, false, arith, cond, filter}
+use Rattle.std.proofs.Common.{◌≡◌, ◌+◌, ◌<◌, ◌≤◌, ℕ, zero, suc, List, [], ◌∷◌, length, min, Some, None, Option, refl, sym, ap, subst, ◌∙◌, ◌⊎◌, inl, inr, Bool, true, false, arith, cond}
 use Rattle.std.specs.Prelude.{◌==◌, ◌&&◌, ◌||◌, slice_get, unwrap_or}
 use Rattle.std.specs.List.{list_any}
 use Rattle.std.proofs.lemmas.Bool.{cases_lt, eqb-true, eq-eqb, and_from, and_parts}
@@ -12,14 +12,13 @@ use Rattle.head_codec.specs.declared.head.Head.{Head}
 use Rattle.head_codec.specs.declared.head.Phase.{Phase}
 use Rattle.head_codec.specs.declared.head.Phase.TheVariants.{Settled, Open}
 use Rattle.head_codec.specs.Head.{empty_head}
-use Rattle.head_codec.specs.Spelling.{head_of}
 use Rattle.history.specs.Fold.{of_tree}
 use Rattle.leaf_view.proofs.Split.{range_is}
 use Rattle.left_facts.specs.Left.{NothingLeft}
 use Rattle.log_codec.specs.declared.record.AtomicRec.{AtomicRec}
 use Rattle.log_codec.specs.declared.record.PuRec.{PuRec}
-use Rattle.machine_facts.proofs.Heads.{head_at, newest_head}
-use Rattle.machine_facts.specs.Beside.{IsLone}
+use Rattle.cloud_facts.proofs.Heads.{head_at, newest_head}
+use Rattle.cloud_facts.specs.Acting.{IsLone}
 use Rattle.node_codec.proofs.TreeLemmas.{tree_fits}
 use Rattle.number_facts.specs.Numbers.{Numbers}
 use Rattle.report_types.specs.declared.entry.Entry.{Entry}

@@ -2,6 +2,8 @@ pub mod Lists
 pub mod CommittedLemmas
 pub mod OrderLemmas
 pub mod FoldingTree
+pub mod OpeningSteps
+pub mod CommitSteps
 pub mod Commits
 pub mod Acting
 pub mod Steps

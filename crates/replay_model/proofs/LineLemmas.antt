@@ -8,7 +8,6 @@ use Rattle.event_text.specs.declared.event.Event.{Event}
 use Rattle.event_text.specs.declared.event.Event.TheVariants as event
 use Rattle.reply_text.specs.declared.reply.Reply.{Reply}
 use Rattle.reply_text.specs.declared.reply.Reply.TheVariants as reply
-use Rattle.report_types.specs.declared.entry.Entry.{Entry}
 use Rattle.client_session.specs.Session.{Acting}
 use Rattle.history.specs.Audited.{Audited}
 use Rattle.store_book.specs.Tally.{at}

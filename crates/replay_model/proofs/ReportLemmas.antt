@@ -7,7 +7,6 @@ use Rattle.cloud_trait.specs.State.{CloudState}
 use Rattle.history.specs.Audited.{Audited}
 use Rattle.history.specs.Fold.{fold, of_tree}
 use Rattle.history.specs.Legal.{IsLegal}
-use Rattle.leaf_view.specs.Leaf.{Leaf}
 use Rattle.report_types.specs.declared.entry.Entry.{Entry}
 use Rattle.report_types.specs.declared.report.Report.{Report}
 use Rattle.reply_text.specs.declared.reply.Reply.{Reply}
@@ -15,14 +14,15 @@ use Rattle.reply_text.specs.declared.reply.Reply.TheVariants as reply
 use Rattle.landing_facts.specs.Reporting.{IsReportable}
 use Rattle.chain_meaning.specs.Contents.{IsRead}
 use Rattle.chain_meaning.proofs.Reports.{leaves_in, store_reads, all_leaves, finds_contents}
-use Rattle.tree_meaning.specs.Chain.{AreLeaves, Walked, records_of}
+use Rattle.tree_meaning.specs.Chain.{AreLeaves, Walked}
 use Rattle.tree_meaning.specs.Index.{Finds}
 use Rattle.store_book.specs.Book.{Book}
 use Rattle.store_book.specs.Records.{entries_of}
 use Rattle.store_book.specs.Tally.{Store}
 use Rattle.telling_facts.specs.Told.{store_of}
 use Rattle.world_audit.specs.Counts.{heads_upto, AreWaiting}
-use Rattle.session_facts.specs.Sessions.{Sessions, SessionsStand, audit_of}
+use Rattle.cloud_facts.specs.Looks.{audit_of}
+use Rattle.session_facts.specs.Sessions.{Sessions, SessionsStand}
 use Rattle.session_facts.proofs.Laws.{reports as reports_well, chains, decodes, numbers}
 use Rattle.replay_meaning.specs.Standing.{Line}
 use Rattle.replay_meaning.specs.Committed.{committed}

@@ -1,5 +1,5 @@
 -- What stands before the first line.
-use Rattle.std.proofs.Common.{◌≡◌, ℕ, zero, suc, List, [], refl, sym, subst, false}
+use Rattle.std.proofs.Common.{◌≡◌, ℕ, zero, suc, [], refl, sym, subst, false}
 use Rattle.std.specs.Prelude.{replicate, slice_get, unwrap_or}
 use Rattle.cloud_trait.specs.State.{CloudState, IsEmptyCloud}
 use Rattle.client_session.specs.Session.{Acting, closed_session}

@@ -1,42 +1,40 @@
 -- What a call of a session leaves of all that holds.
-use Rattle.std.proofs.Common.{◌≡◌, ◌≤◌, ◌+◌, ℕ, List, [], ◌∷◌, length, Option, Some, Ok, refl, sym, ap, subst, ◌∙◌, Bool, false, arith}
-use Rattle.std.specs.Prelude.{All, unwrap_or}
-use Rattle.db_base.specs.declared.names.ObjName.TheVariants as object
-use Rattle.head_codec.specs.Head.{empty_head}
-use Rattle.head_codec.specs.Spelling.{head_of}
+use Rattle.std.proofs.Common.{◌≡◌, ◌≤◌, ◌+◌, ℕ, List, length, Some, Ok, refl, sym, ap, ◌∙◌, Bool, false, arith}
+use Rattle.std.specs.Prelude.{All}
+use Rattle.db_base.specs.declared.trouble.Trouble.{Trouble}
+use Rattle.db_base.specs.declared.wish.Wish.{Wish}
+use Rattle.cloud_facts.specs.Looks.{audit_of}
 use Rattle.cloud_trait.specs.declared.answer.Answer.{Answer as CallAnswer}
 use Rattle.cloud_trait.specs.declared.turn.Turn.{Turn}
 use Rattle.cloud_trait.specs.declared.turn.Turn.TheVariants.{More, Ended, Stopped}
-use Rattle.cloud_trait.specs.Ask.{Ask, effect}
+use Rattle.cloud_trait.specs.Ask.{Ask, Renew, Release}
 use Rattle.cloud_trait.specs.Caller.{Caller}
 use Rattle.cloud_trait.specs.Seen.{Seen}
 use Rattle.cloud_trait.specs.State.{CloudState, called, newest}
 use Rattle.cloud_trait.specs.Weather.{Makes, Leaves}
 use Rattle.cloud_trait.proofs.RowLemmas.{row_by, leaves_upto}
 use Rattle.history.specs.Audited.{Audited}
-use Rattle.report_types.specs.declared.entry.Entry.{Entry}
-use Rattle.first_recover.specs.Recovery.{recovery_ask}
-use Rattle.first_commit.specs.Commit.{commit_ask}
+use Rattle.recover_run.specs.Recovery.{recovery_ask}
+use Rattle.commit_writes.specs.Writing.{writing_ask}
 use Rattle.first_tree.specs.Folding.{folding_ask}
-use Rattle.client_session.specs.declared.session.Answer.{Answer}
-use Rattle.client_session.specs.declared.session.Answer.TheVariants as answer
-use Rattle.client_session.specs.declared.session.Work.{Work}
-use Rattle.client_session.specs.declared.session.Work.TheVariants.{Closed, Idle, Opening, Committing, Folding, Broken}
+use Rattle.client_session.specs.declared.answer.Answer.{Answer}
+use Rattle.client_session.specs.declared.answer.Answer.TheVariants as answer
+use Rattle.client_session.specs.declared.work.Work.{Work}
+use Rattle.client_session.specs.declared.work.Work.TheVariants.{Closed, Idle, Opening, Committing, Folding, Closing, Renewing, Broken}
 use Rattle.client_session.specs.Session.{Acting, StepsSession, StepsAt, ask_of_work}
-use Rattle.replay_meaning.specs.Standing.{Line, Standing, standing}
+use Rattle.replay_meaning.specs.Standing.{Line, standing}
 use Rattle.replay_meaning.specs.Committed.{committed}
-use Rattle.store_book.specs.Book.{Book}
 use Rattle.store_book.specs.Records.{entries_of}
-use Rattle.store_book.specs.Tally.{Store, at}
-use Rattle.machine_facts.specs.Beside.{Logged, beside}
-use Rattle.machine_facts.proofs.Heads.{head_at, newest_head}
+use Rattle.store_book.specs.Tally.{at}
+use Rattle.telling_facts.specs.Told.{store_of}
 use Rattle.session_facts.specs.Noting.{audited}
-use Rattle.session_facts.specs.Sessions.{KnowsWork, Sessions, SessionsStand, audit_of, Goes}
+use Rattle.session_facts.specs.Puts.{IsSoundWork}
+use Rattle.session_facts.specs.Sessions.{Sessions, Goes}
 use Rattle.session_facts.proofs.Calling.{session_keeps}
-use Rattle.session_facts.proofs.Laws.{rest_keeps}
-use Rattle.db_base.specs.declared.wish.Wish.{Wish}
-use Rattle.replay_model.specs.Facts.{IsPlaced, CloudStands, WorksAs, ActsAs, CloudHolds, GoesOn}
-use Rattle.replay_model.proofs.Commits.{CommitsAs, opening_as, commit_as, folding_as, audited_commits}
+use Rattle.session_facts.proofs.HeadPuts.{head_put}
+use Rattle.session_facts.proofs.Laws.{rest_keeps, decodes}
+use Rattle.replay_model.specs.Facts.{IsPlaced, WorksAs, CloudHolds}
+use Rattle.replay_model.proofs.Commits.{ask_commits, audited_commits}
 use Rattle.replay_model.proofs.CommittedLemmas.{placed_effect, placed_called}
 use Rattle.replay_model.proofs.OrderLemmas.{reported_more}
 
@@ -51,61 +49,46 @@ pub made_call : (who : Caller) (before after : Seen) (w new : Work) (turn : Turn
 made_call who before after (Opening m) new More p = record { ask = recovery_ask m; answer = p.1.1.answer; hand = refl; made = p.1.1.made }
 made_call who before after (Opening m) new (Ended (answer.Opened epoch)) p = record { ask = recovery_ask m; answer = p.1.1.answer; hand = refl; made = p.1.1.made }
 made_call who before after (Opening m) new (Ended (answer.Trouble k)) p = record { ask = recovery_ask m; answer = p.1.1.answer; hand = refl; made = p.1.1.made }
-made_call who before after (Opening m) new (Ended (answer.Commit a)) p = absurd p.1
-made_call who before after (Opening m) new (Ended (answer.Done n)) p = absurd p.1
-made_call who before after (Opening m) new (Stopped k) p = absurd p.1
-made_call who before after (Committing m) new More p = record { ask = commit_ask m; answer = p.1.1.answer; hand = refl; made = p.1.1.made }
-made_call who before after (Committing m) new (Ended (answer.Commit a)) p = record { ask = commit_ask m; answer = p.1.1.answer; hand = refl; made = p.1.1.made }
-made_call who before after (Committing m) new (Ended (answer.Trouble k)) p = record { ask = commit_ask m; answer = p.1.1.answer; hand = refl; made = p.1.1.made }
-made_call who before after (Committing m) new (Ended (answer.Opened epoch)) p = absurd p.1
-made_call who before after (Committing m) new (Ended (answer.Done n)) p = absurd p.1
-made_call who before after (Committing m) new (Stopped k) p = absurd p.1
+made_call who before after (Opening m) new turn p = absurd p.1
+made_call who before after (Committing m) new More p = record { ask = writing_ask m; answer = p.1.1.answer; hand = refl; made = p.1.1.made }
+made_call who before after (Committing m) new (Ended (answer.Commit a)) p = record { ask = writing_ask m; answer = p.1.1.answer; hand = refl; made = p.1.1.made }
+made_call who before after (Committing m) new (Ended (answer.Trouble k)) p = record { ask = writing_ask m; answer = p.1.1.answer; hand = refl; made = p.1.1.made }
+made_call who before after (Committing m) new turn p = absurd p.1
 made_call who before after (Folding home f) new More p = record { ask = folding_ask f; answer = p.1.answer; hand = refl; made = p.1.made }
 made_call who before after (Folding home f) new (Ended (answer.Done n)) p = record { ask = folding_ask f; answer = p.1.answer; hand = refl; made = p.1.made }
 made_call who before after (Folding home f) new (Ended (answer.Trouble k)) p = record { ask = folding_ask f; answer = p.1.answer; hand = refl; made = p.1.made }
-made_call who before after (Folding home f) new (Ended (answer.Opened epoch)) p = absurd p
-made_call who before after (Folding home f) new (Ended (answer.Commit a)) p = absurd p
-made_call who before after (Folding home f) new (Stopped k) p = absurd p
+made_call who before after (Folding home f) new turn p = absurd p
+made_call who before after (Closing lease) new (Ended answer.Closed) p = record { ask = Release lease; answer = p.0.answer; hand = refl; made = p.0.made }
+made_call who before after (Closing lease) new (Ended (answer.Trouble k)) p = record { ask = Release lease; answer = p.0.answer; hand = refl; made = p.0.made }
+made_call who before after (Closing lease) new turn p = absurd p
+made_call who before after (Renewing home) new (Ended (answer.Renewed end)) p = record { ask = Renew home.lease 600; answer = p.1.answer; hand = refl; made = p.1.made }
+made_call who before after (Renewing home) new (Ended (answer.Trouble k)) p = record { ask = Renew home.lease 600; answer = p.1.answer; hand = refl; made = p.1.made }
+made_call who before after (Renewing home) new turn p = absurd p
 made_call who before after Closed new turn p = absurd p
 made_call who before after (Idle home) new turn p = absurd p
-made_call who before after Broken new turn p = absurd p
+made_call who before after (Broken lease) new turn p = absurd p
 
--- what the call in hand commits
-commits : (lines : List Line) (who : Caller) (logged : Logged) (book : Book) (order : List Entry) (s : CloudState) (now : ℕ) (before after : Seen) (w new : Work) (turn : Turn Answer)
-    → s.now ≤ now → who.event ≡ length lines + 1 → KnowsWork (beside logged book order s) s.now w → WorksAs w (standing lines who.session)
-    → (p : StepsAt who before after w new turn) → CommitsAs lines who w s now (made_call who before after w new turn p).ask
-unfolding made_call
-commits lines who logged book order s now before after w new turn later event knows acts p = on w turn knows acts p
-  where
-    st : Store
-    st = beside logged book order s
+-- a step never stops: a trouble is an answer
+pub never_stops : (who : Caller) (before after : Seen) (w new : Work) (t : Trouble) → StepsAt who before after w new (Stopped t) → ⊥
+never_stops who before after (Opening m) new t p = p.1
+never_stops who before after (Committing m) new t p = p.1
+never_stops who before after (Folding home f) new t p = p
+never_stops who before after (Closing lease) new t p = p
+never_stops who before after (Renewing home) new t p = p
+never_stops who before after Closed new t p = p
+never_stops who before after (Idle home) new t p = p
+never_stops who before after (Broken lease) new t p = p
 
-    tells : (client : ℕ) (bytes : List ℕ) → newest s (object.Head client) ≡ Some bytes → st.tally.head client ≡ unwrap_or (head_of bytes) empty_head
-    tells client bytes e = newest_head (s.versions (object.Head client)) ∙ ap head_at e
-
-    on : (w : Work) (turn : Turn Answer) → KnowsWork st s.now w → WorksAs w (standing lines who.session) → (p : StepsAt who before after w new turn)
-        → CommitsAs lines who w s now (made_call who before after w new turn p).ask
-    on (Opening m) More knows acts p = opening_as lines who st s now m knows.at p.0
-    on (Opening m) (Ended (answer.Opened epoch)) knows acts p = opening_as lines who st s now m knows.at p.0
-    on (Opening m) (Ended (answer.Trouble k)) knows acts p = opening_as lines who st s now m knows.at p.0
-    on (Opening m) (Ended (answer.Commit a)) knows acts p = absurd p.1
-    on (Opening m) (Ended (answer.Done n)) knows acts p = absurd p.1
-    on (Opening m) (Stopped k) knows acts p = absurd p.1
-    on (Committing m) More knows acts p = commit_as lines who st s now m later tells event acts.0 knows.at p.0
-    on (Committing m) (Ended (answer.Commit a)) knows acts p = commit_as lines who st s now m later tells event acts.0 knows.at p.0
-    on (Committing m) (Ended (answer.Trouble k)) knows acts p = commit_as lines who st s now m later tells event acts.0 knows.at p.0
-    on (Committing m) (Ended (answer.Opened epoch)) knows acts p = absurd p.1
-    on (Committing m) (Ended (answer.Done n)) knows acts p = absurd p.1
-    on (Committing m) (Stopped k) knows acts p = absurd p.1
-    on (Folding home f) More knows acts p = folding_as lines who s now _ f
-    on (Folding home f) (Ended (answer.Done n)) knows acts p = folding_as lines who s now _ f
-    on (Folding home f) (Ended (answer.Trouble k)) knows acts p = folding_as lines who s now _ f
-    on (Folding home f) (Ended (answer.Opened epoch)) knows acts p = absurd p
-    on (Folding home f) (Ended (answer.Commit a)) knows acts p = absurd p
-    on (Folding home f) (Stopped k) knows acts p = absurd p
-    on Closed turn knows acts p = absurd p
-    on (Idle home) turn knows acts p = absurd p
-    on Broken turn knows acts p = absurd p
+-- what is at work has the bytes in hand that it is to put or send
+sound_of : (who : Caller) (before after : Seen) (w new : Work) (turn : Turn Answer) → StepsAt who before after w new turn → IsSoundWork w
+sound_of who before after (Opening m) new turn p = p.0
+sound_of who before after (Committing m) new turn p = p.0
+sound_of who before after (Folding home f) new turn p = tt
+sound_of who before after (Closing lease) new turn p = tt
+sound_of who before after (Renewing home) new turn p = tt
+sound_of who before after Closed new turn p = absurd p
+sound_of who before after (Idle home) new turn p = absurd p
+sound_of who before after (Broken lease) new turn p = absurd p
 
 -- what a look before and after a put tells the audit, where neither failed
 pub record Sees (x : CloudState) (after : Seen) (w : Work) (a b : Audited) (blind blind_after : Bool) : Type 0 where
@@ -152,7 +135,10 @@ call_holds lines who before after x sessions new turn a b blind blind_after even
     entries =
         ap (λ (z : Audited). z.committed) (sym goes.noted)
         ∙ audited_commits lines who w call.ask call.answer before.counts after.counts x after.state (audit_of h.book h.order) call.hand l h.cloud.placed h.cloud.committed
-        (commits lines who h.stand.logged h.book h.order x l.after.now before after w new.work turn l.later event (h.stand.each who.session).work acts p.work)
+        (decodes goes.book_after goes.order_after l.after (at who.session new sessions) goes.stand)
+        (ask_commits lines who w call.ask event acts
+        (λ client bytes one two is. head_put (store_of h.book h.order x) x.now w (h.stand.parts who.session) (h.stand.each who.session).work
+        (sound_of who before after w new.work turn p.work) client bytes one two (call.hand ∙ ap (λ a. Some a) is)))
 
     seen : blind_after ≡ false → b ≡ audit_of goes.book_after goes.order_after
     seen e = sees.audit e l.after l.told ∙ ap (λ z. audited (newest x) (newest l.after) w z) (h.seen (sees.saw e)) ∙ goes.noted

@@ -11,12 +11,14 @@ use Rattle.history.specs.Audited.{Audited}
 use Rattle.report_types.specs.declared.entry.Entry.{Entry}
 use Rattle.reply_text.specs.declared.reply.Reply.{Reply}
 use Rattle.reply_text.specs.declared.reply.Reply.TheVariants as reply
-use Rattle.client_session.specs.declared.session.Work.{Work}
-use Rattle.client_session.specs.declared.session.Work.TheVariants as work
+use Rattle.client_session.specs.declared.work.Work.{Work}
+use Rattle.client_session.specs.declared.work.Work.TheVariants as work
 use Rattle.client_session.specs.Session.{Acting, closed_session}
-use Rattle.replay_meaning.specs.Standing.{Line, Closed, Idle, Broken, Working, Opening, Committing, Folding as FoldingTree, Standing, standing}
+use Rattle.replay_meaning.specs.Standing.{Line, Closed, Idle, Broken, Working, Opening, Closing, Renewing, Committing, Folding as FoldingTree, Standing, standing}
 use Rattle.replay_meaning.specs.Committed.{Versions, committed}
-use Rattle.session_facts.specs.Sessions.{Sessions, SessionsStand, audit_of}
+use Rattle.replay_model.specs.Running.{IsOpening, IsWriting}
+use Rattle.cloud_facts.specs.Looks.{audit_of}
+use Rattle.session_facts.specs.Sessions.{Sessions, SessionsStand}
 use Rattle.store_book.specs.Book.{Book}
 use Rattle.store_book.specs.Records.{entries_of}
 
@@ -60,10 +62,12 @@ Reported lines order = (k : ℕ) (line : Line) → slice_get lines k ≡ Some li
 abbrev pub WorksAs : Work → Standing → Type 0
 WorksAs work.Closed s = s.posture ≡ Closed
 WorksAs (work.Idle home) s = (s.posture ≡ Idle) × (s.client ≡ home.client)
-WorksAs (work.Opening r) s = (s.posture ≡ Working Opening) × (s.client ≡ r.client) × (s.buffer ≡ [])
-WorksAs (work.Committing c) s = (s.posture ≡ Working (Committing c.changes)) × (s.client ≡ c.home.client)
+WorksAs (work.Opening r) s = (s.posture ≡ Working Opening) × (s.client ≡ r.client) × (s.buffer ≡ []) × IsOpening r
+WorksAs (work.Committing m) s = (s.posture ≡ Working (Committing m.changes)) × (s.client ≡ m.home.client) × IsWriting m
 WorksAs (work.Folding home f) s = (s.posture ≡ Working (FoldingTree f.tree)) × (s.client ≡ home.client)
-WorksAs work.Broken s = s.posture ≡ Broken
+WorksAs (work.Closing lease) s = s.posture ≡ Working Closing
+WorksAs (work.Renewing home) s = (s.posture ≡ Working Renewing) × (s.client ≡ home.client)
+WorksAs (work.Broken lease) s = s.posture ≡ Broken
 
 pub record ActsAs (session : Acting) (s : Standing) : Type 0 where
   pub buffer : session.buffer ≡ s.buffer

@@ -90,13 +90,17 @@ fn replays_the_worked_example(rt: HostRuntime) -> Result<(), Fail> {
 #[test]
 fn replies_to_a_failed_call(rt: HostRuntime) -> Result<(), Fail> {
     for (call, output) in [
-        // The take of the lease, and the put of the open head.
+        // The take of the lease, the send to the ATOMIC queue, and the put of the open head.
         (
             1,
             b"1 begun\n2 failed\n3 refused 6 not-open\n4 refused 6 not-open\n5 refused 10 not-working\n6 refused 6 not-open\n7 refused 10 not-working\n8 report 1\ncommitted 0\norder 0\ncontents 0\nleft 0 0\n".as_slice(),
         ),
         (
-            4,
+            5,
+            b"1 begun\n2 opened 1\n3 noted\n4 begun\n5 not-committed failed\n6 begun\n7 done 0 0 0\n8 report 1\ncommitted 0\norder 0\ncontents 0\nleft 0 0\n".as_slice(),
+        ),
+        (
+            6,
             b"1 begun\n2 opened 1\n3 noted\n4 begun\n5 in-doubt\n6 refused 8 broken\n7 refused 10 not-working\n8 report 1\ncommitted 0\norder 0\ncontents 0\nleft 0 0\n".as_slice(),
         ),
     ] {
@@ -191,23 +195,20 @@ fn holds_a_late_holder_off(rt: HostRuntime) -> Result<(), Fail> {
     Ok(())
 }
 
+/// What a report shows where the worked example's change is committed and not applied, and where it is not committed.
+const PENDING: &str = "report 1\ncommitted 1\n1 1 1 insert 6b 76\norder 0\ncontents 0\n";
+
+const NOTHING: &str = "report 1\ncommitted 0\norder 0\ncontents 0\nleft 0 0\n";
+
 #[test]
-fn leaves_a_session_in_doubt(rt: HostRuntime) -> Result<(), Fail> {
-    for (wish, behind) in [
-        (
-            "lost",
-            "7 refused 99 not-built\n8 report 1\ncommitted 1\n1 1 1 insert 6b 76\norder 0\ncontents 0\nleft 1 0\n",
-        ),
-        (
-            "fail",
-            "7 refused 99 not-built\n8 report 1\ncommitted 0\norder 0\ncontents 0\nleft 0 0\n",
-        ),
-    ] {
+fn opens_a_session_in_doubt(rt: HostRuntime) -> Result<(), Fail> {
+    let landed = format!(in rt.alloc(); "{PENDING}left 0 1\n")?;
+    for (wish, report) in [("lost", landed.as_str()), ("fail", NOTHING)] {
         let input = format!(in rt.alloc();
-            "open 1 1\nrun 1\ninsert 1 1 6b 76\ncommit 1\nstep 1 {wish}\ninsert 1 1 6c 76\nopen 1 1\nreport 1\n"
+            "open 1 1\nrun 1\ninsert 1 1 6b 76\ncommit 1\nstep 1 plain\nstep 1 {wish}\ninsert 1 1 6c 76\nopen 1 1\nrun 1\nreport 1\n"
         )?;
         let want = format!(in rt.alloc();
-            "1 begun\n2 opened 1\n3 noted\n4 begun\n5 in-doubt\n6 refused 8 broken\n{behind}"
+            "1 begun\n2 opened 1\n3 noted\n4 begun\n5 called\n6 in-doubt\n7 refused 8 broken\n8 begun\n9 opened 2\n10 {report}"
         )?;
         let (status, sink) = replayed(rt.alloc(), input.as_bytes(), &[], &[])?;
         assert_eq!(rt; status, Status::Done);
@@ -217,15 +218,95 @@ fn leaves_a_session_in_doubt(rt: HostRuntime) -> Result<(), Fail> {
 }
 
 #[test]
-fn leaves_a_commit_open(rt: HostRuntime) -> Result<(), Fail> {
+fn finishes_a_commit_that_stays_open(rt: HostRuntime) -> Result<(), Fail> {
+    for (steps, replies) in [
+        (
+            "step 1 plain\nstep 1 plain\nstep 1 fail\nopen 1 1\nrun 1\nreport 1\n",
+            "5 called\n6 called\n7 committed-open failed\n8 begun\n9 opened 2\n10 report 1\ncommitted 1\n1 1 1 insert 6b 76\norder 0\ncontents 0\nleft 0 1\n",
+        ),
+        (
+            "step 1 fail\nreport 1\n",
+            "5 not-committed failed\n6 report 1\ncommitted 0\norder 0\ncontents 0\nleft 0 0\n",
+        ),
+    ] {
+        let input =
+            format!(in rt.alloc(); "open 1 1\nrun 1\ninsert 1 1 6b 76\ncommit 1\n{steps}")?;
+        let want = format!(in rt.alloc(); "1 begun\n2 opened 1\n3 noted\n4 begun\n{replies}")?;
+        let (status, sink) = replayed(rt.alloc(), input.as_bytes(), &[], &[])?;
+        assert_eq!(rt; status, Status::Done);
+        assert_eq!(rt; sink.written(), want.as_bytes());
+    }
+    Ok(())
+}
+
+#[test]
+fn recovers_a_client_that_died_half_through_a_commit(rt: HostRuntime) -> Result<(), Fail> {
     let input =
-        b"open 1 1\nrun 1\ninsert 1 1 6b 76\ncommit 1\nstep 1 plain\nstep 1 fail\nreport 1\n";
+        "open 1 1\nrun 1\ninsert 1 1 6b 76\ncommit 1\nstep 1 plain\nstep 1 plain\ncrash 1\nreport 1\nopen 2 1\nrun 2\nwait 600\nopen 2 1\nrun 2\ntree 2 1\nrun 2\nreport 1\n";
+    let want = format!(in rt.alloc();
+        "1 begun\n2 opened 1\n3 noted\n4 begun\n5 called\n6 called\n7 crashed\n8 {PENDING}left 1 0\n9 begun\n10 busy client:1 600\n11 waited\n12 begun\n13 opened 2\n14 begun\n15 done 1 1 0\n16 {ONE}left 0 0\n"
+    )?;
+    let (status, sink) = replayed(rt.alloc(), input.as_bytes(), &[], &[])?;
+    assert_eq!(rt; status, Status::Done);
+    assert_eq!(rt; sink.written(), want.as_bytes());
+    Ok(())
+}
+
+#[test]
+fn waits_for_the_records_of_an_open_head(rt: HostRuntime) -> Result<(), Fail> {
+    let input =
+        "open 1 1\nrun 1\ninsert 1 1 61 76\ninsert 1 1 62 76\ninsert 1 1 63 76\ncommit 1\nstep 1 plain\nstep 1 plain\nstep 1 plain\nstep 1 plain\ncrash 1\nwait 600\nreport 1\nopen 1 1\nstep 1 plain\nstep 1 plain\nstep 1 give 1 2\nstep 1 give 1 2\nrun 1\nopen 1 1\nrun 1\nreport 1\n";
+    let three =
+        "report 1\ncommitted 3\n1 1 1 insert 61 76\n1 1 1 insert 62 76\n1 1 1 insert 63 76\norder 0\ncontents 0\n";
+    let want = format!(in rt.alloc();
+        "1 begun\n2 opened 1\n3 noted\n4 noted\n5 noted\n6 begun\n7 called\n8 called\n9 called\n10 called\n11 crashed\n12 waited\n13 {three}left 1 0\n14 begun\n15 called\n16 called\n17 called\n18 called\n19 waiting 2 3\n20 begun\n21 opened 2\n22 {three}left 0 3\n"
+    )?;
+    let (status, sink) = replayed(rt.alloc(), input.as_bytes(), &[], &[])?;
+    assert_eq!(rt; status, Status::Done);
+    assert_eq!(rt; sink.written(), want.as_bytes());
+    Ok(())
+}
+
+#[test]
+fn leaves_records_of_lost_attempts_out(rt: HostRuntime) -> Result<(), Fail> {
+    let input =
+        b"open 1 1\nrun 1\ninsert 1 1 61 76\ncommit 1\nstep 1 plain\ncrash 1\nwait 600\nopen 1 1\nstep 1 plain\nstep 1 plain\nstep 1 plain\nstep 1 hide\ninsert 1 1 62 75\ncommit 1\nstep 1 plain\nstep 1 plain\ncrash 1\nwait 600\nopen 1 1\nrun 1\ntree 1 1\nrun 1\nreport 1\n";
     let (status, sink) = replayed(rt.alloc(), input, &[], &[])?;
     assert_eq!(rt; status, Status::Done);
     assert_eq!(rt;
         sink.written(),
-        b"1 begun\n2 opened 1\n3 noted\n4 begun\n5 called\n6 committed-open failed\n7 report 1\ncommitted 1\n1 1 1 insert 6b 76\norder 0\ncontents 0\nleft 1 0\n".as_slice()
+        b"1 begun\n2 opened 1\n3 noted\n4 begun\n5 called\n6 crashed\n7 waited\n8 begun\n9 called\n10 called\n11 called\n12 opened 2\n13 noted\n14 begun\n15 called\n16 called\n17 crashed\n18 waited\n19 begun\n20 opened 3\n21 begun\n22 done 1 1 0\n23 report 1\ncommitted 1\n1 2 1 insert 62 75\norder 1\n1 2 1 insert 62 75\ncontents 1\n62 75\nleft 0 0\n".as_slice()
     );
+    Ok(())
+}
+
+#[test]
+fn renews_and_closes(rt: HostRuntime) -> Result<(), Fail> {
+    for (input, output) in [
+        (
+            b"open 1 1\nrun 1\nwait 100\nrenew 1\nrun 1\nwait 600\nrenew 1\nrun 1\ninsert 1 1 6b 76\ncommit 1\nrun 1\ninsert 1 1 6b 76\nabort 1\ncommit 1\n".as_slice(),
+            b"1 begun\n2 opened 1\n3 waited\n4 begun\n5 renewed 700\n6 waited\n7 begun\n8 late 700 700\n9 noted\n10 begun\n11 not-committed late 700 700\n12 noted\n13 aborted\n14 committed 0\n".as_slice(),
+        ),
+        // The buffer is lost, and the lock is free at once.
+        (
+            b"open 1 1\nrun 1\ninsert 1 1 6b 76\nclose 1\nrenew 1\nrun 1\ncommit 1\nopen 2 1\nrun 2\n".as_slice(),
+            b"1 begun\n2 opened 1\n3 noted\n4 begun\n5 refused 7 at-work\n6 closed\n7 refused 6 not-open\n8 begun\n9 opened 2\n".as_slice(),
+        ),
+        // A close that fails closes the session all the same, and the lease runs out by itself.
+        (
+            b"open 1 1\nrun 1\nclose 1\nstep 1 fail\nclose 1\nopen 2 1\nrun 2\nwait 600\nopen 2 1\nrun 2\n".as_slice(),
+            b"1 begun\n2 opened 1\n3 begun\n4 failed\n5 refused 6 not-open\n6 begun\n7 busy client:1 600\n8 waited\n9 begun\n10 opened 2\n".as_slice(),
+        ),
+        // A renewal that fails leaves the client open.
+        (
+            b"renew 1\nopen 1 1\nrun 1\nwait 100\nrenew 1\nstep 1 lost\nrenew 1\nrun 1\n".as_slice(),
+            b"1 refused 6 not-open\n2 begun\n3 opened 1\n4 waited\n5 begun\n6 failed\n7 begun\n8 renewed 700\n".as_slice(),
+        ),
+    ] {
+        let (status, sink) = replayed(rt.alloc(), input, &[], &[])?;
+        assert_eq!(rt; status, Status::Done);
+        assert_eq!(rt; sink.written(), output);
+    }
     Ok(())
 }
 
@@ -269,9 +350,9 @@ fn replays_rows(rt: HostRuntime) -> Result<(), Fail> {
             b"1 refused 5 bad-number\n2 refused 5 bad-number\n3 refused 5 bad-number\n4 refused 6 not-open\n5 refused 10 not-working\n6 crashed\n7 crashed\n".as_slice(),
         ),
         (
-            b"open 1 1\nrun 1\nopen 2 1\nrun 2\ninsert 1 1 6b 76\ncommit 1\ncrash 1 done\nreport 1\nwait 600\nopen 2 1\nrun 2\n".as_slice(),
+            b"open 1 1\nrun 1\nopen 2 1\nrun 2\ninsert 1 1 6b 76\ncommit 1\nstep 1 plain\ncrash 1 done\nreport 1\nwait 600\nopen 2 1\nrun 2\nreport 1\n".as_slice(),
             Status::Done,
-            b"1 begun\n2 opened 1\n3 begun\n4 busy client:1 600\n5 noted\n6 begun\n7 crashed\n8 report 1\ncommitted 1\n1 1 1 insert 6b 76\norder 0\ncontents 0\nleft 1 0\n9 waited\n10 begun\n11 waiting 0 1\n".as_slice(),
+            b"1 begun\n2 opened 1\n3 begun\n4 busy client:1 600\n5 noted\n6 begun\n7 called\n8 crashed\n9 report 1\ncommitted 1\n1 1 1 insert 6b 76\norder 0\ncontents 0\nleft 1 0\n10 waited\n11 begun\n12 opened 2\n13 report 1\ncommitted 1\n1 1 1 insert 6b 76\norder 0\ncontents 0\nleft 0 1\n".as_slice(),
         ),
     ] {
         let (ended, sink) = replayed(rt.alloc(), input, &[], &[])?;
@@ -424,6 +505,12 @@ const MESSAGE: [u8; 33] = [
     0, 1, 0x76,
 ];
 
+/// The message that its commit sent to the client's ATOMIC queue.
+const ATOMIC: [u8; 44] = [
+    0x41, 1, 1, 0, 0, 0, 0, 0, 0, 0, 1, 0, 0, 0, 0, 0, 0, 0, 1, 1, 1, 1, 0, 0, 0, 0, 0, 0, 0, 0, 0,
+    0, 0, 0, 0, 0, 0, 1, 1, 1, 0x6b, 0, 1, 0x76,
+];
+
 #[test]
 fn leaves_these_bytes(rt: HostRuntime) -> Result<(), Fail> {
     let alloc = rt.alloc();
@@ -442,5 +529,7 @@ fn leaves_these_bytes(rt: HostRuntime) -> Result<(), Fail> {
     assert!(rt; head == Some(HEAD.as_slice()));
     let message = cloud.message(QueueName::TreePu(tree), MsgId::new(1));
     assert!(rt; message == Some(MESSAGE.as_slice()));
+    let atomic = cloud.message(QueueName::Atomic(ClientId::new(1)?), MsgId::new(1));
+    assert!(rt; atomic == Some(ATOMIC.as_slice()));
     Ok(())
 }

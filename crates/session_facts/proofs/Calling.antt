@@ -1,37 +1,85 @@
 -- Every call of a session keeps what holds of a cloud and of all its sessions.
-use Rattle.std.proofs.Common.{◌≡◌, ◌≢◌, ◌≤◌, ◌⊎◌, inl, inr, ℕ, zero, List, [], Option, Some, Result, Ok, Err, Bool, cond, refl, sym, ap, subst, ◌∙◌}
+use Rattle.std.proofs.Common.{◌≡◌, ◌≢◌, ◌≤◌, ◌⊎◌, inl, inr, ℕ, List, [], ◌++◌, Option, Some, None, Result, Ok, Err, Bool, false, cond, refl, sym, ap, subst, ◌∙◌}
+use Rattle.std.specs.Prelude.{map}
 use Rattle.std.proofs.lemmas.Bool.{cases_eq}
 use Rattle.std.proofs.lemmas.List.{append-nil}
+use Rattle.client_session.specs.Session.{Acting, StepsSession, StepsWork, StepsAt, ask_of_work, opens_of, committing_of, applying_of, is_working, noted_behind}
+use Rattle.client_session.specs.declared.answer.Answer.{Answer}
+use Rattle.client_session.specs.declared.work.Work.{Work}
+use Rattle.client_session.specs.declared.work.Work.TheVariants.{Closed, Idle, Opening, Committing, Folding, Paging, Closing, Renewing, Broken}
+use Rattle.cloud_facts.specs.Acting.{Setting, Outcome}
+use Rattle.cloud_facts.specs.Looks.{Newest, has_landed, audited_at, audit_of}
+use Rattle.cloud_facts.proofs.Outcomes.{none_lands}
 use Rattle.cloud_trait.proofs.EffectLemmas.{begins_itself}
+use Rattle.cloud_trait.specs.declared.turn.Turn.{Turn}
+use Rattle.cloud_trait.specs.Ask.{Ask, Get, GetHeld, PutHeld, Send, Receive, Delete, Take, Renew, Release}
 use Rattle.cloud_trait.specs.Caller.{Caller}
 use Rattle.cloud_trait.specs.Seen.{Seen}
 use Rattle.cloud_trait.specs.State.{CloudState, newest}
-use Rattle.cloud_trait.specs.declared.turn.Turn.{Turn}
-use Rattle.client_session.specs.Session.{Acting, StepsSession, StepsWork, StepsAt, ask_of_work}
-use Rattle.client_session.specs.declared.session.Answer.{Answer}
-use Rattle.client_session.specs.declared.session.Work.{Work}
-use Rattle.client_session.specs.declared.session.Work.TheVariants.{Closed, Idle, Opening, Committing, Folding, Broken}
+use Rattle.commit_facts.specs.Committing.{MayCommit}
+use Rattle.commit_facts.proofs.Noted.{may_none}
+use Rattle.checkpoint_facts.specs.Checkpoint.{folding_note}
+use Rattle.commit_facts.specs.Noting.{commit_note}
+use Rattle.commit_writes.specs.Writing.{writing_ask}
+use Rattle.db_base.specs.declared.names.ObjName.TheVariants as object
 use Rattle.db_base.specs.declared.refusal.Refused.{Refused}
 use Rattle.db_base.specs.declared.refusal.Refused.TheVariants as refused
-use Rattle.history.specs.Audited.{Audited}
+use Rattle.first_tree.specs.Folding.{folding_ask}
+use Rattle.history.specs.Audited.{Audited, applied_entry}
+use Rattle.home_facts.specs.Homes.{Part, Parts}
+use Rattle.page_ckpt.specs.Paging.{paging_ask}
+use Rattle.page_facts.specs.Checkpoint.{paging_note}
+use Rattle.recover_run.specs.Recovery.{recovery_ask}
 use Rattle.report_types.specs.declared.entry.Entry.{Entry}
+use Rattle.session_facts.specs.Noting.{noted_head, noted_at, noted_in_hand, audited}
+use Rattle.session_facts.specs.Sessions.{leases_of, KnowsWork, Sessions, SessionsStand, Goes}
+use Rattle.session_facts.proofs.CommitSteps.{commit_step, commit_noted}
+use Rattle.session_facts.proofs.FoldingSteps.{folding_step, folding_noted}
+use Rattle.session_facts.proofs.Laws.{call_goes, same_sessions, setting_of, known_at}
+use Rattle.session_facts.proofs.LeaseSteps.{IsStepOf, closing_step, renewing_step}
+use Rattle.session_facts.proofs.OpeningSteps.{opening_step}
+use Rattle.session_facts.proofs.PagingSteps.{paging_step, paging_noted}
 use Rattle.store_book.specs.Book.{Book}
 use Rattle.store_book.specs.Tally.{Store, at}
 use Rattle.store_book.proofs.Names.{at_same, at_other}
-use Rattle.machine_facts.specs.Beside.{beside}
-use Rattle.session_facts.specs.Noting.{Newest, has_landed, noted_in_hand, audited}
-use Rattle.session_facts.specs.Sessions.{KnowsWork, Sessions, SessionsStand, audit_of, Goes}
-use Rattle.session_facts.proofs.CheckpointHands.{folding_hands}
-use Rattle.session_facts.proofs.CheckpointLemmas.{folding_goes}
-use Rattle.session_facts.proofs.CheckpointLemmas as checkpoint
-use Rattle.session_facts.proofs.CommitHands.{commit_hands}
-use Rattle.session_facts.proofs.CommitLemmas.{commit_goes}
-use Rattle.session_facts.proofs.CommitLemmas as commit
-use Rattle.session_facts.proofs.Laws.{call_goes, same_sessions}
-use Rattle.session_facts.proofs.OpeningHands.{opening_hands}
-use Rattle.session_facts.proofs.OpeningLemmas.{opening_goes}
-use Rattle.session_facts.proofs.OpeningLemmas as opening
-use Rattle.session_facts.proofs.Outcomes.{none_lands}
+use Rattle.telling_facts.specs.Told.{store_of}
+use Rattle.txn_buffer.specs.Noted.{Noted}
+
+-- ---- what the audit takes
+
+-- what is at work and neither commits nor applies adds nothing
+nothing_noted : (work : Work) (ask : Ask) (a : Audited) → opens_of work ≡ None → applying_of work ≡ [] → noted_at work ask a ≡ a
+nothing_noted work (PutHeld (object.Head client) bytes one two) a opens applies = ap (λ o. noted_head client o (committing_of work) a) opens ∙ none_opens (committing_of work)
+  where
+    none_opens : (changes : Option (List Noted)) → noted_head client None changes a ≡ a
+    none_opens changes = refl
+nothing_noted work (PutHeld (object.Page tree page) bytes one two) a opens applies =
+    ap (λ items. record a { order = a.order ++ map (applied_entry tree) items }) applies ∙ ap (λ es. record a { order = es }) (append-nil a.order)
+nothing_noted work (PutHeld (object.Tree tree) bytes one two) a opens applies = refl
+nothing_noted work (Get name) a opens applies = refl
+nothing_noted work (GetHeld name l) a opens applies = refl
+nothing_noted work (Send queue bytes) a opens applies = refl
+nothing_noted work (Receive queue most) a opens applies = refl
+nothing_noted work (Delete queue id) a opens applies = refl
+nothing_noted work (Take lock ticks) a opens applies = refl
+nothing_noted work (Renew l ticks) a opens applies = refl
+nothing_noted work (Release l) a opens applies = refl
+
+-- the same is added by another way of saying it
+renoted : (who : Caller) (book : Book) (order : List Entry) (s t : CloudState) (parts : Parts) (ask : Ask) (note other : Audited → Audited) (K : Store → ℕ → Part → Type 0)
+    → note (audit_of book order) ≡ other (audit_of book order) → Outcome who book order s t parts ask note K → Outcome who book order s t parts ask other K
+renoted who book order s t parts ask note other K same o = record {
+  book_after = o.book_after;
+  order_after = o.order_after;
+  cloud = o.cloud;
+  lone = o.lone;
+  passes = o.passes;
+  joins = o.joins;
+  part = o.part;
+  homes = o.homes;
+  knows = o.knows;
+  noted = ap (λ a. cond (has_landed (newest s) (newest t) (Some ask)) a (audit_of book order)) (sym same) ∙ o.noted;
+}
 
 -- a session that is not at work has no call
 idle_goes : (s t : CloudState) (book : Book) (order : List Entry) (sessions : Sessions) (session : ℕ) (new : Acting) → t ≡ s → new ≡ sessions session → SessionsStand book order s sessions
@@ -59,40 +107,102 @@ state_is : (s t : CloudState) → Some s ≡ Some t → s ≡ t
 state_is s t e = cc
 
 module _ (who : Caller) (before after : Seen) (s t : CloudState) (book : Book) (order : List Entry) (sessions : Sessions) (new : Acting) (told : before.state ≡ Some s)
-    (told_after : after.state ≡ Some t) (stand : SessionsStand book order s sessions) (buffer : new.buffer ≡ (sessions who.session).buffer) where
+    (told_after : after.state ≡ Some t) (stand : SessionsStand book order s sessions) (may : MayCommit new.buffer) where
+  abbrev old : Work
+  old = (sessions who.session).work
+
+  -- a step of what is at work, as it is said of all sessions
+  goes_by : (ask : Ask) (note : Audited → Audited) → ask_of_work old ≡ Some ask → note (audit_of book order) ≡ noted_at old ask (audit_of book order)
+      → IsStepOf who book order s t stand.parts ask note old new.work → Goes book order s t sessions who.session new
+  goes_by ask note asks same step =
+      call_goes who s t book order sessions new ask step.reply stand may step.call asks step.handles
+      (renoted who book order s t stand.parts ask note (noted_at old ask) (λ st now part. KnowsWork st now new.work part) same step.outcome)
+
   abbrev st : Store
-  st = beside stand.logged book order s
+  st = store_of book order s
 
-  -- a step of what is at work
-  works : (work : Work) (turn : Turn Answer) → (sessions who.session).work ≡ work → KnowsWork st s.now work → StepsAt who before after work new.work turn
+  abbrev Stepped : Ask → (Audited → Audited) → Work → Type 0
+  Stepped ask note work = IsStepOf who book order s t stand.parts ask note work new.work
+
+  -- what stands before it and what is known, at the clock that it leaves
+  setting_at : (work : Work) → old ≡ work → s.now ≤ t.now → Setting book order s t.now stand.parts who.session (leases_of work)
+  setting_at work is later = subst (λ w. Setting book order s t.now stand.parts who.session (leases_of w)) is (setting_of book order s sessions stand t.now who.session later)
+
+  known_now : (work : Work) → old ≡ work → KnowsWork st s.now work (stand.parts who.session)
+  known_now work is = subst (λ w. KnowsWork st s.now w (stand.parts who.session)) is (stand.each who.session).work
+
+  known_in : (work : Work) → old ≡ work → s.now ≤ t.now → KnowsWork st t.now work (stand.parts who.session)
+  known_in work is later = subst (λ w. KnowsWork st t.now w (stand.parts who.session)) is (known_at book order s sessions stand t.now who.session later)
+
+  works : (work : Work) (turn : Turn Answer) → old ≡ work → StepsAt who before after work new.work turn → Goes book order s t sessions who.session new
+  works (Opening r) turn is steps =
+      goes_by (recovery_ask r) (λ a. a) (ap ask_of_work is) (sym (ap (λ w. noted_at w (recovery_ask r) (audit_of book order)) is ∙ nothing_noted (Opening r) (recovery_ask r) (audit_of book order) refl refl))
+      (subst (Stepped (recovery_ask r) (λ a. a)) (sym is)
+      (opening_step who before after book order s t stand.parts r (setting_at (Opening r) is) (known_in (Opening r) is) steps.0 told told_after new.work turn steps.1))
+  works (Committing w) turn is steps =
+      goes_by (writing_ask w) (commit_note w (writing_ask w)) (ap ask_of_work is)
+      (sym (ap (λ q. noted_at q (writing_ask w) (audit_of book order)) is ∙ commit_noted w (writing_ask w) (audit_of book order) refl))
+      (subst (Stepped (writing_ask w) (commit_note w (writing_ask w))) (sym is)
+      (commit_step who before after book order s t stand.parts w (setting_at (Committing w) is) (known_in (Committing w) is) steps.0 told told_after new.work turn steps.1))
+  works (Folding home f) turn is steps =
+      goes_by (folding_ask f) (folding_note f (folding_ask f)) (ap ask_of_work is)
+      (sym (ap (λ q. noted_at q (folding_ask f) (audit_of book order)) is ∙ folding_noted home f (folding_ask f) (audit_of book order)))
+      (subst (Stepped (folding_ask f) (folding_note f (folding_ask f))) (sym is)
+      (folding_step who before after book order s t stand.parts home f (setting_at (Folding home f) is) (known_now (Folding home f) is).0 (known_now (Folding home f) is).1 told told_after new.work turn steps))
+  works (Paging home p) turn is steps =
+      goes_by (paging_ask p) (paging_note p (paging_ask p)) (ap ask_of_work is)
+      (sym (ap (λ q. noted_at q (paging_ask p) (audit_of book order)) is ∙ paging_noted home p (paging_ask p) (audit_of book order)))
+      (subst (Stepped (paging_ask p) (paging_note p (paging_ask p))) (sym is)
+      (paging_step who before after book order s t stand.parts home p (setting_at (Paging home p) is) (known_now (Paging home p) is).0 (known_now (Paging home p) is).1 told told_after new.work turn steps))
+  works (Closing l) turn is steps =
+      goes_by (Release l) (λ a. a) (ap ask_of_work is) (sym (ap (λ w. noted_at w (Release l) (audit_of book order)) is))
+      (subst (Stepped (Release l) (λ a. a)) (sym is)
+      (closing_step who before after book order s t stand.parts l (setting_at (Closing l) is) (known_now (Closing l) is) told told_after
+      new.work turn steps))
+  works (Renewing home) turn is steps =
+      goes_by (Renew home.lease 600) (λ a. a) (ap ask_of_work is) (sym (ap (λ w. noted_at w (Renew home.lease 600) (audit_of book order)) is))
+      (subst (Stepped (Renew home.lease 600) (λ a. a)) (sym is)
+      (renewing_step who before after book order s t stand.parts home (setting_at (Renewing home) is) (known_in (Renewing home) is) told told_after new.work turn steps))
+  works Closed turn is never = absurd never
+  works (Idle home) turn is never = absurd never
+  works (Broken l) turn is never = absurd never
+
+  steps_keep : (result : Result (Turn Answer) Refused) → new.buffer ≡ noted_behind old (sessions who.session).buffer → StepsWork who before after old new.work result
       → Goes book order s t sessions who.session new
-  works (Opening r) turn is k steps =
-      call_goes who s t book order sessions new (Opening r) is buffer stand
-      (opening_hands who s t r new.work (opening.step_of who before after s t r new.work turn told told_after steps.1) k)
-      (opening_goes who before after s t stand.logged book order r new.work turn told told_after stand.cloud stand.messages stand.lone k steps.0 steps.1)
-  works (Committing c) turn is k steps =
-      call_goes who s t book order sessions new (Committing c) is buffer stand
-      (commit_hands who s t c new.work (commit.step_of who before after s t c new.work turn told told_after steps.1) k steps.0)
-      (commit_goes who before after s t stand.logged book order c new.work turn told told_after stand.cloud stand.messages stand.lone k steps.0 steps.1)
-  works (Folding home f) turn is k steps =
-      call_goes who s t book order sessions new (Folding home f) is buffer stand
-      (folding_hands who s t home f new.work (checkpoint.step_of who before after s t home f new.work turn told told_after steps) k.0.lock stand.logged book order stand.cloud stand.lone
-      k.1.tree st s.now k.1.at)
-      (folding_goes who before after s t stand.logged book order home f new.work turn told told_after stand.cloud stand.messages stand.lone k.0 k.1 steps)
-  works Closed turn is k never = absurd never
-  works (Idle home) turn is k never = absurd never
-  works Broken turn is k never = absurd never
-
-  steps_keep : (result : Result (Turn Answer) Refused) → StepsWork who before after (sessions who.session).work new.work result → Goes book order s t sessions who.session new
-  steps_keep (Ok turn) steps = works (sessions who.session).work turn refl (stand.each who.session).work steps
-  steps_keep (Err (refused.Rule r)) steps =
+  steps_keep (Ok turn) buffer steps = works old turn refl steps
+  steps_keep (Err (refused.Rule r)) buffer steps =
       idle_goes s t book order sessions who.session new (state_is t s (sym told_after ∙ (ap (λ (x : Seen). x.state) steps.3 ∙ told)))
-      (λ i. record { buffer = buffer i; work = steps.2 i }) stand
-  steps_keep (Err refused.Memory) never = absurd never
+      (λ i. record { buffer = (buffer ∙ stays old steps.1) i; work = steps.2 i }) stand
+    where
+      -- what is not at work drops nothing that was noted
+      stays : (work : Work) → is_working work ≡ false → noted_behind work (sessions who.session).buffer ≡ (sessions who.session).buffer
+      stays Closed e = refl
+      stays (Idle home) e = refl
+      stays (Broken l) e = refl
+      stays (Opening r) e = refl
+      stays (Committing w) e = refl
+      stays (Folding home f) e = refl
+      stays (Paging home p) e = refl
+      stays (Renewing home) e = refl
+      stays (Closing l) e = absurd (cc)
+  steps_keep (Err refused.Memory) buffer never = absurd never
+
+-- what was noted may still be committed
+noted_may : (work : Work) (buffer : List Noted) → MayCommit buffer → MayCommit (noted_behind work buffer)
+noted_may (Closing l) buffer may = may_none
+noted_may Closed buffer may = may
+noted_may (Idle home) buffer may = may
+noted_may (Broken l) buffer may = may
+noted_may (Opening r) buffer may = may
+noted_may (Committing w) buffer may = may
+noted_may (Folding home f) buffer may = may
+noted_may (Paging home p) buffer may = may
+noted_may (Renewing home) buffer may = may
 
 -- a call of a session: any answer, landed or not
 pub session_keeps : (who : Caller) (before after : Seen) (s t : CloudState) (book : Book) (order : List Entry) (sessions : Sessions) (new : Acting) (result : Result (Turn Answer) Refused)
     → before.state ≡ Some s → after.state ≡ Some t → SessionsStand book order s sessions → StepsSession who before after (sessions who.session) new result
     → Goes book order s t sessions who.session new
 session_keeps who before after s t book order sessions new result told told_after stand steps =
-    steps_keep who before after s t book order sessions new told told_after stand steps.buffer result steps.work
+    steps_keep who before after s t book order sessions new told told_after stand
+    (subst MayCommit (sym steps.buffer) (noted_may (sessions who.session).work (sessions who.session).buffer (stand.each who.session).buffer)) result steps.buffer steps.work

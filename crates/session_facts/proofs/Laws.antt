@@ -1,32 +1,40 @@
 -- What holds of a cloud and of all its sessions holds after every call, begin, crash and wait.
-use Rattle.std.proofs.Common.{◌≡◌, ◌≢◌, ◌≤◌, ◌⊎◌, inl, inr, ℕ, List, [], ◌∷◌, Option, Some, None, Result, Ok, Err, refl, sym, ap, subst, ◌∙◌}
+use Rattle.std.proofs.Common.{◌≡◌, ◌≢◌, ◌≤◌, ◌⊎◌, inl, inr, ℕ, List, [], ◌∷◌, Option, Some, None, refl, sym, ap, subst, ◌∙◌, arith}
+use Rattle.std.specs.Prelude.{cond}
 use Rattle.std.proofs.lemmas.Bool.{cases_eq}
+use Rattle.chain_facts.specs.Chain.{ChainHolds}
+use Rattle.client_session.specs.Session.{Acting, closed_session, ask_of_work}
+use Rattle.cloud_facts.proofs.StandingLemmas.{empty_stands, same_stands}
+use Rattle.cloud_facts.specs.Acting.{HasLeaseOf, Setting, Outcome, Handles}
+use Rattle.cloud_facts.specs.Call.{IsCall}
+use Rattle.cloud_facts.specs.Looks.{has_landed, audit_of}
+use Rattle.cloud_facts.specs.Others.{IsOfPart, NoneJoins}
 use Rattle.cloud_trait.specs.declared.answer.Answer.{Answer as Reply}
-use Rattle.cloud_trait.specs.declared.answer.Answer.TheVariants.{Given}
+use Rattle.cloud_trait.specs.declared.state.Hold.{Hold}
 use Rattle.cloud_trait.specs.Ask.{Ask, Get, GetHeld, PutHeld, Send, Receive, Delete, Take, Renew, Release}
 use Rattle.cloud_trait.specs.Caller.{Caller}
-use Rattle.cloud_trait.specs.Claim.{Claim}
-use Rattle.cloud_trait.specs.State.{CloudState, IsEmptyCloud, called, newest}
-use Rattle.chain_facts.specs.Chain.{ChainHolds}
-use Rattle.client_session.specs.Session.{Acting, closed_session}
-use Rattle.client_session.specs.declared.session.Work.{Work}
+use Rattle.cloud_trait.specs.Claim.{Claim, Lasts}
+use Rattle.cloud_trait.specs.State.{CloudState, IsEmptyCloud, newest}
+use Rattle.cloud_trait.specs.Weather.{Leaves}
+use Rattle.commit_facts.specs.Committing.{MayCommit}
+use Rattle.commit_facts.proofs.Noted.{may_none}
 use Rattle.db_base.specs.declared.names.Lock.{Lock}
 use Rattle.db_base.specs.declared.names.Lock.TheVariants as lock
-use Rattle.std.specs.Prelude.{slice_get}
-use Rattle.cloud_trait.specs.declared.state.Hold.{Hold}
-use Rattle.cloud_trait.specs.declared.state.Posted.{Posted}
-use Rattle.db_base.specs.declared.names.QueueName.TheVariants.{Atomic}
-use Rattle.history.specs.Audited.{Audited}
 use Rattle.decoding_facts.specs.Decodes.{Decodes}
+use Rattle.home_facts.specs.Homes.{Part, Away, AtHome, Opens, Parts, IsLastingPart, IsAlone, AreApart, HomesHold}
+use Rattle.home_facts.proofs.HomeLemmas.{none_home, later_keeps as homes_later, away_keeps}
 use Rattle.landing_facts.specs.Reporting.{IsReportable}
 use Rattle.landing_facts.proofs.ReportLemmas.{reportable}
-use Rattle.lease_facts.specs.Guards.{IsGuarded, Allowed}
-use Rattle.lease_facts.specs.Leases.{Hands, Holds, LeasesHold, Owns, KeptBy, GainedBy, RenewedTo, HandsAfter}
-use Rattle.lease_facts.proofs.GuardLemmas.{call_is_allowed}
+use Rattle.lease_facts.specs.Guards.{Allowed}
+use Rattle.lease_facts.specs.Leases.{Hands, Holds, LeasesHold, Owns, KeptBy, GainedBy}
+use Rattle.lease_facts.proofs.GuardLemmas.{call_is_allowed, lasting_apart}
 use Rattle.lease_facts.proofs.LeaseLemmas.{leaves_keep, fewer_keeps, later_keeps}
+use Rattle.log_codec.specs.declared.record.AtomicRec.{AtomicRec}
 use Rattle.number_facts.specs.Numbers.{Numbers}
-use Rattle.number_facts.proofs.Told.{numbers_told}
 use Rattle.report_types.specs.declared.entry.Entry.{Entry}
+use Rattle.session_facts.specs.Noting.{noted_at, noted_in_hand}
+use Rattle.session_facts.specs.Sessions.{leases_of, KnowsWork, Knows, Sessions, hands_of, SessionsStand, Goes}
+use Rattle.session_facts.proofs.Keeping.{others_of, knows_others, knows_later, part_lease}
 use Rattle.store_book.specs.Book.{Book, empty_book}
 use Rattle.store_book.specs.Records.{IsIn}
 use Rattle.store_book.specs.Tally.{Store, at}
@@ -36,63 +44,35 @@ use Rattle.store_book.proofs.Places.{in_none}
 use Rattle.telling_facts.specs.Told.{store_of}
 use Rattle.telling_facts.proofs.Easy.{same_told}
 use Rattle.txn_buffer.specs.Noted.{Noted}
-use Rattle.cloud_trait.specs.Weather.{Leaves}
-use Rattle.machine_facts.specs.Beside.{Logged, beside, StandsBeside, AreCommitted, IsLone}
-use Rattle.machine_facts.specs.Committing.{MayCommit}
-use Rattle.session_facts.specs.Noting.{audited}
-use Rattle.machine_facts.specs.Call.{IsCall}
-use Rattle.session_facts.specs.Sessions.{leases_of, KnowsWork, Knows, RenewsNothing, GivenBy, Sessions, hands_of, SessionsStand, audit_of, Handles, Outcome, Goes}
-use Rattle.session_facts.proofs.Keeping.{others_of, knows_others, knows_later}
-use Rattle.machine_facts.proofs.Noted.{may_none}
-use Rattle.machine_facts.proofs.Landed.{same_stands, empty_stands}
 
 -- ---- the leases in hand after a call
 
-none_given : Claim
-none_given = record { lock = lock.Client 0; generation = 0; end = 0 }
-
-renewed_none : (who : Caller) (ask : Ask) (b t : CloudState) → RenewsNothing ask → RenewedTo who ask none_given b t
-renewed_none who (Get name) b t r = tt
-renewed_none who (GetHeld name l) b t r = tt
-renewed_none who (PutHeld name bytes one two) b t r = tt
-renewed_none who (Send queue bytes) b t r = tt
-renewed_none who (Receive queue most) b t r = tt
-renewed_none who (Delete queue id) b t r = tt
-renewed_none who (Take k ticks) b t r = tt
-renewed_none who (Renew l ticks) b t r = absurd r
-renewed_none who (Release l) b t r = tt
-
-gained : (ask : Ask) (reply : Reply) (x : Claim) → GivenBy ask reply x → GainedBy ask reply none_given x
-gained (Take k ticks) (Given l) x e = e
-gained (Take k ticks) reply x e = e
-gained (Renew l ticks) reply x e = absurd e
-gained ask reply x e = e
-
-owned : (hands : Hands) (session : ℕ) (mine : List Claim) (ask : Ask) → hands session ≡ mine → Owns (λ n. mine) session ask → Owns hands session ask
-owned hands session mine (Get name) e o = tt
-owned hands session mine (GetHeld name l) e o = subst (λ ls. IsIn ls l) (sym e) o
-owned hands session mine (PutHeld name bytes one None) e o = (subst (λ ls. IsIn ls one) (sym e) o.0, tt)
-owned hands session mine (PutHeld name bytes one (Some two)) e o = (subst (λ ls. IsIn ls one) (sym e) o.0, subst (λ ls. IsIn ls two) (sym e) o.1)
-owned hands session mine (Send queue bytes) e o = tt
-owned hands session mine (Receive queue most) e o = tt
-owned hands session mine (Delete queue id) e o = tt
-owned hands session mine (Take k ticks) e o = tt
-owned hands session mine (Renew l ticks) e o = subst (λ ls. IsIn ls l) (sym e) o
-owned hands session mine (Release l) e o = subst (λ ls. IsIn ls l) (sym e) o
+owned : (hands : Hands) (session : ℕ) (ask : Ask) → Owns (λ n. hands session) session ask → Owns hands session ask
+owned hands session (Get name) o = tt
+owned hands session (GetHeld name l) o = o
+owned hands session (PutHeld name bytes one None) o = o
+owned hands session (PutHeld name bytes one (Some two)) o = o
+owned hands session (Send queue bytes) o = tt
+owned hands session (Receive queue most) o = tt
+owned hands session (Delete queue id) o = tt
+owned hands session (Take k ticks) o = tt
+owned hands session (Renew l ticks) o = o
+owned hands session (Release l) o = o
 
 -- what a call leaves of a state, of a call between two states
-abbrev leaves_of : (who : Caller) (ask : Ask) (reply : Reply) (s t : CloudState) → (c : IsCall who ask reply s t) → Leaves who ask reply c.before c.after s (Some t)
-leaves_of who ask reply s t c = record { after = t; told = refl; later = c.later; row = c.row }
+abbrev leaves_by : (who : Caller) (ask : Ask) (reply : Reply) (s t : CloudState) → (c : IsCall who ask reply s t) → Leaves who ask reply c.before c.after s (Some t)
+leaves_by who ask reply s t c = record { after = t; told = refl; later = c.later; row = c.row }
 
 -- ---- one session changes
 
 -- what holds of the new session, and of the others, holds of all
-each_of : (P : Acting → Type 0) (sessions : Sessions) (session : ℕ) (new : Acting) → P new → ((n : ℕ) → n ≢ session → P (sessions n)) → (n : ℕ) → P (at session new sessions n)
-each_of P sessions session new mine others n = on (cases_eq n session)
+each_of : (P : Acting → Part → Type 0) (sessions : Sessions) (parts : Parts) (session : ℕ) (new : Acting) (part : Part) → P new part → ((n : ℕ) → n ≢ session → P (sessions n) (parts n))
+    → (n : ℕ) → P (at session new sessions n) (at session part parts n)
+each_of P sessions parts session new part mine others n = on (cases_eq n session)
   where
-    on : (n ≡ session) ⊎ (n ≢ session) → P (at session new sessions n)
-    on (inl e) = subst P (sym (at_same session new sessions n e)) mine
-    on (inr ne) = subst P (sym (at_other session new sessions n ne)) (others n ne)
+    on : (n ≡ session) ⊎ (n ≢ session) → P (at session new sessions n) (at session part parts n)
+    on (inl e) = subst (λ a. P a (at session part parts n)) (sym (at_same session new sessions n e)) (subst (λ p. P new p) (sym (at_same session part parts n e)) mine)
+    on (inr ne) = subst (λ a. P a (at session part parts n)) (sym (at_other session new sessions n ne)) (subst (λ p. P (sessions n) p) (sym (at_other session part parts n ne)) (others n ne))
 
 hands_at : (sessions : Sessions) (session : ℕ) (new : Acting) → hands_of (at session new sessions) session ≡ leases_of new.work
 hands_at sessions session new = ap (λ (a : Acting). leases_of a.work) (at_same session new sessions session refl)
@@ -100,75 +80,122 @@ hands_at sessions session new = ap (λ (a : Acting). leases_of a.work) (at_same 
 hands_beside : (sessions : Sessions) (session : ℕ) (new : Acting) (n : ℕ) → n ≢ session → hands_of (at session new sessions) n ≡ hands_of sessions n
 hands_beside sessions session new n ne = ap (λ (a : Acting). leases_of a.work) (at_other session new sessions n ne)
 
--- the leases of all after a call of one
-leases_after : (who : Caller) (s t : CloudState) (sessions : Sessions) (new : Acting) (work : Work) → (sessions who.session).work ≡ work → Handles who s t work new.work
-    → LeasesHold s.now s.locks (hands_of sessions) → LeasesHold t.now t.locks (hands_of (at who.session new sessions))
-leases_after who s t sessions new work is h leases =
-    leaves_keep who h.ask h.reply _ _ none_given s (Some t) (leaves_of who h.ask h.reply s t h.call) (hands_of sessions) (hands_of (at who.session new sessions))
-    (owned (hands_of sessions) who.session (leases_of work) h.ask mine h.owns) (renewed_none who h.ask _ _ h.renews)
-    (record { others = λ n ne. hands_beside sessions who.session new n ne; own = own }) leases
+module _ (who : Caller) (s t : CloudState) (sessions : Sessions) (ask : Ask) (reply : Reply) (call : IsCall who ask reply s t) where
+  abbrev mine : List Claim
+  mine = hands_of sessions who.session
+
+  -- the leases of all after a call of one
+  leases_after : (new : Acting) → Handles who s t ask reply mine (leases_of new.work) → LeasesHold s.now s.locks (hands_of sessions) → LeasesHold t.now t.locks (hands_of (at who.session new sessions))
+  leases_after new h leases =
+      leaves_keep who ask reply _ _ h.renewed s (Some t) (leaves_by who ask reply s t call) (hands_of sessions) (hands_of (at who.session new sessions))
+      (owned (hands_of sessions) who.session ask h.owns) h.renews
+      (record { others = λ n ne. hands_beside sessions who.session new n ne; own = λ x holds. h.own x (subst (λ ls. IsIn ls x) (hands_at sessions who.session new) holds) }) leases
+
+  allowed_by : (after : List Claim) → Handles who s t ask reply mine after → Allowed (hands_of sessions) who.session s t
+  allowed_by after h = call_is_allowed who ask reply _ _ s (Some t) (leaves_by who ask reply s t call) (hands_of sessions) (owned (hands_of sessions) who.session ask h.owns) h.guarded
+
+-- ---- what stands before a call
+
+module _ (book : Book) (order : List Entry) (s : CloudState) (sessions : Sessions) (stand : SessionsStand book order s sessions) where
+  -- the lease of each part is in hand
+  lease_there : (other : ℕ) → HasLeaseOf (hands_of sessions other) (stand.parts other)
+  lease_there other = part_lease (store_of book order s) s.now (sessions other).work (stand.parts other) (stand.each other).work
+
+  -- a lease in hand of a client that lasts later lasts now, and no other session has a lasting one
+  alone_at : (now session : ℕ) (l : Claim) (client : ℕ) → s.now ≤ now → IsIn (hands_of sessions session) l → l.lock ≡ lock.Client client → Lasts now l → IsAlone now stand.parts session client
+  alone_at now session l client later here at lasts other ne = on (stand.parts other) refl
+    where
+      never : (k : Claim) → IsIn (hands_of sessions other) k → k.lock ≡ lock.Client client → Lasts now k → ⊥
+      never k there lock_is lasting =
+          lasting_apart s.now s.locks (hands_of sessions) other session (lock.Client client) stand.leases ne
+          (record { lease = k; held = there; lock = lock_is; lasts = omega (arith, lasting, later) })
+          (record {
+            lease = l;
+            held = here;
+            lock = at;
+            current = (stand.leases.each session l here).lasting (omega (arith, lasts, later)) ∙ ap (λ (q : Lock). (s.locks q).generation) at;
+          })
+
+      on : (p : Part) → stand.parts other ≡ p → IsLastingPart now client p → ⊥
+      on Away e never_lasts = never_lasts
+      on (AtHome h) e (same, lasting) =
+          let has : HasLeaseOf (hands_of sessions other) (AtHome h) = subst (HasLeaseOf (hands_of sessions other)) e (lease_there other) in
+          never h.lease has.0 (has.1 ∙ ap (λ c. lock.Client c) same) lasting
+      on (Opens o) e (same, lasting) =
+          let has : HasLeaseOf (hands_of sessions other) (Opens o) = subst (HasLeaseOf (hands_of sessions other)) e (lease_there other) in
+          never o.lease has.0 (has.1 ∙ ap (λ c. lock.Client c) same) lasting
+
+  pub setting_of : (now session : ℕ) → s.now ≤ now → Setting book order s now stand.parts session (leases_of (sessions session).work)
+  setting_of now session later = record {
+    cloud = stand.cloud;
+    lone = stand.lone;
+    homes = homes_later (store_of book order s).tally s.now now stand.parts later stand.homes;
+    alone = λ l client here at lasts. alone_at now session l client later here at lasts;
+  }
+
+  -- what the session's work knows when the call is over, as far as time goes
+  pub known_at : (now session : ℕ) → s.now ≤ now → KnowsWork (store_of book order s) now (sessions session).work (stand.parts session)
+  known_at now session later = (knows_later (store_of book order s) s.now now (sessions session) (stand.parts session) later (stand.each session)).work
+
+-- ---- a call
+
+-- what joins the log by a call of a session is of its own home, so none is of another one's
+none_joins : (st su : Store) (now : ℕ) (parts : Parts) (session n : ℕ) → n ≢ session → HomesHold st.tally now parts
+    → ((r : AtomicRec) → IsIn su.book.log r → IsIn st.book.log r ⊎ IsOfPart (parts session) r) → NoneJoins (parts n) st su
+none_joins st su now parts session n ne homes joins r is of = on (joins r is)
   where
-    mine : hands_of sessions who.session ≡ leases_of work
-    mine = ap leases_of is
+    never : (p q : Part) → AreApart now p q → IsOfPart p r → IsOfPart q r → ⊥
+    never (AtHome g) (AtHome h) apart a b = apart (sym a.0 ∙ b.0) (sym a.1 ∙ b.1)
+    never Away q apart a b = a
+    never (Opens o) q apart a b = a
+    never (AtHome g) Away apart a b = b
+    never (AtHome g) (Opens o) apart a b = b
 
-    own : (x : Claim) → Holds (hands_of (at who.session new sessions)) who.session x
-        → (Holds (hands_of sessions) who.session x × KeptBy h.ask x) ⊎ GainedBy h.ask h.reply none_given x
-    own x holds = on (h.own x (subst (λ ls. IsIn ls x) (hands_at sessions who.session new) holds))
-      where
-        on : (IsIn (leases_of work) x × KeptBy h.ask x) ⊎ GivenBy h.ask h.reply x → (Holds (hands_of sessions) who.session x × KeptBy h.ask x) ⊎ GainedBy h.ask h.reply none_given x
-        on (inl p) = inl (subst (λ ls. IsIn ls x) (sym mine) p.0, p.1)
-        on (inr given) = inr (gained h.ask h.reply x given)
+    on : IsIn st.book.log r ⊎ IsOfPart (parts session) r → IsIn st.book.log r
+    on (inl old) = old
+    on (inr mine) = absurd (never (parts session) (parts n) (homes.apart session n (λ e. ne (sym e))) mine of)
 
-allowed_of : (who : Caller) (s t : CloudState) (sessions : Sessions) (work after : Work) → (sessions who.session).work ≡ work → Handles who s t work after
-    → Allowed (hands_of sessions) who.session s t
-allowed_of who s t sessions work after is h =
-    call_is_allowed who h.ask h.reply _ _ s (Some t) (leaves_of who h.ask h.reply s t h.call) (hands_of sessions)
-    (owned (hands_of sessions) who.session (leases_of work) h.ask (ap leases_of is) h.owns) h.guarded
-
--- a call of a session, where what it leaves of the cloud and of its own leases is known
-pub call_goes : (who : Caller) (s t : CloudState) (book : Book) (order : List Entry) (sessions : Sessions) (new : Acting) (work : Work) → (sessions who.session).work ≡ work
-    → new.buffer ≡ (sessions who.session).buffer → (stand : SessionsStand book order s sessions) → Handles who s t work new.work → Outcome stand.logged book order s t work new.work
-    → Goes book order s t sessions who.session new
-call_goes who s t book order sessions new work is buffer stand h o = record {
+-- what a call of a session leaves, by what it leaves of the cloud and of its own leases
+pub call_goes : (who : Caller) (s t : CloudState) (book : Book) (order : List Entry) (sessions : Sessions) (new : Acting) (ask : Ask) (reply : Reply) → (stand : SessionsStand book order s sessions)
+    → MayCommit new.buffer → IsCall who ask reply s t → ask_of_work (sessions who.session).work ≡ Some ask
+    → Handles who s t ask reply (leases_of (sessions who.session).work) (leases_of new.work)
+    → Outcome who book order s t stand.parts ask (noted_at (sessions who.session).work ask) (λ st now part. KnowsWork st now new.work part) → Goes book order s t sessions who.session new
+call_goes who s t book order sessions new ask reply stand may call asks h o = record {
   book_after = o.book_after;
   order_after = o.order_after;
   stand = record {
-    logged = o.logged_after;
     cloud = o.cloud;
-    messages = o.messages;
     lone = o.lone;
-    leases = leases_after who s t sessions new work is h stand.leases;
-    each = each_of (Knows (beside o.logged_after o.book_after o.order_after t) t.now) sessions who.session new
-        (record { work = o.knows; buffer = subst MayCommit (sym buffer) (stand.each who.session).buffer }) others;
+    leases = leases_after who s t sessions ask reply call new h stand.leases;
+    parts = at who.session o.part stand.parts;
+    homes = o.homes;
+    each = each_of (Knows (store_of o.book_after o.order_after t) t.now) sessions stand.parts who.session new o.part (record { work = o.knows; buffer = may }) others;
   };
   log_goes_on = o.passes.grows.log;
   order_goes_on = o.passes.grows.order;
-  noted = subst (λ (w : Work). audited_at w ≡ audit_of o.book_after o.order_after) (sym is) o.noted;
+  noted = ap (λ (q : Option Ask). cond (has_landed (newest s) (newest t) q) (noted_in_hand (sessions who.session).work q (audit_of book order)) (audit_of book order)) asks ∙ o.noted;
 }
   where
-    audited_at : Work → Audited
-    audited_at w = audited (newest s) (newest t) w (audit_of book order)
-
-    others : (n : ℕ) → n ≢ who.session → Knows (beside o.logged_after o.book_after o.order_after t) t.now (sessions n)
+    others : (n : ℕ) → n ≢ who.session → Knows (store_of o.book_after o.order_after t) t.now (sessions n) (stand.parts n)
     others n ne =
-        knows_others (beside stand.logged book order s) (beside o.logged_after o.book_after o.order_after t) s.now t.now (sessions n) h.call.later
-        (others_of stand.logged o.logged_after book o.book_after order o.order_after s t (hands_of sessions) who.session n stand.cloud stand.lone stand.leases
-        (allowed_of who s t sessions work new.work is h) ne o.passes)
-        (stand.each n)
+        knows_others (store_of book order s) (store_of o.book_after o.order_after t) s.now t.now (sessions n) (stand.parts n) call.later
+        (others_of book o.book_after order o.order_after s t (hands_of sessions) who.session n stand.cloud stand.lone stand.leases
+        (allowed_by who s t sessions ask reply call (leases_of new.work) h) ne o.passes)
+        (none_joins (store_of book order s) (store_of o.book_after o.order_after t) s.now stand.parts who.session n ne stand.homes o.joins) (stand.each n)
 
 -- ---- what leaves the cloud alone
 
--- a session has in hand no leases but those that it had, and knows what it has to
-pub session_changes : (book : Book) (order : List Entry) (s : CloudState) (sessions : Sessions) (session : ℕ) (new : Acting) → (stand : SessionsStand book order s sessions)
-    → ((x : Claim) → IsIn (leases_of new.work) x → IsIn (leases_of (sessions session).work) x) → Knows (beside stand.logged book order s) s.now new
-    → SessionsStand book order s (at session new sessions)
-session_changes book order s sessions session new stand fewer knows = record {
-  logged = stand.logged;
+-- a session has in hand no leases but those that it had, and knows what it has to of its part
+pub session_changes : (book : Book) (order : List Entry) (s : CloudState) (sessions : Sessions) (session : ℕ) (new : Acting) (part : Part) → (stand : SessionsStand book order s sessions)
+    → ((x : Claim) → IsIn (leases_of new.work) x → IsIn (leases_of (sessions session).work) x) → HomesHold (store_of book order s).tally s.now (at session part stand.parts)
+    → Knows (store_of book order s) s.now new part → SessionsStand book order s (at session new sessions)
+session_changes book order s sessions session new part stand fewer homes knows = record {
   cloud = stand.cloud;
-  messages = stand.messages;
   lone = stand.lone;
   leases = fewer_keeps s.now s.locks (hands_of sessions) (hands_of (at session new sessions)) (λ n x holds. within n x holds (cases_eq n session)) stand.leases;
-  each = each_of (Knows (beside stand.logged book order s) s.now) sessions session new knows (λ n ne. stand.each n);
+  parts = at session part stand.parts;
+  homes = homes;
+  each = each_of (Knows (store_of book order s) s.now) sessions stand.parts session new part knows (λ n ne. stand.each n);
 }
   where
     within : (n : ℕ) (x : Claim) → Holds (hands_of (at session new sessions)) n x → (n ≡ session) ⊎ (n ≢ session) → Holds (hands_of sessions) n x
@@ -177,34 +204,59 @@ session_changes book order s sessions session new stand fewer knows = record {
         subst (λ k. Holds (hands_of sessions) k x) (sym e)
         (fewer x (subst (λ ls. IsIn ls x) (hands_at sessions session new) (subst (λ k. Holds (hands_of (at session new sessions)) k x) e holds)))
 
+-- the same part
+same_part : (book : Book) (order : List Entry) (s : CloudState) (sessions : Sessions) (session : ℕ) (stand : SessionsStand book order s sessions)
+    → HomesHold (store_of book order s).tally s.now (at session (stand.parts session) stand.parts)
+same_part book order s sessions session stand = subst (HomesHold (store_of book order s).tally s.now) (sym same) stand.homes
+  where
+    same_at : (n : ℕ) → (n ≡ session) ⊎ (n ≢ session) → at session (stand.parts session) stand.parts n ≡ stand.parts n
+    same_at n (inl e) = at_same session (stand.parts session) stand.parts n e ∙ ap stand.parts (sym e)
+    same_at n (inr ne) = at_other session (stand.parts session) stand.parts n ne
+
+    same : at session (stand.parts session) stand.parts ≡ stand.parts
+    same = λ i n. same_at n (cases_eq n session) i
+
+-- a session changes, and its part stays
+pub session_rests : (book : Book) (order : List Entry) (s : CloudState) (sessions : Sessions) (session : ℕ) (new : Acting) → (stand : SessionsStand book order s sessions)
+    → ((x : Claim) → IsIn (leases_of new.work) x → IsIn (leases_of (sessions session).work) x) → Knows (store_of book order s) s.now new (stand.parts session)
+    → SessionsStand book order s (at session new sessions)
+session_rests book order s sessions session new stand fewer knows =
+    session_changes book order s sessions session new (stand.parts session) stand fewer (same_part book order s sessions session stand) knows
+
+-- a session that drops its part
+pub session_leaves : (book : Book) (order : List Entry) (s : CloudState) (sessions : Sessions) (session : ℕ) (new : Acting) → (stand : SessionsStand book order s sessions)
+    → ((x : Claim) → IsIn (leases_of new.work) x → IsIn (leases_of (sessions session).work) x) → Knows (store_of book order s) s.now new Away
+    → SessionsStand book order s (at session new sessions)
+session_leaves book order s sessions session new stand fewer knows =
+    session_changes book order s sessions session new Away stand fewer (away_keeps (store_of book order s).tally s.now stand.parts session stand.homes) knows
+
 -- a crash, in any state
 pub crash_keeps : (book : Book) (order : List Entry) (s : CloudState) (sessions : Sessions) (session : ℕ) → SessionsStand book order s sessions
     → SessionsStand book order s (at session closed_session sessions)
 crash_keeps book order s sessions session stand =
-    session_changes book order s sessions session closed_session stand (λ x is. absurd (in_none [] x refl is)) (record { work = tt; buffer = may_none })
+    session_leaves book order s sessions session closed_session stand (λ x is. absurd (in_none [] x refl is)) (record { work = refl; buffer = may_none })
 
 -- what was noted changes
 pub buffer_keeps : (book : Book) (order : List Entry) (s : CloudState) (sessions : Sessions) (session : ℕ) (buffer : List Noted) → MayCommit buffer → SessionsStand book order s sessions
     → SessionsStand book order s (at session (record { buffer = buffer; work = (sessions session).work }) sessions)
 buffer_keeps book order s sessions session buffer may stand =
-    session_changes book order s sessions session (record { buffer = buffer; work = (sessions session).work }) stand (λ x is. is)
+    session_rests book order s sessions session (record { buffer = buffer; work = (sessions session).work }) stand (λ x is. is)
     (record { work = (stand.each session).work; buffer = may })
 
 -- the clock goes on, a wish is set, a wait is counted
 pub rest_keeps : (book : Book) (order : List Entry) (s t : CloudState) (sessions : Sessions) → t.versions ≡ s.versions → t.messages ≡ s.messages → t.locks ≡ s.locks → s.now ≤ t.now
     → SessionsStand book order s sessions → SessionsStand book order t sessions
 rest_keeps book order s t sessions versions messages locks later stand = record {
-  logged = stand.logged;
-  cloud = same_stands stand.logged book order s t stand.cloud versions messages;
-  messages = stand.messages;
+  cloud = same_stands book order s t versions messages stand.cloud;
   lone = stand.lone;
   leases = subst (λ (ls : Lock → Hold). LeasesHold t.now ls (hands_of sessions)) (sym locks) (later_keeps s.now t.now s.locks (hands_of sessions) later stand.leases);
-  each = λ n. subst (λ (st : Store). Knows st t.now (sessions n)) (sym same) (knows_later (beside stand.logged book order s) s.now t.now (sessions n) later (stand.each n));
+  parts = stand.parts;
+  homes = subst (λ (st : Store). HomesHold st.tally t.now stand.parts) (sym same) (homes_later (store_of book order s).tally s.now t.now stand.parts later stand.homes);
+  each = λ n. subst (λ (st : Store). Knows st t.now (sessions n) (stand.parts n)) (sym same) (knows_later (store_of book order s) s.now t.now (sessions n) (stand.parts n) later (stand.each n));
 }
   where
-    same : beside stand.logged book order t ≡ beside stand.logged book order s
-    same = let told : tally_of book t ≡ tally_of book s = same_told book s t versions messages in
-        λ i. record { tally = record (told i) { logged = stand.logged }; book = book; order = order }
+    same : store_of book order t ≡ store_of book order s
+    same = let told : tally_of book t ≡ tally_of book s = same_told book s t versions messages in λ i. record { tally = told i; book = book; order = order }
 
 -- the same sessions
 pub same_sessions : (book : Book) (order : List Entry) (s : CloudState) (f g : Sessions) → ((n : ℕ) → g n ≡ f n) → SessionsStand book order s f → SessionsStand book order s g
@@ -217,27 +269,21 @@ same_sessions book order s f g same = subst (SessionsStand book order s) (sym al
 
 pub starts : (s : CloudState) → IsEmptyCloud s → SessionsStand empty_book [] s (λ n. closed_session)
 starts s empty = record {
-  logged = (tally_of empty_book s).logged;
   cloud = empty_stands s empty;
-  messages = λ client id r m. absurd (nothing ((tally_of empty_book s).logged client) m.place m.message (empty.messages (Atomic client)) m.there);
   lone = λ tree level. refl;
   leases = record {
     each = λ n l holds. absurd (in_none [] l refl holds);
     apart = λ n u l m ne one two e. in_none [] l refl one;
   };
-  each = λ n. record { work = tt; buffer = may_none };
+  parts = λ n. Away;
+  homes = none_home (store_of empty_book [] s).tally s.now;
+  each = λ n. record { work = refl; buffer = may_none };
 }
-  where
-    nothing : (ms : List Posted) (place : ℕ) (x : Posted) → ms ≡ [] → slice_get ms place ≡ Some x → ⊥
-    nothing [] place x e h = cc
-    nothing (y ∷ ys) place x e h = cc
 
 -- ---- at a report
 
 pub reports : (book : Book) (order : List Entry) (s : CloudState) (sessions : Sessions) → SessionsStand book order s sessions → (tree : ℕ) → IsReportable (store_of book order s) tree
-reports book order s sessions stand tree =
-    let r = reportable (beside stand.logged book order s) stand.cloud.holds tree in
-    record { legal = r.legal; folded = r.folded; complete = λ none. r.complete (record { ways = none.ways; posts = none.posts }) }
+reports book order s sessions stand tree = reportable (store_of book order s) stand.cloud.holds tree
 
 pub chains : (book : Book) (order : List Entry) (s : CloudState) (sessions : Sessions) → SessionsStand book order s sessions → ChainHolds (store_of book order s)
 chains book order s sessions stand = stand.cloud.holds.chains
@@ -246,5 +292,4 @@ pub decodes : (book : Book) (order : List Entry) (s : CloudState) (sessions : Se
 decodes book order s sessions stand = stand.cloud.decodes
 
 pub numbers : (book : Book) (order : List Entry) (s : CloudState) (sessions : Sessions) → SessionsStand book order s sessions → Numbers (store_of book order s)
-numbers book order s sessions stand =
-    numbers_told (beside stand.logged book order s) (tally_of book s) order stand.cloud.holds.numbers (λ c. refl) (λ t p. refl) (λ t p c is. refl) (λ t k p c is. refl)
+numbers book order s sessions stand = stand.cloud.holds.numbers

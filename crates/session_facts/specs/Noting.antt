@@ -1,18 +1,13 @@
 -- What a put in hand adds to the audit where it lands.
-use Rattle.std.specs.Prelude.{ℕ, Bool, false, not, ◌&&◌, if◌then◌else◌, List, ◌++◌, map, Option, Some, None}
-use Rattle.std.specs.Str.{bytes_eq}
-use Rattle.db_base.specs.declared.names.ObjName.{ObjName}
+use Rattle.std.specs.Prelude.{ℕ, if◌then◌else◌, List, ◌++◌, map, Option, Some, None}
 use Rattle.db_base.specs.declared.names.ObjName.TheVariants as object
+use Rattle.cloud_facts.specs.Looks.{Newest, has_landed}
 use Rattle.cloud_trait.specs.Ask.{Ask, PutHeld}
 use Rattle.head_codec.specs.declared.head.Head.{Head}
 use Rattle.txn_buffer.specs.Noted.{Noted}
-use Rattle.client_session.specs.declared.session.Work.{Work}
+use Rattle.client_session.specs.declared.work.Work.{Work}
 use Rattle.client_session.specs.Session.{ask_of_work, committing_of, opens_of, applying_of}
 use Rattle.history.specs.Audited.{Audited, committed_entry, applied_entry}
-
--- the newest bytes of each object
-abbrev pub Newest : Type 0
-Newest = ObjName → Option (List ℕ)
 
 abbrev pub noted_head : ℕ → Option Head → Option (List Noted) → Audited → Audited
 noted_head client (Some head) (Some changes) a = record a { committed = a.committed ++ map (committed_entry client head.epoch head.txn) changes }
@@ -31,17 +26,6 @@ noted_in_hand w None a = a
 -- the audit with what the put in hand commits or applies
 abbrev pub noted_by : Work → Audited → Audited
 noted_by w a = noted_in_hand w (ask_of_work w) a
-
--- the newest version has these bytes
-abbrev pub has_bytes : Option (List ℕ) → List ℕ → Bool
-has_bytes (Some newest) bytes = bytes_eq newest bytes
-has_bytes None bytes = false
-
--- a put landed: the newest bytes before it are others, and those after it are its own
-abbrev pub has_landed : Newest → Newest → Option Ask → Bool
-has_landed before after (Some (PutHeld name bytes one two)) = not (has_bytes (before name) bytes) && has_bytes (after name) bytes
-has_landed before after (Some ask) = false
-has_landed before after None = false
 
 -- the audit after the call in hand, by the newest objects before and after it
 abbrev pub audited : Newest → Newest → Work → Audited → Audited

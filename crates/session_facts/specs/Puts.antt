@@ -1,32 +1,38 @@
 -- What a put of a head that a session has in hand is.
-use Rattle.std.specs.Prelude.{ℕ, ◌≡◌, ◌⊎◌, List, Option, Some, None}
+use Rattle.std.specs.Prelude.{ℕ, ◌≡◌, ◌⊎◌, List, Some, None}
 use Rattle.client_session.specs.Session.{opens_of, committing_of}
-use Rattle.client_session.specs.declared.session.Work.{Work}
-use Rattle.client_session.specs.declared.session.Work.TheVariants.{Closed, Idle, Opening, Committing, Folding, Broken}
-use Rattle.first_commit.specs.Commit.{IsSound as IsSoundCommit}
-use Rattle.first_recover.specs.Recovery.{IsSound as IsSoundOpening}
+use Rattle.client_session.specs.declared.work.Work.{Work}
+use Rattle.client_session.specs.declared.work.Work.TheVariants.{Closed, Idle, Opening, Committing, Folding, Paging, Closing, Renewing, Broken}
+use Rattle.commit_writes.specs.Sound.{IsSound as IsSoundCommit}
 use Rattle.head_codec.specs.Spelling.{head_of}
 use Rattle.head_codec.specs.declared.head.Head.{Head}
 use Rattle.head_codec.specs.declared.head.Phase.TheVariants as phase
+use Rattle.recover_run.specs.Recovery.{IsSound as IsSoundOpening}
 use Rattle.txn_buffer.specs.Noted.{Noted}
 
 -- what is at work has the bytes in hand that it is to put or send
 abbrev pub IsSoundWork : Work → Type 0
 IsSoundWork (Opening r) = IsSoundOpening r
-IsSoundWork (Committing c) = IsSoundCommit c
+IsSoundWork (Committing w) = IsSoundCommit w
 IsSoundWork (Folding home f) = Unit {0}
+IsSoundWork (Paging home p) = Unit {0}
 IsSoundWork Closed = Unit {0}
 IsSoundWork (Idle home) = Unit {0}
-IsSoundWork Broken = Unit {0}
+IsSoundWork (Closing l) = Unit {0}
+IsSoundWork (Renewing home) = Unit {0}
+IsSoundWork (Broken l) = Unit {0}
 
 -- it is at work for a client
 abbrev pub IsClientOf : Work → ℕ → Type 0
 IsClientOf (Opening r) client = r.client ≡ client
-IsClientOf (Committing c) client = c.home.client ≡ client
+IsClientOf (Committing w) client = w.home.client ≡ client
 IsClientOf (Folding home f) client = home.client ≡ client
+IsClientOf (Paging home p) client = home.client ≡ client
 IsClientOf Closed client = ⊥
 IsClientOf (Idle home) client = home.client ≡ client
-IsClientOf Broken client = ⊥
+IsClientOf (Closing l) client = ⊥
+IsClientOf (Renewing home) client = home.client ≡ client
+IsClientOf (Broken l) client = ⊥
 
 -- the head opens a transaction of the changes that are committed
 pub record Commits (work : Work) (head : Head) : Type 0 where

@@ -1,67 +1,62 @@
 -- What holds of a cloud and of all sessions that act on it.
-use Rattle.std.specs.Prelude.{ℕ, ◌≡◌, ◌⊎◌, List, [], ◌∷◌, ◌++◌}
-use Rattle.cloud_trait.specs.declared.answer.Answer.{Answer}
-use Rattle.cloud_trait.specs.declared.answer.Answer.TheVariants.{Given}
-use Rattle.cloud_trait.specs.Ask.{Ask, Take, Renew}
-use Rattle.cloud_trait.specs.Caller.{Caller}
-use Rattle.machine_facts.specs.Call.{IsCall}
+use Rattle.std.specs.Prelude.{ℕ, ◌≡◌, List, [], ◌∷◌, ◌++◌}
+use Rattle.checkpoint_facts.specs.Checkpoint.{KnowsFolding}
+use Rattle.client_session.specs.Session.{Acting}
+use Rattle.client_session.specs.declared.op.Op.{Op}
+use Rattle.client_session.specs.declared.op.Op.TheVariants as op
+use Rattle.client_session.specs.declared.work.Work.{Work}
+use Rattle.client_session.specs.declared.work.Work.TheVariants.{Closed, Idle, Opening, Committing, Folding, Paging, Closing, Renewing, Broken}
+use Rattle.cloud_facts.specs.Acting.{of_option, IsLone, KnowsHome}
+use Rattle.cloud_facts.specs.Looks.{audit_of}
+use Rattle.cloud_facts.specs.Standing.{StandsUnder}
 use Rattle.cloud_trait.specs.Claim.{Claim}
 use Rattle.cloud_trait.specs.Growth.{BeginsWith}
 use Rattle.cloud_trait.specs.State.{CloudState, newest}
-use Rattle.client_session.specs.Session.{Acting}
-use Rattle.client_session.specs.declared.session.Op.{Op}
-use Rattle.client_session.specs.declared.session.Op.TheVariants as op
-use Rattle.client_session.specs.declared.session.Work.{Work}
-use Rattle.client_session.specs.declared.session.Work.TheVariants.{Closed, Idle, Opening, Committing, Folding, Broken}
-use Rattle.db_base.specs.Ids.{IsClient, IsTree}
-use Rattle.history.specs.Audited.{Audited}
-use Rattle.lease_facts.specs.Leases.{Hands, LeasesHold, Owns, KeptBy}
-use Rattle.lease_facts.specs.Guards.{IsGuarded}
+use Rattle.commit_facts.specs.Committing.{KnowsCommit, MayCommit}
+use Rattle.db_base.specs.Ids.{IsClient, IsTree, IsPage}
+use Rattle.home_facts.specs.Homes.{Part, Away, Parts, HomesHold}
+use Rattle.lease_facts.specs.Leases.{Hands, LeasesHold}
+use Rattle.opening_facts.specs.Opening.{KnowsOpening, leases_of_recovery}
+use Rattle.page_facts.specs.Checkpoint.{KnowsPaging, leases_of_paging}
+use Rattle.recover_run.specs.declared.home.Home.{Home}
 use Rattle.report_types.specs.declared.entry.Entry.{Entry}
-use Rattle.store_book.specs.Book.{Book}
-use Rattle.store_book.specs.Records.{IsIn, entries_of}
-use Rattle.store_book.specs.Tally.{Store, at}
-use Rattle.machine_facts.specs.Beside.{Logged, beside, StandsBeside, AreCommitted, IsLone}
-use Rattle.machine_facts.specs.Checkpoint.{KnowsFolding}
-use Rattle.machine_facts.specs.Committing.{KnowsCommit, MayCommit}
 use Rattle.session_facts.specs.Noting.{audited}
-use Rattle.machine_facts.specs.Others.{Passes}
-use Rattle.machine_facts.specs.Opening.{KnowsHome, KnowsOpening, of_option}
+use Rattle.store_book.specs.Book.{Book}
+use Rattle.store_book.specs.Tally.{Store, at}
+use Rattle.telling_facts.specs.Told.{store_of}
 
 -- the leases in hand
 abbrev pub leases_of : Work → List Claim
 leases_of Closed = []
 leases_of (Idle home) = home.lease ∷ []
-leases_of (Opening r) = of_option r.lease
-leases_of (Committing c) = c.home.lease ∷ []
+leases_of (Opening r) = leases_of_recovery r
+leases_of (Committing w) = w.home.lease ∷ []
 leases_of (Folding home f) = home.lease ∷ (of_option f.tree_lease ++ of_option f.page_lease)
-leases_of Broken = []
+leases_of (Paging home p) = home.lease ∷ leases_of_paging p
+leases_of (Closing l) = l ∷ []
+leases_of (Renewing home) = home.lease ∷ []
+leases_of (Broken l) = l ∷ []
 
--- what a session knows of a store at a moment, by what it has in hand
-abbrev pub KnowsWork : Store → ℕ → Work → Type 0
-KnowsWork st now Closed = Unit {0}
-KnowsWork st now (Idle home) = KnowsHome st now home
-KnowsWork st now (Opening r) = KnowsOpening st now r
-KnowsWork st now (Committing c) = KnowsCommit st now c
-KnowsWork st now (Folding home f) = KnowsHome st now home × KnowsFolding st now f
-KnowsWork st now Broken = Unit {0}
+-- an open client that works on no commit
+abbrev pub IsHome : Store → ℕ → Home → Part → Type 0
+IsHome st now home part = KnowsHome st now home.client home.lease home.head home.attempt part
+
+-- what a session knows of a store at a moment, by what it has in hand and its part
+abbrev pub KnowsWork : Store → ℕ → Work → Part → Type 0
+KnowsWork st now Closed part = part ≡ Away
+KnowsWork st now (Idle home) part = IsHome st now home part
+KnowsWork st now (Opening r) part = KnowsOpening st now r part
+KnowsWork st now (Committing w) part = KnowsCommit st now w part
+KnowsWork st now (Folding home f) part = IsHome st now home part × KnowsFolding st now f
+KnowsWork st now (Paging home p) part = IsHome st now home part × KnowsPaging st now p
+KnowsWork st now (Closing l) part = part ≡ Away
+KnowsWork st now (Renewing home) part = IsHome st now home part
+KnowsWork st now (Broken l) part = part ≡ Away
 
 -- and what it noted may be committed
-pub record Knows (st : Store) (now : ℕ) (session : Acting) : Type 0 where
-  pub work : KnowsWork st now session.work
+pub record Knows (st : Store) (now : ℕ) (session : Acting) (part : Part) : Type 0 where
+  pub work : KnowsWork st now session.work part
   pub buffer : MayCommit session.buffer
-
--- ---- a call
-
--- it renews no lease
-abbrev pub RenewsNothing : Ask → Type 0
-RenewsNothing (Renew l ticks) = ⊥
-RenewsNothing ask = Unit {0}
-
--- the lease that it was given
-abbrev pub GivenBy : Ask → Answer → Claim → Type 0
-GivenBy (Take lock ticks) (Given l) x = x ≡ l
-GivenBy ask reply x = ⊥
 
 -- ---- all sessions
 
@@ -74,45 +69,21 @@ hands_of sessions session = leases_of (sessions session).work
 
 -- a cloud stands under a book, with an order, and so do all sessions
 pub record SessionsStand (book : Book) (order : List Entry) (s : CloudState) (sessions : Sessions) : Type 0 where
-  pub logged : Logged
-  pub cloud : StandsBeside logged book order s
-  pub messages : AreCommitted logged book
+  pub cloud : StandsUnder book order s
   pub lone : IsLone book
   pub leases : LeasesHold s.now s.locks (hands_of sessions)
-  pub each : (session : ℕ) → Knows (beside logged book order s) s.now (sessions session)
+  pub parts : Parts
+  pub homes : HomesHold (store_of book order s).tally s.now parts
+  pub each : (session : ℕ) → Knows (store_of book order s) s.now (sessions session) (parts session)
 
--- an operation names a client, or a tree
+-- an operation names a client, a tree, or a page of a tree
 abbrev pub IsRightOp : Op → Type 0
 IsRightOp (op.Open client) = IsClient client
+IsRightOp op.Close = Unit {0}
+IsRightOp op.Renew = Unit {0}
 IsRightOp op.Commit = Unit {0}
 IsRightOp (op.Tree tree) = IsTree tree
-
--- what an audit has seen where it saw all: the committed entries, and the order
-abbrev pub audit_of : Book → List Entry → Audited
-audit_of book order = record { committed = entries_of book.log; order = order }
-
--- what a call of the work in hand leaves, the leases apart: what stands goes on exactly by what was seen to land, and what is in hand then is
--- known
-pub record Outcome (logged : Logged) (book : Book) (order : List Entry) (s t : CloudState) (work after : Work) : Type 0 where
-  pub logged_after : Logged
-  pub book_after : Book
-  pub order_after : List Entry
-  pub cloud : StandsBeside logged_after book_after order_after t
-  pub messages : AreCommitted logged_after book_after
-  pub lone : IsLone book_after
-  pub passes : Passes (beside logged book order s) (beside logged_after book_after order_after t)
-  pub knows : KnowsWork (beside logged_after book_after order_after t) t.now after
-  pub noted : audited (newest s) (newest t) work (audit_of book order) ≡ audit_of book_after order_after
-
--- what a call does to the leases in hand: it names the session's own, which guard what it puts, and none but one that it was given is new
-pub record Handles (who : Caller) (s t : CloudState) (work after : Work) : Type 0 where
-  pub ask : Ask
-  pub reply : Answer
-  pub call : IsCall who ask reply s t
-  pub owns : Owns (λ session. leases_of work) who.session ask
-  pub guarded : IsGuarded s ask
-  pub renews : RenewsNothing ask
-  pub own : (x : Claim) → IsIn (leases_of after) x → (IsIn (leases_of work) x × KeptBy ask x) ⊎ GivenBy ask reply x
+IsRightOp (op.Page tree page) = IsTree tree × IsPage page
 
 -- what a call of a session leaves: a book and an order for all sessions, of which one is new, that go on exactly by what was seen to land
 pub record Goes (book : Book) (order : List Entry) (s t : CloudState) (sessions : Sessions) (session : ℕ) (new : Acting) : Type 0 where

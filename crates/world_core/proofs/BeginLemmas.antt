@@ -1,5 +1,5 @@
 -- Lines that begin an operation, note a change or drop what was noted.
-use Rattle.std.proofs.Common.{◌≡◌, ◌+◌, ◌≤◌, ℕ, List, [], ◌∷◌, ◌++◌, length, Some, None, Result, Ok, Err, refl, sym, ap, subst, ◌∙◌, ◌⊎◌, inl, inr, ◌≢◌}
+use Rattle.std.proofs.Common.{◌≡◌, ◌+◌, ◌≤◌, ℕ, List, [], ◌∷◌, ◌++◌, length, None, Result, Ok, Err, refl, sym, ap, subst, ◌∙◌, ◌⊎◌, inl, inr, ◌≢◌}
 use Rattle.std.proofs.lemmas.Bool.{cases_eq}
 use Rattle.db_base.specs.Ids.{IsClient, IsTree}
 use Rattle.db_base.specs.Change.{IsChange}
@@ -9,9 +9,7 @@ use Rattle.db_base.specs.declared.refusal.Refused.{Refused}
 use Rattle.db_base.specs.declared.refusal.Refused.TheVariants as refused
 use Rattle.db_base.specs.declared.trouble.Trouble.{Trouble}
 use Rattle.db_base.specs.declared.trouble.Trouble.TheVariants as trouble
-use Rattle.db_base.specs.declared.trouble.Counter.TheVariants as counter
-use Rattle.db_base.specs.declared.trouble.CommitAnswer.{CommitAnswer}
-use Rattle.db_base.specs.declared.trouble.CommitAnswer.TheVariants.{Committed, NotCommitted, InDoubt, CommittedOpen}
+use Rattle.db_base.specs.declared.trouble.CommitAnswer.TheVariants.{Committed, NotCommitted}
 use Rattle.event_text.specs.declared.event.Event.{Event}
 use Rattle.event_text.specs.declared.event.Event.TheVariants as event
 use Rattle.reply_text.specs.declared.reply.Reply.{Reply}
@@ -20,26 +18,27 @@ use Rattle.txn_buffer.specs.Noted.{Noted, noted_in}
 use Rattle.cloud_trait.specs.Machine.{Goes, Ends}
 use Rattle.cloud_trait.specs.State.{CloudState}
 use Rattle.cloud_trait.specs.Seen.{Seen}
-use Rattle.first_recover.specs.declared.home.Home.{Home}
-use Rattle.first_commit.specs.Commit.{Commit, Readies, new_commit, with_attempt, next_records, opening, finished}
-use Rattle.client_session.specs.declared.session.Answer.TheVariants as answer
-use Rattle.client_session.specs.declared.session.Begun.{Begun}
-use Rattle.client_session.specs.declared.session.Begun.TheVariants.{Working, Answered}
-use Rattle.client_session.specs.declared.session.Op.{Op}
-use Rattle.client_session.specs.declared.session.Op.TheVariants as op
-use Rattle.client_session.specs.declared.session.Work.{Work}
-use Rattle.client_session.specs.declared.session.Work.TheVariants as work
-use Rattle.client_session.specs.Session.{Acting, Begins, BeginsOpening, BeginsWith, HasInHand, CommitsNothing, CommitsNoted, CommitsIn, CommitsOf, folding_begun_by, rule_of}
+use Rattle.recover_run.specs.declared.home.Home.{Home}
+use Rattle.client_session.specs.declared.answer.Answer.TheVariants as answer
+use Rattle.client_session.specs.declared.answer.Begun.{Begun}
+use Rattle.client_session.specs.declared.answer.Begun.TheVariants.{Working, Answered}
+use Rattle.client_session.specs.declared.op.Op.{Op}
+use Rattle.client_session.specs.declared.op.Op.TheVariants as op
+use Rattle.client_session.specs.declared.work.Work.{Work}
+use Rattle.client_session.specs.declared.work.Work.TheVariants as work
+use Rattle.client_session.specs.Session.{Acting, Begins, BeginsOpening, BeginsWith, HasInHand, CommitsNothing, CommitsNoted, CommitsIn, CommitsOf, folding_begun_by, old_lease, rule_of}
 use Rattle.session_facts.specs.Sessions.{Sessions, SessionsStand, IsRightOp}
 use Rattle.session_facts.proofs.Begins.{begins_keeps}
 use Rattle.session_facts.proofs.Laws.{buffer_keeps, same_sessions}
-use Rattle.machine_facts.specs.Committing.{MayCommit}
-use Rattle.machine_facts.proofs.Noted.{may_note, may_none}
+use Rattle.commit_facts.specs.Committing.{MayCommit}
+use Rattle.commit_facts.proofs.Noted.{may_note, may_none}
 use Rattle.store_book.specs.Tally.{at}
 use Rattle.store_book.proofs.Names.{at_same, at_other}
-use Rattle.replay_meaning.specs.Standing.{Line, Standing, Working as WorkingOn, Committing as Noting, standing, after_own, session_of, notes as notes_own}
+use Rattle.replay_meaning.specs.Standing.{Line, Standing, Working as WorkingOn, Committing as Noting, standing, after_own, notes as notes_own}
 use Rattle.replay_model.specs.Facts.{session_at, ActsAs, WorksAs}
+use Rattle.replay_model.proofs.CommitSteps.{BeginsFor, commit_begins}
 use Rattle.replay_model.proofs.LineLemmas.{line_of, refused_own}
+use Rattle.replay_model.proofs.OpeningSteps.{opening_begins}
 use Rattle.world_core.specs.declared.world.World.{World}
 use Rattle.world_core.specs.declared.world.WorldFault.{WorldFault}
 use Rattle.world_core.specs.Sessions.{Changes, NotesIn, AbortsIn}
@@ -80,7 +79,7 @@ opens : (k client : ℕ) (r : Reply) (lines : List Line) (a b : Acting) (begun :
 opens k client r lines a b (Ok Working) acts begins e =
     let is : r ≡ reply.Begun = cc in
     let P : Reply → Type 0 = λ z. LeavesSession (event.Open k client) z k lines b in
-    subst P (sym is) (subst (λ z. ActsAs z (after_own (event.Open k client) reply.Begun (standing lines k))) (sym begins.1) (record { buffer = refl; work = (refl, refl, refl) }), tt)
+    subst P (sym is) (subst (λ z. ActsAs z (after_own (event.Open k client) reply.Begun (standing lines k))) (sym begins.1) (record { buffer = refl; work = (refl, refl, refl, opening_begins client (old_lease a.work)) }), tt)
 opens k client r lines a b (Ok (Answered x)) acts begins e = absurd begins
 opens k client r lines a b (Err (refused.Rule rule)) acts begins e = refused_session (event.Open k client) r rule k lines a b e begins.1 acts
 opens k client r lines a b (Err refused.Memory) acts begins e = absurd begins
@@ -89,37 +88,18 @@ opens k client r lines a b (Err refused.Memory) acts begins e = absurd begins
 idle_of : (k : ℕ) (lines : List Line) (a : Acting) (home : Home) → a.work ≡ work.Idle home → ActsAs a (standing lines k) → WorksAs (work.Idle home) (standing lines k)
 idle_of k lines a home e acts = subst (λ w. WorksAs w (standing lines k)) e acts.work
 
-folds : (k tree : ℕ) (r : Reply) (lines : List Line) (a b : Acting) (begun : Result Begun Refused) → ActsAs a (standing lines k)
-    → BeginsWith (λ home. HasInHand a.buffer (folding_begun_by tree home)) a b begun → IsOk r (begun_reply begun) → LeavesSession (event.Tree k tree) r k lines b
-folds k tree r lines a b (Ok begun) acts begins e =
+-- an operation begins that leaves what was noted
+has_in_hand : (event : Event) (k : ℕ) (r : Reply) (lines : List Line) (own : Home → Work) (a b : Acting) (begun : Result Begun Refused) → ActsAs a (standing lines k)
+    → ((home : Home) → WorksAs (work.Idle home) (standing lines k) → ActsAs (record { buffer = a.buffer; work = own home }) (after_own event reply.Begun (standing lines k)))
+    → BeginsWith (λ home. HasInHand a.buffer (own home)) a b begun → IsOk r (begun_reply begun) → LeavesSession event r k lines b
+has_in_hand event k r lines own a b (Ok begun) acts stands begins e =
     let idle = idle_of k lines a begins.0 begins.1 acts in
     let answered : IsOk r (begun_reply (Ok Working)) = subst (λ x. IsOk r (begun_reply (Ok x))) begins.2.0 e in
     let is : r ≡ reply.Begun = cc in
-    let P : Reply → Type 0 = λ z. LeavesSession (event.Tree k tree) z k lines b in
-    subst P (sym is)
-    (subst (λ z. ActsAs z (after_own (event.Tree k tree) reply.Begun (standing lines k))) (sym begins.2.1) (record { buffer = acts.buffer; work = (refl, idle.1) }), tt)
-folds k tree r lines a b (Err (refused.Rule rule)) acts begins e = refused_session (event.Tree k tree) r rule k lines a b e begins.1 acts
-folds k tree r lines a b (Err refused.Memory) acts begins e = absurd begins
-
--- the commit that is in hand is one of what was noted, by the client
-readies_goes : (home : Home) (changes : List Noted) (c : Commit) → Readies (new_commit home changes) (Goes c) → (c.changes ≡ changes) × (c.home.client ≡ home.client)
-readies_goes home changes c (inl spent) = absurd (cc (spent.is))
-readies_goes home changes c (inr (inl full)) = absurd (cc (full.is))
-readies_goes home changes c (inr (inr ready)) =
-    let e : c ≡ opening (new_commit home changes) (with_attempt home) (next_records (new_commit home changes)) = cc (ready.is) in
-    (ap (λ (z : Commit). z.changes) e, ap (λ (z : Commit). z.home.client) e)
-
-readies_ends : (home : Home) (changes : List Noted) (c : Commit) (a : CommitAnswer) → Readies (new_commit home changes) (Ends c a)
-    → (c.home.client ≡ home.client) × ((t : Trouble) × (a ≡ NotCommitted t))
-readies_ends home changes c a (inl spent) =
-    let e : c ≡ finished (new_commit home changes) = cc (spent.is) in
-    let f : a ≡ NotCommitted (trouble.Exhausted counter.Txn) = cc (spent.is) in
-    (ap (λ (z : Commit). z.home.client) e, (_, f))
-readies_ends home changes c a (inr (inl full)) =
-    let e : c ≡ finished (record (new_commit home changes) { home = with_attempt home }) = cc (full.is) in
-    let f : a ≡ NotCommitted (trouble.Exhausted counter.Number) = cc (full.is) in
-    (ap (λ (z : Commit). z.home.client) e, (_, f))
-readies_ends home changes c a (inr (inr ready)) = absurd (cc (ready.is))
+    let P : Reply → Type 0 = λ z. LeavesSession event z k lines b in
+    subst P (sym is) (subst (λ z. ActsAs z (after_own event reply.Begun (standing lines k))) (sym begins.2.1) (stands begins.0 idle), tt)
+has_in_hand event k r lines own a b (Err (refused.Rule rule)) acts stands begins e = refused_session event r rule k lines a b e begins.1 acts
+has_in_hand event k r lines own a b (Err refused.Memory) acts stands begins e = absurd begins
 
 -- a session is its buffer and its work
 acts_by : (b : Acting) (w : Work) (s : Standing) → b.work ≡ w → b.buffer ≡ s.buffer → WorksAs w s → ActsAs b s
@@ -129,15 +109,15 @@ commits_of : (k : ℕ) (r : Reply) (lines : List Line) (buffer : List Noted) (ho
     → WorksAs (work.Idle home) (standing lines k) → b.buffer ≡ [] → CommitsOf home buffer b.work begun → IsOk r (begun_reply (Ok begun)) → LeavesSession (event.Commit k) r k lines b
 commits_of k r lines buffer home b Working same idle empty commits e =
     let is : r ≡ reply.Begun = cc in
-    let go = readies_goes home buffer commits.0 commits.1 in
+    let go : BeginsFor buffer home.client (Goes commits.0) = subst (BeginsFor buffer home.client) commits.1 (commit_begins home buffer) in
     let P : Reply → Type 0 = λ z. LeavesSession (event.Commit k) z k lines b in
     subst P (sym is) (
       acts_by b (work.Committing commits.0) (after_own (event.Commit k) reply.Begun (standing lines k)) commits.2 empty
-          (ap (λ cs. WorkingOn (Noting cs)) (sym same ∙ sym go.0), idle.1 ∙ sym go.1),
+          (ap (λ cs. WorkingOn (Noting cs)) (sym same ∙ sym go.0), idle.1 ∙ sym go.1, go.2),
       tt,
     )
 commits_of k r lines buffer home b (Answered (answer.Commit a)) same idle empty commits e =
-    let end = readies_ends home buffer commits.0 a commits.1 in
+    let end : BeginsFor buffer home.client (Ends commits.0 a) = subst (BeginsFor buffer home.client) commits.1 (commit_begins home buffer) in
     let f : r ≡ reply.Commit a = cc in
     let is : r ≡ reply.Commit (NotCommitted end.1.0) = f ∙ ap (λ z. reply.Commit z) end.1.1 in
     let P : Reply → Type 0 = λ z. LeavesSession (event.Commit k) z k lines b in
@@ -147,8 +127,7 @@ commits_of k r lines buffer home b (Answered (answer.Trouble z)) same idle empty
   where
     on : (z : Trouble) → z ≡ trouble.Memory → IsOk r (begun_reply (Ok (Answered (answer.Trouble z)))) → ⊥
     on z same e = let own : IsOk r (begun_reply (Ok (Answered (answer.Trouble trouble.Memory)))) = subst (λ x. IsOk r (begun_reply (Ok (Answered (answer.Trouble x))))) same e in absurd (cc)
-commits_of k r lines buffer home b (Answered (answer.Opened epoch)) same idle empty commits e = absurd commits
-commits_of k r lines buffer home b (Answered (answer.Done n)) same idle empty commits e = absurd commits
+commits_of k r lines buffer home b (Answered a) same idle empty commits e = absurd commits
 
 commits_nothing : (k : ℕ) (r : Reply) (lines : List Line) (buffer : List Noted) (home : Home) (b : Acting) (begun : Begun) → buffer ≡ (standing lines k).buffer
     → WorksAs (work.Idle home) (standing lines k) → b.buffer ≡ [] → CommitsNothing home buffer b.work begun → IsOk r (begun_reply (Ok begun)) → LeavesSession (event.Commit k) r k lines b
@@ -175,12 +154,39 @@ opening_begun lines k client r before after old new t is ready c =
     let left = opens k client r lines c.before c.after c.does.begun (acts_before lines (event.Open k client) k before after old new t _ ready c) c.does.begins c.does.replies in
     quiet_line lines (event.Open k client) r k before after old new t _ ready c (begun_stands lines (event.Open k client) k before after old new t (op.Open client) (Ok r) is ready c) left.0 left.1
 
+-- .. and leaves what stands
+module _ (lines : List Line) (event : Event) (k : ℕ) (r : Reply) (before after : Seen) (old new : World) (t : CloudState) (ready : Ready lines event k before after old new t) where
+  in_hand_begun : (o : Op) (own : Home → Work) → IsRightOp o → (c : Changes k (BeginsOp o (Ok r)) old.sessions new.sessions)
+      → ((home : Home) → WorksAs (work.Idle home) (standing lines k) → ActsAs (record { buffer = c.before.buffer; work = own home }) (after_own event reply.Begun (standing lines k)))
+      → BeginsWith (λ home. HasInHand c.before.buffer (own home)) c.before c.after c.does.begun → StandsFor (lines ++ line_of event r ∷ []) new after r
+  in_hand_begun o own right c stands begins =
+      let left = has_in_hand event k r lines own c.before c.after c.does.begun (acts_before lines event k before after old new t _ ready c) stands begins c.does.replies in
+      quiet_line lines event r k before after old new t _ ready c (begun_stands lines event k before after old new t o (Ok r) right ready c) left.0 left.1
+
+  -- how a session that changes has its buffer
+  same_buffer : (o : Op) → (c : Changes k (BeginsOp o (Ok r)) old.sessions new.sessions) → c.before.buffer ≡ (standing lines k).buffer
+  same_buffer o c = (acts_before lines event k before after old new t _ ready c).buffer
+
 pub folding_begun : (lines : List Line) (k tree : ℕ) (r : Reply) (before after : Seen) (old new : World) (t : CloudState) → IsTree tree
     → Ready lines (event.Tree k tree) k before after old new t → Changes k (BeginsOp (op.Tree tree) (Ok r)) old.sessions new.sessions
     → StandsFor (lines ++ line_of (event.Tree k tree) r ∷ []) new after r
 folding_begun lines k tree r before after old new t is ready c =
-    let left = folds k tree r lines c.before c.after c.does.begun (acts_before lines (event.Tree k tree) k before after old new t _ ready c) c.does.begins c.does.replies in
-    quiet_line lines (event.Tree k tree) r k before after old new t _ ready c (begun_stands lines (event.Tree k tree) k before after old new t (op.Tree tree) (Ok r) is ready c) left.0 left.1
+    in_hand_begun lines (event.Tree k tree) k r before after old new t ready (op.Tree tree) (folding_begun_by tree) is c
+    (λ home idle. record { buffer = same_buffer lines (event.Tree k tree) k r before after old new t ready (op.Tree tree) c; work = (refl, idle.1) }) c.does.begins
+
+pub close_begun : (lines : List Line) (k : ℕ) (r : Reply) (before after : Seen) (old new : World) (t : CloudState)
+    → Ready lines (event.Close k) k before after old new t → Changes k (BeginsOp op.Close (Ok r)) old.sessions new.sessions
+    → StandsFor (lines ++ line_of (event.Close k) r ∷ []) new after r
+close_begun lines k r before after old new t ready c =
+    in_hand_begun lines (event.Close k) k r before after old new t ready op.Close (λ home. work.Closing home.lease) tt c
+    (λ home idle. record { buffer = same_buffer lines (event.Close k) k r before after old new t ready op.Close c; work = refl }) c.does.begins
+
+pub renewal_begun : (lines : List Line) (k : ℕ) (r : Reply) (before after : Seen) (old new : World) (t : CloudState)
+    → Ready lines (event.Renew k) k before after old new t → Changes k (BeginsOp op.Renew (Ok r)) old.sessions new.sessions
+    → StandsFor (lines ++ line_of (event.Renew k) r ∷ []) new after r
+renewal_begun lines k r before after old new t ready c =
+    in_hand_begun lines (event.Renew k) k r before after old new t ready op.Renew (λ home. work.Renewing home) tt c
+    (λ home idle. record { buffer = same_buffer lines (event.Renew k) k r before after old new t ready op.Renew c; work = (refl, idle.1) }) c.does.begins
 
 pub commit_begun : (lines : List Line) (k : ℕ) (r : Reply) (before after : Seen) (old new : World) (t : CloudState)
     → Ready lines (event.Commit k) k before after old new t → Changes k (BeginsOp op.Commit (Ok r)) old.sessions new.sessions
@@ -209,11 +215,7 @@ same_stands lines event k before after old new t Does ready c same =
 -- what a session works on does not look at the buffer of an open client
 works_with : (w : Work) (s : Standing) (buffer : List Noted) → rule_of w ≡ None → WorksAs w s → WorksAs w (record s { buffer = buffer })
 works_with (work.Idle home) s buffer opened works = works
-works_with work.Closed s buffer opened works = absurd (cc)
-works_with (work.Opening m) s buffer opened works = absurd (cc)
-works_with (work.Committing m) s buffer opened works = absurd (cc)
-works_with (work.Folding home m) s buffer opened works = absurd (cc)
-works_with work.Broken s buffer opened works = absurd (cc)
+works_with w s buffer opened works = absurd (cc)
 
 -- another buffer of an open client
 buffer_line : (lines : List Line) (event : Event) (r : Reply) (k : ℕ) (before after : Seen) (old new : World) (t : CloudState) (Does : Acting → Acting → Type 0) (buffer : List Noted)

@@ -1,19 +1,17 @@
 -- Every line keeps what stands.
-use Rattle.std.proofs.Common.{◌≡◌, ◌+◌, ◌≤◌, ℕ, List, [], ◌∷◌, ◌++◌, length, Some, Result, Ok, Err, refl, sym, ap, subst, ◌∙◌, inl, inr, ◌⊎◌, Bool, arith}
-use Rattle.db_base.specs.Ids.{IsTree, IsSession}
+use Rattle.std.proofs.Common.{◌≡◌, ◌+◌, ℕ, List, [], ◌∷◌, ◌++◌, length, Some, Result, Ok, Err, refl, subst, inl, inr, arith}
+use Rattle.db_base.specs.Ids.{IsSession}
 use Rattle.db_base.specs.Change.{IsChange}
 use Rattle.db_base.specs.Key.{IsKey, IsPayload}
-use Rattle.db_base.specs.declared.blob.Blob.{Blob}
 use Rattle.db_base.specs.declared.change.Change.{Change}
 use Rattle.db_base.specs.declared.change.Change.TheVariants.{Insert, Update, Delete}
 use Rattle.db_base.specs.declared.refusal.Refused.{Refused}
-use Rattle.db_base.specs.declared.wish.Wish.{Wish}
 use Rattle.event_text.specs.declared.event.Event.{Event}
 use Rattle.event_text.specs.declared.event.Event.TheVariants as event
 use Rattle.reply_text.specs.declared.reply.Reply.{Reply}
 use Rattle.cloud_trait.specs.State.{CloudState}
 use Rattle.cloud_trait.specs.Seen.{Seen}
-use Rattle.client_session.specs.declared.session.Op.TheVariants as op
+use Rattle.client_session.specs.declared.op.Op.TheVariants as op
 use Rattle.replay_meaning.specs.Standing.{Line, Standing, after_own, session_of, notes as notes_own}
 use Rattle.replay_model.proofs.LineLemmas.{line_of}
 use Rattle.world_core.specs.declared.world.World.{World}
@@ -23,10 +21,10 @@ use Rattle.world_core.specs.declared.asked.Request.TheVariants.{Begin, Note, Abo
 use Rattle.world_core.specs.declared.asked.Asked.{Asked}
 use Rattle.world_core.specs.declared.asked.Asked.TheVariants.{Session, Wait, Report, Unbuilt}
 use Rattle.world_core.specs.Asked.{IsOpening, IsFolding, IsInsert, IsUpdate, IsDelete, IsNoted, IsStep, OfSession, Asks}
-use Rattle.world_core.specs.Handled.{MakesNoCall, Does, Serves, Answers, Handled}
+use Rattle.world_core.specs.Handled.{MakesNoCall, Does, Answers, Handled}
 use Rattle.world_core.specs.Stands.{WorldStands, StandsFor, StandsOn}
 use Rattle.world_core.proofs.StandsLemmas.{Ready, declines, runs, makes_step, crashes, waits, reports}
-use Rattle.world_core.proofs.BeginLemmas.{opening_begun, folding_begun, commit_begun, notes, aborts}
+use Rattle.world_core.proofs.BeginLemmas.{opening_begun, close_begun, renewal_begun, folding_begun, commit_begun, notes, aborts}
 
 -- the line of a session, and what is known before it is looked at
 pub record Served (lines : List Line) (n k : ℕ) (t : CloudState) (before : Seen) (old : World) : Type 0 where
@@ -119,6 +117,16 @@ asked_stands n (event.Tree k tree) asked before after old new r lines t asks ans
     (λ request s is done.
     let h = does_own n k request (Begin (op.Tree tree)) before after old new r is.1 done in
     folding_begun lines k tree r before after old new t is.0 (ready_of lines (event.Tree k tree) n k before after old new t refl s h.0) h.1)
+asked_stands n (event.Close k) asked before after old new r lines t asks answers at told stands =
+    request_stands n k (event.Close k) (λ request. request ≡ Ok (Begin op.Close)) asked before after old new r lines t asks answers at told stands
+    (λ request s is done.
+    let h = does_own n k request (Begin op.Close) before after old new r (asked_is request (Begin op.Close) is) done in
+    close_begun lines k r before after old new t (ready_of lines (event.Close k) n k before after old new t refl s h.0) h.1)
+asked_stands n (event.Renew k) asked before after old new r lines t asks answers at told stands =
+    request_stands n k (event.Renew k) (λ request. request ≡ Ok (Begin op.Renew)) asked before after old new r lines t asks answers at told stands
+    (λ request s is done.
+    let h = does_own n k request (Begin op.Renew) before after old new r (asked_is request (Begin op.Renew) is) done in
+    renewal_begun lines k r before after old new t (ready_of lines (event.Renew k) n k before after old new t refl s h.0) h.1)
 asked_stands n (event.Commit k) asked before after old new r lines t asks answers at told stands =
     request_stands n k (event.Commit k) (λ request. request ≡ Ok (Begin op.Commit)) asked before after old new r lines t asks answers at told stands
     (λ request s is done.

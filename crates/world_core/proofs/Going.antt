@@ -1,5 +1,5 @@
 -- One more step of a world.
-use Rattle.std.proofs.Common.{◌≡◌, ◌≢◌, ◌≤◌, ◌<◌, ◌-◌, ℕ, List, length, Option, Some, None, Result, Ok, refl, sym, ap, subst, ◌∙◌, ◌⊎◌, inl, inr, Bool, true}
+use Rattle.std.proofs.Common.{◌≡◌, ◌<◌, ◌-◌, ℕ, List, length, Option, Some, None, Result, Ok, sym, ap, subst, ◌∙◌, ◌⊎◌, inl, inr, Bool, true}
 use Rattle.std.specs.Prelude.{slice_get, slice_set, unwrap_or}
 use Rattle.std.proofs.lemmas.List.{get_or-set_same, length-set}
 use Rattle.std.proofs.lemmas.Option.{slice_get_within, slice_get-get_or}
@@ -7,11 +7,9 @@ use Rattle.cloud_trait.specs.Caller.{Caller}
 use Rattle.cloud_trait.specs.Seen.{Seen}
 use Rattle.cloud_trait.specs.declared.turn.Turn.TheVariants.{More}
 use Rattle.db_base.specs.declared.wish.Wish.{Wish}
-use Rattle.first_recover.specs.Recovery.{recovery_ask}
-use Rattle.first_commit.specs.Commit.{commit_ask}
-use Rattle.client_session.specs.declared.session.Work.{Work}
-use Rattle.client_session.specs.declared.session.Work.TheVariants.{Closed, Idle, Opening, Committing, Folding, Broken}
-use Rattle.client_session.specs.Session.{Acting, closed_session, StepsSession, StepsAt, ask_of_work, calls_left}
+use Rattle.client_session.specs.declared.work.Work.{Work}
+use Rattle.client_session.specs.declared.work.Work.TheVariants.{Closed, Idle, Opening, Committing, Folding, Closing, Renewing, Broken}
+use Rattle.client_session.specs.Session.{Acting, closed_session, StepsAt, ask_of_work, calls_left}
 use Rattle.client_session.proofs.Ending.{session_less}
 use Rattle.cloud_trait.specs.Ask.{Ask}
 use Rattle.world_core.specs.declared.put.Put.{Put}
@@ -21,7 +19,7 @@ use Rattle.db_base.specs.declared.names.ObjName.{ObjName}
 use Rattle.history.specs.Audited.{Audited}
 use Rattle.db_base.specs.declared.wish.Wish.TheVariants.{Plain}
 use Rattle.cloud_trait.specs.declared.turn.Turn.{Turn}
-use Rattle.client_session.specs.declared.session.Answer.{Answer}
+use Rattle.client_session.specs.declared.answer.Answer.{Answer}
 use Rattle.world_core.specs.Sessions.{Changes, IsAtWork, HasPut}
 use Rattle.world_core.specs.Put.{noted_put}
 use Rattle.world_core.specs.declared.world.WorldFault.{WorldFault}
@@ -52,9 +50,11 @@ more_asks : (who : Caller) (before after : Seen) (w new : Work) → StepsAt who 
 more_asks who before after (Opening m) new p = (_, ap ask_of_work p.1.2)
 more_asks who before after (Committing m) new p = (_, ap ask_of_work p.1.2)
 more_asks who before after (Folding home f) new p = (_, ap ask_of_work p.2)
+more_asks who before after (Closing lease) new p = absurd p
+more_asks who before after (Renewing home) new p = absurd p
 more_asks who before after Closed new p = absurd p
 more_asks who before after (Idle home) new p = absurd p
-more_asks who before after Broken new p = absurd p
+more_asks who before after (Broken lease) new p = absurd p
 
 pub works_on : (who : Caller) (wish : Wish) (before after : Seen) (old new : World) → StepsLooked who wish before after old new More → IsAtWork who.session new.sessions
 works_on who wish before after old new p =

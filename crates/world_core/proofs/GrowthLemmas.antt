@@ -1,10 +1,9 @@
 -- What a line leaves of earlier ones, whatever its result.
-use Rattle.std.proofs.Common.{◌≡◌, ℕ, List, Some, Ok, refl, ap, ◌∙◌, subst}
+use Rattle.std.proofs.Common.{◌≡◌, ℕ, List, Some, Ok, refl, ap, ◌∙◌}
 use Rattle.db_base.specs.declared.wish.Wish.{Wish}
 use Rattle.cloud_trait.specs.Bench.{Waits}
 use Rattle.cloud_trait.specs.declared.answer.Answer.{Answer as CallAnswer}
 use Rattle.cloud_trait.specs.declared.turn.Turn.{Turn}
-use Rattle.cloud_trait.specs.declared.turn.Turn.TheVariants.{More, Ended, Stopped}
 use Rattle.cloud_trait.specs.Ask.{Ask}
 use Rattle.cloud_trait.specs.Caller.{Caller}
 use Rattle.cloud_trait.specs.State.{CloudState}
@@ -12,11 +11,10 @@ use Rattle.cloud_trait.specs.Seen.{Seen}
 use Rattle.cloud_trait.specs.Weather.{Makes}
 use Rattle.cloud_trait.proofs.RowLemmas.{leaves_agree}
 use Rattle.cloud_trait.proofs.UptoLemmas.{agree_itself, agree_trans}
-use Rattle.client_session.specs.declared.session.Answer.{Answer}
-use Rattle.client_session.specs.declared.session.Answer.TheVariants as answer
-use Rattle.client_session.specs.declared.session.Work.{Work}
-use Rattle.client_session.specs.declared.session.Work.TheVariants.{Closed, Idle, Opening, Committing, Folding, Broken}
+use Rattle.client_session.specs.declared.answer.Answer.{Answer}
+use Rattle.client_session.specs.declared.work.Work.{Work}
 use Rattle.client_session.specs.Session.{Acting, StepsSession, StepsAt}
+use Rattle.replay_model.proofs.Steps.{made_call}
 use Rattle.world_audit.specs.Look.{Looked}
 use Rattle.world_core.specs.declared.world.World.{World}
 use Rattle.world_core.specs.Sessions.{Changes}
@@ -46,27 +44,7 @@ grows_made who ask a before after made x told =
     let l = made.state x told in (l.after, l.told, λ k less. leaves_agree k who ask a before.counts after.counts x after.state l less)
 
 grows_work : (who : Caller) (before after : Seen) (w new : Work) (turn : Turn Answer) → StepsAt who before after w new turn → Grows who.event before after
-grows_work who before after (Opening m) new More p = grows_made who _ p.1.1.answer before after p.1.1.made
-grows_work who before after (Opening m) new (Ended (answer.Opened epoch)) p = grows_made who _ p.1.1.answer before after p.1.1.made
-grows_work who before after (Opening m) new (Ended (answer.Trouble k)) p = grows_made who _ p.1.1.answer before after p.1.1.made
-grows_work who before after (Opening m) new (Ended (answer.Commit a)) p = absurd p.1
-grows_work who before after (Opening m) new (Ended (answer.Done n)) p = absurd p.1
-grows_work who before after (Opening m) new (Stopped k) p = absurd p.1
-grows_work who before after (Committing m) new More p = grows_made who _ p.1.1.answer before after p.1.1.made
-grows_work who before after (Committing m) new (Ended (answer.Commit a)) p = grows_made who _ p.1.1.answer before after p.1.1.made
-grows_work who before after (Committing m) new (Ended (answer.Trouble k)) p = grows_made who _ p.1.1.answer before after p.1.1.made
-grows_work who before after (Committing m) new (Ended (answer.Opened epoch)) p = absurd p.1
-grows_work who before after (Committing m) new (Ended (answer.Done n)) p = absurd p.1
-grows_work who before after (Committing m) new (Stopped k) p = absurd p.1
-grows_work who before after (Folding home f) new More p = grows_made who _ p.1.answer before after p.1.made
-grows_work who before after (Folding home f) new (Ended (answer.Done n)) p = grows_made who _ p.1.answer before after p.1.made
-grows_work who before after (Folding home f) new (Ended (answer.Trouble k)) p = grows_made who _ p.1.answer before after p.1.made
-grows_work who before after (Folding home f) new (Ended (answer.Opened epoch)) p = absurd p
-grows_work who before after (Folding home f) new (Ended (answer.Commit a)) p = absurd p
-grows_work who before after (Folding home f) new (Stopped k) p = absurd p
-grows_work who before after Closed new turn p = absurd p
-grows_work who before after (Idle home) new turn p = absurd p
-grows_work who before after Broken new turn p = absurd p
+grows_work who before after w new turn p = let call = made_call who before after w new turn p in grows_made who call.ask call.answer before after call.made
 
 -- a step of a session
 pub grows_step : (who : Caller) (before after : Seen) (old new : Acting) (turn : Turn Answer) → StepsSession who before after old new (Ok turn) → Grows who.event before after

@@ -1,6 +1,6 @@
 -- The audit after a put is what `audited` says: what the put commits or applies joins it where the put was seen to land.
 use Rattle.std.proofs.Common.{◌≡◌, ℕ, refl, sym, ap, ◌∙◌, subst, List, length, ◌++◌, take}
-use Rattle.std.specs.Prelude.{Bool, true, false, not, ◌&&◌, if◌then◌else◌, Option, Some, None}
+use Rattle.std.specs.Prelude.{Bool, false, not, ◌&&◌, if◌then◌else◌, Option, Some, None}
 use Rattle.std.proofs.Math.Seq.{take-append_seam, take-length}
 use Rattle.db_base.specs.declared.names.ObjName.{ObjName}
 use Rattle.db_base.specs.declared.names.ObjName.TheVariants as object
@@ -9,11 +9,12 @@ use Rattle.cloud_trait.specs.Claim.{Claim}
 use Rattle.head_codec.specs.declared.head.Head.{Head}
 use Rattle.report_types.specs.declared.entry.Entry.{Entry}
 use Rattle.txn_buffer.specs.Noted.{Noted}
-use Rattle.client_session.specs.declared.session.Work.{Work}
+use Rattle.client_session.specs.declared.work.Work.{Work}
 use Rattle.client_session.specs.Session.{ask_of_work, opens_of, committing_of}
 use Rattle.history.specs.Audited.{Audited}
 use Rattle.world_audit.specs.declared.mark.Mark.{Mark}
-use Rattle.session_facts.specs.Noting.{Newest, noted_head, noted_in_hand, noted_by, has_landed, audited}
+use Rattle.cloud_facts.specs.Looks.{Newest, has_landed}
+use Rattle.session_facts.specs.Noting.{noted_head, noted_in_hand, noted_by, audited}
 use Rattle.world_core.specs.declared.put.Put.{Put}
 use Rattle.world_core.specs.Put.{Look, is_blind, SeesNewest, put_of_hand, put_of, is_newest, noted_put, back_at, kept_of}
 

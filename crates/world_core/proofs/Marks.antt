@@ -1,5 +1,5 @@
 -- The newest call after a step.
-use Rattle.std.proofs.Common.{◌≡◌, ◌-◌, ℕ, List, Some, Ok}
+use Rattle.std.proofs.Common.{ℕ, List, Ok}
 use Rattle.cloud_trait.specs.Caller.{Caller}
 use Rattle.cloud_trait.specs.State.{CloudState}
 use Rattle.cloud_trait.specs.Seen.{Seen}
@@ -7,7 +7,7 @@ use Rattle.cloud_trait.specs.Weather.{Leaves}
 use Rattle.cloud_trait.specs.declared.turn.Turn.{Turn}
 use Rattle.cloud_trait.proofs.RowLemmas.{leaves_last, leaves_waits}
 use Rattle.db_base.specs.declared.wish.Wish.{Wish}
-use Rattle.client_session.specs.declared.session.Answer.{Answer}
+use Rattle.client_session.specs.declared.answer.Answer.{Answer}
 use Rattle.client_session.specs.Session.{Acting, StepsSession}
 use Rattle.replay_model.proofs.Steps.{MadeCall, made_call}
 use Rattle.world_audit.specs.Look.{Looked}

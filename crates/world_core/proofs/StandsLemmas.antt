@@ -1,10 +1,8 @@
 -- A line keeps what stands.
-use Rattle.std.proofs.Common.{◌≡◌, ◌+◌, ◌-◌, ◌≤◌, ℕ, List, [], ◌∷◌, ◌++◌, length, Option, Some, Result, Ok, Err, refl, sym, ap, subst, ◌∙◌, inl, inr, Bool, true, false, ◌⊎◌, ◌≢◌, arith}
+use Rattle.std.proofs.Common.{◌≡◌, ◌+◌, ◌≤◌, ℕ, List, [], ◌∷◌, ◌++◌, length, Option, Some, Result, Ok, Err, refl, sym, ap, subst, ◌∙◌, inl, inr, Bool, true, false, ◌⊎◌, ◌≢◌, arith}
 use Rattle.std.proofs.lemmas.Bool.{cases_eq}
-use Rattle.std.specs.Prelude.{slice_get}
 use Rattle.db_base.specs.Ids.{IsTree}
 use Rattle.db_base.specs.declared.refusal.Refusal.{Refusal}
-use Rattle.db_base.specs.declared.refusal.Refusal.TheVariants as refusal
 use Rattle.db_base.specs.declared.refusal.Refused.{Refused}
 use Rattle.db_base.specs.declared.refusal.Refused.TheVariants as refused
 use Rattle.db_base.specs.declared.trouble.Trouble.{Trouble}
@@ -23,33 +21,32 @@ use Rattle.cloud_trait.specs.Seen.{Seen}
 use Rattle.cloud_trait.specs.declared.turn.Turn.{Turn}
 use Rattle.cloud_trait.specs.declared.turn.Turn.TheVariants.{More, Ended, Stopped}
 use Rattle.cloud_trait.proofs.EffectLemmas.{begins_same}
-use Rattle.client_session.specs.declared.session.Answer.{Answer}
-use Rattle.client_session.specs.declared.session.Answer.TheVariants as answer
-use Rattle.client_session.specs.declared.session.Work.{Work}
-use Rattle.client_session.specs.declared.session.Work.TheVariants.{Closed, Idle, Opening, Committing, Folding, Broken}
-use Rattle.client_session.specs.Session.{Acting, closed_session, StepsSession, StepsAt}
+use Rattle.client_session.specs.declared.answer.Answer.{Answer}
+use Rattle.client_session.specs.declared.answer.Answer.TheVariants as answer
+use Rattle.client_session.specs.declared.work.Work.TheVariants.{Closed}
+use Rattle.client_session.specs.Session.{Acting, closed_session, StepsSession, noted_behind}
 use Rattle.history.specs.Audited.{Audited}
 use Rattle.history.specs.Fold.{of_tree}
 use Rattle.world_audit.specs.Counts.{heads_upto, AreWaiting}
 use Rattle.store_book.specs.Tally.{at}
 use Rattle.store_book.proofs.Names.{at_same, at_other}
 use Rattle.session_facts.specs.Noting.{audited}
-use Rattle.session_facts.specs.Sessions.{Sessions, SessionsStand, audit_of}
+use Rattle.session_facts.specs.Sessions.{Sessions, SessionsStand}
 use Rattle.session_facts.proofs.Laws.{crash_keeps}
 use Rattle.replay_meaning.specs.Standing.{Line, Standing, standing, after_line, after_own, session_of, steps}
 use Rattle.replay_meaning.specs.Right.{ReportIsRight}
 use Rattle.replay_model.specs.Facts.{session_at, ActsAs, AllAct, CloudHolds, IsFrontOf, Stands, GoesOn}
-use Rattle.replay_model.proofs.Acting.{IsReplyTo, goes_as, ends_as}
+use Rattle.replay_model.proofs.Acting.{IsReplyTo, goes_as, goes_noted, ends_as}
 use Rattle.replay_model.proofs.LineLemmas.{line_of, AllActWith, begins_line, begins_with, line_through, holds_same, own_line, still_line, refused_own, acts_set}
 use Rattle.replay_model.proofs.Lists.{session_there, session_set}
-use Rattle.replay_model.proofs.Steps.{CallLeaves, call_holds, wish_holds, wait_holds}
+use Rattle.replay_model.proofs.Steps.{CallLeaves, call_holds, never_stops, wish_holds, wait_holds}
 use Rattle.replay_model.proofs.ReportLemmas.{IsShown, report_right}
 use Rattle.world_core.specs.declared.world.World.{World}
 use Rattle.world_core.specs.declared.world.WorldFault.{WorldFault}
 use Rattle.world_core.specs.declared.world.WorldFault.TheVariants.{Memory}
 use Rattle.world_core.specs.Fault.{trouble_reply, reply_of}
 use Rattle.world_core.specs.Sessions.{Changes}
-use Rattle.world_core.specs.Handled.{declined, Declines, MakesNoCall, StepsLooked, RefusesStep, turn_reply, StepsTo, MakesStep, Went, start, further, RunsTo, RunsOn, Runs, Dies, DiesDone, Crashes, WaitsFor, WaitsTooLong, Shows, Reports}
+use Rattle.world_core.specs.Handled.{declined, Declines, MakesNoCall, StepsLooked, RefusesStep, turn_reply, MakesStep, Went, start, further, RunsTo, Runs, Dies, DiesDone, Crashes, WaitsFor, WaitsTooLong, Shows, Reports}
 use Rattle.world_core.specs.Stands.{WorldStands, StandsFor, IsLeft, LeftIsRight}
 
 -- ---- replies that are no report
@@ -238,8 +235,8 @@ step_more lines who wish before after old new event some way p =
     let own = steps_own lines who wish before after old new More event some way p in
     let acts = way.goes.acts who.session in
     let mine : ActsAs p.session.after (standing lines who.session) = record {
-      buffer = own.buffer ∙ acts.buffer;
-      work = goes_as _ _ who p.under p.to (f who.session).work p.session.after.work (standing lines who.session) (way.goes.holds.stand.each who.session).work own.work acts.work;
+      buffer = own.buffer ∙ goes_noted who p.under p.to (f who.session).work p.session.after.work (f who.session).buffer own.work ∙ acts.buffer;
+      work = goes_as who p.under p.to (f who.session).work p.session.after.work (standing lines who.session) own.work acts.work;
     } in
     let all : AllAct lines (at who.session p.session.after f) = acts_set lines who.session f p.session.after way.goes.acts mine in
     record {
@@ -260,6 +257,8 @@ went_on lines who before old after new number some way (further mid _ world _ we
 -- the reply to an answer is no report
 replies_to : (a : Answer) (r : Reply) → (let result : Result Reply WorldFault = Ok r in result ≡ reply_of a) → IsReplyTo a r × IsNoReport r
 replies_to (answer.Opened epoch) r e = let is : r ≡ reply.Opened epoch = cc in (is, subst IsNoReport (sym is) tt)
+replies_to answer.Closed r e = let is : r ≡ reply.Closed = cc in (is, subst IsNoReport (sym is) tt)
+replies_to (answer.Renewed end) r e = let is : r ≡ reply.Renewed end = cc in (is, subst IsNoReport (sym is) tt)
 replies_to (answer.Done n) r e = let is : r ≡ reply.Done n = cc in (is, subst IsNoReport (sym is) tt)
 replies_to (answer.Commit a) r e = let is : r ≡ reply.Commit a = cc in (is, subst IsNoReport (sym is) tt)
 replies_to (answer.Trouble t) r e = on t e
@@ -289,8 +288,11 @@ step_ends lines event who wish before after old new a r own_is does number some 
     let own = steps_own lines who wish before after old new (Ended a) number some way p in
     let acts = way.goes.acts who.session in
     let is = replies_to a r replies in
-    let ended = ends_as _ _ who p.under p.to (f who.session).work p.session.after.work (standing lines who.session) a r (way.goes.holds.stand.each who.session).work own.work is.0 acts.work in
-    let mine : ActsAs p.session.after (steps r (standing lines who.session)) = record { buffer = own.buffer ∙ acts.buffer ∙ sym ended.buffer; work = ended.work } in
+    let ended = ends_as who p.under p.to (f who.session).work p.session.after.work (standing lines who.session) a r own.work is.0 acts.work in
+    let mine : ActsAs p.session.after (steps r (standing lines who.session)) = record {
+      buffer = own.buffer ∙ ap (noted_behind (f who.session).work) acts.buffer ∙ sym ended.buffer;
+      work = ended.work;
+    } in
     let all : AllActWith lines (line_of event r) (at who.session p.session.after f) =
     own_line lines who.session event r f p.session.after own_is way.goes.acts (subst (ActsAs p.session.after) (sym (does (standing lines who.session))) mine) in
     through lines event r after new s.state s.told s.holds
@@ -298,16 +300,8 @@ step_ends lines event who wish before after old new a r own_is does number some 
 
 -- ---- the lines that make steps
 
-stops_work : (who : Caller) (before after : Seen) (w new : Work) (t : Trouble) → StepsAt who before after w new (Stopped t) → ⊥
-stops_work who before after (Opening m) new t p = p.1
-stops_work who before after (Committing m) new t p = p.1
-stops_work who before after (Folding home f) new t p = p
-stops_work who before after Closed new t p = p
-stops_work who before after (Idle home) new t p = p
-stops_work who before after Broken new t p = p
-
 no_stop : (who : Caller) (before after : Seen) (old new : Acting) (t : Trouble) → StepsSession who before after old new (Ok (Stopped t)) → ⊥
-no_stop who before after old new t p = stops_work who before after old.work new.work t p.work
+no_stop who before after old new t p = never_stops who before after old.work new.work t p.work
 
 refused_step : (lines : List Line) (event : Event) (r : Reply) (number : ℕ) (before after : Seen) (old new : World) (t : CloudState)
     → RefusesStep number before after old new (Ok r) → before.state ≡ Some t → WorldStands lines old t → StandsFor (lines ++ line_of event r ∷ []) new after r

@@ -1,5 +1,5 @@
 -- The reply to a report that a trouble stopped.
-use Rattle.std.proofs.Common.{◌≡◌, ℕ, Bool}
+use Rattle.std.proofs.Common.{ℕ}
 use Rattle.db_base.specs.Ids.{IsTree}
 use Rattle.db_base.specs.declared.trouble.Trouble.{Trouble}
 use Rattle.db_base.specs.declared.trouble.Trouble.TheVariants as trouble

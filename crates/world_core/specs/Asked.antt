@@ -10,7 +10,7 @@ use Rattle.db_base.specs.declared.refusal.Refused.{Refused}
 use Rattle.db_base.specs.declared.refusal.Refused.TheVariants as refused
 use Rattle.event_text.specs.declared.event.Event.{Event}
 use Rattle.event_text.specs.declared.event.Event.TheVariants as event
-use Rattle.client_session.specs.declared.session.Op.TheVariants as op
+use Rattle.client_session.specs.declared.op.Op.TheVariants as op
 use Rattle.world_core.specs.declared.asked.Request.{Request}
 use Rattle.world_core.specs.declared.asked.Request.TheVariants.{Begin, Note, Abort, Step, Run, Crash}
 use Rattle.world_core.specs.declared.asked.Asked.{Asked}
@@ -82,6 +82,8 @@ Asks (event.Open session client) asked = OfSession session (IsOpening client) as
 Asks (event.Insert session tree key payload) asked = OfSession session (IsNoted tree (IsInsert key payload)) asked
 Asks (event.Update session tree key payload) asked = OfSession session (IsNoted tree (IsUpdate key payload)) asked
 Asks (event.Delete session tree key) asked = OfSession session (IsNoted tree (IsDelete key)) asked
+Asks (event.Close session) asked = OfSession session (λ request. request ≡ Ok (Begin op.Close)) asked
+Asks (event.Renew session) asked = OfSession session (λ request. request ≡ Ok (Begin op.Renew)) asked
 Asks (event.Commit session) asked = OfSession session (λ request. request ≡ Ok (Begin op.Commit)) asked
 Asks (event.Abort session) asked = OfSession session (λ request. request ≡ Ok Abort) asked
 Asks (event.Tree session tree) asked = OfSession session (IsFolding tree) asked

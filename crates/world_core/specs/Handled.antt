@@ -1,5 +1,5 @@
 -- What a line does to the world, and its reply.
-use Rattle.std.specs.Prelude.{ℕ, ◌≡◌, ◌-◌, ◌≤◌, ◌<◌, Bool, true, false, List, [], ◌⊎◌, Option, Some, None, Result, Ok, Err}
+use Rattle.std.specs.Prelude.{ℕ, ◌≡◌, ◌≤◌, ◌<◌, Bool, true, false, ◌⊎◌, Option, Some, Result, Ok, Err}
 use Rattle.db_base.specs.Ids.{IsTree, IsSession}
 use Rattle.db_base.specs.declared.change.Change.{Change}
 use Rattle.db_base.specs.declared.refusal.Refusal.TheVariants as rule
@@ -20,10 +20,10 @@ use Rattle.cloud_trait.specs.Seen.{Seen}
 use Rattle.cloud_trait.specs.Weather.{Rose}
 use Rattle.cloud_trait.specs.declared.turn.Turn.{Turn}
 use Rattle.cloud_trait.specs.declared.turn.Turn.TheVariants.{More, Ended, Stopped}
-use Rattle.client_session.specs.declared.session.Answer.{Answer}
-use Rattle.client_session.specs.declared.session.Begun.{Begun}
-use Rattle.client_session.specs.declared.session.Begun.TheVariants.{Working, Answered}
-use Rattle.client_session.specs.declared.session.Op.{Op}
+use Rattle.client_session.specs.declared.answer.Answer.{Answer}
+use Rattle.client_session.specs.declared.answer.Begun.{Begun}
+use Rattle.client_session.specs.declared.answer.Begun.TheVariants.{Working, Answered}
+use Rattle.client_session.specs.declared.op.Op.{Op}
 use Rattle.client_session.specs.Session.{Acting, closed_session, Begins, StepsSession}
 use Rattle.history.specs.Fold.{of_tree}
 use Rattle.history.specs.Audited.{Audited}

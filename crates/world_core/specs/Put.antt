@@ -3,11 +3,12 @@ use Rattle.std.specs.Prelude.{◌≡◌, Bool, true, false, not, ◌&&◌, ◌++
 use Rattle.db_base.specs.declared.names.ObjName.{ObjName}
 use Rattle.db_base.specs.declared.names.ObjName.TheVariants as object
 use Rattle.cloud_trait.specs.Ask.{Ask, PutHeld}
-use Rattle.client_session.specs.declared.session.Work.{Work}
+use Rattle.client_session.specs.declared.work.Work.{Work}
 use Rattle.client_session.specs.Session.{ask_of_work, committing_of, opens_of, applying_of}
 use Rattle.history.specs.Audited.{Audited, applied_entry}
 use Rattle.world_audit.specs.declared.mark.Mark.{Mark}
-use Rattle.session_facts.specs.Noting.{Newest, noted_head, has_bytes}
+use Rattle.cloud_facts.specs.Looks.{Newest, has_bytes}
+use Rattle.session_facts.specs.Noting.{noted_head}
 use Rattle.world_core.specs.declared.put.Put.{Put}
 
 -- the object and bytes of a call that is a put

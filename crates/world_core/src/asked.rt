@@ -3,7 +3,7 @@
 ghost use Rattle.std.specs.Prelude.{◌≡◌};
 ghost use Rattle.world_core.specs.Asked.{Asks, IsDelete, IsInsert, IsUpdate, IsOpening, IsFolding, IsNoted, IsStep};
 
-use client_session::session::Op;
+use client_session::op::Op;
 use db_base::blob::Blob;
 use db_base::change::Change;
 use db_base::ids::{ClientId, TreeId};
@@ -65,6 +65,8 @@ impl Asked {
             Event::Delete { session, tree, key } => {
                 Asked::Session(*session, delete_noted(alloc, *tree, key))
             }
+            Event::Close { session } => Asked::Session(*session, Ok(Request::Begin(Op::Close))),
+            Event::Renew { session } => Asked::Session(*session, Ok(Request::Begin(Op::Renew))),
             Event::Commit { session } => Asked::Session(*session, Ok(Request::Begin(Op::Commit))),
             Event::Abort { session } => Asked::Session(*session, Ok(Request::Abort)),
             Event::Tree { session, tree } => Asked::Session(*session, folding_of(*tree)),
@@ -73,12 +75,9 @@ impl Asked {
             Event::Crash { session, done } => Asked::Session(*session, Ok(Request::Crash(*done))),
             Event::Wait { ticks } => Asked::Wait(*ticks),
             Event::Report { tree } => Asked::Report(*tree),
-            Event::Close { .. }
-            | Event::Renew { .. }
-            | Event::Read { .. }
-            | Event::Scan { .. }
-            | Event::Page { .. }
-            | Event::Settle => Asked::Unbuilt,
+            Event::Read { .. } | Event::Scan { .. } | Event::Page { .. } | Event::Settle => {
+                Asked::Unbuilt
+            }
         }
     }
 }

@@ -1,6 +1,8 @@
 ghost use Rattle.std.specs.Prelude.{◌≡◌, ◌-◌, ◌≤◌, ◌<◌};
 
-use client_session::session::{Answer, Begun, Op, Session};
+use client_session::answer::{Answer, Begun};
+use client_session::op::Op;
+use client_session::session::Session;
 use cloud_trait::cloud::Cloud;
 use cloud_trait::turn::Turn;
 use cloud_trait::who::Who;

@@ -8,7 +8,8 @@ use crate::asked::{Asked, Request};
 use crate::noting::{keep_landed, note_put};
 use crate::put::{Put, is_newest, put_in_hand};
 use crate::sessions::Sessions;
-use client_session::session::{Answer, Begun, Op};
+use client_session::answer::{Answer, Begun};
+use client_session::op::Op;
 use cloud_trait::cloud::Bench;
 use cloud_trait::turn::Turn;
 use cloud_trait::who::Who;
@@ -436,6 +437,8 @@ fn reply_of(answer: Answer) -> Result<Reply, WorldFault>
 {
     match answer {
         Answer::Opened { epoch } => Ok(Reply::Opened { epoch }),
+        Answer::Closed => Ok(Reply::Closed),
+        Answer::Renewed { end } => Ok(Reply::Renewed { end }),
         Answer::Done(answer) => Ok(Reply::Done(answer)),
         Answer::Commit(answer) => Ok(Reply::Commit(answer)),
         Answer::Trouble(trouble) => trouble_reply(trouble),

@@ -1,0 +1,28 @@
+use cloud_trait::turn::CkptAnswer;
+use db_base::trouble::{CommitAnswer, Trouble};
+
+/// What the begin of an operation answers.
+#[derive(Debug, Drop)]
+pub enum Begun {
+    /// The operation has a call in hand.
+    Working,
+    /// It is answered at once, without a call.
+    Answered(Answer),
+}
+
+/// What an operation answers.
+#[derive(Debug, Drop)]
+pub enum Answer {
+    /// The client is open in this epoch.
+    Opened { epoch: u64 },
+    /// The client is closed, and its lease given back.
+    Closed,
+    /// The client's lease lasts until this moment, in ticks.
+    Renewed { end: u64 },
+    /// How a commit ended.
+    Commit(CommitAnswer),
+    /// What a checkpoint did.
+    Done(CkptAnswer),
+    /// Why the operation stopped.
+    Trouble(Trouble),
+}

@@ -1,0 +1,20 @@
+ghost use Rattle.client_session.specs.Session.{IsOfClient, StepsClosing};
+
+use crate::answer::Answer;
+use crate::work::Work;
+use cloud_trait::cloud::Cloud;
+use cloud_trait::lease::Lease;
+use cloud_trait::perform::let_go;
+use cloud_trait::turn::Turn;
+use cloud_trait::who::Who;
+
+/// Gives the lease of a client back. Whatever that answers, the client is closed.
+pub(crate) fn step_close<C: Cloud>(cloud: &mut C, who: Who, lease: Lease) -> (Work, Turn<Answer>)
+    ensures steps { StepsClosing lease who (C.seen cloud.old) (C.seen cloud.new) result.0 result.1 }
+    ensures client { IsOfClient result.0 }
+{
+    match let_go(cloud, who, lease).done() {
+        Ok(()) => (Work::Closed, Turn::Ended(Answer::Closed)),
+        Err(trouble) => (Work::Closed, Turn::Ended(Answer::Trouble(trouble))),
+    }
+}

@@ -1,0 +1,84 @@
+ghost use Rattle.std.specs.Prelude.{◌≡◌, ◌≤◌, length};
+ghost use Rattle.commit_writes.specs.Sound.{IsSound as IsSoundCommit};
+ghost use Rattle.client_session.specs.Session.{CommitsNoted, CommitsOf, IsOfClient, StepsCommit, committed_work};
+
+use crate::answer::{Answer, Begun};
+use crate::work::Work;
+use cloud_trait::cloud::Cloud;
+use cloud_trait::turn::Turn;
+use cloud_trait::who::Who;
+use commit_writes::writes::CommitWrites;
+use db_base::trouble::CommitAnswer;
+use recover_run::home::Home;
+use std::alloc::Global;
+use txn_buffer::buffer::TxnBuffer;
+
+/// Begins the commit of what a home's session noted: what is in hand then. That of nothing is answered at once.
+pub(crate) fn commit_noted(alloc: Global, home: Home, changes: TxnBuffer) -> (Work, Begun)
+    ensures commits { CommitsNoted home changes result.0 result.1 }
+    ensures client { IsOfClient result.0 }
+{
+    if changes.is_empty() {
+        let answer = CommitAnswer::Committed { txn: 0 };
+        return (Work::Idle(home), Begun::Answered(Answer::Commit(answer)));
+    }
+    commit_of(alloc, home, changes)
+}
+
+/// Begins the commit of changes by a home: what is in hand then.
+fn commit_of(alloc: Global, home: Home, changes: TxnBuffer) -> (Work, Begun)
+    requires { 1 ≤ length changes }
+    ensures commits { CommitsOf home changes result.0 result.1 }
+    ensures client { IsOfClient result.0 }
+{
+    let mut commit = CommitWrites::new(alloc, home, changes);
+    match commit.ready(alloc) {
+        Turn::More => (Work::Committing(commit), Begun::Working),
+        Turn::Ended(answer) => (
+            Work::Idle(commit.finish()),
+            Begun::Answered(Answer::Commit(answer)),
+        ),
+        Turn::Stopped(trouble) => (broken(commit), Begun::Answered(Answer::Trouble(trouble))),
+    }
+}
+
+/// Makes the call in hand of a commit.
+pub(crate) fn step_commit<C: Cloud>(
+    alloc: Global,
+    cloud: &mut C,
+    who: Who,
+    mut machine: CommitWrites,
+) -> (Work, Turn<Answer>)
+    ensures sound { IsSoundCommit machine }
+    ensures steps { StepsCommit who (C.seen cloud.old) (C.seen cloud.new) machine result.0 result.1 }
+    ensures client { IsOfClient result.0 }
+{
+    match machine.step(alloc, cloud, who) {
+        Turn::More => (Work::Committing(machine), Turn::More),
+        Turn::Ended(answer) => (
+            committed(&answer, machine),
+            Turn::Ended(Answer::Commit(answer)),
+        ),
+        Turn::Stopped(trouble) => (broken(machine), Turn::Ended(Answer::Trouble(trouble))),
+    }
+}
+
+/// A client after its commit: in doubt where it is not known whether the commit or all of its records landed.
+fn committed(answer: &CommitAnswer, machine: CommitWrites) -> Work
+    ensures committed { result ≡ committed_work answer.now machine.home }
+    ensures client { IsOfClient result }
+{
+    match answer {
+        CommitAnswer::InDoubt => broken(machine),
+        CommitAnswer::CommittedOpen(_) => broken(machine),
+        CommitAnswer::Committed { .. } => Work::Idle(machine.finish()),
+        CommitAnswer::NotCommitted(_) => Work::Idle(machine.finish()),
+    }
+}
+
+/// A client in doubt: its lease alone is left.
+fn broken(machine: CommitWrites) -> Work
+    ensures { result ≡ Work.Broken machine.home.lease }
+{
+    Work::Broken(machine.finish().lease)
+}

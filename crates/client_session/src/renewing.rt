@@ -1,0 +1,28 @@
+ghost use Rattle.client_session.specs.Session.{IsOfClient, StepsRenewing};
+
+use crate::answer::Answer;
+use crate::work::{Work, stopped};
+use cloud_trait::cloud::Cloud;
+use cloud_trait::perform::renew;
+use cloud_trait::turn::Turn;
+use cloud_trait::who::Who;
+use recover_run::home::Home;
+use recover_run::recover::CLIENT_TICKS;
+
+/// Renews the lease of an open client.
+pub(crate) fn step_renewal<C: Cloud>(
+    cloud: &mut C,
+    who: Who,
+    mut home: Home,
+) -> (Work, Turn<Answer>)
+    ensures steps { StepsRenewing home who (C.seen cloud.old) (C.seen cloud.new) result.0 result.1 }
+    ensures client { IsOfClient result.0 }
+{
+    match renew(cloud, who, &mut home.lease, CLIENT_TICKS).renewed() {
+        Ok(end) => (Work::Idle(home), Turn::Ended(Answer::Renewed { end })),
+        Err(trouble) => (
+            stopped(&trouble, home),
+            Turn::Ended(Answer::Trouble(trouble)),
+        ),
+    }
+}

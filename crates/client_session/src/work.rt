@@ -1,0 +1,197 @@
+ghost use Rattle.std.specs.Prelude.{◌≡◌};
+ghost use Rattle.std.specs.Option.{option_map, option_copied};
+ghost use Rattle.cloud_trait.specs.Call.{ask_of};
+ghost use Rattle.client_session.specs.Session.{GivesHome, IsOfClient, old_lease, stopped_work};
+
+use cloud_trait::call::Call;
+use cloud_trait::lease::Lease;
+use commit_writes::writes::CommitWrites;
+use db_base::refusal::{Refusal, Refused};
+use db_base::trouble::Trouble;
+use first_tree::checkpoint::TreeCkpt;
+use head_codec::head::Head;
+use log_codec::record::PuItem;
+use page_ckpt::PageCkpt;
+use recover_run::home::Home;
+use recover_run::recover::{CLIENT_TICKS, RecoverRun};
+use txn_buffer::buffer::TxnBuffer;
+
+/// What a session has in hand.
+#[derive(Drop)]
+pub enum Work {
+    /// Nothing: no client is open.
+    Closed,
+    /// An open client.
+    Idle(Home),
+    /// An opening under way.
+    Opening(RecoverRun),
+    /// A commit under way.
+    Committing(CommitWrites),
+    /// A page checkpoint under way, beside the open client.
+    Paging(Home, PageCkpt),
+    /// A tree checkpoint under way, beside the open client.
+    Folding(Home, TreeCkpt),
+    /// The lease of a client that is being closed.
+    Closing(Lease),
+    /// An open client whose lease is being renewed.
+    Renewing(Home),
+    /// The lease of a client whose newest operation left it in doubt.
+    Broken(Lease),
+}
+
+impl Work {
+    ghost use Rattle.client_session.specs.Session.{rule_of, opening_rule_of, ask_of_work, committing_of, opens_of, applying_of};
+
+    /// The rule that keeps an open client's operation from beginning.
+    pub(crate) fn rule(&self) -> Option<Refusal>
+        ensures { result ≡ rule_of self.now }
+    {
+        match self {
+            Work::Closed => Some(Refusal::NotOpen),
+            Work::Idle(_) => None,
+            Work::Opening(_) => Some(Refusal::AtWork),
+            Work::Committing(_) => Some(Refusal::AtWork),
+            Work::Paging(_, _) => Some(Refusal::AtWork),
+            Work::Folding(_, _) => Some(Refusal::AtWork),
+            Work::Closing(_) => Some(Refusal::AtWork),
+            Work::Renewing(_) => Some(Refusal::AtWork),
+            Work::Broken(_) => Some(Refusal::Broken),
+        }
+    }
+
+    /// The rule that keeps an opening from beginning.
+    pub(crate) fn opening_rule(&self) -> Option<Refusal>
+        ensures { result ≡ opening_rule_of self.now }
+    {
+        match self {
+            Work::Closed => None,
+            Work::Idle(_) => Some(Refusal::AlreadyOpen),
+            Work::Opening(_) => Some(Refusal::AtWork),
+            Work::Committing(_) => Some(Refusal::AtWork),
+            Work::Paging(_, _) => Some(Refusal::AtWork),
+            Work::Folding(_, _) => Some(Refusal::AtWork),
+            Work::Closing(_) => Some(Refusal::AtWork),
+            Work::Renewing(_) => Some(Refusal::AtWork),
+            Work::Broken(_) => None,
+        }
+    }
+
+    /// The service call that the next step makes; none where nothing is at work.
+    pub(crate) fn in_hand(&self) -> Option<Call<'_>>
+        ensures { option_map ask_of result ≡ ask_of_work self.now }
+    {
+        match self {
+            Work::Opening(machine) => Some(machine.in_hand()),
+            Work::Committing(machine) => Some(machine.in_hand()),
+            Work::Paging(_, machine) => Some(machine.in_hand()),
+            Work::Folding(_, machine) => Some(machine.in_hand()),
+            Work::Closing(lease) => Some(Call::Release(lease)),
+            Work::Renewing(home) => Some(Call::Renew(&home.lease, CLIENT_TICKS)),
+            Work::Closed => None,
+            Work::Idle(_) => None,
+            Work::Broken(_) => None,
+        }
+    }
+
+    /// The changes of the commit at work; none where none is.
+    pub(crate) fn committing(&self) -> Option<&TxnBuffer>
+        ensures { option_copied result ≡ committing_of self.now }
+    {
+        match self {
+            Work::Committing(machine) => Some(machine.changes()),
+            Work::Closed => None,
+            Work::Idle(_) => None,
+            Work::Opening(_) => None,
+            Work::Paging(_, _) => None,
+            Work::Folding(_, _) => None,
+            Work::Closing(_) => None,
+            Work::Renewing(_) => None,
+            Work::Broken(_) => None,
+        }
+    }
+
+    /// The head that the put in hand opens, where it is the one that commits.
+    pub(crate) fn opens(&self) -> Option<&Head>
+        ensures { option_copied result ≡ opens_of self.now }
+    {
+        match self {
+            Work::Committing(machine) => machine.opens(),
+            Work::Closed => None,
+            Work::Idle(_) => None,
+            Work::Opening(_) => None,
+            Work::Paging(_, _) => None,
+            Work::Folding(_, _) => None,
+            Work::Closing(_) => None,
+            Work::Renewing(_) => None,
+            Work::Broken(_) => None,
+        }
+    }
+
+    /// The items that the put in hand of a checkpoint applies.
+    pub(crate) fn applying(&self) -> &[PuItem]
+        ensures { result.now ≡ applying_of self.now }
+    {
+        match self {
+            Work::Paging(_, machine) => machine.applying(),
+            Work::Folding(_, machine) => machine.applying(),
+            Work::Closed => &[],
+            Work::Idle(_) => &[],
+            Work::Opening(_) => &[],
+            Work::Committing(_) => &[],
+            Work::Closing(_) => &[],
+            Work::Renewing(_) => &[],
+            Work::Broken(_) => &[],
+        }
+    }
+}
+
+/// Takes the home out of what an open client has in hand; what else is in hand stays.
+pub(crate) fn home_of_work(work: Work) -> (Work, Result<Home, Refused>)
+    requires { IsOfClient work }
+    ensures gives { GivesHome work result.0 result.1 }
+    ensures client { IsOfClient result.0 }
+{
+    match work {
+        Work::Idle(home) => (Work::Closed, Ok(home)),
+        Work::Closed => (Work::Closed, Err(Refused::Rule(Refusal::NotOpen))),
+        Work::Opening(machine) => (Work::Opening(machine), Err(Refused::Rule(Refusal::AtWork))),
+        Work::Committing(machine) => (
+            Work::Committing(machine),
+            Err(Refused::Rule(Refusal::AtWork)),
+        ),
+        Work::Paging(home, machine) => (
+            Work::Paging(home, machine),
+            Err(Refused::Rule(Refusal::AtWork)),
+        ),
+        Work::Folding(home, machine) => (
+            Work::Folding(home, machine),
+            Err(Refused::Rule(Refusal::AtWork)),
+        ),
+        Work::Closing(lease) => (Work::Closing(lease), Err(Refused::Rule(Refusal::AtWork))),
+        Work::Renewing(home) => (Work::Renewing(home), Err(Refused::Rule(Refusal::AtWork))),
+        Work::Broken(lease) => (Work::Broken(lease), Err(Refused::Rule(Refusal::Broken))),
+    }
+}
+
+/// Takes the lease out of what a broken session has in hand; what else is in hand stays.
+pub(crate) fn lease_of_work(work: Work) -> (Work, Option<Lease>)
+    requires { IsOfClient work }
+    ensures gives { result.1 ≡ old_lease work }
+    ensures client { IsOfClient result.0 }
+{
+    match work {
+        Work::Broken(lease) => (Work::Closed, Some(lease)),
+        other => (other, None),
+    }
+}
+
+/// An open client behind an operation that stopped: want of memory leaves its lease alone.
+pub(crate) fn stopped(trouble: &Trouble, home: Home) -> Work
+    ensures stopped { result ≡ stopped_work trouble.now home }
+    ensures client { IsOfClient result }
+{
+    match trouble {
+        Trouble::Memory => Work::Broken(home.lease),
+        _ => Work::Idle(home),
+    }
+}

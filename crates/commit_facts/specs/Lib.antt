@@ -1,0 +1,3 @@
+pub mod Committing
+pub mod Noting
+pub mod Puts

@@ -1,0 +1,13 @@
+pub mod Kept
+pub mod Messages
+pub mod Sends
+pub mod Marks
+pub mod Begins
+pub mod Others
+pub mod Leading
+pub mod Gathering
+pub mod Clears
+pub mod Landings
+pub mod Outcomes
+pub mod HeadPuts
+pub mod Hands

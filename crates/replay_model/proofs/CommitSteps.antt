@@ -1,0 +1,117 @@
+-- A commit goes on with the same changes of the same client, or ends for it.
+use Rattle.std.proofs.Common.{◌≡◌, ℕ, List, ◌++◌, [], ◌∷◌, Option, Some, None, Result, Ok, Err, refl, Bool, true, false, cond}
+use Rattle.std.specs.Prelude.{slice_get, ◌+◌}
+use Rattle.db_base.specs.declared.trouble.Trouble.{Trouble}
+use Rattle.db_base.specs.declared.trouble.Trouble.TheVariants as trouble
+use Rattle.db_base.specs.declared.trouble.Counter.TheVariants as counter
+use Rattle.db_base.specs.declared.trouble.CommitAnswer.{CommitAnswer}
+use Rattle.db_base.specs.declared.trouble.CommitAnswer.TheVariants.{NotCommitted}
+use Rattle.log_codec.specs.declared.record.AtomicRec.{AtomicRec}
+use Rattle.txn_buffer.specs.Noted.{Noted}
+use Rattle.cloud_trait.specs.declared.answer.Answer.{Answer}
+use Rattle.cloud_trait.specs.Machine.{Next, Goes, Ends, Stops}
+use Rattle.cloud_trait.specs.Views.{sent_of, done_of}
+use Rattle.recover_run.specs.declared.home.Home.{Home}
+use Rattle.commit_writes.specs.declared.stage.Stage.{Stage}
+use Rattle.commit_writes.specs.declared.stage.Stage.TheVariants.{Waiting, Logging, Opening, Sending, Settling, Deleting, Finished}
+use Rattle.commit_writes.specs.Writing.{Writing, waiting, with_home, with_attempt, is_spent, not_committed, log_or_open, begun, passes, routed_of, routing, first_leaves, writing_ready, writing_next, next_at, send_or_settle, send_at, delete_or_end, delete_at, logged_by, not_opened, opened_by, sent_by, settled_by, deleted_by}
+use Rattle.replay_model.specs.Running.{WritesAt, IsWriting}
+
+-- where a step leads it goes on with these changes of this client, or ends for it; it stops for want of memory alone
+abbrev pub WritesFor : List Noted → ℕ → Next Writing CommitAnswer → Type 0
+WritesFor changes client (Goes new) = (new.changes ≡ changes) × (new.home.client ≡ client) × IsWriting new
+WritesFor changes client (Ends new a) = new.home.client ≡ client
+WritesFor changes client (Stops new t) = t ≡ trouble.Memory
+
+-- and so of a begin, which ends only where nothing is committed
+abbrev pub BeginsFor : List Noted → ℕ → Next Writing CommitAnswer → Type 0
+BeginsFor changes client (Goes new) = (new.changes ≡ changes) × (new.home.client ≡ client) × IsWriting new
+BeginsFor changes client (Ends new a) = (new.home.client ≡ client) × ((t : Trouble) × (a ≡ NotCommitted t))
+BeginsFor changes client (Stops new t) = Unit {0}
+
+-- ---- records go to the ATOMIC queue
+
+logs_or_opens : (w : Writing) (o : Option AtomicRec) → WritesFor w.changes w.home.client (log_or_open w o)
+logs_or_opens w (Some r) = (refl, refl, tt)
+logs_or_opens w None = (refl, refl, tt)
+
+begins_log : (w : Writing) (o : Option AtomicRec) → BeginsFor w.changes w.home.client (log_or_open w o)
+begins_log w (Some r) = (refl, refl, tt)
+begins_log w None = (refl, refl, tt)
+
+logged : (w : Writing) (g : Result ℕ Trouble) → WritesFor w.changes w.home.client (logged_by w g)
+logged w (Ok id) = logs_or_opens (record w { ids = w.ids ++ id ∷ []; place = w.place + 1 }) (slice_get w.records (w.place + 1))
+logged w (Err t) = refl
+
+-- ---- the head that commits, and what comes behind it
+
+sends_or_settles : (w : Writing) (o : Option AtomicRec) → WritesFor w.changes w.home.client (send_or_settle w o)
+sends_or_settles w (Some r) = (refl, refl, tt)
+sends_or_settles w None = (refl, refl, tt)
+
+sends : (w : Writing) (n : ℕ) → WritesFor w.changes w.home.client (send_at w n)
+sends w n = sends_or_settles (record w { place = n }) (slice_get w.records n)
+
+not_open : (w : Writing) (t : Trouble) → WritesFor w.changes w.home.client (not_opened w t)
+not_open w (trouble.Late end now) = refl
+not_open w t = refl
+
+opened : (w : Writing) (g : Result (Unit {0}) Trouble) → WritesFor w.changes w.home.client (opened_by w g)
+opened w (Ok _) = sends w 0
+opened w (Err t) = not_open w t
+
+sent : (w : Writing) (g : Result ℕ Trouble) → WritesFor w.changes w.home.client (sent_by w g)
+sent w (Ok _) = sends w (w.place + 1)
+sent w (Err t) = refl
+
+deletes_or_ends : (w : Writing) (o : Option ℕ) → WritesFor w.changes w.home.client (delete_or_end w o)
+deletes_or_ends w (Some id) = (refl, refl, tt)
+deletes_or_ends w None = refl
+
+deletes : (w : Writing) (n : ℕ) → WritesFor w.changes w.home.client (delete_at w n)
+deletes w n = deletes_or_ends (record w { place = n }) (slice_get w.ids n)
+
+settled : (w : Writing) (g : Result (Unit {0}) Trouble) → WritesFor w.changes w.home.client (settled_by w g)
+settled w (Ok _) = deletes w 0
+settled w (Err t) = refl
+
+deleted : (w : Writing) (g : Result (Unit {0}) Trouble) → WritesFor w.changes w.home.client (deleted_by w g)
+deleted w (Err trouble.Memory) = refl
+deleted w g = deletes w (w.place + 1)
+
+-- ---- the whole
+
+writes_at : (w : Writing) (stage : Stage) (a : Answer) → WritesAt stage → WritesFor w.changes w.home.client (next_at stage w a)
+writes_at w Logging a is = logged w (sent_of a)
+writes_at w Opening a is = opened w (done_of a)
+writes_at w Sending a is = sent w (sent_of a)
+writes_at w Settling a is = settled w (done_of a)
+writes_at w Deleting a is = deleted w (done_of a)
+writes_at w Waiting a is = absurd is
+writes_at w Finished a is = absurd is
+
+pub writes_on : (w : Writing) (a : Answer) → IsWriting w → WritesFor w.changes w.home.client (writing_next w a)
+writes_on w a is = writes_at w w.stage a is
+
+-- ---- the begin
+
+begins_write : (w : Writing) (records : List AtomicRec) → BeginsFor w.changes w.home.client (begun w records)
+begins_write w records = begins_log (record w { records = records; place = 0 }) (slice_get records 0)
+
+begins_route : (w : Writing) (leaves : List ℕ) → BeginsFor w.changes w.home.client (routing w leaves)
+begins_route w leaves = on (passes (routed_of w.home w.changes leaves))
+  where
+    on : (b : Bool) → BeginsFor w.changes w.home.client (cond b (not_committed w (trouble.Exhausted counter.Number)) (begun w (routed_of w.home w.changes leaves)))
+    on true = (refl, (trouble.Exhausted counter.Number, refl))
+    on false = begins_write w (routed_of w.home w.changes leaves)
+
+begins_ready : (w : Writing) → BeginsFor w.changes w.home.client (writing_ready w)
+begins_ready w = on (is_spent w.home)
+  where
+    on : (b : Bool)
+        → BeginsFor w.changes w.home.client (cond b (not_committed w (trouble.Exhausted counter.Txn)) (routing (cond b w (with_home w (with_attempt w.home))) (first_leaves w.changes)))
+    on true = (refl, (trouble.Exhausted counter.Txn, refl))
+    on false = begins_route (with_home w (with_attempt w.home)) (first_leaves w.changes)
+
+pub commit_begins : (home : Home) (changes : List Noted) → BeginsFor changes home.client (writing_ready (waiting home changes))
+commit_begins home changes = begins_ready (waiting home changes)

@@ -1,0 +1,4 @@
+pub mod Leading
+pub mod Aiming
+pub mod Walking
+pub mod Served

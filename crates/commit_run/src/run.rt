@@ -1,0 +1,128 @@
+ghost use Rattle.std.specs.Prelude.{◌≡◌, ◌≤◌, length};
+ghost use Rattle.cloud_trait.specs.Call.{ask_of};
+ghost use Rattle.cloud_trait.specs.Machine.{LeadsBy, Steps};
+
+use crate::draft::Draft;
+use crate::hand::Hand;
+use cloud_trait::call::Call;
+use cloud_trait::cloud::Cloud;
+use cloud_trait::turn::Turn;
+use cloud_trait::who::Who;
+use commit_writes::writes::CommitWrites;
+use db_base::trouble::{CommitAnswer, Counter, Trouble};
+use page_cache::PageCache;
+use recover_run::home::Home;
+use std::alloc::Global;
+use std::marker::Model;
+use std::mem;
+use tree_walk::Walk;
+use txn_buffer::buffer::TxnBuffer;
+
+/// A commit of a client's changes, beside its session's cache: the walks for the leaves of the changes, each of which prunes the
+/// head by what it uses, and then what the commit writes.
+#[derive(Drop)]
+pub struct CommitRun {
+    draft: Draft,
+    hand: Hand,
+}
+
+impl Model for CommitRun {
+    ghost use Rattle.commit_run.specs.Run.{Run, IsHeld};
+
+    ghost Value = { Run };
+
+    ghost view = { λ r. record { draft = r.draft; hand = r.hand } };
+
+    ghost invariant = { λ r. IsHeld r.draft r.hand };
+}
+
+impl CommitRun {
+    ghost use Rattle.std.specs.Option.{option_copied};
+    ghost use Rattle.commit_writes.specs.Writing.{opens_at};
+    ghost use Rattle.commit_run.specs.Run.{new_run, run_ask, asks, run_ready, run_next, home_of, opened_by_hand, Led, Keeps, KeepsHome};
+
+    /// The commit of changes by a home, before its first call. Takes no memory.
+    pub fn new(alloc: Global, home: Home, changes: TxnBuffer) -> CommitRun
+        requires { 1 ≤ length changes }
+        ensures { result ≡ new_run home changes }
+    {
+        CommitRun {
+            draft: Draft::new(alloc, CommitWrites::new(alloc, home, changes)),
+            hand: Hand::Writes,
+        }
+    }
+
+    /// The home, with the head as the commit left it.
+    pub fn finish(self) -> Home
+        ensures { result ≡ home_of self }
+    {
+        self.draft.writes.finish()
+    }
+
+    /// The changes that it commits.
+    pub fn changes(&self) -> &TxnBuffer
+        ensures is { result.now ≡ self.now.draft.writes.changes }
+        ensures some { 1 ≤ length self.now.draft.writes.changes }
+    {
+        self.draft.writes.changes()
+    }
+
+    /// The service call that the next step makes.
+    pub fn in_hand(&self) -> Call<'_>
+        ensures { ask_of result ≡ run_ask self.now }
+    {
+        match &self.hand {
+            Hand::Writes => self.draft.writes.in_hand(),
+            Hand::First(walk) => walk.in_hand(),
+            Hand::Change(walk) => walk.in_hand(),
+        }
+    }
+
+    /// Takes the next attempt number, and does the local work before the first call; it is called once.
+    pub fn ready(&mut self, alloc: Global, cache: &mut PageCache) -> Turn<CommitAnswer>
+        ensures led { Led (run_ready (self.old, cache.old)) (self.new, cache.new) result }
+        ensures kept { Keeps (home_of self.old) (home_of self.new) }
+    {
+        self.hand = Hand::Writes;
+        if !self.draft.writes.take_number() {
+            return self.draft.writes.not_committed(Trouble::Exhausted { what: Counter::Txn });
+        }
+        let (hand, turn) = self.draft.begin_walks(alloc, cache);
+        self.hand = hand;
+        turn
+    }
+
+    /// Takes a step of the walk in hand.
+    fn step_walk<C: Cloud>(
+        &mut self,
+        alloc: Global,
+        cloud: &mut C,
+        who: Who,
+        cache: &mut PageCache,
+        first: bool,
+        walk: Walk,
+    ) -> Turn<CommitAnswer>
+    {
+        let mut walk = walk;
+        let turn = walk.step(alloc, cloud, who, cache);
+        let (hand, turn) = self.draft.walked(alloc, cache, first, walk, turn);
+        self.hand = hand;
+        turn
+    }
+
+    /// Makes the call in hand, and does the local work up to the next one.
+    pub fn step<C: Cloud>(
+        &mut self,
+        alloc: Global,
+        cloud: &mut C,
+        who: Who,
+        cache: &mut PageCache,
+    ) -> Turn<CommitAnswer>
+    {
+        match mem::replace(&mut self.hand, Hand::Writes) {
+            Hand::Writes => self.draft.writes.step(alloc, cloud, who),
+            Hand::First(walk) => self.step_walk(alloc, cloud, who, cache, true, walk),
+            Hand::Change(walk) => self.step_walk(alloc, cloud, who, cache, false, walk),
+        }
+    }
+}

@@ -32,7 +32,7 @@ by_turn_led on x w c (Stopped trouble.Memory) n result moves memory led =
 by_turn_led on x w c (Stopped t) n result moves memory led =
     let P : Next (Walk × Cache) ℕ → Type 0 = λ y. Led (by_turn on y) n result in subst P (sym (moves (λ e. cc))) led
 
-took_moves : (m : Walk × Cache) (a : Answer) (n : Walk × Cache) (turn : Turn ℕ) → Took (LeadsBy walk_next) KeepsNothing m a n turn → Moves (walk_next m a) n turn
+pub took_moves : (m : Walk × Cache) (a : Answer) (n : Walk × Cache) (turn : Turn ℕ) → Took (LeadsBy walk_next) KeepsNothing m a n turn → Moves (walk_next m a) n turn
 took_moves m a n More h = h
 took_moves m a n (Ended page) h = h
 took_moves m a n (Stopped t) h = h.0

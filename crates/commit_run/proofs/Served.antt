@@ -18,7 +18,7 @@ use Rattle.page_cache.specs.Cache.{Cache, accepts, kept_at}
 use Rattle.page_cache.specs.Held.{leaf_at, inner_at, root_at, as_leaf}
 use Rattle.page_cache.proofs.CacheLemmas.{accept_kept}
 use Rattle.tree_walk.specs.Walk.{Spot, Walk, IsWalk, IsAtLeaf, sought, spot_of, is_leaf, object_of, use_of, right_of, bad_fence, leaf_left, leaf_passed, root_read, node_read, leaf_read, read_at, read_from, follow, goes_on, got_read, accepted_by, got_by, left_by, beside, rested, walk_ask, walk_next}
-use Rattle.tree_walk.proofs.Leaves.{Unended, AtLeaf, linked_unended, root_unended, node_unended, through_unended, by_ends, stays_at}
+use Rattle.tree_walk.proofs.Leaves.{Unended, AtLeaf, linked_unended, root_unended, node_unended, through_unended, by_ends, leaf_stays}
 
 -- a walk that ends has the object in hand that it had, and used it
 abbrev pub EndsAs : Walk → Next Walk ℕ → Type 0
@@ -81,21 +81,16 @@ ends_with d (Stops m t) = d
 served_end : (w : Walk) (bytes : Option (List ℕ)) (d : Cache) → kept_at d (object_of w) ≡ Some bytes → (v : Walk) (page : ℕ) → v ≡ use_of w → IsAtLeaf v d page
     → leaf_at (left_by v d) (object.Page v.tree page) ≡ leaf_at d (object.Page v.tree page) → IsServed w (Got bytes) (v, left_by v d) page
 served_end w bytes d kept v page is h left =
-    let object : object_of w ≡ object.Page v.tree page = ap object_of (sym is) ∙ h.in_hand in
-    let got : kept_at d (object.Page v.tree page) ≡ Some bytes = ap (kept_at d) (sym object) ∙ kept in
+    let named : object_of w ≡ object.Page v.tree page = ap object_of (sym is) ∙ h.in_hand in
+    let got : kept_at d (object.Page v.tree page) ≡ Some bytes = ap (kept_at d) (sym named) ∙ kept in
     record {
       bytes = bytes;
       leaf = h.leaf;
       answered = refl;
-      asked = ap Get object;
+      asked = ap Get named;
       spelled = sym (ap as_leaf got) ∙ h.kept;
       kept = ap (leaf_at (left_by v d)) h.in_hand ∙ (left ∙ h.kept);
     }
-
--- what a leaf is once the walk left the cache
-left_same : (v : Walk) (d : Cache) (page : ℕ) (h : IsAtLeaf v d page) (stays : IsAtLeaf v (left_by v d) page) → stays.leaf ≡ h.leaf
-    → leaf_at (left_by v d) (object.Page v.tree page) ≡ leaf_at d (object.Page v.tree page)
-left_same v d page h stays same = stays.kept ∙ (ap Some same ∙ sym h.kept)
 
 pub end_served : (m n : Walk × Cache) (a : Answer) (page : ℕ) → IsWalk m.0 → walk_next m a ≡ Ends n page → IsServed m.0 a n page
 unfolding ends_with
@@ -103,9 +98,8 @@ end_served m n (Got bytes) page ok h = on (accepts m.1 (object_of m.0) (is_leaf 
   at : (x : Next Walk ℕ) (version : ℕ) (d : Cache) → accepts m.1 (object_of m.0) (is_leaf m.0) bytes ≡ Ok (version, d) → EndsAs (rested m.0) x → AtLeaf d x → beside (x, d) ≡ Ends n page → IsServed m.0 (Got bytes) n page
   at (Goes w) version d acc is leaf e = absurd (cc (e))
   at (Ends w p) version d acc is leaf e =
-      let stays : IsAtLeaf w (left_by w d) p = stays_at w d p leaf.0 leaf.1 in
       let kept : kept_at d (object_of (rested m.0)) ≡ Some bytes = accept_kept m.1 (object_of m.0) (is_leaf m.0) bytes version d acc in
-      let served : IsServed (rested m.0) (Got bytes) (w, left_by w d) p = served_end (rested m.0) bytes d kept w p is leaf.0 (left_same w d p leaf.0 stays refl) in
+      let served : IsServed (rested m.0) (Got bytes) (w, left_by w d) p = served_end (rested m.0) bytes d kept w p is leaf.0 (leaf_stays w d p leaf.1) in
       let here : IsServed m.0 (Got bytes) (w, left_by w d) p = record { bytes = served.bytes; leaf = served.leaf; answered = served.answered; asked = served.asked; spelled = served.spelled; kept = served.kept } in
       subst (λ (k : (Walk × Cache) × ℕ). IsServed m.0 (Got bytes) k.0 k.1) (ap (ends_with ((w, left_by w d), p)) e) here
   at (Stops w t) version d acc is leaf e = absurd (cc (e))

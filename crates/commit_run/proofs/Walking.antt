@@ -51,14 +51,10 @@ entry_low key es = on (child_of key es) refl where
 right_low : (key : List ℕ) (high : Option (List ℕ)) (page : Option ℕ) (next : ℕ × List ℕ) → right_of key high page ≡ Some next → bytes_below key next.1 ≡ false
 right_low key None page next e = absurd (cc (e))
 right_low key (Some high) page next e = on (bytes_below key high) refl e where
-  second : Option (ℕ × List ℕ) → List ℕ
-  second None = high
-  second (Some x) = x.1
-
   on : (b : Bool) → bytes_below key high ≡ b → (if b then None else Some (unwrap_or page 1, high)) ≡ Some next → bytes_below key next.1 ≡ false
-  unfolding second
   on true below e = absurd (cc (e))
-  on false below e = subst (λ (k : List ℕ). bytes_below key k ≡ false) (ap second e) below
+  on false below e =
+      let same : ◌≡◌ {A = ℕ × List ℕ} (unwrap_or page 1, high) next = cc (e) in subst (λ (x : ℕ × List ℕ). bytes_below key x.1 ≡ false) same below
 
 root_walks : (w : Walk) (t : Tree) → Walks (root_read w t)
 root_walks w t = linked_walks (use_of w) (record { page = (entry_for (sought w) t.entries).1; level = t.level - 1; low = (entry_for (sought w) t.entries).0 }) (entry_low (sought w) t.entries)

@@ -20,7 +20,7 @@ use Rattle.tree_walk.specs.Walk.{Walk, sought, new_walk, walk_ask, walk_ready, w
 use Rattle.commit_writes.specs.Writing.{Writing, waiting, numbered, is_spent, routing, finished, writing_ask, writing_next}
 use Rattle.commit_run.specs.declared.hand.Hand.{Hand}
 use Rattle.commit_run.specs.declared.hand.Hand.TheVariants.{Writes, First, Change}
-use Rattle.commit_run.specs.Draft.{Draft, new_draft, pruned_behind, planned, leaf_noted, paged}
+use Rattle.commit_run.specs.Draft.{Draft, IsWithin, new_draft, pruned_behind, planned, leaf_noted, paged}
 
 -- the draft, and what is in hand: a walk, or what the commit writes
 pub record Run : Type 0 where
@@ -44,7 +44,7 @@ next_target d = option_map target_of (slice_get d.writes.changes (length d.plan.
 -- while a walk is in hand the home has taken its number, and a walk for a change is for the next one
 abbrev pub IsHeld : Draft → Hand → Type 0
 IsHeld d Writes = Unit {0}
-IsHeld d (First w) = 1 ≤ d.writes.home.attempt
+IsHeld d (First w) = (1 ≤ d.writes.home.attempt) × IsWithin d
 IsHeld d (Change w) = (1 ≤ d.writes.home.attempt) × (next_target d ≡ Some (w.tree, sought w))
 
 -- ---- the call in hand
@@ -119,9 +119,12 @@ abbrev pub stale_at : Bool → Draft → Cache → Next (Run × Cache) CommitAns
 stale_at true d c = plan_on d c
 stale_at false d c = plan_on (paged d 1) c
 
+abbrev pub is_stale : Trouble → Bool
+is_stale (trouble.Stale page least found) = true
+is_stale t = false
+
 abbrev pub walk_stopped : Bool → Draft → Cache → Trouble → Next (Run × Cache) CommitAnswer
-walk_stopped first d c (trouble.Stale page least found) = stale_at first d c
-walk_stopped first d c t = troubled d c t
+walk_stopped first d c t = if is_stale t then stale_at first d c else troubled d c t
 
 -- the tree object or leaf that a turn used prunes the head; the leaf at which a walk ends is known from then on
 abbrev pub walk_turned : Bool → Draft → Walk → Cache → Turn ℕ → Next (Run × Cache) CommitAnswer
@@ -153,8 +156,8 @@ begin_walks d c = long_walk d c (long_target d.writes.home.head.pending)
 abbrev pub run_ready : Run × Cache → Next (Run × Cache) CommitAnswer
 run_ready m =
     if is_spent m.0.draft.writes.home
-    then refused m.0.draft m.1 (trouble.Exhausted counter.Txn)
-    else begin_walks (record m.0.draft { writes = numbered m.0.draft.writes }) m.1
+    then refused (new_draft m.0.draft.writes) m.1 (trouble.Exhausted counter.Txn)
+    else begin_walks (new_draft (numbered m.0.draft.writes)) m.1
 
 abbrev pub next_at : Hand → Draft → Cache → Answer → Next (Run × Cache) CommitAnswer
 next_at Writes d c a = wrote d c (writing_next d.writes a)

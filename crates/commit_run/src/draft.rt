@@ -1,11 +1,13 @@
-ghost use Rattle.std.specs.Prelude.{◌≡◌};
+ghost use Rattle.std.specs.Prelude.{◌≡◌, Some};
 ghost use Rattle.commit_writes.specs.Writing.{with_head};
 ghost use Rattle.page_cache.specs.Held.{leaf_at, root_at};
 ghost use Rattle.commit_run.specs.Draft.{pruned_by_root, pruned_by_kept, pruned_with};
-ghost use Rattle.commit_run.specs.Run.{held};
+ghost use Rattle.commit_run.specs.Run.{held, is_stale};
 
 use crate::hand::Hand;
+use cloud_trait::cloud::Cloud;
 use cloud_trait::turn::Turn;
+use cloud_trait::who::Who;
 use commit_plan::plan::LeafPlan;
 use commit_writes::writes::CommitWrites;
 use db_base::ids::{PageId, TreeId};
@@ -28,13 +30,11 @@ pub(crate) struct Draft {
 }
 
 impl Model for Draft {
-    ghost use Rattle.commit_run.specs.Draft.{Draft as State, IsDraft};
+    ghost use Rattle.commit_run.specs.Draft.{Draft as State};
 
     ghost Value = { State };
 
     ghost view = { λ d. record { writes = d.writes; plan = d.plan } };
-
-    ghost invariant = { λ d. IsDraft (record { writes = d.writes; plan = d.plan }) };
 }
 
 /// Removes the pending entries that the tree object shows to be applied, where the cache keeps it.
@@ -61,17 +61,48 @@ fn prune_leaf(writes: &mut CommitWrites, cache: &PageCache, tree: TreeId, page: 
     }
 }
 
-/// Removes the pending entries that a tree object or leaf shows to be applied, where the cache keeps it.
+/// Removes the pending entries that an object shows to be applied, where the cache keeps it.
+fn prune_by(writes: &mut CommitWrites, cache: &PageCache, name: ObjName)
+    ensures after { writes.new ≡ pruned_with writes.old cache.now (Some name) }
+    ensures changes { writes.new.changes ≡ writes.old.changes }
+    ensures home { writes.new.home ≡ with_head writes.old.home writes.new.home.head }
+{
+    match name {
+        ObjName::Tree(tree) => prune_root(writes, cache, tree),
+        ObjName::Page(tree, page) => prune_leaf(writes, cache, tree, page),
+        ObjName::Head(_) => {}
+    }
+}
+
+/// The same, where an object was used.
 fn prune(writes: &mut CommitWrites, cache: &PageCache, used: Option<ObjName>)
     ensures after { writes.new ≡ pruned_with writes.old cache.now used }
     ensures changes { writes.new.changes ≡ writes.old.changes }
     ensures home { writes.new.home ≡ with_head writes.old.home writes.new.home.head }
 {
     match used {
-        Some(ObjName::Tree(tree)) => prune_root(writes, cache, tree),
-        Some(ObjName::Page(tree, page)) => prune_leaf(writes, cache, tree, page),
-        Some(ObjName::Head(_)) => {}
+        Some(name) => prune_by(writes, cache, name),
         None => {}
+    }
+}
+
+/// Whether a walk stopped at a stale page.
+fn is_stale(trouble: &Trouble) -> bool
+    ensures { result ≡ is_stale trouble.now }
+{
+    match trouble {
+        Trouble::Stale { .. } => true,
+        Trouble::Failed => false,
+        Trouble::Late { .. } => false,
+        Trouble::Busy { .. } => false,
+        Trouble::Waiting { .. } => false,
+        Trouble::Absent { .. } => false,
+        Trouble::NotALeaf { .. } => false,
+        Trouble::Damaged { .. } => false,
+        Trouble::BadFence { .. } => false,
+        Trouble::Loop { .. } => false,
+        Trouble::Exhausted { .. } => false,
+        Trouble::Memory => false,
     }
 }
 
@@ -89,10 +120,11 @@ fn held(first: bool, walk: Walk) -> Hand
 impl Draft {
     ghost use Rattle.std.specs.Prelude.{◌≡◌, ◌≤◌, ◌<◌, length, OnOk, IfOk, Some, false};
     ghost use Rattle.commit_writes.specs.Writing.{with_head, routing};
+    ghost use Rattle.cloud_trait.specs.Machine.{LeadsBy, Steps};
     ghost use Rattle.page_cache.specs.Cache.{Cache};
     ghost use Rattle.db_base.specs.declared.trouble.Trouble.{Trouble as AnyTrouble};
-    ghost use Rattle.commit_run.specs.Draft.{new_draft, pruned_behind, planned, leaf_noted, paged};
-    ghost use Rattle.commit_run.specs.Run.{Led, IsHeld, held, wrote, troubled, begun_turn, walk_to, seek, next_target, plan_on, stale_at, walk_stopped, walk_turned, long_target, begin_walks};
+    ghost use Rattle.commit_run.specs.Draft.{IsWithin, new_draft, pruned_behind, planned, leaf_noted, paged};
+    ghost use Rattle.commit_run.specs.Run.{Led, IsHeld, held, wrote, troubled, begun_turn, walk_to, seek, next_target, plan_on, stale_at, walk_stopped, walk_turned, long_target, begin_walks, asks, run_next, KeepsHome};
 
     /// The commit of changes, of which no leaf is known. Takes no memory.
     pub(crate) fn new(alloc: Global, writes: CommitWrites) -> Draft
@@ -134,7 +166,6 @@ impl Draft {
 
     /// The page of the next change is known.
     fn add_page(&mut self, page: PageId) -> Result<(), AllocError>
-        requires { length self.old.plan.pages < length self.old.writes.changes }
         ensures ok { OnOk result (self.new ≡ paged self.old page) }
         ensures writes { self.new.writes ≡ self.old.writes }
     {
@@ -145,6 +176,7 @@ impl Draft {
     fn advance(&mut self) -> Result<(), AllocError>
         ensures ok { OnOk result (self.new ≡ planned self.old) }
         ensures writes { self.new.writes ≡ self.old.writes }
+        ensures within { IsWithin self.old → IsWithin self.new }
     {
         let pending = self.writes.home().head.pending.as_slice();
         self.plan.advance(pending, self.writes.changes())
@@ -193,6 +225,7 @@ impl Draft {
         to: (TreeId, Key),
     ) -> (Hand, Turn<CommitAnswer>)
         requires attempt { 1 ≤ self.old.writes.home.attempt }
+        requires within { IsWithin self.old }
         requires aimed { first ≡ false → next_target self.old ≡ Some to }
         ensures led { Led (walk_to first self.old cache.old to) (record { draft = self.new; hand = result.0 }, cache.new) result.1 }
         ensures home { self.new.writes.home ≡ with_head self.old.writes.home self.new.writes.home.head }
@@ -231,6 +264,7 @@ impl Draft {
         to: Option<(TreeId, Key)>,
     ) -> (Hand, Turn<CommitAnswer>)
         requires attempt { 1 ≤ self.old.writes.home.attempt }
+        requires within { IsWithin self.old }
         requires is { to ≡ next_target self.old }
         ensures led { Led (seek self.old cache.old to) (record { draft = self.new; hand = result.0 }, cache.new) result.1 }
         ensures home { self.new.writes.home ≡ with_head self.old.writes.home self.new.writes.home.head }
@@ -249,6 +283,7 @@ impl Draft {
         cache: &mut PageCache,
     ) -> (Hand, Turn<CommitAnswer>)
         requires attempt { 1 ≤ self.old.writes.home.attempt }
+        requires within { IsWithin self.old }
         ensures led { Led (plan_on self.old cache.old) (record { draft = self.new; hand = result.0 }, cache.new) result.1 }
         ensures home { self.new.writes.home ≡ with_head self.old.writes.home self.new.writes.home.head }
         ensures held { IsHeld self.new result.0 }
@@ -270,6 +305,7 @@ impl Draft {
         first: bool,
     ) -> (Hand, Turn<CommitAnswer>)
         requires attempt { 1 ≤ self.old.writes.home.attempt }
+        requires within { IsWithin self.old }
         requires room { first ≡ false → length self.old.plan.pages < length self.old.writes.changes }
         ensures led { Led (stale_at first self.old cache.old) (record { draft = self.new; hand = result.0 }, cache.new) result.1 }
         ensures home { self.new.writes.home ≡ with_head self.old.writes.home self.new.writes.home.head }
@@ -293,16 +329,17 @@ impl Draft {
         trouble: Trouble,
     ) -> (Hand, Turn<CommitAnswer>)
         requires attempt { 1 ≤ self.old.writes.home.attempt }
+        requires within { IsWithin self.old }
         requires room { first ≡ false → length self.old.plan.pages < length self.old.writes.changes }
         ensures led { Led (walk_stopped first self.old cache.old trouble) (record { draft = self.new; hand = result.0 }, cache.new) result.1 }
         ensures home { self.new.writes.home ≡ with_head self.old.writes.home self.new.writes.home.head }
         ensures held { IsHeld self.new result.0 }
         ensures memory { trouble ≡ Trouble.Memory → result.1 ≡ Turn.Stopped Trouble.Memory }
     {
-        match trouble {
-            Trouble::Stale { .. } => self.stale(alloc, cache, first),
-            other => (Hand::Writes, self.trouble(other)),
+        if is_stale(&trouble) {
+            return self.stale(alloc, cache, first);
         }
+        (Hand::Writes, self.trouble(trouble))
     }
 
     /// A walk ended at a leaf.
@@ -314,6 +351,7 @@ impl Draft {
         page: PageId,
     ) -> (Hand, Turn<CommitAnswer>)
         requires attempt { 1 ≤ self.old.writes.home.attempt }
+        requires within { IsWithin self.old }
         ensures led { Led (plan_on (leaf_noted self.old walk.now cache.old page) cache.old) (record { draft = self.new; hand = result.0 }, cache.new) result.1 }
         ensures home { self.new.writes.home ≡ with_head self.old.writes.home self.new.writes.home.head }
         ensures held { IsHeld self.new result.0 }
@@ -334,6 +372,7 @@ impl Draft {
         turn: Turn<PageId>,
     ) -> (Hand, Turn<CommitAnswer>)
         requires attempt { 1 ≤ self.old.writes.home.attempt }
+        requires within { IsWithin self.old }
         requires room { first ≡ false → length self.old.plan.pages < length self.old.writes.changes }
         requires aimed { turn ≡ Turn.More → IsHeld self.old (held first walk) }
         ensures led { Led (walk_turned first self.old walk cache.old turn) (record { draft = self.new; hand = result.0 }, cache.new) result.1 }
@@ -347,6 +386,25 @@ impl Draft {
             Turn::Ended(page) => self.walk_ended(alloc, cache, &walk, page),
             Turn::Stopped(trouble) => self.walk_stopped(alloc, cache, first, trouble),
         }
+    }
+
+    /// Takes a step of the walk in hand.
+    pub(crate) fn step_walk<C: Cloud>(
+        &mut self,
+        alloc: Global,
+        cloud: &mut C,
+        who: Who,
+        cache: &mut PageCache,
+        first: bool,
+        walk: Walk,
+    ) -> (Hand, Turn<CommitAnswer>)
+        requires { IsHeld self.old (held first walk) }
+        ensures steps { Steps asks (LeadsBy run_next) KeepsHome who (C.seen cloud.old) (C.seen cloud.new) (record { draft = self.old; hand = held first walk }, cache.old) (record { draft = self.new; hand = result.0 }, cache.new) result.1 }
+        ensures held { IsHeld self.new result.0 }
+    {
+        let mut walk = walk;
+        let turn = walk.step(alloc, cloud, who, cache);
+        self.walked(alloc, cache, first, walk, turn)
     }
 
     /// The tree and key of the first pending entry, where there are more than 256.
@@ -370,6 +428,7 @@ impl Draft {
         cache: &mut PageCache,
     ) -> (Hand, Turn<CommitAnswer>)
         requires attempt { 1 ≤ self.old.writes.home.attempt }
+        requires within { IsWithin self.old }
         ensures led { Led (begin_walks self.old cache.old) (record { draft = self.new; hand = result.0 }, cache.new) result.1 }
         ensures home { self.new.writes.home ≡ with_head self.old.writes.home self.new.writes.home.head }
         ensures held { IsHeld self.new result.0 }

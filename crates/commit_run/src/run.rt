@@ -8,6 +8,7 @@ use cloud_trait::call::Call;
 use cloud_trait::cloud::Cloud;
 use cloud_trait::turn::Turn;
 use cloud_trait::who::Who;
+use commit_plan::plan::LeafPlan;
 use commit_writes::writes::CommitWrites;
 use db_base::trouble::{CommitAnswer, Counter, Trouble};
 use page_cache::PageCache;
@@ -15,7 +16,6 @@ use recover_run::home::Home;
 use std::alloc::Global;
 use std::marker::Model;
 use std::mem;
-use tree_walk::Walk;
 use txn_buffer::buffer::TxnBuffer;
 
 /// A commit of a client's changes, beside its session's cache: the walks for the leaves of the changes, each of which prunes the
@@ -37,9 +37,7 @@ impl Model for CommitRun {
 }
 
 impl CommitRun {
-    ghost use Rattle.std.specs.Option.{option_copied};
-    ghost use Rattle.commit_writes.specs.Writing.{opens_at};
-    ghost use Rattle.commit_run.specs.Run.{new_run, run_ask, asks, run_ready, run_next, home_of, opened_by_hand, Led, Keeps, KeepsHome};
+    ghost use Rattle.commit_run.specs.Run.{new_run, run_ask, asks, run_ready, run_next, home_of, Led, Keeps, KeepsHome};
 
     /// The commit of changes by a home, before its first call. Takes no memory.
     pub fn new(alloc: Global, home: Home, changes: TxnBuffer) -> CommitRun
@@ -84,28 +82,12 @@ impl CommitRun {
         ensures kept { Keeps (home_of self.old) (home_of self.new) }
     {
         self.hand = Hand::Writes;
+        let draft = &mut self.draft;
+        draft.plan = LeafPlan::new(alloc);
         if !self.draft.writes.take_number() {
             return self.draft.writes.not_committed(Trouble::Exhausted { what: Counter::Txn });
         }
         let (hand, turn) = self.draft.begin_walks(alloc, cache);
-        self.hand = hand;
-        turn
-    }
-
-    /// Takes a step of the walk in hand.
-    fn step_walk<C: Cloud>(
-        &mut self,
-        alloc: Global,
-        cloud: &mut C,
-        who: Who,
-        cache: &mut PageCache,
-        first: bool,
-        walk: Walk,
-    ) -> Turn<CommitAnswer>
-    {
-        let mut walk = walk;
-        let turn = walk.step(alloc, cloud, who, cache);
-        let (hand, turn) = self.draft.walked(alloc, cache, first, walk, turn);
         self.hand = hand;
         turn
     }
@@ -118,11 +100,20 @@ impl CommitRun {
         who: Who,
         cache: &mut PageCache,
     ) -> Turn<CommitAnswer>
+        ensures steps { Steps asks (LeadsBy run_next) KeepsHome who (C.seen cloud.old) (C.seen cloud.new) (self.old, cache.old) (self.new, cache.new) result }
     {
         match mem::replace(&mut self.hand, Hand::Writes) {
             Hand::Writes => self.draft.writes.step(alloc, cloud, who),
-            Hand::First(walk) => self.step_walk(alloc, cloud, who, cache, true, walk),
-            Hand::Change(walk) => self.step_walk(alloc, cloud, who, cache, false, walk),
+            Hand::First(walk) => {
+                let (hand, turn) = self.draft.step_walk(alloc, cloud, who, cache, true, walk);
+                self.hand = hand;
+                turn
+            }
+            Hand::Change(walk) => {
+                let (hand, turn) = self.draft.step_walk(alloc, cloud, who, cache, false, walk);
+                self.hand = hand;
+                turn
+            }
         }
     }
 }

@@ -148,7 +148,7 @@ read_ends w c ok = on w.spot refl where
   on None e = if_map (AtLeaf c) (root_read w) (root_at c (object.Tree w.tree)) (λ t kept. unended_at c (root_read w t) (root_unended w t))
   on (Some s) e = page s e (s.level == 0) refl
 
-got_ends : (w : Walk) (c : Cache) → IsWalk w → AtLeaf c (got_read w c)
+pub got_ends : (w : Walk) (c : Cache) → IsWalk w → AtLeaf c (got_read w c)
 got_ends w c ok = on (read_from w c) (read_ends w c ok) where
   follows : (m : Next Walk ℕ) → AtLeaf c m → AtLeaf c (follow (goes_on c) m)
   follows (Goes v) h = unended_at c (goes_on c v) (through_unended c 64 v)
@@ -193,7 +193,7 @@ others_dropped (p ∷ ps) c tree page h = on (p == page) refl (others_dropped ps
   on true is more h = absurd (cc (h))
   on false ne more h = more h ∙ drop_others c (object.Page tree p) (object.Page tree page) (other ne)
 
-leaf_stays : (w : Walk) (c : Cache) (page : ℕ) → is_among w.nodes page ≡ false → leaf_at (left_by w c) (object.Page w.tree page) ≡ leaf_at c (object.Page w.tree page)
+pub leaf_stays : (w : Walk) (c : Cache) (page : ℕ) → is_among w.nodes page ≡ false → leaf_at (left_by w c) (object.Page w.tree page) ≡ leaf_at c (object.Page w.tree page)
 leaf_stays w c page apart = on w.turned where
   on : (b : Bool) → leaf_at (if b then fold dropped c (passed w) else c) (object.Page w.tree page) ≡ leaf_at c (object.Page w.tree page)
   on false = refl

@@ -3,3 +3,7 @@ pub mod Aiming
 pub mod Walking
 pub mod Served
 pub mod Holding
+pub mod Knowing
+pub mod Planning
+pub mod Walked
+pub mod Meaning

@@ -27,7 +27,7 @@ use Rattle.commit_run.proofs.Aiming.{aim, moved_aims, ready_aims, next_aims}
 use Rattle.commit_run.proofs.Leading.{took_moves}
 
 -- where the tree and key are those of a walk
-aimed_at : (w : Walk) (to : ℕ × List ℕ) → aim w ≡ (to.0, Some to.1) → to ≡ (w.tree, sought w)
+pub aimed_at : (w : Walk) (to : ℕ × List ℕ) → aim w ≡ (to.0, Some to.1) → to ≡ (w.tree, sought w)
 aimed_at w to e = sym (ap (λ (a : ℕ × Option (List ℕ)). (a.0, unwrap_or a.1 [])) e)
 
 pub is_held : (first : Bool) (d : Draft) (w : Walk) → 1 ≤ d.writes.home.attempt → IsWithin d → (first ≡ false → next_target d ≡ Some (w.tree, sought w)) → IsHeld d (held first w)

@@ -178,3 +178,34 @@ write_meant draft c who before after w turn meant = record {
     writes_mean home changes h draft.writes (writing_ask draft.writes) meant.answer w.home turn k
     (meant.means (walked_home home k.begun_so.uses) changes (routed_of (walked_home home k.begun_so.uses) changes k.begun_so.pages) k.start k.later k.begun_so.begins k.came);
 }
+
+answer_in : CommitAnswer → Next (Run × Cache) CommitAnswer → CommitAnswer
+answer_in d (Goes m) = d
+answer_in d (Ends m a) = a
+answer_in d (Stops m t) = d
+
+home_in : Home → Next (Run × Cache) CommitAnswer → Home
+home_in d (Goes m) = d
+home_in d (Ends m a) = home_of m.0
+home_in d (Stops m t) = d
+
+never_stops : (d : Draft) (c : Cache) (t : Trouble) (n : Run × Cache) (u : Trouble) → refused d c t ≡ Stops n u → ⊥
+never_stops d c t n u e = absurd (cc (e))
+
+-- of the beginning
+pub ready_means : (home : Home) (changes : List Noted) (c : Cache) (old : Run) (n : Run × Cache) (turn : Turn CommitAnswer) → old ≡ new_run home changes → Led (run_ready (old, c)) n turn
+    → MeansReady home changes (home_of n.0) turn
+unfolding answer_in, home_in
+ready_means home changes c old n turn new led = on (is_spent home) refl turn (subst (λ (r : Run). Led (run_ready (r, c)) n turn) new led) where
+  spent : is_spent home ≡ true → run_ready (new_run home changes, c) ≡ refused (new_draft (waiting home changes)) c (trouble.Exhausted counter.Txn)
+  spent e = ap (λ (b : Bool). if b then refused (new_draft (waiting home changes)) c (trouble.Exhausted counter.Txn) else begin_walks (new_draft (numbered (waiting home changes))) c) e
+
+  ended : (a : CommitAnswer) → refused (new_draft (waiting home changes)) c (trouble.Exhausted counter.Txn) ≡ Ends n a → (a ≡ NotCommitted (trouble.Exhausted counter.Txn)) × (home_of n.0 ≡ home)
+  ended a e = (sym (ap (answer_in a) e), sym (ap (home_in home) e))
+
+  on : (b : Bool) → is_spent home ≡ b → (t : Turn CommitAnswer) → Led (run_ready (new_run home changes, c)) n t → MeansReady home changes (home_of n.0) t
+  on b e More h = tt
+  on true e (Ended a) h = let is : (a ≡ NotCommitted (trouble.Exhausted counter.Txn)) × (home_of n.0 ≡ home) = ended a (sym (spent e) ∙ h) in inl (e, is.0, is.1)
+  on true e (Stopped t) h = only_memory t (λ other. absurd (never_stops (new_draft (waiting home changes)) c (trouble.Exhausted counter.Txn) n t (sym (spent e) ∙ h other)))
+  on false e (Ended a) h = inr (e, subst (KnowsNext home changes []) h (ready_knows home changes c e))
+  on false e (Stopped t) h = only_memory t (λ other. subst (KnowsNext home changes []) (h other) (ready_knows home changes c e))

@@ -47,25 +47,23 @@ ended_more calls more es all = all_map (IsGotAt calls) (IsGotAt (calls ++ more))
 leaf_more : (calls more : Calls) (n : Noted) (page : ℕ) → IsLeafOf calls n page → IsLeafOf (calls ++ more) n page
 leaf_more calls more n page (inl h) =
     inl (record { place = h.place; bytes = h.bytes; leaf = h.leaf; got = get_more calls more h.place (Get (object.Page n.tree page), Got h.bytes) h.got; spelled = h.spelled; holds = h.holds })
-leaf_more calls more n page (inr (one, (t, (stale, s)))) =
+leaf_more calls more n page (inr (one, (t, stale, s))) =
     inr (
       one,
       (
         t,
-        (
-          stale,
-          record {
-            place = s.place;
-            walk = s.walk;
-            cache = s.cache;
-            answer = s.answer;
-            after = s.after;
-            in_tree = s.in_tree;
-            to = s.to;
-            made = get_more calls more s.place _ s.made;
-            stopped = s.stopped;
-          },
-        ),
+        stale,
+        record {
+          place = s.place;
+          walk = s.walk;
+          cache = s.cache;
+          answer = s.answer;
+          after = s.after;
+          in_tree = s.in_tree;
+          to = s.to;
+          made = get_more calls more s.place _ s.made;
+          stopped = s.stopped;
+        },
       ),
     )
 
@@ -109,13 +107,10 @@ spans_held calls tree key e h spanned =
 
 found_held : (calls : Calls) (tree : ℕ) (key : List ℕ) (page : ℕ) (es : List Ended) → AllByRecursion (IsGotAt calls) es → page_at es tree key ≡ Some page → IsHeldAt calls tree page key
 found_held calls tree key page [] all e = absurd (cc (e))
-found_held calls tree key page (x ∷ es) all e = on (spans tree key x) refl e where
-  page_of : Ended → ℕ
-  page_of y = y.page
-
-  on : (b : Bool) → spans tree key x ≡ b → option_map (λ (y : Ended). y.page) (if b then Some x else find (spans tree key) es) ≡ Some page → IsHeldAt calls tree page key
-  on true spanned e = let same : x.page ≡ page = cc (e) in subst (λ (p : ℕ). IsHeldAt calls tree p key) same (spans_held calls tree key x all.0 spanned)
-  on false spanned e = found_held calls tree key page es all.1 e
+found_held calls tree key page (x ∷ es) all e = on (found_held calls tree key page es all.1) (spans tree key x) refl e where
+  on : (page_at es tree key ≡ Some page → IsHeldAt calls tree page key) → (b : Bool) → spans tree key x ≡ b → option_map (λ (y : Ended). y.page) (if b then Some x else find (spans tree key) es) ≡ Some page → IsHeldAt calls tree page key
+  on more true spanned e = let same : x.page ≡ page = cc (e) in subst (λ (p : ℕ). IsHeldAt calls tree p key) same (spans_held calls tree key x all.0 spanned)
+  on more false spanned e = more e
 
 seeks_update : (a b : Bool) → a ≡ true → (a || b) ≡ true
 seeks_update true b e = refl

@@ -17,8 +17,6 @@ use Rattle.log_codec.specs.declared.record.AtomicRec.{AtomicRec}
 use Rattle.txn_buffer.specs.Noted.{Noted}
 use Rattle.cloud_trait.specs.declared.answer.Answer.{Answer}
 use Rattle.cloud_trait.specs.declared.answer.Answer.TheVariants.{Got}
-use Rattle.cloud_trait.specs.declared.turn.Turn.{Turn}
-use Rattle.cloud_trait.specs.declared.turn.Turn.TheVariants.{More, Ended, Stopped}
 use Rattle.cloud_trait.specs.Ask.{Ask, Get}
 use Rattle.cloud_trait.specs.Machine.{Next, Goes, Ends, Stops}
 use Rattle.recover_run.specs.declared.home.Home.{Home}
@@ -55,18 +53,18 @@ pruned_more home changes uses (OfLeaf tree leaf) =
     ap (λ (h : Head). waiting (with_head (walked_home home uses) h) changes) (sym (pruned_last home.client home.head uses (OfLeaf tree leaf)))
 
 -- some uses more
-abbrev More : Home → List Noted → Writing → Type 0
-More home changes w = (uses : List Use) × (w ≡ waiting (walked_home home uses) changes)
+abbrev Prunes : Home → List Noted → Writing → Type 0
+Prunes home changes w = (uses : List Use) × (w ≡ waiting (walked_home home uses) changes)
 
-root_more : (home : Home) (changes : List Noted) (uses : List Use) (tree : ℕ) (o : Option Tree) → More home changes (pruned_by_root (waiting (walked_home home uses) changes) tree o)
+root_more : (home : Home) (changes : List Noted) (uses : List Use) (tree : ℕ) (o : Option Tree) → Prunes home changes (pruned_by_root (waiting (walked_home home uses) changes) tree o)
 root_more home changes uses tree None = (uses, refl)
 root_more home changes uses tree (Some root) = (uses ++ OfTree tree root ∷ [], pruned_more home changes uses (OfTree tree root))
 
-leaf_more : (home : Home) (changes : List Noted) (uses : List Use) (tree : ℕ) (o : Option Leaf) → More home changes (pruned_by_kept (waiting (walked_home home uses) changes) tree o)
+leaf_more : (home : Home) (changes : List Noted) (uses : List Use) (tree : ℕ) (o : Option Leaf) → Prunes home changes (pruned_by_kept (waiting (walked_home home uses) changes) tree o)
 leaf_more home changes uses tree None = (uses, refl)
 leaf_more home changes uses tree (Some leaf) = (uses ++ OfLeaf tree leaf ∷ [], pruned_more home changes uses (OfLeaf tree leaf))
 
-used_more : (home : Home) (changes : List Noted) (uses : List Use) (c : Cache) (used : Option ObjName) → More home changes (pruned_with (waiting (walked_home home uses) changes) c used)
+used_more : (home : Home) (changes : List Noted) (uses : List Use) (c : Cache) (used : Option ObjName) → Prunes home changes (pruned_with (waiting (walked_home home uses) changes) c used)
 used_more home changes uses c None = (uses, refl)
 used_more home changes uses c (Some (object.Head client)) = (uses, refl)
 used_more home changes uses c (Some (object.Tree tree)) = root_more home changes uses tree (root_at c (object.Tree tree))
@@ -78,8 +76,8 @@ within_of home changes uses w v pages e same h = subst (λ (cs : List Noted). le
 
 knows_pruned : (home : Home) (changes : List Noted) (calls : Calls) (d : Draft) (w : Walk) (c : Cache) → KnowsDraft home changes calls d → KnowsDraft home changes calls (pruned_behind d w c)
 knows_pruned home changes calls d w c k =
-    let more : More home changes (pruned_with d.writes c w.used) =
-    subst (λ (x : Writing). More home changes (pruned_with x c w.used)) (sym k.writes) (used_more home changes k.uses c w.used) in
+    let more : Prunes home changes (pruned_with d.writes c w.used) =
+    subst (λ (x : Writing). Prunes home changes (pruned_with x c w.used)) (sym k.writes) (used_more home changes k.uses c w.used) in
     record {
       uses = more.0;
       writes = more.1;
@@ -258,8 +256,8 @@ walk_of home changes calls true d w k = k.1
 walk_of home changes calls false d w k = k.1
 
 target_at : (home : Home) (changes : List Noted) (calls : Calls) (first : Bool) (d : Draft) (w : Walk) → KnowsHand home changes calls d (held first w) → first ≡ false → next_target d ≡ Some (w.tree, sought w)
-target_at home changes calls true d w k no = absurd (cc (no))
-target_at home changes calls false d w k no = k.2
+target_at home changes calls true d w k other = absurd (cc (other))
+target_at home changes calls false d w k other = k.2
 
 same_target : (w v : Walk) → aim v ≡ aim w → ◌≡◌ {A = ℕ × List ℕ} (w.tree, sought w) (v.tree, sought v)
 same_target w v e = ap (λ (a : ℕ × Option (List ℕ)). (a.0, unwrap_or a.1 [])) (sym e)
@@ -279,11 +277,11 @@ turned_by home changes calls first d w c a k = on (walk_next (w, c) a) refl (nex
   behind m = knows_pruned home changes (calls ++ (walk_ask w, a) ∷ []) d m.0 m.1 more
 
   target : (m : Walk × Cache) → first ≡ false → next_target (pruned_behind d m.0 m.1) ≡ Some (w.tree, sought w)
-  target m no = target_same home changes (calls ++ (walk_ask w, a) ∷ []) (pruned_behind d m.0 m.1) d (behind m) more refl ∙ target_at home changes calls first d w k no
+  target m other = target_same home changes (calls ++ (walk_ask w, a) ∷ []) (pruned_behind d m.0 m.1) d (behind m) more refl ∙ target_at home changes calls first d w k other
 
   stale : (m : Walk × Cache) (t : Trouble) → walk_next (w, c) a ≡ Stops m t → is_stale t ≡ true → (n : Noted) → target_of n ≡ (w.tree, sought w) → IsLeafOf (calls ++ (walk_ask w, a) ∷ []) n 1
   stale m t e is n same =
-      inr (refl, (t, (is, stopped_at calls w c a m t e n.tree (key_of n.change) (sym (ap (λ (x : ℕ × List ℕ). x.0) same)) (sym (ap (λ (x : ℕ × List ℕ). x.1) same)))))
+      inr (refl, (t, is, stopped_at calls w c a m t e n.tree (key_of n.change) (sym (ap (λ (x : ℕ × List ℕ). x.0) same)) (sym (ap (λ (x : ℕ × List ℕ). x.1) same))))
 
   stops : (m : Walk × Cache) (t : Trouble) → walk_next (w, c) a ≡ Stops m t → (b : Bool) → is_stale t ≡ b
       → KnowsNext home changes (calls ++ (walk_ask w, a) ∷ []) (if b then stale_at first (pruned_behind d m.0 m.1) m.1 else troubled (pruned_behind d m.0 m.1) m.1 t)
@@ -292,7 +290,7 @@ turned_by home changes calls first d w c a k = on (walk_next (w, c) a) refl (nex
       (hand_by home changes (calls ++ (walk_ask w, a) ∷ []) first (pruned_behind d m.0 m.1) w (behind m) (walk_of home changes calls first d w k) (target m)) (stale m t e is)
   stops m t e false is =
       troubled_by home changes (calls ++ (walk_ask w, a) ∷ []) (pruned_behind d m.0 m.1) m.1 t (behind m)
-      (inl (is, (w.tree, (sought w, stopped_at calls w c a m t e w.tree (sought w) refl refl))))
+      (inl (is, w.tree, sought w, stopped_at calls w c a m t e w.tree (sought w) refl refl))
 
   on : (x : Next (Walk × Cache) ℕ) → walk_next (w, c) a ≡ x → AimsBeside (aim w) x → WalksBeside x → KnowsNext home changes (calls ++ (walk_ask w, a) ∷ []) (by_turn (walk_turned first d) x)
   on (Goes m) e aims is =

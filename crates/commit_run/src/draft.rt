@@ -125,6 +125,7 @@ impl Draft {
     ghost use Rattle.db_base.specs.declared.trouble.Trouble.{Trouble as AnyTrouble};
     ghost use Rattle.commit_run.specs.Draft.{IsWithin, new_draft, pruned_behind, planned, leaf_noted, paged};
     ghost use Rattle.commit_run.specs.Run.{Led, IsHeld, held, wrote, troubled, begun_turn, walk_to, seek, next_target, plan_on, stale_at, walk_stopped, walk_turned, long_target, begin_walks, asks, run_next, KeepsHome};
+    ghost use Rattle.commit_run.specs.Meaning.{Meant};
 
     /// The commit of changes, of which no leaf is known. Takes no memory.
     pub(crate) fn new(alloc: Global, writes: CommitWrites) -> Draft
@@ -388,6 +389,19 @@ impl Draft {
         }
     }
 
+    /// Takes a step of the writes.
+    pub(crate) fn step_writes<C: Cloud>(
+        &mut self,
+        alloc: Global,
+        cloud: &mut C,
+        who: Who,
+    ) -> Turn<CommitAnswer>
+        ensures steps { (c : Cache) → Steps asks (LeadsBy run_next) KeepsHome who (C.seen cloud.old) (C.seen cloud.new) (record { draft = self.old; hand = Hand.Writes }, c) (record { draft = self.new; hand = Hand.Writes }, c) result }
+        ensures means { (c : Cache) → Meant who (C.seen cloud.old) (C.seen cloud.new) (record { draft = self.old; hand = Hand.Writes }, c) (record { draft = self.new; hand = Hand.Writes }, c) result }
+    {
+        self.writes.step(alloc, cloud, who)
+    }
+
     /// Takes a step of the walk in hand.
     pub(crate) fn step_walk<C: Cloud>(
         &mut self,
@@ -400,6 +414,7 @@ impl Draft {
     ) -> (Hand, Turn<CommitAnswer>)
         requires { IsHeld self.old (held first walk) }
         ensures steps { Steps asks (LeadsBy run_next) KeepsHome who (C.seen cloud.old) (C.seen cloud.new) (record { draft = self.old; hand = held first walk }, cache.old) (record { draft = self.new; hand = result.0 }, cache.new) result.1 }
+        ensures means { Meant who (C.seen cloud.old) (C.seen cloud.new) (record { draft = self.old; hand = held first walk }, cache.old) (record { draft = self.new; hand = result.0 }, cache.new) result.1 }
         ensures held { IsHeld self.new result.0 }
     {
         let mut walk = walk;

@@ -1,4 +1,4 @@
-ghost use Rattle.std.specs.Prelude.{◌≡◌, ◌≤◌, length};
+ghost use Rattle.std.specs.Prelude.{◌≡◌, ◌≤◌, List, length};
 ghost use Rattle.cloud_trait.specs.Call.{ask_of};
 ghost use Rattle.cloud_trait.specs.Machine.{LeadsBy, Steps};
 
@@ -38,6 +38,10 @@ impl Model for CommitRun {
 
 impl CommitRun {
     ghost use Rattle.commit_run.specs.Run.{new_run, run_ask, asks, run_ready, run_next, home_of, Led, Keeps, KeepsHome};
+
+    ghost use Rattle.commit_run.specs.Meaning.{Meant, MeansReady};
+    ghost use Rattle.recover_run.specs.declared.home.Home.{Home};
+    ghost use Rattle.txn_buffer.specs.Noted.{Noted};
 
     /// The commit of changes by a home, before its first call. Takes no memory.
     pub fn new(alloc: Global, home: Home, changes: TxnBuffer) -> CommitRun
@@ -80,6 +84,7 @@ impl CommitRun {
     pub fn ready(&mut self, alloc: Global, cache: &mut PageCache) -> Turn<CommitAnswer>
         ensures led { Led (run_ready (self.old, cache.old)) (self.new, cache.new) result }
         ensures kept { Keeps (home_of self.old) (home_of self.new) }
+        ensures means { (home : Home) (changes : List Noted) → self.old ≡ new_run home changes → MeansReady home changes (home_of self.new) result }
     {
         self.hand = Hand::Writes;
         let draft = &mut self.draft;
@@ -101,9 +106,10 @@ impl CommitRun {
         cache: &mut PageCache,
     ) -> Turn<CommitAnswer>
         ensures steps { Steps asks (LeadsBy run_next) KeepsHome who (C.seen cloud.old) (C.seen cloud.new) (self.old, cache.old) (self.new, cache.new) result }
+        ensures means { Meant who (C.seen cloud.old) (C.seen cloud.new) (self.old, cache.old) (self.new, cache.new) result }
     {
         match mem::replace(&mut self.hand, Hand::Writes) {
-            Hand::Writes => self.draft.writes.step(alloc, cloud, who),
+            Hand::Writes => self.draft.step_writes(alloc, cloud, who),
             Hand::First(walk) => {
                 let (hand, turn) = self.draft.step_walk(alloc, cloud, who, cache, true, walk);
                 self.hand = hand;

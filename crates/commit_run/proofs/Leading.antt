@@ -86,3 +86,9 @@ pub write_steps : (d : Draft) (who : Caller) (before after : Seen) (c : Cache) (
     → Steps writing_ask (LeadsBy writing_next) KeepsWritten who before after d.writes w turn
     → Steps asks (LeadsBy run_next) KeepsHome who before after (record { draft = d; hand = Writes }, c) (written d w, c) turn
 write_steps d who before after c w turn steps = record { answer = steps.answer; made = steps.made; took = wrote_took d c steps.answer w turn steps.took }
+
+pub write_steps_at : (old d : Draft) → d ≡ old → (who : Caller) (before after : Seen) (c : Cache) (w : Writing) (turn : Turn CommitAnswer)
+    → Steps writing_ask (LeadsBy writing_next) KeepsWritten who before after d.writes w turn
+    → Steps asks (LeadsBy run_next) KeepsHome who before after (record { draft = old; hand = Writes }, c) (written d w, c) turn
+write_steps_at old d is who before after c w turn steps =
+    subst (λ (x : Draft). Steps asks (LeadsBy run_next) KeepsHome who before after (record { draft = x; hand = Writes }, c) (written d w, c) turn) is (write_steps d who before after c w turn steps)

@@ -179,6 +179,11 @@ write_meant draft c who before after w turn meant = record {
     (meant.means (walked_home home k.begun_so.uses) changes (routed_of (walked_home home k.begun_so.uses) changes k.begun_so.pages) k.start k.later k.begun_so.begins k.came);
 }
 
+pub write_meant_at : (old d : Draft) → d ≡ old → (c : Cache) (who : Caller) (before after : Seen) (w : Writing) (turn : Turn CommitAnswer) → WritesMeant who before after d.writes w turn
+    → Meant who before after (record { draft = old; hand = Writes }, c) (written d w, c) turn
+write_meant_at old d is c who before after w turn meant =
+    subst (λ (x : Draft). Meant who before after (record { draft = x; hand = Writes }, c) (written d w, c) turn) is (write_meant d c who before after w turn meant)
+
 answer_in : CommitAnswer → Next (Run × Cache) CommitAnswer → CommitAnswer
 answer_in d (Goes m) = d
 answer_in d (Ends m a) = a
@@ -195,7 +200,7 @@ never_stops d c t n u e = absurd (cc (e))
 -- of the beginning
 pub ready_means : (home : Home) (changes : List Noted) (c : Cache) (old : Run) (n : Run × Cache) (turn : Turn CommitAnswer) → old ≡ new_run home changes → Led (run_ready (old, c)) n turn
     → MeansReady home changes (home_of n.0) turn
-unfolding answer_in, home_in
+unfolding answer_in home_in
 ready_means home changes c old n turn new led = on (is_spent home) refl turn (subst (λ (r : Run). Led (run_ready (r, c)) n turn) new led) where
   spent : is_spent home ≡ true → run_ready (new_run home changes, c) ≡ refused (new_draft (waiting home changes)) c (trouble.Exhausted counter.Txn)
   spent e = ap (λ (b : Bool). if b then refused (new_draft (waiting home changes)) c (trouble.Exhausted counter.Txn) else begin_walks (new_draft (numbered (waiting home changes))) c) e

@@ -13,7 +13,7 @@ use commit_writes::writes::CommitWrites;
 use db_base::ids::{PageId, TreeId};
 use db_base::key::Key;
 use db_base::names::ObjName;
-use db_base::trouble::{CommitAnswer, Trouble};
+use db_base::trouble::{CommitAnswer, Counter, Trouble};
 use page_cache::PageCache;
 use std::alloc::{AllocError, Global};
 use std::marker::Model;
@@ -124,7 +124,7 @@ impl Draft {
     ghost use Rattle.page_cache.specs.Cache.{Cache};
     ghost use Rattle.db_base.specs.declared.trouble.Trouble.{Trouble as AnyTrouble};
     ghost use Rattle.commit_run.specs.Draft.{IsWithin, new_draft, pruned_behind, planned, leaf_noted, paged};
-    ghost use Rattle.commit_run.specs.Run.{Led, IsHeld, held, wrote, troubled, begun_turn, walk_to, seek, next_target, plan_on, stale_at, walk_stopped, walk_turned, long_target, begin_walks, asks, run_next, KeepsHome};
+    ghost use Rattle.commit_run.specs.Run.{Led, IsHeld, held, wrote, troubled, begun_turn, walk_to, seek, next_target, plan_on, stale_at, walk_stopped, walk_turned, long_target, begin_walks, asks, run_ready, run_next, Keeps, KeepsHome};
     ghost use Rattle.commit_run.specs.Meaning.{Meant};
 
     /// The commit of changes, of which no leaf is known. Takes no memory.
@@ -453,5 +453,23 @@ impl Draft {
             Ok(None) => self.plan_on(alloc, cache),
             Err(_) => (Hand::Writes, Turn::Stopped(Trouble::Memory)),
         }
+    }
+
+    /// Takes the next attempt number, and begins.
+    pub(crate) fn begin(
+        &mut self,
+        alloc: Global,
+        cache: &mut PageCache,
+    ) -> (Hand, Turn<CommitAnswer>)
+        ensures led { Led (run_ready (record { draft = self.old; hand = Hand.Writes }, cache.old)) (record { draft = self.new; hand = result.0 }, cache.new) result.1 }
+        ensures kept { Keeps self.old.writes.home self.new.writes.home }
+        ensures held { IsHeld self.new result.0 }
+    {
+        self.plan = LeafPlan::new(alloc);
+        if self.writes.take_number() {
+            return self.begin_walks(alloc, cache);
+        }
+        let trouble = Trouble::Exhausted { what: Counter::Txn };
+        (Hand::Writes, self.writes.not_committed(trouble))
     }
 }

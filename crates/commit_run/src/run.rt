@@ -8,9 +8,8 @@ use cloud_trait::call::Call;
 use cloud_trait::cloud::Cloud;
 use cloud_trait::turn::Turn;
 use cloud_trait::who::Who;
-use commit_plan::plan::LeafPlan;
 use commit_writes::writes::CommitWrites;
-use db_base::trouble::{CommitAnswer, Counter, Trouble};
+use db_base::trouble::CommitAnswer;
 use page_cache::PageCache;
 use recover_run::home::Home;
 use std::alloc::Global;
@@ -86,13 +85,7 @@ impl CommitRun {
         ensures kept { Keeps (home_of self.old) (home_of self.new) }
         ensures means { (home : Home) (changes : List Noted) → self.old ≡ new_run home changes → MeansReady home changes (home_of self.new) result }
     {
-        self.hand = Hand::Writes;
-        let draft = &mut self.draft;
-        draft.plan = LeafPlan::new(alloc);
-        if !self.draft.writes.take_number() {
-            return self.draft.writes.not_committed(Trouble::Exhausted { what: Counter::Txn });
-        }
-        let (hand, turn) = self.draft.begin_walks(alloc, cache);
+        let (hand, turn) = self.draft.begin(alloc, cache);
         self.hand = hand;
         turn
     }

@@ -25,7 +25,12 @@ pub(crate) fn opened(alloc: Global, cloud: &mut MemoryCloud) -> Result<Home, Fai
     for _ in 0..9u64 {
         match run.step(alloc, cloud, who()?) {
             Turn::More => {}
-            _ => return run.finish().ok_or(Fail::from("no home")),
+            _ => {
+                return match run.finish() {
+                    Some(home) => Ok(home),
+                    None => Err(Fail::from("no home")),
+                };
+            }
         }
     }
     Err(Fail::from("no end"))

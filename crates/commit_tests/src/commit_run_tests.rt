@@ -19,7 +19,7 @@ fn a_plain_insert_takes_five_calls(rt: HostRuntime) -> Result<(), Fail> {
         commit(alloc, &mut cloud, &mut cache, home, buffer(alloc, b"a", b"")?)?;
     let expected = [log()?, put_head()?, post(0)?, put_head()?, delete(1)?];
     assert_eq!(rt; calls.as_slice(), expected.as_slice());
-    assert_eq!(rt; answer, CommitAnswer::Committed { txn: 1 });
+    assert!(rt; matches!(answer, CommitAnswer::Committed { txn: 1 }));
     assert_eq!(rt; home.attempt, 1);
     assert_eq!(rt; home.head.pending.as_slice().len(), 1);
     Ok(())
@@ -43,7 +43,7 @@ fn an_update_walks_to_its_leaf(rt: HostRuntime) -> Result<(), Fail> {
         delete(1)?,
     ];
     assert_eq!(rt; calls.as_slice(), expected.as_slice());
-    assert_eq!(rt; answer, CommitAnswer::Committed { txn: 1 });
+    assert!(rt; matches!(answer, CommitAnswer::Committed { txn: 1 }));
     // The tree object is kept.
     let (calls, answer, _) =
         commit(alloc, &mut cloud, &mut cache, home, buffer(alloc, b"", b"b")?)?;
@@ -56,7 +56,7 @@ fn an_update_walks_to_its_leaf(rt: HostRuntime) -> Result<(), Fail> {
         delete(2)?,
     ];
     assert_eq!(rt; calls.as_slice(), expected.as_slice());
-    assert_eq!(rt; answer, CommitAnswer::Committed { txn: 2 });
+    assert!(rt; matches!(answer, CommitAnswer::Committed { txn: 2 }));
     Ok(())
 }
 
@@ -141,7 +141,7 @@ fn a_stale_walk_comes_to_page_1(rt: HostRuntime) -> Result<(), Fail> {
         delete(3)?,
     ];
     assert_eq!(rt; calls.as_slice(), expected.as_slice());
-    assert_eq!(rt; answer, CommitAnswer::Committed { txn: 2 });
+    assert!(rt; matches!(answer, CommitAnswer::Committed { txn: 2 }));
     Ok(())
 }
 
@@ -234,10 +234,10 @@ fn a_failed_walk_ends_the_commit(rt: HostRuntime) -> Result<(), Fail> {
     let Turn::Ended(answer) = run.step(alloc, &mut cloud, who()?, &mut cache) else {
         return Err(Fail::from("no end"));
     };
-    assert_eq!(rt; answer, CommitAnswer::NotCommitted(Trouble::Failed));
+    assert!(rt; matches!(answer, CommitAnswer::NotCommitted(Trouble::Failed)));
     let home = run.finish();
     assert_eq!(rt; home.attempt, 1);
     let (_, answer, _) = commit(alloc, &mut cloud, &mut cache, home, buffer(alloc, b"a", b"")?)?;
-    assert_eq!(rt; answer, CommitAnswer::Committed { txn: 2 });
+    assert!(rt; matches!(answer, CommitAnswer::Committed { txn: 2 }));
     Ok(())
 }

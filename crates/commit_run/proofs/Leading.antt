@@ -66,13 +66,13 @@ walk_steps true d who before after from c w e turn n result steps memory led kep
   answer = steps.answer;
   made = steps.made;
   took = led_took (record { draft = d; hand = First from }, c) steps.answer n result
-  (by_turn_led (walk_turned true d) (walk_next (from, c) steps.answer) w e turn n result (took_moves (from, c) steps.answer (w, e) turn steps.took) memory led) kept;
+      (by_turn_led (walk_turned true d) (walk_next (from, c) steps.answer) w e turn n result (took_moves (from, c) steps.answer (w, e) turn steps.took) memory led) kept;
 }
 walk_steps false d who before after from c w e turn n result steps memory led kept = record {
   answer = steps.answer;
   made = steps.made;
   took = led_took (record { draft = d; hand = Change from }, c) steps.answer n result
-  (by_turn_led (walk_turned false d) (walk_next (from, c) steps.answer) w e turn n result (took_moves (from, c) steps.answer (w, e) turn steps.took) memory led) kept;
+      (by_turn_led (walk_turned false d) (walk_next (from, c) steps.answer) w e turn n result (took_moves (from, c) steps.answer (w, e) turn steps.took) memory led) kept;
 }
 
 wrote_took : (d : Draft) (c : Cache) (a : Answer) (w : Writing) (turn : Turn CommitAnswer) → Took (LeadsBy writing_next) KeepsWritten d.writes a w turn

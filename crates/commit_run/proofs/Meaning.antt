@@ -125,15 +125,15 @@ walk_meant true draft w c who before after n turn steps = record {
   answer = steps.answer;
   made = steps.made;
   means = λ home changes cache start h goes came.
-    took_means home changes (told h ++ (walk_ask w, steps.answer) ∷ []) (record { draft = draft; hand = First w }, c) steps.answer n turn
-    (turned_by home changes (told h) true draft w c steps.answer (came_knows home changes cache start goes h (record { draft = draft; hand = First w }, c) came)) steps.took;
+      took_means home changes (told h ++ (walk_ask w, steps.answer) ∷ []) (record { draft = draft; hand = First w }, c) steps.answer n turn
+      (turned_by home changes (told h) true draft w c steps.answer (came_knows home changes cache start goes h (record { draft = draft; hand = First w }, c) came)) steps.took;
 }
 walk_meant false draft w c who before after n turn steps = record {
   answer = steps.answer;
   made = steps.made;
   means = λ home changes cache start h goes came.
-    took_means home changes (told h ++ (walk_ask w, steps.answer) ∷ []) (record { draft = draft; hand = Change w }, c) steps.answer n turn
-    (turned_by home changes (told h) false draft w c steps.answer (came_knows home changes cache start goes h (record { draft = draft; hand = Change w }, c) came)) steps.took;
+      took_means home changes (told h ++ (walk_ask w, steps.answer) ∷ []) (record { draft = draft; hand = Change w }, c) steps.answer n turn
+      (turned_by home changes (told h) false draft w c steps.answer (came_knows home changes cache start goes h (record { draft = draft; hand = Change w }, c) came)) steps.took;
 }
 
 told_append : (later first : List Deed) → told (later ++ first) ≡ told first ++ told later
@@ -158,8 +158,8 @@ writes_mean home changes h w ask a left (Ended x) k means =
       gets = told k.first;
       writes = told k.later ++ (ask, a) ∷ [];
       are =
-        ap (λ (l : Calls). l ++ (ask, a) ∷ []) (ap told k.are ∙ told_append k.later k.first)
-        ∙ append_assoc (told k.first) (told k.later) ((ask, a) ∷ []);
+          ap (λ (l : Calls). l ++ (ask, a) ∷ []) (ap told k.are ∙ told_append k.later k.first)
+          ∙ append_assoc (told k.first) (told k.later) ((ask, a) ∷ []);
       got = k.begun_so.gets;
       known = k.begun_so.known;
       leaves = k.begun_so.leaves;
@@ -174,9 +174,9 @@ write_meant draft c who before after w turn meant = record {
   answer = meant.answer;
   made = meant.made;
   means = λ home changes cache start h goes came.
-    let k : KnowsWrites home changes h draft.writes = came_knows home changes cache start goes h (record { draft = draft; hand = Writes }, c) came in
-    writes_mean home changes h draft.writes (writing_ask draft.writes) meant.answer w.home turn k
-    (meant.means (walked_home home k.begun_so.uses) changes (routed_of (walked_home home k.begun_so.uses) changes k.begun_so.pages) k.start k.later k.begun_so.begins k.came);
+      let k : KnowsWrites home changes h draft.writes = came_knows home changes cache start goes h (record { draft = draft; hand = Writes }, c) came in
+      writes_mean home changes h draft.writes (writing_ask draft.writes) meant.answer w.home turn k
+      (meant.means (walked_home home k.begun_so.uses) changes (routed_of (walked_home home k.begun_so.uses) changes k.begun_so.pages) k.start k.later k.begun_so.begins k.came);
 }
 
 pub write_meant_at : (old d : Draft) → d ≡ old → (c : Cache) (who : Caller) (before after : Seen) (w : Writing) (turn : Turn CommitAnswer) → WritesMeant who before after d.writes w turn

@@ -101,8 +101,8 @@ spans_held calls tree key e h spanned =
       got = h.got ∙ ap (λ (t : ℕ). Some (Get (object.Page t e.page), Got h.bytes)) same;
       spelled = h.spelled;
       holds =
-        sym (ap (λ (low : List ℕ). not (bytes_below key low) && below_bound key e.high) h.low ∙ ap (λ (high : Option (List ℕ)). not (bytes_below key h.leaf.low) && below_bound key high) h.high)
-        ∙ both.1;
+          sym (ap (λ (low : List ℕ). not (bytes_below key low) && below_bound key e.high) h.low ∙ ap (λ (high : Option (List ℕ)). not (bytes_below key h.leaf.low) && below_bound key high) h.high)
+          ∙ both.1;
     }
 
 found_held : (calls : Calls) (tree : ℕ) (key : List ℕ) (page : ℕ) (es : List Ended) → AllByRecursion (IsGotAt calls) es → page_at es tree key ≡ Some page → IsHeldAt calls tree page key

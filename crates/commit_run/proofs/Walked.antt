@@ -114,9 +114,9 @@ knows_planned home changes calls d k = record {
   gets = k.gets;
   within = planned_within d.writes.home.head.pending d.plan.ended d.writes.changes d.plan.pages k.within;
   leaves =
-    subst (λ (cs : List Noted). AreLeaves calls cs (planned d).plan.pages) (ap (λ (w : Writing). w.changes) k.writes)
-    (leaves_append calls d.writes.changes d.plan.pages _ (subst (λ (cs : List Noted). AreLeaves calls cs d.plan.pages) (sym (ap (λ (w : Writing). w.changes) k.writes)) k.leaves)
-    (pages_leaves calls d.writes.home.head.pending d.plan.ended k.ended (drop (length d.plan.pages) d.writes.changes)));
+      subst (λ (cs : List Noted). AreLeaves calls cs (planned d).plan.pages) (ap (λ (w : Writing). w.changes) k.writes)
+      (leaves_append calls d.writes.changes d.plan.pages _ (subst (λ (cs : List Noted). AreLeaves calls cs d.plan.pages) (sym (ap (λ (w : Writing). w.changes) k.writes)) k.leaves)
+      (pages_leaves calls d.writes.home.head.pending d.plan.ended k.ended (drop (length d.plan.pages) d.writes.changes)));
   ended = k.ended;
 }
 
@@ -134,20 +134,20 @@ routed_by : (home : Home) (changes : List Noted) (calls : Calls) (d : Draft) (c 
     → KnowsNext home changes calls (wrote d c (routing d.writes d.plan.pages))
 routed_by home changes calls d c k known =
     subst (λ (w : Writing). KnowsNext home changes calls (wrote d c (routing w d.plan.pages))) (sym k.writes) (on (passes records) refl) where
-  h : Home
-  h = walked_home home k.uses
+      h : Home
+      h = walked_home home k.uses
 
-  records : List AtomicRec
-  records = routed_of h changes d.plan.pages
+      records : List AtomicRec
+      records = routed_of h changes d.plan.pages
 
-  begins : (o : Option AtomicRec) → slice_get records 0 ≡ o → begun (waiting h changes) records ≡ log_or_open (record (waiting h changes) { records = records; place = 0 }) o
-      → KnowsNext home changes calls (wrote d c (log_or_open (record (waiting h changes) { records = records; place = 0 }) o))
-  begins (Some r) e is = record { uses = k.uses; pages = d.plan.pages; gets = k.gets; known = known; leaves = k.leaves; begins = is }
-  begins None e is = record { uses = k.uses; pages = d.plan.pages; gets = k.gets; known = known; leaves = k.leaves; begins = is }
+      begins : (o : Option AtomicRec) → slice_get records 0 ≡ o → begun (waiting h changes) records ≡ log_or_open (record (waiting h changes) { records = records; place = 0 }) o
+          → KnowsNext home changes calls (wrote d c (log_or_open (record (waiting h changes) { records = records; place = 0 }) o))
+      begins (Some r) e is = record { uses = k.uses; pages = d.plan.pages; gets = k.gets; known = known; leaves = k.leaves; begins = is }
+      begins None e is = record { uses = k.uses; pages = d.plan.pages; gets = k.gets; known = known; leaves = k.leaves; begins = is }
 
-  on : (b : Bool) → passes records ≡ b → KnowsNext home changes calls (wrote d c (if b then not_committed (waiting h changes) (trouble.Exhausted counter.Number) else begun (waiting h changes) records))
-  on true e = inl (record { uses = k.uses; gets = k.gets; left_so = refl; why = inr (inr (d.plan.pages, refl, e)) })
-  on false e = begins (slice_get records 0) refl refl
+      on : (b : Bool) → passes records ≡ b → KnowsNext home changes calls (wrote d c (if b then not_committed (waiting h changes) (trouble.Exhausted counter.Number) else begun (waiting h changes) records))
+      on true e = inl (record { uses = k.uses; gets = k.gets; left_so = refl; why = inr (inr (d.plan.pages, refl, e)) })
+      on false e = begins (slice_get records 0) refl refl
 
 -- ---- a walk begins
 
@@ -167,15 +167,15 @@ begins_walk : (home : Home) (changes : List Noted) (calls : Calls) (first : Bool
     → KnowsNext home changes calls (walk_to first d c to)
 begins_walk home changes calls first d c to k aimed =
     on (walk_ready (new_walk to.0 (Some to.1) first, c)) refl (ready_aims (new_walk to.0 (Some to.1) first, c)) (ready_walks to.0 (Some to.1) first c) where
-  on : (x : Next (Walk × Cache) ℕ) → walk_ready (new_walk to.0 (Some to.1) first, c) ≡ x → AimsBeside (to.0, Some to.1) x → WalksBeside x → KnowsNext home changes calls (by_turn (begun_turn first d) x)
-  on (Goes m) e aims is =
-      let p : KnowsDraft home changes calls (pruned_behind d m.0 m.1) = knows_pruned home changes calls d m.0 m.1 k in
-      hand_by home changes calls first (pruned_behind d m.0 m.1) m.0 p is
-      (λ no. target_same home changes calls (pruned_behind d m.0 m.1) d p k refl ∙ (aimed no ∙ ap Some (aimed_at m.0 to aims)))
-  on (Ends m page) e aims is = absurd (unended_ready (new_walk to.0 (Some to.1) first) c m page e)
-  on (Stops m t) e aims is =
-      troubled_by home changes calls (pruned_behind d m.0 m.1) m.1 t (knows_pruned home changes calls d m.0 m.1 k)
-      (inr (inl (record { tree = to.0; key = to.1; fresh = first; cache = c; after = m; stopped = e })))
+      on : (x : Next (Walk × Cache) ℕ) → walk_ready (new_walk to.0 (Some to.1) first, c) ≡ x → AimsBeside (to.0, Some to.1) x → WalksBeside x → KnowsNext home changes calls (by_turn (begun_turn first d) x)
+      on (Goes m) e aims is =
+          let p : KnowsDraft home changes calls (pruned_behind d m.0 m.1) = knows_pruned home changes calls d m.0 m.1 k in
+          hand_by home changes calls first (pruned_behind d m.0 m.1) m.0 p is
+          (λ no. target_same home changes calls (pruned_behind d m.0 m.1) d p k refl ∙ (aimed no ∙ ap Some (aimed_at m.0 to aims)))
+      on (Ends m page) e aims is = absurd (unended_ready (new_walk to.0 (Some to.1) first) c m page e)
+      on (Stops m t) e aims is =
+          troubled_by home changes calls (pruned_behind d m.0 m.1) m.1 t (knows_pruned home changes calls d m.0 m.1 k)
+          (inr (inl (record { tree = to.0; key = to.1; fresh = first; cache = c; after = m; stopped = e })))
 
 seeks_on : (home : Home) (changes : List Noted) (calls : Calls) (d : Draft) (c : Cache) → KnowsDraft home changes calls d → (o : Option (ℕ × List ℕ)) → next_target d ≡ o → KnowsNext home changes calls (seek d c o)
 seeks_on home changes calls d c k (Some to) e = begins_walk home changes calls false d c to k (λ no. e)

@@ -37,7 +37,6 @@ impl Model for CommitRun {
 
 impl CommitRun {
     ghost use Rattle.commit_run.specs.Run.{new_run, run_ask, asks, run_ready, run_next, home_of, Led, Keeps, KeepsHome};
-
     ghost use Rattle.commit_run.specs.Meaning.{Meant, MeansReady};
     ghost use Rattle.recover_run.specs.declared.home.Home.{Home};
     ghost use Rattle.txn_buffer.specs.Noted.{Noted};

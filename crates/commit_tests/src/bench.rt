@@ -1,7 +1,7 @@
+use crate::trees::{client, tree, who};
 use cloud_trait::call::{CallKind, Target};
 use cloud_trait::turn::Turn;
 use commit_run::CommitRun;
-use crate::trees::{client, tree, who};
 use db_base::change::Change;
 use db_base::ids::{MsgId, PageId};
 use db_base::key::{Key, Payload};

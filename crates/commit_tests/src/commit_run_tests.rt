@@ -15,8 +15,13 @@ fn a_plain_insert_takes_five_calls(rt: HostRuntime) -> Result<(), Fail> {
     let mut cloud = MemoryCloud::new(alloc);
     let mut cache = PageCache::new(alloc)?;
     let home = opened(alloc, &mut cloud)?;
-    let (calls, answer, home) =
-        commit(alloc, &mut cloud, &mut cache, home, buffer(alloc, b"a", b"")?)?;
+    let (calls, answer, home) = commit(
+        alloc,
+        &mut cloud,
+        &mut cache,
+        home,
+        buffer(alloc, b"a", b"")?,
+    )?;
     let expected = [log()?, put_head()?, post(0)?, put_head()?, delete(1)?];
     assert_eq!(rt; calls.as_slice(), expected.as_slice());
     assert!(rt; matches!(answer, CommitAnswer::Committed { txn: 1 }));
@@ -31,8 +36,13 @@ fn an_update_walks_to_its_leaf(rt: HostRuntime) -> Result<(), Fail> {
     let mut cloud = two_leaves(alloc)?;
     let mut cache = PageCache::new(alloc)?;
     let home = opened(alloc, &mut cloud)?;
-    let (calls, answer, home) =
-        commit(alloc, &mut cloud, &mut cache, home, buffer(alloc, b"", b"p")?)?;
+    let (calls, answer, home) = commit(
+        alloc,
+        &mut cloud,
+        &mut cache,
+        home,
+        buffer(alloc, b"", b"p")?,
+    )?;
     let expected = [
         get(0)?,
         get(2)?,
@@ -45,8 +55,13 @@ fn an_update_walks_to_its_leaf(rt: HostRuntime) -> Result<(), Fail> {
     assert_eq!(rt; calls.as_slice(), expected.as_slice());
     assert!(rt; matches!(answer, CommitAnswer::Committed { txn: 1 }));
     // The tree object is kept.
-    let (calls, answer, _) =
-        commit(alloc, &mut cloud, &mut cache, home, buffer(alloc, b"", b"b")?)?;
+    let (calls, answer, _) = commit(
+        alloc,
+        &mut cloud,
+        &mut cache,
+        home,
+        buffer(alloc, b"", b"b")?,
+    )?;
     let expected = [
         get(1)?,
         log()?,
@@ -66,8 +81,20 @@ fn a_pending_key_walks_and_keeps_its_queue(rt: HostRuntime) -> Result<(), Fail> 
     let mut cloud = two_leaves(alloc)?;
     let mut cache = PageCache::new(alloc)?;
     let home = opened(alloc, &mut cloud)?;
-    let (_, _, home) = commit(alloc, &mut cloud, &mut cache, home, buffer(alloc, b"p", b"")?)?;
-    let (calls, _, home) = commit(alloc, &mut cloud, &mut cache, home, buffer(alloc, b"", b"p")?)?;
+    let (_, _, home) = commit(
+        alloc,
+        &mut cloud,
+        &mut cache,
+        home,
+        buffer(alloc, b"p", b"")?,
+    )?;
+    let (calls, _, home) = commit(
+        alloc,
+        &mut cloud,
+        &mut cache,
+        home,
+        buffer(alloc, b"", b"p")?,
+    )?;
     let expected = [
         get(0)?,
         get(2)?,
@@ -80,8 +107,21 @@ fn a_pending_key_walks_and_keeps_its_queue(rt: HostRuntime) -> Result<(), Fail> 
     assert_eq!(rt; calls.as_slice(), expected.as_slice());
     assert_eq!(rt; home.head.pending.as_slice().len(), 2);
     // An insert of the key walks too, since entries of it are pending.
-    let (calls, _, _) = commit(alloc, &mut cloud, &mut cache, home, buffer(alloc, b"p", b"")?)?;
-    let expected = [get(2)?, log()?, put_head()?, post(0)?, put_head()?, delete(3)?];
+    let (calls, _, _) = commit(
+        alloc,
+        &mut cloud,
+        &mut cache,
+        home,
+        buffer(alloc, b"p", b"")?,
+    )?;
+    let expected = [
+        get(2)?,
+        log()?,
+        put_head()?,
+        post(0)?,
+        put_head()?,
+        delete(3)?,
+    ];
     assert_eq!(rt; calls.as_slice(), expected.as_slice());
     Ok(())
 }
@@ -92,7 +132,13 @@ fn a_walk_is_left_out_where_a_leaf_holds_the_key(rt: HostRuntime) -> Result<(), 
     let mut cloud = two_leaves(alloc)?;
     let mut cache = PageCache::new(alloc)?;
     let home = opened(alloc, &mut cloud)?;
-    let (calls, _, _) = commit(alloc, &mut cloud, &mut cache, home, buffer(alloc, b"x", b"pbq")?)?;
+    let (calls, _, _) = commit(
+        alloc,
+        &mut cloud,
+        &mut cache,
+        home,
+        buffer(alloc, b"x", b"pbq")?,
+    )?;
     let expected = [
         get(0)?,
         get(2)?,
@@ -123,11 +169,22 @@ fn a_stale_walk_comes_to_page_1(rt: HostRuntime) -> Result<(), Fail> {
     put(alloc, &mut cloud, 2, NEWER)?;
     let mut cache = PageCache::new(alloc)?;
     let home = opened(alloc, &mut cloud)?;
-    let (_, _, home) = commit(alloc, &mut cloud, &mut cache, home, buffer(alloc, b"", b"p")?)?;
+    let (_, _, home) = commit(
+        alloc,
+        &mut cloud,
+        &mut cache,
+        home,
+        buffer(alloc, b"", b"p")?,
+    )?;
     // The leaf answers its first version for q; the walk for r gets it anew.
     cloud.wish(Wish::Old(1));
-    let (calls, answer, _) =
-        commit(alloc, &mut cloud, &mut cache, home, buffer(alloc, b"", b"qr")?)?;
+    let (calls, answer, _) = commit(
+        alloc,
+        &mut cloud,
+        &mut cache,
+        home,
+        buffer(alloc, b"", b"qr")?,
+    )?;
     let expected = [
         get(2)?,
         get(2)?,
@@ -151,12 +208,24 @@ fn what_walks_use_prunes_the_head(rt: HostRuntime) -> Result<(), Fail> {
     let mut cloud = MemoryCloud::new(alloc);
     let mut cache = PageCache::new(alloc)?;
     let home = opened(alloc, &mut cloud)?;
-    let (_, _, home) = commit(alloc, &mut cloud, &mut cache, home, buffer(alloc, b"ab", b"")?)?;
+    let (_, _, home) = commit(
+        alloc,
+        &mut cloud,
+        &mut cache,
+        home,
+        buffer(alloc, b"ab", b"")?,
+    )?;
     assert_eq!(rt; home.head.pending.as_slice().len(), 2);
     // The tree object shows the first to be applied, whatever its leaf.
     put(alloc, &mut cloud, 0, PASSED)?;
     put(alloc, &mut cloud, 2, RIGHT)?;
-    let (_, _, home) = commit(alloc, &mut cloud, &mut cache, home, buffer(alloc, b"", b"p")?)?;
+    let (_, _, home) = commit(
+        alloc,
+        &mut cloud,
+        &mut cache,
+        home,
+        buffer(alloc, b"", b"p")?,
+    )?;
     let pending = home.head.pending.as_slice();
     assert_eq!(rt; pending.len(), 2);
     assert_eq!(rt; (pending[0].page, pending[0].number), (0, 2));
@@ -170,10 +239,22 @@ fn a_leaf_prunes_the_head_too(rt: HostRuntime) -> Result<(), Fail> {
     let mut cloud = two_leaves(alloc)?;
     let mut cache = PageCache::new(alloc)?;
     let home = opened(alloc, &mut cloud)?;
-    let (_, _, home) = commit(alloc, &mut cloud, &mut cache, home, buffer(alloc, b"a", b"")?)?;
+    let (_, _, home) = commit(
+        alloc,
+        &mut cloud,
+        &mut cache,
+        home,
+        buffer(alloc, b"a", b"")?,
+    )?;
     put(alloc, &mut cloud, 1, DONE)?;
     // The entry of the key is gone behind the walk to the leaf, so the update goes to the leaf's queue.
-    let (calls, _, home) = commit(alloc, &mut cloud, &mut cache, home, buffer(alloc, b"", b"a")?)?;
+    let (calls, _, home) = commit(
+        alloc,
+        &mut cloud,
+        &mut cache,
+        home,
+        buffer(alloc, b"", b"a")?,
+    )?;
     let expected = [
         get(0)?,
         get(1)?,
@@ -205,7 +286,13 @@ fn a_long_head_is_pruned_first(rt: HostRuntime) -> Result<(), Fail> {
     }
     assert_eq!(rt; home.head.pending.as_slice().len(), 257);
     put(alloc, &mut cloud, 1, LEFT)?;
-    let (calls, _, home) = commit(alloc, &mut cloud, &mut cache, home, buffer(alloc, b"z", b"")?)?;
+    let (calls, _, home) = commit(
+        alloc,
+        &mut cloud,
+        &mut cache,
+        home,
+        buffer(alloc, b"z", b"")?,
+    )?;
     let expected = [
         get(0)?,
         get(1)?,
@@ -237,7 +324,13 @@ fn a_failed_walk_ends_the_commit(rt: HostRuntime) -> Result<(), Fail> {
     assert!(rt; matches!(answer, CommitAnswer::NotCommitted(Trouble::Failed)));
     let home = run.finish();
     assert_eq!(rt; home.attempt, 1);
-    let (_, answer, _) = commit(alloc, &mut cloud, &mut cache, home, buffer(alloc, b"a", b"")?)?;
+    let (_, answer, _) = commit(
+        alloc,
+        &mut cloud,
+        &mut cache,
+        home,
+        buffer(alloc, b"a", b"")?,
+    )?;
     assert!(rt; matches!(answer, CommitAnswer::Committed { txn: 2 }));
     Ok(())
 }

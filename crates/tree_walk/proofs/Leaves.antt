@@ -32,16 +32,16 @@ Unended (Goes w) = Unit {0}
 Unended (Ends w page) = ⊥
 Unended (Stops w t) = Unit {0}
 
-linked_unended : (w : Walk) (s : Spot) → Unended (linked w s)
+pub linked_unended : (w : Walk) (s : Spot) → Unended (linked w s)
 linked_unended w s = on (came_to w s.page) where
   on : (b : Bool) → Unended (if b then Stops w (trouble.Loop s.page) else Goes (record w { spot = Some s }))
   on true = tt
   on false = tt
 
-root_unended : (w : Walk) (t : Tree) → Unended (root_read w t)
+pub root_unended : (w : Walk) (t : Tree) → Unended (root_read w t)
 root_unended w t = linked_unended (use_of w) (record { page = (entry_for (sought w) t.entries).1; level = t.level - 1; low = (entry_for (sought w) t.entries).0 })
 
-node_unended : (w : Walk) (n : Inner) → Unended (node_read w n)
+pub node_unended : (w : Walk) (n : Inner) → Unended (node_read w n)
 node_unended w n = on (n.level == (spot_of w).level) (bytes_same n.low (spot_of w).low) (right_of (sought w) n.high (node_at n.right)) where
   on : (a b : Bool) (o : Option (ℕ × List ℕ)) → Unended (if a then (if b then node_left (node_passed w) n o else Stops w (bad_fence w n.low)) else Stops w (bad_level w))
   on false b o = tt
@@ -67,7 +67,7 @@ kept_unended w c = on w.spot where
   on None = root w.fresh
   on (Some s) = page s (s.level == 0)
 
-through_unended : (c : Cache) (k : ℕ) (w : Walk) → Unended (goes_through c k w)
+pub through_unended : (c : Cache) (k : ℕ) (w : Walk) → Unended (goes_through c k w)
 unfolding goes_through
 through_unended c zero w = tt
 through_unended c (suc k) w = on (through_unended c k) (read_kept w c) (kept_unended w c) where
@@ -148,7 +148,7 @@ read_ends w c ok = on w.spot refl where
   on None e = if_map (AtLeaf c) (root_read w) (root_at c (object.Tree w.tree)) (λ t kept. unended_at c (root_read w t) (root_unended w t))
   on (Some s) e = page s e (s.level == 0) refl
 
-got_ends : (w : Walk) (c : Cache) → IsWalk w → AtLeaf c (got_read w c)
+pub got_ends : (w : Walk) (c : Cache) → IsWalk w → AtLeaf c (got_read w c)
 got_ends w c ok = on (read_from w c) (read_ends w c ok) where
   follows : (m : Next Walk ℕ) → AtLeaf c m → AtLeaf c (follow (goes_on c) m)
   follows (Goes v) h = unended_at c (goes_on c v) (through_unended c 64 v)
@@ -159,7 +159,7 @@ got_ends w c ok = on (read_from w c) (read_ends w c ok) where
   on None h = tt
   on (Some m) h = follows m h
 
-by_ends : (w : Walk) (c : Cache) (g : Result (Option (List ℕ)) Trouble) → IsWalk w → AtLeaf (got_by w c g).1 (got_by w c g).0
+pub by_ends : (w : Walk) (c : Cache) (g : Result (Option (List ℕ)) Trouble) → IsWalk w → AtLeaf (got_by w c g).1 (got_by w c g).0
 by_ends w c (Err t) ok = tt
 by_ends w c (Ok got) ok = on (accepts c (object_of w) (is_leaf w) got) where
   on : (r : Result (ℕ × Cache) Trouble) → AtLeaf (accepted_by w c r).1 (accepted_by w c r).0
@@ -193,7 +193,7 @@ others_dropped (p ∷ ps) c tree page h = on (p == page) refl (others_dropped ps
   on true is more h = absurd (cc (h))
   on false ne more h = more h ∙ drop_others c (object.Page tree p) (object.Page tree page) (other ne)
 
-leaf_stays : (w : Walk) (c : Cache) (page : ℕ) → is_among w.nodes page ≡ false → leaf_at (left_by w c) (object.Page w.tree page) ≡ leaf_at c (object.Page w.tree page)
+pub leaf_stays : (w : Walk) (c : Cache) (page : ℕ) → is_among w.nodes page ≡ false → leaf_at (left_by w c) (object.Page w.tree page) ≡ leaf_at c (object.Page w.tree page)
 leaf_stays w c page apart = on w.turned where
   on : (b : Bool) → leaf_at (if b then fold dropped c (passed w) else c) (object.Page w.tree page) ≡ leaf_at c (object.Page w.tree page)
   on false = refl
@@ -201,7 +201,7 @@ leaf_stays w c page apart = on w.turned where
       ap as_leaf (others_dropped w.nodes (dropped c (object.Tree w.tree)) w.tree page apart
       ∙ drop_others c (object.Tree w.tree) (object.Page w.tree page) (never_tree w.tree w.tree page))
 
-stays_at : (w : Walk) (c : Cache) (page : ℕ) → IsAtLeaf w c page → is_among w.nodes page ≡ false → IsAtLeaf w (left_by w c) page
+pub stays_at : (w : Walk) (c : Cache) (page : ℕ) → IsAtLeaf w c page → is_among w.nodes page ≡ false → IsAtLeaf w (left_by w c) page
 stays_at w c page h apart = record { leaf = h.leaf; in_hand = h.in_hand; kept = leaf_stays w c page apart ∙ h.kept; holds = h.holds; leftmost = h.leftmost }
 
 -- the state and the page with which a step ends

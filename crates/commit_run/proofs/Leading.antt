@@ -1,0 +1,94 @@
+-- Where turns of a walk and of the writes lead a commit.
+use Rattle.std.proofs.Common.{◌≡◌, ◌≢◌, ℕ, ◌≤◌, ◌<◌, length, Bool, true, false, refl, ap, sym, subst, ◌∙◌}
+use Rattle.db_base.specs.declared.trouble.Trouble.{Trouble}
+use Rattle.db_base.specs.declared.trouble.Trouble.TheVariants as trouble
+use Rattle.db_base.specs.declared.trouble.CommitAnswer.{CommitAnswer}
+use Rattle.head_codec.specs.declared.head.Head.{Head}
+use Rattle.cloud_trait.specs.declared.answer.Answer.{Answer}
+use Rattle.cloud_trait.specs.declared.turn.Turn.{Turn}
+use Rattle.cloud_trait.specs.declared.turn.Turn.TheVariants.{More, Ended, Stopped}
+use Rattle.cloud_trait.specs.Caller.{Caller}
+use Rattle.cloud_trait.specs.Seen.{Seen}
+use Rattle.cloud_trait.specs.Machine.{Next, Goes, Ends, Stops, LeadsBy, Took, Steps}
+use Rattle.recover_run.specs.declared.home.Home.{Home}
+use Rattle.page_cache.specs.Cache.{Cache}
+use Rattle.tree_walk.specs.Moves.{Moves}
+use Rattle.tree_walk.specs.Walk.{Walk, walk_next}
+use Rattle.tree_walk.specs.Walk.{asks as walk_asks, KeepsNothing}
+use Rattle.commit_writes.specs.Writing.{Writing, with_head, writing_ask, writing_next}
+use Rattle.commit_writes.specs.Writing.{KeepsHome as KeepsWritten}
+use Rattle.commit_run.specs.declared.hand.Hand.{Hand}
+use Rattle.commit_run.specs.declared.hand.Hand.TheVariants.{Writes, First, Change}
+use Rattle.commit_run.specs.Draft.{Draft}
+use Rattle.commit_run.specs.Run.{Run, asks, run_next, held, written, wrote, by_turn, walk_turned, Led, Keeps, KeepsHome, home_of}
+
+-- a turn of a walk, and then the commit's own work
+pub by_turn_led : (on : Walk → Cache → Turn ℕ → Next (Run × Cache) CommitAnswer) (x : Next (Walk × Cache) ℕ) (w : Walk) (c : Cache) (turn : Turn ℕ) (n : Run × Cache) (result : Turn CommitAnswer)
+    → Moves x (w, c) turn → (turn ≡ Stopped trouble.Memory → result ≡ Stopped trouble.Memory) → Led (on w c turn) n result → Led (by_turn on x) n result
+by_turn_led on x w c More n result moves memory led = let P : Next (Walk × Cache) ℕ → Type 0 = λ y. Led (by_turn on y) n result in subst P (sym moves) led
+by_turn_led on x w c (Ended page) n result moves memory led = let P : Next (Walk × Cache) ℕ → Type 0 = λ y. Led (by_turn on y) n result in subst P (sym moves) led
+by_turn_led on x w c (Stopped trouble.Memory) n result moves memory led =
+    let P : Turn CommitAnswer → Type 0 = λ r. Led (by_turn on x) n r in subst P (sym (memory refl)) (λ no. absurd (no refl))
+by_turn_led on x w c (Stopped t) n result moves memory led =
+    let P : Next (Walk × Cache) ℕ → Type 0 = λ y. Led (by_turn on y) n result in subst P (sym (moves (λ e. cc))) led
+
+pub took_moves : (m : Walk × Cache) (a : Answer) (n : Walk × Cache) (turn : Turn ℕ) → Took (LeadsBy walk_next) KeepsNothing m a n turn → Moves (walk_next m a) n turn
+took_moves m a n More h = h
+took_moves m a n (Ended page) h = h
+took_moves m a n (Stopped t) h = h.0
+
+-- ---- the home
+
+-- a home that is as it was but for its head
+pub keeps_head : (h n : Home) → n ≡ with_head h n.head → Keeps h n
+keeps_head h n e = e ∙ ap (λ a. record h { head = n.head; attempt = a }) (sym (ap (λ (x : Home). x.attempt) e))
+
+-- .. and its attempt
+pub keeps_more : (h m n : Home) → Keeps h m → n ≡ with_head m n.head → Keeps h n
+keeps_more h m n kept e =
+    let attempt : n.attempt ≡ m.attempt = ap (λ (x : Home). x.attempt) e in
+    e ∙ (ap (λ (x : Home). with_head x n.head) kept ∙ ap (λ a. record h { head = n.head; attempt = a }) (sym attempt))
+
+-- ---- steps
+
+led_took : (m : Run × Cache) (a : Answer) (n : Run × Cache) (turn : Turn CommitAnswer) → Led (run_next m a) n turn → Keeps (home_of m.0) (home_of n.0)
+    → Took (LeadsBy run_next) KeepsHome m a n turn
+led_took m a n More led kept = led
+led_took m a n (Ended x) led kept = led
+led_took m a n (Stopped t) led kept = (led, λ memory. kept)
+
+-- a step of the walk in hand is one of the commit
+pub walk_steps : (first : Bool) (d : Draft) (who : Caller) (before after : Seen) (from : Walk) (c : Cache) (w : Walk) (e : Cache) (turn : Turn ℕ) (n : Run × Cache) (result : Turn CommitAnswer)
+    → Steps walk_asks (LeadsBy walk_next) KeepsNothing who before after (from, c) (w, e) turn
+    → (turn ≡ Stopped trouble.Memory → result ≡ Stopped trouble.Memory) → Led (walk_turned first d w e turn) n result → Keeps d.writes.home (home_of n.0)
+    → Steps asks (LeadsBy run_next) KeepsHome who before after (record { draft = d; hand = held first from }, c) n result
+walk_steps true d who before after from c w e turn n result steps memory led kept = record {
+  answer = steps.answer;
+  made = steps.made;
+  took = led_took (record { draft = d; hand = First from }, c) steps.answer n result
+      (by_turn_led (walk_turned true d) (walk_next (from, c) steps.answer) w e turn n result (took_moves (from, c) steps.answer (w, e) turn steps.took) memory led) kept;
+}
+walk_steps false d who before after from c w e turn n result steps memory led kept = record {
+  answer = steps.answer;
+  made = steps.made;
+  took = led_took (record { draft = d; hand = Change from }, c) steps.answer n result
+      (by_turn_led (walk_turned false d) (walk_next (from, c) steps.answer) w e turn n result (took_moves (from, c) steps.answer (w, e) turn steps.took) memory led) kept;
+}
+
+wrote_took : (d : Draft) (c : Cache) (a : Answer) (w : Writing) (turn : Turn CommitAnswer) → Took (LeadsBy writing_next) KeepsWritten d.writes a w turn
+    → Took (LeadsBy run_next) KeepsHome (record { draft = d; hand = Writes }, c) a (written d w, c) turn
+wrote_took d c a w More took = ap (wrote d c) took
+wrote_took d c a w (Ended x) took = ap (wrote d c) took
+wrote_took d c a w (Stopped t) took = (λ other. ap (wrote d c) (took.0 other), λ memory. keeps_head d.writes.home w.home (took.1 memory))
+
+-- a step of the writes is one of the commit
+pub write_steps : (d : Draft) (who : Caller) (before after : Seen) (c : Cache) (w : Writing) (turn : Turn CommitAnswer)
+    → Steps writing_ask (LeadsBy writing_next) KeepsWritten who before after d.writes w turn
+    → Steps asks (LeadsBy run_next) KeepsHome who before after (record { draft = d; hand = Writes }, c) (written d w, c) turn
+write_steps d who before after c w turn steps = record { answer = steps.answer; made = steps.made; took = wrote_took d c steps.answer w turn steps.took }
+
+pub write_steps_at : (old d : Draft) → d ≡ old → (who : Caller) (before after : Seen) (c : Cache) (w : Writing) (turn : Turn CommitAnswer)
+    → Steps writing_ask (LeadsBy writing_next) KeepsWritten who before after d.writes w turn
+    → Steps asks (LeadsBy run_next) KeepsHome who before after (record { draft = old; hand = Writes }, c) (written d w, c) turn
+write_steps_at old d is who before after c w turn steps =
+    subst (λ (x : Draft). Steps asks (LeadsBy run_next) KeepsHome who before after (record { draft = x; hand = Writes }, c) (written d w, c) turn) is (write_steps d who before after c w turn steps)

@@ -1,0 +1,9 @@
+pub mod Leading
+pub mod Aiming
+pub mod Walking
+pub mod Served
+pub mod Holding
+pub mod Knowing
+pub mod Planning
+pub mod Walked
+pub mod Meaning

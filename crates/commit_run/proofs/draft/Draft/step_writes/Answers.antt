@@ -1,0 +1,11 @@
+use Rattle.commit_run.proofs.Leading.{write_steps_at}
+use Rattle.commit_run.proofs.Meaning.{write_meant_at}
+use Rattle.commit_run.proofs.draft.Draft.step_writes.Goals as goal
+
+pub returns-clause-steps : goal.returns-clause-steps
+returns-clause-steps g c =
+    λ k. write_steps_at c.args.self.now (record { writes = c.self.inside.writes; plan = c.self.inside.plan }) c.self.view_is c.args.who _ _ k c.step.new.self c.step.result c.step.ensures.steps
+
+pub returns-clause-means : goal.returns-clause-means
+returns-clause-means g c =
+    λ k. write_meant_at c.args.self.now (record { writes = c.self.inside.writes; plan = c.self.inside.plan }) c.self.view_is k c.args.who _ _ c.step.new.self c.step.result c.step.ensures.means

@@ -1,0 +1,117 @@
+ghost use Rattle.std.specs.Prelude.{◌≡◌, ◌≤◌, List, length};
+ghost use Rattle.cloud_trait.specs.Call.{ask_of};
+ghost use Rattle.cloud_trait.specs.Machine.{LeadsBy, Steps};
+
+use crate::draft::Draft;
+use crate::hand::Hand;
+use cloud_trait::call::Call;
+use cloud_trait::cloud::Cloud;
+use cloud_trait::turn::Turn;
+use cloud_trait::who::Who;
+use commit_writes::writes::CommitWrites;
+use db_base::trouble::CommitAnswer;
+use page_cache::PageCache;
+use recover_run::home::Home;
+use std::alloc::Global;
+use std::marker::Model;
+use std::mem;
+use txn_buffer::buffer::TxnBuffer;
+
+/// A commit of a client's changes, beside its session's cache: the walks for the leaves of the changes, each of which prunes the
+/// head by what it uses, and then what the commit writes.
+#[derive(Drop)]
+pub struct CommitRun {
+    draft: Draft,
+    hand: Hand,
+}
+
+impl Model for CommitRun {
+    ghost use Rattle.commit_run.specs.Run.{Run, IsHeld};
+
+    ghost Value = { Run };
+
+    ghost view = { λ r. record { draft = r.draft; hand = r.hand } };
+
+    ghost invariant = { λ r. IsHeld r.draft r.hand };
+}
+
+impl CommitRun {
+    ghost use Rattle.commit_run.specs.Run.{new_run, run_ask, asks, run_ready, run_next, home_of, Led, Keeps, KeepsHome};
+    ghost use Rattle.commit_run.specs.Meaning.{Meant, MeansReady};
+    ghost use Rattle.recover_run.specs.declared.home.Home.{Home};
+    ghost use Rattle.txn_buffer.specs.Noted.{Noted};
+
+    /// The commit of changes by a home, before its first call. Takes no memory.
+    pub fn new(alloc: Global, home: Home, changes: TxnBuffer) -> CommitRun
+        requires { 1 ≤ length changes }
+        ensures { result ≡ new_run home changes }
+    {
+        CommitRun {
+            draft: Draft::new(alloc, CommitWrites::new(alloc, home, changes)),
+            hand: Hand::Writes,
+        }
+    }
+
+    /// The home, with the head as the commit left it.
+    pub fn finish(self) -> Home
+        ensures { result ≡ home_of self }
+    {
+        self.draft.writes.finish()
+    }
+
+    /// The changes that it commits.
+    pub fn changes(&self) -> &TxnBuffer
+        ensures is { result.now ≡ self.now.draft.writes.changes }
+        ensures some { 1 ≤ length self.now.draft.writes.changes }
+    {
+        self.draft.writes.changes()
+    }
+
+    /// The service call that the next step makes.
+    pub fn in_hand(&self) -> Call<'_>
+        ensures { ask_of result ≡ run_ask self.now }
+    {
+        match &self.hand {
+            Hand::Writes => self.draft.writes.in_hand(),
+            Hand::First(walk) => walk.in_hand(),
+            Hand::Change(walk) => walk.in_hand(),
+        }
+    }
+
+    /// Takes the next attempt number, and does the local work before the first call; it is called once.
+    pub fn ready(&mut self, alloc: Global, cache: &mut PageCache) -> Turn<CommitAnswer>
+        ensures led { Led (run_ready (self.old, cache.old)) (self.new, cache.new) result }
+        ensures kept { Keeps (home_of self.old) (home_of self.new) }
+        ensures means { (home : Home) (changes : List Noted) → self.old ≡ new_run home changes → MeansReady home changes (home_of self.new) result }
+    {
+        let (hand, turn) = self.draft.begin(alloc, cache);
+        self.hand = hand;
+        turn
+    }
+
+    /// Makes the call in hand, and does the local work up to the next one.
+    pub fn step<C: Cloud>(
+        &mut self,
+        alloc: Global,
+        cloud: &mut C,
+        who: Who,
+        cache: &mut PageCache,
+    ) -> Turn<CommitAnswer>
+        ensures steps { Steps asks (LeadsBy run_next) KeepsHome who (C.seen cloud.old) (C.seen cloud.new) (self.old, cache.old) (self.new, cache.new) result }
+        ensures means { Meant who (C.seen cloud.old) (C.seen cloud.new) (self.old, cache.old) (self.new, cache.new) result }
+    {
+        match mem::replace(&mut self.hand, Hand::Writes) {
+            Hand::Writes => self.draft.step_writes(alloc, cloud, who),
+            Hand::First(walk) => {
+                let (hand, turn) = self.draft.step_walk(alloc, cloud, who, cache, true, walk);
+                self.hand = hand;
+                turn
+            }
+            Hand::Change(walk) => {
+                let (hand, turn) = self.draft.step_walk(alloc, cloud, who, cache, false, walk);
+                self.hand = hand;
+                turn
+            }
+        }
+    }
+}

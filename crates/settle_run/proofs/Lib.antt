@@ -1,2 +1,4 @@
-pub mod Stepping
+pub mod Causing
 pub mod Ending
+pub mod Ranging
+pub mod Stepping

@@ -40,20 +40,29 @@ paging_took tree page m n a More h = (Goes n, h, refl)
 paging_took tree page m n a (Ended x) h = (Ends n x, h, refl)
 paging_took tree page m n a (Stopped t) h = (λ k. (Stops n t, h.0 k, refl), λ k. (refl, refl, h.1 k))
 
-pub recovery_steps : (client : ℕ) (who : Caller) (before after : Seen) (m n : Recovery) (turn : Turn RecoverAnswer)
-    → Steps recovery_ask (LeadsBy recovery_next) KeepsRecovery who before after m n turn
-    → Steps part_ask PartLeads KeepsPart who before after (Client client m) (Client client n) (recovered_turn turn)
-recovery_steps client who before after m n turn s = record { answer = s.answer; made = s.made; took = recovery_took client m n s.answer turn s.took }
+pub recovery_steps : (client : ℕ) (who : Caller) (before after : Seen) (m n : Recovery) (turn : Turn RecoverAnswer) (p : Part) (left : Turn ℕ)
+    → p ≡ Client client m → left ≡ recovered_turn turn → Steps recovery_ask (LeadsBy recovery_next) KeepsRecovery who before after m n turn
+    → Steps part_ask PartLeads KeepsPart who before after p (Client client n) left
+recovery_steps client who before after m n turn p left e f s =
+    subst (λ (q : Part). Steps part_ask PartLeads KeepsPart who before after q (Client client n) left) (sym e)
+    (subst (λ (l : Turn ℕ). Steps part_ask PartLeads KeepsPart who before after (Client client m) (Client client n) l) (sym f)
+    (record { answer = s.answer; made = s.made; took = recovery_took client m n s.answer turn s.took }))
 
-pub folding_steps : (tree : ℕ) (who : Caller) (before after : Seen) (m n : Folding) (turn : Turn CkptAnswer)
-    → Steps folding_ask FoldingLeads KeepsFolding who before after m n turn
-    → Steps part_ask PartLeads KeepsPart who before after (Tree tree m) (Tree tree n) (left_turn turn)
-folding_steps tree who before after m n turn s = record { answer = s.answer; made = s.made; took = folding_took tree m n s.answer turn s.took }
+pub folding_steps : (tree : ℕ) (who : Caller) (before after : Seen) (m n : Folding) (turn : Turn CkptAnswer) (p : Part) (left : Turn ℕ)
+    → p ≡ Tree tree m → left ≡ left_turn turn → Steps folding_ask FoldingLeads KeepsFolding who before after m n turn
+    → Steps part_ask PartLeads KeepsPart who before after p (Tree tree n) left
+folding_steps tree who before after m n turn p left e f s =
+    subst (λ (q : Part). Steps part_ask PartLeads KeepsPart who before after q (Tree tree n) left) (sym e)
+    (subst (λ (l : Turn ℕ). Steps part_ask PartLeads KeepsPart who before after (Tree tree m) (Tree tree n) l) (sym f)
+    (record { answer = s.answer; made = s.made; took = folding_took tree m n s.answer turn s.took }))
 
-pub paging_steps : (tree page : ℕ) (who : Caller) (before after : Seen) (m n : Paging) (turn : Turn CkptAnswer)
-    → Steps paging_ask PagingLeads KeepsPaging who before after m n turn
-    → Steps part_ask PartLeads KeepsPart who before after (Page tree page m) (Page tree page n) (left_turn turn)
-paging_steps tree page who before after m n turn s = record { answer = s.answer; made = s.made; took = paging_took tree page m n s.answer turn s.took }
+pub paging_steps : (tree page : ℕ) (who : Caller) (before after : Seen) (m n : Paging) (turn : Turn CkptAnswer) (p : Part) (left : Turn ℕ)
+    → p ≡ Page tree page m → left ≡ left_turn turn → Steps paging_ask PagingLeads KeepsPaging who before after m n turn
+    → Steps part_ask PartLeads KeepsPart who before after p (Page tree page n) left
+paging_steps tree page who before after m n turn p left e f s =
+    subst (λ (q : Part). Steps part_ask PartLeads KeepsPart who before after q (Page tree page n) left) (sym e)
+    (subst (λ (l : Turn ℕ). Steps part_ask PartLeads KeepsPart who before after (Page tree page m) (Page tree page n) l) (sym f)
+    (record { answer = s.answer; made = s.made; took = paging_took tree page m n s.answer turn s.took }))
 
 -- ---- the settling
 

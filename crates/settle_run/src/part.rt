@@ -29,16 +29,14 @@ pub enum Part {
 }
 
 impl Part {
-    ghost use Rattle.settle_run.specs.Parts.{part_ask, part_applying, part_received, part_again, part_left, PartLeads, KeepsPart};
+    ghost use Rattle.settle_run.specs.Parts.{part_ask, part_applying, part_received, part_again, PartLeads, KeepsPart, PartWent};
+    ghost use Rattle.settle_run.specs.Ending.{part_left};
 
     /// The recovery of a client, before its first call.
     pub(crate) fn client(alloc: Global, client: ClientId) -> Part
         ensures { result ≡ part_of_client client }
     {
-        Part::Client(
-            client,
-            RecoverRun::new(alloc, client, Aim::Settling, None),
-        )
+        Part::Client(client, RecoverRun::new(alloc, client, Aim::Settling, None))
     }
 
     /// A checkpoint of a tree, before its first call.
@@ -103,6 +101,8 @@ impl Part {
     /// failed.
     pub(crate) fn step<C: Cloud>(&mut self, alloc: Global, cloud: &mut C, who: Who) -> Turn<u64>
         ensures steps { Steps part_ask PartLeads KeepsPart who (C.seen cloud.old) (C.seen cloud.new) self.old self.new result }
+        // Each step that goes on leaves fewer calls.
+        ensures less { (h : List Deed) → PartWent h self.old → result ≡ Turn.More → part_left self.new < part_left self.old }
     {
         match self {
             Part::Client(_, machine) => recovered_turn(machine.step(alloc, cloud, who)),

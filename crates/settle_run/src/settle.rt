@@ -1,7 +1,6 @@
 //! The machine.
 
-ghost use Rattle.std.specs.Prelude.{◌≡◌, ◌+◌, ◌==◌, ◌<◌, ◌^◌, IfOk, IfSome, IfNone, IsTrue};
-ghost use Rattle.std.specs.List.{list_any};
+ghost use Rattle.std.specs.Prelude.{◌≡◌, ◌<◌, ◌≤◌, ◌^◌, List, [], length};
 ghost use Rattle.cloud_trait.specs.Call.{ask_of};
 ghost use Rattle.cloud_trait.specs.Machine.{Took, Steps, Deed};
 ghost use Rattle.settle_run.specs.Parts.{part_of_tree};
@@ -41,6 +40,8 @@ impl Model for SettleRun {
 
 impl SettleRun {
     ghost use Rattle.settle_run.specs.Parts.{part_applying};
+    ghost use Rattle.settle_run.specs.Ending.{calls_left};
+    ghost use Rattle.settle_run.specs.Meaning.{Went, Meant, Causes};
     ghost use Rattle.settle_run.specs.Settling.{Settling, new_settling, settle_ask, SettleLeads, KeepsSettling, SamePart, after_turn, ended_by, passed, goes_on, to_page, goes_right, behind_tree, is_visited};
 
     /// A settling before its first call. Takes no memory.
@@ -73,7 +74,7 @@ impl SettleRun {
 
     /// This is at work from now on, with a queue of which nothing is known.
     fn has(&mut self, alloc: Global, part: Part)
-        ensures { self.new ≡ record self.old { part = part; known = List.[] } }
+        ensures { self.new ≡ record self.old { part = part; known = [] } }
     {
         self.part = part;
         self.known = Vec::new(alloc);
@@ -188,9 +189,26 @@ impl SettleRun {
     /// Makes the call in hand, and does the local work up to the next one.
     pub fn step<C: Cloud>(&mut self, alloc: Global, cloud: &mut C, who: Who) -> Turn<Settled>
         ensures steps { Steps settle_ask SettleLeads KeepsSettling who (C.seen cloud.old) (C.seen cloud.new) self.old self.new result }
+        // Each step that goes on leaves fewer calls.
+        ensures less { (h : List Deed) → Went h self.old → result ≡ Turn.More → calls_left self.new < calls_left self.old }
+        // At its end these parts ran, in this order, and all calls are counted.
+        ensures means { Meant who (C.seen cloud.old) (C.seen cloud.new) self.old self.new result }
+        // A trouble that it answers is that of the part at work, or shown by how that ended.
+        ensures causes { Causes who (C.seen cloud.old) (C.seen cloud.new) self.old result }
     {
         let turn = self.part.step(alloc, cloud, who);
-        self.follow(alloc, turn)
+        let next = self.follow(alloc, turn);
+        self.few();
+        next
+    }
+
+    /// A list is no longer than the greatest usize.
+    fn few(&self)
+        ensures known { length self.now.known ≤ 2 ^ 64 }
+        ensures visited { length self.now.visited ≤ 2 ^ 64 }
+    {
+        let _known = self.known.len();
+        let _visited = self.visited.len();
     }
 }
 

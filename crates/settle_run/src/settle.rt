@@ -42,6 +42,7 @@ impl SettleRun {
     ghost use Rattle.settle_run.specs.Parts.{part_applying};
     ghost use Rattle.settle_run.specs.Ending.{calls_left};
     ghost use Rattle.settle_run.specs.Meaning.{Went, Meant, Causes};
+    ghost use Rattle.settle_run.specs.Standing.{Holds, GivesBack};
     ghost use Rattle.settle_run.specs.Settling.{Settling, new_settling, settle_ask, SettleLeads, KeepsSettling, SamePart, after_turn, ended_by, passed, goes_on, to_page, goes_right, behind_tree, is_visited};
 
     /// A settling before its first call. Takes no memory.
@@ -191,6 +192,10 @@ impl SettleRun {
         ensures steps { Steps settle_ask SettleLeads KeepsSettling who (C.seen cloud.old) (C.seen cloud.new) self.old self.new result }
         // Each step that goes on leaves fewer calls.
         ensures less { (h : List Deed) → Went h self.old → result ≡ Turn.More → calls_left self.new < calls_left self.old }
+        // The part at work holds what it took and has not given back, and its call names leases that it holds.
+        ensures holds { (h : List Deed) → Went h self.old → Holds h self.old }
+        // Before an end all leases are given back.
+        ensures gives_back { (h : List Deed) → Went h self.old → GivesBack self.new result }
         // At its end these parts ran, in this order, and all calls are counted.
         ensures means { Meant who (C.seen cloud.old) (C.seen cloud.new) self.old self.new result }
         // A trouble that it answers is that of the part at work, or shown by how that ended.

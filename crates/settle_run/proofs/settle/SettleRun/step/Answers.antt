@@ -4,9 +4,11 @@ use Rattle.cloud_trait.specs.Machine.{Deed, Steps}
 use Rattle.settle_run.specs.Ending.{calls_left}
 use Rattle.settle_run.specs.Meaning.{Went, Meant, Causes}
 use Rattle.settle_run.specs.Settling.{Settling, settle_ask, SettleLeads, KeepsSettling}
+use Rattle.settle_run.specs.Standing.{GivesBack}
 use Rattle.settle_run.specs.contracts.settle.SettleRun.{the_view}
 use Rattle.settle_run.proofs.Causing.{took_tells}
 use Rattle.settle_run.proofs.Ending.{turn_less}
+use Rattle.settle_run.proofs.Holding.{went_holds, took_gives}
 use Rattle.settle_run.proofs.Ranging.{went_stands, own_calls, took_means}
 use Rattle.settle_run.proofs.Stepping.{followed}
 use Rattle.settle_run.proofs.settle.SettleRun.step.Goals as goal
@@ -33,6 +35,20 @@ returns-clause-less g c =
     let own = own_calls h (the_view c.self.inside) went in
     turn_less (the_view c.self.inside) c.follow-next.new.self c.step-turn.new.self s.answer c.step-turn.result c.follow-next.result s.took c.follow-next.ensures
     c.few.ensures.known c.few.ensures.visited (c.step-turn.ensures.less own.0 own.1))
+
+pub returns-clause-holds : goal.returns-clause-holds
+returns-clause-holds g c = λ h went. went_holds h c.args.self.now went
+
+pub returns-clause-gives_back : goal.returns-clause-gives_back
+returns-clause-gives_back g c =
+    let s = c.step-turn.ensures.steps in
+    subst
+    (λ (old : Settling). (h : List Deed) → Went h old → GivesBack c.follow-next.new.self c.follow-next.result)
+    c.self.view_is
+    (λ h went.
+    let own = own_calls h (the_view c.self.inside) went in
+    took_gives (the_view c.self.inside) c.follow-next.new.self c.step-turn.new.self own.0 s.answer c.step-turn.result c.follow-next.result own.1 s.made.fits
+    s.took c.follow-next.ensures)
 
 pub returns-clause-means : goal.returns-clause-means
 returns-clause-means g c =

@@ -13,7 +13,7 @@ use Rattle.settle_run.specs.declared.part.Part.{Part}
 use Rattle.settle_run.specs.declared.part.Part.TheVariants.{Client, Tree, Page}
 use Rattle.settle_run.specs.declared.settled.Settled.{Settled}
 use Rattle.settle_run.specs.Parts.{part_of_tree, part_received, PartLeads}
-use Rattle.settle_run.specs.Settling.{Settling, Step, begins, to_page, behind_tree, is_visited, goes_right, goes_on, passed_with, passed, ended_by, counted, with_part, moved, SettleLeads, KeepsSettling}
+use Rattle.settle_run.specs.Settling.{Settling, Step, begins, to_page, behind_tree, is_visited, goes_right, goes_on, passed_with, passed, counted, with_part, moved, SettleLeads, KeepsSettling}
 use Rattle.settle_run.specs.Meaning.{Stopping, Tells}
 
 -- where a step stops, it is told why

@@ -1,10 +1,9 @@
 -- The parts that ran, and the calls of the part at work, along the calls of a settling.
-use Rattle.std.proofs.Common.{◌≡◌, ◌≢◌, ◌+◌, ℕ, List, [], ◌∷◌, ◌++◌, length, Option, Some, None, refl, sym, subst, ap, ◌∙◌, Bool, true, false, cond, arith, length-append}
+use Rattle.std.proofs.Common.{◌≡◌, ◌+◌, ℕ, List, [], ◌∷◌, ◌++◌, length, Option, Some, None, refl, sym, subst, ap, ◌∙◌, Bool, true, false, cond, arith, length-append}
 use Rattle.std.specs.Prelude.{◌==◌, nat_lt}
 use Rattle.std.proofs.lemmas.Bool.Decides.{nat_tests}
 use Rattle.leaf_view.specs.Lookup.{page_at}
 use Rattle.db_base.specs.declared.trouble.Trouble.TheVariants as trouble
-use Rattle.cloud_trait.specs.declared.answer.Answer.{Answer}
 use Rattle.cloud_trait.specs.declared.turn.CkptAnswer.{CkptAnswer}
 use Rattle.cloud_trait.specs.declared.turn.Turn.{Turn}
 use Rattle.cloud_trait.specs.declared.turn.Turn.TheVariants.{More, Ended, Stopped}
@@ -17,7 +16,7 @@ use Rattle.page_ckpt.specs.Paging.{Paging, PagingLeads}
 use Rattle.settle_run.specs.declared.part.Part.{Part}
 use Rattle.settle_run.specs.declared.part.Part.TheVariants.{Client, Tree, Page}
 use Rattle.settle_run.specs.declared.settled.Settled.{Settled}
-use Rattle.settle_run.specs.Parts.{part_of_client, part_of_tree, part_of_page, part_ask, part_again, part_received, recovers, folds, pages, PartLeads, PartWent}
+use Rattle.settle_run.specs.Parts.{part_of_client, part_of_tree, part_ask, part_again, part_received, recovers, folds, pages, PartLeads, PartWent}
 use Rattle.settle_run.specs.Settling.{Settling, Step, new_settling, settle_ask, begins, behind_client, to_page, behind_tree, is_visited, goes_right, goes_on, passed_with, passed, ended_by, counted, with_part, moved, SettleLeads, KeepsSettling}
 use Rattle.settle_run.specs.Meaning.{Went, Run, IsRun, behind, Ran, deeds_of, IsSettled, MeansTurn}
 use Rattle.settle_run.proofs.Ending.{part_stays}

@@ -1,7 +1,6 @@
 -- A settling takes a step by that of the part at work.
-use Rattle.std.proofs.Common.{◌≡◌, ◌≢◌, ℕ, refl, sym, subst, ◌∙◌}
+use Rattle.std.proofs.Common.{◌≡◌, ℕ, refl, sym, subst, ◌∙◌}
 use Rattle.db_base.specs.declared.trouble.Trouble.{Trouble}
-use Rattle.db_base.specs.declared.trouble.Trouble.TheVariants as trouble
 use Rattle.cloud_trait.specs.declared.answer.Answer.{Answer}
 use Rattle.cloud_trait.specs.declared.answer.Answer.TheVariants.{Failed}
 use Rattle.cloud_trait.specs.declared.turn.CkptAnswer.{CkptAnswer}
@@ -18,7 +17,7 @@ use Rattle.settle_run.specs.declared.part.Part.{Part}
 use Rattle.settle_run.specs.declared.part.Part.TheVariants.{Client, Tree, Page}
 use Rattle.settle_run.specs.declared.settled.Settled.{Settled}
 use Rattle.settle_run.specs.Parts.{recovered_turn, left_turn, part_ask, PartLeads, KeepsPart}
-use Rattle.settle_run.specs.Settling.{Settling, Step, counted, with_part, after_turn, moved, SettleLeads, SamePart, KeepsSettling}
+use Rattle.settle_run.specs.Settling.{Settling, Step, counted, with_part, after_turn, SettleLeads, SamePart, KeepsSettling}
 
 -- ---- a part
 

@@ -1,5 +1,5 @@
 -- What a settling did, as its calls tell it.
-use Rattle.std.specs.Prelude.{ℕ, ◌≡◌, ◌≢◌, ◌+◌, ◌⊎◌, true, List, [], ◌∷◌, ◌++◌, length, Option, Some}
+use Rattle.std.specs.Prelude.{ℕ, ◌≡◌, ◌≢◌, ◌+◌, ◌⊎◌, true, List, [], ◌∷◌, ◌++◌, length, Some}
 use Rattle.db_base.specs.declared.trouble.Trouble.{Trouble}
 use Rattle.db_base.specs.declared.trouble.Trouble.TheVariants as trouble
 use Rattle.leaf_view.specs.Lookup.{page_at}
@@ -16,7 +16,7 @@ use Rattle.settle_run.specs.declared.part.Part.{Part}
 use Rattle.settle_run.specs.declared.part.Part.TheVariants.{Page}
 use Rattle.settle_run.specs.declared.settled.Settled.{Settled}
 use Rattle.settle_run.specs.Parts.{part_ask, part_again, PartLeads, PartWent}
-use Rattle.settle_run.specs.Settling.{Settling, Step, new_settling, settle_ask, SettleLeads, passed, is_visited}
+use Rattle.settle_run.specs.Settling.{Settling, new_settling, settle_ask, SettleLeads, passed, is_visited}
 
 -- the settling came here from its first call on by these calls, the newest first
 abbrev pub Went : List Deed → Settling → Type 0

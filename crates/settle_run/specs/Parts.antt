@@ -1,13 +1,12 @@
 -- A part of a settling: the recovery of a client, or a checkpoint of a queue.
-use Rattle.std.specs.Prelude.{ℕ, ◌≡◌, List, [], Option, None, Result}
-use Rattle.db_base.specs.declared.trouble.Trouble.{Trouble}
+use Rattle.std.specs.Prelude.{ℕ, ◌≡◌, List, [], None}
 use Rattle.log_codec.specs.declared.record.PuItem.{PuItem}
 use Rattle.cloud_trait.specs.declared.answer.Answer.{Answer}
 use Rattle.cloud_trait.specs.declared.turn.CkptAnswer.{CkptAnswer}
 use Rattle.cloud_trait.specs.declared.turn.Turn.{Turn}
 use Rattle.cloud_trait.specs.declared.turn.Turn.TheVariants.{More, Ended, Stopped}
 use Rattle.cloud_trait.specs.Ask.{Ask}
-use Rattle.cloud_trait.specs.Machine.{Next, Goes, Ends, Stops, LeadsBy, Took, Deed, Came}
+use Rattle.cloud_trait.specs.Machine.{Next, Goes, Ends, Stops, LeadsBy, Deed, Came}
 use Rattle.recover_run.specs.declared.stage.Aim.TheVariants as aim
 use Rattle.recover_run.specs.declared.stage.RecoverAnswer.{RecoverAnswer}
 use Rattle.recover_run.specs.Recovery.{Recovery, new_recovery, recovery_ask, recovery_next, KeepsLeases as KeepsRecovery}

@@ -17,7 +17,7 @@ use Rattle.cloud_trait.specs.Views.{given_of, got_of, received_of, done_of}
 use Rattle.cloud_trait.proofs.ViewLemmas.{given_of-ok}
 use Rattle.first_tree.specs.declared.stage.Stage.{Stage}
 use Rattle.first_tree.specs.declared.stage.Stage.TheVariants.{TakingTree, GettingTree, Receiving, TakingPage, GettingPage, PuttingPage, ReleasingPage, PuttingTree, Deleting, ReleasingTree, StoppingPage, StoppingTree, Finished}
-use Rattle.first_tree.specs.Folding.{Folding, Step, ask_at, folding_ask, under_tree, under_page, delete_next, take_tree, first_page, stopping_tree, deleting, tree_taken_by, is_lone_root, is_lone_leaf, root_read, damaged_tree, next_root, RootGot, items_of, has_items, run_taken, Received, ReceivedBy, page_taken_by, LeafPut, LeafReadBy, PageGot, page_put_by, without_page, RootRaised, root_put_by, deleted_by, rest_of, LeadsAt, FoldingLeads}
+use Rattle.first_tree.specs.Folding.{Folding, Step, ask_at, folding_ask, under_tree, under_page, delete_next, take_tree, first_page, stopping_tree, deleting, tree_taken_by, is_lone_root, is_lone_leaf, root_read, damaged_tree, next_root, RootGot, items_of, has_items, run_taken, Received, ReceivedBy, page_taken_by, LeafPut, LeafReadBy, PageGot, page_put_by, without_page, RootRaised, root_put_by, deleted_by, rest_of, LeadsAt, FoldingLeads, with_received}
 use Rattle.leaf_edit.specs.Lacked.{lacked}
 use Rattle.leaf_view.specs.Leaf.{Leaf}
 use Rattle.leaf_view.specs.Lookup.{empty_leaf}
@@ -76,7 +76,7 @@ items_within f (Err m) next e = subst (Within (leases_of_folding f)) (sym e) (λ
 items_within f (Ok items) next p = subst (Within (leases_of_folding f)) (sym p.2) (run_within f items p.0)
 
 received_within : (f : Folding) (g : Result (List Message) Trouble) (next : Step) → ReceivedBy f g next → Within (leases_of_folding f) next
-received_within f (Ok ms) next e = items_within f (items_of ms) next e
+received_within f (Ok ms) next e = items_within (with_received f ms) (items_of ms) next e
 received_within f (Err t) next e = subst (Within (leases_of_folding f)) (sym e) (λ x is. is)
 
 put_within : (f : Folding) (l : Leaf) (items : List PuItem) (next : Step) → LeafPut f l items next → Within (leases_of_folding f) next

@@ -12,7 +12,7 @@ use Rattle.cloud_trait.specs.declared.message.Message.{Message}
 use Rattle.cloud_trait.specs.declared.turn.CkptAnswer.{CkptAnswer}
 use Rattle.chain_facts.specs.Links.{top_of}
 use Rattle.first_tree.specs.declared.stage.Stage.TheVariants.{Receiving, TakingPage}
-use Rattle.first_tree.specs.Folding.{Folding, Step, stopping_tree, stopping_page, deleting, tree_taken_by, is_lone_root, root_read, damaged_tree, next_root, RootGot, items_of, has_items, run_taken, Received, ReceivedBy, page_taken_by, LeafPut, LeafReadBy, LeafRead, PageGot, page_put_by, RootRaised, root_put_by, deleted_by, rest_of, is_lone_leaf}
+use Rattle.first_tree.specs.Folding.{Folding, Step, stopping_tree, stopping_page, deleting, tree_taken_by, is_lone_root, root_read, damaged_tree, next_root, RootGot, items_of, has_items, run_taken, Received, ReceivedBy, page_taken_by, LeafPut, LeafReadBy, LeafRead, PageGot, page_put_by, RootRaised, root_put_by, deleted_by, rest_of, is_lone_leaf, with_received}
 use Rattle.leaf_edit.specs.Applied.{applied}
 use Rattle.leaf_edit.specs.Lacked.{lacked}
 use Rattle.leaf_view.specs.Leaf.{Leaf, IsLeaf}
@@ -135,11 +135,6 @@ module _ (u : Store) (now : ℕ) (f : Folding) (of_tree : IsTree f.tree) where
   items_known (Ok items) ms next raises none numbers was e p =
       subst (KnowsNext u now) (sym p.2) (run_known items p.0 raises none numbers p.1 (items_sent (u.tally.posts f.tree 0) ms items was (items_same ms ∙ e)))
 
-  pub received : (g : Result (List Message) Trouble) (next : Step) → RaisesRoot u now f → f.page_lease ≡ None → Numbers u
-      → ((ms : List Message) → g ≡ Ok ms → AllByRecursion (WasSent (u.tally.posts f.tree 0)) ms) → ReceivedBy f g next → KnowsNext u now next
-  received (Ok ms) next raises none numbers was is = items_known (items_of ms) ms next raises none numbers (was ms refl) refl is
-  received (Err t) next raises none numbers was is = subst (KnowsNext u now) (sym is) (stops_tree t (raises.read).held none)
-
   -- ---- the page's lease, and the leaf
 
   pub page_taken : (g : Result Claim Trouble) → ((l : Claim) → g ≡ Ok l → l.lock ≡ lock.Page f.tree 1) → RaisesRoot u now f → HasRun u f → f.page_lease ≡ None
@@ -209,3 +204,12 @@ module _ (u : Store) (now : ℕ) (f : Folding) (of_tree : IsTree f.tree) where
   pub deleted : (g : Result (Unit {0}) Trouble) → HasTree f → f.page_lease ≡ None → CoversIds u f → KnowsNext u now (deleted_by f g)
   deleted (Ok tt) held none may = rest_deletes _ (rest_of f.ids) held none (λ id is. may id (in_rest f.ids id is))
   deleted (Err t) held none may = rest_deletes _ (rest_of f.ids) held none (λ id is. may id (in_rest f.ids id is))
+
+-- ---- the receive
+
+pub received : (u : Store) (now : ℕ) (f : Folding) (of_tree : IsTree f.tree) (g : Result (List Message) Trouble) (next : Step)
+    → RaisesRoot u now f → f.page_lease ≡ None → Numbers u
+    → ((ms : List Message) → g ≡ Ok ms → AllByRecursion (WasSent (u.tally.posts f.tree 0)) ms) → ReceivedBy f g next → KnowsNext u now next
+received u now f of_tree (Ok ms) next raises none numbers was is =
+    items_known u now (with_received f ms) of_tree (items_of ms) ms next raises none numbers (was ms refl) refl is
+received u now f of_tree (Err t) next raises none numbers was is = subst (KnowsNext u now) (sym is) (stops_tree u now f of_tree t (raises.read).held none)

@@ -28,7 +28,7 @@ use Rattle.cloud_trait.specs.Views.{given_of, got_of, done_of, received_of}
 use Rattle.cloud_trait.specs.Weather.{Fits}
 use Rattle.first_tree.specs.declared.stage.Stage.{Stage}
 use Rattle.first_tree.specs.declared.stage.Stage.TheVariants.{TakingTree, GettingTree, Receiving, TakingPage, GettingPage, PuttingPage, ReleasingPage, PuttingTree, Deleting, ReleasingTree, StoppingPage, StoppingTree, Finished}
-use Rattle.first_tree.specs.Folding.{Folding, folding_ask, ask_at, deleting, tree_taken_by, is_lone_root, is_lone_leaf, next_root, damaged_tree, stopping_tree, root_read, RootGot, item_with, with_first, items_of, has_items, run_started, Received, ReceivedBy, page_taken_by, LeafPut, LeafReadBy, PageGot, page_put_by, RootRaised, root_put_by, rest_of, one_deleted, one_left, deleted_by, LeadsAt, FoldingLeads, KeepsLeases, left_at, calls_left}
+use Rattle.first_tree.specs.Folding.{Folding, folding_ask, ask_at, deleting, tree_taken_by, is_lone_root, is_lone_leaf, next_root, damaged_tree, stopping_tree, root_read, RootGot, item_with, with_first, items_of, has_items, run_started, Received, with_received, ReceivedBy, page_taken_by, LeafPut, LeafReadBy, PageGot, page_put_by, RootRaised, root_put_by, rest_of, one_deleted, one_left, deleted_by, LeadsAt, FoldingLeads, KeepsLeases, left_at, calls_left}
 
 -- where a step goes on, fewer calls are left than this
 abbrev Below : ℕ → Next Folding CkptAnswer → Type 0
@@ -108,7 +108,7 @@ below_items f next (Ok items) most p =
 
 below_received : (f : Folding) (next : Next Folding CkptAnswer) (g : Result (List Message) Trouble)
     → ((ms : List Message) → g ≡ Ok ms → length ms ≤ 256) → ReceivedBy f g next → Below 264 next
-below_received f next (Ok ms) most p = below_items f next (items_of ms) (λ items e. omega (arith, items_length ms items e, most ms refl)) p
+below_received f next (Ok ms) most p = below_items (with_received f ms) next (items_of ms) (λ items e. omega (arith, items_length ms items e, most ms refl)) p
 below_received f next (Err t) most e = below_by 264 next _ e (omega arith)
 
 below_page_taken : (n : ℕ) (f : Folding) (g : Result Claim Trouble) → n ≡ length f.ids → Below (n + 7) (page_taken_by f g)

@@ -33,7 +33,7 @@ use Rattle.first_tree.specs.declared.items.ItemFault.TheVariants.{NotRecord, Mem
 use Rattle.first_tree.specs.declared.stage.Stage.{Stage}
 use Rattle.first_tree.specs.declared.stage.Stage.TheVariants.{TakingTree, GettingTree, Receiving, TakingPage, GettingPage, PuttingPage, ReleasingPage, PuttingTree, Deleting, ReleasingTree, StoppingPage, StoppingTree, Finished}
 
--- where a checkpoint stands: its leases, the cursor that it read, the root that it is to put (none where the version is spent), the run,
+-- where a checkpoint stands: its leases, what its receive answered, the cursor that it read, the root that it is to put (none where the version is spent), the run,
 -- the ids that it is to delete, the items that the put in hand applies, the bytes of that put, what it counted, and the trouble that it
 -- answers once its leases are given back
 pub record Folding : Type 0 where
@@ -41,6 +41,7 @@ pub record Folding : Type 0 where
   pub stage : Stage
   pub tree_lease : Option Claim
   pub page_lease : Option Claim
+  pub received : List ℕ
   pub cursor : List (ℕ × ℕ)
   pub root : Option Tree
   pub run : Taken
@@ -58,7 +59,7 @@ nothing_yet = record { applied = 0; deleted = 0; left = 0 }
 
 -- the checkpoint of a tree before its first call
 abbrev pub new_folding : ℕ → Folding
-new_folding tree = record { tree = tree; stage = TakingTree; tree_lease = None; page_lease = None; cursor = []; root = None; run = no_run; ids = []; applying = []; out = []; counted = nothing_yet; trouble = None }
+new_folding tree = record { tree = tree; stage = TakingTree; tree_lease = None; page_lease = None; received = []; cursor = []; root = None; run = no_run; ids = []; applying = []; out = []; counted = nothing_yet; trouble = None }
 
 -- ---- the call in hand
 
@@ -218,9 +219,17 @@ abbrev pub Received : Folding → Result (List PuItem) Message → Step → Type
 Received f (Err m) next = next ≡ stopping_tree f (damaged_message f m)
 Received f (Ok items) next = (run : Taken) × IsRun f.cursor items run.items run.top × (next ≡ run_taken f items run)
 
+-- the ids of messages, in order of receipt
+abbrev pub ids_of : List Message → List ℕ
+ids_of [] = []
+ids_of (m ∷ ms) = m.id ∷ ids_of ms
+
+abbrev pub with_received : Folding → List Message → Folding
+with_received f ms = record f { received = ids_of ms }
+
 -- after the receive
 abbrev pub ReceivedBy : Folding → Result (List Message) Trouble → Step → Type 0
-ReceivedBy f (Ok ms) next = Received f (items_of ms) next
+ReceivedBy f (Ok ms) next = Received (with_received f ms) (items_of ms) next
 ReceivedBy f (Err t) next = next ≡ stopping_tree f t
 
 abbrev pub page_taken_by : Folding → Result Claim Trouble → Step

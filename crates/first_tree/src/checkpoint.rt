@@ -7,7 +7,7 @@ ghost use Rattle.cloud_trait.specs.Weather.{Makes};
 ghost use Rattle.node_codec.specs.Tree.{IsTree};
 ghost use Rattle.first_tree.specs.Folding.{raised_tree, taken_or_none, is_lone_root, is_first_alone, is_lone_leaf, one_deleted, one_left};
 
-use crate::items::{ItemFault, items_of, lacked_of};
+use crate::items::{ItemFault, ids_of, items_of, lacked_of};
 use crate::stage::Stage;
 use cloud_trait::answer::Answer;
 use cloud_trait::call::Call;
@@ -49,6 +49,7 @@ pub struct TreeCkpt {
     stage: Stage,
     tree_lease: Option<Lease>,
     page_lease: Option<Lease>,
+    received: Vec<MsgId>,
     cursor: Cursor,
     root: Option<TreeBuf>,
     run: Option<Run>,
@@ -71,6 +72,7 @@ impl Model for TreeCkpt {
       stage = f.stage;
       tree_lease = f.tree_lease;
       page_lease = f.page_lease;
+      received = f.received.items;
       cursor = f.cursor;
       root = f.root;
       run = taken_or_none f.run;
@@ -94,6 +96,7 @@ impl TreeCkpt {
             stage: Stage::TakingTree,
             tree_lease: None,
             page_lease: None,
+            received: Vec::new(alloc),
             cursor: Cursor::new(alloc),
             root: None,
             run: None,
@@ -108,6 +111,13 @@ impl TreeCkpt {
             },
             trouble: None,
         }
+    }
+
+    /// The messages that the receive answered, in order of receipt.
+    pub fn received(&self) -> &[MsgId]
+        ensures { result.now ≡ self.now.received }
+    {
+        self.received.as_slice()
     }
 
     /// The items that the put in hand applies, in the order in which it applies them.
@@ -311,7 +321,7 @@ impl TreeCkpt {
         }
     }
 
-    fn received(
+    fn received_by(
         &mut self,
         alloc: Global,
         received: Result<MessageList, Trouble>,
@@ -319,8 +329,20 @@ impl TreeCkpt {
         ensures { Took (λ f _ next. ReceivedBy f received next) SameLeases self.old Answer.Failed self.new result }
     {
         match received {
-            Ok(messages) => self.read_messages(alloc, messages.as_slice()),
+            Ok(messages) => self.note_messages(alloc, messages.as_slice()),
             Err(trouble) => self.stop_tree(trouble),
+        }
+    }
+
+    fn note_messages(&mut self, alloc: Global, messages: &[Message]) -> Turn<CkptAnswer>
+        ensures { Took (λ f _ next. ReceivedBy f (Ok messages.now) next) SameLeases self.old Answer.Failed self.new result }
+    {
+        match ids_of(alloc, messages) {
+            Ok(received) => {
+                self.received = received;
+                self.read_messages(alloc, messages)
+            }
+            Err(_) => Turn::Stopped(Trouble::Memory),
         }
     }
 
@@ -559,7 +581,7 @@ impl TreeCkpt {
             (_, Answer::Memory) => Turn::Stopped(Trouble::Memory),
             (Stage::TakingTree, answer) => self.tree_taken(answer.given(Lock::Tree(self.tree))),
             (Stage::GettingTree, answer) => self.root_got(alloc, answer.got()),
-            (Stage::Receiving, answer) => self.received(alloc, answer.received()),
+            (Stage::Receiving, answer) => self.received_by(alloc, answer.received()),
             (Stage::TakingPage, answer) => self.page_taken(answer.given(Lock::Page(
                 self.tree,
                 PageId::first(),

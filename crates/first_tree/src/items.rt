@@ -1,9 +1,10 @@
 ghost use Rattle.std.specs.Prelude.{◌≡◌, ℕ, Ok, Some, IfOk, IfErr};
 ghost use Rattle.leaf_edit.specs.Lacked.{is_lacked, lacked};
 ghost use Rattle.log_codec.specs.Pu.{pu_of};
-ghost use Rattle.first_tree.specs.Folding.{items_of, item_with, Faults, FaultsAt};
+ghost use Rattle.first_tree.specs.Folding.{ids_of, items_of, item_with, Faults, FaultsAt};
 
 use cloud_trait::message::Message;
+use db_base::ids::MsgId;
 use db_base::names::{Place, QueueName};
 use db_base::trouble::Trouble;
 use leaf_view::LeafView;
@@ -18,6 +19,19 @@ pub(crate) enum ItemFault {
     NotRecord(Trouble),
     /// Memory ran out.
     Memory,
+}
+
+/// The ids of messages, in order of receipt.
+pub(crate) fn ids_of(alloc: Global, messages: &[Message]) -> Result<Vec<MsgId>, AllocError>
+    ensures { IfOk result (λ ids. ids.items ≡ ids_of messages.now) }
+{
+    let mut ids = Vec::new(alloc);
+    let mut left = messages;
+    while let Some((message, rest)) = left.split_first() {
+        ids.push(message.id)?;
+        left = rest;
+    }
+    Ok(ids)
 }
 
 /// The record of a message of a queue.

@@ -16,7 +16,7 @@ use Rattle.cloud_trait.specs.Machine.{Goes, Ends, Stops}
 use Rattle.cloud_trait.specs.Views.{given_of, got_of, received_of, done_of}
 use Rattle.first_tree.specs.declared.stage.Stage.{Stage}
 use Rattle.first_tree.specs.declared.stage.Stage.TheVariants.{TakingTree, GettingTree, Receiving, TakingPage, GettingPage, PuttingPage, ReleasingPage, PuttingTree, Deleting, ReleasingTree, StoppingPage, StoppingTree, Finished}
-use Rattle.first_tree.specs.Folding.{Folding, Step, LeadsAt, tree_taken_by, root_read, next_root, is_lone_root, is_lone_leaf, RootGot, stopping_tree, damaged_tree, ReceivedBy, Received, items_of, run_taken, has_items, deleting, page_taken_by, PageGot, LeafReadBy, page_put_by, RootRaised, root_put_by, deleted_by, one_deleted, one_left, rest_of}
+use Rattle.first_tree.specs.Folding.{Folding, Step, LeadsAt, tree_taken_by, root_read, next_root, is_lone_root, is_lone_leaf, RootGot, stopping_tree, damaged_tree, ReceivedBy, Received, items_of, run_taken, has_items, deleting, page_taken_by, PageGot, LeafReadBy, page_put_by, RootRaised, root_put_by, deleted_by, one_deleted, one_left, rest_of, with_received}
 
 -- where a step goes on it is at this tree
 abbrev IsAtTree : ℕ → Step → Type 0
@@ -62,7 +62,7 @@ items_stay f next (Err m) e = subst (Stays f) (sym e) refl
 items_stay f next (Ok items) p = subst (Stays f) (sym p.2) (run_stays f items p.0)
 
 received_stays : (f : Folding) (next : Step) (g : Result (List Message) Trouble) → ReceivedBy f g next → Stays f next
-received_stays f next (Ok ms) p = items_stay f next (items_of ms) p
+received_stays f next (Ok ms) p = items_stay (with_received f ms) next (items_of ms) p
 received_stays f next (Err t) e = subst (Stays f) (sym e) refl
 
 page_taken_stays : (f : Folding) (g : Result Claim Trouble) → Stays f (page_taken_by f g)

@@ -1,0 +1,5 @@
+pub mod Causing
+pub mod Ending
+pub mod Holding
+pub mod Ranging
+pub mod Stepping

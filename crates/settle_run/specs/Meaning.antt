@@ -1,0 +1,113 @@
+-- What a settling did, as its calls tell it.
+use Rattle.std.specs.Prelude.{ℕ, ◌≡◌, ◌≢◌, ◌+◌, ◌⊎◌, true, List, [], ◌∷◌, ◌++◌, length, Some}
+use Rattle.db_base.specs.declared.trouble.Trouble.{Trouble}
+use Rattle.db_base.specs.declared.trouble.Trouble.TheVariants as trouble
+use Rattle.leaf_view.specs.Lookup.{page_at}
+use Rattle.cloud_trait.specs.declared.answer.Answer.{Answer}
+use Rattle.cloud_trait.specs.declared.turn.Turn.{Turn}
+use Rattle.cloud_trait.specs.declared.turn.Turn.TheVariants.{More, Ended, Stopped}
+use Rattle.cloud_trait.specs.Caller.{Caller}
+use Rattle.cloud_trait.specs.Seen.{Seen}
+use Rattle.cloud_trait.specs.Weather.{Makes}
+use Rattle.cloud_trait.specs.Machine.{Goes, Ends, Stops, Deed, Came, IsMade}
+use Rattle.recover_run.specs.Ids.{new_ids}
+use Rattle.page_ckpt.specs.Paging.{Paging}
+use Rattle.settle_run.specs.declared.part.Part.{Part}
+use Rattle.settle_run.specs.declared.part.Part.TheVariants.{Page}
+use Rattle.settle_run.specs.declared.settled.Settled.{Settled}
+use Rattle.settle_run.specs.Parts.{part_ask, part_again, PartLeads, PartWent}
+use Rattle.settle_run.specs.Settling.{Settling, new_settling, settle_ask, SettleLeads, passed, is_visited}
+
+-- the settling came here from its first call on by these calls, the newest first
+abbrev pub Went : List Deed → Settling → Type 0
+Went h s = Came settle_ask SettleLeads new_settling h s
+
+-- ---- whole parts
+
+-- a part that ended: as it stood then, and its calls, the newest first
+pub record Run : Type 0 where
+  pub part : Part
+  pub deeds : List Deed
+
+-- it ran from its first call on to its end, and no deletion of it failed that counts
+pub record IsRun (r : Run) : Type 0 where
+  pub last : Deed
+  pub earlier : List Deed
+  pub before : Part
+  pub deeds : r.deeds ≡ last ∷ earlier
+  pub went : PartWent earlier before
+  pub asked : last.ask ≡ part_ask before
+  pub made : IsMade last
+  pub ended : PartLeads before last.answer (Ends r.part 0)
+
+-- a settling behind a part that it began with
+abbrev pub behind : Settling → Run → Settling
+behind s r = record s { part = r.part; calls = s.calls + length r.deeds }
+
+-- parts that ran, the newest first, and a settling that stands before the first call of its next part: the first part is the recovery of
+-- client 1, and each other one is what comes behind the part before it
+abbrev pub Ran : List Run → Settling → Type 0
+Ran [] s = s ≡ new_settling
+Ran (r ∷ rs) s = (from : Settling) × Ran rs from × IsRun r × (part_again r.part ≡ from.part) × (passed (behind from r) ≡ Goes s)
+
+-- all their calls, the newest first
+abbrev pub deeds_of : List Run → List Deed
+deeds_of [] = []
+deeds_of (r ∷ rs) = r.deeds ++ deeds_of rs
+
+-- ---- the end
+
+-- all parts ran, and nothing comes behind the last; these were all calls, and the answer counts them
+pub record IsSettled (h : List Deed) (left : Settling) (answer : Settled) : Type 0 where
+  pub runs : List Run
+  pub from : Settling
+  pub ran : Ran runs from
+  pub last : Run
+  pub ends : IsRun last
+  pub place : part_again last.part ≡ from.part
+  pub passes : passed (behind from last) ≡ Ends left answer
+  pub all : h ≡ deeds_of (last ∷ runs)
+  pub counts : answer.calls ≡ length h
+
+abbrev pub MeansTurn : List Deed → Settling → Turn Settled → Type 0
+MeansTurn h left More = Unit {0}
+MeansTurn h left (Ended answer) = IsSettled h left answer
+MeansTurn h left (Stopped t) = Unit {0}
+
+-- what a step means by the whole run: the calls so far with this step's
+pub record Meant (who : Caller) (before after : Seen) (old new : Settling) (turn : Turn Settled) : Type 0 where
+  pub answer : Answer
+  pub made : Makes who (settle_ask old) answer before after
+  pub means : (h : List Deed) → Went h old
+      → MeansTurn (record { who = who; ask = settle_ask old; answer = answer; before = before; after = after } ∷ h) new turn
+
+-- ---- stops
+
+-- the part at work stopped so
+abbrev pub StopsPart : Settling → Answer → Trouble → Type 0
+StopsPart s a t = (p : Part) × PartLeads s.part a (Stops p t)
+
+-- a checkpoint ended, and deletions of it had failed
+abbrev pub LeavesSome : Settling → Answer → Type 0
+LeavesSome s a = (p : Part) × ((left : ℕ) × (left ≢ 0) × PartLeads s.part a (Ends p left))
+
+-- the last checkpoint of a page ended, and its right page is one whose own checkpoints were made
+abbrev pub GoesRound : Settling → Answer → ℕ → Type 0
+GoesRound s a right =
+    (tree : ℕ) × ((page : ℕ) × ((m : Paging) × PartLeads s.part a (Ends (Page tree page m) 0) × (new_ids s.known m.received ≡ [])
+    × (page_at m.home.right ≡ Some right) × (is_visited s right ≡ true)))
+
+-- why a settling stops so
+abbrev pub Stopping : Settling → Answer → Trouble → Type 0
+Stopping s a t = StopsPart s a t ⊎ (((t ≡ trouble.Failed) × LeavesSome s a) ⊎ ((right : ℕ) × (t ≡ trouble.Loop right) × GoesRound s a right))
+
+abbrev pub Tells : Settling → Answer → Turn Settled → Type 0
+Tells s a More = Unit {0}
+Tells s a (Ended answer) = Unit {0}
+Tells s a (Stopped t) = t ≢ trouble.Memory → Stopping s a t
+
+-- why a step stops, by what the cloud answered; want of memory is free
+pub record Causes (who : Caller) (before after : Seen) (old : Settling) (turn : Turn Settled) : Type 0 where
+  pub answer : Answer
+  pub made : Makes who (settle_ask old) answer before after
+  pub tells : Tells old answer turn

@@ -1,0 +1,2 @@
+mod Forks
+mod Unseen

@@ -33,6 +33,7 @@ pub root_stays : (st su : Store) (now later : ℕ) (lease : Claim) (tree : ℕ) 
     → (Lasts later lease → su.tally.roots tree ≡ st.tally.roots tree) → KnowsRoot st now lease tree root → KnowsRoot su later lease tree root
 root_stays st su now later lease tree root after grows same k = record {
   landed = landed k.landed;
+  spelled = k.spelled;
   newest = λ lasts. ap top_of (same lasts) ∙ k.newest (omega (arith, lasts, after));
   covered = λ client is. let old = k.covered client is in let rises = grows.cursor tree 0 client is in omega (arith, old, rises);
 }

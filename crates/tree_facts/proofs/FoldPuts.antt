@@ -115,7 +115,7 @@ module _ (book : Book) (order : List Entry) (s : CloudState) (stands : StandsUnd
     piece_after = after_page tree number (leaf_node last) (landing.own_of number (leaf_node last)) st
 
     -- it lands as the first version of a page that is in no chain
-    pub piece_lands : Landing who st (PutHeld (object.Page tree number) (leaf_bytes last) lease (Some f.lease)) piece_after
+    abbrev pub piece_lands : Landing who st (PutHeld (object.Page tree number) (leaf_bytes last) lease (Some f.lease)) piece_after
     piece_lands =
         piece_landing book order s stands tree f.page of_tree run clients k.linked k.first who lease (Some f.lease) front middle last behind pieces_last fit reserved_last number refl within
 
@@ -174,7 +174,7 @@ module _ (book : Book) (order : List Entry) (s : CloudState) (stands : StandsUnd
     module _ (cursor : List (ℕ × ℕ)) (received : List PuItem) (top : List (ℕ × ℕ)) (is_run : IsRun cursor received run top)
         (covered : (client : ℕ) → IsClient client → number_of cursor client ≤ st.tally.cursor tree 0 client) (items : (x : PuItem) → IsIn received x → IsItemOf st tree 0 x) where
       -- it lands as its page's leaf with the run, cut or whole
-      pub left_lands : Landing who st (PutHeld (object.Page tree f.page) (leaf_bytes front) lease (Some f.lease)) left_after
+      abbrev pub left_lands : Landing who st (PutHeld (object.Page tree f.page) (leaf_bytes front) lease (Some f.lease)) left_after
       left_lands =
           leaf_landing book order s stands tree f.page of_tree run clients k.linked k.first who lease (Some f.lease) front behind pieces_left fit reserved_none cursor received top is_run covered items
 

@@ -53,7 +53,7 @@ module _ (book : Book) (order : List Entry) (s : CloudState) (stands : StandsUnd
   abbrev pub reserving_after : Store
   reserving_after = after_root tree (reserving count root) st
 
-  pub reserving_lands : (who : Caller) → Landing who st (PutHeld (object.Tree tree) bytes lease None) reserving_after
+  abbrev pub reserving_lands : (who : Caller) → Landing who st (PutHeld (object.Tree tree) bytes lease None) reserving_after
   reserving_lands who = reservation_landing book order s stands tree of_tree who lease None root newest count k.first bytes planned.1
 
   pub reserving_version : (reserving count root).version ≡ (top_of (roots_of s tree)).version + 1
@@ -66,7 +66,7 @@ module _ (book : Book) (order : List Entry) (s : CloudState) (stands : StandsUnd
       ∙ reservation_held book order s stands tree of_tree (record { session = 0; event = 0 }) lease None root newest count k.first bytes planned.1
 
   pub reserving_root : KnowsRoot reserving_after now lease tree (tree_held (landed f).chart.root)
-  reserving_root = subst (KnowsRoot reserving_after now lease tree) (sym held) (root_known book order s stands tree of_tree now lease (reserving count root))
+  reserving_root = subst (KnowsRoot reserving_after now lease tree) (sym held) (root_known book order s stands tree of_tree now lease (reserving count root) planned.1.fits)
 
   pub reserving_known : PutsPieces reserving_after now lease (landed f) run
   reserving_known = record {

@@ -107,7 +107,7 @@ module _ (book : Book) (order : List Entry) (s : CloudState) (stands : StandsUnd
     names = last_names;
   }
 
-  pub last_landing : (who : Caller) (bytes : List ℕ) (one : Claim) (two : Option Claim) → SpellsTree bytes last → Landing who st (PutHeld (object.Tree tree) bytes one two) (after_root tree last st)
+  abbrev pub last_landing : (who : Caller) (bytes : List ℕ) (one : Claim) (two : Option Claim) → SpellsTree bytes last → Landing who st (PutHeld (object.Tree tree) bytes one two) (after_root tree last st)
   last_landing who bytes one two spells = puts_root tree last bytes one two of_tree spells (last_covers last refl) lands_root
 
   pub last_version : last.version ≡ version
@@ -151,7 +151,7 @@ module _ (book : Book) (order : List Entry) (s : CloudState) (stands : StandsUnd
       links_are : piece_links first ≡ record { low = []; page = first } ∷ links_on (first + 1) (right_of (root_pieces first last))
       links_are = cut_links entry_key (cuts_of (length last.entries)) first (first + 1) (part_of_node (node_of_root last))
 
-  pub raise_landing : (who : Caller) (bytes : List ℕ) (one : Claim) (two : Option Claim) (first : ℕ) → HaveLanded inner_node (nodes_of s tree) first (root_pieces first last)
+  abbrev pub raise_landing : (who : Caller) (bytes : List ℕ) (one : Claim) (two : Option Claim) (first : ℕ) → HaveLanded inner_node (nodes_of s tree) first (root_pieces first last)
       → ((piece : Link) → IsIn (piece_links first) piece → IsUnlinked (book.chain tree) piece.page) → SpellsTree bytes (above first)
       → Landing who st (PutHeld (object.Tree tree) bytes one two) (after_raise tree (above first) last.level (piece_links first) st)
   raise_landing who bytes one two first landed unlinked spells =

@@ -133,7 +133,7 @@ module _ (book : Book) (order : List Entry) (s : CloudState) (stands : StandsUnd
     pub piece_spells : IsLeaf (leaf_bytes last) (leaf_of_part last)
     piece_spells = record { fits = (each_in IsLeafPart (leaf_pieces first whole) fit last at).fits; is = refl }
 
-    pub piece_landing : Landing who st (PutHeld (object.Page tree number) (leaf_bytes last) one two) (after_page tree number (leaf_node last) (landing.own_of number (leaf_node last)) st)
+    abbrev pub piece_landing : Landing who st (PutHeld (object.Page tree number) (leaf_bytes last) one two) (after_page tree number (leaf_node last) (landing.own_of number (leaf_node last)) st)
     piece_landing = puts_page tree number (leaf_node last) (leaf_bytes last) one two of_tree piece_spells piece_lands_first lands_new
 
   -- ---- the left piece lands on the leaf's page
@@ -190,7 +190,7 @@ module _ (book : Book) (order : List Entry) (s : CloudState) (stands : StandsUnd
     leaf_lands =
         taken_lands book order s tree of_tree stands.holds.chains stands.decodes who page 0 run (cuts_of (length whole.records)) first (leaf_bytes front) lands_taken left_spells
 
-    pub leaf_landing : Landing who st (PutHeld (object.Page tree page) (leaf_bytes front) one two) (after_leaf taken st)
+    abbrev pub leaf_landing : Landing who st (PutHeld (object.Page tree page) (leaf_bytes front) one two) (after_leaf taken st)
     leaf_landing = puts_leaf taken (leaf_bytes front) one two left_spells takes leaf_lands
 
   -- ---- what is applied then

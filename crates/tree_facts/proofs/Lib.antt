@@ -19,3 +19,4 @@ pub mod LastRoot
 pub mod FoldReserves
 pub mod WayCalls
 pub mod Planning
+pub mod NodePieces

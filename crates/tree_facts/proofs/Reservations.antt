@@ -1,5 +1,5 @@
 -- The put of a root that reserves numbers: it rests on nothing new, and its numbers are free behind it.
-use Rattle.std.proofs.Common.{◌≡◌, ◌+◌, ◌-◌, ◌<◌, ◌≤◌, ◌⊎◌, inl, inr, ℕ, zero, suc, List, [], ◌∷◌, ◌++◌, length, Option, Some, None, refl, sym, ap, subst, ◌∙◌, arith}
+use Rattle.std.proofs.Common.{◌≡◌, ◌+◌, ◌≢◌, ◌-◌, ◌<◌, ◌≤◌, ◌⊎◌, inl, inr, ℕ, zero, suc, false, List, [], ◌∷◌, ◌++◌, length, Option, Some, None, refl, sym, ap, subst, ◌∙◌, arith}
 use Rattle.std.specs.Prelude.{unwrap_or}
 use Rattle.chain_facts.specs.Chain.{IsChained}
 use Rattle.chain_facts.specs.Landing.{LandsRoot}
@@ -17,7 +17,11 @@ use Rattle.db_base.specs.Ids.{IsClient, IsTree}
 use Rattle.db_base.specs.declared.names.ObjName.TheVariants as object
 use Rattle.landing_facts.specs.Landing.{Landing, puts_root}
 use Rattle.log_codec.specs.declared.record.AtomicRec.{AtomicRec}
+use Rattle.byte_format.specs.Format.{greatest}
+use Rattle.node_codec.proofs.EntryLemmas.{fits_to_last}
+use Rattle.node_codec.proofs.NodeLemmas.{in_range_from, in_range_parts}
 use Rattle.node_codec.proofs.SpellingLaws.{tree_again}
+use Rattle.node_codec.proofs.TreeLemmas.{tree_fits, fit_tree}
 use Rattle.node_codec.specs.Node.{Entry as Child}
 use Rattle.node_codec.specs.Tree.{Tree, IsTree as SpellsTree, HasTreeSpelling, tree_bytes, empty_tree}
 use Rattle.report_types.specs.declared.entry.Entry.{Entry}
@@ -72,6 +76,31 @@ spelled_root t fits = record { fits = fits; is = refl }
 pub held_root : (t : Tree) → HasTreeSpelling t → tree_held (Some (tree_bytes t)) ≡ t
 held_root t fits = ap (λ (o : Option Tree). unwrap_or o empty_tree) (tree_again t fits)
 
+-- a root with more numbers reserved has a spelling, where its version and its numbers do
+pub reserving_fits : (count : ℕ) (root : Tree) → (root ≡ empty_tree) ⊎ HasTreeSpelling root → root.version ≢ greatest → root.next + count ≤ greatest → HasTreeSpelling (reserving count root)
+reserving_fits count root (inl none) spare room =
+    subst (λ (t : Tree). HasTreeSpelling (reserving count t)) (sym none)
+    (fit_tree (reserving count empty_tree) (record {
+      version = refl;
+      next = let n : empty_tree.next + count ≤ greatest = subst (λ (t : Tree). t.next + count ≤ greatest) none room in in_range_from 2 greatest (2 + count) (omega arith) n;
+      level = refl;
+      cursor = refl;
+      entries = fits_to_last [] None 1 (2 + count - 1) false None empty_tree.entries (omega arith) refl;
+    }))
+reserving_fits count root (inr fits) spare room =
+    let f = tree_fits root fits in
+    let version = in_range_parts 1 greatest root.version f.version in
+    let next = in_range_parts 2 greatest root.next f.next in
+    let most = version.1 in
+    let least = next.0 in
+    fit_tree (reserving count root) (record {
+      version = in_range_from 1 greatest (root.version + 1) (omega arith) (omega (arith, most, spare));
+      next = in_range_from 2 greatest (root.next + count) (omega (arith, least)) room;
+      level = f.level;
+      cursor = f.cursor;
+      entries = fits_to_last [] None (root.next - 1) (root.next + count - 1) false None root.entries (omega arith) f.entries;
+    })
+
 -- ---- a root with the newest one's cursor
 
 module _ (book : Book) (order : List Entry) (s : CloudState) (stands : StandsUnder book order s) (tree : ℕ) (of_tree : IsTree tree) where
@@ -116,7 +145,7 @@ module _ (book : Book) (order : List Entry) (s : CloudState) (stands : StandsUnd
     pub reservation_spells : SpellsTree bytes next
     reservation_spells = subst (λ (b : List ℕ). SpellsTree b next) (sym is.bytes_are) (spelled_root next is.fits)
 
-    pub reservation_landing : Landing who st (PutHeld (object.Tree tree) bytes one two) (after_root tree next st)
+    abbrev pub reservation_landing : Landing who st (PutHeld (object.Tree tree) bytes one two) (after_root tree next st)
     reservation_landing =
         puts_root tree next bytes one two of_tree reservation_spells (same_covers next (ap (λ (t : Tree). t.cursor) (sym newest))) lands_root
 
@@ -143,8 +172,9 @@ module _ (book : Book) (order : List Entry) (s : CloudState) (stands : StandsUnd
 
   -- ---- a root that landed is known
 
-  pub root_known : (now : ℕ) (lease : Claim) (root : Tree) → KnowsRoot (after_root tree root st) now lease tree root
-  root_known now lease root = record {
+  pub root_known : (now : ℕ) (lease : Claim) (root : Tree) → HasTreeSpelling root → KnowsRoot (after_root tree root st) now lease tree root
+  root_known now lease root fits = record {
+    spelled = inr fits;
     landed = inr (subst (λ (rs : List Tree). IsIn rs root) (sym roots) (in_behind (roots_of s tree) (root ∷ []) root (zero, refl)));
     newest = λ lasts. ap top_of roots ∙ top_added (roots_of s tree) root;
     covered = λ client is. let e = cursor client in omega (arith, e);

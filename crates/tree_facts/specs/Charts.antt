@@ -5,7 +5,7 @@ use Rattle.cloud_trait.specs.Claim.{Claim, Lasts}
 use Rattle.db_base.specs.Cursor.{number_of}
 use Rattle.db_base.specs.Ids.{IsClient, IsTree}
 use Rattle.node_codec.specs.Inner.{Inner, IsInner}
-use Rattle.node_codec.specs.Tree.{Tree, empty_tree}
+use Rattle.node_codec.specs.Tree.{Tree, HasTreeSpelling, empty_tree}
 use Rattle.store_book.specs.Book.{Link}
 use Rattle.store_book.specs.Records.{IsIn}
 use Rattle.store_book.specs.Tally.{Branch, Store}
@@ -21,6 +21,7 @@ IsRootOf roots root = (root ≡ empty_tree) ⊎ IsIn roots root
 -- a root was read or put: it is the newest while the tree's lease lasts, and its cursor covers no more than the tree's
 pub record KnowsRoot (st : Store) (now : ℕ) (lease : Claim) (tree : ℕ) (root : Tree) : Type 0 where
   pub landed : IsRootOf (st.tally.roots tree) root
+  pub spelled : (root ≡ empty_tree) ⊎ HasTreeSpelling root
   pub newest : Lasts now lease → top_of (st.tally.roots tree) ≡ root
   pub covered : (client : ℕ) → IsClient client → number_of root.cursor client ≤ st.tally.cursor tree 0 client
 

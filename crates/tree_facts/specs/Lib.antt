@@ -5,3 +5,4 @@ pub mod TreeOthers
 pub mod Outcomes
 pub mod Placings
 pub mod Folds
+pub mod FoldSteps

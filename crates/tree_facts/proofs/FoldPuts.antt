@@ -81,7 +81,7 @@ module _ (book : Book) (order : List Entry) (s : CloudState) (stands : StandsUnd
   reserved : AreReserved leaf_node (book.chain tree) (nodes_of s tree) (top_of (roots_of s tree)).next k.first k.placing.middle behind
   reserved = subst (λ (o : Option (List ℕ)). Reserves st now lease tree (tree_held f.chart.root) k.first k.placing.middle behind o) none k.reserves lasts
 
-  fit : AllByRecursion IsLeafPart (leaf_pieces k.first (applied old 0 run))
+  pub fit : AllByRecursion IsLeafPart (leaf_pieces k.first (applied old 0 run))
   fit = subst (λ (l : Leaf). AllByRecursion IsLeafPart (leaf_pieces k.first (applied l 0 run))) same k.fit
 
   pieces : leaf_pieces k.first (applied old 0 run) ≡ front ∷ (k.placing.middle ++ behind)
@@ -93,10 +93,10 @@ module _ (book : Book) (order : List Entry) (s : CloudState) (stands : StandsUnd
     abbrev number : ℕ
     number = k.first + length middle
 
-    reserved_last : AreReserved leaf_node (book.chain tree) (nodes_of s tree) (top_of (roots_of s tree)).next k.first (middle ++ last ∷ []) behind
+    pub reserved_last : AreReserved leaf_node (book.chain tree) (nodes_of s tree) (top_of (roots_of s tree)).next k.first (middle ++ last ∷ []) behind
     reserved_last = subst (λ (m : List LeafPart). AreReserved leaf_node (book.chain tree) (nodes_of s tree) (top_of (roots_of s tree)).next k.first m behind) is reserved
 
-    within : number < k.first + length (middle ++ last ∷ [])
+    pub within : number < k.first + length (middle ++ last ∷ [])
     within = let more = length-append middle (last ∷ []) in omega (arith, more)
 
     puts_are : f.placing.puts ≡ record { page = number; bytes = leaf_bytes last } ∷ reverse (map (put_of leaf_bytes) (on_pages f.page k.first (front ∷ middle)))
@@ -108,7 +108,7 @@ module _ (book : Book) (order : List Entry) (s : CloudState) (stands : StandsUnd
     piece_asked =
         page_asked f lease (record { page = number; bytes = leaf_bytes last }) (reverse (map (put_of leaf_bytes) (on_pages f.page k.first (front ∷ middle)))) none puts_are
 
-    pieces_last : leaf_pieces k.first (applied old 0 run) ≡ front ∷ ((middle ++ last ∷ []) ++ behind)
+    pub pieces_last : leaf_pieces k.first (applied old 0 run) ≡ front ∷ ((middle ++ last ∷ []) ++ behind)
     pieces_last = pieces ∙ ap (λ (m : List LeafPart). front ∷ (m ++ behind)) is
 
     abbrev pub piece_after : Store
@@ -157,7 +157,7 @@ module _ (book : Book) (order : List Entry) (s : CloudState) (stands : StandsUnd
   -- ---- the leaf itself
 
   module _ (who : Caller) (is : k.placing.middle ≡ []) where
-    reserved_none : AreReserved leaf_node (book.chain tree) (nodes_of s tree) (top_of (roots_of s tree)).next k.first [] behind
+    pub reserved_none : AreReserved leaf_node (book.chain tree) (nodes_of s tree) (top_of (roots_of s tree)).next k.first [] behind
     reserved_none = subst (λ (m : List LeafPart). AreReserved leaf_node (book.chain tree) (nodes_of s tree) (top_of (roots_of s tree)).next k.first m behind) is reserved
 
     pub left_asked : folding_ask f lease ≡ PutHeld (object.Page tree f.page) (leaf_bytes front) lease (Some f.lease)
@@ -165,7 +165,7 @@ module _ (book : Book) (order : List Entry) (s : CloudState) (stands : StandsUnd
         page_asked f lease (record { page = f.page; bytes = leaf_bytes front }) [] none
         (k.placing.puts_are ∙ ap (λ (m : List LeafPart). reverse (map (put_of leaf_bytes) (on_pages f.page k.first (front ∷ m)))) is)
 
-    pieces_left : leaf_pieces k.first (applied old 0 run) ≡ front ∷ behind
+    pub pieces_left : leaf_pieces k.first (applied old 0 run) ≡ front ∷ behind
     pieces_left = pieces ∙ ap (λ (m : List LeafPart). front ∷ (m ++ behind)) is
 
     abbrev pub left_after : Store

@@ -44,7 +44,7 @@ module _ (book : Book) (order : List Entry) (s : CloudState) (stands : StandsUnd
   abbrev count : ℕ
   count = length k.placing.middle
 
-  planned : (k.placing.behind ≡ []) × IsReservation root count k.first bytes
+  pub planned : (k.placing.behind ≡ []) × IsReservation root count k.first bytes
   planned = subst (λ (o : Option (List ℕ)). Reserves st now lease tree root k.first k.placing.middle k.placing.behind o) some k.reserves
 
   pub reserving_asked : folding_ask f lease ≡ PutHeld (object.Tree tree) bytes lease None

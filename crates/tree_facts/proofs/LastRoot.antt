@@ -85,7 +85,7 @@ module _ (book : Book) (order : List Entry) (s : CloudState) (stands : StandsUnd
   cursor_is : (client : ℕ) → number_of root.cursor client ≡ st.tally.cursor tree 0 client
   cursor_is client = ap (λ (t : Tree). number_of t.cursor client) (sym newest)
 
-  last_covers : (t : Tree) → t.cursor ≡ last.cursor → CoversApplied st tree t
+  pub last_covers : (t : Tree) → t.cursor ≡ last.cursor → CoversApplied st tree t
   last_covers t same = covers st tree stands.holds.numbers root.cursor cursor_top received run is_run cursor_is items applied t (same ∙ rest.cursor)
 
   top_next : (top_of (roots_of s tree)).next ≤ next
@@ -100,7 +100,7 @@ module _ (book : Book) (order : List Entry) (s : CloudState) (stands : StandsUnd
       (root_names (book.chain tree) (nodes_of s tree) (roots_of s tree) (st.tally.done tree) (st.tally.cursor tree 0) chained root
       (subst (IsRootOf (roots_of s tree)) newest (newest_root_of (roots_of s tree)))))
 
-  lands_root : LandsRoot st tree last
+  pub lands_root : LandsRoot st tree last
   lands_root = record {
     level = rest.level ∙ ap (λ (t : Tree). t.level) (sym newest);
     next = subst (λ (n : ℕ). (top_of (roots_of s tree)).next ≤ n) (sym rest.next) top_next;

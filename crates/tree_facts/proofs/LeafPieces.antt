@@ -62,8 +62,8 @@ leaf_parts_fit [] last free l can some room version formed = (record { fits = fi
 leaf_parts_fit (n ∷ sizes) last free l can some room version formed = (
   subst IsLeafPart (left-leaf n free l) (record { fits = fits_leaf (left_part n free l) version (left-formed n free l can.0 can.1 some (omega (arith, room)) formed) }),
   subst (λ (p : LeafPart). AllByRecursion IsLeafPart (cut_by record_key sizes (free + 1) p)) (right-leaf n l)
-  (leaf_parts_fit sizes last (free + 1) (right_part n l) (can-behind n sizes last l.records can) (omega arith) (omega (arith, room))
-  (record { some = omega arith; most = omega arith }) (right-formed n l can.1 formed)),
+      (leaf_parts_fit sizes last (free + 1) (right_part n l) (can-behind n sizes last l.records can) (omega arith) (omega (arith, room))
+      (record { some = omega arith; most = omega arith }) (right-formed n l can.1 formed)),
 )
 
 -- ---- a piece of the cut
@@ -118,12 +118,12 @@ module _ (book : Book) (order : List Entry) (s : CloudState) (stands : StandsUnd
     unlinked : IsUnlinked (book.chain tree) number
     unlinked = reserved.unlinked number (omega (arith, number_is)) (omega (arith, within))
 
-    piece_lands_first : LandsFirst st tree number (landing.own_of number (leaf_node last))
+    pub piece_lands_first : LandsFirst st tree number (landing.own_of number (leaf_node last))
     piece_lands_first =
         piece_first book order s tree of_tree stands.holds.chains stands.decodes page 0 run number (leaf_of_part last) linked (clients_of run clients) table
         (λ e. absurd (omega (arith, above, e))) above unlinked
 
-    lands_new : LandsNew st tree number (leaf_node last)
+    pub lands_new : LandsNew st tree number (leaf_node last)
     lands_new = record {
       absent = reserved.absent number (omega (arith, number_is)) within;
       reserved = let w = reserved.within in omega (arith, w, within);

@@ -19,4 +19,7 @@ pub mod LastRoot
 pub mod FoldReserves
 pub mod WayCalls
 pub mod Planning
+pub mod FoldReads
+pub mod FoldPlans
+pub mod FoldCalls
 pub mod NodePieces

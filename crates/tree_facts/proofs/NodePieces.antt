@@ -57,7 +57,7 @@ pieces_name links [] last free p can names = (names, tt)
 pieces_name links (n ∷ sizes) last free p can names = (
   record { names = λ e there. names.names e (in_take n p.items e there); first = first_taken n p.items can.0 ∙ names.first },
   pieces_name links sizes last (free + 1) (back_part entry_key n p) (can-behind n sizes last p.items can)
-  (record { names = λ e there. names.names e (in_drop n p.items e there); first = first_dropped n p.items can.1 }),
+      (record { names = λ e there. names.names e (in_drop n p.items e there); first = first_dropped n p.items can.1 }),
 )
 
 -- ---- a node that was got

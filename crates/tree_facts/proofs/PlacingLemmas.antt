@@ -97,7 +97,7 @@ piece_landed node chain nodes new next first middle last behind here there r = r
   landed = (
     here ∙ ap (λ (ns : List Node). ns ++ node last ∷ []) (r.absent (first + length middle) (omega arith) (omega (arith, count))),
     landed_stays node nodes new (first + length middle + 1) behind (λ page low high. there page (λ e. absurd (omega (arith, e, low))))
-    (subst (λ (n : ℕ). HaveLanded node nodes n behind) far r.landed),
+        (subst (λ (n : ℕ). HaveLanded node nodes n behind) far r.landed),
   );
 }
   where

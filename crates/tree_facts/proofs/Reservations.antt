@@ -134,7 +134,7 @@ module _ (book : Book) (order : List Entry) (s : CloudState) (stands : StandsUnd
     abbrev next : Tree
     next = reserving count root
 
-    lands_root : LandsRoot st tree next
+    pub lands_root : LandsRoot st tree next
     lands_root = record {
       level = ap (λ (t : Tree). t.level) (sym newest);
       next = let e : top.next ≡ root.next = ap (λ (t : Tree). t.next) newest in omega (arith, e);

@@ -38,11 +38,11 @@ module _ (st : Store) (now : ℕ) (lease : Claim) (h : ChainHolds st) where
       → (fork_of d bytes ≡ Ok (forked_on d.chart.key n)) × KnowsWay st now lease (passed d (forked_on d.chart.key n))
   bytes_lead d bytes n k reads landed = (
     ap (forked_by d) (sym reads)
-    ∙ is_forked (st.book.chain d.chart.tree) (st.tally.nodes d.chart.tree) (st.tally.roots d.chart.tree) (st.tally.done d.chart.tree) (st.tally.cursor d.chart.tree 0)
-    (h d.chart.tree k.chart.tree) d n k.way landed,
+        ∙ is_forked (st.book.chain d.chart.tree) (st.tally.nodes d.chart.tree) (st.tally.roots d.chart.tree) (st.tally.done d.chart.tree) (st.tally.cursor d.chart.tree 0)
+        (h d.chart.tree k.chart.tree) d n k.way landed,
     passed_known st now lease d (forked_on d.chart.key n) k.chart
-    (fork_leads (st.book.chain d.chart.tree) (st.tally.nodes d.chart.tree) (st.tally.roots d.chart.tree) (st.tally.done d.chart.tree) (st.tally.cursor d.chart.tree 0)
-    (h d.chart.tree k.chart.tree) d n k.way landed),
+        (fork_leads (st.book.chain d.chart.tree) (st.tally.nodes d.chart.tree) (st.tally.roots d.chart.tree) (st.tally.done d.chart.tree) (st.tally.cursor d.chart.tree 0)
+        (h d.chart.tree k.chart.tree) d n k.way landed),
   )
 
   -- ---- one stride

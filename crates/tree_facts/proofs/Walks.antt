@@ -49,9 +49,12 @@ root_meets chain nodes roots done cursor h root key (inl none) =
     (m.entry, m.found, from_none chain nodes roots done cursor h key m.entry m.found)
 root_meets chain nodes roots done cursor h root key (inr landed) =
     let m = stale_root chain nodes roots done cursor h root key landed in
-    let below : root.level - 1 ≡ m.below = omega (arith, m.level_is) in
-    (m.entry, m.found, subst (λ (l : ℕ). IsAt chain l m.entry.1 m.entry.0 key) (sym below)
-    (from_root chain nodes roots done cursor h root key m.below m.entry landed m.level_is m.found))
+    let below : root.level - 1 ≡ m.below = omega (arith, m.level_is) in (
+      m.entry,
+      m.found,
+      subst (λ (l : ℕ). IsAt chain l m.entry.1 m.entry.0 key) (sym below)
+          (from_root chain nodes roots done cursor h root key m.below m.entry landed m.level_is m.found),
+    )
 
 pub way_begins : (st : Store) (now : ℕ) (lease : Claim) (c : Chart) → IsChained (st.book.chain c.tree) (st.tally.nodes c.tree) (st.tally.roots c.tree) (st.tally.done c.tree) (st.tally.cursor c.tree 0)
     → KnowsChart st now lease c → (e : Entry) × (child_of c.key (tree_held c.root).entries ≡ Some e) × KnowsWay st now lease (begun c e.0 e.1)

@@ -1,5 +1,5 @@
 -- What a checkpoint knows of its tree survives the calls of others, and its own that touch neither root nor inner nodes.
-use Rattle.std.proofs.Common.{◌≡◌, ◌-◌, ◌≤◌, ◌⊎◌, inl, inr, ℕ, List, [], ◌++◌, refl, sym, ap, subst, ◌∙◌, arith}
+use Rattle.std.proofs.Common.{◌≡◌, ◌-◌, ◌≤◌, inl, inr, ℕ, List, sym, ap, subst, ◌∙◌, arith}
 use Rattle.chain_facts.specs.Links.{newest_node, top_of}
 use Rattle.chain_meaning.proofs.Steps.{at_stays, passed_stays}
 use Rattle.cloud_trait.specs.Claim.{Claim, Lasts}

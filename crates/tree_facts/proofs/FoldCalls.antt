@@ -1,7 +1,7 @@
 -- What each put of a leaf and its pieces leaves, whether it landed or not.
-use Rattle.std.proofs.Common.{◌≡◌, ◌≢◌, ◌+◌, ◌<◌, ◌≤◌, ◌==◌, ◌⊎◌, inl, inr, ℕ, zero, suc, Bool, true, false, cond, ◌&&◌, nat_lt, List, [], ◌∷◌, ◌++◌, length, map, filter, reverse, Option, Some, None, Result, Ok, Err, refl, sym, ap, subst, ◌∙◌, arith}
+use Rattle.std.proofs.Common.{◌≡◌, ◌+◌, ◌≤◌, ◌==◌, ◌⊎◌, inl, inr, ℕ, Bool, true, false, cond, ◌&&◌, nat_lt, List, [], ◌∷◌, ◌++◌, length, map, filter, reverse, Option, Some, None, Result, Ok, Err, refl, sym, ap, subst, ◌∙◌, arith}
 use Rattle.std.specs.Prelude.{is_none}
-use Rattle.std.proofs.lemmas.Bool.{eq-eqb, ne_eqb}
+use Rattle.std.proofs.lemmas.Bool.{ne_eqb}
 use Rattle.std.proofs.lemmas.List.{append-nil, length-reverse}
 use Rattle.chain_facts.specs.Chain.{IsChained}
 use Rattle.chain_facts.specs.Links.{top_of}
@@ -23,12 +23,12 @@ use Rattle.db_base.specs.declared.names.Lock.TheVariants as lock
 use Rattle.db_base.specs.declared.names.ObjName.{ObjName}
 use Rattle.db_base.specs.declared.names.ObjName.TheVariants as object
 use Rattle.db_base.specs.declared.trouble.Trouble.{Trouble}
-use Rattle.history.specs.Audited.{Audited, applied_entry}
+use Rattle.history.specs.Audited.{applied_entry}
 use Rattle.home_facts.specs.Homes.{Part, Parts, HomesHold}
 use Rattle.home_facts.proofs.HomeLemmas.{keeps_part, aside_keeps}
 use Rattle.leaf_edit.specs.Lacked.{is_lacked, lacked}
 use Rattle.leaf_fold.specs.declared.folding.Folding.{Folding}
-use Rattle.leaf_fold.specs.Folding.{Step, folding_ask, folding_next, leaf_got, leaf_put, placed, landed, counted, applying}
+use Rattle.leaf_fold.specs.Folding.{folding_ask, folding_next, leaf_got, leaf_put, placed, landed, counted}
 use Rattle.leaf_fold.specs.declared.folding.Left.TheVariants.{Handled}
 use Rattle.cloud_trait.specs.Machine.{Goes, Ends}
 use Rattle.leaf_view.specs.Leaf.{Leaf}
@@ -56,7 +56,7 @@ use Rattle.tree_facts.specs.Outcomes.{TreeOutcome}
 use Rattle.tree_facts.proofs.FoldPuts.{page_asked, root_asked, piece_lands, piece_is_new, piece_known, piece_after, left_lands, left_taken, left_done, left_after}
 use Rattle.tree_facts.proofs.FoldReserves.{reserving_lands, reserving_version, reserving_known, reserving_after}
 use Rattle.tree_facts.proofs.LeafPieces.{taken}
-use Rattle.tree_facts.proofs.PlacingLemmas.{last_cases, puts_more}
+use Rattle.tree_facts.proofs.PlacingLemmas.{puts_more}
 use Rattle.tree_facts.proofs.TreeOutcomes.{tree_stays, tree_put_landed}
 
 module _ (who : Caller) (s t : CloudState) (book : Book) (order : List Entry) (parts : Parts) (mine : List Claim) (lease : Claim) (f : Folding) (reply : Answer)

@@ -1,16 +1,13 @@
 -- What a checkpoint knows at a leaf survives the calls of others.
-use Rattle.std.proofs.Common.{◌≡◌, ◌≢◌, ◌+◌, ◌<◌, ◌≤◌, ◌⊎◌, inl, inr, ℕ, true, List, [], ◌∷◌, length, Option, Some, None, refl, sym, ap, subst, ◌∙◌, arith}
-use Rattle.std.specs.Prelude.{slice_get}
-use Rattle.byte_format.specs.Order.{below_bound}
+use Rattle.std.proofs.Common.{◌≡◌, ◌+◌, ◌<◌, ◌≤◌, ◌⊎◌, inl, inr, ℕ, true, List, [], ◌∷◌, length, Option, Some, None, refl, sym, ap, subst, ◌∙◌, arith}
 use Rattle.chain_facts.specs.Chain.{IsUnlinked}
-use Rattle.chain_facts.specs.Cuts.{HaveLanded, leaf_node}
-use Rattle.chain_facts.specs.Links.{newest_node, top_of}
+use Rattle.chain_facts.specs.Cuts.{leaf_node}
+use Rattle.chain_facts.specs.Links.{top_of}
 use Rattle.cloud_trait.specs.Claim.{Claim, Lasts}
 use Rattle.db_base.specs.Change.{key_of}
 use Rattle.db_base.specs.Ids.{IsClient}
 use Rattle.db_base.specs.declared.names.Lock.TheVariants as lock
 use Rattle.leaf_fold.specs.declared.folding.Folding.{Folding}
-use Rattle.leaf_view.specs.Leaf.{Leaf}
 use Rattle.leaf_view.specs.Lookup.{empty_leaf, holds}
 use Rattle.log_codec.specs.declared.record.PuItem.{PuItem}
 use Rattle.run_facts.proofs.Marks.{run_stays}
@@ -23,10 +20,10 @@ use Rattle.store_book.specs.Telling.{last_or}
 use Rattle.telling_facts.specs.Taking.{IsLinked}
 use Rattle.tree_parts.specs.declared.chart.Chart.{Chart}
 use Rattle.tree_parts.specs.Read.{tree_held}
-use Rattle.tree_facts.specs.Folds.{IsDone, AreDoneTo, KnowsRun, IsAtLeaf, IsNewestLeaf, Reserves, PutsPieces}
+use Rattle.tree_facts.specs.Folds.{IsDone, KnowsRun, IsAtLeaf, IsNewestLeaf, Reserves, PutsPieces}
 use Rattle.tree_facts.specs.Links.{SameLinks}
 use Rattle.tree_facts.specs.Placings.{AreReserved}
-use Rattle.tree_facts.specs.TreeOthers.{IsTreePage, OthersOfTree}
+use Rattle.tree_facts.specs.TreeOthers.{OthersOfTree}
 use Rattle.tree_facts.proofs.ChartOthers.{chart_others, way_stays}
 use Rattle.tree_facts.proofs.PlacingLemmas.{reserved_stays}
 

@@ -1,14 +1,14 @@
 -- A leaf that was read and lacks records of the run: what is planned are its pieces with the run applied.
-use Rattle.std.proofs.Common.{◌≡◌, ◌≢◌, ◌+◌, ◌-◌, ◌<◌, ◌≤◌, ◌==◌, ◌⊎◌, inl, inr, ℕ, zero, suc, Bool, true, false, cond, not, ◌&&◌, List, [], ◌∷◌, length, map, Option, Some, None, Result, Ok, Err, refl, sym, ap, subst, ◌∙◌, arith}
+use Rattle.std.proofs.Common.{◌≡◌, ◌≢◌, ◌+◌, ◌-◌, ◌≤◌, ◌==◌, ◌⊎◌, inl, inr, ℕ, Bool, true, false, cond, not, List, [], ◌∷◌, length, map, Result, Ok, Err, refl, sym, ap, subst, ◌∙◌, arith}
 use Rattle.std.specs.List.{AllByRecursion}
-use Rattle.std.proofs.lemmas.Bool.{eqb-true, eqb-false, and_from}
+use Rattle.std.proofs.lemmas.Bool.{eqb-false, and_from}
 use Rattle.byte_format.specs.Format.{greatest}
 use Rattle.byte_format.specs.Order.{bytes_below, bytes_same, below_bound}
 use Rattle.byte_format.proofs.OrderLemmas.{same_is}
 use Rattle.chain_facts.specs.Chain.{IsChained}
 use Rattle.chain_facts.specs.Links.{top_of}
 use Rattle.cloud_facts.specs.Standing.{StandsUnder}
-use Rattle.cloud_trait.specs.Claim.{Claim, Lasts}
+use Rattle.cloud_trait.specs.Claim.{Claim}
 use Rattle.cloud_trait.specs.State.{CloudState}
 use Rattle.db_base.specs.Change.{key_of}
 use Rattle.db_base.specs.declared.names.ObjName.TheVariants as object
@@ -25,7 +25,7 @@ use Rattle.leaf_fold.specs.declared.plan.LeafPlan.{LeafPlan}
 use Rattle.leaf_fold.specs.Folding.{handled_to, put_planned}
 use Rattle.leaf_fold.specs.Plan.{in_pieces, planned_by, planned, leaf_plan}
 use Rattle.leaf_view.specs.Fits.{IsWellFormed, IsVersion}
-use Rattle.leaf_view.specs.Leaf.{Leaf, IsLeaf}
+use Rattle.leaf_view.specs.Leaf.{Leaf}
 use Rattle.leaf_view.specs.Lookup.{empty_leaf, holds}
 use Rattle.leaf_view.proofs.Split.{leaf_fits}
 use Rattle.log_codec.specs.declared.record.PuItem.{PuItem}
@@ -46,11 +46,11 @@ use Rattle.telling_facts.specs.Told.{store_of}
 use Rattle.tree_parts.specs.declared.reserve.Reserved.{Reserved}
 use Rattle.tree_parts.specs.Read.{tree_held}
 use Rattle.tree_parts.specs.Reserve.{version_spent, reservation}
-use Rattle.tree_facts.specs.Folds.{IsDone, AreDoneTo, KnowsRun, IsLeast, IsAtLeaf, IsNewestLeaf, Reserves, PutsPieces}
+use Rattle.tree_facts.specs.Folds.{IsDone, AreDoneTo, KnowsRun, IsLeast, IsAtLeaf, Reserves, PutsPieces}
 use Rattle.tree_facts.specs.Placings.{AreReserved, IsReservation}
 use Rattle.tree_facts.proofs.FoldReads.{Reserving, none, some, reservation_is}
 use Rattle.tree_facts.proofs.LeafReads.{leaf_newest, leaf_low, leaf_absent, leaf_linked, nothing_lacked}
-use Rattle.tree_facts.proofs.Planning.{run_ordered, pieces_fit, IsWhole, pieces_placed, pieces_count}
+use Rattle.tree_facts.proofs.Planning.{run_ordered, pieces_fit, pieces_placed, pieces_count}
 use Rattle.tree_facts.proofs.PlacingLemmas.{none_reserved}
 use Rattle.chain_facts.specs.Cuts.{leaf_node}
 

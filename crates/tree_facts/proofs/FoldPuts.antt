@@ -1,13 +1,11 @@
 -- The puts of a leaf under both leases: what each rests on, and what is known behind it.
-use Rattle.std.proofs.Common.{◌≡◌, ◌≢◌, ◌+◌, ◌<◌, ◌≤◌, ◌⊎◌, inl, inr, ℕ, zero, suc, true, List, [], ◌∷◌, ◌++◌, length, map, reverse, drop, Option, Some, None, refl, sym, ap, subst, ◌∙◌, arith, append_assoc, length-append}
-use Rattle.std.specs.Prelude.{slice_get, unwrap_or}
+use Rattle.std.proofs.Common.{◌≡◌, ◌≢◌, ◌+◌, ◌<◌, ◌≤◌, ◌⊎◌, inl, inr, ℕ, true, List, [], ◌∷◌, ◌++◌, length, map, reverse, drop, Option, Some, None, refl, sym, ap, subst, ◌∙◌, arith, append_assoc, length-append}
+use Rattle.std.specs.Prelude.{unwrap_or}
 use Rattle.std.specs.List.{AllByRecursion}
-use Rattle.byte_format.specs.Order.{below_bound}
-use Rattle.chain_facts.specs.Chain.{IsUnlinked}
 use Rattle.chain_facts.specs.Cuts.{leaf_node}
-use Rattle.chain_facts.specs.Links.{newest_node, top_of}
+use Rattle.chain_facts.specs.Links.{top_of}
 use Rattle.cloud_facts.specs.Standing.{StandsUnder, IsTaken}
-use Rattle.cloud_trait.specs.Ask.{Ask, GetHeld, PutHeld}
+use Rattle.cloud_trait.specs.Ask.{GetHeld, PutHeld}
 use Rattle.cloud_trait.specs.Caller.{Caller}
 use Rattle.cloud_trait.specs.Claim.{Claim, Lasts}
 use Rattle.cloud_trait.specs.State.{CloudState}
@@ -32,15 +30,14 @@ use Rattle.store_book.specs.Book.{Book}
 use Rattle.store_book.specs.Effects.{after_leaf, after_page}
 use Rattle.store_book.specs.Premises.{IsItemOf}
 use Rattle.store_book.specs.Records.{IsIn}
-use Rattle.store_book.specs.Tally.{Node, Leafy, Store, at2}
+use Rattle.store_book.specs.Tally.{Node, Leafy, Store}
 use Rattle.store_book.specs.Telling.{last_or, leaf_in, nodes_of, roots_of, newest_leaf}
 use Rattle.telling_facts.proofs.Names.{at2_same, at2_beside}
 use Rattle.telling_facts.specs.Told.{store_of}
-use Rattle.tree_parts.specs.declared.placing.Placing.{Placing}
-use Rattle.tree_parts.specs.Placing.{put_next, put_first, put_in_hand, root_after, puts_after}
+use Rattle.tree_parts.specs.Placing.{put_next, put_first, puts_after}
 use Rattle.tree_parts.specs.Read.{tree_held}
-use Rattle.tree_facts.specs.Folds.{IsDone, AreDoneTo, IsNewestLeaf, Reserves, PutsPieces}
-use Rattle.tree_facts.specs.Placings.{IsPlacing, AreReserved}
+use Rattle.tree_facts.specs.Folds.{IsDone, AreDoneTo, Reserves, PutsPieces}
+use Rattle.tree_facts.specs.Placings.{AreReserved}
 use Rattle.tree_facts.proofs.LeafPieces.{taken, piece_landing, piece_version, leaf_landing, is_taken, run_applied, still_applied}
 use Rattle.tree_facts.proofs.PlacingLemmas.{puts_more, piece_landed}
 

@@ -1,33 +1,11 @@
 -- Where the held get of a leaf leads: to the right, to the next key, or to the puts of its pieces.
-use Rattle.std.proofs.Common.{◌≡◌, ◌≢◌, ◌+◌, ◌-◌, ◌<◌, ◌≤◌, ◌==◌, ◌⊎◌, inl, inr, ℕ, zero, suc, Bool, true, false, cond, not, nat_lt, ◌&&◌, ◌||◌, List, [], ◌∷◌, ◌++◌, length, Option, Some, None, Result, Ok, Err, refl, sym, ap, subst, ◌∙◌, arith}
-use Rattle.std.proofs.lemmas.Bool.{eqb-true, eqb-false, ltb-false, and_from}
+use Rattle.std.proofs.Common.{◌≡◌, ◌≢◌, ◌+◌, ◌≤◌, ◌==◌, ◌⊎◌, ℕ, Bool, true, false, cond, nat_lt, List, Some, None, Result, Ok, Err, refl, subst}
+use Rattle.std.proofs.lemmas.Bool.{eqb-true, eqb-false, ltb-false}
 use Rattle.byte_format.specs.Format.{greatest}
-use Rattle.byte_format.specs.Order.{bytes_below, bytes_same, below_bound}
-use Rattle.byte_format.proofs.OrderLemmas.{same_itself}
-use Rattle.chain_facts.specs.Links.{newest_node, top_of}
-use Rattle.cloud_facts.specs.Standing.{StandsUnder}
-use Rattle.cloud_trait.specs.Claim.{Claim, Lasts}
-use Rattle.cloud_trait.specs.State.{CloudState, newest}
-use Rattle.db_base.specs.Change.{key_of}
-use Rattle.db_base.specs.declared.names.ObjName.TheVariants as object
 use Rattle.db_base.specs.declared.trouble.Trouble.{Trouble}
-use Rattle.leaf_edit.proofs.Whole.{applied-formed}
-use Rattle.leaf_edit.specs.Applied.{applied}
-use Rattle.leaf_edit.specs.Lacked.{lacked}
-use Rattle.leaf_fold.specs.declared.folding.Folding.{Folding}
-use Rattle.leaf_fold.specs.declared.plan.LeafPlan.{LeafPlan}
-use Rattle.leaf_fold.specs.Folding.{handled_to, put_planned}
-use Rattle.leaf_fold.specs.Plan.{in_pieces, planned_by, planned, leaf_plan}
-use Rattle.leaf_view.specs.Fits.{IsWellFormed, IsVersion}
-use Rattle.leaf_view.specs.Leaf.{Leaf}
-use Rattle.leaf_view.specs.Lookup.{holds}
-use Rattle.log_codec.specs.declared.record.PuItem.{PuItem}
 use Rattle.node_codec.specs.Tree.{Tree, tree_bytes, empty_tree, HasTreeSpelling}
-use Rattle.split_plan.specs.Part.{LeafPart}
-use Rattle.split_plan.specs.Sizes.{count_of}
-use Rattle.store_book.specs.Records.{IsIn}
 use Rattle.tree_parts.specs.declared.reserve.Reserved.{Reserved}
-use Rattle.tree_parts.specs.Reserve.{version_spent, pages_spent, next_tree, reserved, reserved_by, reservation}
+use Rattle.tree_parts.specs.Reserve.{version_spent, pages_spent, next_tree, reserved_by, reservation}
 use Rattle.tree_facts.specs.Placings.{reserving, IsReservation}
 use Rattle.tree_facts.proofs.Reservations.{reserving_fits}
 

@@ -1,11 +1,11 @@
 -- The put that reserves the numbers of a leaf's new pieces: what it rests on, and what is known behind it.
-use Rattle.std.proofs.Common.{◌≡◌, ◌+◌, ◌≤◌, ℕ, List, [], length, Option, Some, None, refl, sym, ap, subst, ◌∙◌, arith}
+use Rattle.std.proofs.Common.{◌≡◌, ◌+◌, ℕ, List, [], length, Option, Some, None, refl, sym, ap, subst, ◌∙◌}
 use Rattle.chain_facts.specs.Cuts.{leaf_node}
 use Rattle.chain_facts.specs.Links.{top_of}
 use Rattle.cloud_facts.specs.Standing.{StandsUnder}
-use Rattle.cloud_trait.specs.Ask.{Ask, PutHeld}
+use Rattle.cloud_trait.specs.Ask.{PutHeld}
 use Rattle.cloud_trait.specs.Caller.{Caller}
-use Rattle.cloud_trait.specs.Claim.{Claim, Lasts}
+use Rattle.cloud_trait.specs.Claim.{Claim}
 use Rattle.cloud_trait.specs.State.{CloudState}
 use Rattle.db_base.specs.Ids.{IsTree}
 use Rattle.db_base.specs.declared.names.ObjName.TheVariants as object
@@ -15,7 +15,6 @@ use Rattle.leaf_fold.specs.Folding.{folding_ask, landed}
 use Rattle.log_codec.specs.declared.record.PuItem.{PuItem}
 use Rattle.node_codec.specs.Tree.{Tree}
 use Rattle.report_types.specs.declared.entry.Entry.{Entry}
-use Rattle.split_plan.specs.declared.put_list.PagePut.{PagePut}
 use Rattle.split_plan.specs.Part.{LeafPart}
 use Rattle.store_book.specs.Book.{Book}
 use Rattle.store_book.specs.Effects.{after_root}
@@ -28,7 +27,7 @@ use Rattle.tree_facts.specs.Charts.{KnowsRoot}
 use Rattle.tree_facts.specs.Folds.{Reserves, PutsPieces}
 use Rattle.tree_facts.specs.Placings.{AreReserved, IsReservation, reserving}
 use Rattle.tree_facts.proofs.FoldPuts.{root_asked}
-use Rattle.tree_facts.proofs.Reservations.{reservation_landing, reservation_follows, reservation_held, reserved_then, root_known}
+use Rattle.tree_facts.proofs.Reservations.{reservation_landing, reservation_held, reserved_then, root_known}
 
 module _ (book : Book) (order : List Entry) (s : CloudState) (stands : StandsUnder book order s) (now : ℕ) (lease : Claim) (f : Folding) (of_tree : IsTree f.chart.tree) (run : List PuItem)
     (k : PutsPieces (store_of book order s) now lease f run) (newest : top_of (roots_of s f.chart.tree) ≡ tree_held f.chart.root) (bytes : List ℕ) (some : f.placing.reserved ≡ Some bytes) where

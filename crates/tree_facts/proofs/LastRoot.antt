@@ -1,12 +1,10 @@
 -- The put of a checkpoint's last root: its cursor goes on by the run, and it names the links that go up to it.
-use Rattle.std.proofs.Common.{◌≡◌, ◌+◌, ◌-◌, ◌<◌, ◌≤◌, ◌⊎◌, inl, inr, ℕ, zero, suc, max, List, [], ◌∷◌, ◌++◌, length, map, Option, Some, None, refl, sym, ap, subst, ◌∙◌, arith}
+use Rattle.std.proofs.Common.{◌≡◌, ◌+◌, ◌<◌, ◌≤◌, ◌⊎◌, inl, inr, ℕ, List, [], ◌∷◌, length, map, Option, None, refl, sym, ap, subst, ◌∙◌, arith}
 use Rattle.std.specs.Prelude.{slice_get}
-use Rattle.std.specs.List.{AllByRecursion}
-use Rattle.std.proofs.lemmas.Bool.{cases_lt}
 use Rattle.chain_facts.specs.Chain.{IsChained, IsUnlinked}
 use Rattle.chain_facts.specs.Cuts.{links_on, HaveLanded, inner_node}
 use Rattle.chain_facts.specs.Landing.{LandsRoot, Raises}
-use Rattle.chain_facts.specs.Links.{first_link, link_of, top_of, NamesBelow}
+use Rattle.chain_facts.specs.Links.{link_of, top_of, NamesBelow}
 use Rattle.chain_facts.proofs.Pieces.{in_first, in_rest, in_cases, none_in}
 use Rattle.cloud_facts.specs.Standing.{StandsUnder}
 use Rattle.cloud_trait.specs.Ask.{PutHeld}
@@ -26,19 +24,19 @@ use Rattle.report_types.specs.declared.entry.Entry.{Entry}
 use Rattle.run_cursor.specs.Run.{IsRun}
 use Rattle.run_facts.specs.Runs.{IsCoveredBy, MayDelete}
 use Rattle.run_facts.proofs.Received.{message_client}
-use Rattle.split_plan.specs.Part.{Part, NodePart, part_of_node, entry_key}
+use Rattle.split_plan.specs.Part.{NodePart, part_of_node, entry_key}
 use Rattle.split_plan.specs.Plan.{on_pages, entry_of, child_of, root_pieces, root_above}
 use Rattle.split_plan.specs.Sizes.{cuts_of}
 use Rattle.store_book.specs.Book.{Book, Link}
 use Rattle.store_book.specs.Effects.{after_root, after_raise}
 use Rattle.store_book.specs.Premises.{IsItemOf, CoversApplied}
 use Rattle.store_book.specs.Records.{IsIn}
-use Rattle.store_book.specs.Tally.{Node, Store}
+use Rattle.store_book.specs.Tally.{Store}
 use Rattle.store_book.specs.Telling.{nodes_of, roots_of}
 use Rattle.telling_facts.proofs.Fences.{cut_links, level_pieces, level_ascends, pages_distinct}
 use Rattle.telling_facts.proofs.Names.{at2_same}
 use Rattle.telling_facts.proofs.Sound.{nodes_rise}
-use Rattle.telling_facts.specs.Pieces.{node_parts, right_of}
+use Rattle.telling_facts.specs.Pieces.{right_of}
 use Rattle.telling_facts.specs.Told.{store_of}
 use Rattle.tree_parts.specs.declared.link.Link.{Link as Found}
 use Rattle.tree_rising.specs.Root.{with_named, new_pages}

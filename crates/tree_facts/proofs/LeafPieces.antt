@@ -1,5 +1,5 @@
 -- The pieces of a leaf that takes a run: they have spellings, and each lands as what it is.
-use Rattle.std.proofs.Common.{◌≡◌, ◌≢◌, ◌+◌, ◌-◌, ◌<◌, ◌≤◌, ◌==◌, ◌⊎◌, inl, inr, ℕ, zero, suc, Bool, true, false, cond, List, [], ◌∷◌, ◌++◌, length, max, Option, refl, sym, ap, subst, ◌∙◌, arith, drop}
+use Rattle.std.proofs.Common.{◌≡◌, ◌+◌, ◌<◌, ◌≤◌, ◌==◌, ℕ, zero, suc, Bool, true, false, cond, List, [], ◌∷◌, ◌++◌, length, max, Option, refl, sym, ap, subst, arith}
 use Rattle.std.specs.Prelude.{◌&&◌}
 use Rattle.std.specs.List.{AllByRecursion}
 use Rattle.std.proofs.lemmas.Bool.{and_from, eq-eqb}
@@ -7,7 +7,7 @@ use Rattle.byte_format.specs.Format.{greatest}
 use Rattle.chain_facts.specs.Chain.{IsUnlinked}
 use Rattle.chain_facts.specs.Cuts.{links_on, HaveLanded, leaf_node}
 use Rattle.chain_facts.specs.Landing.{LandsNew, LandsLeaf}
-use Rattle.chain_facts.specs.Links.{newest_node, top_of}
+use Rattle.chain_facts.specs.Links.{top_of}
 use Rattle.cloud_facts.specs.Standing.{StandsUnder, IsTaken}
 use Rattle.cloud_trait.specs.Ask.{PutHeld}
 use Rattle.cloud_trait.specs.Caller.{Caller}
@@ -38,14 +38,14 @@ use Rattle.split_plan.specs.Cut.{IsNewPart, BeginAs, IsCut, cut_by}
 use Rattle.split_plan.specs.Part.{LeafPart, part_of_leaf, leaf_of_part, record_key}
 use Rattle.split_plan.specs.Plan.{IsLeafPart, leaf_bytes, leaf_pieces}
 use Rattle.split_plan.specs.Sizes.{CanCut, cuts_of}
-use Rattle.store_book.specs.Book.{Book, Link}
-use Rattle.store_book.specs.Effects.{Taking, after_leaf, after_page, done_after}
+use Rattle.store_book.specs.Book.{Book}
+use Rattle.store_book.specs.Effects.{Taking, after_leaf, after_page}
 use Rattle.store_book.specs.Premises.{IsItemOf, Takes, LandsFirst}
 use Rattle.store_book.specs.Records.{IsIn}
-use Rattle.store_book.specs.Tally.{Node, Leafy, Store}
+use Rattle.store_book.specs.Tally.{Store}
 use Rattle.store_book.specs.Telling.{nodes_of, roots_of, newest_leaf}
 use Rattle.store_book.proofs.Places.{in_front, in_behind}
-use Rattle.telling_facts.specs.Pieces.{first_part, right_of, leaf_parts, left_leaf, leaf_links}
+use Rattle.telling_facts.specs.Pieces.{first_part, right_of, left_leaf}
 use Rattle.telling_facts.specs.Taking.{AreClients, IsLinked, LandsTaken, taking_of}
 use Rattle.telling_facts.specs.Told.{store_of}
 use Rattle.telling_facts.proofs.Laws.{cut_taken, taken_lands}

@@ -1,13 +1,13 @@
 -- A leaf that is read under its lease, where a way stands: it has the low key that led there, and leads on to the right or has the key.
-use Rattle.std.proofs.Common.{◌≡◌, ◌≢◌, ◌+◌, ◌<◌, ◌≤◌, ◌==◌, ◌⊎◌, inl, inr, ℕ, zero, suc, Bool, true, false, cond, not, nat_lt, ◌&&◌, ◌||◌, List, [], ◌∷◌, ◌++◌, Option, Some, None, Ok, refl, sym, ap, subst, ◌∙◌, arith}
+use Rattle.std.proofs.Common.{◌≡◌, ◌+◌, ◌≤◌, ◌==◌, ◌⊎◌, inl, inr, ℕ, zero, suc, Bool, true, false, cond, nat_lt, ◌&&◌, ◌||◌, List, [], ◌∷◌, ◌++◌, Option, Some, None, Ok, refl, sym, ap, subst, ◌∙◌, arith}
 use Rattle.std.specs.Prelude.{slice_get}
-use Rattle.std.proofs.lemmas.Bool.{and_from, eqb-true, ltb-false}
-use Rattle.byte_format.specs.Order.{bytes_below, below_bound}
+use Rattle.std.proofs.lemmas.Bool.{eqb-true, ltb-false}
+use Rattle.byte_format.specs.Order.{bytes_below}
 use Rattle.chain_facts.specs.Chain.{IsChained}
-use Rattle.chain_facts.specs.Links.{newest_node, page_after, low_after, EndsBefore, IsOfLevel}
+use Rattle.chain_facts.specs.Links.{newest_node, EndsBefore, IsOfLevel}
 use Rattle.chain_facts.proofs.Newest.{IsNewestOf, newest_is}
 use Rattle.chain_facts.proofs.Pieces.{ascend_next}
-use Rattle.chain_meaning.specs.Meets.{IsAt, IsPassed}
+use Rattle.chain_meaning.specs.Meets.{IsPassed}
 use Rattle.chain_meaning.proofs.Steps.{passed_right, left_right, not_passed}
 use Rattle.cloud_facts.specs.Standing.{StandsUnder}
 use Rattle.cloud_trait.specs.State.{CloudState, newest}
@@ -23,7 +23,7 @@ use Rattle.log_codec.specs.declared.record.PuItem.{PuItem}
 use Rattle.report_types.specs.declared.entry.Entry.{Entry}
 use Rattle.run_cursor.specs.Covered.{is_seen}
 use Rattle.store_book.specs.Book.{Book, Link}
-use Rattle.store_book.specs.Records.{StandsAt, IsIn}
+use Rattle.store_book.specs.Records.{IsIn}
 use Rattle.store_book.specs.Tally.{Node, Leafy, Branch, Store, low_of}
 use Rattle.store_book.specs.Telling.{last_or, leaf_in, nodes_of, roots_of, newest_leaf, newest_root}
 use Rattle.store_book.proofs.Places.{in_front, in_behind}

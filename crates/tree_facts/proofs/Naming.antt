@@ -1,10 +1,10 @@
 -- Entries name links of the level below, also with the links that go up.
-use Rattle.std.proofs.Common.{◌≡◌, ◌-◌, ◌<◌, ◌≤◌, ◌==◌, ◌⊎◌, inl, inr, ℕ, zero, suc, Bool, true, false, cond, not, nat_lt, ◌&&◌, List, [], ◌∷◌, length, Some, refl, sym, ap, subst, ◌∙◌, arith}
+use Rattle.std.proofs.Common.{◌≡◌, ◌-◌, ◌==◌, ◌⊎◌, inl, inr, ℕ, Bool, true, false, cond, not, nat_lt, ◌&&◌, List, [], ◌∷◌, length, Some, refl, ap, subst, ◌∙◌}
 use Rattle.std.specs.Prelude.{nat_le}
 use Rattle.std.proofs.lemmas.Bool.{and_parts, eqb-true, not-true}
 use Rattle.byte_format.specs.Order.{bytes_below, bytes_same, below_bound}
 use Rattle.chain_facts.specs.Links.{link_of, NamesLinks, NamesBelow}
-use Rattle.chain_facts.proofs.Pieces.{in_cases, in_first, in_rest, none_in}
+use Rattle.chain_facts.proofs.Pieces.{in_cases, in_first, in_rest}
 use Rattle.node_codec.proofs.NodeLemmas.{not_below_empty}
 use Rattle.node_codec.specs.Inner.{Inner, first_low_of}
 use Rattle.node_codec.specs.Node.{Entry, with_entry}

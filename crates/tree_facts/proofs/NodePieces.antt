@@ -1,10 +1,10 @@
 -- The pieces of an inner node with the links that go up to it: each names links of the level below, and the left one lands on the node's page.
-use Rattle.std.proofs.Common.{◌≡◌, ◌+◌, ◌-◌, ◌<◌, ◌≤◌, ◌⊎◌, inl, inr, ℕ, zero, suc, List, [], ◌∷◌, ◌++◌, length, take, drop, Option, Some, refl, sym, ap, subst, ◌∙◌, arith, take-append-drop}
+use Rattle.std.proofs.Common.{◌≡◌, ◌+◌, ◌-◌, ◌<◌, ℕ, zero, suc, List, [], ◌∷◌, length, take, drop, Some, refl, sym, subst, ◌∙◌, arith, take-append-drop}
 use Rattle.std.specs.List.{AllByRecursion}
 use Rattle.chain_facts.specs.Chain.{IsChained, IsUnlinked, IsVersionOf}
 use Rattle.chain_facts.specs.Cuts.{HaveLanded, inner_node}
 use Rattle.chain_facts.specs.Landing.{LandsInner}
-use Rattle.chain_facts.specs.Links.{link_of, newest_node, NamesLinks, NamesBelow, NodeNames}
+use Rattle.chain_facts.specs.Links.{NamesLinks, NamesBelow, NodeNames}
 use Rattle.cloud_facts.specs.Standing.{StandsUnder}
 use Rattle.cloud_trait.specs.Claim.{Claim, Lasts}
 use Rattle.cloud_trait.specs.State.{CloudState}
@@ -15,15 +15,15 @@ use Rattle.report_types.specs.declared.entry.Entry.{Entry as Change}
 use Rattle.split_plan.proofs.Counting.{can-cuts}
 use Rattle.split_plan.proofs.Cutting.{can-behind}
 use Rattle.split_plan.specs.Cut.{first_key_of, cut_by, back_part}
-use Rattle.split_plan.specs.Part.{NodePart, part_of_node, node_of_part, entry_key}
+use Rattle.split_plan.specs.Part.{NodePart, part_of_node, entry_key}
 use Rattle.split_plan.specs.Sizes.{CanCut, cuts_of}
 use Rattle.store_book.specs.Book.{Book, Link}
 use Rattle.store_book.specs.Records.{IsIn}
-use Rattle.store_book.specs.Tally.{Node, Branch, Store}
+use Rattle.store_book.specs.Tally.{Branch, Store}
 use Rattle.store_book.specs.Telling.{nodes_of, roots_of}
 use Rattle.store_book.proofs.Places.{in_front, in_behind}
 use Rattle.telling_facts.proofs.Ready.{inner_lands}
-use Rattle.telling_facts.specs.Pieces.{first_part, right_of, node_parts, left_inner, node_links}
+use Rattle.telling_facts.specs.Pieces.{right_of, node_parts, left_inner, node_links}
 use Rattle.telling_facts.specs.Taking.{IsLinked}
 use Rattle.telling_facts.specs.Told.{store_of}
 use Rattle.tree_parts.specs.declared.kept.KeptNode.{KeptNode}

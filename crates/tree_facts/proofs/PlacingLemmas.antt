@@ -1,13 +1,10 @@
 -- The pieces of a cut, one after another from the right end.
-use Rattle.std.proofs.Common.{◌≡◌, ◌≢◌, ◌+◌, ◌<◌, ◌≤◌, ◌==◌, ◌⊎◌, inl, inr, ℕ, zero, suc, Bool, true, false, cond, List, [], ◌∷◌, ◌++◌, length, map, reverse, refl, sym, ap, subst, ◌∙◌, arith, append_assoc, length-append}
-use Rattle.std.proofs.lemmas.Bool.{cases_lt}
+use Rattle.std.proofs.Common.{◌≡◌, ◌≢◌, ◌+◌, ◌<◌, ◌≤◌, ◌⊎◌, inl, inr, ℕ, zero, List, [], ◌∷◌, ◌++◌, length, map, reverse, refl, sym, ap, subst, ◌∙◌, arith, length-append}
 use Rattle.std.proofs.lemmas.List.{reverse-append, map-append}
-use Rattle.chain_facts.specs.Chain.{AreLevels, IsUnlinked, ArePages, IsChained}
+use Rattle.chain_facts.specs.Chain.{AreLevels, IsUnlinked, ArePages}
 use Rattle.chain_facts.specs.Cuts.{links_on, HaveLanded}
-use Rattle.chain_facts.specs.Links.{first_link, top_of}
+use Rattle.chain_facts.specs.Links.{first_link}
 use Rattle.chain_facts.proofs.Pieces.{none_in, in_cases}
-use Rattle.node_codec.specs.Tree.{Tree}
-use Rattle.split_plan.specs.declared.put_list.PagePut.{PagePut}
 use Rattle.split_plan.specs.Part.{Part}
 use Rattle.split_plan.specs.Plan.{put_of, on_pages}
 use Rattle.std.specs.Prelude.{slice_get}

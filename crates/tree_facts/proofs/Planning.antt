@@ -1,29 +1,21 @@
 -- What is planned for a leaf that takes a run: its pieces have spellings, and their puts are those of a cut.
-use Rattle.std.proofs.Common.{◌≡◌, ◌≢◌, ◌+◌, ◌-◌, ◌<◌, ◌≤◌, ◌==◌, ◌^◌, ◌⊎◌, inl, inr, ℕ, zero, suc, Bool, true, false, cond, nat_lt, List, [], ◌∷◌, ◌++◌, length, map, reverse, Option, Some, None, Result, Ok, Err, refl, sym, ap, subst, ◌∙◌, arith}
+use Rattle.std.proofs.Common.{◌≡◌, ◌+◌, ◌-◌, ◌≤◌, ◌==◌, ℕ, zero, suc, Bool, true, false, List, [], ◌∷◌, length, map, reverse, refl, sym, ap, subst, ◌∙◌, arith}
 use Rattle.std.specs.List.{AllByRecursion}
-use Rattle.std.proofs.lemmas.Bool.{eqb-true, eqb-false, ltb-false}
+use Rattle.std.proofs.lemmas.Bool.{eqb-true, eqb-false}
 use Rattle.std.proofs.lemmas.List.{append-nil}
 use Rattle.std.proofs.lemmas.List.Elements.{All-from_recursion}
 use Rattle.byte_format.specs.Format.{greatest}
 use Rattle.change_codec.specs.Change.{IsChange as IsWritten}
-use Rattle.cloud_trait.specs.State.{CloudState, newest}
 use Rattle.db_base.specs.Change.{IsChange}
 use Rattle.db_base.specs.declared.change.Change.{Change}
 use Rattle.db_base.specs.declared.change.Change.TheVariants.{Insert, Update, Delete}
-use Rattle.db_base.specs.declared.trouble.Trouble.{Trouble}
-use Rattle.leaf_edit.proofs.Whole.{applied-formed}
-use Rattle.leaf_edit.specs.Applied.{applied}
-use Rattle.leaf_fold.specs.declared.plan.LeafPlan.{LeafPlan}
-use Rattle.leaf_fold.specs.Plan.{in_pieces, planned, planned_by, leaf_plan}
 use Rattle.leaf_view.specs.Fits.{IsWellFormed, IsVersion}
 use Rattle.leaf_view.specs.Leaf.{Leaf}
 use Rattle.leaf_view.proofs.Split.{fits_leaf}
 use Rattle.log_codec.specs.declared.record.PuItem.{PuItem}
-use Rattle.log_codec.specs.declared.record.PuRec.{PuRec}
-use Rattle.log_codec.specs.Order.{item_cmp, IsItem, IsOrdered}
+use Rattle.log_codec.specs.Order.{IsItem, IsOrdered}
 use Rattle.log_codec.specs.Pu.{IsPuRecord}
 use Rattle.log_codec.proofs.PuLaws.{pu_of-some}
-use Rattle.node_codec.specs.Tree.{Tree, tree_bytes}
 use Rattle.run_cursor.specs.Run.{IsRun}
 use Rattle.run_facts.proofs.Runs.{run_in}
 use Rattle.split_plan.proofs.Counting.{can-cuts, length-cuts}
@@ -35,9 +27,7 @@ use Rattle.split_plan.specs.Sizes.{count_of, cuts_of}
 use Rattle.store_book.specs.Premises.{IsItemOf}
 use Rattle.store_book.specs.Records.{IsIn}
 use Rattle.store_book.specs.Tally.{Store}
-use Rattle.tree_parts.specs.declared.reserve.Reserved.{Reserved}
-use Rattle.tree_parts.specs.Reserve.{version_spent, pages_spent, next_tree, reserved, reserved_by, reservation}
-use Rattle.tree_facts.specs.Placings.{IsPlacing, reserving}
+use Rattle.tree_facts.specs.Placings.{IsPlacing}
 use Rattle.tree_facts.proofs.LeafPieces.{leaf_parts_fit}
 
 -- ---- the run's items

@@ -1,5 +1,5 @@
 -- The put of a root that reserves numbers: it rests on nothing new, and its numbers are free behind it.
-use Rattle.std.proofs.Common.{◌≡◌, ◌+◌, ◌≢◌, ◌-◌, ◌<◌, ◌≤◌, ◌⊎◌, inl, inr, ℕ, zero, suc, false, List, [], ◌∷◌, ◌++◌, length, Option, Some, None, refl, sym, ap, subst, ◌∙◌, arith}
+use Rattle.std.proofs.Common.{◌≡◌, ◌+◌, ◌≢◌, ◌-◌, ◌≤◌, ◌⊎◌, inl, inr, ℕ, zero, false, List, [], ◌∷◌, ◌++◌, length, Option, Some, None, refl, sym, ap, subst, ◌∙◌, arith}
 use Rattle.std.specs.Prelude.{unwrap_or}
 use Rattle.chain_facts.specs.Chain.{IsChained}
 use Rattle.chain_facts.specs.Landing.{LandsRoot}
@@ -10,13 +10,12 @@ use Rattle.chain_facts.proofs.Roots.{top_added}
 use Rattle.cloud_facts.specs.Standing.{StandsUnder}
 use Rattle.cloud_trait.specs.Ask.{PutHeld}
 use Rattle.cloud_trait.specs.Caller.{Caller}
-use Rattle.cloud_trait.specs.Claim.{Claim, Lasts}
+use Rattle.cloud_trait.specs.Claim.{Claim}
 use Rattle.cloud_trait.specs.State.{CloudState}
 use Rattle.db_base.specs.Cursor.{number_of}
-use Rattle.db_base.specs.Ids.{IsClient, IsTree}
+use Rattle.db_base.specs.Ids.{IsTree}
 use Rattle.db_base.specs.declared.names.ObjName.TheVariants as object
 use Rattle.landing_facts.specs.Landing.{Landing, puts_root}
-use Rattle.log_codec.specs.declared.record.AtomicRec.{AtomicRec}
 use Rattle.byte_format.specs.Format.{greatest}
 use Rattle.node_codec.proofs.EntryLemmas.{fits_to_last}
 use Rattle.node_codec.proofs.NodeLemmas.{in_range_from, in_range_parts}
@@ -29,8 +28,8 @@ use Rattle.split_plan.specs.Part.{Part}
 use Rattle.store_book.specs.Book.{Book, Link}
 use Rattle.store_book.specs.Effects.{after_root}
 use Rattle.store_book.specs.Premises.{CoversApplied}
-use Rattle.store_book.specs.Records.{IsIn, IsApplied}
-use Rattle.store_book.specs.Tally.{Node, Store, at}
+use Rattle.store_book.specs.Records.{IsIn}
+use Rattle.store_book.specs.Tally.{Node, Store}
 use Rattle.store_book.specs.Telling.{nodes_of, roots_of}
 use Rattle.store_book.proofs.Names.{at_same}
 use Rattle.store_book.proofs.Places.{in_behind}

@@ -1,8 +1,7 @@
 -- The way over inner nodes that were got: it comes to a node that was not, or to a leaf, and to no page twice.
-use Rattle.std.proofs.Common.{◌≡◌, ◌+◌, ◌-◌, ◌<◌, ◌≤◌, ◌==◌, ◌⊎◌, inl, inr, ℕ, zero, suc, Bool, true, false, cond, List, [], ◌∷◌, ◌++◌, length, Option, Some, None, Ok, refl, sym, ap, subst, ◌∙◌, arith}
-use Rattle.std.specs.Prelude.{find}
+use Rattle.std.proofs.Common.{◌≡◌, ◌<◌, ◌≤◌, ◌==◌, ℕ, zero, suc, Bool, true, false, cond, List, [], ◌∷◌, ◌++◌, length, Option, Some, None, Ok, refl, sym, ap, subst, ◌∙◌, arith}
 use Rattle.std.proofs.lemmas.Bool.{eqb-true, eqb-false}
-use Rattle.chain_facts.specs.Chain.{ChainHolds, IsChained}
+use Rattle.chain_facts.specs.Chain.{ChainHolds}
 use Rattle.chain_meaning.proofs.Steps.{not_passed}
 use Rattle.cloud_facts.proofs.Searching.{found}
 use Rattle.cloud_trait.specs.Claim.{Claim}
@@ -11,7 +10,6 @@ use Rattle.db_base.specs.declared.trouble.Trouble.{Trouble}
 use Rattle.db_base.specs.declared.trouble.Trouble.TheVariants as trouble
 use Rattle.node_codec.specs.Inner.{Inner}
 use Rattle.run_cursor.specs.Covered.{is_seen}
-use Rattle.store_book.specs.Book.{Link}
 use Rattle.store_book.specs.Records.{IsIn}
 use Rattle.store_book.specs.Tally.{Branch, Store}
 use Rattle.tree_descent.specs.declared.descent.Descent.{Descent}
@@ -23,9 +21,9 @@ use Rattle.tree_descent.specs.Fork.{forked_on}
 use Rattle.tree_parts.proofs.Reading.{inner_is}
 use Rattle.tree_parts.specs.declared.kept.KeptNode.{KeptNode}
 use Rattle.tree_parts.specs.Read.{inner_read}
-use Rattle.tree_facts.specs.Charts.{KnowsNode, KnowsChart}
-use Rattle.tree_facts.specs.Ways.{IsOnWay, KnowsWay, LeadsOn}
-use Rattle.tree_facts.proofs.Forks.{ForkLeads, is_forked, fork_leads, passed_known, passed_visited, passed_nodes}
+use Rattle.tree_facts.specs.Charts.{KnowsNode}
+use Rattle.tree_facts.specs.Ways.{KnowsWay, LeadsOn}
+use Rattle.tree_facts.proofs.Forks.{is_forked, fork_leads, passed_known, passed_visited, passed_nodes}
 use Rattle.tree_facts.proofs.Unseen.{seen_in, unseen, unseen_most, unseen_less}
 
 -- how many nodes that were got are before the way still

@@ -1,5 +1,5 @@
 -- What the leases of one session guard, a call of another one leaves as it is: roots, inner nodes, absent pages, links and leaves.
-use Rattle.std.proofs.Common.{◌≡◌, ◌≢◌, ◌≤◌, ◌==◌, ◌⊎◌, inl, inr, ℕ, Bool, true, false, cond, List, [], map, Option, Some, None, refl, sym, ap, subst, ◌∙◌, arith}
+use Rattle.std.proofs.Common.{◌≡◌, ◌≢◌, ◌⊎◌, inl, inr, ℕ, Bool, cond, List, [], map, Option, Some, None, refl, sym, ap, subst, ◌∙◌, arith}
 use Rattle.std.proofs.lemmas.Bool.{eq-eqb, ne_eqb}
 use Rattle.chain_facts.specs.Links.{newest_node}
 use Rattle.cloud_facts.specs.Others.{Passes}
@@ -8,17 +8,15 @@ use Rattle.cloud_facts.proofs.Passing.{passes_itself}
 use Rattle.cloud_trait.specs.Caller.{Caller}
 use Rattle.cloud_trait.specs.Claim.{Claim, Lasts}
 use Rattle.cloud_trait.specs.State.{CloudState, newest}
-use Rattle.db_base.specs.declared.names.Lock.{Lock}
 use Rattle.db_base.specs.declared.names.Lock.TheVariants as lock
 use Rattle.db_base.specs.declared.names.ObjName.{ObjName}
 use Rattle.db_base.specs.declared.names.ObjName.TheVariants as object
 use Rattle.decoding_facts.specs.Decodes.{Decodes}
 use Rattle.decoding_facts.specs.Kinds.{IsNode}
-use Rattle.cloud_trait.specs.declared.state.Version.{Version}
 use Rattle.decoding_facts.proofs.Reading.{leaf_only, node_reads}
 use Rattle.decoding_facts.proofs.Values.{newest_page_decodes}
 use Rattle.leaf_view.specs.Leaf.{Leaf, IsLeaf}
-use Rattle.lease_facts.specs.Guards.{guard, guard_of_leaf, guard_of_page, HasLasting, Allowed}
+use Rattle.lease_facts.specs.Guards.{guard, guard_of_leaf, guard_of_page, Allowed}
 use Rattle.lease_facts.specs.Leases.{Hands, LeasesHold}
 use Rattle.lease_facts.proofs.GuardLemmas.{guarded_stays, lasting_apart}
 use Rattle.node_codec.specs.Inner.{Inner, IsInner}

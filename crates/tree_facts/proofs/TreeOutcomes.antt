@@ -30,7 +30,7 @@ use Rattle.store_book.specs.Book.{Book}
 use Rattle.store_book.specs.Tally.{Store, at}
 use Rattle.telling_facts.specs.Told.{store_of}
 use Rattle.telling_facts.proofs.Asks.{told_store}
-use Rattle.tree_facts.specs.Links.{LinksBy, OwesLease}
+use Rattle.tree_facts.specs.Links.{OwesLease}
 use Rattle.tree_facts.specs.Outcomes.{TreeOutcome}
 use Rattle.tree_facts.proofs.LinkLemmas.{landing_links}
 

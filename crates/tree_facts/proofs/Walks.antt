@@ -1,14 +1,13 @@
 -- The way down from the root to a leaf: where it begins, and where the held get of a node leads.
-use Rattle.std.proofs.Common.{◌≡◌, ◌≢◌, ◌+◌, ◌-◌, ◌<◌, ◌==◌, ◌⊎◌, inl, inr, ℕ, zero, suc, Bool, true, false, cond, List, [], ◌∷◌, ◌++◌, take, drop, Option, Some, None, Result, Ok, Err, refl, sym, ap, subst, ◌∙◌, arith, take-append-drop}
+use Rattle.std.proofs.Common.{◌≡◌, ◌≢◌, ◌-◌, ◌<◌, ◌⊎◌, inl, inr, ℕ, zero, suc, List, [], ◌∷◌, ◌++◌, take, drop, Option, Some, None, Result, Ok, Err, refl, sym, subst, arith, take-append-drop}
 use Rattle.chain_facts.specs.Chain.{IsChained}
 use Rattle.chain_facts.specs.Links.{newest_node, IsOfLevel}
 use Rattle.chain_facts.proofs.Newest.{newest_is, last_in}
-use Rattle.chain_meaning.specs.Meets.{IsAt, MeetsBelow}
+use Rattle.chain_meaning.specs.Meets.{IsAt}
 use Rattle.chain_meaning.proofs.Stale.{stale_root, absent_root}
 use Rattle.chain_meaning.proofs.Steps.{from_root, from_none}
 use Rattle.cloud_facts.specs.Standing.{StandsUnder}
-use Rattle.cloud_trait.specs.Claim.{Claim, Lasts}
-use Rattle.cloud_trait.specs.Machine.{Next, Goes, Ends, Stops}
+use Rattle.cloud_trait.specs.Claim.{Claim}
 use Rattle.cloud_trait.specs.State.{CloudState, newest}
 use Rattle.db_base.specs.declared.names.ObjName.TheVariants as object
 use Rattle.db_base.specs.declared.trouble.Trouble.{Trouble}
@@ -17,7 +16,7 @@ use Rattle.decoding_facts.proofs.Values.{newest_page_decodes}
 use Rattle.leaf_view.specs.Lookup.{empty_leaf}
 use Rattle.node_codec.specs.Inner.{Inner, IsInner}
 use Rattle.node_codec.specs.Node.{Entry, child_of}
-use Rattle.node_codec.specs.Tree.{Tree, empty_tree}
+use Rattle.node_codec.specs.Tree.{Tree}
 use Rattle.report_types.specs.declared.entry.Entry.{Entry as Change}
 use Rattle.store_book.specs.Book.{Book, Link}
 use Rattle.store_book.specs.Records.{IsIn}
@@ -26,7 +25,7 @@ use Rattle.store_book.specs.Telling.{nodes_of, roots_of, newest_root}
 use Rattle.store_book.proofs.Places.{in_either, in_front, in_behind, in_none}
 use Rattle.telling_facts.specs.Told.{store_of}
 use Rattle.tree_descent.specs.declared.descent.Descent.{Descent}
-use Rattle.tree_descent.specs.Descent.{begun, fork_of, passed, with_node, got_node, absent_node, descent_got}
+use Rattle.tree_descent.specs.Descent.{begun, fork_of, passed, with_node, got_node, descent_got}
 use Rattle.tree_descent.specs.Fork.{forked_on}
 use Rattle.tree_parts.proofs.Reading.{inner_is}
 use Rattle.tree_parts.specs.declared.chart.Chart.{Chart}
@@ -34,7 +33,7 @@ use Rattle.tree_parts.specs.declared.kept.KeptNode.{KeptNode}
 use Rattle.tree_parts.specs.Kept.{place_of, with_kept}
 use Rattle.tree_parts.specs.Read.{tree_held}
 use Rattle.tree_facts.specs.Charts.{IsRootOf, KnowsNode, KnowsNodes, KnowsChart}
-use Rattle.tree_facts.specs.Ways.{IsOnWay, KnowsWay, LeadsOn}
+use Rattle.tree_facts.specs.Ways.{KnowsWay, LeadsOn}
 use Rattle.tree_facts.proofs.Pages.{none_landed}
 use Rattle.tree_facts.proofs.Strides.{bytes_lead, arrives}
 

@@ -1,5 +1,5 @@
 -- What the held get of a node leaves: where it leads is known, and it stops only where it was refused or failed.
-use Rattle.std.proofs.Common.{◌≡◌, ◌<◌, ◌≤◌, ℕ, zero, List, [], ◌∷◌, Option, Err, Ok, refl}
+use Rattle.std.proofs.Common.{◌≡◌, ◌<◌, ◌≤◌, ℕ, zero, List, [], ◌∷◌, Err, refl}
 use Rattle.cloud_facts.specs.Acting.{Aside}
 use Rattle.cloud_facts.specs.Call.{IsCall}
 use Rattle.cloud_facts.proofs.Heads.{held_seen}
@@ -11,7 +11,7 @@ use Rattle.cloud_trait.specs.Views.{got_of}
 use Rattle.db_base.specs.declared.names.Lock.TheVariants as lock
 use Rattle.db_base.specs.declared.names.ObjName.TheVariants as object
 use Rattle.history.specs.Audited.{Audited}
-use Rattle.home_facts.specs.Homes.{Part, Parts}
+use Rattle.home_facts.specs.Homes.{Parts}
 use Rattle.home_facts.proofs.HomeLemmas.{keeps_part}
 use Rattle.report_types.specs.declared.entry.Entry.{Entry}
 use Rattle.store_book.specs.Book.{Book}

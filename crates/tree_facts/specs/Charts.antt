@@ -1,5 +1,5 @@
 -- What a checkpoint of a tree knows of the objects that it read under the tree's lease, and of the links that it found.
-use Rattle.std.specs.Prelude.{ℕ, ◌≡◌, ◌<◌, ◌≤◌, ◌-◌, ◌⊎◌, List, Option}
+use Rattle.std.specs.Prelude.{ℕ, ◌≡◌, ◌<◌, ◌≤◌, ◌-◌, ◌⊎◌, List}
 use Rattle.chain_facts.specs.Links.{newest_node, top_of}
 use Rattle.cloud_trait.specs.Claim.{Claim, Lasts}
 use Rattle.db_base.specs.Cursor.{number_of}

@@ -1,5 +1,5 @@
 -- What a checkpoint knows at a leaf under its lease: before the leaf is read, and while it and its right pieces are put.
-use Rattle.std.specs.Prelude.{ℕ, ◌≡◌, ◌≤◌, ◌⊎◌, true, false, List, [], ◌++◌, length, Option, Some, None}
+use Rattle.std.specs.Prelude.{ℕ, ◌≡◌, ◌≤◌, ◌⊎◌, true, false, List, [], length, Option, Some, None}
 use Rattle.std.specs.List.{AllByRecursion}
 use Rattle.byte_format.specs.Order.{bytes_below, below_bound}
 use Rattle.chain_facts.specs.Cuts.{leaf_node}
@@ -22,7 +22,7 @@ use Rattle.store_book.specs.Tally.{Node, Leafy, Store}
 use Rattle.telling_facts.specs.Taking.{IsLinked}
 use Rattle.tree_parts.specs.declared.chart.Chart.{Chart}
 use Rattle.tree_parts.specs.Read.{tree_held}
-use Rattle.tree_facts.specs.Charts.{KnowsRoot, KnowsNodes, KnowsChart}
+use Rattle.tree_facts.specs.Charts.{KnowsChart}
 use Rattle.tree_facts.specs.Placings.{IsPlacing, AreReserved, IsReservation}
 use Rattle.tree_facts.specs.Ways.{IsOnWay}
 

@@ -1,5 +1,5 @@
 -- Where the way down to the leaf of a key stands.
-use Rattle.std.specs.Prelude.{ℕ, ◌≡◌, ◌<◌, List, Result, Err}
+use Rattle.std.specs.Prelude.{ℕ, ◌≡◌, ◌<◌, List}
 use Rattle.chain_meaning.specs.Meets.{IsAt, IsPassed}
 use Rattle.cloud_trait.specs.Claim.{Claim}
 use Rattle.cloud_trait.specs.Machine.{Next, Goes, Ends, Stops}

@@ -1,0 +1,25 @@
+pub mod Pages
+pub mod Forks
+mod Unseen
+pub mod Strides
+pub mod Walks
+pub mod LinkLemmas
+pub mod TreeOthersLaws
+pub mod ChartOthers
+pub mod TreeOutcomes
+pub mod PlacingLemmas
+pub mod LeafPieces
+pub mod Reservations
+pub mod Naming
+pub mod Covering
+pub mod LeafReads
+pub mod FoldOthers
+pub mod FoldPuts
+pub mod LastRoot
+pub mod FoldReserves
+pub mod WayCalls
+pub mod Planning
+pub mod FoldReads
+pub mod FoldPlans
+pub mod FoldCalls
+pub mod NodePieces

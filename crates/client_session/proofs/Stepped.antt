@@ -1,5 +1,5 @@
 -- What a session does with what it has in hand, and with its cache beside that, the session does.
-use Rattle.std.proofs.Common.{◌≡◌, ℕ, List, Option, Some, None, Ok, false, refl, sym, subst, ap, ◌∙◌}
+use Rattle.std.proofs.Common.{◌≡◌, ℕ, List, Option, Some, Ok, false, refl, sym, subst, ap}
 use Rattle.cloud_trait.specs.Caller.{Caller}
 use Rattle.cloud_trait.specs.Seen.{Seen}
 use Rattle.cloud_trait.specs.declared.turn.Turn.{Turn}
@@ -9,7 +9,6 @@ use Rattle.tree_walk.specs.Walk.{Walk, new_walk}
 use Rattle.client_session.specs.declared.answer.Answer.{Answer}
 use Rattle.client_session.specs.declared.answer.Begun.{Begun}
 use Rattle.client_session.specs.declared.work.Work.{Work}
-use Rattle.client_session.specs.declared.work.Work.TheVariants.{Idle, Closed}
 use Rattle.client_session.specs.Session.{Acting, StepsSession, StepsAt, ShowsAt, BeginsWith, ReadsIn, ReadsOf, TakesHome, noted_behind, shown_behind}
 
 pub stepped : (who : Caller) (before after : Seen) (old new : Acting) (work left : Work) (c d : Cache) (read : Option Walk) (turn : Turn Answer) → work ≡ old.work → c ≡ old.cache
@@ -22,7 +21,7 @@ stepped who before after old new work left c d read turn is_work is_cache is ste
       shown = (
         d,
         subst (λ (w : Work). ShowsAt who before after w old.cache d left read turn) is_work
-        (subst (λ (x : Cache). ShowsAt who before after work x d left read turn) is_cache shows),
+            (subst (λ (x : Cache). ShowsAt who before after work x d left read turn) is_cache shows),
         refl,
       );
     })
@@ -35,8 +34,7 @@ begun_reading tree key old taken new home start c d left read begun takes is_sta
     let from : ReadsOf home (new_walk tree (Some key) false) taken.cache d left read begun =
     subst (λ (w : Walk). ReadsOf home w taken.cache d left read begun) is_start (subst (λ (x : Cache). ReadsOf home start x d left read begun) is_cache reads) in
     let was : ReadsOf home (new_walk tree (Some key) false) old.cache d left read begun =
-    subst (λ (x : Acting). ReadsOf home (new_walk tree (Some key) false) x.cache d left read begun) takes.1 from in
-    (
+    subst (λ (x : Acting). ReadsOf home (new_walk tree (Some key) false) x.cache d left read begun) takes.1 from in (
       home,
       takes.0,
       subst At (sym is) (ap (λ (x : Acting). x.buffer) takes.1, was),

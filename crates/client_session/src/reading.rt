@@ -6,8 +6,8 @@ use cloud_trait::cloud::Cloud;
 use cloud_trait::turn::Turn;
 use cloud_trait::who::Who;
 use page_cache::PageCache;
-use recover_run::home::Home;
 use record_read::RecordRead;
+use recover_run::home::Home;
 use std::alloc::Global;
 
 /// Begins a read beside the open client: what is in hand then, and the read where it ended at once.
@@ -22,11 +22,7 @@ pub(crate) fn begin_reading(
 {
     match read.ready(alloc, cache) {
         Turn::More => (Work::Reading(home, read), None, Begun::Working),
-        Turn::Ended(_) => (
-            Work::Idle(home),
-            Some(read),
-            Begun::Answered(Answer::Value),
-        ),
+        Turn::Ended(_) => (Work::Idle(home), Some(read), Begun::Answered(Answer::Value)),
         Turn::Stopped(trouble) => (
             stopped(&trouble, home),
             None,

@@ -1,4 +1,4 @@
-use Rattle.std.proofs.Common.{Result, subst, sym, ap, ◌∙◌}
+use Rattle.std.proofs.Common.{Result, subst, ap, ◌∙◌}
 use Rattle.db_base.specs.declared.refusal.Refused.{Refused}
 use Rattle.recover_run.specs.declared.home.Home.{Home}
 use Rattle.client_session.specs.Session.{Acting, TakesHome}
@@ -12,5 +12,5 @@ returns c =
     let read = c.begin_reading-work.result.1 in
     let beside = c.begin_reading-work.new.cache in
     begun_reading c.args.tree c.args.key c.args.self.now c.take_home.new.self c.shows.new.self c.in_ok-home.home c.new-read.result c.self.inside.cache beside left read c.begin_reading-work.result.2
-    (subst takes c.in_ok-home.is c.take_home.ensures) c.new-read.ensures (ap (λ (s : Acting). s.cache) c.self.view_is)
+    (subst takes c.in_ok-home.was c.take_home.ensures) c.new-read.ensures (ap (λ (s : Acting). s.cache) c.self.view_is)
     (c.shows.ensures ∙ ap (λ (s : Acting). record s { read = read }) (c.has.ensures ∙ ap (λ (s : Acting). record s { work = left; cache = beside }) c.self.view_is)) c.begin_reading-work.ensures.reads

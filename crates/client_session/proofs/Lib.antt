@@ -1,3 +1,4 @@
 pub mod Ending
 pub mod Opens
 pub mod Readying
+pub mod Stepped

@@ -1,5 +1,5 @@
 -- How a session stands.
-use Rattle.std.specs.Prelude.{ℕ, ◌≡◌, ◌≤◌, ◌<◌, ◌⊎◌, ◌^◌, Bool, true, false, List, [], length, Option, Some, None, Result, Ok, Err}
+use Rattle.std.specs.Prelude.{ℕ, ◌≡◌, ◌≢◌, ◌≤◌, ◌<◌, ◌⊎◌, ◌^◌, Bool, true, false, List, [], length, Option, Some, None, Result, Ok, Err}
 use Rattle.db_base.specs.declared.refusal.Refusal.{Refusal}
 use Rattle.db_base.specs.declared.refusal.Refusal.TheVariants as rule
 use Rattle.head_codec.specs.declared.head.Head.{Head}
@@ -19,7 +19,7 @@ use Rattle.cloud_trait.specs.declared.turn.Turn.TheVariants.{More, Ended, Stoppe
 use Rattle.cloud_trait.specs.Ask.{Ask, Renew, Release}
 use Rattle.cloud_trait.specs.Caller.{Caller}
 use Rattle.cloud_trait.specs.Claim.{Claim}
-use Rattle.cloud_trait.specs.Machine.{Goes, Ends, LeadsBy, Steps}
+use Rattle.cloud_trait.specs.Machine.{Goes, Ends, Stops, LeadsBy, Steps}
 use Rattle.cloud_trait.specs.Seen.{Seen}
 use Rattle.cloud_trait.specs.Views.{done_of, renewed_of}
 use Rattle.cloud_trait.specs.Weather.{Makes, RenewsLease}
@@ -32,6 +32,9 @@ use Rattle.recover_run.specs.Recovery.{Recovery, new_recovery, recovery_ask, rec
 use Rattle.commit_writes.specs.Ending.{calls_left as commit_left}
 use Rattle.commit_writes.specs.Sound.{IsSound as IsSoundCommit}
 use Rattle.commit_writes.specs.Writing.{Writing, waiting, writing_ready, writing_ask, writing_next, opens_at, KeepsHome}
+use Rattle.page_cache.specs.Cache.{Cache, empty_cache}
+use Rattle.tree_walk.specs.Walk.{Walk, new_walk, asks, walk_ask, walk_ready, walk_next, KeepsNothing, calls_left as reading_left, IsAtLeaf}
+use Rattle.record_read.specs.Read.{read_value}
 use Rattle.page_ckpt.specs.Ending.{calls_left as paging_left}
 use Rattle.page_ckpt.specs.Paging.{new_paging, paging_ask, PagingLeads, KeepsLeases as KeepsPageLeases, Paging as Page}
 use Rattle.first_tree.specs.Folding.{new_folding, folding_ask, FoldingLeads, KeepsLeases as KeepsFoldLeases, calls_left as folding_left, Folding as Fold}
@@ -42,15 +45,18 @@ use Rattle.client_session.specs.declared.answer.Begun.TheVariants.{Working, Answ
 use Rattle.client_session.specs.declared.op.Op.{Op}
 use Rattle.client_session.specs.declared.op.Op.TheVariants as op
 use Rattle.client_session.specs.declared.work.Work.{Work}
-use Rattle.client_session.specs.declared.work.Work.TheVariants.{Closed, Idle, Opening, Committing, Paging, Folding, Closing, Renewing, Broken}
+use Rattle.client_session.specs.declared.work.Work.TheVariants.{Closed, Idle, Opening, Committing, Reading, Paging, Folding, Closing, Renewing, Broken}
 
--- a session: the changes that it noted, and what it has in hand
+-- a session: the changes that it noted, what it has in hand, what it keeps of the cloud, and the newest operation where that was a read
+-- that ended at its leaf
 pub record Acting : Type 0 where
   pub buffer : List Noted
   pub work : Work
+  pub cache : Cache
+  pub read : Option Walk
 
 abbrev pub closed_session : Acting
-closed_session = record { buffer = []; work = Closed }
+closed_session = record { buffer = []; work = Closed; cache = empty_cache; read = None }
 
 -- no answer waits for the release of the lease
 abbrev pub StopsAtMost : Option (Result RecoverAnswer Trouble) → Type 0
@@ -73,6 +79,7 @@ rule_of Closed = Some rule.NotOpen
 rule_of (Idle home) = None
 rule_of (Opening m) = Some rule.AtWork
 rule_of (Committing m) = Some rule.AtWork
+rule_of (Reading home m) = Some rule.AtWork
 rule_of (Paging home m) = Some rule.AtWork
 rule_of (Folding home m) = Some rule.AtWork
 rule_of (Closing lease) = Some rule.AtWork
@@ -103,7 +110,7 @@ GivesHome work left (Err refused.Memory) = ⊥
 
 -- and so of a session
 abbrev pub TakesHome : Acting → Acting → Result Home Refused → Type 0
-TakesHome old new (Ok home) = (old.work ≡ Idle home) × (new ≡ record { buffer = old.buffer; work = Closed })
+TakesHome old new (Ok home) = (old.work ≡ Idle home) × (new ≡ record old { work = Closed; read = None })
 TakesHome old new (Err (refused.Rule r)) = (rule_of old.work ≡ Some r) × (new ≡ old)
 TakesHome old new (Err refused.Memory) = ⊥
 
@@ -113,6 +120,7 @@ opening_rule_of Closed = None
 opening_rule_of (Idle home) = Some rule.AlreadyOpen
 opening_rule_of (Opening m) = Some rule.AtWork
 opening_rule_of (Committing m) = Some rule.AtWork
+opening_rule_of (Reading home m) = Some rule.AtWork
 opening_rule_of (Paging home m) = Some rule.AtWork
 opening_rule_of (Folding home m) = Some rule.AtWork
 opening_rule_of (Closing lease) = Some rule.AtWork
@@ -126,6 +134,7 @@ old_lease Closed = None
 old_lease (Idle home) = None
 old_lease (Opening m) = None
 old_lease (Committing m) = None
+old_lease (Reading home m) = None
 old_lease (Paging home m) = None
 old_lease (Folding home m) = None
 old_lease (Closing lease) = None
@@ -137,7 +146,7 @@ opening_of client old = Opening (new_recovery client aim.Opening old)
 
 -- a closed or broken session begins opening a client, and has noted nothing; another is refused and stays
 abbrev pub BeginsOpening : ℕ → Acting → Acting → Result Begun Refused → Type 0
-BeginsOpening client old new (Ok Working) = (opening_rule_of old.work ≡ None) × (new ≡ record { buffer = []; work = opening_of client (old_lease old.work) })
+BeginsOpening client old new (Ok Working) = (opening_rule_of old.work ≡ None) × (new ≡ record closed_session { work = opening_of client (old_lease old.work) })
 BeginsOpening client old new (Ok (Answered answer)) = ⊥
 BeginsOpening client old new (Err (refused.Rule r)) = (opening_rule_of old.work ≡ Some r) × (new ≡ old)
 BeginsOpening client old new (Err refused.Memory) = ⊥
@@ -149,8 +158,8 @@ BeginsWith Does old new (Err (refused.Rule r)) = (rule_of old.work ≡ Some r) �
 BeginsWith Does old new (Err refused.Memory) = ⊥
 
 -- this is in hand then, and what was noted stays
-abbrev pub HasInHand : List Noted → Work → Acting → Begun → Type 0
-HasInHand buffer work new begun = (begun ≡ Working) × (new ≡ record { buffer = buffer; work = work })
+abbrev pub HasInHand : Acting → Work → Acting → Begun → Type 0
+HasInHand old work new begun = (begun ≡ Working) × (new ≡ record old { work = work; read = None })
 
 -- the checkpoint of a page that a home begins
 abbrev pub paging_begun_by : ℕ → ℕ → Home → Work
@@ -177,16 +186,34 @@ pub record CommitsNothing (home : Home) (buffer : List Noted) (work : Work) (beg
 abbrev pub CommitsNoted : Home → List Noted → Work → Begun → Type 0
 CommitsNoted home buffer work begun = CommitsNothing home buffer work begun ⊎ ((1 ≤ length buffer) × CommitsOf home buffer work begun)
 
-abbrev pub CommitsIn : List Noted → Home → Acting → Begun → Type 0
-CommitsIn buffer home new begun = (new.buffer ≡ []) × CommitsNoted home buffer new.work begun
+abbrev pub CommitsIn : Acting → Home → Acting → Begun → Type 0
+CommitsIn old home new begun = (new.buffer ≡ []) × CommitsNoted home old.buffer new.work begun × (new.cache ≡ old.cache) × (new.read ≡ None)
+
+-- an open client behind an operation that stopped: want of memory leaves its lease alone
+abbrev pub stopped_work : Trouble → Home → Work
+stopped_work trouble.Memory home = Broken home.lease
+stopped_work t home = Idle home
+
+-- a read is in hand, or it is answered at once and the home stays; want of memory leaves the lease alone
+abbrev pub ReadsOf : Home → Walk → Cache → Cache → Work → Option Walk → Begun → Type 0
+ReadsOf home start old new work read Working = (m : Walk) × (walk_ready (start, old) ≡ Goes (m, new)) × (work ≡ Reading home m) × (read ≡ None)
+ReadsOf home start old new work read (Answered answer.Value) =
+    (m : Walk) × (page : ℕ) × (walk_ready (start, old) ≡ Ends (m, new) page) × (work ≡ Idle home) × (read ≡ Some m)
+ReadsOf home start old new work read (Answered (answer.Trouble t)) =
+    (m : Walk) × (t ≢ trouble.Memory → walk_ready (start, old) ≡ Stops (m, new) t) × (work ≡ stopped_work t home) × (read ≡ None)
+ReadsOf home start old new work read (Answered answer) = ⊥
+
+abbrev pub ReadsIn : ℕ → List ℕ → Acting → Home → Acting → Begun → Type 0
+ReadsIn tree key old home new begun = (new.buffer ≡ old.buffer) × ReadsOf home (new_walk tree (Some key) false) old.cache new.cache new.work new.read begun
 
 abbrev pub Begins : Op → Acting → Acting → Result Begun Refused → Type 0
 Begins (op.Open client) old new result = BeginsOpening client old new result
-Begins op.Close old new result = BeginsWith (λ home. HasInHand old.buffer (Closing home.lease)) old new result
-Begins op.Renew old new result = BeginsWith (λ home. HasInHand old.buffer (Renewing home)) old new result
-Begins op.Commit old new result = BeginsWith (CommitsIn old.buffer) old new result
-Begins (op.Page tree page) old new result = BeginsWith (λ home. HasInHand old.buffer (paging_begun_by tree page home)) old new result
-Begins (op.Tree tree) old new result = BeginsWith (λ home. HasInHand old.buffer (folding_begun_by tree home)) old new result
+Begins op.Close old new result = BeginsWith (λ home. HasInHand old (Closing home.lease)) old new result
+Begins op.Renew old new result = BeginsWith (λ home. HasInHand old (Renewing home)) old new result
+Begins op.Commit old new result = BeginsWith (CommitsIn old) old new result
+Begins (op.Read tree key) old new result = BeginsWith (ReadsIn tree key old) old new result
+Begins (op.Page tree page) old new result = BeginsWith (λ home. HasInHand old (paging_begun_by tree page home)) old new result
+Begins (op.Tree tree) old new result = BeginsWith (λ home. HasInHand old (folding_begun_by tree home)) old new result
 
 -- ---- what a step does
 
@@ -200,11 +227,6 @@ committed_work InDoubt home = Broken home.lease
 committed_work (CommittedOpen t) home = Broken home.lease
 committed_work (Committed txn) home = Idle home
 committed_work (NotCommitted t) home = Idle home
-
--- and so does want of memory
-abbrev pub stopped_work : Trouble → Home → Work
-stopped_work trouble.Memory home = Broken home.lease
-stopped_work t home = Idle home
 
 -- how many calls an opening has left at most
 abbrev pub opening_left : Recovery → ℕ
@@ -228,6 +250,28 @@ StepsCommit who before after old work (Ended (answer.Commit a)) =
 StepsCommit who before after old work (Ended (answer.Trouble k)) =
     (m : Writing) × Steps writing_ask (LeadsBy writing_next) KeepsHome who before after old m (Stopped k) × (work ≡ Broken m.home.lease)
 StepsCommit who before after old work turn = ⊥
+
+-- a call was made, and answered
+pub record Asks (ask : Ask) (who : Caller) (before after : Seen) : Type 0 where
+  pub answer : Heard
+  pub made : Makes who ask answer before after
+
+-- one step of a read, and what it leaves in hand
+abbrev pub StepsReading : Home → Caller → Seen → Seen → Walk → Work → Turn Answer → Type 0
+StepsReading home who before after old work More = (m : Walk) × Asks (walk_ask old) who before after × (work ≡ Reading home m) × (reading_left m < reading_left old)
+StepsReading home who before after old work (Ended answer.Value) = Asks (walk_ask old) who before after × (work ≡ Idle home)
+StepsReading home who before after old work (Ended (answer.Trouble k)) = Asks (walk_ask old) who before after × (work ≡ stopped_work k home)
+StepsReading home who before after old work turn = ⊥
+
+-- the same beside the cache: what is got goes into it, and at the end the leaf whose range holds the key stands there
+abbrev pub ReadsBy : Home → Caller → Seen → Seen → Walk → Cache → Cache → Work → Option Walk → Turn Answer → Type 0
+ReadsBy home who before after old c d work read More =
+    (m : Walk) × Steps asks (LeadsBy walk_next) KeepsNothing who before after (old, c) (m, d) More × (work ≡ Reading home m) × (read ≡ None)
+ReadsBy home who before after old c d work read (Ended answer.Value) =
+    (m : Walk) × (page : ℕ) × Steps asks (LeadsBy walk_next) KeepsNothing who before after (old, c) (m, d) (Ended page) × IsAtLeaf m d page × (work ≡ Idle home) × (read ≡ Some m)
+ReadsBy home who before after old c d work read (Ended (answer.Trouble k)) =
+    (m : Walk) × Steps asks (LeadsBy walk_next) KeepsNothing who before after (old, c) (m, d) (Stopped k) × (work ≡ stopped_work k home) × (read ≡ None)
+ReadsBy home who before after old c d work read turn = ⊥
 
 -- one step of a page checkpoint, and what it leaves in hand
 abbrev pub StepsPaging : Home → Caller → Seen → Seen → Page → Work → Turn Answer → Type 0
@@ -275,6 +319,7 @@ StepsRenewing home who before after work turn = ⊥
 abbrev pub StepsAt : Caller → Seen → Seen → Work → Work → Turn Answer → Type 0
 StepsAt who before after (Opening m) work turn = IsSoundOpening m × StepsOpening who before after m work turn
 StepsAt who before after (Committing m) work turn = IsSoundCommit m × StepsCommit who before after m work turn
+StepsAt who before after (Reading home m) work turn = StepsReading home who before after m work turn
 StepsAt who before after (Paging home m) work turn = StepsPaging home who before after m work turn
 StepsAt who before after (Folding home m) work turn = StepsFolding home who before after m work turn
 StepsAt who before after (Closing lease) work turn = StepsClosing lease who before after work turn
@@ -286,6 +331,7 @@ StepsAt who before after (Broken lease) work turn = ⊥
 abbrev pub is_working : Work → Bool
 is_working (Opening m) = true
 is_working (Committing m) = true
+is_working (Reading home m) = true
 is_working (Paging home m) = true
 is_working (Folding home m) = true
 is_working Closed = false
@@ -305,15 +351,33 @@ abbrev pub noted_behind : Work → List Noted → List Noted
 noted_behind (Closing lease) buffer = []
 noted_behind work buffer = buffer
 
+-- what one step of what is at work leaves of the cache, and the read that it ended
+abbrev pub ShowsAt : Caller → Seen → Seen → Work → Cache → Cache → Work → Option Walk → Turn Answer → Type 0
+ShowsAt who before after (Reading home m) c d work read turn = ReadsBy home who before after m c d work read turn
+ShowsAt who before after old c d work read turn = (d ≡ c) × (read ≡ None)
+
+-- a closed session keeps nothing of the cloud
+abbrev pub shown_behind : Work → Cache → Cache
+shown_behind Closed c = empty_cache
+shown_behind work c = c
+
+-- a step of a session: the cache as the step leaves it, or none
+abbrev pub Shows : Caller → Seen → Seen → Acting → Acting → Result (Turn Answer) Refused → Type 0
+Shows who before after old new (Ok turn) =
+    (c : Cache) × ShowsAt who before after old.work old.cache c new.work new.read turn × (new.cache ≡ shown_behind new.work c)
+Shows who before after old new (Err e) = (new.cache ≡ old.cache) × (new.read ≡ old.read)
+
 -- one step of a session
 pub record StepsSession (who : Caller) (before after : Seen) (old new : Acting) (result : Result (Turn Answer) Refused) : Type 0 where
   pub buffer : new.buffer ≡ noted_behind old.work old.buffer
   pub work : StepsWork who before after old.work new.work result
+  pub shown : Shows who before after old new result
 
 -- how many calls the work has left at most
 abbrev pub calls_left : Work → ℕ
 calls_left (Opening m) = opening_left m
 calls_left (Committing m) = commit_left m
+calls_left (Reading home m) = reading_left m
 calls_left (Paging home m) = paging_left m
 calls_left (Folding home m) = folding_left m
 calls_left Closed = 0
@@ -326,6 +390,7 @@ calls_left (Broken lease) = 0
 abbrev pub ask_of_work : Work → Option Ask
 ask_of_work (Opening m) = Some (recovery_ask m)
 ask_of_work (Committing m) = Some (writing_ask m)
+ask_of_work (Reading home m) = Some (walk_ask m)
 ask_of_work (Paging home m) = Some (paging_ask m)
 ask_of_work (Folding home m) = Some (folding_ask m)
 ask_of_work Closed = None
@@ -338,6 +403,7 @@ ask_of_work (Broken lease) = None
 abbrev pub committing_of : Work → Option (List Noted)
 committing_of (Committing m) = Some m.changes
 committing_of (Opening m) = None
+committing_of (Reading home m) = None
 committing_of (Paging home m) = None
 committing_of (Folding home m) = None
 committing_of Closed = None
@@ -350,6 +416,7 @@ committing_of (Broken lease) = None
 abbrev pub opens_of : Work → Option Head
 opens_of (Committing m) = opens_at m.stage m
 opens_of (Opening m) = None
+opens_of (Reading home m) = None
 opens_of (Paging home m) = None
 opens_of (Folding home m) = None
 opens_of Closed = None
@@ -360,6 +427,7 @@ opens_of (Broken lease) = None
 
 -- the items that the put in hand applies
 abbrev pub applying_of : Work → List PuItem
+applying_of (Reading home m) = []
 applying_of (Paging home m) = m.applying
 applying_of (Folding home m) = m.applying
 applying_of (Committing m) = []
@@ -369,3 +437,11 @@ applying_of (Idle home) = []
 applying_of (Closing lease) = []
 applying_of (Renewing home) = []
 applying_of (Broken lease) = []
+
+-- the payload that the newest operation read, as the client sees it
+abbrev pub value_in : Work → Option Walk → Cache → List Noted → Option (List ℕ)
+value_in (Idle home) (Some m) c buffer = read_value m c home.client home.head buffer
+value_in work read c buffer = None
+
+abbrev pub value_of : Acting → Option (List ℕ)
+value_of s = value_in s.work s.read s.cache s.buffer

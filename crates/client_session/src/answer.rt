@@ -23,6 +23,8 @@ pub enum Answer {
     Commit(CommitAnswer),
     /// What a checkpoint did.
     Done(CkptAnswer),
+    /// A read found its leaf: the session shows the value.
+    Value,
     /// Why the operation stopped.
     Trouble(Trouble),
 }

@@ -8,6 +8,7 @@ mod folding;
 pub mod op;
 mod opening;
 mod paging;
+mod reading;
 mod renewing;
 pub mod session;
 mod stepping;

@@ -1,7 +1,8 @@
 use db_base::ids::{ClientId, PageId, TreeId};
+use db_base::key::Key;
 
 /// An operation that a session can begin.
-#[derive(Clone, Copy, Debug, PartialEq, Eq)]
+#[derive(Debug, Drop)]
 pub enum Op {
     /// Opens a client.
     Open(ClientId),
@@ -11,6 +12,8 @@ pub enum Op {
     Renew,
     /// Commits the noted changes.
     Commit,
+    /// Reads a record of a tree.
+    Read(TreeId, Key),
     /// Checkpoints a page of a tree.
     Page(TreeId, PageId),
     /// Checkpoints a tree.

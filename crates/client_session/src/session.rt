@@ -1,4 +1,4 @@
-ghost use Rattle.std.specs.Prelude.{◌≡◌, ◌≤◌, [], length, IfOk, IfErr, OnOk, OnErr};
+ghost use Rattle.std.specs.Prelude.{◌≡◌, ◌≤◌, [], length, None, IfOk, IfErr, OnOk, OnErr};
 ghost use Rattle.std.specs.Option.{option_map, option_copied};
 ghost use Rattle.cloud_trait.specs.Call.{ask_of};
 ghost use Rattle.txn_buffer.specs.Noted.{noted_in};
@@ -7,6 +7,7 @@ use crate::answer::{Answer, Begun};
 use crate::committing::commit_noted;
 use crate::op::Op;
 use crate::opening::opening;
+use crate::reading::begin_reading;
 use crate::stepping::step_work;
 use crate::work::{Work, home_of_work, lease_of_work};
 use cloud_trait::call::Call;
@@ -15,11 +16,14 @@ use cloud_trait::turn::Turn;
 use cloud_trait::who::Who;
 use db_base::change::Change;
 use db_base::ids::{ClientId, PageId, TreeId};
+use db_base::key::Key;
 use db_base::refusal::{Refusal, Refused};
 use first_tree::checkpoint::TreeCkpt;
 use head_codec::head::Head;
 use log_codec::record::PuItem;
+use page_cache::PageCache;
 use page_ckpt::PageCkpt;
+use record_read::RecordRead;
 use recover_run::home::Home;
 use std::alloc::Global;
 use std::marker::Model;
@@ -31,6 +35,9 @@ use txn_buffer::buffer::TxnBuffer;
 pub struct Session {
     buffer: TxnBuffer,
     work: Work,
+    cache: PageCache,
+    // The newest operation, where it was a read that ended at its leaf.
+    read: Option<RecordRead>,
 }
 
 impl Model for Session {
@@ -38,22 +45,27 @@ impl Model for Session {
 
     ghost Value = { Acting };
 
-    ghost view = { λ s. record { buffer = s.buffer; work = s.work } };
+    ghost view = { λ s. record { buffer = s.buffer; work = s.work; cache = s.cache; read = s.read } };
 
     ghost invariant = { λ s. IsOfClient s.work };
 }
 
 impl Session {
-    ghost use Rattle.client_session.specs.Session.{Acting, closed_session, rule_of, NoteRefused, AbortRefused, Begins, BeginsOpening, BeginsWith, HasInHand, IsOfClient, folding_begun_by, paging_begun_by, TakesHome, CommitsIn, StepsSession, noted_behind, old_lease, ask_of_work, committing_of, opens_of, applying_of};
+    ghost use Rattle.client_session.specs.Session.{Acting, closed_session, rule_of, NoteRefused, AbortRefused, Begins, BeginsOpening, BeginsWith, HasInHand, IsOfClient, folding_begun_by, paging_begun_by, TakesHome, CommitsIn, StepsSession, ReadsIn, noted_behind, shown_behind, ask_of_work, committing_of, opens_of, applying_of, value_of};
 
     /// A closed session without changes. Refused for memory alone.
     pub fn new(alloc: Global) -> Result<Session, Refused>
         ensures ok { IfOk result (λ s. s ≡ closed_session) }
         ensures memory { IfErr result (λ e. e ≡ Refused.Memory) }
     {
+        let Ok(cache) = PageCache::new(alloc) else {
+            return Err(Refused::Memory);
+        };
         Ok(Session {
             buffer: TxnBuffer::new(alloc)?,
             work: Work::Closed,
+            cache,
+            read: None,
         })
     }
 
@@ -90,8 +102,17 @@ impl Session {
     pub fn crash(&mut self)
         ensures { self.new ≡ closed_session }
     {
-        self.buffer.clear();
+        self.forget();
         self.has(Work::Closed);
+    }
+
+    /// Forgets what was noted and what was seen of the cloud.
+    fn forget(&mut self)
+        ensures { self.new ≡ record closed_session { work = self.old.work } }
+    {
+        self.buffer.clear();
+        self.cache.clear();
+        self.read = None;
     }
 
     /// Begins an operation. A refusal changes nothing.
@@ -103,6 +124,7 @@ impl Session {
             Op::Close => self.begin_close(),
             Op::Renew => self.begin_renewal(),
             Op::Commit => self.begin_commit(alloc),
+            Op::Read(tree, key) => self.begin_read(alloc, tree, key),
             Op::Page(tree, page) => self.begin_page(alloc, tree, page),
             Op::Tree(tree) => self.begin_tree(alloc, tree),
         }
@@ -115,7 +137,7 @@ impl Session {
         if let Some(rule) = self.work.opening_rule() {
             return Err(Refused::Rule(rule));
         }
-        self.buffer.clear();
+        self.forget();
         let (work, old) = lease_of_work(self.take_work());
         self.has(work);
         self.has(opening(alloc, client, old));
@@ -124,7 +146,7 @@ impl Session {
 
     /// Begins closing the client.
     fn begin_close(&mut self) -> Result<Begun, Refused>
-        ensures { BeginsWith (λ home. HasInHand self.old.buffer (Work.Closing home.lease)) self.old self.new result }
+        ensures { BeginsWith (λ home. HasInHand self.old (Work.Closing home.lease)) self.old self.new result }
     {
         let home = self.take_home()?;
         self.has(Work::Closing(home.lease));
@@ -133,7 +155,7 @@ impl Session {
 
     /// Begins renewing the client's lease.
     fn begin_renewal(&mut self) -> Result<Begun, Refused>
-        ensures { BeginsWith (λ home. HasInHand self.old.buffer (Work.Renewing home)) self.old self.new result }
+        ensures { BeginsWith (λ home. HasInHand self.old (Work.Renewing home)) self.old self.new result }
     {
         let home = self.take_home()?;
         self.has(Work::Renewing(home));
@@ -142,7 +164,7 @@ impl Session {
 
     /// Begins the commit of what was noted; that of nothing is answered at once.
     fn begin_commit(&mut self, alloc: Global) -> Result<Begun, Refused>
-        ensures { BeginsWith (CommitsIn self.old.buffer) self.old self.new result }
+        ensures { BeginsWith (CommitsIn self.old) self.old self.new result }
     {
         let home = self.take_home()?;
         let (work, begun) = commit_noted(alloc, home, self.buffer.take());
@@ -150,9 +172,21 @@ impl Session {
         Ok(begun)
     }
 
+    /// Begins a read of a record.
+    fn begin_read(&mut self, alloc: Global, tree: TreeId, key: Key) -> Result<Begun, Refused>
+        ensures { BeginsWith (ReadsIn tree key self.old) self.old self.new result }
+    {
+        let home = self.take_home()?;
+        let read = RecordRead::new(alloc, tree, key);
+        let (work, read, begun) = begin_reading(alloc, home, read, &mut self.cache);
+        self.has(work);
+        self.shows(read);
+        Ok(begun)
+    }
+
     /// Begins a checkpoint of a page.
     fn begin_page(&mut self, alloc: Global, tree: TreeId, page: PageId) -> Result<Begun, Refused>
-        ensures { BeginsWith (λ home. HasInHand self.old.buffer (paging_begun_by tree page home)) self.old self.new result }
+        ensures { BeginsWith (λ home. HasInHand self.old (paging_begun_by tree page home)) self.old self.new result }
     {
         let home = self.take_home()?;
         self.has(Work::Paging(home, PageCkpt::new(alloc, tree, page)));
@@ -161,7 +195,7 @@ impl Session {
 
     /// Begins a checkpoint of a tree.
     fn begin_tree(&mut self, alloc: Global, tree: TreeId) -> Result<Begun, Refused>
-        ensures { BeginsWith (λ home. HasInHand self.old.buffer (folding_begun_by tree home)) self.old self.new result }
+        ensures { BeginsWith (λ home. HasInHand self.old (folding_begun_by tree home)) self.old self.new result }
     {
         let home = self.take_home()?;
         self.has(Work::Folding(home, TreeCkpt::new(alloc, tree)));
@@ -174,6 +208,9 @@ impl Session {
     {
         let (work, home) = home_of_work(self.take_work());
         self.has(work);
+        if home.is_ok() {
+            self.shows(None);
+        }
         home
     }
 
@@ -194,6 +231,13 @@ impl Session {
         self.work = work;
     }
 
+    /// Shows this read from now on.
+    fn shows(&mut self, read: Option<RecordRead>)
+        ensures { self.new ≡ record self.old { read = read } }
+    {
+        self.read = read;
+    }
+
     /// Makes the call in hand of the operation at work, and does the local work up to the next one.
     pub fn step<C: Cloud>(
         &mut self,
@@ -203,10 +247,26 @@ impl Session {
     ) -> Result<Turn<Answer>, Refused>
         ensures { StepsSession who (C.seen cloud.old) (C.seen cloud.new) self.old self.new result }
     {
+        if !self.work.is_working() {
+            return Err(Refused::Rule(Refusal::NotWorking));
+        }
         self.drop_at_close();
-        let (work, turn) = step_work(alloc, cloud, who, self.take_work());
+        let work = self.take_work();
+        let (work, read, turn) = step_work(alloc, cloud, who, work, &mut self.cache);
         self.has(work);
-        turn
+        self.shows(read);
+        self.clear_where_closed();
+        Ok(turn)
+    }
+
+    /// A closed session keeps nothing of the cloud.
+    fn clear_where_closed(&mut self)
+        ensures { self.new ≡ record self.old { cache = shown_behind self.old.work self.old.cache } }
+    {
+        match &self.work {
+            Work::Closed => self.cache.clear(),
+            _ => {}
+        }
     }
 
     /// A close drops what was noted.
@@ -245,5 +305,17 @@ impl Session {
         ensures { result.now ≡ applying_of self.now.work }
     {
         self.work.applying()
+    }
+
+    /// The payload that the newest operation read, as the client sees it; none where it was no read, or where there is no record.
+    pub fn value(&self) -> Option<&[u8]>
+        ensures { option_copied result ≡ value_of self.now }
+    {
+        match (&self.work, &self.read) {
+            (Work::Idle(home), Some(read)) => {
+                read.value(&self.cache, home.client, &home.head, &self.buffer)
+            }
+            _ => None,
+        }
     }
 }

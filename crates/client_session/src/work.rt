@@ -12,6 +12,7 @@ use first_tree::checkpoint::TreeCkpt;
 use head_codec::head::Head;
 use log_codec::record::PuItem;
 use page_ckpt::PageCkpt;
+use record_read::RecordRead;
 use recover_run::home::Home;
 use recover_run::recover::{CLIENT_TICKS, RecoverRun};
 use txn_buffer::buffer::TxnBuffer;
@@ -27,6 +28,8 @@ pub enum Work {
     Opening(RecoverRun),
     /// A commit under way.
     Committing(CommitWrites),
+    /// A read under way, beside the open client.
+    Reading(Home, RecordRead),
     /// A page checkpoint under way, beside the open client.
     Paging(Home, PageCkpt),
     /// A tree checkpoint under way, beside the open client.
@@ -40,7 +43,7 @@ pub enum Work {
 }
 
 impl Work {
-    ghost use Rattle.client_session.specs.Session.{rule_of, opening_rule_of, ask_of_work, committing_of, opens_of, applying_of};
+    ghost use Rattle.client_session.specs.Session.{rule_of, opening_rule_of, is_working, ask_of_work, committing_of, opens_of, applying_of};
 
     /// The rule that keeps an open client's operation from beginning.
     pub(crate) fn rule(&self) -> Option<Refusal>
@@ -51,6 +54,7 @@ impl Work {
             Work::Idle(_) => None,
             Work::Opening(_) => Some(Refusal::AtWork),
             Work::Committing(_) => Some(Refusal::AtWork),
+            Work::Reading(_, _) => Some(Refusal::AtWork),
             Work::Paging(_, _) => Some(Refusal::AtWork),
             Work::Folding(_, _) => Some(Refusal::AtWork),
             Work::Closing(_) => Some(Refusal::AtWork),
@@ -68,11 +72,30 @@ impl Work {
             Work::Idle(_) => Some(Refusal::AlreadyOpen),
             Work::Opening(_) => Some(Refusal::AtWork),
             Work::Committing(_) => Some(Refusal::AtWork),
+            Work::Reading(_, _) => Some(Refusal::AtWork),
             Work::Paging(_, _) => Some(Refusal::AtWork),
             Work::Folding(_, _) => Some(Refusal::AtWork),
             Work::Closing(_) => Some(Refusal::AtWork),
             Work::Renewing(_) => Some(Refusal::AtWork),
             Work::Broken(_) => None,
+        }
+    }
+
+    /// Whether an operation is at work.
+    pub(crate) fn is_working(&self) -> bool
+        ensures { result ≡ is_working self.now }
+    {
+        match self {
+            Work::Opening(_) => true,
+            Work::Committing(_) => true,
+            Work::Reading(_, _) => true,
+            Work::Paging(_, _) => true,
+            Work::Folding(_, _) => true,
+            Work::Closing(_) => true,
+            Work::Renewing(_) => true,
+            Work::Closed => false,
+            Work::Idle(_) => false,
+            Work::Broken(_) => false,
         }
     }
 
@@ -83,6 +106,7 @@ impl Work {
         match self {
             Work::Opening(machine) => Some(machine.in_hand()),
             Work::Committing(machine) => Some(machine.in_hand()),
+            Work::Reading(_, machine) => Some(machine.in_hand()),
             Work::Paging(_, machine) => Some(machine.in_hand()),
             Work::Folding(_, machine) => Some(machine.in_hand()),
             Work::Closing(lease) => Some(Call::Release(lease)),
@@ -102,6 +126,7 @@ impl Work {
             Work::Closed => None,
             Work::Idle(_) => None,
             Work::Opening(_) => None,
+            Work::Reading(_, _) => None,
             Work::Paging(_, _) => None,
             Work::Folding(_, _) => None,
             Work::Closing(_) => None,
@@ -119,6 +144,7 @@ impl Work {
             Work::Closed => None,
             Work::Idle(_) => None,
             Work::Opening(_) => None,
+            Work::Reading(_, _) => None,
             Work::Paging(_, _) => None,
             Work::Folding(_, _) => None,
             Work::Closing(_) => None,
@@ -132,6 +158,7 @@ impl Work {
         ensures { result.now ≡ applying_of self.now }
     {
         match self {
+            Work::Reading(_, _) => &[],
             Work::Paging(_, machine) => machine.applying(),
             Work::Folding(_, machine) => machine.applying(),
             Work::Closed => &[],
@@ -157,6 +184,10 @@ pub(crate) fn home_of_work(work: Work) -> (Work, Result<Home, Refused>)
         Work::Opening(machine) => (Work::Opening(machine), Err(Refused::Rule(Refusal::AtWork))),
         Work::Committing(machine) => (
             Work::Committing(machine),
+            Err(Refused::Rule(Refusal::AtWork)),
+        ),
+        Work::Reading(home, machine) => (
+            Work::Reading(home, machine),
             Err(Refused::Rule(Refusal::AtWork)),
         ),
         Work::Paging(home, machine) => (

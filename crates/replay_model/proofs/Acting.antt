@@ -1,5 +1,5 @@
 -- After a call a session stands as the lines say.
-use Rattle.std.proofs.Common.{◌≡◌, List, [], refl, sym, ap, subst, ◌∙◌}
+use Rattle.std.proofs.Common.{◌≡◌, ◌⊎◌, inl, inr, ℕ, List, [], refl, sym, ap, subst, ◌∙◌}
 use Rattle.db_base.specs.declared.trouble.Trouble.{Trouble}
 use Rattle.db_base.specs.declared.trouble.Trouble.TheVariants as trouble
 use Rattle.db_base.specs.declared.trouble.CommitAnswer.{CommitAnswer}
@@ -15,11 +15,11 @@ use Rattle.commit_writes.specs.Writing.{Writing}
 use Rattle.client_session.specs.declared.answer.Answer.{Answer}
 use Rattle.client_session.specs.declared.answer.Answer.TheVariants as answer
 use Rattle.client_session.specs.declared.work.Work.{Work}
-use Rattle.client_session.specs.declared.work.Work.TheVariants.{Closed, Idle, Opening, Committing, Paging, Folding, Closing, Renewing, Broken}
+use Rattle.client_session.specs.declared.work.Work.TheVariants.{Closed, Idle, Opening, Committing, Reading, Paging, Folding, Closing, Renewing, Broken}
 use Rattle.client_session.specs.Session.{StepsAt, noted_behind, opened_work, committed_work, stopped_work}
 use Rattle.reply_text.specs.declared.reply.Reply.{Reply}
 use Rattle.reply_text.specs.declared.reply.Reply.TheVariants as reply
-use Rattle.replay_meaning.specs.Standing.{Standing, Posture, Working, Opening as OpeningTask, Closing as ClosingTask, Renewing as RenewingTask, Committing as Noting, Paging as PagingPage, Folding as FoldingTree, steps, answered, idle, broken, shut}
+use Rattle.replay_meaning.specs.Standing.{Standing, Posture, Working, Opening as OpeningTask, Closing as ClosingTask, Renewing as RenewingTask, Committing as Noting, Reading as ReadingKey, Paging as PagingPage, Folding as FoldingTree, steps, answered, idle, broken, shut}
 use Rattle.replay_model.specs.Facts.{WorksAs}
 use Rattle.replay_model.proofs.OpeningSteps.{OpensFor, opens_on}
 use Rattle.replay_model.proofs.CommitSteps.{WritesFor, writes_on}
@@ -32,6 +32,7 @@ IsReplyTo (answer.Opened epoch) r = r ≡ reply.Opened epoch
 IsReplyTo answer.Closed r = r ≡ reply.Closed
 IsReplyTo (answer.Renewed end) r = r ≡ reply.Renewed end
 IsReplyTo (answer.Done n) r = r ≡ reply.Done n
+IsReplyTo answer.Value r = (r ≡ reply.NoValue) ⊎ ((payload : List ℕ) × (r ≡ reply.Value payload))
 IsReplyTo (answer.Commit a) r = r ≡ reply.Commit a
 IsReplyTo (answer.Trouble t) r = (r ≡ reply.Trouble t) × (t ≡ trouble.Memory → ⊥)
 
@@ -48,6 +49,7 @@ goes_as who before after (Opening m) new s (sound, p) acts =
 goes_as who before after (Committing m) new s (sound, p) acts =
     let on : WritesFor m.changes m.home.client (Goes p.0) = subst (WritesFor m.changes m.home.client) p.1.took (writes_on m p.1.answer acts.2) in
     works_same new (Committing p.0) s p.2 (acts.0 ∙ ap (λ cs. Working (Noting cs)) (sym on.0), acts.1 ∙ sym on.1, on.2)
+goes_as who before after (Reading home m) new s p acts = works_same new (Reading home p.0) s p.2 acts
 goes_as who before after (Paging home m) new s p acts =
     let same = same_page m p.0 p.1.answer p.1.took in
     works_same new (Paging home p.0) s p.2 (acts.0 ∙ ap (λ k. Working (PagingPage k m.page)) (sym same.0) ∙ ap (λ k. Working (PagingPage p.0.tree k)) (sym same.1), acts.1)
@@ -64,6 +66,7 @@ goes_as who before after (Broken lease) new s p acts = absurd p
 pub goes_noted : (who : Caller) (before after : Seen) (w new : Work) (buffer : List Noted) → StepsAt who before after w new More → noted_behind w buffer ≡ buffer
 goes_noted who before after (Opening m) new buffer p = refl
 goes_noted who before after (Committing m) new buffer p = refl
+goes_noted who before after (Reading home m) new buffer p = refl
 goes_noted who before after (Paging home m) new buffer p = refl
 goes_noted who before after (Folding home f) new buffer p = refl
 goes_noted who before after (Closing lease) new buffer p = absurd p
@@ -138,6 +141,13 @@ ends_as who before after (Committing m) new s (answer.Trouble t) r (sound, p) is
     let end : WritesFor m.changes m.home.client (Stops p.0 t) = subst (WritesFor m.changes m.home.client) (p.1.took.0 is.1) (writes_on m p.1.answer acts.2) in
     absurd (is.1 end)
 ends_as who before after (Committing m) new s a r p is acts = absurd p.1
+ends_as who before after (Reading home m) new s answer.Value r p (inl is) acts =
+    ends_idle (Reading home m) new home s (Working (ReadingKey acts.0.tree acts.0.key)) r reply.NoValue is acts.0.is refl refl p.1 acts.1 refl
+ends_as who before after (Reading home m) new s answer.Value r p (inr (payload, is)) acts =
+    ends_idle (Reading home m) new home s (Working (ReadingKey acts.0.tree acts.0.key)) r (reply.Value payload) is acts.0.is refl refl p.1 acts.1 refl
+ends_as who before after (Reading home m) new s (answer.Trouble t) r p is acts =
+    ends_idle (Reading home m) new home s (Working (ReadingKey acts.0.tree acts.0.key)) r (reply.Trouble t) is.0 acts.0.is refl refl (p.1 ∙ stopped_idle t home is.1) acts.1 refl
+ends_as who before after (Reading home m) new s a r p is acts = absurd p
 ends_as who before after (Paging home m) new s (answer.Done n) r p is acts =
     ends_idle (Paging home m) new home s (Working (PagingPage m.tree m.page)) r (reply.Done n) is acts.0 refl refl p.2 acts.1 refl
 ends_as who before after (Paging home m) new s (answer.Trouble t) r p is acts =

@@ -21,7 +21,7 @@ use Rattle.page_ckpt.specs.Paging.{paging_ask}
 use Rattle.client_session.specs.declared.answer.Answer.{Answer}
 use Rattle.client_session.specs.declared.answer.Answer.TheVariants as answer
 use Rattle.client_session.specs.declared.work.Work.{Work}
-use Rattle.client_session.specs.declared.work.Work.TheVariants.{Closed, Idle, Opening, Committing, Paging, Folding, Closing, Renewing, Broken}
+use Rattle.client_session.specs.declared.work.Work.TheVariants.{Closed, Idle, Opening, Committing, Reading, Paging, Folding, Closing, Renewing, Broken}
 use Rattle.client_session.specs.Session.{Acting, StepsSession, StepsAt, ask_of_work}
 use Rattle.replay_meaning.specs.Standing.{Line, standing}
 use Rattle.replay_meaning.specs.Committed.{committed}
@@ -37,6 +37,7 @@ use Rattle.session_facts.proofs.Laws.{rest_keeps, decodes}
 use Rattle.replay_model.specs.Facts.{IsPlaced, WorksAs, CloudHolds}
 use Rattle.replay_model.proofs.Commits.{ask_commits, audited_commits}
 use Rattle.replay_model.proofs.CommittedLemmas.{placed_effect, placed_called}
+use Rattle.tree_walk.specs.Walk.{walk_ask}
 use Rattle.replay_model.proofs.OrderLemmas.{reported_more}
 
 -- the call that a step of a session's work made
@@ -55,6 +56,10 @@ made_call who before after (Committing m) new More p = record { ask = writing_as
 made_call who before after (Committing m) new (Ended (answer.Commit a)) p = record { ask = writing_ask m; answer = p.1.1.answer; hand = refl; made = p.1.1.made }
 made_call who before after (Committing m) new (Ended (answer.Trouble k)) p = record { ask = writing_ask m; answer = p.1.1.answer; hand = refl; made = p.1.1.made }
 made_call who before after (Committing m) new turn p = absurd p.1
+made_call who before after (Reading home m) new More p = record { ask = walk_ask m; answer = p.1.answer; hand = refl; made = p.1.made }
+made_call who before after (Reading home m) new (Ended answer.Value) p = record { ask = walk_ask m; answer = p.0.answer; hand = refl; made = p.0.made }
+made_call who before after (Reading home m) new (Ended (answer.Trouble k)) p = record { ask = walk_ask m; answer = p.0.answer; hand = refl; made = p.0.made }
+made_call who before after (Reading home m) new turn p = absurd p
 made_call who before after (Paging home m) new More p = record { ask = paging_ask m; answer = p.1.answer; hand = refl; made = p.1.made }
 made_call who before after (Paging home m) new (Ended (answer.Done n)) p = record { ask = paging_ask m; answer = p.1.answer; hand = refl; made = p.1.made }
 made_call who before after (Paging home m) new (Ended (answer.Trouble k)) p = record { ask = paging_ask m; answer = p.1.answer; hand = refl; made = p.1.made }
@@ -77,6 +82,7 @@ made_call who before after (Broken lease) new turn p = absurd p
 pub never_stops : (who : Caller) (before after : Seen) (w new : Work) (t : Trouble) → StepsAt who before after w new (Stopped t) → ⊥
 never_stops who before after (Opening m) new t p = p.1
 never_stops who before after (Committing m) new t p = p.1
+never_stops who before after (Reading home m) new t p = p
 never_stops who before after (Paging home m) new t p = p
 never_stops who before after (Folding home f) new t p = p
 never_stops who before after (Closing lease) new t p = p
@@ -89,6 +95,7 @@ never_stops who before after (Broken lease) new t p = p
 sound_of : (who : Caller) (before after : Seen) (w new : Work) (turn : Turn Answer) → StepsAt who before after w new turn → IsSoundWork w
 sound_of who before after (Opening m) new turn p = p.0
 sound_of who before after (Committing m) new turn p = p.0
+sound_of who before after (Reading home m) new turn p = tt
 sound_of who before after (Paging home m) new turn p = tt
 sound_of who before after (Folding home f) new turn p = tt
 sound_of who before after (Closing lease) new turn p = tt

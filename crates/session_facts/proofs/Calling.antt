@@ -3,10 +3,10 @@ use Rattle.std.proofs.Common.{◌≡◌, ◌≢◌, ◌≤◌, ◌⊎◌, inl, i
 use Rattle.std.specs.Prelude.{map}
 use Rattle.std.proofs.lemmas.Bool.{cases_eq}
 use Rattle.std.proofs.lemmas.List.{append-nil}
-use Rattle.client_session.specs.Session.{Acting, StepsSession, StepsWork, StepsAt, ask_of_work, opens_of, committing_of, applying_of, is_working, noted_behind}
+use Rattle.client_session.specs.Session.{Acting, StepsSession, StepsWork, StepsAt, Shows, ask_of_work, opens_of, committing_of, applying_of, is_working, noted_behind}
 use Rattle.client_session.specs.declared.answer.Answer.{Answer}
 use Rattle.client_session.specs.declared.work.Work.{Work}
-use Rattle.client_session.specs.declared.work.Work.TheVariants.{Closed, Idle, Opening, Committing, Folding, Paging, Closing, Renewing, Broken}
+use Rattle.client_session.specs.declared.work.Work.TheVariants.{Closed, Idle, Opening, Committing, Reading, Folding, Paging, Closing, Renewing, Broken}
 use Rattle.cloud_facts.specs.Acting.{Setting, Outcome}
 use Rattle.cloud_facts.specs.Looks.{Newest, has_landed, audited_at, audit_of}
 use Rattle.cloud_facts.proofs.Outcomes.{none_lands}
@@ -38,6 +38,8 @@ use Rattle.session_facts.proofs.FoldingSteps.{folding_step, folding_noted}
 use Rattle.session_facts.proofs.Laws.{call_goes, same_sessions, setting_of, known_at}
 use Rattle.session_facts.proofs.LeaseSteps.{IsStepOf, closing_step, renewing_step}
 use Rattle.session_facts.proofs.OpeningSteps.{opening_step}
+use Rattle.session_facts.proofs.ReadingSteps.{reading_step}
+use Rattle.tree_walk.specs.Walk.{walk_ask}
 use Rattle.session_facts.proofs.PagingSteps.{paging_step, paging_noted}
 use Rattle.store_book.specs.Book.{Book}
 use Rattle.store_book.specs.Tally.{Store, at}
@@ -144,6 +146,10 @@ module _ (who : Caller) (before after : Seen) (s t : CloudState) (book : Book) (
       (sym (ap (λ q. noted_at q (writing_ask w) (audit_of book order)) is ∙ commit_noted w (writing_ask w) (audit_of book order) refl))
       (subst (Stepped (writing_ask w) (commit_note w (writing_ask w))) (sym is)
       (commit_step who before after book order s t stand.parts w (setting_at (Committing w) is) (known_in (Committing w) is) steps.0 told told_after new.work turn steps.1))
+  works (Reading home m) turn is steps =
+      goes_by (walk_ask m) (λ a. a) (ap ask_of_work is) (sym (ap (λ w. noted_at w (walk_ask m) (audit_of book order)) is ∙ nothing_noted (Reading home m) (walk_ask m) (audit_of book order) refl refl))
+      (subst (Stepped (walk_ask m) (λ a. a)) (sym is)
+      (reading_step who before after book order s t stand.parts home m (setting_at (Reading home m) is) (known_in (Reading home m) is) told told_after new.work turn steps))
   works (Folding home f) turn is steps =
       goes_by (folding_ask f) (folding_note f (folding_ask f)) (ap ask_of_work is)
       (sym (ap (λ q. noted_at q (folding_ask f) (audit_of book order)) is ∙ folding_noted home f (folding_ask f) (audit_of book order)))
@@ -167,12 +173,12 @@ module _ (who : Caller) (before after : Seen) (s t : CloudState) (book : Book) (
   works (Idle home) turn is never = absurd never
   works (Broken l) turn is never = absurd never
 
-  steps_keep : (result : Result (Turn Answer) Refused) → new.buffer ≡ noted_behind old (sessions who.session).buffer → StepsWork who before after old new.work result
-      → Goes book order s t sessions who.session new
-  steps_keep (Ok turn) buffer steps = works old turn refl steps
-  steps_keep (Err (refused.Rule r)) buffer steps =
+  steps_keep : (result : Result (Turn Answer) Refused) → new.buffer ≡ noted_behind old (sessions who.session).buffer → Shows who before after (sessions who.session) new result
+      → StepsWork who before after old new.work result → Goes book order s t sessions who.session new
+  steps_keep (Ok turn) buffer shown steps = works old turn refl steps
+  steps_keep (Err (refused.Rule r)) buffer shown steps =
       idle_goes s t book order sessions who.session new (state_is t s (sym told_after ∙ (ap (λ (x : Seen). x.state) steps.3 ∙ told)))
-      (λ i. record { buffer = (buffer ∙ stays old steps.1) i; work = steps.2 i }) stand
+      (λ i. record { buffer = (buffer ∙ stays old steps.1) i; work = steps.2 i; cache = shown.0 i; read = shown.1 i }) stand
     where
       -- what is not at work drops nothing that was noted
       stays : (work : Work) → is_working work ≡ false → noted_behind work (sessions who.session).buffer ≡ (sessions who.session).buffer
@@ -184,8 +190,9 @@ module _ (who : Caller) (before after : Seen) (s t : CloudState) (book : Book) (
       stays (Folding home f) e = refl
       stays (Paging home p) e = refl
       stays (Renewing home) e = refl
+      stays (Reading home m) e = refl
       stays (Closing l) e = absurd (cc)
-  steps_keep (Err refused.Memory) buffer never = absurd never
+  steps_keep (Err refused.Memory) buffer shown never = absurd never
 
 -- what was noted may still be committed
 noted_may : (work : Work) (buffer : List Noted) → MayCommit buffer → MayCommit (noted_behind work buffer)
@@ -198,6 +205,7 @@ noted_may (Committing w) buffer may = may
 noted_may (Folding home f) buffer may = may
 noted_may (Paging home p) buffer may = may
 noted_may (Renewing home) buffer may = may
+noted_may (Reading home m) buffer may = may
 
 -- a call of a session: any answer, landed or not
 pub session_keeps : (who : Caller) (before after : Seen) (s t : CloudState) (book : Book) (order : List Entry) (sessions : Sessions) (new : Acting) (result : Result (Turn Answer) Refused)
@@ -205,4 +213,4 @@ pub session_keeps : (who : Caller) (before after : Seen) (s t : CloudState) (boo
     → Goes book order s t sessions who.session new
 session_keeps who before after s t book order sessions new result told told_after stand steps =
     steps_keep who before after s t book order sessions new told told_after stand
-    (subst MayCommit (sym steps.buffer) (noted_may (sessions who.session).work (sessions who.session).buffer (stand.each who.session).buffer)) result steps.buffer steps.work
+    (subst MayCommit (sym steps.buffer) (noted_may (sessions who.session).work (sessions who.session).buffer (stand.each who.session).buffer)) result steps.buffer steps.shown steps.work

@@ -178,3 +178,4 @@ module _ (who : Caller) (before after : Seen) (book : Book) (order : List Entry)
   commit_step work (Ended (answer.Renewed end)) never = absurd never
   commit_step work (Ended (answer.Opened epoch)) never = absurd never
   commit_step work (Ended (answer.Done n)) never = absurd never
+  commit_step work (Ended answer.Value) never = absurd never

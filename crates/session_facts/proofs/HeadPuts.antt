@@ -4,7 +4,7 @@ use Rattle.cloud_trait.specs.Ask.{Ask, Get, GetHeld, PutHeld, Send, Receive, Del
 use Rattle.cloud_trait.specs.Claim.{Claim}
 use Rattle.client_session.specs.Session.{ask_of_work, opens_of, committing_of}
 use Rattle.client_session.specs.declared.work.Work.{Work}
-use Rattle.client_session.specs.declared.work.Work.TheVariants.{Closed, Idle, Opening, Committing, Folding as FoldingTree, Paging, Closing, Renewing, Broken}
+use Rattle.client_session.specs.declared.work.Work.TheVariants.{Closed, Idle, Opening, Committing, Reading, Folding as FoldingTree, Paging, Closing, Renewing, Broken}
 use Rattle.commit_facts.specs.Committing.{KnowsCommit}
 use Rattle.commit_facts.specs.Puts.{OpensHead, PutsHead as CommitPuts}
 use Rattle.commit_facts.proofs.HeadPuts.{commit_puts}
@@ -26,6 +26,7 @@ use Rattle.recover_run.specs.Recovery.{Recovery, recovery_ask, IsSound as IsSoun
 use Rattle.session_facts.specs.Puts.{IsSoundWork, IsClientOf, Commits, PutsHead}
 use Rattle.session_facts.specs.Sessions.{KnowsWork}
 use Rattle.store_book.specs.Tally.{Store}
+use Rattle.tree_walk.specs.Walk.{walk_ask}
 
 -- ---- what an ask puts
 
@@ -109,6 +110,7 @@ head_put st now (Opening r) part k sound client bytes one two e =
 head_put st now (Committing w) part k sound client bytes one two e = commit_opens w client bytes (commit_puts st now w client bytes one two part (ask_is _ _ e) k sound)
 head_put st now (FoldingTree home f) part k sound client bytes one two e = no_put (folding_ask f) client bytes one two (folding_none f f.stage) (ask_is _ _ e)
 head_put st now (Paging home p) part k sound client bytes one two e = absurd (paging_puts_none p client bytes one two (ask_is _ _ e))
+head_put st now (Reading home m) part k sound client bytes one two e = no_put (walk_ask m) client bytes one two refl (ask_is _ _ e)
 head_put st now (Closing l) part k sound client bytes one two e = no_put (Release l) client bytes one two refl (ask_is _ _ e)
 head_put st now (Renewing home) part k sound client bytes one two e = no_put (Renew home.lease 600) client bytes one two refl (ask_is _ _ e)
 head_put st now Closed part k sound client bytes one two e = absurd (cc)

@@ -3,7 +3,7 @@ use Rattle.std.proofs.Common.{◌≡◌, ◌≢◌, ◌≤◌, ◌⊎◌, inl, i
 use Rattle.checkpoint_facts.proofs.FoldingOthers.{folding_others}
 use Rattle.client_session.specs.Session.{Acting}
 use Rattle.client_session.specs.declared.work.Work.{Work}
-use Rattle.client_session.specs.declared.work.Work.TheVariants.{Closed, Idle, Opening, Committing, Folding, Paging, Closing, Renewing, Broken}
+use Rattle.client_session.specs.declared.work.Work.TheVariants.{Closed, Idle, Opening, Committing, Reading, Folding, Paging, Closing, Renewing, Broken}
 use Rattle.cloud_facts.specs.Acting.{of_option, IsLone, HasLeaseOf}
 use Rattle.cloud_facts.specs.Others.{NoneJoins, Passes, Others}
 use Rattle.cloud_facts.specs.Standing.{StandsUnder}
@@ -69,6 +69,7 @@ work_others st su now later Closed part after o j k = k
 work_others st su now later (Idle home) part after o j k = home_stays st su now later home part (home.lease ∷ []) after (0, refl) o k
 work_others st su now later (Opening r) part after o j k = opening_others st su now later r part after o k
 work_others st su now later (Committing w) part after o j k = commit_others st su now later w part after o j k
+work_others st su now later (Reading home m) part after o j k = home_stays st su now later home part (home.lease ∷ []) after (0, refl) o k
 work_others st su now later (Folding home f) part after o j k = (
   home_stays st su now later home part (leases_of (Folding home f)) after (0, refl) o k.0,
   folding_others st su now later f after
@@ -108,6 +109,7 @@ part_lease st now Closed part k = away_lease [] part k
 part_lease st now (Idle home) part k = home_lease st now home part (home.lease ∷ []) (0, refl) k
 part_lease st now (Opening r) part k = opening_lease st now r part k
 part_lease st now (Committing w) part k = commit_lease st now w part k
+part_lease st now (Reading home m) part k = home_lease st now home part (home.lease ∷ []) (0, refl) k
 part_lease st now (Folding home f) part k = home_lease st now home part (leases_of (Folding home f)) (0, refl) k.0
 part_lease st now (Paging home p) part k = home_lease st now home part (leases_of (Paging home p)) (0, refl) k.0
 part_lease st now (Closing l) part k = away_lease (l ∷ []) part k

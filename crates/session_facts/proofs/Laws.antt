@@ -238,9 +238,9 @@ crash_keeps book order s sessions session stand =
 
 -- what was noted changes
 pub buffer_keeps : (book : Book) (order : List Entry) (s : CloudState) (sessions : Sessions) (session : ℕ) (buffer : List Noted) → MayCommit buffer → SessionsStand book order s sessions
-    → SessionsStand book order s (at session (record { buffer = buffer; work = (sessions session).work }) sessions)
+    → SessionsStand book order s (at session (record (sessions session) { buffer = buffer }) sessions)
 buffer_keeps book order s sessions session buffer may stand =
-    session_rests book order s sessions session (record { buffer = buffer; work = (sessions session).work }) stand (λ x is. is)
+    session_rests book order s sessions session (record (sessions session) { buffer = buffer }) stand (λ x is. is)
     (record { work = (stand.each session).work; buffer = may })
 
 -- the clock goes on, a wish is set, a wait is counted

@@ -82,6 +82,7 @@ module _ (who : Caller) (before after : Seen) (book : Book) (order : List Entry)
   closing_step work (Ended (answer.Opened epoch)) never = absurd never
   closing_step work (Ended (answer.Renewed end)) never = absurd never
   closing_step work (Ended (answer.Commit a)) never = absurd never
+  closing_step work (Ended answer.Value) never = absurd never
   closing_step work (Ended (answer.Done n)) never = absurd never
 
 -- ---- a renewal
@@ -185,4 +186,5 @@ module _ (who : Caller) (before after : Seen) (book : Book) (order : List Entry)
   renewing_step work (Ended (answer.Opened epoch)) never = absurd never
   renewing_step work (Ended answer.Closed) never = absurd never
   renewing_step work (Ended (answer.Commit a)) never = absurd never
+  renewing_step work (Ended answer.Value) never = absurd never
   renewing_step work (Ended (answer.Done n)) never = absurd never

@@ -8,5 +8,6 @@ pub mod CommitLeases
 pub mod CommitSteps
 pub mod FoldingSteps
 pub mod PagingSteps
+pub mod ReadingSteps
 pub mod Calling
 pub mod HeadPuts

@@ -2,7 +2,7 @@
 use Rattle.std.specs.Prelude.{ℕ, ◌≡◌, ◌⊎◌, List, Some, None}
 use Rattle.client_session.specs.Session.{opens_of, committing_of}
 use Rattle.client_session.specs.declared.work.Work.{Work}
-use Rattle.client_session.specs.declared.work.Work.TheVariants.{Closed, Idle, Opening, Committing, Folding, Paging, Closing, Renewing, Broken}
+use Rattle.client_session.specs.declared.work.Work.TheVariants.{Closed, Idle, Opening, Committing, Reading, Folding, Paging, Closing, Renewing, Broken}
 use Rattle.commit_writes.specs.Sound.{IsSound as IsSoundCommit}
 use Rattle.head_codec.specs.Spelling.{head_of}
 use Rattle.head_codec.specs.declared.head.Head.{Head}
@@ -14,6 +14,7 @@ use Rattle.txn_buffer.specs.Noted.{Noted}
 abbrev pub IsSoundWork : Work → Type 0
 IsSoundWork (Opening r) = IsSoundOpening r
 IsSoundWork (Committing w) = IsSoundCommit w
+IsSoundWork (Reading home m) = Unit {0}
 IsSoundWork (Folding home f) = Unit {0}
 IsSoundWork (Paging home p) = Unit {0}
 IsSoundWork Closed = Unit {0}
@@ -26,6 +27,7 @@ IsSoundWork (Broken l) = Unit {0}
 abbrev pub IsClientOf : Work → ℕ → Type 0
 IsClientOf (Opening r) client = r.client ≡ client
 IsClientOf (Committing w) client = w.home.client ≡ client
+IsClientOf (Reading home m) client = home.client ≡ client
 IsClientOf (Folding home f) client = home.client ≡ client
 IsClientOf (Paging home p) client = home.client ≡ client
 IsClientOf Closed client = ⊥

@@ -5,7 +5,7 @@ use Rattle.client_session.specs.Session.{Acting}
 use Rattle.client_session.specs.declared.op.Op.{Op}
 use Rattle.client_session.specs.declared.op.Op.TheVariants as op
 use Rattle.client_session.specs.declared.work.Work.{Work}
-use Rattle.client_session.specs.declared.work.Work.TheVariants.{Closed, Idle, Opening, Committing, Folding, Paging, Closing, Renewing, Broken}
+use Rattle.client_session.specs.declared.work.Work.TheVariants.{Closed, Idle, Opening, Committing, Reading, Folding, Paging, Closing, Renewing, Broken}
 use Rattle.cloud_facts.specs.Acting.{of_option, IsLone, KnowsHome}
 use Rattle.cloud_facts.specs.Looks.{audit_of}
 use Rattle.cloud_facts.specs.Standing.{StandsUnder}
@@ -31,6 +31,7 @@ leases_of Closed = []
 leases_of (Idle home) = home.lease ∷ []
 leases_of (Opening r) = leases_of_recovery r
 leases_of (Committing w) = w.home.lease ∷ []
+leases_of (Reading home m) = home.lease ∷ []
 leases_of (Folding home f) = home.lease ∷ (of_option f.tree_lease ++ of_option f.page_lease)
 leases_of (Paging home p) = home.lease ∷ leases_of_paging p
 leases_of (Closing l) = l ∷ []
@@ -47,6 +48,7 @@ KnowsWork st now Closed part = part ≡ Away
 KnowsWork st now (Idle home) part = IsHome st now home part
 KnowsWork st now (Opening r) part = KnowsOpening st now r part
 KnowsWork st now (Committing w) part = KnowsCommit st now w part
+KnowsWork st now (Reading home m) part = IsHome st now home part
 KnowsWork st now (Folding home f) part = IsHome st now home part × KnowsFolding st now f
 KnowsWork st now (Paging home p) part = IsHome st now home part × KnowsPaging st now p
 KnowsWork st now (Closing l) part = part ≡ Away
@@ -82,6 +84,7 @@ IsRightOp (op.Open client) = IsClient client
 IsRightOp op.Close = Unit {0}
 IsRightOp op.Renew = Unit {0}
 IsRightOp op.Commit = Unit {0}
+IsRightOp (op.Read tree key) = Unit {0}
 IsRightOp (op.Tree tree) = IsTree tree
 IsRightOp (op.Page tree page) = IsTree tree × IsPage page
 

@@ -8,7 +8,7 @@ use Rattle.cloud_trait.specs.Seen.{Seen}
 use Rattle.cloud_trait.specs.declared.turn.Turn.TheVariants.{More}
 use Rattle.db_base.specs.declared.wish.Wish.{Wish}
 use Rattle.client_session.specs.declared.work.Work.{Work}
-use Rattle.client_session.specs.declared.work.Work.TheVariants.{Closed, Idle, Opening, Committing, Paging, Folding, Closing, Renewing, Broken}
+use Rattle.client_session.specs.declared.work.Work.TheVariants.{Closed, Idle, Opening, Committing, Reading, Paging, Folding, Closing, Renewing, Broken}
 use Rattle.client_session.specs.Session.{Acting, closed_session, StepsAt, ask_of_work, calls_left}
 use Rattle.client_session.proofs.Ending.{session_less}
 use Rattle.cloud_trait.specs.Ask.{Ask}
@@ -45,10 +45,15 @@ set_there sessions place before after there =
 pub after_there : (number : ℕ) (Does : Acting → Acting → Type 0) (old new : List Acting) → (c : Changes number Does old new) → slice_get new (number - 1) ≡ Some c.after
 after_there number Does old new c = ap (λ l. slice_get l (number - 1)) c.rest ∙ set_there old (number - 1) c.before c.after c.there
 
+-- the session of a number that changed is the changed one
+pub left_there : (number : ℕ) (Does : Acting → Acting → Type 0) (old new : List Acting) (a : Acting) → (c : Changes number Does old new) → slice_get new (number - 1) ≡ Some a → a ≡ c.after
+left_there number Does old new a c there = same_session new (number - 1) a c.after there (after_there number Does old new c)
+
 -- a step that goes on leaves a call in hand
 more_asks : (who : Caller) (before after : Seen) (w new : Work) → StepsAt who before after w new More → (ask : Ask) × (ask_of_work new ≡ Some ask)
 more_asks who before after (Opening m) new p = (_, ap ask_of_work p.1.2)
 more_asks who before after (Committing m) new p = (_, ap ask_of_work p.1.2)
+more_asks who before after (Reading home m) new p = (_, ap ask_of_work p.2)
 more_asks who before after (Paging home m) new p = (_, ap ask_of_work p.2)
 more_asks who before after (Folding home f) new p = (_, ap ask_of_work p.2)
 more_asks who before after (Closing lease) new p = absurd p

@@ -26,7 +26,7 @@ use Rattle.world_core.specs.declared.world.WorldFault.{WorldFault}
 use Rattle.world_core.specs.Handled.{StepsLooked, Went, further}
 
 -- the session of a number that has one is no other
-same_session : (sessions : List Acting) (place : ℕ) (a b : Acting) → slice_get sessions place ≡ Some a → slice_get sessions place ≡ Some b → a ≡ b
+pub same_session : (sessions : List Acting) (place : ℕ) (a b : Acting) → slice_get sessions place ≡ Some a → slice_get sessions place ≡ Some b → a ≡ b
 same_session sessions place a b e f = let g : Some a ≡ Some b = sym e ∙ f in cc
 
 pub put_before : (number : ℕ) (sessions : List Acting) (put : Option Put) (a : Acting) → HasPut number sessions put → slice_get sessions (number - 1) ≡ Some a → put_of a.work ≡ put
@@ -44,10 +44,6 @@ set_there sessions place before after there =
 
 pub after_there : (number : ℕ) (Does : Acting → Acting → Type 0) (old new : List Acting) → (c : Changes number Does old new) → slice_get new (number - 1) ≡ Some c.after
 after_there number Does old new c = ap (λ l. slice_get l (number - 1)) c.rest ∙ set_there old (number - 1) c.before c.after c.there
-
--- the session of a number that changed is the changed one
-pub left_there : (number : ℕ) (Does : Acting → Acting → Type 0) (old new : List Acting) (a : Acting) → (c : Changes number Does old new) → slice_get new (number - 1) ≡ Some a → a ≡ c.after
-left_there number Does old new a c there = same_session new (number - 1) a c.after there (after_there number Does old new c)
 
 -- a step that goes on leaves a call in hand
 more_asks : (who : Caller) (before after : Seen) (w new : Work) → StepsAt who before after w new More → (ask : Ask) × (ask_of_work new ≡ Some ask)

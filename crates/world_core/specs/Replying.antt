@@ -1,5 +1,5 @@
 -- The reply of a line: what it shows, and why there is none.
-use Rattle.std.specs.Prelude.{ℕ, ◌≡◌, List, Option, Some, None, Result, Ok, Err}
+use Rattle.std.specs.Prelude.{ℕ, ◌≡◌, ◌-◌, List, slice_get, Option, Some, None, Result, Ok, Err}
 use Rattle.db_base.specs.declared.refusal.Refused.{Refused}
 use Rattle.db_base.specs.declared.refusal.Refused.TheVariants as refused
 use Rattle.db_base.specs.declared.trouble.Trouble.{Trouble}
@@ -50,6 +50,12 @@ RepliesTo (answer.Done n) left result = result ≡ Ok (reply.Done n)
 RepliesTo (answer.Commit a) left result = result ≡ Ok (reply.Commit a)
 RepliesTo answer.Value left result = ShowsValue (value_of left) result
 RepliesTo (answer.Trouble t) left result = result ≡ trouble_reply t
+
+-- the reply to an answer of the session of a number
+pub record IsAnswered (number : ℕ) (sessions : List Acting) (a : Answer) (result : Result Reply WorldFault) : Type 0 where
+  pub session : Acting
+  pub there : slice_get sessions (number - 1) ≡ Some session
+  pub replies : RepliesTo a session result
 
 -- the reply to the begin of an operation, which leaves this of its session
 abbrev pub RepliesBegun : Result Begun Refused → Acting → Result Reply WorldFault → Type 0

@@ -1,7 +1,7 @@
 //! The reply of a line.
 
 ghost use Rattle.std.specs.Prelude.{◌≡◌};
-ghost use Rattle.std.specs.Option.{option_copied};
+ghost use Rattle.client_session.specs.Session.{value_of};
 ghost use Rattle.world_core.specs.Replying.{declined, done_reply, trouble_reply, ShowsValue, RepliesTo, RepliesBegun, RepliesTurn};
 
 use crate::world::WorldFault;
@@ -50,7 +50,11 @@ pub(crate) fn done(reply: Reply, done: Result<(), Refused>) -> Result<Reply, Wor
 }
 
 /// The reply to a step of the session.
-pub(crate) fn turn_reply(alloc: Global, session: &Session, turn: Turn<Answer>) -> Result<Reply, WorldFault>
+pub(crate) fn turn_reply(
+    alloc: Global,
+    session: &Session,
+    turn: Turn<Answer>,
+) -> Result<Reply, WorldFault>
     ensures { RepliesTurn turn session.now result }
 {
     match turn {
@@ -61,7 +65,11 @@ pub(crate) fn turn_reply(alloc: Global, session: &Session, turn: Turn<Answer>) -
 }
 
 /// The reply to the answer of an operation of the session.
-pub(crate) fn reply_of(alloc: Global, session: &Session, answer: Answer) -> Result<Reply, WorldFault>
+pub(crate) fn reply_of(
+    alloc: Global,
+    session: &Session,
+    answer: Answer,
+) -> Result<Reply, WorldFault>
     ensures { RepliesTo answer session.now result }
 {
     match answer {
@@ -70,16 +78,16 @@ pub(crate) fn reply_of(alloc: Global, session: &Session, answer: Answer) -> Resu
         Answer::Renewed { end } => Ok(Reply::Renewed { end }),
         Answer::Done(answer) => Ok(Reply::Done(answer)),
         Answer::Commit(answer) => Ok(Reply::Commit(answer)),
-        Answer::Value => value_reply(alloc, session.value()),
+        Answer::Value => value_reply(alloc, session),
         Answer::Trouble(trouble) => trouble_reply(trouble),
     }
 }
 
-/// The reply that shows what was read.
-fn value_reply(alloc: Global, value: Option<&[u8]>) -> Result<Reply, WorldFault>
-    ensures { ShowsValue (option_copied value) result }
+/// The reply that shows what the session read.
+fn value_reply(alloc: Global, session: &Session) -> Result<Reply, WorldFault>
+    ensures { ShowsValue (value_of session.now) result }
 {
-    match value {
+    match session.value() {
         Some(payload) => match Blob::copy_of(alloc, payload) {
             Ok(payload) => Ok(Reply::Value(payload)),
             Err(_) => Err(WorldFault::Memory),

@@ -47,6 +47,7 @@ pub struct World {
 impl World {
     ghost use Rattle.client_session.specs.Session.{closed_session};
     ghost use Rattle.world_core.specs.Stands.{StandsOn};
+    ghost use Rattle.world_core.specs.Replying.{IsAnswered};
     ghost use Rattle.world_core.specs.Sessions.{Changes, IsNotWorking, IsAtWork, HasPut};
     ghost use Rattle.world_core.specs.Handled.{Handled, Answers, Does, BeginsOp, NotesChange, DropsChanges, MakesStep, Runs, RunsOn, Crashes, CrashesDone, StepsLooked, Reports};
 
@@ -228,12 +229,18 @@ impl World {
             let turn = self.step_under(alloc, cloud, who, Wish::Plain)?;
             match turn {
                 Turn::More => {}
-                Turn::Ended(answer) => {
-                    return reply_of(alloc, self.sessions.get(who.session), answer);
-                }
+                Turn::Ended(answer) => return self.answer(alloc, who, answer),
                 Turn::Stopped(_) => unreachable!(),
             }
         }
+    }
+
+    /// The reply to an answer of the session.
+    fn answer(&self, alloc: Global, who: Who, answer: Answer) -> Result<Reply, WorldFault>
+        requires { 1 ≤ who.session }
+        ensures { IsAnswered who.session self.now.sessions answer result }
+    {
+        reply_of(alloc, self.sessions.get(who.session), answer)
     }
 
     /// Lets the session die: at once, or once its call in hand is made.

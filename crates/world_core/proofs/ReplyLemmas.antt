@@ -1,5 +1,5 @@
 -- The reply to a step shows what its session has then.
-use Rattle.std.proofs.Common.{◌≡◌, ◌-◌, ℕ, List, Some, Result, sym, ap, subst, ◌∙◌}
+use Rattle.std.proofs.Common.{◌≡◌, ◌-◌, ℕ, List, Some, Result, subst}
 use Rattle.std.specs.Prelude.{slice_get}
 use Rattle.cloud_trait.specs.Caller.{Caller}
 use Rattle.cloud_trait.specs.Seen.{Seen}

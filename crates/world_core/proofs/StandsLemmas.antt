@@ -23,7 +23,6 @@ use Rattle.cloud_trait.specs.declared.turn.Turn.TheVariants.{More, Ended, Stoppe
 use Rattle.cloud_trait.proofs.EffectLemmas.{begins_same}
 use Rattle.client_session.specs.declared.answer.Answer.{Answer}
 use Rattle.client_session.specs.declared.answer.Answer.TheVariants as answer
-use Rattle.client_session.specs.declared.work.Work.TheVariants.{Closed}
 use Rattle.client_session.specs.Session.{Acting, closed_session, StepsSession, noted_behind, value_of}
 use Rattle.history.specs.Audited.{Audited}
 use Rattle.history.specs.Fold.{of_tree}

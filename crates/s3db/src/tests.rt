@@ -345,6 +345,41 @@ fn checkpoints_pages(rt: HostRuntime) -> Result<(), Fail> {
 }
 
 #[test]
+fn reads_records(rt: HostRuntime) -> Result<(), Fail> {
+    for (input, output) in [
+        // Before the record is in the leaf its own client alone sees it; behind the checkpoint both do.
+        (
+            b"open 1 1\nrun 1\nopen 2 2\nrun 2\ninsert 1 1 6b 76\ncommit 1\nrun 1\nread 2 1 6b\nstep 2 plain\nstep 2 plain\nread 1 1 6b\nrun 1\ntree 1 1\nrun 1\nread 2 1 6b\nstep 2 plain\nread 1 1 6b\nrun 1\nread 2 1 6c\nrun 2\nread 2 2 6b\nrun 2\n".as_slice(),
+            b"1 begun\n2 opened 1\n3 begun\n4 opened 1\n5 noted\n6 begun\n7 committed 1\n8 begun\n9 called\n10 none\n11 begun\n12 value 76\n13 begun\n14 done 1 1 0\n15 begun\n16 value 76\n17 begun\n18 value 76\n19 begun\n20 none\n21 begun\n22 none\n".as_slice(),
+        ),
+        // A session sees its own buffered changes, and no other one's.
+        (
+            b"open 1 1\nrun 1\nopen 2 2\nrun 2\ninsert 1 1 6b 76\ncommit 1\nrun 1\ntree 1 1\nrun 1\nupdate 2 1 6b 77\ninsert 2 1 6c -\nread 2 1 6b\nrun 2\nread 2 1 6c\nrun 2\nread 1 1 6b\nrun 1\ndelete 2 1 6b\nread 2 1 6b\nrun 2\nabort 2\nread 2 1 6b\nrun 2\n".as_slice(),
+            b"1 begun\n2 opened 1\n3 begun\n4 opened 1\n5 noted\n6 begun\n7 committed 1\n8 begun\n9 done 1 1 0\n10 noted\n11 noted\n12 begun\n13 value 77\n14 begun\n15 value -\n16 begun\n17 value 76\n18 noted\n19 begun\n20 none\n21 aborted\n22 begun\n23 value 76\n".as_slice(),
+        ),
+        // Once it was served a version of a leaf, no older one is shown to it; the other session was served none.
+        (
+            b"open 1 1\nrun 1\nopen 2 2\nrun 2\ninsert 1 1 6b 76\ncommit 1\nrun 1\ntree 1 1\nrun 1\nupdate 2 1 6b 77\ncommit 2\nrun 2\npage 1 1 1\nrun 1\nread 1 1 6b\nrun 1\nread 1 1 6b\nstep 1 old 1\nread 1 1 6b\nstep 1 old 0\nread 1 1 6b\nrun 1\nopen 3 3\nrun 3\nread 3 1 6b\nstep 3 plain\nstep 3 old 1\n".as_slice(),
+            b"1 begun\n2 opened 1\n3 begun\n4 opened 1\n5 noted\n6 begun\n7 committed 1\n8 begun\n9 done 1 1 0\n10 noted\n11 begun\n12 committed 1\n13 begun\n14 done 1 1 0\n15 begun\n16 value 77\n17 begun\n18 stale 1 2 1\n19 begun\n20 stale 1 2 0\n21 begun\n22 value 77\n23 begun\n24 opened 1\n25 begun\n26 called\n27 value 76\n".as_slice(),
+        ),
+        // A read that fails leaves the client open, and one that dies is gone.
+        (
+            b"open 1 1\nrun 1\nread 1 1 6b\ninsert 1 1 6b 76\nread 1 1 6b\nstep 1 fail\nread 1 1 6b\nstep 1 plain\nstep 1 lost\nread 1 1 6b\nrun 1\nread 1 1 6b\ncrash 1 done\nread 1 1 6b\n".as_slice(),
+            b"1 begun\n2 opened 1\n3 begun\n4 refused 7 at-work\n5 refused 7 at-work\n6 failed\n7 begun\n8 called\n9 failed\n10 begun\n11 none\n12 begun\n13 crashed\n14 refused 6 not-open\n".as_slice(),
+        ),
+        (
+            b"read 17 1 -\nread 1 17 -\nread 1 1 -\nread 1 1 6b\n".as_slice(),
+            b"1 refused 5 bad-number\n2 refused 5 bad-number\n3 refused 1 empty-key\n4 refused 6 not-open\n".as_slice(),
+        ),
+    ] {
+        let (status, sink) = replayed(rt.alloc(), input, &[], &[])?;
+        assert_eq!(rt; status, Status::Done);
+        assert_eq!(rt; sink.written(), output);
+    }
+    Ok(())
+}
+
+#[test]
 fn replays_rows(rt: HostRuntime) -> Result<(), Fail> {
     for (input, status, output) in [
         (b"".as_slice(), Status::Done, b"".as_slice()),
@@ -475,6 +510,16 @@ fn add_insert(input: &mut Vec<u8>, key: usize, payload: usize) -> Result<(), Fai
     Ok(())
 }
 
+/// Adds a read of a key of so many bytes.
+fn add_read(input: &mut Vec<u8>, key: usize) -> Result<(), Fail> {
+    input.extend_from_slice(b"read 1 1 ")?;
+    for _ in 0..key {
+        input.extend_from_slice(b"61")?;
+    }
+    input.extend_from_slice(b"\n")?;
+    Ok(())
+}
+
 #[test]
 fn keeps_the_sizes(rt: HostRuntime) -> Result<(), Fail> {
     let mut input = Vec::new(rt.alloc());
@@ -483,11 +528,13 @@ fn keeps_the_sizes(rt: HostRuntime) -> Result<(), Fail> {
     add_insert(&mut input, 65, 1)?;
     add_insert(&mut input, 1, 1_025)?;
     input.extend_from_slice(b"insert 1 1 - 76\ninsert 1 17 61 76\ncommit 1\ncommit 1\n")?;
+    add_read(&mut input, 65)?;
+    add_read(&mut input, 64)?;
     let (status, sink) = replayed(rt.alloc(), input.as_slice(), &[], &[])?;
     assert_eq!(rt; status, Status::Done);
     assert_eq!(rt;
         sink.written(),
-        b"1 begun\n2 opened 1\n3 noted\n4 refused 2 long-key\n5 refused 3 long-payload\n6 refused 1 empty-key\n7 refused 5 bad-number\n8 begun\n9 refused 7 at-work\n".as_slice()
+        b"1 begun\n2 opened 1\n3 noted\n4 refused 2 long-key\n5 refused 3 long-payload\n6 refused 1 empty-key\n7 refused 5 bad-number\n8 begun\n9 refused 7 at-work\n10 refused 2 long-key\n11 refused 7 at-work\n".as_slice()
     );
     Ok(())
 }

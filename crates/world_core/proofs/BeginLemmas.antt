@@ -1,5 +1,5 @@
 -- Lines that begin an operation, note a change or drop what was noted.
-use Rattle.std.proofs.Common.{◌≡◌, ◌+◌, ◌≤◌, ℕ, List, [], ◌∷◌, ◌++◌, length, None, Result, Ok, Err, refl, sym, ap, subst, ◌∙◌, ◌⊎◌, inl, inr, ◌≢◌}
+use Rattle.std.proofs.Common.{◌≡◌, ◌≤◌, ℕ, List, [], ◌∷◌, ◌++◌, length, false, Some, None, Result, Ok, Err, refl, sym, ap, subst, ◌∙◌, ◌⊎◌, inl, inr, ◌≢◌}
 use Rattle.std.proofs.lemmas.Bool.{cases_eq}
 use Rattle.db_base.specs.Ids.{IsClient, IsTree, IsPage}
 use Rattle.db_base.specs.Change.{IsChange}
@@ -26,25 +26,29 @@ use Rattle.client_session.specs.declared.op.Op.{Op}
 use Rattle.client_session.specs.declared.op.Op.TheVariants as op
 use Rattle.client_session.specs.declared.work.Work.{Work}
 use Rattle.client_session.specs.declared.work.Work.TheVariants as work
-use Rattle.client_session.specs.Session.{Acting, Begins, BeginsOpening, BeginsWith, HasInHand, CommitsNothing, CommitsNoted, CommitsIn, CommitsOf, paging_begun_by, folding_begun_by, old_lease, rule_of}
+use Rattle.client_session.specs.Session.{Acting, Begins, BeginsOpening, BeginsWith, HasInHand, CommitsNothing, CommitsNoted, CommitsIn, CommitsOf, ReadsIn, ReadsOf, paging_begun_by, folding_begun_by, old_lease, rule_of, stopped_work}
 use Rattle.session_facts.specs.Sessions.{Sessions, SessionsStand, IsRightOp}
 use Rattle.session_facts.proofs.Begins.{begins_keeps}
 use Rattle.session_facts.proofs.Laws.{buffer_keeps, same_sessions}
+use Rattle.page_cache.specs.Cache.{Cache}
+use Rattle.tree_walk.specs.Walk.{Walk, new_walk}
 use Rattle.commit_facts.specs.Committing.{MayCommit}
 use Rattle.commit_facts.proofs.Noted.{may_note, may_none}
 use Rattle.store_book.specs.Tally.{at}
 use Rattle.store_book.proofs.Names.{at_same, at_other}
 use Rattle.replay_meaning.specs.Standing.{Line, Standing, Working as WorkingOn, Committing as Noting, standing, after_own, notes as notes_own}
 use Rattle.replay_model.specs.Facts.{session_at, ActsAs, WorksAs}
+use Rattle.replay_model.proofs.Acting.{IsReplyTo}
 use Rattle.replay_model.proofs.CommitSteps.{BeginsFor, commit_begins}
 use Rattle.replay_model.proofs.LineLemmas.{line_of, refused_own}
 use Rattle.replay_model.proofs.OpeningSteps.{opening_begins}
 use Rattle.world_core.specs.declared.world.World.{World}
 use Rattle.world_core.specs.declared.world.WorldFault.{WorldFault}
 use Rattle.world_core.specs.Sessions.{Changes, NotesIn, AbortsIn}
-use Rattle.world_core.specs.Handled.{declined, begun_reply, done_reply, BeginsOp, NotesChange, DropsChanges}
+use Rattle.world_core.specs.Replying.{declined, done_reply, trouble_reply, RepliesBegun}
+use Rattle.world_core.specs.Handled.{BeginsOp, NotesChange, DropsChanges}
 use Rattle.world_core.specs.Stands.{StandsFor}
-use Rattle.world_core.proofs.StandsLemmas.{IsNoReport, Ready, acts_before, changed_was, quiet_line, quiet_refused}
+use Rattle.world_core.proofs.StandsLemmas.{IsNoReport, Ready, acts_before, changed_was, quiet_line, quiet_refused, replies_to}
 
 -- the reply of a line
 abbrev IsOk : Reply → Result Reply WorldFault → Type 0
@@ -74,7 +78,7 @@ refused_session event r rule k lines a b e same acts =
     let P : Reply → Type 0 = λ z. LeavesSession event z k lines b in
     subst P (sym is) (subst (ActsAs b) (sym (refused_own event rule (standing lines k))) (subst (λ z. ActsAs z (standing lines k)) (sym same) acts), tt)
 
-opens : (k client : ℕ) (r : Reply) (lines : List Line) (a b : Acting) (begun : Result Begun Refused) → ActsAs a (standing lines k) → BeginsOpening client a b begun → IsOk r (begun_reply begun)
+opens : (k client : ℕ) (r : Reply) (lines : List Line) (a b : Acting) (begun : Result Begun Refused) → ActsAs a (standing lines k) → BeginsOpening client a b begun → RepliesBegun begun b (Ok r)
     → LeavesSession (event.Open k client) r k lines b
 opens k client r lines a b (Ok Working) acts begins e =
     let is : r ≡ reply.Begun = cc in
@@ -90,11 +94,11 @@ idle_of k lines a home e acts = subst (λ w. WorksAs w (standing lines k)) e act
 
 -- an operation begins that leaves what was noted
 has_in_hand : (event : Event) (k : ℕ) (r : Reply) (lines : List Line) (own : Home → Work) (a b : Acting) (begun : Result Begun Refused) → ActsAs a (standing lines k)
-    → ((home : Home) → WorksAs (work.Idle home) (standing lines k) → ActsAs (record { buffer = a.buffer; work = own home }) (after_own event reply.Begun (standing lines k)))
-    → BeginsWith (λ home. HasInHand a.buffer (own home)) a b begun → IsOk r (begun_reply begun) → LeavesSession event r k lines b
+    → ((home : Home) → WorksAs (work.Idle home) (standing lines k) → ActsAs (record a { work = own home; read = None }) (after_own event reply.Begun (standing lines k)))
+    → BeginsWith (λ home. HasInHand a (own home)) a b begun → RepliesBegun begun b (Ok r) → LeavesSession event r k lines b
 has_in_hand event k r lines own a b (Ok begun) acts stands begins e =
     let idle = idle_of k lines a begins.0 begins.1 acts in
-    let answered : IsOk r (begun_reply (Ok Working)) = subst (λ x. IsOk r (begun_reply (Ok x))) begins.2.0 e in
+    let answered : RepliesBegun (Ok Working) b (Ok r) = subst (λ x. RepliesBegun (Ok x) b (Ok r)) begins.2.0 e in
     let is : r ≡ reply.Begun = cc in
     let P : Reply → Type 0 = λ z. LeavesSession event z k lines b in
     subst P (sym is) (subst (λ z. ActsAs z (after_own event reply.Begun (standing lines k))) (sym begins.2.1) (stands begins.0 idle), tt)
@@ -106,7 +110,7 @@ acts_by : (b : Acting) (w : Work) (s : Standing) → b.work ≡ w → b.buffer �
 acts_by b w s e buffer works = record { buffer = buffer; work = subst (λ z. WorksAs z s) (sym e) works }
 
 commits_of : (k : ℕ) (r : Reply) (lines : List Line) (buffer : List Noted) (home : Home) (b : Acting) (begun : Begun) → buffer ≡ (standing lines k).buffer
-    → WorksAs (work.Idle home) (standing lines k) → b.buffer ≡ [] → CommitsOf home buffer b.work begun → IsOk r (begun_reply (Ok begun)) → LeavesSession (event.Commit k) r k lines b
+    → WorksAs (work.Idle home) (standing lines k) → b.buffer ≡ [] → CommitsOf home buffer b.work begun → RepliesBegun (Ok begun) b (Ok r) → LeavesSession (event.Commit k) r k lines b
 commits_of k r lines buffer home b Working same idle empty commits e =
     let is : r ≡ reply.Begun = cc in
     let go : BeginsFor buffer home.client (Goes commits.0) = subst (BeginsFor buffer home.client) commits.1 (commit_begins home buffer) in
@@ -125,20 +129,20 @@ commits_of k r lines buffer home b (Answered (answer.Commit a)) same idle empty 
     (acts_by b (work.Idle commits.0.home) (after_own (event.Commit k) (reply.Commit (NotCommitted end.1.0)) (standing lines k)) commits.2 empty (idle.0, idle.1 ∙ sym end.0), tt)
 commits_of k r lines buffer home b (Answered (answer.Trouble z)) same idle empty commits e = absurd (on z commits.0 e)
   where
-    on : (z : Trouble) → z ≡ trouble.Memory → IsOk r (begun_reply (Ok (Answered (answer.Trouble z)))) → ⊥
-    on z same e = let own : IsOk r (begun_reply (Ok (Answered (answer.Trouble trouble.Memory)))) = subst (λ x. IsOk r (begun_reply (Ok (Answered (answer.Trouble x))))) same e in absurd (cc)
+    on : (z : Trouble) → z ≡ trouble.Memory → IsOk r (trouble_reply z) → ⊥
+    on z same e = let own : IsOk r (trouble_reply trouble.Memory) = subst (λ x. IsOk r (trouble_reply x)) same e in absurd (cc)
 commits_of k r lines buffer home b (Answered a) same idle empty commits e = absurd commits
 
 commits_nothing : (k : ℕ) (r : Reply) (lines : List Line) (buffer : List Noted) (home : Home) (b : Acting) (begun : Begun) → buffer ≡ (standing lines k).buffer
-    → WorksAs (work.Idle home) (standing lines k) → b.buffer ≡ [] → CommitsNothing home buffer b.work begun → IsOk r (begun_reply (Ok begun)) → LeavesSession (event.Commit k) r k lines b
+    → WorksAs (work.Idle home) (standing lines k) → b.buffer ≡ [] → CommitsNothing home buffer b.work begun → RepliesBegun (Ok begun) b (Ok r) → LeavesSession (event.Commit k) r k lines b
 commits_nothing k r lines buffer home b begun same idle empty nothing e =
-    let answered : IsOk r (begun_reply (Ok (Answered (answer.Commit (Committed 0))))) = subst (λ x. IsOk r (begun_reply (Ok x))) nothing.answer e in
+    let answered : RepliesBegun (Ok (Answered (answer.Commit (Committed 0)))) b (Ok r) = subst (λ x. RepliesBegun (Ok x) b (Ok r)) nothing.answer e in
     let is : r ≡ reply.Commit (Committed 0) = cc in
     let P : Reply → Type 0 = λ z. LeavesSession (event.Commit k) z k lines b in
     subst P (sym is) (acts_by b (work.Idle home) (standing lines k) nothing.work_is (empty ∙ sym nothing.none ∙ same) idle, tt)
 
-commits : (k : ℕ) (r : Reply) (lines : List Line) (a b : Acting) (begun : Result Begun Refused) → ActsAs a (standing lines k) → BeginsWith (CommitsIn a.buffer) a b begun
-    → IsOk r (begun_reply begun) → LeavesSession (event.Commit k) r k lines b
+commits : (k : ℕ) (r : Reply) (lines : List Line) (a b : Acting) (begun : Result Begun Refused) → ActsAs a (standing lines k) → BeginsWith (CommitsIn a) a b begun
+    → RepliesBegun begun b (Ok r) → LeavesSession (event.Commit k) r k lines b
 commits k r lines a b (Ok begun) acts begins e = on begins.2.1
   where
     on : CommitsNoted begins.0 a.buffer b.work begun → LeavesSession (event.Commit k) r k lines b
@@ -146,6 +150,46 @@ commits k r lines a b (Ok begun) acts begins e = on begins.2.1
     on (inr some) = commits_of k r lines a.buffer begins.0 b begun acts.buffer (idle_of k lines a begins.0 begins.1 acts) begins.2.0 some.1 e
 commits k r lines a b (Err (refused.Rule rule)) acts begins e = refused_session (event.Commit k) r rule k lines a b e begins.1 acts
 commits k r lines a b (Err refused.Memory) acts begins e = absurd begins
+
+-- a client stays open behind a read that stopped, but for want of memory
+stays_idle : (t : Trouble) (home : Home) → (t ≡ trouble.Memory → ⊥) → stopped_work t home ≡ work.Idle home
+stays_idle trouble.Memory home never = absurd (never refl)
+stays_idle t home never = refl
+
+-- a read begins, or it is answered at once
+reads_of : (k tree : ℕ) (key : List ℕ) (r : Reply) (lines : List Line) (home : Home) (start : Walk) (old : Cache) (b : Acting) (begun : Begun) → b.buffer ≡ (standing lines k).buffer
+    → WorksAs (work.Idle home) (standing lines k) → ReadsOf home start old b.cache b.work b.read begun → RepliesBegun (Ok begun) b (Ok r)
+    → LeavesSession (event.Read k tree key) r k lines b
+reads_of k tree key r lines home start old b Working same idle reads e =
+    let is : r ≡ reply.Begun = cc in
+    let P : Reply → Type 0 = λ z. LeavesSession (event.Read k tree key) z k lines b in
+    subst P (sym is) (
+      acts_by b (work.Reading home reads.0) (after_own (event.Read k tree key) reply.Begun (standing lines k)) reads.2 same (record { tree = tree; key = key; is = refl }, idle.1),
+      tt,
+    )
+reads_of k tree key r lines home start old b (Answered answer.Value) same idle reads e = on (replies_to answer.Value b r e).0
+  where
+    P : Reply → Type 0
+    P z = LeavesSession (event.Read k tree key) z k lines b
+
+    acts : ActsAs b (standing lines k)
+    acts = acts_by b (work.Idle home) (standing lines k) reads.3 same idle
+
+    on : IsReplyTo answer.Value r → P r
+    on (inl none) = subst P (sym none) (acts, tt)
+    on (inr (payload, some)) = subst P (sym some) (acts, tt)
+reads_of k tree key r lines home start old b (Answered (answer.Trouble t)) same idle reads e =
+    let is = (replies_to (answer.Trouble t) b r e).0 in
+    let P : Reply → Type 0 = λ z. LeavesSession (event.Read k tree key) z k lines b in
+    subst P (sym is.0) (acts_by b (work.Idle home) (standing lines k) (reads.2 ∙ stays_idle t home is.1) same idle, tt)
+reads_of k tree key r lines home start old b (Answered a) same idle reads e = absurd reads
+
+reads : (k tree : ℕ) (key : List ℕ) (r : Reply) (lines : List Line) (a b : Acting) (begun : Result Begun Refused) → ActsAs a (standing lines k) → BeginsWith (ReadsIn tree key a) a b begun
+    → RepliesBegun begun b (Ok r) → LeavesSession (event.Read k tree key) r k lines b
+reads k tree key r lines a b (Ok begun) acts begins e =
+    reads_of k tree key r lines begins.0 (new_walk tree (Some key) false) a.cache b begun (begins.2.0 ∙ acts.buffer) (idle_of k lines a begins.0 begins.1 acts) begins.2.1 e
+reads k tree key r lines a b (Err (refused.Rule rule)) acts begins e = refused_session (event.Read k tree key) r rule k lines a b e begins.1 acts
+reads k tree key r lines a b (Err refused.Memory) acts begins e = absurd begins
 
 pub opening_begun : (lines : List Line) (k client : ℕ) (r : Reply) (before after : Seen) (old new : World) (t : CloudState) → IsClient client
     → Ready lines (event.Open k client) k before after old new t → Changes k (BeginsOp (op.Open client) (Ok r)) old.sessions new.sessions
@@ -157,8 +201,8 @@ opening_begun lines k client r before after old new t is ready c =
 -- .. and leaves what stands
 module _ (lines : List Line) (event : Event) (k : ℕ) (r : Reply) (before after : Seen) (old new : World) (t : CloudState) (ready : Ready lines event k before after old new t) where
   in_hand_begun : (o : Op) (own : Home → Work) → IsRightOp o → (c : Changes k (BeginsOp o (Ok r)) old.sessions new.sessions)
-      → ((home : Home) → WorksAs (work.Idle home) (standing lines k) → ActsAs (record { buffer = c.before.buffer; work = own home }) (after_own event reply.Begun (standing lines k)))
-      → BeginsWith (λ home. HasInHand c.before.buffer (own home)) c.before c.after c.does.begun → StandsFor (lines ++ line_of event r ∷ []) new after r
+      → ((home : Home) → WorksAs (work.Idle home) (standing lines k) → ActsAs (record c.before { work = own home; read = None }) (after_own event reply.Begun (standing lines k)))
+      → BeginsWith (λ home. HasInHand c.before (own home)) c.before c.after c.does.begun → StandsFor (lines ++ line_of event r ∷ []) new after r
   in_hand_begun o own right c stands begins =
       let left = has_in_hand event k r lines own c.before c.after c.does.begun (acts_before lines event k before after old new t _ ready c) stands begins c.does.replies in
       quiet_line lines event r k before after old new t _ ready c (begun_stands lines event k before after old new t o (Ok r) right ready c) left.0 left.1
@@ -201,6 +245,14 @@ pub commit_begun : (lines : List Line) (k : ℕ) (r : Reply) (before after : See
 commit_begun lines k r before after old new t ready c =
     let left = commits k r lines c.before c.after c.does.begun (acts_before lines (event.Commit k) k before after old new t _ ready c) c.does.begins c.does.replies in
     quiet_line lines (event.Commit k) r k before after old new t _ ready c (begun_stands lines (event.Commit k) k before after old new t op.Commit (Ok r) tt ready c) left.0 left.1
+
+pub read_begun : (lines : List Line) (k tree : ℕ) (key : List ℕ) (r : Reply) (before after : Seen) (old new : World) (t : CloudState)
+    → Ready lines (event.Read k tree key) k before after old new t → Changes k (BeginsOp (op.Read tree key) (Ok r)) old.sessions new.sessions
+    → StandsFor (lines ++ line_of (event.Read k tree key) r ∷ []) new after r
+read_begun lines k tree key r before after old new t ready c =
+    let left = reads k tree key r lines c.before c.after c.does.begun (acts_before lines (event.Read k tree key) k before after old new t _ ready c) c.does.begins c.does.replies in
+    quiet_line lines (event.Read k tree key) r k before after old new t _ ready c
+    (begun_stands lines (event.Read k tree key) k before after old new t (op.Read tree key) (Ok r) tt ready c) left.0 left.1
 
 -- ---- changes are noted and dropped
 

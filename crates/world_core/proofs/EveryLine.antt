@@ -20,11 +20,11 @@ use Rattle.world_core.specs.declared.asked.Request.{Request}
 use Rattle.world_core.specs.declared.asked.Request.TheVariants.{Begin, Note, Abort, Step, Run, Crash}
 use Rattle.world_core.specs.declared.asked.Asked.{Asked}
 use Rattle.world_core.specs.declared.asked.Asked.TheVariants.{Session, Wait, Report, Unbuilt}
-use Rattle.world_core.specs.Asked.{IsOpening, IsPaging, IsFolding, IsInsert, IsUpdate, IsDelete, IsNoted, IsStep, OfSession, Asks}
+use Rattle.world_core.specs.Asked.{IsOpening, IsReading, IsPaging, IsFolding, IsInsert, IsUpdate, IsDelete, IsNoted, IsStep, OfSession, Asks}
 use Rattle.world_core.specs.Handled.{MakesNoCall, Does, Answers, Handled}
 use Rattle.world_core.specs.Stands.{WorldStands, StandsFor, StandsOn}
 use Rattle.world_core.proofs.StandsLemmas.{Ready, declines, runs, makes_step, crashes, waits, reports}
-use Rattle.world_core.proofs.BeginLemmas.{opening_begun, paging_begun, close_begun, renewal_begun, folding_begun, commit_begun, notes, aborts}
+use Rattle.world_core.proofs.BeginLemmas.{opening_begun, read_begun, paging_begun, close_begun, renewal_begun, folding_begun, commit_begun, notes, aborts}
 
 -- the line of a session, and what is known before it is looked at
 pub record Served (lines : List Line) (n k : ℕ) (t : CloudState) (before : Seen) (old : World) : Type 0 where
@@ -112,6 +112,11 @@ asked_stands n (event.Delete k tree key) asked before after old new r lines t as
     request_stands n k (event.Delete k tree key) (IsNoted tree (IsDelete key)) asked before after old new r lines t asks answers at told stands
     (λ request s is done. noted_line lines (event.Delete k tree key) n k tree (Delete key) request before after old new r t (IsDelete key) refl (λ q z. refl)
     (λ c h. (h.0, delete_is key h.1)) s is done)
+asked_stands n (event.Read k tree key) asked before after old new r lines t asks answers at told stands =
+    request_stands n k (event.Read k tree key) (IsReading tree key) asked before after old new r lines t asks answers at told stands
+    (λ request s is done.
+    let h = does_own n k request (Begin (op.Read tree key)) before after old new r is.2 done in
+    read_begun lines k tree key r before after old new t (ready_of lines (event.Read k tree key) n k before after old new t refl s h.0) h.1)
 asked_stands n (event.Page k tree page) asked before after old new r lines t asks answers at told stands =
     request_stands n k (event.Page k tree page) (IsPaging tree page) asked before after old new r lines t asks answers at told stands
     (λ request s is done.

@@ -8,7 +8,7 @@ use Rattle.cloud_trait.specs.Seen.{Seen}
 use Rattle.cloud_trait.specs.declared.turn.Turn.TheVariants.{More}
 use Rattle.db_base.specs.declared.wish.Wish.{Wish}
 use Rattle.client_session.specs.declared.work.Work.{Work}
-use Rattle.client_session.specs.declared.work.Work.TheVariants.{Closed, Idle, Opening, Committing, Paging, Folding, Closing, Renewing, Broken}
+use Rattle.client_session.specs.declared.work.Work.TheVariants.{Closed, Idle, Opening, Committing, Reading, Paging, Folding, Closing, Renewing, Broken}
 use Rattle.client_session.specs.Session.{Acting, closed_session, StepsAt, ask_of_work, calls_left}
 use Rattle.client_session.proofs.Ending.{session_less}
 use Rattle.cloud_trait.specs.Ask.{Ask}
@@ -26,7 +26,7 @@ use Rattle.world_core.specs.declared.world.WorldFault.{WorldFault}
 use Rattle.world_core.specs.Handled.{StepsLooked, Went, further}
 
 -- the session of a number that has one is no other
-same_session : (sessions : List Acting) (place : ℕ) (a b : Acting) → slice_get sessions place ≡ Some a → slice_get sessions place ≡ Some b → a ≡ b
+pub same_session : (sessions : List Acting) (place : ℕ) (a b : Acting) → slice_get sessions place ≡ Some a → slice_get sessions place ≡ Some b → a ≡ b
 same_session sessions place a b e f = let g : Some a ≡ Some b = sym e ∙ f in cc
 
 pub put_before : (number : ℕ) (sessions : List Acting) (put : Option Put) (a : Acting) → HasPut number sessions put → slice_get sessions (number - 1) ≡ Some a → put_of a.work ≡ put
@@ -49,6 +49,7 @@ after_there number Does old new c = ap (λ l. slice_get l (number - 1)) c.rest �
 more_asks : (who : Caller) (before after : Seen) (w new : Work) → StepsAt who before after w new More → (ask : Ask) × (ask_of_work new ≡ Some ask)
 more_asks who before after (Opening m) new p = (_, ap ask_of_work p.1.2)
 more_asks who before after (Committing m) new p = (_, ap ask_of_work p.1.2)
+more_asks who before after (Reading home m) new p = (_, ap ask_of_work p.2)
 more_asks who before after (Paging home m) new p = (_, ap ask_of_work p.2)
 more_asks who before after (Folding home f) new p = (_, ap ask_of_work p.2)
 more_asks who before after (Closing lease) new p = absurd p

@@ -1,5 +1,5 @@
 -- A line keeps what stands.
-use Rattle.std.proofs.Common.{◌≡◌, ◌+◌, ◌≤◌, ℕ, List, [], ◌∷◌, ◌++◌, length, Option, Some, Result, Ok, Err, refl, sym, ap, subst, ◌∙◌, inl, inr, Bool, true, false, ◌⊎◌, ◌≢◌, arith}
+use Rattle.std.proofs.Common.{◌≡◌, ◌+◌, ◌≤◌, ℕ, List, [], ◌∷◌, ◌++◌, length, Option, Some, None, Result, Ok, Err, refl, sym, ap, subst, ◌∙◌, inl, inr, Bool, true, false, ◌⊎◌, ◌≢◌, arith}
 use Rattle.std.proofs.lemmas.Bool.{cases_eq}
 use Rattle.db_base.specs.Ids.{IsTree}
 use Rattle.db_base.specs.declared.refusal.Refusal.{Refusal}
@@ -23,8 +23,7 @@ use Rattle.cloud_trait.specs.declared.turn.Turn.TheVariants.{More, Ended, Stoppe
 use Rattle.cloud_trait.proofs.EffectLemmas.{begins_same}
 use Rattle.client_session.specs.declared.answer.Answer.{Answer}
 use Rattle.client_session.specs.declared.answer.Answer.TheVariants as answer
-use Rattle.client_session.specs.declared.work.Work.TheVariants.{Closed}
-use Rattle.client_session.specs.Session.{Acting, closed_session, StepsSession, noted_behind}
+use Rattle.client_session.specs.Session.{Acting, closed_session, StepsSession, noted_behind, value_of}
 use Rattle.history.specs.Audited.{Audited}
 use Rattle.history.specs.Fold.{of_tree}
 use Rattle.world_audit.specs.Counts.{heads_upto, AreWaiting}
@@ -44,9 +43,9 @@ use Rattle.replay_model.proofs.ReportLemmas.{IsShown, report_right}
 use Rattle.world_core.specs.declared.world.World.{World}
 use Rattle.world_core.specs.declared.world.WorldFault.{WorldFault}
 use Rattle.world_core.specs.declared.world.WorldFault.TheVariants.{Memory}
-use Rattle.world_core.specs.Fault.{trouble_reply, reply_of}
+use Rattle.world_core.specs.Replying.{declined, trouble_reply, value_reply, RepliesTo, RepliesTurn}
 use Rattle.world_core.specs.Sessions.{Changes}
-use Rattle.world_core.specs.Handled.{declined, Declines, MakesNoCall, StepsLooked, RefusesStep, turn_reply, MakesStep, Went, start, further, RunsTo, Runs, Dies, DiesDone, Crashes, WaitsFor, WaitsTooLong, Shows, Reports}
+use Rattle.world_core.specs.Handled.{Declines, MakesNoCall, StepsLooked, RefusesStep, MakesStep, Went, start, further, RunsTo, Runs, Dies, DiesDone, Crashes, WaitsFor, WaitsTooLong, Shows, Reports}
 use Rattle.world_core.specs.Stands.{WorldStands, StandsFor, IsLeft, LeftIsRight}
 
 -- ---- replies that are no report
@@ -254,14 +253,20 @@ went_on lines who before old after new number some way start = way
 went_on lines who before old after new number some way (further mid _ world _ went step) =
     step_more lines who Plain mid after world new number some (went_on lines who before old mid world number some way went) step
 
--- the reply to an answer is no report
-replies_to : (a : Answer) (r : Reply) → (let result : Result Reply WorldFault = Ok r in result ≡ reply_of a) → IsReplyTo a r × IsNoReport r
-replies_to (answer.Opened epoch) r e = let is : r ≡ reply.Opened epoch = cc in (is, subst IsNoReport (sym is) tt)
-replies_to answer.Closed r e = let is : r ≡ reply.Closed = cc in (is, subst IsNoReport (sym is) tt)
-replies_to (answer.Renewed end) r e = let is : r ≡ reply.Renewed end = cc in (is, subst IsNoReport (sym is) tt)
-replies_to (answer.Done n) r e = let is : r ≡ reply.Done n = cc in (is, subst IsNoReport (sym is) tt)
-replies_to (answer.Commit a) r e = let is : r ≡ reply.Commit a = cc in (is, subst IsNoReport (sym is) tt)
-replies_to (answer.Trouble t) r e = on t e
+-- the reply that shows what was read is no report
+value_shown : (value : Option (List ℕ)) (r : Reply) → r ≡ value_reply value → IsReplyTo answer.Value r × IsNoReport r
+value_shown None r e = (inl e, subst IsNoReport (sym e) tt)
+value_shown (Some payload) r e = (inr (payload, e), subst IsNoReport (sym e) tt)
+
+-- the reply to an answer is none
+pub replies_to : (a : Answer) (left : Acting) (r : Reply) → RepliesTo a left (Ok r) → IsReplyTo a r × IsNoReport r
+replies_to (answer.Opened epoch) left r e = let is : r ≡ reply.Opened epoch = cc in (is, subst IsNoReport (sym is) tt)
+replies_to answer.Closed left r e = let is : r ≡ reply.Closed = cc in (is, subst IsNoReport (sym is) tt)
+replies_to (answer.Renewed end) left r e = let is : r ≡ reply.Renewed end = cc in (is, subst IsNoReport (sym is) tt)
+replies_to (answer.Done n) left r e = let is : r ≡ reply.Done n = cc in (is, subst IsNoReport (sym is) tt)
+replies_to (answer.Commit a) left r e = let is : r ≡ reply.Commit a = cc in (is, subst IsNoReport (sym is) tt)
+replies_to answer.Value left r e = value_shown (value_of left) r e
+replies_to (answer.Trouble t) left r e = on t e
   where
     on : (t : Trouble) → (let result : Result Reply WorldFault = Ok r in result ≡ trouble_reply t) → ((r ≡ reply.Trouble t) × (t ≡ trouble.Memory → ⊥)) × IsNoReport r
     on trouble.Memory e = absurd (cc)
@@ -280,14 +285,14 @@ replies_to (answer.Trouble t) r e = on t e
 -- a line whose last step is answered
 step_ends : (lines : List Line) (event : Event) (who : Caller) (wish : Wish) (before after : Seen) (old new : World) (a : Answer) (r : Reply)
     → session_of event ≡ who.session → ((s : Standing) → after_own event r s ≡ steps r s) → who.event ≡ length lines + 1 → 1 ≤ who.session
-    → IsUnderWay lines old before → StepsLooked who wish before after old new (Ended a) → (let result : Result Reply WorldFault = Ok r in result ≡ reply_of a)
+    → IsUnderWay lines old before → (p : StepsLooked who wish before after old new (Ended a)) → RepliesTo a p.session.after (Ok r)
     → StandsFor (lines ++ line_of event r ∷ []) new after r
 step_ends lines event who wish before after old new a r own_is does number some way p replies =
     let f : Sessions = session_at old.sessions in
     let s = stepped lines who wish before after old new (Ended a) number some way p in
     let own = steps_own lines who wish before after old new (Ended a) number some way p in
     let acts = way.goes.acts who.session in
-    let is = replies_to a r replies in
+    let is = replies_to a p.session.after r replies in
     let ended = ends_as who p.under p.to (f who.session).work p.session.after.work (standing lines who.session) a r own.work is.0 acts.work in
     let mine : ActsAs p.session.after (steps r (standing lines who.session)) = record {
       buffer = own.buffer ∙ ap (noted_behind (f who.session).work) acts.buffer ∙ sym ended.buffer;
@@ -332,8 +337,8 @@ called_line lines event who wish before after old new still number some way p =
     through lines event reply.Called after new on.after on.told on.goes.holds (still_line lines event reply.Called (session_at new.sessions) still on.goes.acts) tt
 
 step_to : (lines : List Line) (k n : ℕ) (wish : Wish) (r : Reply) (before after : Seen) (old new : World) (t : CloudState) (turn : Turn Answer) → length lines + 1 ≡ n → 1 ≤ k
-    → before.state ≡ Some t → WorldStands lines old t → StepsLooked (record { session = k; event = n }) wish before after old new turn
-    → (let result : Result Reply WorldFault = Ok r in result ≡ turn_reply turn) → StandsFor (lines ++ line_of (event.Step k wish) r ∷ []) new after r
+    → before.state ≡ Some t → WorldStands lines old t → (p : StepsLooked (record { session = k; event = n }) wish before after old new turn)
+    → RepliesTurn turn p.session.after (Ok r) → StandsFor (lines ++ line_of (event.Step k wish) r ∷ []) new after r
 step_to lines k n wish r before after old new t More at some told stands p replies =
     let is : r ≡ reply.Called = cc in
     let P : Reply → Type 0 = λ z. StandsFor (lines ++ line_of (event.Step k wish) z ∷ []) new after z in

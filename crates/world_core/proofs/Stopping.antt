@@ -5,7 +5,7 @@ use Rattle.db_base.specs.declared.trouble.Trouble.{Trouble}
 use Rattle.db_base.specs.declared.trouble.Trouble.TheVariants as trouble
 use Rattle.cloud_trait.specs.Seen.{Seen}
 use Rattle.world_core.specs.declared.world.World.{World}
-use Rattle.world_core.specs.Fault.{trouble_reply}
+use Rattle.world_core.specs.Replying.{trouble_reply}
 use Rattle.world_core.specs.Handled.{StopsBy, ReportReply}
 
 pub report_stops : (tree : ℕ) (before after : Seen) (world : World) (t : Trouble) → IsTree tree → StopsBy tree before after world.blind t

@@ -22,6 +22,22 @@ abbrev pub IsOpening : ℕ → Result Request Refused → Type 0
 IsOpening client (Ok request) = IsClient client × (request ≡ Begin (op.Open client))
 IsOpening client (Err why) = (IsClient client → ⊥) × (why ≡ refused.Rule rule.BadNumber)
 
+-- the rule that refuses a key, where it does
+abbrev pub KeyRefused : List ℕ → Refusal → Type 0
+KeyRefused key rule.EmptyKey = length key ≡ 0
+KeyRefused key rule.LongKey = 64 < length key
+KeyRefused key r = ⊥
+
+-- why a key is refused: a rule does, or there is no memory for a copy of it
+abbrev pub IsNoKey : List ℕ → Refused → Type 0
+IsNoKey key (refused.Rule r) = KeyRefused key r
+IsNoKey key refused.Memory = Unit {0}
+
+-- the read of a key of a tree, or its number is no tree's, or else the key is refused
+abbrev pub IsReading : ℕ → List ℕ → Result Request Refused → Type 0
+IsReading tree key (Ok request) = IsTree tree × IsKey key × (request ≡ Begin (op.Read tree key))
+IsReading tree key (Err why) = ((why ≡ refused.Rule rule.BadNumber) × (IsTree tree → ⊥)) ⊎ (IsTree tree × IsNoKey key why)
+
 -- the checkpoint of a page of a tree, or one of the two numbers is none
 abbrev pub IsPaging : ℕ → ℕ → Result Request Refused → Type 0
 IsPaging tree page (Ok request) = IsTree tree × IsPage page × (request ≡ Begin (op.Page tree page))
@@ -31,12 +47,6 @@ IsPaging tree page (Err why) = (IsTree tree → IsPage page → ⊥) × (why ≡
 abbrev pub IsFolding : ℕ → Result Request Refused → Type 0
 IsFolding tree (Ok request) = IsTree tree × (request ≡ Begin (op.Tree tree))
 IsFolding tree (Err why) = (IsTree tree → ⊥) × (why ≡ refused.Rule rule.BadNumber)
-
--- the rule that refuses a key, where it does
-abbrev pub KeyRefused : List ℕ → Refusal → Type 0
-KeyRefused key rule.EmptyKey = length key ≡ 0
-KeyRefused key rule.LongKey = 64 < length key
-KeyRefused key r = ⊥
 
 -- the rule that refuses a key and a payload, where it does: the key's length, then the payload's
 abbrev pub RecordRefused : List ℕ → List ℕ → Refusal → Type 0
@@ -60,8 +70,7 @@ IsUpdate key payload (Err refused.Memory) = Unit {0}
 -- the deletion of a key, or the rule that it breaks
 abbrev pub IsDelete : List ℕ → Result Change Refused → Type 0
 IsDelete key (Ok change) = (change ≡ Delete key) × IsKey key
-IsDelete key (Err (refused.Rule r)) = KeyRefused key r
-IsDelete key (Err refused.Memory) = Unit {0}
+IsDelete key (Err why) = IsNoKey key why
 
 -- such a change of a tree is to be noted; it is refused by the number of the tree first
 abbrev pub IsNoted : ℕ → (Result Change Refused → Type 0) → Result Request Refused → Type 0
@@ -91,6 +100,7 @@ Asks (event.Close session) asked = OfSession session (λ request. request ≡ Ok
 Asks (event.Renew session) asked = OfSession session (λ request. request ≡ Ok (Begin op.Renew)) asked
 Asks (event.Commit session) asked = OfSession session (λ request. request ≡ Ok (Begin op.Commit)) asked
 Asks (event.Abort session) asked = OfSession session (λ request. request ≡ Ok Abort) asked
+Asks (event.Read session tree key) asked = OfSession session (IsReading tree key) asked
 Asks (event.Page session tree page) asked = OfSession session (IsPaging tree page) asked
 Asks (event.Tree session tree) asked = OfSession session (IsFolding tree) asked
 Asks (event.Run session) asked = OfSession session (λ request. request ≡ Ok Run) asked

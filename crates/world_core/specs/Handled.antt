@@ -19,10 +19,9 @@ use Rattle.cloud_trait.specs.State.{CloudState, newest, greatest}
 use Rattle.cloud_trait.specs.Seen.{Seen}
 use Rattle.cloud_trait.specs.Weather.{Rose}
 use Rattle.cloud_trait.specs.declared.turn.Turn.{Turn}
-use Rattle.cloud_trait.specs.declared.turn.Turn.TheVariants.{More, Ended, Stopped}
+use Rattle.cloud_trait.specs.declared.turn.Turn.TheVariants.{More, Ended}
 use Rattle.client_session.specs.declared.answer.Answer.{Answer}
 use Rattle.client_session.specs.declared.answer.Begun.{Begun}
-use Rattle.client_session.specs.declared.answer.Begun.TheVariants.{Working, Answered}
 use Rattle.client_session.specs.declared.op.Op.{Op}
 use Rattle.client_session.specs.Session.{Acting, closed_session, Begins, StepsSession}
 use Rattle.history.specs.Fold.{of_tree}
@@ -40,15 +39,10 @@ use Rattle.world_core.specs.declared.world.World.{World}
 use Rattle.world_core.specs.declared.world.WorldFault.{WorldFault}
 use Rattle.world_core.specs.declared.world.WorldFault.TheVariants as fault
 use Rattle.world_core.specs.Asked.{Asks}
-use Rattle.world_core.specs.Fault.{trouble_reply, reply_of}
+use Rattle.world_core.specs.Replying.{declined, done_reply, RepliesTo, RepliesBegun, RepliesTurn}
 use Rattle.world_core.specs.Sessions.{Changes, IsNotWorking, NotesIn, AbortsIn}
 
 -- ---- a line that is not done
-
--- the answer to it: the rule that refuses it, or want of memory
-abbrev pub declined : Refused → Result Reply WorldFault
-declined (refused.Rule r) = Ok (reply.Refused r)
-declined refused.Memory = Err fault.Memory
 
 -- it changes neither the world nor the cloud
 pub record Declines (why : Refused) (before after : Seen) (old new : World) (result : Result Reply WorldFault) : Type 0 where
@@ -64,21 +58,10 @@ pub record MakesNoCall (before after : Seen) (old new : World) : Type 0 where
   pub audit : new.audit ≡ old.audit
   pub blind : new.blind ≡ old.blind
 
--- the reply to the begin of an operation
-abbrev pub begun_reply : Result Begun Refused → Result Reply WorldFault
-begun_reply (Ok Working) = Ok reply.Begun
-begun_reply (Ok (Answered a)) = reply_of a
-begun_reply (Err why) = declined why
-
 pub record BeginsOp (op : Op) (result : Result Reply WorldFault) (old new : Acting) : Type 0 where
   pub begun : Result Begun Refused
   pub begins : Begins op old new begun
-  pub replies : result ≡ begun_reply begun
-
--- the reply to a change that is noted, and to the drop of changes
-abbrev pub done_reply : Reply → Result (Unit {0}) Refused → Result Reply WorldFault
-done_reply r (Ok done) = Ok r
-done_reply r (Err why) = declined why
+  pub replies : RepliesBegun begun new result
 
 pub record NotesChange (tree : ℕ) (change : Change) (result : Result Reply WorldFault) (old new : Acting) : Type 0 where
   pub noted : Result (Unit {0}) Refused
@@ -121,17 +104,11 @@ pub record RefusesStep (number : ℕ) (before after : Seen) (old new : World) (r
   pub idle : IsNotWorking number old.sessions
   pub declines : Declines (refused.Rule rule.NotWorking) before after old new result
 
--- the reply to a step
-abbrev pub turn_reply : Turn Answer → Result Reply WorldFault
-turn_reply More = Ok reply.Called
-turn_reply (Ended a) = reply_of a
-turn_reply (Stopped t) = trouble_reply t
-
 -- one step was made under the wish, and its answer is the reply
 pub record StepsTo (n number : ℕ) (wish : Wish) (before after : Seen) (old new : World) (result : Result Reply WorldFault) : Type 0 where
   pub turn : Turn Answer
   pub steps : StepsLooked (record { session = number; event = n }) wish before after old new turn
-  pub replies : result ≡ turn_reply turn
+  pub replies : RepliesTurn turn steps.session.after result
 
 -- want of memory has no reply
 abbrev pub FindsNoMemory : Result Reply WorldFault → Type 0
@@ -154,7 +131,7 @@ pub record RunsTo (n number : ℕ) (before after : Seen) (old new : World) (resu
   pub went : Went (record { session = number; event = n }) before old mid world
   pub answer : Answer
   pub steps : StepsLooked (record { session = number; event = n }) Plain mid after world new (Ended answer)
-  pub replies : result ≡ reply_of answer
+  pub replies : RepliesTo answer steps.session.after result
 
 -- or memory ran out on the way
 abbrev pub RunsOn : Caller → Seen → Seen → World → World → Result Reply WorldFault → Type 0

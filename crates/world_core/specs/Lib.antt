@@ -1,6 +1,6 @@
 pub mod Sessions
 pub mod Put
 pub mod Asked
-pub mod Fault
+pub mod Replying
 pub mod Handled
 pub mod Stands

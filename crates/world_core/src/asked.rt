@@ -1,7 +1,7 @@
 //! What a line asks, and of which session.
 
 ghost use Rattle.std.specs.Prelude.{◌≡◌};
-ghost use Rattle.world_core.specs.Asked.{Asks, IsDelete, IsInsert, IsUpdate, IsOpening, IsPaging, IsFolding, IsNoted, IsStep};
+ghost use Rattle.world_core.specs.Asked.{Asks, IsDelete, IsInsert, IsUpdate, IsOpening, IsReading, IsPaging, IsFolding, IsNoted, IsStep};
 
 use client_session::op::Op;
 use db_base::blob::Blob;
@@ -69,6 +69,9 @@ impl Asked {
             Event::Renew { session } => Asked::Session(*session, Ok(Request::Begin(Op::Renew))),
             Event::Commit { session } => Asked::Session(*session, Ok(Request::Begin(Op::Commit))),
             Event::Abort { session } => Asked::Session(*session, Ok(Request::Abort)),
+            Event::Read { session, tree, key } => {
+                Asked::Session(*session, reading_of(alloc, *tree, key))
+            }
             Event::Page {
                 session,
                 tree,
@@ -80,7 +83,7 @@ impl Asked {
             Event::Crash { session, done } => Asked::Session(*session, Ok(Request::Crash(*done))),
             Event::Wait { ticks } => Asked::Wait(*ticks),
             Event::Report { tree } => Asked::Report(*tree),
-            Event::Read { .. } | Event::Scan { .. } | Event::Settle => Asked::Unbuilt,
+            Event::Scan { .. } | Event::Settle => Asked::Unbuilt,
         }
     }
 }
@@ -92,6 +95,20 @@ fn opening_of(client: u64) -> Result<Request, Refused>
     match ClientId::new(client) {
         Ok(client) => Ok(Request::Begin(Op::Open(client))),
         Err(rule) => Err(Refused::Rule(rule)),
+    }
+}
+
+/// The read of a key of the tree of this number.
+fn reading_of(alloc: Global, tree: u64, key: &Blob) -> Result<Request, Refused>
+    ensures { IsReading tree key.now result }
+{
+    let tree = match TreeId::new(tree) {
+        Ok(tree) => tree,
+        Err(rule) => return Err(Refused::Rule(rule)),
+    };
+    match Key::new(alloc, key.as_slice()) {
+        Ok(key) => Ok(Request::Begin(Op::Read(tree, key))),
+        Err(why) => Err(why),
     }
 }
 

@@ -4,5 +4,6 @@
 pub mod asked;
 mod noting;
 mod put;
+mod replying;
 pub mod sessions;
 pub mod world;

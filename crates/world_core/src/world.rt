@@ -1,14 +1,14 @@
 ghost use Rattle.std.specs.Prelude.{◌≡◌, ℕ, ◌≤◌, ◌<◌, ◌⊎◌, true, false, [], replicate, Some, None, Ok, IfOk, IfErr};
 ghost use Rattle.world_core.specs.Put.{is_blind};
 ghost use Rattle.world_core.specs.Stands.{Grows};
-ghost use Rattle.world_core.specs.Fault.{trouble_reply, reply_of};
-ghost use Rattle.world_core.specs.Handled.{begun_reply, done_reply, turn_reply, declined, WaitsFor};
+ghost use Rattle.world_core.specs.Handled.{WaitsFor};
 
 use crate::asked::{Asked, Request};
 use crate::noting::{keep_landed, note_put};
 use crate::put::{Put, is_newest, put_in_hand};
+use crate::replying::{begun_reply, declined, done, reply_of, trouble_reply, turn_reply};
 use crate::sessions::Sessions;
-use client_session::answer::{Answer, Begun};
+use client_session::answer::Answer;
 use client_session::op::Op;
 use cloud_trait::cloud::Bench;
 use cloud_trait::turn::Turn;
@@ -47,6 +47,7 @@ pub struct World {
 impl World {
     ghost use Rattle.client_session.specs.Session.{closed_session};
     ghost use Rattle.world_core.specs.Stands.{StandsOn};
+    ghost use Rattle.world_core.specs.Replying.{IsAnswered};
     ghost use Rattle.world_core.specs.Sessions.{Changes, IsNotWorking, IsAtWork, HasPut};
     ghost use Rattle.world_core.specs.Handled.{Handled, Answers, Does, BeginsOp, NotesChange, DropsChanges, MakesStep, Runs, RunsOn, Crashes, CrashesDone, StepsLooked, Reports};
 
@@ -149,7 +150,8 @@ impl World {
         ensures audit { self.new.audit ≡ self.old.audit }
         ensures blind { self.new.blind ≡ self.old.blind }
     {
-        begun(self.sessions.begin(alloc, number, op))
+        let begun = self.sessions.begin(alloc, number, op);
+        begun_reply(alloc, self.sessions.get(number), begun)
     }
 
     fn note(&mut self, number: SessionNo, tree: TreeId, change: Change) -> Result<Reply, WorldFault>
@@ -195,7 +197,7 @@ impl World {
             return Ok(Reply::Refused(Refusal::NotWorking));
         }
         match self.step_under(alloc, cloud, who, wish) {
-            Ok(turn) => turn_reply(turn),
+            Ok(turn) => turn_reply(alloc, self.sessions.get(who.session), turn),
             Err(fault) => Err(fault),
         }
     }
@@ -227,10 +229,18 @@ impl World {
             let turn = self.step_under(alloc, cloud, who, Wish::Plain)?;
             match turn {
                 Turn::More => {}
-                Turn::Ended(answer) => return reply_of(answer),
+                Turn::Ended(answer) => return self.answer(alloc, who, answer),
                 Turn::Stopped(_) => unreachable!(),
             }
         }
+    }
+
+    /// The reply to an answer of the session.
+    fn answer(&self, alloc: Global, who: Who, answer: Answer) -> Result<Reply, WorldFault>
+        requires { 1 ≤ who.session }
+        ensures { IsAnswered who.session self.now.sessions answer result }
+    {
+        reply_of(alloc, self.sessions.get(who.session), answer)
     }
 
     /// Lets the session die: at once, or once its call in hand is made.
@@ -387,92 +397,4 @@ fn wait<C: Bench>(cloud: &mut C, ticks: u64) -> Result<Reply, WorldFault>
     let _ = cloud.now();
     cloud.wait(ticks);
     Ok(Reply::Waited)
-}
-
-/// The answer to a line that is not done.
-fn declined(why: Refused) -> Result<Reply, WorldFault>
-    ensures { result ≡ declined why }
-{
-    match why {
-        Refused::Rule(rule) => Ok(Reply::Refused(rule)),
-        Refused::Memory => Err(WorldFault::Memory),
-    }
-}
-
-/// The reply to the begin of an operation.
-fn begun(begun: Result<Begun, Refused>) -> Result<Reply, WorldFault>
-    ensures { result ≡ begun_reply begun }
-{
-    match begun {
-        Ok(Begun::Working) => Ok(Reply::Begun),
-        Ok(Begun::Answered(answer)) => reply_of(answer),
-        Err(why) => declined(why),
-    }
-}
-
-/// The reply to what was done, where it was.
-fn done(reply: Reply, done: Result<(), Refused>) -> Result<Reply, WorldFault>
-    ensures { result ≡ done_reply reply done }
-{
-    match done {
-        Ok(()) => Ok(reply),
-        Err(why) => declined(why),
-    }
-}
-
-/// The reply to a step.
-fn turn_reply(turn: Turn<Answer>) -> Result<Reply, WorldFault>
-    ensures { result ≡ turn_reply turn }
-{
-    match turn {
-        Turn::More => Ok(Reply::Called),
-        Turn::Ended(answer) => reply_of(answer),
-        Turn::Stopped(trouble) => trouble_reply(trouble),
-    }
-}
-
-/// The reply to the answer of an operation.
-fn reply_of(answer: Answer) -> Result<Reply, WorldFault>
-    ensures { result ≡ reply_of answer }
-{
-    match answer {
-        Answer::Opened { epoch } => Ok(Reply::Opened { epoch }),
-        Answer::Closed => Ok(Reply::Closed),
-        Answer::Renewed { end } => Ok(Reply::Renewed { end }),
-        Answer::Done(answer) => Ok(Reply::Done(answer)),
-        Answer::Commit(answer) => Ok(Reply::Commit(answer)),
-        Answer::Trouble(trouble) => trouble_reply(trouble),
-    }
-}
-
-/// The reply to a trouble; want of memory has none.
-fn trouble_reply(trouble: Trouble) -> Result<Reply, WorldFault>
-    ensures { result ≡ trouble_reply trouble }
-{
-    match trouble {
-        Trouble::Memory => Err(WorldFault::Memory),
-        Trouble::Failed => Ok(Reply::Trouble(Trouble::Failed)),
-        Trouble::Late { end, now } => Ok(Reply::Trouble(Trouble::Late { end, now })),
-        Trouble::Busy { lock, until } => Ok(Reply::Trouble(Trouble::Busy { lock, until })),
-        Trouble::Waiting { have, need } => Ok(Reply::Trouble(Trouble::Waiting { have, need })),
-        Trouble::Stale { page, least, got } => {
-            Ok(Reply::Trouble(Trouble::Stale { page, least, got }))
-        }
-        Trouble::Absent { page } => Ok(Reply::Trouble(Trouble::Absent { page })),
-        Trouble::NotALeaf { page } => Ok(Reply::Trouble(Trouble::NotALeaf { page })),
-        Trouble::Damaged { place, offset } => {
-            Ok(Reply::Trouble(Trouble::Damaged { place, offset }))
-        }
-        Trouble::BadFence {
-            page,
-            expected,
-            found,
-        } => Ok(Reply::Trouble(Trouble::BadFence {
-            page,
-            expected,
-            found,
-        })),
-        Trouble::Loop { page } => Ok(Reply::Trouble(Trouble::Loop { page })),
-        Trouble::Exhausted { what } => Ok(Reply::Trouble(Trouble::Exhausted { what })),
-    }
 }

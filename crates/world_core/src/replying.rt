@@ -1,0 +1,129 @@
+//! The reply of a line.
+
+ghost use Rattle.std.specs.Prelude.{◌≡◌};
+ghost use Rattle.client_session.specs.Session.{value_of};
+ghost use Rattle.world_core.specs.Replying.{declined, done_reply, trouble_reply, ShowsValue, RepliesTo, RepliesBegun, RepliesTurn};
+
+use crate::world::WorldFault;
+use client_session::answer::{Answer, Begun};
+use client_session::session::Session;
+use cloud_trait::turn::Turn;
+use db_base::blob::Blob;
+use db_base::refusal::Refused;
+use db_base::trouble::Trouble;
+use reply_text::reply::Reply;
+use std::alloc::Global;
+
+/// The answer to a line that is not done.
+pub(crate) fn declined(why: Refused) -> Result<Reply, WorldFault>
+    ensures { result ≡ declined why }
+{
+    match why {
+        Refused::Rule(rule) => Ok(Reply::Refused(rule)),
+        Refused::Memory => Err(WorldFault::Memory),
+    }
+}
+
+/// The reply to the begin of an operation of the session.
+pub(crate) fn begun_reply(
+    alloc: Global,
+    session: &Session,
+    begun: Result<Begun, Refused>,
+) -> Result<Reply, WorldFault>
+    ensures { RepliesBegun begun session.now result }
+{
+    match begun {
+        Ok(Begun::Working) => Ok(Reply::Begun),
+        Ok(Begun::Answered(answer)) => reply_of(alloc, session, answer),
+        Err(why) => declined(why),
+    }
+}
+
+/// The reply to what was done, where it was.
+pub(crate) fn done(reply: Reply, done: Result<(), Refused>) -> Result<Reply, WorldFault>
+    ensures { result ≡ done_reply reply done }
+{
+    match done {
+        Ok(()) => Ok(reply),
+        Err(why) => declined(why),
+    }
+}
+
+/// The reply to a step of the session.
+pub(crate) fn turn_reply(
+    alloc: Global,
+    session: &Session,
+    turn: Turn<Answer>,
+) -> Result<Reply, WorldFault>
+    ensures { RepliesTurn turn session.now result }
+{
+    match turn {
+        Turn::More => Ok(Reply::Called),
+        Turn::Ended(answer) => reply_of(alloc, session, answer),
+        Turn::Stopped(trouble) => trouble_reply(trouble),
+    }
+}
+
+/// The reply to the answer of an operation of the session.
+pub(crate) fn reply_of(
+    alloc: Global,
+    session: &Session,
+    answer: Answer,
+) -> Result<Reply, WorldFault>
+    ensures { RepliesTo answer session.now result }
+{
+    match answer {
+        Answer::Opened { epoch } => Ok(Reply::Opened { epoch }),
+        Answer::Closed => Ok(Reply::Closed),
+        Answer::Renewed { end } => Ok(Reply::Renewed { end }),
+        Answer::Done(answer) => Ok(Reply::Done(answer)),
+        Answer::Commit(answer) => Ok(Reply::Commit(answer)),
+        Answer::Value => value_reply(alloc, session),
+        Answer::Trouble(trouble) => trouble_reply(trouble),
+    }
+}
+
+/// The reply that shows what the session read.
+fn value_reply(alloc: Global, session: &Session) -> Result<Reply, WorldFault>
+    ensures { ShowsValue (value_of session.now) result }
+{
+    match session.value() {
+        Some(payload) => match Blob::copy_of(alloc, payload) {
+            Ok(payload) => Ok(Reply::Value(payload)),
+            Err(_) => Err(WorldFault::Memory),
+        },
+        None => Ok(Reply::NoValue),
+    }
+}
+
+/// The reply to a trouble; want of memory has none.
+pub(crate) fn trouble_reply(trouble: Trouble) -> Result<Reply, WorldFault>
+    ensures { result ≡ trouble_reply trouble }
+{
+    match trouble {
+        Trouble::Memory => Err(WorldFault::Memory),
+        Trouble::Failed => Ok(Reply::Trouble(Trouble::Failed)),
+        Trouble::Late { end, now } => Ok(Reply::Trouble(Trouble::Late { end, now })),
+        Trouble::Busy { lock, until } => Ok(Reply::Trouble(Trouble::Busy { lock, until })),
+        Trouble::Waiting { have, need } => Ok(Reply::Trouble(Trouble::Waiting { have, need })),
+        Trouble::Stale { page, least, got } => {
+            Ok(Reply::Trouble(Trouble::Stale { page, least, got }))
+        }
+        Trouble::Absent { page } => Ok(Reply::Trouble(Trouble::Absent { page })),
+        Trouble::NotALeaf { page } => Ok(Reply::Trouble(Trouble::NotALeaf { page })),
+        Trouble::Damaged { place, offset } => {
+            Ok(Reply::Trouble(Trouble::Damaged { place, offset }))
+        }
+        Trouble::BadFence {
+            page,
+            expected,
+            found,
+        } => Ok(Reply::Trouble(Trouble::BadFence {
+            page,
+            expected,
+            found,
+        })),
+        Trouble::Loop { page } => Ok(Reply::Trouble(Trouble::Loop { page })),
+        Trouble::Exhausted { what } => Ok(Reply::Trouble(Trouble::Exhausted { what })),
+    }
+}

@@ -1,5 +1,0 @@
-//! Tests of the tree checkpoint over the cloud in memory.
-#![tactic(auto)]
-
-#[cfg(test)]
-mod tree_ckpt_tests;

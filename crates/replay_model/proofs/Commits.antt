@@ -1,6 +1,6 @@
 -- What the audit takes of a call is what its row of the trace commits by the lines.
 use Rattle.std.proofs.Common.{◌≡◌, ◌⊎◌, ◌+◌, ◌-◌, ◌<◌, ℕ, List, [], ◌∷◌, ◌++◌, length, map, take, Option, Some, None, refl, sym, ap, subst, ◌∙◌, inl, inr, Bool, true, false, cond, arith}
-use Rattle.std.specs.Prelude.{All, not, ◌&&◌, slice_get}
+use Rattle.std.specs.Prelude.{All, not, ◌&&◌}
 use Rattle.std.specs.Str.{bytes_eq}
 use Rattle.std.proofs.lemmas.List.{append-nil}
 use Rattle.std.proofs.lemmas.Option.{slice_get_within}

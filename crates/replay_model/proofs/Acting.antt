@@ -1,5 +1,5 @@
 -- After a call a session stands as the lines say.
-use Rattle.std.proofs.Common.{◌≡◌, ◌⊎◌, inl, inr, ℕ, List, [], refl, sym, ap, subst, ◌∙◌}
+use Rattle.std.proofs.Common.{◌≡◌, ◌⊎◌, inl, inr, ℕ, List, [], Option, refl, sym, ap, subst, ◌∙◌}
 use Rattle.db_base.specs.declared.trouble.Trouble.{Trouble}
 use Rattle.db_base.specs.declared.trouble.Trouble.TheVariants as trouble
 use Rattle.db_base.specs.declared.trouble.CommitAnswer.{CommitAnswer}
@@ -16,7 +16,9 @@ use Rattle.client_session.specs.declared.answer.Answer.{Answer}
 use Rattle.client_session.specs.declared.answer.Answer.TheVariants as answer
 use Rattle.client_session.specs.declared.work.Work.{Work}
 use Rattle.client_session.specs.declared.work.Work.TheVariants.{Closed, Idle, Opening, Committing, Reading, Paging, Folding, Closing, Renewing, Broken}
-use Rattle.client_session.specs.Session.{StepsAt, noted_behind, opened_work, committed_work, stopped_work}
+use Rattle.page_cache.specs.Cache.{Cache}
+use Rattle.tree_walk.specs.Walk.{Walk, sought}
+use Rattle.client_session.specs.Session.{StepsAt, ShowsAt, noted_behind, opened_work, committed_work, stopped_work}
 use Rattle.reply_text.specs.declared.reply.Reply.{Reply}
 use Rattle.reply_text.specs.declared.reply.Reply.TheVariants as reply
 use Rattle.replay_meaning.specs.Standing.{Standing, Posture, Working, Opening as OpeningTask, Closing as ClosingTask, Renewing as RenewingTask, Committing as Noting, Reading as ReadingKey, Paging as PagingPage, Folding as FoldingTree, steps, answered, idle, broken, shut}
@@ -25,6 +27,7 @@ use Rattle.replay_model.proofs.OpeningSteps.{OpensFor, opens_on}
 use Rattle.replay_model.proofs.CommitSteps.{WritesFor, writes_on}
 use Rattle.replay_model.proofs.FoldingTree.{same_tree}
 use Rattle.replay_model.proofs.PagingPage.{same_page}
+use Rattle.replay_model.proofs.ReadingWalk.{reading_goes}
 
 -- the reply shows the answer; want of memory has none
 abbrev pub IsReplyTo : Answer → Reply → Type 0
@@ -42,25 +45,28 @@ works_same w z s e h = subst (λ x. WorksAs x s) (sym e) h
 
 -- ---- a step that goes on
 
-pub goes_as : (who : Caller) (before after : Seen) (w new : Work) (s : Standing) → StepsAt who before after w new More → WorksAs w s → WorksAs new s
-goes_as who before after (Opening m) new s (sound, p) acts =
+pub goes_as : (who : Caller) (before after : Seen) (w new : Work) (c d : Cache) (read : Option Walk) (s : Standing) → StepsAt who before after w new More
+    → ShowsAt who before after w c d new read More → WorksAs w s → WorksAs new s
+goes_as who before after (Opening m) new c d read s (sound, p) shown acts =
     let on : OpensFor m.client (Goes p.0) = subst (OpensFor m.client) p.1.took (opens_on m p.1.answer acts.3) in
     works_same new (Opening p.0) s p.2 (acts.0, acts.1 ∙ sym on.0, acts.2, on.1)
-goes_as who before after (Committing m) new s (sound, p) acts =
+goes_as who before after (Committing m) new c d read s (sound, p) shown acts =
     let on : WritesFor m.changes m.home.client (Goes p.0) = subst (WritesFor m.changes m.home.client) p.1.took (writes_on m p.1.answer acts.2) in
     works_same new (Committing p.0) s p.2 (acts.0 ∙ ap (λ cs. Working (Noting cs)) (sym on.0), acts.1 ∙ sym on.1, on.2)
-goes_as who before after (Reading home m) new s p acts = works_same new (Reading home p.0) s p.2 acts
-goes_as who before after (Paging home m) new s p acts =
+goes_as who before after (Reading home m) new c d read s p shown acts =
+    let same = reading_goes m shown.0 c d shown.1.answer shown.1.took in
+    works_same new (Reading home shown.0) s shown.2 (acts.0 ∙ ap (λ k. Working (ReadingKey k (sought m))) (sym same.0) ∙ ap (λ k. Working (ReadingKey shown.0.tree k)) (sym same.1), acts.1)
+goes_as who before after (Paging home m) new c d read s p shown acts =
     let same = same_page m p.0 p.1.answer p.1.took in
     works_same new (Paging home p.0) s p.2 (acts.0 ∙ ap (λ k. Working (PagingPage k m.page)) (sym same.0) ∙ ap (λ k. Working (PagingPage p.0.tree k)) (sym same.1), acts.1)
-goes_as who before after (Folding home f) new s p acts =
+goes_as who before after (Folding home f) new c d read s p shown acts =
     let same = same_tree f p.0 f.stage p.1.answer p.1.took in
     works_same new (Folding home p.0) s p.2 (acts.0 ∙ ap (λ k. Working (FoldingTree k)) (sym same), acts.1)
-goes_as who before after (Closing lease) new s p acts = absurd p
-goes_as who before after (Renewing home) new s p acts = absurd p
-goes_as who before after Closed new s p acts = absurd p
-goes_as who before after (Idle home) new s p acts = absurd p
-goes_as who before after (Broken lease) new s p acts = absurd p
+goes_as who before after (Closing lease) new c d read s p shown acts = absurd p
+goes_as who before after (Renewing home) new c d read s p shown acts = absurd p
+goes_as who before after Closed new c d read s p shown acts = absurd p
+goes_as who before after (Idle home) new c d read s p shown acts = absurd p
+goes_as who before after (Broken lease) new c d read s p shown acts = absurd p
 
 -- and what it noted stays
 pub goes_noted : (who : Caller) (before after : Seen) (w new : Work) (buffer : List Noted) → StepsAt who before after w new More → noted_behind w buffer ≡ buffer
@@ -142,11 +148,11 @@ ends_as who before after (Committing m) new s (answer.Trouble t) r (sound, p) is
     absurd (is.1 end)
 ends_as who before after (Committing m) new s a r p is acts = absurd p.1
 ends_as who before after (Reading home m) new s answer.Value r p (inl is) acts =
-    ends_idle (Reading home m) new home s (Working (ReadingKey acts.0.tree acts.0.key)) r reply.NoValue is acts.0.is refl refl p.1 acts.1 refl
+    ends_idle (Reading home m) new home s (Working (ReadingKey m.tree (sought m))) r reply.NoValue is acts.0 refl refl p.1 acts.1 refl
 ends_as who before after (Reading home m) new s answer.Value r p (inr (payload, is)) acts =
-    ends_idle (Reading home m) new home s (Working (ReadingKey acts.0.tree acts.0.key)) r (reply.Value payload) is acts.0.is refl refl p.1 acts.1 refl
+    ends_idle (Reading home m) new home s (Working (ReadingKey m.tree (sought m))) r (reply.Value payload) is acts.0 refl refl p.1 acts.1 refl
 ends_as who before after (Reading home m) new s (answer.Trouble t) r p is acts =
-    ends_idle (Reading home m) new home s (Working (ReadingKey acts.0.tree acts.0.key)) r (reply.Trouble t) is.0 acts.0.is refl refl (p.1 ∙ stopped_idle t home is.1) acts.1 refl
+    ends_idle (Reading home m) new home s (Working (ReadingKey m.tree (sought m))) r (reply.Trouble t) is.0 acts.0 refl refl (p.1 ∙ stopped_idle t home is.1) acts.1 refl
 ends_as who before after (Reading home m) new s a r p is acts = absurd p
 ends_as who before after (Paging home m) new s (answer.Done n) r p is acts =
     ends_idle (Paging home m) new home s (Working (PagingPage m.tree m.page)) r (reply.Done n) is acts.0 refl refl p.2 acts.1 refl

@@ -3,6 +3,7 @@ pub mod CommittedLemmas
 pub mod OrderLemmas
 pub mod FoldingTree
 pub mod PagingPage
+pub mod ReadingWalk
 pub mod OpeningSteps
 pub mod CommitSteps
 pub mod Commits

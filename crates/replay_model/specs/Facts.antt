@@ -14,8 +14,9 @@ use Rattle.reply_text.specs.declared.reply.Reply.TheVariants as reply
 use Rattle.client_session.specs.declared.work.Work.{Work}
 use Rattle.client_session.specs.declared.work.Work.TheVariants as work
 use Rattle.client_session.specs.Session.{Acting, closed_session}
-use Rattle.replay_meaning.specs.Standing.{Line, Closed, Idle, Broken, Working, Opening, Closing, Renewing, Committing, Reading, Paging as PagingPage, Folding as FoldingTree, Standing, standing}
+use Rattle.replay_meaning.specs.Standing.{Line, Closed, Idle, Broken, Working, Opening, Closing, Renewing, Committing, Reading as ReadingKey, Paging as PagingPage, Folding as FoldingTree, Standing, standing}
 use Rattle.replay_meaning.specs.Committed.{Versions, committed}
+use Rattle.tree_walk.specs.Walk.{sought}
 use Rattle.replay_model.specs.Running.{IsOpening, IsWriting}
 use Rattle.cloud_facts.specs.Looks.{audit_of}
 use Rattle.session_facts.specs.Sessions.{Sessions, SessionsStand}
@@ -58,19 +59,13 @@ Reported lines order = (k : ℕ) (line : Line) → slice_get lines k ≡ Some li
 
 -- ---- how a session stands by the lines
 
--- by the lines it reads a key
-pub record IsReading (s : Standing) : Type 0 where
-  pub tree : ℕ
-  pub key : List ℕ
-  pub is : s.posture ≡ Working (Reading tree key)
-
 -- a session's work is what the lines say that it has in hand
 abbrev pub WorksAs : Work → Standing → Type 0
 WorksAs work.Closed s = s.posture ≡ Closed
 WorksAs (work.Idle home) s = (s.posture ≡ Idle) × (s.client ≡ home.client)
 WorksAs (work.Opening r) s = (s.posture ≡ Working Opening) × (s.client ≡ r.client) × (s.buffer ≡ []) × IsOpening r
 WorksAs (work.Committing m) s = (s.posture ≡ Working (Committing m.changes)) × (s.client ≡ m.home.client) × IsWriting m
-WorksAs (work.Reading home m) s = IsReading s × (s.client ≡ home.client)
+WorksAs (work.Reading home m) s = (s.posture ≡ Working (ReadingKey m.tree (sought m))) × (s.client ≡ home.client)
 WorksAs (work.Paging home p) s = (s.posture ≡ Working (PagingPage p.tree p.page)) × (s.client ≡ home.client)
 WorksAs (work.Folding home f) s = (s.posture ≡ Working (FoldingTree f.tree)) × (s.client ≡ home.client)
 WorksAs (work.Closing lease) s = s.posture ≡ Working Closing

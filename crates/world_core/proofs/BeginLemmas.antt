@@ -31,17 +31,18 @@ use Rattle.session_facts.specs.Sessions.{Sessions, SessionsStand, IsRightOp}
 use Rattle.session_facts.proofs.Begins.{begins_keeps}
 use Rattle.session_facts.proofs.Laws.{buffer_keeps, same_sessions}
 use Rattle.page_cache.specs.Cache.{Cache}
-use Rattle.tree_walk.specs.Walk.{Walk, new_walk}
+use Rattle.tree_walk.specs.Walk.{new_walk}
 use Rattle.commit_facts.specs.Committing.{MayCommit}
 use Rattle.commit_facts.proofs.Noted.{may_note, may_none}
 use Rattle.store_book.specs.Tally.{at}
 use Rattle.store_book.proofs.Names.{at_same, at_other}
-use Rattle.replay_meaning.specs.Standing.{Line, Standing, Working as WorkingOn, Committing as Noting, standing, after_own, notes as notes_own}
+use Rattle.replay_meaning.specs.Standing.{Line, Standing, Working as WorkingOn, Committing as Noting, Reading as ReadingKey, standing, after_own, notes as notes_own}
 use Rattle.replay_model.specs.Facts.{session_at, ActsAs, WorksAs}
 use Rattle.replay_model.proofs.Acting.{IsReplyTo}
 use Rattle.replay_model.proofs.CommitSteps.{BeginsFor, commit_begins}
 use Rattle.replay_model.proofs.LineLemmas.{line_of, refused_own}
 use Rattle.replay_model.proofs.OpeningSteps.{opening_begins}
+use Rattle.replay_model.proofs.ReadingWalk.{reading_begins}
 use Rattle.world_core.specs.declared.world.World.{World}
 use Rattle.world_core.specs.declared.world.WorldFault.{WorldFault}
 use Rattle.world_core.specs.Sessions.{Changes, NotesIn, AbortsIn}
@@ -157,17 +158,19 @@ stays_idle trouble.Memory home never = absurd (never refl)
 stays_idle t home never = refl
 
 -- a read begins, or it is answered at once
-reads_of : (k tree : ℕ) (key : List ℕ) (r : Reply) (lines : List Line) (home : Home) (start : Walk) (old : Cache) (b : Acting) (begun : Begun) → b.buffer ≡ (standing lines k).buffer
-    → WorksAs (work.Idle home) (standing lines k) → ReadsOf home start old b.cache b.work b.read begun → RepliesBegun (Ok begun) b (Ok r)
+reads_of : (k tree : ℕ) (key : List ℕ) (r : Reply) (lines : List Line) (home : Home) (old : Cache) (b : Acting) (begun : Begun) → b.buffer ≡ (standing lines k).buffer
+    → WorksAs (work.Idle home) (standing lines k) → ReadsOf home (new_walk tree (Some key) false) old b.cache b.work b.read begun → RepliesBegun (Ok begun) b (Ok r)
     → LeavesSession (event.Read k tree key) r k lines b
-reads_of k tree key r lines home start old b Working same idle reads e =
+reads_of k tree key r lines home old b Working same idle reads e =
     let is : r ≡ reply.Begun = cc in
+    let looks = reading_begins tree key old b.cache reads.0 reads.1 in
     let P : Reply → Type 0 = λ z. LeavesSession (event.Read k tree key) z k lines b in
     subst P (sym is) (
-      acts_by b (work.Reading home reads.0) (after_own (event.Read k tree key) reply.Begun (standing lines k)) reads.2 same (record { tree = tree; key = key; is = refl }, idle.1),
+      acts_by b (work.Reading home reads.0) (after_own (event.Read k tree key) reply.Begun (standing lines k)) reads.2 same
+          (ap (λ i. WorkingOn (ReadingKey i key)) (sym looks.0) ∙ ap (λ i. WorkingOn (ReadingKey reads.0.tree i)) (sym looks.1), idle.1),
       tt,
     )
-reads_of k tree key r lines home start old b (Answered answer.Value) same idle reads e = on (replies_to answer.Value b r e).0
+reads_of k tree key r lines home old b (Answered answer.Value) same idle reads e = on (replies_to answer.Value b r e).0
   where
     P : Reply → Type 0
     P z = LeavesSession (event.Read k tree key) z k lines b
@@ -178,16 +181,16 @@ reads_of k tree key r lines home start old b (Answered answer.Value) same idle r
     on : IsReplyTo answer.Value r → P r
     on (inl none) = subst P (sym none) (acts, tt)
     on (inr (payload, some)) = subst P (sym some) (acts, tt)
-reads_of k tree key r lines home start old b (Answered (answer.Trouble t)) same idle reads e =
+reads_of k tree key r lines home old b (Answered (answer.Trouble t)) same idle reads e =
     let is = (replies_to (answer.Trouble t) b r e).0 in
     let P : Reply → Type 0 = λ z. LeavesSession (event.Read k tree key) z k lines b in
     subst P (sym is.0) (acts_by b (work.Idle home) (standing lines k) (reads.2 ∙ stays_idle t home is.1) same idle, tt)
-reads_of k tree key r lines home start old b (Answered a) same idle reads e = absurd reads
+reads_of k tree key r lines home old b (Answered a) same idle reads e = absurd reads
 
 reads : (k tree : ℕ) (key : List ℕ) (r : Reply) (lines : List Line) (a b : Acting) (begun : Result Begun Refused) → ActsAs a (standing lines k) → BeginsWith (ReadsIn tree key a) a b begun
     → RepliesBegun begun b (Ok r) → LeavesSession (event.Read k tree key) r k lines b
 reads k tree key r lines a b (Ok begun) acts begins e =
-    reads_of k tree key r lines begins.0 (new_walk tree (Some key) false) a.cache b begun (begins.2.0 ∙ acts.buffer) (idle_of k lines a begins.0 begins.1 acts) begins.2.1 e
+    reads_of k tree key r lines begins.0 a.cache b begun (begins.2.0 ∙ acts.buffer) (idle_of k lines a begins.0 begins.1 acts) begins.2.1 e
 reads k tree key r lines a b (Err (refused.Rule rule)) acts begins e = refused_session (event.Read k tree key) r rule k lines a b e begins.1 acts
 reads k tree key r lines a b (Err refused.Memory) acts begins e = absurd begins
 

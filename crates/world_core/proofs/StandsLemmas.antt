@@ -235,7 +235,7 @@ step_more lines who wish before after old new event some way p =
     let acts = way.goes.acts who.session in
     let mine : ActsAs p.session.after (standing lines who.session) = record {
       buffer = own.buffer ∙ goes_noted who p.under p.to (f who.session).work p.session.after.work (f who.session).buffer own.work ∙ acts.buffer;
-      work = goes_as who p.under p.to (f who.session).work p.session.after.work (standing lines who.session) own.work acts.work;
+      work = goes_as who p.under p.to (f who.session).work p.session.after.work (f who.session).cache own.shown.0 p.session.after.read (standing lines who.session) own.work own.shown.1 acts.work;
     } in
     let all : AllAct lines (at who.session p.session.after f) = acts_set lines who.session f p.session.after way.goes.acts mine in
     record {

@@ -13,7 +13,7 @@ use Rattle.checkpoint_facts.proofs.Begins.{folding_begins}
 use Rattle.cloud_trait.specs.Claim.{Claim}
 use Rattle.cloud_trait.specs.Machine.{Goes, Ends}
 use Rattle.cloud_trait.specs.State.{CloudState}
-use Rattle.commit_facts.specs.Committing.{MayCommit, KnowsCommit}
+use Rattle.commit_facts.specs.Committing.{MayCommit}
 use Rattle.commit_facts.proofs.Begins.{commit_begins, commit_ends_at_once}
 use Rattle.commit_facts.proofs.Noted.{may_none}
 use Rattle.commit_writes.specs.Writing.{Writing, waiting, writing_ready}
@@ -23,7 +23,7 @@ use Rattle.db_base.specs.declared.trouble.Trouble.TheVariants as trouble
 use Rattle.db_base.specs.declared.refusal.Refused.{Refused}
 use Rattle.db_base.specs.declared.refusal.Refused.TheVariants as refused
 use Rattle.db_base.specs.declared.trouble.CommitAnswer.{CommitAnswer}
-use Rattle.home_facts.specs.Homes.{Part, Away, Parts, HomesHold}
+use Rattle.home_facts.specs.Homes.{Part, Away}
 use Rattle.opening_facts.specs.Opening.{leases_of_recovery, KnowsOpening}
 use Rattle.opening_facts.proofs.Begins.{opening_begins}
 use Rattle.recover_run.specs.declared.home.Home.{Home}
@@ -41,7 +41,6 @@ use Rattle.store_book.specs.Records.{IsIn}
 use Rattle.store_book.specs.Tally.{Store, at}
 use Rattle.store_book.proofs.Places.{in_none}
 use Rattle.telling_facts.specs.Told.{store_of}
-use Rattle.txn_buffer.specs.Noted.{Noted}
 
 module _ (book : Book) (order : List Entry) (s : CloudState) (sessions : Sessions) (session : ℕ) (stand : SessionsStand book order s sessions) where
   abbrev st : Store

@@ -1,5 +1,5 @@
 -- Every call of a session keeps what holds of a cloud and of all its sessions.
-use Rattle.std.proofs.Common.{◌≡◌, ◌≢◌, ◌≤◌, ◌⊎◌, inl, inr, ℕ, List, [], ◌++◌, Option, Some, None, Result, Ok, Err, Bool, false, cond, refl, sym, ap, subst, ◌∙◌}
+use Rattle.std.proofs.Common.{◌≡◌, ◌≢◌, ◌≤◌, ◌⊎◌, inl, inr, ℕ, List, [], ◌++◌, Option, Some, None, Result, Ok, Err, false, cond, refl, sym, ap, subst, ◌∙◌}
 use Rattle.std.specs.Prelude.{map}
 use Rattle.std.proofs.lemmas.Bool.{cases_eq}
 use Rattle.std.proofs.lemmas.List.{append-nil}
@@ -8,7 +8,7 @@ use Rattle.client_session.specs.declared.answer.Answer.{Answer}
 use Rattle.client_session.specs.declared.work.Work.{Work}
 use Rattle.client_session.specs.declared.work.Work.TheVariants.{Closed, Idle, Opening, Committing, Reading, Folding, Paging, Closing, Renewing, Broken}
 use Rattle.cloud_facts.specs.Acting.{Setting, Outcome}
-use Rattle.cloud_facts.specs.Looks.{Newest, has_landed, audited_at, audit_of}
+use Rattle.cloud_facts.specs.Looks.{has_landed, audit_of}
 use Rattle.cloud_facts.proofs.Outcomes.{none_lands}
 use Rattle.cloud_trait.proofs.EffectLemmas.{begins_itself}
 use Rattle.cloud_trait.specs.declared.turn.Turn.{Turn}

@@ -1,5 +1,5 @@
 -- A commit never changes its home's lease.
-use Rattle.std.proofs.Common.{◌≡◌, ◌+◌, ℕ, List, ◌∷◌, ◌++◌, [], Option, Some, None, Result, Ok, Err, refl}
+use Rattle.std.proofs.Common.{◌≡◌, ◌+◌, ℕ, ◌∷◌, ◌++◌, [], Option, Some, None, Result, Ok, Err, refl}
 use Rattle.std.specs.Prelude.{slice_get}
 use Rattle.cloud_trait.specs.declared.answer.Answer.{Answer}
 use Rattle.cloud_trait.specs.Claim.{Claim}

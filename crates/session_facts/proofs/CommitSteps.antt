@@ -4,7 +4,7 @@ use Rattle.client_session.specs.Session.{StepsCommit, committed_work}
 use Rattle.client_session.specs.declared.answer.Answer.{Answer}
 use Rattle.client_session.specs.declared.answer.Answer.TheVariants as answer
 use Rattle.client_session.specs.declared.work.Work.{Work}
-use Rattle.client_session.specs.declared.work.Work.TheVariants.{Idle, Committing, Broken}
+use Rattle.client_session.specs.declared.work.Work.TheVariants.{Committing, Broken}
 use Rattle.cloud_facts.specs.Acting.{Setting, Outcome, Handles}
 use Rattle.cloud_facts.specs.Call.{IsCall}
 use Rattle.cloud_facts.proofs.Calls.{call_of}
@@ -15,7 +15,7 @@ use Rattle.cloud_trait.specs.declared.turn.Turn.TheVariants.{More, Ended, Stoppe
 use Rattle.cloud_trait.specs.Ask.{Ask, Get, GetHeld, PutHeld, Send, Receive, Delete, Take, Renew, Release}
 use Rattle.cloud_trait.specs.Caller.{Caller}
 use Rattle.cloud_trait.specs.Claim.{Claim}
-use Rattle.cloud_trait.specs.Machine.{Next, Goes, Ends, Stops, LeadsBy, Steps}
+use Rattle.cloud_trait.specs.Machine.{Next, Goes, Ends, Stops}
 use Rattle.cloud_trait.specs.Seen.{Seen}
 use Rattle.cloud_trait.specs.State.{CloudState}
 use Rattle.cloud_trait.specs.Weather.{Makes}
@@ -35,7 +35,7 @@ use Rattle.db_base.specs.declared.trouble.CommitAnswer.{CommitAnswer}
 use Rattle.db_base.specs.declared.trouble.CommitAnswer.TheVariants.{Committed, NotCommitted, InDoubt, CommittedOpen}
 use Rattle.head_codec.specs.declared.head.Head.{Head}
 use Rattle.history.specs.Audited.{Audited}
-use Rattle.home_facts.specs.Homes.{Part, Away, Parts}
+use Rattle.home_facts.specs.Homes.{Part, Parts}
 use Rattle.recover_run.specs.declared.home.Home.{Home}
 use Rattle.report_types.specs.declared.entry.Entry.{Entry}
 use Rattle.session_facts.specs.Noting.{noted_head, noted_at}

@@ -1,6 +1,6 @@
 -- One step of a session's tree checkpoint.
-use Rattle.std.proofs.Common.{◌≡◌, ◌≢◌, ◌≤◌, ◌⊎◌, inl, inr, ℕ, List, [], ◌∷◌, ◌++◌, Option, Some, None, refl, sym, ap, subst, ◌∙◌}
-use Rattle.checkpoint_facts.specs.Checkpoint.{KnowsFolding, KnowsNext, KnowsAfter, leases_of_folding, leases_next, folding_note}
+use Rattle.std.proofs.Common.{◌≡◌, ◌≤◌, ℕ, List, [], ◌∷◌, Some, refl, sym, subst}
+use Rattle.checkpoint_facts.specs.Checkpoint.{KnowsFolding, KnowsAfter, folding_note}
 use Rattle.checkpoint_facts.proofs.Hands.{folding_handles, folding_home_handles}
 use Rattle.checkpoint_facts.proofs.Steps.{folding_outcome}
 use Rattle.client_session.specs.Session.{StepsFolding, stopped_work}
@@ -18,25 +18,22 @@ use Rattle.cloud_trait.specs.declared.turn.Turn.{Turn}
 use Rattle.cloud_trait.specs.declared.turn.Turn.TheVariants.{More, Ended, Stopped}
 use Rattle.cloud_trait.specs.Ask.{Ask, Get, GetHeld, PutHeld, Send, Receive, Delete, Take, Renew, Release}
 use Rattle.cloud_trait.specs.Caller.{Caller}
-use Rattle.cloud_trait.specs.Claim.{Claim}
-use Rattle.cloud_trait.specs.Machine.{Next, Goes, Ends, Stops}
+use Rattle.cloud_trait.specs.Machine.{Goes}
 use Rattle.cloud_trait.specs.Seen.{Seen}
 use Rattle.cloud_trait.specs.State.{CloudState}
 use Rattle.cloud_trait.specs.Weather.{Makes}
-use Rattle.cloud_trait.specs.declared.turn.CkptAnswer.{CkptAnswer}
 use Rattle.db_base.specs.declared.names.ObjName.TheVariants as object
 use Rattle.db_base.specs.declared.trouble.Trouble.{Trouble}
 use Rattle.db_base.specs.declared.trouble.Trouble.TheVariants as trouble
 use Rattle.first_tree.specs.Folding.{Folding, FoldingLeads, folding_ask}
 use Rattle.history.specs.Audited.{Audited}
-use Rattle.home_facts.specs.Homes.{Part, Away, Parts}
+use Rattle.home_facts.specs.Homes.{Part, Parts}
 use Rattle.recover_run.specs.declared.home.Home.{Home}
 use Rattle.report_types.specs.declared.entry.Entry.{Entry}
 use Rattle.session_facts.specs.Noting.{noted_at}
 use Rattle.session_facts.specs.Sessions.{leases_of, IsHome, KnowsWork}
 use Rattle.session_facts.proofs.LeaseSteps.{IsStepOf}
 use Rattle.store_book.specs.Book.{Book}
-use Rattle.store_book.specs.Records.{IsIn}
 use Rattle.store_book.specs.Tally.{Store}
 use Rattle.telling_facts.specs.Told.{store_of}
 

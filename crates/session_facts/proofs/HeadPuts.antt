@@ -1,29 +1,23 @@
 -- The puts of heads that sessions have in hand.
-use Rattle.std.proofs.Common.{◌≡◌, ◌⊎◌, inl, inr, ℕ, Bool, true, false, List, [], ◌∷◌, length, Option, Some, None, refl, sym, ap, subst, ◌∙◌}
-use Rattle.cloud_trait.specs.Ask.{Ask, Get, GetHeld, PutHeld, Send, Receive, Delete, Take, Renew, Release}
+use Rattle.std.proofs.Common.{◌≡◌, ◌⊎◌, inl, inr, ℕ, Bool, true, false, List, [], ◌∷◌, length, Option, Some, None, refl, sym, ap, ◌∙◌}
+use Rattle.cloud_trait.specs.Ask.{Ask, GetHeld, PutHeld, Renew, Release}
 use Rattle.cloud_trait.specs.Claim.{Claim}
-use Rattle.client_session.specs.Session.{ask_of_work, opens_of, committing_of}
+use Rattle.client_session.specs.Session.{ask_of_work, opens_of}
 use Rattle.client_session.specs.declared.work.Work.{Work}
 use Rattle.client_session.specs.declared.work.Work.TheVariants.{Closed, Idle, Opening, Committing, Reading, Folding as FoldingTree, Paging, Closing, Renewing, Broken}
-use Rattle.commit_facts.specs.Committing.{KnowsCommit}
 use Rattle.commit_facts.specs.Puts.{OpensHead, PutsHead as CommitPuts}
 use Rattle.commit_facts.proofs.HeadPuts.{commit_puts}
-use Rattle.commit_writes.specs.Sound.{IsSound as IsSoundCommit}
-use Rattle.commit_writes.specs.Writing.{Writing, writing_ask, opens_at}
+use Rattle.commit_writes.specs.Writing.{Writing, opens_at}
 use Rattle.db_base.specs.declared.names.ObjName.{ObjName}
 use Rattle.db_base.specs.declared.names.ObjName.TheVariants as object
 use Rattle.first_tree.specs.declared.stage.Stage.{Stage}
 use Rattle.first_tree.specs.declared.stage.Stage.TheVariants.{TakingTree, GettingTree, Receiving, TakingPage, GettingPage, PuttingPage, ReleasingPage, PuttingTree, Deleting, ReleasingTree, StoppingPage, StoppingTree, Finished}
 use Rattle.first_tree.specs.Folding.{Folding, ask_at, folding_ask, under_tree, under_page, delete_next}
-use Rattle.head_codec.specs.declared.head.Head.{Head}
 use Rattle.head_codec.specs.declared.head.Phase.TheVariants as phase
 use Rattle.home_facts.specs.Homes.{Part}
-use Rattle.opening_facts.specs.Opening.{KnowsOpening}
-use Rattle.opening_facts.specs.Puts.{PutsHead as OpeningPuts}
 use Rattle.opening_facts.proofs.HeadPuts.{opening_puts}
 use Rattle.page_facts.proofs.HeadPuts.{paging_puts_none}
-use Rattle.recover_run.specs.Recovery.{Recovery, recovery_ask, IsSound as IsSoundOpening}
-use Rattle.session_facts.specs.Puts.{IsSoundWork, IsClientOf, Commits, PutsHead}
+use Rattle.session_facts.specs.Puts.{IsSoundWork, Commits, PutsHead}
 use Rattle.session_facts.specs.Sessions.{KnowsWork}
 use Rattle.store_book.specs.Tally.{Store}
 use Rattle.tree_walk.specs.Walk.{walk_ask}

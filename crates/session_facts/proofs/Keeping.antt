@@ -1,5 +1,5 @@
 -- What each session knows survives a call of another one, and time.
-use Rattle.std.proofs.Common.{◌≡◌, ◌≢◌, ◌≤◌, ◌⊎◌, inl, inr, ℕ, List, [], ◌∷◌, ◌++◌, map, refl, sym, ap, subst, ◌∙◌}
+use Rattle.std.proofs.Common.{◌≡◌, ◌≢◌, ◌≤◌, ℕ, List, [], ◌∷◌, ◌++◌, map, refl, sym, ap, subst, ◌∙◌}
 use Rattle.checkpoint_facts.proofs.FoldingOthers.{folding_others}
 use Rattle.client_session.specs.Session.{Acting}
 use Rattle.client_session.specs.declared.work.Work.{Work}
@@ -13,12 +13,11 @@ use Rattle.cloud_trait.specs.Claim.{Claim, Lasts}
 use Rattle.cloud_trait.specs.State.{CloudState}
 use Rattle.cloud_trait.specs.declared.state.Version.{Version}
 use Rattle.commit_facts.proofs.CommitOthers.{commit_others, commit_lease}
-use Rattle.db_base.specs.Ids.{IsTree}
 use Rattle.db_base.specs.declared.names.Lock.TheVariants as lock
 use Rattle.db_base.specs.declared.names.ObjName.{ObjName}
 use Rattle.db_base.specs.declared.names.ObjName.TheVariants as object
 use Rattle.head_codec.specs.Head.{empty_head}
-use Rattle.home_facts.specs.Homes.{Part, Away, AtHome}
+use Rattle.home_facts.specs.Homes.{Part, Away}
 use Rattle.lease_facts.specs.Guards.{guard, Allowed}
 use Rattle.lease_facts.specs.Leases.{Hands, LeasesHold}
 use Rattle.lease_facts.proofs.GuardLemmas.{guarded_stays}
@@ -32,7 +31,7 @@ use Rattle.store_book.specs.Book.{Book}
 use Rattle.store_book.specs.Records.{IsIn}
 use Rattle.store_book.specs.Tally.{Store}
 use Rattle.store_book.specs.Telling.{last_or, head_in, root_in, node_in}
-use Rattle.store_book.proofs.Places.{in_front, in_behind}
+use Rattle.store_book.proofs.Places.{in_behind}
 use Rattle.telling_facts.specs.Told.{store_of}
 
 -- ---- of what others rely on, a call of a session leaves what leases of others guard

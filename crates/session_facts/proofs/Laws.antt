@@ -1,5 +1,5 @@
 -- What holds of a cloud and of all its sessions holds after every call, begin, crash and wait.
-use Rattle.std.proofs.Common.{◌≡◌, ◌≢◌, ◌≤◌, ◌⊎◌, inl, inr, ℕ, List, [], ◌∷◌, Option, Some, None, refl, sym, ap, subst, ◌∙◌, arith}
+use Rattle.std.proofs.Common.{◌≡◌, ◌≢◌, ◌≤◌, ◌⊎◌, inl, inr, ℕ, List, [], Option, Some, None, refl, sym, ap, subst, ◌∙◌, arith}
 use Rattle.std.specs.Prelude.{cond}
 use Rattle.std.proofs.lemmas.Bool.{cases_eq}
 use Rattle.chain_facts.specs.Chain.{ChainHolds}
@@ -26,7 +26,7 @@ use Rattle.home_facts.proofs.HomeLemmas.{none_home, later_keeps as homes_later, 
 use Rattle.landing_facts.specs.Reporting.{IsReportable}
 use Rattle.landing_facts.proofs.ReportLemmas.{reportable}
 use Rattle.lease_facts.specs.Guards.{Allowed}
-use Rattle.lease_facts.specs.Leases.{Hands, Holds, LeasesHold, Owns, KeptBy, GainedBy}
+use Rattle.lease_facts.specs.Leases.{Hands, Holds, LeasesHold, Owns}
 use Rattle.lease_facts.proofs.GuardLemmas.{call_is_allowed, lasting_apart}
 use Rattle.lease_facts.proofs.LeaseLemmas.{leaves_keep, fewer_keeps, later_keeps}
 use Rattle.log_codec.specs.declared.record.AtomicRec.{AtomicRec}

@@ -13,12 +13,11 @@ use Rattle.cloud_trait.specs.declared.answer.Answer.{Answer as Reply}
 use Rattle.cloud_trait.specs.declared.turn.Turn.{Turn}
 use Rattle.cloud_trait.specs.declared.turn.Turn.TheVariants.{More, Ended, Stopped}
 use Rattle.cloud_trait.specs.Caller.{Caller}
-use Rattle.cloud_trait.specs.Claim.{Claim}
 use Rattle.cloud_trait.specs.Machine.{Goes, Ends, Stops}
 use Rattle.cloud_trait.specs.Seen.{Seen}
 use Rattle.cloud_trait.specs.State.{CloudState}
-use Rattle.cloud_trait.specs.Weather.{Makes, Fits}
-use Rattle.home_facts.specs.Homes.{Part, Away, Parts}
+use Rattle.cloud_trait.specs.Weather.{Makes}
+use Rattle.home_facts.specs.Homes.{Part, Parts}
 use Rattle.opening_facts.specs.Opening.{KnowsOpening, KnowsEnd, KnowsNext, leases_of_recovery, leases_of_end, leases_of_next}
 use Rattle.opening_facts.proofs.Outcomes.{opening_outcome}
 use Rattle.opening_facts.proofs.Hands.{opening_handles}
@@ -28,7 +27,6 @@ use Rattle.report_types.specs.declared.entry.Entry.{Entry}
 use Rattle.session_facts.specs.Sessions.{leases_of, KnowsWork}
 use Rattle.session_facts.proofs.LeaseSteps.{IsStepOf}
 use Rattle.store_book.specs.Book.{Book}
-use Rattle.store_book.specs.Records.{IsIn}
 use Rattle.store_book.specs.Tally.{Store}
 use Rattle.store_book.proofs.Places.{in_none}
 use Rattle.telling_facts.specs.Told.{store_of}

@@ -1,5 +1,5 @@
 -- One step of a session's read: a get, which changes nothing.
-use Rattle.std.proofs.Common.{◌≡◌, ◌≢◌, ◌≤◌, ◌⊎◌, inl, inr, ℕ, List, [], ◌∷◌, Option, Some, None, refl, sym, ap, subst, ◌∙◌}
+use Rattle.std.proofs.Common.{◌≡◌, ◌≢◌, ◌≤◌, ◌⊎◌, inl, inr, List, [], ◌∷◌, Some, refl, sym, ap, subst, ◌∙◌}
 use Rattle.client_session.specs.Session.{Asks, StepsReading, stopped_work}
 use Rattle.client_session.specs.declared.answer.Answer.{Answer}
 use Rattle.client_session.specs.declared.answer.Answer.TheVariants as answer
@@ -16,14 +16,13 @@ use Rattle.cloud_trait.specs.Seen.{Seen}
 use Rattle.cloud_trait.specs.State.{CloudState}
 use Rattle.db_base.specs.declared.trouble.Trouble.{Trouble}
 use Rattle.db_base.specs.declared.trouble.Trouble.TheVariants as trouble
-use Rattle.home_facts.specs.Homes.{Part, Parts, HomesHold}
+use Rattle.home_facts.specs.Homes.{Parts, HomesHold}
 use Rattle.recover_run.specs.declared.home.Home.{Home}
 use Rattle.report_types.specs.declared.entry.Entry.{Entry}
-use Rattle.session_facts.specs.Sessions.{leases_of, IsHome, KnowsWork}
+use Rattle.session_facts.specs.Sessions.{IsHome}
 use Rattle.session_facts.proofs.LeaseSteps.{IsStepOf, part_again}
 use Rattle.session_facts.proofs.Troubles.{memory_or, stays_open}
 use Rattle.store_book.specs.Book.{Book}
-use Rattle.store_book.specs.Tally.{Store}
 use Rattle.telling_facts.specs.Told.{store_of}
 use Rattle.tree_walk.specs.Walk.{Walk, walk_ask}
 

@@ -6,3 +6,4 @@ pub mod Outcomes
 pub mod Placings
 pub mod Folds
 pub mod FoldSteps
+pub mod Risings

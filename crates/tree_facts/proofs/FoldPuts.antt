@@ -124,10 +124,10 @@ module _ (book : Book) (order : List Entry) (s : CloudState) (stands : StandsUnd
     other e =
         reserved_last.unlinked number (omega arith) (let w = within in omega (arith, w)) 0 k.linked.link (k.linked.place, k.linked.linked) (k.linked.page_is ∙ e)
 
-    page_stays : (p : ℕ) → p ≢ number → piece_after.tally.nodes tree p ≡ nodes_of s tree p
+    pub page_stays : (p : ℕ) → p ≢ number → piece_after.tally.nodes tree p ≡ nodes_of s tree p
     page_stays p ne = at2_beside tree number (nodes_of s tree number ++ leaf_node last ∷ []) (nodes_of s) tree p ne
 
-    pub piece_known : PutsPieces piece_after now lease (landed f) run
+    abbrev pub piece_known : PutsPieces piece_after now lease (landed f) run
     piece_known = record {
       leaf = k.leaf;
       linked = k.linked;

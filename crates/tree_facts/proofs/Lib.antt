@@ -21,5 +21,7 @@ pub mod WayCalls
 pub mod Planning
 pub mod FoldReads
 pub mod FoldPlans
+pub mod FoldGets
+pub mod FoldPutting
 pub mod FoldCalls
 pub mod NodePieces

@@ -78,7 +78,7 @@ module _ (book : Book) (order : List Entry) (s : CloudState) (stands : StandsUnd
       way : IsOnWay (book.chain tree) 0 right high f.chart.key (f.visited ++ f.page ∷ [])
       way = leaf_right book order s stands tree k.at.chart.tree f.page f.low f.chart.key f.visited k.at.way high right is named out
 
-      abbrev link : Found
+      link : Found
       link = record { level = 1; low = high; page = right }
 
       found : AreFound (book.chain tree) (f.chart.links ++ link ∷ [])
@@ -86,7 +86,7 @@ module _ (book : Book) (order : List Entry) (s : CloudState) (stands : StandsUnd
         where
           here : (link ≡ l) ⊎ IsIn [] l → IsFound (book.chain tree) l
           here (inl same) = subst (IsFound (book.chain tree)) same (record { above = omega arith; linked = way.at.linked })
-          here (inr no) = absurd (none_in l no)
+          here (inr nothing) = absurd (none_in l nothing)
 
           turn : IsIn f.chart.links l ⊎ IsIn (link ∷ []) l → IsFound (book.chain tree) l
           turn (inl old) = k.at.chart.links l old

@@ -139,6 +139,7 @@ reading_others mine st su now later lease f ids after held is o k = record {
 
 pub putting_others : (mine : List Claim) (st su : Store) (now later : ℕ) (lease : Claim) (f : Folding) (ids : List ℕ) → now ≤ later → IsIn mine lease
     → lease.lock ≡ lock.Tree f.chart.tree → IsIn mine f.lease → OthersOfTree mine later st su → IsPutting st now lease f ids → IsPutting su later lease f ids
+unfolding pieces_others
 putting_others mine st su now later lease f ids after held is own o k = record {
   tree = k.tree;
   root = root_stays st su now later lease f.chart.tree (tree_held f.chart.root) after grows (o.roots lease f.chart.tree held is) k.root;

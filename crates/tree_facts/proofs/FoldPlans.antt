@@ -134,13 +134,13 @@ module _ (book : Book) (order : List Entry) (s : CloudState) (stands : StandsUnd
           inr (and_from (not (bytes_below (key_of x.rec.change) leaf.low)) (below_bound (key_of x.rec.change) leaf.high)
           (ap not (ap (bytes_below (key_of x.rec.change)) low_is ∙ not_below (key_of x.rec.change) f.chart.key f.low from at.way.at.from)) below)
 
-  formed : IsWellFormed leaf × (leaf.version ≤ greatest)
+  pub formed : IsWellFormed leaf × (leaf.version ≤ greatest)
   formed = newest_formed book order s tree f.page stands
 
   ordered : IsOrdered items
   ordered = run_ordered st tree 0 (tree_held f.chart.root).cursor run.took.received items f.chart.run.top run.took.is_run run.took.items
 
-  whole_formed : IsWellFormed whole
+  pub whole_formed : IsWellFormed whole
   whole_formed = applied-formed leaf 0 items (omega arith) formed.0 ordered
 
   -- ---- a leaf that lacks nothing stays as it is

@@ -109,7 +109,7 @@ module _ (book : Book) (order : List Entry) (s : CloudState) (stands : StandsUnd
     notes = p.notes;
   }
     where
-      abbrev su : Store
+      su : Store
       su = reserving_after book order s stands now lease f p.tree run p.puts newest bytes some
 
       grows : Grows st su
@@ -141,10 +141,10 @@ module _ (book : Book) (order : List Entry) (s : CloudState) (stands : StandsUnd
         notes = p.notes;
       }
         where
-          abbrev su : Store
+          su : Store
           su = piece_after book order s stands now lease f p.tree run p.took.clients p.puts none lasts leaf_lasts nobody middle last is
 
-          abbrev number : ℕ
+          number : ℕ
           number = p.puts.first + length middle
 
           grows : Grows st su
@@ -186,7 +186,7 @@ module _ (book : Book) (order : List Entry) (s : CloudState) (stands : StandsUnd
         apart = p.apart;
       }
         where
-          abbrev su : Store
+          su : Store
           su = left_after book order s stands now lease f p.tree run p.took.clients p.puts none lasts leaf_lasts nobody is
 
           grows : Grows st su
@@ -200,7 +200,7 @@ module _ (book : Book) (order : List Entry) (s : CloudState) (stands : StandsUnd
               at2_beside tree f.page _ (nodes_of s) tree page
               (λ e. leafy_branch (newest_node (nodes_of s tree) f.page) p.puts.leaf n (p.puts.newest leaf_lasts).is (sym (ap (newest_node (nodes_of s tree)) e) ∙ newest))
 
-          abbrev behind : List LeafPart
+          behind : List LeafPart
           behind = p.puts.placing.behind
 
           -- the pieces behind the leaf are links then

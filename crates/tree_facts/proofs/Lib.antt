@@ -13,6 +13,7 @@ pub mod Reservations
 pub mod Naming
 pub mod Covering
 pub mod LeafReads
+pub mod WayCharts
 pub mod FoldOthers
 pub mod FoldPuts
 pub mod LastRoot

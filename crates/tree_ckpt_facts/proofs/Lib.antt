@@ -1,0 +1,9 @@
+pub mod Begins
+pub mod Keys
+pub mod Trees
+pub mod Upward
+pub mod Nexts
+pub mod Going
+pub mod MakingOthers
+pub mod Held
+pub mod Guards

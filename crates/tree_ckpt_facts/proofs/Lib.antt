@@ -7,3 +7,5 @@ pub mod Going
 pub mod MakingOthers
 pub mod Held
 pub mod Guards
+pub mod UpGuards
+pub mod Hands

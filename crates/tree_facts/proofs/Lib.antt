@@ -23,3 +23,10 @@ pub mod FoldReads
 pub mod FoldPlans
 pub mod FoldCalls
 pub mod NodePieces
+pub mod RisingSpells
+pub mod RisingGrounds
+pub mod RisingPlaces
+pub mod RisingNodes
+pub mod RisingRoots
+pub mod RisingSteps
+pub mod RisingOthers

@@ -30,3 +30,5 @@ pub mod RisingNodes
 pub mod RisingRoots
 pub mod RisingSteps
 pub mod RisingOthers
+pub mod RisingEffects
+pub mod RisingReserves

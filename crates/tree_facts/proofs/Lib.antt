@@ -26,3 +26,12 @@ pub mod FoldGets
 pub mod FoldPutting
 pub mod FoldCalls
 pub mod NodePieces
+pub mod RisingSpells
+pub mod RisingGrounds
+pub mod RisingPlaces
+pub mod RisingNodes
+pub mod RisingRoots
+pub mod RisingSteps
+pub mod RisingOthers
+pub mod RisingEffects
+pub mod RisingReserves

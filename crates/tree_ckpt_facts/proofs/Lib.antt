@@ -9,3 +9,4 @@ pub mod Held
 pub mod Guards
 pub mod UpGuards
 pub mod Hands
+pub mod Steps

@@ -9,13 +9,14 @@ use Rattle.client_session.specs.declared.op.Op.{Op}
 use Rattle.client_session.specs.declared.op.Op.TheVariants as op
 use Rattle.client_session.specs.declared.work.Work.{Work}
 use Rattle.client_session.specs.declared.work.Work.TheVariants.{Closed, Idle, Opening, Committing, Reading, Folding, Paging, Closing, Renewing, Broken}
+use Rattle.cloud_facts.specs.Acting.{KnowsHome}
 use Rattle.cloud_trait.specs.Claim.{Claim}
 use Rattle.cloud_trait.specs.Machine.{Goes, Ends}
 use Rattle.cloud_trait.specs.State.{CloudState}
 use Rattle.commit_facts.specs.Committing.{MayCommit, KnowsEnd, Reaches}
 use Rattle.commit_run.specs.Run.{Run, new_run, home_of, run_ready}
 use Rattle.commit_run_facts.specs.Running.{KnowsRun, KnowsRunNext}
-use Rattle.commit_run_facts.proofs.RunBegins.{run_begins}
+use Rattle.commit_run_facts.proofs.RunBegins.{run_begins, ready_refuses}
 use Rattle.commit_run_facts.proofs.RunLeases.{RunLeaseStays, ready_lease_stays}
 use Rattle.commit_facts.proofs.Noted.{may_none}
 use Rattle.db_base.specs.Ids.{IsClient, IsTree, IsPage}
@@ -203,11 +204,13 @@ module _ (book : Book) (order : List Entry) (s : CloudState) (sessions : Session
       let reached = ready home idle some in
       let k : KnowsEnd st s.now (home_of r) a reached.part × KnowsCache st new.cache = subst (λ n. KnowsRunNext n st s.now reached.part) leads reached.knows in
       let stays : (home_of r).lease ≡ home.lease = subst (RunLeaseStays home.lease) leads (lease_stays home) in
-      let refused = subst (RunsFor IsRefusal old.buffer home.client) leads (runs_begin home old.buffer old.cache) in
+      let refused = ready_refuses home old.buffer old.cache (r, new.cache) a leads in
+      let open_home : KnowsHome st s.now (home_of r).client (home_of r).lease (home_of r).head (home_of r).attempt reached.part =
+      subst (λ x. KnowsEnd st s.now (home_of r) x reached.part) refused.1 k.0 in
       session_changes book order s sessions session new reached.part stand
       (λ x is. mine home idle x (subst (λ l. IsIn (l ∷ []) x) stays (subst (λ (q : Work). IsIn (leases_of q) x) e is))) reached.homes
       (record {
-        work = subst (λ q. KnowsWork st s.now new.cache q reached.part) (sym e) (not_committed a reached.part (home_of r) refused k.0);
+        work = subst (λ q. KnowsWork st s.now new.cache q reached.part) (sym e) open_home;
         kept = subst (λ q. KnowsKept st new.cache q) (sym e) k.1;
         buffer = no_buffer new none;
       })

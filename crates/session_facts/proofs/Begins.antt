@@ -16,8 +16,8 @@ use Rattle.cloud_trait.specs.State.{CloudState}
 use Rattle.commit_facts.specs.Committing.{MayCommit, KnowsEnd, Reaches}
 use Rattle.commit_run.specs.Run.{Run, new_run, home_of, run_ready}
 use Rattle.commit_run_facts.specs.Running.{KnowsRun, KnowsRunNext}
-use Rattle.commit_run_facts.proofs.RunBegins.{run_begins, ready_refuses}
-use Rattle.commit_run_facts.proofs.RunLeases.{RunLeaseStays, ready_lease_stays}
+use Rattle.commit_run_facts.proofs.Begins.{run_begins, ready_refuses}
+use Rattle.commit_run_facts.proofs.RunLeases.{RunLeaseStays, ready_lease}
 use Rattle.commit_facts.proofs.Noted.{may_none}
 use Rattle.db_base.specs.Ids.{IsClient, IsTree, IsPage}
 use Rattle.db_base.specs.declared.trouble.Trouble.{Trouble}
@@ -48,7 +48,7 @@ use Rattle.tree_ckpt_facts.proofs.Begins.{making_begins}
 use Rattle.walk_facts.specs.Caches.{KnowsCache}
 use Rattle.walk_facts.specs.Walks.{KnowsWalking, IsAtSeenLeaf, WalkLeads, MayStop}
 use Rattle.walk_facts.proofs.Caches.{empty_knows}
-use Rattle.walk_facts.proofs.Begins.{walk_begins}
+use Rattle.walk_facts.proofs.Walks.{walk_begins}
 
 module _ (book : Book) (order : List Entry) (s : CloudState) (sessions : Sessions) (session : ℕ) (stand : SessionsStand book order s sessions) where
   abbrev st : Store
@@ -180,7 +180,7 @@ module _ (book : Book) (order : List Entry) (s : CloudState) (sessions : Session
   ready home idle some = run_begins book order s stand.cloud stand.parts session home old.buffer old.cache (home_known home idle) (cache_known home idle) known.buffer some stand.homes
 
   lease_stays : (home : Home) → RunLeaseStays home.lease (run_ready (new_run home old.buffer, old.cache))
-  lease_stays home = ready_lease_stays home old.buffer old.cache
+  lease_stays home = ready_lease home old.buffer old.cache
 
   -- a commit is in hand, of the home's next attempt
   commit_well : (home : Home) (r : Run) (new : Acting) → old.work ≡ Idle home → run_ready (new_run home old.buffer, old.cache) ≡ Goes (r, new.cache) → 1 ≤ length old.buffer → new.buffer ≡ []

@@ -30,7 +30,7 @@ use Rattle.commit_run.specs.Sound.{IsSoundRun}
 use Rattle.commit_run_facts.specs.Noting.{noted_in, run_note}
 use Rattle.commit_run_facts.specs.Running.{KnowsRun, KnowsRunNext}
 use Rattle.commit_run_facts.proofs.RunHands.{run_handles}
-use Rattle.commit_run_facts.proofs.RunLeases.{RunLeaseStays, run_lease_stays}
+use Rattle.commit_run_facts.proofs.RunLeases.{RunLeaseStays, run_lease}
 use Rattle.commit_run_facts.proofs.RunOutcomes.{run_outcome}
 use Rattle.commit_writes.specs.declared.stage.Stage.{Stage}
 use Rattle.commit_writes.specs.declared.stage.Stage.TheVariants.{Waiting, Logging, Opening, Sending, Settling, Deleting, Finished}
@@ -204,7 +204,7 @@ module _ (who : Caller) (before after : Seen) (book : Book) (order : List Entry)
       reply = reply;
       call = call;
       handles = subst (Handles who s t (run_ask r) reply mine)
-          (sym (next_leases (home_of r).lease step d work leads (subst (RunLeaseStays (home_of r).lease) is (run_lease_stays (r, c) reply)))) handles;
+          (sym (next_leases (home_of r).lease step d work leads (subst (RunLeaseStays (home_of r).lease) is (run_lease (r, c) reply)))) handles;
       outcome = weaker who book order s t parts mine (run_ask r) note (KnowsRunNext (run_next (r, c) reply)) (KnowsBoth d work)
           (λ st now part k. next_known step d work leads st now part (subst (λ n. KnowsRunNext n st now part) is k)) outcome;
     }

@@ -10,7 +10,7 @@ use Rattle.ckpt_parts.specs.Deleting.{next_id}
 use Rattle.ckpt_parts.specs.Leasing.{newest_lease}
 use Rattle.commit_run.specs.Run.{Run, run_opens}
 use Rattle.commit_run_facts.specs.Puts.{OpensRun, PutsRun}
-use Rattle.commit_run_facts.proofs.RunPuts.{run_puts}
+use Rattle.commit_run_facts.proofs.HeadPuts.{run_puts}
 use Rattle.db_base.specs.declared.names.ObjName.{ObjName}
 use Rattle.db_base.specs.declared.names.ObjName.TheVariants as object
 use Rattle.head_codec.specs.declared.head.Phase.TheVariants as phase

@@ -8,7 +8,7 @@ use Rattle.cloud_facts.specs.Others.{NoneJoins, Others}
 use Rattle.cloud_facts.proofs.Guarding.{others_itself, fewer_others}
 use Rattle.cloud_facts.proofs.OthersLemmas.{home_others}
 use Rattle.cloud_trait.specs.Claim.{Claim}
-use Rattle.commit_run_facts.proofs.RunOthers.{run_others, run_lease}
+use Rattle.commit_run_facts.proofs.RunOthers.{run_others, run_part}
 use Rattle.db_base.specs.declared.names.Lock.TheVariants as lock
 use Rattle.home_facts.specs.Homes.{Part, Away}
 use Rattle.opening_facts.proofs.Others.{opening_others, opening_lease}
@@ -79,7 +79,7 @@ pub part_lease : (st : Store) (now : ℕ) (c : Cache) (work : Work) (part : Part
 part_lease st now c Closed part k = away_lease [] part k
 part_lease st now c (Idle home) part k = home_lease st now home part (home.lease ∷ []) (0, refl) k
 part_lease st now c (Opening r) part k = opening_lease st now r part k
-part_lease st now c (Committing r) part k = run_lease st now (r, c) part k
+part_lease st now c (Committing r) part k = run_part st now (r, c) part k
 part_lease st now c (Reading home w) part k = home_lease st now home part (home.lease ∷ []) (0, refl) k.0
 part_lease st now c (Folding home f) part k = home_lease st now home part (leases_of (Folding home f)) (0, refl) k.0
 part_lease st now c (Paging home p) part k = home_lease st now home part (leases_of (Paging home p)) (0, refl) k.0

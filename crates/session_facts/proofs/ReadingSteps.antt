@@ -33,7 +33,7 @@ use Rattle.telling_facts.specs.Told.{store_of}
 use Rattle.tree_walk.specs.Walk.{Walk, walk_ask, walk_next}
 use Rattle.walk_facts.specs.Caches.{KnowsCache}
 use Rattle.walk_facts.specs.Walks.{KnowsWalk, KnowsWalking, IsAtSeenLeaf, WalkLeads, MayStop}
-use Rattle.walk_facts.proofs.Goes.{walk_goes}
+use Rattle.walk_facts.proofs.Walks.{walk_goes}
 
 module _ (who : Caller) (before after : Seen) (book : Book) (order : List Entry) (s t : CloudState) (parts : Parts) (home : Home) (w : Walk)
     (setting : s.now ≤ t.now → Setting book order s t.now parts who.session (home.lease ∷ [])) (knows : s.now ≤ t.now → IsHome (store_of book order s) t.now home (parts who.session))
@@ -49,7 +49,7 @@ module _ (who : Caller) (before after : Seen) (book : Book) (order : List Entry)
     call = call_of who (walk_ask w) reply before after s t made e f
 
     leads : WalkLeads st MayStop (walk_next (w, c) reply)
-    leads = walk_goes who book order s t w c reply (setting call.later).cloud (record { walk = walk; cache = kept }) call
+    leads = walk_goes who book order s t (setting call.later).cloud w c reply (record { walk = walk; cache = kept }) call
 
     handles : Handles who s t (walk_ask w) reply (home.lease ∷ []) (home.lease ∷ [])
     handles = record { owns = tt; guarded = tt; renewed = home.lease; renews = tt; own = λ x is. inl (is, tt) }

@@ -1,12 +1,13 @@
 -- What a session's cache knows of a cloud: each object that it keeps landed, however old that version is.
 use Rattle.std.specs.Prelude.{ℕ, ◌≡◌, ◌⊎◌, List, Option, Some, None}
+use Rattle.std.specs.List.{AllByRecursion}
 use Rattle.db_base.specs.declared.names.ObjName.{ObjName}
 use Rattle.db_base.specs.declared.names.ObjName.TheVariants as object
 use Rattle.decoding_facts.specs.Kinds.{IsNode}
 use Rattle.leaf_view.specs.Leaf.{Leaf}
 use Rattle.leaf_view.specs.Lookup.{empty_leaf}
 use Rattle.node_codec.specs.Tree.{Tree, IsTree as IsRootSpelled, empty_tree}
-use Rattle.page_cache.specs.Cache.{Cache, kept_at}
+use Rattle.page_cache.specs.Cache.{Cache}
 use Rattle.store_book.specs.Records.{IsIn}
 use Rattle.store_book.specs.Tally.{Node, Leafy, Store}
 
@@ -20,7 +21,7 @@ HasLanded st (object.Page tree page) (Some bytes) = (node : Node) × IsNode byte
 
 -- so of each object that is kept
 abbrev pub KnowsCache : Store → Cache → Type 0
-KnowsCache st c = (name : ObjName) (got : Option (List ℕ)) → kept_at c name ≡ Some got → HasLanded st name got
+KnowsCache st c = AllByRecursion (λ (o : ObjName × Option (List ℕ)). HasLanded st o.0 o.1) c.objects
 
 -- ---- what is seen in it
 

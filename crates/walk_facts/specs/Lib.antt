@@ -1,3 +1,2 @@
 pub mod Caches
 pub mod Walks
-pub mod Prunings

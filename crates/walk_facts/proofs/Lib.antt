@@ -1,1 +1,3 @@
 pub mod Caches
+pub mod Steps
+pub mod Reads

@@ -1,3 +1,3 @@
 pub mod Caches
 pub mod Steps
-pub mod Reads
+pub mod Turns

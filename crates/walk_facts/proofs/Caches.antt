@@ -16,7 +16,7 @@ use Rattle.leaf_view.specs.Lookup.{empty_leaf}
 use Rattle.node_codec.specs.Inner.{Inner, IsInner, inner_of}
 use Rattle.node_codec.specs.Tree.{Tree, IsTree as IsRootSpelled, empty_tree, tree_of}
 use Rattle.node_codec.proofs.SpellingLaws.{tree_only, inner_only}
-use Rattle.page_cache.specs.Cache.{Cache, empty_cache, kept_at, placed, dropped, accepts, accepts_no_leaf}
+use Rattle.page_cache.specs.Cache.{Cache, empty_cache, kept_at, served_at, placed, dropped, accepts, accepts_no_leaf}
 use Rattle.page_cache.specs.Held.{leaf_in, leaf_at, inner_at, root_at, as_leaf, as_inner, as_root}
 use Rattle.page_cache.specs.Names.{same_name}
 use Rattle.page_cache.proofs.CacheLemmas.{Outcome, never, accept_first}
@@ -117,7 +117,7 @@ absent_known st c tree page false version d e = absurd (never (trouble.Stale pag
 absent_known st c tree page true version d e = on (page == 1) refl e
   where
     least : ℕ
-    least = Rattle.page_cache.specs.Cache.served_at c (object.Page tree page)
+    least = served_at c (object.Page tree page)
 
     on : (b : Bool) → (page == 1) ≡ b
         → ◌≡◌ {A = Outcome} (cond (b && (least == 0)) (Ok (0, placed c (object.Page tree page) None)) (Err (trouble.Stale page (max 1 least) 0))) (Ok (version, d)) → page ≡ 1

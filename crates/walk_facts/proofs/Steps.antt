@@ -62,7 +62,7 @@ turned : (key : List ℕ) (high : Option (List ℕ)) (page : Option ℕ) (next :
 turned key None page next e = absurd (cc (e))
 turned key (Some high) page next e = on (bytes_below key high) refl e
   where
-    on : (b : Bool) → bytes_below key high ≡ b → cond b None (Some (unwrap_or page 1, high)) ≡ Some next
+    on : (b : Bool) → bytes_below key high ≡ b → cond {A = Option (ℕ × List ℕ)} b None (Some (unwrap_or page 1, high)) ≡ Some next
         → (Some high ≡ Some next.1) × (unwrap_or page 1 ≡ next.0) × (bytes_below key next.1 ≡ false)
     on true is f = absurd (cc (f))
     on false is f =
@@ -74,7 +74,7 @@ not_turned : (key : List ℕ) (high : Option (List ℕ)) (page : Option ℕ) →
 not_turned key None page e = refl
 not_turned key (Some high) page e = on (bytes_below key high) e
   where
-    on : (b : Bool) → cond b None (Some (unwrap_or page 1, high)) ≡ None → b ≡ true
+    on : (b : Bool) → cond {A = Option (ℕ × List ℕ)} b None (Some (unwrap_or page 1, high)) ≡ None → b ≡ true
     on true f = refl
     on false f = absurd (cc (f))
 
@@ -91,11 +91,11 @@ leaf_page zero some = absurd (some refl)
 leaf_page (suc n) some = refl
 
 -- a node of level 0 is a leaf, and one of a level above an inner node
-leaf_of_level : (level : ℕ) (node : Node) → level ≡ 0 → IsOfLevel level node → (l : Leaf) × (node ≡ Leafy l)
+pub leaf_of_level : (level : ℕ) (node : Node) → level ≡ 0 → IsOfLevel level node → (l : Leaf) × (node ≡ Leafy l)
 leaf_of_level level (Leafy l) bottom is = (l, refl)
 leaf_of_level level (Branch n) bottom is = let above = is.1 in absurd (omega (arith, bottom, above))
 
-inner_of_level : (level : ℕ) (node : Node) → level ≢ 0 → IsOfLevel level node → (n : Inner) × (node ≡ Branch n)
+pub inner_of_level : (level : ℕ) (node : Node) → level ≢ 0 → IsOfLevel level node → (n : Inner) × (node ≡ Branch n)
 inner_of_level level (Leafy l) above is = absurd (above is)
 inner_of_level level (Branch n) above is = (n, refl)
 
@@ -150,7 +150,7 @@ module _ (st : Store) (h : ChainHolds st) (c : Cache) where
             (from_root (st.book.chain tree) (st.tally.nodes tree) (st.tally.roots tree) (st.tally.done tree) (st.tally.cursor tree 0) (h tree is) root key m.below m.entry landed level m.found),
       )
 
-  root_leads : (w : Walk) (root : Tree) → KnowsWalk st (record w { spot = None }) → IsSeenRoot (st.tally.roots w.tree) root
+  pub root_leads : (w : Walk) (root : Tree) → KnowsWalk st (record w { spot = None }) → IsSeenRoot (st.tally.roots w.tree) root
       → StepLeads (root_read (record w { spot = None }) root)
   root_leads w root k seen =
       subst (λ (x : Entry). StepLeads (down_to (use_of (record w { spot = None })) root.level x)) (sym (entry_is (sought w) root.entries m.0 m.1))
@@ -179,11 +179,11 @@ module _ (st : Store) (h : ChainHolds st) (c : Cache) where
     abbrev link : Link
     link = record { low = s.low; page = s.page }
 
-    version : (node : Node) → IsIn (st.tally.nodes w.tree s.page) node → IsVersionOf (chain s.level) s.level link node
+    pub version : (node : Node) → IsIn (st.tally.nodes w.tree s.page) node → IsVersionOf (chain s.level) s.level link node
     version node landed = (h w.tree k.tree).versions s.level link node k.stands.at.linked landed
 
     -- page 1 is the first leaf
-    first : s.page ≡ 1 → (s.level ≡ 0) × (s.low ≡ [])
+    pub first : s.page ≡ 1 → (s.level ≡ 0) × (s.low ≡ [])
     first e =
         (h w.tree k.tree).levels.once s.level 0 link first_link k.stands.at.linked
         (0, ap (λ (ls : List Link). slice_get ls 0) (h w.tree k.tree).levels.leaves.1) e
@@ -275,7 +275,7 @@ module _ (st : Store) (h : ChainHolds st) (c : Cache) where
               on (inl old) = down p (k.stands.nodes_behind p old)
               on (inr same) = here_behind p same
 
-      node_leads : StepLeads (node_read here n)
+      pub node_leads : StepLeads (node_read here n)
       node_leads =
           subst (λ (b : Bool). StepLeads (cond b (cond (bytes_same n.low s.low) left (Stops here (bad_fence here n.low))) (Stops here (bad_level here))))
           (sym (eq-eqb n.level s.level (version (Branch n) landed).level_is.0))
@@ -293,11 +293,11 @@ module _ (st : Store) (h : ChainHolds st) (c : Cache) where
 
     -- ---- from a leaf
 
-    module _ (bottom : s.level ≡ 0) (l : Leaf) (seen : IsSeenLeaf (st.tally.nodes w.tree) s.page l) (kept : leaf_at c (object.Page w.tree s.page) ≡ Some l) where
+    module _ (bottom : s.level ≡ 0) (l : Leaf) (seen : IsSeenLeaf (st.tally.nodes w.tree s.page) s.page l) (kept : leaf_at c (object.Page w.tree s.page) ≡ Some l) where
       low_is : l.low ≡ s.low
       low_is = on seen
         where
-          on : IsSeenLeaf (st.tally.nodes w.tree) s.page l → l.low ≡ s.low
+          on : IsSeenLeaf (st.tally.nodes w.tree s.page) s.page l → l.low ≡ s.low
           on (inl (page, none)) = ap (λ (x : Leaf). x.low) none ∙ sym (first page).1
           on (inr landed) = (version (Leafy l) landed).low
 
@@ -313,7 +313,7 @@ module _ (st : Store) (h : ChainHolds st) (c : Cache) where
           (record { at = goes.0; nodes_behind = right_behind next.1 goes.1 w.nodes k.stands.nodes_behind; leaves_behind = right_more next.1 goes.1 w.leaves k.stands.leaves_behind })
           (λ same. left_behind next.1 goes.1 next.0 (eqb-true s.page next.0 same))
         where
-          on : IsSeenLeaf (st.tally.nodes w.tree) s.page l → IsAt chain s.level next.0 next.1 (sought w) × (bytes_below s.low next.1 ≡ true)
+          on : IsSeenLeaf (st.tally.nodes w.tree s.page) s.page l → IsAt chain s.level next.0 next.1 (sought w) × (bytes_below s.low next.1 ≡ true)
           on (inl (page, none)) =
               let t = turned (sought w) l.high (page_at l.right) next e in
               let clash : None ≡ Some next.1 = sym (ap (λ (x : Leaf). x.high) none) ∙ t.0 in
@@ -342,7 +342,7 @@ module _ (st : Store) (h : ChainHolds st) (c : Cache) where
           apart true there = absurd (not_behind w.tree k.tree s.level s.page s.low (sought w) k.stands.at (k.stands.nodes_behind s.page there))
           apart false there = refl
 
-      leaf_leads : StepLeads (leaf_read here l)
+      pub leaf_leads : StepLeads (leaf_read here l)
       leaf_leads =
           subst (λ (b : Bool). StepLeads (cond b left (Stops here (bad_fence here l.low)))) (sym low) (on (right_of (sought w) l.high (page_at l.right)) refl)
         where

@@ -20,7 +20,7 @@ use Rattle.node_codec.specs.Tree.{Tree, IsTree as IsRootSpelled, empty_tree, tre
 use Rattle.node_codec.proofs.InnerLemmas.{inner_exact}
 use Rattle.node_codec.proofs.TreeLemmas.{tree_exact}
 use Rattle.node_codec.proofs.SpellingLaws.{tree_only, inner_only}
-use Rattle.page_cache.specs.Cache.{Cache, kept_at, served_at, placed, served, accepts, accepts_no_leaf, accepts_read, accepts_leaf}
+use Rattle.page_cache.specs.Cache.{Cache, kept_at, served_at, placed, served, dropped, accepts, accepts_no_leaf, accepts_read, accepts_leaf}
 use Rattle.page_cache.specs.Held.{leaf_at, inner_at, root_at, as_leaf, as_inner, as_root}
 use Rattle.page_cache.specs.Spelled.{leaf_version, inner_version, root_version}
 use Rattle.page_cache.proofs.CacheLemmas.{accept_kept}
@@ -59,44 +59,44 @@ module _ (st : Store) (h : ChainHolds st) (c : Cache) where
     abbrev here : Walk
     here = record w { spot = Some s }
 
-    abbrev name : ObjName
-    name = object.Page w.tree s.page
+    abbrev page_name : ObjName
+    page_name = object.Page w.tree s.page
 
-    as_a_leaf : s.level ≡ 0 → (got : Option (List ℕ)) → HasLanded st name got → kept_at c name ≡ Some got → Leads (option_map (leaf_read here) (leaf_at c name))
+    as_a_leaf : s.level ≡ 0 → (got : Option (List ℕ)) → HasLanded st page_name got → kept_at c page_name ≡ Some got → Leads (option_map (leaf_read here) (leaf_at c page_name))
     as_a_leaf bottom None one e =
-        let is : leaf_at c name ≡ Some empty_leaf = ap as_leaf e in
+        let is : leaf_at c page_name ≡ Some empty_leaf = ap as_leaf e in
         (leaf_read here empty_leaf, ap (option_map (leaf_read here)) is, leaf_leads st h c w s k bottom empty_leaf (inl (one, refl)) is)
     as_a_leaf bottom (Some bytes) (node, spelled, there) e =
         let l = leaf_of_level s.level node bottom (version st h c w s k node there).level_is in
-        let is : leaf_at c name ≡ Some l.0 = ap as_leaf e ∙ leaf_in_only bytes l.0 (subst (IsNode bytes) l.1 spelled) in
+        let is : leaf_at c page_name ≡ Some l.0 = ap as_leaf e ∙ leaf_in_only bytes l.0 (subst (IsNode bytes) l.1 spelled) in
         (
           leaf_read here l.0,
           ap (option_map (leaf_read here)) is,
           leaf_leads st h c w s k bottom l.0 (inr (subst (IsIn (st.tally.nodes w.tree s.page)) l.1 there)) is,
         )
 
-    as_a_node : (s.level ≡ 0 → ⊥) → (got : Option (List ℕ)) → HasLanded st name got → kept_at c name ≡ Some got → Leads (option_map (node_read here) (inner_at c name))
+    as_a_node : (s.level ≡ 0 → ⊥) → (got : Option (List ℕ)) → HasLanded st page_name got → kept_at c page_name ≡ Some got → Leads (option_map (node_read here) (inner_at c page_name))
     as_a_node above None one e = absurd (above (first st h c w s k one).0)
     as_a_node above (Some bytes) (node, spelled, there) e =
         let n = inner_of_level s.level node above (version st h c w s k node there).level_is in
-        let is : inner_at c name ≡ Some n.0 = ap as_inner e ∙ inner_only bytes n.0 (subst (IsNode bytes) n.1 spelled) in
+        let is : inner_at c page_name ≡ Some n.0 = ap as_inner e ∙ inner_only bytes n.0 (subst (IsNode bytes) n.1 spelled) in
         (
           node_read here n.0,
           ap (option_map (node_read here)) is,
           node_leads st h c w s k n.0 (subst (IsIn (st.tally.nodes w.tree s.page)) n.1 there),
         )
 
-    page_reads : (got : Option (List ℕ)) → HasLanded st name got → kept_at c name ≡ Some got → Leads (read_at here c (Some s))
+    page_reads : (got : Option (List ℕ)) → HasLanded st page_name got → kept_at c page_name ≡ Some got → Leads (read_at here c (Some s))
     page_reads got landed e = on (s.level == 0) refl
       where
-        on : (b : Bool) → (s.level == 0) ≡ b → Leads (cond b (option_map (leaf_read here) (leaf_at c name)) (option_map (node_read here) (inner_at c name)))
+        on : (b : Bool) → (s.level == 0) ≡ b → Leads (cond b (option_map (leaf_read here) (leaf_at c page_name)) (option_map (node_read here) (inner_at c page_name)))
         on true is = as_a_leaf (eqb-true s.level 0 is) got landed e
         on false is = as_a_node (eqb-false s.level 0 is) got landed e
 
-    page_unread : kept_at c name ≡ None → read_at here c (Some s) ≡ None
+    page_unread : kept_at c page_name ≡ None → read_at here c (Some s) ≡ None
     page_unread e = on (s.level == 0)
       where
-        on : (b : Bool) → cond b (option_map (leaf_read here) (leaf_at c name)) (option_map (node_read here) (inner_at c name)) ≡ None
+        on : (b : Bool) → cond b (option_map (leaf_read here) (leaf_at c page_name)) (option_map (node_read here) (inner_at c page_name)) ≡ None
         on true = ap (λ (o : Option (Option (List ℕ))). option_map (leaf_read here) (as_leaf o)) e
         on false = ap (λ (o : Option (Option (List ℕ))). option_map (node_read here) (as_inner o)) e
 
@@ -135,7 +135,7 @@ module _ (st : Store) (h : ChainHolds st) (c : Cache) where
   follows next more (Ends v page) a = a
   follows next more (Stops v t) a = a
 
-  through : KnowsCache st c → (n : ℕ) (w : Walk) → KnowsWalk st w → StepLeads st h c (goes_through c n w)
+  pub through : KnowsCache st c → (n : ℕ) (w : Walk) → KnowsWalk st w → StepLeads st h c (goes_through c n w)
   unfolding goes_through
   through cache zero w k = k
   through cache (suc n) w k = on (through cache n) (read_kept w c) (kept_leads w k cache)
@@ -157,6 +157,17 @@ module _ (st : Store) (h : ChainHolds st) (c : Cache) where
 abbrev pub Accepts : Store → ObjName → Option (List ℕ) → Result (ℕ × Cache) Trouble → Type 0
 Accepts st name got (Ok (served, d)) = KnowsCache st d × (kept_at d name ≡ Some got)
 Accepts st name got (Err t) = MayStop t
+
+-- what a get may have answered: any landed version of the object, or a fault
+abbrev pub MayAnswer : Store → ObjName → Result (Option (List ℕ)) Trouble → Type 0
+MayAnswer st name (Ok got) = MayServe st name got
+MayAnswer st name (Err t) = MayStop t
+
+-- where a walk leads, and the cache beside it
+abbrev pub BesideLeads : Store → Next Walk ℕ × Cache → Type 0
+BesideLeads st (Goes w, d) = KnowsCache st d × KnowsWalk st w
+BesideLeads st (Ends w page, d) = KnowsCache st d × KnowsWalk st w × IsAtSeenLeaf st w d page × (is_among w.nodes page ≡ false)
+BesideLeads st (Stops w t, d) = KnowsCache st d × KnowsWalk st w × MayStop t
 
 -- an outcome that is no refusal, or one that a stale get comes to
 abbrev pub IsFair : Result (ℕ × Cache) Trouble → Type 0
@@ -233,49 +244,40 @@ module _ (st : Store) (h : ChainHolds st) (c : Cache) where
 
   -- ---- beside the cache
 
-  -- where the walk leads, and the cache beside it
-  abbrev pub BesideLeads : Next Walk ℕ × Cache → Type 0
-  BesideLeads (Goes w, d) = KnowsCache st d × KnowsWalk st w
-  BesideLeads (Ends w page, d) = KnowsCache st d × KnowsWalk st w × IsAtSeenLeaf st w d page × (is_among w.nodes page ≡ false)
-  BesideLeads (Stops w t, d) = KnowsCache st d × KnowsWalk st w × MayStop t
-
-  step_beside : (d : Cache) → KnowsCache st d → (x : Next Walk ℕ) → StepLeads st h d x → BesideLeads (x, d)
+  step_beside : (d : Cache) → KnowsCache st d → (x : Next Walk ℕ) → StepLeads st h d x → BesideLeads st (x, d)
   step_beside d cache (Goes w) a = (cache, a)
-  step_beside d cache (Ends w page) a = (cache, a)
+  step_beside d cache (Ends w page) a = (cache, a.0, a.1, a.2)
   step_beside d cache (Stops w t) a = absurd a
 
-  -- what a get may have answered: any landed version of the object in hand, or a fault
-  abbrev pub MayAnswer : ObjName → Result (Option (List ℕ)) Trouble → Type 0
-  MayAnswer name (Ok got) = MayServe st name got
-  MayAnswer name (Err t) = MayStop t
-
-  by_leads : (w : Walk) → KnowsWalk st w → KnowsCache st c → (g : Result (Option (List ℕ)) Trouble) → MayAnswer (object_of w) g → BesideLeads (got_by w c g)
+  pub by_leads : (w : Walk) → KnowsWalk st w → KnowsCache st c → (g : Result (Option (List ℕ)) Trouble) → MayAnswer st (object_of w) g → BesideLeads st (got_by w c g)
   by_leads w k cache (Err t) may = (cache, k, may)
   by_leads w k cache (Ok got) may = on (accepts c (object_of w) (is_leaf w) got) (accepted w k cache got may)
     where
-      on : (r : Result (ℕ × Cache) Trouble) → Accepts st (object_of w) got r → BesideLeads (accepted_by w c r)
+      on : (r : Result (ℕ × Cache) Trouble) → Accepts st (object_of w) got r → BesideLeads st (accepted_by w c r)
       on (Ok (v, d)) a = step_beside d a.0 (got_read w d) (got_leads st h d w k a.0 got a.1)
       on (Err t) a = (cache, k, a)
 
-  -- at its end a walk drops what it passed, and no leaf
-  left_known : (w : Walk) (d : Cache) → KnowsCache st d → KnowsCache st (left_by w d)
-  left_known w d cache = on w.turned
-    where
-      on : (b : Bool) → KnowsCache st (cond b (fold Rattle.page_cache.specs.Cache.dropped d (passed w)) d)
-      on true = cache_drops_all st (passed w) d cache
-      on false = cache
+-- ---- at the end of a turn
 
-  left_at : (w : Walk) (d : Cache) (page : ℕ) → IsAtSeenLeaf st w d page → is_among w.nodes page ≡ false → IsAtSeenLeaf st w (left_by w d) page
-  left_at w d page a apart = record {
-    leaf = a.leaf;
-    in_hand = a.in_hand;
-    kept = leaf_stays w d page apart ∙ a.kept;
-    linked = a.linked;
-    seen = a.seen;
-    holds = a.holds;
-  }
+-- at its end a walk drops what it passed, and no leaf
+pub left_known : (st : Store) (w : Walk) (d : Cache) → KnowsCache st d → KnowsCache st (left_by w d)
+left_known st w d cache = on w.turned
+  where
+    on : (b : Bool) → KnowsCache st (cond b (fold dropped d (passed w)) d)
+    on true = cache_drops_all st (passed w) d cache
+    on false = cache
 
-  pub beside_leads : (x : Next Walk ℕ × Cache) → BesideLeads x → WalkLeads st MayStop (beside x)
-  beside_leads (Goes w, d) a = record { walk = a.1; cache = a.0 }
-  beside_leads (Ends w page, d) a = (record { walk = a.1; cache = left_known w d a.0 }, left_at w d page a.2 a.3)
-  beside_leads (Stops w t, d) a = (record { walk = a.1; cache = left_known w d a.0 }, a.2)
+left_at : (st : Store) (w : Walk) (d : Cache) (page : ℕ) → IsAtSeenLeaf st w d page → is_among w.nodes page ≡ false → IsAtSeenLeaf st w (left_by w d) page
+left_at st w d page a apart = record {
+  leaf = a.leaf;
+  in_hand = a.in_hand;
+  kept = leaf_stays w d page apart ∙ a.kept;
+  linked = a.linked;
+  seen = a.seen;
+  holds = a.holds;
+}
+
+pub beside_leads : (st : Store) (x : Next Walk ℕ × Cache) → BesideLeads st x → WalkLeads st MayStop (beside x)
+beside_leads st (Goes w, d) a = record { walk = a.1; cache = a.0 }
+beside_leads st (Ends w page, d) a = (record { walk = a.1; cache = left_known st w d a.0 }, left_at st w d page a.2 a.3)
+beside_leads st (Stops w t, d) a = (record { walk = a.1; cache = left_known st w d a.0 }, a.2)

@@ -246,7 +246,9 @@ module _ (book : Book) (order : List Entry) (s : CloudState) (sessions : Session
 
   -- what is known where the walk leads without a call
   walks : (tree : ℕ) (key : List ℕ) (home : Home) → IsTree tree → old.work ≡ Idle home → WalkLeads st MayStop (walk_ready (new_walk tree (Some key) false, old.cache))
-  walks tree key home is idle = walk_begins book order s stand.cloud tree key false old.cache is (cache_known home idle)
+  walks tree key home is idle =
+      let begins = walk_begins st stand.cloud.holds.chains tree (Some key) false old.cache is (cache_known home idle) in
+      subst (WalkLeads st MayStop) (sym begins.1) begins.2
 
   reads_of : (tree : ℕ) (key : List ℕ) (home : Home) (new : Acting) (begun : Begun) → IsTree tree → old.work ≡ Idle home → new.buffer ≡ old.buffer
       → ReadsOf home (new_walk tree (Some key) false) old.cache new.cache new.work new.read begun → After new

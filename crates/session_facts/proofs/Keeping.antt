@@ -23,7 +23,7 @@ use Rattle.store_book.specs.Tally.{Store}
 use Rattle.store_book.proofs.Places.{in_behind}
 use Rattle.tree_ckpt_facts.specs.Checkpoint.{leases_of_making}
 use Rattle.tree_ckpt_facts.proofs.MakingOthers.{making_others}
-use Rattle.walk_facts.proofs.WalkLemmas.{walk_grows}
+use Rattle.walk_facts.proofs.Walks.{walk_grows}
 
 -- ---- what a session knows it knows still
 
@@ -38,7 +38,7 @@ work_others st su now later c (Idle home) part after o j k = home_stays st su no
 work_others st su now later c (Opening r) part after o j k = opening_others st su now later r part after o k
 work_others st su now later c (Committing r) part after o j k = run_others st su now later (r, c) part after o j k
 work_others st su now later c (Reading home w) part after o j k =
-    (home_stays st su now later home part (home.lease ∷ []) after (0, refl) o k.0, walk_grows st su w o.passes.grows k.1)
+    (home_stays st su now later home part (home.lease ∷ []) after (0, refl) o k.0, walk_grows st su o.passes.grows w k.1)
 work_others st su now later c (Folding home m) part after o j k = (
   home_stays st su now later home part (leases_of (Folding home m)) after (0, refl) o k.0,
   making_others st su now later m after

@@ -49,7 +49,7 @@ module _ (who : Caller) (before after : Seen) (book : Book) (order : List Entry)
     call = call_of who (walk_ask w) reply before after s t made e f
 
     leads : WalkLeads st MayStop (walk_next (w, c) reply)
-    leads = walk_goes who book order s t (setting call.later).cloud w c reply (record { walk = walk; cache = kept }) call
+    leads = walk_goes book order s (setting call.later).cloud who w c reply t call (record { walk = walk; cache = kept })
 
     handles : Handles who s t (walk_ask w) reply (home.lease ∷ []) (home.lease ∷ [])
     handles = record { owns = tt; guarded = tt; renewed = home.lease; renews = tt; own = λ x is. inl (is, tt) }

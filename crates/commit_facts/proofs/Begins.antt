@@ -45,7 +45,7 @@ taken_left st now home part t = record {
 module _ (st : Store) (now : ℕ) (parts : Parts) (session : ℕ) (w : Writing) (pages : List ℕ) (t : KnowsTaken st now w.home (parts session)) (may : MayCommit w.changes)
     (some : 1 ≤ length w.changes) (none : w.ids ≡ []) (paged : length w.changes ≤ length pages) (leaves : Lasts now w.home.lease → AreLeavesFor st.book w.changes pages)
     (homes : HomesHold st.tally now parts) (left : Leaves st) where
-  k : KnowsHome st now w.home.client w.home.lease w.home.head t.before (parts session)
+  abbrev k : KnowsHome st now w.home.client w.home.lease w.home.head t.before (parts session)
   k = t.home
 
   abbrev recs : List AtomicRec

@@ -1,5 +1,5 @@
 -- What a deletion of an ATOMIC message leaves.
-use Rattle.std.proofs.Common.{◌≡◌, ◌+◌, ◌⊎◌, inl, inr, ℕ, List, Some, refl}
+use Rattle.std.proofs.Common.{◌≡◌, ◌+◌, ◌⊎◌, inl, inr, ℕ, List, [], ◌∷◌, Some, refl}
 use Rattle.std.specs.Prelude.{slice_get}
 use Rattle.cloud_facts.specs.Acting.{Outcome}
 use Rattle.cloud_facts.specs.Call.{IsCall}

@@ -1,10 +1,3 @@
 pub mod WalkCaches
 pub mod Plans
 pub mod Prunes
-pub mod Steps
-pub mod Begins
-pub mod RunOthers
-pub mod RunOutcomes
-pub mod RunLeases
-pub mod RunHands
-pub mod HeadPuts

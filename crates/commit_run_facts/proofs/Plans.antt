@@ -68,16 +68,17 @@ module _ (book : Book) (pending : List Pending) (ended : List Ended) (linked : (
 
   planned_leaves : (changes : List Noted) → AreLeavesFor book changes (pages_of pending ended changes)
   planned_leaves [] place n page there paged = absurd (cc)
-  planned_leaves (first ∷ changes) place n page there paged = on (page_without pending ended first) refl place there paged
+  planned_leaves (first ∷ changes) place n page there paged = on (page_without pending ended first) refl (λ i. planned_leaves changes i n page) place there paged
     where
-      on : (o : Option ℕ) → page_without pending ended first ≡ o → (i : ℕ) → slice_get (first ∷ changes) i ≡ Some n
+      on : (o : Option ℕ) → page_without pending ended first ≡ o
+          → ((i : ℕ) → slice_get changes i ≡ Some n → slice_get (pages_of pending ended changes) i ≡ Some page → IsLeafFor book n.tree n.change page) → (i : ℕ) → slice_get (first ∷ changes) i ≡ Some n
           → slice_get (option_map_or (λ p. p ∷ pages_of pending ended changes) o []) i ≡ Some page → IsLeafFor book n.tree n.change page
-      on None e i h g = absurd (cc)
-      on (Some p) e zero h g =
+      on None e again i h g = absurd (cc)
+      on (Some p) e again zero h g =
           let same : first ≡ n = option_is first n h in
           let to : p ≡ page = option_is p page g in
           subst (λ (m : Noted). IsLeafFor book m.tree m.change page) same (without_leaf first.tree page first.change (e ∙ ap (λ q. Some q) to))
-      on (Some p) e (suc i) h g = planned_leaves changes i n page h g
+      on (Some p) e again (suc i) h g = again i h g
 
 -- ---- more pages
 

@@ -116,19 +116,19 @@ module _ (st : Store) (h : Holds st) (client : ℕ) (is_client : IsClient client
       within (inr landed) = (h.chains tree is).covered.cursors root landed client is_client
 
       shown : (p : Pending) → IsIn head.pending p → is_covered_by root client tree p ≡ true → IsAppliedEntry st.tally client p
-      shown p there e = covered p there (eqb-true p.page 0 page.0) (subst (λ t. p.number ≤ st.tally.cursor t 0 client) (sym same) most)
+      shown p there e = covered p there (eqb-true p.page 0 of.1) (subst (λ t. p.number ≤ st.tally.cursor t 0 client) (sym same) most)
         where
-          two : ((p.tree == tree) ≡ true) × (((p.page == 0) && nat_le p.number (number_of root.cursor client)) ≡ true)
-          two = and_parts (p.tree == tree) ((p.page == 0) && nat_le p.number (number_of root.cursor client)) e
+          two : (((p.tree == tree) && (p.page == 0)) ≡ true) × (nat_le p.number (number_of root.cursor client) ≡ true)
+          two = and_parts ((p.tree == tree) && (p.page == 0)) (nat_le p.number (number_of root.cursor client)) e
+
+          of : ((p.tree == tree) ≡ true) × ((p.page == 0) ≡ true)
+          of = and_parts (p.tree == tree) (p.page == 0) two.0
 
           same : p.tree ≡ tree
-          same = eqb-true p.tree tree two.0
-
-          page : ((p.page == 0) ≡ true) × (nat_le p.number (number_of root.cursor client) ≡ true)
-          page = and_parts (p.page == 0) (nat_le p.number (number_of root.cursor client)) two.1
+          same = eqb-true p.tree tree of.0
 
           most : p.number ≤ st.tally.cursor tree 0 client
-          most = let low = leb-true p.number (number_of root.cursor client) page.1 in let high = within seen in omega (arith, low, high)
+          most = let low = leb-true p.number (number_of root.cursor client) two.1 in let high = within seen in omega (arith, low, high)
 
   -- a leaf of the leaf chain that landed
   pub leaf_prunes : (tree page : ℕ) (key : List ℕ) → IsTree tree → (leaf : Leaf) → IsLeafAtMost st.book tree page key → IsSeenLeaf (st.tally.nodes tree page) page leaf
@@ -136,24 +136,24 @@ module _ (st : Store) (h : Holds st) (client : ℕ) (is_client : IsClient client
   leaf_prunes tree page key is leaf linked seen = pruned_so (is_applied_in leaf client tree) shown
     where
       within : (k : List ℕ) (queue : ℕ) → holds leaf k ≡ true → IsSeenLeaf (st.tally.nodes tree page) page leaf → done_number leaf.done queue client ≤ st.tally.done tree k queue client
-      within k queue holds (inl none) = subst (λ (l : Leaf). done_number l.done queue client ≤ st.tally.done tree k queue client) (sym none.1) (omega arith)
-      within k queue holds (inr landed) =
-          (h.chains tree is).covered.leaves linked.link (Leafy leaf) linked.linked (subst (λ q. IsIn (st.tally.nodes tree q) (Leafy leaf)) (sym linked.page_is) landed) k holds queue client is_client
+      within k queue here (inl none) = subst (λ (l : Leaf). done_number l.done queue client ≤ st.tally.done tree k queue client) (sym none.1) (omega arith)
+      within k queue here (inr landed) =
+          (h.chains tree is).covered.leaves linked.link (Leafy leaf) linked.linked (subst (λ q. IsIn (st.tally.nodes tree q) (Leafy leaf)) (sym linked.page_is) landed) k here queue client is_client
 
       shown : (p : Pending) → IsIn head.pending p → is_applied_in leaf client tree p ≡ true → IsAppliedEntry st.tally client p
       shown p there e = subst (λ t. p.number ≤ st.tally.done t (key_of p.change) p.page client) (sym same) most
         where
-          two : ((p.tree == tree) ≡ true) × ((holds leaf (key_of p.change) && nat_le p.number (done_number leaf.done p.page client)) ≡ true)
-          two = and_parts (p.tree == tree) (holds leaf (key_of p.change) && nat_le p.number (done_number leaf.done p.page client)) e
+          two : (((p.tree == tree) && holds leaf (key_of p.change)) ≡ true) × (nat_le p.number (done_number leaf.done p.page client) ≡ true)
+          two = and_parts ((p.tree == tree) && holds leaf (key_of p.change)) (nat_le p.number (done_number leaf.done p.page client)) e
+
+          of : ((p.tree == tree) ≡ true) × (holds leaf (key_of p.change) ≡ true)
+          of = and_parts (p.tree == tree) (holds leaf (key_of p.change)) two.0
 
           same : p.tree ≡ tree
-          same = eqb-true p.tree tree two.0
-
-          held : (holds leaf (key_of p.change) ≡ true) × (nat_le p.number (done_number leaf.done p.page client) ≡ true)
-          held = and_parts (holds leaf (key_of p.change)) (nat_le p.number (done_number leaf.done p.page client)) two.1
+          same = eqb-true p.tree tree of.0
 
           most : p.number ≤ st.tally.done tree (key_of p.change) p.page client
-          most = let low = leb-true p.number (done_number leaf.done p.page client) held.1 in let high = within (key_of p.change) p.page held.0 seen in omega (arith, low, high)
+          most = let low = leb-true p.number (done_number leaf.done p.page client) two.1 in let high = within (key_of p.change) p.page of.1 seen in omega (arith, low, high)
 
 -- ---- a draft
 

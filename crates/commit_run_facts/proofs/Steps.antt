@@ -70,6 +70,10 @@ module _ (May : Trouble → Type 0) (st : Store) (now : ℕ) (h : Holds st) (par
   abbrev Lasting : Draft → Type 0
   Lasting d = Lasts now d.writes.home.lease
 
+  -- what a walk used changes no lease
+  before : (d : Draft) (w : Walk) (c : Cache) → Lasting (pruned_behind d w c) → Lasting d
+  before d w c lasts = subst (λ (l : Claim). Lasts now l) (pruned_lease d w c) lasts
+
   -- the part stays as it is
   stays : (step : Step) → KnowsRunNext step st now part → Led step
   stays step k = record { part = part; homes = keeps_part st.tally now parts session part refl homes; knows = k }

@@ -1,0 +1,10 @@
+pub mod WalkCaches
+pub mod Plans
+pub mod Prunes
+pub mod RunLeases
+pub mod Steps
+pub mod Refusals
+pub mod WalksGrow
+pub mod RunOthers
+pub mod RunHands
+pub mod HeadPuts

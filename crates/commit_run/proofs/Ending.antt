@@ -8,7 +8,6 @@ use Rattle.db_base.specs.declared.trouble.Trouble.{Trouble}
 use Rattle.db_base.specs.declared.trouble.Trouble.TheVariants as trouble
 use Rattle.db_base.specs.declared.trouble.Counter.TheVariants as counter
 use Rattle.db_base.specs.declared.trouble.CommitAnswer.{CommitAnswer}
-use Rattle.head_codec.specs.declared.lists.Pending.{Pending}
 use Rattle.leaf_view.specs.Leaf.{Leaf}
 use Rattle.leaf_view.specs.Lookup.{holds}
 use Rattle.node_codec.specs.Tree.{Tree}
@@ -29,8 +28,6 @@ use Rattle.commit_plan.specs.Ended.{page_at as ended_page}
 use Rattle.commit_plan.specs.Plan.{Plan, pages_of}
 use Rattle.commit_writes.specs.Writing.{Writing, waiting, with_home, with_attempt, is_spent, begun, log_or_open, routed_of, routing, passes, not_committed}
 use Rattle.commit_writes.proofs.RoutedLaws.{routed_length}
-use Rattle.commit_run.specs.declared.hand.Hand.{Hand}
-use Rattle.commit_run.specs.declared.hand.Hand.TheVariants.{Writes, First, Change}
 use Rattle.commit_run.specs.Draft.{Draft, IsWithin, new_draft, pruned_by_root, pruned_by_kept, pruned_with, pruned_behind, planned, with_kept, leaf_noted, paged}
 use Rattle.commit_run.specs.Run.{Run, IsHeld, held, new_run, target_of, next_target, wrote, refused, troubled, by_turn, begun_turn, walk_to, seek, plan_on, is_stale, stale_at, walk_stopped, walk_turned, long_walk, long_target, begin_walks, run_ready, Led}
 use Rattle.commit_run.specs.Ending.{walk_calls, written_calls, unknown, walks_and_writes, left_at, calls_left, most_calls}

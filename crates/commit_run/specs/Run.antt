@@ -1,5 +1,5 @@
 -- A whole commit as a machine beside the cache: what it knows, what it asks, and where each answer leads.
-use Rattle.std.specs.Prelude.{◌≡◌, ◌≢◌, ℕ, ◌≤◌, Bool, true, false, nat_lt, if◌then◌else◌, List, [], ◌∷◌, length, slice_get, Option, Some, None}
+use Rattle.std.specs.Prelude.{◌≡◌, ◌≢◌, ℕ, ◌≤◌, Bool, true, false, nat_lt, if◌then◌else◌, List, length, slice_get, Option, Some, None}
 use Rattle.std.specs.Option.{option_map}
 use Rattle.db_base.specs.Change.{key_of}
 use Rattle.db_base.specs.declared.trouble.Trouble.{Trouble}

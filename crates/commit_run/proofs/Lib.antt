@@ -9,3 +9,5 @@ pub mod Finding
 pub mod Ending
 pub mod Walked
 pub mod Meaning
+pub mod Stopping
+pub mod Causing

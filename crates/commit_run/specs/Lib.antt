@@ -1,3 +1,4 @@
+pub mod Causing
 pub mod Draft
 pub mod Ending
 pub mod Meaning

@@ -39,6 +39,7 @@ impl Model for CommitRun {
 
 impl CommitRun {
     ghost use Rattle.commit_run.specs.Run.{new_run, run_ask, asks, run_ready, run_next, run_opens, home_of, Led, Keeps, KeepsHome};
+    ghost use Rattle.commit_run.specs.Causing.{Causes};
     ghost use Rattle.commit_run.specs.Ending.{calls_left, most_calls};
     ghost use Rattle.commit_run.specs.Sound.{IsSoundRun};
     ghost use Rattle.commit_run.specs.Meaning.{Meant, MeansReady};
@@ -115,6 +116,8 @@ impl CommitRun {
     ) -> Turn<CommitAnswer>
         ensures steps { Steps asks (LeadsBy run_next) KeepsHome who (C.seen cloud.old) (C.seen cloud.new) (self.old, cache.old) (self.new, cache.new) result }
         ensures means { Meant who (C.seen cloud.old) (C.seen cloud.new) (self.old, cache.old) (self.new, cache.new) result }
+        // Where nothing is committed, the answer of the call shows why.
+        ensures causes { Causes who (C.seen cloud.old) (C.seen cloud.new) (self.old, cache.old) result }
         ensures sound { IsSoundRun self.old }
         ensures less { result ≡ Turn.More → calls_left self.new < calls_left self.old }
     {

@@ -20,12 +20,11 @@ use Rattle.page_cache.specs.Cache.{Cache}
 use Rattle.tree_walk.specs.Walk.{Walk, object_of, new_walk, walk_ready, walk_next}
 use Rattle.commit_writes.specs.declared.stage.Stage.{Stage}
 use Rattle.commit_writes.specs.declared.stage.Stage.TheVariants.{Waiting, Logging, Opening, Sending, Settling, Deleting, Finished}
-use Rattle.commit_writes.specs.Writing.{Writing, routing, passes, routed_of, begun, log_or_open, send_or_settle, delete_or_end, not_committed, logged_by, opened_by, not_opened, sent_by, settled_by, deleted_by, writing_next}
+use Rattle.commit_writes.specs.Writing.{Writing, routing, passes, routed_of, begun, log_or_open, send_or_settle, delete_or_end, not_committed, logged_by, opened_by, sent_by, settled_by, deleted_by, writing_next}
 use Rattle.commit_writes.specs.Writing.{next_at as written_at}
-use Rattle.commit_run.specs.declared.hand.Hand.{Hand}
 use Rattle.commit_run.specs.declared.hand.Hand.TheVariants.{Writes, First, Change}
 use Rattle.commit_run.specs.Draft.{Draft, planned, pruned_behind, leaf_noted, paged}
-use Rattle.commit_run.specs.Run.{Run, held, asks, next_target, wrote, troubled, by_turn, begun_turn, walk_to, seek, plan_on, is_stale, stale_at, walk_stopped, walk_turned, walked, run_next, KeepsHome}
+use Rattle.commit_run.specs.Run.{Run, held, asks, next_target, wrote, troubled, by_turn, begun_turn, walk_to, seek, plan_on, is_stale, stale_at, walk_turned, walked, run_next, KeepsHome}
 use Rattle.commit_run.specs.Causing.{IsOfLink, ShowsWalk, ShowsIn, TellsOf, Tells, Causes}
 use Rattle.commit_run.proofs.Stopping.{LinkBeside, ready_link, StopsBeside, next_stops}
 

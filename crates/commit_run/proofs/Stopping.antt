@@ -1,5 +1,5 @@
 -- Why a walk stops.
-use Rattle.std.proofs.Common.{◌≡◌, ℕ, zero, suc, ◌-◌, Bool, true, false, List, Option, Some, None, Result, Ok, Err, unwrap_or, refl, ap, sym, subst, ◌∙◌, inl, inr, ◌⊎◌}
+use Rattle.std.proofs.Common.{◌≡◌, ℕ, zero, suc, ◌-◌, Bool, true, false, List, Option, Some, None, Result, Ok, Err, unwrap_or, refl, ap, inl, inr, ◌⊎◌}
 use Rattle.std.specs.Prelude.{if◌then◌else◌, IfSome, ◌==◌}
 use Rattle.std.specs.Option.{option_map}
 use Rattle.byte_format.specs.Order.{bytes_same}

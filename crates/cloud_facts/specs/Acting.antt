@@ -101,7 +101,7 @@ pub record Aside (st : Store) (before : Part) (Knows : Store → ℕ → Type 0)
 -- or that a renewal left
 pub record Handles (who : Caller) (s t : CloudState) (ask : Ask) (reply : Answer) (mine after : List Claim) : Type 0 where
   pub owns : Owns (λ session. mine) who.session ask
-  pub guarded : IsGuarded s ask
+  pub guarded : IsGuarded s t.now ask
   pub renewed : Claim
   pub renews : RenewedTo who ask renewed (called who t.now s) t
   pub own : (x : Claim) → IsIn after x → (IsIn mine x × KeptBy ask x) ⊎ GainedBy ask reply renewed x

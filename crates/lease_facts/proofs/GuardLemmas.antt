@@ -88,11 +88,11 @@ guarding hands session now k one None owns lasts (inr e) = absurd e
 abbrev ObjectMay : Hands → ℕ → ℕ → CloudState → ObjName → List Version → Type 0
 ObjectMay hands session now s name vs = (vs ≡ s.versions name) ⊎ HasLasting now hands session (guard s name)
 
-effect_objects : (hands : Hands) (who : Caller) (ask : Ask) (s : CloudState) → Owns hands who.session ask → IsGuarded s ask → Permits ask s
+effect_objects : (hands : Hands) (who : Caller) (ask : Ask) (s : CloudState) → Owns hands who.session ask → IsGuarded s s.now ask → Permits ask s
     → (name : ObjName) → ObjectMay hands who.session s.now s name ((effect who ask s).versions name)
 effect_objects hands who (PutHeld name bytes one two) s owns guarded permits q =
     put_at_by (λ q vs. ObjectMay hands who.session s.now s q vs) object_cmp object_cmp-equal s.versions name _
-    (inr (guarding hands who.session s.now (guard s name) one two owns permits guarded)) (λ r. inl refl) q
+    (inr (guarding hands who.session s.now (guard s name) one two owns permits (guarded permits))) (λ r. inl refl) q
 effect_objects hands who (Get name) s owns guarded permits q = inl refl
 effect_objects hands who (GetHeld name l) s owns guarded permits q = inl refl
 effect_objects hands who (Send queue bytes) s owns guarded permits q = inl refl
@@ -110,7 +110,7 @@ effect_objects hands who (Release l) s owns guarded permits q =
 still_allowed : (who : Caller) (s : CloudState) (now : ℕ) (hands : Hands) → s.now ≤ now → Allowed hands who.session s (called who now s)
 still_allowed who s now hands later = record { later = later; generations = λ k. omega arith; locks = λ k. inl refl; objects = λ name. inl refl }
 
-landed_allowed : (who : Caller) (ask : Ask) (s : CloudState) (now : ℕ) (hands : Hands) → s.now ≤ now → Owns hands who.session ask → IsGuarded s ask
+landed_allowed : (who : Caller) (ask : Ask) (s : CloudState) (now : ℕ) (hands : Hands) → s.now ≤ now → Owns hands who.session ask → IsGuarded s now ask
     → Permits ask (called who now s) → Allowed hands who.session s (effect who ask (called who now s))
 landed_allowed who ask s now hands later owns guarded permits =
     let e : (effect who ask (called who now s)).now ≡ now = (effect_rest who ask (called who now s)).now in
@@ -125,7 +125,7 @@ landed_allowed who ask s now hands later owns guarded permits =
 
 -- a call does only what it may, where its leases are the session's own and guard what it puts
 pub call_is_allowed : (who : Caller) (ask : Ask) (a : Answer) (c d : Counts) (s : CloudState) (new : Option CloudState) (l : Leaves who ask a c d s new) (hands : Hands)
-    → Owns hands who.session ask → IsGuarded s ask → Allowed hands who.session s l.after
+    → Owns hands who.session ask → IsGuarded s l.after.now ask → Allowed hands who.session s l.after
 call_is_allowed who ask a c d s new l hands owns guarded = on (lands_or_not who ask a c d (called who l.after.now s) l.after l.row)
   where
     on : (l.after ≡ called who l.after.now s) ⊎ Lands who ask (called who l.after.now s) l.after → Allowed hands who.session s l.after

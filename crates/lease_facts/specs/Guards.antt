@@ -1,5 +1,5 @@
 -- Which lock guards an object, and what a session's call may touch.
-use Rattle.std.specs.Prelude.{ℕ, ◌≡◌, ◌≤◌, ◌⊎◌, ◌==◌, if◌then◌else◌, List, Option, Some, None, IsSomeAnd}
+use Rattle.std.specs.Prelude.{ℕ, ◌≡◌, ◌≤◌, ◌⊎◌, ◌==◌, if◌then◌else◌, List, Option, Some, None, IfSome, IsSomeAnd}
 use Rattle.db_base.specs.declared.names.Lock.{Lock}
 use Rattle.db_base.specs.declared.names.Lock.TheVariants as lock
 use Rattle.db_base.specs.declared.names.ObjName.{ObjName}
@@ -30,17 +30,17 @@ guard_of (object.Page tree page) bytes = guard_of_page tree page bytes
 abbrev pub guard : CloudState → ObjName → Lock
 guard s name = guard_of name (newest s name)
 
--- one of the leases that a put names is of the lock that guards the object
-abbrev pub IsGuarded : CloudState → Ask → Type 0
-IsGuarded s (PutHeld name bytes one two) = (one.lock ≡ guard s name) ⊎ IsSomeAnd two (λ l. l.lock ≡ guard s name)
-IsGuarded s (Get name) = Unit {0}
-IsGuarded s (GetHeld name l) = Unit {0}
-IsGuarded s (Send queue bytes) = Unit {0}
-IsGuarded s (Receive queue most) = Unit {0}
-IsGuarded s (Delete queue id) = Unit {0}
-IsGuarded s (Take lock ticks) = Unit {0}
-IsGuarded s (Renew l ticks) = Unit {0}
-IsGuarded s (Release l) = Unit {0}
+-- while the leases that a put names last, one of them is of the lock that guards the object
+abbrev pub IsGuarded : CloudState → ℕ → Ask → Type 0
+IsGuarded s now (PutHeld name bytes one two) = Lasts now one × IfSome two (Lasts now) → (one.lock ≡ guard s name) ⊎ IsSomeAnd two (λ l. l.lock ≡ guard s name)
+IsGuarded s now (Get name) = Unit {0}
+IsGuarded s now (GetHeld name l) = Unit {0}
+IsGuarded s now (Send queue bytes) = Unit {0}
+IsGuarded s now (Receive queue most) = Unit {0}
+IsGuarded s now (Delete queue id) = Unit {0}
+IsGuarded s now (Take lock ticks) = Unit {0}
+IsGuarded s now (Renew l ticks) = Unit {0}
+IsGuarded s now (Release l) = Unit {0}
 
 -- a session has a lease of the lock that lasts at a moment
 pub record HasLasting (now : ℕ) (hands : Hands) (session : ℕ) (k : Lock) : Type 0 where

@@ -44,7 +44,7 @@ use Rattle.page_facts.specs.Checkpoint.{HoldsPage, HoldsRight, HasPage, HasRight
 use Rattle.page_facts.specs.Rights.{IsLanded, IsNewestLeaf, ReadLeaf, HasRun, IsDone, AreDone, IsUpto, LeadsOn, LeavesRight}
 use Rattle.page_facts.proofs.Chained.{has_run, home_fences}
 use Rattle.page_facts.proofs.Fences.{HasFences, landed_fences, newest_landed, link_leads, another, upto_next, upto_more, not_visited}
-use Rattle.page_facts.proofs.Reads.{IsNamed, IsLinkedLeaf}
+use Rattle.page_facts.proofs.PageReads.{IsNamed, IsLinkedLeaf}
 
 -- an id that is left to be deleted was to be deleted
 still_there : (d : Deleting) (went : Bool) (id : ℕ) → IsIn (tried d went).ids id → IsIn d.ids id
@@ -65,12 +65,6 @@ first_item (x ∷ items) e = (x, (zero, refl))
 
 some_is : (a b : Trouble) → Some a ≡ Some b → a ≡ b
 some_is a b e = cc
-
-ok_is : (a b : Leaf) → Ok {E = Trouble} a ≡ Ok b → a ≡ b
-ok_is a b e = cc
-
-not_both : (a : Leaf) (t : Trouble) → Ok {E = Trouble} a ≡ Err t → ⊥
-not_both a t e = cc
 
 -- no trouble is kept that may not be answered
 abbrev pub MayAnswer : ℕ → Option Trouble → Type 0

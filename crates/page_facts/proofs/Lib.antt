@@ -5,3 +5,5 @@ pub mod PagingOthers
 pub mod Begins
 pub mod Nexts
 pub mod HeadPuts
+pub mod Hands
+pub mod Steps

@@ -73,34 +73,37 @@ MayAnswer page o = (t : Trouble) → o ≡ Some t → MayStop page t
 one_may : (page : ℕ) (t : Trouble) → MayStop page t → MayAnswer page (Some t)
 one_may page t may k e = subst (MayStop page) (some_is t k e) may
 
+-- what the get of the page, and of the right page at hand, comes to
+abbrev pub Named : Store → Paging → Result Leaf Trouble → Type 0
+Named u p found = IsNamed (u.tally.nodes p.tree) p.page found
+
+abbrev pub Linked : Store → Paging → Result Leaf Trouble → Type 0
+Linked u p found = IsLinkedLeaf (u.tally.nodes p.tree) p.at.page p.at.low found
+
 module _ (u : Store) (now : ℕ) (p : Paging) (of_tree : IsTree p.tree) (of_page : IsPage p.page) where
   -- the leases are given back, and then it stops
-  pub stops : (t : Trouble) → HasLeases p → MayStop p.page t → KnowsNext u now (stopping p t)
+  pub stops : (t : Trouble) → HasLeases p → MayStop p.page t → KnowsNext u now p.page (stopping p t)
   stops t has may = record { tree = of_tree; page = of_page; may = one_may p.page t may; at = has }
-
-  pub finishes : (o : Option Trouble) → MayAnswer p.page o → KnowsNext u now (finished_by p o)
-  finishes (Some t) may = may t refl
-  finishes None may = tt
 
   module _ (may : MayAnswer p.page p.trouble) where
     -- deletions, or the release where none is left
-    deletes : HasPage p → MayDelete u p.tree p.page p.deletions.ids → KnowsNext u now (deleting p)
+    deletes : HasPage p → MayDelete u p.tree p.page p.deletions.ids → KnowsNext u now p.page (deleting p)
     deletes has each = on p.deletions.ids refl
       where
-        on : (ids : List ℕ) → p.deletions.ids ≡ ids → KnowsNext u now (deleting_by p (next_id ids))
+        on : (ids : List ℕ) → p.deletions.ids ≡ ids → KnowsNext u now p.page (deleting_by p (next_id ids))
         on (id ∷ ids) e = record { tree = of_tree; page = of_page; may = may; at = (has, each, (id, ids, e)) }
         on [] e = record { tree = of_tree; page = of_page; may = may; at = inl has }
 
     -- ---- the page's lease, and the page
 
     pub home_taken : p.visited ≡ [] → (g : Result Claim Trouble) → ((l : Claim) → g ≡ Ok l → l.lock ≡ lock.Page p.tree p.page) → ((t : Trouble) → g ≡ Err t → MayStop p.page t)
-        → KnowsNext u now (home_taken_by p g)
+        → KnowsNext u now p.page (home_taken_by p g)
     home_taken fresh (Ok l) is refused = record { tree = of_tree; page = of_page; may = may; at = (record { lease = l; is = refl; lock_is = is l refl }, fresh) }
     home_taken fresh (Err t) is refused = refused t refl
 
     module _ (has : HasPage p) (fresh : p.visited ≡ [])
         (cursor : (client : ℕ) → u.tally.cursor p.tree p.page client ≡ done_number (newest_leaf u.tally.nodes p.tree p.page).done p.page client) where
-      home_known : (g : Result Leaf Trouble) → IsNamed (u.tally.nodes p.tree) p.page g → KnowsNext u now (home_read p g)
+      home_known : (g : Result Leaf Trouble) → IsNamed (u.tally.nodes p.tree) p.page g → KnowsNext u now p.page (home_read p g)
       home_known (Err t) named = stops t (inl has) named
       home_known (Ok l) newest = record {
         tree = of_tree;
@@ -117,26 +120,26 @@ module _ (u : Store) (now : ℕ) (p : Paging) (of_tree : IsTree p.tree) (of_page
       }
 
       pub home_got : (g : Result (Option (List ℕ)) Trouble) (next : Step)
-          → ((got : Option (List ℕ)) (found : Result Leaf Trouble) → g ≡ Ok got → HoldsNamed p.tree p.page got found → IsNamed (u.tally.nodes p.tree) p.page found)
-          → ((t : Trouble) → g ≡ Err t → MayStop p.page t) → HomeGot p g next → KnowsNext u now next
-      home_got (Ok got) next named refused (found, holds_named, is) = subst (KnowsNext u now) (sym is) (home_known found (named got found refl holds_named))
-      home_got (Err t) next named refused is = subst (KnowsNext u now) (sym is) (stops t (inl has) (refused t refl))
+          → ((got : Option (List ℕ)) (found : Result Leaf Trouble) → g ≡ Ok got → HoldsNamed p.tree p.page got found → Named u p found)
+          → ((t : Trouble) → g ≡ Err t → MayStop p.page t) → HomeGot p g next → KnowsNext u now p.page next
+      home_got (Ok got) next named refused (found, holds_named, is) = subst (KnowsNext u now p.page) (sym is) (home_known found (named got found refl holds_named))
+      home_got (Err t) next named refused is = subst (KnowsNext u now p.page) (sym is) (stops t (inl has) (refused t refl))
 
     -- ---- to the right, or home
 
     module _ (height : ℕ) (levels : AreLevels (u.book.chain p.tree) height) (has : HasPage p) (read : ReadLeaf u now p.tree p.page has.lease p.home)
         (runs : HasRun u p.tree p.page p.home p.run p.deletions.ids) where
-      puts_home : (next : Step) → AreDone u p.tree p.page p.run.items p.home.high None → LeafPut p PuttingHome p.home next → KnowsNext u now next
-      puts_home next rest (inl spent) = subst (KnowsNext u now) (sym spent.1) (stops (trouble.Exhausted counter.Version) (inl has) tt)
+      puts_home : (next : Step) → AreDone u p.tree p.page p.run.items p.home.high None → LeafPut p PuttingHome p.home next → KnowsNext u now p.page next
+      puts_home next rest (inl spent) = subst (KnowsNext u now p.page) (sym spent.1) (stops (trouble.Exhausted counter.Version) (inl has) tt)
       puts_home next rest (inr put) =
-          subst (KnowsNext u now) (sym put.1.2)
+          subst (KnowsNext u now p.page) (sym put.1.2)
           (record { tree = of_tree; page = of_page; may = may; at = (has, record { read = read; runs = runs; rest = rest; puts = put.1.1; applies = refl }) })
 
       pub goes_on : (low : List ℕ) (upto : Option (List ℕ)) → IsUpto (u.book.chain p.tree 0) low p.page → ((q : ℕ) → IsIn p.visited q → IsUpto (u.book.chain p.tree 0) low q)
           → AreDone u p.tree p.page p.run.items p.home.high upto → (o : Option Found) → LeadsOn (u.book.chain p.tree 0) low upto p.run.items o → (next : Step) → GoesOn p o next
-          → KnowsNext u now next
+          → KnowsNext u now p.page next
       goes_on low upto home behind done None leads next put = puts_home next (λ x there beyond below. done x there beyond (leads x there)) put
-      goes_on low upto home behind done (Some l) leads next is = subst (KnowsNext u now) (sym (is ∙ ap (to_right p l) unvisited)) (record {
+      goes_on low upto home behind done (Some l) leads next is = subst (KnowsNext u now p.page) (sym (is ∙ ap (to_right p l) unvisited)) (record {
         tree = of_tree;
         page = of_page;
         may = may;
@@ -160,10 +163,10 @@ module _ (u : Store) (now : ℕ) (p : Paging) (of_tree : IsTree p.tree) (of_page
     -- ---- the put of the page, and the deletions
 
     pub home_put : (g : Result (Unit {0}) Trouble) → HasPage p → (g ≡ Ok tt → MayDelete (u) p.tree p.page p.deletions.ids) → ((t : Trouble) → g ≡ Err t → MayStop p.page t)
-        → KnowsNext u now (home_put_by p g)
+        → KnowsNext u now p.page (home_put_by p g)
     home_put (Ok tt) has each refused = on p.deletions.ids refl
       where
-        on : (ids : List ℕ) → p.deletions.ids ≡ ids → KnowsNext u now (deleting_by (with_applied p) (next_id ids))
+        on : (ids : List ℕ) → p.deletions.ids ≡ ids → KnowsNext u now p.page (deleting_by (with_applied p) (next_id ids))
         on (id ∷ ids) e = record { tree = of_tree; page = of_page; may = may; at = (has, each refl, (id, ids, e)) }
         on [] e = record { tree = of_tree; page = of_page; may = may; at = inl has }
     home_put (Err t) has each refused = record { tree = of_tree; page = of_page; may = one_may p.page t (refused t refl); at = inl has }
@@ -171,18 +174,18 @@ module _ (u : Store) (now : ℕ) (p : Paging) (of_tree : IsTree p.tree) (of_page
     -- ---- releases
 
     pub released : (stage : p.stage ≡ Releasing) → HasLeases p
-        → KnowsNext u now (released_by (record p { held = without_newest p.held }) (newest_lease (without_newest p.held)))
+        → KnowsNext u now p.page (released_by (record p { held = without_newest p.held }) (newest_lease (without_newest p.held)))
     released stage (inl has) =
-        subst (λ (o : Option Claim). KnowsNext u now (released_by left o)) (sym (ap (λ (l : Leases). newest_lease (without_newest l)) has.is)) (left_finishes p.trouble may)
+        subst (λ (o : Option Claim). KnowsNext u now p.page (released_by left o)) (sym (ap (λ (l : Leases). newest_lease (without_newest l)) has.is)) (left_finishes p.trouble may)
       where
         left : Paging
         left = record p { held = without_newest p.held }
 
-        left_finishes : (o : Option Trouble) → MayAnswer p.page o → KnowsNext u now (finished_by left o)
+        left_finishes : (o : Option Trouble) → MayAnswer p.page o → KnowsNext u now p.page (finished_by left o)
         left_finishes (Some t) m = m t refl
         left_finishes None m = tt
     released stage (inr (right, has)) =
-        subst (λ (o : Option Claim). KnowsNext u now (released_by left o)) (sym (ap (λ (l : Leases). newest_lease (without_newest l)) has.is))
+        subst (λ (o : Option Claim). KnowsNext u now p.page (released_by left o)) (sym (ap (λ (l : Leases). newest_lease (without_newest l)) has.is))
         (record { tree = of_tree; page = of_page; may = may; at = subst (λ (g : Stage). KnowsPagingAt g u now left) (sym stage) (inl one) })
       where
         left : Paging
@@ -204,7 +207,7 @@ module _ (u : Store) (now : ℕ) (p : Paging) (of_tree : IsTree p.tree) (of_page
     behind client is = let same = own.each client in let covered = read.covered client is in omega (arith, same, covered)
 
     run_known : (items : List PuItem) (run : Taken) (next : Step) → IsRun cursor items run.items run.top → AllByRecursion (IsSentItem (u.tally.posts p.tree p.page)) items
-        → RunStarted (intake (intake_of items run)) (has_items run.items) next → KnowsNext u now next
+        → RunStarted (intake (intake_of items run)) (has_items run.items) next → KnowsNext u now p.page next
     run_known items run next is_run sent started = on (has_items run.items) refl started
       where
         ids : List ℕ
@@ -231,7 +234,7 @@ module _ (u : Store) (now : ℕ) (p : Paging) (of_tree : IsTree p.tree) (of_page
             (took.covers id is)
 
         -- else the page is in the leaf chain, and its link leads on
-        goes : has_items run.items ≡ true → GoesOn (intake (intake_of items run)) (link_of p.home run.items) next → KnowsNext u now next
+        goes : has_items run.items ≡ true → GoesOn (intake (intake_of items run)) (link_of p.home run.items) next → KnowsNext u now p.page next
         goes e to =
             let x = first_item run.items e in
             let runs : HasRun u p.tree p.page p.home run ids = has_run u p.tree p.page height of_page levels versions p.home read.read.landed numbers cursor run ids took x.0 x.1 in
@@ -248,27 +251,27 @@ module _ (u : Store) (now : ℕ) (p : Paging) (of_tree : IsTree p.tree) (of_page
             both : (b : Bool) → b ≡ false → b ≡ true → ⊥
             both b f g = cc
 
-        on : (b : Bool) → has_items run.items ≡ b → RunStarted (intake (intake_of items run)) b next → KnowsNext u now next
+        on : (b : Bool) → has_items run.items ≡ b → RunStarted (intake (intake_of items run)) b next → KnowsNext u now p.page next
         on true e to = goes e to
-        on false e is = subst (KnowsNext u now) (sym is) (deletes u now (intake (intake_of items run)) of_tree of_page may read.has (each (no_items run.items e)))
+        on false e is = subst (KnowsNext u now p.page) (sym is) (deletes u now (intake (intake_of items run)) of_tree of_page may read.has (each (no_items run.items e)))
 
     taken_known : (g : Result (List PuItem) Message) (taken : Result Intake Trouble) (next : Step) → AllByRecursion (WasSent (u.tally.posts p.tree p.page)) ms → items_of ms ≡ g
-        → TakesItems (own_queue p) cursor g taken → IntakeTaken (record p { received = ids_of ms }) taken next → KnowsNext u now next
+        → TakesItems (own_queue p) cursor g taken → IntakeTaken (record p { received = ids_of ms }) taken next → KnowsNext u now p.page next
     taken_known (Err m) taken next was e damaged goes = absurd (none_damaged u p.tree p.page ms m numbers was e)
     taken_known (Ok items) taken next was e (run, is_run, is) goes =
         run_known items run next is_run (items_sent (u.tally.posts p.tree p.page) ms items was e)
         (subst (λ (t : Result Intake Trouble). IntakeTaken (record p { received = ids_of ms }) t next) is goes)
 
   pub received : (g : Result (List Message) Trouble) (next : Step) → ((ms : List Message) → g ≡ Ok ms → AllByRecursion (WasSent (u.tally.posts p.tree p.page)) ms)
-      → ((t : Trouble) → g ≡ Err t → MayStop p.page t) → ReceivedBy p g next → KnowsNext u now next
+      → ((t : Trouble) → g ≡ Err t → MayStop p.page t) → ReceivedBy p g next → KnowsNext u now p.page next
   received (Ok ms) next was refused (cursor, own, (taken, takes, goes)) = taken_known ms cursor own (items_of ms) taken next (was ms refl) refl takes goes
-  received (Err t) next was refused is = subst (KnowsNext u now) (sym is) (stops u now p of_tree of_page t (inl read.has) (refused t refl))
+  received (Err t) next was refused is = subst (KnowsNext u now p.page) (sym is) (stops u now p of_tree of_page t (inl read.has) (refused t refl))
 
 -- ---- a right page
 
 module _ (u : Store) (now : ℕ) (p : Paging) (of_tree : IsTree p.tree) (of_page : IsPage p.page) (may : MayAnswer p.page p.trouble) where
   pub right_taken : (has : HasPage p) → ComesOn u now p has.lease → (g : Result Claim Trouble) → ((l : Claim) → g ≡ Ok l → l.lock ≡ lock.Page p.tree p.at.page)
-      → ((t : Trouble) → g ≡ Err t → MayStop p.page t) → KnowsNext u now (right_taken_by p g)
+      → ((t : Trouble) → g ≡ Err t → MayStop p.page t) → KnowsNext u now p.page (right_taken_by p g)
   right_taken has comes (Ok l) is refused = record {
     tree = of_tree;
     page = of_page;
@@ -310,10 +313,10 @@ module _ (u : Store) (now : ℕ) (p : Paging) (of_tree : IsTree p.tree) (of_page
       abbrev led : Paging
       led = record p { onward = link_of l p.run.items }
 
-      right_known : (next : Step) → LeafPut led PuttingRight l next → KnowsNext u now next
-      right_known next (inl spent) = subst (KnowsNext u now) (sym spent.1) (stops u now led of_tree of_page (trouble.Exhausted counter.Version) both tt)
+      right_known : (next : Step) → LeafPut led PuttingRight l next → KnowsNext u now p.page next
+      right_known next (inl spent) = subst (KnowsNext u now p.page) (sym spent.1) (stops u now led of_tree of_page (trouble.Exhausted counter.Version) both tt)
       right_known next (inr put) =
-          subst (KnowsNext u now) (sym put.1.2)
+          subst (KnowsNext u now p.page) (sym put.1.2)
           (record {
             tree = of_tree;
             page = of_page;
@@ -332,13 +335,13 @@ module _ (u : Store) (now : ℕ) (p : Paging) (of_tree : IsTree p.tree) (of_page
               (and_from (not (bytes_below (key_of x.rec.change) l.low)) (below_bound (key_of x.rec.change) l.high)
               (ap not (ap (bytes_below (key_of x.rec.change)) fences.low ∙ from)) below)
 
-      pub right_read : (next : Step) → RightRead p (Ok l) next → KnowsNext u now next
+      pub right_read : (next : Step) → RightRead p (Ok l) next → KnowsNext u now p.page next
       right_read next = on (has_items (lacked l p.page p.run.items)) refl
         where
-          on : (b : Bool) → has_items (lacked l p.page p.run.items) ≡ b → RightLacks led l b next → KnowsNext u now next
+          on : (b : Bool) → has_items (lacked l p.page p.run.items) ≡ b → RightLacks led l b next → KnowsNext u now p.page next
           on true e put = right_known next put
           on false e is =
-              subst (KnowsNext u now) (sym is)
+              subst (KnowsNext u now p.page) (sym is)
               (record {
                 tree = of_tree;
                 page = of_page;
@@ -348,24 +351,23 @@ module _ (u : Store) (now : ℕ) (p : Paging) (of_tree : IsTree p.tree) (of_page
 
     pub right_got : (height : ℕ) → AreLevels (u.book.chain p.tree) height → AreVersions (u.book.chain p.tree) (u.tally.nodes p.tree) → ComesOn u now p has.lease
         → (g : Result (Option (List ℕ)) Trouble) (next : Step)
-        → ((got : Option (List ℕ)) (found : Result Leaf Trouble) → g ≡ Ok got → HoldsLinked p.tree p.at.page p.at.low got found
-        → IsLinkedLeaf (u.tally.nodes p.tree) p.at.page p.at.low found)
+        → ((got : Option (List ℕ)) (found : Result Leaf Trouble) → g ≡ Ok got → HoldsLinked p.tree p.at.page p.at.low got found → Linked u p found)
         → ((l : Leaf) → IsNewestLeaf (u.tally.nodes p.tree) p.at.page l → lacked l p.page p.run.items ≡ [] → (x : PuItem) → IsIn p.run.items x → holds l (key_of x.rec.change) ≡ true
         → IsDone u p.tree p.page x)
-        → ((t : Trouble) → g ≡ Err t → MayStop p.page t) → RightGot p g next → KnowsNext u now next
+        → ((t : Trouble) → g ≡ Err t → MayStop p.page t) → RightGot p g next → KnowsNext u now p.page next
     right_got height levels versions comes (Ok got) next linked none refused (found, holds_linked, read) =
         let k = linked got found refl holds_linked in
         right_read height levels versions comes k.leaf k.newest (none k.leaf k.newest) next (subst (λ (f : Result Leaf Trouble). RightRead p f next) k.is read)
-    right_got height levels versions comes (Err t) next linked none refused is = subst (KnowsNext u now) (sym is) (stops u now p of_tree of_page t both (refused t refl))
+    right_got height levels versions comes (Err t) next linked none refused is = subst (KnowsNext u now p.page) (sym is) (stops u now p of_tree of_page t both (refused t refl))
 
     pub right_put : (g : Result (Unit {0}) Trouble) → (g ≡ Ok tt → ComesOn u now p has.lease × LeavesRight u p.tree p.page p.home p.run p.at p.onward)
-        → ((t : Trouble) → g ≡ Err t → MayStop p.page t) → KnowsNext u now (right_put_by p g)
+        → ((t : Trouble) → g ≡ Err t → MayStop p.page t) → KnowsNext u now p.page (right_put_by p g)
     right_put (Ok tt) knows refused = let k = knows refl in record { tree = of_tree; page = of_page; may = may; at = (has, k.0, k.1) }
     right_put (Err t) knows refused = record { tree = of_tree; page = of_page; may = one_may p.page t (refused t refl); at = both }
 
     -- behind a right page
     pub right_released : (height : ℕ) → AreLevels (u.book.chain p.tree) height → ComesOn u now p has.lease → LeavesRight u p.tree p.page p.home p.run p.at p.onward → (next : Step)
-        → GoesOn (without_onward (record p { held = without_right p.held })) p.onward next → KnowsNext u now next
+        → GoesOn (without_onward (record p { held = without_right p.held })) p.onward next → KnowsNext u now p.page next
     right_released height levels comes leaves next goes =
         goes_on u now (without_onward (record p { held = without_right p.held })) of_tree of_page may height levels
         (record { lease = has.lease; is = ap without_right has.is; lock_is = has.lock_is }) comes.read comes.runs p.at.low leaves.upto comes.home_behind comes.behind leaves.applied p.onward
@@ -374,6 +376,6 @@ module _ (u : Store) (now : ℕ) (p : Paging) (of_tree : IsTree p.tree) (of_page
 -- ---- a deletion
 
 pub deleted : (u : Store) (now : ℕ) (p : Paging) → IsTree p.tree → IsPage p.page → MayAnswer p.page p.trouble → (g : Result (Unit {0}) Trouble) → HasPage p
-    → MayDelete u p.tree p.page p.deletions.ids → KnowsNext u now (deleted_by p g)
+    → MayDelete u p.tree p.page p.deletions.ids → KnowsNext u now p.page (deleted_by p g)
 deleted u now p of_tree of_page may g has each =
     deletes u now (record p { deletions = tried p.deletions (went g) }) of_tree of_page may has (λ id is. each id (still_there p.deletions (went g) id is))

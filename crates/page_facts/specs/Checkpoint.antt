@@ -102,15 +102,15 @@ pub record KnowsPaging (st : Store) (now : ℕ) (p : Paging) : Type 0 where
   pub may : (t : Trouble) → p.trouble ≡ Some t → MayStop p.page t
   pub at : KnowsPagingAt p.stage st now p
 
--- what it knows where an answer leads, and why it stops where it does
-abbrev pub KnowsNext : Store → ℕ → Step → Type 0
-KnowsNext st now (Goes p) = KnowsPaging st now p
-KnowsNext st now (Ends p a) = Unit {0}
-KnowsNext st now (Stops p t) = MayStop p.page t
+-- what the checkpoint of a page knows where an answer leads, and why it stops where it does
+abbrev pub KnowsNext : Store → ℕ → ℕ → Step → Type 0
+KnowsNext st now page (Goes p) = KnowsPaging st now p
+KnowsNext st now page (Ends p a) = Unit {0}
+KnowsNext st now page (Stops p t) = MayStop page t
 
 -- what it knows after an answer, wherever that leads
 abbrev pub KnowsAfter : Paging → Answer → Store → ℕ → Type 0
-KnowsAfter p reply st now = (next : Step) → PagingLeads p reply next → KnowsNext st now next
+KnowsAfter p reply st now = (next : Step) → PagingLeads p reply next → KnowsNext st now p.page next
 
 -- ---- its leases, and what its puts add to the audit
 

@@ -1,5 +1,5 @@
 -- A page whose queue brought a run is in the leaf chain, with no key of the run below it.
-use Rattle.std.proofs.Common.{◌≡◌, ◌≤◌, ◌⊎◌, inl, inr, ℕ, List, sym, ap, subst, ◌∙◌, arith}
+use Rattle.std.proofs.Common.{◌≤◌, inl, inr, ℕ, List, sym, ap, subst, ◌∙◌, arith}
 use Rattle.byte_format.specs.Order.{bytes_below}
 use Rattle.chain_facts.specs.Chain.{AreLevels, AreVersions}
 use Rattle.db_base.specs.Change.{key_of}

@@ -6,7 +6,7 @@ use Rattle.std.proofs.lemmas.Bool.{eqb-true}
 use Rattle.byte_format.specs.Order.{bytes_below, bytes_same, below_bound}
 use Rattle.byte_format.proofs.OrderLemmas.{same_is}
 use Rattle.chain_facts.specs.Chain.{AreLevels, AreVersions, IsVersionOf, NamesRight}
-use Rattle.chain_facts.specs.Links.{first_link, newest_node}
+use Rattle.chain_facts.specs.Links.{first_link}
 use Rattle.chain_facts.proofs.Newest.{last_in}
 use Rattle.chain_facts.proofs.Pieces.{not_itself}
 use Rattle.db_base.specs.Change.{key_of}
@@ -14,11 +14,10 @@ use Rattle.leaf_view.specs.Leaf.{Leaf}
 use Rattle.leaf_view.specs.Lookup.{empty_leaf, page_at}
 use Rattle.log_codec.specs.declared.record.PuItem.{PuItem}
 use Rattle.node_codec.proofs.EntryLemmas.{above, below_chain}
-use Rattle.page_ckpt.specs.Paging.{is_beyond, reaches_beyond, link_by, link_of}
-use Rattle.page_ckpt.specs.declared.link.Link.{Link as Found}
+use Rattle.page_ckpt.specs.Paging.{reaches_beyond, link_by, link_of}
 use Rattle.store_book.specs.Book.{Link}
 use Rattle.store_book.specs.Records.{IsIn}
-use Rattle.store_book.specs.Tally.{Node, Leafy, right_of}
+use Rattle.store_book.specs.Tally.{Node, Leafy}
 use Rattle.store_book.specs.Telling.{last_or, leaf_in}
 use Rattle.store_book.proofs.Places.{in_either, in_none}
 use Rattle.page_facts.specs.Rights.{IsLanded, IsNewestLeaf, IsUpto, LeadsOn}

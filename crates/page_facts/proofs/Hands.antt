@@ -12,7 +12,7 @@ use Rattle.cloud_facts.specs.Pages.{IsLeafPage}
 use Rattle.cloud_facts.proofs.Firsts.{chain_leaf}
 use Rattle.cloud_facts.proofs.Guarding.{leaf_guard}
 use Rattle.cloud_trait.proofs.ViewLemmas.{given_of-ok}
-use Rattle.cloud_trait.specs.Ask.{Ask, GetHeld, PutHeld, Receive, Delete, Take, Release}
+use Rattle.cloud_trait.specs.Ask.{Ask, GetHeld, PutHeld, Receive, Delete, Release}
 use Rattle.cloud_trait.specs.Caller.{Caller}
 use Rattle.cloud_trait.specs.Claim.{Claim}
 use Rattle.cloud_trait.specs.State.{CloudState}
@@ -28,7 +28,7 @@ use Rattle.leaf_view.specs.Leaf.{Leaf}
 use Rattle.lease_facts.specs.Guards.{guard}
 use Rattle.lease_facts.specs.Leases.{AreOne, KeptBy, GainedBy}
 use Rattle.home_facts.specs.Homes.{Parts}
-use Rattle.page_ckpt.specs.Paging.{Paging, Step, ask_at, paging_ask, under, delete_next, take_home, home_name, own_queue, held_after, deleting_by, home_taken_by, HomeGot, home_read, LeafPut, link_of, is_visited, to_right, GoesOn, RunStarted, with_intake, IntakeTaken, ReceivedBy, take_right, right_name, right_taken_by, RightLacks, RightRead, RightGot, without_right, without_onward, without_applying, right_put_by, with_applied, home_put_by, went, deleted_by, finished_by, released_by, AbsorbsAt, PagingLeads}
+use Rattle.page_ckpt.specs.Paging.{Paging, Step, ask_at, paging_ask, under, delete_next, take_home, home_name, own_queue, held_after, deleting_by, home_taken_by, HomeGot, home_read, LeafPut, link_of, is_visited, to_right, GoesOn, RunStarted, with_intake, IntakeTaken, ReceivedBy, take_right, right_name, right_taken_by, RightLacks, RightRead, RightGot, without_right, without_onward, right_put_by, with_applied, home_put_by, went, deleted_by, finished_by, released_by, AbsorbsAt, PagingLeads}
 use Rattle.page_ckpt.specs.declared.link.Link.{Link as Found}
 use Rattle.page_ckpt.specs.declared.stage.Stage.{Stage}
 use Rattle.page_ckpt.specs.declared.stage.Stage.TheVariants.{TakingHome, GettingHome, Receiving, TakingRight, GettingRight, PuttingRight, ReleasingRight, PuttingHome, Deleting as DeletingNext, Releasing, Finished}
@@ -37,7 +37,6 @@ use Rattle.store_book.specs.Book.{Book, Link}
 use Rattle.store_book.specs.Records.{IsIn}
 use Rattle.store_book.specs.Telling.{nodes_of}
 use Rattle.telling_facts.specs.Taking.{IsLinked}
-use Rattle.store_book.specs.Tally.{Store}
 use Rattle.telling_facts.specs.Told.{store_of}
 use Rattle.store_book.proofs.Places.{get_single, in_behind, in_none}
 use Rattle.page_facts.specs.Checkpoint.{HoldsRight, HasPage, HasRight, HasLeases, HasIds, KnowsPagingAt, KnowsPaging, leases_of_paging, leases_next}

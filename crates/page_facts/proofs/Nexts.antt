@@ -1,5 +1,5 @@
 -- What a page checkpoint knows where its answers lead, and why it stops where it does.
-use Rattle.std.proofs.Common.{◌≡◌, ◌≢◌, ◌≤◌, ◌==◌, ◌⊎◌, inl, inr, ℕ, zero, suc, Bool, true, false, cond, not, List, [], ◌∷◌, ◌++◌, Option, Some, None, Result, Ok, Err, refl, sym, ap, subst, ◌∙◌, arith}
+use Rattle.std.proofs.Common.{◌≡◌, ◌≤◌, inl, inr, ℕ, zero, suc, Bool, true, false, not, List, [], ◌∷◌, Option, Some, None, Result, Ok, Err, refl, sym, ap, subst, ◌∙◌, arith}
 use Rattle.std.specs.List.{AllByRecursion}
 use Rattle.std.proofs.lemmas.Bool.{and_from}
 use Rattle.byte_format.specs.Order.{bytes_below, below_bound}
@@ -26,7 +26,7 @@ use Rattle.leaf_view.specs.Leaf.{Leaf}
 use Rattle.leaf_view.specs.Lookup.{AreNumbers, holds, number_of as done_number}
 use Rattle.log_codec.specs.declared.record.PuItem.{PuItem}
 use Rattle.number_facts.specs.Numbers.{Numbers}
-use Rattle.page_ckpt.specs.Paging.{Paging, Step, stopping, goes_to, deleting_by, deleting, home_taken_by, HoldsNamed, HomeGot, home_read, own_queue, LeafPut, link_of, is_visited, to_right, GoesOn, RunStarted, with_intake, IntakeTaken, ReceivedBy, right_taken_by, RightLacks, RightRead, RightGot, without_right, without_onward, without_applying, with_applied, right_put_by, home_put_by, went, deleted_by, finished_by, released_by}
+use Rattle.page_ckpt.specs.Paging.{Paging, Step, stopping, deleting_by, deleting, home_taken_by, HoldsNamed, HomeGot, home_read, own_queue, LeafPut, link_of, is_visited, to_right, GoesOn, RunStarted, with_intake, IntakeTaken, ReceivedBy, right_taken_by, RightLacks, RightRead, RightGot, without_right, without_onward, with_applied, right_put_by, home_put_by, went, deleted_by, finished_by, released_by}
 use Rattle.page_ckpt.specs.declared.link.Link.{Link as Found}
 use Rattle.page_ckpt.specs.declared.stage.Stage.{Stage}
 use Rattle.page_ckpt.specs.declared.stage.Stage.TheVariants.{PuttingRight, PuttingHome, Releasing}
@@ -40,7 +40,7 @@ use Rattle.store_book.specs.Book.{Link}
 use Rattle.store_book.specs.Records.{IsIn}
 use Rattle.store_book.specs.Tally.{Store}
 use Rattle.store_book.specs.Telling.{leaf_in, newest_leaf}
-use Rattle.page_facts.specs.Checkpoint.{HoldsPage, HoldsRight, HasPage, HasRight, HasLeases, MayStop, ReadHome, ComesOn, KnowsPagingAt, KnowsNext}
+use Rattle.page_facts.specs.Checkpoint.{HasPage, HasRight, HasLeases, MayStop, ReadHome, ComesOn, KnowsPagingAt, KnowsNext}
 use Rattle.page_facts.specs.Rights.{IsLanded, IsNewestLeaf, ReadLeaf, HasRun, IsDone, AreDone, IsUpto, LeadsOn, LeavesRight}
 use Rattle.page_facts.proofs.Chained.{has_run, home_fences}
 use Rattle.page_facts.proofs.Fences.{HasFences, landed_fences, newest_landed, link_leads, another, upto_next, upto_more, not_visited}

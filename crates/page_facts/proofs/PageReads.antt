@@ -5,8 +5,7 @@ use Rattle.byte_format.specs.Order.{bytes_same}
 use Rattle.byte_format.proofs.OrderLemmas.{same_itself}
 use Rattle.chain_facts.specs.Chain.{IsChained}
 use Rattle.chain_facts.specs.Links.{newest_node}
-use Rattle.ckpt_parts.specs.Leaves.{absent_leaf, bad_fence, fenced, HoldsLeaf, HoldsLinked}
-use Rattle.cloud_facts.specs.Pages.{IsLeafPage}
+use Rattle.ckpt_parts.specs.Leaves.{bad_fence, fenced, HoldsLeaf, HoldsLinked}
 use Rattle.cloud_facts.specs.Standing.{StandsUnder}
 use Rattle.cloud_facts.proofs.Firsts.{newest_leafy, chain_leaf}
 use Rattle.cloud_facts.proofs.Pages.{none_landed, some_landed}
@@ -19,7 +18,6 @@ use Rattle.decoding_facts.specs.Kinds.{IsNode}
 use Rattle.decoding_facts.proofs.Values.{newest_page_decodes}
 use Rattle.leaf_view.specs.Leaf.{Leaf, IsLeaf}
 use Rattle.leaf_view.specs.Lookup.{empty_leaf}
-use Rattle.node_codec.specs.Inner.{Inner}
 use Rattle.page_ckpt.specs.Paging.{IsNoInner, HoldsNamed}
 use Rattle.ckpt_parts.specs.Leaves.{IsNoLeaf}
 use Rattle.report_types.specs.declared.entry.Entry.{Entry}
@@ -27,7 +25,7 @@ use Rattle.run_facts.proofs.Leaves.{absent_page, spelled_page}
 use Rattle.store_book.specs.Book.{Book, Link}
 use Rattle.store_book.specs.Records.{IsIn}
 use Rattle.store_book.specs.Tally.{Node, Leafy, Branch, low_of}
-use Rattle.store_book.specs.Telling.{last_or, leaf_in, nodes_of, roots_of, newest_leaf, newest_root}
+use Rattle.store_book.specs.Telling.{leaf_in, nodes_of, roots_of, newest_leaf, newest_root}
 use Rattle.chain_facts.proofs.Newest.{newest_is}
 use Rattle.page_facts.specs.Checkpoint.{MayStop}
 use Rattle.page_facts.specs.Rights.{IsNewestLeaf}

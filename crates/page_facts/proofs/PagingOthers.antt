@@ -1,10 +1,8 @@
 -- What a page checkpoint knows survives the calls of others.
-use Rattle.std.proofs.Common.{◌≡◌, ◌≤◌, ◌⊎◌, inl, inr, ℕ, zero, suc, List, [], Option, Some, None, refl, sym, ap, subst, ◌∙◌, arith}
-use Rattle.byte_format.specs.Order.{below_bound}
+use Rattle.std.proofs.Common.{◌≡◌, ◌≤◌, inl, inr, ℕ, zero, List, Option, Some, None, refl, sym, ap, subst, ◌∙◌, arith}
 use Rattle.ckpt_parts.specs.Leasing.{claims_of}
 use Rattle.ckpt_parts.specs.declared.leases.Leases.{Leases}
 use Rattle.cloud_facts.specs.Others.{Others}
-use Rattle.cloud_facts.specs.Pages.{IsLeafPage}
 use Rattle.cloud_facts.proofs.Guarding.{others_itself}
 use Rattle.cloud_trait.specs.Claim.{Claim, Lasts}
 use Rattle.cloud_trait.specs.Growth.{BeginsWith}
@@ -26,8 +24,8 @@ use Rattle.store_book.specs.Records.{IsIn}
 use Rattle.store_book.specs.Tally.{Node, Leafy, Store}
 use Rattle.store_book.specs.Telling.{last_or}
 use Rattle.store_book.proofs.Places.{in_front}
-use Rattle.page_facts.specs.Checkpoint.{HoldsPage, HoldsRight, HasPage, HasRight, ReadHome, ComesOn, KnowsPagingAt, KnowsPaging, leases_of_paging}
-use Rattle.page_facts.specs.Rights.{IsLanded, IsNewestLeaf, ReadLeaf, HasRun, IsDone, AreDone, IsUpto, LeadsOn, ComesRight, PutsRight, LeavesRight, PutsHome}
+use Rattle.page_facts.specs.Checkpoint.{HoldsPage, HoldsRight, HasRight, ComesOn, KnowsPagingAt, KnowsPaging, leases_of_paging}
+use Rattle.page_facts.specs.Rights.{IsLanded, IsNewestLeaf, ReadLeaf, HasRun, AreDone, IsUpto, LeadsOn, ComesRight, PutsRight, LeavesRight}
 
 -- ---- leases in hand
 

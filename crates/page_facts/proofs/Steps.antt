@@ -1,14 +1,13 @@
 -- What a page checkpoint knows after each of its calls.
-use Rattle.std.proofs.Common.{◌≡◌, ◌≢◌, ◌⊎◌, inl, inr, ℕ, zero, suc, Bool, true, false, not, List, [], ◌∷◌, ◌++◌, map, Option, Some, None, Result, Ok, Err, refl, sym, ap, subst, ◌∙◌, arith}
+use Rattle.std.proofs.Common.{◌≡◌, ◌⊎◌, inl, inr, ℕ, zero, Bool, true, false, not, List, [], ◌∷◌, ◌++◌, map, Option, Some, None, Result, Ok, Err, refl, sym, ap, subst, ◌∙◌, arith}
 use Rattle.std.specs.List.{AllByRecursion}
-use Rattle.std.specs.Prelude.{All, ◌&&◌}
+use Rattle.std.specs.Prelude.{All}
 use Rattle.std.proofs.lemmas.Bool.{and_from, and_cases, not-false}
 use Rattle.std.proofs.lemmas.List.Elements.{recursion_from_All}
 use Rattle.byte_format.specs.Order.{bytes_below, below_bound}
-use Rattle.chain_facts.specs.Chain.{IsChained, AreLevels, AreVersions}
-use Rattle.chain_facts.specs.Links.{newest_node}
+use Rattle.chain_facts.specs.Chain.{IsChained, AreLevels}
 use Rattle.ckpt_parts.specs.Deleting.{next_id}
-use Rattle.ckpt_parts.specs.Leasing.{newest_lease, without_newest}
+use Rattle.ckpt_parts.specs.Leasing.{newest_lease}
 use Rattle.ckpt_parts.specs.Leaves.{HoldsLinked}
 use Rattle.ckpt_parts.specs.declared.leases.Leases.{Leases}
 use Rattle.cloud_facts.specs.Acting.{Setting, Outcome, Aside}
@@ -44,9 +43,9 @@ use Rattle.landing_facts.specs.Landing.{Landing, marks_post, puts_leaf}
 use Rattle.leaf_edit.specs.Applied.{applied}
 use Rattle.leaf_edit.specs.Lacked.{lacked}
 use Rattle.leaf_view.specs.Leaf.{Leaf, IsLeaf}
-use Rattle.leaf_view.specs.Lookup.{holds, number_of as done_number}
+use Rattle.leaf_view.specs.Lookup.{holds}
 use Rattle.log_codec.specs.declared.record.PuItem.{PuItem}
-use Rattle.page_ckpt.specs.Paging.{Paging, Step, ask_at, paging_ask, under, delete_next, take_home, take_right, home_name, right_name, held_after, HoldsNamed, AbsorbsAt, finished_by, released_by, PagingLeads}
+use Rattle.page_ckpt.specs.Paging.{Paging, Step, ask_at, paging_ask, under, delete_next, take_home, take_right, home_name, right_name, held_after, HoldsNamed, AbsorbsAt, PagingLeads}
 use Rattle.page_ckpt.specs.declared.stage.Stage.{Stage}
 use Rattle.page_ckpt.specs.declared.stage.Stage.TheVariants.{TakingHome, GettingHome, Receiving, TakingRight, GettingRight, PuttingRight, ReleasingRight, PuttingHome, Deleting as DeletingNext, Releasing, Finished}
 use Rattle.report_types.specs.declared.entry.Entry.{Entry}
@@ -66,7 +65,7 @@ use Rattle.telling_facts.proofs.Names.{at2_beside}
 use Rattle.page_facts.specs.Checkpoint.{HasPage, HasRight, HasLeases, MayStop, ReadHome, ComesOn, HasIds, KnowsPagingAt, KnowsPaging, KnowsNext, KnowsAfter, paging_note}
 use Rattle.page_facts.specs.Rights.{IsNewestLeaf, IsDone, AreDone, PutsRight, LeavesRight, PutsHome}
 use Rattle.page_facts.proofs.Nexts as nexts
-use Rattle.page_facts.proofs.PagingOthers.{paging_later, read_stays, leads_stays, done_stays, comes_stays}
+use Rattle.page_facts.proofs.PagingOthers.{paging_later, read_stays, leads_stays, comes_stays}
 use Rattle.page_facts.proofs.PageReads.{named_is, linked_is}
 
 -- ---- what an answer shows

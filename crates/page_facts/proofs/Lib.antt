@@ -7,3 +7,4 @@ pub mod Nexts
 pub mod HeadPuts
 pub mod Hands
 pub mod Steps
+pub mod Unlinked

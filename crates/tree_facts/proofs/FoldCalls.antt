@@ -53,31 +53,46 @@ use Rattle.tree_facts.specs.Folds.{PutsPieces}
 use Rattle.tree_facts.specs.FoldSteps.{fold_note, KnowsStep}
 use Rattle.tree_facts.specs.Links.{HasTreeLease}
 use Rattle.tree_facts.specs.Outcomes.{TreeOutcome}
-use Rattle.tree_facts.proofs.FoldPuts.{page_asked, root_asked, piece_lands, piece_is_new, piece_known, piece_after, left_lands, left_taken, left_done, left_after}
-use Rattle.tree_facts.proofs.FoldReserves.{reserving_lands, reserving_version, reserving_known, reserving_after}
+use Rattle.tree_facts.specs.Leaves.{IsPutting}
+use Rattle.tree_facts.proofs.FoldPuts.{page_asked, root_asked, piece_lands, piece_is_new, piece_after, left_lands, left_taken, left_after}
+use Rattle.tree_facts.proofs.FoldPutting.{reserving_putting, piece_putting, left_rest}
+use Rattle.tree_facts.proofs.FoldReserves.{reserving_lands, reserving_version, reserving_after}
 use Rattle.tree_facts.proofs.LeafPieces.{taken}
-use Rattle.tree_facts.proofs.PlacingLemmas.{puts_more}
+use Rattle.tree_facts.proofs.PlacingLemmas.{last_cases, puts_more}
 use Rattle.tree_facts.proofs.TreeOutcomes.{tree_stays, tree_put_landed}
 
-module _ (who : Caller) (s t : CloudState) (book : Book) (order : List Entry) (parts : Parts) (mine : List Claim) (lease : Claim) (f : Folding) (reply : Answer)
-    (stands : StandsUnder book order s) (homes : HomesHold (store_of book order s).tally t.now parts) (of_tree : IsTree f.chart.tree)
-    (held : IsIn mine lease) (lock_is : lease.lock ≡ lock.Tree f.chart.tree) (run : List PuItem) (clients : (x : PuItem) → IsIn run x → IsClient x.rec.client)
-    (cursor : List (ℕ × ℕ)) (received : List PuItem) (top : List (ℕ × ℕ)) (is_run : IsRun cursor received run top)
-    (covered : (client : ℕ) → IsClient client → number_of cursor client ≤ (store_of book order s).tally.cursor f.chart.tree 0 client)
-    (items : (x : PuItem) → IsIn received x → IsItemOf (store_of book order s) f.chart.tree 0 x)
-    (k : PutsPieces (store_of book order s) t.now lease f run) (newest : Lasts t.now lease → top_of (roots_of s f.chart.tree) ≡ tree_held f.chart.root)
-    (call : IsCall who (folding_ask f lease) reply s t) where
+module _ (who : Caller) (s t : CloudState) (book : Book) (order : List Entry) (parts : Parts) (mine : List Claim) (lease : Claim) (f : Folding) (ids : List ℕ) (reply : Answer)
+    (stands : StandsUnder book order s) (homes : HomesHold (store_of book order s).tally t.now parts) (held : IsIn mine lease) (lock_is : lease.lock ≡ lock.Tree f.chart.tree)
+    (p : IsPutting (store_of book order s) t.now lease f ids) (call : IsCall who (folding_ask f lease) reply s t) where
   abbrev st : Store
   st = store_of book order s
 
   abbrev tree : ℕ
   tree = f.chart.tree
 
+  abbrev run : List PuItem
+  run = f.chart.run.items
+
+  abbrev of_tree : IsTree tree
+  of_tree = p.tree
+
+  abbrev clients : (x : PuItem) → IsIn run x → IsClient x.rec.client
+  clients = p.took.clients
+
+  abbrev cursor : List (ℕ × ℕ)
+  cursor = (tree_held f.chart.root).cursor
+
+  abbrev k : PutsPieces st t.now lease f run
+  k = p.puts
+
+  newest : Lasts t.now lease → top_of (roots_of s tree) ≡ tree_held f.chart.root
+  newest = p.root.newest
+
   abbrev own : Part
   own = parts who.session
 
   abbrev Known : Store → ℕ → Part → Type 0
-  Known = Aside st own (λ u now. KnowsStep u now lease run (folding_next f reply))
+  Known = Aside st own (λ u now. KnowsStep u now lease ids (folding_next f reply))
 
   abbrev OutAt : Ask → Type 0
   OutAt ask = TreeOutcome who book order s t parts mine ask (fold_note f ask) Known
@@ -89,11 +104,11 @@ module _ (who : Caller) (s t : CloudState) (book : Book) (order : List Entry) (p
   call_at ask is = subst (λ (q : Ask). IsCall who q reply s t) is call
 
   -- where a put leads, by whether it was done
-  put_leads : (u : Store) → has_nothing f.placing ≡ false → (done_of reply ≡ Ok tt → KnowsStep u t.now lease run (placed f)) → KnowsStep u t.now lease run (folding_next f reply)
+  put_leads : (u : Store) → has_nothing f.placing ≡ false → (done_of reply ≡ Ok tt → KnowsStep u t.now lease ids (placed f)) → KnowsStep u t.now lease ids (folding_next f reply)
   put_leads u some knows =
-      subst (λ (b : Bool). KnowsStep u t.now lease run (cond b (leaf_got f (got_of reply)) (leaf_put f (done_of reply)))) (sym some) (on (done_of reply) refl)
+      subst (λ (b : Bool). KnowsStep u t.now lease ids (cond b (leaf_got f (got_of reply)) (leaf_put f (done_of reply)))) (sym some) (on (done_of reply) refl)
     where
-      on : (g : Result (Unit {0}) Trouble) → done_of reply ≡ g → KnowsStep u t.now lease run (leaf_put f g)
+      on : (g : Result (Unit {0}) Trouble) → done_of reply ≡ g → KnowsStep u t.now lease ids (leaf_put f g)
       on (Ok tt) e = knows e
       on (Err trouble) e = tt
 
@@ -125,7 +140,7 @@ module _ (who : Caller) (s t : CloudState) (book : Book) (order : List Entry) (p
             (record {
               part_is = refl;
               heads = λ client. refl;
-              knows = put_leads su full (λ done. subst (KnowsStep su t.now lease run) (sym goes) (reserving_known book order s stands t.now lease f of_tree run k root bytes some));
+              knows = put_leads su full (λ done. subst (KnowsStep su t.now lease ids) (sym goes) (reserving_putting book order s stands t.now lease f ids p root bytes some));
             })
             refl
 
@@ -207,8 +222,8 @@ module _ (who : Caller) (s t : CloudState) (book : Book) (order : List Entry) (p
               (record {
                 part_is = refl;
                 heads = λ client. refl;
-                knows = put_leads su full (λ done. subst (KnowsStep su t.now lease run) (sym goes_on)
-                    (piece_known book order s stands t.now lease f of_tree run clients k none both.0 both.1 who middle last is));
+                knows = put_leads su full (λ done. subst (KnowsStep su t.now lease ids) (sym goes_on)
+                    (piece_putting book order s stands t.now lease f ids p none both.0 both.1 middle last is));
               })
               noted
 
@@ -269,15 +284,15 @@ module _ (who : Caller) (s t : CloudState) (book : Book) (order : List Entry) (p
               let both = both_last (object.Page tree f.page) left_bytes lands in
               let su = left_after book order s stands t.now lease f of_tree run clients k none both.0 both.1 who is in
               tree_put_landed who book order s t parts mine (fold_note f left_put) Known (object.Page tree f.page) left_bytes lease (Some f.lease) su lands stands
-              (left_lands book order s stands t.now lease f of_tree run clients k none both.0 both.1 who is cursor received top is_run covered items)
-              (left_taken book order s stands t.now lease f of_tree run clients k none both.0 both.1 who is cursor received top is_run covered items) tt
+              (left_lands book order s stands t.now lease f of_tree run clients k none both.0 both.1 who is cursor p.took.received f.chart.run.top p.took.is_run p.took.behind p.took.items)
+              (left_taken book order s stands t.now lease f of_tree run clients k none both.0 both.1 who is cursor p.took.received f.chart.run.top p.took.is_run p.took.behind p.took.items) tt
               (inr (has_lease both.0)) own
               (aside_keeps st.tally su.tally t.now (at who.session own parts) refl refl still)
               (record {
                 part_is = refl;
                 heads = λ client. refl;
-                knows = put_leads su full (λ done. subst (KnowsStep su t.now lease run) (sym ends)
-                    (left_done book order s stands t.now lease f of_tree run clients k none both.0 both.1 who is));
+                knows = put_leads su full (λ done. subst (KnowsStep su t.now lease ids) (sym ends)
+                    (left_rest book order s stands t.now lease f ids p none both.0 both.1 is));
               })
               (noted both.1)
             where
@@ -293,3 +308,18 @@ module _ (who : Caller) (s t : CloudState) (book : Book) (order : List Entry) (p
               tree_stays who book order s t parts mine left_put (fold_note f left_put) Known q.0 stands own still
               (record { part_is = refl; heads = λ client. refl; knows = put_leads st full (λ done. absurd (q.1 done)) })
           on (inr lands) = landed_so lands
+
+  -- ---- the put in hand
+
+  pub put_outcome : OutAt (folding_ask f lease)
+  put_outcome = on f.placing.reserved refl
+    where
+      by_pieces : f.placing.reserved ≡ None → (k.placing.middle ≡ []) ⊎ ((front : List LeafPart) × (last : LeafPart) × (k.placing.middle ≡ front ++ last ∷ []))
+          → OutAt (folding_ask f lease)
+      by_pieces none (inl is) = subst OutAt (sym (page_asked f lease (record { page = f.page; bytes = leaf_bytes k.placing.front }) [] none (lone_put none is))) (left_outcome none is)
+      by_pieces none (inr (front, last, is)) =
+          subst OutAt (sym (page_asked f lease (record { page = k.first + length front; bytes = leaf_bytes last }) (others none front last is) none (puts none front last is))) (piece_outcome none front last is)
+
+      on : (o : Option (List ℕ)) → f.placing.reserved ≡ o → OutAt (folding_ask f lease)
+      on (Some bytes) some = subst OutAt (sym (root_asked f lease bytes some)) (reserving_outcome bytes some)
+      on None none = by_pieces none (last_cases k.placing.middle)

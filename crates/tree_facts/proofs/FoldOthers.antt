@@ -18,13 +18,15 @@ use Rattle.store_book.specs.Records.{IsIn}
 use Rattle.store_book.specs.Tally.{Node, Leafy, Store}
 use Rattle.store_book.specs.Telling.{last_or}
 use Rattle.telling_facts.specs.Taking.{IsLinked}
+use Rattle.tree_descent.specs.declared.descent.Descent.{Descent}
 use Rattle.tree_parts.specs.declared.chart.Chart.{Chart}
 use Rattle.tree_parts.specs.Read.{tree_held}
 use Rattle.tree_facts.specs.Folds.{IsDone, KnowsRun, IsAtLeaf, IsNewestLeaf, Reserves, PutsPieces}
+use Rattle.tree_facts.specs.Leaves.{KnowsRest, IsGetting, IsCome, IsReading, IsPutting}
 use Rattle.tree_facts.specs.Links.{SameLinks}
 use Rattle.tree_facts.specs.Placings.{AreReserved}
 use Rattle.tree_facts.specs.TreeOthers.{OthersOfTree}
-use Rattle.tree_facts.proofs.ChartOthers.{chart_others, way_stays}
+use Rattle.tree_facts.proofs.ChartOthers.{root_stays, nodes_stay, links_stay, keeps_nodes, chart_others, way_stays}
 use Rattle.tree_facts.proofs.PlacingLemmas.{reserved_stays}
 
 -- ---- the run
@@ -122,3 +124,61 @@ pieces_others mine st su now later lease f run after held is own own_is clients 
         → IsDone su f.chart.tree x ⊎ (holds k.leaf (key_of x.rec.change) ≡ true)
     rest x there (inl done) = inl (done_stays st su f.chart.tree x grows (clients x there) done)
     rest x there (inr range) = inr range
+
+-- ---- a leaf, with the chart
+
+pub reading_others : (mine : List Claim) (st su : Store) (now later : ℕ) (lease : Claim) (f : Folding) (ids : List ℕ) → now ≤ later → IsIn mine lease
+    → lease.lock ≡ lock.Tree f.chart.tree → OthersOfTree mine later st su → IsReading st now lease f ids → IsReading su later lease f ids
+reading_others mine st su now later lease f ids after held is o k = record {
+  at = at_leaf_others mine st su now later lease f after held is o k.at;
+  run = known_run_stays st su f.chart ids o.passes.grows k.run;
+  apart = k.apart;
+  least = k.least;
+  placing_is = k.placing_is;
+}
+
+pub putting_others : (mine : List Claim) (st su : Store) (now later : ℕ) (lease : Claim) (f : Folding) (ids : List ℕ) → now ≤ later → IsIn mine lease
+    → lease.lock ≡ lock.Tree f.chart.tree → IsIn mine f.lease → OthersOfTree mine later st su → IsPutting st now lease f ids → IsPutting su later lease f ids
+unfolding pieces_others
+putting_others mine st su now later lease f ids after held is own o k = record {
+  tree = k.tree;
+  root = root_stays st su now later lease f.chart.tree (tree_held f.chart.root) after grows (o.roots lease f.chart.tree held is) k.root;
+  nodes = nodes_stay st su now later lease f.chart.tree f.chart.nodes after grows (keeps_nodes mine st su later f.chart.tree lease held is o) k.nodes;
+  apart = k.apart;
+  took = run_stays st su f.chart.tree 0 (tree_held f.chart.root).cursor f.chart.run ids grows k.took;
+  lock_is = k.lock_is;
+  puts = pieces_others mine st su now later lease f f.chart.run.items after held is own k.lock_is k.took.clients o k.puts;
+  notes = record { found = k.notes.found; are_found = links_stay st su f.chart.tree k.notes.found grows k.notes.are_found; links_are = k.notes.links_are };
+}
+  where
+    grows : Grows st su
+    grows = o.passes.grows
+
+-- ---- before a leaf, and behind it
+
+pub rest_others : (mine : List Claim) (st su : Store) (now later : ℕ) (lease : Claim) (c : Chart) (ids : List ℕ) → now ≤ later → IsIn mine lease → lease.lock ≡ lock.Tree c.tree
+    → OthersOfTree mine later st su → KnowsRest st now lease c ids → KnowsRest su later lease c ids
+rest_others mine st su now later lease c ids after held is o k = record {
+  chart = chart_others mine st su now later lease c after held is o k.chart;
+  run = known_run_stays st su c ids o.passes.grows k.run;
+  apart = k.apart;
+}
+
+pub come_others : (mine : List Claim) (st su : Store) (now later : ℕ) (lease : Claim) (c : Chart) (page : ℕ) (low : List ℕ) (visited ids : List ℕ) → now ≤ later → IsIn mine lease
+    → lease.lock ≡ lock.Tree c.tree → OthersOfTree mine later st su → IsCome st now lease c page low visited ids → IsCome su later lease c page low visited ids
+come_others mine st su now later lease c page low visited ids after held is o k = record {
+  rest = rest_others mine st su now later lease c ids after held is o k.rest;
+  way = way_stays (st.book.chain c.tree) (su.book.chain c.tree) 0 page low c.key visited (λ l a. o.passes.grows.links c.tree l a) k.way;
+  least = k.least;
+}
+
+pub getting_others : (mine : List Claim) (st su : Store) (now later : ℕ) (lease : Claim) (d : Descent) (ids : List ℕ) → now ≤ later → IsIn mine lease
+    → lease.lock ≡ lock.Tree d.chart.tree → OthersOfTree mine later st su → IsGetting st now lease d ids → IsGetting su later lease d ids
+getting_others mine st su now later lease d ids after held is o k = record {
+  rest = rest_others mine st su now later lease d.chart ids after held is o k.rest;
+  way =
+      way_stays (st.book.chain d.chart.tree) (su.book.chain d.chart.tree) d.level d.page d.low d.chart.key d.visited (λ l a. o.passes.grows.links d.chart.tree l a) k.way;
+  above = k.above;
+  fresh = k.fresh;
+  least = k.least;
+}

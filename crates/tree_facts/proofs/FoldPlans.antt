@@ -47,7 +47,9 @@ use Rattle.tree_parts.specs.declared.reserve.Reserved.{Reserved}
 use Rattle.tree_parts.specs.Read.{tree_held}
 use Rattle.tree_parts.specs.Reserve.{version_spent, reservation}
 use Rattle.tree_facts.specs.Folds.{IsDone, AreDoneTo, KnowsRun, IsLeast, IsAtLeaf, Reserves, PutsPieces}
+use Rattle.tree_facts.specs.Leaves.{IsPutting}
 use Rattle.tree_facts.specs.Placings.{AreReserved, IsReservation}
+use Rattle.tree_facts.specs.Risings.{AreApart}
 use Rattle.tree_facts.proofs.FoldReads.{Reserving, none, some, reservation_is}
 use Rattle.tree_facts.proofs.LeafReads.{leaf_newest, leaf_low, leaf_absent, leaf_linked, nothing_lacked}
 use Rattle.tree_facts.proofs.Planning.{run_ordered, pieces_fit, pieces_placed, pieces_count}
@@ -102,7 +104,7 @@ newest_formed book order s tree page stands = on (last_cases vs)
         subst (λ (n : Node). IsWellFormed (leaf_in n) × ((leaf_in n).version ≤ greatest)) (sym (last_map node_in (Leafy empty_leaf) vs p.0 p.1 ∙ node_reads p.0 k.0 k.1)) (node_formed p.0.bytes k.0 k.1)
 
 module _ (book : Book) (order : List Entry) (s : CloudState) (stands : StandsUnder book order s) (now : ℕ) (lease : Claim) (f : Folding) (ids : List ℕ)
-    (at : IsAtLeaf (store_of book order s) now lease f) (run : KnowsRun (store_of book order s) f.chart ids) (least : IsLeast f.chart) where
+    (at : IsAtLeaf (store_of book order s) now lease f) (run : KnowsRun (store_of book order s) f.chart ids) (apart : AreApart f.chart.nodes) (least : IsLeast f.chart) where
   abbrev st : Store
   st = store_of book order s
 
@@ -132,13 +134,13 @@ module _ (book : Book) (order : List Entry) (s : CloudState) (stands : StandsUnd
           inr (and_from (not (bytes_below (key_of x.rec.change) leaf.low)) (below_bound (key_of x.rec.change) leaf.high)
           (ap not (ap (bytes_below (key_of x.rec.change)) low_is ∙ not_below (key_of x.rec.change) f.chart.key f.low from at.way.at.from)) below)
 
-  formed : IsWellFormed leaf × (leaf.version ≤ greatest)
+  pub formed : IsWellFormed leaf × (leaf.version ≤ greatest)
   formed = newest_formed book order s tree f.page stands
 
   ordered : IsOrdered items
   ordered = run_ordered st tree 0 (tree_held f.chart.root).cursor run.took.received items f.chart.run.top run.took.is_run run.took.items
 
-  whole_formed : IsWellFormed whole
+  pub whole_formed : IsWellFormed whole
   whole_formed = applied-formed leaf 0 items (omega arith) formed.0 ordered
 
   -- ---- a leaf that lacks nothing stays as it is
@@ -152,7 +154,7 @@ module _ (book : Book) (order : List Entry) (s : CloudState) (stands : StandsUnd
 
   -- ---- what is planned
 
-  pub pieces_known : (r : Reserved) → Reserving (tree_held f.chart.root) f.page (count_of (length whole.records) - 1) r → leaf.version ≢ greatest
+  abbrev pub pieces_known : (r : Reserved) → Reserving (tree_held f.chart.root) f.page (count_of (length whole.records) - 1) r → leaf.version ≢ greatest
       → PutsPieces st now lease (put_planned (handled_to f leaf.high) (lacked leaf 0 items) (in_pieces f.page whole r)) items
   pieces_known r reserves spare = record {
     leaf = leaf;
@@ -217,23 +219,36 @@ module _ (book : Book) (order : List Entry) (s : CloudState) (stands : StandsUnd
         subst (λ (n : ℕ). IsReservation (tree_held f.chart.root) n first bytes) (let n = middle_count first in omega (arith, n)) is,
       )
 
-  -- so a plan that was made is one of pieces
+  -- so a plan that was made is one of pieces, and the new ones are noted
+  pieces_put : (r : Reserved) → Reserving (tree_held f.chart.root) f.page (count_of (length whole.records) - 1) r → leaf.version ≢ greatest
+      → IsPutting st now lease (put_planned (handled_to f leaf.high) (lacked leaf 0 items) (in_pieces f.page whole r)) ids
+  pieces_put r reserves spare = record {
+    tree = at.chart.tree;
+    root = at.chart.root;
+    nodes = at.chart.nodes;
+    apart = apart;
+    took = run.took;
+    lock_is = at.lock_is;
+    puts = pieces_known r reserves spare;
+    notes = record { found = f.chart.links; are_found = at.chart.links; links_are = refl };
+  }
+
   pub plan_known : (p : LeafPlan) → leaf_plan (tree_held f.chart.root) f.page leaf items ≡ Ok p
-      → PutsPieces st now lease (put_planned (handled_to f leaf.high) (lacked leaf 0 items) p) items
+      → IsPutting st now lease (put_planned (handled_to f leaf.high) (lacked leaf 0 items) p) ids
   plan_known p e = on (leaf.version == 18446744073709551615) refl e
     where
       by_pieces : leaf.version ≢ greatest → (o : Result Reserved Trouble) → reservation (tree_held f.chart.root) f.page (count_of (length whole.records) - 1) ≡ o
-          → planned_by f.page whole o ≡ Ok p → PutsPieces st now lease (put_planned (handled_to f leaf.high) (lacked leaf 0 items) p) items
+          → planned_by f.page whole o ≡ Ok p → IsPutting st now lease (put_planned (handled_to f leaf.high) (lacked leaf 0 items) p) ids
       by_pieces spare (Err t) g h = absurd (cc)
       by_pieces spare (Ok r) g h =
-          subst (λ (q : LeafPlan). PutsPieces st now lease (put_planned (handled_to f leaf.high) (lacked leaf 0 items) q) items) (one (in_pieces f.page whole r) p h)
-          (pieces_known r (reservation_is (tree_held f.chart.root) f.page (count_of (length whole.records) - 1) at.chart.root.spelled r g) spare)
+          subst (λ (q : LeafPlan). IsPutting st now lease (put_planned (handled_to f leaf.high) (lacked leaf 0 items) q) ids) (one (in_pieces f.page whole r) p h)
+          (pieces_put r (reservation_is (tree_held f.chart.root) f.page (count_of (length whole.records) - 1) at.chart.root.spelled r g) spare)
         where
           one : (a b : LeafPlan) → made a ≡ made b → a ≡ b
           one a b q = cc
 
       on : (b : Bool) → (leaf.version == 18446744073709551615) ≡ b → cond b (Err version_spent) (planned (tree_held f.chart.root) f.page whole) ≡ Ok p
-          → PutsPieces st now lease (put_planned (handled_to f leaf.high) (lacked leaf 0 items) p) items
+          → IsPutting st now lease (put_planned (handled_to f leaf.high) (lacked leaf 0 items) p) ids
       on true g h = absurd (cc)
       on false g h =
           by_pieces (eqb-false leaf.version 18446744073709551615 g) (reservation (tree_held f.chart.root) f.page (count_of (length whole.records) - 1)) refl h

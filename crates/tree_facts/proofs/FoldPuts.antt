@@ -96,7 +96,7 @@ module _ (book : Book) (order : List Entry) (s : CloudState) (stands : StandsUnd
     pub within : number < k.first + length (middle ++ last ∷ [])
     within = let more = length-append middle (last ∷ []) in omega (arith, more)
 
-    puts_are : f.placing.puts ≡ record { page = number; bytes = leaf_bytes last } ∷ reverse (map (put_of leaf_bytes) (on_pages f.page k.first (front ∷ middle)))
+    pub puts_are : f.placing.puts ≡ record { page = number; bytes = leaf_bytes last } ∷ reverse (map (put_of leaf_bytes) (on_pages f.page k.first (front ∷ middle)))
     puts_are =
         k.placing.puts_are
         ∙ (ap (λ (m : List LeafPart). reverse (map (put_of leaf_bytes) (on_pages f.page k.first (front ∷ m)))) is ∙ puts_more leaf_bytes f.page k.first front middle last)
@@ -120,14 +120,14 @@ module _ (book : Book) (order : List Entry) (s : CloudState) (stands : StandsUnd
     piece_is_new =
         piece_version book order s stands tree f.page of_tree run clients k.linked k.first who lease (Some f.lease) front middle last behind pieces_last fit reserved_last number refl within
 
-    other : f.page ≢ number
+    pub other : f.page ≢ number
     other e =
         reserved_last.unlinked number (omega arith) (let w = within in omega (arith, w)) 0 k.linked.link (k.linked.place, k.linked.linked) (k.linked.page_is ∙ e)
 
-    page_stays : (p : ℕ) → p ≢ number → piece_after.tally.nodes tree p ≡ nodes_of s tree p
+    pub page_stays : (p : ℕ) → p ≢ number → piece_after.tally.nodes tree p ≡ nodes_of s tree p
     page_stays p ne = at2_beside tree number (nodes_of s tree number ++ leaf_node last ∷ []) (nodes_of s) tree p ne
 
-    pub piece_known : PutsPieces piece_after now lease (landed f) run
+    abbrev pub piece_known : PutsPieces piece_after now lease (landed f) run
     piece_known = record {
       leaf = k.leaf;
       linked = k.linked;

@@ -59,7 +59,7 @@ module _ (book : Book) (order : List Entry) (s : CloudState) (stands : StandsUnd
   reserving_version = ap (λ (t : Tree). t.version + 1) (sym newest)
 
   -- the root that was put is the one that is held then
-  held : tree_held (landed f).chart.root ≡ reserving count root
+  pub held : tree_held (landed f).chart.root ≡ reserving count root
   held =
       ap (λ (o : Option (List ℕ)). tree_held (root_after o f.chart.root)) some
       ∙ reservation_held book order s stands tree of_tree (record { session = 0; event = 0 }) lease None root newest count k.first bytes planned.1
@@ -67,7 +67,7 @@ module _ (book : Book) (order : List Entry) (s : CloudState) (stands : StandsUnd
   pub reserving_root : KnowsRoot reserving_after now lease tree (tree_held (landed f).chart.root)
   reserving_root = subst (KnowsRoot reserving_after now lease tree) (sym held) (root_known book order s stands tree of_tree now lease (reserving count root) planned.1.fits)
 
-  pub reserving_known : PutsPieces reserving_after now lease (landed f) run
+  abbrev pub reserving_known : PutsPieces reserving_after now lease (landed f) run
   reserving_known = record {
     leaf = k.leaf;
     linked = k.linked;

@@ -13,6 +13,7 @@ pub mod Reservations
 pub mod Naming
 pub mod Covering
 pub mod LeafReads
+pub mod WayCharts
 pub mod FoldOthers
 pub mod FoldPuts
 pub mod LastRoot
@@ -21,5 +22,16 @@ pub mod WayCalls
 pub mod Planning
 pub mod FoldReads
 pub mod FoldPlans
+pub mod FoldGets
+pub mod FoldPutting
 pub mod FoldCalls
 pub mod NodePieces
+pub mod RisingSpells
+pub mod RisingGrounds
+pub mod RisingPlaces
+pub mod RisingNodes
+pub mod RisingRoots
+pub mod RisingSteps
+pub mod RisingOthers
+pub mod RisingEffects
+pub mod RisingReserves

@@ -5,4 +5,6 @@ pub mod TreeOthers
 pub mod Outcomes
 pub mod Placings
 pub mod Folds
+pub mod Risings
+pub mod Leaves
 pub mod FoldSteps

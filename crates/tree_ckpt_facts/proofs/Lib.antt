@@ -1,0 +1,11 @@
+pub mod Begins
+pub mod Keys
+pub mod Trees
+pub mod Upward
+pub mod Nexts
+pub mod Going
+pub mod MakingOthers
+pub mod Held
+pub mod Guards
+pub mod UpGuards
+pub mod Hands

@@ -20,7 +20,7 @@ use Rattle.store_book.specs.Tally.{Store}
 use Rattle.tree_walk.specs.Walk.{Walk}
 use Rattle.walk_facts.specs.Walks.{KnowsWalk}
 use Rattle.walk_facts.proofs.Caches.{cache_grows}
-use Rattle.commit_run_facts.proofs.WalksGrow.{walk_grows}
+use Rattle.walk_facts.proofs.Walks.{walk_grows}
 
 module _ (st su : Store) (now later : ℕ) (part : Part) (after : now ≤ later) where
   draft_others : (d : Draft) → Others (d.writes.home.lease ∷ []) later st su → KnowsDraft st now d part → KnowsDraft su later d part

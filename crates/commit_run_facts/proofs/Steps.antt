@@ -14,7 +14,6 @@ use Rattle.commit_run_facts.specs.Running.{KnowsDraft, KnowsSeeking, KnowsHand, 
 use Rattle.commit_run_facts.proofs.Plans.{advanced_known, first_known, leaf_known}
 use Rattle.commit_run_facts.proofs.Prunes.{draft_prunes}
 use Rattle.commit_run_facts.proofs.RunLeases.{pruned_lease}
-use Rattle.commit_run_facts.proofs.WalkCaches.{cache_in, ready_known}
 use Rattle.commit_writes.specs.Writing.{Writing, routing}
 use Rattle.db_base.specs.Change.{key_of}
 use Rattle.db_base.specs.Ids.{IsTree}
@@ -34,7 +33,9 @@ use Rattle.store_book.specs.Tally.{Store}
 use Rattle.tree_walk.specs.Walk.{Walk, object_of, new_walk, walk_ready}
 use Rattle.txn_buffer.specs.Noted.{Noted}
 use Rattle.walk_facts.specs.Caches.{KnowsCache}
-use Rattle.walk_facts.specs.Walks.{KnowsWalk, IsAtSeenLeaf, WalkLeads}
+use Rattle.walk_facts.specs.Walks.{KnowsWalk, IsAtSeenLeaf, MayStop, WalkLeads}
+use Rattle.walk_facts.proofs.Beside.{LeavesKnown, ready_leaves}
+use Rattle.walk_facts.proofs.Walks.{walk_begins}
 
 abbrev pub Step : Type 0
 Step = Next (Run × Cache) CommitAnswer
@@ -55,6 +56,13 @@ wrote_known st now part d c (Stops w t) cache k = (k, cache)
 pub held_known : (st : Store) (now : ℕ) (part : Part) (d : Draft) (w : Walk) (first : Bool) → KnowsSeeking st now d w part → KnowsHand (held first w) st now d part
 held_known st now part d w true k = k
 held_known st now part d w false k = k
+
+-- a walk begins with a call
+pub walk_first : (st : Store) → Holds st → (tree : ℕ) (key : List ℕ) (fresh : Bool) (c : Cache) → IsTree tree → KnowsCache st c
+    → WalkLeads st MayStop (walk_ready (new_walk tree (Some key) fresh, c))
+walk_first st h tree key fresh c is cache =
+    let begun = walk_begins st h.chains tree (Some key) fresh c is cache in
+    subst (WalkLeads st MayStop) (sym begun.1) begun.2
 
 module _ (May : Trouble → Type 0) (st : Store) (now : ℕ) (h : Holds st) (parts : Parts) (session : ℕ) (homes : HomesHold st.tally now parts)
     (begins : (tree : ℕ) (key : List ℕ) (fresh : Bool) (c : Cache) → IsTree tree → KnowsCache st c → WalkLeads st May (walk_ready (new_walk tree (Some key) fresh, c))) where
@@ -97,7 +105,7 @@ module _ (May : Trouble → Type 0) (st : Store) (now : ℕ) (h : Holds st) (par
 
   -- ---- a walk begins
 
-  begun_led : (first : Bool) (d : Draft) (n : Next (Walk × Cache) ℕ) → Known d → KnowsCache st (cache_in n) → (Lasting d → WalkLeads st May n)
+  begun_led : (first : Bool) (d : Draft) (n : Next (Walk × Cache) ℕ) → Known d → LeavesKnown st n → (Lasting d → WalkLeads st May n)
       → Led (by_turn (begun_turn first d) n)
   begun_led first d (Goes m) k cache leads =
       walking_led first (pruned_behind d m.0 m.1) m.0 m.1 (draft_prunes st now h part d k m.0 m.1 (λ lasts. (leads lasts).walk) cache)
@@ -110,7 +118,7 @@ module _ (May : Trouble → Type 0) (st : Store) (now : ℕ) (h : Holds st) (par
 
   pub walk_to_led : (first : Bool) (d : Draft) (c : Cache) (to : ℕ × List ℕ) → Known d → KnowsCache st c → (Lasting d → IsTree to.0) → Led (walk_to first d c to)
   walk_to_led first d c to k cache tree =
-      begun_led first d (walk_ready (new_walk to.0 (Some to.1) first, c)) k (ready_known st (new_walk to.0 (Some to.1) first) c cache)
+      begun_led first d (walk_ready (new_walk to.0 (Some to.1) first, c)) k (ready_leaves st (new_walk to.0 (Some to.1) first) c cache)
       (λ lasts. begins to.0 to.1 first c (tree lasts) cache)
 
   -- ---- from one walk to the next
@@ -188,7 +196,7 @@ module _ (May : Trouble → Type 0) (st : Store) (now : ℕ) (h : Holds st) (par
             (subst (λ (l : Leaf). IsIn (st.book.chain w.tree 0) (record { low = l.low; page = page })) one seen.linked) (k.plan lasts);
       }
 
-  pub turned_led : (first : Bool) (d : Draft) (n : Next (Walk × Cache) ℕ) → Known d → KnowsCache st (cache_in n) → (Lasting d → WalkLeads st May n)
+  pub turned_led : (first : Bool) (d : Draft) (n : Next (Walk × Cache) ℕ) → Known d → LeavesKnown st n → (Lasting d → WalkLeads st May n)
       → Led (by_turn (walk_turned first d) n)
   turned_led first d (Goes m) k cache leads =
       walking_led first (pruned_behind d m.0 m.1) m.0 m.1 (draft_prunes st now h part d k m.0 m.1 (λ lasts. (leads lasts).walk) cache)

@@ -18,7 +18,6 @@ use db_base::change::Change;
 use db_base::ids::{ClientId, PageId, TreeId};
 use db_base::key::Key;
 use db_base::refusal::{Refusal, Refused};
-use first_tree::checkpoint::TreeCkpt;
 use head_codec::head::Head;
 use log_codec::record::PuItem;
 use page_cache::PageCache;
@@ -28,6 +27,7 @@ use recover_run::home::Home;
 use std::alloc::Global;
 use std::marker::Model;
 use std::mem;
+use tree_ckpt::TreeCkpt;
 use txn_buffer::buffer::TxnBuffer;
 
 /// A session of a client. It is closed at first.
@@ -167,7 +167,7 @@ impl Session {
         ensures { BeginsWith (CommitsIn self.old) self.old self.new result }
     {
         let home = self.take_home()?;
-        let (work, begun) = commit_noted(alloc, home, self.buffer.take());
+        let (work, begun) = commit_noted(alloc, home, self.buffer.take(), &mut self.cache);
         self.has(work);
         Ok(begun)
     }

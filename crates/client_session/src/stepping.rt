@@ -36,7 +36,7 @@ pub(crate) fn step_work<C: Cloud>(
             return step_reading(alloc, cloud, who, home, read, cache);
         }
         Work::Opening(machine) => step_opening(alloc, cloud, who, machine),
-        Work::Committing(machine) => step_commit(alloc, cloud, who, machine),
+        Work::Committing(machine) => step_commit(alloc, cloud, who, machine, cache),
         Work::Paging(home, machine) => step_paging(alloc, cloud, who, home, machine),
         Work::Folding(home, machine) => step_folding(alloc, cloud, who, home, machine),
         Work::Closing(lease) => step_close(cloud, who, lease),

@@ -5,16 +5,16 @@ ghost use Rattle.client_session.specs.Session.{GivesHome, IsOfClient, old_lease,
 
 use cloud_trait::call::Call;
 use cloud_trait::lease::Lease;
-use commit_writes::writes::CommitWrites;
+use commit_run::CommitRun;
 use db_base::refusal::{Refusal, Refused};
 use db_base::trouble::Trouble;
-use first_tree::checkpoint::TreeCkpt;
 use head_codec::head::Head;
 use log_codec::record::PuItem;
 use page_ckpt::PageCkpt;
 use record_read::RecordRead;
 use recover_run::home::Home;
 use recover_run::recover::{CLIENT_TICKS, RecoverRun};
+use tree_ckpt::TreeCkpt;
 use txn_buffer::buffer::TxnBuffer;
 
 /// What a session has in hand.
@@ -27,7 +27,7 @@ pub enum Work {
     /// An opening under way.
     Opening(RecoverRun),
     /// A commit under way.
-    Committing(CommitWrites),
+    Committing(CommitRun),
     /// A read under way, beside the open client.
     Reading(Home, RecordRead),
     /// A page checkpoint under way, beside the open client.

@@ -154,7 +154,7 @@ impl TreeCkpt {
     pub fn step<C: Cloud>(&mut self, alloc: Global, cloud: &mut C, who: Who) -> Turn<CkptAnswer>
         ensures steps { Steps making_ask MakingLeads KeepsLeases who (C.seen cloud.old) (C.seen cloud.new) self.old self.new result }
         // Each step that goes on leaves fewer calls.
-        ensures less { (h : List Deed) → Went h self.old → result ≡ Turn.More → calls_in self.new.work < calls_in self.old.work }
+        ensures less { result ≡ Turn.More → calls_in self.new.work < calls_in self.old.work }
         // The leases that it holds are those that it took and has not given back.
         ensures leases { (h : List Deed) → Went h self.old → claims_in self.old.work ≡ outstanding h }
         // The call names leases that it holds, and takes no lock that it holds.

@@ -1,3 +1,5 @@
 pub mod Draft
+pub mod Ending
 pub mod Meaning
 pub mod Run
+pub mod Sound

@@ -1,4 +1,5 @@
-ghost use Rattle.std.specs.Prelude.{◌≡◌, ◌≤◌, List, length};
+ghost use Rattle.std.specs.Prelude.{◌≡◌, ◌≤◌, ◌<◌, List, length};
+ghost use Rattle.std.specs.Option.{option_copied};
 ghost use Rattle.cloud_trait.specs.Call.{ask_of};
 ghost use Rattle.cloud_trait.specs.Machine.{LeadsBy, Steps};
 
@@ -10,6 +11,7 @@ use cloud_trait::turn::Turn;
 use cloud_trait::who::Who;
 use commit_writes::writes::CommitWrites;
 use db_base::trouble::CommitAnswer;
+use head_codec::head::Head;
 use page_cache::PageCache;
 use recover_run::home::Home;
 use std::alloc::Global;
@@ -36,7 +38,9 @@ impl Model for CommitRun {
 }
 
 impl CommitRun {
-    ghost use Rattle.commit_run.specs.Run.{new_run, run_ask, asks, run_ready, run_next, home_of, Led, Keeps, KeepsHome};
+    ghost use Rattle.commit_run.specs.Run.{new_run, run_ask, asks, run_ready, run_next, run_opens, home_of, Led, Keeps, KeepsHome};
+    ghost use Rattle.commit_run.specs.Ending.{calls_left, most_calls};
+    ghost use Rattle.commit_run.specs.Sound.{IsSoundRun};
     ghost use Rattle.commit_run.specs.Meaning.{Meant, MeansReady};
     ghost use Rattle.recover_run.specs.declared.home.Home.{Home};
     ghost use Rattle.txn_buffer.specs.Noted.{Noted};
@@ -67,6 +71,17 @@ impl CommitRun {
         self.draft.writes.changes()
     }
 
+    /// The head that the put in hand opens, where it is the one that commits.
+    pub fn opens(&self) -> Option<&Head>
+        ensures { option_copied result ≡ run_opens self.now }
+    {
+        match &self.hand {
+            Hand::Writes => self.draft.writes.opens(),
+            Hand::First(_) => None,
+            Hand::Change(_) => None,
+        }
+    }
+
     /// The service call that the next step makes.
     pub fn in_hand(&self) -> Call<'_>
         ensures { ask_of result ≡ run_ask self.now }
@@ -83,6 +98,7 @@ impl CommitRun {
         ensures led { Led (run_ready (self.old, cache.old)) (self.new, cache.new) result }
         ensures kept { Keeps (home_of self.old) (home_of self.new) }
         ensures means { (home : Home) (changes : List Noted) → self.old ≡ new_run home changes → MeansReady home changes (home_of self.new) result }
+        ensures calls { (home : Home) (changes : List Noted) → self.old ≡ new_run home changes → result ≡ Turn.More → calls_left self.new ≤ most_calls (length changes) }
     {
         let (hand, turn) = self.draft.begin(alloc, cache);
         self.hand = hand;
@@ -99,6 +115,8 @@ impl CommitRun {
     ) -> Turn<CommitAnswer>
         ensures steps { Steps asks (LeadsBy run_next) KeepsHome who (C.seen cloud.old) (C.seen cloud.new) (self.old, cache.old) (self.new, cache.new) result }
         ensures means { Meant who (C.seen cloud.old) (C.seen cloud.new) (self.old, cache.old) (self.new, cache.new) result }
+        ensures sound { IsSoundRun self.old }
+        ensures less { result ≡ Turn.More → calls_left self.new < calls_left self.old }
     {
         match mem::replace(&mut self.hand, Hand::Writes) {
             Hand::Writes => self.draft.step_writes(alloc, cloud, who),

@@ -24,11 +24,21 @@ use tree_moves::moved::Moved;
 use tree_moves::work::Work;
 
 /// A checkpoint of a tree (the right links and the cuts after Lehman and Yao, 1981).
-#[derive(Drop)]
 pub struct TreeCkpt {
     tree: TreeId,
     received: Vec<MsgId>,
     work: Work,
+}
+
+// Written out, so that what holds a checkpoint need not look into it to let it go.
+impl Drop for TreeCkpt {
+    fn drop(self) {
+        let TreeCkpt {
+            tree: _,
+            received: _,
+            work: _,
+        } = self;
+    }
 }
 
 impl Model for TreeCkpt {

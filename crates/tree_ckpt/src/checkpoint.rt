@@ -5,6 +5,7 @@ ghost use Rattle.cloud_trait.specs.Call.{ask_of};
 ghost use Rattle.cloud_trait.specs.Weather.{Makes};
 ghost use Rattle.cloud_trait.specs.Machine.{Took, Steps, Deed};
 
+use crate::release::let_go;
 use crate::short::work_is_short;
 use ckpt_parts::ids_of;
 use cloud_trait::answer::Answer;
@@ -36,8 +37,9 @@ impl Drop for TreeCkpt {
         let TreeCkpt {
             tree: _,
             received: _,
-            work: _,
+            work,
         } = self;
+        let_go(work);
     }
 }
 
@@ -121,7 +123,7 @@ impl TreeCkpt {
     fn keep(&mut self, work: Work)
         ensures { self.new ≡ with_work self.old work }
     {
-        self.work = work;
+        let_go(mem::replace(&mut self.work, work));
     }
 
     /// Makes the call in hand; a release hands its lease out.

@@ -17,33 +17,35 @@ use page_cache::PageCache;
 use record_read::RecordRead;
 use std::alloc::Global;
 
-/// Makes the call in hand of what is at work: what is in hand then, the read where one ended, and what it came to.
-pub(crate) fn step_work<C: Cloud>(
-    alloc: Global,
-    cloud: &mut C,
-    who: Who,
-    work: Work,
-    cache: &mut PageCache,
-) -> (Work, Option<RecordRead>, Turn<Answer>)
-    requires client { IsOfClient work }
-    requires working { is_working work ≡ true }
-    ensures steps { StepsAt who (C.seen cloud.old) (C.seen cloud.new) work result.0 result.2 }
-    ensures shows { ShowsAt who (C.seen cloud.old) (C.seen cloud.new) work cache.old cache.new result.0 result.1 result.2 }
-    ensures client { IsOfClient result.0 }
-{
-    let (work, turn) = match work {
-        Work::Reading(home, read) => {
-            return step_reading(alloc, cloud, who, home, read, cache);
-        }
-        Work::Opening(machine) => step_opening(alloc, cloud, who, machine),
-        Work::Committing(machine) => step_commit(alloc, cloud, who, machine),
-        Work::Paging(home, machine) => step_paging(alloc, cloud, who, home, machine),
-        Work::Folding(home, machine) => step_folding(alloc, cloud, who, home, machine),
-        Work::Closing(lease) => step_close(cloud, who, lease),
-        Work::Renewing(home) => step_renewal(cloud, who, home),
-        Work::Closed => unreachable!(),
-        Work::Idle(_) => unreachable!(),
-        Work::Broken(_) => unreachable!(),
-    };
-    (work, None, turn)
+impl Work {
+    /// Makes the call in hand of what is at work: what is in hand then, the read where one ended, and what it came to.
+    pub(crate) fn step<C: Cloud>(
+        self,
+        alloc: Global,
+        cloud: &mut C,
+        who: Who,
+        cache: &mut PageCache,
+    ) -> (Work, Option<RecordRead>, Turn<Answer>)
+        requires client { IsOfClient self }
+        requires working { is_working self ≡ true }
+        ensures steps { StepsAt who (C.seen cloud.old) (C.seen cloud.new) self result.0 result.2 }
+        ensures shows { ShowsAt who (C.seen cloud.old) (C.seen cloud.new) self cache.old cache.new result.0 result.1 result.2 }
+        ensures client { IsOfClient result.0 }
+    {
+        let (work, turn) = match self {
+            Work::Reading(home, read) => {
+                return step_reading(alloc, cloud, who, home, read, cache);
+            }
+            Work::Opening(machine) => step_opening(alloc, cloud, who, machine),
+            Work::Committing(machine) => step_commit(alloc, cloud, who, machine, cache),
+            Work::Paging(home, machine) => step_paging(alloc, cloud, who, home, machine),
+            Work::Folding(home, machine) => step_folding(alloc, cloud, who, home, machine),
+            Work::Closing(lease) => step_close(cloud, who, lease),
+            Work::Renewing(home) => step_renewal(cloud, who, home),
+            Work::Closed => unreachable!(),
+            Work::Idle(_) => unreachable!(),
+            Work::Broken(_) => unreachable!(),
+        };
+        (work, None, turn)
+    }
 }

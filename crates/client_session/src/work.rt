@@ -5,20 +5,19 @@ ghost use Rattle.client_session.specs.Session.{GivesHome, IsOfClient, old_lease,
 
 use cloud_trait::call::Call;
 use cloud_trait::lease::Lease;
-use commit_writes::writes::CommitWrites;
+use commit_run::CommitRun;
 use db_base::refusal::{Refusal, Refused};
 use db_base::trouble::Trouble;
-use first_tree::checkpoint::TreeCkpt;
 use head_codec::head::Head;
 use log_codec::record::PuItem;
 use page_ckpt::PageCkpt;
 use record_read::RecordRead;
 use recover_run::home::Home;
 use recover_run::recover::{CLIENT_TICKS, RecoverRun};
+use tree_ckpt::TreeCkpt;
 use txn_buffer::buffer::TxnBuffer;
 
 /// What a session has in hand.
-#[derive(Drop)]
 pub enum Work {
     /// Nothing: no client is open.
     Closed,
@@ -27,7 +26,7 @@ pub enum Work {
     /// An opening under way.
     Opening(RecoverRun),
     /// A commit under way.
-    Committing(CommitWrites),
+    Committing(CommitRun),
     /// A read under way, beside the open client.
     Reading(Home, RecordRead),
     /// A page checkpoint under way, beside the open client.
@@ -41,6 +40,30 @@ pub enum Work {
     /// The lease of a client whose newest operation left it in doubt.
     Broken(Lease),
 }
+
+// Written out, machine by machine, so that no other function has to look into them to let one go.
+impl Drop for Work {
+    fn drop(self) {
+        match self {
+            Work::Closed => {}
+            Work::Idle(_) => {}
+            Work::Opening(machine) => drop_opening(machine),
+            Work::Committing(_) => {}
+            Work::Reading(_, _) => {}
+            Work::Paging(_, machine) => drop_paging(machine),
+            Work::Folding(_, _) => {}
+            Work::Closing(_) => {}
+            Work::Renewing(_) => {}
+            Work::Broken(_) => {}
+        }
+    }
+}
+
+/// Lets an opening go.
+pub(crate) fn drop_opening(_machine: RecoverRun) {}
+
+/// Lets a page checkpoint go.
+pub(crate) fn drop_paging(_machine: PageCkpt) {}
 
 impl Work {
     ghost use Rattle.client_session.specs.Session.{rule_of, opening_rule_of, is_working, ask_of_work, committing_of, opens_of, applying_of};
@@ -172,47 +195,49 @@ impl Work {
     }
 }
 
-/// Takes the home out of what an open client has in hand; what else is in hand stays.
-pub(crate) fn home_of_work(work: Work) -> (Work, Result<Home, Refused>)
-    requires { IsOfClient work }
-    ensures gives { GivesHome work result.0 result.1 }
-    ensures client { IsOfClient result.0 }
-{
-    match work {
-        Work::Idle(home) => (Work::Closed, Ok(home)),
-        Work::Closed => (Work::Closed, Err(Refused::Rule(Refusal::NotOpen))),
-        Work::Opening(machine) => (Work::Opening(machine), Err(Refused::Rule(Refusal::AtWork))),
-        Work::Committing(machine) => (
-            Work::Committing(machine),
-            Err(Refused::Rule(Refusal::AtWork)),
-        ),
-        Work::Reading(home, machine) => (
-            Work::Reading(home, machine),
-            Err(Refused::Rule(Refusal::AtWork)),
-        ),
-        Work::Paging(home, machine) => (
-            Work::Paging(home, machine),
-            Err(Refused::Rule(Refusal::AtWork)),
-        ),
-        Work::Folding(home, machine) => (
-            Work::Folding(home, machine),
-            Err(Refused::Rule(Refusal::AtWork)),
-        ),
-        Work::Closing(lease) => (Work::Closing(lease), Err(Refused::Rule(Refusal::AtWork))),
-        Work::Renewing(home) => (Work::Renewing(home), Err(Refused::Rule(Refusal::AtWork))),
-        Work::Broken(lease) => (Work::Broken(lease), Err(Refused::Rule(Refusal::Broken))),
+impl Work {
+    /// Takes the home out of what an open client has in hand; what else is in hand stays.
+    pub(crate) fn take_home(self) -> (Work, Result<Home, Refused>)
+        requires { IsOfClient self }
+        ensures gives { GivesHome self result.0 result.1 }
+        ensures client { IsOfClient result.0 }
+    {
+        match self {
+            Work::Idle(home) => (Work::Closed, Ok(home)),
+            Work::Closed => (Work::Closed, Err(Refused::Rule(Refusal::NotOpen))),
+            Work::Opening(machine) => (Work::Opening(machine), Err(Refused::Rule(Refusal::AtWork))),
+            Work::Committing(machine) => (
+                Work::Committing(machine),
+                Err(Refused::Rule(Refusal::AtWork)),
+            ),
+            Work::Reading(home, machine) => (
+                Work::Reading(home, machine),
+                Err(Refused::Rule(Refusal::AtWork)),
+            ),
+            Work::Paging(home, machine) => (
+                Work::Paging(home, machine),
+                Err(Refused::Rule(Refusal::AtWork)),
+            ),
+            Work::Folding(home, machine) => (
+                Work::Folding(home, machine),
+                Err(Refused::Rule(Refusal::AtWork)),
+            ),
+            Work::Closing(lease) => (Work::Closing(lease), Err(Refused::Rule(Refusal::AtWork))),
+            Work::Renewing(home) => (Work::Renewing(home), Err(Refused::Rule(Refusal::AtWork))),
+            Work::Broken(lease) => (Work::Broken(lease), Err(Refused::Rule(Refusal::Broken))),
+        }
     }
-}
 
-/// Takes the lease out of what a broken session has in hand; what else is in hand stays.
-pub(crate) fn lease_of_work(work: Work) -> (Work, Option<Lease>)
-    requires { IsOfClient work }
-    ensures gives { result.1 ≡ old_lease work }
-    ensures client { IsOfClient result.0 }
-{
-    match work {
-        Work::Broken(lease) => (Work::Closed, Some(lease)),
-        other => (other, None),
+    /// Takes the lease out of what a broken session has in hand; what else is in hand stays.
+    pub(crate) fn take_lease(self) -> (Work, Option<Lease>)
+        requires { IsOfClient self }
+        ensures gives { result.1 ≡ old_lease self }
+        ensures client { IsOfClient result.0 }
+    {
+        match self {
+            Work::Broken(lease) => (Work::Closed, Some(lease)),
+            other => (other, None),
+        }
     }
 }
 

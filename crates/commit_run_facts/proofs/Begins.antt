@@ -1,25 +1,22 @@
 -- A commit run begins, or is answered at once.
-use Rattle.std.proofs.Common.{◌≡◌, ◌≤◌, ℕ, Bool, true, false, cond, List, [], ◌∷◌, length, Option, Some, None, refl, sym, ap, subst, ◌∙◌}
+use Rattle.std.proofs.Common.{◌≡◌, ◌≤◌, ℕ, Bool, true, false, cond, List, length, Option, Some, None, refl, subst}
 use Rattle.std.specs.Prelude.{nat_lt, slice_get}
 use Rattle.std.specs.Option.{option_map}
-use Rattle.cloud_facts.specs.Acting.{KnowsHome}
 use Rattle.cloud_trait.specs.Claim.{Claim, Lasts}
 use Rattle.cloud_facts.specs.Standing.{StandsUnder}
-use Rattle.cloud_trait.specs.Machine.{Next, Goes, Ends, Stops}
 use Rattle.cloud_trait.specs.State.{CloudState}
-use Rattle.commit_facts.specs.Committing.{MayCommit, Reaches, KnowsEnd}
+use Rattle.commit_facts.specs.Committing.{MayCommit}
 use Rattle.commit_facts.proofs.Begins.{KnowsHeld}
 use Rattle.commit_run.specs.Draft.{Draft, new_draft}
-use Rattle.commit_run.specs.Run.{Run, new_run, home_of, refused, long_walk, long_target, pending_target, begin_walks, run_ready}
-use Rattle.commit_run_facts.specs.Running.{KnowsDraft, KnowsRun, KnowsRunNext}
+use Rattle.commit_run.specs.Run.{new_run, refused, long_walk, pending_target, begin_walks, run_ready}
+use Rattle.commit_run_facts.specs.Running.{KnowsDraft, KnowsRunNext}
 use Rattle.commit_run_facts.proofs.Plans.{empty_known}
 use Rattle.commit_run_facts.proofs.Prunes.{taken_entries, entry_tree}
 use Rattle.commit_run_facts.proofs.Refusals.{RefusesAtMost, ready_refuses}
 use Rattle.commit_run_facts.proofs.RunLeases.{RunLeaseStays, ready_lease}
 use Rattle.commit_run_facts.proofs.Steps.{Step, LedTo, walk_first, walk_to_led, plan_on_led}
-use Rattle.commit_writes.specs.Writing.{Writing, waiting, with_attempt, with_home, is_spent}
+use Rattle.commit_writes.specs.Writing.{waiting, with_attempt, with_home, is_spent}
 use Rattle.db_base.specs.Ids.{IsTree}
-use Rattle.db_base.specs.declared.trouble.CommitAnswer.{CommitAnswer}
 use Rattle.db_base.specs.declared.trouble.Counter.TheVariants as counter
 use Rattle.db_base.specs.declared.trouble.Trouble.{Trouble}
 use Rattle.db_base.specs.declared.trouble.Trouble.TheVariants as trouble
@@ -31,7 +28,6 @@ use Rattle.page_cache.specs.Cache.{Cache}
 use Rattle.recover_run.specs.declared.home.Home.{Home as Held}
 use Rattle.report_types.specs.declared.entry.Entry.{Entry}
 use Rattle.store_book.specs.Book.{Book}
-use Rattle.store_book.specs.Records.{IsIn}
 use Rattle.store_book.specs.Tally.{Store, at}
 use Rattle.telling_facts.specs.Told.{store_of}
 use Rattle.tree_walk.specs.Walk.{new_walk, walk_ready}

@@ -1,5 +1,5 @@
 -- The puts of heads that a commit run has in hand.
-use Rattle.std.proofs.Common.{◌≡◌, ◌⊎◌, inl, inr, ℕ, List, length, Option, Some, None}
+use Rattle.std.proofs.Common.{◌≡◌, ◌⊎◌, inl, inr, ℕ, List, Option, None}
 use Rattle.cloud_trait.specs.Ask.{PutHeld}
 use Rattle.cloud_trait.specs.Claim.{Claim}
 use Rattle.commit_facts.specs.Puts.{OpensHead, PutsHead}
@@ -8,9 +8,10 @@ use Rattle.commit_run.specs.declared.hand.Hand.{Hand}
 use Rattle.commit_run.specs.declared.hand.Hand.TheVariants.{Writes, First, Change}
 use Rattle.commit_run.specs.Draft.{Draft}
 use Rattle.commit_run.specs.Run.{Run, ask_at, run_ask}
-use Rattle.commit_run_facts.specs.Puts.{IsSoundIn, IsSoundRun, OpensRun, PutsRun}
+use Rattle.commit_run.specs.Sound.{IsSoundAt, IsSoundRun}
+use Rattle.commit_run_facts.specs.Puts.{OpensRun, PutsRun}
 use Rattle.commit_run_facts.specs.Running.{KnowsHand, KnowsRun}
-use Rattle.commit_writes.specs.Writing.{Writing, opens_at}
+use Rattle.commit_writes.specs.Writing.{opens_at}
 use Rattle.db_base.specs.declared.names.ObjName.TheVariants as object
 use Rattle.head_codec.specs.declared.head.Phase.TheVariants as phase
 use Rattle.home_facts.specs.Homes.{Part}
@@ -31,7 +32,7 @@ pub run_puts : (st : Store) (now : ℕ) (m : Run × Cache) (client : ℕ) (bytes
     → run_ask m.0 ≡ PutHeld (object.Head client) bytes one two → KnowsRun st now m part → IsSoundRun m.0 → PutsRun m.0 client bytes
 run_puts st now m client bytes one two part e k sound = on m.0.hand k.hand sound e
   where
-    on : (hand : Hand) → KnowsHand hand st now m.0.draft part → IsSoundIn hand m.0.draft.writes → ask_at hand m.0.draft.writes ≡ PutHeld (object.Head client) bytes one two
+    on : (hand : Hand) → KnowsHand hand st now m.0.draft part → IsSoundAt hand m.0.draft.writes → ask_at hand m.0.draft.writes ≡ PutHeld (object.Head client) bytes one two
         → PutsRun (record { draft = m.0.draft; hand = hand }) client bytes
     on Writes a is put = writes_put m.0.draft client bytes (commit_puts st now m.0.draft.writes client bytes one two part put a is)
     on (First w) a is put = absurd (cc)

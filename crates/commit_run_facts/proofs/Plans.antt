@@ -1,5 +1,5 @@
 -- The leaves that a commit plans with.
-use Rattle.std.proofs.Common.{◌≡◌, ◌<◌, ◌+◌, ◌&&◌, ◌||◌, ◌==◌, ◌⊎◌, inl, inr, ℕ, zero, suc, Bool, true, false, cond, not, List, [], ◌∷◌, ◌++◌, length, drop, Option, Some, None, refl, sym, ap, subst, ◌∙◌, arith}
+use Rattle.std.proofs.Common.{◌≡◌, ◌+◌, ◌&&◌, ◌==◌, ◌⊎◌, inl, inr, ℕ, zero, suc, Bool, true, false, not, List, [], ◌∷◌, ◌++◌, length, drop, Option, Some, None, refl, sym, ap, subst, ◌∙◌, arith}
 use Rattle.std.specs.Prelude.{slice_get}
 use Rattle.std.specs.Option.{option_map, option_map_or}
 use Rattle.std.proofs.lemmas.Bool.{and_parts, eqb-true}
@@ -9,9 +9,8 @@ use Rattle.chain_facts.specs.Chain.{ChainHolds}
 use Rattle.cloud_facts.proofs.Searching.{found}
 use Rattle.commit_facts.specs.Committing.{MayCommit, IsLeafFor, AreLeavesFor}
 use Rattle.commit_plan.specs.Ended.{Ended, ended_of, spans, page_at, leaf_at}
-use Rattle.commit_plan.specs.Plan.{Plan, is_update, has_pending, seeks, page_without, pages_of, advanced, with_leaf, with_page}
+use Rattle.commit_plan.specs.Plan.{Plan, page_without, pages_of, advanced, with_leaf, with_page}
 use Rattle.commit_run_facts.specs.Running.{IsLinked, KnowsPlan}
-use Rattle.db_base.specs.Change.{key_of}
 use Rattle.db_base.specs.Ids.{IsTree}
 use Rattle.db_base.specs.declared.change.Change.{Change}
 use Rattle.db_base.specs.declared.change.Change.TheVariants.{Insert, Update, Delete}
@@ -21,9 +20,9 @@ use Rattle.node_codec.proofs.NodeLemmas.{not_below_empty}
 use Rattle.store_book.specs.Book.{Book, Link}
 use Rattle.store_book.specs.Growth.{Grows}
 use Rattle.store_book.specs.Premises.{IsLeafAtMost}
-use Rattle.store_book.specs.Records.{StandsAt, IsIn}
+use Rattle.store_book.specs.Records.{IsIn}
 use Rattle.store_book.specs.Tally.{Store}
-use Rattle.store_book.proofs.Places.{get_cases, get_single, get_within, in_either, in_none}
+use Rattle.store_book.proofs.Places.{get_cases, get_single, in_either, in_none}
 use Rattle.commit_facts.proofs.CommitOthers.{leaves_others}
 use Rattle.txn_buffer.specs.Noted.{Noted}
 

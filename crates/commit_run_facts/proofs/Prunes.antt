@@ -1,18 +1,13 @@
 -- What a walk used prunes the head of a commit by entries that are applied.
-use Rattle.std.proofs.Common.{◌≡◌, ◌≤◌, ◌==◌, ◌&&◌, ◌⊎◌, inl, inr, ℕ, zero, suc, Bool, true, false, cond, not, List, [], ◌∷◌, Option, Some, None, refl, sym, ap, subst, ◌∙◌, arith}
-use Rattle.std.specs.Prelude.{nat_le, filter, slice_get}
-use Rattle.std.proofs.lemmas.Bool.{and_parts, eqb-true, le-leb, leb-true}
-use Rattle.chain_facts.specs.Chain.{ChainHolds}
+use Rattle.std.proofs.Common.{◌≡◌, ℕ, Option, Some, None, refl, sym, subst, ◌∙◌, arith}
 use Rattle.cloud_facts.specs.Acting.{IsPruned, KnowsHome}
 use Rattle.cloud_facts.proofs.OthersLemmas.{pruned_again}
 use Rattle.cloud_trait.specs.Claim.{Lasts}
 use Rattle.commit_facts.specs.Committing.{KnowsTaken}
 use Rattle.commit_run.specs.Draft.{Draft, pruned_by_root, pruned_by_kept, pruned_with, pruned_behind}
 use Rattle.commit_run_facts.specs.Running.{KnowsDraft}
-use Rattle.commit_writes.specs.Writing.{Writing, pruned}
-use Rattle.db_base.specs.Change.{key_of}
-use Rattle.db_base.specs.Cursor.{number_of}
-use Rattle.db_base.specs.Ids.{IsClient, IsTree}
+use Rattle.commit_writes.specs.Writing.{pruned}
+use Rattle.db_base.specs.Ids.{IsTree}
 use Rattle.db_base.specs.declared.names.ObjName.{ObjName}
 use Rattle.db_base.specs.declared.names.ObjName.TheVariants as object
 use Rattle.head_codec.specs.declared.head.Head.{Head}
@@ -20,20 +15,18 @@ use Rattle.head_codec.specs.declared.lists.Pending.{Pending}
 use Rattle.home_facts.specs.Homes.{Part}
 use Rattle.landing_facts.specs.Holding.{Holds}
 use Rattle.leaf_view.specs.Leaf.{Leaf}
-use Rattle.leaf_view.specs.Lookup.{holds, number_of as done_number}
 use Rattle.log_codec.specs.declared.record.AtomicRec.{AtomicRec}
 use Rattle.node_codec.specs.Tree.{Tree}
 use Rattle.page_cache.specs.Cache.{Cache}
 use Rattle.page_cache.specs.Held.{leaf_at, root_at}
 use Rattle.pending_facts.specs.Pending.{IsOwn}
 use Rattle.recover_run.specs.declared.home.Home.{Home as Held}
-use Rattle.route_plan.specs.Prune.{is_applied_in, pruned_by_leaf, is_covered_by, pruned_by_tree}
+use Rattle.route_plan.specs.Prune.{pruned_by_leaf, pruned_by_tree}
 use Rattle.route_plan.specs.Record.{pending_of}
-use Rattle.store_book.specs.Premises.{IsLeafAtMost, IsAppliedEntry}
-use Rattle.store_book.specs.Records.{IsIn, IsApplied}
-use Rattle.store_book.specs.Tally.{Leafy, Tally, Store}
+use Rattle.store_book.specs.Premises.{IsLeafAtMost}
+use Rattle.store_book.specs.Tally.{Store}
 use Rattle.tree_walk.specs.Walk.{Walk, sought}
-use Rattle.walk_facts.specs.Caches.{KnowsCache, IsSeenRoot, IsSeenLeaf}
+use Rattle.walk_facts.specs.Caches.{KnowsCache}
 use Rattle.walk_facts.specs.Walks.{WasUsed, KnowsWalk}
 use Rattle.walk_facts.proofs.Caches.{seen_root, seen_leaf}
 use Rattle.walk_facts.proofs.Prunings.{AreOfRecords, own_entries, leaf_prunes, root_prunes}

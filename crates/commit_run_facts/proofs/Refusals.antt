@@ -1,9 +1,9 @@
 -- A commit run that ends before its first call commits nothing.
-use Rattle.std.proofs.Common.{◌≡◌, ℕ, Bool, true, false, cond, List, Option, Some, None}
+use Rattle.std.proofs.Common.{ℕ, Bool, true, false, cond, List, Option, Some, None}
 use Rattle.std.specs.Prelude.{slice_get}
 use Rattle.cloud_trait.specs.Machine.{Next, Goes, Ends, Stops}
 use Rattle.commit_run.specs.Draft.{Draft, new_draft, pruned_behind, planned}
-use Rattle.commit_run.specs.Run.{Run, new_run, next_target, wrote, refused, troubled, by_turn, begun_turn, seek, plan_on, long_walk, long_target, begin_walks, run_ready}
+use Rattle.commit_run.specs.Run.{new_run, next_target, wrote, refused, troubled, by_turn, begun_turn, seek, long_walk, long_target, begin_walks, run_ready}
 use Rattle.commit_run_facts.proofs.Steps.{Step}
 use Rattle.commit_writes.specs.Writing.{Writing, waiting, with_attempt, with_home, is_spent, routed_of, passes, not_committed, begun, log_or_open, routing}
 use Rattle.db_base.specs.declared.trouble.CommitAnswer.{CommitAnswer}

@@ -1,6 +1,5 @@
 -- A commit run never changes its home's lease.
-use Rattle.std.proofs.Common.{◌≡◌, ℕ, Bool, true, false, cond, List, length, Option, Some, None, refl, ◌∙◌}
-use Rattle.std.specs.Prelude.{slice_get}
+use Rattle.std.proofs.Common.{◌≡◌, ℕ, Bool, true, false, cond, List, Option, Some, None, refl, ◌∙◌}
 use Rattle.cloud_trait.specs.declared.answer.Answer.{Answer}
 use Rattle.cloud_trait.specs.Claim.{Claim}
 use Rattle.cloud_trait.specs.Machine.{Next, Goes, Ends, Stops}
@@ -8,8 +7,8 @@ use Rattle.commit_facts.proofs.CommitLeases.{LeaseStays, routing_lease, next_lea
 use Rattle.commit_run.specs.declared.hand.Hand.{Hand}
 use Rattle.commit_run.specs.declared.hand.Hand.TheVariants.{Writes, First, Change}
 use Rattle.commit_run.specs.Draft.{Draft, new_draft, pruned_by_root, pruned_by_kept, pruned_with, pruned_behind, planned, leaf_noted, paged}
-use Rattle.commit_run.specs.Run.{Run, new_run, home_of, next_target, next_at, wrote, refused, troubled, walking, by_turn, begun_turn, walk_to, seek, plan_on, stale_at, is_stale, walk_stopped, walk_turned, long_walk, long_target, begin_walks, run_ready, run_next}
-use Rattle.commit_writes.specs.Writing.{Writing, waiting, with_attempt, with_home, is_spent, numbered, routing, writing_next}
+use Rattle.commit_run.specs.Run.{Run, new_run, home_of, next_target, next_at, wrote, refused, troubled, by_turn, begun_turn, seek, plan_on, stale_at, is_stale, walk_stopped, walk_turned, long_walk, long_target, begin_walks, run_ready, run_next}
+use Rattle.commit_writes.specs.Writing.{Writing, waiting, with_attempt, with_home, is_spent, routing, writing_next}
 use Rattle.db_base.specs.declared.names.ObjName.{ObjName}
 use Rattle.db_base.specs.declared.names.ObjName.TheVariants as object
 use Rattle.db_base.specs.declared.trouble.CommitAnswer.{CommitAnswer}

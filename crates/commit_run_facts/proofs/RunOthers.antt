@@ -1,9 +1,9 @@
 -- What a commit run knows survives the calls of others.
-use Rattle.std.proofs.Common.{◌≡◌, ◌≤◌, ℕ, List, [], ◌∷◌, refl, sym, ap, subst, ◌∙◌, arith}
+use Rattle.std.proofs.Common.{◌≡◌, ◌≤◌, ℕ, [], ◌∷◌, refl, sym, ap, subst, ◌∙◌, arith}
 use Rattle.cloud_facts.specs.Acting.{HasLeaseOf}
 use Rattle.cloud_facts.specs.Others.{Others, NoneJoins}
 use Rattle.cloud_facts.proofs.OthersLemmas.{home_others}
-use Rattle.cloud_trait.specs.Claim.{Claim, Lasts}
+use Rattle.cloud_trait.specs.Claim.{Claim}
 use Rattle.commit_facts.proofs.CommitOthers.{commit_others, commit_lease}
 use Rattle.commit_run.specs.declared.hand.Hand.{Hand}
 use Rattle.commit_run.specs.declared.hand.Hand.TheVariants.{Writes, First, Change}
@@ -14,11 +14,9 @@ use Rattle.commit_run_facts.proofs.Plans.{plan_grows}
 use Rattle.db_base.specs.declared.names.Lock.TheVariants as lock
 use Rattle.home_facts.specs.Homes.{Part}
 use Rattle.page_cache.specs.Cache.{Cache}
-use Rattle.store_book.specs.Growth.{Grows}
 use Rattle.store_book.specs.Records.{IsIn}
 use Rattle.store_book.specs.Tally.{Store}
 use Rattle.tree_walk.specs.Walk.{Walk}
-use Rattle.walk_facts.specs.Walks.{KnowsWalk}
 use Rattle.walk_facts.proofs.Caches.{cache_grows}
 use Rattle.walk_facts.proofs.Walks.{walk_grows}
 

@@ -1,15 +1,13 @@
 -- What a commit run knows after each of its calls, whatever it answered.
-use Rattle.std.proofs.Common.{◌≡◌, ℕ, Bool, true, false, List, [], ◌∷◌, Option, Ok, refl, sym, subst}
+use Rattle.std.proofs.Common.{◌≡◌, ℕ, Bool, true, false, List, [], ◌∷◌, refl, sym, subst}
 use Rattle.cloud_facts.specs.Acting.{Setting, Outcome}
 use Rattle.cloud_facts.specs.Call.{IsCall}
 use Rattle.cloud_facts.proofs.Outcomes.{quiet}
 use Rattle.cloud_trait.specs.declared.answer.Answer.{Answer}
 use Rattle.cloud_trait.specs.Ask.{Ask}
 use Rattle.cloud_trait.specs.Caller.{Caller}
-use Rattle.cloud_trait.specs.Claim.{Claim, Lasts}
-use Rattle.cloud_trait.specs.Machine.{Next}
+use Rattle.cloud_trait.specs.Claim.{Claim}
 use Rattle.cloud_trait.specs.State.{CloudState}
-use Rattle.cloud_trait.specs.Views.{got_of}
 use Rattle.commit_facts.specs.Committing.{KnowsNext}
 use Rattle.commit_facts.specs.Noting.{commit_note}
 use Rattle.commit_facts.proofs.CommitLemmas.{commit_outcome}
@@ -18,11 +16,11 @@ use Rattle.commit_run.specs.declared.hand.Hand.TheVariants.{Writes, First, Chang
 use Rattle.commit_run.specs.Draft.{Draft}
 use Rattle.commit_run.specs.Run.{Run, home_of, ask_at, asks, wrote, walked, next_at, run_next}
 use Rattle.commit_run_facts.specs.Noting.{noted_in, run_note}
-use Rattle.commit_run_facts.specs.Puts.{IsSoundIn, IsSoundRun}
+use Rattle.commit_run.specs.Sound.{IsSoundAt, IsSoundRun}
 use Rattle.commit_run_facts.specs.Running.{KnowsSeeking, KnowsHand, KnowsRun, KnowsRunNext}
 use Rattle.commit_run_facts.proofs.Steps.{LedTo, walk_first, wrote_known, turned_led}
-use Rattle.commit_writes.specs.Writing.{Writing, writing_ask, writing_next}
-use Rattle.home_facts.specs.Homes.{Part, Parts, HomesHold}
+use Rattle.commit_writes.specs.Writing.{writing_ask, writing_next}
+use Rattle.home_facts.specs.Homes.{Part, Parts}
 use Rattle.history.specs.Audited.{Audited}
 use Rattle.page_cache.specs.Cache.{Cache}
 use Rattle.report_types.specs.declared.entry.Entry.{Entry}
@@ -31,7 +29,7 @@ use Rattle.store_book.specs.Tally.{Store}
 use Rattle.telling_facts.specs.Told.{store_of}
 use Rattle.tree_walk.specs.Walk.{Walk, object_of, walk_ask, walk_next}
 use Rattle.walk_facts.specs.Caches.{KnowsCache}
-use Rattle.walk_facts.specs.Walks.{KnowsWalk, KnowsWalking, MayStop}
+use Rattle.walk_facts.specs.Walks.{MayStop}
 use Rattle.walk_facts.proofs.Caches.{cache_grows}
 use Rattle.walk_facts.proofs.Beside.{turn_leaves}
 use Rattle.walk_facts.proofs.Walks.{call_answers, walk_goes}
@@ -76,7 +74,7 @@ module _ (who : Caller) (book : Book) (order : List Entry) (s t : CloudState) (p
           (turn_leaves st w c reply cache (call_answers book order s setting.cloud who (object_of w) reply t call))
           (λ lasts. walk_goes book order s setting.cloud who w c reply t call (record { walk = k.walk lasts; cache = cache }))
 
-  outcome_at : (hand : Hand) → KnowsHand hand st t.now d (parts who.session) → IsSoundIn hand d.writes → IsCall who (ask_at hand d.writes) reply s t
+  outcome_at : (hand : Hand) → KnowsHand hand st t.now d (parts who.session) → IsSoundAt hand d.writes → IsCall who (ask_at hand d.writes) reply s t
       → OutcomeOf (ask_at hand d.writes) (noted_in hand d.writes (ask_at hand d.writes)) (KnowsRunNext (next_at hand d c reply))
   outcome_at Writes k sound call = writes_outcome (commit_outcome who book order s t parts d.writes reply (parts who.session) setting refl k sound call)
   outcome_at (First w) k sound call = walk_outcome true w call k

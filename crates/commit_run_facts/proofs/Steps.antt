@@ -1,21 +1,19 @@
 -- Where the local work of a commit leads before its first write: to the next walk, to the first write, or to its end.
-use Rattle.std.proofs.Common.{◌≡◌, ◌≤◌, ℕ, Bool, true, false, cond, List, length, Option, Some, None, refl, sym, ap, subst, ◌∙◌}
+use Rattle.std.proofs.Common.{◌≡◌, ℕ, Bool, true, false, cond, List, length, Option, Some, None, refl, sym, ap, subst, ◌∙◌}
 use Rattle.std.specs.Prelude.{slice_get}
 use Rattle.std.specs.Option.{option_map}
 use Rattle.cloud_trait.specs.Claim.{Claim, Lasts}
 use Rattle.cloud_trait.specs.Machine.{Next, Goes, Ends, Stops}
 use Rattle.commit_facts.specs.Committing.{KnowsNext, Reaches}
 use Rattle.commit_facts.proofs.Begins.{taken_left, routing_reaches}
-use Rattle.commit_run.specs.declared.hand.Hand.{Hand}
-use Rattle.commit_run.specs.declared.hand.Hand.TheVariants.{Writes, First, Change}
+use Rattle.commit_run.specs.declared.hand.Hand.TheVariants.{Writes}
 use Rattle.commit_run.specs.Draft.{Draft, pruned_behind, planned, with_kept, leaf_noted, paged}
-use Rattle.commit_run.specs.Run.{Run, target_of, next_target, wrote, refused, troubled, held, walking, by_turn, begun_turn, walk_to, seek, plan_on, stale_at, is_stale, walk_stopped, walk_turned}
-use Rattle.commit_run_facts.specs.Running.{KnowsDraft, KnowsSeeking, KnowsHand, KnowsRun, KnowsRunNext}
+use Rattle.commit_run.specs.Run.{Run, target_of, wrote, refused, troubled, held, walking, by_turn, begun_turn, walk_to, seek, plan_on, stale_at, is_stale, walk_stopped, walk_turned}
+use Rattle.commit_run_facts.specs.Running.{KnowsDraft, KnowsSeeking, KnowsHand, KnowsRunNext}
 use Rattle.commit_run_facts.proofs.Plans.{advanced_known, first_known, leaf_known}
 use Rattle.commit_run_facts.proofs.Prunes.{draft_prunes}
 use Rattle.commit_run_facts.proofs.RunLeases.{pruned_lease}
 use Rattle.commit_writes.specs.Writing.{Writing, routing}
-use Rattle.db_base.specs.Change.{key_of}
 use Rattle.db_base.specs.Ids.{IsTree}
 use Rattle.db_base.specs.declared.names.ObjName.{ObjName}
 use Rattle.db_base.specs.declared.trouble.CommitAnswer.{CommitAnswer}

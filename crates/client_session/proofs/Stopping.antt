@@ -6,6 +6,6 @@ use Rattle.recover_run.specs.declared.home.Home.{Home}
 use Rattle.client_session.specs.declared.work.Work.TheVariants.{Idle}
 use Rattle.client_session.specs.Session.{stopped_work}
 
-pub stays_idle : (t : Trouble) (home : Home) → t ≢ trouble.Memory → stopped_work t home ≡ Idle home
+pub stays_idle : (t : Trouble) (home : Home) → t ≢ trouble.Memory → Idle home ≡ stopped_work t home
 stays_idle trouble.Memory home other = absurd (other refl)
 stays_idle t home other = refl

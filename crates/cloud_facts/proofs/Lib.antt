@@ -4,6 +4,9 @@ pub mod Passing
 pub mod Copies
 pub mod Searching
 pub mod Heads
-pub mod Lone
+pub mod Pages
+pub mod Firsts
+pub mod LinkLemmas
+pub mod Guarding
 pub mod OthersLemmas
 pub mod Outcomes

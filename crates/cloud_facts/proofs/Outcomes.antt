@@ -9,12 +9,14 @@ use Rattle.cloud_trait.specs.Ask.{Ask, Get, GetHeld, PutHeld, Send, Receive, Del
 use Rattle.cloud_trait.specs.Caller.{Caller}
 use Rattle.cloud_trait.specs.Claim.{Claim}
 use Rattle.cloud_trait.specs.State.{CloudState, called, newest, landed as put}
-use Rattle.cloud_facts.specs.Acting.{IsLone, Outcome, Handles}
+use Rattle.cloud_facts.specs.Acting.{Outcome, Handles}
 use Rattle.cloud_facts.specs.Call.{IsCall}
+use Rattle.cloud_facts.specs.Links.{LinksBy, OwesLease}
 use Rattle.cloud_facts.specs.Looks.{Newest, has_bytes, has_landed, audited_at, audit_of}
 use Rattle.cloud_facts.specs.Others.{Passes}
 use Rattle.cloud_facts.specs.Standing.{StandsUnder, Follows, Commits}
 use Rattle.cloud_facts.proofs.Calls.{landed_or_not}
+use Rattle.cloud_facts.proofs.LinkLemmas.{landing_links}
 use Rattle.cloud_facts.proofs.Passing.{landing_passes, passes_itself, commits_join}
 use Rattle.cloud_facts.proofs.StandingLemmas.{landing_tells, landing_spells, effect_stands, same_stands}
 use Rattle.db_base.specs.declared.names.ObjName.{ObjName}
@@ -92,17 +94,17 @@ is_noted before after ask note a lands = ap (λ b. cond b (note a) a) lands
 
 -- ---- a call that did not land
 
-module _ (who : Caller) (book : Book) (order : List Entry) (s t : CloudState) (parts : Parts) (ask : Ask) (note : Audited → Audited) (K : Store → ℕ → Part → Type 0) where
+module _ (who : Caller) (book : Book) (order : List Entry) (s t : CloudState) (parts : Parts) (mine : List Claim) (ask : Ask) (note : Audited → Audited) (K : Store → ℕ → Part → Type 0) where
   -- whatever is known then
-  pub stays : t ≡ called who t.now s → StandsUnder book order s → IsLone book → (part : Part) → HomesHold (store_of book order s).tally t.now (at who.session part parts)
-      → K (store_of book order s) t.now part → Outcome who book order s t parts ask note K
-  stays e stands lone part homes knows = record {
+  pub stays : t ≡ called who t.now s → StandsUnder book order s → (part : Part) → HomesHold (store_of book order s).tally t.now (at who.session part parts)
+      → K (store_of book order s) t.now part → Outcome who book order s t parts mine ask note K
+  stays e stands part homes knows = record {
     book_after = book;
     order_after = order;
     cloud = same_stands book order s t (ap (λ (x : CloudState). x.versions) e) (ap (λ (x : CloudState). x.messages) e) stands;
-    lone = lone;
     passes = subst (λ (st : Store). Passes (store_of book order s) st) (sym same) (passes_itself (store_of book order s));
     joins = λ r is. inl is;
+    links = λ tree. inl (λ level. refl);
     part = part;
     homes = subst (λ (st : Store). HomesHold st.tally t.now (at who.session part parts)) (sym same) homes;
     knows = subst (λ (st : Store). K st t.now part) (sym same) knows;
@@ -116,7 +118,7 @@ module _ (who : Caller) (book : Book) (order : List Entry) (s t : CloudState) (p
   -- ---- a call that landed
 
   module _ (su : Store) (lands : Lands who ask (called who t.now s) t) (stands : StandsUnder book order s) (l : Landing who (store_of book order s) ask su)
-      (f : Follows who (store_of book order s) ask su l) (c : Commits who (store_of book order s) (parts who.session) ask su l) (lone : IsLone su.book) (part : Part) (homes : HomesHold su.tally t.now (at who.session part parts)) (knows : K su t.now part) where
+      (f : Follows who (store_of book order s) ask su l) (c : Commits who (store_of book order s) (parts who.session) ask su l) (owes : OwesLease mine t.now who (store_of book order s) ask su l) (part : Part) (homes : HomesHold su.tally t.now (at who.session part parts)) (knows : K su t.now part) where
     called_stands : StandsUnder book order (called who t.now s)
     called_stands = same_stands book order s (called who t.now s) refl refl stands
 
@@ -125,14 +127,14 @@ module _ (who : Caller) (book : Book) (order : List Entry) (s t : CloudState) (p
         ap (store_of su.book su.order) lands.0
         ∙ told_store (effect who ask (called who t.now s)) su (landing_tells who book order (called who t.now s) ask su called_stands.holds.chains called_stands.decodes l f)
 
-    with_noted : audited_at (newest s) (newest t) ask note (audit_of book order) ≡ audit_of su.book su.order → Outcome who book order s t parts ask note K
+    with_noted : audited_at (newest s) (newest t) ask note (audit_of book order) ≡ audit_of su.book su.order → Outcome who book order s t parts mine ask note K
     with_noted noted = record {
       book_after = su.book;
       order_after = su.order;
       cloud = subst (StandsUnder su.book su.order) (sym lands.0) (effect_stands who book order (called who t.now s) ask su called_stands l f);
-      lone = lone;
       passes = subst (λ (st : Store). Passes (store_of book order s) st) (sym told) (landing_passes who (store_of book order s) ask su stands.holds l);
       joins = commits_join who (store_of book order s) (parts who.session) ask su l c;
+      links = subst (λ (st : Store). LinksBy mine t.now (store_of book order s) st) (sym told) (landing_links mine t.now who (store_of book order s) ask su l owes);
       part = part;
       homes = subst (λ (st : Store). HomesHold st.tally t.now (at who.session part parts)) (sym told) homes;
       knows = subst (λ (st : Store). K st t.now part) (sym told) knows;
@@ -140,28 +142,28 @@ module _ (who : Caller) (book : Book) (order : List Entry) (s t : CloudState) (p
     }
 
     -- and puts nothing
-    pub other_landed : ((look new : Newest) → has_landed look new (Some ask) ≡ false) → audit_of book order ≡ audit_of su.book su.order → Outcome who book order s t parts ask note K
+    pub other_landed : ((look new : Newest) → has_landed look new (Some ask) ≡ false) → audit_of book order ≡ audit_of su.book su.order → Outcome who book order s t parts mine ask note K
     other_landed none same = with_noted (not_noted (newest s) (newest t) ask note (audit_of book order) (none (newest s) (newest t)) ∙ same)
 
   -- a call that neither puts nor touches a message
-  pub quiet : (answer : Answer) → IsCall who ask answer s t → PutsNothing ask → TouchesNoMessage ask → StandsUnder book order s → IsLone book → (part : Part)
-      → HomesHold (store_of book order s).tally t.now (at who.session part parts) → K (store_of book order s) t.now part → Outcome who book order s t parts ask note K
-  quiet answer call puts touches stands lone part homes knows = on (landed_or_not who ask answer s t call)
+  pub quiet : (answer : Answer) → IsCall who ask answer s t → PutsNothing ask → TouchesNoMessage ask → StandsUnder book order s → (part : Part)
+      → HomesHold (store_of book order s).tally t.now (at who.session part parts) → K (store_of book order s) t.now part → Outcome who book order s t parts mine ask note K
+  quiet answer call puts touches stands part homes knows = on (landed_or_not who ask answer s t call)
     where
-      on : (t ≡ called who t.now s) ⊎ Lands who ask (called who t.now s) t → Outcome who book order s t parts ask note K
-      on (inl e) = stays e stands lone part homes knows
+      on : (t ≡ called who t.now s) ⊎ Lands who ask (called who t.now s) t → Outcome who book order s t parts mine ask note K
+      on (inl e) = stays e stands part homes knows
       on (inr lands) =
-          other_landed (store_of book order s) lands stands (lands_nothing.stays ask puts touches) tt tt lone part homes knows (quiet_unseen ask puts) refl
+          other_landed (store_of book order s) lands stands (lands_nothing.stays ask puts touches) tt tt tt part homes knows (quiet_unseen ask puts) refl
 
 -- a put
-pub put_landed : (who : Caller) (book : Book) (order : List Entry) (s t : CloudState) (parts : Parts) (note : Audited → Audited) (K : Store → ℕ → Part → Type 0) (name : ObjName)
+pub put_landed : (who : Caller) (book : Book) (order : List Entry) (s t : CloudState) (parts : Parts) (mine : List Claim) (note : Audited → Audited) (K : Store → ℕ → Part → Type 0) (name : ObjName)
     (bytes : List ℕ) (one : Claim) (two : Option Claim) (su : Store) → Lands who (PutHeld name bytes one two) (called who t.now s) t → StandsUnder book order s
     → (l : Landing who (store_of book order s) (PutHeld name bytes one two) su) → Follows who (store_of book order s) (PutHeld name bytes one two) su l
-    → Commits who (store_of book order s) (parts who.session) (PutHeld name bytes one two) su l → IsLone su.book → (part : Part)
+    → Commits who (store_of book order s) (parts who.session) (PutHeld name bytes one two) su l → OwesLease mine t.now who (store_of book order s) (PutHeld name bytes one two) su l → (part : Part)
     → HomesHold su.tally t.now (at who.session part parts) → K su t.now part → note (audit_of book order) ≡ audit_of su.book su.order
-    → Outcome who book order s t parts (PutHeld name bytes one two) note K
-put_landed who book order s t parts note K name bytes one two su lands stands l f c lone part homes knows noted =
-    with_noted who book order s t parts (PutHeld name bytes one two) note K su lands stands l f c lone part homes knows
+    → Outcome who book order s t parts mine (PutHeld name bytes one two) note K
+put_landed who book order s t parts mine note K name bytes one two su lands stands l f c owes part homes knows noted =
+    with_noted who book order s t parts mine (PutHeld name bytes one two) note K su lands stands l f c owes part homes knows
     (is_noted (newest s) (newest t) (PutHeld name bytes one two) note (audit_of book order) seen ∙ noted)
   where
     next : IsNext s name bytes
@@ -175,15 +177,15 @@ put_landed who book order s t parts note K name bytes one two su lands stands l 
 -- ---- what an outcome says less of
 
 -- the session gives up its part
-pub gives_up : (who : Caller) (book : Book) (order : List Entry) (s t : CloudState) (parts : Parts) (ask : Ask) (note : Audited → Audited) (K : Store → ℕ → Part → Type 0)
-    → Outcome who book order s t parts ask note K → Outcome who book order s t parts ask note (λ st now part. part ≡ Away)
-gives_up who book order s t parts ask note K o = record {
+pub gives_up : (who : Caller) (book : Book) (order : List Entry) (s t : CloudState) (parts : Parts) (mine : List Claim) (ask : Ask) (note : Audited → Audited) (K : Store → ℕ → Part → Type 0)
+    → Outcome who book order s t parts mine ask note K → Outcome who book order s t parts mine ask note (λ st now part. part ≡ Away)
+gives_up who book order s t parts mine ask note K o = record {
   book_after = o.book_after;
   order_after = o.order_after;
   cloud = o.cloud;
-  lone = o.lone;
   passes = o.passes;
   joins = o.joins;
+  links = o.links;
   part = Away;
   homes = subst (λ (ps : Parts). HomesHold (store_of o.book_after o.order_after t).tally t.now ps) (part_again who.session o.part Away parts)
       (away_keeps (store_of o.book_after o.order_after t).tally t.now (at who.session o.part parts) who.session o.homes);
@@ -192,15 +194,15 @@ gives_up who book order s t parts ask note K o = record {
 }
 
 -- less is known
-pub weaker : (who : Caller) (book : Book) (order : List Entry) (s t : CloudState) (parts : Parts) (ask : Ask) (note : Audited → Audited) (K L : Store → ℕ → Part → Type 0)
-    → ((st : Store) (now : ℕ) (part : Part) → K st now part → L st now part) → Outcome who book order s t parts ask note K → Outcome who book order s t parts ask note L
-weaker who book order s t parts ask note K L less o = record {
+pub weaker : (who : Caller) (book : Book) (order : List Entry) (s t : CloudState) (parts : Parts) (mine : List Claim) (ask : Ask) (note : Audited → Audited) (K L : Store → ℕ → Part → Type 0)
+    → ((st : Store) (now : ℕ) (part : Part) → K st now part → L st now part) → Outcome who book order s t parts mine ask note K → Outcome who book order s t parts mine ask note L
+weaker who book order s t parts mine ask note K L less o = record {
   book_after = o.book_after;
   order_after = o.order_after;
   cloud = o.cloud;
-  lone = o.lone;
   passes = o.passes;
   joins = o.joins;
+  links = o.links;
   part = o.part;
   homes = o.homes;
   knows = less (store_of o.book_after o.order_after t) t.now o.part o.knows;

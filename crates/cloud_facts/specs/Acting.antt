@@ -1,5 +1,6 @@
 -- A call of one session beside all others: what stands before it, and what it leaves, whatever machine made it.
 use Rattle.std.specs.Prelude.{ℕ, ◌≡◌, ◌≤◌, ◌⊎◌, List, [], ◌∷◌, Option, Some, None}
+use Rattle.cloud_facts.specs.Links.{LinksBy}
 use Rattle.cloud_facts.specs.Looks.{audited_at, audit_of}
 use Rattle.cloud_facts.specs.Others.{Passes, IsOfPart}
 use Rattle.cloud_facts.specs.Standing.{StandsUnder}
@@ -12,30 +13,38 @@ use Rattle.db_base.specs.Ids.{IsClient}
 use Rattle.db_base.specs.declared.names.Lock.TheVariants as lock
 use Rattle.head_codec.specs.declared.head.Head.{Head}
 use Rattle.head_codec.specs.declared.head.Phase.TheVariants.{Settled}
+use Rattle.head_codec.specs.declared.lists.Pending.{Pending}
 use Rattle.history.specs.Audited.{Audited}
 use Rattle.home_facts.specs.Homes.{Home, Part, Away, AtHome, Opens, Parts, IsAlone, HomesHold}
 use Rattle.lease_facts.specs.Guards.{IsGuarded}
 use Rattle.lease_facts.specs.Leases.{Owns, KeptBy, GainedBy, RenewedTo}
 use Rattle.log_codec.specs.declared.record.AtomicRec.{AtomicRec}
 use Rattle.report_types.specs.declared.entry.Entry.{Entry}
-use Rattle.store_book.specs.Book.{Book, first_leaf}
+use Rattle.store_book.specs.Book.{Book}
+use Rattle.store_book.specs.Premises.{IsAppliedEntry}
 use Rattle.store_book.specs.Records.{IsIn}
-use Rattle.store_book.specs.Tally.{Store, at}
+use Rattle.store_book.specs.Tally.{Tally, Store, at}
 use Rattle.telling_facts.specs.Told.{store_of}
-
--- each tree has one leaf, and nothing above it but its root
-abbrev pub IsLone : Book → Type 0
-IsLone book = (tree level : ℕ) → book.chain tree level ≡ first_leaf level
 
 -- ---- an open client
 
--- an open client that works on no commit: its head is settled, and the newest while its lease lasts, and its part is at home
+-- a head is another one without some pending entries, which are of records that are applied
+pub record IsPruned (t : Tally) (client : ℕ) (whole pruned : Head) : Type 0 where
+  pub epoch : pruned.epoch ≡ whole.epoch
+  pub txn : pruned.txn ≡ whole.txn
+  pub phase : pruned.phase ≡ whole.phase
+  pub counters : pruned.counters ≡ whole.counters
+  pub kept : (p : Pending) → IsIn whole.pending p → IsIn pruned.pending p ⊎ IsAppliedEntry t client p
+  pub from : (p : Pending) → IsIn pruned.pending p → IsIn whole.pending p
+
+-- an open client that works on no commit: its head is settled, and but for pruned entries the newest while its lease lasts, and its part is
+-- at home
 pub record KnowsHome (st : Store) (now client : ℕ) (lease : Claim) (head : Head) (attempt : ℕ) (part : Part) : Type 0 where
   pub is_client : IsClient client
   pub lock_is : lease.lock ≡ lock.Client client
   pub within : head.txn ≤ attempt
   pub settled : head.phase ≡ Settled
-  pub newest : Lasts now lease → st.tally.head client ≡ head
+  pub newest : Lasts now lease → IsPruned st.tally client (st.tally.head client) head
   pub home : Home
   pub part_is : part ≡ AtHome home
   pub client_is : home.client ≡ client
@@ -59,7 +68,6 @@ HasLeaseOf mine (Opens o) = IsIn mine o.lease × (o.lease.lock ≡ lock.Client o
 -- what stands before a call of a session that has these leases in hand, at the clock that the call leaves
 pub record Setting (book : Book) (order : List Entry) (s : CloudState) (now : ℕ) (parts : Parts) (session : ℕ) (mine : List Claim) : Type 0 where
   pub cloud : StandsUnder book order s
-  pub lone : IsLone book
   pub homes : HomesHold (store_of book order s).tally now parts
   -- while its lease of a client lasts, no other session has a part of the client with a lease that lasts
   pub alone : (l : Claim) (client : ℕ) → IsIn mine l → l.lock ≡ lock.Client client → Lasts now l → IsAlone now parts session client
@@ -68,15 +76,16 @@ pub record Setting (book : Book) (order : List Entry) (s : CloudState) (now : �
 
 -- what a call leaves, the leases apart: what stands goes on exactly by what was seen to land, the session's part is a new one, and this is
 -- known; a landed put adds so much to the audit
-pub record Outcome (who : Caller) (book : Book) (order : List Entry) (s t : CloudState) (parts : Parts) (ask : Ask) (note : Audited → Audited)
-    (Knows : Store → ℕ → Part → Type 0) : Type 0 where
+pub record Outcome (who : Caller) (book : Book) (order : List Entry) (s t : CloudState) (parts : Parts) (mine : List Claim) (ask : Ask)
+    (note : Audited → Audited) (Knows : Store → ℕ → Part → Type 0) : Type 0 where
   pub book_after : Book
   pub order_after : List Entry
   pub cloud : StandsUnder book_after order_after t
-  pub lone : IsLone book_after
   pub passes : Passes (store_of book order s) (store_of book_after order_after t)
   -- what joins the log is of the session's own home
   pub joins : (r : AtomicRec) → IsIn book_after.log r → IsIn book.log r ⊎ IsOfPart (parts who.session) r
+  -- and what joins a tree's links is of a tree of which it has a lease that lasts
+  pub links : LinksBy mine t.now (store_of book order s) (store_of book_after order_after t)
   pub part : Part
   pub homes : HomesHold (store_of book_after order_after t).tally t.now (at who.session part parts)
   pub knows : Knows (store_of book_after order_after t) t.now part

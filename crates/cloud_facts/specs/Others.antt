@@ -1,7 +1,8 @@
 -- What a session may rely on of a call of another one.
 use Rattle.std.specs.Prelude.{ℕ, ◌≡◌, ◌<◌, ◌⊎◌, List}
+use Rattle.cloud_facts.specs.Links.{SameLinks}
+use Rattle.cloud_facts.specs.Pages.{IsLeafPage, IsTreePage}
 use Rattle.cloud_trait.specs.Claim.{Claim, Lasts}
-use Rattle.db_base.specs.Ids.{IsTree}
 use Rattle.db_base.specs.declared.names.Lock.TheVariants as lock
 use Rattle.head_codec.specs.declared.head.Head.{Head}
 use Rattle.home_facts.specs.Homes.{Part, Away, AtHome, Opens}
@@ -40,4 +41,10 @@ pub record Others (mine : List Claim) (later : ℕ) (st su : Store) : Type 0 whe
   pub passes : Passes st su
   pub head : (l : Claim) (client : ℕ) → IsIn mine l → l.lock ≡ lock.Client client → Lasts later l → su.tally.head client ≡ st.tally.head client
   pub roots : (l : Claim) (tree : ℕ) → IsIn mine l → l.lock ≡ lock.Tree tree → Lasts later l → su.tally.roots tree ≡ st.tally.roots tree
-  pub leaf : (l : Claim) (tree : ℕ) → IsTree tree → IsIn mine l → l.lock ≡ lock.Page tree 1 → Lasts later l → su.tally.nodes tree 1 ≡ st.tally.nodes tree 1
+  pub links : (l : Claim) (tree : ℕ) → IsIn mine l → l.lock ≡ lock.Tree tree → Lasts later l → SameLinks st su tree
+  -- inner nodes, and pages that are absent
+  pub page : (l : Claim) (tree page : ℕ) → IsIn mine l → l.lock ≡ lock.Tree tree → Lasts later l → IsTreePage (st.tally.nodes tree) page
+      → su.tally.nodes tree page ≡ st.tally.nodes tree page
+  -- leaves, each under its own lock
+  pub leaf : (l : Claim) (tree page : ℕ) → IsIn mine l → l.lock ≡ lock.Page tree page → Lasts later l → IsLeafPage (st.tally.nodes tree) page
+      → su.tally.nodes tree page ≡ st.tally.nodes tree page

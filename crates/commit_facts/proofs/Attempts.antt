@@ -47,7 +47,7 @@ pub record IsRecordOf (x : Attempt) (place : ℕ) (r : AtomicRec) : Type 0 where
 pub record_of : (st : Store) (now : ℕ) (x : Attempt) (changes : List Noted) (records : List AtomicRec) (base : Head) → Routes st now x changes records base → (place : ℕ) (r : AtomicRec)
     → StandsAt records place r → IsRecordOf x place r
 record_of st now x changes records base routes place r there =
-    let of = record_at x.client base.epoch x.txn base changes place r (subst (λ rs. StandsAt rs place r) routes.records_are there) in
+    let of = record_at x.client base.epoch x.txn base changes routes.pages routes.paged place r (subst (λ rs. StandsAt rs place r) routes.records_are there) in
     record {
       is = record {
         client_is = ap (λ (q : AtomicRec). q.client) of.is;

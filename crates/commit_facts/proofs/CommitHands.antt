@@ -26,7 +26,7 @@ module _ (who : Caller) (s t : CloudState) (w : Writing) (reply : Answer) where
   deletes_hands None never = absurd never
 
   put_hands : w.home.lease.lock ≡ lock.Client w.home.client → Handles who s t (head_ask w) reply (w.home.lease ∷ []) (w.home.lease ∷ [])
-  put_hands held = record { owns = ((0, refl), tt); guarded = inl held; renewed = w.home.lease; renews = tt; own = λ x is. inl (is, tt) }
+  put_hands held = record { owns = ((0, refl), tt); guarded = λ lasts. inl held; renewed = w.home.lease; renews = tt; own = λ x is. inl (is, tt) }
 
   hands_at : (st : Store) (now : ℕ) (g : Home) (stage : Stage) → w.home.lease.lock ≡ lock.Client w.home.client → KnowsCommitAt stage st now w g → IsSoundAt stage w
       → Handles who s t (ask_at stage w) reply (w.home.lease ∷ []) (w.home.lease ∷ [])

@@ -33,12 +33,12 @@ module _ (who : Caller) (book : Book) (order : List Entry) (s t : CloudState) (p
   logging a None there never call = absurd never
 
   sending : SendsNext (store_of book order s) t.now w → (o : Option AtomicRec) → slice_get w.records w.place ≡ o → SendsRecord w o → IsCall who (send_ask w o) reply s t
-      → Outcome who book order s t parts (send_ask w o) (noted_at Sending w (send_ask w o)) (KnowsNext (next_at Sending w reply))
+      → Outcome who book order s t parts (w.home.lease ∷ []) (send_ask w o) (noted_at Sending w (send_ask w o)) (KnowsNext (next_at Sending w reply))
   sending a (Some r) there reads call = sending_outcome who book order s t parts w reply part g ready a r there reads call
   sending a None there never call = absurd never
 
   deleting : Deletes (store_of book order s) t.now w g → (o : Option ℕ) → slice_get w.ids w.place ≡ o → IsThere o → IsCall who (delete_ask w o) reply s t
-      → Outcome who book order s t parts (delete_ask w o) (noted_at Deleting w (delete_ask w o)) (KnowsNext (next_at Deleting w reply))
+      → Outcome who book order s t parts (w.home.lease ∷ []) (delete_ask w o) (noted_at Deleting w (delete_ask w o)) (KnowsNext (next_at Deleting w reply))
   deleting a (Some id) there is call = deleting_outcome who book order s t parts w reply part g ready a id there call
   deleting a None there never call = absurd never
 
@@ -54,6 +54,6 @@ module _ (who : Caller) (book : Book) (order : List Entry) (s t : CloudState) (p
 
 pub commit_outcome : (who : Caller) (book : Book) (order : List Entry) (s t : CloudState) (parts : Parts) (w : Writing) (reply : Answer) (part : Part)
     → Setting book order s t.now parts who.session (w.home.lease ∷ []) → parts who.session ≡ part → KnowsCommit (store_of book order s) t.now w part → IsSound w
-    → IsCall who (writing_ask w) reply s t → Outcome who book order s t parts (writing_ask w) (commit_note w (writing_ask w)) (KnowsNext (writing_next w reply))
+    → IsCall who (writing_ask w) reply s t → Outcome who book order s t parts (w.home.lease ∷ []) (writing_ask w) (commit_note w (writing_ask w)) (KnowsNext (writing_next w reply))
 commit_outcome who book order s t parts w reply part setting is k sound call =
     outcome_at who book order s t parts w reply part k.home (record { setting = setting; is = is; stands = stands_of (store_of book order s) t.now w part k }) w.stage k.at sound call

@@ -4,18 +4,22 @@ use Rattle.cloud_facts.specs.Others.{Passes, Others, IsOfPart, NoneJoins}
 use Rattle.cloud_facts.specs.Acting.{HasLeaseOf}
 use Rattle.cloud_facts.proofs.Copies.{copied_stays, log_stays}
 use Rattle.cloud_trait.specs.Claim.{Claim, Lasts}
-use Rattle.commit_facts.specs.Committing.{Attempt, attempt_of, IsOfAttempt, AreMessagesOf, Routes, HasOpened, AreSentOn, KnowsCommitAt, IsHomeOf, KnowsCommit}
+use Rattle.cloud_facts.proofs.OthersLemmas.{pruned_stays}
+use Rattle.commit_facts.specs.Committing.{IsLeafFor, AreLeavesFor, Attempt, attempt_of, IsOfAttempt, AreMessagesOf, Routes, HasOpened, AreSentOn, KnowsCommitAt, IsHomeOf, KnowsCommit}
 use Rattle.commit_facts.proofs.Attempts.{messages_stay}
 use Rattle.commit_writes.specs.declared.stage.Stage.{Stage}
 use Rattle.commit_writes.specs.declared.stage.Stage.TheVariants.{Waiting, Logging, Opening, Sending, Settling, Deleting, Finished}
 use Rattle.commit_writes.specs.Writing.{Writing}
+use Rattle.db_base.specs.Ids.{IsClient}
+use Rattle.db_base.specs.declared.change.Change.{Change}
+use Rattle.db_base.specs.declared.change.Change.TheVariants.{Insert, Update, Delete}
 use Rattle.db_base.specs.declared.names.Lock.TheVariants as lock
 use Rattle.head_codec.specs.declared.head.Head.{Head}
 use Rattle.head_codec.specs.declared.head.Phase.{Phase}
 use Rattle.head_codec.specs.declared.head.Phase.TheVariants.{Settled, Open}
 use Rattle.home_facts.specs.Homes.{Home, Part}
 use Rattle.log_codec.specs.declared.record.AtomicRec.{AtomicRec}
-use Rattle.store_book.specs.Growth.{PhaseRises, IsLater}
+use Rattle.store_book.specs.Growth.{PhaseRises, IsLater, Grows}
 use Rattle.store_book.specs.Records.{IsIn}
 use Rattle.store_book.specs.Tally.{Store}
 use Rattle.txn_buffer.specs.Noted.{Noted}
@@ -65,20 +69,38 @@ sent_others st su records upto p logged sent place r below there =
     let old = sent place r below there in
     (p.sent_on r (logged r (place, there)) old.0, copied_stays st su r p.grows old.1)
 
+-- ---- pages
+
+-- what was a link is one
+leaf_others : (st su : Store) (tree page : ℕ) (change : Change) → Grows st su → IsLeafFor st.book tree change page → IsLeafFor su.book tree change page
+leaf_others st su tree page (Insert key payload) grows leaf = tt
+leaf_others st su tree page (Update key payload) grows leaf =
+    record { link = leaf.link; linked = grows.links tree 0 leaf.link leaf.linked; page_is = leaf.page_is; low = leaf.low }
+leaf_others st su tree page (Delete key) grows leaf = tt
+
+pub leaves_others : (st su : Store) (changes : List Noted) (pages : List ℕ) → Grows st su → AreLeavesFor st.book changes pages → AreLeavesFor su.book changes pages
+leaves_others st su changes pages grows leaves place n page there paged = leaf_others st su n.tree page n.change grows (leaves place n page there paged)
+
+-- ---- before and behind the put that commits
+
 -- the store and the clock go on, and the newest head of the client stays while the lease lasts
 module _ (st su : Store) (now later : ℕ) (x : Attempt) (after : now ≤ later) (still : Lasts later x.lease → su.tally.head x.client ≡ st.tally.head x.client)
     (none : NoneOf x st su) where
   earlier : Lasts later x.lease → Lasts now x.lease
   earlier lasts = omega (arith, lasts, after)
 
-  pub routes_others : (changes : List Noted) (records : List AtomicRec) (base : Head) → Routes st now x changes records base → Routes su later x changes records base
-  routes_others changes records base a = record {
+  pub routes_others : IsClient x.client → Grows st su → (changes : List Noted) (records : List AtomicRec) (base : Head) → Routes st now x changes records base
+      → Routes su later x changes records base
+  routes_others is_client grows changes records base a = record {
     settled = a.settled;
     epoch_is = a.epoch_is;
     later = a.later;
     some = a.some;
+    pages = a.pages;
+    paged = a.paged;
+    leaves = λ lasts. leaves_others st su changes a.pages grows (a.leaves (earlier lasts));
     records_are = a.records_are;
-    newest = λ lasts. still lasts ∙ a.newest (earlier lasts);
+    newest = λ lasts. pruned_stays st su x.client base is_client grows (still lasts) (a.newest (earlier lasts));
     uncommitted = λ r is of. a.uncommitted r (none r is of) of;
   }
 
@@ -114,10 +136,10 @@ commit_others st su now later w part after o joins k =
 
     on : (stage : Stage) → KnowsCommitAt stage st now w k.home → KnowsCommitAt stage su later w k.home
     on Waiting never = never
-    on Logging a = record { routes = routes_others st su now later (attempt_of w) after still none w.changes w.records w.home.head a.routes; has = a.has; messages = messages a.messages }
+    on Logging a = record { routes = routes_others st su now later (attempt_of w) after still none k.client (o.passes).grows w.changes w.records w.home.head a.routes; has = a.has; messages = messages a.messages }
     on Opening a = record {
       base = a.base;
-      routes = routes_others st su now later (attempt_of w) after still none w.changes w.records a.base a.routes;
+      routes = routes_others st su now later (attempt_of w) after still none k.client (o.passes).grows w.changes w.records a.base a.routes;
       head = a.head;
       before = a.before;
       has = a.has;

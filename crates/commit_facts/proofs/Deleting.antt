@@ -1,5 +1,5 @@
 -- What a deletion of an ATOMIC message leaves.
-use Rattle.std.proofs.Common.{◌≡◌, ◌+◌, ◌⊎◌, inl, inr, ℕ, List, Some, refl}
+use Rattle.std.proofs.Common.{◌≡◌, ◌+◌, ◌⊎◌, inl, inr, ℕ, List, [], ◌∷◌, Some, refl}
 use Rattle.std.specs.Prelude.{slice_get}
 use Rattle.cloud_facts.specs.Acting.{Outcome}
 use Rattle.cloud_facts.specs.Call.{IsCall}
@@ -47,7 +47,7 @@ module _ (who : Caller) (book : Book) (order : List Entry) (s t : CloudState) (p
   su = after_log_mark client id st
 
   abbrev OutcomeOf : Ask → Type 0
-  OutcomeOf q = Outcome who book order s t parts q (noted_at Deleting w q) (KnowsNext step)
+  OutcomeOf q = Outcome who book order s t parts (w.home.lease ∷ []) q (noted_at Deleting w q) (KnowsNext step)
 
   after_homes : HomesHold su.tally t.now (at who.session part parts)
   after_homes =
@@ -69,11 +69,11 @@ module _ (who : Caller) (book : Book) (order : List Entry) (s t : CloudState) (p
     where
       on : (t ≡ called who t.now s) ⊎ Lands who ask (called who t.now s) t → OutcomeOf ask
       on (inl e) =
-          stays who book order s t parts ask (noted_at Deleting w ask) (KnowsNext step) e (ready.setting).cloud (ready.setting).lone (part_next step part)
+          stays who book order s t parts (w.home.lease ∷ []) ask (noted_at Deleting w ask) (KnowsNext step) e (ready.setting).cloud (part_next step part)
           (next_homes st.tally t.now parts who.session part step (homes who book order s t.now parts w part g ready))
           (deleted_known st t.now w part (done_of reply) (deletes_at st t.now w part g ready.stands (w.place + 1) a))
       on (inr lands) =
-          other_landed who book order s t parts ask (noted_at Deleting w ask) (KnowsNext step) su lands (ready.setting).cloud (landing.marks_log client id (marks st t.now w g a id there)) tt tt
-          (ready.setting).lone (part_next step part) (next_homes su.tally t.now parts who.session part step after_homes)
+          other_landed who book order s t parts (w.home.lease ∷ []) ask (noted_at Deleting w ask) (KnowsNext step) su lands (ready.setting).cloud (landing.marks_log client id (marks st t.now w g a id there)) tt tt tt
+          (part_next step part) (next_homes su.tally t.now parts who.session part step after_homes)
           (deleted_known su t.now w part (done_of reply) (deletes_at su t.now w part g ready.stands (w.place + 1) still))
           (λ look new. refl) refl

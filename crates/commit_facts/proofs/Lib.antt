@@ -17,3 +17,4 @@ pub mod CommitLemmas
 pub mod HeadPuts
 pub mod CommitHands
 pub mod Begins
+pub mod CommitLeases

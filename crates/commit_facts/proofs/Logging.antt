@@ -12,7 +12,7 @@ use Rattle.cloud_trait.specs.Ask.{Send, Lands}
 use Rattle.cloud_trait.specs.Caller.{Caller}
 use Rattle.cloud_trait.specs.State.{CloudState, called}
 use Rattle.cloud_trait.specs.Views.{sent_of}
-use Rattle.commit_facts.specs.Committing.{attempt_of, IsOfAttempt, IsMessageOf, AreMessagesOf, HasSent, LogsNext, KnowsNext}
+use Rattle.commit_facts.specs.Committing.{attempt_of, IsOfAttempt, IsMessageOf, AreMessagesOf, Routes, HasSent, LogsNext, KnowsNext}
 use Rattle.commit_facts.specs.Noting.{noted_at}
 use Rattle.commit_facts.proofs.Attempts.{take_next, record_of, messages_stay}
 use Rattle.commit_facts.proofs.CommitOthers.{routes_others}
@@ -130,22 +130,26 @@ module _ (who : Caller) (book : Book) (order : List Entry) (s t : CloudState) (p
   pub logging_outcome : OutcomeAt who book order s t parts w reply Logging
   logging_outcome = on (send_cases who (Atomic client) w.out reply s t call)
     where
-      left : (u : Store) (p : Part) (h : Home) → Stands (attempt_of w) w.changes p h → u.tally.head client ≡ st.tally.head client
+      left : (u : Store) (p : Part) (h : Home) → Stands (attempt_of w) w.changes p h → Routes u t.now (attempt_of w) w.changes w.records w.home.head
           → KnowsHome u t.now client w.home.lease w.home.head w.home.attempt p
-      left u p h stands same =
-          knows_home u t.now (attempt_of w) w.changes p h w.home.head stands refl (let e = (a.routes).later in omega (arith, e)) (a.routes).settled
-          (λ lasts. same ∙ (a.routes).newest lasts)
+      left u p h stands routes = knows_home u t.now (attempt_of w) w.changes p h w.home.head stands refl (let e = routes.later in omega (arith, e)) routes.settled routes.newest
+
+      -- the records are routed as before
+      routes_after : Routes su t.now (attempt_of w) w.changes w.records w.home.head
+      routes_after =
+          routes_others st su t.now t.now (attempt_of w) (omega arith) (λ lasts. refl) (λ q is of. is) (ready.stands).client (logged_grows st client post) w.changes w.records
+          w.home.head a.routes
 
       on : ((t ≡ called who t.now s) × ((id : ℕ) → sent_of reply ≡ Ok id → ⊥)) ⊎ Lands who (log_ask w) (called who t.now s) t → OutcomeAt who book order s t parts w reply Logging
       on (inl p) =
-          stays who book order s t parts (log_ask w) (noted_at Logging w (log_ask w)) (KnowsNext step) p.0 (ready.setting).cloud (ready.setting).lone (part_next step part)
+          stays who book order s t parts (w.home.lease ∷ []) (log_ask w) (noted_at Logging w (log_ask w)) (KnowsNext step) p.0 (ready.setting).cloud (part_next step part)
           (next_homes st.tally t.now parts who.session part step (homes who book order s t.now parts w part g ready))
-          (logged_known st t.now w part (sent_of reply) (λ id done. absurd (p.1 id done)) (left st part g ready.stands refl))
+          (logged_known st t.now w part (sent_of reply) (λ id done. absurd (p.1 id done)) (left st part g ready.stands a.routes))
       on (inr lands) =
-          other_landed who book order s t parts (log_ask w) (noted_at Logging w (log_ask w)) (KnowsNext step) su lands (ready.setting).cloud (landing.logs client w.out r sends) tt tt (ready.setting).lone
+          other_landed who book order s t parts (w.home.lease ∷ []) (log_ask w) (noted_at Logging w (log_ask w)) (KnowsNext step) su lands (ready.setting).cloud (landing.logs client w.out r sends) tt tt tt
           (part_next step after) (next_homes su.tally t.now parts who.session after step after_homes)
           (logged_known su t.now w after (sent_of reply)
           (λ id done. logs_at su t.now (record w { ids = w.ids ++ id ∷ [] }) after (with_sent g r) after_stands (w.place + 1)
-          (routes_others st su t.now t.now (attempt_of w) (omega arith) (λ lasts. refl) (λ q is of. is) w.changes w.records w.home.head a.routes) has (messages id done))
-          (left su after (with_sent g r) after_stands refl))
+          routes_after has (messages id done))
+          (left su after (with_sent g r) after_stands routes_after))
           (λ look new. refl) refl

@@ -1,7 +1,8 @@
 -- What a commit knows where an answer leads.
 use Rattle.std.proofs.Common.{◌≡◌, ◌≤◌, ◌+◌, ℕ, List, [], ◌∷◌, ◌++◌, take, Option, Some, None, Result, Ok, Err, refl, sym, ap, subst, ◌∙◌, arith}
 use Rattle.std.specs.Prelude.{slice_get}
-use Rattle.cloud_facts.specs.Acting.{KnowsHome}
+use Rattle.cloud_facts.specs.Acting.{IsPruned, KnowsHome}
+use Rattle.cloud_facts.proofs.OthersLemmas.{pruned_itself}
 use Rattle.cloud_trait.specs.Claim.{Lasts}
 use Rattle.cloud_trait.specs.Machine.{Next, Goes, Ends, Stops}
 use Rattle.commit_facts.specs.Committing.{MayCommit, Attempt, attempt_of, AreMessagesOf, Routes, HasSent, HasOpened, AreSentOn, Deletes, IsHomeOf, KnowsCommitAt, KnowsCommit, KnowsNext}
@@ -78,7 +79,7 @@ knows_at u now w part g stands k = record { client = stands.client; lock = stand
 
 -- a settled head of the epoch is left
 pub knows_home : (u : Store) (now : ℕ) (x : Attempt) (changes : List Noted) (part : Part) (g : Home) (head : Head) → Stands x changes part g → head.epoch ≡ x.epoch → head.txn ≤ x.txn
-    → head.phase ≡ phase.Settled → (Lasts now x.lease → u.tally.head x.client ≡ head) → KnowsHome u now x.client x.lease head x.txn part
+    → head.phase ≡ phase.Settled → (Lasts now x.lease → IsPruned u.tally x.client (u.tally.head x.client) head) → KnowsHome u now x.client x.lease head x.txn part
 knows_home u now x changes part g head stands epoch within settled newest = record {
   is_client = stands.client;
   lock_is = stands.lock;
@@ -163,7 +164,8 @@ module _ (u : Store) (now : ℕ) (w : Writing) (part : Part) (g : Home) (stands 
     at = record { settled = a.settled; txn_is = a.txn_is; past = a.past; newest = a.newest; needed = a.needed; messages = a.messages };
   }
   delete_next n None a =
-      knows_home u now (attempt_of w) w.changes part g w.home.head stands refl (let e = a.txn_is in omega (arith, e)) a.settled a.newest
+      knows_home u now (attempt_of w) w.changes part g w.home.head stands refl (let e = a.txn_is in omega (arith, e)) a.settled
+      (λ lasts. subst (λ (h : Head). IsPruned u.tally w.home.client h w.home.head) (sym (a.newest lasts)) (pruned_itself u.tally w.home.client w.home.head))
 
   pub deletes_at : (n : ℕ) → Deletes u now w g → Known (delete_at w n) u now part
   deletes_at n a = delete_next n (slice_get w.ids n) a

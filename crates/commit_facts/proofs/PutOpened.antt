@@ -1,6 +1,7 @@
 -- What the put that commits leaves.
-use Rattle.std.proofs.Common.{◌≡◌, ◌<◌, ◌⊎◌, inl, inr, ℕ, List, ◌++◌, map, Some, None, Ok, refl, sym, ap, subst, ◌∙◌, arith}
+use Rattle.std.proofs.Common.{◌≡◌, ◌<◌, ◌⊎◌, inl, inr, ℕ, List, [], ◌∷◌, ◌++◌, map, Some, None, Ok, refl, sym, ap, subst, ◌∙◌, arith}
 use Rattle.std.proofs.lemmas.List.{map-append}
+use Rattle.cloud_facts.specs.Acting.{IsPruned}
 use Rattle.cloud_facts.specs.Call.{IsCall}
 use Rattle.cloud_facts.specs.Looks.{audit_of}
 use Rattle.cloud_facts.proofs.Calls.{put_cases, put_lasts, put_late}
@@ -56,7 +57,7 @@ module _ (who : Caller) (book : Book) (order : List Entry) (s t : CloudState) (p
   step = next_at Opening w reply
 
   -- the head as it was is left where the put was late
-  left : (u : Store) → (Lasts t.now w.home.lease → u.tally.head client ≡ a.base) → IsLeft u t.now w part (restored w.home.head w.before)
+  left : (u : Store) → (Lasts t.now w.home.lease → IsPruned u.tally client (u.tally.head client) a.base) → IsLeft u t.now w part (restored w.home.head w.before)
   left u newest =
       subst (λ h. IsLeft u t.now w part h) (sym (restored_is w a.base a.head a.before))
       (knows_home u t.now (attempt_of w) w.changes part g a.base ready.stands (a.routes).epoch_is (let e = (a.routes).later in omega (arith, e)) (a.routes).settled newest)
@@ -67,27 +68,20 @@ module _ (who : Caller) (book : Book) (order : List Entry) (s t : CloudState) (p
     abbrev before : Head
     before = st.tally.head client
 
-    newest_is : before ≡ a.base
-    newest_is = (a.routes).newest lasts
+    pruned : IsPruned st.tally client before a.base
+    pruned = (a.routes).newest lasts
 
     abbrev recs : List AtomicRec
-    recs = records client before.epoch w.home.attempt before w.changes
+    recs = records client (a.base).epoch w.home.attempt a.base w.changes (a.routes).pages
 
     records_are : w.records ≡ recs
-    records_are = (a.routes).records_are ∙ sym (ap (λ (b : Head). records client b.epoch w.home.attempt b w.changes) newest_is)
+    records_are = (a.routes).records_are
 
-    head_is : w.home.head ≡ opened_head before w.home.attempt recs
-    head_is =
-        a.head ∙ (ap (λ (b : Head). opened_head b w.home.attempt w.records) (sym newest_is) ∙ ap (λ rs. opened_head before w.home.attempt rs) records_are)
-
-    settled : before.phase ≡ phase.Settled
-    settled = ap (λ (b : Head). b.phase) newest_is ∙ (a.routes).settled
-
-    later : before.txn < w.home.attempt
-    later = let same : before.txn ≡ (a.base).txn = ap (λ (b : Head). b.txn) newest_is in let old = (a.routes).later in omega (arith, same, old)
+    head_is : w.home.head ≡ opened_head a.base w.home.attempt recs
+    head_is = a.head ∙ ap (λ rs. opened_head a.base w.home.attempt rs) records_are
 
     before_epoch : before.epoch ≡ w.home.head.epoch
-    before_epoch = ap (λ (b : Head). b.epoch) newest_is ∙ (a.routes).epoch_is
+    before_epoch = sym pruned.epoch ∙ (a.routes).epoch_is
 
     same_client : g.client ≡ client
     same_client = ((ready.stands).home).client_is
@@ -100,16 +94,17 @@ module _ (who : Caller) (book : Book) (order : List Entry) (s t : CloudState) (p
         (subst (λ rs. IsIn rs r) (sym records_are ∙ sym (a.has).needed) is))
 
     -- and nothing else of the transaction was sent there
-    own : (id : ℕ) (q : AtomicRec) → IsLogMessage (st.tally.logged client) id q → q.epoch ≡ before.epoch → q.txn ≡ w.home.attempt → IsIn recs q
+    own : (id : ℕ) (q : AtomicRec) → IsLogMessage (st.tally.logged client) id q → q.epoch ≡ (a.base).epoch → q.txn ≡ w.home.attempt → IsIn recs q
     own id q m epoch txn =
         subst (λ rs. IsIn rs q) ((a.has).sent ∙ records_are)
         ((holds who book order s t.now parts w part g ready).own id q (subst (λ c. IsLogMessage (st.tally.logged c) id q) (sym same_client) m)
-        (epoch ∙ (before_epoch ∙ sym ((ready.stands).home).epoch_is)) (txn ∙ sym ((ready.stands).home).attempt_is))
+        (epoch ∙ ((a.routes).epoch_is ∙ sym ((ready.stands).home).epoch_is)) (txn ∙ sym ((ready.stands).home).attempt_is))
 
     opens_recs : Opens st client w.home.head recs
     opens_recs =
-        opened.opens st client w.home.attempt w.changes w.home.head (ready.stands).client (ready.setting).lone ((ready.setting).cloud).holds.numbers
-        (((ready.setting).cloud).holds.pends.heads client (ready.stands).client) (ready.stands).changes_may (a.routes).some settled later head_is waits own
+        opened.opens st client w.home.attempt w.changes (a.routes).pages a.base w.home.head (ready.stands).client ((ready.setting).cloud).holds.numbers
+        (((ready.setting).cloud).holds.pends.heads client (ready.stands).client) (ready.stands).changes_may (a.routes).some (a.routes).paged ((a.routes).leaves lasts) pruned
+        (a.routes).settled (a.routes).later head_is waits own
 
     abbrev su : Store
     su = after_head client w.home.head recs st
@@ -149,14 +144,15 @@ module _ (who : Caller) (book : Book) (order : List Entry) (s t : CloudState) (p
         entries : entries_of book.log ++ map (committed_entry client w.home.head.epoch w.home.head.txn) w.changes ≡ entries_of (book.log ++ recs)
         entries =
             ap (λ es. entries_of book.log ++ es)
-            (ap (λ (h : Head). map (committed_entry client h.epoch h.txn) w.changes) head_is ∙ sym (opened.entries_are client before.epoch w.home.attempt before w.changes))
+            (ap (λ (h : Head). map (committed_entry client h.epoch h.txn) w.changes) head_is
+            ∙ sym (opened.entries_are client (a.base).epoch w.home.attempt a.base w.changes (a.routes).pages (a.routes).paged))
             ∙ sym (map-append entry_of book.log recs)
 
     opened_outcome : Lands who (head_ask w) (called who t.now s) t → OutcomeAt who book order s t parts w reply Opening
     opened_outcome lands =
-        put_landed who book order s t parts (noted_at Opening w (head_ask w)) (KnowsNext step) (object.Head client) w.out w.home.lease None su lands (ready.setting).cloud
+        put_landed who book order s t parts (w.home.lease ∷ []) (noted_at Opening w (head_ask w)) (KnowsNext step) (object.Head client) w.out w.home.lease None su lands (ready.setting).cloud
         (landing.opens client w.home.head recs w.out w.home.lease None sound opens_recs) tt
-        (g, at_home who book order s t.now parts w part g ready, sym same_client, sym ((ready.stands).home).epoch_is) (ready.setting).lone (part_next step part)
+        (g, at_home who book order s t.now parts w part g ready, sym same_client, sym ((ready.stands).home).epoch_is) tt (part_next step part)
         (next_homes su.tally t.now parts who.session part step after_homes)
         (opened_known su t.now w part (done_of reply)
         (λ done. sends_at su t.now w part g ready.stands 0 has_opened (λ place r less there. absurd (omega (arith, less))) messages)
@@ -168,7 +164,7 @@ module _ (who : Caller) (book : Book) (order : List Entry) (s t : CloudState) (p
     where
       on : ((t ≡ called who t.now s) × (done_of reply ≡ Ok tt → ⊥)) ⊎ Lands who (head_ask w) (called who t.now s) t → OutcomeAt who book order s t parts w reply Opening
       on (inl p) =
-          stays who book order s t parts (head_ask w) (noted_at Opening w (head_ask w)) (KnowsNext step) p.0 (ready.setting).cloud (ready.setting).lone (part_next step part)
+          stays who book order s t parts (w.home.lease ∷ []) (head_ask w) (noted_at Opening w (head_ask w)) (KnowsNext step) p.0 (ready.setting).cloud (part_next step part)
           (next_homes st.tally t.now parts who.session part step (homes who book order s t.now parts w part g ready))
           (opened_known st t.now w part (done_of reply) (λ done. absurd (p.1 done)) (λ end late e. left st (a.routes).newest))
       on (inr lands) = opened_outcome (put_lasts who (object.Head client) w.out w.home.lease None (called who t.now s) t lands) lands

@@ -1,5 +1,5 @@
 -- What the put that settles leaves.
-use Rattle.std.proofs.Common.{◌≡◌, ◌⊎◌, inl, inr, ℕ, List, [], Some, None, Ok, refl, sym, ap, subst, ◌∙◌}
+use Rattle.std.proofs.Common.{◌≡◌, ◌⊎◌, inl, inr, ℕ, List, [], ◌∷◌, Some, None, Ok, refl, sym, ap, subst, ◌∙◌}
 use Rattle.std.proofs.lemmas.List.{append-nil}
 use Rattle.cloud_facts.specs.Call.{IsCall}
 use Rattle.cloud_facts.specs.Looks.{audit_of}
@@ -105,8 +105,8 @@ module _ (who : Caller) (book : Book) (order : List Entry) (s t : CloudState) (p
 
     settled_outcome : Lands who (head_ask w) (called who t.now s) t → OutcomeAt who book order s t parts w reply Settling
     settled_outcome lands =
-        put_landed who book order s t parts (noted_at Settling w (head_ask w)) (KnowsNext step) (object.Head client) w.out w.home.lease None su lands (ready.setting).cloud
-        (landing.settles client w.home.head w.out w.home.lease None sound settles) tt tt (ready.setting).lone (part_next step (AtHome rested))
+        put_landed who book order s t parts (w.home.lease ∷ []) (noted_at Settling w (head_ask w)) (KnowsNext step) (object.Head client) w.out w.home.lease None su lands (ready.setting).cloud
+        (landing.settles client w.home.head w.out w.home.lease None sound settles) tt tt tt (part_next step (AtHome rested))
         (next_homes su.tally t.now parts who.session (AtHome rested) step after_homes)
         (settled_known su t.now w (AtHome rested) (done_of reply) (λ done. deletes_at su t.now w (AtHome rested) rested after_stands 0 deletes))
         noted
@@ -116,7 +116,7 @@ module _ (who : Caller) (book : Book) (order : List Entry) (s t : CloudState) (p
     where
       on : ((t ≡ called who t.now s) × (done_of reply ≡ Ok tt → ⊥)) ⊎ Lands who (head_ask w) (called who t.now s) t → OutcomeAt who book order s t parts w reply Settling
       on (inl p) =
-          stays who book order s t parts (head_ask w) (noted_at Settling w (head_ask w)) (KnowsNext step) p.0 (ready.setting).cloud (ready.setting).lone (part_next step part)
+          stays who book order s t parts (w.home.lease ∷ []) (head_ask w) (noted_at Settling w (head_ask w)) (KnowsNext step) p.0 (ready.setting).cloud (part_next step part)
           (next_homes st.tally t.now parts who.session part step (homes who book order s t.now parts w part g ready))
           (settled_known st t.now w part (done_of reply) (λ done. absurd (p.1 done)))
       on (inr lands) = settled_outcome (put_lasts who (object.Head client) w.out w.home.lease None (called who t.now s) t lands) lands

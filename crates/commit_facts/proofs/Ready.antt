@@ -25,7 +25,7 @@ pub record Ready (who : Caller) (book : Book) (order : List Entry) (s : CloudSta
 
 -- the outcome of the call of a stage
 abbrev pub OutcomeAt : Caller → Book → List Entry → CloudState → CloudState → Parts → Writing → Answer → Stage → Type 0
-OutcomeAt who book order s t parts w reply stage = Outcome who book order s t parts (ask_at stage w) (noted_at stage w (ask_at stage w)) (KnowsNext (next_at stage w reply))
+OutcomeAt who book order s t parts w reply stage = Outcome who book order s t parts (w.home.lease ∷ []) (ask_at stage w) (noted_at stage w (ask_at stage w)) (KnowsNext (next_at stage w reply))
 
 module _ (who : Caller) (book : Book) (order : List Entry) (s : CloudState) (now : ℕ) (parts : Parts) (w : Writing) (part : Part) (g : Home)
     (ready : Ready who book order s now parts w part g) where

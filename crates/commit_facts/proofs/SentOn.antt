@@ -1,5 +1,5 @@
 -- What a send to a pending update queue leaves.
-use Rattle.std.proofs.Common.{◌≡◌, ◌≤◌, ◌<◌, ◌+◌, ◌⊎◌, inl, inr, ℕ, List, Some, Ok, refl, sym, ap, subst, ◌∙◌, arith}
+use Rattle.std.proofs.Common.{◌≡◌, ◌≤◌, ◌<◌, ◌+◌, ◌⊎◌, inl, inr, ℕ, List, [], ◌∷◌, Some, Ok, refl, sym, ap, subst, ◌∙◌, arith}
 use Rattle.std.specs.Prelude.{slice_get}
 use Rattle.std.proofs.lemmas.Bool.{cases_lt}
 use Rattle.cloud_facts.specs.Call.{IsCall}
@@ -53,7 +53,7 @@ module _ (who : Caller) (book : Book) (order : List Entry) (s t : CloudState) (p
   send = Send (queue_of r.tree r.page) w.out
 
   abbrev OutcomeOf : Ask → Type 0
-  OutcomeOf ask = Outcome who book order s t parts ask (noted_at Sending w ask) (KnowsNext step)
+  OutcomeOf ask = Outcome who book order s t parts (w.home.lease ∷ []) ask (noted_at Sending w ask) (KnowsNext step)
 
   is_logged : (q : AtomicRec) → IsIn w.records q → IsIn book.log q
   is_logged q is = ((a.has).logged q is).0
@@ -86,11 +86,11 @@ module _ (who : Caller) (book : Book) (order : List Entry) (s t : CloudState) (p
     where
       on : ((t ≡ called who t.now s) × ((id : ℕ) → sent_of reply ≡ Ok id → ⊥)) ⊎ Lands who send (called who t.now s) t → OutcomeOf send
       on (inl p) =
-          stays who book order s t parts send (noted_at Sending w send) (KnowsNext step) p.0 (ready.setting).cloud (ready.setting).lone (part_next step part)
+          stays who book order s t parts (w.home.lease ∷ []) send (noted_at Sending w send) (KnowsNext step) p.0 (ready.setting).cloud (part_next step part)
           (next_homes st.tally t.now parts who.session part step (homes who book order s t.now parts w part g ready))
           (sent_known st t.now w part (sent_of reply) (λ id done. absurd (p.1 id done)))
       on (inr lands) =
-          other_landed who book order s t parts send (noted_at Sending w send) (KnowsNext step) su lands (ready.setting).cloud lands_there tt tt (ready.setting).lone (part_next step part)
+          other_landed who book order s t parts (w.home.lease ∷ []) send (noted_at Sending w send) (KnowsNext step) su lands (ready.setting).cloud lands_there tt tt tt (part_next step part)
           (next_homes su.tally t.now parts who.session part step (aside_keeps st.tally su.tally t.now (at who.session part parts) refl refl (homes who book order s t.now parts w part g ready)))
           (sent_known su t.now w part (sent_of reply)
           (λ id done. sends_at su t.now w part g ready.stands (w.place + 1)

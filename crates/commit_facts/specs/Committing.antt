@@ -1,29 +1,33 @@
 -- What a commit knows of the cloud at each of its calls.
-use Rattle.std.specs.Prelude.{ℕ, ◌≡◌, ◌<◌, ◌≤◌, ◌⊎◌, List, [], length, take}
-use Rattle.cloud_facts.specs.Acting.{KnowsHome}
+use Rattle.std.specs.Prelude.{ℕ, ◌≡◌, ◌+◌, ◌<◌, ◌≤◌, ◌⊎◌, List, [], length, take}
+use Rattle.cloud_facts.specs.Acting.{IsPruned, KnowsHome}
 use Rattle.cloud_facts.specs.Others.{WasSentOn}
 use Rattle.cloud_trait.specs.Claim.{Claim, Lasts}
 use Rattle.cloud_trait.specs.Machine.{Next, Goes, Ends, Stops}
 use Rattle.commit_writes.specs.declared.stage.Stage.{Stage}
 use Rattle.commit_writes.specs.declared.stage.Stage.TheVariants.{Waiting, Logging, Opening, Sending, Settling, Deleting, Finished}
-use Rattle.commit_writes.specs.Writing.{Writing, before_of, first_leaves}
+use Rattle.commit_writes.specs.Writing.{Writing, before_of}
 use Rattle.db_base.specs.Change.{IsChange}
 use Rattle.db_base.specs.Ids.{IsClient, IsTree}
+use Rattle.db_base.specs.declared.change.Change.{Change}
+use Rattle.db_base.specs.declared.change.Change.TheVariants.{Insert, Update, Delete}
 use Rattle.db_base.specs.declared.names.Lock.TheVariants as lock
 use Rattle.db_base.specs.declared.trouble.CommitAnswer.{CommitAnswer}
 use Rattle.db_base.specs.declared.trouble.CommitAnswer.TheVariants.{Committed, NotCommitted, InDoubt, CommittedOpen}
 use Rattle.head_codec.specs.declared.head.Head.{Head}
 use Rattle.head_codec.specs.declared.head.Phase.TheVariants.{Settled, Open}
-use Rattle.home_facts.specs.Homes.{Home, Part, Away, AtHome}
+use Rattle.home_facts.specs.Homes.{Home, Part, Away, AtHome, Parts, HomesHold}
 use Rattle.left_facts.specs.Left.{IsCopied}
 use Rattle.log_codec.specs.declared.record.AtomicRec.{AtomicRec}
 use Rattle.recover_run.specs.declared.home.Home.{Home as Held}
 use Rattle.route_plan.specs.Heads.{opened_head, settled_head}
 use Rattle.route_plan.specs.Route.{routed}
+use Rattle.store_book.specs.Book.{Book}
 use Rattle.store_book.specs.Growth.{IsLater}
 use Rattle.store_book.specs.Messages.{IsLogMessage}
+use Rattle.store_book.specs.Premises.{IsLeafAtMost}
 use Rattle.store_book.specs.Records.{StandsAt, IsIn}
-use Rattle.store_book.specs.Tally.{Store}
+use Rattle.store_book.specs.Tally.{Store, at}
 use Rattle.txn_buffer.specs.Noted.{Noted, AreNoted}
 
 -- changes that may be committed: at most 200, one for each tree and key, each of a tree and with a key and a payload
@@ -60,15 +64,35 @@ AreMessagesOf st x ids = (id : ℕ) → IsIn ids id → IsMessageOf st x id
 
 -- ---- before the put that commits
 
--- the records are those of the changes behind a settled head, which is the newest while the lease lasts, and none of them is committed
+-- an update goes to a leaf of the tree's chain whose low key is not above its key; other changes go to no leaf
+abbrev pub IsLeafFor : Book → ℕ → Change → ℕ → Type 0
+IsLeafFor book tree (Insert key payload) page = Unit {0}
+IsLeafFor book tree (Update key payload) page = IsLeafAtMost book tree page key
+IsLeafFor book tree (Delete key) page = Unit {0}
+
+-- pages are so for the changes at their places
+abbrev pub AreLeavesFor : Book → List Noted → List ℕ → Type 0
+AreLeavesFor book changes pages = (place : ℕ) (n : Noted) (page : ℕ) → StandsAt changes place n → StandsAt pages place page → IsLeafFor book n.tree n.change page
+
+-- the records are those of the changes, each with its page, behind a settled head, and none of them is committed; while the lease lasts the
+-- pages are those of leaves, and the head is the newest but for pruned entries
 pub record Routes (st : Store) (now : ℕ) (x : Attempt) (changes : List Noted) (records : List AtomicRec) (base : Head) : Type 0 where
   pub settled : base.phase ≡ Settled
   pub epoch_is : base.epoch ≡ x.epoch
   pub later : base.txn < x.txn
   pub some : 1 ≤ length changes
-  pub records_are : records ≡ routed x.client base.epoch x.txn base changes (first_leaves changes)
-  pub newest : Lasts now x.lease → st.tally.head x.client ≡ base
+  pub pages : List ℕ
+  pub paged : length changes ≤ length pages
+  pub leaves : Lasts now x.lease → AreLeavesFor st.book changes pages
+  pub records_are : records ≡ routed x.client base.epoch x.txn base changes pages
+  pub newest : Lasts now x.lease → IsPruned st.tally x.client (st.tally.head x.client) base
   pub uncommitted : (r : AtomicRec) → IsIn st.book.log r → IsOfAttempt x r → ⊥
+
+-- a home that took the next attempt number, and wrote nothing of that transaction yet
+pub record KnowsTaken (st : Store) (now : ℕ) (held : Held) (part : Part) : Type 0 where
+  pub before : ℕ
+  pub taken : held.attempt ≡ before + 1
+  pub home : KnowsHome st now held.client held.lease held.head before part
 
 -- a home has sent these records of its last transaction to the ATOMIC queue, and needs them there
 pub record HasSent (g : Home) (records : List AtomicRec) : Type 0 where
@@ -169,3 +193,9 @@ abbrev pub KnowsNext : Next Writing CommitAnswer → Store → ℕ → Part → 
 KnowsNext (Goes w) st now part = KnowsCommit st now w part
 KnowsNext (Ends w a) st now part = KnowsEnd st now w.home a part
 KnowsNext (Stops w t) st now part = part ≡ Away
+
+-- what is reached without a call: a part of the session, and this is known with it
+pub record Reaches (st : Store) (now : ℕ) (parts : Parts) (session : ℕ) (Knows : Store → ℕ → Part → Type 0) : Type 0 where
+  pub part : Part
+  pub homes : HomesHold st.tally now (at session part parts)
+  pub knows : Knows st now part

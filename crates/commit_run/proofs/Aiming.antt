@@ -1,5 +1,5 @@
 -- A walk keeps its tree and key, and one that ends does so at the leaf that its newest get answered.
-use Rattle.std.proofs.Common.{◌≡◌, ℕ, zero, suc, ◌-◌, Bool, true, false, List, ◌∷◌, Option, Some, None, Result, Ok, Err, unwrap_or, refl, ap, sym, subst, ◌∙◌}
+use Rattle.std.proofs.Common.{◌≡◌, ℕ, zero, suc, ◌-◌, Bool, true, false, List, Option, Some, None, Result, Ok, Err, unwrap_or, refl, subst}
 use Rattle.std.specs.Prelude.{if◌then◌else◌, IfSome, ◌==◌}
 use Rattle.std.specs.Option.{option_map}
 use Rattle.byte_format.specs.Order.{bytes_same}

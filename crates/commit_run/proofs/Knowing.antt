@@ -1,5 +1,5 @@
 -- What is known of a commit at each of its calls, by its calls so far.
-use Rattle.std.proofs.Common.{◌≡◌, ℕ, ◌≤◌, ◌++◌, List, length, Some}
+use Rattle.std.proofs.Common.{◌≡◌, ℕ, ◌++◌, List, length, Some}
 use Rattle.std.specs.Prelude.{slice_get, Option}
 use Rattle.std.specs.List.{AllByRecursion}
 use Rattle.db_base.specs.declared.names.ObjName.TheVariants as object

@@ -1,15 +1,13 @@
 -- Where turns of a walk and of the writes lead a commit.
-use Rattle.std.proofs.Common.{◌≡◌, ◌≢◌, ℕ, ◌≤◌, ◌<◌, length, Bool, true, false, refl, ap, sym, subst, ◌∙◌}
-use Rattle.db_base.specs.declared.trouble.Trouble.{Trouble}
+use Rattle.std.proofs.Common.{◌≡◌, ℕ, Bool, true, false, refl, ap, sym, subst, ◌∙◌}
 use Rattle.db_base.specs.declared.trouble.Trouble.TheVariants as trouble
 use Rattle.db_base.specs.declared.trouble.CommitAnswer.{CommitAnswer}
-use Rattle.head_codec.specs.declared.head.Head.{Head}
 use Rattle.cloud_trait.specs.declared.answer.Answer.{Answer}
 use Rattle.cloud_trait.specs.declared.turn.Turn.{Turn}
 use Rattle.cloud_trait.specs.declared.turn.Turn.TheVariants.{More, Ended, Stopped}
 use Rattle.cloud_trait.specs.Caller.{Caller}
 use Rattle.cloud_trait.specs.Seen.{Seen}
-use Rattle.cloud_trait.specs.Machine.{Next, Goes, Ends, Stops, LeadsBy, Took, Steps}
+use Rattle.cloud_trait.specs.Machine.{Next, LeadsBy, Took, Steps}
 use Rattle.recover_run.specs.declared.home.Home.{Home}
 use Rattle.page_cache.specs.Cache.{Cache}
 use Rattle.tree_walk.specs.Moves.{Moves}
@@ -17,7 +15,6 @@ use Rattle.tree_walk.specs.Walk.{Walk, walk_next}
 use Rattle.tree_walk.specs.Walk.{asks as walk_asks, KeepsNothing}
 use Rattle.commit_writes.specs.Writing.{Writing, with_head, writing_ask, writing_next}
 use Rattle.commit_writes.specs.Writing.{KeepsHome as KeepsWritten}
-use Rattle.commit_run.specs.declared.hand.Hand.{Hand}
 use Rattle.commit_run.specs.declared.hand.Hand.TheVariants.{Writes, First, Change}
 use Rattle.commit_run.specs.Draft.{Draft}
 use Rattle.commit_run.specs.Run.{Run, asks, run_next, held, written, wrote, by_turn, walk_turned, Led, Keeps, KeepsHome, home_of}

@@ -5,5 +5,9 @@ pub mod Served
 pub mod Holding
 pub mod Knowing
 pub mod Planning
+pub mod Finding
+pub mod Ending
 pub mod Walked
 pub mod Meaning
+pub mod Stopping
+pub mod Causing

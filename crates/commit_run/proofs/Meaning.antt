@@ -1,5 +1,5 @@
 -- What a step of a commit means by its whole run.
-use Rattle.std.proofs.Common.{◌≡◌, ◌≢◌, ◌≤◌, ℕ, Bool, true, false, List, [], ◌∷◌, ◌++◌, length, Option, Some, None, refl, ap, sym, subst, ◌∙◌, inl, inr, ◌⊎◌, arith}
+use Rattle.std.proofs.Common.{◌≡◌, ◌≢◌, ℕ, Bool, true, false, List, [], ◌∷◌, ◌++◌, Option, Some, None, refl, ap, sym, subst, ◌∙◌, inl, inr, arith}
 use Rattle.std.specs.Prelude.{if◌then◌else◌}
 use Rattle.std.proofs.lemmas.List.{append_assoc, append-nil}
 use Rattle.db_base.specs.declared.trouble.Trouble.{Trouble}
@@ -20,14 +20,13 @@ use Rattle.page_cache.specs.Cache.{Cache}
 use Rattle.tree_walk.specs.Walk.{Walk, walk_ask}
 use Rattle.commit_writes.specs.Writing.{Writing, waiting, numbered, is_spent, writing_ask, writing_next, routed_of}
 use Rattle.commit_writes.specs.Calls.{Calls, told}
-use Rattle.commit_writes.specs.Meaning.{Means}
 use Rattle.commit_writes.specs.Meaning.{Meant as WritesMeant, MeansTurn as WritesTurn}
 use Rattle.commit_run.specs.declared.hand.Hand.{Hand}
 use Rattle.commit_run.specs.declared.hand.Hand.TheVariants.{Writes, First, Change}
 use Rattle.commit_run.specs.Draft.{Draft, new_draft}
-use Rattle.commit_run.specs.Run.{Run, held, new_run, home_of, asks, ask_at, written, wrote, refused, long_walk, long_target, begin_walks, plan_on, run_ready, next_at, run_next, Led, KeepsHome}
-use Rattle.commit_run.specs.Meaning.{Use, walked_home, IsRefused, IsWritten, MeansRun, MeansTurn, Meant, MeansReady}
-use Rattle.commit_run.proofs.Knowing.{KnowsDraft, KnowsBegun, KnowsWrites, KnowsHand, KnowsNext, KnowsAt}
+use Rattle.commit_run.specs.Run.{Run, held, new_run, home_of, asks, ask_at, written, wrote, refused, long_walk, long_target, begin_walks, run_ready, next_at, run_next, Led, KeepsHome}
+use Rattle.commit_run.specs.Meaning.{walked_home, IsWritten, MeansRun, MeansTurn, Meant, MeansReady}
+use Rattle.commit_run.proofs.Knowing.{KnowsDraft, KnowsWrites, KnowsHand, KnowsNext, KnowsAt}
 use Rattle.commit_run.proofs.Planning.{no_leaves}
 use Rattle.commit_run.proofs.Walked.{plans_on, begins_long, turned_by}
 

@@ -1,5 +1,5 @@
 -- What planning makes of what is known.
-use Rattle.std.proofs.Common.{◌≡◌, ◌≤◌, ◌<◌, ◌+◌, ◌-◌, ℕ, zero, suc, Bool, true, false, not, List, [], ◌∷◌, ◌++◌, length, drop, Option, Some, None, refl, ap, sym, subst, ◌∙◌, inl, inr, ◌⊎◌, arith, length-append, length-drop}
+use Rattle.std.proofs.Common.{◌≡◌, ◌≤◌, ℕ, zero, suc, Bool, true, false, not, List, [], ◌∷◌, ◌++◌, length, drop, Option, Some, None, refl, ap, sym, subst, ◌∙◌, inl, inr, arith, length-append, length-drop}
 use Rattle.std.specs.Prelude.{slice_get, find, if◌then◌else◌, ◌||◌, ◌&&◌, ◌==◌}
 use Rattle.std.specs.Option.{option_map, option_map_or}
 use Rattle.std.specs.List.{AllByRecursion}
@@ -9,13 +9,12 @@ use Rattle.db_base.specs.Change.{key_of}
 use Rattle.db_base.specs.declared.names.ObjName.TheVariants as object
 use Rattle.head_codec.specs.declared.lists.Pending.{Pending}
 use Rattle.txn_buffer.specs.Noted.{Noted}
-use Rattle.cloud_trait.specs.declared.answer.Answer.{Answer}
 use Rattle.cloud_trait.specs.declared.answer.Answer.TheVariants.{Got}
-use Rattle.cloud_trait.specs.Ask.{Ask, Get}
-use Rattle.commit_plan.specs.Ended.{Ended, spans, leaf_at, page_at}
+use Rattle.cloud_trait.specs.Ask.{Get}
+use Rattle.commit_plan.specs.Ended.{Ended, spans, page_at}
 use Rattle.commit_plan.specs.Plan.{is_update, has_pending, seeks, page_without, pages_of}
 use Rattle.commit_writes.specs.Calls.{Calls}
-use Rattle.commit_run.specs.Meaning.{IsGet, IsHeldAt, IsLeafOf, AreLeaves, WalkStopped}
+use Rattle.commit_run.specs.Meaning.{IsHeldAt, IsLeafOf, AreLeaves}
 use Rattle.commit_run.proofs.Knowing.{IsGotAt}
 
 -- ---- more calls

@@ -3,7 +3,6 @@ use Rattle.std.proofs.Common.{◌≡◌, ℕ, Bool, true, false, List, Option, S
 use Rattle.std.specs.Prelude.{if◌then◌else◌, IfSome, ◌==◌}
 use Rattle.std.specs.Option.{option_map}
 use Rattle.byte_format.specs.Order.{bytes_same}
-use Rattle.db_base.specs.declared.names.ObjName.{ObjName}
 use Rattle.db_base.specs.declared.names.ObjName.TheVariants as object
 use Rattle.db_base.specs.declared.trouble.Trouble.{Trouble}
 use Rattle.db_base.specs.declared.trouble.Trouble.TheVariants as trouble
@@ -13,11 +12,10 @@ use Rattle.cloud_trait.specs.declared.answer.Answer.{Answer}
 use Rattle.cloud_trait.specs.declared.answer.Answer.TheVariants.{Got}
 use Rattle.cloud_trait.specs.Ask.{Get}
 use Rattle.cloud_trait.specs.Machine.{Next, Goes, Ends, Stops}
-use Rattle.cloud_trait.specs.Views.{got_of}
 use Rattle.page_cache.specs.Cache.{Cache, accepts, kept_at}
 use Rattle.page_cache.specs.Held.{leaf_at, inner_at, root_at, as_leaf}
 use Rattle.page_cache.proofs.CacheLemmas.{accept_kept}
-use Rattle.tree_walk.specs.Walk.{Spot, Walk, IsWalk, IsAtLeaf, sought, spot_of, is_leaf, object_of, use_of, right_of, bad_fence, leaf_left, leaf_passed, root_read, node_read, leaf_read, read_at, read_from, follow, goes_on, got_read, accepted_by, got_by, left_by, beside, rested, walk_ask, walk_next}
+use Rattle.tree_walk.specs.Walk.{Spot, Walk, IsWalk, IsAtLeaf, sought, spot_of, is_leaf, object_of, use_of, right_of, bad_fence, leaf_left, leaf_passed, root_read, node_read, leaf_read, read_at, read_from, follow, goes_on, got_read, accepted_by, left_by, beside, rested, walk_ask, walk_next}
 use Rattle.tree_walk.proofs.Leaves.{Unended, AtLeaf, linked_unended, root_unended, node_unended, through_unended, by_ends, leaf_stays}
 
 -- a walk that ends has the object in hand that it had, and used it

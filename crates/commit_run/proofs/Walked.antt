@@ -1,22 +1,19 @@
 -- What each turn of a walk makes of what is known.
-use Rattle.std.proofs.Common.{◌≡◌, ◌≢◌, ◌≤◌, ◌<◌, ◌+◌, ℕ, zero, suc, Bool, true, false, List, [], ◌∷◌, ◌++◌, length, drop, Option, Some, None, unwrap_or, refl, ap, sym, subst, ◌∙◌, inl, inr, arith, length-append}
+use Rattle.std.proofs.Common.{◌≡◌, ◌≤◌, ℕ, zero, suc, Bool, true, false, List, [], ◌∷◌, ◌++◌, length, drop, Option, Some, None, unwrap_or, refl, ap, sym, subst, ◌∙◌, inl, inr, arith, length-append}
 use Rattle.std.specs.Prelude.{slice_get, if◌then◌else◌}
 use Rattle.std.specs.Option.{option_map}
-use Rattle.std.specs.List.{AllByRecursion}
 use Rattle.db_base.specs.Change.{key_of}
 use Rattle.db_base.specs.declared.names.ObjName.{ObjName}
 use Rattle.db_base.specs.declared.names.ObjName.TheVariants as object
 use Rattle.db_base.specs.declared.trouble.Trouble.{Trouble}
 use Rattle.db_base.specs.declared.trouble.Trouble.TheVariants as trouble
 use Rattle.db_base.specs.declared.trouble.Counter.TheVariants as counter
-use Rattle.db_base.specs.declared.trouble.CommitAnswer.{CommitAnswer}
 use Rattle.head_codec.specs.declared.head.Head.{Head}
 use Rattle.leaf_view.specs.Leaf.{Leaf}
 use Rattle.node_codec.specs.Tree.{Tree}
 use Rattle.log_codec.specs.declared.record.AtomicRec.{AtomicRec}
 use Rattle.txn_buffer.specs.Noted.{Noted}
 use Rattle.cloud_trait.specs.declared.answer.Answer.{Answer}
-use Rattle.cloud_trait.specs.declared.answer.Answer.TheVariants.{Got}
 use Rattle.cloud_trait.specs.Ask.{Ask, Get}
 use Rattle.cloud_trait.specs.Machine.{Next, Goes, Ends, Stops}
 use Rattle.recover_run.specs.declared.home.Home.{Home}
@@ -24,15 +21,13 @@ use Rattle.page_cache.specs.Cache.{Cache}
 use Rattle.page_cache.specs.Held.{leaf_at, root_at}
 use Rattle.tree_walk.specs.Walk.{Walk, IsWalk, sought, object_of, new_walk, walk_ask, walk_ready, walk_next, goes_on, rested, beside}
 use Rattle.tree_walk.proofs.Leaves.{Unended, through_unended}
-use Rattle.commit_plan.specs.Ended.{Ended, ended_of}
-use Rattle.commit_writes.specs.Writing.{Writing, waiting, with_head, pruned, begun, log_or_open, routed_of, routing, passes, not_committed, finished}
+use Rattle.commit_plan.specs.Ended.{ended_of}
+use Rattle.commit_writes.specs.Writing.{Writing, waiting, with_head, pruned, begun, log_or_open, routed_of, routing, passes, not_committed}
 use Rattle.commit_writes.specs.Calls.{Calls}
-use Rattle.commit_run.specs.declared.hand.Hand.{Hand}
-use Rattle.commit_run.specs.declared.hand.Hand.TheVariants.{Writes, First, Change}
-use Rattle.commit_run.specs.Draft.{Draft, IsWithin, pruned_by_root, pruned_by_kept, pruned_with, pruned_behind, planned, with_kept, leaf_noted, paged}
-use Rattle.commit_run.specs.Run.{Run, held, home_of, target_of, next_target, wrote, refused, troubled, by_turn, begun_turn, walk_to, seek, plan_on, is_stale, stale_at, walk_stopped, walk_turned, walked, walking}
-use Rattle.commit_run.specs.Meaning.{Use, OfTree, OfLeaf, pruned_once, pruned_by, walked_home, IsGet, IsLeafOf, AreLeaves, WalkStopped, KeptStopped, WhyNot, IsRefused, IsWritten}
-use Rattle.commit_run.proofs.Knowing.{IsGotAt, KnowsDraft, KnowsBegun, KnowsHand, KnowsNext}
+use Rattle.commit_run.specs.Draft.{Draft, pruned_by_root, pruned_by_kept, pruned_with, pruned_behind, planned, with_kept, leaf_noted, paged}
+use Rattle.commit_run.specs.Run.{held, target_of, next_target, wrote, refused, troubled, by_turn, begun_turn, walk_to, seek, plan_on, is_stale, stale_at, walk_turned, walked}
+use Rattle.commit_run.specs.Meaning.{Use, OfTree, OfLeaf, pruned_once, pruned_by, walked_home, IsGet, IsLeafOf, AreLeaves, WalkStopped, WhyNot}
+use Rattle.commit_run.proofs.Knowing.{IsGotAt, KnowsDraft, KnowsHand, KnowsNext}
 use Rattle.commit_run.proofs.Planning.{get_last, all_more, ended_more, leaves_more, leaves_append, pages_leaves, planned_within}
 use Rattle.commit_run.proofs.Holding.{one_left, all_known, aimed_at}
 use Rattle.commit_run.proofs.Aiming.{aim, AimsBeside, ready_aims, next_aims}

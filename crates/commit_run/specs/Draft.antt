@@ -1,5 +1,5 @@
 -- A commit before its first write: what it will write, and the leaves of its changes as far as they are known.
-use Rattle.std.specs.Prelude.{◌≡◌, ℕ, ◌≤◌, length, slice_get, Option, Some, None}
+use Rattle.std.specs.Prelude.{ℕ, ◌≤◌, length, Option, Some, None}
 use Rattle.db_base.specs.declared.names.ObjName.{ObjName}
 use Rattle.db_base.specs.declared.names.ObjName.TheVariants as object
 use Rattle.leaf_view.specs.Leaf.{Leaf}

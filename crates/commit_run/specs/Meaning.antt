@@ -1,5 +1,5 @@
 -- What a whole commit did, by its whole run.
-use Rattle.std.specs.Prelude.{◌≡◌, ◌⊎◌, ℕ, ◌+◌, Bool, true, false, List, [], ◌∷◌, ◌++◌, length, slice_get, Option, Some, None}
+use Rattle.std.specs.Prelude.{◌≡◌, ◌⊎◌, ℕ, ◌+◌, Bool, true, false, List, [], ◌∷◌, ◌++◌, length, slice_get, Option, Some}
 use Rattle.std.specs.List.{AllByRecursion}
 use Rattle.db_base.specs.Change.{key_of}
 use Rattle.db_base.specs.declared.names.ObjName.{ObjName}

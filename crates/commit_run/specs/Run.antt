@@ -1,5 +1,5 @@
 -- A whole commit as a machine beside the cache: what it knows, what it asks, and where each answer leads.
-use Rattle.std.specs.Prelude.{◌≡◌, ◌≢◌, ℕ, ◌≤◌, Bool, true, false, nat_lt, if◌then◌else◌, List, [], ◌∷◌, length, slice_get, Option, Some, None}
+use Rattle.std.specs.Prelude.{◌≡◌, ◌≢◌, ℕ, ◌≤◌, Bool, true, false, nat_lt, if◌then◌else◌, List, length, slice_get, Option, Some, None}
 use Rattle.std.specs.Option.{option_map}
 use Rattle.db_base.specs.Change.{key_of}
 use Rattle.db_base.specs.declared.trouble.Trouble.{Trouble}
@@ -7,6 +7,7 @@ use Rattle.db_base.specs.declared.trouble.Trouble.TheVariants as trouble
 use Rattle.db_base.specs.declared.trouble.Counter.TheVariants as counter
 use Rattle.db_base.specs.declared.trouble.CommitAnswer.{CommitAnswer}
 use Rattle.db_base.specs.declared.trouble.CommitAnswer.TheVariants.{NotCommitted}
+use Rattle.head_codec.specs.declared.head.Head.{Head}
 use Rattle.head_codec.specs.declared.lists.Pending.{Pending}
 use Rattle.txn_buffer.specs.Noted.{Noted}
 use Rattle.cloud_trait.specs.declared.answer.Answer.{Answer}
@@ -17,7 +18,7 @@ use Rattle.cloud_trait.specs.Machine.{Next, Goes, Ends, Stops}
 use Rattle.recover_run.specs.declared.home.Home.{Home}
 use Rattle.page_cache.specs.Cache.{Cache}
 use Rattle.tree_walk.specs.Walk.{Walk, sought, new_walk, walk_ask, walk_ready, walk_next}
-use Rattle.commit_writes.specs.Writing.{Writing, waiting, numbered, is_spent, routing, finished, writing_ask, writing_next}
+use Rattle.commit_writes.specs.Writing.{Writing, waiting, numbered, is_spent, routing, finished, writing_ask, writing_next, opens_at}
 use Rattle.commit_run.specs.declared.hand.Hand.{Hand}
 use Rattle.commit_run.specs.declared.hand.Hand.TheVariants.{Writes, First, Change}
 use Rattle.commit_run.specs.Draft.{Draft, IsWithin, new_draft, pruned_behind, planned, leaf_noted, paged}
@@ -60,6 +61,15 @@ run_ask r = ask_at r.hand r.draft.writes
 -- the same beside the cache
 abbrev pub asks : Run × Cache → Ask
 asks m = run_ask m.0
+
+-- the head that the put in hand opens, where it is the one that commits; a walk puts none
+abbrev pub opens_in : Hand → Writing → Option Head
+opens_in Writes w = opens_at w.stage w
+opens_in (First walk) w = None
+opens_in (Change walk) w = None
+
+abbrev pub run_opens : Run → Option Head
+run_opens r = opens_in r.hand r.draft.writes
 
 -- ---- from the writes
 

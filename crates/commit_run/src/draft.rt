@@ -126,6 +126,9 @@ impl Draft {
     ghost use Rattle.commit_run.specs.Draft.{IsWithin, new_draft, pruned_behind, planned, leaf_noted, paged};
     ghost use Rattle.commit_run.specs.Run.{Led, IsHeld, held, wrote, troubled, begun_turn, walk_to, seek, next_target, plan_on, stale_at, walk_stopped, walk_turned, long_target, begin_walks, asks, run_ready, run_next, Keeps, KeepsHome};
     ghost use Rattle.commit_run.specs.Meaning.{Meant};
+    ghost use Rattle.commit_run.specs.Causing.{Causes};
+    ghost use Rattle.commit_run.specs.Ending.{left_at};
+    ghost use Rattle.commit_writes.specs.Sound.{IsSound};
 
     /// The commit of changes, of which no leaf is known. Takes no memory.
     pub(crate) fn new(alloc: Global, writes: CommitWrites) -> Draft
@@ -398,6 +401,9 @@ impl Draft {
     ) -> Turn<CommitAnswer>
         ensures steps { (c : Cache) → Steps asks (LeadsBy run_next) KeepsHome who (C.seen cloud.old) (C.seen cloud.new) (record { draft = self.old; hand = Hand.Writes }, c) (record { draft = self.new; hand = Hand.Writes }, c) result }
         ensures means { (c : Cache) → Meant who (C.seen cloud.old) (C.seen cloud.new) (record { draft = self.old; hand = Hand.Writes }, c) (record { draft = self.new; hand = Hand.Writes }, c) result }
+        ensures causes { (c : Cache) → Causes who (C.seen cloud.old) (C.seen cloud.new) (record { draft = self.old; hand = Hand.Writes }, c) result }
+        ensures sound { IsSound self.old.writes }
+        ensures less { result ≡ Turn.More → left_at Hand.Writes self.new < left_at Hand.Writes self.old }
     {
         self.writes.step(alloc, cloud, who)
     }
@@ -415,7 +421,9 @@ impl Draft {
         requires { IsHeld self.old (held first walk) }
         ensures steps { Steps asks (LeadsBy run_next) KeepsHome who (C.seen cloud.old) (C.seen cloud.new) (record { draft = self.old; hand = held first walk }, cache.old) (record { draft = self.new; hand = result.0 }, cache.new) result.1 }
         ensures means { Meant who (C.seen cloud.old) (C.seen cloud.new) (record { draft = self.old; hand = held first walk }, cache.old) (record { draft = self.new; hand = result.0 }, cache.new) result.1 }
+        ensures causes { Causes who (C.seen cloud.old) (C.seen cloud.new) (record { draft = self.old; hand = held first walk }, cache.old) result.1 }
         ensures held { IsHeld self.new result.0 }
+        ensures less { result.1 ≡ Turn.More → left_at result.0 self.new < left_at (held first walk) self.old }
     {
         let mut walk = walk;
         let turn = walk.step(alloc, cloud, who, cache);

@@ -1,4 +1,5 @@
-ghost use Rattle.std.specs.Prelude.{◌≡◌, ◌≤◌, List, length};
+ghost use Rattle.std.specs.Prelude.{◌≡◌, ◌≤◌, ◌<◌, List, length};
+ghost use Rattle.std.specs.Option.{option_copied};
 ghost use Rattle.cloud_trait.specs.Call.{ask_of};
 ghost use Rattle.cloud_trait.specs.Machine.{LeadsBy, Steps};
 
@@ -10,6 +11,7 @@ use cloud_trait::turn::Turn;
 use cloud_trait::who::Who;
 use commit_writes::writes::CommitWrites;
 use db_base::trouble::CommitAnswer;
+use head_codec::head::Head;
 use page_cache::PageCache;
 use recover_run::home::Home;
 use std::alloc::Global;
@@ -19,10 +21,16 @@ use txn_buffer::buffer::TxnBuffer;
 
 /// A commit of a client's changes, beside its session's cache: the walks for the leaves of the changes, each of which prunes the
 /// head by what it uses, and then what the commit writes.
-#[derive(Drop)]
 pub struct CommitRun {
     draft: Draft,
     hand: Hand,
+}
+
+// Written out, so that what holds a commit need not look into it to let it go.
+impl Drop for CommitRun {
+    fn drop(self) {
+        let CommitRun { draft: _, hand: _ } = self;
+    }
 }
 
 impl Model for CommitRun {
@@ -36,7 +44,10 @@ impl Model for CommitRun {
 }
 
 impl CommitRun {
-    ghost use Rattle.commit_run.specs.Run.{new_run, run_ask, asks, run_ready, run_next, home_of, Led, Keeps, KeepsHome};
+    ghost use Rattle.commit_run.specs.Run.{new_run, run_ask, asks, run_ready, run_next, run_opens, home_of, Led, Keeps, KeepsHome};
+    ghost use Rattle.commit_run.specs.Causing.{Causes};
+    ghost use Rattle.commit_run.specs.Ending.{calls_left, most_calls};
+    ghost use Rattle.commit_run.specs.Sound.{IsSoundRun};
     ghost use Rattle.commit_run.specs.Meaning.{Meant, MeansReady};
     ghost use Rattle.recover_run.specs.declared.home.Home.{Home};
     ghost use Rattle.txn_buffer.specs.Noted.{Noted};
@@ -56,7 +67,8 @@ impl CommitRun {
     pub fn finish(self) -> Home
         ensures { result ≡ home_of self }
     {
-        self.draft.writes.finish()
+        let CommitRun { draft, hand: _ } = self;
+        draft.writes.finish()
     }
 
     /// The changes that it commits.
@@ -65,6 +77,17 @@ impl CommitRun {
         ensures some { 1 ≤ length self.now.draft.writes.changes }
     {
         self.draft.writes.changes()
+    }
+
+    /// The head that the put in hand opens, where it is the one that commits.
+    pub fn opens(&self) -> Option<&Head>
+        ensures { option_copied result ≡ run_opens self.now }
+    {
+        match &self.hand {
+            Hand::Writes => self.draft.writes.opens(),
+            Hand::First(_) => None,
+            Hand::Change(_) => None,
+        }
     }
 
     /// The service call that the next step makes.
@@ -83,6 +106,7 @@ impl CommitRun {
         ensures led { Led (run_ready (self.old, cache.old)) (self.new, cache.new) result }
         ensures kept { Keeps (home_of self.old) (home_of self.new) }
         ensures means { (home : Home) (changes : List Noted) → self.old ≡ new_run home changes → MeansReady home changes (home_of self.new) result }
+        ensures calls { (home : Home) (changes : List Noted) → self.old ≡ new_run home changes → result ≡ Turn.More → calls_left self.new ≤ most_calls (length changes) }
     {
         let (hand, turn) = self.draft.begin(alloc, cache);
         self.hand = hand;
@@ -99,6 +123,10 @@ impl CommitRun {
     ) -> Turn<CommitAnswer>
         ensures steps { Steps asks (LeadsBy run_next) KeepsHome who (C.seen cloud.old) (C.seen cloud.new) (self.old, cache.old) (self.new, cache.new) result }
         ensures means { Meant who (C.seen cloud.old) (C.seen cloud.new) (self.old, cache.old) (self.new, cache.new) result }
+        // Where nothing is committed, the answer of the call shows why.
+        ensures causes { Causes who (C.seen cloud.old) (C.seen cloud.new) (self.old, cache.old) result }
+        ensures sound { IsSoundRun self.old }
+        ensures less { result ≡ Turn.More → calls_left self.new < calls_left self.old }
     {
         match mem::replace(&mut self.hand, Hand::Writes) {
             Hand::Writes => self.draft.step_writes(alloc, cloud, who),

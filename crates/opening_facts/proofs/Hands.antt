@@ -163,7 +163,7 @@ module _ (who : Caller) (s t : CloudState) (r : Recovery) (reply : Answer) where
       subst (λ (g : Stage). Hands (ask_at g r) (next_at g r reply)) (sym e) (subst (λ (a : Ask). Hands a (next_at stage r reply)) (sym asked) h)
 
   -- a call that keeps the leases in hand
-  keeps : (stage : Stage) → r.stage ≡ stage → (ask : Ask) → ask_at stage r ≡ ask → Owns (λ session. mine) who.session ask → IsGuarded s ask
+  keeps : (stage : Stage) → r.stage ≡ stage → (ask : Ask) → ask_at stage r ≡ ask → Owns (λ session. mine) who.session ask → IsGuarded s t.now ask
       → RenewedTo who ask (no_claim r.client) (called who t.now s) t → ((x : Claim) → KeptBy ask x) → Fewer r (next_at stage r reply) → Hands (recovery_ask r) (recovery_next r reply)
   keeps stage e ask asked owns guarded renews kept fewer =
       hands_at stage e ask asked (record { owns = owns; guarded = guarded; renewed = no_claim r.client; renews = renews; own = λ x is. inl (fewer x is, kept x) })
@@ -235,7 +235,7 @@ module _ (who : Caller) (s t : CloudState) (r : Recovery) (reply : Answer) where
       on Sending e a = sends e
       on Putting e a =
           keeps Putting e (PutHeld (object.Head r.client) r.out a.read.held.now None) (ap (λ (o : Option Claim). under r o (λ l. PutHeld (object.Head r.client) r.out l None)) a.read.held.is)
-          (lease_in_hand r.former r.lease a.read.held.now a.read.held.is, tt) (inl a.read.held.lock) tt (λ x. tt) (put_fewer r (done_of reply))
+          (lease_in_hand r.former r.lease a.read.held.now a.read.held.is, tt) (λ lasts. inl a.read.held.lock) tt (λ x. tt) (put_fewer r (done_of reply))
       on Clearing e a = deletes Clearing e refl (clearing_fewer r (rest_of r.ids))
       on Sweeping e a = keeps Sweeping e (Receive (queue.Atomic r.client) 256) refl tt tt tt (λ x. tt) (swept_fewer r (received_of reply))
       on Releasing e a = at_releasing e a.0

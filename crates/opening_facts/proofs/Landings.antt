@@ -3,11 +3,12 @@ use Rattle.std.proofs.Common.{◌≡◌, ◌+◌, ◌<◌, ◌≤◌, ◌⊎◌,
 use Rattle.std.specs.Prelude.{slice_get}
 use Rattle.std.specs.List.{AllByRecursion}
 use Rattle.std.proofs.lemmas.List.{append-nil}
-use Rattle.cloud_facts.specs.Acting.{Setting, Outcome}
+use Rattle.cloud_facts.specs.Acting.{IsPruned, Setting, Outcome}
 use Rattle.cloud_facts.specs.Call.{IsCall}
 use Rattle.cloud_facts.specs.Looks.{audit_of}
 use Rattle.cloud_facts.specs.Others.{Passes, WasSentOn}
 use Rattle.cloud_facts.proofs.Calls.{put_cases, put_lasts, send_cases, delete_cases}
+use Rattle.cloud_facts.proofs.OthersLemmas.{pruned_itself}
 use Rattle.cloud_facts.proofs.Outcomes.{stays, other_landed, put_landed}
 use Rattle.cloud_facts.proofs.Passing.{landing_passes, passes_itself}
 use Rattle.cloud_trait.specs.declared.answer.Answer.{Answer}
@@ -59,7 +60,7 @@ module _ (who : Caller) (book : Book) (order : List Entry) (s t : CloudState) (p
 
   -- what a call leaves whose answer leads by this step
   abbrev Leaves : Ask → Step → Type 0
-  Leaves ask step = Outcome who book order s t parts ask (λ a. a) (KnowsNext step)
+  Leaves ask step = Outcome who book order s t parts (leases_of_recovery r) ask (λ a. a) (KnowsNext step)
 
   here : HomesHold st.tally t.now (at who.session part parts)
   here = keeps_part st.tally t.now parts who.session part mine setting.homes
@@ -81,12 +82,11 @@ module _ (who : Caller) (book : Book) (order : List Entry) (s t : CloudState) (p
         landing = marks_log r.client id marks
 
         stayed : t ≡ called who t.now s → Leads who.session parts st t.now step → Leaves (Delete (queue.Atomic r.client) id) step
-        stayed e l = stays who book order s t parts (Delete (queue.Atomic r.client) id) (λ a. a) (KnowsNext step) e setting.cloud setting.lone l.part l.homes l.knows
+        stayed e l = stays who book order s t parts (leases_of_recovery r) (Delete (queue.Atomic r.client) id) (λ a. a) (KnowsNext step) e setting.cloud l.part l.homes l.knows
 
         landed : Lands who (Delete (queue.Atomic r.client) id) (called who t.now s) t → Leads who.session parts marked_store t.now step → Leaves (Delete (queue.Atomic r.client) id) step
         landed lands l =
-            other_landed who book order s t parts (Delete (queue.Atomic r.client) id) (λ a. a) (KnowsNext step) marked_store lands setting.cloud (marks_log r.client id marks) tt tt
-            setting.lone l.part l.homes l.knows (λ look new. refl) refl
+            other_landed who book order s t parts (leases_of_recovery r) (Delete (queue.Atomic r.client) id) (λ a. a) (KnowsNext step) marked_store lands setting.cloud (marks_log r.client id marks) tt tt tt l.part l.homes l.knows (λ look new. refl) refl
 
         on : ((t ≡ called who t.now s) × (done_of reply ≡ Ok tt → ⊥)) ⊎ Lands who (Delete (queue.Atomic r.client) id) (called who t.now s) t → Leaves (Delete (queue.Atomic r.client) id) step
         on (inl p) = stayed p.0 (leads st (passes_itself st) refl here)
@@ -123,7 +123,7 @@ module _ (who : Caller) (book : Book) (order : List Entry) (s t : CloudState) (p
       deletes id call (marks_past st r.client r.wanted id later that) spared (cleared r)
       (λ u passes heads homes.
       cleared_leads who.session parts u t.now part homes r is
-      (put_passes st u t.now t.now r.client r.former r.lease r.wanted r.head part (omega arith) (λ l e lock_is lasts. ap (λ (f : ℕ → Head). f r.client) heads) k)
+      (put_passes st u t.now t.now r.client r.former r.lease r.wanted r.head part (omega arith) passes.grows (λ l e lock_is lasts. ap (λ (f : ℕ → Head). f r.client) heads) k)
       (messages_pass st u r.client passes (is_past r.wanted) r.ids all))
     where
       that : IsMessageThat st r.client (is_past r.wanted) id
@@ -172,11 +172,11 @@ module _ (who : Caller) (book : Book) (order : List Entry) (s t : CloudState) (p
     record_sent call = on (send_cases who (queue_of x.rec.tree x.rec.page) r.out reply s t call)
       where
         stayed : t ≡ called who t.now s → Leads who.session parts st t.now (sent_next r (sent_of reply)) → Leaves send (sent_next r (sent_of reply))
-        stayed e l = stays who book order s t parts send (λ a. a) (KnowsNext (sent_next r (sent_of reply))) e setting.cloud setting.lone l.part l.homes l.knows
+        stayed e l = stays who book order s t parts (leases_of_recovery r) send (λ a. a) (KnowsNext (sent_next r (sent_of reply))) e setting.cloud l.part l.homes l.knows
 
         landed : Lands who send (called who t.now s) t → Leads who.session parts sent_store t.now (sent_next r (sent_of reply)) → Leaves send (sent_next r (sent_of reply))
         landed lands l =
-            other_landed who book order s t parts send (λ a. a) (KnowsNext (sent_next r (sent_of reply))) sent_store lands setting.cloud sending tt tt setting.lone l.part l.homes l.knows
+            other_landed who book order s t parts (leases_of_recovery r) send (λ a. a) (KnowsNext (sent_next r (sent_of reply))) sent_store lands setting.cloud sending tt tt tt l.part l.homes l.knows
             (λ look new. refl) refl
 
         on : ((t ≡ called who t.now s) × ((id : ℕ) → sent_of reply ≡ Ok id → ⊥)) ⊎ Lands who send (called who t.now s) t → Leaves send (sent_next r (sent_of reply))
@@ -236,7 +236,7 @@ module _ (who : Caller) (book : Book) (order : List Entry) (s t : CloudState) (p
           lock_is = k.read.held.lock;
           within = let none : r.head.txn ≡ 0 = ap (λ (h : Head). h.txn) k.head_is in omega (arith, none);
           settled = ap (λ (h : Head). h.phase) k.head_is;
-          newest = λ l. at_same r.client r.head st.tally.head r.client refl;
+          newest = λ l. subst (λ (h : Head). IsPruned put_store.tally r.client h r.head) (sym (at_same r.client r.head st.tally.head r.client refl)) (pruned_itself put_store.tally r.client r.head);
           home = new;
           part_is = refl;
           client_is = refl;
@@ -256,14 +256,13 @@ module _ (who : Caller) (book : Book) (order : List Entry) (s t : CloudState) (p
 
       head_landed : Lands who put (called who t.now s) t → Leads who.session parts put_store t.now (put_by r (done_of reply)) → Leaves put (put_by r (done_of reply))
       head_landed lands l =
-          put_landed who book order s t parts (λ a. a) (KnowsNext (put_by r (done_of reply))) (object.Head r.client) r.out k.read.held.now None put_store lands setting.cloud settling tt tt
-          setting.lone l.part l.homes l.knows (ap (λ log. audit_of (record book { log = log }) order) (sym (append-nil book.log)))
+          put_landed who book order s t parts (leases_of_recovery r) (λ a. a) (KnowsNext (put_by r (done_of reply))) (object.Head r.client) r.out k.read.held.now None put_store lands setting.cloud settling tt tt tt l.part l.homes l.knows (ap (λ log. audit_of (record book { log = log }) order) (sym (append-nil book.log)))
 
     pub head_put : IsCall who put reply s t → Leaves put (put_by r (done_of reply))
     head_put call = on (put_cases who (object.Head r.client) r.out k.read.held.now None reply s t call)
       where
         stayed : t ≡ called who t.now s → Leads who.session parts st t.now (put_by r (done_of reply)) → Leaves put (put_by r (done_of reply))
-        stayed e l = stays who book order s t parts put (λ a. a) (KnowsNext (put_by r (done_of reply))) e setting.cloud setting.lone l.part l.homes l.knows
+        stayed e l = stays who book order s t parts (leases_of_recovery r) put (λ a. a) (KnowsNext (put_by r (done_of reply))) e setting.cloud l.part l.homes l.knows
 
         on : ((t ≡ called who t.now s) × (done_of reply ≡ Ok tt → ⊥)) ⊎ Lands who put (called who t.now s) t → Leaves put (put_by r (done_of reply))
         on (inl p) = stayed p.0 (fails (done_of reply) p.1)

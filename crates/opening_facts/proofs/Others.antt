@@ -4,7 +4,7 @@ use Rattle.std.specs.List.{AllByRecursion}
 use Rattle.cloud_facts.specs.Acting.{KnowsHome, HasLeaseOf, of_option}
 use Rattle.cloud_facts.specs.Others.{Others, Passes, WasSentOn}
 use Rattle.cloud_facts.proofs.Copies.{copied_stays, log_stays}
-use Rattle.cloud_facts.proofs.OthersLemmas.{in_option}
+use Rattle.cloud_facts.proofs.OthersLemmas.{in_option, pruned_stays}
 use Rattle.cloud_trait.specs.Claim.{Claim, Lasts}
 use Rattle.db_base.specs.declared.names.Lock.TheVariants as lock
 use Rattle.head_codec.specs.declared.head.Head.{Head}
@@ -20,6 +20,7 @@ use Rattle.recover_run.specs.declared.stage.Stage.TheVariants.{ReleasingOld, Tak
 use Rattle.recover_run.specs.declared.wanted.Wanted.{Wanted}
 use Rattle.recover_run.specs.Recovery.{Recovery}
 use Rattle.recover_run.proofs.Keeping.{all_so}
+use Rattle.store_book.specs.Growth.{Grows}
 use Rattle.store_book.specs.Records.{IsIn}
 use Rattle.store_book.specs.Tally.{Store}
 use Rattle.store_book.proofs.Places.{in_front, in_behind}
@@ -89,14 +90,14 @@ module _ (st su : Store) (client : ℕ) (passes : Passes st su) where
 -- ---- an open client
 
 -- what an open client knows, where its newest head stays while its lease lasts
-pub home_passes : (st su : Store) (now later client : ℕ) (lease : Claim) (head : Head) (attempt : ℕ) (part : Part) → now ≤ later
+pub home_passes : (st su : Store) (now later client : ℕ) (lease : Claim) (head : Head) (attempt : ℕ) (part : Part) → now ≤ later → Grows st su
     → (Lasts later lease → su.tally.head client ≡ st.tally.head client) → KnowsHome st now client lease head attempt part → KnowsHome su later client lease head attempt part
-home_passes st su now later client lease head attempt part after same k = record {
+home_passes st su now later client lease head attempt part after grows same k = record {
   is_client = k.is_client;
   lock_is = k.lock_is;
   within = k.within;
   settled = k.settled;
-  newest = λ lasts. same lasts ∙ k.newest (omega (arith, lasts, after));
+  newest = λ lasts. pruned_stays st su client head k.is_client grows (same lasts) (k.newest (omega (arith, lasts, after)));
   home = k.home;
   part_is = k.part_is;
   client_is = k.client_is;
@@ -105,12 +106,12 @@ home_passes st su now later client lease head attempt part after same k = record
   begun = k.begun;
 }
 
-pub put_passes : (st su : Store) (now later client : ℕ) (former lease : Option Claim) (w : Wanted) (head : Head) (part : Part) → now ≤ later
+pub put_passes : (st su : Store) (now later client : ℕ) (former lease : Option Claim) (w : Wanted) (head : Head) (part : Part) → now ≤ later → Grows st su
     → ((l : Claim) → lease ≡ Some l → l.lock ≡ lock.Client client → Lasts later l → su.tally.head client ≡ st.tally.head client)
     → HasPut st now client former lease w head part → HasPut su later client former lease w head part
-put_passes st su now later client former lease w head part after same k = record {
+put_passes st su now later client former lease w head part after grows same k = record {
   held = k.held;
-  home = home_passes st su now later client k.held.now head 0 part after (same k.held.now k.held.is k.held.lock) k.home;
+  home = home_passes st su now later client k.held.now head 0 part after grows (same k.held.now k.held.is k.held.lock) k.home;
   later = k.later;
 }
 
@@ -131,8 +132,8 @@ opening_others st su now later r part after o k = record { client = k.client; at
     on Deleting a = (gathers_passes st su r.client o.passes r.former r.lease r.wanted r.head r.gathered.kept part a.0, messages_pass st su r.client o.passes _ r.ids a.1)
     on Sending a = sends_pass st su r.client o.passes r.former r.lease r.wanted r.head r.gathered.kept part r.sent a
     on Putting a = sends_pass st su r.client o.passes r.former r.lease r.wanted r.head r.gathered.kept part _ a
-    on Clearing a = (put_passes st su now later r.client r.former r.lease r.wanted r.head part after same a.0, messages_pass st su r.client o.passes _ r.ids a.1)
-    on Sweeping a = put_passes st su now later r.client r.former r.lease r.wanted r.head part after same a
+    on Clearing a = (put_passes st su now later r.client r.former r.lease r.wanted r.head part after o.passes.grows same a.0, messages_pass st su r.client o.passes _ r.ids a.1)
+    on Sweeping a = put_passes st su now later r.client r.former r.lease r.wanted r.head part after o.passes.grows same a
     on Releasing a = a
     on Finished a = a
 

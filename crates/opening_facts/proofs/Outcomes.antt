@@ -71,7 +71,7 @@ module _ (who : Caller) (book : Book) (order : List Entry) (s t : CloudState) (p
   st = store_of book order s
 
   abbrev Out : Type 0
-  Out = Outcome who book order s t parts (recovery_ask r) (λ a. a) (KnowsNext (recovery_next r reply))
+  Out = Outcome who book order s t parts (leases_of_recovery r) (recovery_ask r) (λ a. a) (KnowsNext (recovery_next r reply))
 
   away : HomesHold st.tally t.now (at who.session Away parts)
   away = away_keeps st.tally t.now parts who.session setting.homes
@@ -89,15 +89,15 @@ module _ (who : Caller) (book : Book) (order : List Entry) (s t : CloudState) (p
   call_at ask e = subst (λ (a : Ask). IsCall who a reply s t) e call
 
   -- what its call leaves, by the call and the step of its stage
-  out_at : (stage : Stage) → r.stage ≡ stage → (ask : Ask) → recovery_ask r ≡ ask → Outcome who book order s t parts ask (λ a. a) (KnowsNext (next_at stage r reply)) → Out
+  out_at : (stage : Stage) → r.stage ≡ stage → (ask : Ask) → recovery_ask r ≡ ask → Outcome who book order s t parts (leases_of_recovery r) ask (λ a. a) (KnowsNext (next_at stage r reply)) → Out
   out_at stage e ask asked o =
-      subst (λ (a : Ask). Outcome who book order s t parts a (λ a. a) (KnowsNext (recovery_next r reply))) (sym asked)
-      (subst (λ (g : Stage). Outcome who book order s t parts ask (λ a. a) (KnowsNext (next_at g r reply))) (sym e) o)
+      subst (λ (a : Ask). Outcome who book order s t parts (leases_of_recovery r) a (λ a. a) (KnowsNext (recovery_next r reply))) (sym asked)
+      (subst (λ (g : Stage). Outcome who book order s t parts (leases_of_recovery r) ask (λ a. a) (KnowsNext (next_at g r reply))) (sym e) o)
 
   quiet_at : (stage : Stage) → r.stage ≡ stage → (ask : Ask) → recovery_ask r ≡ ask → PutsNothing ask → TouchesNoMessage ask → Leads who.session parts st t.now (next_at stage r reply) → Out
   quiet_at stage e ask asked puts touches l =
       out_at stage e ask asked
-      (quiet who book order s t parts ask (λ a. a) (KnowsNext (next_at stage r reply)) reply (call_at ask asked) puts touches setting.cloud setting.lone l.part l.homes l.knows)
+      (quiet who book order s t parts (leases_of_recovery r) ask (λ a. a) (KnowsNext (next_at stage r reply)) reply (call_at ask asked) puts touches setting.cloud l.part l.homes l.knows)
 
   -- ---- without a part
 
@@ -209,5 +209,5 @@ module _ (who : Caller) (book : Book) (order : List Entry) (s t : CloudState) (p
 -- a call of an opening
 pub opening_outcome : (who : Caller) (book : Book) (order : List Entry) (s t : CloudState) (parts : Parts) (r : Recovery) (part : Part) (reply : Answer)
     → Setting book order s t.now parts who.session (leases_of_recovery r) → parts who.session ≡ part → KnowsOpening (store_of book order s) t.now r part → IsSound r
-    → IsCall who (recovery_ask r) reply s t → Fits (recovery_ask r) reply → Outcome who book order s t parts (recovery_ask r) (λ a. a) (KnowsNext (recovery_next r reply))
+    → IsCall who (recovery_ask r) reply s t → Fits (recovery_ask r) reply → Outcome who book order s t parts (leases_of_recovery r) (recovery_ask r) (λ a. a) (KnowsNext (recovery_next r reply))
 opening_outcome who book order s t parts r part reply setting mine k sound call fits = by_stage who book order s t parts r part reply setting mine k.client call fits k.at sound

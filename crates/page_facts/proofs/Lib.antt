@@ -1,6 +1,10 @@
+pub mod Fences
+pub mod Chained
+pub mod PageReads
 pub mod PagingOthers
 pub mod Begins
 pub mod Nexts
-pub mod Steps
-pub mod Hands
 pub mod HeadPuts
+pub mod Hands
+pub mod Steps
+pub mod Unlinked

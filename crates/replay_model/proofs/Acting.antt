@@ -11,7 +11,7 @@ use Rattle.cloud_trait.specs.Seen.{Seen}
 use Rattle.cloud_trait.specs.Machine.{Goes, Ends, Stops}
 use Rattle.recover_run.specs.declared.home.Home.{Home}
 use Rattle.recover_run.specs.declared.stage.RecoverAnswer.TheVariants.{Opened}
-use Rattle.commit_writes.specs.Writing.{Writing}
+use Rattle.commit_run.specs.Run.{Run, home_of as home_of_run}
 use Rattle.client_session.specs.declared.answer.Answer.{Answer}
 use Rattle.client_session.specs.declared.answer.Answer.TheVariants as answer
 use Rattle.client_session.specs.declared.work.Work.{Work}
@@ -24,8 +24,7 @@ use Rattle.reply_text.specs.declared.reply.Reply.TheVariants as reply
 use Rattle.replay_meaning.specs.Standing.{Standing, Posture, Working, Opening as OpeningTask, Closing as ClosingTask, Renewing as RenewingTask, Committing as Noting, Reading as ReadingKey, Paging as PagingPage, Folding as FoldingTree, steps, answered, idle, broken, shut}
 use Rattle.replay_model.specs.Facts.{WorksAs}
 use Rattle.replay_model.proofs.OpeningSteps.{OpensFor, opens_on}
-use Rattle.replay_model.proofs.CommitSteps.{WritesFor, writes_on}
-use Rattle.replay_model.proofs.FoldingTree.{same_tree}
+use Rattle.replay_model.proofs.RunSteps.{RunsFor, AnyAnswer, runs_on}
 use Rattle.replay_model.proofs.PagingPage.{same_page}
 use Rattle.replay_model.proofs.ReadingWalk.{reading_goes}
 
@@ -50,9 +49,10 @@ pub goes_as : (who : Caller) (before after : Seen) (w new : Work) (c d : Cache) 
 goes_as who before after (Opening m) new c d read s (sound, p) shown acts =
     let on : OpensFor m.client (Goes p.0) = subst (OpensFor m.client) p.1.took (opens_on m p.1.answer acts.3) in
     works_same new (Opening p.0) s p.2 (acts.0, acts.1 ∙ sym on.0, acts.2, on.1)
-goes_as who before after (Committing m) new c d read s (sound, p) shown acts =
-    let on : WritesFor m.changes m.home.client (Goes p.0) = subst (WritesFor m.changes m.home.client) p.1.took (writes_on m p.1.answer acts.2) in
-    works_same new (Committing p.0) s p.2 (acts.0 ∙ ap (λ cs. Working (Noting cs)) (sym on.0), acts.1 ∙ sym on.1, on.2)
+goes_as who before after (Committing r) new c d read s (sound, p) (q, none) acts =
+    let on : RunsFor AnyAnswer r.draft.writes.changes (home_of_run r).client (Goes (q.0, d)) =
+    subst (RunsFor AnyAnswer r.draft.writes.changes (home_of_run r).client) q.1.took (runs_on (r, c) q.1.answer acts.2) in
+    works_same new (Committing q.0) s q.2.0 (acts.0 ∙ ap (λ cs. Working (Noting cs)) (sym on.0), acts.1 ∙ sym on.1, on.2)
 goes_as who before after (Reading home m) new c d read s p shown acts =
     let same = reading_goes m shown.0 c d shown.1.answer shown.1.took in
     works_same new (Reading home shown.0) s shown.2 (acts.0 ∙ ap (λ k. Working (ReadingKey k (sought m))) (sym same.0) ∙ ap (λ k. Working (ReadingKey shown.0.tree k)) (sym same.1), acts.1)
@@ -60,8 +60,8 @@ goes_as who before after (Paging home m) new c d read s p shown acts =
     let same = same_page m p.0 p.1.answer p.1.took in
     works_same new (Paging home p.0) s p.2 (acts.0 ∙ ap (λ k. Working (PagingPage k m.page)) (sym same.0) ∙ ap (λ k. Working (PagingPage p.0.tree k)) (sym same.1), acts.1)
 goes_as who before after (Folding home f) new c d read s p shown acts =
-    let same = same_tree f p.0 f.stage p.1.answer p.1.took in
-    works_same new (Folding home p.0) s p.2 (acts.0 ∙ ap (λ k. Working (FoldingTree k)) (sym same), acts.1)
+    let same : p.0.tree ≡ f.tree = p.1.took.0.0 in
+    works_same new (Folding home p.0) s p.2.0 (acts.0 ∙ ap (λ k. Working (FoldingTree k)) (sym same), acts.1)
 goes_as who before after (Closing lease) new c d read s p shown acts = absurd p
 goes_as who before after (Renewing home) new c d read s p shown acts = absurd p
 goes_as who before after Closed new c d read s p shown acts = absurd p
@@ -116,16 +116,16 @@ ends_shut : (w new : Work) (s : Standing) (p : Posture) (r q : Reply) → r ≡ 
 ends_shut w new s p r q e f g h is buffer =
     ends_at w new s (steps r s) (shut s) (after_reply s (shut s) p r q e f g h) (works_same new Closed (shut s) is refl) (sym buffer)
 
-commit_ends : (s : Standing) (m : Writing) (new : Work) (a : CommitAnswer) (home : Home) (r : Reply) → r ≡ reply.Commit a → s.posture ≡ Working (Noting m.changes)
+commit_ends : (s : Standing) (m : Run) (new : Work) (a : CommitAnswer) (home : Home) (r : Reply) → r ≡ reply.Commit a → s.posture ≡ Working (Noting m.draft.writes.changes)
     → s.client ≡ home.client → new ≡ committed_work a home → StandsEnded (Committing m) new s (steps r s)
 commit_ends s m new (Committed txn) home r e works client is =
-    ends_idle (Committing m) new home s (Working (Noting m.changes)) r (reply.Commit (Committed txn)) e works refl refl is client refl
+    ends_idle (Committing m) new home s (Working (Noting m.draft.writes.changes)) r (reply.Commit (Committed txn)) e works refl refl is client refl
 commit_ends s m new (NotCommitted t) home r e works client is =
-    ends_idle (Committing m) new home s (Working (Noting m.changes)) r (reply.Commit (NotCommitted t)) e works refl refl is client refl
+    ends_idle (Committing m) new home s (Working (Noting m.draft.writes.changes)) r (reply.Commit (NotCommitted t)) e works refl refl is client refl
 commit_ends s m new InDoubt home r e works client is =
-    ends_broken (Committing m) new home s (Working (Noting m.changes)) r (reply.Commit InDoubt) e works refl refl is refl
+    ends_broken (Committing m) new home s (Working (Noting m.draft.writes.changes)) r (reply.Commit InDoubt) e works refl refl is refl
 commit_ends s m new (CommittedOpen t) home r e works client is =
-    ends_broken (Committing m) new home s (Working (Noting m.changes)) r (reply.Commit (CommittedOpen t)) e works refl refl is refl
+    ends_broken (Committing m) new home s (Working (Noting m.draft.writes.changes)) r (reply.Commit (CommittedOpen t)) e works refl refl is refl
 
 -- a trouble that is answered leaves the client open
 stopped_idle : (t : Trouble) (home : Home) → (t ≡ trouble.Memory → ⊥) → stopped_work t home ≡ Idle home
@@ -140,13 +140,15 @@ ends_as who before after (Opening m) new s (answer.Opened epoch) r (sound, p) is
 ends_as who before after (Opening m) new s (answer.Trouble t) r (sound, p) is acts =
     ends_shut (Opening m) new s (Working OpeningTask) r (reply.Trouble t) is.0 acts.0 refl refl p.2 acts.2
 ends_as who before after (Opening m) new s a r p is acts = absurd p.1
-ends_as who before after (Committing m) new s (answer.Commit a) r (sound, p) is acts =
-    let end : WritesFor m.changes m.home.client (Ends p.0 a) = subst (WritesFor m.changes m.home.client) p.1.took (writes_on m p.1.answer acts.2) in
-    commit_ends s m new a p.0.home r is acts.0 (acts.1 ∙ sym end) p.2
-ends_as who before after (Committing m) new s (answer.Trouble t) r (sound, p) is acts =
-    let end : WritesFor m.changes m.home.client (Stops p.0 t) = subst (WritesFor m.changes m.home.client) (p.1.took.0 is.1) (writes_on m p.1.answer acts.2) in
+ends_as who before after (Committing m) new s (answer.Commit a) r (sound, (c, (d, p))) is acts =
+    let end : RunsFor AnyAnswer m.draft.writes.changes (home_of_run m).client (Ends (p.0, d) a) =
+    subst (RunsFor AnyAnswer m.draft.writes.changes (home_of_run m).client) p.1.took (runs_on (m, c) p.1.answer acts.2) in
+    commit_ends s m new a (home_of_run p.0) r is acts.0 (acts.1 ∙ sym end.0) p.2
+ends_as who before after (Committing m) new s (answer.Trouble t) r (sound, (c, (d, p))) is acts =
+    let end : RunsFor AnyAnswer m.draft.writes.changes (home_of_run m).client (Stops (p.0, d) t) =
+    subst (RunsFor AnyAnswer m.draft.writes.changes (home_of_run m).client) (p.1.took.0 is.1) (runs_on (m, c) p.1.answer acts.2) in
     absurd (is.1 end)
-ends_as who before after (Committing m) new s a r p is acts = absurd p.1
+ends_as who before after (Committing m) new s a r (sound, (c, (d, p))) is acts = absurd p
 ends_as who before after (Reading home m) new s answer.Value r p (inl is) acts =
     ends_idle (Reading home m) new home s (Working (ReadingKey m.tree (sought m))) r reply.NoValue is acts.0 refl refl p.1 acts.1 refl
 ends_as who before after (Reading home m) new s answer.Value r p (inr (payload, is)) acts =

@@ -1,20 +1,17 @@
--- A commit goes on with the same changes of the same client, or ends for it.
-use Rattle.std.proofs.Common.{◌≡◌, ℕ, List, ◌++◌, [], ◌∷◌, Option, Some, None, Result, Ok, Err, refl, Bool, true, false, cond}
+-- The writes of a commit go on with the same changes of the same client, or end for it.
+use Rattle.std.proofs.Common.{◌≡◌, ℕ, List, ◌++◌, [], ◌∷◌, Option, Some, None, Result, Ok, Err, refl}
 use Rattle.std.specs.Prelude.{slice_get, ◌+◌}
 use Rattle.db_base.specs.declared.trouble.Trouble.{Trouble}
 use Rattle.db_base.specs.declared.trouble.Trouble.TheVariants as trouble
-use Rattle.db_base.specs.declared.trouble.Counter.TheVariants as counter
 use Rattle.db_base.specs.declared.trouble.CommitAnswer.{CommitAnswer}
-use Rattle.db_base.specs.declared.trouble.CommitAnswer.TheVariants.{NotCommitted}
 use Rattle.log_codec.specs.declared.record.AtomicRec.{AtomicRec}
 use Rattle.txn_buffer.specs.Noted.{Noted}
 use Rattle.cloud_trait.specs.declared.answer.Answer.{Answer}
 use Rattle.cloud_trait.specs.Machine.{Next, Goes, Ends, Stops}
 use Rattle.cloud_trait.specs.Views.{sent_of, done_of}
-use Rattle.recover_run.specs.declared.home.Home.{Home}
 use Rattle.commit_writes.specs.declared.stage.Stage.{Stage}
 use Rattle.commit_writes.specs.declared.stage.Stage.TheVariants.{Waiting, Logging, Opening, Sending, Settling, Deleting, Finished}
-use Rattle.commit_writes.specs.Writing.{Writing, waiting, with_home, with_attempt, is_spent, not_committed, log_or_open, begun, passes, routed_of, routing, first_leaves, writing_ready, writing_next, next_at, send_or_settle, send_at, delete_or_end, delete_at, logged_by, not_opened, opened_by, sent_by, settled_by, deleted_by}
+use Rattle.commit_writes.specs.Writing.{Writing, log_or_open, writing_next, next_at, send_or_settle, send_at, delete_or_end, delete_at, logged_by, not_opened, opened_by, sent_by, settled_by, deleted_by}
 use Rattle.replay_model.specs.Running.{WritesAt, IsWriting}
 
 -- where a step leads it goes on with these changes of this client, or ends for it; it stops for want of memory alone
@@ -23,21 +20,11 @@ WritesFor changes client (Goes new) = (new.changes ≡ changes) × (new.home.cli
 WritesFor changes client (Ends new a) = new.home.client ≡ client
 WritesFor changes client (Stops new t) = t ≡ trouble.Memory
 
--- and so of a begin, which ends only where nothing is committed
-abbrev pub BeginsFor : List Noted → ℕ → Next Writing CommitAnswer → Type 0
-BeginsFor changes client (Goes new) = (new.changes ≡ changes) × (new.home.client ≡ client) × IsWriting new
-BeginsFor changes client (Ends new a) = (new.home.client ≡ client) × ((t : Trouble) × (a ≡ NotCommitted t))
-BeginsFor changes client (Stops new t) = Unit {0}
-
 -- ---- records go to the ATOMIC queue
 
 logs_or_opens : (w : Writing) (o : Option AtomicRec) → WritesFor w.changes w.home.client (log_or_open w o)
 logs_or_opens w (Some r) = (refl, refl, tt)
 logs_or_opens w None = (refl, refl, tt)
-
-begins_log : (w : Writing) (o : Option AtomicRec) → BeginsFor w.changes w.home.client (log_or_open w o)
-begins_log w (Some r) = (refl, refl, tt)
-begins_log w None = (refl, refl, tt)
 
 logged : (w : Writing) (g : Result ℕ Trouble) → WritesFor w.changes w.home.client (logged_by w g)
 logged w (Ok id) = logs_or_opens (record w { ids = w.ids ++ id ∷ []; place = w.place + 1 }) (slice_get w.records (w.place + 1))
@@ -92,26 +79,3 @@ writes_at w Finished a is = absurd is
 
 pub writes_on : (w : Writing) (a : Answer) → IsWriting w → WritesFor w.changes w.home.client (writing_next w a)
 writes_on w a is = writes_at w w.stage a is
-
--- ---- the begin
-
-begins_write : (w : Writing) (records : List AtomicRec) → BeginsFor w.changes w.home.client (begun w records)
-begins_write w records = begins_log (record w { records = records; place = 0 }) (slice_get records 0)
-
-begins_route : (w : Writing) (leaves : List ℕ) → BeginsFor w.changes w.home.client (routing w leaves)
-begins_route w leaves = on (passes (routed_of w.home w.changes leaves))
-  where
-    on : (b : Bool) → BeginsFor w.changes w.home.client (cond b (not_committed w (trouble.Exhausted counter.Number)) (begun w (routed_of w.home w.changes leaves)))
-    on true = (refl, (trouble.Exhausted counter.Number, refl))
-    on false = begins_write w (routed_of w.home w.changes leaves)
-
-begins_ready : (w : Writing) → BeginsFor w.changes w.home.client (writing_ready w)
-begins_ready w = on (is_spent w.home)
-  where
-    on : (b : Bool)
-        → BeginsFor w.changes w.home.client (cond b (not_committed w (trouble.Exhausted counter.Txn)) (routing (cond b w (with_home w (with_attempt w.home))) (first_leaves w.changes)))
-    on true = (refl, (trouble.Exhausted counter.Txn, refl))
-    on false = begins_route (with_home w (with_attempt w.home)) (first_leaves w.changes)
-
-pub commit_begins : (home : Home) (changes : List Noted) → BeginsFor changes home.client (writing_ready (waiting home changes))
-commit_begins home changes = begins_ready (waiting home changes)

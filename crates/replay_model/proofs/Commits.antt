@@ -129,7 +129,7 @@ opened_entries client bytes head count changes e f = ap (λ o. entries_of_head c
 
 -- the changes of the commit at work are those on which the session stands
 pub working_changes : (w : Work) (s : Standing) (changes : List Noted) → WorksAs w s → committing_of w ≡ Some changes → changes_at s.posture ≡ changes
-working_changes (Committing m) s changes acts e = let same : m.changes ≡ changes = cc in ap changes_at acts.0 ∙ same
+working_changes (Committing m) s changes acts e = let same : m.draft.writes.changes ≡ changes = cc in ap changes_at acts.0 ∙ same
 working_changes (Opening m) s changes acts e = absurd (cc)
 working_changes (Paging home p) s changes acts e = absurd (cc)
 working_changes (Folding home f) s changes acts e = absurd (cc)

@@ -3,11 +3,15 @@ use Rattle.std.proofs.Common.{◌≡◌, ◌+◌, ◌<◌, ◌≤◌, ℕ, zero,
 use Rattle.std.specs.Prelude.{◌==◌, ◌&&◌, ◌||◌, slice_get, unwrap_or}
 use Rattle.std.specs.List.{list_any}
 use Rattle.std.proofs.lemmas.Bool.{cases_lt, eqb-true, eq-eqb, and_from, and_parts}
-use Rattle.db_base.specs.Ids.{IsClient}
+use Rattle.chain_facts.specs.Chain.{ChainHolds}
+use Rattle.chain_facts.specs.Links.{top_of}
+use Rattle.db_base.specs.Ids.{IsClient, IsTree as IsTreeId}
 use Rattle.db_base.specs.declared.names.ObjName.TheVariants as object
 use Rattle.cloud_trait.specs.declared.state.Posted.{Posted}
 use Rattle.cloud_trait.specs.Delivery.{unmarked, unmarked_from}
 use Rattle.cloud_trait.specs.State.{CloudState, newest, greatest}
+use Rattle.decoding_facts.proofs.Newest.{last_map, newest_last}
+use Rattle.decoding_facts.proofs.Reading.{root_reads}
 use Rattle.head_codec.specs.declared.head.Head.{Head}
 use Rattle.head_codec.specs.declared.head.Phase.{Phase}
 use Rattle.head_codec.specs.declared.head.Phase.TheVariants.{Settled, Open}
@@ -18,15 +22,16 @@ use Rattle.left_facts.specs.Left.{NothingLeft}
 use Rattle.log_codec.specs.declared.record.AtomicRec.{AtomicRec}
 use Rattle.log_codec.specs.declared.record.PuRec.{PuRec}
 use Rattle.cloud_facts.proofs.Heads.{head_at, newest_head}
-use Rattle.cloud_facts.specs.Acting.{IsLone}
+use Rattle.cloud_facts.proofs.Pages.{no_root}
 use Rattle.node_codec.proofs.TreeLemmas.{tree_fits}
+use Rattle.node_codec.specs.Tree.{Tree, IsTree, empty_tree}
 use Rattle.number_facts.specs.Numbers.{Numbers}
 use Rattle.report_types.specs.declared.entry.Entry.{Entry}
-use Rattle.store_book.specs.Book.{Book, Link, first_leaf}
+use Rattle.store_book.specs.Book.{Book}
 use Rattle.store_book.specs.Messages.{Waits}
 use Rattle.store_book.specs.Premises.{IsRouted}
 use Rattle.store_book.specs.Records.{IsIn, IsUnderWay, is_open, entry_of, entries_of}
-use Rattle.store_book.specs.Telling.{queue_of}
+use Rattle.store_book.specs.Telling.{queue_of, root_in, roots_of}
 use Rattle.telling_facts.specs.Told.{store_of}
 use Rattle.world_audit.specs.Counts.{is_of, is_under_way, open_count, open_at, head_in, heads_upto, queue_at, messages_below, IsNextPage, AreWaiting}
 
@@ -66,23 +71,31 @@ same_queue : (tree page : ℕ) → queue_of tree page ≡ queue_at tree page
 same_queue tree zero = refl
 same_queue tree (suc page) = refl
 
--- a page of a queue is the tree's or the first leaf's
-lone_page : (book : Book) (r : AtomicRec) → IsLone book → IsRouted book r → r.page < 2
-lone_page book r lone (inl e) = omega (arith, e)
-lone_page book r lone (inr at) =
-    let there : slice_get (first_leaf 0) at.linked.0 ≡ Some at.link = ap (λ ls. slice_get ls at.linked.0) (sym (lone r.tree 0)) ∙ at.linked.1 in
-    omega (arith, only at.linked.0 there ∙ at.page_is)
+-- the page that a report counts up to is the next free one of the newest root
+next_is : (s : CloudState) (tree next : ℕ) → IsNextPage (newest s (object.Tree tree)) next → (top_of (roots_of s tree)).next ≡ next
+next_is s tree next is = on (newest s (object.Tree tree)) refl is
   where
-    only : (place : ℕ) → slice_get (first_leaf 0) place ≡ Some at.link → 1 ≡ at.link.page
-    only zero e = let is : record { low = []; page = 1 } ≡ at.link = cc in ap (λ (l : Link). l.page) is
-    only (suc place) e = absurd (cc)
+    on : (v : Option (List ℕ)) → newest s (object.Tree tree) ≡ v → IsNextPage v next → (top_of (roots_of s tree)).next ≡ next
+    on None e p = ap (λ (t : Tree). t.next) (no_root s tree e) ∙ sym p
+    on (Some bytes) e p =
+        let last = newest_last (s.versions (object.Tree tree)) bytes e in
+        let spells : IsTree last.0.bytes p.0 = subst (λ (b : List ℕ). IsTree b p.0) (sym last.2) p.1 in
+        ap (λ (t : Tree). t.next) (last_map root_in empty_tree (s.versions (object.Tree tree)) last.0 last.1 ∙ root_reads last.0 p.0 spells) ∙ sym p.2
 
-none_wait : (s : CloudState) (tree page : ℕ) (rec : PuRec) → page < 2 → AreWaiting s tree 0 → Waits (s.messages (queue_of tree page)) rec → ⊥
-none_wait s tree page rec low left w =
+-- a record goes to the tree's queue, or to that of a leaf, whose page is below the next free one
+routed_below : (book : Book) (order : List Entry) (s : CloudState) (r : AtomicRec) (next : ℕ) → ChainHolds (store_of book order s) → IsTreeId r.tree → IsRouted book r
+    → IsNextPage (newest s (object.Tree r.tree)) next → r.page < next
+routed_below book order s r next chains of_tree (inl e) is = let two = next_two (newest s (object.Tree r.tree)) next is in omega (arith, e, two)
+routed_below book order s r next chains of_tree (inr at) is =
+    let below = ((chains r.tree of_tree).pages.linked 0 at.link at.linked).1 in
+    let same = next_is s r.tree next is in
+    omega (arith, below, same, at.page_is)
+
+none_wait : (s : CloudState) (tree page : ℕ) (rec : PuRec) → (left : AreWaiting s tree 0) → page < left.next → Waits (s.messages (queue_of tree page)) rec → ⊥
+none_wait s tree page rec left low w =
     let at : slice_get (s.messages (queue_at tree page)) w.place ≡ Some w.message = ap (λ q. slice_get (s.messages q) w.place) (sym (same_queue tree page)) ∙ w.there in
     let some : 1 ≤ length (unmarked (s.messages (queue_at tree page))) = unmarked_some (s.messages (queue_at tree page)) 1 w.place w.message at w.unmarked in
-    let next : 2 ≤ left.next = next_two (newest s (object.Tree tree)) left.next left.is_next in
-    let below : length (unmarked (s.messages (queue_at tree page))) ≤ messages_below s tree left.next = below_counts s tree page left.next (omega arith) in
+    let below : length (unmarked (s.messages (queue_at tree page))) ≤ messages_below s tree left.next = below_counts s tree page left.next low in
     let sum : 0 ≡ min (messages_below s tree left.next) greatest = left.sum in
     omega arith
 
@@ -164,12 +177,18 @@ none_open book order s tree r c none logged is way =
 
 -- ---- what is left
 
-pub nothing_left : (book : Book) (order : List Entry) (s : CloudState) (tree : ℕ) → IsLone book → Numbers (store_of book order s)
+pub nothing_left : (book : Book) (order : List Entry) (s : CloudState) (tree : ℕ) → ChainHolds (store_of book order s) → Numbers (store_of book order s)
     → heads_upto s tree (of_tree tree (entries_of book.log)) 64 ≡ 0 → AreWaiting s tree 0 → NothingLeft (store_of book order s) tree
-nothing_left book order s tree lone n heads messages = record {
+nothing_left book order s tree chains n heads messages = record {
   ways = λ r logged is way. none_open book order s tree r (n.placed r logged).client heads logged is way;
-  posts = λ page rec w.
-      let of = n.sent tree page w.place w.message w.there in
-      let at = n.placed of.of of.logged in
-      none_wait s tree page rec (omega (arith, lone_page book of.of lone at.routed, of.page_is)) messages w;
+  posts = λ page rec w. none_wait s tree page rec messages (low page rec w) w;
 }
+  where
+    -- what waits in a queue is a record that goes there
+    low : (page : ℕ) (rec : PuRec) → Waits (s.messages (queue_of tree page)) rec → page < messages.next
+    low page rec w =
+        let of = n.sent tree page w.place w.message w.there in
+        let at = n.placed of.of of.logged in
+        let next = subst (λ t. IsNextPage (newest s (object.Tree t)) messages.next) (sym of.tree_is) messages.is_next in
+        let below = routed_below book order s of.of messages.next chains at.tree at.routed next in
+        omega (arith, below, of.page_is)

@@ -1,11 +1,11 @@
 pub mod Lists
 pub mod CommittedLemmas
 pub mod OrderLemmas
-pub mod FoldingTree
 pub mod PagingPage
 pub mod ReadingWalk
 pub mod OpeningSteps
 pub mod CommitSteps
+pub mod RunSteps
 pub mod Commits
 pub mod Acting
 pub mod Steps

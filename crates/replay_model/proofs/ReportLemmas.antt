@@ -51,7 +51,7 @@ shown_right lines tree book order sessions t r stand so reported is shown = reco
   folded = λ key. folded key ∙ ap (λ es. fold es tree key) (sym shown.order) ∙ ap (λ k. fold r.order k key) at;
   legal = of_lists IsLegal reportable.legal;
   complete = λ heads messages. of_lists HoldsAll
-      (reportable.complete (nothing_left book order t tree stand.lone (numbers book order t sessions stand) (sym shown.heads ∙ heads) (subst (AreWaiting t tree) messages shown.messages)));
+      (reportable.complete (nothing_left book order t tree (chains book order t sessions stand) (numbers book order t sessions stand) (sym shown.heads ∙ heads) (subst (AreWaiting t tree) messages shown.messages)));
   grown = λ k line there. grown line.reply (reported k line there);
 }
   where

@@ -15,8 +15,8 @@ use Rattle.cloud_trait.specs.Weather.{Makes, Leaves}
 use Rattle.cloud_trait.proofs.RowLemmas.{row_by, leaves_upto}
 use Rattle.history.specs.Audited.{Audited}
 use Rattle.recover_run.specs.Recovery.{recovery_ask}
-use Rattle.commit_writes.specs.Writing.{writing_ask}
-use Rattle.first_tree.specs.Folding.{folding_ask}
+use Rattle.commit_run.specs.Run.{run_ask}
+use Rattle.tree_ckpt.specs.Making.{making_ask}
 use Rattle.page_ckpt.specs.Paging.{paging_ask}
 use Rattle.client_session.specs.declared.answer.Answer.{Answer}
 use Rattle.client_session.specs.declared.answer.Answer.TheVariants as answer
@@ -52,10 +52,10 @@ made_call who before after (Opening m) new More p = record { ask = recovery_ask 
 made_call who before after (Opening m) new (Ended (answer.Opened epoch)) p = record { ask = recovery_ask m; answer = p.1.1.answer; hand = refl; made = p.1.1.made }
 made_call who before after (Opening m) new (Ended (answer.Trouble k)) p = record { ask = recovery_ask m; answer = p.1.1.answer; hand = refl; made = p.1.1.made }
 made_call who before after (Opening m) new turn p = absurd p.1
-made_call who before after (Committing m) new More p = record { ask = writing_ask m; answer = p.1.1.answer; hand = refl; made = p.1.1.made }
-made_call who before after (Committing m) new (Ended (answer.Commit a)) p = record { ask = writing_ask m; answer = p.1.1.answer; hand = refl; made = p.1.1.made }
-made_call who before after (Committing m) new (Ended (answer.Trouble k)) p = record { ask = writing_ask m; answer = p.1.1.answer; hand = refl; made = p.1.1.made }
-made_call who before after (Committing m) new turn p = absurd p.1
+made_call who before after (Committing m) new More (sound, (c, (d, p))) = record { ask = run_ask m; answer = p.1.answer; hand = refl; made = p.1.made }
+made_call who before after (Committing m) new (Ended (answer.Commit a)) (sound, (c, (d, p))) = record { ask = run_ask m; answer = p.1.answer; hand = refl; made = p.1.made }
+made_call who before after (Committing m) new (Ended (answer.Trouble k)) (sound, (c, (d, p))) = record { ask = run_ask m; answer = p.1.answer; hand = refl; made = p.1.made }
+made_call who before after (Committing m) new turn (sound, (c, (d, p))) = absurd p
 made_call who before after (Reading home m) new More p = record { ask = walk_ask m; answer = p.1.answer; hand = refl; made = p.1.made }
 made_call who before after (Reading home m) new (Ended answer.Value) p = record { ask = walk_ask m; answer = p.0.answer; hand = refl; made = p.0.made }
 made_call who before after (Reading home m) new (Ended (answer.Trouble k)) p = record { ask = walk_ask m; answer = p.0.answer; hand = refl; made = p.0.made }
@@ -64,9 +64,9 @@ made_call who before after (Paging home m) new More p = record { ask = paging_as
 made_call who before after (Paging home m) new (Ended (answer.Done n)) p = record { ask = paging_ask m; answer = p.1.answer; hand = refl; made = p.1.made }
 made_call who before after (Paging home m) new (Ended (answer.Trouble k)) p = record { ask = paging_ask m; answer = p.1.answer; hand = refl; made = p.1.made }
 made_call who before after (Paging home m) new turn p = absurd p
-made_call who before after (Folding home f) new More p = record { ask = folding_ask f; answer = p.1.answer; hand = refl; made = p.1.made }
-made_call who before after (Folding home f) new (Ended (answer.Done n)) p = record { ask = folding_ask f; answer = p.1.answer; hand = refl; made = p.1.made }
-made_call who before after (Folding home f) new (Ended (answer.Trouble k)) p = record { ask = folding_ask f; answer = p.1.answer; hand = refl; made = p.1.made }
+made_call who before after (Folding home f) new More p = record { ask = making_ask f; answer = p.1.answer; hand = refl; made = p.1.made }
+made_call who before after (Folding home f) new (Ended (answer.Done n)) p = record { ask = making_ask f; answer = p.1.answer; hand = refl; made = p.1.made }
+made_call who before after (Folding home f) new (Ended (answer.Trouble k)) p = record { ask = making_ask f; answer = p.1.answer; hand = refl; made = p.1.made }
 made_call who before after (Folding home f) new turn p = absurd p
 made_call who before after (Closing lease) new (Ended answer.Closed) p = record { ask = Release lease; answer = p.0.answer; hand = refl; made = p.0.made }
 made_call who before after (Closing lease) new (Ended (answer.Trouble k)) p = record { ask = Release lease; answer = p.0.answer; hand = refl; made = p.0.made }
@@ -81,7 +81,7 @@ made_call who before after (Broken lease) new turn p = absurd p
 -- a step never stops: a trouble is an answer
 pub never_stops : (who : Caller) (before after : Seen) (w new : Work) (t : Trouble) → StepsAt who before after w new (Stopped t) → ⊥
 never_stops who before after (Opening m) new t p = p.1
-never_stops who before after (Committing m) new t p = p.1
+never_stops who before after (Committing m) new t (sound, (c, (d, p))) = p
 never_stops who before after (Reading home m) new t p = p
 never_stops who before after (Paging home m) new t p = p
 never_stops who before after (Folding home f) new t p = p

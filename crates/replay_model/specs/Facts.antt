@@ -17,7 +17,8 @@ use Rattle.client_session.specs.Session.{Acting, closed_session}
 use Rattle.replay_meaning.specs.Standing.{Line, Closed, Idle, Broken, Working, Opening, Closing, Renewing, Committing, Reading as ReadingKey, Paging as PagingPage, Folding as FoldingTree, Standing, standing}
 use Rattle.replay_meaning.specs.Committed.{Versions, committed}
 use Rattle.tree_walk.specs.Walk.{sought}
-use Rattle.replay_model.specs.Running.{IsOpening, IsWriting}
+use Rattle.commit_run.specs.Run.{home_of}
+use Rattle.replay_model.specs.Running.{IsOpening, IsRunning}
 use Rattle.cloud_facts.specs.Looks.{audit_of}
 use Rattle.session_facts.specs.Sessions.{Sessions, SessionsStand}
 use Rattle.store_book.specs.Book.{Book}
@@ -64,7 +65,7 @@ abbrev pub WorksAs : Work → Standing → Type 0
 WorksAs work.Closed s = s.posture ≡ Closed
 WorksAs (work.Idle home) s = (s.posture ≡ Idle) × (s.client ≡ home.client)
 WorksAs (work.Opening r) s = (s.posture ≡ Working Opening) × (s.client ≡ r.client) × (s.buffer ≡ []) × IsOpening r
-WorksAs (work.Committing m) s = (s.posture ≡ Working (Committing m.changes)) × (s.client ≡ m.home.client) × IsWriting m
+WorksAs (work.Committing r) s = (s.posture ≡ Working (Committing r.draft.writes.changes)) × (s.client ≡ (home_of r).client) × IsRunning r
 WorksAs (work.Reading home m) s = (s.posture ≡ Working (ReadingKey m.tree (sought m))) × (s.client ≡ home.client)
 WorksAs (work.Paging home p) s = (s.posture ≡ Working (PagingPage p.tree p.page)) × (s.client ≡ home.client)
 WorksAs (work.Folding home f) s = (s.posture ≡ Working (FoldingTree f.tree)) × (s.client ≡ home.client)

@@ -10,6 +10,9 @@ use Rattle.recover_run.specs.Recovery.{Recovery}
 use Rattle.commit_writes.specs.declared.stage.Stage.{Stage as CommitStage}
 use Rattle.commit_writes.specs.declared.stage.Stage.TheVariants as commit
 use Rattle.commit_writes.specs.Writing.{Writing}
+use Rattle.commit_run.specs.declared.hand.Hand.{Hand}
+use Rattle.commit_run.specs.declared.hand.Hand.TheVariants.{Writes, First, Change}
+use Rattle.commit_run.specs.Run.{Run}
 
 -- the client's lease is in hand
 abbrev pub IsHeld : Option Claim → Type 0
@@ -50,3 +53,12 @@ WritesAt commit.Finished = ⊥
 
 abbrev pub IsWriting : Writing → Type 0
 IsWriting m = WritesAt m.stage
+
+-- a commit is at a walk, or at one of its writes
+abbrev pub RunsAt : Hand → Writing → Type 0
+RunsAt Writes w = IsWriting w
+RunsAt (First walk) w = Unit {0}
+RunsAt (Change walk) w = Unit {0}
+
+abbrev pub IsRunning : Run → Type 0
+IsRunning r = RunsAt r.hand r.draft.writes

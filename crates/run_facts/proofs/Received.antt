@@ -67,6 +67,24 @@ items_sent posts (m ∷ ms) items was e = on (λ rest q. items_sent posts ms res
         (record { place = at.0; message = at.1; id = at.2; there = at.3; reads = ap pu_of at.4 ∙ p }, again rest q)
     on again (Some rec) (Err bad) p q h = absurd (cc)
 
+-- every message that was sent is a record
+pub none_damaged : (st : Store) (tree page : ℕ) (ms : List Message) (bad : Message) → Numbers st → AllByRecursion (WasSent (st.tally.posts tree page)) ms → items_of ms ≡ Err bad → ⊥
+none_damaged st tree page [] bad numbers was e = cc
+none_damaged st tree page (m ∷ ms) bad numbers was e =
+    on (λ q. none_damaged st tree page ms bad numbers was.1 q) (pu_of m.bytes) (items_of ms) refl refl e
+  where
+    none : pu_of m.bytes ≡ None → ⊥
+    none q =
+        let at = sent_at (st.tally.posts tree page) m was.0 in
+        let r = numbers.sent tree page at.0 at.1 at.3 in
+        let no : None ≡ Some (pu_record_of r.of) = sym q ∙ (ap pu_of (sym at.4) ∙ r.reads) in
+        cc
+
+    on : (items_of ms ≡ Err bad → ⊥) → (o : Option PuRec) (g : Result (List PuItem) Message) → pu_of m.bytes ≡ o → items_of ms ≡ g → with_first m o g ≡ Err bad → ⊥
+    on again None g p q h = none p
+    on again (Some rec) (Ok rest) p q h = cc
+    on again (Some rec) (Err worse) p q h = again (q ∙ h)
+
 -- such an item is a committed record
 pub item_of : (st : Store) (tree page : ℕ) (x : PuItem) → Numbers st → IsSentItem (st.tally.posts tree page) x → IsItemOf st tree page x
 item_of st tree page x numbers s =

@@ -1,7 +1,7 @@
 -- What an operation that begins leaves.
 use Rattle.std.specs.Prelude.{false}
 use Rattle.std.proofs.Common.{◌≡◌, ◌≢◌, ◌≤◌, ◌⊎◌, inl, inr, ℕ, List, [], ◌∷◌, length, Option, Some, None, Result, Ok, Err, refl, sym, ap, subst, ◌∙◌}
-use Rattle.client_session.specs.Session.{Acting, closed_session, ReadsIn, ReadsOf, stopped_work, Begins, BeginsOpening, BeginsWith, HasInHand, folding_begun_by, paging_begun_by, opening_rule_of, opening_of, old_lease, CommitsOf, CommitsNothing, CommitsIn}
+use Rattle.client_session.specs.Session.{Acting, closed_session, ReadsIn, ReadsOf, stopped_work, Begins, BeginsOpening, BeginsWith, HasInHand, folding_begun_by, paging_begun_by, opening_rule_of, opening_of, old_lease, CommitsOf, CommitsNothing, CommitsNoted, CommitsIn}
 use Rattle.client_session.specs.declared.answer.Answer.TheVariants as answer
 use Rattle.client_session.specs.declared.answer.Begun.{Begun}
 use Rattle.client_session.specs.declared.answer.Begun.TheVariants.{Working, Answered}
@@ -9,20 +9,21 @@ use Rattle.client_session.specs.declared.op.Op.{Op}
 use Rattle.client_session.specs.declared.op.Op.TheVariants as op
 use Rattle.client_session.specs.declared.work.Work.{Work}
 use Rattle.client_session.specs.declared.work.Work.TheVariants.{Closed, Idle, Opening, Committing, Reading, Folding, Paging, Closing, Renewing, Broken}
-use Rattle.checkpoint_facts.proofs.Begins.{folding_begins}
 use Rattle.cloud_trait.specs.Claim.{Claim}
-use Rattle.cloud_trait.specs.Machine.{Goes, Ends}
+use Rattle.cloud_trait.specs.Machine.{Next, Goes, Ends}
 use Rattle.cloud_trait.specs.State.{CloudState}
-use Rattle.commit_facts.specs.Committing.{MayCommit}
-use Rattle.commit_facts.proofs.Begins.{commit_begins, commit_ends_at_once}
+use Rattle.commit_facts.specs.Committing.{MayCommit, KnowsEnd}
+use Rattle.commit_run.specs.Run.{Run, new_run, home_of, run_ready}
+use Rattle.commit_run_facts.proofs.Begins.{HasBegun, run_begins}
+use Rattle.commit_run_facts.proofs.Refusals.{IsRefusal}
 use Rattle.commit_facts.proofs.Noted.{may_none}
-use Rattle.commit_writes.specs.Writing.{Writing, waiting, writing_ready}
 use Rattle.db_base.specs.Ids.{IsClient, IsTree, IsPage}
 use Rattle.db_base.specs.declared.trouble.Trouble.{Trouble}
 use Rattle.db_base.specs.declared.trouble.Trouble.TheVariants as trouble
 use Rattle.db_base.specs.declared.refusal.Refused.{Refused}
 use Rattle.db_base.specs.declared.refusal.Refused.TheVariants as refused
 use Rattle.db_base.specs.declared.trouble.CommitAnswer.{CommitAnswer}
+use Rattle.db_base.specs.declared.trouble.CommitAnswer.TheVariants.{Committed, NotCommitted, InDoubt, CommittedOpen}
 use Rattle.home_facts.specs.Homes.{Part, Away}
 use Rattle.opening_facts.specs.Opening.{leases_of_recovery, KnowsOpening}
 use Rattle.opening_facts.proofs.Begins.{opening_begins}
@@ -31,16 +32,25 @@ use Rattle.recover_run.specs.declared.stage.Aim.TheVariants as aim
 use Rattle.page_facts.proofs.Begins.{paging_begins}
 use Rattle.recover_run.specs.Recovery.{new_recovery}
 use Rattle.report_types.specs.declared.entry.Entry.{Entry}
-use Rattle.session_facts.specs.Sessions.{leases_of, IsHome, KnowsWork, Knows, Sessions, SessionsStand, IsRightOp}
+use Rattle.session_facts.specs.Sessions.{leases_of, IsHome, KnowsWork, KnowsKept, Knows, Sessions, SessionsStand, IsRightOp}
 use Rattle.page_cache.specs.Cache.{Cache}
 use Rattle.session_facts.proofs.Troubles.{memory_or, stays_open}
-use Rattle.tree_walk.specs.Walk.{Walk, new_walk}
+use Rattle.session_facts.proofs.Kept.{KnowsBoth}
+use Rattle.tree_walk.specs.Walk.{Walk, new_walk, walk_ready}
 use Rattle.session_facts.proofs.Laws.{session_changes, session_rests, session_leaves}
 use Rattle.store_book.specs.Book.{Book}
 use Rattle.store_book.specs.Records.{IsIn}
 use Rattle.store_book.specs.Tally.{Store, at}
 use Rattle.store_book.proofs.Places.{in_none}
 use Rattle.telling_facts.specs.Told.{store_of}
+use Rattle.tree_ckpt_facts.proofs.Begins.{making_begins}
+use Rattle.walk_facts.specs.Caches.{KnowsCache}
+use Rattle.walk_facts.specs.Walks.{KnowsWalking, IsAtSeenLeaf, WalkLeads, MayStop}
+use Rattle.walk_facts.proofs.Caches.{empty_knows}
+use Rattle.walk_facts.proofs.Walks.{walk_begins}
+
+abbrev RunStep : Type 0
+RunStep = Next (Run × Cache) CommitAnswer
 
 module _ (book : Book) (order : List Entry) (s : CloudState) (sessions : Sessions) (session : ℕ) (stand : SessionsStand book order s sessions) where
   abbrev st : Store
@@ -62,17 +72,17 @@ module _ (book : Book) (order : List Entry) (s : CloudState) (sessions : Session
   -- ---- an opening
 
   -- a session without a client has no part
-  no_part : (work : Work) (part : Part) → opening_rule_of work ≡ None → KnowsWork st s.now work part → part ≡ Away
-  no_part Closed part e k = k
-  no_part (Broken l) part e k = k
-  no_part (Idle home) part e k = absurd (cc)
-  no_part (Opening r) part e k = absurd (cc)
-  no_part (Committing w) part e k = absurd (cc)
-  no_part (Reading home m) part e k = absurd (cc)
-  no_part (Folding home f) part e k = absurd (cc)
-  no_part (Paging home p) part e k = absurd (cc)
-  no_part (Closing l) part e k = absurd (cc)
-  no_part (Renewing home) part e k = absurd (cc)
+  no_part : (c : Cache) (work : Work) (part : Part) → opening_rule_of work ≡ None → KnowsWork st s.now c work part → part ≡ Away
+  no_part c Closed part e k = k
+  no_part c (Broken l) part e k = k
+  no_part c (Idle home) part e k = absurd (cc)
+  no_part c (Opening r) part e k = absurd (cc)
+  no_part c (Committing w) part e k = absurd (cc)
+  no_part c (Reading home m) part e k = absurd (cc)
+  no_part c (Folding home f) part e k = absurd (cc)
+  no_part c (Paging home p) part e k = absurd (cc)
+  no_part c (Closing l) part e k = absurd (cc)
+  no_part c (Renewing home) part e k = absurd (cc)
 
   -- its old lease is the one that it has in hand
   old_within : (work : Work) (client : ℕ) (x : Claim) → IsIn (leases_of_recovery (new_recovery client aim.Opening (old_lease work))) x → IsIn (leases_of work) x
@@ -91,8 +101,9 @@ module _ (book : Book) (order : List Entry) (s : CloudState) (sessions : Session
   opening_after_all client c none =
       session_rests book order s sessions session (record closed_session { work = opening_of client (old_lease old.work) }) stand (λ x is. old_within old.work client x is)
       (record {
-        work = subst (λ p. KnowsOpening st s.now (new_recovery client aim.Opening (old_lease old.work)) p) (sym (no_part old.work (stand.parts session) none known.work))
+        work = subst (λ p. KnowsOpening st s.now (new_recovery client aim.Opening (old_lease old.work)) p) (sym (no_part old.cache old.work (stand.parts session) none known.work))
             (opening_begins st s.now client aim.Opening (old_lease old.work) c);
+        kept = empty_knows st;
         buffer = may_none;
       })
 
@@ -105,24 +116,32 @@ module _ (book : Book) (order : List Entry) (s : CloudState) (sessions : Session
   -- ---- with a home
 
   home_known : (home : Home) → old.work ≡ Idle home → IsHome st s.now home (stand.parts session)
-  home_known home idle = subst (λ w. KnowsWork st s.now w (stand.parts session)) idle known.work
+  home_known home idle = subst (λ w. KnowsWork st s.now old.cache w (stand.parts session)) idle known.work
+
+  -- and its cache
+  cache_known : (home : Home) → old.work ≡ Idle home → KnowsCache st old.cache
+  cache_known home idle = subst (λ w. KnowsKept st old.cache w) idle known.kept
 
   mine : (home : Home) → old.work ≡ Idle home → (x : Claim) → IsIn (home.lease ∷ []) x → IsIn (leases_of old.work) x
   mine home idle x is = subst (λ (w : Work). IsIn (leases_of w) x) (sym idle) is
 
   -- what is in hand then, of the same part
   hands_on : (new : Acting) (work : Work) → MayCommit new.buffer → new.work ≡ work → ((x : Claim) → IsIn (leases_of work) x → IsIn (leases_of old.work) x)
-      → KnowsWork st s.now work (stand.parts session) → After new
+      → KnowsBoth new.cache work st s.now (stand.parts session) → After new
   hands_on new work may e fewer k =
       session_rests book order s sessions session new stand (λ x is. fewer x (subst (λ (w : Work). IsIn (leases_of w) x) e is))
-      (record { work = subst (λ w. KnowsWork st s.now w (stand.parts session)) (sym e) k; buffer = may })
+      (let both = subst (λ w. KnowsBoth new.cache w st s.now (stand.parts session)) (sym e) k in record { work = both.0; kept = both.1; buffer = may })
 
   -- and where the part is given up
   leaves_with : (new : Acting) (work : Work) → MayCommit new.buffer → new.work ≡ work → ((x : Claim) → IsIn (leases_of work) x → IsIn (leases_of old.work) x)
-      → KnowsWork st s.now work Away → After new
+      → KnowsBoth new.cache work st s.now Away → After new
   leaves_with new work may e fewer k =
       session_leaves book order s sessions session new stand (λ x is. fewer x (subst (λ (w : Work). IsIn (leases_of w) x) e is))
-      (record { work = subst (λ w. KnowsWork st s.now w Away) (sym e) k; buffer = may })
+      (let both = subst (λ w. KnowsBoth new.cache w st s.now Away) (sym e) k in record { work = both.0; kept = both.1; buffer = may })
+
+  -- the cache of a session that begins with its home and looks at nothing
+  same_kept : (new : Acting) (home : Home) → old.work ≡ Idle home → new.cache ≡ old.cache → KnowsCache st new.cache
+  same_kept new home idle e = subst (KnowsCache st) (sym e) (cache_known home idle)
 
   -- what was noted is what was noted before
   same_buffer : (new : Acting) → new.buffer ≡ old.buffer → MayCommit new.buffer
@@ -142,42 +161,62 @@ module _ (book : Book) (order : List Entry) (s : CloudState) (sessions : Session
 
   begins_close : (new : Acting) (result : Result Begun Refused) → BeginsWith (λ home. HasInHand old (Closing home.lease)) old new result → After new
   begins_close new result = begins_with (λ home. HasInHand old (Closing home.lease)) new result
-      (λ home begun idle d. leaves_with new (Closing home.lease) (same_buffer new (ap (λ (a : Acting). a.buffer) d.1)) (ap (λ (a : Acting). a.work) d.1) (mine home idle) refl)
+      (λ home begun idle d. leaves_with new (Closing home.lease) (same_buffer new (ap (λ (a : Acting). a.buffer) d.1)) (ap (λ (a : Acting). a.work) d.1) (mine home idle) (refl, same_kept new home idle (ap (λ (a : Acting). a.cache) d.1)))
 
   begins_renew : (new : Acting) (result : Result Begun Refused) → BeginsWith (λ home. HasInHand old (Renewing home)) old new result → After new
   begins_renew new result = begins_with (λ home. HasInHand old (Renewing home)) new result
-      (λ home begun idle d. hands_on new (Renewing home) (same_buffer new (ap (λ (a : Acting). a.buffer) d.1)) (ap (λ (a : Acting). a.work) d.1) (mine home idle) (home_known home idle))
+      (λ home begun idle d. hands_on new (Renewing home) (same_buffer new (ap (λ (a : Acting). a.buffer) d.1)) (ap (λ (a : Acting). a.work) d.1) (mine home idle) (home_known home idle, same_kept new home idle (ap (λ (a : Acting). a.cache) d.1)))
 
   begins_tree : (tree : ℕ) (new : Acting) (result : Result Begun Refused) → IsTree tree → BeginsWith (λ home. HasInHand old (folding_begun_by tree home)) old new result → After new
   begins_tree tree new result t = begins_with (λ home. HasInHand old (folding_begun_by tree home)) new result
-      (λ home begun idle d. hands_on new (folding_begun_by tree home) (same_buffer new (ap (λ (a : Acting). a.buffer) d.1)) (ap (λ (a : Acting). a.work) d.1) (mine home idle) (home_known home idle, folding_begins st s.now tree t))
+      (λ home begun idle d. hands_on new (folding_begun_by tree home) (same_buffer new (ap (λ (a : Acting). a.buffer) d.1)) (ap (λ (a : Acting). a.work) d.1) (mine home idle) ((home_known home idle, making_begins st s.now tree t), same_kept new home idle (ap (λ (a : Acting). a.cache) d.1)))
 
   begins_page : (tree page : ℕ) (new : Acting) (result : Result Begun Refused) → IsTree tree → IsPage page → BeginsWith (λ home. HasInHand old (paging_begun_by tree page home)) old new result → After new
   begins_page tree page new result t g = begins_with (λ home. HasInHand old (paging_begun_by tree page home)) new result
-      (λ home begun idle d. hands_on new (paging_begun_by tree page home) (same_buffer new (ap (λ (a : Acting). a.buffer) d.1)) (ap (λ (a : Acting). a.work) d.1) (mine home idle) (home_known home idle, paging_begins st s.now tree page t g))
+      (λ home begun idle d. hands_on new (paging_begun_by tree page home) (same_buffer new (ap (λ (a : Acting). a.buffer) d.1)) (ap (λ (a : Acting). a.work) d.1) (mine home idle) ((home_known home idle, paging_begins st s.now tree page t g), same_kept new home idle (ap (λ (a : Acting). a.cache) d.1)))
 
   -- ---- a commit
 
+  -- what is known where the commit leads without a call
+  ready : (home : Home) (step : RunStep) → old.work ≡ Idle home → 1 ≤ length old.buffer → run_ready (new_run home old.buffer, old.cache) ≡ step
+      → HasBegun st s.now stand.parts session home.lease step
+  ready home step idle some leads =
+      run_begins book order s stand.cloud s.now stand.parts session stand.homes home old.buffer old.cache (home_known home idle) known.buffer some (cache_known home idle) step leads
+
   -- a commit is in hand, of the home's next attempt
-  commit_well : (home : Home) (w : Writing) (new : Acting) → old.work ≡ Idle home → writing_ready (waiting home old.buffer) ≡ Goes w → 1 ≤ length old.buffer → new.buffer ≡ []
-      → new.work ≡ Committing w → After new
-  commit_well home w new idle ready some none e =
-      let begins = commit_begins st s.now stand.parts session home old.buffer w (home_known home idle) known.buffer some stand.homes stand.cloud.holds.leaves ready in
-      session_changes book order s sessions session new begins.part stand
-      (λ x is. mine home idle x (subst (λ l. IsIn (l ∷ []) x) begins.lease (subst (λ (q : Work). IsIn (leases_of q) x) e is))) begins.homes
-      (record { work = subst (λ q. KnowsWork st s.now q begins.part) (sym e) begins.knows; buffer = no_buffer new none })
+  commit_well : (home : Home) (r : Run) (new : Acting) → old.work ≡ Idle home → HasBegun st s.now stand.parts session home.lease (Goes (r, new.cache)) → new.buffer ≡ [] → new.work ≡ Committing r
+      → After new
+  commit_well home r new idle begun none e =
+      session_changes book order s sessions session new begun.part stand
+      (λ x is. mine home idle x (subst (λ l. IsIn (l ∷ []) x) begun.lease_is (subst (λ (q : Work). IsIn (leases_of q) x) e is))) begun.homes
+      (record {
+        work = subst (λ q. KnowsWork st s.now new.cache q begun.part) (sym e) begun.knows;
+        kept = subst (λ q. KnowsKept st new.cache q) (sym e) begun.knows.cache;
+        buffer = no_buffer new none;
+      })
 
-  -- a commit that is answered at once leaves the home, but for its attempt
-  ended_well : (home : Home) (w : Writing) (a : CommitAnswer) (new : Acting) → old.work ≡ Idle home → writing_ready (waiting home old.buffer) ≡ Ends w a → new.buffer ≡ []
-      → new.work ≡ Idle w.home → After new
-  ended_well home w a new idle ready none e =
-      let ended = commit_ends_at_once st s.now home old.buffer w a (stand.parts session) (home_known home idle) ready in
-      hands_on new (Idle w.home) (no_buffer new none) e (λ x is. mine home idle x (subst (λ l. IsIn (l ∷ []) x) ended.1 is)) ended.0
+  -- a commit that is answered at once leaves the home, but for its attempt and what it pruned
+  ended_well : (home : Home) (r : Run) (a : CommitAnswer) (new : Acting) → old.work ≡ Idle home → HasBegun st s.now stand.parts session home.lease (Ends (r, new.cache) a) → new.buffer ≡ []
+      → new.work ≡ Idle (home_of r) → After new
+  ended_well home r a new idle begun none e =
+      session_changes book order s sessions session new begun.part stand
+      (λ x is. mine home idle x (subst (λ l. IsIn (l ∷ []) x) begun.lease_is (subst (λ (q : Work). IsIn (leases_of q) x) e is))) begun.homes
+      (record {
+        work = subst (λ q. KnowsWork st s.now new.cache q begun.part) (sym e) (stays_home a begun.refuses begun.knows.0);
+        kept = subst (λ q. KnowsKept st new.cache q) (sym e) begun.knows.1;
+        buffer = no_buffer new none;
+      })
+    where
+      stays_home : (a : CommitAnswer) → IsRefusal a → KnowsEnd st s.now (home_of r) a begun.part → IsHome st s.now (home_of r) begun.part
+      stays_home (NotCommitted t) is k = k
+      stays_home (Committed txn) is k = absurd is
+      stays_home InDoubt is k = absurd is
+      stays_home (CommittedOpen t) is k = absurd is
 
-  commits_of : (home : Home) (new : Acting) (begun : Begun) → old.work ≡ Idle home → new.buffer ≡ [] → 1 ≤ length old.buffer → CommitsOf home old.buffer new.work begun → After new
-  commits_of home new Working idle none some (w, ready, e) = commit_well home w new idle ready some none e
-  commits_of home new (Answered (answer.Commit a)) idle none some (w, ready, e) = ended_well home w a new idle ready none e
-  commits_of home new (Answered (answer.Trouble t)) idle none some (memory, e) = leaves_with new (Broken home.lease) (no_buffer new none) e (mine home idle) refl
+  commits_of : (home : Home) (new : Acting) (begun : Begun) → old.work ≡ Idle home → new.buffer ≡ [] → 1 ≤ length old.buffer → CommitsOf home old.buffer old.cache new.cache new.work begun → After new
+  commits_of home new Working idle none some (r, leads, e) = commit_well home r new idle (ready home _ idle some leads) none e
+  commits_of home new (Answered (answer.Commit a)) idle none some (r, leads, e) = ended_well home r a new idle (ready home _ idle some leads) none e
+  commits_of home new (Answered (answer.Trouble t)) idle none some (memory, e) = leaves_with new (Broken home.lease) (no_buffer new none) e (mine home idle) (refl, tt)
   commits_of home new (Answered (answer.Opened epoch)) idle none some never = absurd never
   commits_of home new (Answered answer.Closed) idle none some never = absurd never
   commits_of home new (Answered (answer.Renewed end)) idle none some never = absurd never
@@ -185,44 +224,56 @@ module _ (book : Book) (order : List Entry) (s : CloudState) (sessions : Session
   commits_of home new (Answered answer.Value) idle none some never = absurd never
 
   begins_commit : (new : Acting) (result : Result Begun Refused) → BeginsWith (CommitsIn old) old new result → After new
-  begins_commit new result = begins_with (CommitsIn old) new result (λ home begun idle d. on home begun idle d.0 d.1)
+  begins_commit new result = begins_with (CommitsIn old) new result (λ home begun idle d. on home begun idle d.0 d.1.0)
     where
-      on : (home : Home) (begun : Begun) → old.work ≡ Idle home → new.buffer ≡ [] → CommitsNothing home old.buffer new.work begun ⊎ ((1 ≤ length old.buffer) × CommitsOf home old.buffer new.work begun)
-          → After new
-      on home begun idle none (inl nothing) = hands_on new (Idle home) (no_buffer new none) nothing.work_is (mine home idle) (home_known home idle)
+      on : (home : Home) (begun : Begun) → old.work ≡ Idle home → new.buffer ≡ [] → CommitsNoted home old.buffer old.cache new.cache new.work begun → After new
+      on home begun idle none (inl nothing) =
+          hands_on new (Idle home) (no_buffer new none) nothing.work_is (mine home idle) (home_known home idle, same_kept new home idle nothing.cache_is)
       on home begun idle none (inr p) = commits_of home new begun idle none p.0 p.1
 
   -- ---- a read
 
   -- the client stays open, unless memory ran out
-  stops_well : (home : Home) (t : Trouble) (new : Acting) → old.work ≡ Idle home → new.buffer ≡ old.buffer → new.work ≡ stopped_work t home → After new
-  stops_well home t new idle same e = on (memory_or t)
+  stops_well : (home : Home) (t : Trouble) (new : Acting) → old.work ≡ Idle home → new.buffer ≡ old.buffer → new.work ≡ stopped_work t home → (t ≢ trouble.Memory → KnowsCache st new.cache)
+      → After new
+  stops_well home t new idle same e looks = on (memory_or t)
     where
       on : (t ≡ trouble.Memory) ⊎ (t ≢ trouble.Memory) → After new
-      on (inl memory) = leaves_with new (Broken home.lease) (same_buffer new same) (e ∙ ap (λ k. stopped_work k home) memory) (mine home idle) refl
-      on (inr other) = hands_on new (Idle home) (same_buffer new same) (e ∙ stays_open home t other) (mine home idle) (home_known home idle)
+      on (inl memory) = leaves_with new (Broken home.lease) (same_buffer new same) (e ∙ ap (λ k. stopped_work k home) memory) (mine home idle) (refl, tt)
+      on (inr other) = hands_on new (Idle home) (same_buffer new same) (e ∙ stays_open home t other) (mine home idle) (home_known home idle, looks other)
 
-  reads_of : (home : Home) (start : Walk) (c d : Cache) (read : Option Walk) (new : Acting) (begun : Begun) → old.work ≡ Idle home → new.buffer ≡ old.buffer
-      → ReadsOf home start c d new.work read begun → After new
-  reads_of home start c d read new Working idle same (m, ready, e, none) = hands_on new (Reading home m) (same_buffer new same) e (mine home idle) (home_known home idle)
-  reads_of home start c d read new (Answered answer.Value) idle same (m, page, ready, e, is) = hands_on new (Idle home) (same_buffer new same) e (mine home idle) (home_known home idle)
-  reads_of home start c d read new (Answered (answer.Trouble t)) idle same (m, ready, e, is) = stops_well home t new idle same e
-  reads_of home start c d read new (Answered (answer.Opened epoch)) idle same never = absurd never
-  reads_of home start c d read new (Answered answer.Closed) idle same never = absurd never
-  reads_of home start c d read new (Answered (answer.Renewed end)) idle same never = absurd never
-  reads_of home start c d read new (Answered (answer.Commit a)) idle same never = absurd never
-  reads_of home start c d read new (Answered (answer.Done n)) idle same never = absurd never
+  -- what is known where the walk leads without a call
+  walks : (tree : ℕ) (key : List ℕ) (home : Home) → IsTree tree → old.work ≡ Idle home → WalkLeads st MayStop (walk_ready (new_walk tree (Some key) false, old.cache))
+  walks tree key home is idle =
+      let begins = walk_begins st stand.cloud.holds.chains tree (Some key) false old.cache is (cache_known home idle) in
+      subst (WalkLeads st MayStop) (sym begins.1) begins.2
 
-  begins_read : (tree : ℕ) (key : List ℕ) (new : Acting) (result : Result Begun Refused) → BeginsWith (ReadsIn tree key old) old new result → After new
-  begins_read tree key new result = begins_with (ReadsIn tree key old) new result
-      (λ home begun idle d. reads_of home (new_walk tree (Some key) false) old.cache new.cache new.read new begun idle d.0 d.1)
+  reads_of : (tree : ℕ) (key : List ℕ) (home : Home) (new : Acting) (begun : Begun) → IsTree tree → old.work ≡ Idle home → new.buffer ≡ old.buffer
+      → ReadsOf home (new_walk tree (Some key) false) old.cache new.cache new.work new.read begun → After new
+  reads_of tree key home new Working is idle same (m, leads, e, none) =
+      let k : KnowsWalking st m new.cache = subst (WalkLeads st MayStop) leads (walks tree key home is idle) in
+      hands_on new (Reading home m) (same_buffer new same) e (mine home idle) ((home_known home idle, k.walk), k.cache)
+  reads_of tree key home new (Answered answer.Value) is idle same (m, page, leads, e, some) =
+      let k : KnowsWalking st m new.cache × IsAtSeenLeaf st m new.cache page = subst (WalkLeads st MayStop) leads (walks tree key home is idle) in
+      hands_on new (Idle home) (same_buffer new same) e (mine home idle) (home_known home idle, k.0.cache)
+  reads_of tree key home new (Answered (answer.Trouble t)) is idle same (m, leads, e, none) =
+      stops_well home t new idle same e
+      (λ other. let k : KnowsWalking st m new.cache × MayStop t = subst (WalkLeads st MayStop) (leads other) (walks tree key home is idle) in k.0.cache)
+  reads_of tree key home new (Answered (answer.Opened epoch)) is idle same never = absurd never
+  reads_of tree key home new (Answered answer.Closed) is idle same never = absurd never
+  reads_of tree key home new (Answered (answer.Renewed end)) is idle same never = absurd never
+  reads_of tree key home new (Answered (answer.Commit a)) is idle same never = absurd never
+  reads_of tree key home new (Answered (answer.Done n)) is idle same never = absurd never
+
+  begins_read : (tree : ℕ) (key : List ℕ) (new : Acting) (result : Result Begun Refused) → IsTree tree → BeginsWith (ReadsIn tree key old) old new result → After new
+  begins_read tree key new result is = begins_with (ReadsIn tree key old) new result (λ home begun idle d. reads_of tree key home new begun is idle d.0 d.1)
 
   begins_all : (o : Op) (new : Acting) (result : Result Begun Refused) → IsRightOp o → Begins o old new result → After new
   begins_all (op.Open client) new result right b = begins_opening client new result right b
   begins_all op.Close new result right b = begins_close new result b
   begins_all op.Renew new result right b = begins_renew new result b
   begins_all op.Commit new result right b = begins_commit new result b
-  begins_all (op.Read tree key) new result right b = begins_read tree key new result b
+  begins_all (op.Read tree key) new result right b = begins_read tree key new result right b
   begins_all (op.Tree tree) new result right b = begins_tree tree new result right b
   begins_all (op.Page tree page) new result right b = begins_page tree page new result right.0 right.1 b
 

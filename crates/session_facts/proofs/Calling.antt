@@ -3,38 +3,39 @@ use Rattle.std.proofs.Common.{◌≡◌, ◌≢◌, ◌≤◌, ◌⊎◌, inl, i
 use Rattle.std.specs.Prelude.{map}
 use Rattle.std.proofs.lemmas.Bool.{cases_eq}
 use Rattle.std.proofs.lemmas.List.{append-nil}
-use Rattle.client_session.specs.Session.{Acting, StepsSession, StepsWork, StepsAt, Shows, ask_of_work, opens_of, committing_of, applying_of, is_working, noted_behind}
+use Rattle.client_session.specs.Session.{Acting, StepsSession, StepsWork, StepsAt, Shows, ShowsAt, ask_of_work, opens_of, committing_of, applying_of, is_working, noted_behind, shown_behind}
 use Rattle.client_session.specs.declared.answer.Answer.{Answer}
 use Rattle.client_session.specs.declared.work.Work.{Work}
 use Rattle.client_session.specs.declared.work.Work.TheVariants.{Closed, Idle, Opening, Committing, Reading, Folding, Paging, Closing, Renewing, Broken}
 use Rattle.cloud_facts.specs.Acting.{Setting, Outcome}
 use Rattle.cloud_facts.specs.Looks.{has_landed, audit_of}
-use Rattle.cloud_facts.proofs.Outcomes.{none_lands}
+use Rattle.cloud_facts.proofs.Outcomes.{none_lands, weaker}
 use Rattle.cloud_trait.proofs.EffectLemmas.{begins_itself}
 use Rattle.cloud_trait.specs.declared.turn.Turn.{Turn}
 use Rattle.cloud_trait.specs.Ask.{Ask, Get, GetHeld, PutHeld, Send, Receive, Delete, Take, Renew, Release}
 use Rattle.cloud_trait.specs.Caller.{Caller}
+use Rattle.cloud_trait.specs.Claim.{Claim}
 use Rattle.cloud_trait.specs.Seen.{Seen}
 use Rattle.cloud_trait.specs.State.{CloudState, newest}
 use Rattle.commit_facts.specs.Committing.{MayCommit}
 use Rattle.commit_facts.proofs.Noted.{may_none}
-use Rattle.checkpoint_facts.specs.Checkpoint.{folding_note}
-use Rattle.commit_facts.specs.Noting.{commit_note}
-use Rattle.commit_writes.specs.Writing.{writing_ask}
+use Rattle.commit_run.specs.Run.{run_ask}
+use Rattle.commit_run_facts.specs.Noting.{run_note}
 use Rattle.db_base.specs.declared.names.ObjName.TheVariants as object
 use Rattle.db_base.specs.declared.refusal.Refused.{Refused}
 use Rattle.db_base.specs.declared.refusal.Refused.TheVariants as refused
-use Rattle.first_tree.specs.Folding.{folding_ask}
 use Rattle.history.specs.Audited.{Audited, applied_entry}
 use Rattle.home_facts.specs.Homes.{Part, Parts}
+use Rattle.page_cache.specs.Cache.{Cache}
 use Rattle.page_ckpt.specs.Paging.{paging_ask}
 use Rattle.page_facts.specs.Checkpoint.{paging_note}
 use Rattle.recover_run.specs.Recovery.{recovery_ask}
 use Rattle.report_types.specs.declared.entry.Entry.{Entry}
 use Rattle.session_facts.specs.Noting.{noted_head, noted_at, noted_in_hand, audited}
-use Rattle.session_facts.specs.Sessions.{leases_of, KnowsWork, Sessions, SessionsStand, Goes}
-use Rattle.session_facts.proofs.CommitSteps.{commit_step, commit_noted}
-use Rattle.session_facts.proofs.FoldingSteps.{folding_step, folding_noted}
+use Rattle.session_facts.specs.Sessions.{leases_of, KnowsWork, KnowsKept, Sessions, SessionsStand, Goes}
+use Rattle.session_facts.proofs.CommitSteps.{commit_step, run_noted}
+use Rattle.session_facts.proofs.FoldingSteps.{making_step, making_noted}
+use Rattle.session_facts.proofs.Kept.{KnowsBoth, both_shown}
 use Rattle.session_facts.proofs.Laws.{call_goes, same_sessions, setting_of, known_at}
 use Rattle.session_facts.proofs.LeaseSteps.{IsStepOf, closing_step, renewing_step}
 use Rattle.session_facts.proofs.OpeningSteps.{opening_step}
@@ -45,7 +46,10 @@ use Rattle.store_book.specs.Book.{Book}
 use Rattle.store_book.specs.Tally.{Store, at}
 use Rattle.store_book.proofs.Names.{at_same, at_other}
 use Rattle.telling_facts.specs.Told.{store_of}
+use Rattle.tree_ckpt.specs.Making.{making_ask}
+use Rattle.tree_ckpt_facts.specs.Checkpoint.{making_note}
 use Rattle.txn_buffer.specs.Noted.{Noted}
+use Rattle.walk_facts.specs.Caches.{KnowsCache}
 
 -- ---- what the audit takes
 
@@ -68,15 +72,15 @@ nothing_noted work (Renew l ticks) a opens applies = refl
 nothing_noted work (Release l) a opens applies = refl
 
 -- the same is added by another way of saying it
-renoted : (who : Caller) (book : Book) (order : List Entry) (s t : CloudState) (parts : Parts) (ask : Ask) (note other : Audited → Audited) (K : Store → ℕ → Part → Type 0)
-    → note (audit_of book order) ≡ other (audit_of book order) → Outcome who book order s t parts ask note K → Outcome who book order s t parts ask other K
-renoted who book order s t parts ask note other K same o = record {
+renoted : (who : Caller) (book : Book) (order : List Entry) (s t : CloudState) (parts : Parts) (mine : List Claim) (ask : Ask) (note other : Audited → Audited) (K : Store → ℕ → Part → Type 0)
+    → note (audit_of book order) ≡ other (audit_of book order) → Outcome who book order s t parts mine ask note K → Outcome who book order s t parts mine ask other K
+renoted who book order s t parts mine ask note other K same o = record {
   book_after = o.book_after;
   order_after = o.order_after;
   cloud = o.cloud;
-  lone = o.lone;
   passes = o.passes;
   joins = o.joins;
+  links = o.links;
   part = o.part;
   homes = o.homes;
   knows = o.knows;
@@ -114,68 +118,88 @@ module _ (who : Caller) (before after : Seen) (s t : CloudState) (book : Book) (
   old = (sessions who.session).work
 
   -- a step of what is at work, as it is said of all sessions
-  goes_by : (ask : Ask) (note : Audited → Audited) → ask_of_work old ≡ Some ask → note (audit_of book order) ≡ noted_at old ask (audit_of book order)
-      → IsStepOf who book order s t stand.parts ask note old new.work → Goes book order s t sessions who.session new
-  goes_by ask note asks same step =
+  goes_by : (ask : Ask) (note : Audited → Audited) (c : Cache) → ask_of_work old ≡ Some ask → note (audit_of book order) ≡ noted_at old ask (audit_of book order)
+      → new.cache ≡ shown_behind new.work c → IsStepOf who book order s t stand.parts ask note old new.work c → Goes book order s t sessions who.session new
+  goes_by ask note c asks same shown step =
       call_goes who s t book order sessions new ask step.reply stand may step.call asks step.handles
-      (renoted who book order s t stand.parts ask note (noted_at old ask) (λ st now part. KnowsWork st now new.work part) same step.outcome)
+      (subst (λ (k : Cache). Outcome who book order s t stand.parts (leases_of old) ask (noted_at old ask) (KnowsBoth k new.work)) (sym shown)
+      (weaker who book order s t stand.parts (leases_of old) ask (noted_at old ask) (KnowsBoth c new.work) (KnowsBoth (shown_behind new.work c) new.work) (both_shown c new.work)
+      (renoted who book order s t stand.parts (leases_of old) ask note (noted_at old ask) (KnowsBoth c new.work) same step.outcome)))
 
   abbrev st : Store
   st = store_of book order s
 
-  abbrev Stepped : Ask → (Audited → Audited) → Work → Type 0
-  Stepped ask note work = IsStepOf who book order s t stand.parts ask note work new.work
+  abbrev Stepped : Ask → (Audited → Audited) → Cache → Work → Type 0
+  Stepped ask note c work = IsStepOf who book order s t stand.parts ask note work new.work c
+
+  abbrev kept : Cache
+  kept = (sessions who.session).cache
 
   -- what stands before it and what is known, at the clock that it leaves
   setting_at : (work : Work) → old ≡ work → s.now ≤ t.now → Setting book order s t.now stand.parts who.session (leases_of work)
   setting_at work is later = subst (λ w. Setting book order s t.now stand.parts who.session (leases_of w)) is (setting_of book order s sessions stand t.now who.session later)
 
-  known_now : (work : Work) → old ≡ work → KnowsWork st s.now work (stand.parts who.session)
-  known_now work is = subst (λ w. KnowsWork st s.now w (stand.parts who.session)) is (stand.each who.session).work
+  known_now : (work : Work) → old ≡ work → KnowsWork st s.now kept work (stand.parts who.session)
+  known_now work is = subst (λ w. KnowsWork st s.now kept w (stand.parts who.session)) is (stand.each who.session).work
 
-  known_in : (work : Work) → old ≡ work → s.now ≤ t.now → KnowsWork st t.now work (stand.parts who.session)
-  known_in work is later = subst (λ w. KnowsWork st t.now w (stand.parts who.session)) is (known_at book order s sessions stand t.now who.session later)
+  known_in : (work : Work) → old ≡ work → s.now ≤ t.now → KnowsWork st t.now kept work (stand.parts who.session)
+  known_in work is later = subst (λ w. KnowsWork st t.now kept w (stand.parts who.session)) is (known_at book order s sessions stand t.now who.session later)
 
-  works : (work : Work) (turn : Turn Answer) → old ≡ work → StepsAt who before after work new.work turn → Goes book order s t sessions who.session new
-  works (Opening r) turn is steps =
-      goes_by (recovery_ask r) (λ a. a) (ap ask_of_work is) (sym (ap (λ w. noted_at w (recovery_ask r) (audit_of book order)) is ∙ nothing_noted (Opening r) (recovery_ask r) (audit_of book order) refl refl))
-      (subst (Stepped (recovery_ask r) (λ a. a)) (sym is)
-      (opening_step who before after book order s t stand.parts r (setting_at (Opening r) is) (known_in (Opening r) is) steps.0 told told_after new.work turn steps.1))
-  works (Committing w) turn is steps =
-      goes_by (writing_ask w) (commit_note w (writing_ask w)) (ap ask_of_work is)
-      (sym (ap (λ q. noted_at q (writing_ask w) (audit_of book order)) is ∙ commit_noted w (writing_ask w) (audit_of book order) refl))
-      (subst (Stepped (writing_ask w) (commit_note w (writing_ask w))) (sym is)
-      (commit_step who before after book order s t stand.parts w (setting_at (Committing w) is) (known_in (Committing w) is) steps.0 told told_after new.work turn steps.1))
-  works (Reading home m) turn is steps =
-      goes_by (walk_ask m) (λ a. a) (ap ask_of_work is) (sym (ap (λ w. noted_at w (walk_ask m) (audit_of book order)) is ∙ nothing_noted (Reading home m) (walk_ask m) (audit_of book order) refl refl))
-      (subst (Stepped (walk_ask m) (λ a. a)) (sym is)
-      (reading_step who before after book order s t stand.parts home m (setting_at (Reading home m) is) (known_in (Reading home m) is) told told_after new.work turn steps))
-  works (Folding home f) turn is steps =
-      goes_by (folding_ask f) (folding_note f (folding_ask f)) (ap ask_of_work is)
-      (sym (ap (λ q. noted_at q (folding_ask f) (audit_of book order)) is ∙ folding_noted home f (folding_ask f) (audit_of book order)))
-      (subst (Stepped (folding_ask f) (folding_note f (folding_ask f))) (sym is)
-      (folding_step who before after book order s t stand.parts home f (setting_at (Folding home f) is) (known_now (Folding home f) is).0 (known_now (Folding home f) is).1 told told_after new.work turn steps))
-  works (Paging home p) turn is steps =
-      goes_by (paging_ask p) (paging_note p (paging_ask p)) (ap ask_of_work is)
-      (sym (ap (λ q. noted_at q (paging_ask p) (audit_of book order)) is ∙ paging_noted home p (paging_ask p) (audit_of book order)))
-      (subst (Stepped (paging_ask p) (paging_note p (paging_ask p))) (sym is)
-      (paging_step who before after book order s t stand.parts home p (setting_at (Paging home p) is) (known_now (Paging home p) is).0 (known_now (Paging home p) is).1 told told_after new.work turn steps))
-  works (Closing l) turn is steps =
-      goes_by (Release l) (λ a. a) (ap ask_of_work is) (sym (ap (λ w. noted_at w (Release l) (audit_of book order)) is))
-      (subst (Stepped (Release l) (λ a. a)) (sym is)
-      (closing_step who before after book order s t stand.parts l (setting_at (Closing l) is) (known_now (Closing l) is) told told_after
+  cache_now : (work : Work) → old ≡ work → KnowsKept st kept work
+  cache_now work is = subst (λ w. KnowsKept st kept w) is (stand.each who.session).kept
+
+  -- the cache is as it was
+  same_cache : (c : Cache) → c ≡ kept → KnowsCache st kept → KnowsCache st c
+  same_cache c same k = subst (KnowsCache st) (sym same) k
+
+  works : (work : Work) (turn : Turn Answer) (c : Cache) → old ≡ work → StepsAt who before after work new.work turn → ShowsAt who before after work kept c new.work new.read turn
+      → new.cache ≡ shown_behind new.work c → Goes book order s t sessions who.session new
+  works (Opening r) turn c is steps shown left =
+      goes_by (recovery_ask r) (λ a. a) c (ap ask_of_work is)
+      (sym (ap (λ w. noted_at w (recovery_ask r) (audit_of book order)) is ∙ nothing_noted (Opening r) (recovery_ask r) (audit_of book order) refl refl)) left
+      (subst (Stepped (recovery_ask r) (λ a. a) c) (sym is)
+      (opening_step who before after book order s t stand.parts r (setting_at (Opening r) is) (known_in (Opening r) is) steps.0 c (same_cache c shown.0 (cache_now (Opening r) is)) told told_after
+      new.work turn steps.1))
+  works (Committing r) turn c is steps shown left =
+      goes_by (run_ask r) (run_note r (run_ask r)) c (ap ask_of_work is)
+      (sym (ap (λ q. noted_at q (run_ask r) (audit_of book order)) is ∙ run_noted r (run_ask r) (audit_of book order) refl)) left
+      (subst (Stepped (run_ask r) (run_note r (run_ask r)) c) (sym is)
+      (commit_step who before after book order s t stand.parts r kept c (setting_at (Committing r) is) (known_in (Committing r) is) steps.0 told told_after new.work turn shown.0))
+  works (Reading home w) turn c is steps shown left =
+      goes_by (walk_ask w) (λ a. a) c (ap ask_of_work is)
+      (sym (ap (λ q. noted_at q (walk_ask w) (audit_of book order)) is ∙ nothing_noted (Reading home w) (walk_ask w) (audit_of book order) refl refl)) left
+      (subst (Stepped (walk_ask w) (λ a. a) c) (sym is)
+      (reading_step who before after book order s t stand.parts home w (setting_at (Reading home w) is) (λ later. (known_in (Reading home w) is later).0) (known_now (Reading home w) is).1
+      kept c (cache_now (Reading home w) is) told told_after new.work new.read turn shown))
+  works (Folding home m) turn c is steps shown left =
+      goes_by (making_ask m) (making_note m (making_ask m)) c (ap ask_of_work is)
+      (sym (ap (λ q. noted_at q (making_ask m) (audit_of book order)) is ∙ making_noted home m (making_ask m) (audit_of book order))) left
+      (subst (Stepped (making_ask m) (making_note m (making_ask m)) c) (sym is)
+      (making_step who before after book order s t stand.parts home m (setting_at (Folding home m) is) (known_now (Folding home m) is).0 (known_now (Folding home m) is).1
+      c (same_cache c shown.0 (cache_now (Folding home m) is)) told told_after new.work turn steps))
+  works (Paging home p) turn c is steps shown left =
+      goes_by (paging_ask p) (paging_note p (paging_ask p)) c (ap ask_of_work is)
+      (sym (ap (λ q. noted_at q (paging_ask p) (audit_of book order)) is ∙ paging_noted home p (paging_ask p) (audit_of book order))) left
+      (subst (Stepped (paging_ask p) (paging_note p (paging_ask p)) c) (sym is)
+      (paging_step who before after book order s t stand.parts home p (setting_at (Paging home p) is) (known_now (Paging home p) is).0 (known_now (Paging home p) is).1
+      c (same_cache c shown.0 (cache_now (Paging home p) is)) told told_after new.work turn steps))
+  works (Closing l) turn c is steps shown left =
+      goes_by (Release l) (λ a. a) c (ap ask_of_work is) (sym (ap (λ w. noted_at w (Release l) (audit_of book order)) is)) left
+      (subst (Stepped (Release l) (λ a. a) c) (sym is)
+      (closing_step who before after book order s t stand.parts l (setting_at (Closing l) is) (known_now (Closing l) is) c (same_cache c shown.0 (cache_now (Closing l) is)) told told_after
       new.work turn steps))
-  works (Renewing home) turn is steps =
-      goes_by (Renew home.lease 600) (λ a. a) (ap ask_of_work is) (sym (ap (λ w. noted_at w (Renew home.lease 600) (audit_of book order)) is))
-      (subst (Stepped (Renew home.lease 600) (λ a. a)) (sym is)
-      (renewing_step who before after book order s t stand.parts home (setting_at (Renewing home) is) (known_in (Renewing home) is) told told_after new.work turn steps))
-  works Closed turn is never = absurd never
-  works (Idle home) turn is never = absurd never
-  works (Broken l) turn is never = absurd never
+  works (Renewing home) turn c is steps shown left =
+      goes_by (Renew home.lease 600) (λ a. a) c (ap ask_of_work is) (sym (ap (λ w. noted_at w (Renew home.lease 600) (audit_of book order)) is)) left
+      (subst (Stepped (Renew home.lease 600) (λ a. a) c) (sym is)
+      (renewing_step who before after book order s t stand.parts home (setting_at (Renewing home) is) (known_in (Renewing home) is) c (same_cache c shown.0 (cache_now (Renewing home) is))
+      told told_after new.work turn steps))
+  works Closed turn c is never shown left = absurd never
+  works (Idle home) turn c is never shown left = absurd never
+  works (Broken l) turn c is never shown left = absurd never
 
   steps_keep : (result : Result (Turn Answer) Refused) → new.buffer ≡ noted_behind old (sessions who.session).buffer → Shows who before after (sessions who.session) new result
       → StepsWork who before after old new.work result → Goes book order s t sessions who.session new
-  steps_keep (Ok turn) buffer shown steps = works old turn refl steps
+  steps_keep (Ok turn) buffer shown steps = works old turn shown.0 refl steps shown.1.0 shown.1.1
   steps_keep (Err (refused.Rule r)) buffer shown steps =
       idle_goes s t book order sessions who.session new (state_is t s (sym told_after ∙ (ap (λ (x : Seen). x.state) steps.3 ∙ told)))
       (λ i. record { buffer = (buffer ∙ stays old steps.1) i; work = steps.2 i; cache = shown.0 i; read = shown.1 i }) stand

@@ -1,8 +1,5 @@
 -- One step of a session's tree checkpoint.
 use Rattle.std.proofs.Common.{◌≡◌, ◌≤◌, ℕ, List, [], ◌∷◌, Some, refl, sym, subst}
-use Rattle.checkpoint_facts.specs.Checkpoint.{KnowsFolding, KnowsAfter, folding_note}
-use Rattle.checkpoint_facts.proofs.Hands.{folding_handles, folding_home_handles}
-use Rattle.checkpoint_facts.proofs.Steps.{folding_outcome}
 use Rattle.client_session.specs.Session.{StepsFolding, stopped_work}
 use Rattle.client_session.specs.declared.answer.Answer.{Answer}
 use Rattle.client_session.specs.declared.answer.Answer.TheVariants as answer
@@ -25,83 +22,91 @@ use Rattle.cloud_trait.specs.Weather.{Makes}
 use Rattle.db_base.specs.declared.names.ObjName.TheVariants as object
 use Rattle.db_base.specs.declared.trouble.Trouble.{Trouble}
 use Rattle.db_base.specs.declared.trouble.Trouble.TheVariants as trouble
-use Rattle.first_tree.specs.Folding.{Folding, FoldingLeads, folding_ask}
 use Rattle.history.specs.Audited.{Audited}
 use Rattle.home_facts.specs.Homes.{Part, Parts}
+use Rattle.page_cache.specs.Cache.{Cache}
 use Rattle.recover_run.specs.declared.home.Home.{Home}
 use Rattle.report_types.specs.declared.entry.Entry.{Entry}
 use Rattle.session_facts.specs.Noting.{noted_at}
 use Rattle.session_facts.specs.Sessions.{leases_of, IsHome, KnowsWork}
+use Rattle.session_facts.proofs.Kept.{KnowsBoth, with_cache}
 use Rattle.session_facts.proofs.LeaseSteps.{IsStepOf}
 use Rattle.store_book.specs.Book.{Book}
+use Rattle.store_book.specs.Growth.{Grows}
 use Rattle.store_book.specs.Tally.{Store}
 use Rattle.telling_facts.specs.Told.{store_of}
+use Rattle.walk_facts.specs.Caches.{KnowsCache}
+use Rattle.tree_ckpt.specs.Making.{Making, MakingLeads, making_ask}
+use Rattle.tree_ckpt_facts.specs.Checkpoint.{KnowsMaking, KnowsAfter, making_note}
+use Rattle.tree_ckpt_facts.proofs.Hands.{making_handles, making_home_handles}
+use Rattle.tree_ckpt_facts.proofs.Steps.{making_outcome}
 
 -- what the audit takes
-pub folding_noted : (home : Home) (f : Folding) (ask : Ask) (a : Audited) → noted_at (FoldingTree home f) ask a ≡ folding_note f ask a
-folding_noted home f (PutHeld (object.Head client) bytes one two) a = refl
-folding_noted home f (PutHeld (object.Page tree page) bytes one two) a = refl
-folding_noted home f (PutHeld (object.Tree tree) bytes one two) a = refl
-folding_noted home f (Get name) a = refl
-folding_noted home f (GetHeld name l) a = refl
-folding_noted home f (Send queue bytes) a = refl
-folding_noted home f (Receive queue most) a = refl
-folding_noted home f (Delete queue id) a = refl
-folding_noted home f (Take lock ticks) a = refl
-folding_noted home f (Renew l ticks) a = refl
-folding_noted home f (Release l) a = refl
+pub making_noted : (home : Home) (m : Making) (ask : Ask) (a : Audited) → noted_at (FoldingTree home m) ask a ≡ making_note m ask a
+making_noted home m (PutHeld (object.Head client) bytes one two) a = refl
+making_noted home m (PutHeld (object.Page tree page) bytes one two) a = refl
+making_noted home m (PutHeld (object.Tree tree) bytes one two) a = refl
+making_noted home m (Get name) a = refl
+making_noted home m (GetHeld name l) a = refl
+making_noted home m (Send queue bytes) a = refl
+making_noted home m (Receive queue most) a = refl
+making_noted home m (Delete queue id) a = refl
+making_noted home m (Take lock ticks) a = refl
+making_noted home m (Renew l ticks) a = refl
+making_noted home m (Release l) a = refl
 
-module _ (who : Caller) (before after : Seen) (book : Book) (order : List Entry) (s t : CloudState) (parts : Parts) (home : Home) (f : Folding)
-    (setting : s.now ≤ t.now → Setting book order s t.now parts who.session (leases_of (FoldingTree home f)))
-    (knows_home : IsHome (store_of book order s) s.now home (parts who.session)) (knows : KnowsFolding (store_of book order s) s.now f)
-    (e : before.state ≡ Some s) (g : after.state ≡ Some t) where
+module _ (who : Caller) (before after : Seen) (book : Book) (order : List Entry) (s t : CloudState) (parts : Parts) (home : Home) (m : Making)
+    (setting : s.now ≤ t.now → Setting book order s t.now parts who.session (leases_of (FoldingTree home m)))
+    (knows_home : IsHome (store_of book order s) s.now home (parts who.session)) (knows : KnowsMaking (store_of book order s) s.now m)
+    (c : Cache) (kept : KnowsCache (store_of book order s) c) (e : before.state ≡ Some s) (g : after.state ≡ Some t) where
   abbrev st : Store
   st = store_of book order s
 
   abbrev note : Audited → Audited
-  note = folding_note f (folding_ask f)
+  note = making_note m (making_ask m)
 
   abbrev Stepped : Work → Type 0
-  Stepped work = IsStepOf who book order s t parts (folding_ask f) note (FoldingTree home f) work
+  Stepped work = IsStepOf who book order s t parts (making_ask m) note (FoldingTree home m) work c
 
-  module _ (reply : Reply) (made : Makes who (folding_ask f) reply before after) where
-    call : IsCall who (folding_ask f) reply s t
-    call = call_of who (folding_ask f) reply before after s t made e g
+  module _ (reply : Reply) (made : Makes who (making_ask m) reply before after) where
+    call : IsCall who (making_ask m) reply s t
+    call = call_of who (making_ask m) reply before after s t made e g
 
     abbrev Known : Store → ℕ → Part → Type 0
-    Known = Aside st (parts who.session) (KnowsAfter f reply)
+    Known = Aside st (parts who.session) (KnowsAfter m reply)
 
-    outcome : Outcome who book order s t parts (folding_ask f) note Known
-    outcome = folding_outcome who s t book order parts (leases_of (FoldingTree home f)) f reply (setting call.later) knows call
+    outcome : Outcome who book order s t parts (leases_of (FoldingTree home m)) (making_ask m) note Known
+    outcome = making_outcome who s t book order parts (leases_of (FoldingTree home m)) m reply (setting call.later) knows call
 
-    home_handles : Handles who s t (folding_ask f) reply (leases_of (FoldingTree home f)) (home.lease ∷ [])
-    home_handles = folding_home_handles who s t book order parts (leases_of (FoldingTree home f)) f reply (setting call.later) knows call home.lease home.client knows_home.lock_is
+    home_handles : Handles who s t (making_ask m) reply (leases_of (FoldingTree home m)) (home.lease ∷ [])
+    home_handles = making_home_handles who s t book order parts (leases_of (FoldingTree home m)) m reply (setting call.later) knows call home.lease home.client knows_home.lock_is
 
     -- the home is as it was
-    at_home : (u : Store) (part : Part) → Known u t.now part → IsHome u t.now home part
-    at_home u part a = home_aside st u s.now t.now home.client home.lease home.head home.attempt (parts who.session) part (KnowsAfter f reply) call.later knows_home a
+    at_home : (u : Store) (part : Part) → Grows st u → Known u t.now part → IsHome u t.now home part
+    at_home u part grows a = home_aside st u s.now t.now home.client home.lease home.head home.attempt (parts who.session) part (KnowsAfter m reply) call.later grows knows_home a
 
     -- what is known by the whole outcome, at the clock that the call leaves
-    known_as : (work : Work) → ((u : Store) (part : Part) → Known u t.now part → KnowsWork u t.now work part) → Outcome who book order s t parts (folding_ask f) note (λ u now part. KnowsWork u now work part)
-    known_as work less = record {
+    known_as : (work : Work) → ((u : Store) (part : Part) → Grows st u → Known u t.now part → KnowsWork u t.now c work part)
+        → Outcome who book order s t parts (leases_of (FoldingTree home m)) (making_ask m) note (KnowsBoth c work)
+    known_as work less = with_cache who book order s t parts (leases_of (FoldingTree home m)) (making_ask m) note c work kept (record {
       book_after = outcome.book_after;
       order_after = outcome.order_after;
       cloud = outcome.cloud;
-      lone = outcome.lone;
       passes = outcome.passes;
       joins = outcome.joins;
+      links = outcome.links;
       part = outcome.part;
       homes = outcome.homes;
-      knows = less (store_of outcome.book_after outcome.order_after t) outcome.part outcome.knows;
+      knows = less (store_of outcome.book_after outcome.order_after t) outcome.part outcome.passes.grows outcome.knows;
       noted = outcome.noted;
-    }
+    })
 
-    goes_on : (n : Folding) → FoldingLeads f reply (Goes n) → Stepped (FoldingTree home n)
+    goes_on : (n : Making) → MakingLeads m reply (Goes n) → Stepped (FoldingTree home n)
     goes_on n leads = record {
       reply = reply;
       call = call;
-      handles = folding_handles who s t book order parts (leases_of (FoldingTree home f)) f reply (setting call.later) knows call home.lease home.client knows_home.lock_is (Goes n) leads;
-      outcome = known_as (FoldingTree home n) (λ u part a. (at_home u part a, a.knows (Goes n) leads));
+      handles = making_handles who s t book order parts (leases_of (FoldingTree home m)) m reply (setting call.later) knows call home.lease home.client knows_home.lock_is (Goes n) leads;
+      outcome = known_as (FoldingTree home n) (λ u part grows a. (at_home u part grows a, a.knows (Goes n) leads));
     }
 
     -- it is over, and the client stays open
@@ -114,7 +119,8 @@ module _ (who : Caller) (before after : Seen) (book : Book) (order : List Entry)
       reply = reply;
       call = call;
       handles = home_handles;
-      outcome = gives_up who book order s t parts (folding_ask f) note Known outcome;
+      outcome = with_cache who book order s t parts (leases_of (FoldingTree home m)) (making_ask m) note c (Broken home.lease) kept
+          (gives_up who book order s t parts (leases_of (FoldingTree home m)) (making_ask m) note Known outcome);
     })
 
     stops : (k : Trouble) → (work : Work) → work ≡ stopped_work k home → Stepped work
@@ -131,13 +137,13 @@ module _ (who : Caller) (before after : Seen) (book : Book) (order : List Entry)
     stops (trouble.Loop page) work is = ends work is
     stops (trouble.Exhausted what) work is = ends work is
 
-  pub folding_step : (work : Work) (turn : Turn Answer) → StepsFolding home who before after f work turn → Stepped work
-  folding_step work More (n, steps, is) = subst Stepped (sym is) (goes_on steps.answer steps.made n steps.took)
-  folding_step work (Ended (answer.Done done)) (n, steps, is) = ends steps.answer steps.made work is
-  folding_step work (Ended (answer.Trouble k)) (n, steps, is) = stops steps.answer steps.made k work is
-  folding_step work (Stopped k) never = absurd never
-  folding_step work (Ended answer.Closed) never = absurd never
-  folding_step work (Ended (answer.Renewed end)) never = absurd never
-  folding_step work (Ended (answer.Opened epoch)) never = absurd never
-  folding_step work (Ended (answer.Commit a)) never = absurd never
-  folding_step work (Ended answer.Value) never = absurd never
+  pub making_step : (work : Work) (turn : Turn Answer) → StepsFolding home who before after m work turn → Stepped work
+  making_step work More (n, steps, is, less) = subst Stepped (sym is) (goes_on steps.answer steps.made n steps.took)
+  making_step work (Ended (answer.Done done)) (n, steps, is) = ends steps.answer steps.made work is
+  making_step work (Ended (answer.Trouble k)) (n, steps, is) = stops steps.answer steps.made k work is
+  making_step work (Stopped k) never = absurd never
+  making_step work (Ended answer.Closed) never = absurd never
+  making_step work (Ended (answer.Renewed end)) never = absurd never
+  making_step work (Ended (answer.Opened epoch)) never = absurd never
+  making_step work (Ended (answer.Commit a)) never = absurd never
+  making_step work (Ended answer.Value) never = absurd never

@@ -4,6 +4,7 @@ use Rattle.std.specs.Prelude.{cond}
 use Rattle.std.proofs.lemmas.Bool.{cases_eq}
 use Rattle.chain_facts.specs.Chain.{ChainHolds}
 use Rattle.client_session.specs.Session.{Acting, closed_session, ask_of_work}
+use Rattle.cloud_facts.proofs.Guarding.{others_of}
 use Rattle.cloud_facts.proofs.StandingLemmas.{empty_stands, same_stands}
 use Rattle.cloud_facts.specs.Acting.{HasLeaseOf, Setting, Outcome, Handles}
 use Rattle.cloud_facts.specs.Call.{IsCall}
@@ -34,7 +35,8 @@ use Rattle.number_facts.specs.Numbers.{Numbers}
 use Rattle.report_types.specs.declared.entry.Entry.{Entry}
 use Rattle.session_facts.specs.Noting.{noted_at, noted_in_hand}
 use Rattle.session_facts.specs.Sessions.{leases_of, KnowsWork, Knows, Sessions, hands_of, SessionsStand, Goes}
-use Rattle.session_facts.proofs.Keeping.{others_of, knows_others, knows_later, part_lease}
+use Rattle.session_facts.proofs.Kept.{KnowsBoth}
+use Rattle.session_facts.proofs.Keeping.{knows_others, knows_later, part_lease}
 use Rattle.store_book.specs.Book.{Book, empty_book}
 use Rattle.store_book.specs.Records.{IsIn}
 use Rattle.store_book.specs.Tally.{Store, at}
@@ -44,6 +46,7 @@ use Rattle.store_book.proofs.Places.{in_none}
 use Rattle.telling_facts.specs.Told.{store_of}
 use Rattle.telling_facts.proofs.Easy.{same_told}
 use Rattle.txn_buffer.specs.Noted.{Noted}
+use Rattle.walk_facts.proofs.Caches.{empty_knows}
 
 -- ---- the leases in hand after a call
 
@@ -99,7 +102,7 @@ module _ (who : Caller) (s t : CloudState) (sessions : Sessions) (ask : Ask) (re
 module _ (book : Book) (order : List Entry) (s : CloudState) (sessions : Sessions) (stand : SessionsStand book order s sessions) where
   -- the lease of each part is in hand
   lease_there : (other : ℕ) → HasLeaseOf (hands_of sessions other) (stand.parts other)
-  lease_there other = part_lease (store_of book order s) s.now (sessions other).work (stand.parts other) (stand.each other).work
+  lease_there other = part_lease (store_of book order s) s.now (sessions other).cache (sessions other).work (stand.parts other) (stand.each other).work
 
   -- a lease in hand of a client that lasts later lasts now, and no other session has a lasting one
   alone_at : (now session : ℕ) (l : Claim) (client : ℕ) → s.now ≤ now → IsIn (hands_of sessions session) l → l.lock ≡ lock.Client client → Lasts now l → IsAlone now stand.parts session client
@@ -128,13 +131,12 @@ module _ (book : Book) (order : List Entry) (s : CloudState) (sessions : Session
   pub setting_of : (now session : ℕ) → s.now ≤ now → Setting book order s now stand.parts session (leases_of (sessions session).work)
   setting_of now session later = record {
     cloud = stand.cloud;
-    lone = stand.lone;
-    homes = homes_later (store_of book order s).tally s.now now stand.parts later stand.homes;
+      homes = homes_later (store_of book order s).tally s.now now stand.parts later stand.homes;
     alone = λ l client here at lasts. alone_at now session l client later here at lasts;
   }
 
   -- what the session's work knows when the call is over, as far as time goes
-  pub known_at : (now session : ℕ) → s.now ≤ now → KnowsWork (store_of book order s) now (sessions session).work (stand.parts session)
+  pub known_at : (now session : ℕ) → s.now ≤ now → KnowsWork (store_of book order s) now (sessions session).cache (sessions session).work (stand.parts session)
   known_at now session later = (knows_later (store_of book order s) s.now now (sessions session) (stand.parts session) later (stand.each session)).work
 
 -- ---- a call
@@ -159,17 +161,18 @@ none_joins st su now parts session n ne homes joins r is of = on (joins r is)
 pub call_goes : (who : Caller) (s t : CloudState) (book : Book) (order : List Entry) (sessions : Sessions) (new : Acting) (ask : Ask) (reply : Reply) → (stand : SessionsStand book order s sessions)
     → MayCommit new.buffer → IsCall who ask reply s t → ask_of_work (sessions who.session).work ≡ Some ask
     → Handles who s t ask reply (leases_of (sessions who.session).work) (leases_of new.work)
-    → Outcome who book order s t stand.parts ask (noted_at (sessions who.session).work ask) (λ st now part. KnowsWork st now new.work part) → Goes book order s t sessions who.session new
+    → Outcome who book order s t stand.parts (hands_of sessions who.session) ask (noted_at (sessions who.session).work ask)
+        (KnowsBoth new.cache new.work)
+    → Goes book order s t sessions who.session new
 call_goes who s t book order sessions new ask reply stand may call asks h o = record {
   book_after = o.book_after;
   order_after = o.order_after;
   stand = record {
     cloud = o.cloud;
-    lone = o.lone;
     leases = leases_after who s t sessions ask reply call new h stand.leases;
     parts = at who.session o.part stand.parts;
     homes = o.homes;
-    each = each_of (Knows (store_of o.book_after o.order_after t) t.now) sessions stand.parts who.session new o.part (record { work = o.knows; buffer = may }) others;
+    each = each_of (Knows (store_of o.book_after o.order_after t) t.now) sessions stand.parts who.session new o.part (record { work = o.knows.0; kept = o.knows.1; buffer = may }) others;
   };
   log_goes_on = o.passes.grows.log;
   order_goes_on = o.passes.grows.order;
@@ -179,8 +182,8 @@ call_goes who s t book order sessions new ask reply stand may call asks h o = re
     others : (n : ℕ) → n ≢ who.session → Knows (store_of o.book_after o.order_after t) t.now (sessions n) (stand.parts n)
     others n ne =
         knows_others (store_of book order s) (store_of o.book_after o.order_after t) s.now t.now (sessions n) (stand.parts n) call.later
-        (others_of book o.book_after order o.order_after s t (hands_of sessions) who.session n stand.cloud stand.lone stand.leases
-        (allowed_by who s t sessions ask reply call (leases_of new.work) h) ne o.passes)
+        (others_of book o.book_after order o.order_after s t (hands_of sessions) who.session n stand.cloud stand.leases
+        (allowed_by who s t sessions ask reply call (leases_of new.work) h) ne o.passes o.links)
         (none_joins (store_of book order s) (store_of o.book_after o.order_after t) s.now stand.parts who.session n ne stand.homes o.joins) (stand.each n)
 
 -- ---- what leaves the cloud alone
@@ -191,7 +194,6 @@ pub session_changes : (book : Book) (order : List Entry) (s : CloudState) (sessi
     → Knows (store_of book order s) s.now new part → SessionsStand book order s (at session new sessions)
 session_changes book order s sessions session new part stand fewer homes knows = record {
   cloud = stand.cloud;
-  lone = stand.lone;
   leases = fewer_keeps s.now s.locks (hands_of sessions) (hands_of (at session new sessions)) (λ n x holds. within n x holds (cases_eq n session)) stand.leases;
   parts = at session part stand.parts;
   homes = homes;
@@ -234,21 +236,20 @@ session_leaves book order s sessions session new stand fewer knows =
 pub crash_keeps : (book : Book) (order : List Entry) (s : CloudState) (sessions : Sessions) (session : ℕ) → SessionsStand book order s sessions
     → SessionsStand book order s (at session closed_session sessions)
 crash_keeps book order s sessions session stand =
-    session_leaves book order s sessions session closed_session stand (λ x is. absurd (in_none [] x refl is)) (record { work = refl; buffer = may_none })
+    session_leaves book order s sessions session closed_session stand (λ x is. absurd (in_none [] x refl is)) (record { work = refl; kept = empty_knows (store_of book order s); buffer = may_none })
 
 -- what was noted changes
 pub buffer_keeps : (book : Book) (order : List Entry) (s : CloudState) (sessions : Sessions) (session : ℕ) (buffer : List Noted) → MayCommit buffer → SessionsStand book order s sessions
     → SessionsStand book order s (at session (record (sessions session) { buffer = buffer }) sessions)
 buffer_keeps book order s sessions session buffer may stand =
     session_rests book order s sessions session (record (sessions session) { buffer = buffer }) stand (λ x is. is)
-    (record { work = (stand.each session).work; buffer = may })
+    (record { work = (stand.each session).work; kept = (stand.each session).kept; buffer = may })
 
 -- the clock goes on, a wish is set, a wait is counted
 pub rest_keeps : (book : Book) (order : List Entry) (s t : CloudState) (sessions : Sessions) → t.versions ≡ s.versions → t.messages ≡ s.messages → t.locks ≡ s.locks → s.now ≤ t.now
     → SessionsStand book order s sessions → SessionsStand book order t sessions
 rest_keeps book order s t sessions versions messages locks later stand = record {
   cloud = same_stands book order s t versions messages stand.cloud;
-  lone = stand.lone;
   leases = subst (λ (ls : Lock → Hold). LeasesHold t.now ls (hands_of sessions)) (sym locks) (later_keeps s.now t.now s.locks (hands_of sessions) later stand.leases);
   parts = stand.parts;
   homes = subst (λ (st : Store). HomesHold st.tally t.now stand.parts) (sym same) (homes_later (store_of book order s).tally s.now t.now stand.parts later stand.homes);
@@ -270,14 +271,13 @@ same_sessions book order s f g same = subst (SessionsStand book order s) (sym al
 pub starts : (s : CloudState) → IsEmptyCloud s → SessionsStand empty_book [] s (λ n. closed_session)
 starts s empty = record {
   cloud = empty_stands s empty;
-  lone = λ tree level. refl;
   leases = record {
     each = λ n l holds. absurd (in_none [] l refl holds);
     apart = λ n u l m ne one two e. in_none [] l refl one;
   };
   parts = λ n. Away;
   homes = none_home (store_of empty_book [] s).tally s.now;
-  each = λ n. record { work = refl; buffer = may_none };
+  each = λ n. record { work = refl; kept = empty_knows (store_of empty_book [] s); buffer = may_none };
 }
 
 -- ---- at a report

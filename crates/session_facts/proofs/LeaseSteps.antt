@@ -25,22 +25,25 @@ use Rattle.db_base.specs.declared.trouble.Trouble.TheVariants as trouble
 use Rattle.history.specs.Audited.{Audited}
 use Rattle.home_facts.specs.Homes.{Part, Away, AtHome, Parts, HomesHold}
 use Rattle.home_facts.proofs.HomeLemmas.{renews_keeps}
+use Rattle.page_cache.specs.Cache.{Cache}
 use Rattle.recover_run.specs.declared.home.Home.{Home}
 use Rattle.report_types.specs.declared.entry.Entry.{Entry}
 use Rattle.session_facts.specs.Sessions.{leases_of, IsHome, KnowsWork}
+use Rattle.session_facts.proofs.Kept.{KnowsBoth, with_cache}
 use Rattle.store_book.specs.Book.{Book}
 use Rattle.store_book.specs.Records.{IsIn}
 use Rattle.store_book.specs.Tally.{Store, at}
 use Rattle.store_book.proofs.Names.{at_same, at_other}
 use Rattle.store_book.proofs.Places.{get_single, in_none}
 use Rattle.telling_facts.specs.Told.{store_of}
+use Rattle.walk_facts.specs.Caches.{KnowsCache}
 
--- what a step of a session's work is, between two states
-pub record IsStepOf (who : Caller) (book : Book) (order : List Entry) (s t : CloudState) (parts : Parts) (ask : Ask) (note : Audited → Audited) (work after : Work) : Type 0 where
+-- what a step of a session's work is, between two states, with the cache that it leaves
+pub record IsStepOf (who : Caller) (book : Book) (order : List Entry) (s t : CloudState) (parts : Parts) (ask : Ask) (note : Audited → Audited) (work after : Work) (c : Cache) : Type 0 where
   pub reply : Reply
   pub call : IsCall who ask reply s t
   pub handles : Handles who s t ask reply (leases_of work) (leases_of after)
-  pub outcome : Outcome who book order s t parts ask note (λ st now part. KnowsWork st now after part)
+  pub outcome : Outcome who book order s t parts (leases_of work) ask note (KnowsBoth c after)
 
 -- a session's part stays
 pub part_again : (parts : Parts) (session : ℕ) (part : Part) → parts session ≡ part → at session part parts ≡ parts
@@ -53,9 +56,10 @@ part_again parts session part e = λ i n. same n (cases_eq n session) i
 -- ---- a close
 
 module _ (who : Caller) (before after : Seen) (book : Book) (order : List Entry) (s t : CloudState) (parts : Parts) (lease : Claim)
-    (setting : s.now ≤ t.now → Setting book order s t.now parts who.session (lease ∷ [])) (part_is : parts who.session ≡ Away) (e : before.state ≡ Some s) (f : after.state ≡ Some t) where
+    (setting : s.now ≤ t.now → Setting book order s t.now parts who.session (lease ∷ [])) (part_is : parts who.session ≡ Away) (c : Cache) (kept : KnowsCache (store_of book order s) c)
+    (e : before.state ≡ Some s) (f : after.state ≡ Some t) where
   released : (work : Work) (result : Result (Unit {0}) Trouble) → GivesBack lease who before after result → work ≡ Closed
-      → IsStepOf who book order s t parts (Release lease) (λ a. a) (Closing lease) work
+      → IsStepOf who book order s t parts (Release lease) (λ a. a) (Closing lease) work c
   released work result gives closed =
       let call = call_of who (Release lease) gives.answer before after s t gives.made e f in
       record {
@@ -68,12 +72,13 @@ module _ (who : Caller) (before after : Seen) (book : Book) (order : List Entry)
           renews = tt;
           own = λ x is. absurd (in_none [] x refl (subst (λ (w : Work). IsIn (leases_of w) x) closed is));
         };
-        outcome = quiet who book order s t parts (Release lease) (λ a. a) (λ st now part. KnowsWork st now work part) gives.answer call tt tt (setting call.later).cloud (setting call.later).lone Away
+        outcome = with_cache who book order s t parts (lease ∷ []) (Release lease) (λ a. a) c work kept
+            (quiet who book order s t parts (lease ∷ []) (Release lease) (λ a. a) (λ st now part. KnowsWork st now c work part) gives.answer call tt tt (setting call.later).cloud Away
             (subst (HomesHold (store_of book order s).tally t.now) (sym (part_again parts who.session Away part_is)) (setting call.later).homes)
-            (subst (λ (w : Work). KnowsWork (store_of book order s) t.now w Away) (sym closed) refl);
+            (subst (λ (w : Work). KnowsWork (store_of book order s) t.now c w Away) (sym closed) refl));
       }
 
-  pub closing_step : (work : Work) (turn : Turn Answer) → StepsClosing lease who before after work turn → IsStepOf who book order s t parts (Release lease) (λ a. a) (Closing lease) work
+  pub closing_step : (work : Work) (turn : Turn Answer) → StepsClosing lease who before after work turn → IsStepOf who book order s t parts (Release lease) (λ a. a) (Closing lease) work c
   closing_step work (Ended answer.Closed) steps = released work (Ok tt) steps.0 steps.1
   closing_step work (Ended (answer.Trouble k)) steps = released work (Err k) steps.0 steps.1
   closing_step work More never = absurd never
@@ -106,8 +111,7 @@ renewed_lock who l m s t (inr p) = ap (λ (x : Claim). x.lock) p.1
 
 module _ (who : Caller) (before after : Seen) (book : Book) (order : List Entry) (s t : CloudState) (parts : Parts) (home : Home)
     (set : s.now ≤ t.now → Setting book order s t.now parts who.session (home.lease ∷ [])) (knows_at : s.now ≤ t.now → IsHome (store_of book order s) t.now home (parts who.session))
-    (e : before.state ≡ Some s)
-    (f : after.state ≡ Some t) where
+    (c : Cache) (kept : KnowsCache (store_of book order s) c) (e : before.state ≡ Some s) (f : after.state ≡ Some t) where
   abbrev st : Store
   st = store_of book order s
 
@@ -149,35 +153,36 @@ module _ (who : Caller) (before after : Seen) (book : Book) (order : List Entry)
       begun = knows.begun;
     }
 
-    open_outcome : Outcome who book order s t parts (Renew home.lease 600) (λ a. a) (λ su now p. IsHome su now new p)
+    open_outcome : Outcome who book order s t parts (home.lease ∷ []) (Renew home.lease 600) (λ a. a) (λ su now p. IsHome su now new p)
     open_outcome =
-        quiet who book order s t parts (Renew home.lease 600) (λ a. a) (λ su now p. IsHome su now new p) renews.answer call tt tt setting.cloud setting.lone part homes
+        quiet who book order s t parts (home.lease ∷ []) (Renew home.lease 600) (λ a. a) (λ su now p. IsHome su now new p) renews.answer call tt tt setting.cloud part homes
         (subst (λ h. IsHome st t.now h part) (sym renews.home) home_after)
 
     hands : (work : Work) → ((x : Claim) → IsIn (leases_of work) x → x ≡ new.lease) → Handles who s t (Renew home.lease 600) renews.answer (home.lease ∷ []) (leases_of work)
     hands work only = record { owns = (0, refl); guarded = tt; renewed = new.lease; renews = both; own = λ x is. inr (only x is) }
 
-    stays_open : (work : Work) → work ≡ Idle new → IsStepOf who book order s t parts (Renew home.lease 600) (λ a. a) (Renewing home) work
-    stays_open work is = subst (λ w. IsStepOf who book order s t parts (Renew home.lease 600) (λ a. a) (Renewing home) w) (sym is) (record {
+    stays_open : (work : Work) → work ≡ Idle new → IsStepOf who book order s t parts (Renew home.lease 600) (λ a. a) (Renewing home) work c
+    stays_open work is = subst (λ w. IsStepOf who book order s t parts (Renew home.lease 600) (λ a. a) (Renewing home) w c) (sym is) (record {
       reply = renews.answer;
       call = call;
       handles = hands (Idle new) (λ x there. sym (get_single new.lease there.0 x there.1));
-      outcome = open_outcome;
+      outcome = with_cache who book order s t parts (home.lease ∷ []) (Renew home.lease 600) (λ a. a) c (Idle new) kept open_outcome;
     })
 
-    breaks : (work : Work) → work ≡ Broken new.lease → IsStepOf who book order s t parts (Renew home.lease 600) (λ a. a) (Renewing home) work
-    breaks work is = subst (λ w. IsStepOf who book order s t parts (Renew home.lease 600) (λ a. a) (Renewing home) w) (sym is) (record {
+    breaks : (work : Work) → work ≡ Broken new.lease → IsStepOf who book order s t parts (Renew home.lease 600) (λ a. a) (Renewing home) work c
+    breaks work is = subst (λ w. IsStepOf who book order s t parts (Renew home.lease 600) (λ a. a) (Renewing home) w c) (sym is) (record {
       reply = renews.answer;
       call = call;
       handles = hands (Broken new.lease) (λ x there. sym (get_single new.lease there.0 x there.1));
-      outcome = gives_up who book order s t parts (Renew home.lease 600) (λ a. a) (λ su now p. IsHome su now new p) open_outcome;
+      outcome = with_cache who book order s t parts (home.lease ∷ []) (Renew home.lease 600) (λ a. a) c (Broken new.lease) kept
+          (gives_up who book order s t parts (home.lease ∷ []) (Renew home.lease 600) (λ a. a) (λ su now p. IsHome su now new p) open_outcome);
     })
 
-    by_trouble : (k : Trouble) (work : Work) → work ≡ stopped_work k new → IsStepOf who book order s t parts (Renew home.lease 600) (λ a. a) (Renewing home) work
+    by_trouble : (k : Trouble) (work : Work) → work ≡ stopped_work k new → IsStepOf who book order s t parts (Renew home.lease 600) (λ a. a) (Renewing home) work c
     by_trouble trouble.Memory work is = breaks work is
     by_trouble k work is = stays_open work is
 
-  pub renewing_step : (work : Work) (turn : Turn Answer) → StepsRenewing home who before after work turn → IsStepOf who book order s t parts (Renew home.lease 600) (λ a. a) (Renewing home) work
+  pub renewing_step : (work : Work) (turn : Turn Answer) → StepsRenewing home who before after work turn → IsStepOf who book order s t parts (Renew home.lease 600) (λ a. a) (Renewing home) work c
   renewing_step work (Ended (answer.Renewed end)) (new, renews, is) = stays_open new (Ok end) renews work is
   renewing_step work (Ended (answer.Trouble k)) (new, renews, is) = by_trouble new (Err k) renews k work is
   renewing_step work More never = absurd never

@@ -1,10 +1,10 @@
+pub mod Kept
 pub mod Keeping
 pub mod Laws
 pub mod Begins
 pub mod Troubles
 pub mod LeaseSteps
 pub mod OpeningSteps
-pub mod CommitLeases
 pub mod CommitSteps
 pub mod FoldingSteps
 pub mod PagingSteps

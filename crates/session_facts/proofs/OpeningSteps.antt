@@ -21,15 +21,18 @@ use Rattle.home_facts.specs.Homes.{Part, Parts}
 use Rattle.opening_facts.specs.Opening.{KnowsOpening, KnowsEnd, KnowsNext, leases_of_recovery, leases_of_end, leases_of_next}
 use Rattle.opening_facts.proofs.Outcomes.{opening_outcome}
 use Rattle.opening_facts.proofs.Hands.{opening_handles}
+use Rattle.page_cache.specs.Cache.{Cache}
 use Rattle.recover_run.specs.declared.home.Home.{Home}
 use Rattle.recover_run.specs.Recovery.{Recovery, Step, recovery_ask, recovery_next, home_of, IsSound}
 use Rattle.report_types.specs.declared.entry.Entry.{Entry}
 use Rattle.session_facts.specs.Sessions.{leases_of, KnowsWork}
+use Rattle.session_facts.proofs.Kept.{with_cache}
 use Rattle.session_facts.proofs.LeaseSteps.{IsStepOf}
 use Rattle.store_book.specs.Book.{Book}
 use Rattle.store_book.specs.Tally.{Store}
 use Rattle.store_book.proofs.Places.{in_none}
 use Rattle.telling_facts.specs.Told.{store_of}
+use Rattle.walk_facts.specs.Caches.{KnowsCache}
 
 -- what is in hand where a step leads
 abbrev LeadsTo : Step → Work → Type 0
@@ -37,14 +40,14 @@ LeadsTo (Goes m) work = work ≡ Opening m
 LeadsTo (Ends m a) work = work ≡ opened_work (home_of m)
 LeadsTo (Stops m t) work = work ≡ Closed
 
-end_known : (o : Option Home) (st : Store) (now : ℕ) (part : Part) → KnowsEnd o st now part → KnowsWork st now (opened_work o) part
-end_known (Some h) st now part k = k
-end_known None st now part k = k
+end_known : (c : Cache) (o : Option Home) (st : Store) (now : ℕ) (part : Part) → KnowsEnd o st now part → KnowsWork st now c (opened_work o) part
+end_known c (Some h) st now part k = k
+end_known c None st now part k = k
 
-next_known : (step : Step) (work : Work) → LeadsTo step work → (st : Store) (now : ℕ) (part : Part) → KnowsNext step st now part → KnowsWork st now work part
-next_known (Goes m) work is st now part k = subst (λ w. KnowsWork st now w part) (sym is) k
-next_known (Ends m a) work is st now part k = subst (λ w. KnowsWork st now w part) (sym is) (end_known (home_of m) st now part k)
-next_known (Stops m t) work is st now part k = subst (λ w. KnowsWork st now w part) (sym is) k
+next_known : (c : Cache) (step : Step) (work : Work) → LeadsTo step work → (st : Store) (now : ℕ) (part : Part) → KnowsNext step st now part → KnowsWork st now c work part
+next_known c (Goes m) work is st now part k = subst (λ w. KnowsWork st now c w part) (sym is) k
+next_known c (Ends m a) work is st now part k = subst (λ w. KnowsWork st now c w part) (sym is) (end_known c (home_of m) st now part k)
+next_known c (Stops m t) work is st now part k = subst (λ w. KnowsWork st now c w part) (sym is) k
 
 end_leases : (o : Option Home) → leases_of_end o ≡ leases_of (opened_work o)
 end_leases (Some h) = refl
@@ -57,16 +60,15 @@ next_leases (Stops m t) work is = sym (ap leases_of is)
 
 module _ (who : Caller) (before after : Seen) (book : Book) (order : List Entry) (s t : CloudState) (parts : Parts) (r : Recovery)
     (setting : s.now ≤ t.now → Setting book order s t.now parts who.session (leases_of_recovery r)) (knows : s.now ≤ t.now → KnowsOpening (store_of book order s) t.now r (parts who.session))
-    (sound : IsSound r)
-    (e : before.state ≡ Some s) (f : after.state ≡ Some t) where
+    (sound : IsSound r) (c : Cache) (kept : KnowsCache (store_of book order s) c) (e : before.state ≡ Some s) (f : after.state ≡ Some t) where
   abbrev Stepped : Work → Type 0
-  Stepped work = IsStepOf who book order s t parts (recovery_ask r) (λ a. a) (Opening r) work
+  Stepped work = IsStepOf who book order s t parts (recovery_ask r) (λ a. a) (Opening r) work c
 
   module _ (reply : Reply) (made : Makes who (recovery_ask r) reply before after) where
     call : IsCall who (recovery_ask r) reply s t
     call = call_of who (recovery_ask r) reply before after s t made e f
 
-    outcome : Outcome who book order s t parts (recovery_ask r) (λ a. a) (KnowsNext (recovery_next r reply))
+    outcome : Outcome who book order s t parts (leases_of_recovery r) (recovery_ask r) (λ a. a) (KnowsNext (recovery_next r reply))
     outcome = opening_outcome who book order s t parts r (parts who.session) reply (setting call.later) refl (knows call.later) sound call made.fits
 
     handles : Handles who s t (recovery_ask r) reply (leases_of_recovery r) (leases_of_next (recovery_next r reply))
@@ -77,8 +79,9 @@ module _ (who : Caller) (before after : Seen) (book : Book) (order : List Entry)
       reply = reply;
       call = call;
       handles = subst (λ ls. Handles who s t (recovery_ask r) reply (leases_of_recovery r) ls) (ap leases_of_next is ∙ next_leases step work leads) handles;
-      outcome = weaker who book order s t parts (recovery_ask r) (λ a. a) (KnowsNext (recovery_next r reply)) (λ st now part. KnowsWork st now work part)
-          (λ st now part k. next_known step work leads st now part (subst (λ n. KnowsNext n st now part) is k)) outcome;
+      outcome = with_cache who book order s t parts (leases_of_recovery r) (recovery_ask r) (λ a. a) c work kept
+          (weaker who book order s t parts (leases_of_recovery r) (recovery_ask r) (λ a. a) (KnowsNext (recovery_next r reply)) (λ st now part. KnowsWork st now c work part)
+          (λ st now part k. next_known c step work leads st now part (subst (λ n. KnowsNext n st now part) is k)) outcome);
     }
 
     -- whatever was answered
@@ -87,7 +90,8 @@ module _ (who : Caller) (before after : Seen) (book : Book) (order : List Entry)
       reply = reply;
       call = call;
       handles = fewer_handles who s t (recovery_ask r) reply (leases_of_recovery r) (leases_of_next (recovery_next r reply)) [] (λ x is. absurd (in_none [] x refl is)) handles;
-      outcome = gives_up who book order s t parts (recovery_ask r) (λ a. a) (KnowsNext (recovery_next r reply)) outcome;
+      outcome = with_cache who book order s t parts (leases_of_recovery r) (recovery_ask r) (λ a. a) c Closed kept
+          (gives_up who book order s t parts (leases_of_recovery r) (recovery_ask r) (λ a. a) (KnowsNext (recovery_next r reply)) outcome);
     })
 
   pub opening_step : (work : Work) (turn : Turn Answer) → StepsOpening who before after r work turn → Stepped work

@@ -28,14 +28,18 @@ use Rattle.db_base.specs.declared.trouble.Trouble.TheVariants as trouble
 use Rattle.page_ckpt.specs.Paging.{Paging, PagingLeads, paging_ask}
 use Rattle.history.specs.Audited.{Audited}
 use Rattle.home_facts.specs.Homes.{Part, Parts}
+use Rattle.page_cache.specs.Cache.{Cache}
 use Rattle.recover_run.specs.declared.home.Home.{Home}
 use Rattle.report_types.specs.declared.entry.Entry.{Entry}
 use Rattle.session_facts.specs.Noting.{noted_at}
 use Rattle.session_facts.specs.Sessions.{leases_of, IsHome, KnowsWork}
+use Rattle.session_facts.proofs.Kept.{KnowsBoth, with_cache}
 use Rattle.session_facts.proofs.LeaseSteps.{IsStepOf}
 use Rattle.store_book.specs.Book.{Book}
+use Rattle.store_book.specs.Growth.{Grows}
 use Rattle.store_book.specs.Tally.{Store}
 use Rattle.telling_facts.specs.Told.{store_of}
+use Rattle.walk_facts.specs.Caches.{KnowsCache}
 
 -- what the audit takes
 pub paging_noted : (home : Home) (p : Paging) (ask : Ask) (a : Audited) → noted_at (PagingOn home p) ask a ≡ paging_note p ask a
@@ -54,7 +58,7 @@ paging_noted home p (Release l) a = refl
 module _ (who : Caller) (before after : Seen) (book : Book) (order : List Entry) (s t : CloudState) (parts : Parts) (home : Home) (p : Paging)
     (setting : s.now ≤ t.now → Setting book order s t.now parts who.session (leases_of (PagingOn home p)))
     (knows_home : IsHome (store_of book order s) s.now home (parts who.session)) (knows : KnowsPaging (store_of book order s) s.now p)
-    (e : before.state ≡ Some s) (g : after.state ≡ Some t) where
+    (c : Cache) (kept : KnowsCache (store_of book order s) c) (e : before.state ≡ Some s) (g : after.state ≡ Some t) where
   abbrev st : Store
   st = store_of book order s
 
@@ -62,7 +66,7 @@ module _ (who : Caller) (before after : Seen) (book : Book) (order : List Entry)
   note = paging_note p (paging_ask p)
 
   abbrev Stepped : Work → Type 0
-  Stepped work = IsStepOf who book order s t parts (paging_ask p) note (PagingOn home p) work
+  Stepped work = IsStepOf who book order s t parts (paging_ask p) note (PagingOn home p) work c
 
   module _ (reply : Reply) (made : Makes who (paging_ask p) reply before after) where
     call : IsCall who (paging_ask p) reply s t
@@ -71,37 +75,38 @@ module _ (who : Caller) (before after : Seen) (book : Book) (order : List Entry)
     abbrev Known : Store → ℕ → Part → Type 0
     Known = Aside st (parts who.session) (KnowsAfter p reply)
 
-    outcome : Outcome who book order s t parts (paging_ask p) note Known
+    outcome : Outcome who book order s t parts (leases_of (PagingOn home p)) (paging_ask p) note Known
     outcome = paging_outcome who s t book order parts (leases_of (PagingOn home p)) p reply (setting call.later) knows call
 
     home_handles : Handles who s t (paging_ask p) reply (leases_of (PagingOn home p)) (home.lease ∷ [])
     home_handles = paging_home_handles who s t book order parts (leases_of (PagingOn home p)) p reply (setting call.later) knows call home.lease home.client knows_home.lock_is
 
     -- the home is as it was
-    at_home : (u : Store) (part : Part) → Known u t.now part → IsHome u t.now home part
-    at_home u part a = home_aside st u s.now t.now home.client home.lease home.head home.attempt (parts who.session) part (KnowsAfter p reply) call.later knows_home a
+    at_home : (u : Store) (part : Part) → Grows st u → Known u t.now part → IsHome u t.now home part
+    at_home u part grows a = home_aside st u s.now t.now home.client home.lease home.head home.attempt (parts who.session) part (KnowsAfter p reply) call.later grows knows_home a
 
     -- what is known by the whole outcome, at the clock that the call leaves
-    known_as : (work : Work) → ((u : Store) (part : Part) → Known u t.now part → KnowsWork u t.now work part) → Outcome who book order s t parts (paging_ask p) note (λ u now part. KnowsWork u now work part)
-    known_as work less = record {
+    known_as : (work : Work) → ((u : Store) (part : Part) → Grows st u → Known u t.now part → KnowsWork u t.now c work part)
+        → Outcome who book order s t parts (leases_of (PagingOn home p)) (paging_ask p) note (KnowsBoth c work)
+    known_as work less = with_cache who book order s t parts (leases_of (PagingOn home p)) (paging_ask p) note c work kept (record {
       book_after = outcome.book_after;
       order_after = outcome.order_after;
       cloud = outcome.cloud;
-      lone = outcome.lone;
       passes = outcome.passes;
       joins = outcome.joins;
+      links = outcome.links;
       part = outcome.part;
       homes = outcome.homes;
-      knows = less (store_of outcome.book_after outcome.order_after t) outcome.part outcome.knows;
+      knows = less (store_of outcome.book_after outcome.order_after t) outcome.part outcome.passes.grows outcome.knows;
       noted = outcome.noted;
-    }
+    })
 
     goes_on : (n : Paging) → PagingLeads p reply (Goes n) → Stepped (PagingOn home n)
     goes_on n leads = record {
       reply = reply;
       call = call;
       handles = paging_handles who s t book order parts (leases_of (PagingOn home p)) p reply (setting call.later) knows call home.lease home.client knows_home.lock_is (Goes n) leads;
-      outcome = known_as (PagingOn home n) (λ u part a. (at_home u part a, a.knows (Goes n) leads));
+      outcome = known_as (PagingOn home n) (λ u part grows a. (at_home u part grows a, a.knows (Goes n) leads));
     }
 
     -- it is over, and the client stays open
@@ -114,7 +119,8 @@ module _ (who : Caller) (before after : Seen) (book : Book) (order : List Entry)
       reply = reply;
       call = call;
       handles = home_handles;
-      outcome = gives_up who book order s t parts (paging_ask p) note Known outcome;
+      outcome = with_cache who book order s t parts (leases_of (PagingOn home p)) (paging_ask p) note c (Broken home.lease) kept
+          (gives_up who book order s t parts (leases_of (PagingOn home p)) (paging_ask p) note Known outcome);
     })
 
     stops : (k : Trouble) → (work : Work) → work ≡ stopped_work k home → Stepped work

@@ -3,7 +3,8 @@ use Rattle.std.specs.Prelude.{ℕ, ◌≡◌, ◌⊎◌, List, Some, None}
 use Rattle.client_session.specs.Session.{opens_of, committing_of}
 use Rattle.client_session.specs.declared.work.Work.{Work}
 use Rattle.client_session.specs.declared.work.Work.TheVariants.{Closed, Idle, Opening, Committing, Reading, Folding, Paging, Closing, Renewing, Broken}
-use Rattle.commit_writes.specs.Sound.{IsSound as IsSoundCommit}
+use Rattle.commit_run.specs.Run.{home_of as home_of_run}
+use Rattle.commit_run.specs.Sound.{IsSoundRun}
 use Rattle.head_codec.specs.Spelling.{head_of}
 use Rattle.head_codec.specs.declared.head.Head.{Head}
 use Rattle.head_codec.specs.declared.head.Phase.TheVariants as phase
@@ -13,7 +14,7 @@ use Rattle.txn_buffer.specs.Noted.{Noted}
 -- what is at work has the bytes in hand that it is to put or send
 abbrev pub IsSoundWork : Work → Type 0
 IsSoundWork (Opening r) = IsSoundOpening r
-IsSoundWork (Committing w) = IsSoundCommit w
+IsSoundWork (Committing r) = IsSoundRun r
 IsSoundWork (Reading home m) = Unit {0}
 IsSoundWork (Folding home f) = Unit {0}
 IsSoundWork (Paging home p) = Unit {0}
@@ -26,7 +27,7 @@ IsSoundWork (Broken l) = Unit {0}
 -- it is at work for a client
 abbrev pub IsClientOf : Work → ℕ → Type 0
 IsClientOf (Opening r) client = r.client ≡ client
-IsClientOf (Committing w) client = w.home.client ≡ client
+IsClientOf (Committing r) client = (home_of_run r).client ≡ client
 IsClientOf (Reading home m) client = home.client ≡ client
 IsClientOf (Folding home f) client = home.client ≡ client
 IsClientOf (Paging home p) client = home.client ≡ client

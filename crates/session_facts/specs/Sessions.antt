@@ -1,22 +1,24 @@
 -- What holds of a cloud and of all sessions that act on it.
-use Rattle.std.specs.Prelude.{ℕ, ◌≡◌, List, [], ◌∷◌, ◌++◌}
-use Rattle.checkpoint_facts.specs.Checkpoint.{KnowsFolding}
+use Rattle.std.specs.Prelude.{ℕ, ◌≡◌, List, [], ◌∷◌}
 use Rattle.client_session.specs.Session.{Acting}
 use Rattle.client_session.specs.declared.op.Op.{Op}
 use Rattle.client_session.specs.declared.op.Op.TheVariants as op
 use Rattle.client_session.specs.declared.work.Work.{Work}
 use Rattle.client_session.specs.declared.work.Work.TheVariants.{Closed, Idle, Opening, Committing, Reading, Folding, Paging, Closing, Renewing, Broken}
-use Rattle.cloud_facts.specs.Acting.{of_option, IsLone, KnowsHome}
+use Rattle.cloud_facts.specs.Acting.{KnowsHome}
 use Rattle.cloud_facts.specs.Looks.{audit_of}
 use Rattle.cloud_facts.specs.Standing.{StandsUnder}
 use Rattle.cloud_trait.specs.Claim.{Claim}
 use Rattle.cloud_trait.specs.Growth.{BeginsWith}
 use Rattle.cloud_trait.specs.State.{CloudState, newest}
-use Rattle.commit_facts.specs.Committing.{KnowsCommit, MayCommit}
+use Rattle.commit_facts.specs.Committing.{MayCommit}
+use Rattle.commit_run.specs.Run.{home_of as home_of_run}
+use Rattle.commit_run_facts.specs.Running.{KnowsRun}
 use Rattle.db_base.specs.Ids.{IsClient, IsTree, IsPage}
 use Rattle.home_facts.specs.Homes.{Part, Away, Parts, HomesHold}
 use Rattle.lease_facts.specs.Leases.{Hands, LeasesHold}
 use Rattle.opening_facts.specs.Opening.{KnowsOpening, leases_of_recovery}
+use Rattle.page_cache.specs.Cache.{Cache}
 use Rattle.page_facts.specs.Checkpoint.{KnowsPaging, leases_of_paging}
 use Rattle.recover_run.specs.declared.home.Home.{Home}
 use Rattle.report_types.specs.declared.entry.Entry.{Entry}
@@ -24,15 +26,18 @@ use Rattle.session_facts.specs.Noting.{audited}
 use Rattle.store_book.specs.Book.{Book}
 use Rattle.store_book.specs.Tally.{Store, at}
 use Rattle.telling_facts.specs.Told.{store_of}
+use Rattle.tree_ckpt_facts.specs.Checkpoint.{KnowsMaking, leases_of_making}
+use Rattle.walk_facts.specs.Caches.{KnowsCache}
+use Rattle.walk_facts.specs.Walks.{KnowsWalk}
 
 -- the leases in hand
 abbrev pub leases_of : Work → List Claim
 leases_of Closed = []
 leases_of (Idle home) = home.lease ∷ []
 leases_of (Opening r) = leases_of_recovery r
-leases_of (Committing w) = w.home.lease ∷ []
+leases_of (Committing r) = (home_of_run r).lease ∷ []
 leases_of (Reading home m) = home.lease ∷ []
-leases_of (Folding home f) = home.lease ∷ (of_option f.tree_lease ++ of_option f.page_lease)
+leases_of (Folding home m) = home.lease ∷ leases_of_making m
 leases_of (Paging home p) = home.lease ∷ leases_of_paging p
 leases_of (Closing l) = l ∷ []
 leases_of (Renewing home) = home.lease ∷ []
@@ -42,22 +47,28 @@ leases_of (Broken l) = l ∷ []
 abbrev pub IsHome : Store → ℕ → Home → Part → Type 0
 IsHome st now home part = KnowsHome st now home.client home.lease home.head home.attempt part
 
--- what a session knows of a store at a moment, by what it has in hand and its part
-abbrev pub KnowsWork : Store → ℕ → Work → Part → Type 0
-KnowsWork st now Closed part = part ≡ Away
-KnowsWork st now (Idle home) part = IsHome st now home part
-KnowsWork st now (Opening r) part = KnowsOpening st now r part
-KnowsWork st now (Committing w) part = KnowsCommit st now w part
-KnowsWork st now (Reading home m) part = IsHome st now home part
-KnowsWork st now (Folding home f) part = IsHome st now home part × KnowsFolding st now f
-KnowsWork st now (Paging home p) part = IsHome st now home part × KnowsPaging st now p
-KnowsWork st now (Closing l) part = part ≡ Away
-KnowsWork st now (Renewing home) part = IsHome st now home part
-KnowsWork st now (Broken l) part = part ≡ Away
+-- what a session knows of a store at a moment, by what it has in hand beside its cache, and by its part
+abbrev pub KnowsWork : Store → ℕ → Cache → Work → Part → Type 0
+KnowsWork st now c Closed part = part ≡ Away
+KnowsWork st now c (Idle home) part = IsHome st now home part
+KnowsWork st now c (Opening r) part = KnowsOpening st now r part
+KnowsWork st now c (Committing r) part = KnowsRun st now (r, c) part
+KnowsWork st now c (Reading home w) part = IsHome st now home part × KnowsWalk st w
+KnowsWork st now c (Folding home m) part = IsHome st now home part × KnowsMaking st now m
+KnowsWork st now c (Paging home p) part = IsHome st now home part × KnowsPaging st now p
+KnowsWork st now c (Closing l) part = part ≡ Away
+KnowsWork st now c (Renewing home) part = IsHome st now home part
+KnowsWork st now c (Broken l) part = part ≡ Away
+
+-- what its cache keeps landed; a session in doubt looks at nothing that it keeps
+abbrev pub KnowsKept : Store → Cache → Work → Type 0
+KnowsKept st c (Broken l) = Unit {0}
+KnowsKept st c work = KnowsCache st c
 
 -- and what it noted may be committed
 pub record Knows (st : Store) (now : ℕ) (session : Acting) (part : Part) : Type 0 where
-  pub work : KnowsWork st now session.work part
+  pub work : KnowsWork st now session.cache session.work part
+  pub kept : KnowsKept st session.cache session.work
   pub buffer : MayCommit session.buffer
 
 -- ---- all sessions
@@ -72,7 +83,6 @@ hands_of sessions session = leases_of (sessions session).work
 -- a cloud stands under a book, with an order, and so do all sessions
 pub record SessionsStand (book : Book) (order : List Entry) (s : CloudState) (sessions : Sessions) : Type 0 where
   pub cloud : StandsUnder book order s
-  pub lone : IsLone book
   pub leases : LeasesHold s.now s.locks (hands_of sessions)
   pub parts : Parts
   pub homes : HomesHold (store_of book order s).tally s.now parts
@@ -84,7 +94,7 @@ IsRightOp (op.Open client) = IsClient client
 IsRightOp op.Close = Unit {0}
 IsRightOp op.Renew = Unit {0}
 IsRightOp op.Commit = Unit {0}
-IsRightOp (op.Read tree key) = Unit {0}
+IsRightOp (op.Read tree key) = IsTree tree
 IsRightOp (op.Tree tree) = IsTree tree
 IsRightOp (op.Page tree page) = IsTree tree × IsPage page
 

@@ -32,6 +32,7 @@ use Rattle.session_facts.proofs.Begins.{begins_keeps}
 use Rattle.session_facts.proofs.Laws.{buffer_keeps, same_sessions}
 use Rattle.page_cache.specs.Cache.{Cache}
 use Rattle.tree_walk.specs.Walk.{new_walk}
+use Rattle.commit_run.specs.Run.{home_of}
 use Rattle.commit_facts.specs.Committing.{MayCommit}
 use Rattle.commit_facts.proofs.Noted.{may_note, may_none}
 use Rattle.store_book.specs.Tally.{at}
@@ -39,7 +40,7 @@ use Rattle.store_book.proofs.Names.{at_same, at_other}
 use Rattle.replay_meaning.specs.Standing.{Line, Standing, Working as WorkingOn, Committing as Noting, Reading as ReadingKey, standing, after_own, notes as notes_own}
 use Rattle.replay_model.specs.Facts.{session_at, ActsAs, WorksAs}
 use Rattle.replay_model.proofs.Acting.{IsReplyTo}
-use Rattle.replay_model.proofs.CommitSteps.{BeginsFor, commit_begins}
+use Rattle.replay_model.proofs.RunSteps.{RunsFor, IsRefusal, run_begins}
 use Rattle.replay_model.proofs.LineLemmas.{line_of, refused_own}
 use Rattle.replay_model.proofs.OpeningSteps.{opening_begins}
 use Rattle.replay_model.proofs.ReadingWalk.{reading_begins}
@@ -110,33 +111,33 @@ has_in_hand event k r lines own a b (Err refused.Memory) acts stands begins e = 
 acts_by : (b : Acting) (w : Work) (s : Standing) → b.work ≡ w → b.buffer ≡ s.buffer → WorksAs w s → ActsAs b s
 acts_by b w s e buffer works = record { buffer = buffer; work = subst (λ z. WorksAs z s) (sym e) works }
 
-commits_of : (k : ℕ) (r : Reply) (lines : List Line) (buffer : List Noted) (home : Home) (b : Acting) (begun : Begun) → buffer ≡ (standing lines k).buffer
-    → WorksAs (work.Idle home) (standing lines k) → b.buffer ≡ [] → CommitsOf home buffer b.work begun → RepliesBegun (Ok begun) b (Ok r) → LeavesSession (event.Commit k) r k lines b
-commits_of k r lines buffer home b Working same idle empty commits e =
+commits_of : (k : ℕ) (r : Reply) (lines : List Line) (buffer : List Noted) (home : Home) (c : Cache) (b : Acting) (begun : Begun) → buffer ≡ (standing lines k).buffer
+    → WorksAs (work.Idle home) (standing lines k) → b.buffer ≡ [] → CommitsOf home buffer c b.cache b.work begun → RepliesBegun (Ok begun) b (Ok r) → LeavesSession (event.Commit k) r k lines b
+commits_of k r lines buffer home c b Working same idle empty commits e =
     let is : r ≡ reply.Begun = cc in
-    let go : BeginsFor buffer home.client (Goes commits.0) = subst (BeginsFor buffer home.client) commits.1 (commit_begins home buffer) in
+    let go : RunsFor IsRefusal buffer home.client (Goes (commits.0, b.cache)) = subst (RunsFor IsRefusal buffer home.client) commits.1 (run_begins home buffer c) in
     let P : Reply → Type 0 = λ z. LeavesSession (event.Commit k) z k lines b in
     subst P (sym is) (
       acts_by b (work.Committing commits.0) (after_own (event.Commit k) reply.Begun (standing lines k)) commits.2 empty
           (ap (λ cs. WorkingOn (Noting cs)) (sym same ∙ sym go.0), idle.1 ∙ sym go.1, go.2),
       tt,
     )
-commits_of k r lines buffer home b (Answered (answer.Commit a)) same idle empty commits e =
-    let end : BeginsFor buffer home.client (Ends commits.0 a) = subst (BeginsFor buffer home.client) commits.1 (commit_begins home buffer) in
+commits_of k r lines buffer home c b (Answered (answer.Commit a)) same idle empty commits e =
+    let end : RunsFor IsRefusal buffer home.client (Ends (commits.0, b.cache) a) = subst (RunsFor IsRefusal buffer home.client) commits.1 (run_begins home buffer c) in
     let f : r ≡ reply.Commit a = cc in
     let is : r ≡ reply.Commit (NotCommitted end.1.0) = f ∙ ap (λ z. reply.Commit z) end.1.1 in
     let P : Reply → Type 0 = λ z. LeavesSession (event.Commit k) z k lines b in
     subst P (sym is)
-    (acts_by b (work.Idle commits.0.home) (after_own (event.Commit k) (reply.Commit (NotCommitted end.1.0)) (standing lines k)) commits.2 empty (idle.0, idle.1 ∙ sym end.0), tt)
-commits_of k r lines buffer home b (Answered (answer.Trouble z)) same idle empty commits e = absurd (on z commits.0 e)
+    (acts_by b (work.Idle (home_of commits.0)) (after_own (event.Commit k) (reply.Commit (NotCommitted end.1.0)) (standing lines k)) commits.2 empty (idle.0, idle.1 ∙ sym end.0), tt)
+commits_of k r lines buffer home c b (Answered (answer.Trouble z)) same idle empty commits e = absurd (on z commits.0 e)
   where
     on : (z : Trouble) → z ≡ trouble.Memory → IsOk r (trouble_reply z) → ⊥
     on z same e = let own : IsOk r (trouble_reply trouble.Memory) = subst (λ x. IsOk r (trouble_reply x)) same e in absurd (cc)
-commits_of k r lines buffer home b (Answered a) same idle empty commits e = absurd commits
+commits_of k r lines buffer home c b (Answered a) same idle empty commits e = absurd commits
 
-commits_nothing : (k : ℕ) (r : Reply) (lines : List Line) (buffer : List Noted) (home : Home) (b : Acting) (begun : Begun) → buffer ≡ (standing lines k).buffer
-    → WorksAs (work.Idle home) (standing lines k) → b.buffer ≡ [] → CommitsNothing home buffer b.work begun → RepliesBegun (Ok begun) b (Ok r) → LeavesSession (event.Commit k) r k lines b
-commits_nothing k r lines buffer home b begun same idle empty nothing e =
+commits_nothing : (k : ℕ) (r : Reply) (lines : List Line) (buffer : List Noted) (home : Home) (c : Cache) (b : Acting) (begun : Begun) → buffer ≡ (standing lines k).buffer
+    → WorksAs (work.Idle home) (standing lines k) → b.buffer ≡ [] → CommitsNothing home buffer c b.cache b.work begun → RepliesBegun (Ok begun) b (Ok r) → LeavesSession (event.Commit k) r k lines b
+commits_nothing k r lines buffer home c b begun same idle empty nothing e =
     let answered : RepliesBegun (Ok (Answered (answer.Commit (Committed 0)))) b (Ok r) = subst (λ x. RepliesBegun (Ok x) b (Ok r)) nothing.answer e in
     let is : r ≡ reply.Commit (Committed 0) = cc in
     let P : Reply → Type 0 = λ z. LeavesSession (event.Commit k) z k lines b in
@@ -146,9 +147,9 @@ commits : (k : ℕ) (r : Reply) (lines : List Line) (a b : Acting) (begun : Resu
     → RepliesBegun begun b (Ok r) → LeavesSession (event.Commit k) r k lines b
 commits k r lines a b (Ok begun) acts begins e = on begins.2.1
   where
-    on : CommitsNoted begins.0 a.buffer b.work begun → LeavesSession (event.Commit k) r k lines b
-    on (inl nothing) = commits_nothing k r lines a.buffer begins.0 b begun acts.buffer (idle_of k lines a begins.0 begins.1 acts) begins.2.0 nothing e
-    on (inr some) = commits_of k r lines a.buffer begins.0 b begun acts.buffer (idle_of k lines a begins.0 begins.1 acts) begins.2.0 some.1 e
+    on : CommitsNoted begins.0 a.buffer a.cache b.cache b.work begun → LeavesSession (event.Commit k) r k lines b
+    on (inl nothing) = commits_nothing k r lines a.buffer begins.0 a.cache b begun acts.buffer (idle_of k lines a begins.0 begins.1 acts) begins.2.0 nothing e
+    on (inr some) = commits_of k r lines a.buffer begins.0 a.cache b begun acts.buffer (idle_of k lines a begins.0 begins.1 acts) begins.2.0 some.1 e
 commits k r lines a b (Err (refused.Rule rule)) acts begins e = refused_session (event.Commit k) r rule k lines a b e begins.1 acts
 commits k r lines a b (Err refused.Memory) acts begins e = absurd begins
 
@@ -249,13 +250,13 @@ commit_begun lines k r before after old new t ready c =
     let left = commits k r lines c.before c.after c.does.begun (acts_before lines (event.Commit k) k before after old new t _ ready c) c.does.begins c.does.replies in
     quiet_line lines (event.Commit k) r k before after old new t _ ready c (begun_stands lines (event.Commit k) k before after old new t op.Commit (Ok r) tt ready c) left.0 left.1
 
-pub read_begun : (lines : List Line) (k tree : ℕ) (key : List ℕ) (r : Reply) (before after : Seen) (old new : World) (t : CloudState)
+pub read_begun : (lines : List Line) (k tree : ℕ) (key : List ℕ) (r : Reply) (before after : Seen) (old new : World) (t : CloudState) → IsTree tree
     → Ready lines (event.Read k tree key) k before after old new t → Changes k (BeginsOp (op.Read tree key) (Ok r)) old.sessions new.sessions
     → StandsFor (lines ++ line_of (event.Read k tree key) r ∷ []) new after r
-read_begun lines k tree key r before after old new t ready c =
+read_begun lines k tree key r before after old new t is ready c =
     let left = reads k tree key r lines c.before c.after c.does.begun (acts_before lines (event.Read k tree key) k before after old new t _ ready c) c.does.begins c.does.replies in
     quiet_line lines (event.Read k tree key) r k before after old new t _ ready c
-    (begun_stands lines (event.Read k tree key) k before after old new t (op.Read tree key) (Ok r) tt ready c) left.0 left.1
+    (begun_stands lines (event.Read k tree key) k before after old new t (op.Read tree key) (Ok r) is ready c) left.0 left.1
 
 -- ---- changes are noted and dropped
 

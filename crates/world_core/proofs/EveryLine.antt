@@ -116,7 +116,7 @@ asked_stands n (event.Read k tree key) asked before after old new r lines t asks
     request_stands n k (event.Read k tree key) (IsReading tree key) asked before after old new r lines t asks answers at told stands
     (λ request s is done.
     let h = does_own n k request (Begin (op.Read tree key)) before after old new r is.2 done in
-    read_begun lines k tree key r before after old new t (ready_of lines (event.Read k tree key) n k before after old new t refl s h.0) h.1)
+    read_begun lines k tree key r before after old new t is.0 (ready_of lines (event.Read k tree key) n k before after old new t refl s h.0) h.1)
 asked_stands n (event.Page k tree page) asked before after old new r lines t asks answers at told stands =
     request_stands n k (event.Page k tree page) (IsPaging tree page) asked before after old new r lines t asks answers at told stands
     (λ request s is done.

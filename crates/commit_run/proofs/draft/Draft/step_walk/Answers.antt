@@ -1,6 +1,8 @@
 use Rattle.commit_run.proofs.Holding.{steps_held}
 use Rattle.commit_run.proofs.Leading.{walk_steps, keeps_head}
 use Rattle.commit_run.proofs.Meaning.{walk_meant}
+use Rattle.commit_run.proofs.Causing.{walk_causes}
+use Rattle.commit_run.proofs.Ending.{walk_less}
 use Rattle.commit_run.proofs.draft.Draft.step_walk.Goals as goal
 
 pub walked-requires-clause-aimed : goal.walked-requires-clause-aimed
@@ -14,3 +16,11 @@ returns-clause-steps g c =
 
 pub returns-clause-means : goal.returns-clause-means
 returns-clause-means g c = walk_meant c.args.first c.args.self.now c.args.walk c.args.cache.now c.args.who _ _ _ _ (returns-clause-steps g c)
+
+pub returns-clause-less : goal.returns-clause-less
+returns-clause-less g c =
+    walk_less c.args.first c.args.self.now c.args.who _ _ c.args.walk c.args.cache.now c.step-turn.new.self c.step-turn.new.cache c.step-turn.result _ _ c.requires c.step-turn.ensures.steps c.step-turn.ensures.less
+    c.step-turn.ensures.ends c.walked.ensures.led
+
+pub returns-clause-causes : goal.returns-clause-causes
+returns-clause-causes g c = walk_causes c.args.first c.args.self.now c.args.walk c.args.cache.now c.args.who _ _ _ _ (returns-clause-steps g c)

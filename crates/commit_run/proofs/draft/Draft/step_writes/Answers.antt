@@ -1,5 +1,6 @@
 use Rattle.commit_run.proofs.Leading.{write_steps_at}
 use Rattle.commit_run.proofs.Meaning.{write_meant_at}
+use Rattle.commit_run.proofs.Causing.{write_causes}
 use Rattle.commit_run.proofs.draft.Draft.step_writes.Goals as goal
 
 pub returns-clause-steps : goal.returns-clause-steps
@@ -9,3 +10,6 @@ returns-clause-steps g c =
 pub returns-clause-means : goal.returns-clause-means
 returns-clause-means g c =
     λ k. write_meant_at c.args.self.now (record { writes = c.self.inside.writes; plan = c.self.inside.plan }) c.self.view_is k c.args.who _ _ c.step.new.self c.step.result c.step.ensures.means
+
+pub returns-clause-causes : goal.returns-clause-causes
+returns-clause-causes g c = λ k. write_causes c.args.self.now k c.args.who _ _ _ _ (returns-clause-steps g c k)

@@ -1,0 +1,10 @@
+pub mod Plans
+pub mod Prunes
+pub mod RunLeases
+pub mod Steps
+pub mod Refusals
+pub mod Begins
+pub mod RunOthers
+pub mod RunOutcomes
+pub mod RunHands
+pub mod HeadPuts

@@ -1,0 +1,2 @@
+//! A commit: what it knows of a cloud at each of its calls, what others leave of that, and what its calls rest on and leave.
+#![tactic(auto)]

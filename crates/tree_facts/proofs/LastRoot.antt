@@ -4,7 +4,7 @@ use Rattle.std.specs.Prelude.{slice_get}
 use Rattle.chain_facts.specs.Chain.{IsChained, IsUnlinked}
 use Rattle.chain_facts.specs.Cuts.{links_on, HaveLanded, inner_node}
 use Rattle.chain_facts.specs.Landing.{LandsRoot, Raises}
-use Rattle.chain_facts.specs.Links.{link_of, top_of, NamesBelow}
+use Rattle.chain_facts.specs.Links.{link_of, top_of}
 use Rattle.chain_facts.proofs.Pieces.{in_first, in_rest, in_cases, none_in}
 use Rattle.cloud_facts.specs.Standing.{StandsUnder}
 use Rattle.cloud_trait.specs.Ask.{PutHeld}
@@ -18,7 +18,7 @@ use Rattle.db_base.specs.declared.names.ObjName.TheVariants as object
 use Rattle.landing_facts.specs.Landing.{Landing, puts_root, raises_root}
 use Rattle.log_codec.specs.declared.record.PuItem.{PuItem}
 use Rattle.node_codec.specs.Inner.{node_of_root, first_low_of}
-use Rattle.node_codec.specs.Node.{Entry as Child, raised}
+use Rattle.node_codec.specs.Node.{Entry as Child}
 use Rattle.node_codec.specs.Tree.{Tree, IsTree as SpellsTree}
 use Rattle.report_types.specs.declared.entry.Entry.{Entry}
 use Rattle.run_cursor.specs.Run.{IsRun}

@@ -5,11 +5,10 @@ use Rattle.std.proofs.lemmas.Bool.{ne_eqb}
 use Rattle.std.proofs.lemmas.List.{length-reverse}
 use Rattle.chain_facts.specs.Chain.{IsUnlinked}
 use Rattle.chain_facts.specs.Cuts.{inner_node}
-use Rattle.chain_facts.specs.Landing.{LandsNew}
 use Rattle.chain_facts.specs.Links.{top_of, newest_node, NodeNames}
 use Rattle.cloud_facts.specs.Looks.{audit_of}
 use Rattle.cloud_facts.specs.Standing.{StandsUnder, Follows, Commits}
-use Rattle.cloud_trait.specs.Ask.{PutHeld, GetHeld}
+use Rattle.cloud_trait.specs.Ask.{PutHeld}
 use Rattle.cloud_trait.specs.Caller.{Caller}
 use Rattle.cloud_trait.specs.Claim.{Claim}
 use Rattle.cloud_trait.specs.Machine.{Goes, Ends}

@@ -1,5 +1,5 @@
 -- What the way up stands on: the newest root has a spelling, links that go up are of pages that an entry may name, and so are the numbers of a run.
-use Rattle.std.proofs.Common.{◌≡◌, ◌<◌, ◌≤◌, ◌-◌, ◌+◌, ◌⊎◌, inl, inr, ℕ, zero, suc, cond, List, [], ◌∷◌, ◌++◌, length, map, drop, take, Some, refl, sym, ap, subst, ◌∙◌, arith, take-append-drop}
+use Rattle.std.proofs.Common.{◌≡◌, ◌<◌, ◌≤◌, ◌-◌, ◌+◌, ◌⊎◌, inl, inr, ℕ, zero, suc, List, [], ◌∷◌, length, map, drop, take, Some, refl, sym, ap, subst, ◌∙◌, arith, take-append-drop}
 use Rattle.std.specs.Prelude.{slice_get}
 use Rattle.std.proofs.lemmas.Bool.{cases_lt}
 use Rattle.byte_format.specs.Format.{greatest}
@@ -14,9 +14,8 @@ use Rattle.db_base.specs.Ids.{IsClient, IsTree}
 use Rattle.db_base.specs.declared.names.ObjName.TheVariants as object
 use Rattle.decoding_facts.proofs.Newest.{IsLast, last_cases, last_map}
 use Rattle.decoding_facts.proofs.Reading.{root_reads}
-use Rattle.log_codec.specs.declared.record.PuItem.{PuItem}
 use Rattle.log_codec.proofs.PuLaws.{pu_of-some}
-use Rattle.node_codec.specs.Tree.{Tree, HasTreeSpelling, empty_tree}
+use Rattle.node_codec.specs.Tree.{HasTreeSpelling, empty_tree}
 use Rattle.report_types.specs.declared.entry.Entry.{Entry}
 use Rattle.run_cursor.specs.Run.{Taken}
 use Rattle.run_facts.specs.Runs.{TookRun}

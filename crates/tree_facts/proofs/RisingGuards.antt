@@ -1,5 +1,5 @@
 -- Each call of the way up is a put under the tree's lease, of an object that the tree's lock guards while the lease lasts.
-use Rattle.std.proofs.Common.{◌≡◌, ◌+◌, ◌<◌, ◌⊎◌, inl, inr, ℕ, List, [], ◌∷◌, ◌++◌, length, map, reverse, Option, Some, None, refl, ap, subst, ◌∙◌, arith, length-append}
+use Rattle.std.proofs.Common.{◌≡◌, ◌+◌, ◌⊎◌, inl, inr, ℕ, List, [], ◌∷◌, ◌++◌, length, map, reverse, Option, Some, None, refl, ap, subst, ◌∙◌, arith, length-append}
 use Rattle.chain_facts.specs.Cuts.{inner_node}
 use Rattle.chain_facts.specs.Links.{top_of}
 use Rattle.cloud_facts.specs.Standing.{StandsUnder}

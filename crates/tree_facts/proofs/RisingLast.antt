@@ -4,13 +4,12 @@ use Rattle.std.specs.List.{AllByRecursion}
 use Rattle.chain_facts.specs.Chain.{IsUnlinked}
 use Rattle.chain_facts.specs.Cuts.{links_on, HaveLanded, inner_node}
 use Rattle.chain_facts.specs.Links.{top_of, NamesLinks, NamesBelow}
-use Rattle.chain_facts.proofs.Pieces.{in_cases, none_in}
 use Rattle.cloud_facts.specs.Standing.{StandsUnder}
 use Rattle.cloud_facts.proofs.Passing.{landing_passes}
 use Rattle.cloud_trait.specs.Ask.{PutHeld}
 use Rattle.cloud_trait.specs.Caller.{Caller}
 use Rattle.cloud_trait.specs.Claim.{Claim, Lasts}
-use Rattle.cloud_trait.specs.Machine.{Goes, Ends}
+use Rattle.cloud_trait.specs.Machine.{Goes}
 use Rattle.cloud_trait.specs.State.{CloudState}
 use Rattle.db_base.specs.declared.names.Lock.TheVariants as lock
 use Rattle.db_base.specs.declared.names.ObjName.TheVariants as object
@@ -19,7 +18,6 @@ use Rattle.landing_facts.specs.Landing.{Landing}
 use Rattle.node_codec.specs.Inner.{node_of_root}
 use Rattle.node_codec.specs.Tree.{Tree, IsTree as SpellsTree}
 use Rattle.report_types.specs.declared.entry.Entry.{Entry}
-use Rattle.run_facts.specs.Runs.{MayDelete}
 use Rattle.run_facts.proofs.Received.{each_in}
 use Rattle.split_plan.proofs.Counting.{can-cuts}
 use Rattle.split_plan.proofs.Cutting.{pieces-are-a-cut}
@@ -32,7 +30,7 @@ use Rattle.store_book.specs.Book.{Book, Link}
 use Rattle.store_book.specs.Effects.{after_root, after_raise}
 use Rattle.store_book.specs.Growth.{Grows}
 use Rattle.store_book.specs.Records.{IsIn}
-use Rattle.store_book.specs.Tally.{Node, Store}
+use Rattle.store_book.specs.Tally.{Store}
 use Rattle.store_book.specs.Telling.{nodes_of, roots_of}
 use Rattle.store_book.proofs.Places.{in_front, in_behind}
 use Rattle.telling_facts.proofs.Names.{at2_same, at2_beside}
@@ -44,7 +42,7 @@ use Rattle.tree_rising.specs.Rising.{landed, put_landed}
 use Rattle.tree_rising.specs.Root.{new_pages}
 use Rattle.tree_facts.specs.Placings.{AreReserved}
 use Rattle.tree_facts.specs.Risings.{ReservesRoot, IsRaised, PutsWhole, PutsCut, cut, PutsOf, KnowsRising, RisesOn}
-use Rattle.tree_facts.proofs.LastRoot.{last_landing, piece_links, raise_landing, may_delete}
+use Rattle.tree_facts.proofs.LastRoot.{last_landing, raise_landing, may_delete}
 use Rattle.tree_facts.proofs.NodePieces.{pieces_name}
 use Rattle.tree_facts.proofs.PlacingLemmas.{puts_more, on_range, piece_landed}
 use Rattle.tree_facts.proofs.Reservations.{spelled_root}

@@ -1,7 +1,6 @@
 -- What is planned for a node that was got: its pieces, with the links that go to it, on numbers that are reserved for the new ones.
-use Rattle.std.proofs.Common.{◌≡◌, ◌≢◌, ◌+◌, ◌-◌, ◌≤◌, ◌==◌, ◌⊎◌, ℕ, zero, suc, Bool, true, false, cond, List, [], ◌∷◌, ◌++◌, length, drop, Option, Some, None, Result, Ok, Err, refl, sym, ap, subst, ◌∙◌, arith, add-one}
+use Rattle.std.proofs.Common.{◌≡◌, ◌+◌, ◌-◌, ◌≤◌, ◌==◌, ℕ, suc, Bool, true, false, cond, List, [], ◌∷◌, ◌++◌, length, drop, Option, Some, None, Result, Ok, Err, refl, sym, subst, ◌∙◌, arith}
 use Rattle.std.specs.Prelude.{slice_get}
-use Rattle.std.specs.List.{AllByRecursion}
 use Rattle.std.proofs.lemmas.Bool.{eqb-false}
 use Rattle.byte_format.specs.Format.{greatest}
 use Rattle.chain_facts.specs.Cuts.{inner_node}
@@ -14,7 +13,7 @@ use Rattle.node_codec.specs.Inner.{Inner, HasInnerSpelling}
 use Rattle.node_codec.specs.Tree.{Tree}
 use Rattle.report_types.specs.declared.entry.Entry.{Entry}
 use Rattle.split_plan.specs.Part.{NodePart, entry_key, part_of_node}
-use Rattle.split_plan.specs.Plan.{IsNodePart, node_bytes, node_pieces}
+use Rattle.split_plan.specs.Plan.{node_bytes}
 use Rattle.split_plan.specs.Sizes.{count_of}
 use Rattle.store_book.specs.Book.{Book}
 use Rattle.store_book.specs.Records.{IsIn}
@@ -26,15 +25,15 @@ use Rattle.tree_parts.specs.declared.kept.KeptNode.{KeptNode}
 use Rattle.tree_parts.specs.declared.link.Link.{Link as Found}
 use Rattle.tree_parts.specs.declared.reserve.Reserved.{Reserved}
 use Rattle.tree_parts.specs.Kept.{links_at}
-use Rattle.tree_parts.specs.Read.{tree_held, inner_read}
+use Rattle.tree_parts.specs.Read.{tree_held}
 use Rattle.tree_parts.specs.Reserve.{version_spent, reservation}
 use Rattle.tree_rising.specs.declared.node.NodePlan.{NodePlan}
 use Rattle.tree_rising.specs.declared.rising.Rising.{Rising}
-use Rattle.tree_rising.specs.Nodes.{touched_at, in_pieces, planned_by, planned, planned_of, linked_by, node_plan}
+use Rattle.tree_rising.specs.Nodes.{touched_at, in_pieces, planned_by, planned_of, linked_by, node_plan}
 use Rattle.tree_rising.specs.Rising.{next_touched, touched_node, put_node}
 use Rattle.tree_facts.specs.Charts.{KnowsNode}
 use Rattle.tree_facts.specs.Placings.{AreReserved, IsReservation}
-use Rattle.tree_facts.specs.Risings.{AreApart, KnowsUpward, ReservesNodes, PutsNode, PutsOf, KnowsRising, RisesOn, risen_node}
+use Rattle.tree_facts.specs.Risings.{AreApart, KnowsUpward, ReservesNodes, PutsOf, RisesOn, risen_node}
 use Rattle.tree_facts.proofs.FoldReads.{Reserving, none, some, reservation_is}
 use Rattle.tree_facts.proofs.PlacingLemmas.{none_reserved}
 use Rattle.tree_facts.proofs.RisingGrounds.{in_dropped, dropped_behind, get_dropped, apart_from, link_page, found_pages}

@@ -1,8 +1,8 @@
 -- What a checkpoint knows on its way up survives the calls of others.
-use Rattle.std.proofs.Common.{◌≡◌, ◌+◌, ◌-◌, ◌<◌, ◌≤◌, inl, inr, ℕ, List, [], ◌∷◌, length, drop, Option, Some, None, refl, sym, ap, subst, ◌∙◌, arith}
+use Rattle.std.proofs.Common.{◌≡◌, ◌+◌, ◌-◌, ◌<◌, ◌≤◌, inl, ℕ, List, [], ◌∷◌, length, drop, Option, Some, None, refl, sym, ap, subst, ◌∙◌, arith}
 use Rattle.chain_facts.specs.Chain.{IsUnlinked}
 use Rattle.chain_facts.specs.Cuts.{inner_node}
-use Rattle.chain_facts.specs.Links.{newest_node, top_of, NamesBelow}
+use Rattle.chain_facts.specs.Links.{top_of, NamesBelow}
 use Rattle.cloud_trait.specs.Claim.{Claim, Lasts}
 use Rattle.db_base.specs.declared.names.Lock.TheVariants as lock
 use Rattle.leaf_view.specs.Lookup.{empty_leaf}
@@ -22,7 +22,7 @@ use Rattle.tree_rising.specs.declared.rising.Rising.{Rising}
 use Rattle.tree_facts.specs.Charts.{KnowsNode}
 use Rattle.tree_facts.specs.Links.{SameLinks}
 use Rattle.tree_facts.specs.Placings.{AreReserved}
-use Rattle.tree_facts.specs.Risings.{AppliesRun, ReservesNodes, PutsNode, IsRaised, PutsWhole, PutsCut, PutsRoot, whole, cut, ReservesRoot, PutsOf, KnowsRising}
+use Rattle.tree_facts.specs.Risings.{AppliesRun, ReservesNodes, PutsNode, IsRaised, PutsCut, PutsRoot, whole, cut, ReservesRoot, PutsOf, KnowsRising}
 use Rattle.tree_facts.specs.TreeOthers.{OthersOfTree}
 use Rattle.tree_facts.proofs.ChartOthers.{in_grown, root_stays, KeepsNodes, nodes_stay, links_stay, keeps_nodes}
 use Rattle.tree_facts.proofs.FoldOthers.{done_stays}

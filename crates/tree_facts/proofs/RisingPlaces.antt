@@ -1,5 +1,5 @@
 -- The pieces of a cut before any of them is put.
-use Rattle.std.proofs.Common.{◌≡◌, ◌+◌, ◌-◌, ℕ, List, [], ◌∷◌, length, map, reverse, refl, sym, ap, ◌∙◌, arith}
+use Rattle.std.proofs.Common.{◌≡◌, ◌+◌, ℕ, List, [], ◌∷◌, length, map, reverse, refl, sym, ap, ◌∙◌, arith}
 use Rattle.std.proofs.lemmas.List.{append-nil}
 use Rattle.split_plan.proofs.Counting.{length-cuts}
 use Rattle.split_plan.proofs.Cutting.{pieces-are-a-cut}

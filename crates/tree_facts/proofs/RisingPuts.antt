@@ -1,7 +1,6 @@
 -- The puts of a node's pieces on the way up: a new piece lands on its number, and the left one, the last of them, on the node's page.
-use Rattle.std.proofs.Common.{◌≡◌, ◌≢◌, ◌+◌, ◌-◌, ◌<◌, ◌≤◌, ◌==◌, ◌⊎◌, inl, inr, ℕ, zero, suc, Bool, true, false, List, [], ◌∷◌, ◌++◌, length, map, reverse, drop, Option, Some, None, refl, sym, ap, subst, ◌∙◌, arith, append_assoc, length-append}
+use Rattle.std.proofs.Common.{◌≡◌, ◌≢◌, ◌+◌, ◌-◌, ◌<◌, ◌==◌, ◌⊎◌, inl, inr, ℕ, zero, Bool, true, false, List, [], ◌∷◌, ◌++◌, length, map, reverse, drop, Option, Some, None, refl, sym, ap, subst, ◌∙◌, arith, append_assoc, length-append}
 use Rattle.std.specs.Prelude.{slice_get}
-use Rattle.std.specs.List.{AllByRecursion}
 use Rattle.std.proofs.lemmas.Bool.{eqb-true, eqb-false}
 use Rattle.chain_facts.specs.Chain.{IsChained, IsUnlinked, IsVersionOf}
 use Rattle.chain_facts.specs.Cuts.{links_on, HaveLanded, inner_node}
@@ -14,25 +13,22 @@ use Rattle.cloud_trait.specs.Caller.{Caller}
 use Rattle.cloud_trait.specs.Claim.{Claim, Lasts}
 use Rattle.cloud_trait.specs.Machine.{Goes}
 use Rattle.cloud_trait.specs.State.{CloudState}
-use Rattle.db_base.specs.Ids.{IsTree}
 use Rattle.db_base.specs.declared.names.Lock.TheVariants as lock
 use Rattle.db_base.specs.declared.names.ObjName.TheVariants as object
 use Rattle.home_facts.specs.Homes.{Part as Home}
 use Rattle.landing_facts.specs.Landing.{Landing, puts_inner}
-use Rattle.landing_facts.specs.Landing as landing
 use Rattle.node_codec.specs.Inner.{Inner, IsInner}
 use Rattle.report_types.specs.declared.entry.Entry.{Entry}
 use Rattle.run_facts.specs.Runs.{TookRun}
 use Rattle.run_facts.proofs.Received.{each_in}
 use Rattle.split_plan.proofs.Cutting.{pieces-are-a-cut}
-use Rattle.split_plan.specs.declared.entry_list.NewEntry.{NewEntry}
 use Rattle.split_plan.specs.declared.put_list.PagePut.{PagePut}
 use Rattle.split_plan.specs.Cut.{IsNewPart, BeginAs, IsCut}
 use Rattle.split_plan.specs.Part.{NodePart, part_of_node, node_of_part, entry_key}
 use Rattle.split_plan.specs.Plan.{IsNodePart, put_of, entry_of, on_pages, node_bytes, node_pieces}
 use Rattle.split_plan.specs.Sizes.{cuts_of}
 use Rattle.store_book.specs.Book.{Book, Link, with_pieces}
-use Rattle.store_book.specs.Effects.{after_inner, after_page}
+use Rattle.store_book.specs.Effects.{after_inner}
 use Rattle.store_book.specs.Growth.{Grows}
 use Rattle.store_book.specs.Records.{IsIn}
 use Rattle.store_book.specs.Tally.{Node, Branch, Store, version_of}
@@ -42,7 +38,6 @@ use Rattle.telling_facts.proofs.Fences.{cut_common, cut_version}
 use Rattle.telling_facts.proofs.Names.{at2_same, at2_beside}
 use Rattle.telling_facts.specs.Pieces.{first_part, right_of, node_parts, left_inner, node_links}
 use Rattle.telling_facts.specs.Told.{store_of}
-use Rattle.tree_parts.specs.declared.kept.KeptNode.{KeptNode}
 use Rattle.tree_parts.specs.declared.link.Link.{Link as Found}
 use Rattle.tree_parts.specs.Kept.{links_at}
 use Rattle.tree_parts.specs.Placing.{root_after, puts_after}

@@ -1,5 +1,5 @@
 -- The put that reserves the numbers of new pieces on the way up, of a node's and of the root's.
-use Rattle.std.proofs.Common.{◌≡◌, ◌+◌, ◌≤◌, ℕ, List, [], length, drop, Option, Some, None, refl, sym, ap, subst, ◌∙◌, arith}
+use Rattle.std.proofs.Common.{◌≡◌, ◌+◌, ℕ, List, [], length, drop, Option, Some, None, refl, sym, ap, subst, ◌∙◌, arith}
 use Rattle.chain_facts.specs.Cuts.{inner_node}
 use Rattle.chain_facts.specs.Links.{top_of}
 use Rattle.cloud_facts.specs.Standing.{StandsUnder}

@@ -1,5 +1,5 @@
 -- What is planned for the root behind the last node: it is put whole, or its pieces are put and then a root above them.
-use Rattle.std.proofs.Common.{◌≡◌, ◌≢◌, ◌+◌, ◌<◌, ◌≤◌, ◌==◌, ◌⊎◌, inr, ℕ, Bool, true, false, cond, nat_lt, ◌&&◌, List, [], length, Option, Some, None, Result, Ok, Err, refl, sym, ap, subst, ◌∙◌, arith}
+use Rattle.std.proofs.Common.{◌≡◌, ◌≢◌, ◌+◌, ◌<◌, ◌≤◌, ◌==◌, inr, ℕ, Bool, true, false, cond, nat_lt, ◌&&◌, List, [], length, Some, Result, Ok, Err, refl, sym, ap, subst, ◌∙◌, arith}
 use Rattle.std.proofs.lemmas.Bool.{and_parts, eqb-false, ltb-false, ltb-true}
 use Rattle.std.proofs.lemmas.List.{append-nil}
 use Rattle.byte_format.specs.Format.{greatest}
@@ -20,16 +20,15 @@ use Rattle.store_book.specs.Book.{Book}
 use Rattle.store_book.specs.Tally.{Store}
 use Rattle.store_book.specs.Telling.{nodes_of, roots_of}
 use Rattle.telling_facts.specs.Told.{store_of}
-use Rattle.tree_parts.specs.declared.link.Link.{Link as Found}
 use Rattle.tree_parts.specs.declared.reserve.Reserved.{Reserved}
 use Rattle.tree_parts.specs.Read.{tree_held}
 use Rattle.tree_parts.specs.Reserve.{version_spent, pages_spent, next_tree, reservation}
 use Rattle.tree_rising.specs.declared.rising.Rising.{Rising}
 use Rattle.tree_rising.specs.declared.root.RootPlan.{RootPlan}
-use Rattle.tree_rising.specs.Rising.{plan_of, last_plan, put_root, finish}
-use Rattle.tree_rising.specs.Root.{with_named, risen, risen_by, lowered, cut_at, cut_by, cut_behind, root_cut, uncut, root_plan}
+use Rattle.tree_rising.specs.Rising.{plan_of, put_root, finish}
+use Rattle.tree_rising.specs.Root.{with_named, risen_by, lowered, cut_by, cut_behind, root_cut, uncut, root_plan}
 use Rattle.tree_facts.specs.Placings.{reserving, IsReservation}
-use Rattle.tree_facts.specs.Risings.{KnowsUpward, IsRaised, PutsWhole, PutsCut, PutsRoot, whole, cut, KnowsRising, RisesOn}
+use Rattle.tree_facts.specs.Risings.{KnowsUpward, IsRaised, PutsCut, PutsRoot, whole, cut, RisesOn}
 use Rattle.tree_facts.proofs.FoldReads.{Reserving, none, some, reservation_is}
 use Rattle.tree_facts.proofs.Naming.{KeepsRest, named_names, named_rest}
 use Rattle.tree_facts.proofs.Reservations.{root_names, reserving_fits}

@@ -1,5 +1,5 @@
 -- Spellings on the way up: a node with the links that go to it, a root with the run's cursor and the links of its level, and their pieces.
-use Rattle.std.proofs.Common.{◌≡◌, ◌≢◌, ◌+◌, ◌-◌, ◌<◌, ◌≤◌, ◌==◌, max, ℕ, Bool, true, false, cond, not, nat_lt, ◌&&◌, ◌⊎◌, inl, inr, List, [], ◌∷◌, length, map, take, drop, Option, Some, None, refl, sym, ap, subst, ◌∙◌, arith}
+use Rattle.std.proofs.Common.{◌≡◌, ◌≢◌, ◌+◌, ◌-◌, ◌<◌, ◌≤◌, ◌==◌, max, ℕ, Bool, true, false, cond, not, nat_lt, ◌&&◌, ◌⊎◌, inl, inr, List, [], ◌∷◌, length, map, take, drop, Option, Some, None, refl, sym, ap, subst, arith}
 use Rattle.std.specs.Prelude.{nat_le, unwrap_or}
 use Rattle.std.specs.List.{AllByRecursion}
 use Rattle.std.specs.BTreeMap.{is_at}
@@ -10,7 +10,7 @@ use Rattle.byte_format.specs.Format.{greatest, in_range, list_fits}
 use Rattle.byte_format.specs.Order.{bytes_below, below_bound}
 use Rattle.chain_facts.proofs.Pieces.{in_first, in_rest}
 use Rattle.db_base.specs.Cursor.{number_of}
-use Rattle.node_codec.proofs.EntryLemmas.{Cut, EntryFits, spelled, spelled_read, with_entry_fits, fits_to_last}
+use Rattle.node_codec.proofs.EntryLemmas.{Cut, spelled, spelled_read, with_entry_fits, fits_to_last}
 use Rattle.node_codec.proofs.InnerLemmas.{inner_fits, fit_inner, cut_node, left_parts, left_is, right_parts, right_is}
 use Rattle.node_codec.proofs.NodeLemmas.{in_range_from, in_range_parts, not_below_empty, pairs_of_fit}
 use Rattle.node_codec.proofs.PlainLemmas.{whole_list_read}

@@ -24,10 +24,10 @@ use Rattle.telling_facts.specs.Told.{store_of}
 use Rattle.tree_facts.specs.Leaves.{IsPutting}
 use Rattle.tree_facts.specs.Folds.{Reserves, PutsPieces}
 use Rattle.tree_facts.specs.Placings.{AreReserved}
-use Rattle.tree_facts.specs.TreeOthers.{IsTreePage}
+use Rattle.cloud_facts.specs.Pages.{IsTreePage}
 use Rattle.tree_facts.proofs.FoldPuts.{page_asked, root_asked}
 use Rattle.tree_facts.proofs.PlacingLemmas.{last_cases, puts_more}
-use Rattle.tree_facts.proofs.TreeOthersLaws.{leaf_guard, tree_guard}
+use Rattle.cloud_facts.proofs.Guarding.{leaf_guard, tree_guard}
 use Rattle.tree_parts.specs.Read.{tree_held}
 
 -- a number that is reserved and was not put yet is a page of the tree's

@@ -3,7 +3,7 @@ use Rattle.std.proofs.Common.{◌≡◌, ◌⊎◌, inl, inr, ℕ, zero, suc, Li
 use Rattle.std.specs.Prelude.{unwrap_or}
 use Rattle.ckpt_parts.specs.Deleting.{next_id}
 use Rattle.ckpt_parts.specs.Leasing.{newest_lease}
-use Rattle.cloud_facts.specs.Acting.{Handles}
+use Rattle.cloud_facts.specs.Acting.{Handles, Setting}
 use Rattle.cloud_facts.specs.Call.{IsCall}
 use Rattle.cloud_facts.specs.Standing.{StandsUnder}
 use Rattle.cloud_trait.specs.declared.answer.Answer.{Answer}
@@ -41,7 +41,6 @@ use Rattle.tree_ckpt_facts.proofs.MakingOthers.{lock_of, making_later}
 use Rattle.tree_ckpt_facts.proofs.UpGuards.{rising_guarded}
 use Rattle.tree_descent.specs.Descent.{descent_next}
 use Rattle.tree_facts.specs.Leaves.{IsReading, IsPutting, KnowsLeaf}
-use Rattle.tree_facts.specs.Outcomes.{TreeSetting}
 use Rattle.tree_moves.specs.declared.work.Held.{Held}
 use Rattle.tree_moves.specs.declared.work.Onward.{Onward}
 use Rattle.tree_moves.specs.declared.work.Onward.TheVariants as onward
@@ -310,7 +309,7 @@ module _ (who : Caller) (s t : CloudState) (home : Claim) (client : ℕ) (home_l
 
 -- a call of a checkpoint beside its home's lease, and where its answer leads
 pub making_handles : (who : Caller) (s t : CloudState) (book : Book) (order : List Entry) (parts : Parts) (leases : List Claim) (m : Making) (reply : Answer)
-    → TreeSetting book order s t.now parts who.session leases → KnowsMaking (store_of book order s) s.now m → IsCall who (making_ask m) reply s t → (home : Claim) (client : ℕ)
+    → Setting book order s t.now parts who.session leases → KnowsMaking (store_of book order s) s.now m → IsCall who (making_ask m) reply s t → (home : Claim) (client : ℕ)
     → home.lock ≡ lock.Client client → (next : Next Making CkptAnswer) → MakingLeads m reply next
     → Handles who s t (making_ask m) reply (home ∷ leases_of_making m) (home ∷ leases_next next)
 making_handles who s t book order parts leases m reply setting k call home client home_lock next leads =
@@ -330,7 +329,7 @@ making_handles who s t book order parts leases m reply setting k call home clien
 
 -- and wherever it leads the home's lease is in hand
 pub making_home_handles : (who : Caller) (s t : CloudState) (book : Book) (order : List Entry) (parts : Parts) (leases : List Claim) (m : Making) (reply : Answer)
-    → TreeSetting book order s t.now parts who.session leases → KnowsMaking (store_of book order s) s.now m → IsCall who (making_ask m) reply s t → (home : Claim) (client : ℕ)
+    → Setting book order s t.now parts who.session leases → KnowsMaking (store_of book order s) s.now m → IsCall who (making_ask m) reply s t → (home : Claim) (client : ℕ)
     → home.lock ≡ lock.Client client → Handles who s t (making_ask m) reply (home ∷ leases_of_making m) (home ∷ [])
 making_home_handles who s t book order parts leases m reply setting k call home client home_lock =
     work_hands who s t home client home_lock m.tree reply (home ∷ []) book order setting.cloud m.work (making_later (store_of book order s) s.now t.now m call.later k).work

@@ -11,11 +11,11 @@ use Rattle.tree_ckpt.specs.Standing.{OfTree}
 use Rattle.tree_ckpt_facts.specs.Checkpoint.{IsUnder, KnowsOnward, KnowsWork, KnowsMaking, leases_of_making}
 use Rattle.tree_facts.specs.Charts.{KnowsRoot}
 use Rattle.tree_facts.specs.Leaves.{KnowsLeaf}
-use Rattle.tree_facts.specs.TreeOthers.{OthersOfTree}
+use Rattle.cloud_facts.specs.Others.{Others}
 use Rattle.tree_facts.proofs.ChartOthers.{root_stays}
 use Rattle.tree_facts.proofs.FoldOthers.{reading_others, putting_others, rest_others, come_others, getting_others}
 use Rattle.tree_facts.proofs.RisingOthers.{rising_others}
-use Rattle.tree_facts.proofs.TreeOthersLaws.{tree_others_itself}
+use Rattle.cloud_facts.proofs.Guarding.{others_itself}
 use Rattle.tree_moves.specs.declared.work.Held.{Held}
 use Rattle.tree_moves.specs.declared.work.Onward.{Onward}
 use Rattle.tree_moves.specs.declared.work.Onward.TheVariants as onward
@@ -29,17 +29,17 @@ pub lock_of : (tree known : ℕ) (lease : Claim) → IsUnder tree lease known �
 lock_of tree known lease under = under.lock_is ∙ ap lock.Tree (sym under.tree_is)
 
 module _ (st su : Store) (now later tree : ℕ) (after : now ≤ later) where
-  onward_others : (mine : List Claim) (h : Held) (o : Onward) → IsIn mine h.lease → OthersOfTree mine later st su → KnowsOnward st now tree h o → KnowsOnward su later tree h o
+  onward_others : (mine : List Claim) (h : Held) (o : Onward) → IsIn mine h.lease → Others mine later st su → KnowsOnward st now tree h o → KnowsOnward su later tree h o
   onward_others mine h (onward.Right c) held o k =
       (k.0, come_others mine st su now later h.lease c.chart c.page c.low c.visited h.deletions.ids after held (lock_of tree c.chart.tree h.lease k.0) o k.1)
   onward_others mine h (onward.Handled c) held o k = (k.0, rest_others mine st su now later h.lease c h.deletions.ids after held (lock_of tree c.tree h.lease k.0) o k.1)
 
-  leaf_others : (mine : List Claim) (h : Held) (f : Folding) → IsIn mine h.lease → IsIn mine f.lease → h.lease.lock ≡ lock.Tree f.chart.tree → OthersOfTree mine later st su
+  leaf_others : (mine : List Claim) (h : Held) (f : Folding) → IsIn mine h.lease → IsIn mine f.lease → h.lease.lock ≡ lock.Tree f.chart.tree → Others mine later st su
       → KnowsLeaf st now h.lease f h.deletions.ids → KnowsLeaf su later h.lease f h.deletions.ids
   leaf_others mine h f held own is o (inl reading) = inl (reading_others mine st su now later h.lease f h.deletions.ids after held is o reading)
   leaf_others mine h f held own is o (inr putting) = inr (putting_others mine st su now later h.lease f h.deletions.ids after held is own o putting)
 
-  pub work_others : (w : Work) → OthersOfTree (claims_in w) later st su → KnowsWork st now tree w → KnowsWork su later tree w
+  pub work_others : (w : Work) → Others (claims_in w) later st su → KnowsWork st now tree w → KnowsWork su later tree w
   work_others TakingTree o k = k
   work_others (GettingTree l) o k = k
   work_others (Receiving l root) o k =
@@ -58,9 +58,9 @@ module _ (st su : Store) (now later tree : ℕ) (after : now ≤ later) where
   work_others (Releasing held end) o k = k
   work_others Finished o k = absurd k
 
-pub making_others : (st su : Store) (now later : ℕ) (m : Making) → now ≤ later → OthersOfTree (leases_of_making m) later st su → KnowsMaking st now m → KnowsMaking su later m
+pub making_others : (st su : Store) (now later : ℕ) (m : Making) → now ≤ later → Others (leases_of_making m) later st su → KnowsMaking st now m → KnowsMaking su later m
 making_others st su now later m after o k = record { tree = k.tree; work = work_others st su now later m.tree after m.work o k.work }
 
 -- time goes on
 pub making_later : (st : Store) (now later : ℕ) (m : Making) → now ≤ later → KnowsMaking st now m → KnowsMaking st later m
-making_later st now later m after k = making_others st st now later m after (tree_others_itself (leases_of_making m) later st) k
+making_later st now later m after k = making_others st st now later m after (others_itself (leases_of_making m) later st) k

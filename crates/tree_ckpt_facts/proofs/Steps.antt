@@ -4,7 +4,7 @@ use Rattle.std.specs.Prelude.{unwrap_or}
 use Rattle.std.proofs.lemmas.List.{append-nil}
 use Rattle.ckpt_parts.specs.Deleting.{next_id}
 use Rattle.ckpt_parts.specs.Leasing.{newest_lease}
-use Rattle.cloud_facts.specs.Acting.{Aside}
+use Rattle.cloud_facts.specs.Acting.{Aside, Setting, Outcome}
 use Rattle.cloud_facts.specs.Call.{IsCall}
 use Rattle.cloud_facts.specs.Looks.{audit_of}
 use Rattle.cloud_facts.specs.Standing.{StandsUnder}
@@ -55,12 +55,11 @@ use Rattle.tree_descent.specs.declared.descent.Descent.{Descent}
 use Rattle.tree_descent.specs.Descent.{descent_next}
 use Rattle.tree_facts.specs.FoldSteps.{fold_note, KnowsStep}
 use Rattle.tree_facts.specs.Leaves.{IsGetting, IsReading, IsPutting, KnowsLeaf}
-use Rattle.tree_facts.specs.Outcomes.{TreeSetting, TreeOutcome}
 use Rattle.tree_facts.specs.Risings.{KnowsRising, RisesOn}
 use Rattle.tree_facts.proofs.FoldCalls.{put_outcome}
 use Rattle.tree_facts.proofs.FoldGets.{leaf_leads}
 use Rattle.tree_facts.proofs.RisingCalls.{known_outcome}
-use Rattle.tree_facts.proofs.TreeOutcomes.{tree_stays, tree_other_landed, tree_quiet}
+use Rattle.cloud_facts.proofs.Outcomes.{stays, other_landed, quiet}
 use Rattle.tree_facts.proofs.Walks as walks
 use Rattle.tree_facts.proofs.WayCharts.{LeadsApart, descent_apart, descent_known}
 use Rattle.tree_moves.specs.declared.work.Held.{Held}
@@ -75,8 +74,8 @@ use Rattle.tree_rising.specs.Rising.{rising_ask, rising_next}
 
 -- less is known
 pub less_known : (who : Caller) (book : Book) (order : List Entry) (s t : CloudState) (parts : Parts) (mine : List Claim) (ask : Ask) (note : Audited → Audited) (K L : Store → ℕ → Type 0)
-    → ((u : Store) → K u t.now → L u t.now) → TreeOutcome who book order s t parts mine ask note (Aside (store_of book order s) (parts who.session) K)
-    → TreeOutcome who book order s t parts mine ask note (Aside (store_of book order s) (parts who.session) L)
+    → ((u : Store) → K u t.now → L u t.now) → Outcome who book order s t parts mine ask note (Aside (store_of book order s) (parts who.session) K)
+    → Outcome who book order s t parts mine ask note (Aside (store_of book order s) (parts who.session) L)
 less_known who book order s t parts mine ask note K L less o = record {
   book_after = o.book_after;
   order_after = o.order_after;
@@ -128,7 +127,7 @@ up_note m h r (Renew l ticks) a = refl
 up_note m h r (Release l) a = refl
 
 module _ (who : Caller) (s t : CloudState) (book : Book) (order : List Entry) (parts : Parts) (mine : List Claim) (m : Making) (reply : Answer)
-    (setting : TreeSetting book order s t.now parts who.session mine) (of_tree : IsTree m.tree) where
+    (setting : Setting book order s t.now parts who.session mine) (of_tree : IsTree m.tree) where
   abbrev st : Store
   st = store_of book order s
 
@@ -143,7 +142,7 @@ module _ (who : Caller) (s t : CloudState) (book : Book) (order : List Entry) (p
   After w u now = (next : Step) → Leads tree w reply next → KnowsWorkNext u now tree next
 
   abbrev OutBy : Work → Ask → Type 0
-  OutBy w ask = TreeOutcome who book order s t parts mine ask (note_at m w ask) (Aside st own (After w))
+  OutBy w ask = Outcome who book order s t parts mine ask (note_at m w ask) (Aside st own (After w))
 
   still : HomesHold st.tally t.now (at who.session own parts)
   still = keeps_part st.tally t.now parts who.session own refl setting.homes
@@ -151,7 +150,7 @@ module _ (who : Caller) (s t : CloudState) (book : Book) (order : List Entry) (p
   -- a call that neither puts nor touches a message
   quiet_at : (w : Work) (ask : Ask) → IsCall who ask reply s t → PutsNothing ask → TouchesNoMessage ask → After w st t.now → OutBy w ask
   quiet_at w ask call puts touches knows =
-      tree_quiet who book order s t parts mine ask (note_at m w ask) (Aside st own (After w)) reply call puts touches setting.cloud own still
+      quiet who book order s t parts mine ask (note_at m w ask) (Aside st own (After w)) reply call puts touches setting.cloud own still
       (record { part_is = refl; heads = λ client. refl; knows = knows })
 
   -- ---- a leaf
@@ -184,7 +183,7 @@ module _ (who : Caller) (s t : CloudState) (book : Book) (order : List Entry) (p
 
     at_putting : IsIn mine h.lease → IsPutting st t.now h.lease f h.deletions.ids → IsCall who (folding_ask f h.lease) reply s t → OutBy (work.Folding h f) (folding_ask f h.lease)
     at_putting held k call =
-        subst (λ (note : Audited → Audited). TreeOutcome who book order s t parts mine (folding_ask f h.lease) note (Aside st own (After (work.Folding h f))))
+        subst (λ (note : Audited → Audited). Outcome who book order s t parts mine (folding_ask f h.lease) note (Aside st own (After (work.Folding h f))))
         (leaf_note m h f (folding_ask f h.lease))
         (less_known who book order s t parts mine (folding_ask f h.lease) (fold_note f (folding_ask f h.lease)) (λ u now. KnowsStep u now h.lease h.deletions.ids (folding_next f reply))
         (After (work.Folding h f)) (λ u. leads_from u k.lock_is)
@@ -218,10 +217,10 @@ module _ (who : Caller) (s t : CloudState) (book : Book) (order : List Entry) (p
 
       on : (t ≡ called who t.now s) ⊎ Lands who delete (called who t.now s) t → OutBy (work.Deleting h applied) delete
       on (inl q) =
-          tree_stays who book order s t parts mine delete (note_at m (work.Deleting h applied) delete) (Aside st own (After (work.Deleting h applied))) q setting.cloud own still
+          stays who book order s t parts mine delete (note_at m (work.Deleting h applied) delete) (Aside st own (After (work.Deleting h applied))) q setting.cloud own still
           (record { part_is = refl; heads = λ client. refl; knows = knows st may })
       on (inr lands) =
-          tree_other_landed who book order s t parts mine delete (note_at m (work.Deleting h applied) delete) (Aside st own (After (work.Deleting h applied))) su lands setting.cloud landing tt tt tt own
+          other_landed who book order s t parts mine delete (note_at m (work.Deleting h applied) delete) (Aside st own (After (work.Deleting h applied))) su lands setting.cloud landing tt tt tt own
           (aside_keeps st.tally su.tally t.now (at who.session own parts) refl refl still)
           (record { part_is = refl; heads = λ client. refl; knows = knows su (delete_stays st su tree 0 h.deletions.ids grows may) }) (λ look new. refl) refl
 
@@ -294,9 +293,9 @@ module _ (who : Caller) (s t : CloudState) (book : Book) (order : List Entry) (p
 -- ---- a call of a checkpoint
 
 pub making_outcome : (who : Caller) (s t : CloudState) (book : Book) (order : List Entry) (parts : Parts) (leases : List Claim) (m : Making) (reply : Answer)
-    → TreeSetting book order s t.now parts who.session leases → ((x : Claim) → IsIn (leases_of_making m) x → IsIn leases x) → KnowsMaking (store_of book order s) s.now m
+    → Setting book order s t.now parts who.session leases → ((x : Claim) → IsIn (leases_of_making m) x → IsIn leases x) → KnowsMaking (store_of book order s) s.now m
     → IsCall who (making_ask m) reply s t
-    → TreeOutcome who book order s t parts leases (making_ask m) (making_note m (making_ask m)) (Aside (store_of book order s) (parts who.session) (KnowsAfter m reply))
+    → Outcome who book order s t parts leases (making_ask m) (making_note m (making_ask m)) (Aside (store_of book order s) (parts who.session) (KnowsAfter m reply))
 making_outcome who s t book order parts leases m reply setting within knows call =
     less_known who book order s t parts leases (making_ask m) (making_note m (making_ask m)) (After who s t book order parts leases m reply setting knows.tree m.work) (KnowsAfter m reply) after
     (work_outcome who s t book order parts leases m reply setting knows.tree m.work within (making_later (store_of book order s) s.now t.now m call.later knows).work call)

@@ -38,7 +38,7 @@ use Rattle.store_book.specs.Tally.{Store}
 use Rattle.store_book.specs.Telling.{roots_of, newest_root}
 use Rattle.telling_facts.specs.Told.{store_of}
 use Rattle.tree_facts.specs.Charts.{KnowsRoot}
-use Rattle.tree_facts.proofs.Pages.{no_root}
+use Rattle.cloud_facts.proofs.Pages.{no_root}
 use Rattle.tree_facts.proofs.Reservations.{newest_root_of}
 use Rattle.tree_parts.specs.Read.{tree_held}
 

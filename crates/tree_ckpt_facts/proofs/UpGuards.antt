@@ -18,10 +18,10 @@ use Rattle.telling_facts.specs.Told.{store_of}
 use Rattle.tree_ckpt_facts.proofs.Guards.{reserved_page}
 use Rattle.tree_facts.specs.Placings.{AreReserved}
 use Rattle.tree_facts.specs.Risings.{ReservesNodes, PutsNode, ReservesRoot, PutsCut, PutsRoot, PutsOf, KnowsRising, whole, cut}
-use Rattle.tree_facts.specs.TreeOthers.{IsTreePage}
+use Rattle.cloud_facts.specs.Pages.{IsTreePage}
 use Rattle.tree_facts.proofs.PlacingLemmas.{last_cases, puts_more}
 use Rattle.tree_facts.proofs.RisingEffects.{reserving_asked, page_asked, last_asked}
-use Rattle.tree_facts.proofs.TreeOthersLaws.{tree_guard}
+use Rattle.cloud_facts.proofs.Guarding.{tree_guard}
 use Rattle.tree_parts.specs.Read.{tree_held}
 use Rattle.tree_rising.specs.declared.rising.Rising.{Rising}
 use Rattle.tree_rising.specs.Rising.{rising_ask}

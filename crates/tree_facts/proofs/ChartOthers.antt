@@ -20,7 +20,7 @@ use Rattle.tree_parts.specs.declared.kept.KeptNode.{KeptNode}
 use Rattle.tree_parts.specs.declared.link.Link.{Link as Found}
 use Rattle.tree_parts.specs.Read.{tree_held}
 use Rattle.tree_facts.specs.Charts.{IsRootOf, KnowsRoot, KnowsNode, KnowsNodes, AreFound, KnowsChart}
-use Rattle.tree_facts.specs.TreeOthers.{OthersOfTree}
+use Rattle.cloud_facts.specs.Others.{Others}
 use Rattle.tree_facts.specs.Ways.{IsOnWay, KnowsWay}
 
 -- what was there is there still
@@ -85,17 +85,17 @@ way_stays chain more level page low key visited stay w = record {
 
 -- ---- others
 
-pub keeps_nodes : (mine : List Claim) (st su : Store) (later tree : ℕ) (lease : Claim) → IsIn mine lease → lease.lock ≡ lock.Tree tree → OthersOfTree mine later st su
+pub keeps_nodes : (mine : List Claim) (st su : Store) (later tree : ℕ) (lease : Claim) → IsIn mine lease → lease.lock ≡ lock.Tree tree → Others mine later st su
     → KeepsNodes st su later tree lease
 keeps_nodes mine st su later tree lease held is o lasts page n newest = o.page lease tree page held is lasts (inr (n, newest))
 
 pub chart_others : (mine : List Claim) (st su : Store) (now later : ℕ) (lease : Claim) (c : Chart) → now ≤ later → IsIn mine lease → lease.lock ≡ lock.Tree c.tree
-    → OthersOfTree mine later st su → KnowsChart st now lease c → KnowsChart su later lease c
+    → Others mine later st su → KnowsChart st now lease c → KnowsChart su later lease c
 chart_others mine st su now later lease c after held is o k =
     chart_stays st su now later lease c after o.passes.grows (o.roots lease c.tree held is) (keeps_nodes mine st su later c.tree lease held is o) k
 
 pub way_others : (mine : List Claim) (st su : Store) (now later : ℕ) (lease : Claim) (d : Descent) → now ≤ later → IsIn mine lease → lease.lock ≡ lock.Tree d.chart.tree
-    → OthersOfTree mine later st su → KnowsWay st now lease d → KnowsWay su later lease d
+    → Others mine later st su → KnowsWay st now lease d → KnowsWay su later lease d
 way_others mine st su now later lease d after held is o k = record {
   chart = chart_others mine st su now later lease d.chart after held is o k.chart;
   way =

@@ -5,7 +5,7 @@ use Rattle.std.proofs.lemmas.Bool.{ne_eqb}
 use Rattle.std.proofs.lemmas.List.{append-nil, length-reverse}
 use Rattle.chain_facts.specs.Chain.{IsChained}
 use Rattle.chain_facts.specs.Links.{top_of}
-use Rattle.cloud_facts.specs.Acting.{Aside}
+use Rattle.cloud_facts.specs.Acting.{Aside, Outcome}
 use Rattle.cloud_facts.specs.Call.{IsCall}
 use Rattle.cloud_facts.specs.Looks.{audit_of}
 use Rattle.cloud_facts.specs.Standing.{StandsUnder}
@@ -51,15 +51,14 @@ use Rattle.tree_parts.specs.Placing.{has_nothing, has_one_page}
 use Rattle.tree_parts.specs.Read.{tree_held}
 use Rattle.tree_facts.specs.Folds.{PutsPieces}
 use Rattle.tree_facts.specs.FoldSteps.{fold_note, KnowsStep}
-use Rattle.tree_facts.specs.Links.{HasTreeLease}
-use Rattle.tree_facts.specs.Outcomes.{TreeOutcome}
+use Rattle.cloud_facts.specs.Links.{HasTreeLease}
 use Rattle.tree_facts.specs.Leaves.{IsPutting}
 use Rattle.tree_facts.proofs.FoldPuts.{page_asked, root_asked, piece_lands, piece_is_new, piece_after, left_lands, left_taken, left_after}
 use Rattle.tree_facts.proofs.FoldPutting.{reserving_putting, piece_putting, left_rest}
 use Rattle.tree_facts.proofs.FoldReserves.{reserving_lands, reserving_version, reserving_after}
 use Rattle.tree_facts.proofs.LeafPieces.{taken}
 use Rattle.tree_facts.proofs.PlacingLemmas.{last_cases, puts_more}
-use Rattle.tree_facts.proofs.TreeOutcomes.{tree_stays, tree_put_landed}
+use Rattle.cloud_facts.proofs.Outcomes.{stays, put_landed}
 
 module _ (who : Caller) (s t : CloudState) (book : Book) (order : List Entry) (parts : Parts) (mine : List Claim) (lease : Claim) (f : Folding) (ids : List ℕ) (reply : Answer)
     (stands : StandsUnder book order s) (homes : HomesHold (store_of book order s).tally t.now parts) (held : IsIn mine lease) (lock_is : lease.lock ≡ lock.Tree f.chart.tree)
@@ -95,7 +94,7 @@ module _ (who : Caller) (s t : CloudState) (book : Book) (order : List Entry) (p
   Known = Aside st own (λ u now. KnowsStep u now lease ids (folding_next f reply))
 
   abbrev OutAt : Ask → Type 0
-  OutAt ask = TreeOutcome who book order s t parts mine ask (fold_note f ask) Known
+  OutAt ask = Outcome who book order s t parts mine ask (fold_note f ask) Known
 
   still : HomesHold st.tally t.now (at who.session own parts)
   still = keeps_part st.tally t.now parts who.session own refl homes
@@ -134,7 +133,7 @@ module _ (who : Caller) (s t : CloudState) (book : Book) (order : List Entry) (p
         landed_so lands =
             let root = newest (put_lasts who (object.Tree tree) bytes lease None (called who t.now s) t lands) in
             let su = reserving_after book order s stands t.now lease f of_tree run k root bytes some in
-            tree_put_landed who book order s t parts mine (fold_note f root_put) Known (object.Tree tree) bytes lease None su lands stands
+            put_landed who book order s t parts mine (fold_note f root_put) Known (object.Tree tree) bytes lease None su lands stands
             (reserving_lands book order s stands t.now lease f of_tree run k root bytes some who) (reserving_version book order s stands t.now lease f of_tree run k root bytes some) tt tt own
             (aside_keeps st.tally su.tally t.now (at who.session own parts) refl refl still)
             (record {
@@ -146,7 +145,7 @@ module _ (who : Caller) (s t : CloudState) (book : Book) (order : List Entry) (p
 
         on : ((t ≡ called who t.now s) × (done_of reply ≡ Ok tt → ⊥)) ⊎ Lands who root_put (called who t.now s) t → OutAt root_put
         on (inl q) =
-            tree_stays who book order s t parts mine root_put (fold_note f root_put) Known q.0 stands own still
+            stays who book order s t parts mine root_put (fold_note f root_put) Known q.0 stands own still
             (record { part_is = refl; heads = λ client. refl; knows = put_leads st full (λ done. absurd (q.1 done)) })
         on (inr lands) = landed_so lands
 
@@ -215,7 +214,7 @@ module _ (who : Caller) (s t : CloudState) (book : Book) (order : List Entry) (p
           landed_so lands =
               let both = both_last (object.Page tree number) (leaf_bytes last) lands in
               let su = piece_after book order s stands t.now lease f of_tree run clients k none both.0 both.1 who middle last is in
-              tree_put_landed who book order s t parts mine (fold_note f piece_put) Known (object.Page tree number) (leaf_bytes last) lease (Some f.lease) su lands stands
+              put_landed who book order s t parts mine (fold_note f piece_put) Known (object.Page tree number) (leaf_bytes last) lease (Some f.lease) su lands stands
               (piece_lands book order s stands t.now lease f of_tree run clients k none both.0 both.1 who middle last is)
               (piece_is_new book order s stands t.now lease f of_tree run clients k none both.0 both.1 who middle last is) tt tt own
               (aside_keeps st.tally su.tally t.now (at who.session own parts) refl refl still)
@@ -229,7 +228,7 @@ module _ (who : Caller) (s t : CloudState) (book : Book) (order : List Entry) (p
 
           on : ((t ≡ called who t.now s) × (done_of reply ≡ Ok tt → ⊥)) ⊎ Lands who piece_put (called who t.now s) t → OutAt piece_put
           on (inl q) =
-              tree_stays who book order s t parts mine piece_put (fold_note f piece_put) Known q.0 stands own still
+              stays who book order s t parts mine piece_put (fold_note f piece_put) Known q.0 stands own still
               (record { part_is = refl; heads = λ client. refl; knows = put_leads st full (λ done. absurd (q.1 done)) })
           on (inr lands) = landed_so lands
 
@@ -283,7 +282,7 @@ module _ (who : Caller) (s t : CloudState) (book : Book) (order : List Entry) (p
           landed_so lands =
               let both = both_last (object.Page tree f.page) left_bytes lands in
               let su = left_after book order s stands t.now lease f of_tree run clients k none both.0 both.1 who is in
-              tree_put_landed who book order s t parts mine (fold_note f left_put) Known (object.Page tree f.page) left_bytes lease (Some f.lease) su lands stands
+              put_landed who book order s t parts mine (fold_note f left_put) Known (object.Page tree f.page) left_bytes lease (Some f.lease) su lands stands
               (left_lands book order s stands t.now lease f of_tree run clients k none both.0 both.1 who is cursor p.took.received f.chart.run.top p.took.is_run p.took.behind p.took.items)
               (left_taken book order s stands t.now lease f of_tree run clients k none both.0 both.1 who is cursor p.took.received f.chart.run.top p.took.is_run p.took.behind p.took.items) tt
               (inr (has_lease both.0)) own
@@ -305,7 +304,7 @@ module _ (who : Caller) (s t : CloudState) (book : Book) (order : List Entry) (p
 
           on : ((t ≡ called who t.now s) × (done_of reply ≡ Ok tt → ⊥)) ⊎ Lands who left_put (called who t.now s) t → OutAt left_put
           on (inl q) =
-              tree_stays who book order s t parts mine left_put (fold_note f left_put) Known q.0 stands own still
+              stays who book order s t parts mine left_put (fold_note f left_put) Known q.0 stands own still
               (record { part_is = refl; heads = λ client. refl; knows = put_leads st full (λ done. absurd (q.1 done)) })
           on (inr lands) = landed_so lands
 

@@ -23,9 +23,9 @@ use Rattle.tree_parts.specs.declared.chart.Chart.{Chart}
 use Rattle.tree_parts.specs.Read.{tree_held}
 use Rattle.tree_facts.specs.Folds.{IsDone, KnowsRun, IsAtLeaf, IsNewestLeaf, Reserves, PutsPieces}
 use Rattle.tree_facts.specs.Leaves.{KnowsRest, IsGetting, IsCome, IsReading, IsPutting}
-use Rattle.tree_facts.specs.Links.{SameLinks}
+use Rattle.cloud_facts.specs.Links.{SameLinks}
 use Rattle.tree_facts.specs.Placings.{AreReserved}
-use Rattle.tree_facts.specs.TreeOthers.{OthersOfTree}
+use Rattle.cloud_facts.specs.Others.{Others}
 use Rattle.tree_facts.proofs.ChartOthers.{root_stays, nodes_stay, links_stay, keeps_nodes, chart_others, way_stays}
 use Rattle.tree_facts.proofs.PlacingLemmas.{reserved_stays}
 
@@ -43,7 +43,7 @@ known_run_stays st su c ids grows k = record {
 -- ---- before the leaf is read
 
 pub at_leaf_others : (mine : List Claim) (st su : Store) (now later : ℕ) (lease : Claim) (f : Folding) → now ≤ later → IsIn mine lease → lease.lock ≡ lock.Tree f.chart.tree
-    → OthersOfTree mine later st su → IsAtLeaf st now lease f → IsAtLeaf su later lease f
+    → Others mine later st su → IsAtLeaf st now lease f → IsAtLeaf su later lease f
 at_leaf_others mine st su now later lease f after held is o k = record {
   chart = chart_others mine st su now later lease f.chart after held is o k.chart;
   way = way_stays (st.book.chain f.chart.tree) (su.book.chain f.chart.tree) 0 f.page f.low f.chart.key f.visited (λ l a. o.passes.grows.links f.chart.tree l a) k.way;
@@ -54,7 +54,7 @@ at_leaf_others mine st su now later lease f after held is o k = record {
 
 -- pages that are absent are guarded by the tree's lease, and those that landed and are in no chain stay as they are
 pub reserved_others : (mine : List Claim) (st su : Store) (later : ℕ) (lease : Claim) (tree first : ℕ) (middle behind : List LeafPart) → IsIn mine lease → lease.lock ≡ lock.Tree tree
-    → Lasts later lease → OthersOfTree mine later st su
+    → Lasts later lease → Others mine later st su
     → AreReserved leaf_node (st.book.chain tree) (st.tally.nodes tree) (top_of (st.tally.roots tree)).next first middle behind
     → AreReserved leaf_node (su.book.chain tree) (su.tally.nodes tree) (top_of (su.tally.roots tree)).next first middle behind
 reserved_others mine st su later lease tree first middle behind held is lasts o r =
@@ -87,7 +87,7 @@ reserved_others mine st su later lease tree first middle behind held is lasts o 
 
 pub pieces_others : (mine : List Claim) (st su : Store) (now later : ℕ) (lease : Claim) (f : Folding) (run : List PuItem) → now ≤ later → IsIn mine lease
     → lease.lock ≡ lock.Tree f.chart.tree → IsIn mine f.lease → f.lease.lock ≡ lock.Page f.chart.tree f.page → ((x : PuItem) → IsIn run x → IsClient x.rec.client)
-    → OthersOfTree mine later st su → PutsPieces st now lease f run → PutsPieces su later lease f run
+    → Others mine later st su → PutsPieces st now lease f run → PutsPieces su later lease f run
 pieces_others mine st su now later lease f run after held is own own_is clients o k = record {
   leaf = k.leaf;
   linked = linked;
@@ -128,7 +128,7 @@ pieces_others mine st su now later lease f run after held is own own_is clients 
 -- ---- a leaf, with the chart
 
 pub reading_others : (mine : List Claim) (st su : Store) (now later : ℕ) (lease : Claim) (f : Folding) (ids : List ℕ) → now ≤ later → IsIn mine lease
-    → lease.lock ≡ lock.Tree f.chart.tree → OthersOfTree mine later st su → IsReading st now lease f ids → IsReading su later lease f ids
+    → lease.lock ≡ lock.Tree f.chart.tree → Others mine later st su → IsReading st now lease f ids → IsReading su later lease f ids
 reading_others mine st su now later lease f ids after held is o k = record {
   at = at_leaf_others mine st su now later lease f after held is o k.at;
   run = known_run_stays st su f.chart ids o.passes.grows k.run;
@@ -138,7 +138,7 @@ reading_others mine st su now later lease f ids after held is o k = record {
 }
 
 pub putting_others : (mine : List Claim) (st su : Store) (now later : ℕ) (lease : Claim) (f : Folding) (ids : List ℕ) → now ≤ later → IsIn mine lease
-    → lease.lock ≡ lock.Tree f.chart.tree → IsIn mine f.lease → OthersOfTree mine later st su → IsPutting st now lease f ids → IsPutting su later lease f ids
+    → lease.lock ≡ lock.Tree f.chart.tree → IsIn mine f.lease → Others mine later st su → IsPutting st now lease f ids → IsPutting su later lease f ids
 unfolding pieces_others
 putting_others mine st su now later lease f ids after held is own o k = record {
   tree = k.tree;
@@ -157,7 +157,7 @@ putting_others mine st su now later lease f ids after held is own o k = record {
 -- ---- before a leaf, and behind it
 
 pub rest_others : (mine : List Claim) (st su : Store) (now later : ℕ) (lease : Claim) (c : Chart) (ids : List ℕ) → now ≤ later → IsIn mine lease → lease.lock ≡ lock.Tree c.tree
-    → OthersOfTree mine later st su → KnowsRest st now lease c ids → KnowsRest su later lease c ids
+    → Others mine later st su → KnowsRest st now lease c ids → KnowsRest su later lease c ids
 rest_others mine st su now later lease c ids after held is o k = record {
   chart = chart_others mine st su now later lease c after held is o k.chart;
   run = known_run_stays st su c ids o.passes.grows k.run;
@@ -165,7 +165,7 @@ rest_others mine st su now later lease c ids after held is o k = record {
 }
 
 pub come_others : (mine : List Claim) (st su : Store) (now later : ℕ) (lease : Claim) (c : Chart) (page : ℕ) (low : List ℕ) (visited ids : List ℕ) → now ≤ later → IsIn mine lease
-    → lease.lock ≡ lock.Tree c.tree → OthersOfTree mine later st su → IsCome st now lease c page low visited ids → IsCome su later lease c page low visited ids
+    → lease.lock ≡ lock.Tree c.tree → Others mine later st su → IsCome st now lease c page low visited ids → IsCome su later lease c page low visited ids
 come_others mine st su now later lease c page low visited ids after held is o k = record {
   rest = rest_others mine st su now later lease c ids after held is o k.rest;
   way = way_stays (st.book.chain c.tree) (su.book.chain c.tree) 0 page low c.key visited (λ l a. o.passes.grows.links c.tree l a) k.way;
@@ -173,7 +173,7 @@ come_others mine st su now later lease c page low visited ids after held is o k 
 }
 
 pub getting_others : (mine : List Claim) (st su : Store) (now later : ℕ) (lease : Claim) (d : Descent) (ids : List ℕ) → now ≤ later → IsIn mine lease
-    → lease.lock ≡ lock.Tree d.chart.tree → OthersOfTree mine later st su → IsGetting st now lease d ids → IsGetting su later lease d ids
+    → lease.lock ≡ lock.Tree d.chart.tree → Others mine later st su → IsGetting st now lease d ids → IsGetting su later lease d ids
 getting_others mine st su now later lease d ids after held is o k = record {
   rest = rest_others mine st su now later lease d.chart ids after held is o k.rest;
   way =

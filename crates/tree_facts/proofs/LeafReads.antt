@@ -34,7 +34,7 @@ use Rattle.tree_parts.proofs.Reading.{leaf_is}
 use Rattle.tree_parts.specs.Read.{leaf_read}
 use Rattle.tree_facts.specs.Ways.{IsOnWay}
 use Rattle.tree_facts.proofs.Forks.{in_more}
-use Rattle.tree_facts.proofs.Pages.{none_landed}
+use Rattle.cloud_facts.proofs.Pages.{none_landed}
 use Rattle.tree_facts.proofs.Unseen.{seen_in}
 
 -- a right page that is named

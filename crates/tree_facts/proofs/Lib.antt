@@ -1,12 +1,8 @@
-pub mod Pages
 pub mod Forks
 mod Unseen
 pub mod Strides
 pub mod Walks
-pub mod LinkLemmas
-pub mod TreeOthersLaws
 pub mod ChartOthers
-pub mod TreeOutcomes
 pub mod PlacingLemmas
 pub mod LeafPieces
 pub mod Reservations

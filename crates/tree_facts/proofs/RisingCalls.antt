@@ -1,6 +1,6 @@
 -- What each put of the way up leaves, whether it landed or not.
 use Rattle.std.proofs.Common.{◌≡◌, ◌+◌, ◌≤◌, ◌⊎◌, inl, inr, ℕ, zero, List, [], ◌∷◌, ◌++◌, length, map, reverse, Option, Some, None, Result, Ok, Err, refl, sym, ap, subst, ◌∙◌}
-use Rattle.cloud_facts.specs.Acting.{Aside}
+use Rattle.cloud_facts.specs.Acting.{Aside, Setting, Outcome}
 use Rattle.cloud_facts.specs.Call.{IsCall}
 use Rattle.cloud_facts.specs.Looks.{audit_of}
 use Rattle.cloud_facts.specs.Standing.{StandsUnder}
@@ -29,8 +29,7 @@ use Rattle.store_book.specs.Tally.{Store, at}
 use Rattle.telling_facts.proofs.Asks.{told_store}
 use Rattle.telling_facts.specs.Told.{store_of}
 use Rattle.tree_rising.specs.declared.rising.Rising.{Rising}
-use Rattle.tree_rising.specs.Rising.{rising_ask, rising_next, risen_by, put_landed}
-use Rattle.tree_facts.specs.Outcomes.{TreeSetting, TreeOutcome}
+use Rattle.tree_rising.specs.Rising.{rising_ask, rising_next, risen_by, put_landed as risen}
 use Rattle.tree_facts.specs.Risings.{PutsNode, PutsWhole, PutsCut, PutsRoot, whole, cut, PutsOf, KnowsRising, RisesOn}
 use Rattle.tree_facts.proofs.PlacingLemmas.{last_cases, puts_more}
 use Rattle.tree_facts.proofs.RisingEffects.{RisingEffect, reserving_asked, page_asked, last_asked}
@@ -38,20 +37,20 @@ use Rattle.tree_facts.proofs.RisingLast.{new_puts, whole_effect, cut_piece_effec
 use Rattle.tree_facts.proofs.RisingOthers.{rising_others}
 use Rattle.tree_facts.proofs.RisingPuts.{piece_effect, left_effect}
 use Rattle.tree_facts.proofs.RisingReserves.{node_reserves, root_reserves}
-use Rattle.tree_facts.proofs.TreeOthersLaws.{tree_others_itself}
-use Rattle.tree_facts.proofs.TreeOutcomes.{tree_stays, tree_put_landed}
+use Rattle.cloud_facts.proofs.Guarding.{others_itself}
+use Rattle.cloud_facts.proofs.Outcomes.{stays, put_landed}
 
 -- time goes on
 pub rising_later : (st : Store) (now later : ℕ) (lease : Claim) (r : Rising) (ids : List ℕ) → now ≤ later → lease.lock ≡ lock.Tree r.chart.tree → KnowsRising st now lease r ids
     → KnowsRising st later lease r ids
-rising_later st now later lease r ids after is k = rising_others (lease ∷ []) st st now later lease r ids after (zero, refl) is (tree_others_itself (lease ∷ []) later st) k
+rising_later st now later lease r ids after is k = rising_others (lease ∷ []) st st now later lease r ids after (zero, refl) is (others_itself (lease ∷ []) later st) k
 
 -- what is known after an answer
 abbrev pub KnowsAfterRising : Rising → Claim → List ℕ → Answer → Store → ℕ → Type 0
 KnowsAfterRising r lease ids reply u now = RisesOn u now lease ids (rising_next r reply)
 
 module _ (who : Caller) (s t : CloudState) (book : Book) (order : List Entry) (parts : Parts) (mine : List Claim) (note : Audited → Audited) (lease : Claim) (r : Rising) (ids : List ℕ)
-    (reply : Answer) (setting : TreeSetting book order s t.now parts who.session mine) (held : IsIn mine lease) (lock_is : lease.lock ≡ lock.Tree r.chart.tree)
+    (reply : Answer) (setting : Setting book order s t.now parts who.session mine) (held : IsIn mine lease) (lock_is : lease.lock ≡ lock.Tree r.chart.tree)
     (same_note : note (audit_of book order) ≡ audit_of book order) (k : KnowsRising (store_of book order s) t.now lease r ids) (call : IsCall who (rising_ask r lease) reply s t) where
   abbrev st : Store
   st = store_of book order s
@@ -69,7 +68,7 @@ module _ (who : Caller) (s t : CloudState) (book : Book) (order : List Entry) (p
   still = keeps_part st.tally t.now parts who.session own refl setting.homes
 
   -- where a put leads, by whether it was done
-  put_leads : (u : Store) → (done_of reply ≡ Ok tt → RisesOn u t.now lease ids (put_landed r)) → RisesOn u t.now lease ids (rising_next r reply)
+  put_leads : (u : Store) → (done_of reply ≡ Ok tt → RisesOn u t.now lease ids (risen r)) → RisesOn u t.now lease ids (rising_next r reply)
   put_leads u knows = on (done_of reply) refl
     where
       on : (g : Result (Unit {0}) Trouble) → done_of reply ≡ g → RisesOn u t.now lease ids (risen_by r g)
@@ -81,17 +80,17 @@ module _ (who : Caller) (s t : CloudState) (book : Book) (order : List Entry) (p
 
   -- a put leaves what its effect is where it lands, and all as it was where it does not
   put_outcome : (name : ObjName) (bytes : List ℕ) → rising_ask r lease ≡ PutHeld name bytes lease None → (Lasts t.now lease → EffectOf name bytes)
-      → TreeOutcome who book order s t parts mine (rising_ask r lease) note Known
+      → Outcome who book order s t parts mine (rising_ask r lease) note Known
   put_outcome name bytes asked owed =
-      subst (λ (ask : Ask). TreeOutcome who book order s t parts mine ask note Known) (sym asked)
+      subst (λ (ask : Ask). Outcome who book order s t parts mine ask note Known) (sym asked)
       (on (put_cases who name bytes lease None reply s t (subst (λ (ask : Ask). IsCall who ask reply s t) asked call)))
     where
-      landed_so : Lands who (PutHeld name bytes lease None) (called who t.now s) t → TreeOutcome who book order s t parts mine (PutHeld name bytes lease None) note Known
+      landed_so : Lands who (PutHeld name bytes lease None) (called who t.now s) t → Outcome who book order s t parts mine (PutHeld name bytes lease None) note Known
       landed_so lands = by (owed (put_lasts who name bytes lease None (called who t.now s) t lands))
         where
-          by : EffectOf name bytes → TreeOutcome who book order s t parts mine (PutHeld name bytes lease None) note Known
+          by : EffectOf name bytes → Outcome who book order s t parts mine (PutHeld name bytes lease None) note Known
           by e =
-              tree_put_landed who book order s t parts mine note Known name bytes lease None e.after lands setting.cloud e.lands e.follows e.commits e.owes own
+              put_landed who book order s t parts mine note Known name bytes lease None e.after lands setting.cloud e.lands e.follows e.commits e.owes own
               (aside_keeps st.tally e.after.tally t.now (at who.session own parts) e.heads e.logged still)
               (record {
                 part_is = refl;
@@ -112,14 +111,14 @@ module _ (who : Caller) (s t : CloudState) (book : Book) (order : List Entry) (p
                   (landing_tells who book order (called who t.now s) (PutHeld name bytes lease None) e.after first_stands.holds.chains first_stands.decodes e.lands e.follows)
 
       on : ((t ≡ called who t.now s) × (done_of reply ≡ Ok tt → ⊥)) ⊎ Lands who (PutHeld name bytes lease None) (called who t.now s) t
-          → TreeOutcome who book order s t parts mine (PutHeld name bytes lease None) note Known
+          → Outcome who book order s t parts mine (PutHeld name bytes lease None) note Known
       on (inl q) =
-          tree_stays who book order s t parts mine (PutHeld name bytes lease None) note Known q.0 setting.cloud own still
+          stays who book order s t parts mine (PutHeld name bytes lease None) note Known q.0 setting.cloud own still
           (record { part_is = refl; heads = λ client. refl; knows = put_leads st (λ done. absurd (q.1 done)) })
       on (inr lands) = landed_so lands
 
   abbrev Out : Type 0
-  Out = TreeOutcome who book order s t parts mine (rising_ask r lease) note Known
+  Out = Outcome who book order s t parts mine (rising_ask r lease) note Known
 
   -- ---- the kinds of puts
 
@@ -190,8 +189,8 @@ module _ (who : Caller) (s t : CloudState) (book : Book) (order : List Entry) (p
       on (Some bytes) e p = root bytes e p
 
 pub rising_outcome : (who : Caller) (s t : CloudState) (book : Book) (order : List Entry) (parts : Parts) (mine : List Claim) (note : Audited → Audited) (lease : Claim) (r : Rising) (ids : List ℕ)
-    (reply : Answer) → TreeSetting book order s t.now parts who.session mine → IsIn mine lease → lease.lock ≡ lock.Tree r.chart.tree → note (audit_of book order) ≡ audit_of book order
+    (reply : Answer) → Setting book order s t.now parts who.session mine → IsIn mine lease → lease.lock ≡ lock.Tree r.chart.tree → note (audit_of book order) ≡ audit_of book order
     → KnowsRising (store_of book order s) s.now lease r ids → IsCall who (rising_ask r lease) reply s t
-    → TreeOutcome who book order s t parts mine (rising_ask r lease) note (Aside (store_of book order s) (parts who.session) (KnowsAfterRising r lease ids reply))
+    → Outcome who book order s t parts mine (rising_ask r lease) note (Aside (store_of book order s) (parts who.session) (KnowsAfterRising r lease ids reply))
 rising_outcome who s t book order parts mine note lease r ids reply setting held is same k call =
     known_outcome who s t book order parts mine note lease r ids reply setting held is same (rising_later (store_of book order s) s.now t.now lease r ids call.later is k) call

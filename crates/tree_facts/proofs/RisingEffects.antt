@@ -34,7 +34,7 @@ use Rattle.telling_facts.specs.Told.{store_of}
 use Rattle.tree_parts.specs.Placing.{put_next, put_first, has_nothing}
 use Rattle.tree_rising.specs.declared.rising.Rising.{Rising}
 use Rattle.tree_rising.specs.Rising.{last_ask, rising_ask, rise, landed, after_put, put_landed}
-use Rattle.tree_facts.specs.Links.{OwesLease}
+use Rattle.cloud_facts.specs.Links.{OwesLease}
 use Rattle.tree_facts.specs.Risings.{RisesOn}
 
 -- ---- the put in hand

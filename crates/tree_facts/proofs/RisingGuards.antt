@@ -25,7 +25,7 @@ use Rattle.tree_facts.specs.Risings.{ReservesNodes, ReservesRoot, PutsNode, Puts
 use Rattle.tree_facts.proofs.PlacingLemmas.{last_cases, puts_more}
 use Rattle.tree_facts.proofs.RisingEffects.{reserving_asked, page_asked, last_asked}
 use Rattle.tree_facts.proofs.RisingLast.{new_puts}
-use Rattle.tree_facts.proofs.TreeOthersLaws.{tree_guard}
+use Rattle.cloud_facts.proofs.Guarding.{tree_guard}
 
 -- a put of an object under the tree's lease
 pub record IsTreePut (s : CloudState) (now : ℕ) (lease : Claim) (r : Rising) : Type 0 where

@@ -20,10 +20,10 @@ use Rattle.tree_parts.specs.declared.kept.KeptNode.{KeptNode}
 use Rattle.tree_parts.specs.Read.{tree_held}
 use Rattle.tree_rising.specs.declared.rising.Rising.{Rising}
 use Rattle.tree_facts.specs.Charts.{KnowsNode}
-use Rattle.tree_facts.specs.Links.{SameLinks}
+use Rattle.cloud_facts.specs.Links.{SameLinks}
 use Rattle.tree_facts.specs.Placings.{AreReserved}
 use Rattle.tree_facts.specs.Risings.{AppliesRun, ReservesNodes, PutsNode, IsRaised, PutsCut, PutsRoot, whole, cut, ReservesRoot, PutsOf, KnowsRising}
-use Rattle.tree_facts.specs.TreeOthers.{OthersOfTree}
+use Rattle.cloud_facts.specs.Others.{Others}
 use Rattle.tree_facts.proofs.ChartOthers.{in_grown, root_stays, KeepsNodes, nodes_stay, links_stay, keeps_nodes}
 use Rattle.tree_facts.proofs.FoldOthers.{done_stays}
 use Rattle.tree_facts.proofs.PlacingLemmas.{reserved_stays}
@@ -60,7 +60,7 @@ node_stays st su now later lease tree kept after grows same a = record {
 
 -- pages that are absent are guarded by the tree's lease, and those that landed and are in no chain stay as they are
 pub free_others : {A X : Type 0} (node : Part A X → Node) (mine : List Claim) (st su : Store) (later : ℕ) (lease : Claim) (tree first : ℕ) (middle behind : List (Part A X)) → IsIn mine lease
-    → lease.lock ≡ lock.Tree tree → Lasts later lease → OthersOfTree mine later st su
+    → lease.lock ≡ lock.Tree tree → Lasts later lease → Others mine later st su
     → AreReserved node (st.book.chain tree) (st.tally.nodes tree) (top_of (st.tally.roots tree)).next first middle behind
     → AreReserved node (su.book.chain tree) (su.tally.nodes tree) (top_of (su.tally.roots tree)).next first middle behind
 free_others {A} {X} node mine st su later lease tree first middle behind held is lasts o r =
@@ -171,7 +171,7 @@ module _ (st su : Store) (now later : ℕ) (lease : Claim) (r : Rising) (ids : L
   }
 
 pub rising_others : (mine : List Claim) (st su : Store) (now later : ℕ) (lease : Claim) (r : Rising) (ids : List ℕ) → now ≤ later → IsIn mine lease → lease.lock ≡ lock.Tree r.chart.tree
-    → OthersOfTree mine later st su → KnowsRising st now lease r ids → KnowsRising su later lease r ids
+    → Others mine later st su → KnowsRising st now lease r ids → KnowsRising su later lease r ids
 rising_others mine st su now later lease r ids after held is o k =
     rising_stays st su now later lease r ids after o.passes.grows (o.roots lease r.chart.tree held is) (keeps_nodes mine st su later r.chart.tree lease held is o)
     (λ first middle behind lasts f. free_others inner_node mine st su later lease r.chart.tree first middle behind held is lasts o f) k

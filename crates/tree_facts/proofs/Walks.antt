@@ -34,7 +34,7 @@ use Rattle.tree_parts.specs.Kept.{place_of, with_kept}
 use Rattle.tree_parts.specs.Read.{tree_held}
 use Rattle.tree_facts.specs.Charts.{IsRootOf, KnowsNode, KnowsNodes, KnowsChart}
 use Rattle.tree_facts.specs.Ways.{KnowsWay, LeadsOn}
-use Rattle.tree_facts.proofs.Pages.{none_landed}
+use Rattle.cloud_facts.proofs.Pages.{none_landed}
 use Rattle.tree_facts.proofs.Strides.{bytes_lead, arrives}
 
 -- ---- from the root

@@ -1,6 +1,6 @@
 -- What the held get of a node leaves: where it leads is known, and it stops only where it was refused or failed.
 use Rattle.std.proofs.Common.{◌≡◌, ◌<◌, ◌≤◌, ℕ, zero, List, [], ◌∷◌, Err, refl}
-use Rattle.cloud_facts.specs.Acting.{Aside}
+use Rattle.cloud_facts.specs.Acting.{Aside, Setting, Outcome}
 use Rattle.cloud_facts.specs.Call.{IsCall}
 use Rattle.cloud_facts.proofs.Heads.{held_seen}
 use Rattle.cloud_trait.specs.declared.answer.Answer.{Answer}
@@ -19,27 +19,26 @@ use Rattle.store_book.specs.Tally.{Store}
 use Rattle.telling_facts.specs.Told.{store_of}
 use Rattle.tree_descent.specs.declared.descent.Descent.{Descent}
 use Rattle.tree_descent.specs.Descent.{descent_ask, descent_next}
-use Rattle.tree_facts.specs.Outcomes.{TreeSetting, TreeOutcome}
 use Rattle.tree_facts.specs.Ways.{KnowsWay, LeadsOn}
 use Rattle.tree_facts.proofs.ChartOthers.{way_others}
-use Rattle.tree_facts.proofs.TreeOthersLaws.{tree_others_itself}
-use Rattle.tree_facts.proofs.TreeOutcomes.{tree_quiet}
+use Rattle.cloud_facts.proofs.Guarding.{others_itself}
+use Rattle.cloud_facts.proofs.Outcomes.{quiet}
 use Rattle.tree_facts.proofs.Walks.{got_leads}
 
 -- time goes on
 pub way_later : (st : Store) (now later : ℕ) (lease : Claim) (d : Descent) → now ≤ later → lease.lock ≡ lock.Tree d.chart.tree → KnowsWay st now lease d → KnowsWay st later lease d
-way_later st now later lease d after is k = way_others (lease ∷ []) st st now later lease d after (zero, refl) is (tree_others_itself (lease ∷ []) later st) k
+way_later st now later lease d after is k = way_others (lease ∷ []) st st now later lease d after (zero, refl) is (others_itself (lease ∷ []) later st) k
 
 -- what is known after an answer
 abbrev pub KnowsAfterNode : Descent → Claim → Answer → Store → ℕ → Type 0
 KnowsAfterNode d lease reply u now = LeadsOn u now lease (λ t. got_of reply ≡ Err t) (descent_next d reply)
 
 pub way_outcome : (who : Caller) (s t : CloudState) (book : Book) (order : List Entry) (parts : Parts) (mine : List Claim) (note : Audited → Audited) (lease : Claim) (d : Descent)
-    (reply : Answer) → TreeSetting book order s t.now parts who.session mine → lease.lock ≡ lock.Tree d.chart.tree → KnowsWay (store_of book order s) s.now lease d → 0 < d.level
+    (reply : Answer) → Setting book order s t.now parts who.session mine → lease.lock ≡ lock.Tree d.chart.tree → KnowsWay (store_of book order s) s.now lease d → 0 < d.level
     → IsCall who (descent_ask d lease) reply s t
-    → TreeOutcome who book order s t parts mine (descent_ask d lease) note (Aside (store_of book order s) (parts who.session) (KnowsAfterNode d lease reply))
+    → Outcome who book order s t parts mine (descent_ask d lease) note (Aside (store_of book order s) (parts who.session) (KnowsAfterNode d lease reply))
 way_outcome who s t book order parts mine note lease d reply setting is k above call =
-    tree_quiet who book order s t parts mine (descent_ask d lease) note (Aside (store_of book order s) (parts who.session) (KnowsAfterNode d lease reply)) reply call tt tt setting.cloud
+    quiet who book order s t parts mine (descent_ask d lease) note (Aside (store_of book order s) (parts who.session) (KnowsAfterNode d lease reply)) reply call tt tt setting.cloud
     (parts who.session) (keeps_part (store_of book order s).tally t.now parts who.session (parts who.session) refl setting.homes)
     (record {
       part_is = refl;

@@ -2,3 +2,4 @@ pub mod Ending
 pub mod Opens
 pub mod Readying
 pub mod Stepped
+pub mod Stopping

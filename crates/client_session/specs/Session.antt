@@ -29,15 +29,17 @@ use Rattle.recover_run.specs.declared.stage.RecoverAnswer.{RecoverAnswer}
 use Rattle.recover_run.specs.declared.stage.RecoverAnswer.TheVariants.{Opened}
 use Rattle.recover_run.specs.Bound.{calls_left as recovery_left}
 use Rattle.recover_run.specs.Recovery.{Recovery, new_recovery, recovery_ask, recovery_next, home_of, KeepsLeases, IsSound as IsSoundOpening}
-use Rattle.commit_writes.specs.Ending.{calls_left as commit_left}
-use Rattle.commit_writes.specs.Sound.{IsSound as IsSoundCommit}
-use Rattle.commit_writes.specs.Writing.{Writing, waiting, writing_ready, writing_ask, writing_next, opens_at, KeepsHome}
 use Rattle.page_cache.specs.Cache.{Cache, empty_cache}
 use Rattle.tree_walk.specs.Walk.{Walk, new_walk, asks, walk_ask, walk_ready, walk_next, KeepsNothing, calls_left as reading_left, IsAtLeaf}
+use Rattle.commit_run.specs.Ending.{calls_left as commit_left}
+use Rattle.commit_run.specs.Run.{Run, new_run, home_of as home_of_run, run_ask, asks as run_asks, run_ready, run_next, run_opens, KeepsHome}
+use Rattle.commit_run.specs.Sound.{IsSoundRun}
 use Rattle.record_read.specs.Read.{read_value}
 use Rattle.page_ckpt.specs.Ending.{calls_left as paging_left}
 use Rattle.page_ckpt.specs.Paging.{new_paging, paging_ask, PagingLeads, KeepsLeases as KeepsPageLeases, Paging as Page}
-use Rattle.first_tree.specs.Folding.{new_folding, folding_ask, FoldingLeads, KeepsLeases as KeepsFoldLeases, calls_left as folding_left, Folding as Fold}
+use Rattle.tree_moves.specs.Work.{applying_in}
+use Rattle.tree_ckpt.specs.Ending.{calls_in}
+use Rattle.tree_ckpt.specs.Making.{Making, new_making, making_ask, MakingLeads, KeepsLeases as KeepsTreeLeases}
 use Rattle.client_session.specs.declared.answer.Answer.{Answer}
 use Rattle.client_session.specs.declared.answer.Answer.TheVariants as answer
 use Rattle.client_session.specs.declared.answer.Begun.{Begun}
@@ -167,27 +169,32 @@ paging_begun_by tree page home = Paging home (new_paging tree page)
 
 -- the checkpoint of a tree that a home begins
 abbrev pub folding_begun_by : ℕ → Home → Work
-folding_begun_by tree home = Folding home (new_folding tree)
+folding_begun_by tree home = Folding home (new_making tree)
 
--- the commit of changes by a home: it is in hand, or it is answered at once and the home stays; want of memory leaves the lease alone
-abbrev pub CommitsOf : Home → List Noted → Work → Begun → Type 0
-CommitsOf home changes work Working = (m : Writing) × (writing_ready (waiting home changes) ≡ Goes m) × (work ≡ Committing m)
-CommitsOf home changes work (Answered (answer.Commit a)) = (m : Writing) × (writing_ready (waiting home changes) ≡ Ends m a) × (work ≡ Idle m.home)
-CommitsOf home changes work (Answered (answer.Trouble t)) = (t ≡ trouble.Memory) × (work ≡ Broken home.lease)
-CommitsOf home changes work (Answered answer) = ⊥
+-- The commit of changes by a home beside the cache: it is in hand, or it is answered at once and the home stays. Want of memory leaves the
+-- lease alone, and nothing else stops it.
+abbrev pub CommitsOf : Home → List Noted → Cache → Cache → Work → Begun → Type 0
+CommitsOf home changes old new work Working = (m : Run) × (run_ready (new_run home changes, old) ≡ Goes (m, new)) × (work ≡ Committing m)
+CommitsOf home changes old new work (Answered (answer.Commit a)) =
+    (m : Run) × (run_ready (new_run home changes, old) ≡ Ends (m, new) a) × (work ≡ Idle (home_of_run m))
+CommitsOf home changes old new work (Answered (answer.Trouble t)) = (t ≡ trouble.Memory) × (work ≡ Broken home.lease)
+CommitsOf home changes old new work (Answered answer) = ⊥
 
 -- nothing is noted and the commit is answered at once
-pub record CommitsNothing (home : Home) (buffer : List Noted) (work : Work) (begun : Begun) : Type 0 where
+pub record CommitsNothing (home : Home) (buffer : List Noted) (old new : Cache) (work : Work) (begun : Begun) : Type 0 where
   pub none : buffer ≡ []
   pub work_is : work ≡ Idle home
+  pub cache_is : new ≡ old
   pub answer : begun ≡ Answered (answer.Commit (Committed 0))
 
--- what was noted is committed, where something was; the buffer is empty then
-abbrev pub CommitsNoted : Home → List Noted → Work → Begun → Type 0
-CommitsNoted home buffer work begun = CommitsNothing home buffer work begun ⊎ ((1 ≤ length buffer) × CommitsOf home buffer work begun)
+-- what was noted is committed, where something was
+abbrev pub CommitsNoted : Home → List Noted → Cache → Cache → Work → Begun → Type 0
+CommitsNoted home buffer old new work begun =
+    CommitsNothing home buffer old new work begun ⊎ ((1 ≤ length buffer) × CommitsOf home buffer old new work begun)
 
+-- the buffer is empty then
 abbrev pub CommitsIn : Acting → Home → Acting → Begun → Type 0
-CommitsIn old home new begun = (new.buffer ≡ []) × CommitsNoted home old.buffer new.work begun × (new.cache ≡ old.cache) × (new.read ≡ None)
+CommitsIn old home new begun = (new.buffer ≡ []) × CommitsNoted home old.buffer old.cache new.cache new.work begun × (new.read ≡ None)
 
 -- an open client behind an operation that stopped: want of memory leaves its lease alone
 abbrev pub stopped_work : Trouble → Home → Work
@@ -242,14 +249,15 @@ StepsOpening who before after old work (Ended (answer.Trouble k)) =
     (m : Recovery) × Steps recovery_ask (LeadsBy recovery_next) KeepsLeases who before after old m (Stopped k) × (work ≡ Closed)
 StepsOpening who before after old work turn = ⊥
 
--- one step of a commit, and what it leaves in hand
-abbrev pub StepsCommit : Caller → Seen → Seen → Writing → Work → Turn Answer → Type 0
-StepsCommit who before after old work More = (m : Writing) × Steps writing_ask (LeadsBy writing_next) KeepsHome who before after old m More × (work ≡ Committing m)
-StepsCommit who before after old work (Ended (answer.Commit a)) =
-    (m : Writing) × Steps writing_ask (LeadsBy writing_next) KeepsHome who before after old m (Ended a) × (work ≡ committed_work a m.home)
-StepsCommit who before after old work (Ended (answer.Trouble k)) =
-    (m : Writing) × Steps writing_ask (LeadsBy writing_next) KeepsHome who before after old m (Stopped k) × (work ≡ Broken m.home.lease)
-StepsCommit who before after old work turn = ⊥
+-- one step of a commit beside the cache, and what it leaves in hand
+abbrev pub StepsCommit : Caller → Seen → Seen → Run → Cache → Cache → Work → Turn Answer → Type 0
+StepsCommit who before after old c d work More =
+    (m : Run) × Steps run_asks (LeadsBy run_next) KeepsHome who before after (old, c) (m, d) More × (work ≡ Committing m) × (commit_left m < commit_left old)
+StepsCommit who before after old c d work (Ended (answer.Commit a)) =
+    (m : Run) × Steps run_asks (LeadsBy run_next) KeepsHome who before after (old, c) (m, d) (Ended a) × (work ≡ committed_work a (home_of_run m))
+StepsCommit who before after old c d work (Ended (answer.Trouble k)) =
+    (m : Run) × Steps run_asks (LeadsBy run_next) KeepsHome who before after (old, c) (m, d) (Stopped k) × (work ≡ Broken (home_of_run m).lease)
+StepsCommit who before after old c d work turn = ⊥
 
 -- a call was made, and answered
 pub record Asks (ask : Ask) (who : Caller) (before after : Seen) : Type 0 where
@@ -282,11 +290,13 @@ StepsPaging home who before after old work (Ended (answer.Trouble k)) =
 StepsPaging home who before after old work turn = ⊥
 
 -- one step of a tree checkpoint, and what it leaves in hand
-abbrev pub StepsFolding : Home → Caller → Seen → Seen → Fold → Work → Turn Answer → Type 0
-StepsFolding home who before after old work More = (f : Fold) × Steps folding_ask FoldingLeads KeepsFoldLeases who before after old f More × (work ≡ Folding home f)
-StepsFolding home who before after old work (Ended (answer.Done n)) = (f : Fold) × Steps folding_ask FoldingLeads KeepsFoldLeases who before after old f (Ended n) × (work ≡ Idle home)
+abbrev pub StepsFolding : Home → Caller → Seen → Seen → Making → Work → Turn Answer → Type 0
+StepsFolding home who before after old work More =
+    (m : Making) × Steps making_ask MakingLeads KeepsTreeLeases who before after old m More × (work ≡ Folding home m) × (calls_in m.work < calls_in old.work)
+StepsFolding home who before after old work (Ended (answer.Done n)) =
+    (m : Making) × Steps making_ask MakingLeads KeepsTreeLeases who before after old m (Ended n) × (work ≡ Idle home)
 StepsFolding home who before after old work (Ended (answer.Trouble k)) =
-    (f : Fold) × Steps folding_ask FoldingLeads KeepsFoldLeases who before after old f (Stopped k) × (work ≡ stopped_work k home)
+    (m : Making) × Steps making_ask MakingLeads KeepsTreeLeases who before after old m (Stopped k) × (work ≡ stopped_work k home)
 StepsFolding home who before after old work turn = ⊥
 
 -- a lease is given back: what the call answered, and what that comes to
@@ -318,7 +328,7 @@ StepsRenewing home who before after work turn = ⊥
 -- one step of what is at work: an opening or a commit has the bytes in hand that it is to put or send
 abbrev pub StepsAt : Caller → Seen → Seen → Work → Work → Turn Answer → Type 0
 StepsAt who before after (Opening m) work turn = IsSoundOpening m × StepsOpening who before after m work turn
-StepsAt who before after (Committing m) work turn = IsSoundCommit m × StepsCommit who before after m work turn
+StepsAt who before after (Committing m) work turn = IsSoundRun m × (c : Cache) × (d : Cache) × StepsCommit who before after m c d work turn
 StepsAt who before after (Reading home m) work turn = StepsReading home who before after m work turn
 StepsAt who before after (Paging home m) work turn = StepsPaging home who before after m work turn
 StepsAt who before after (Folding home m) work turn = StepsFolding home who before after m work turn
@@ -354,6 +364,7 @@ noted_behind work buffer = buffer
 -- what one step of what is at work leaves of the cache, and the read that it ended
 abbrev pub ShowsAt : Caller → Seen → Seen → Work → Cache → Cache → Work → Option Walk → Turn Answer → Type 0
 ShowsAt who before after (Reading home m) c d work read turn = ReadsBy home who before after m c d work read turn
+ShowsAt who before after (Committing m) c d work read turn = StepsCommit who before after m c d work turn × (read ≡ None)
 ShowsAt who before after old c d work read turn = (d ≡ c) × (read ≡ None)
 
 -- a closed session keeps nothing of the cloud
@@ -379,7 +390,7 @@ calls_left (Opening m) = opening_left m
 calls_left (Committing m) = commit_left m
 calls_left (Reading home m) = reading_left m
 calls_left (Paging home m) = paging_left m
-calls_left (Folding home m) = folding_left m
+calls_left (Folding home m) = calls_in m.work
 calls_left Closed = 0
 calls_left (Idle home) = 0
 calls_left (Closing lease) = 1
@@ -389,10 +400,10 @@ calls_left (Broken lease) = 0
 -- the call in hand, where something is at work
 abbrev pub ask_of_work : Work → Option Ask
 ask_of_work (Opening m) = Some (recovery_ask m)
-ask_of_work (Committing m) = Some (writing_ask m)
+ask_of_work (Committing m) = Some (run_ask m)
 ask_of_work (Reading home m) = Some (walk_ask m)
 ask_of_work (Paging home m) = Some (paging_ask m)
-ask_of_work (Folding home m) = Some (folding_ask m)
+ask_of_work (Folding home m) = Some (making_ask m)
 ask_of_work Closed = None
 ask_of_work (Idle home) = None
 ask_of_work (Closing lease) = Some (Release lease)
@@ -401,7 +412,7 @@ ask_of_work (Broken lease) = None
 
 -- the changes of the commit at work
 abbrev pub committing_of : Work → Option (List Noted)
-committing_of (Committing m) = Some m.changes
+committing_of (Committing m) = Some m.draft.writes.changes
 committing_of (Opening m) = None
 committing_of (Reading home m) = None
 committing_of (Paging home m) = None
@@ -414,7 +425,7 @@ committing_of (Broken lease) = None
 
 -- the head that the put in hand opens, where it commits
 abbrev pub opens_of : Work → Option Head
-opens_of (Committing m) = opens_at m.stage m
+opens_of (Committing m) = run_opens m
 opens_of (Opening m) = None
 opens_of (Reading home m) = None
 opens_of (Paging home m) = None
@@ -429,7 +440,7 @@ opens_of (Broken lease) = None
 abbrev pub applying_of : Work → List PuItem
 applying_of (Reading home m) = []
 applying_of (Paging home m) = m.applying
-applying_of (Folding home m) = m.applying
+applying_of (Folding home m) = applying_in m.work
 applying_of (Committing m) = []
 applying_of (Opening m) = []
 applying_of Closed = []

@@ -1,5 +1,6 @@
 ghost use Rattle.std.specs.Prelude.{◌≡◌, ◌≤◌, length};
-ghost use Rattle.commit_writes.specs.Sound.{IsSound as IsSoundCommit};
+ghost use Rattle.commit_run.specs.Run.{home_of as home_of_run};
+ghost use Rattle.commit_run.specs.Sound.{IsSoundRun};
 ghost use Rattle.client_session.specs.Session.{CommitsNoted, CommitsOf, IsOfClient, StepsCommit, committed_work};
 
 use crate::answer::{Answer, Begun};
@@ -7,32 +8,38 @@ use crate::work::Work;
 use cloud_trait::cloud::Cloud;
 use cloud_trait::turn::Turn;
 use cloud_trait::who::Who;
-use commit_writes::writes::CommitWrites;
+use commit_run::CommitRun;
 use db_base::trouble::CommitAnswer;
+use page_cache::PageCache;
 use recover_run::home::Home;
 use std::alloc::Global;
 use txn_buffer::buffer::TxnBuffer;
 
 /// Begins the commit of what a home's session noted: what is in hand then. That of nothing is answered at once.
-pub(crate) fn commit_noted(alloc: Global, home: Home, changes: TxnBuffer) -> (Work, Begun)
-    ensures commits { CommitsNoted home changes result.0 result.1 }
+pub(crate) fn commit_noted(
+    alloc: Global,
+    home: Home,
+    changes: TxnBuffer,
+    cache: &mut PageCache,
+) -> (Work, Begun)
+    ensures commits { CommitsNoted home changes cache.old cache.new result.0 result.1 }
     ensures client { IsOfClient result.0 }
 {
     if changes.is_empty() {
         let answer = CommitAnswer::Committed { txn: 0 };
         return (Work::Idle(home), Begun::Answered(Answer::Commit(answer)));
     }
-    commit_of(alloc, home, changes)
+    commit_of(alloc, home, changes, cache)
 }
 
 /// Begins the commit of changes by a home: what is in hand then.
-fn commit_of(alloc: Global, home: Home, changes: TxnBuffer) -> (Work, Begun)
+fn commit_of(alloc: Global, home: Home, changes: TxnBuffer, cache: &mut PageCache) -> (Work, Begun)
     requires { 1 ≤ length changes }
-    ensures commits { CommitsOf home changes result.0 result.1 }
+    ensures commits { CommitsOf home changes cache.old cache.new result.0 result.1 }
     ensures client { IsOfClient result.0 }
 {
-    let mut commit = CommitWrites::new(alloc, home, changes);
-    match commit.ready(alloc) {
+    let mut commit = CommitRun::new(alloc, home, changes);
+    match commit.ready(alloc, cache) {
         Turn::More => (Work::Committing(commit), Begun::Working),
         Turn::Ended(answer) => (
             Work::Idle(commit.finish()),
@@ -47,13 +54,14 @@ pub(crate) fn step_commit<C: Cloud>(
     alloc: Global,
     cloud: &mut C,
     who: Who,
-    mut machine: CommitWrites,
+    mut machine: CommitRun,
+    cache: &mut PageCache,
 ) -> (Work, Turn<Answer>)
-    ensures sound { IsSoundCommit machine }
-    ensures steps { StepsCommit who (C.seen cloud.old) (C.seen cloud.new) machine result.0 result.1 }
+    ensures sound { IsSoundRun machine }
+    ensures steps { StepsCommit who (C.seen cloud.old) (C.seen cloud.new) machine cache.old cache.new result.0 result.1 }
     ensures client { IsOfClient result.0 }
 {
-    match machine.step(alloc, cloud, who) {
+    match machine.step(alloc, cloud, who, cache) {
         Turn::More => (Work::Committing(machine), Turn::More),
         Turn::Ended(answer) => (
             committed(&answer, machine),
@@ -64,8 +72,8 @@ pub(crate) fn step_commit<C: Cloud>(
 }
 
 /// A client after its commit: in doubt where it is not known whether the commit or all of its records landed.
-fn committed(answer: &CommitAnswer, machine: CommitWrites) -> Work
-    ensures committed { result ≡ committed_work answer.now machine.home }
+fn committed(answer: &CommitAnswer, machine: CommitRun) -> Work
+    ensures committed { result ≡ committed_work answer.now (home_of_run machine) }
     ensures client { IsOfClient result }
 {
     match answer {
@@ -77,8 +85,8 @@ fn committed(answer: &CommitAnswer, machine: CommitWrites) -> Work
 }
 
 /// A client in doubt: its lease alone is left.
-fn broken(machine: CommitWrites) -> Work
-    ensures { result ≡ Work.Broken machine.home.lease }
+fn broken(machine: CommitRun) -> Work
+    ensures { result ≡ Work.Broken (home_of_run machine).lease }
 {
     Work::Broken(machine.finish().lease)
 }

@@ -5,9 +5,9 @@ use crate::work::{Work, stopped};
 use cloud_trait::cloud::Cloud;
 use cloud_trait::turn::Turn;
 use cloud_trait::who::Who;
-use first_tree::checkpoint::TreeCkpt;
 use recover_run::home::Home;
 use std::alloc::Global;
+use tree_ckpt::TreeCkpt;
 
 /// Makes the call in hand of a tree checkpoint, beside the open client.
 pub(crate) fn step_folding<C: Cloud>(

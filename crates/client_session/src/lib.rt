@@ -11,5 +11,4 @@ mod paging;
 mod reading;
 mod renewing;
 pub mod session;
-mod stepping;
 pub mod work;

@@ -3,7 +3,7 @@ ghost use Rattle.recover_run.specs.Recovery.{home_of, IsSound as IsSoundOpening}
 ghost use Rattle.client_session.specs.Session.{IsOfClient, IsOpening, StepsOpening, opened_work, opening_of};
 
 use crate::answer::Answer;
-use crate::work::Work;
+use crate::work::{Work, drop_opening};
 use cloud_trait::cloud::Cloud;
 use cloud_trait::lease::Lease;
 use cloud_trait::turn::Turn;
@@ -39,7 +39,10 @@ pub(crate) fn step_opening<C: Cloud>(
             (opened(machine), Turn::Ended(Answer::Opened { epoch }))
         }
         Turn::Ended(RecoverAnswer::Nothing) => unreachable!(),
-        Turn::Stopped(trouble) => (Work::Closed, Turn::Ended(Answer::Trouble(trouble))),
+        Turn::Stopped(trouble) => {
+            drop_opening(machine);
+            (Work::Closed, Turn::Ended(Answer::Trouble(trouble)))
+        }
     }
 }
 

@@ -1,7 +1,7 @@
 ghost use Rattle.client_session.specs.Session.{IsOfClient, StepsPaging};
 
 use crate::answer::Answer;
-use crate::work::{Work, stopped};
+use crate::work::{Work, drop_paging, stopped};
 use cloud_trait::cloud::Cloud;
 use cloud_trait::turn::Turn;
 use cloud_trait::who::Who;
@@ -22,10 +22,14 @@ pub(crate) fn step_paging<C: Cloud>(
 {
     match machine.step(alloc, cloud, who) {
         Turn::More => (Work::Paging(home, machine), Turn::More),
-        Turn::Ended(answer) => (Work::Idle(home), Turn::Ended(Answer::Done(answer))),
-        Turn::Stopped(trouble) => (
-            stopped(&trouble, home),
-            Turn::Ended(Answer::Trouble(trouble)),
-        ),
+        Turn::Ended(answer) => {
+            drop_paging(machine);
+            (Work::Idle(home), Turn::Ended(Answer::Done(answer)))
+        }
+        Turn::Stopped(trouble) => {
+            drop_paging(machine);
+            let work = stopped(&trouble, home);
+            (work, Turn::Ended(Answer::Trouble(trouble)))
+        }
     }
 }

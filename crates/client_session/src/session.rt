@@ -8,8 +8,7 @@ use crate::committing::commit_noted;
 use crate::op::Op;
 use crate::opening::opening;
 use crate::reading::begin_reading;
-use crate::stepping::step_work;
-use crate::work::{Work, home_of_work, lease_of_work};
+use crate::work::Work;
 use cloud_trait::call::Call;
 use cloud_trait::cloud::Cloud;
 use cloud_trait::turn::Turn;
@@ -18,7 +17,6 @@ use db_base::change::Change;
 use db_base::ids::{ClientId, PageId, TreeId};
 use db_base::key::Key;
 use db_base::refusal::{Refusal, Refused};
-use first_tree::checkpoint::TreeCkpt;
 use head_codec::head::Head;
 use log_codec::record::PuItem;
 use page_cache::PageCache;
@@ -28,16 +26,28 @@ use recover_run::home::Home;
 use std::alloc::Global;
 use std::marker::Model;
 use std::mem;
+use tree_ckpt::TreeCkpt;
 use txn_buffer::buffer::TxnBuffer;
 
 /// A session of a client. It is closed at first.
-#[derive(Drop)]
 pub struct Session {
     buffer: TxnBuffer,
     work: Work,
     cache: PageCache,
     // The newest operation, where it was a read that ended at its leaf.
     read: Option<RecordRead>,
+}
+
+// Written out, so that what holds a session need not look into it to let it go.
+impl Drop for Session {
+    fn drop(self) {
+        let Session {
+            buffer: _,
+            work: _,
+            cache: _,
+            read: _,
+        } = self;
+    }
 }
 
 impl Model for Session {
@@ -138,7 +148,7 @@ impl Session {
             return Err(Refused::Rule(rule));
         }
         self.forget();
-        let (work, old) = lease_of_work(self.take_work());
+        let (work, old) = self.take_work().take_lease();
         self.has(work);
         self.has(opening(alloc, client, old));
         Ok(Begun::Working)
@@ -167,7 +177,7 @@ impl Session {
         ensures { BeginsWith (CommitsIn self.old) self.old self.new result }
     {
         let home = self.take_home()?;
-        let (work, begun) = commit_noted(alloc, home, self.buffer.take());
+        let (work, begun) = commit_noted(alloc, home, self.buffer.take(), &mut self.cache);
         self.has(work);
         Ok(begun)
     }
@@ -206,7 +216,7 @@ impl Session {
     fn take_home(&mut self) -> Result<Home, Refused>
         ensures { TakesHome self.old self.new result }
     {
-        let (work, home) = home_of_work(self.take_work());
+        let (work, home) = self.take_work().take_home();
         self.has(work);
         if home.is_ok() {
             self.shows(None);
@@ -252,7 +262,7 @@ impl Session {
         }
         self.drop_at_close();
         let work = self.take_work();
-        let (work, read, turn) = step_work(alloc, cloud, who, work, &mut self.cache);
+        let (work, read, turn) = work.step(alloc, cloud, who, &mut self.cache);
         self.has(work);
         self.shows(read);
         self.clear_where_closed();

@@ -1,24 +1,36 @@
-ghost use Rattle.std.specs.Prelude.{◌≡◌};
+ghost use Rattle.std.specs.Prelude.{◌≡◌, true, false};
 ghost use Rattle.std.specs.Option.{option_map, option_copied};
 ghost use Rattle.cloud_trait.specs.Call.{ask_of};
-ghost use Rattle.client_session.specs.Session.{GivesHome, IsOfClient, old_lease, stopped_work};
+ghost use Rattle.client_session.specs.Session.{GivesHome, IsOfClient, ShowsAt, StepsAt, old_lease, stopped_work};
 
+use crate::answer::Answer;
+use crate::closing::step_close;
+use crate::committing::step_commit;
+use crate::folding::step_folding;
+use crate::opening::step_opening;
+use crate::paging::step_paging;
+use crate::reading::step_reading;
+use crate::renewing::step_renewal;
 use cloud_trait::call::Call;
+use cloud_trait::cloud::Cloud;
 use cloud_trait::lease::Lease;
-use commit_writes::writes::CommitWrites;
+use cloud_trait::turn::Turn;
+use cloud_trait::who::Who;
+use commit_run::CommitRun;
 use db_base::refusal::{Refusal, Refused};
 use db_base::trouble::Trouble;
-use first_tree::checkpoint::TreeCkpt;
 use head_codec::head::Head;
 use log_codec::record::PuItem;
+use page_cache::PageCache;
 use page_ckpt::PageCkpt;
 use record_read::RecordRead;
 use recover_run::home::Home;
 use recover_run::recover::{CLIENT_TICKS, RecoverRun};
+use std::alloc::Global;
+use tree_ckpt::TreeCkpt;
 use txn_buffer::buffer::TxnBuffer;
 
 /// What a session has in hand.
-#[derive(Drop)]
 pub enum Work {
     /// Nothing: no client is open.
     Closed,
@@ -27,7 +39,7 @@ pub enum Work {
     /// An opening under way.
     Opening(RecoverRun),
     /// A commit under way.
-    Committing(CommitWrites),
+    Committing(CommitRun),
     /// A read under way, beside the open client.
     Reading(Home, RecordRead),
     /// A page checkpoint under way, beside the open client.
@@ -41,6 +53,30 @@ pub enum Work {
     /// The lease of a client whose newest operation left it in doubt.
     Broken(Lease),
 }
+
+// Written out, machine by machine, so that no other function has to look into them to let one go.
+impl Drop for Work {
+    fn drop(self) {
+        match self {
+            Work::Closed => {}
+            Work::Idle(_) => {}
+            Work::Opening(machine) => drop_opening(machine),
+            Work::Committing(_) => {}
+            Work::Reading(_, _) => {}
+            Work::Paging(_, machine) => drop_paging(machine),
+            Work::Folding(_, _) => {}
+            Work::Closing(_) => {}
+            Work::Renewing(_) => {}
+            Work::Broken(_) => {}
+        }
+    }
+}
+
+/// Lets an opening go.
+pub(crate) fn drop_opening(_machine: RecoverRun) {}
+
+/// Lets a page checkpoint go.
+pub(crate) fn drop_paging(_machine: PageCkpt) {}
 
 impl Work {
     ghost use Rattle.client_session.specs.Session.{rule_of, opening_rule_of, is_working, ask_of_work, committing_of, opens_of, applying_of};
@@ -170,49 +206,80 @@ impl Work {
             Work::Broken(_) => &[],
         }
     }
-}
 
-/// Takes the home out of what an open client has in hand; what else is in hand stays.
-pub(crate) fn home_of_work(work: Work) -> (Work, Result<Home, Refused>)
-    requires { IsOfClient work }
-    ensures gives { GivesHome work result.0 result.1 }
-    ensures client { IsOfClient result.0 }
-{
-    match work {
-        Work::Idle(home) => (Work::Closed, Ok(home)),
-        Work::Closed => (Work::Closed, Err(Refused::Rule(Refusal::NotOpen))),
-        Work::Opening(machine) => (Work::Opening(machine), Err(Refused::Rule(Refusal::AtWork))),
-        Work::Committing(machine) => (
-            Work::Committing(machine),
-            Err(Refused::Rule(Refusal::AtWork)),
-        ),
-        Work::Reading(home, machine) => (
-            Work::Reading(home, machine),
-            Err(Refused::Rule(Refusal::AtWork)),
-        ),
-        Work::Paging(home, machine) => (
-            Work::Paging(home, machine),
-            Err(Refused::Rule(Refusal::AtWork)),
-        ),
-        Work::Folding(home, machine) => (
-            Work::Folding(home, machine),
-            Err(Refused::Rule(Refusal::AtWork)),
-        ),
-        Work::Closing(lease) => (Work::Closing(lease), Err(Refused::Rule(Refusal::AtWork))),
-        Work::Renewing(home) => (Work::Renewing(home), Err(Refused::Rule(Refusal::AtWork))),
-        Work::Broken(lease) => (Work::Broken(lease), Err(Refused::Rule(Refusal::Broken))),
+    /// Takes the home out of what an open client has in hand; what else is in hand stays.
+    pub(crate) fn take_home(self) -> (Work, Result<Home, Refused>)
+        requires { IsOfClient self }
+        ensures gives { GivesHome self result.0 result.1 }
+        ensures client { IsOfClient result.0 }
+    {
+        match self {
+            Work::Idle(home) => (Work::Closed, Ok(home)),
+            Work::Closed => (Work::Closed, Err(Refused::Rule(Refusal::NotOpen))),
+            Work::Opening(machine) => (Work::Opening(machine), Err(Refused::Rule(Refusal::AtWork))),
+            Work::Committing(machine) => (
+                Work::Committing(machine),
+                Err(Refused::Rule(Refusal::AtWork)),
+            ),
+            Work::Reading(home, machine) => (
+                Work::Reading(home, machine),
+                Err(Refused::Rule(Refusal::AtWork)),
+            ),
+            Work::Paging(home, machine) => (
+                Work::Paging(home, machine),
+                Err(Refused::Rule(Refusal::AtWork)),
+            ),
+            Work::Folding(home, machine) => (
+                Work::Folding(home, machine),
+                Err(Refused::Rule(Refusal::AtWork)),
+            ),
+            Work::Closing(lease) => (Work::Closing(lease), Err(Refused::Rule(Refusal::AtWork))),
+            Work::Renewing(home) => (Work::Renewing(home), Err(Refused::Rule(Refusal::AtWork))),
+            Work::Broken(lease) => (Work::Broken(lease), Err(Refused::Rule(Refusal::Broken))),
+        }
     }
-}
 
-/// Takes the lease out of what a broken session has in hand; what else is in hand stays.
-pub(crate) fn lease_of_work(work: Work) -> (Work, Option<Lease>)
-    requires { IsOfClient work }
-    ensures gives { result.1 ≡ old_lease work }
-    ensures client { IsOfClient result.0 }
-{
-    match work {
-        Work::Broken(lease) => (Work::Closed, Some(lease)),
-        other => (other, None),
+    /// Takes the lease out of what a broken session has in hand; what else is in hand stays.
+    pub(crate) fn take_lease(self) -> (Work, Option<Lease>)
+        requires { IsOfClient self }
+        ensures gives { result.1 ≡ old_lease self }
+        ensures client { IsOfClient result.0 }
+    {
+        match self {
+            Work::Broken(lease) => (Work::Closed, Some(lease)),
+            other => (other, None),
+        }
+    }
+
+    /// Makes the call in hand of what is at work: what is in hand then, the read where one ended, and what it came to.
+    pub(crate) fn step<C: Cloud>(
+        self,
+        alloc: Global,
+        cloud: &mut C,
+        who: Who,
+        cache: &mut PageCache,
+    ) -> (Work, Option<RecordRead>, Turn<Answer>)
+        requires client { IsOfClient self }
+        requires working { is_working self ≡ true }
+        ensures steps { StepsAt who (C.seen cloud.old) (C.seen cloud.new) self result.0 result.2 }
+        ensures shows { ShowsAt who (C.seen cloud.old) (C.seen cloud.new) self cache.old cache.new result.0 result.1 result.2 }
+        ensures client { IsOfClient result.0 }
+    {
+        let (work, turn) = match self {
+            Work::Reading(home, read) => {
+                return step_reading(alloc, cloud, who, home, read, cache);
+            }
+            Work::Opening(machine) => step_opening(alloc, cloud, who, machine),
+            Work::Committing(machine) => step_commit(alloc, cloud, who, machine, cache),
+            Work::Paging(home, machine) => step_paging(alloc, cloud, who, home, machine),
+            Work::Folding(home, machine) => step_folding(alloc, cloud, who, home, machine),
+            Work::Closing(lease) => step_close(cloud, who, lease),
+            Work::Renewing(home) => step_renewal(cloud, who, home),
+            Work::Closed => unreachable!(),
+            Work::Idle(_) => unreachable!(),
+            Work::Broken(_) => unreachable!(),
+        };
+        (work, None, turn)
     }
 }
 

@@ -21,10 +21,16 @@ use txn_buffer::buffer::TxnBuffer;
 
 /// A commit of a client's changes, beside its session's cache: the walks for the leaves of the changes, each of which prunes the
 /// head by what it uses, and then what the commit writes.
-#[derive(Drop)]
 pub struct CommitRun {
     draft: Draft,
     hand: Hand,
+}
+
+// Written out, so that what holds a commit need not look into it to let it go.
+impl Drop for CommitRun {
+    fn drop(self) {
+        let CommitRun { draft: _, hand: _ } = self;
+    }
 }
 
 impl Model for CommitRun {
@@ -61,7 +67,8 @@ impl CommitRun {
     pub fn finish(self) -> Home
         ensures { result ≡ home_of self }
     {
-        self.draft.writes.finish()
+        let CommitRun { draft, hand: _ } = self;
+        draft.writes.finish()
     }
 
     /// The changes that it commits.

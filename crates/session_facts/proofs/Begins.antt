@@ -9,15 +9,13 @@ use Rattle.client_session.specs.declared.op.Op.{Op}
 use Rattle.client_session.specs.declared.op.Op.TheVariants as op
 use Rattle.client_session.specs.declared.work.Work.{Work}
 use Rattle.client_session.specs.declared.work.Work.TheVariants.{Closed, Idle, Opening, Committing, Reading, Folding, Paging, Closing, Renewing, Broken}
-use Rattle.cloud_facts.specs.Acting.{KnowsHome}
 use Rattle.cloud_trait.specs.Claim.{Claim}
-use Rattle.cloud_trait.specs.Machine.{Goes, Ends}
+use Rattle.cloud_trait.specs.Machine.{Next, Goes, Ends}
 use Rattle.cloud_trait.specs.State.{CloudState}
-use Rattle.commit_facts.specs.Committing.{MayCommit, KnowsEnd, Reaches}
+use Rattle.commit_facts.specs.Committing.{MayCommit, KnowsEnd}
 use Rattle.commit_run.specs.Run.{Run, new_run, home_of, run_ready}
-use Rattle.commit_run_facts.specs.Running.{KnowsRun, KnowsRunNext}
-use Rattle.commit_run_facts.proofs.Begins.{run_begins, ready_refuses}
-use Rattle.commit_run_facts.proofs.RunLeases.{RunLeaseStays, ready_lease}
+use Rattle.commit_run_facts.proofs.Begins.{HasBegun, run_begins}
+use Rattle.commit_run_facts.proofs.Refusals.{IsRefusal}
 use Rattle.commit_facts.proofs.Noted.{may_none}
 use Rattle.db_base.specs.Ids.{IsClient, IsTree, IsPage}
 use Rattle.db_base.specs.declared.trouble.Trouble.{Trouble}
@@ -25,6 +23,7 @@ use Rattle.db_base.specs.declared.trouble.Trouble.TheVariants as trouble
 use Rattle.db_base.specs.declared.refusal.Refused.{Refused}
 use Rattle.db_base.specs.declared.refusal.Refused.TheVariants as refused
 use Rattle.db_base.specs.declared.trouble.CommitAnswer.{CommitAnswer}
+use Rattle.db_base.specs.declared.trouble.CommitAnswer.TheVariants.{Committed, NotCommitted, InDoubt, CommittedOpen}
 use Rattle.home_facts.specs.Homes.{Part, Away}
 use Rattle.opening_facts.specs.Opening.{leases_of_recovery, KnowsOpening}
 use Rattle.opening_facts.proofs.Begins.{opening_begins}
@@ -49,6 +48,9 @@ use Rattle.walk_facts.specs.Caches.{KnowsCache}
 use Rattle.walk_facts.specs.Walks.{KnowsWalking, IsAtSeenLeaf, WalkLeads, MayStop}
 use Rattle.walk_facts.proofs.Caches.{empty_knows}
 use Rattle.walk_facts.proofs.Walks.{walk_begins}
+
+abbrev RunStep : Type 0
+RunStep = Next (Run × Cache) CommitAnswer
 
 module _ (book : Book) (order : List Entry) (s : CloudState) (sessions : Sessions) (session : ℕ) (stand : SessionsStand book order s sessions) where
   abbrev st : Store
@@ -176,48 +178,44 @@ module _ (book : Book) (order : List Entry) (s : CloudState) (sessions : Session
   -- ---- a commit
 
   -- what is known where the commit leads without a call
-  ready : (home : Home) → old.work ≡ Idle home → 1 ≤ length old.buffer → Reaches st s.now stand.parts session (KnowsRunNext (run_ready (new_run home old.buffer, old.cache)))
-  ready home idle some = run_begins book order s stand.cloud stand.parts session home old.buffer old.cache (home_known home idle) (cache_known home idle) known.buffer some stand.homes
-
-  lease_stays : (home : Home) → RunLeaseStays home.lease (run_ready (new_run home old.buffer, old.cache))
-  lease_stays home = ready_lease home old.buffer old.cache
+  ready : (home : Home) (step : RunStep) → old.work ≡ Idle home → 1 ≤ length old.buffer → run_ready (new_run home old.buffer, old.cache) ≡ step
+      → HasBegun st s.now stand.parts session home.lease step
+  ready home step idle some leads =
+      run_begins book order s stand.cloud s.now stand.parts session stand.homes home old.buffer old.cache (home_known home idle) known.buffer some (cache_known home idle) step leads
 
   -- a commit is in hand, of the home's next attempt
-  commit_well : (home : Home) (r : Run) (new : Acting) → old.work ≡ Idle home → run_ready (new_run home old.buffer, old.cache) ≡ Goes (r, new.cache) → 1 ≤ length old.buffer → new.buffer ≡ []
-      → new.work ≡ Committing r → After new
-  commit_well home r new idle leads some none e =
-      let reached = ready home idle some in
-      let k : KnowsRun st s.now (r, new.cache) reached.part = subst (λ n. KnowsRunNext n st s.now reached.part) leads reached.knows in
-      let stays : (home_of r).lease ≡ home.lease = subst (RunLeaseStays home.lease) leads (lease_stays home) in
-      session_changes book order s sessions session new reached.part stand
-      (λ x is. mine home idle x (subst (λ l. IsIn (l ∷ []) x) stays (subst (λ (q : Work). IsIn (leases_of q) x) e is))) reached.homes
+  commit_well : (home : Home) (r : Run) (new : Acting) → old.work ≡ Idle home → HasBegun st s.now stand.parts session home.lease (Goes (r, new.cache)) → new.buffer ≡ [] → new.work ≡ Committing r
+      → After new
+  commit_well home r new idle begun none e =
+      session_changes book order s sessions session new begun.part stand
+      (λ x is. mine home idle x (subst (λ l. IsIn (l ∷ []) x) begun.lease_is (subst (λ (q : Work). IsIn (leases_of q) x) e is))) begun.homes
       (record {
-        work = subst (λ q. KnowsWork st s.now new.cache q reached.part) (sym e) k;
-        kept = subst (λ q. KnowsKept st new.cache q) (sym e) k.cache;
+        work = subst (λ q. KnowsWork st s.now new.cache q begun.part) (sym e) begun.knows;
+        kept = subst (λ q. KnowsKept st new.cache q) (sym e) begun.knows.cache;
         buffer = no_buffer new none;
       })
 
   -- a commit that is answered at once leaves the home, but for its attempt and what it pruned
-  ended_well : (home : Home) (r : Run) (a : CommitAnswer) (new : Acting) → old.work ≡ Idle home → run_ready (new_run home old.buffer, old.cache) ≡ Ends (r, new.cache) a
-      → 1 ≤ length old.buffer → new.buffer ≡ [] → new.work ≡ Idle (home_of r) → After new
-  ended_well home r a new idle leads some none e =
-      let reached = ready home idle some in
-      let k : KnowsEnd st s.now (home_of r) a reached.part × KnowsCache st new.cache = subst (λ n. KnowsRunNext n st s.now reached.part) leads reached.knows in
-      let stays : (home_of r).lease ≡ home.lease = subst (RunLeaseStays home.lease) leads (lease_stays home) in
-      let refused = ready_refuses home old.buffer old.cache (r, new.cache) a leads in
-      let open_home : KnowsHome st s.now (home_of r).client (home_of r).lease (home_of r).head (home_of r).attempt reached.part =
-      subst (λ x. KnowsEnd st s.now (home_of r) x reached.part) refused.1 k.0 in
-      session_changes book order s sessions session new reached.part stand
-      (λ x is. mine home idle x (subst (λ l. IsIn (l ∷ []) x) stays (subst (λ (q : Work). IsIn (leases_of q) x) e is))) reached.homes
+  ended_well : (home : Home) (r : Run) (a : CommitAnswer) (new : Acting) → old.work ≡ Idle home → HasBegun st s.now stand.parts session home.lease (Ends (r, new.cache) a) → new.buffer ≡ []
+      → new.work ≡ Idle (home_of r) → After new
+  ended_well home r a new idle begun none e =
+      session_changes book order s sessions session new begun.part stand
+      (λ x is. mine home idle x (subst (λ l. IsIn (l ∷ []) x) begun.lease_is (subst (λ (q : Work). IsIn (leases_of q) x) e is))) begun.homes
       (record {
-        work = subst (λ q. KnowsWork st s.now new.cache q reached.part) (sym e) open_home;
-        kept = subst (λ q. KnowsKept st new.cache q) (sym e) k.1;
+        work = subst (λ q. KnowsWork st s.now new.cache q begun.part) (sym e) (stays_home a begun.refuses begun.knows.0);
+        kept = subst (λ q. KnowsKept st new.cache q) (sym e) begun.knows.1;
         buffer = no_buffer new none;
       })
+    where
+      stays_home : (a : CommitAnswer) → IsRefusal a → KnowsEnd st s.now (home_of r) a begun.part → IsHome st s.now (home_of r) begun.part
+      stays_home (NotCommitted t) is k = k
+      stays_home (Committed txn) is k = absurd is
+      stays_home InDoubt is k = absurd is
+      stays_home (CommittedOpen t) is k = absurd is
 
   commits_of : (home : Home) (new : Acting) (begun : Begun) → old.work ≡ Idle home → new.buffer ≡ [] → 1 ≤ length old.buffer → CommitsOf home old.buffer old.cache new.cache new.work begun → After new
-  commits_of home new Working idle none some (r, leads, e) = commit_well home r new idle leads some none e
-  commits_of home new (Answered (answer.Commit a)) idle none some (r, leads, e) = ended_well home r a new idle leads some none e
+  commits_of home new Working idle none some (r, leads, e) = commit_well home r new idle (ready home _ idle some leads) none e
+  commits_of home new (Answered (answer.Commit a)) idle none some (r, leads, e) = ended_well home r a new idle (ready home _ idle some leads) none e
   commits_of home new (Answered (answer.Trouble t)) idle none some (memory, e) = leaves_with new (Broken home.lease) (no_buffer new none) e (mine home idle) (refl, tt)
   commits_of home new (Answered (answer.Opened epoch)) idle none some never = absurd never
   commits_of home new (Answered answer.Closed) idle none some never = absurd never

@@ -36,7 +36,7 @@ pub work_others : (st su : Store) (now later : ℕ) (c : Cache) (work : Work) (p
 work_others st su now later c Closed part after o j k = k
 work_others st su now later c (Idle home) part after o j k = home_stays st su now later home part (home.lease ∷ []) after (0, refl) o k
 work_others st su now later c (Opening r) part after o j k = opening_others st su now later r part after o k
-work_others st su now later c (Committing r) part after o j k = run_others st su now later (r, c) part after o j k
+work_others st su now later c (Committing r) part after o j k = run_others st su now later part after (r, c) o j k
 work_others st su now later c (Reading home w) part after o j k =
     (home_stays st su now later home part (home.lease ∷ []) after (0, refl) o k.0, walk_grows st su o.passes.grows w k.1)
 work_others st su now later c (Folding home m) part after o j k = (

@@ -10,19 +10,20 @@ use Rattle.cloud_trait.specs.declared.answer.Answer.TheVariants.{Failed}
 use Rattle.cloud_trait.specs.declared.turn.Turn.{Turn}
 use Rattle.cloud_trait.specs.declared.turn.Turn.TheVariants.{More, Ended, Stopped}
 use Rattle.cloud_trait.specs.declared.turn.CkptAnswer.{CkptAnswer}
-use Rattle.cloud_trait.specs.Machine.{Next, Goes, Ends, Stops, Took}
+use Rattle.cloud_trait.specs.Machine.{Next, Goes, Ends, Stops, Took, Deed, Came}
 use Rattle.recover_run.specs.declared.stage.RecoverAnswer.{RecoverAnswer}
 use Rattle.recover_run.specs.Ids.{new_ids}
 use Rattle.recover_run.specs.Recovery.{Recovery}
-use Rattle.first_tree.specs.Folding.{Folding}
 use Rattle.page_ckpt.specs.Paging.{Paging}
+use Rattle.tree_ckpt.specs.Making.{Making, new_making, making_ask, MakingLeads}
+use Rattle.tree_ckpt.specs.Standing.{Went as TreeWent}
 use Rattle.recover_run.specs.Bound.{calls_left as recovery_left}
-use Rattle.first_tree.specs.Folding.{calls_left as folding_left}
 use Rattle.page_ckpt.specs.Ending.{calls_left as paging_left}
+use Rattle.tree_ckpt.specs.Ending.{calls_in}
 use Rattle.settle_run.specs.declared.part.Part.{Part}
 use Rattle.settle_run.specs.declared.part.Part.TheVariants.{Client, Tree, Page}
 use Rattle.settle_run.specs.declared.settled.Settled.{Settled}
-use Rattle.settle_run.specs.Parts.{recovered_turn, left_turn, KeepsPart, part_of_client, part_of_tree, part_of_page, part_again, part_received, recovers, folds, pages, PartLeads}
+use Rattle.settle_run.specs.Parts.{recovered_turn, left_turn, KeepsPart, PartWent, part_of_client, part_of_tree, part_of_page, part_again, part_received, recovers, makes, pages, PartLeads}
 use Rattle.settle_run.specs.Settling.{Settling, Step, begins, behind_client, to_page, behind_tree, is_visited, goes_right, goes_on, passed_with, passed, ended_by, counted, with_part, after_turn, moved, SamePart}
 use Rattle.settle_run.specs.Ending.{part_left, places_left, parts_left, calls_left}
 
@@ -59,7 +60,7 @@ part_stays (Client client m) a next leads = subst (Stays (Client client m)) (sym
   on (Ends n x) = refl
   on (Stops n t) = refl
 part_stays (Tree tree m) a next leads = subst (Stays (Tree tree m)) (sym leads.2) (on leads.0) where
-  on : (n : Next Folding CkptAnswer) → Stays (Tree tree m) (folds tree n)
+  on : (n : Next Making CkptAnswer) → Stays (Tree tree m) (makes tree n)
   on (Goes n) = refl
   on (Ends n x) = refl
   on (Stops n t) = refl
@@ -78,7 +79,7 @@ same_places : (p q : Part) (visited : ℕ) → part_again q ≡ part_again p →
 same_places p q visited e = sym (again_places q visited) ∙ ap (λ (x : Part). places_left x visited) e ∙ again_places p visited
 
 -- a part before its first call has fewer calls left than the bound of all
-again_small : (p : Part) → part_left (part_again p) < 2 ^ 67
+again_small : (p : Part) → part_left (part_again p) < 2 ^ 130
 again_small (Client client m) = omega arith
 again_small (Tree tree m) = omega arith
 again_small (Page tree page m) = omega arith
@@ -92,11 +93,11 @@ Below s (Ends n x) = Unit {0}
 Below s (Stops n t) = Unit {0}
 
 -- a new place is one place less
-below_place : (s n : Settling) → places_left n.part (length n.visited) < places_left s.part (length s.visited) → part_left n.part < 2 ^ 67 → calls_left n < calls_left s
+below_place : (s n : Settling) → places_left n.part (length n.visited) < places_left s.part (length s.visited) → part_left n.part < 2 ^ 130 → calls_left n < calls_left s
 below_place s n place small =
     let parts : parts_left n < parts_left s = digit (2 ^ 64 + 1) (places_left n.part (length n.visited)) (places_left s.part (length s.visited))
     (2 ^ 64 - length n.known) (2 ^ 64 - length s.known) place (omega arith) in
-    digit (2 ^ 67) (parts_left n) (parts_left s) (part_left n.part) (part_left s.part) parts small
+    digit (2 ^ 130) (parts_left n) (parts_left s) (part_left n.part) (part_left s.part) parts small
 
 below_client : (s mid : Settling) (client : ℕ) → places_left s.part (length s.visited) ≡ (64 - client) + 16 * (2 ^ 64 + 2)
     → Below s (begins mid (behind_client client))
@@ -152,7 +153,7 @@ below_again s p id ids calls same = λ known visited.
     let parts : places_left (part_again p) (length s.visited) * (2 ^ 64 + 1) + (2 ^ 64 - length (s.known ++ id ∷ ids)) < parts_left s =
     last_digit (2 ^ 64 + 1) (places_left (part_again p) (length s.visited)) (places_left s.part (length s.visited))
     (2 ^ 64 - length (s.known ++ id ∷ ids)) (2 ^ 64 - length s.known) place (omega (arith, more, known)) in
-    digit (2 ^ 67) (places_left (part_again p) (length s.visited) * (2 ^ 64 + 1) + (2 ^ 64 - length (s.known ++ id ∷ ids))) (parts_left s)
+    digit (2 ^ 130) (places_left (part_again p) (length s.visited) * (2 ^ 64 + 1) + (2 ^ 64 - length (s.known ++ id ∷ ids))) (parts_left s)
     (part_left (part_again p)) (part_left s.part) parts (again_small p)
 
 below_passed : (s : Settling) (p : Part) (ids : List ℕ) → part_again p ≡ part_again s.part → Below s (passed_with (counted (with_part s p)) ids)
@@ -172,7 +173,7 @@ below_ended s p left same = on (left == 0) where
 below_goes : (s : Settling) (p : Part) → part_again p ≡ part_again s.part → part_left p < part_left s.part → Below s (moved s (Goes p))
 below_goes s p same less = λ known visited.
     let place : places_left p (length s.visited) ≡ places_left s.part (length s.visited) = same_places s.part p (length s.visited) same in
-    last_digit (2 ^ 67) (places_left p (length s.visited) * (2 ^ 64 + 1) + (2 ^ 64 - length s.known)) (parts_left s) (part_left p) (part_left s.part)
+    last_digit (2 ^ 130) (places_left p (length s.visited) * (2 ^ 64 + 1) + (2 ^ 64 - length s.known)) (parts_left s) (part_left p) (part_left s.part)
     (ap (λ (n : ℕ). n * (2 ^ 64 + 1) + (2 ^ 64 - length s.known)) place) less
 
 -- by what the step of the part came to
@@ -207,10 +208,21 @@ pub recovery_less : (client : ℕ) (m n : Recovery) (turn : Turn RecoverAnswer) 
 recovery_less client m n turn p left e f less is =
     subst (λ (q : Part). part_left (Client client n) < part_left q) (sym e) (less (more_recovered turn (sym f ∙ is)))
 
-pub folding_less : (tree : ℕ) (m n : Folding) (turn : Turn CkptAnswer) (p : Part) (left : Turn ℕ) → p ≡ Tree tree m → left ≡ left_turn turn
-    → (turn ≡ More → folding_left n < folding_left m) → left ≡ More → part_left (Tree tree n) < part_left p
-folding_less tree m n turn p left e f less is = subst (λ (q : Part). part_left (Tree tree n) < part_left q) (sym e) (less (more_left turn (sym f ∙ is)))
+pub making_less : (tree : ℕ) (m n : Making) (turn : Turn CkptAnswer) (p : Part) (left : Turn ℕ) → p ≡ Tree tree m → left ≡ left_turn turn
+    → (turn ≡ More → calls_in n.work < calls_in m.work) → left ≡ More → part_left (Tree tree n) < part_left p
+making_less tree m n turn p left e f less is = subst (λ (q : Part). part_left (Tree tree n) < part_left q) (sym e) (less (more_left turn (sym f ∙ is)))
 
 pub paging_less : (tree page : ℕ) (m n : Paging) (turn : Turn CkptAnswer) (p : Part) (left : Turn ℕ) → p ≡ Page tree page m → left ≡ left_turn turn
     → (turn ≡ More → paging_left n < paging_left m) → left ≡ More → part_left (Page tree page n) < part_left p
 paging_less tree page m n turn p left e f less is = subst (λ (q : Part). part_left (Page tree page n) < part_left q) (sym e) (less (more_left turn (sym f ∙ is)))
+
+-- a checkpoint stays at its tree
+same_tree : (tree : ℕ) (h : List Deed) (m : Making) → Came making_ask MakingLeads (new_making tree) h m → m.tree ≡ tree
+same_tree tree [] m came = ap (λ (n : Making). n.tree) came
+same_tree tree (d ∷ h) m came = came.4.0.0 ∙ same_tree tree h came.0 came.1
+
+-- the calls of a part that is the checkpoint of a tree are that checkpoint's
+pub tree_went : (tree : ℕ) (m : Making) (p : Part) (h : List Deed) → p ≡ Tree tree m → PartWent h p → TreeWent h m
+tree_went tree m p h e went =
+    let came : Came making_ask MakingLeads (new_making tree) h m = subst (PartWent h) e went in
+    subst (λ (t : ℕ). Came making_ask MakingLeads (new_making t) h m) (sym (same_tree tree h m came)) came

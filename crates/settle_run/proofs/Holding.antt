@@ -13,14 +13,16 @@ use Rattle.cloud_trait.specs.Weather.{Fits}
 use Rattle.recover_run.specs.declared.stage.RecoverAnswer.{RecoverAnswer}
 use Rattle.recover_run.specs.Ids.{new_ids}
 use Rattle.recover_run.specs.Recovery.{Recovery}
-use Rattle.first_tree.specs.Folding.{Folding}
 use Rattle.page_ckpt.specs.Paging.{Paging, PagingLeads}
 use Rattle.page_ckpt.specs.Standing.{Stands as PageStands}
-use Rattle.page_ckpt.proofs.Standing.{came_stands, stands_names, stands_gives}
+use Rattle.page_ckpt.proofs.Standing.{came_stands as page_stands, stands_names as page_names, stands_gives as page_gives}
+use Rattle.tree_ckpt.specs.Making.{Making, MakingLeads}
+use Rattle.tree_ckpt.specs.Standing.{Stands as TreeStands}
+use Rattle.tree_ckpt.proofs.Standing.{came_stands as tree_stands, stands_names as tree_names, stands_gives as tree_gives}
 use Rattle.settle_run.specs.declared.part.Part.{Part}
 use Rattle.settle_run.specs.declared.part.Part.TheVariants.{Client, Tree, Page}
 use Rattle.settle_run.specs.declared.settled.Settled.{Settled}
-use Rattle.settle_run.specs.Parts.{part_of_tree, part_ask, part_received, recovers, folds, pages, PartLeads, KeepsPart, PartWent}
+use Rattle.settle_run.specs.Parts.{part_of_tree, part_ask, part_received, recovers, makes, pages, PartLeads, KeepsPart, PartWent}
 use Rattle.settle_run.specs.Settling.{Settling, Step, begins, to_page, behind_tree, is_visited, goes_right, goes_on, passed_with, passed, ended_by, counted, with_part, after_turn, SamePart}
 use Rattle.settle_run.specs.Standing.{PartHolds, Holds, IsFree, GivesBack}
 use Rattle.settle_run.specs.Meaning.{Went, deeds_of}
@@ -28,10 +30,12 @@ use Rattle.settle_run.proofs.Ranging.{Stands, went_stands}
 
 part_holds : (p : Part) (h : List Deed) → PartWent h p → PartHolds p h
 part_holds (Client client m) h went = tt
-part_holds (Tree tree m) h went = tt
+part_holds (Tree tree m) h went =
+    let st : TreeStands m h = tree_stands tree h m went in
+    (st.held, tree_names m h st)
 part_holds (Page tree page m) h went =
-    let st : PageStands m h = came_stands tree page h m went in
-    (st.held, stands_names m h st)
+    let st : PageStands m h = page_stands tree page h m went in
+    (st.held, page_names m h st)
 
 pub went_holds : (h : List Deed) (s : Settling) → Went h s → Holds h s
 went_holds h s w =
@@ -51,16 +55,16 @@ part_frees (Client client m) own a next went fits leads = subst Frees (sym leads
   on (Goes n) = tt
   on (Ends n x) = tt
   on (Stops n t) = λ k. tt
-part_frees (Tree tree m) own a next went fits leads = subst Frees (sym leads.2) (on leads.0) where
-  on : (n : Next Folding CkptAnswer) → Frees (folds tree n)
-  on (Goes n) = tt
-  on (Ends n x) = tt
-  on (Stops n t) = λ k. tt
+part_frees (Tree tree m) own a next went fits leads = subst Frees (sym leads.2) (on leads.0 leads.1) where
+  on : (n : Next Making CkptAnswer) → MakingLeads m a n → Frees (makes tree n)
+  on (Goes n) l = tt
+  on (Ends n x) l = tree_gives m n own a (Ended x) (tree_stands tree own m went) fits l
+  on (Stops n t) l = λ k. tree_gives m n own a (Stopped t) (tree_stands tree own m went) fits (λ other. l, λ e. absurd (k e)) k
 part_frees (Page tree page m) own a next went fits leads = subst Frees (sym leads.2) (on leads.0 leads.1) where
   on : (n : Next Paging CkptAnswer) → PagingLeads m a n → Frees (pages tree page n)
   on (Goes n) l = tt
-  on (Ends n x) l = stands_gives m n own a (Ended x) (came_stands tree page own m went) fits l
-  on (Stops n t) l = λ k. stands_gives m n own a (Stopped t) (came_stands tree page own m went) fits (λ other. l, λ e. absurd (k e)) k
+  on (Ends n x) l = page_gives m n own a (Ended x) (page_stands tree page own m went) fits l
+  on (Stops n t) l = λ k. page_gives m n own a (Stopped t) (page_stands tree page own m went) fits (λ other. l, λ e. absurd (k e)) k
 
 -- ---- an end of the settling
 

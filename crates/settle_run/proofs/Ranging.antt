@@ -11,12 +11,12 @@ use Rattle.cloud_trait.specs.Machine.{Next, Goes, Ends, Stops, LeadsBy, Took, De
 use Rattle.recover_run.specs.declared.stage.RecoverAnswer.{RecoverAnswer}
 use Rattle.recover_run.specs.Ids.{new_ids}
 use Rattle.recover_run.specs.Recovery.{Recovery, recovery_next}
-use Rattle.first_tree.specs.Folding.{Folding, FoldingLeads}
 use Rattle.page_ckpt.specs.Paging.{Paging, PagingLeads}
+use Rattle.tree_ckpt.specs.Making.{Making, MakingLeads}
 use Rattle.settle_run.specs.declared.part.Part.{Part}
 use Rattle.settle_run.specs.declared.part.Part.TheVariants.{Client, Tree, Page}
 use Rattle.settle_run.specs.declared.settled.Settled.{Settled}
-use Rattle.settle_run.specs.Parts.{part_of_client, part_of_tree, part_ask, part_again, part_received, recovers, folds, pages, PartLeads, PartWent}
+use Rattle.settle_run.specs.Parts.{part_of_client, part_of_tree, part_ask, part_again, part_received, recovers, makes, pages, PartLeads, PartWent}
 use Rattle.settle_run.specs.Settling.{Settling, Step, new_settling, settle_ask, begins, behind_client, to_page, behind_tree, is_visited, goes_right, goes_on, passed_with, passed, ended_by, counted, with_part, moved, SettleLeads, KeepsSettling}
 use Rattle.settle_run.specs.Meaning.{Went, Run, IsRun, behind, Ran, deeds_of, IsSettled, MeansTurn}
 use Rattle.settle_run.proofs.Ending.{part_stays}
@@ -101,7 +101,7 @@ part_more (Client client m) own d next went ask made follows leads = subst (Long
   on (Ends n x) l = tt
   on (Stops n t) l = tt
 part_more (Tree tree m) own d next went ask made follows leads = subst (Longer own d) (sym leads.2) (on leads.0 leads.1) where
-  on : (n : Next Folding CkptAnswer) → FoldingLeads m d.answer n → Longer own d (folds tree n)
+  on : (n : Next Making CkptAnswer) → MakingLeads m d.answer n → Longer own d (makes tree n)
   on (Goes n) l = (m, went, ask, made, l, follows)
   on (Ends n x) l = tt
   on (Stops n t) l = tt

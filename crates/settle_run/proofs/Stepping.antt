@@ -11,8 +11,8 @@ use Rattle.cloud_trait.specs.Seen.{Seen}
 use Rattle.cloud_trait.specs.Machine.{Goes, Ends, Stops, LeadsBy, Took, Steps}
 use Rattle.recover_run.specs.declared.stage.RecoverAnswer.{RecoverAnswer}
 use Rattle.recover_run.specs.Recovery.{Recovery, recovery_ask, recovery_next, KeepsLeases as KeepsRecovery}
-use Rattle.first_tree.specs.Folding.{Folding, folding_ask, FoldingLeads, KeepsLeases as KeepsFolding}
 use Rattle.page_ckpt.specs.Paging.{Paging, paging_ask, PagingLeads, KeepsLeases as KeepsPaging}
+use Rattle.tree_ckpt.specs.Making.{Making, making_ask, MakingLeads, KeepsLeases as KeepsMaking}
 use Rattle.settle_run.specs.declared.part.Part.{Part}
 use Rattle.settle_run.specs.declared.part.Part.TheVariants.{Client, Tree, Page}
 use Rattle.settle_run.specs.declared.settled.Settled.{Settled}
@@ -27,11 +27,11 @@ recovery_took client m n a More h = (Goes n, h, refl)
 recovery_took client m n a (Ended x) h = (Ends n x, h, refl)
 recovery_took client m n a (Stopped t) h = (λ k. (Stops n t, h.0 k, refl), λ k. (refl, h.1 k))
 
-folding_took : (tree : ℕ) (m n : Folding) (a : Answer) (turn : Turn CkptAnswer) → Took FoldingLeads KeepsFolding m a n turn
+making_took : (tree : ℕ) (m n : Making) (a : Answer) (turn : Turn CkptAnswer) → Took MakingLeads KeepsMaking m a n turn
     → Took PartLeads KeepsPart (Tree tree m) a (Tree tree n) (left_turn turn)
-folding_took tree m n a More h = (Goes n, h, refl)
-folding_took tree m n a (Ended x) h = (Ends n x, h, refl)
-folding_took tree m n a (Stopped t) h = (λ k. (Stops n t, h.0 k, refl), λ k. (refl, h.1 k))
+making_took tree m n a More h = (Goes n, h, refl)
+making_took tree m n a (Ended x) h = (Ends n x, h, refl)
+making_took tree m n a (Stopped t) h = (λ k. (Stops n t, h.0 k, refl), λ k. (refl, h.1 k))
 
 paging_took : (tree page : ℕ) (m n : Paging) (a : Answer) (turn : Turn CkptAnswer) → Took PagingLeads KeepsPaging m a n turn
     → Took PartLeads KeepsPart (Page tree page m) a (Page tree page n) (left_turn turn)
@@ -47,13 +47,13 @@ recovery_steps client who before after m n turn p left e f s =
     (subst (λ (l : Turn ℕ). Steps part_ask PartLeads KeepsPart who before after (Client client m) (Client client n) l) (sym f)
     (record { answer = s.answer; made = s.made; took = recovery_took client m n s.answer turn s.took }))
 
-pub folding_steps : (tree : ℕ) (who : Caller) (before after : Seen) (m n : Folding) (turn : Turn CkptAnswer) (p : Part) (left : Turn ℕ)
-    → p ≡ Tree tree m → left ≡ left_turn turn → Steps folding_ask FoldingLeads KeepsFolding who before after m n turn
+pub making_steps : (tree : ℕ) (who : Caller) (before after : Seen) (m n : Making) (turn : Turn CkptAnswer) (p : Part) (left : Turn ℕ)
+    → p ≡ Tree tree m → left ≡ left_turn turn → Steps making_ask MakingLeads KeepsMaking who before after m n turn
     → Steps part_ask PartLeads KeepsPart who before after p (Tree tree n) left
-folding_steps tree who before after m n turn p left e f s =
+making_steps tree who before after m n turn p left e f s =
     subst (λ (q : Part). Steps part_ask PartLeads KeepsPart who before after q (Tree tree n) left) (sym e)
     (subst (λ (l : Turn ℕ). Steps part_ask PartLeads KeepsPart who before after (Tree tree m) (Tree tree n) l) (sym f)
-    (record { answer = s.answer; made = s.made; took = folding_took tree m n s.answer turn s.took }))
+    (record { answer = s.answer; made = s.made; took = making_took tree m n s.answer turn s.took }))
 
 pub paging_steps : (tree page : ℕ) (who : Caller) (before after : Seen) (m n : Paging) (turn : Turn CkptAnswer) (p : Part) (left : Turn ℕ)
     → p ≡ Page tree page m → left ≡ left_turn turn → Steps paging_ask PagingLeads KeepsPaging who before after m n turn

@@ -1,8 +1,8 @@
 -- A settling ends.
 use Rattle.std.specs.Prelude.{ℕ, ◌+◌, ◌-◌, ◌*◌, ◌^◌, length}
 use Rattle.recover_run.specs.Bound.{calls_left as recovery_left}
-use Rattle.first_tree.specs.Folding.{calls_left as folding_left}
 use Rattle.page_ckpt.specs.Ending.{calls_left as paging_left}
+use Rattle.tree_ckpt.specs.Ending.{calls_in}
 use Rattle.settle_run.specs.declared.part.Part.{Part}
 use Rattle.settle_run.specs.declared.part.Part.TheVariants.{Client, Tree, Page}
 use Rattle.settle_run.specs.Settling.{Settling}
@@ -10,7 +10,7 @@ use Rattle.settle_run.specs.Settling.{Settling}
 -- how many calls the part at work has left at most
 abbrev pub part_left : Part → ℕ
 part_left (Client client m) = recovery_left (2 ^ 64) 255 m
-part_left (Tree tree m) = folding_left m
+part_left (Tree tree m) = calls_in m.work
 part_left (Page tree page m) = paging_left m
 
 -- how many clients and queues may come behind it, where so many pages of the tree were come to and no page is come to twice
@@ -23,6 +23,6 @@ places_left (Page tree page m) visited = (16 - tree) * (2 ^ 64 + 2) + (2 ^ 64 - 
 abbrev pub parts_left : Settling → ℕ
 parts_left s = places_left s.part (length s.visited) * (2 ^ 64 + 1) + (2 ^ 64 - length s.known)
 
--- no part makes as many calls as 2 ^ 67
+-- no part makes as many calls as 2 ^ 130
 abbrev pub calls_left : Settling → ℕ
-calls_left s = parts_left s * 2 ^ 67 + part_left s.part
+calls_left s = parts_left s * 2 ^ 130 + part_left s.part

@@ -10,7 +10,8 @@ use Rattle.cloud_trait.specs.Machine.{Next, Goes, Ends, Stops, LeadsBy, Deed, Ca
 use Rattle.recover_run.specs.declared.stage.Aim.TheVariants as aim
 use Rattle.recover_run.specs.declared.stage.RecoverAnswer.{RecoverAnswer}
 use Rattle.recover_run.specs.Recovery.{Recovery, new_recovery, recovery_ask, recovery_next, KeepsLeases as KeepsRecovery}
-use Rattle.first_tree.specs.Folding.{Folding, new_folding, folding_ask, FoldingLeads, KeepsLeases as KeepsFolding}
+use Rattle.tree_moves.specs.Work.{applying_in}
+use Rattle.tree_ckpt.specs.Making.{Making, new_making, making_ask, MakingLeads, KeepsLeases as KeepsMaking}
 use Rattle.page_ckpt.specs.Paging.{Paging, new_paging, paging_ask, PagingLeads, KeepsLeases as KeepsPaging}
 use Rattle.settle_run.specs.declared.part.Part.{Part}
 use Rattle.settle_run.specs.declared.part.Part.TheVariants.{Client, Tree, Page}
@@ -21,7 +22,7 @@ abbrev pub part_of_client : ℕ → Part
 part_of_client client = Client client (new_recovery client aim.Settling None)
 
 abbrev pub part_of_tree : ℕ → Part
-part_of_tree tree = Tree tree (new_folding tree)
+part_of_tree tree = Tree tree (new_making tree)
 
 abbrev pub part_of_page : ℕ → ℕ → Part
 part_of_page tree page = Page tree page (new_paging tree page)
@@ -37,13 +38,13 @@ part_again (Page tree page m) = part_of_page tree page
 -- the call in hand
 abbrev pub part_ask : Part → Ask
 part_ask (Client client m) = recovery_ask m
-part_ask (Tree tree m) = folding_ask m
+part_ask (Tree tree m) = making_ask m
 part_ask (Page tree page m) = paging_ask m
 
 -- the items that the put in hand of a checkpoint applies
 abbrev pub part_applying : Part → List PuItem
 part_applying (Client client m) = []
-part_applying (Tree tree m) = m.applying
+part_applying (Tree tree m) = applying_in m.work
 part_applying (Page tree page m) = m.applying
 
 -- what a checkpoint received
@@ -71,10 +72,10 @@ recovers client (Goes m) = Goes (Client client m)
 recovers client (Ends m answer) = Ends (Client client m) 0
 recovers client (Stops m t) = Stops (Client client m) t
 
-abbrev pub folds : ℕ → Next Folding CkptAnswer → Next Part ℕ
-folds tree (Goes m) = Goes (Tree tree m)
-folds tree (Ends m answer) = Ends (Tree tree m) answer.left
-folds tree (Stops m t) = Stops (Tree tree m) t
+abbrev pub makes : ℕ → Next Making CkptAnswer → Next Part ℕ
+makes tree (Goes m) = Goes (Tree tree m)
+makes tree (Ends m answer) = Ends (Tree tree m) answer.left
+makes tree (Stops m t) = Stops (Tree tree m) t
 
 abbrev pub pages : ℕ → ℕ → Next Paging CkptAnswer → Next Part ℕ
 pages tree page (Goes m) = Goes (Page tree page m)
@@ -84,18 +85,18 @@ pages tree page (Stops m t) = Stops (Page tree page m) t
 -- a part takes the step of its machine
 abbrev pub PartLeads : Part → Answer → Next Part ℕ → Type 0
 PartLeads (Client client m) a next = (n : Next Recovery RecoverAnswer) × LeadsBy recovery_next m a n × (next ≡ recovers client n)
-PartLeads (Tree tree m) a next = (n : Next Folding CkptAnswer) × FoldingLeads m a n × (next ≡ folds tree n)
+PartLeads (Tree tree m) a next = (n : Next Making CkptAnswer) × MakingLeads m a n × (next ≡ makes tree n)
 PartLeads (Page tree page m) a next = (n : Next Paging CkptAnswer) × PagingLeads m a n × (next ≡ pages tree page n)
 
 -- at want of memory it keeps its leases as its machine does
 abbrev pub KeepsPart : Part → Answer → Part → Type 0
 KeepsPart (Client client m) a (Client other n) = (other ≡ client) × KeepsRecovery m a n
-KeepsPart (Tree tree m) a (Tree other n) = (other ≡ tree) × KeepsFolding m a n
+KeepsPart (Tree tree m) a (Tree other n) = (other ≡ tree) × KeepsMaking m a n
 KeepsPart (Page tree page m) a (Page other right n) = (other ≡ tree) × (right ≡ page) × KeepsPaging m a n
 KeepsPart old a new = ⊥
 
 -- the part came here from its own first call on by these calls, the newest first
 abbrev pub PartWent : List Deed → Part → Type 0
 PartWent h (Client client m) = Came recovery_ask (LeadsBy recovery_next) (new_recovery client aim.Settling None) h m
-PartWent h (Tree tree m) = Came folding_ask FoldingLeads (new_folding tree) h m
+PartWent h (Tree tree m) = Came making_ask MakingLeads (new_making tree) h m
 PartWent h (Page tree page m) = Came paging_ask PagingLeads (new_paging tree page) h m

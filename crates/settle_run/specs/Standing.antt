@@ -1,4 +1,4 @@
--- The leases of a settling's part at work, as far as the parts tell: a page checkpoint holds what it took and did not give back.
+-- The leases of a settling's part at work, as far as the parts tell: a checkpoint holds what it took and did not give back.
 use Rattle.std.specs.Prelude.{◌≡◌, ◌≢◌, List, [], ◌++◌}
 use Rattle.db_base.specs.declared.trouble.Trouble.TheVariants as trouble
 use Rattle.cloud_trait.specs.declared.turn.Turn.{Turn}
@@ -6,19 +6,22 @@ use Rattle.cloud_trait.specs.declared.turn.Turn.TheVariants.{More, Ended, Stoppe
 use Rattle.cloud_trait.specs.Machine.{Deed}
 use Rattle.ckpt_parts.specs.Leasing.{claims_of, outstanding}
 use Rattle.page_ckpt.specs.Paging.{paging_ask}
-use Rattle.page_ckpt.specs.Standing.{Names}
+use Rattle.page_ckpt.specs.Standing.{Names as PageNames}
+use Rattle.tree_moves.specs.Work.{claims_in}
+use Rattle.tree_ckpt.specs.Making.{making_ask}
+use Rattle.tree_ckpt.specs.Standing.{Names as TreeNames}
 use Rattle.settle_run.specs.declared.part.Part.{Part}
 use Rattle.settle_run.specs.declared.part.Part.TheVariants.{Client, Tree, Page}
 use Rattle.settle_run.specs.declared.settled.Settled.{Settled}
 use Rattle.settle_run.specs.Parts.{PartWent}
 use Rattle.settle_run.specs.Settling.{Settling}
 
--- behind its calls a page checkpoint holds the leases that it took and has not given back; its call names leases that it holds, and
--- takes no lock that it holds
+-- behind its calls a checkpoint holds the leases that it took and has not given back; its call names leases that it holds, and takes no
+-- lock that it holds
 abbrev pub PartHolds : Part → List Deed → Type 0
 PartHolds (Client client m) h = Unit {0}
-PartHolds (Tree tree m) h = Unit {0}
-PartHolds (Page tree page m) h = (claims_of m.held ≡ outstanding h) × Names (paging_ask m) (outstanding h)
+PartHolds (Tree tree m) h = (claims_in m.work ≡ outstanding h) × TreeNames (making_ask m) (outstanding h)
+PartHolds (Page tree page m) h = (claims_of m.held ≡ outstanding h) × PageNames (paging_ask m) (outstanding h)
 
 -- the newest calls are all those of the part at work, and it holds so
 pub record Holds (h : List Deed) (s : Settling) : Type 0 where
@@ -28,10 +31,10 @@ pub record Holds (h : List Deed) (s : Settling) : Type 0 where
   pub went : PartWent own s.part
   pub holds : PartHolds s.part own
 
--- a page checkpoint holds no lease
+-- a checkpoint holds no lease
 abbrev pub IsFree : Part → Type 0
 IsFree (Client client m) = Unit {0}
-IsFree (Tree tree m) = Unit {0}
+IsFree (Tree tree m) = claims_in m.work ≡ []
 IsFree (Page tree page m) = claims_of m.held ≡ []
 
 -- before an end all leases were given back, and so before a stop but for want of memory

@@ -10,12 +10,12 @@ use cloud_trait::cloud::Cloud;
 use cloud_trait::turn::{CkptAnswer, Turn};
 use cloud_trait::who::Who;
 use db_base::ids::{ClientId, MsgId, PageId, TreeId};
-use first_tree::checkpoint::TreeCkpt;
 use log_codec::record::PuItem;
 use page_ckpt::PageCkpt;
 use recover_run::recover::RecoverRun;
 use recover_run::stage::{Aim, RecoverAnswer};
 use std::alloc::Global;
+use tree_ckpt::TreeCkpt;
 
 /// What a settling has at work.
 #[derive(Drop)]

@@ -49,7 +49,6 @@ use Rattle.tree_moves.specs.Work.{work_ask, one_lease, handed}
 use Rattle.tree_moves.specs.Moves.{Step, stopping, finished, released_by, deleting, deleting_by, deleted_by, went, rising_on, descending_on, root_entry, down_from, key_from_or_none, next_key, going, going_by, page_taken, folding_on, page_left, tree_taken, tree_read, tree_got, chart_of, started, intake_taken, ReceivedBy, Absorbs, Leads}
 use Rattle.tree_ckpt.specs.Ending.{most, above, unhandled, behind_key, from_on_or_none, room, a_key, puts_left, up_by, up_left, the_end, ids_in, on_the_way, calls_in, IsShortChart, IsShort}
 use Rattle.tree_ckpt.specs.Making.{Making, making_ask, MakingLeads, KeepsLeases}
-use Rattle.tree_ckpt.specs.Standing.{HoldsAt, IsPlanned}
 use Rattle.tree_ckpt.proofs.Charts.{IsFurther, GoesFurther, arrive_further, descent_further}
 use Rattle.tree_ckpt.proofs.Folds.{not_empty, GetLeaves, PutLeaves, got_leaves, put_leaves}
 use Rattle.tree_ckpt.proofs.Keys.{next_fewer, above_most}
@@ -200,9 +199,11 @@ nothing_false p some = on p.reserved p.puts some where
   on (Some bytes) puts some = refl
   on None puts some = not_empty puts some
 
-calls_at : (h : Held) (f : Folding) (b : Bool) → has_nothing f.placing ≡ b
-    → calls_in (work.Folding h f) ≡ cond b (on_the_way h f.chart (behind_key f.chart) (most + 6)) (on_the_way h f.chart (unhandled f.chart) (puts_left f.placing + 2))
-calls_at h f b e = ap (λ (n : Bool). cond n (on_the_way h f.chart (behind_key f.chart) (most + 6)) (on_the_way h f.chart (unhandled f.chart) (puts_left f.placing + 2))) e
+-- with a page to be put
+calls_at : (h : Held) (f : Folding) → 0 < length f.placing.puts → calls_in (work.Folding h f) ≡ on_the_way h f.chart (unhandled f.chart) (puts_left f.placing + 2)
+calls_at h f some =
+    ap (λ (n : Bool). cond n (on_the_way h f.chart (behind_key f.chart) (puts_left f.placing + most + 6)) (on_the_way h f.chart (unhandled f.chart) (puts_left f.placing + 2)))
+    (not_empty f.placing.puts some)
 
 below_page_taken : (h : Held) (c : Coming) (g : Result Claim Trouble) → Below (on_the_way h c.chart (behind_key c.chart) (most + 7)) (page_taken h c g)
 unfolding Below
@@ -213,7 +214,7 @@ below_got : (h : Held) (f : Folding) (next : Next Folding Left) → GetLeaves f 
     → Below (on_the_way h f.chart (behind_key f.chart) (most + 6)) (folding_on h next)
 unfolding Below
 below_got h f (Goes g) got = λ short.
-    omega (arith, calls_at h g false (nothing_false g.placing got.1), got.0.left, got.0.nodes, got.0.links, reserved_most g.placing short.1, short.0.nodes, short.0.links)
+    omega (arith, calls_at h g got.1, got.0.left, got.0.nodes, got.0.links, reserved_most g.placing short.1, short.0.nodes, short.0.links)
 below_got h f (Ends g (Right low page)) got = λ short.
     omega (arith, got.links, ap (λ (ns : List KeptNode). length ns) got.nodes, short.links, behind_same f.chart g.chart got.run got.key)
 below_got h f (Ends g Handled) got = λ short. omega (arith, got.left, got.nodes, got.links)
@@ -226,7 +227,7 @@ below_put : (h : Held) (f : Folding) (next : Next Folding Left) → PutLeaves f 
     → Below (on_the_way h f.chart (unhandled f.chart) (puts_left f.placing + 2)) (folding_on h next)
 unfolding Below
 below_put h f (Goes g) put = λ short.
-    omega (arith, calls_at h g false put.5, put.4, unhandled_same f.chart g.chart put.0 put.1, ap (λ (ns : List KeptNode). length ns) put.2, ap (λ (ls : _). length ls) put.3)
+    omega (arith, calls_at h g put.6, put.4, unhandled_same f.chart g.chart put.0 put.1, ap (λ (ns : List KeptNode). length ns) put.2, ap (λ (ls : _). length ls) put.3)
 below_put h f (Ends g (Right low page)) put = absurd put
 below_put h f (Ends g Handled) put = λ short.
     omega (arith, unhandled_same f.chart g.chart put.0 put.1, ap (λ (ns : List KeptNode). length ns) put.2, ap (λ (ls : _). length ls) put.3)
@@ -333,42 +334,65 @@ below_released None None end = below_finished 0 end
 
 -- ---- all
 
-below_folded : (h : Held) (f : Folding) (a : Answer) → IsPlanned f → Below (calls_in (work.Folding h f)) (folding_on h (fold.folding_next f a))
-below_folded h f a planned = on (has_nothing f.placing) refl where
-  on : (b : Bool) → has_nothing f.placing ≡ b
-      → Below (cond b (on_the_way h f.chart (behind_key f.chart) (most + 6)) (on_the_way h f.chart (unhandled f.chart) (puts_left f.placing + 2)))
-      (folding_on h (cond b (fold.leaf_got f (got_of a)) (fold.leaf_put f (done_of a))))
-  on true e = below_got h f (fold.leaf_got f (got_of a)) (got_leaves f (got_of a))
-  on false e = below_put h f (fold.leaf_put f (done_of a)) (put_leaves f (done_of a) (planned e))
+-- a page is put
+below_paged : (h : Held) (f : Folding) (a : Answer) → 0 < length f.placing.puts → Below (calls_in (work.Folding h f)) (folding_on h (fold.folding_next f a))
+below_paged h f a some = on (has_nothing f.placing) (nothing_false f.placing some) where
+  on : (b : Bool) → b ≡ false → Below (calls_in (work.Folding h f)) (folding_on h (cond b (fold.leaf_got f (got_of a)) (fold.leaf_put f (done_of a))))
+  on true e = absurd (cc (e))
+  on false e =
+      subst (λ (n : ℕ). Below n (folding_on h (fold.leaf_put f (done_of a)))) (sym (calls_at h f some)) (below_put h f (fold.leaf_put f (done_of a)) (put_leaves f (done_of a) some))
+
+-- a reservation behind which no page is planned: the leaf is got again
+below_reserved : (h : Held) (f : Folding) (bytes : List ℕ) (done : Result (Unit {0}) Trouble) → f.placing ≡ record { reserved = Some bytes; puts = [] }
+    → Below (on_the_way h f.chart (behind_key f.chart) (most + 7)) (folding_on h (fold.leaf_put f done))
+unfolding Below
+below_reserved h f bytes (Ok x) e = subst (λ (p : Placing). Below (on_the_way h f.chart (behind_key f.chart) (most + 7)) (folding_on h (fold.placed (record f { placing = p })))) (sym e) (λ short. omega arith)
+below_reserved h f bytes (Err t) e = λ short. omega arith
+
+below_folded : (h : Held) (f : Folding) (a : Answer) → Below (calls_in (work.Folding h f)) (folding_on h (fold.folding_next f a))
+below_folded h f a = on f.placing.reserved f.placing.puts where
+  with_placing : Option (List ℕ) → List PagePut → Folding
+  with_placing reserved puts = record f { placing = record { reserved = reserved; puts = puts } }
+
+  on : (reserved : Option (List ℕ)) (puts : List PagePut) → Below (calls_in (work.Folding h (with_placing reserved puts))) (folding_on h (fold.folding_next (with_placing reserved puts) a))
+  on None [] = below_got h (with_placing None []) (fold.leaf_got (with_placing None []) (got_of a)) (got_leaves (with_placing None []) (got_of a))
+  on (Some bytes) [] = below_reserved h (with_placing (Some bytes) []) bytes (done_of a) refl
+  on reserved (x ∷ xs) = below_paged h (with_placing reserved (x ∷ xs)) a (omega arith)
 
 below_left : (h : Held) (l : Claim) (o : Onward) → Below (calls_in (work.ReleasingPage h l o)) (page_left h o)
 unfolding Below
 below_left h l (onward.Right c) = λ short. omega arith
 below_left h l (onward.Handled c) = below_going (on_the_way h c (unhandled c) 1) h c (omega arith)
 
-below_at : (tree : ℕ) (w : Work) (a : Answer) (next : Step) → HoldsAt tree w → Fits (work_ask tree w) a → Leads tree w a next → Below (calls_in w) next
+-- the leaf's lease has left
+below_gone : (h : Held) (o : Onward) → Below (calls_in (work.LeftPage h o)) (page_left h o)
 unfolding Below
-below_at tree work.TakingTree a next own fits e = below_by _ next _ e (below_tree_taken (given_of (lock.Tree tree) a))
-below_at tree (work.GettingTree l) a next own fits e = below_by _ next _ e (below_tree_got tree l (got_of a))
-below_at tree (work.Receiving l root) a next own fits h =
+below_gone h (onward.Right c) = λ short. omega arith
+below_gone h (onward.Handled c) = below_going (on_the_way h c (unhandled c) 1) h c (omega arith)
+
+below_at : (tree : ℕ) (w : Work) (a : Answer) (next : Step) → Fits (work_ask tree w) a → Leads tree w a next → Below (calls_in w) next
+unfolding Below
+below_at tree work.TakingTree a next fits e = below_by _ next _ e (below_tree_taken (given_of (lock.Tree tree) a))
+below_at tree (work.GettingTree l) a next fits e = below_by _ next _ e (below_tree_got tree l (got_of a))
+below_at tree (work.Receiving l root) a next fits h =
     below_received tree l root (received_of a) next (λ ms e. received_most (queue.TreePu tree) 256 a ms fits e) h
-below_at tree (work.Descending k d) a next own fits e =
+below_at tree (work.Descending k d) a next fits e =
     below_by _ next _ e (below_descending _ 1 k d.chart (descent_next d a) (descent_further d a) (λ short. omega (arith, short)) (omega arith))
-below_at tree (work.TakingPage k c) a next own fits e = below_by _ next _ e (below_page_taken k c (given_of (lock.Page c.chart.tree c.page) a))
-below_at tree (work.Folding k f) a next own fits e = below_by _ next _ e (below_folded k f a own.2)
-below_at tree (work.ReleasingPage k l o) a next own fits e = below_by _ next _ e (below_left k l o)
-below_at tree (work.LeftPage k o) a next own fits e = absurd own
-below_at tree (work.Rising k r) a next own fits e =
+below_at tree (work.TakingPage k c) a next fits e = below_by _ next _ e (below_page_taken k c (given_of (lock.Page c.chart.tree c.page) a))
+below_at tree (work.Folding k f) a next fits e = below_by _ next _ e (below_folded k f a)
+below_at tree (work.ReleasingPage k l o) a next fits e = below_by _ next _ e (below_left k l o)
+below_at tree (work.LeftPage k o) a next fits e = below_by _ next _ e (below_gone k o)
+below_at tree (work.Rising k r) a next fits e =
     below_by _ next _ e (below_rising _ (up_left r) k (rise.rising_next r a) (risen_up r (done_of a)) (omega arith) (omega arith))
-below_at tree (work.Deleting k applied) a next own fits e = below_by _ next _ e (below_deleted k applied (done_of a))
-below_at tree (work.Releasing held end) a next own fits e = below_by _ next _ e (below_released held.first held.second end)
-below_at tree work.Finished a next own fits e = absurd own
+below_at tree (work.Deleting k applied) a next fits e = below_by _ next _ e (below_deleted k applied (done_of a))
+below_at tree (work.Releasing held end) a next fits e = below_by _ next _ e (below_released held.first held.second end)
+below_at tree work.Finished a next fits e = below_by _ next _ e tt
 
 -- the same of the code's step
-pub took_less : (old new : Making) (a : Answer) (turn : Turn CkptAnswer) → HoldsAt old.tree old.work → Fits (making_ask old) a → IsShort new.work
+pub took_less : (old new : Making) (a : Answer) (turn : Turn CkptAnswer) → Fits (making_ask old) a → IsShort new.work
     → Took MakingLeads KeepsLeases old a new turn → turn ≡ More → calls_in new.work < calls_in old.work
 unfolding Below
-took_less old new a turn own fits short took more =
+took_less old new a turn fits short took more =
     let At : Turn CkptAnswer → Type 0 = Took MakingLeads KeepsLeases old a new in
     let leads : MakingLeads old a (Goes new) = subst At more took in
-    below_at old.tree old.work a (Goes new.work) own fits leads.1 short
+    below_at old.tree old.work a (Goes new.work) fits leads.1 short

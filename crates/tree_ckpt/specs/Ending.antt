@@ -1,12 +1,11 @@
 -- A tree checkpoint ends: how many calls are left at most.
-use Rattle.std.specs.Prelude.{ℕ, ◌+◌, ◌-◌, ◌*◌, ◌≤◌, ◌<◌, List, [], ◌∷◌, length, Option, Some, None, if◌then◌else◌}
+use Rattle.std.specs.Prelude.{ℕ, ◌+◌, ◌-◌, ◌*◌, ◌≤◌, ◌<◌, ◌==◌, List, [], ◌∷◌, length, Option, Some, None, if◌then◌else◌}
 use Rattle.byte_format.specs.Order.{bytes_below}
 use Rattle.db_base.specs.Change.{key_of}
 use Rattle.log_codec.specs.declared.record.PuItem.{PuItem}
 use Rattle.ckpt_parts.specs.Leasing.{claims_of}
 use Rattle.tree_parts.specs.declared.chart.Chart.{Chart}
 use Rattle.tree_parts.specs.declared.placing.Placing.{Placing}
-use Rattle.tree_parts.specs.Placing.{has_nothing}
 use Rattle.tree_rising.specs.declared.rising.Rising.{Rising as Up}
 use Rattle.tree_moves.specs.declared.work.Onward.TheVariants as onward
 use Rattle.tree_moves.specs.declared.work.Held.{Held}
@@ -80,12 +79,13 @@ calls_in (Receiving l root) = the_end 256 + 5 * most + a_key * most + most + 12
 calls_in (Descending h d) = on_the_way h d.chart (behind_key d.chart) (most + 8)
 calls_in (TakingPage h c) = on_the_way h c.chart (behind_key c.chart) (most + 7)
 calls_in (Folding h f) =
-    if has_nothing f.placing
-    then on_the_way h f.chart (behind_key f.chart) (most + 6)
+    if length f.placing.puts == 0
+    then on_the_way h f.chart (behind_key f.chart) (puts_left f.placing + most + 6)
     else on_the_way h f.chart (unhandled f.chart) (puts_left f.placing + 2)
 calls_in (ReleasingPage h l (onward.Right c)) = on_the_way h c.chart (behind_key c.chart) (most + 8)
 calls_in (ReleasingPage h l (onward.Handled c)) = on_the_way h c (unhandled c) 1
-calls_in (LeftPage h o) = 0
+calls_in (LeftPage h (onward.Right c)) = on_the_way h c.chart (behind_key c.chart) (most + 8)
+calls_in (LeftPage h (onward.Handled c)) = on_the_way h c (unhandled c) 1
 calls_in (Rising h r) = ids_in h + 3 + up_left r
 calls_in (Deleting h applied) = ids_in h + 2
 calls_in (Releasing held end) = length (claims_of held)

@@ -5,6 +5,7 @@ ghost use Rattle.cloud_trait.specs.Call.{ask_of};
 ghost use Rattle.cloud_trait.specs.Weather.{Makes};
 ghost use Rattle.cloud_trait.specs.Machine.{Took, Steps, Deed};
 
+use crate::release::let_go;
 use crate::short::work_is_short;
 use ckpt_parts::ids_of;
 use cloud_trait::answer::Answer;
@@ -24,11 +25,22 @@ use tree_moves::moved::Moved;
 use tree_moves::work::Work;
 
 /// A checkpoint of a tree (the right links and the cuts after Lehman and Yao, 1981).
-#[derive(Drop)]
 pub struct TreeCkpt {
     tree: TreeId,
     received: Vec<MsgId>,
     work: Work,
+}
+
+// Written out, so that what holds a checkpoint need not look into it to let it go.
+impl Drop for TreeCkpt {
+    fn drop(self) {
+        let TreeCkpt {
+            tree: _,
+            received: _,
+            work,
+        } = self;
+        let_go(work);
+    }
 }
 
 impl Model for TreeCkpt {
@@ -111,7 +123,7 @@ impl TreeCkpt {
     fn keep(&mut self, work: Work)
         ensures { self.new ≡ with_work self.old work }
     {
-        self.work = work;
+        let_go(mem::replace(&mut self.work, work));
     }
 
     /// Makes the call in hand; a release hands its lease out.
@@ -154,7 +166,7 @@ impl TreeCkpt {
     pub fn step<C: Cloud>(&mut self, alloc: Global, cloud: &mut C, who: Who) -> Turn<CkptAnswer>
         ensures steps { Steps making_ask MakingLeads KeepsLeases who (C.seen cloud.old) (C.seen cloud.new) self.old self.new result }
         // Each step that goes on leaves fewer calls.
-        ensures less { (h : List Deed) → Went h self.old → result ≡ Turn.More → calls_in self.new.work < calls_in self.old.work }
+        ensures less { result ≡ Turn.More → calls_in self.new.work < calls_in self.old.work }
         // The leases that it holds are those that it took and has not given back.
         ensures leases { (h : List Deed) → Went h self.old → claims_in self.old.work ≡ outstanding h }
         // The call names leases that it holds, and takes no lock that it holds.

@@ -3,6 +3,7 @@
 #![tactic(auto)]
 
 mod checkpoint;
+mod release;
 mod short;
 
 pub use checkpoint::TreeCkpt;

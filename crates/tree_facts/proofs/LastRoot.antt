@@ -38,12 +38,9 @@ use Rattle.telling_facts.proofs.Names.{at2_same}
 use Rattle.telling_facts.proofs.Sound.{nodes_rise}
 use Rattle.telling_facts.specs.Pieces.{right_of}
 use Rattle.telling_facts.specs.Told.{store_of}
-use Rattle.tree_parts.specs.declared.link.Link.{Link as Found}
-use Rattle.tree_rising.specs.Root.{with_named, new_pages}
-use Rattle.tree_facts.specs.Charts.{IsRootOf, AreFound}
+use Rattle.tree_rising.specs.Root.{new_pages}
+use Rattle.tree_facts.specs.Risings.{IsRaised}
 use Rattle.tree_facts.proofs.Covering.{covers, raised_number}
-use Rattle.tree_facts.proofs.Naming.{KeepsRest, named_names, named_rest}
-use Rattle.tree_facts.proofs.Reservations.{newest_root_of, root_names}
 
 -- ---- the entries of pieces
 
@@ -64,7 +61,7 @@ entries_name (a ∷ links) e is = on (entries_name links e) (in_cases (entry_for
     on again (inr k) = in_rest a links (link_of e) (again k)
 
 module _ (book : Book) (order : List Entry) (s : CloudState) (stands : StandsUnder book order s) (tree : ℕ) (of_tree : IsTree tree) (root : Tree) (newest : top_of (roots_of s tree) ≡ root)
-    (ls : List Found) (found : AreFound (book.chain tree) ls) (version next : ℕ) (rises : root.next ≤ next) (cursor_top : List (ℕ × ℕ)) (received run : List PuItem)
+    (cursor_top : List (ℕ × ℕ)) (last : Tree) (raised_is : IsRaised (book.chain tree) root cursor_top last) (rises : root.next ≤ last.next) (received run : List PuItem)
     (is_run : IsRun root.cursor received run cursor_top) (items : (x : PuItem) → IsIn received x → IsItemOf (store_of book order s) tree 0 x)
     (applied : (x : PuItem) → IsIn run x → x.rec.number ≤ (store_of book order s).tally.done tree (key_of x.rec.change) 0 x.rec.client) where
   abbrev st : Store
@@ -73,43 +70,26 @@ module _ (book : Book) (order : List Entry) (s : CloudState) (stands : StandsUnd
   chained : IsChained (book.chain tree) (nodes_of s tree) (roots_of s tree) (st.tally.done tree) (st.tally.cursor tree 0)
   chained = stands.holds.chains tree of_tree
 
-  -- the root with the run's cursor and the links of its level
-  abbrev pub last : Tree
-  last = with_named root.level ls (record root { version = version; next = next; cursor = raised root.cursor cursor_top })
-
-  rest : KeepsRest (record root { version = version; next = next; cursor = raised root.cursor cursor_top }) last
-  rest = named_rest root.level ls (record root { version = version; next = next; cursor = raised root.cursor cursor_top })
-
   cursor_is : (client : ℕ) → number_of root.cursor client ≡ st.tally.cursor tree 0 client
   cursor_is client = ap (λ (t : Tree). number_of t.cursor client) (sym newest)
 
   pub last_covers : (t : Tree) → t.cursor ≡ last.cursor → CoversApplied st tree t
-  last_covers t same = covers st tree stands.holds.numbers root.cursor cursor_top received run is_run cursor_is items applied t (same ∙ rest.cursor)
+  last_covers t same = covers st tree stands.holds.numbers root.cursor cursor_top received run is_run cursor_is items applied t (same ∙ raised_is.cursor)
 
-  top_next : (top_of (roots_of s tree)).next ≤ next
+  top_next : (top_of (roots_of s tree)).next ≤ last.next
   top_next = let e = ap (λ (t : Tree). t.next) newest in omega (arith, e, rises)
 
   -- ---- it is not cut
 
-  last_names : NamesBelow (book.chain tree) last.level [] last.entries
-  last_names =
-      subst (λ (l : ℕ). NamesBelow (book.chain tree) l [] last.entries) (sym rest.level)
-      (named_names (book.chain tree) root.level ls (record root { version = version; next = next; cursor = raised root.cursor cursor_top }) found
-      (root_names (book.chain tree) (nodes_of s tree) (roots_of s tree) (st.tally.done tree) (st.tally.cursor tree 0) chained root
-      (subst (IsRootOf (roots_of s tree)) newest (newest_root_of (roots_of s tree)))))
-
   pub lands_root : LandsRoot st tree last
   lands_root = record {
-    level = rest.level ∙ ap (λ (t : Tree). t.level) (sym newest);
-    next = subst (λ (n : ℕ). (top_of (roots_of s tree)).next ≤ n) (sym rest.next) top_next;
-    names = last_names;
+    level = raised_is.level ∙ ap (λ (t : Tree). t.level) (sym newest);
+    next = top_next;
+    names = raised_is.names;
   }
 
   abbrev pub last_landing : (who : Caller) (bytes : List ℕ) (one : Claim) (two : Option Claim) → SpellsTree bytes last → Landing who st (PutHeld (object.Tree tree) bytes one two) (after_root tree last st)
   last_landing who bytes one two spells = puts_root tree last bytes one two of_tree spells (last_covers last refl) lands_root
-
-  pub last_version : last.version ≡ version
-  last_version = rest.version
 
   -- ---- it is cut into pieces that landed, and the root above them is one level higher
 
@@ -125,7 +105,7 @@ module _ (book : Book) (order : List Entry) (s : CloudState) (stands : StandsUnd
   raises first landed unlinked = record {
     level_is = level_is;
     height = refl;
-    next = subst (λ (n : ℕ). (top_of (roots_of s tree)).next ≤ n) (sym rest.next) top_next;
+    next = top_next;
     names = record {
       names = λ e is. entries_name (piece_links first) e (subst (λ (es : List Child). IsIn es e) (entries_are first (root_pieces first last)) is);
       first = ap first_low_of (entries_are first (root_pieces first last)) ∙ ap (λ (l : List Link). first_low_of (map entry_for l)) links_are;
@@ -141,10 +121,10 @@ module _ (book : Book) (order : List Entry) (s : CloudState) (stands : StandsUnd
   }
     where
       level_is : last.level ≡ (top_of (roots_of s tree)).level
-      level_is = rest.level ∙ ap (λ (t : Tree). t.level) (sym newest)
+      level_is = raised_is.level ∙ ap (λ (t : Tree). t.level) (sym newest)
 
       some : 0 < last.level
-      some = last_names.height
+      some = raised_is.names.height
 
       links_are : piece_links first ≡ record { low = []; page = first } ∷ links_on (first + 1) (right_of (root_pieces first last))
       links_are = cut_links entry_key (cuts_of (length last.entries)) first (first + 1) (part_of_node (node_of_root last))
@@ -157,15 +137,16 @@ module _ (book : Book) (order : List Entry) (s : CloudState) (stands : StandsUnd
 
   -- ---- then the messages that the run covers may be deleted
 
-  pub may_delete : (ids : List ℕ) → ((id : ℕ) → IsIn ids id → IsCoveredBy (number_of cursor_top) st tree 0 id) → MayDelete (after_root tree last st) tree 0 ids
-  may_delete ids covered id is =
+  pub may_delete : (new : Tree) → new.cursor ≡ last.cursor → (ids : List ℕ) → ((id : ℕ) → IsIn ids id → IsCoveredBy (number_of cursor_top) st tree 0 id)
+      → MayDelete (after_root tree new st) tree 0 ids
+  may_delete new same ids covered id is =
       let c = covered id is in
       let rises = upto c.0.client (message_client (st.tally.posts tree 0) id c.0 c.1) in
       let le = c.2 in
       (c.0, c.1, omega (arith, le, rises))
     where
-      upto : (client : ℕ) → IsClient client → number_of cursor_top client ≤ (after_root tree last st).tally.cursor tree 0 client
+      upto : (client : ℕ) → IsClient client → number_of cursor_top client ≤ (after_root tree new st).tally.cursor tree 0 client
       upto client is =
-          let now = ap (λ (f : ℕ → ℕ). f client) (at2_same tree 0 (λ c. number_of last.cursor c) st.tally.cursor tree 0 refl refl) in
-          let then_is = ap (λ (c : List (ℕ × ℕ)). number_of c client) rest.cursor ∙ raised_number root.cursor cursor_top client is in
+          let now = ap (λ (f : ℕ → ℕ). f client) (at2_same tree 0 (λ c. number_of new.cursor c) st.tally.cursor tree 0 refl refl) in
+          let then_is = ap (λ (c : List (ℕ × ℕ)). number_of c client) (same ∙ raised_is.cursor) ∙ raised_number root.cursor cursor_top client is in
           omega (arith, now, then_is)

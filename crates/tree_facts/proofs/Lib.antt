@@ -35,3 +35,7 @@ pub mod RisingSteps
 pub mod RisingOthers
 pub mod RisingEffects
 pub mod RisingReserves
+pub mod RisingPuts
+pub mod RisingLast
+pub mod RisingCalls
+pub mod RisingGuards

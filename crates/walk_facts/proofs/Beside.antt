@@ -3,13 +3,12 @@ use Rattle.std.proofs.Common.{◌≡◌, ℕ, List, Option, Result, Ok, Err, ref
 use Rattle.cloud_trait.specs.Machine.{Next, Goes, Ends, Stops}
 use Rattle.cloud_trait.specs.Views.{got_of}
 use Rattle.cloud_trait.specs.declared.answer.Answer.{Answer}
-use Rattle.db_base.specs.declared.names.ObjName.{ObjName}
 use Rattle.db_base.specs.declared.trouble.Trouble.{Trouble}
 use Rattle.page_cache.specs.Cache.{Cache, accepts}
 use Rattle.store_book.specs.Tally.{Store}
 use Rattle.tree_walk.specs.Walk.{Walk, object_of, is_leaf, goes_on, got_read, accepted_by, got_by, beside, rested, walk_ready, walk_next}
 use Rattle.walk_facts.specs.Caches.{KnowsCache}
-use Rattle.walk_facts.proofs.Caches.{MayServe, cache_accepts}
+use Rattle.walk_facts.proofs.Caches.{cache_accepts}
 use Rattle.walk_facts.proofs.Turns.{MayAnswer, left_known}
 
 -- wherever a turn leads

@@ -1,30 +1,28 @@
 -- What a cache knows: of the empty one, behind what is accepted and dropped, and while versions are appended.
-use Rattle.std.proofs.Common.{◌≡◌, ◌==◌, ◌&&◌, ◌⊎◌, inl, inr, ℕ, Bool, true, false, cond, max, List, [], ◌∷◌, take, Option, Some, None, Result, Ok, Err, refl, sym, ap, subst, ◌∙◌}
+use Rattle.std.proofs.Common.{◌≡◌, ◌==◌, ◌&&◌, inl, inr, ℕ, Bool, true, false, cond, max, List, [], ◌∷◌, Option, Some, None, Ok, Err, refl, sym, ap, subst, ◌∙◌}
 use Rattle.std.specs.Prelude.{fold}
 use Rattle.std.specs.List.{AllByRecursion}
 use Rattle.std.specs.Map.{lookup, remove_entry}
-use Rattle.std.proofs.lemmas.Bool.{and_parts, eqb-true}
+use Rattle.std.proofs.lemmas.Bool.{eqb-true}
 use Rattle.cloud_trait.specs.Growth.{BeginsWith}
 use Rattle.db_base.specs.declared.names.ObjName.{ObjName}
 use Rattle.db_base.specs.declared.names.ObjName.TheVariants as object
-use Rattle.db_base.specs.declared.trouble.Trouble.{Trouble}
 use Rattle.db_base.specs.declared.trouble.Trouble.TheVariants as trouble
 use Rattle.decoding_facts.specs.Kinds.{IsNode}
 use Rattle.decoding_facts.proofs.Reading.{leaf_only, node_reads}
 use Rattle.leaf_view.specs.Leaf.{Leaf, IsLeaf}
 use Rattle.leaf_view.specs.Lookup.{empty_leaf}
-use Rattle.node_codec.specs.Inner.{Inner, IsInner, inner_of}
-use Rattle.node_codec.specs.Tree.{Tree, IsTree as IsRootSpelled, empty_tree, tree_of}
-use Rattle.node_codec.proofs.SpellingLaws.{tree_only, inner_only}
-use Rattle.page_cache.specs.Cache.{Cache, empty_cache, kept_at, served_at, placed, dropped, accepts, accepts_no_leaf}
-use Rattle.page_cache.specs.Held.{leaf_in, leaf_at, inner_at, root_at, as_leaf, as_inner, as_root}
+use Rattle.node_codec.specs.Tree.{Tree, empty_tree}
+use Rattle.node_codec.proofs.SpellingLaws.{tree_only}
+use Rattle.page_cache.specs.Cache.{Cache, empty_cache, kept_at, served_at, placed, dropped, accepts}
+use Rattle.page_cache.specs.Held.{leaf_in, leaf_at, root_at, as_leaf, as_root}
 use Rattle.page_cache.specs.Names.{same_name}
 use Rattle.page_cache.proofs.CacheLemmas.{Outcome, never, accept_first}
 use Rattle.page_cache.proofs.EntryLemmas.{all_left, all_front}
 use Rattle.page_cache.proofs.NameLemmas.{same_name-is}
 use Rattle.store_book.specs.Growth.{Grows}
 use Rattle.store_book.specs.Records.{IsIn}
-use Rattle.store_book.specs.Tally.{Node, Leafy, Branch, Store}
+use Rattle.store_book.specs.Tally.{Node, Leafy, Store}
 use Rattle.store_book.specs.Telling.{leaf_of_bytes, node_or}
 use Rattle.store_book.proofs.Places.{in_front}
 use Rattle.walk_facts.specs.Caches.{HasLanded, KnowsCache, IsSeenRoot, IsSeenLeaf}

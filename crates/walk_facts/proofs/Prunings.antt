@@ -1,5 +1,5 @@
 -- What the objects that a walk used show to be applied: a head without such entries lacks applied ones alone.
-use Rattle.std.proofs.Common.{◌≡◌, ◌≤◌, ◌==◌, ◌&&◌, ◌⊎◌, inl, inr, ℕ, zero, suc, Bool, true, false, cond, not, List, [], ◌∷◌, Some, refl, sym, ap, subst, ◌∙◌, arith}
+use Rattle.std.proofs.Common.{◌≡◌, ◌≤◌, ◌==◌, ◌&&◌, ◌⊎◌, inl, inr, ℕ, zero, suc, Bool, true, false, cond, not, List, [], ◌∷◌, refl, sym, ap, subst, ◌∙◌, arith}
 use Rattle.std.specs.Prelude.{filter, nat_le}
 use Rattle.std.proofs.lemmas.Bool.{and_parts, eqb-true, leb-true}
 use Rattle.chain_facts.specs.Chain.{ChainHolds}
@@ -10,16 +10,16 @@ use Rattle.db_base.specs.Ids.{IsClient, IsTree}
 use Rattle.head_codec.specs.declared.head.Head.{Head}
 use Rattle.head_codec.specs.declared.lists.Pending.{Pending}
 use Rattle.leaf_view.specs.Leaf.{Leaf}
-use Rattle.leaf_view.specs.Lookup.{empty_leaf, holds, number_of as done_number}
+use Rattle.leaf_view.specs.Lookup.{holds, number_of as done_number}
 use Rattle.log_codec.specs.declared.record.AtomicRec.{AtomicRec}
-use Rattle.node_codec.specs.Tree.{Tree, empty_tree}
+use Rattle.node_codec.specs.Tree.{Tree}
 use Rattle.number_facts.specs.Numbers.{Numbers}
 use Rattle.pending_facts.specs.Pending.{IsOwn, Pends}
 use Rattle.route_plan.specs.Prune.{is_applied_in, pruned_by_leaf, is_covered_by, pruned_by_tree}
 use Rattle.route_plan.specs.Record.{pending_of}
 use Rattle.store_book.specs.Premises.{IsAppliedEntry, IsLeafAtMost}
 use Rattle.store_book.specs.Records.{IsIn}
-use Rattle.store_book.specs.Tally.{Node, Leafy, Store}
+use Rattle.store_book.specs.Tally.{Leafy, Store}
 use Rattle.walk_facts.specs.Caches.{IsSeenRoot, IsSeenLeaf}
 
 -- ---- lists without some of their elements

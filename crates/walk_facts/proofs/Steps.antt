@@ -1,8 +1,7 @@
 -- Where an object leads that a walk has in hand, by any version of it that landed: on to a page that the walk did not come to before, or to its end.
-use Rattle.std.proofs.Common.{◌≡◌, ◌≢◌, ◌-◌, ◌<◌, ◌==◌, ◌||◌, ◌⊎◌, inl, inr, ℕ, zero, suc, Bool, true, false, cond, not, List, [], ◌∷◌, ◌++◌, Option, Some, None, unwrap_or, refl, sym, ap, subst, ◌∙◌, true≢false, arith}
+use Rattle.std.proofs.Common.{◌≡◌, ◌≢◌, ◌-◌, ◌==◌, ◌||◌, ◌⊎◌, inl, inr, ℕ, zero, suc, Bool, true, false, cond, not, List, [], ◌∷◌, ◌++◌, Option, Some, None, unwrap_or, refl, sym, ap, subst, ◌∙◌, true≢false, arith}
 use Rattle.std.specs.Prelude.{slice_get}
-use Rattle.std.specs.Option.{option_map}
-use Rattle.std.proofs.lemmas.Bool.{or_cases, and_from, eqb-true, eqb-false, eq-eqb}
+use Rattle.std.proofs.lemmas.Bool.{or_cases, and_from, eqb-true, eq-eqb}
 use Rattle.std.proofs.lemmas.List.Folds.{list_any-append}
 use Rattle.byte_format.specs.Order.{bytes_below, bytes_same, below_bound}
 use Rattle.byte_format.proofs.OrderLemmas.{same_itself}
@@ -15,27 +14,24 @@ use Rattle.cloud_trait.specs.Machine.{Next, Goes, Ends, Stops}
 use Rattle.db_base.specs.Ids.{IsTree}
 use Rattle.db_base.specs.declared.names.ObjName.TheVariants as object
 use Rattle.db_base.specs.declared.trouble.Trouble.TheVariants as trouble
-use Rattle.decoding_facts.specs.Kinds.{IsNode}
 use Rattle.leaf_view.specs.Leaf.{Leaf}
-use Rattle.leaf_view.specs.Lookup.{page_at, holds, empty_leaf}
+use Rattle.leaf_view.specs.Lookup.{page_at}
 use Rattle.node_codec.specs.Inner.{Inner}
 use Rattle.node_codec.specs.Node.{Entry, child_of}
 use Rattle.node_codec.specs.Node.{page_at as node_at}
-use Rattle.node_codec.specs.Tree.{Tree, empty_tree}
-use Rattle.node_codec.proofs.SpellingLaws.{tree_only, inner_only}
-use Rattle.page_cache.specs.Cache.{Cache, kept_at}
-use Rattle.page_cache.specs.Held.{leaf_at, as_leaf, as_inner, as_root}
+use Rattle.node_codec.specs.Tree.{Tree}
+use Rattle.page_cache.specs.Cache.{Cache}
+use Rattle.page_cache.specs.Held.{leaf_at}
 use Rattle.store_book.specs.Book.{Link}
 use Rattle.store_book.specs.Premises.{IsLeafAtMost}
 use Rattle.store_book.specs.Records.{IsIn}
-use Rattle.store_book.specs.Tally.{Node, Leafy, Branch, Store, low_of, high_of}
+use Rattle.store_book.specs.Tally.{Node, Leafy, Branch, Store, high_of}
 use Rattle.store_book.specs.Tally.{right_of as node_right}
 use Rattle.tree_meaning.specs.Index.{IsRightOf}
-use Rattle.tree_walk.specs.Walk.{Spot, Walk, sought, spot_of, object_at, object_of, is_among, is_page, came_to, use_of, linked, right_of, right_to, entry_for, down_to, bad_fence, bad_level, root_read, node_left, node_passed, node_read, leaf_left, leaf_passed, leaf_read, read_at, read_from}
+use Rattle.tree_walk.specs.Walk.{Spot, Walk, sought, is_among, is_page, came_to, use_of, linked, right_of, down_to, bad_fence, bad_level, root_read, node_left, node_passed, node_read, leaf_left, leaf_passed, leaf_read}
 use Rattle.tree_walk.proofs.WalkLemmas.{entry_is}
-use Rattle.walk_facts.specs.Caches.{HasLanded, KnowsCache, IsSeenRoot, IsSeenLeaf}
+use Rattle.walk_facts.specs.Caches.{IsSeenRoot, IsSeenLeaf}
 use Rattle.walk_facts.specs.Walks.{AreBehind, IsOnWay, WasUsed, KnowsWalk, IsAtSeenLeaf}
-use Rattle.walk_facts.proofs.Caches.{kept_known, leaf_in_only}
 
 -- ---- lists of pages
 

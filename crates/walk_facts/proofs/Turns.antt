@@ -1,12 +1,10 @@
 -- Where a turn of a walk leads: through what the cache keeps, and from what a get answered.
-use Rattle.std.proofs.Common.{◌≡◌, ◌==◌, ◌&&◌, ◌⊎◌, inl, inr, ℕ, zero, suc, Bool, true, false, cond, max, List, [], ◌∷◌, Option, Some, None, Result, Ok, Err, unwrap_or, refl, sym, ap, subst, ◌∙◌}
+use Rattle.std.proofs.Common.{◌≡◌, ◌==◌, ◌&&◌, inl, inr, ℕ, zero, suc, Bool, true, false, cond, max, List, Option, Some, None, Result, Ok, Err, unwrap_or, refl, sym, ap, subst, ◌∙◌}
 use Rattle.std.specs.Prelude.{IfSome, nat_lt, fold}
 use Rattle.std.specs.Option.{option_map}
 use Rattle.std.proofs.lemmas.Bool.{eqb-true, eqb-false}
 use Rattle.chain_facts.specs.Chain.{ChainHolds}
-use Rattle.chain_facts.specs.Links.{IsOfLevel}
 use Rattle.cloud_trait.specs.Machine.{Next, Goes, Ends, Stops}
-use Rattle.db_base.specs.Ids.{IsTree}
 use Rattle.db_base.specs.declared.names.ObjName.{ObjName}
 use Rattle.db_base.specs.declared.names.ObjName.TheVariants as object
 use Rattle.db_base.specs.declared.trouble.Trouble.{Trouble}
@@ -21,16 +19,16 @@ use Rattle.node_codec.proofs.InnerLemmas.{inner_exact}
 use Rattle.node_codec.proofs.TreeLemmas.{tree_exact}
 use Rattle.node_codec.proofs.SpellingLaws.{tree_only, inner_only}
 use Rattle.page_cache.specs.Cache.{Cache, kept_at, served_at, placed, served, dropped, accepts, accepts_no_leaf, accepts_read, accepts_leaf}
-use Rattle.page_cache.specs.Held.{leaf_at, inner_at, root_at, as_leaf, as_inner, as_root}
+use Rattle.page_cache.specs.Held.{leaf_at, inner_at, as_leaf, as_inner, as_root}
 use Rattle.page_cache.specs.Spelled.{leaf_version, inner_version, root_version}
 use Rattle.page_cache.proofs.CacheLemmas.{accept_kept}
 use Rattle.page_cache.proofs.ReadingLemmas.{version_spelled}
 use Rattle.store_book.specs.Records.{IsIn}
-use Rattle.store_book.specs.Tally.{Node, Leafy, Branch, Store}
-use Rattle.tree_walk.specs.Walk.{Spot, Walk, new_walk, sought, object_at, object_of, is_leaf, is_leaf_at, is_got, is_among, root_read, node_read, leaf_read, read_at, read_from, read_kept, follow, onward, goes_through, goes_on, got_read, accepted_by, got_by, passed, left_by, beside, rested, walk_ready}
+use Rattle.store_book.specs.Tally.{Store}
+use Rattle.tree_walk.specs.Walk.{Spot, Walk, object_at, object_of, is_leaf, is_leaf_at, is_got, is_among, root_read, node_read, leaf_read, read_at, read_from, read_kept, follow, onward, goes_through, goes_on, got_read, accepted_by, got_by, passed, left_by, beside}
 use Rattle.tree_walk.proofs.Leaves.{leaf_stays}
-use Rattle.walk_facts.specs.Caches.{HasLanded, KnowsCache, IsSeenRoot}
-use Rattle.walk_facts.specs.Walks.{KnowsWalk, KnowsWalking, IsAtSeenLeaf, MayStop, WalkLeads}
+use Rattle.walk_facts.specs.Caches.{HasLanded, KnowsCache}
+use Rattle.walk_facts.specs.Walks.{KnowsWalk, IsAtSeenLeaf, MayStop, WalkLeads}
 use Rattle.walk_facts.proofs.Caches.{kept_known, leaf_in_only, cache_drops_all, MayServe, cache_accepts}
 use Rattle.walk_facts.proofs.Steps.{StepLeads, leaf_of_level, inner_of_level, version, first, root_leads, node_leads, leaf_leads}
 
@@ -68,8 +66,7 @@ module _ (st : Store) (h : ChainHolds st) (c : Cache) where
         (leaf_read here empty_leaf, ap (option_map (leaf_read here)) is, leaf_leads st h c w s k bottom empty_leaf (inl (one, refl)) is)
     as_a_leaf bottom (Some bytes) (node, spelled, there) e =
         let l = leaf_of_level s.level node bottom (version st h c w s k node there).level_is in
-        let is : leaf_at c page_name ≡ Some l.0 = ap as_leaf e ∙ leaf_in_only bytes l.0 (subst (IsNode bytes) l.1 spelled) in
-        (
+        let is : leaf_at c page_name ≡ Some l.0 = ap as_leaf e ∙ leaf_in_only bytes l.0 (subst (IsNode bytes) l.1 spelled) in (
           leaf_read here l.0,
           ap (option_map (leaf_read here)) is,
           leaf_leads st h c w s k bottom l.0 (inr (subst (IsIn (st.tally.nodes w.tree s.page)) l.1 there)) is,
@@ -79,8 +76,7 @@ module _ (st : Store) (h : ChainHolds st) (c : Cache) where
     as_a_node above None one e = absurd (above (first st h c w s k one).0)
     as_a_node above (Some bytes) (node, spelled, there) e =
         let n = inner_of_level s.level node above (version st h c w s k node there).level_is in
-        let is : inner_at c page_name ≡ Some n.0 = ap as_inner e ∙ inner_only bytes n.0 (subst (IsNode bytes) n.1 spelled) in
-        (
+        let is : inner_at c page_name ≡ Some n.0 = ap as_inner e ∙ inner_only bytes n.0 (subst (IsNode bytes) n.1 spelled) in (
           node_read here n.0,
           ap (option_map (node_read here)) is,
           node_leads st h c w s k n.0 (subst (IsIn (st.tally.nodes w.tree s.page)) n.1 there),

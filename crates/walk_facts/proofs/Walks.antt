@@ -1,5 +1,5 @@
 -- Walks over a cloud: they begin, go on and end at leaves that hold the key, and stop for no fault of the tree.
-use Rattle.std.proofs.Common.{◌≡◌, ◌⊎◌, inl, inr, ℕ, zero, Bool, true, false, not, List, [], Option, Some, None, refl, sym, ap, subst}
+use Rattle.std.proofs.Common.{◌≡◌, ℕ, zero, Bool, true, not, List, Option, Some, None, refl, sym, ap, subst}
 use Rattle.std.specs.Prelude.{slice_get}
 use Rattle.std.proofs.lemmas.Bool.{and_parts, not-true}
 use Rattle.byte_format.specs.Order.{bytes_below, below_bound}
@@ -29,7 +29,6 @@ use Rattle.report_types.specs.declared.entry.Entry.{Entry}
 use Rattle.store_book.specs.Book.{Book, Link}
 use Rattle.store_book.specs.Growth.{Grows}
 use Rattle.store_book.specs.Premises.{IsLeafAtMost}
-use Rattle.store_book.specs.Records.{IsIn}
 use Rattle.store_book.specs.Tally.{Store}
 use Rattle.telling_facts.specs.Told.{store_of}
 use Rattle.tree_walk.specs.Walk.{Spot, Walk, new_walk, sought, object_of, goes_on, got_by, beside, rested, walk_ready, walk_next}

@@ -13,9 +13,15 @@ use std::alloc::Global;
 use std::marker::Model;
 
 /// The sessions of a replay, by their numbers from 1 to 16.
-#[derive(Drop)]
 pub struct Sessions {
     list: Vec<Session>,
+}
+
+// Written out, so that what holds sessions need not look into them to let them go.
+impl Drop for Sessions {
+    fn drop(self) {
+        let Sessions { list: _ } = self;
+    }
 }
 
 impl Model for Sessions {

@@ -5,5 +5,5 @@ use Rattle.client_session.proofs.committing.commit_of.Goals as goal
 
 pub returns-in-Stopped-clause-commits : goal.returns-in-Stopped-clause-commits
 returns-in-Stopped-clause-commits c =
-    let stops = memory_stops c.args.home c.args.changes _ _ c.ready.result c.in-Stopped.trouble c.new-commit.ensures c.ready.ensures c.in-Stopped.is in
+    let stops = memory_stops c.args.home c.args.changes c.new-commit.result c.ready.new.self c.ready.result c.in-Stopped.trouble c.new-commit.ensures c.ready.ensures.means c.ready.ensures.kept c.in-Stopped.is in
     (stops.0, c.broken.ensures ∙ ap Broken stops.1)

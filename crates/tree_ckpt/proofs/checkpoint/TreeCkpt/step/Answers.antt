@@ -11,8 +11,8 @@ returns-clause-steps g c = record {
 }
 
 pub returns-clause-less : goal.returns-clause-less
-returns-clause-less g c = λ h went more.
-    took_less c.args.self.now _ c.call-answer.result _ (went_stands c.args.self.now h went).own c.call-answer.ensures.made.fits (c.absorb.ensures.short more)
+returns-clause-less g c = λ more.
+    took_less c.args.self.now _ c.call-answer.result _ c.call-answer.ensures.made.fits (c.absorb.ensures.short more)
     (took_handed c.args.self.now _ _ c.call-answer.result _ c.call-answer.ensures.left c.absorb.ensures.took) more
 
 pub returns-clause-leases : goal.returns-clause-leases

@@ -1,2 +1,0 @@
-//! Tree checkpoints: what one knows at each of its calls, and what each call leaves of a cloud and of its leases.
-#![tactic(auto)]

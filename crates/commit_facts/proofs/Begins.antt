@@ -1,10 +1,9 @@
 -- A commit begins to write.
-use Rattle.std.proofs.Common.{◌≡◌, ◌≤◌, ◌+◌, ℕ, Bool, true, false, cond, List, [], length, refl, sym, ap, subst, ◌∙◌, arith}
+use Rattle.std.proofs.Common.{◌≡◌, ◌≤◌, ℕ, Bool, true, false, cond, List, [], length, refl, sym, subst, ◌∙◌, arith}
 use Rattle.cloud_facts.specs.Acting.{KnowsHome}
 use Rattle.cloud_trait.specs.Claim.{Lasts}
-use Rattle.cloud_trait.specs.Machine.{Goes, Ends, Stops}
-use Rattle.commit_facts.specs.Committing.{MayCommit, AreLeavesFor, Attempt, attempt_of, IsOfAttempt, Routes, AreMessagesOf, KnowsTaken, KnowsNext, Reaches}
-use Rattle.commit_facts.proofs.Nexts.{Step, Known, Stands, part_next, next_homes, logs_at}
+use Rattle.commit_facts.specs.Committing.{MayCommit, AreLeavesFor, attempt_of, IsOfAttempt, Routes, KnowsTaken, KnowsNext, Reaches}
+use Rattle.commit_facts.proofs.Nexts.{Known, Stands, part_next, next_homes, logs_at}
 use Rattle.commit_writes.specs.Writing.{Writing, routed_of, passes, not_committed, begun, routing}
 use Rattle.db_base.specs.declared.trouble.Counter.TheVariants as counter
 use Rattle.db_base.specs.declared.trouble.Trouble.TheVariants as trouble
@@ -17,7 +16,6 @@ use Rattle.store_book.specs.Messages.{IsLogMessage}
 use Rattle.store_book.specs.Records.{IsIn}
 use Rattle.store_book.specs.Tally.{Store, at}
 use Rattle.store_book.proofs.Places.{in_none}
-use Rattle.txn_buffer.specs.Noted.{Noted}
 
 -- the home of a session that works on no commit
 abbrev pub KnowsHeld : Store → ℕ → Held → Part → Type 0

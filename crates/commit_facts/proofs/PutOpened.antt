@@ -1,5 +1,5 @@
 -- What the put that commits leaves.
-use Rattle.std.proofs.Common.{◌≡◌, ◌<◌, ◌⊎◌, inl, inr, ℕ, List, [], ◌∷◌, ◌++◌, map, Some, None, Ok, refl, sym, ap, subst, ◌∙◌, arith}
+use Rattle.std.proofs.Common.{◌≡◌, ◌⊎◌, inl, inr, ℕ, List, [], ◌∷◌, ◌++◌, map, Some, None, Ok, refl, sym, ap, subst, ◌∙◌, arith}
 use Rattle.std.proofs.lemmas.List.{map-append}
 use Rattle.cloud_facts.specs.Acting.{IsPruned}
 use Rattle.cloud_facts.specs.Call.{IsCall}
@@ -24,7 +24,6 @@ use Rattle.commit_writes.specs.Writing.{Writing, head_ask, restored, next_at}
 use Rattle.db_base.specs.declared.names.ObjName.TheVariants as object
 use Rattle.head_codec.specs.Spelling.{head_of}
 use Rattle.head_codec.specs.declared.head.Head.{Head}
-use Rattle.head_codec.specs.declared.head.Phase.TheVariants as phase
 use Rattle.history.specs.Audited.{committed_entry}
 use Rattle.home_facts.specs.Homes.{Home, Part, Parts, HomesHold}
 use Rattle.home_facts.proofs.HomeLemmas.{commits_keeps, keeps_part}

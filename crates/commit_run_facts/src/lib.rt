@@ -1,2 +1,3 @@
-//! A commit: what it knows of a cloud at each of its calls, what others leave of that, and what its calls rest on and leave.
+//! A commit run: what it knows of a cloud at each of its calls beside its cache, from its first walk to its last deletion, what others leave of that, and
+//! what its calls rest on and leave.
 #![tactic(auto)]

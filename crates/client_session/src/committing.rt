@@ -1,7 +1,7 @@
 ghost use Rattle.std.specs.Prelude.{◌≡◌, ◌≤◌, length};
 ghost use Rattle.commit_run.specs.Run.{home_of as home_of_run};
 ghost use Rattle.commit_run.specs.Sound.{IsSoundRun};
-ghost use Rattle.client_session.specs.Session.{CommitsNoted, CommitsOf, IsOfClient, StepsCommit, committed_work};
+ghost use Rattle.client_session.specs.Session.{CommitsNoted, CommitsOf, IsOfClient, StepsAt, StepsCommit, committed_work};
 
 use crate::answer::{Answer, Begun};
 use crate::work::Work;
@@ -49,8 +49,23 @@ fn commit_of(alloc: Global, home: Home, changes: TxnBuffer, cache: &mut PageCach
     }
 }
 
-/// Makes the call in hand of a commit.
-pub(crate) fn step_commit<C: Cloud>(
+/// Makes the call in hand of a commit, beside the cache.
+pub(crate) fn step_committing<C: Cloud>(
+    alloc: Global,
+    cloud: &mut C,
+    who: Who,
+    machine: CommitRun,
+    cache: &mut PageCache,
+) -> (Work, Turn<Answer>)
+    ensures steps { StepsAt who (C.seen cloud.old) (C.seen cloud.new) (Work.Committing machine) result.0 result.1 }
+    ensures shows { StepsCommit who (C.seen cloud.old) (C.seen cloud.new) machine cache.old cache.new result.0 result.1 }
+    ensures client { IsOfClient result.0 }
+{
+    step_commit(alloc, cloud, who, machine, cache)
+}
+
+/// The same: what is in hand then, and what it came to.
+fn step_commit<C: Cloud>(
     alloc: Global,
     cloud: &mut C,
     who: Who,

@@ -5,7 +5,7 @@ ghost use Rattle.client_session.specs.Session.{GivesHome, IsOfClient, ShowsAt, S
 
 use crate::answer::Answer;
 use crate::closing::step_close;
-use crate::committing::step_commit;
+use crate::committing::step_committing;
 use crate::folding::step_folding;
 use crate::opening::step_opening;
 use crate::paging::step_paging;
@@ -265,21 +265,36 @@ impl Work {
         ensures shows { ShowsAt who (C.seen cloud.old) (C.seen cloud.new) self cache.old cache.new result.0 result.1 result.2 }
         ensures client { IsOfClient result.0 }
     {
-        let (work, turn) = match self {
-            Work::Reading(home, read) => {
-                return step_reading(alloc, cloud, who, home, read, cache);
+        match self {
+            Work::Reading(home, read) => step_reading(alloc, cloud, who, home, read, cache),
+            Work::Opening(machine) => {
+                let (work, turn) = step_opening(alloc, cloud, who, machine);
+                (work, None, turn)
             }
-            Work::Opening(machine) => step_opening(alloc, cloud, who, machine),
-            Work::Committing(machine) => step_commit(alloc, cloud, who, machine, cache),
-            Work::Paging(home, machine) => step_paging(alloc, cloud, who, home, machine),
-            Work::Folding(home, machine) => step_folding(alloc, cloud, who, home, machine),
-            Work::Closing(lease) => step_close(cloud, who, lease),
-            Work::Renewing(home) => step_renewal(cloud, who, home),
+            Work::Committing(machine) => {
+                let (work, turn) = step_committing(alloc, cloud, who, machine, cache);
+                (work, None, turn)
+            }
+            Work::Paging(home, machine) => {
+                let (work, turn) = step_paging(alloc, cloud, who, home, machine);
+                (work, None, turn)
+            }
+            Work::Folding(home, machine) => {
+                let (work, turn) = step_folding(alloc, cloud, who, home, machine);
+                (work, None, turn)
+            }
+            Work::Closing(lease) => {
+                let (work, turn) = step_close(cloud, who, lease);
+                (work, None, turn)
+            }
+            Work::Renewing(home) => {
+                let (work, turn) = step_renewal(cloud, who, home);
+                (work, None, turn)
+            }
             Work::Closed => unreachable!(),
             Work::Idle(_) => unreachable!(),
             Work::Broken(_) => unreachable!(),
-        };
-        (work, None, turn)
+        }
     }
 }
 

@@ -52,7 +52,7 @@ goes_as who before after (Opening m) new c d read s (sound, p) shown acts =
 goes_as who before after (Committing r) new c d read s (sound, p) (q, none) acts =
     let on : RunsFor AnyAnswer r.draft.writes.changes (home_of_run r).client (Goes (q.0, d)) =
     subst (RunsFor AnyAnswer r.draft.writes.changes (home_of_run r).client) q.1.took (runs_on (r, c) q.1.answer acts.2) in
-    works_same new (Committing q.0) s q.2.0 (acts.0 ∙ ap (λ cs. Working (Noting cs)) (sym on.0), acts.1 ∙ sym on.1, on.2)
+    works_same new (Committing q.0) s q.2 (acts.0 ∙ ap (λ cs. Working (Noting cs)) (sym on.0), acts.1 ∙ sym on.1, on.2)
 goes_as who before after (Reading home m) new c d read s p shown acts =
     let same = reading_goes m shown.0 c d shown.1.answer shown.1.took in
     works_same new (Reading home shown.0) s shown.2 (acts.0 ∙ ap (λ k. Working (ReadingKey k (sought m))) (sym same.0) ∙ ap (λ k. Working (ReadingKey shown.0.tree k)) (sym same.1), acts.1)
@@ -61,7 +61,7 @@ goes_as who before after (Paging home m) new c d read s p shown acts =
     works_same new (Paging home p.0) s p.2 (acts.0 ∙ ap (λ k. Working (PagingPage k m.page)) (sym same.0) ∙ ap (λ k. Working (PagingPage p.0.tree k)) (sym same.1), acts.1)
 goes_as who before after (Folding home f) new c d read s p shown acts =
     let same : p.0.tree ≡ f.tree = p.1.took.0.0 in
-    works_same new (Folding home p.0) s p.2.0 (acts.0 ∙ ap (λ k. Working (FoldingTree k)) (sym same), acts.1)
+    works_same new (Folding home p.0) s p.2 (acts.0 ∙ ap (λ k. Working (FoldingTree k)) (sym same), acts.1)
 goes_as who before after (Closing lease) new c d read s p shown acts = absurd p
 goes_as who before after (Renewing home) new c d read s p shown acts = absurd p
 goes_as who before after Closed new c d read s p shown acts = absurd p
@@ -140,15 +140,15 @@ ends_as who before after (Opening m) new s (answer.Opened epoch) r (sound, p) is
 ends_as who before after (Opening m) new s (answer.Trouble t) r (sound, p) is acts =
     ends_shut (Opening m) new s (Working OpeningTask) r (reply.Trouble t) is.0 acts.0 refl refl p.2 acts.2
 ends_as who before after (Opening m) new s a r p is acts = absurd p.1
-ends_as who before after (Committing m) new s (answer.Commit a) r (sound, (c, (d, p))) is acts =
+ends_as who before after (Committing m) new s (answer.Commit a) r (sound, c, d, p) is acts =
     let end : RunsFor AnyAnswer m.draft.writes.changes (home_of_run m).client (Ends (p.0, d) a) =
     subst (RunsFor AnyAnswer m.draft.writes.changes (home_of_run m).client) p.1.took (runs_on (m, c) p.1.answer acts.2) in
     commit_ends s m new a (home_of_run p.0) r is acts.0 (acts.1 ∙ sym end.0) p.2
-ends_as who before after (Committing m) new s (answer.Trouble t) r (sound, (c, (d, p))) is acts =
+ends_as who before after (Committing m) new s (answer.Trouble t) r (sound, c, d, p) is acts =
     let end : RunsFor AnyAnswer m.draft.writes.changes (home_of_run m).client (Stops (p.0, d) t) =
     subst (RunsFor AnyAnswer m.draft.writes.changes (home_of_run m).client) (p.1.took.0 is.1) (runs_on (m, c) p.1.answer acts.2) in
     absurd (is.1 end)
-ends_as who before after (Committing m) new s a r (sound, (c, (d, p))) is acts = absurd p
+ends_as who before after (Committing m) new s a r (sound, c, d, p) is acts = absurd p
 ends_as who before after (Reading home m) new s answer.Value r p (inl is) acts =
     ends_idle (Reading home m) new home s (Working (ReadingKey m.tree (sought m))) r reply.NoValue is acts.0 refl refl p.1 acts.1 refl
 ends_as who before after (Reading home m) new s answer.Value r p (inr (payload, is)) acts =

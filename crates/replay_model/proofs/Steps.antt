@@ -52,10 +52,10 @@ made_call who before after (Opening m) new More p = record { ask = recovery_ask 
 made_call who before after (Opening m) new (Ended (answer.Opened epoch)) p = record { ask = recovery_ask m; answer = p.1.1.answer; hand = refl; made = p.1.1.made }
 made_call who before after (Opening m) new (Ended (answer.Trouble k)) p = record { ask = recovery_ask m; answer = p.1.1.answer; hand = refl; made = p.1.1.made }
 made_call who before after (Opening m) new turn p = absurd p.1
-made_call who before after (Committing m) new More (sound, (c, (d, p))) = record { ask = run_ask m; answer = p.1.answer; hand = refl; made = p.1.made }
-made_call who before after (Committing m) new (Ended (answer.Commit a)) (sound, (c, (d, p))) = record { ask = run_ask m; answer = p.1.answer; hand = refl; made = p.1.made }
-made_call who before after (Committing m) new (Ended (answer.Trouble k)) (sound, (c, (d, p))) = record { ask = run_ask m; answer = p.1.answer; hand = refl; made = p.1.made }
-made_call who before after (Committing m) new turn (sound, (c, (d, p))) = absurd p
+made_call who before after (Committing m) new More (sound, c, d, p) = record { ask = run_ask m; answer = p.1.answer; hand = refl; made = p.1.made }
+made_call who before after (Committing m) new (Ended (answer.Commit a)) (sound, c, d, p) = record { ask = run_ask m; answer = p.1.answer; hand = refl; made = p.1.made }
+made_call who before after (Committing m) new (Ended (answer.Trouble k)) (sound, c, d, p) = record { ask = run_ask m; answer = p.1.answer; hand = refl; made = p.1.made }
+made_call who before after (Committing m) new turn (sound, c, d, p) = absurd p
 made_call who before after (Reading home m) new More p = record { ask = walk_ask m; answer = p.1.answer; hand = refl; made = p.1.made }
 made_call who before after (Reading home m) new (Ended answer.Value) p = record { ask = walk_ask m; answer = p.0.answer; hand = refl; made = p.0.made }
 made_call who before after (Reading home m) new (Ended (answer.Trouble k)) p = record { ask = walk_ask m; answer = p.0.answer; hand = refl; made = p.0.made }
@@ -81,7 +81,7 @@ made_call who before after (Broken lease) new turn p = absurd p
 -- a step never stops: a trouble is an answer
 pub never_stops : (who : Caller) (before after : Seen) (w new : Work) (t : Trouble) → StepsAt who before after w new (Stopped t) → ⊥
 never_stops who before after (Opening m) new t p = p.1
-never_stops who before after (Committing m) new t (sound, (c, (d, p))) = p
+never_stops who before after (Committing m) new t (sound, c, d, p) = p
 never_stops who before after (Reading home m) new t p = p
 never_stops who before after (Paging home m) new t p = p
 never_stops who before after (Folding home f) new t p = p

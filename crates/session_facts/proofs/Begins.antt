@@ -224,7 +224,7 @@ module _ (book : Book) (order : List Entry) (s : CloudState) (sessions : Session
   commits_of home new (Answered answer.Value) idle none some never = absurd never
 
   begins_commit : (new : Acting) (result : Result Begun Refused) → BeginsWith (CommitsIn old) old new result → After new
-  begins_commit new result = begins_with (CommitsIn old) new result (λ home begun idle d. on home begun idle d.0 d.1.0)
+  begins_commit new result = begins_with (CommitsIn old) new result (λ home begun idle d. on home begun idle d.0 d.1)
     where
       on : (home : Home) (begun : Begun) → old.work ≡ Idle home → new.buffer ≡ [] → CommitsNoted home old.buffer old.cache new.cache new.work begun → After new
       on home begun idle none (inl nothing) =

@@ -199,7 +199,7 @@ module _ (who : Caller) (before after : Seen) (s t : CloudState) (book : Book) (
 
   steps_keep : (result : Result (Turn Answer) Refused) → new.buffer ≡ noted_behind old (sessions who.session).buffer → Shows who before after (sessions who.session) new result
       → StepsWork who before after old new.work result → Goes book order s t sessions who.session new
-  steps_keep (Ok turn) buffer shown steps = works old turn shown.0 refl steps shown.1.0 shown.1.1
+  steps_keep (Ok turn) buffer shown steps = works old turn shown.0 refl steps shown.1 shown.2
   steps_keep (Err (refused.Rule r)) buffer shown steps =
       idle_goes s t book order sessions who.session new (state_is t s (sym told_after ∙ (ap (λ (x : Seen). x.state) steps.3 ∙ told)))
       (λ i. record { buffer = (buffer ∙ stays old steps.1) i; work = steps.2 i; cache = shown.0 i; read = shown.1 i }) stand

@@ -15,6 +15,7 @@ use Rattle.cloud_trait.specs.declared.turn.Turn.{Turn}
 use Rattle.cloud_trait.specs.declared.turn.Turn.TheVariants.{More, Ended, Stopped}
 use Rattle.cloud_trait.specs.Ask.{Ask, Get, GetHeld, PutHeld, Send, Receive, Delete, Take, Renew, Release}
 use Rattle.cloud_trait.specs.Caller.{Caller}
+use Rattle.cloud_trait.specs.Claim.{Claim}
 use Rattle.cloud_trait.specs.Machine.{Goes}
 use Rattle.cloud_trait.specs.Seen.{Seen}
 use Rattle.cloud_trait.specs.State.{CloudState}
@@ -33,11 +34,13 @@ use Rattle.session_facts.proofs.Kept.{KnowsBoth, with_cache}
 use Rattle.session_facts.proofs.LeaseSteps.{IsStepOf}
 use Rattle.store_book.specs.Book.{Book}
 use Rattle.store_book.specs.Growth.{Grows}
+use Rattle.store_book.specs.Records.{IsIn}
 use Rattle.store_book.specs.Tally.{Store}
+use Rattle.store_book.proofs.Places.{in_behind}
 use Rattle.telling_facts.specs.Told.{store_of}
 use Rattle.walk_facts.specs.Caches.{KnowsCache}
 use Rattle.tree_ckpt.specs.Making.{Making, MakingLeads, making_ask}
-use Rattle.tree_ckpt_facts.specs.Checkpoint.{KnowsMaking, KnowsAfter, making_note}
+use Rattle.tree_ckpt_facts.specs.Checkpoint.{KnowsMaking, KnowsAfter, leases_of_making, making_note}
 use Rattle.tree_ckpt_facts.proofs.Hands.{making_handles, making_home_handles}
 use Rattle.tree_ckpt_facts.proofs.Steps.{making_outcome}
 
@@ -75,8 +78,12 @@ module _ (who : Caller) (before after : Seen) (book : Book) (order : List Entry)
     abbrev Known : Store → ℕ → Part → Type 0
     Known = Aside st (parts who.session) (KnowsAfter m reply)
 
+    -- its leases are among the session's
+    within : (x : Claim) → IsIn (leases_of_making m) x → IsIn (leases_of (FoldingTree home m)) x
+    within x is = in_behind (home.lease ∷ []) (leases_of_making m) x is
+
     outcome : Outcome who book order s t parts (leases_of (FoldingTree home m)) (making_ask m) note Known
-    outcome = making_outcome who s t book order parts (leases_of (FoldingTree home m)) m reply (setting call.later) knows call
+    outcome = making_outcome who s t book order parts (leases_of (FoldingTree home m)) m reply (setting call.later) within knows call
 
     home_handles : Handles who s t (making_ask m) reply (leases_of (FoldingTree home m)) (home.lease ∷ [])
     home_handles = making_home_handles who s t book order parts (leases_of (FoldingTree home m)) m reply (setting call.later) knows call home.lease home.client knows_home.lock_is

@@ -49,7 +49,7 @@ pub goes_as : (who : Caller) (before after : Seen) (w new : Work) (c d : Cache) 
 goes_as who before after (Opening m) new c d read s (sound, p) shown acts =
     let on : OpensFor m.client (Goes p.0) = subst (OpensFor m.client) p.1.took (opens_on m p.1.answer acts.3) in
     works_same new (Opening p.0) s p.2 (acts.0, acts.1 ∙ sym on.0, acts.2, on.1)
-goes_as who before after (Committing r) new c d read s (sound, p) (q, none) acts =
+goes_as who before after (Committing r) new c d read s (sound, e, f, p) (q, none) acts =
     let on : RunsFor AnyAnswer r.draft.writes.changes (home_of_run r).client (Goes (q.0, d)) =
     subst (RunsFor AnyAnswer r.draft.writes.changes (home_of_run r).client) q.1.took (runs_on (r, c) q.1.answer acts.2) in
     works_same new (Committing q.0) s q.2 (acts.0 ∙ ap (λ cs. Working (Noting cs)) (sym on.0), acts.1 ∙ sym on.1, on.2)

@@ -151,7 +151,7 @@ call_holds lines who before after x sessions new turn a b blind blind_after even
         ∙ audited_commits lines who w call.ask call.answer before.counts after.counts x after.state (audit_of h.book h.order) call.hand l h.cloud.placed h.cloud.committed
         (decodes goes.book_after goes.order_after l.after (at who.session new sessions) goes.stand)
         (ask_commits lines who w call.ask event acts
-        (λ client bytes one two is. head_put (store_of h.book h.order x) x.now w (h.stand.parts who.session) (h.stand.each who.session).work
+        (λ client bytes one two is. head_put (store_of h.book h.order x) x.now (sessions who.session).cache w (h.stand.parts who.session) (h.stand.each who.session).work
         (sound_of who before after w new.work turn p.work) client bytes one two (call.hand ∙ ap (λ a. Some a) is)))
 
     seen : blind_after ≡ false → b ≡ audit_of goes.book_after goes.order_after

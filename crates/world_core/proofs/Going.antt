@@ -48,7 +48,7 @@ after_there number Does old new c = ap (λ l. slice_get l (number - 1)) c.rest �
 -- a step that goes on leaves a call in hand
 more_asks : (who : Caller) (before after : Seen) (w new : Work) → StepsAt who before after w new More → (ask : Ask) × (ask_of_work new ≡ Some ask)
 more_asks who before after (Opening m) new p = (_, ap ask_of_work p.1.2)
-more_asks who before after (Committing m) new p = (_, ap ask_of_work p.1.2)
+more_asks who before after (Committing m) new p = (_, ap ask_of_work p.3.2)
 more_asks who before after (Reading home m) new p = (_, ap ask_of_work p.2)
 more_asks who before after (Paging home m) new p = (_, ap ask_of_work p.2)
 more_asks who before after (Folding home f) new p = (_, ap ask_of_work p.2)

@@ -1,5 +1,5 @@
 -- What is at work ends.
-use Rattle.std.proofs.Common.{◌<◌, Ok, refl, sym, subst}
+use Rattle.std.proofs.Common.{◌<◌, Ok, sym, subst}
 use Rattle.cloud_trait.specs.declared.turn.Turn.TheVariants.{More}
 use Rattle.cloud_trait.specs.Caller.{Caller}
 use Rattle.cloud_trait.specs.Seen.{Seen}

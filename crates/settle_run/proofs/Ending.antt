@@ -216,13 +216,3 @@ pub paging_less : (tree page : ℕ) (m n : Paging) (turn : Turn CkptAnswer) (p :
     → (turn ≡ More → paging_left n < paging_left m) → left ≡ More → part_left (Page tree page n) < part_left p
 paging_less tree page m n turn p left e f less is = subst (λ (q : Part). part_left (Page tree page n) < part_left q) (sym e) (less (more_left turn (sym f ∙ is)))
 
--- a checkpoint stays at its tree
-same_tree : (tree : ℕ) (h : List Deed) (m : Making) → Came making_ask MakingLeads (new_making tree) h m → m.tree ≡ tree
-same_tree tree [] m came = ap (λ (n : Making). n.tree) came
-same_tree tree (d ∷ h) m came = came.4.0.0 ∙ same_tree tree h came.0 came.1
-
--- the calls of a part that is the checkpoint of a tree are that checkpoint's
-pub tree_went : (tree : ℕ) (m : Making) (p : Part) (h : List Deed) → p ≡ Tree tree m → PartWent h p → TreeWent h m
-tree_went tree m p h e went =
-    let came : Came making_ask MakingLeads (new_making tree) h m = subst (PartWent h) e went in
-    subst (λ (t : ℕ). Came making_ask MakingLeads (new_making t) h m) (sym (same_tree tree h m came)) came

@@ -1,4 +1,4 @@
-use Rattle.settle_run.proofs.Ending.{recovery_less, making_less, tree_went, paging_less}
+use Rattle.settle_run.proofs.Ending.{recovery_less, making_less, paging_less}
 use Rattle.settle_run.proofs.Stepping.{recovery_steps, making_steps, paging_steps}
 use Rattle.settle_run.proofs.part.Part.step.Goals as goal
 
@@ -18,7 +18,7 @@ returns-in-Tree-clause-steps g c =
 pub returns-in-Tree-clause-less : goal.returns-in-Tree-clause-less
 returns-in-Tree-clause-less g c = λ h went.
     making_less c.in-Tree.field-0 c.in-Tree.machine c.step-in-Tree.new.self c.step-in-Tree.result c.args.self.now c.left_turn.result
-    c.in-Tree.is c.left_turn.ensures (c.step-in-Tree.ensures.less h (tree_went c.in-Tree.field-0 c.in-Tree.machine c.args.self.now h c.in-Tree.is went))
+    c.in-Tree.is c.left_turn.ensures c.step-in-Tree.ensures.less
 
 pub returns-in-Page-clause-steps : goal.returns-in-Page-clause-steps
 returns-in-Page-clause-steps g c =

@@ -131,7 +131,7 @@ module _ (book : Book) (order : List Entry) (s : CloudState) (sessions : Session
   pub setting_of : (now session : ℕ) → s.now ≤ now → Setting book order s now stand.parts session (leases_of (sessions session).work)
   setting_of now session later = record {
     cloud = stand.cloud;
-      homes = homes_later (store_of book order s).tally s.now now stand.parts later stand.homes;
+    homes = homes_later (store_of book order s).tally s.now now stand.parts later stand.homes;
     alone = λ l client here at lasts. alone_at now session l client later here at lasts;
   }
 
@@ -162,7 +162,7 @@ pub call_goes : (who : Caller) (s t : CloudState) (book : Book) (order : List En
     → MayCommit new.buffer → IsCall who ask reply s t → ask_of_work (sessions who.session).work ≡ Some ask
     → Handles who s t ask reply (leases_of (sessions who.session).work) (leases_of new.work)
     → Outcome who book order s t stand.parts (hands_of sessions who.session) ask (noted_at (sessions who.session).work ask)
-        (KnowsBoth new.cache new.work)
+    (KnowsBoth new.cache new.work)
     → Goes book order s t sessions who.session new
 call_goes who s t book order sessions new ask reply stand may call asks h o = record {
   book_after = o.book_after;

@@ -215,4 +215,3 @@ making_less tree m n turn p left e f less is = subst (λ (q : Part). part_left (
 pub paging_less : (tree page : ℕ) (m n : Paging) (turn : Turn CkptAnswer) (p : Part) (left : Turn ℕ) → p ≡ Page tree page m → left ≡ left_turn turn
     → (turn ≡ More → paging_left n < paging_left m) → left ≡ More → part_left (Page tree page n) < part_left p
 paging_less tree page m n turn p left e f less is = subst (λ (q : Part). part_left (Page tree page n) < part_left q) (sym e) (less (more_left turn (sym f ∙ is)))
-

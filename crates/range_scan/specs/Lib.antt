@@ -1,1 +1,3 @@
 pub mod Scan
+pub mod Ending
+pub mod Pairs

@@ -1,4 +1,5 @@
-ghost use Rattle.std.specs.Prelude.{◌≡◌, ◌≢◌, true, Some, is_some};
+ghost use Rattle.std.specs.Prelude.{◌≡◌, ◌≢◌, ◌<◌, ℕ, true, Some, is_some, IfOk};
+ghost use Rattle.page_cache.specs.Held.{leaf_at};
 ghost use Rattle.std.specs.Option.{option_copied, option_map};
 ghost use Rattle.byte_format.specs.Order.{below_bound};
 ghost use Rattle.cloud_trait.specs.Call.{ask_of};
@@ -6,6 +7,8 @@ ghost use Rattle.cloud_trait.specs.Machine.{LeadsBy, Steps};
 ghost use Rattle.tree_walk.specs.Moves.{Moves, MovesBeside};
 ghost use Rattle.tree_walk.specs.Walk.{Spot as Place};
 
+use crate::items::Items;
+use crate::sight::Sight;
 use byte_format::{is_below, is_same};
 use cloud_trait::answer::Answer;
 use cloud_trait::call::Call;
@@ -14,19 +17,20 @@ use cloud_trait::perform::perform;
 use cloud_trait::turn::Turn;
 use cloud_trait::who::Who;
 use db_base::blob::Blob;
-use db_base::ids::{PageId, TreeId};
+use db_base::ids::{ClientId, PageId, TreeId};
 use db_base::key::Key;
 use db_base::names::ObjName;
 use db_base::trouble::Trouble;
+use head_codec::head::Head;
 use leaf_view::LeafView;
 use page_cache::PageCache;
-use std::alloc::Global;
+use std::alloc::{AllocError, Global};
 use std::marker::Model;
 use tree_walk::{Spot, Walk};
+use txn_buffer::buffer::TxnBuffer;
 
 /// A scan of the keys from one on and below another: a walk to the first leaf, and then from each leaf to its right page. It ends
 /// once per leaf.
-#[derive(Drop)]
 pub struct RangeScan {
     walk: Walk,
     to: Option<Key>,
@@ -35,6 +39,19 @@ pub struct RangeScan {
     // The page to the right of the newest leaf.
     next: Option<Spot>,
     passed: Vec<PageId>,
+}
+
+// Written out, so that what holds a scan need not look into it to let it go.
+impl Drop for RangeScan {
+    fn drop(self) {
+        let RangeScan {
+            walk: _,
+            to: _,
+            spot: _,
+            next: _,
+            passed: _,
+        } = self;
+    }
 }
 
 impl Model for RangeScan {
@@ -47,6 +64,8 @@ impl Model for RangeScan {
 
 impl RangeScan {
     ghost use Rattle.range_scan.specs.Scan.{new_scan, scan_object, scan_ask, scan_asks, right_in, scan_came_to, leaf_ended, goes_on, moved_on, first_read, walked_on, right_read_in, right_read, right_got, scan_ready, scan_next, scan_beside, next_at, KeepsNothing};
+    ghost use Rattle.range_scan.specs.Ending.{calls_left};
+    ghost use Rattle.range_scan.specs.Pairs.{AreItemsIn};
 
     /// The scan of a tree from a key on, or from its left end, and below a key, or to its right end. Takes no memory.
     pub fn new(alloc: Global, tree: TreeId, from: Option<Key>, to: Option<Key>) -> RangeScan
@@ -234,8 +253,12 @@ impl RangeScan {
         cache: &mut PageCache,
     ) -> Turn<PageId>
         requires { is_some self.old.spot ≡ true }
-        ensures { Steps scan_asks (LeadsBy scan_next) KeepsNothing who (C.seen cloud.old) (C.seen cloud.new) (self.old, cache.old) (self.new, cache.new) result }
+        ensures steps { Steps scan_asks (LeadsBy scan_next) KeepsNothing who (C.seen cloud.old) (C.seen cloud.new) (self.old, cache.old) (self.new, cache.new) result }
+        ensures less { result ≡ Turn.More → calls_left self.new < calls_left self.old }
+        ensures further { (page : ℕ) → result ≡ Turn.Ended page → goes_on self.new ≡ true → calls_left (moved_on self.new) < calls_left self.old }
     {
+        // Read for the clause `further`.
+        let _ = &self.passed;
         let answer = perform(cloud, who, &self.in_hand());
         self.take_right(alloc, cache, answer.got())
     }
@@ -249,6 +272,9 @@ impl RangeScan {
         cache: &mut PageCache,
     ) -> Turn<PageId>
         ensures steps { Steps scan_asks (LeadsBy scan_next) KeepsNothing who (C.seen cloud.old) (C.seen cloud.new) (self.old, cache.old) (self.new, cache.new) result }
+        // Each call that it goes on from, in its walk or behind the leaf at which it ended, comes to one more page.
+        ensures less { result ≡ Turn.More → calls_left self.new < calls_left self.old }
+        ensures further { (page : ℕ) → result ≡ Turn.Ended page → goes_on self.new ≡ true → calls_left (moved_on self.new) < calls_left self.old }
     {
         if self.spot.is_some() {
             return self.step_right(alloc, cloud, who, cache);
@@ -270,6 +296,45 @@ impl RangeScan {
             self.spot = self.next.take();
         }
         is_wanted
+    }
+
+    /// The key below which the scan stops.
+    fn to(&self) -> Option<&[u8]>
+        ensures { option_copied result ≡ self.now.to }
+    {
+        match &self.to {
+            Some(to) => Some(to.as_slice()),
+            None => None,
+        }
+    }
+
+    /// The pairs of the leaf at which the scan ended as its client sees them, from the scan's first key on and below its last one, in
+    /// key order, the client's own changes included; none where the cache does not keep the leaf. It is a list that borrows keys and
+    /// payloads where they lie, not an iterator over its sources: own keys come between those of the leaf, and a map orders them once.
+    /// Fails for memory alone.
+    pub fn items<'a>(
+        &'a self,
+        alloc: Global,
+        cache: &'a PageCache,
+        client: ClientId,
+        head: &'a Head,
+        buffer: &'a TxnBuffer,
+    ) -> Result<Items<'a>, AllocError>
+        ensures { IfOk result (λ items. AreItemsIn (leaf_at cache.now (scan_object self.now)) self.now client head.now buffer.now items) }
+    {
+        let Some(leaf) = cache.leaf(self.object()) else {
+            return Ok(Items::none(alloc));
+        };
+        let sight = Sight {
+            leaf,
+            tree: self.walk.tree(),
+            from: self.walk.sought(),
+            to: self.to(),
+            client,
+            head,
+            buffer,
+        };
+        Items::of(alloc, &sight)
     }
 
     /// The high key of the leaf at which the scan ended, at which a new scan goes on; none at the right end. Takes no memory.

@@ -1,6 +1,5 @@
 -- What a call of a settling leaves, whatever it was answered and whether it landed or not.
-use Rattle.std.proofs.Common.{◌≡◌, ◌≤◌, ℕ, List, ◌++◌, Option, None, refl, sym, ap, subst, ◌∙◌}
-use Rattle.std.specs.Prelude.{map}
+use Rattle.std.proofs.Common.{◌≡◌, ℕ, List, Option, None, refl, sym, ap, subst, ◌∙◌}
 use Rattle.std.proofs.lemmas.List.{append-nil}
 use Rattle.cloud_facts.specs.Acting.{Setting, Outcome, Aside}
 use Rattle.cloud_facts.specs.Call.{IsCall}
@@ -9,17 +8,16 @@ use Rattle.cloud_trait.specs.declared.answer.Answer.{Answer}
 use Rattle.cloud_trait.specs.declared.turn.CkptAnswer.{CkptAnswer}
 use Rattle.cloud_trait.specs.Ask.{Ask, Get, GetHeld, PutHeld, Send, Receive, Delete, Take, Renew, Release}
 use Rattle.cloud_trait.specs.Caller.{Caller}
-use Rattle.cloud_trait.specs.Claim.{Claim}
 use Rattle.cloud_trait.specs.Machine.{Next, Goes, Ends, Stops}
 use Rattle.cloud_trait.specs.State.{CloudState}
 use Rattle.cloud_trait.specs.Weather.{Fits}
 use Rattle.db_base.specs.Ids.{IsClient, IsTree, IsPage}
 use Rattle.db_base.specs.declared.names.ObjName.TheVariants as object
-use Rattle.history.specs.Audited.{Audited, applied_entry}
+use Rattle.history.specs.Audited.{Audited}
 use Rattle.home_facts.specs.Homes.{Part, Parts, Away}
 use Rattle.opening_facts.specs.Opening.{leases_of_recovery, KnowsEnd, KnowsNext as KnowsOpened}
 use Rattle.opening_facts.proofs.Outcomes.{opening_outcome}
-use Rattle.page_ckpt.specs.Paging.{Paging, Step as PageStep, PagingLeads, paging_ask}
+use Rattle.page_ckpt.specs.Paging.{Paging, Step as PageStep, paging_ask}
 use Rattle.page_facts.specs.Checkpoint.{KnowsAfter as KnowsPaged, KnowsNext as KnowsPagingNext, leases_of_paging, paging_note}
 use Rattle.page_facts.proofs.Steps.{paging_outcome}
 use Rattle.recover_run.specs.declared.home.Home.{Home}
@@ -28,8 +26,8 @@ use Rattle.recover_run.specs.Recovery.{Recovery, Step as RecoveryStep, recovery_
 use Rattle.report_types.specs.declared.entry.Entry.{Entry}
 use Rattle.settle_run.specs.declared.part.Part.{Part as AtWork}
 use Rattle.settle_run.specs.declared.part.Part.TheVariants.{Client, Tree, Page}
-use Rattle.settle_run.specs.Parts.{part_ask, part_applying, recovers, makes, pages, PartLeads}
-use Rattle.settle_run.specs.Settling.{Settling, Step, settle_ask, moved, SettleLeads}
+use Rattle.settle_run.specs.Parts.{part_ask, recovers, makes, pages}
+use Rattle.settle_run.specs.Settling.{Settling, settle_ask}
 use Rattle.settle_facts.specs.Settling.{KnowsAtWork, KnowsSettling, IsSoundAtWork, IsSoundSettling, KnowsNext, KnowsAfter, leases_at_work, leases_of_settling, note_at_work, settling_note}
 use Rattle.settle_facts.proofs.Pagings.{Keeps as KeepsPage, paging_keeps}
 use Rattle.settle_facts.proofs.Passing.{KnowsMoved, KnowsBehind, moved_knows}

@@ -26,9 +26,9 @@ use Rattle.recover_run.specs.Recovery.{Recovery, Step as RecoveryStep, recovery_
 use Rattle.report_types.specs.declared.entry.Entry.{Entry}
 use Rattle.settle_run.specs.declared.part.Part.{Part as AtWork}
 use Rattle.settle_run.specs.declared.part.Part.TheVariants.{Client, Tree, Page}
-use Rattle.settle_run.specs.Parts.{part_ask, recovers, makes, pages}
+use Rattle.settle_run.specs.Parts.{part_ask, IsSoundPart, recovers, makes, pages}
 use Rattle.settle_run.specs.Settling.{Settling, settle_ask}
-use Rattle.settle_facts.specs.Settling.{KnowsAtWork, KnowsSettling, IsSoundAtWork, IsSoundSettling, KnowsNext, KnowsAfter, leases_at_work, leases_of_settling, note_at_work, settling_note}
+use Rattle.settle_facts.specs.Settling.{KnowsAtWork, KnowsSettling, KnowsNext, KnowsAfter, leases_at_work, leases_of_settling, note_at_work, settling_note}
 use Rattle.settle_facts.proofs.Pagings.{Keeps as KeepsPage, paging_keeps}
 use Rattle.settle_facts.proofs.Passing.{KnowsMoved, KnowsBehind, moved_knows}
 use Rattle.settle_facts.proofs.Recoveries.{Keeps as KeepsClient, recovery_keeps}
@@ -123,7 +123,7 @@ module _ (who : Caller) (s t : CloudState) (book : Book) (order : List Entry) (p
   abbrev Leaves : AtWork → (Audited → Audited) → Type 0
   Leaves w note = Outcome who book order s t parts (leases_at_work w) (part_ask w) note (KnowsBehind w reply)
 
-  work_outcome : (w : AtWork) → Setting book order s t.now parts who.session (leases_at_work w) → KnowsAtWork (store_of book order s) s.now w (parts who.session) → IsSoundAtWork w
+  work_outcome : (w : AtWork) → Setting book order s t.now parts who.session (leases_at_work w) → KnowsAtWork (store_of book order s) s.now w (parts who.session) → IsSoundPart w
       → IsCall who (part_ask w) reply s t → Fits (part_ask w) reply → Leaves w (note_at_work w (part_ask w))
   work_outcome (Client client m) setting k sound call fits =
       let later = at_work_later (store_of book order s) s.now t.now (Client client m) (parts who.session) call.later k in
@@ -146,7 +146,7 @@ module _ (who : Caller) (s t : CloudState) (book : Book) (order : List Entry) (p
 
 -- a call of a settling
 pub settling_outcome : (who : Caller) (s t : CloudState) (book : Book) (order : List Entry) (parts : Parts) (m : Settling) (reply : Answer)
-    → Setting book order s t.now parts who.session (leases_of_settling m) → KnowsSettling (store_of book order s) s.now m (parts who.session) → IsSoundSettling m
+    → Setting book order s t.now parts who.session (leases_of_settling m) → KnowsSettling (store_of book order s) s.now m (parts who.session) → IsSoundPart m.part
     → IsCall who (settle_ask m) reply s t → Fits (settle_ask m) reply
     → Outcome who book order s t parts (leases_of_settling m) (settle_ask m) (settling_note m (settle_ask m)) (KnowsAfter m reply)
 settling_outcome who s t book order parts m reply setting k sound call fits =

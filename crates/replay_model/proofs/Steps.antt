@@ -14,15 +14,20 @@ use Rattle.cloud_trait.specs.State.{CloudState, called, newest}
 use Rattle.cloud_trait.specs.Weather.{Makes, Leaves}
 use Rattle.cloud_trait.proofs.RowLemmas.{row_by, leaves_upto}
 use Rattle.history.specs.Audited.{Audited}
+use Rattle.page_cache.specs.Cache.{Cache}
+use Rattle.recover_run.specs.declared.home.Home.{Home}
 use Rattle.recover_run.specs.Recovery.{recovery_ask}
 use Rattle.commit_run.specs.Run.{run_ask}
 use Rattle.tree_ckpt.specs.Making.{making_ask}
 use Rattle.page_ckpt.specs.Paging.{paging_ask}
 use Rattle.client_session.specs.declared.answer.Answer.{Answer}
 use Rattle.client_session.specs.declared.answer.Answer.TheVariants as answer
+use Rattle.client_session.specs.declared.listing.Listing.{Listing}
+use Rattle.client_session.specs.declared.shown.Shown.{Shown}
 use Rattle.client_session.specs.declared.work.Work.{Work}
-use Rattle.client_session.specs.declared.work.Work.TheVariants.{Closed, Idle, Opening, Committing, Reading, Paging, Folding, Closing, Renewing, Broken}
-use Rattle.client_session.specs.Session.{Acting, StepsSession, StepsAt, ask_of_work}
+use Rattle.client_session.specs.declared.work.Work.TheVariants.{Closed, Idle, Opening, Committing, Reading, Scanning, Paging, Folding, Closing, Renewing, Settling, Broken}
+use Rattle.client_session.specs.Session.{Acting, Follows, StepsSession, StepsAt, ask_of_work}
+use Rattle.txn_buffer.specs.Noted.{Noted}
 use Rattle.replay_meaning.specs.Standing.{Line, standing}
 use Rattle.replay_meaning.specs.Committed.{committed}
 use Rattle.store_book.specs.Records.{entries_of}
@@ -37,6 +42,8 @@ use Rattle.session_facts.proofs.Laws.{rest_keeps, decodes}
 use Rattle.replay_model.specs.Facts.{IsPlaced, WorksAs, CloudHolds}
 use Rattle.replay_model.proofs.Commits.{ask_commits, audited_commits}
 use Rattle.replay_model.proofs.CommittedLemmas.{placed_effect, placed_called}
+use Rattle.range_scan.specs.Scan.{scan_ask}
+use Rattle.settle_run.specs.Settling.{settle_ask}
 use Rattle.tree_walk.specs.Walk.{walk_ask}
 use Rattle.replay_model.proofs.OrderLemmas.{reported_more}
 
@@ -60,6 +67,7 @@ made_call who before after (Reading home m) new More p = record { ask = walk_ask
 made_call who before after (Reading home m) new (Ended answer.Value) p = record { ask = walk_ask m; answer = p.0.answer; hand = refl; made = p.0.made }
 made_call who before after (Reading home m) new (Ended (answer.Trouble k)) p = record { ask = walk_ask m; answer = p.0.answer; hand = refl; made = p.0.made }
 made_call who before after (Reading home m) new turn p = absurd p
+made_call who before after (Scanning home m) new turn (buffer, c, d, shown, p) = record { ask = scan_ask m.scan; answer = p.steps.answer; hand = refl; made = p.steps.made }
 made_call who before after (Paging home m) new More p = record { ask = paging_ask m; answer = p.1.answer; hand = refl; made = p.1.made }
 made_call who before after (Paging home m) new (Ended (answer.Done n)) p = record { ask = paging_ask m; answer = p.1.answer; hand = refl; made = p.1.made }
 made_call who before after (Paging home m) new (Ended (answer.Trouble k)) p = record { ask = paging_ask m; answer = p.1.answer; hand = refl; made = p.1.made }
@@ -74,19 +82,31 @@ made_call who before after (Closing lease) new turn p = absurd p
 made_call who before after (Renewing home) new (Ended (answer.Renewed end)) p = record { ask = Renew home.lease 600; answer = p.1.answer; hand = refl; made = p.1.made }
 made_call who before after (Renewing home) new (Ended (answer.Trouble k)) p = record { ask = Renew home.lease 600; answer = p.1.answer; hand = refl; made = p.1.made }
 made_call who before after (Renewing home) new turn p = absurd p
+made_call who before after (Settling m) new More p = record { ask = settle_ask m; answer = p.1.answer; hand = refl; made = p.1.made }
+made_call who before after (Settling m) new (Ended (answer.Settled n)) p = record { ask = settle_ask m; answer = p.1.answer; hand = refl; made = p.1.made }
+made_call who before after (Settling m) new (Ended (answer.Trouble k)) p = record { ask = settle_ask m; answer = p.1.answer; hand = refl; made = p.1.made }
+made_call who before after (Settling m) new turn p = absurd p
 made_call who before after Closed new turn p = absurd p
 made_call who before after (Idle home) new turn p = absurd p
 made_call who before after (Broken lease) new turn p = absurd p
+
+-- a step of a scan never stops
+scan_goes_on : (home : Home) (buffer : List Noted) (m : Listing) (c : Cache) (moved : Turn ℕ) (new : Work) (shown : Shown) (t : Trouble) → Follows home buffer m c moved new shown (Stopped t) → ⊥
+scan_goes_on home buffer m c More new shown t f = cc (f.2)
+scan_goes_on home buffer m c (Ended page) new shown t f = f
+scan_goes_on home buffer m c (Stopped k) new shown t f = cc (f.2)
 
 -- a step never stops: a trouble is an answer
 pub never_stops : (who : Caller) (before after : Seen) (w new : Work) (t : Trouble) → StepsAt who before after w new (Stopped t) → ⊥
 never_stops who before after (Opening m) new t p = p.1
 never_stops who before after (Committing m) new t (sound, c, d, p) = p
 never_stops who before after (Reading home m) new t p = p
+never_stops who before after (Scanning home m) new t (buffer, c, d, shown, p) = scan_goes_on home buffer (record { scan = p.scan; pairs = m.pairs }) d p.moved new shown t p.follows
 never_stops who before after (Paging home m) new t p = p
 never_stops who before after (Folding home f) new t p = p
 never_stops who before after (Closing lease) new t p = p
 never_stops who before after (Renewing home) new t p = p
+never_stops who before after (Settling m) new t p = p
 never_stops who before after Closed new t p = p
 never_stops who before after (Idle home) new t p = p
 never_stops who before after (Broken lease) new t p = p
@@ -96,10 +116,12 @@ sound_of : (who : Caller) (before after : Seen) (w new : Work) (turn : Turn Answ
 sound_of who before after (Opening m) new turn p = p.0
 sound_of who before after (Committing m) new turn p = p.0
 sound_of who before after (Reading home m) new turn p = tt
+sound_of who before after (Scanning home m) new turn p = tt
 sound_of who before after (Paging home m) new turn p = tt
 sound_of who before after (Folding home f) new turn p = tt
 sound_of who before after (Closing lease) new turn p = tt
 sound_of who before after (Renewing home) new turn p = tt
+sound_of who before after (Settling m) new turn p = tt
 sound_of who before after Closed new turn p = absurd p
 sound_of who before after (Idle home) new turn p = absurd p
 sound_of who before after (Broken lease) new turn p = absurd p

@@ -50,8 +50,8 @@ use Rattle.tree_ckpt.specs.Making.{Making, new_making, making_ask, MakingLeads, 
 use Rattle.settle_run.specs.declared.settled.Settled.{Settled}
 use Rattle.settle_run.specs.Ending.{calls_left as settling_left}
 use Rattle.settle_run.specs.Meaning.{Went, Meant}
-use Rattle.settle_run.specs.Parts.{part_applying}
-use Rattle.settle_run.specs.Settling.{Settling as SettlingState, new_settling, settle_ask, IsSoundSettling, SettleLeads, KeepsSettling}
+use Rattle.settle_run.specs.Parts.{part_applying, IsSoundPart}
+use Rattle.settle_run.specs.Settling.{Settling as SettlingState, new_settling, settle_ask, SettleLeads, KeepsSettling}
 use Rattle.client_session.specs.declared.listing.Listing.{Listing}
 use Rattle.client_session.specs.declared.shown.Shown.{Shown}
 use Rattle.client_session.specs.declared.shown.Shown.TheVariants.{Nothing, Read, Listed}
@@ -436,7 +436,7 @@ StepsAt who before after (Paging home m) work turn = StepsPaging home who before
 StepsAt who before after (Folding home m) work turn = StepsFolding home who before after m work turn
 StepsAt who before after (Closing lease) work turn = StepsClosing lease who before after work turn
 StepsAt who before after (Renewing home) work turn = StepsRenewing home who before after work turn
-StepsAt who before after (Settling m) work turn = IsSoundSettling m × StepsSettling who before after m work turn
+StepsAt who before after (Settling m) work turn = IsSoundPart m.part × StepsSettling who before after m work turn
 StepsAt who before after Closed work turn = ⊥
 StepsAt who before after (Idle home) work turn = ⊥
 StepsAt who before after (Broken lease) work turn = ⊥

@@ -1,5 +1,5 @@
 ghost use Rattle.client_session.specs.Session.{IsOfClient, IsSettling, StepsSettling};
-ghost use Rattle.settle_run.specs.Settling.{IsSoundSettling};
+ghost use Rattle.settle_run.specs.Parts.{IsSoundPart};
 
 use crate::answer::Answer;
 use crate::work::{Work, drop_settling};
@@ -17,7 +17,7 @@ pub(crate) fn step_settling<C: Cloud>(
     mut machine: SettleRun,
 ) -> (Work, Turn<Answer>)
     requires { IsSettling machine }
-    ensures sound { IsSoundSettling machine }
+    ensures sound { IsSoundPart machine.part }
     ensures steps { StepsSettling who (C.seen cloud.old) (C.seen cloud.new) machine result.0 result.1 }
     ensures client { IsOfClient result.0 }
 {

@@ -10,7 +10,7 @@ use Rattle.head_codec.specs.declared.head.Head.{Head}
 use Rattle.head_codec.specs.declared.head.Phase.TheVariants as phase
 use Rattle.recover_run.specs.Recovery.{IsSound as IsSoundOpening}
 use Rattle.settle_facts.specs.Puts.{IsAtClient}
-use Rattle.settle_run.specs.Settling.{IsSoundSettling}
+use Rattle.settle_run.specs.Parts.{IsSoundPart}
 use Rattle.txn_buffer.specs.Noted.{Noted}
 
 -- what is at work has the bytes in hand that it is to put or send
@@ -25,7 +25,7 @@ IsSoundWork Closed = Unit {0}
 IsSoundWork (Idle home) = Unit {0}
 IsSoundWork (Closing l) = Unit {0}
 IsSoundWork (Renewing home) = Unit {0}
-IsSoundWork (Settling m) = IsSoundSettling m
+IsSoundWork (Settling m) = IsSoundPart m.part
 IsSoundWork (Broken l) = Unit {0}
 
 -- it is at work for a client

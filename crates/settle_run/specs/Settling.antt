@@ -12,7 +12,7 @@ use Rattle.recover_run.specs.Ids.{new_ids}
 use Rattle.settle_run.specs.declared.part.Part.{Part}
 use Rattle.settle_run.specs.declared.part.Part.TheVariants.{Client, Tree, Page}
 use Rattle.settle_run.specs.declared.settled.Settled.{Settled}
-use Rattle.settle_run.specs.Parts.{part_of_client, part_of_tree, part_of_page, part_again, part_ask, part_received, IsSoundPart, PartLeads, KeepsPart}
+use Rattle.settle_run.specs.Parts.{part_of_client, part_of_tree, part_of_page, part_again, part_ask, part_received, PartLeads, KeepsPart}
 
 -- where a settling stands: the part at work; the ids that checkpoints received from the queue at work; the pages of the tree at work whose
 -- own checkpoints began; and how many calls it made
@@ -28,10 +28,6 @@ new_settling = record { part = part_of_client 1; known = []; visited = []; calls
 
 abbrev pub settle_ask : Settling → Ask
 settle_ask s = part_ask s.part
-
--- its part at work has the bytes in hand that it is to put or send
-abbrev pub IsSoundSettling : Settling → Type 0
-IsSoundSettling s = IsSoundPart s.part
 
 -- ---- what comes next
 

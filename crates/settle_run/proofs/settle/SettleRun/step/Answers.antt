@@ -3,7 +3,7 @@ use Rattle.cloud_trait.specs.declared.turn.Turn.TheVariants.{More}
 use Rattle.cloud_trait.specs.Machine.{Deed, Steps}
 use Rattle.settle_run.specs.Ending.{calls_left}
 use Rattle.settle_run.specs.Meaning.{Went, Meant, Causes}
-use Rattle.settle_run.specs.Settling.{Settling, settle_ask, IsSoundSettling, SettleLeads, KeepsSettling}
+use Rattle.settle_run.specs.Settling.{Settling, settle_ask, SettleLeads, KeepsSettling}
 use Rattle.settle_run.specs.Standing.{GivesBack}
 use Rattle.settle_run.specs.contracts.settle.SettleRun.{the_view}
 use Rattle.settle_run.proofs.Causing.{took_tells}
@@ -24,9 +24,6 @@ returns-clause-steps g c =
       made = s.made;
       took = followed (the_view c.self.inside) c.follow-next.new.self c.step-turn.new.self s.answer c.step-turn.result c.follow-next.result s.took c.follow-next.ensures;
     })
-
-pub returns-clause-sound : goal.returns-clause-sound
-returns-clause-sound g c = subst IsSoundSettling c.self.view_is c.step-turn.ensures.sound
 
 pub returns-clause-less : goal.returns-clause-less
 returns-clause-less g c =

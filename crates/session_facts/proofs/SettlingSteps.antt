@@ -1,5 +1,5 @@
 -- One step of a session's settling.
-use Rattle.std.proofs.Common.{◌≡◌, ◌≤◌, ℕ, List, [], Some, refl, sym, subst}
+use Rattle.std.proofs.Common.{◌≡◌, ◌≤◌, List, Some, refl, sym, subst}
 use Rattle.client_session.specs.Session.{StepsSettling}
 use Rattle.client_session.specs.declared.answer.Answer.{Answer}
 use Rattle.client_session.specs.declared.answer.Answer.TheVariants as answer
@@ -20,7 +20,7 @@ use Rattle.cloud_trait.specs.State.{CloudState}
 use Rattle.cloud_trait.specs.Weather.{Makes}
 use Rattle.db_base.specs.declared.names.ObjName.TheVariants as object
 use Rattle.history.specs.Audited.{Audited}
-use Rattle.home_facts.specs.Homes.{Part, Away, Parts}
+use Rattle.home_facts.specs.Homes.{Parts}
 use Rattle.page_cache.specs.Cache.{Cache}
 use Rattle.report_types.specs.declared.entry.Entry.{Entry}
 use Rattle.session_facts.specs.Noting.{noted_at}
@@ -33,7 +33,6 @@ use Rattle.settle_facts.proofs.Steps.{settling_outcome}
 use Rattle.settle_run.specs.Parts.{IsSoundPart}
 use Rattle.settle_run.specs.Settling.{Settling, SettleLeads, settle_ask}
 use Rattle.store_book.specs.Book.{Book}
-use Rattle.store_book.specs.Tally.{Store}
 use Rattle.telling_facts.specs.Told.{store_of}
 use Rattle.walk_facts.specs.Caches.{KnowsCache}
 

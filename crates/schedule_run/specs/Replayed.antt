@@ -1,29 +1,22 @@
--- What a replay reads, writes and leaves, line by line.
+-- What a replay writes and leaves, line by line.
 use Rattle.std.specs.Prelude.{ℕ, ◌≡◌, ◌+◌, ◌≤◌, ◌⊎◌, List, [], ◌∷◌, ◌++◌, length, take, slice_get, Some, Result, Ok, Err}
-use Rattle.std.specs.Fmt.{decimal}
 use Rattle.cloud_trait.specs.State.{CloudState, IsEmptyCloud}
 use Rattle.cloud_trait.specs.Seen.{Seen}
-use Rattle.cloud_trait.specs.Upto.{upto}
-use Rattle.db_io.specs.Content.{Told, Takes, Adds, AddsPrefix}
+use Rattle.db_io.specs.Content.{Told, Adds, AddsPrefix}
 use Rattle.event_text.specs.declared.event.Event.{Event}
 use Rattle.event_text.specs.Event.{IsEvent}
-use Rattle.line_io.specs.Input.{AreAll}
 use Rattle.line_io.specs.Lines.{lines_of}
-use Rattle.line_io.specs.declared.input.TheConstants.{MAX_INPUT}
 use Rattle.reply_text.specs.declared.reply.Reply.{Reply}
-use Rattle.reply_text.specs.Reply.{reply_text}
 use Rattle.replay_meaning.specs.Standing.{Line}
-use Rattle.replay_meaning.specs.Right.{ReportIsRight}
 use Rattle.world_core.specs.declared.world.World.{World}
 use Rattle.world_core.specs.declared.world.WorldFault.{WorldFault}
 use Rattle.world_core.specs.declared.world.WorldFault.TheVariants as world
 use Rattle.world_core.specs.Handled.{Handled}
 use Rattle.world_core.specs.Stands.{WorldStands, StandsOn}
-use Rattle.s3db.specs.declared.replay.LineFault.{LineFault}
-use Rattle.s3db.specs.declared.replay.LineFault.TheVariants.{BadLine, WriteFault, Memory}
-use Rattle.s3db.specs.declared.status.Status.{Status}
-use Rattle.s3db.specs.declared.status.Status.TheVariants as status
-use Rattle.s3db.specs.Answered.{WentOn, AreAnswered, IsUnanswered}
+use Rattle.schedule_run.specs.declared.replay.LineFault.{LineFault}
+use Rattle.schedule_run.specs.declared.replay.LineFault.TheVariants.{BadLine, WriteFault, Memory}
+use Rattle.schedule_run.specs.Answered.{WentOn, AreAnswered, IsUnanswered, ReportsAreRight, KeepsTheTheorem}
+use Rattle.schedule_run.specs.Written.{NothingRan, reply_line, bad_line, replies}
 
 -- each text spells the event of its line
 abbrev pub AreSpelled : List (List ℕ) → List Line → Type 0
@@ -31,30 +24,6 @@ AreSpelled [] [] = Unit {0}
 AreSpelled [] (line ∷ lines) = ⊥
 AreSpelled (text ∷ texts) [] = ⊥
 AreSpelled (text ∷ texts) (line ∷ lines) = IsEvent text line.event × AreSpelled texts lines
-
--- a reply as it is written: the number of its line, a space, its text, a line feed
-abbrev pub reply_line : ℕ → Reply → List ℕ
-reply_line n reply = decimal n ++ 32 ∷ reply_text reply ++ 10 ∷ []
-
--- the replies to lines in order, the first under this number
-abbrev pub replies_from : ℕ → List Line → List ℕ
-replies_from n [] = []
-replies_from n (line ∷ lines) = reply_line n line.reply ++ replies_from (n + 1) lines
-
-abbrev pub replies : List Line → List ℕ
-replies lines = replies_from 1 lines
-
--- what is written of a line that is in no grammar: `bad line`, a space, the number of the line, a line feed
-abbrev pub bad_line : ℕ → List ℕ
-bad_line n = 98 ∷ 97 ∷ 100 ∷ 32 ∷ 108 ∷ 105 ∷ 110 ∷ 101 ∷ 32 ∷ decimal n ++ 10 ∷ []
-
--- every report is right for the lines up to its own and the state up to its line
-abbrev pub ReportsAreRight : List Line → CloudState → Type 0
-ReportsAreRight lines t = (k : ℕ) (line : Line) → slice_get lines k ≡ Some line → ReportIsRight (take (k + 1) lines) (upto t (k + 1)) line.reply
-
--- over a cloud that was empty and told its state, every report of these lines is right for the state in which they left it
-abbrev pub KeepsTheTheorem : List Line → Seen → Seen → Type 0
-KeepsTheTheorem lines start now = (t : CloudState) → start.state ≡ Some t → IsEmptyCloud t → (u : CloudState) × (now.state ≡ Some u) × ReportsAreRight lines u
 
 -- ---- how the lines ended
 
@@ -161,37 +130,17 @@ pub data LineWent (result : Result (Unit {0}) LineFault) (n : ℕ) (text : List 
   refused : ((event : Event) → IsEvent text event → ⊥) → now ≡ start → LineRefused result n written now_written → LineWent result n text written now_written start now old new
   unread : result ≡ Err Memory → now ≡ start → now_written ≡ written → LineWent result n text written now_written start now old new
 
--- ---- a run
+-- ---- a whole text
 
--- the source was read to its end, which is no longer than an input, and handled line by line up to this end
-pub record ReadAndWent (ended : Result (Unit {0}) LineFault) (left rest written now_written : Told) (start now : Seen) : Type 0 where
-  pub bytes : List ℕ
-  pub taken : Takes left rest bytes
-  pub all : AreAll left bytes
-  pub within : length bytes ≤ MAX_INPUT
-  pub went : WentThrough bytes ended written now_written start now
+-- a line of the text spells no event
+pub record HasBadLine (text : List ℕ) : Type 0 where
+  pub earlier : List (List ℕ)
+  pub line : List ℕ
+  pub later : List (List ℕ)
+  pub at : lines_of text ≡ earlier ++ line ∷ later
+  pub bad : (event : Event) → IsEvent line event → ⊥
 
--- nothing was written, and no call was made
-pub record NothingRan (written now_written : Told) (start now : Seen) : Type 0 where
-  pub output : now_written ≡ written
-  pub seen : now ≡ start
-
--- what the lines of a text that led to this status wrote and left
-abbrev pub WentBy : Status → List ℕ → Told → Told → Seen → Seen → Type 0
-WentBy status.Done text written now_written start now = WentThrough text (Ok tt) written now_written start now
-WentBy status.BadLine text written now_written start now = WentThrough text (Err BadLine) written now_written start now
-WentBy status.WriteFault text written now_written start now = WentThrough text (Err WriteFault) written now_written start now
-WentBy status.Memory text written now_written start now = NothingRan written now_written start now ⊎ WentThrough text (Err Memory) written now_written start now
-WentBy status.BadWords text written now_written start now = ⊥
-WentBy status.ReadFault text written now_written start now = ⊥
-WentBy status.TooLong text written now_written start now = ⊥
-
--- what a run of this status read, wrote and left
-abbrev pub Ran : Status → Told → Told → Told → Told → Seen → Seen → Type 0
-Ran status.Done left rest written now_written start now = ReadAndWent (Ok tt) left rest written now_written start now
-Ran status.BadLine left rest written now_written start now = ReadAndWent (Err BadLine) left rest written now_written start now
-Ran status.WriteFault left rest written now_written start now = ReadAndWent (Err WriteFault) left rest written now_written start now
-Ran status.Memory left rest written now_written start now = NothingRan written now_written start now ⊎ ReadAndWent (Err Memory) left rest written now_written start now
-Ran status.BadWords left rest written now_written start now = NothingRan written now_written start now
-Ran status.ReadFault left rest written now_written start now = NothingRan written now_written start now
-Ran status.TooLong left rest written now_written start now = NothingRan written now_written start now
+-- a text was handled line by line up to this end; or there was no memory for a world, and nothing ran
+abbrev pub ReplayWent : Result (Unit {0}) LineFault → List ℕ → Told → Told → Seen → Seen → Type 0
+ReplayWent (Err Memory) text written now_written start now = NothingRan written now_written start now ⊎ WentThrough text (Err Memory) written now_written start now
+ReplayWent ended text written now_written start now = WentThrough text ended written now_written start now

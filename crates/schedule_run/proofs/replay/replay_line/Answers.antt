@@ -1,5 +1,5 @@
-use Rattle.s3db.specs.Replayed.{event_handled}
-use Rattle.s3db.proofs.replay.replay_line.Goals as goal
+use Rattle.schedule_run.specs.Replayed.{event_handled}
+use Rattle.schedule_run.proofs.replay.replay_line.Goals as goal
 
 -- src/replay.rt:94:1
 pub returns-in-Ok-clause-went : goal.returns-in-Ok-clause-went

@@ -1,6 +1,6 @@
 use Rattle.std.proofs.Common.{◌≤◌, length}
-use Rattle.s3db.specs.Replayed.{IsAt}
-use Rattle.s3db.proofs.replay.go_on.Given as goal
+use Rattle.schedule_run.specs.Replayed.{IsAt}
+use Rattle.schedule_run.proofs.replay.go_on.Given as goal
 
 -- the lines so far stand before the rest and were handled; the count of failed writes has not fallen
 abbrev pub invariant-loop-rest : goal.invariant-loop-rest

@@ -1,6 +1,6 @@
 use Rattle.std.proofs.Common.{arith}
-use Rattle.s3db.proofs.GoingLemmas.{at_start, at_stop, at_more, at_fault}
-use Rattle.s3db.proofs.replay.go_on.Goals as goal
+use Rattle.schedule_run.proofs.GoingLemmas.{at_start, at_stop, at_more, at_fault}
+use Rattle.schedule_run.proofs.replay.go_on.Goals as goal
 
 -- src/replay.rt:71:5
 pub loop-rest-init : goal.loop-rest-init

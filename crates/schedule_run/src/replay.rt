@@ -1,24 +1,30 @@
-ghost use Rattle.std.specs.Prelude.{◌≡◌, ℕ, ◌<◌, ◌≤◌, Err, IfOk};
+ghost use Rattle.std.specs.Prelude.{◌≡◌, ◌<◌, ◌≤◌, Err};
 ghost use Rattle.event_text.specs.declared.event.Event.{Event};
 ghost use Rattle.event_text.specs.Event.{IsEvent};
-ghost use Rattle.line_io.specs.Output.{WasWritten};
 ghost use Rattle.world_core.specs.Stands.{Grows};
-ghost use Rattle.s3db.specs.Answered.{IsNew};
-ghost use Rattle.s3db.specs.Replay.{HasBadLine, IsOfLines, status_of};
-ghost use Rattle.s3db.specs.Replayed.{reply_line, bad_line, LineWent, LineHandled, WentThrough, WentBy};
+ghost use Rattle.schedule_run.specs.Answered.{IsNew};
+ghost use Rattle.schedule_run.specs.Replayed.{HasBadLine, LineWent, LineHandled, ReplayWent, WentThrough};
 
-use crate::status::Status;
+use crate::writing::{refuse, write_reply};
 use cloud_trait::cloud::Bench;
-use db_base::blob::Blob;
-use db_base::refusal::Refused;
 use db_io::sink::Sink;
 use event_text::event::Event;
 use line_io::lines::next_line;
-use line_io::output::{OutputFault, write_text};
-use reply_text::reply::Reply;
+use line_io::output::OutputFault;
 use std::alloc::Global;
 use words::fault::TextFault;
 use world_core::world::{World, WorldFault};
+
+/// Why a line ends the run.
+#[derive(Clone, Copy, Debug, PartialEq, Eq)]
+pub enum LineFault {
+    /// It is not in the grammar. What was handled before it stands.
+    BadLine,
+    /// A write failed.
+    WriteFault,
+    /// Memory ran out.
+    Memory,
+}
 
 /// Replays the lines of an input: one reply a line, in one write each.
 pub fn replay_lines<O: Sink, C: Bench>(
@@ -26,29 +32,16 @@ pub fn replay_lines<O: Sink, C: Bench>(
     input: &[u8],
     sink: &mut O,
     cloud: &mut C,
-) -> Status
-    ensures bad_line { result ≡ Status.BadLine → HasBadLine input.now }
-    ensures write_fault { result ≡ Status.WriteFault
+) -> Result<(), LineFault>
+    ensures bad_line { result ≡ Err LineFault.BadLine → HasBadLine input.now }
+    ensures write_fault { result ≡ Err LineFault.WriteFault
         → (O.told sink.old).faults < (O.told sink.new).faults }
-    ensures only { IsOfLines result }
-    ensures went { WentBy result input.now (O.told sink.old) (O.told sink.new)
+    ensures went { ReplayWent result input.now (O.told sink.old) (O.told sink.new)
         (C.seen cloud.old) (C.seen cloud.new) }
 {
     match World::new(alloc) {
-        Ok(mut world) => status_of(go_on(alloc, &mut world, input, sink, cloud)),
-        Err(_) => Status::Memory,
-    }
-}
-
-/// The status of a run whose lines ended so.
-fn status_of(ended: Result<(), LineFault>) -> Status
-    ensures { result ≡ status_of ended }
-{
-    match ended {
-        Ok(()) => Status::Done,
-        Err(LineFault::BadLine) => Status::BadLine,
-        Err(LineFault::WriteFault) => Status::WriteFault,
-        Err(LineFault::Memory) => Status::Memory,
+        Ok(mut world) => go_on(alloc, &mut world, input, sink, cloud),
+        Err(_) => Err(LineFault::Memory),
     }
 }
 
@@ -81,14 +74,6 @@ fn go_on<O: Sink, C: Bench>(
         }
     }
     Ok(())
-}
-
-/// Why a line ends the run.
-#[derive(Clone, Copy, Debug, PartialEq, Eq)]
-pub(crate) enum LineFault {
-    BadLine,
-    WriteFault,
-    Memory,
 }
 
 /// Handles one line, and writes its reply.
@@ -145,46 +130,4 @@ fn handle<O: Sink, C: Bench>(
         },
         Err(WorldFault::Memory) => Err(LineFault::Memory),
     }
-}
-
-/// Writes that a line is in no grammar.
-fn refuse<O: Sink>(alloc: Global, sink: &mut O, n: u64) -> Result<(), OutputFault>
-    ensures { WasWritten (O.told sink.old) (O.told sink.new) (bad_line n) result }
-{
-    match format!(in alloc; "bad line {n}\n") {
-        Ok(text) => write_text(sink, text.as_bytes()),
-        Err(_) => Err(OutputFault::Memory),
-    }
-}
-
-/// Writes the reply to a line, under the line's number.
-fn write_reply<O: Sink>(
-    alloc: Global,
-    sink: &mut O,
-    n: u64,
-    reply: &Reply,
-) -> Result<(), OutputFault>
-    ensures { WasWritten (O.told sink.old) (O.told sink.new) (reply_line n reply.now) result }
-{
-    match reply_line(alloc, n, reply) {
-        Ok(text) => write_text(sink, text.as_slice()),
-        Err(_) => Err(OutputFault::Memory),
-    }
-}
-
-/// The line of a reply: the number, a space, the text, a line feed.
-fn reply_line(alloc: Global, n: u64, reply: &Reply) -> Result<Blob, Refused>
-    ensures { IfOk result (λ line. line ≡ reply_line n reply.now) }
-{
-    let text = match reply.write(alloc) {
-        Ok(text) => text,
-        Err(_) => return Err(Refused::Memory),
-    };
-    let mut number = itoa::Buffer::new();
-    let mut line = Blob::new(alloc);
-    line.add(number.format(n).as_bytes())?;
-    line.add(b" ")?;
-    line.add(text.as_slice())?;
-    line.add(b"\n")?;
-    Ok(line)
 }

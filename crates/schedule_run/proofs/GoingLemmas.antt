@@ -27,11 +27,11 @@ use Rattle.world_core.specs.declared.world.WorldFault.{WorldFault}
 use Rattle.world_core.specs.declared.world.WorldFault.TheVariants as world
 use Rattle.world_core.specs.Handled.{Handled}
 use Rattle.world_core.specs.Stands.{WorldStands, StandsOn, Grows}
-use Rattle.s3db.specs.declared.replay.LineFault.{LineFault}
-use Rattle.s3db.specs.declared.replay.LineFault.TheVariants.{BadLine, WriteFault, Memory}
-use Rattle.s3db.specs.Replay.{WasWithin}
-use Rattle.s3db.specs.Answered.{IsNew, start, further, AreAnswered}
-use Rattle.s3db.specs.Replayed.{AreSpelled, reply_line, replies_from, replies, bad_line, ReportsAreRight, KeepsTheTheorem, WroteFront, reply_cut, refusal_cut, EndedBy, between, writing, handling, Ended, WentThrough, Handles, IsAt, IsAnswered, LineWent, event_handled, refused, unread}
+use Rattle.schedule_run.specs.declared.replay.LineFault.{LineFault}
+use Rattle.schedule_run.specs.declared.replay.LineFault.TheVariants.{BadLine, WriteFault, Memory}
+use Rattle.schedule_run.specs.Answered.{IsNew, start, further, AreAnswered, ReportsAreRight, KeepsTheTheorem}
+use Rattle.schedule_run.specs.Written.{reply_line, replies_from, replies, bad_line}
+use Rattle.schedule_run.specs.Replayed.{AreSpelled, WroteFront, reply_cut, refusal_cut, EndedBy, between, writing, handling, Ended, WentThrough, Handles, IsAt, IsAnswered, LineWent, event_handled, refused, unread}
 
 -- ---- content that is written
 
@@ -76,7 +76,7 @@ get_before lines line k less =
 take_whole : (lines : List Line) (k : ℕ) → k ≡ length lines → take k lines ≡ lines
 take_whole lines k e = take_all k lines (omega arith)
 
-report_same : (lines : List Line) (s t : CloudState) (r : Reply) → ((name : ObjName) → t.versions name ≡ s.versions name) → t.trace ≡ s.trace → ReportIsRight lines s r → ReportIsRight lines t r
+pub report_same : (lines : List Line) (s t : CloudState) (r : Reply) → ((name : ObjName) → t.versions name ≡ s.versions name) → t.trace ≡ s.trace → ReportIsRight lines s r → ReportIsRight lines t r
 report_same lines s t (reply.Report r) v e right = right_same lines s t r v e right
 report_same lines s t r v e right = tt
 
@@ -108,7 +108,7 @@ reports_more lines line u v agree all so new k l at = on (cases_lt k (length lin
 -- ---- one line more
 
 -- what stood and was right stands and is right with one line more
-stands_more : (lines : List Line) (line : Line) (n : ℕ) (t z : Seen) (old new : World) → n ≡ 1 + length lines
+pub stands_more : (lines : List Line) (line : Line) (n : ℕ) (t z : Seen) (old new : World) → n ≡ 1 + length lines
     → StandsOn n line.event t z old new (Ok line.reply) → Grows n t z → (u : CloudState) → t.state ≡ Some u → WorldStands lines old u → ReportsAreRight lines u
     → (v : CloudState) × (z.state ≡ Some v) × WorldStands (lines ++ line ∷ []) new v × ReportsAreRight (lines ++ line ∷ []) v
 stands_more lines line n t z old new k on grows u told stands so =
@@ -138,7 +138,7 @@ lines_more texts text n w v u s t z first old new line count h spells a grows ad
     }
 
 -- a new world stands for no lines over an empty cloud
-fresh_stands : (world : World) (t : CloudState) → IsNew world → IsEmptyCloud t → WorldStands [] world t
+pub fresh_stands : (world : World) (t : CloudState) → IsNew world → IsEmptyCloud t → WorldStands [] world t
 fresh_stands world t fresh empty =
     subst (λ b. Stands [] (session_at world.sessions) world.audit b t) (sym fresh.sees)
     (subst (λ l. Stands [] (session_at l) world.audit false t) (sym fresh.sessions)
@@ -359,9 +359,3 @@ pub at_fault : (text rest behind line : List ℕ) (n m : ℕ) (w v u : Told) (s 
 at_fault text rest behind line n m w v u s t z first old new fault fresh is split next went grows =
     let met : IsMet text rest behind line n m w v s t z first old = record { fresh = fresh; is = is; split = split; next = next; grows = grows } in
     by_fault u new fault met went
-
--- ---- what was read
-
--- where no read was made, nothing was read
-pub reads_nothing : (source : Told) → WasWithin source source
-reads_nothing source = record { bytes = []; taken = λ all e. (all, e, refl); within = omega arith }

@@ -1,0 +1,26 @@
+use Rattle.std.proofs.Common.{◌≡◌, Some, None, sym, ◌∙◌, subst}
+use Rattle.s3db.specs.Run.{AsksToSettle, AsksForShell, HasBad, WasBad}
+use Rattle.s3db.proofs.RunLemmas.{asked_within}
+use Rattle.s3db.proofs.run.run.Goals as goal
+
+pub run_asked-requires : goal.run_asked-requires
+run_asked-requires g c = asked_within _ _ c.in-Ok.ensures
+
+pub returns-in-Ok-clause-bad_words : goal.returns-in-Ok-clause-bad_words
+returns-in-Ok-clause-bad_words g c e = absurd (c.run_asked.ensures.not_words e)
+
+pub returns-in-Ok-clause-no_shape : goal.returns-in-Ok-clause-no_shape
+returns-in-Ok-clause-no_shape g c none =
+    let clash : Some c.in-Ok.asked ≡ None = sym c.in-Ok.ensures ∙ none in absurd (cc)
+
+pub returns-in-Ok-clause-bad_line : goal.returns-in-Ok-clause-bad_line
+returns-in-Ok-clause-bad_line g c e = subst (λ s. WasBad (HasBad s) _ _) (sym c.in-Ok.ensures) (c.run_asked.ensures.bad_line e)
+
+pub returns-in-Ok-clause-not_settled : goal.returns-in-Ok-clause-not_settled
+returns-in-Ok-clause-not_settled g c e = subst AsksToSettle (sym c.in-Ok.ensures) (c.run_asked.ensures.not_settled e)
+
+pub returns-in-Ok-clause-not_opened : goal.returns-in-Ok-clause-not_opened
+returns-in-Ok-clause-not_opened g c e = subst AsksForShell (sym c.in-Ok.ensures) (c.run_asked.ensures.not_opened e)
+
+pub returns-in-Ok-clause-ran : goal.returns-in-Ok-clause-ran
+returns-in-Ok-clause-ran g c = rw c.in-Ok.ensures c.run_asked.ensures.ran

@@ -1,14 +1,19 @@
 -- Events that are handled one behind another in a new world.
-use Rattle.std.proofs.Common.{◌≡◌, ◌+◌, ℕ, List, [], ◌∷◌, ◌++◌, map, length, Ok, Err, refl, sym, ap, subst, ◌∙◌, append_assoc}
+use Rattle.std.proofs.Common.{◌≡◌, ◌+◌, ℕ, List, [], ◌∷◌, ◌++◌, map, length, Result, Ok, Err, refl, sym, ap, subst, ◌∙◌, append_assoc, arith, length-append}
 use Rattle.std.proofs.lemmas.List.{append-nil}
 use Rattle.cloud_trait.specs.Seen.{Seen}
+use Rattle.db_io.specs.Content.{Told}
 use Rattle.event_text.specs.declared.event.Event.{Event}
 use Rattle.event_text.specs.declared.event.Event.TheVariants.{Report}
+use Rattle.line_io.specs.Output.{WasWritten}
+use Rattle.line_io.specs.declared.output.OutputFault.{OutputFault}
+use Rattle.line_io.specs.declared.output.OutputFault.TheVariants.{WriteFault, Memory}
 use Rattle.reply_text.specs.declared.reply.Reply.{Reply}
 use Rattle.replay_meaning.specs.Standing.{Line}
 use Rattle.schedule_run.specs.declared.play.Play.{Play}
 use Rattle.schedule_run.specs.Play.{IsFresh, IsNext, RanOut, Played, StoppedAt}
-use Rattle.schedule_run.specs.Generated.{events_of, Handles, StopsAmong, HandlesAll, IsAmong}
+use Rattle.schedule_run.specs.Generated.{events_of, Handles, StopsAmong, HandlesAll, IsAmong, GenEnded, out_writing}
+use Rattle.schedule_run.specs.Summary.{summary}
 use Rattle.schedule_run.proofs.PlayLemmas.{played_nothing, played_more, stopped_at}
 
 events_more : (lines : List Line) (line : Line) → events_of (lines ++ line ∷ []) ≡ events_of lines ++ line.event ∷ []
@@ -88,3 +93,18 @@ handles_all events last settling report s t y z old mid new h next shown = recor
   played = played_more (h.lines ++ record { event = last; reply = settling } ∷ []) (Report 1) report s y z mid new
       (played_more h.lines last settling s t y old mid h.played next) shown;
 }
+
+-- what is written of them
+gen_ended : (events : List Event) (settling report : Reply) (w u : Told) (s t : Seen) (result : Result (Unit {0}) OutputFault)
+    → HandlesAll events settling report s t → WasWritten w u (summary (length events) settling report) result → GenEnded events result w u s t
+gen_ended events settling report w u s t (Ok done) all written = record { settling = settling; report = report; handled = all; wrote = written.0 }
+gen_ended events settling report w u s t (Err WriteFault) all written = record { settling = settling; report = report; handled = all; wrote = written.0 }
+gen_ended events settling report w u s t (Err Memory) all written =
+    out_writing (record { settling = settling; report = report; handled = all; wrote = written.0 })
+
+pub gen_written : (earlier : List Event) (last : Event) (settling report : Reply) (w u : Told) (s t : Seen) (result : Result (Unit {0}) OutputFault)
+    → HandlesAll (earlier ++ last ∷ []) settling report s t → WasWritten w u (summary (length earlier + 1) settling report) result
+    → GenEnded (earlier ++ last ∷ []) result w u s t
+gen_written earlier last settling report w u s t result all written =
+    let count : length earlier + 1 ≡ length (earlier ++ last ∷ []) = omega (arith, length-append earlier (last ∷ [])) in
+    gen_ended (earlier ++ last ∷ []) settling report w u s t result all (subst (λ n. WasWritten w u (summary n settling report) result) count written)

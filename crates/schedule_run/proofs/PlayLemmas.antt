@@ -10,6 +10,7 @@ use Rattle.db_io.specs.Content.{Told, Adds, AddsPrefix}
 use Rattle.event_text.specs.declared.event.Event.{Event}
 use Rattle.reply_text.specs.declared.reply.Reply.{Reply}
 use Rattle.replay_meaning.specs.Standing.{Line}
+use Rattle.world_core.specs.declared.world.WorldFault.{WorldFault}
 use Rattle.world_core.specs.declared.world.WorldFault.TheVariants as world
 use Rattle.world_core.specs.Handled.{Handled}
 use Rattle.world_core.specs.Stands.{Grows}
@@ -80,9 +81,9 @@ stopped_at lines event s t z old new p (no_answer handled grows) =
     (keeps_behind lines (old.handled + 1) s t z old p at grows)
 
 -- an event under the next number has no reply
-pub found_no_memory : (event : Event) (m : ℕ) (t z : Seen) (old new : Play) → m ≡ old.handled + 1 → Handled m event t z old.world new.world (Err world.Memory)
-    → Grows m t z → RanOut event t z old new
-found_no_memory event m t z old new next handled grows =
+pub found_no_memory : (event : Event) (m : ℕ) (t z : Seen) (old new : Play) (fault : WorldFault) → m ≡ old.handled + 1
+    → Handled m event t z old.world new.world (Err fault) → Grows m t z → RanOut event t z old new
+found_no_memory event m t z old new world.Memory next handled grows =
     no_answer (subst (λ j. Handled j event t z old.world new.world (Err world.Memory)) next handled) (subst (λ j. Grows j t z) next grows)
 
 -- ---- content that is written

@@ -1,5 +1,5 @@
 -- The lines of a shell, one after another.
-use Rattle.std.proofs.Common.{suc, ◌≡◌, ◌+◌, ℕ, List, [], ◌∷◌, ◌++◌, length, Result, Ok, Err, refl, sym, ap, subst, ◌∙◌, append_assoc, arith, length-append}
+use Rattle.std.proofs.Common.{suc, ◌≡◌, ◌+◌, ℕ, List, [], ◌∷◌, ◌++◌, length, Result, Ok, Err, refl, sym, ap, subst, ◌∙◌, append_assoc, inl, inr, arith, length-append}
 use Rattle.std.specs.Prelude.{true, false}
 use Rattle.std.proofs.lemmas.List.{append-nil}
 use Rattle.cloud_trait.specs.Seen.{Seen}
@@ -11,6 +11,8 @@ use Rattle.line_io.specs.Lines.{lines_of}
 use Rattle.reply_text.specs.declared.reply.Reply.{Reply}
 use Rattle.reply_text.specs.declared.reply.Reply.TheVariants.{Begun}
 use Rattle.replay_meaning.specs.Standing.{Line}
+use Rattle.words.specs.Word.{IsReadTo}
+use Rattle.words.specs.declared.fault.TextFault.TheVariants.{NotInGrammar}
 use Rattle.schedule_run.specs.declared.play.Play.{Play}
 use Rattle.schedule_run.specs.declared.shell.ShellFault.{ShellFault}
 use Rattle.schedule_run.specs.declared.shell.ShellFault.TheVariants.{NotOpened, BadLine, WriteFault, Memory}
@@ -93,6 +95,14 @@ shell_more [] [] text event s is = (is, tt)
 shell_more [] (e ∷ events) text event s is = absurd s
 shell_more (t ∷ texts) [] text event s is = absurd s
 shell_more (t ∷ texts) (e ∷ events) text event s is = (s.0, shell_more texts events text event s.1 is)
+
+-- where a reading answers that no shell's line is there, none is
+never_read : (event : Event) → IsReadTo (Err NotInGrammar) event → ⊥
+never_read event (inl e) = absurd (cc)
+never_read event (inr e) = absurd (cc)
+
+pub is_bad : (text : List ℕ) → ((event : Event) → IsShellLine text event → IsReadTo (Err NotInGrammar) event) → IsBad text
+is_bad text only event is = never_read event (only event is)
 
 -- ---- the opening
 

@@ -1,5 +1,5 @@
 -- What a run says of its words, its input and its output.
-use Rattle.std.specs.Prelude.{ℕ, ◌≡◌, ◌<◌, ◌≤◌, ◌⊎◌, List, length, Option, Some, None, Result, Ok, Err}
+use Rattle.std.specs.Prelude.{ℕ, ◌≡◌, ◌<◌, ◌≤◌, ◌⊎◌, List, length, Option, Some, None, Result}
 use Rattle.cloud_trait.specs.Seen.{Seen}
 use Rattle.command_words.specs.declared.shape.Shape.{Shape}
 use Rattle.command_words.specs.declared.shape.Shape.TheVariants.{Replay, Gen, Shell, Settle}

@@ -1,5 +1,5 @@
 -- Events that are handled one behind another in a new world.
-use Rattle.std.proofs.Common.{◌≡◌, ◌+◌, ℕ, List, [], ◌∷◌, ◌++◌, map, length, Result, Ok, Err, refl, sym, ap, subst, ◌∙◌, append_assoc, arith, length-append}
+use Rattle.std.proofs.Common.{◌≡◌, ◌+◌, List, [], ◌∷◌, ◌++◌, length, Result, Ok, Err, refl, sym, ap, subst, ◌∙◌, append_assoc, arith, length-append}
 use Rattle.std.proofs.lemmas.List.{append-nil}
 use Rattle.cloud_trait.specs.Seen.{Seen}
 use Rattle.db_io.specs.Content.{Told}
@@ -11,7 +11,7 @@ use Rattle.line_io.specs.declared.output.OutputFault.TheVariants.{WriteFault, Me
 use Rattle.reply_text.specs.declared.reply.Reply.{Reply}
 use Rattle.replay_meaning.specs.Standing.{Line}
 use Rattle.schedule_run.specs.declared.play.Play.{Play}
-use Rattle.schedule_run.specs.Play.{IsFresh, IsNext, RanOut, Played, StoppedAt}
+use Rattle.schedule_run.specs.Play.{IsFresh, IsNext, RanOut}
 use Rattle.schedule_run.specs.Generated.{events_of, Handles, StopsAmong, HandlesAll, IsAmong, GenEnded, out_writing}
 use Rattle.schedule_run.specs.Summary.{summary}
 use Rattle.schedule_run.proofs.PlayLemmas.{played_nothing, played_more, stopped_at}

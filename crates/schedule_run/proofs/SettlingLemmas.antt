@@ -1,5 +1,5 @@
 -- The end of a settling.
-use Rattle.std.proofs.Common.{◌≡◌, [], ◌∷◌, Bool, true, false, Ok, Err, if◌then◌else◌, refl}
+use Rattle.std.proofs.Common.{◌≡◌, [], Bool, true, false, Ok, Err, if◌then◌else◌, refl}
 use Rattle.cloud_trait.specs.Seen.{Seen}
 use Rattle.db_io.specs.Content.{Told}
 use Rattle.event_text.specs.declared.event.Event.TheVariants.{Settle}

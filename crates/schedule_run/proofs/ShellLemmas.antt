@@ -1,6 +1,5 @@
 -- The lines of a shell, one after another.
-use Rattle.std.proofs.Common.{suc, ◌≡◌, ◌+◌, ℕ, List, [], ◌∷◌, ◌++◌, length, Result, Ok, Err, refl, sym, ap, subst, ◌∙◌, append_assoc, inl, inr, arith, length-append}
-use Rattle.std.specs.Prelude.{true, false}
+use Rattle.std.proofs.Common.{◌≡◌, ◌+◌, ℕ, List, [], ◌∷◌, ◌++◌, length, Result, Ok, Err, refl, sym, ap, subst, ◌∙◌, append_assoc, inl, inr, arith, length-append}
 use Rattle.std.proofs.lemmas.List.{append-nil}
 use Rattle.cloud_trait.specs.Seen.{Seen}
 use Rattle.db_io.specs.Content.{Told, Adds, AddsPrefix}
@@ -18,7 +17,7 @@ use Rattle.schedule_run.specs.declared.shell.ShellFault.{ShellFault}
 use Rattle.schedule_run.specs.declared.shell.ShellFault.TheVariants.{NotOpened, BadLine, WriteFault, Memory}
 use Rattle.schedule_run.specs.Play.{IsFresh, IsRun, answered, answered_run, StopsRun, stops_event, stops_run, Played}
 use Rattle.schedule_run.specs.Written.{NothingRan, reply_line, shown_from, bad_line}
-use Rattle.schedule_run.specs.Shell.{AreShellLines, IsBad, alone, with_run, no_events, more_events, WereRun, in_event, in_run, WereStopped, is_opened, Opens, cut_opening, cut_lines, cut_closing, cut_refusal, out_before, out_writing, out_opening, out_next, ShellEnded, ShellWent, IsAt, RanOutAt, out_reply, out_event, EventRan, ended, opened_by, OpeningRan, ClosingRan, LineRefused, LineRan, event_run, refused, unread}
+use Rattle.schedule_run.specs.Shell.{AreShellLines, IsBad, alone, with_run, no_events, more_events, WereRun, in_event, in_run, WereStopped, Opens, cut_opening, cut_lines, cut_closing, cut_refusal, out_before, out_writing, out_opening, out_next, ShellEnded, ShellWent, IsAt, RanOutAt, out_reply, out_event, EventRan, ended, OpeningRan, ClosingRan, LineRefused, LineRan, event_run, refused, unread}
 use Rattle.schedule_run.proofs.GoingLemmas.{adds_more}
 use Rattle.schedule_run.proofs.PlayLemmas.{played_nothing, played_more, stopped_at, prefix_behind, prefix_whole}
 

@@ -1,5 +1,5 @@
 use Rattle.std.proofs.Common.{arith}
-use Rattle.schedule_run.proofs.ShellLemmas.{at_open, open_fault, at_stop, at_more, at_fault, at_end}
+use Rattle.schedule_run.proofs.ShellLemmas.{at_open, open_fault}
 use Rattle.schedule_run.proofs.shell.run_lines.Goals as goal
 
 pub returns-in-Err-clause-went : goal.returns-in-Err-clause-went

@@ -1,12 +1,14 @@
 -- A world that handles one event behind another.
-use Rattle.std.proofs.Common.{◌≡◌, ◌<◌, ◌+◌, ℕ, List, [], ◌∷◌, ◌++◌, length, take, Some, Ok, Err, sym, ap, subst, ◌∙◌, append_assoc, arith, length-append}
+use Rattle.std.proofs.Common.{◌≡◌, ◌<◌, ◌+◌, ℕ, List, [], ◌∷◌, ◌++◌, length, take, Some, Result, Ok, Err, sym, ap, subst, ◌∙◌, append_assoc, arith, length-append}
 use Rattle.std.proofs.lemmas.List.{append-nil}
 use Rattle.std.proofs.lemmas.Option.{slice_get_within}
 use Rattle.cloud_trait.specs.Seen.{Seen}
 use Rattle.cloud_trait.specs.Upto.{upto, AgreeUpto}
 use Rattle.db_io.specs.Content.{Told, Adds, AddsPrefix}
 use Rattle.event_text.specs.declared.event.Event.{Event}
+use Rattle.event_text.specs.declared.event.Event.TheVariants.{Run}
 use Rattle.reply_text.specs.declared.reply.Reply.{Reply}
+use Rattle.reply_text.specs.declared.reply.Reply.TheVariants.{Begun}
 use Rattle.replay_meaning.specs.Standing.{Line}
 use Rattle.world_core.specs.declared.world.WorldFault.{WorldFault}
 use Rattle.world_core.specs.declared.world.WorldFault.TheVariants as world
@@ -14,7 +16,7 @@ use Rattle.world_core.specs.Handled.{Handled}
 use Rattle.world_core.specs.Stands.{Grows}
 use Rattle.schedule_run.specs.declared.play.Play.{Play}
 use Rattle.schedule_run.specs.Answered.{start, further, KeepsTheTheorem}
-use Rattle.schedule_run.specs.Play.{IsFresh, IsNext, RanOut, uncounted, no_answer, Played, StoppedAt, stopped_before, stopped_within}
+use Rattle.schedule_run.specs.Play.{IsFresh, IsNext, RanOut, uncounted, no_answer, Takes, answered_run, stops_run, RunsWhole, Played, StoppedAt, stopped_before, stopped_within}
 use Rattle.schedule_run.proofs.GoingLemmas.{stands_more, fresh_stands, report_same}
 
 -- nothing is handled yet
@@ -83,6 +85,12 @@ pub found_no_memory : (event : Event) (m : ℕ) (t z : Seen) (old new : Play) (f
     → Handled m event t z old.world new.world (Err fault) → Grows m t z → RanOut event t z old new
 found_no_memory event m t z old new world.Memory next handled grows =
     no_answer (subst (λ j. Handled j event t z old.world new.world (Err world.Memory)) next handled) (subst (λ j. Grows j t z) next grows)
+
+-- an operation that an event began is run behind it
+pub run_behind : (event : Event) (result : Result Reply WorldFault) (s t z : Seen) (old mid new : Play) → IsNext event Begun s t old mid → Takes (Run 1) result t z mid new
+    → RunsWhole event result s z old new
+run_behind event (Ok reply) s t z old mid new begun takes = answered_run t mid begun takes
+run_behind event (Err fault) s t z old mid new begun takes = stops_run t mid begun takes
 
 -- ---- content that is written
 

@@ -1,5 +1,5 @@
 -- The lines of a shell, one after another.
-use Rattle.std.proofs.Common.{◌≡◌, ◌+◌, ℕ, List, [], ◌∷◌, ◌++◌, length, Result, Ok, Err, refl, sym, ap, subst, ◌∙◌, append_assoc, inl, inr, arith, length-append}
+use Rattle.std.proofs.Common.{◌≡◌, ◌+◌, ℕ, List, [], ◌∷◌, ◌++◌, length, Result, Ok, Err, Bool, true, false, if◌then◌else◌, refl, sym, ap, subst, ◌∙◌, append_assoc, inl, inr, arith, length-append}
 use Rattle.std.proofs.lemmas.List.{append-nil}
 use Rattle.cloud_trait.specs.Seen.{Seen}
 use Rattle.db_io.specs.Content.{Told, Adds, AddsPrefix}
@@ -7,6 +7,9 @@ use Rattle.event_text.specs.declared.event.Event.{Event}
 use Rattle.event_text.specs.declared.event.Event.TheVariants.{Open, Close, Run}
 use Rattle.event_text.specs.Event.{IsShellLine}
 use Rattle.line_io.specs.Lines.{lines_of}
+use Rattle.line_io.specs.declared.output.OutputFault.{OutputFault}
+use Rattle.line_io.specs.declared.output.OutputFault.TheVariants as output
+use Rattle.line_io.specs.Output.{WasWritten}
 use Rattle.reply_text.specs.declared.reply.Reply.{Reply}
 use Rattle.reply_text.specs.declared.reply.Reply.TheVariants.{Begun}
 use Rattle.replay_meaning.specs.Standing.{Line}
@@ -17,7 +20,7 @@ use Rattle.schedule_run.specs.declared.shell.ShellFault.{ShellFault}
 use Rattle.schedule_run.specs.declared.shell.ShellFault.TheVariants.{NotOpened, BadLine, WriteFault, Memory}
 use Rattle.schedule_run.specs.Play.{IsFresh, IsRun, answered, answered_run, StopsRun, stops_event, stops_run, Played}
 use Rattle.schedule_run.specs.Written.{NothingRan, reply_line, shown_from, bad_line}
-use Rattle.schedule_run.specs.Shell.{AreShellLines, IsBad, alone, with_run, no_events, more_events, WereRun, in_event, in_run, WereStopped, Opens, cut_opening, cut_lines, cut_closing, cut_refusal, out_before, out_writing, out_opening, out_next, ShellEnded, ShellWent, IsAt, RanOutAt, out_reply, out_event, EventRan, ended, OpeningRan, ClosingRan, LineRefused, LineRan, event_run, refused, unread}
+use Rattle.schedule_run.specs.Shell.{AreShellLines, IsBad, alone, with_run, no_events, more_events, WereRun, in_event, in_run, WereStopped, Opens, cut_opening, cut_lines, cut_closing, cut_refusal, out_before, out_writing, out_opening, out_next, ShellEnded, ShellWent, IsAt, RanOutAt, out_reply, out_event, EventRan, shown_by, ended, is_opened, opened_by, OpeningRan, ClosingRan, LineRefused, LineRan, event_run, refused, unread}
 use Rattle.schedule_run.proofs.GoingLemmas.{adds_more}
 use Rattle.schedule_run.proofs.PlayLemmas.{played_nothing, played_more, stopped_at, prefix_behind, prefix_whole}
 
@@ -102,6 +105,23 @@ never_read event (inr e) = absurd (cc)
 
 pub is_bad : (text : List ℕ) → ((event : Event) → IsShellLine text event → IsReadTo (Err NotInGrammar) event) → IsBad text
 is_bad text only event is = never_read event (only event is)
+
+-- ---- one event
+
+-- an event that was run, and whose last reply was written, or a part of it
+pub event_shown : (event : Event) (n : ℕ) (reply : Reply) (w u : Told) (s t : Seen) (old new : Play) (written : Result (Unit {0}) OutputFault) → IsRun event reply s t old new
+    → WasWritten w u (reply_line n reply) written → EventRan (shown_by written reply) n event w u s t old new
+event_shown event n reply w u s t old new (Ok done) run p = (run, p.0)
+event_shown event n reply w u s t old new (Err output.WriteFault) run p = (reply, run, p.0)
+event_shown event n reply w u s t old new (Err output.Memory) run p = out_reply reply run p.0
+
+-- an opening whose reply was written ends as the reply says
+pub opening_shown : (client : ℕ) (reply : Reply) (w u : Told) (s t : Seen) (old new : Play) → EventRan (Ok reply) 0 (Open 1 client) w u s t old new
+    → OpeningRan (opened_by reply) client w u s t old new
+opening_shown client reply w u s t old new ran = on (is_opened reply) refl where
+  on : (b : Bool) → is_opened reply ≡ b → OpeningRan (if b then Ok tt else Err NotOpened) client w u s t old new
+  on true is = (reply, is, ran)
+  on false is = (reply, is, ran)
 
 -- ---- the opening
 

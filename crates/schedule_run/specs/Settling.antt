@@ -3,6 +3,8 @@ use Rattle.std.specs.Prelude.{◌≡◌, Bool, true, false, if◌then◌else◌,
 use Rattle.cloud_trait.specs.Seen.{Seen}
 use Rattle.db_io.specs.Content.{Told, Adds, AddsPrefix}
 use Rattle.event_text.specs.declared.event.Event.TheVariants.{Settle}
+use Rattle.line_io.specs.declared.output.OutputFault.{OutputFault}
+use Rattle.line_io.specs.declared.output.OutputFault.TheVariants as output
 use Rattle.reply_text.specs.declared.reply.Reply.{Reply}
 use Rattle.reply_text.specs.declared.reply.Reply.TheVariants.{Settled}
 use Rattle.schedule_run.specs.declared.play.Play.{Play}
@@ -48,3 +50,9 @@ SettleEnded (Err Memory) written now_written start now = SettlingRanOut written 
 -- the end that a reply leads to
 abbrev pub settled_by : Reply → Result (Unit {0}) SettleFault
 settled_by reply = if is_settled reply then Ok tt else Err NotSettled
+
+-- by how the reply was written
+abbrev pub settle_end_of : Result (Unit {0}) OutputFault → Reply → Result (Unit {0}) SettleFault
+settle_end_of (Ok done) reply = settled_by reply
+settle_end_of (Err output.WriteFault) reply = Err WriteFault
+settle_end_of (Err output.Memory) reply = Err Memory

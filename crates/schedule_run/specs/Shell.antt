@@ -6,6 +6,8 @@ use Rattle.event_text.specs.declared.event.Event.{Event}
 use Rattle.event_text.specs.declared.event.Event.TheVariants.{Open, Close, Run}
 use Rattle.event_text.specs.Event.{IsShellLine}
 use Rattle.line_io.specs.Lines.{lines_of}
+use Rattle.line_io.specs.declared.output.OutputFault.{OutputFault}
+use Rattle.line_io.specs.declared.output.OutputFault.TheVariants as output
 use Rattle.reply_text.specs.declared.reply.Reply.{Reply}
 use Rattle.reply_text.specs.declared.reply.Reply.TheVariants.{Begun, Opened}
 use Rattle.replay_meaning.specs.Standing.{Line}
@@ -182,6 +184,12 @@ EventRan (Err BadLine) n event written now_written start now old new = ⊥
 EventRan (Err WriteFault) n event written now_written start now old new =
     (reply : Reply) × IsRun event reply start now old new × AddsPrefix written now_written (reply_line n reply)
 EventRan (Err Memory) n event written now_written start now old new = RanOutAt n event written now_written start now old new
+
+-- the last reply of an event that was run, by how it was written
+abbrev pub shown_by : Result (Unit {0}) OutputFault → Reply → Result Reply ShellFault
+shown_by (Ok done) reply = Ok reply
+shown_by (Err output.WriteFault) reply = Err WriteFault
+shown_by (Err output.Memory) reply = Err Memory
 
 -- the end of an event that was run, whatever its last reply
 abbrev pub ended : Result Reply ShellFault → Result (Unit {0}) ShellFault

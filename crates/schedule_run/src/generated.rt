@@ -7,6 +7,7 @@ ghost use Rattle.schedule_run.specs.Generated.{GenEnded, TakesAll, TakesEach};
 
 use crate::play::Play;
 use crate::summary::summary;
+use crate::writing::let_go;
 use cloud_trait::cloud::Bench;
 use db_io::sink::Sink;
 use event_text::event::Event;
@@ -60,7 +61,11 @@ fn generate_in<O: Sink, C: Bench>(
 {
     match take_all(alloc, play, earlier, last, cloud) {
         Ok((settling, report)) => {
-            write_summary(alloc, sink, earlier.len() as u64, &settling, &report)
+            let earlier = earlier.len() as u64;
+            let written = write_summary(alloc, sink, earlier, &settling, &report);
+            let_go(settling);
+            let_go(report);
+            written
         }
         Err(_) => Err(OutputFault::Memory),
     }
@@ -87,7 +92,10 @@ fn take_all<C: Bench>(
     };
     match play.take(alloc, cloud, &Event::Report { tree: 1 }) {
         Ok(report) => Ok((settling, report)),
-        Err(fault) => Err(fault),
+        Err(fault) => {
+            let_go(settling);
+            Err(fault)
+        }
     }
 }
 
@@ -104,7 +112,10 @@ fn take_each<C: Bench>(
     let mut left = events;
     while let Some((event, rest)) = left.split_first() {
         match play.take(alloc, cloud, event) {
-            Ok(_) => left = rest,
+            Ok(reply) => {
+                let_go(reply);
+                left = rest;
+            }
             Err(fault) => return Err(fault),
         }
     }

@@ -1,9 +1,9 @@
 ghost use Rattle.std.specs.Prelude.{◌≡◌, ◌<◌, Err};
 ghost use Rattle.schedule_run.specs.Play.{IsFresh};
-ghost use Rattle.schedule_run.specs.Settling.{settled_by, SettleEnded};
+ghost use Rattle.schedule_run.specs.Settling.{settled_by, settle_end_of, SettleEnded};
 
 use crate::play::Play;
-use crate::writing::write_reply;
+use crate::writing::{let_go, write_reply};
 use cloud_trait::cloud::Bench;
 use db_io::sink::Sink;
 use event_text::event::Event;
@@ -51,12 +51,24 @@ fn settle_in<O: Sink, C: Bench>(
     ensures went { SettleEnded result (O.told sink.old) (O.told sink.new) (C.seen cloud.old) (C.seen cloud.new) }
 {
     match play.take(alloc, cloud, &Event::Settle) {
-        Ok(reply) => match write_reply(alloc, sink, 1, &reply) {
-            Ok(()) => settled(&reply),
-            Err(OutputFault::WriteFault) => Err(SettleFault::WriteFault),
-            Err(OutputFault::Memory) => Err(SettleFault::Memory),
-        },
+        Ok(reply) => {
+            let written = write_reply(alloc, sink, 1, &reply);
+            let end = end_of(written, &reply);
+            let_go(reply);
+            end
+        }
         Err(_) => Err(SettleFault::Memory),
+    }
+}
+
+/// How a settling of this reply ends, by how the reply was written.
+fn end_of(written: Result<(), OutputFault>, reply: &Reply) -> Result<(), SettleFault>
+    ensures { result ≡ settle_end_of written reply.now }
+{
+    match written {
+        Ok(()) => settled(reply),
+        Err(OutputFault::WriteFault) => Err(SettleFault::WriteFault),
+        Err(OutputFault::Memory) => Err(SettleFault::Memory),
     }
 }
 

@@ -2,10 +2,10 @@ ghost use Rattle.std.specs.Prelude.{◌≡◌, ◌<◌, ◌≤◌, Err};
 ghost use Rattle.event_text.specs.declared.event.Event.{Event};
 ghost use Rattle.event_text.specs.Event.{IsShellLine};
 ghost use Rattle.schedule_run.specs.Play.{IsFresh};
-ghost use Rattle.schedule_run.specs.Shell.{HasBadShellLine, ShellWent, OpeningRan, ClosingRan, LineRan, EventRan, ended, opened_by};
+ghost use Rattle.schedule_run.specs.Shell.{HasBadShellLine, ShellWent, OpeningRan, ClosingRan, LineRan, EventRan, ended, opened_by, shown_by};
 
 use crate::play::Play;
-use crate::writing::{refuse, write_reply};
+use crate::writing::{let_go, refuse, write_reply};
 use cloud_trait::cloud::Bench;
 use db_base::ids::ClientId;
 use db_io::sink::Sink;
@@ -108,7 +108,11 @@ fn open<O: Sink, C: Bench>(
         client: client.get(),
     };
     match run_event(alloc, play, sink, cloud, 0, &event) {
-        Ok(reply) => opened(&reply),
+        Ok(reply) => {
+            let end = opened(&reply);
+            let_go(reply);
+            end
+        }
         Err(fault) => Err(fault),
     }
 }
@@ -177,6 +181,23 @@ fn ended(answer: Result<Reply, ShellFault>) -> Result<(), ShellFault>
     }
 }
 
+/// The reply, where it was written.
+fn shown(written: Result<(), OutputFault>, reply: Reply) -> Result<Reply, ShellFault>
+    ensures { result ≡ shown_by written reply }
+{
+    match written {
+        Ok(()) => Ok(reply),
+        Err(OutputFault::WriteFault) => {
+            let_go(reply);
+            Err(ShellFault::WriteFault)
+        }
+        Err(OutputFault::Memory) => {
+            let_go(reply);
+            Err(ShellFault::Memory)
+        }
+    }
+}
+
 /// Runs an event to its answer, and writes the last reply under a number.
 fn run_event<O: Sink, C: Bench>(
     alloc: Global,
@@ -193,11 +214,10 @@ fn run_event<O: Sink, C: Bench>(
     ensures faults { (O.told sink.old).faults ≤ (O.told sink.new).faults }
 {
     match play.run_whole(alloc, cloud, event) {
-        Ok(reply) => match write_reply(alloc, sink, n, &reply) {
-            Ok(()) => Ok(reply),
-            Err(OutputFault::WriteFault) => Err(ShellFault::WriteFault),
-            Err(OutputFault::Memory) => Err(ShellFault::Memory),
-        },
+        Ok(reply) => {
+            let written = write_reply(alloc, sink, n, &reply);
+            shown(written, reply)
+        }
         Err(_) => Err(ShellFault::Memory),
     }
 }

@@ -52,3 +52,6 @@ fn reply_line(alloc: Global, n: u64, reply: &Reply) -> Result<Blob, Refused>
     line.add(b"\n")?;
     Ok(line)
 }
+
+/// Lets a reply go: no other function has to look into its parts for that.
+pub(crate) fn let_go(_reply: Reply) {}

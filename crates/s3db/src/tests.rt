@@ -78,7 +78,7 @@ fn sums_a_generated_schedule(rt: HostRuntime) -> Result<(), Fail> {
     assert_eq!(rt; status, Status::Done);
     assert_eq!(rt;
         sink.written(),
-        b"events 17\ncommitted 0\norder 0\ncontents 0\nrefused 99 not-built\nleft 0 0\n".as_slice()
+        b"events 17\ncommitted 0\norder 0\ncontents 0\nsettled 328\nleft 0 0\n".as_slice()
     );
     Ok(())
 }
@@ -126,8 +126,21 @@ fn runs_a_shell_twice(rt: HostRuntime) -> Result<(), Fail> {
 fn settles_by_one_line(rt: HostRuntime) -> Result<(), Fail> {
     let mut cloud = MemoryCloud::new(rt.alloc());
     let (status, sink) = ran_over(rt.alloc(), &["settle", "db"], b"", &mut cloud)?;
+    assert_eq!(rt; status, Status::Done);
+    assert_eq!(rt; sink.written(), b"1 settled 320\n".as_slice());
+    Ok(())
+}
+
+#[test]
+fn settles_nothing_beside_an_open_client(rt: HostRuntime) -> Result<(), Fail> {
+    let mut cloud = MemoryCloud::new(rt.alloc());
+    let _ = ran_over(rt.alloc(), &["shell", "1", "db"], b"bad\n", &mut cloud)?;
+    let (status, sink) = ran_over(rt.alloc(), &["settle", "db"], b"", &mut cloud)?;
     assert_eq!(rt; status, Status::NotSettled);
-    assert_eq!(rt; sink.written(), b"1 refused 99 not-built\n".as_slice());
+    assert_eq!(rt;
+        sink.written(),
+        b"1 not-settled busy client:1 600\n".as_slice()
+    );
     Ok(())
 }
 

@@ -1,1 +1,1 @@
-pub mod GoingLemmas
+pub mod RunLemmas

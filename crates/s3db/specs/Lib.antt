@@ -1,5 +1,3 @@
 pub mod Status
 pub mod Arguments
-pub mod Replay
-pub mod Answered
-pub mod Replayed
+pub mod Run

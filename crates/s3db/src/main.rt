@@ -1,32 +1,52 @@
-//! The program: replays the schedule of its input over a cloud in memory.
+//! The program: replays a schedule or generates one over a cloud in memory, and runs a shell or settles over a folder.
 #![tactic(auto)]
 
 mod arguments;
-mod replay;
 mod run;
+mod seconds;
 mod status;
 #[cfg(test)]
 mod tests;
 
 use arguments::arguments;
+use cloud_trait::cloud::Bench;
+use cloud_trait::fault::CloudFault;
+use command_words::read::shape;
+use command_words::shape::Shape;
 use db_io::std_sink::StdSink;
 use db_io::std_source::StdSource;
+use folder_cloud::FolderCloud;
 use memory_cloud::memory::MemoryCloud;
 use run::run;
+use seconds::Seconds;
 use status::Status;
-use std::alloc::Global;
 use std::io;
 use std::process::ExitCode;
 
+/// The exit status of a run whose folder could not be opened.
+const NO_FOLDER: u8 = 8;
+
 fn main(rt: HostRuntime) -> ExitCode {
-    let alloc: Global = rt.alloc();
     let words = match arguments(&rt) {
         Ok(words) => words,
         Err(fault) => return ExitCode::from(Status::from(fault).code()),
     };
+    let asked = shape(rt.alloc(), words.as_slice());
+    ExitCode::from(match asked {
+        Ok(Shape::Shell { dir, .. }) | Ok(Shape::Settle { dir }) => {
+            match FolderCloud::open(&rt, dir.as_str(), Seconds::of(&rt)) {
+                Ok(mut cloud) => run_over(&rt, words.as_slice(), &mut cloud),
+                Err(CloudFault::Failed) => NO_FOLDER,
+                Err(CloudFault::Memory) => Status::Memory.code(),
+            }
+        }
+        Ok(_) | Err(_) => run_over(&rt, words.as_slice(), &mut MemoryCloud::new(rt.alloc())),
+    })
+}
+
+/// The exit status of a run of the words over a cloud.
+fn run_over<C: Bench>(rt: &HostRuntime, words: &[String], cloud: &mut C) -> u8 {
     let mut source = StdSource::new(rt.reader());
-    let mut sink = StdSink::new(io::writer(&rt));
-    let mut cloud = MemoryCloud::new(alloc);
-    let status = run(alloc, words.as_slice(), &mut source, &mut sink, &mut cloud);
-    ExitCode::from(status.code())
+    let mut sink = StdSink::new(io::writer(rt));
+    run(rt.alloc(), words, &mut source, &mut sink, cloud).code()
 }

@@ -36,16 +36,28 @@ fn replayed_over(
     Ok((status, sink))
 }
 
-/// How a run of these words over an empty input ends.
-fn status_of(alloc: Global, words: &[&str]) -> Result<Status, Fail> {
+/// What a run of these words writes over this cloud, and how it ends.
+fn ran_over(
+    alloc: Global,
+    words: &[&str],
+    input: &[u8],
+    cloud: &mut MemoryCloud,
+) -> Result<(Status, MemorySink), Fail> {
     let mut list = Vec::new(alloc);
     for word in words {
         list.push(String::from_str(alloc, word)?)?;
     }
-    let mut source = MemorySource::new(alloc, b"", &[])?;
+    let mut source = MemorySource::new(alloc, input, &[])?;
     let mut sink = MemorySink::new(alloc, &[])?;
+    let status = run(alloc, list.as_slice(), &mut source, &mut sink, cloud);
+    Ok((status, sink))
+}
+
+/// How a run of these words over an empty input ends.
+fn status_of(alloc: Global, words: &[&str]) -> Result<Status, Fail> {
     let mut cloud = MemoryCloud::new(alloc);
-    Ok(run(alloc, list.as_slice(), &mut source, &mut sink, &mut cloud))
+    let (status, _) = ran_over(alloc, words, b"", &mut cloud)?;
+    Ok(status)
 }
 
 #[test]
@@ -57,6 +69,79 @@ fn a_word_that_is_not_utf8_is_of_no_shape(rt: HostRuntime) {
         let fault = fault_of(&io::Error::from(kind));
         assert_eq!(rt; Status::from(fault), want);
     }
+}
+
+#[test]
+fn sums_a_generated_schedule(rt: HostRuntime) -> Result<(), Fail> {
+    let mut cloud = MemoryCloud::new(rt.alloc());
+    let (status, sink) = ran_over(rt.alloc(), &["gen", "1", "0"], b"", &mut cloud)?;
+    assert_eq!(rt; status, Status::Done);
+    assert_eq!(rt;
+        sink.written(),
+        b"events 17\ncommitted 0\norder 0\ncontents 0\nsettled 328\nleft 0 0\n".as_slice()
+    );
+    Ok(())
+}
+
+#[test]
+fn runs_a_shell_twice(rt: HostRuntime) -> Result<(), Fail> {
+    let mut cloud = MemoryCloud::new(rt.alloc());
+    for (words, input, status, output) in [
+        (
+            ["shell", "1", "db"],
+            b"insert 1 6b 76\ncommit\ntree 1\nread 1 6b\n".as_slice(),
+            Status::Done,
+            b"0 opened 1\n1 noted\n2 committed 1\n3 done 1 1 0\n4 value 76\n5 closed\n".as_slice(),
+        ),
+        // A commit in a new epoch, a refused line, and a line that is no shell's: the session stays open.
+        (
+            ["shell", "1", "db"],
+            b"read 1 6b\ninsert 17 6b 76\ncommit\nopen 1 1\ncommit\n".as_slice(),
+            Status::BadLine,
+            b"0 opened 2\n1 value 76\n2 refused 5 bad-number\n3 committed 0\nbad line 4\n".as_slice(),
+        ),
+        // So its lease is held.
+        (
+            ["shell", "1", "db"],
+            b"read 1 6b\n".as_slice(),
+            Status::NotOpened,
+            b"0 busy client:1 600\n".as_slice(),
+        ),
+        // Another client opens, and has no line.
+        (
+            ["shell", "2", "db"],
+            b"".as_slice(),
+            Status::Done,
+            b"0 opened 1\n1 closed\n".as_slice(),
+        ),
+    ] {
+        let (ended, sink) = ran_over(rt.alloc(), &words, input, &mut cloud)?;
+        assert_eq!(rt; ended, status);
+        assert_eq!(rt; sink.written(), output);
+    }
+    Ok(())
+}
+
+#[test]
+fn settles_by_one_line(rt: HostRuntime) -> Result<(), Fail> {
+    let mut cloud = MemoryCloud::new(rt.alloc());
+    let (status, sink) = ran_over(rt.alloc(), &["settle", "db"], b"", &mut cloud)?;
+    assert_eq!(rt; status, Status::Done);
+    assert_eq!(rt; sink.written(), b"1 settled 320\n".as_slice());
+    Ok(())
+}
+
+#[test]
+fn settles_nothing_beside_an_open_client(rt: HostRuntime) -> Result<(), Fail> {
+    let mut cloud = MemoryCloud::new(rt.alloc());
+    let _ = ran_over(rt.alloc(), &["shell", "1", "db"], b"bad\n", &mut cloud)?;
+    let (status, sink) = ran_over(rt.alloc(), &["settle", "db"], b"", &mut cloud)?;
+    assert_eq!(rt; status, Status::NotSettled);
+    assert_eq!(rt;
+        sink.written(),
+        b"1 not-settled busy client:1 600\n".as_slice()
+    );
+    Ok(())
 }
 
 const FIRST: &[u8] = b"open 1 1\nrun 1\ninsert 1 1 6b 76\ncommit 1\nrun 1\n";

@@ -1,0 +1,361 @@
+-- The lines of a replay, one after another.
+use Rattle.std.proofs.Common.{suc, ◌≡◌, ◌<◌, ◌≤◌, ◌+◌, ◌⊎◌, ℕ, List, [], ◌∷◌, ◌++◌, length, take, Some, Result, Ok, Err, refl, sym, ap, subst, ◌∙◌, inl, inr, append_assoc, arith, length-append}
+use Rattle.std.specs.Prelude.{slice_get, replicate, false}
+use Rattle.std.proofs.lemmas.List.{append-nil, take-append-le, take_all, get_or_append_left}
+use Rattle.std.proofs.lemmas.Option.{slice_get_within, slice_get-get_or}
+use Rattle.std.proofs.lemmas.Bool.{cases_lt}
+use Rattle.client_session.specs.Session.{closed_session}
+use Rattle.cloud_trait.specs.State.{CloudState, IsEmptyCloud}
+use Rattle.cloud_trait.specs.Seen.{Seen}
+use Rattle.cloud_trait.specs.Upto.{upto, AgreeUpto, IsUpto}
+use Rattle.db_base.specs.declared.names.ObjName.{ObjName}
+use Rattle.cloud_trait.proofs.StateLemmas.{slice_get-push}
+use Rattle.cloud_trait.proofs.UptoLemmas.{versions_upto-all, trace_upto-all}
+use Rattle.db_io.specs.Content.{Told, Adds, AddsPrefix}
+use Rattle.event_text.specs.declared.event.Event.{Event}
+use Rattle.event_text.specs.Event.{IsEvent}
+use Rattle.line_io.specs.Lines.{lines_of}
+use Rattle.reply_text.specs.declared.reply.Reply.{Reply}
+use Rattle.reply_text.specs.declared.reply.Reply.TheVariants as reply
+use Rattle.replay_meaning.specs.Standing.{Line}
+use Rattle.replay_meaning.specs.Right.{ReportIsRight}
+use Rattle.replay_model.specs.Facts.{session_at, Stands}
+use Rattle.replay_model.proofs.UptoRight.{right_same}
+use Rattle.replay_model.proofs.StartLemmas.{nothing_stands_yet}
+use Rattle.world_core.specs.declared.world.World.{World}
+use Rattle.world_core.specs.declared.world.WorldFault.{WorldFault}
+use Rattle.world_core.specs.declared.world.WorldFault.TheVariants as world
+use Rattle.world_core.specs.Handled.{Handled}
+use Rattle.world_core.specs.Stands.{WorldStands, StandsOn, Grows}
+use Rattle.schedule_run.specs.declared.replay.LineFault.{LineFault}
+use Rattle.schedule_run.specs.declared.replay.LineFault.TheVariants.{BadLine, WriteFault, Memory}
+use Rattle.schedule_run.specs.Answered.{IsNew, start, further, AreAnswered, ReportsAreRight, KeepsTheTheorem}
+use Rattle.schedule_run.specs.Written.{reply_line, replies_from, replies, bad_line}
+use Rattle.schedule_run.specs.Replayed.{AreSpelled, WroteFront, reply_cut, refusal_cut, EndedBy, between, writing, handling, Ended, WentThrough, Handles, IsAt, IsAnswered, LineWent, event_handled, refused, unread}
+
+-- ---- content that is written
+
+pub adds_nothing : (w : Told) → Adds w w []
+adds_nothing w all e = e ∙ ap Some (sym (append-nil all))
+
+pub adds_more : (w v u : Told) (xs ys : List ℕ) → Adds w v xs → Adds v u ys → Adds w u (xs ++ ys)
+adds_more w v u xs ys f g all e = g (all ++ xs) (f all e) ∙ ap Some (append_assoc all xs ys)
+
+-- nothing written is a front of anything
+pub prefix_none : (w : Told) (xs : List ℕ) → AddsPrefix w w xs
+prefix_none w xs all e = ([], xs, refl, e ∙ ap Some (sym (append-nil all)))
+
+-- ---- lines and their texts
+
+spelled_more : (texts : List (List ℕ)) (lines : List Line) (text : List ℕ) (line : Line) → AreSpelled texts lines → IsEvent text line.event → AreSpelled (texts ++ text ∷ []) (lines ++ line ∷ [])
+spelled_more [] [] text line s is = (is, tt)
+spelled_more [] (l ∷ lines) text line s is = absurd s
+spelled_more (t ∷ texts) [] text line s is = absurd s
+spelled_more (t ∷ texts) (l ∷ lines) text line s is = (s.0, spelled_more texts lines text line s.1 is)
+
+spelled_length : (texts : List (List ℕ)) (lines : List Line) → AreSpelled texts lines → length lines ≡ length texts
+spelled_length [] [] s = refl
+spelled_length [] (l ∷ lines) s = absurd s
+spelled_length (t ∷ texts) [] s = absurd s
+spelled_length (t ∷ texts) (l ∷ lines) s = ap suc (spelled_length texts lines s.1)
+
+replies_more : (n m : ℕ) (lines : List Line) (line : Line) → m ≡ n + length lines → replies_from n (lines ++ line ∷ []) ≡ replies_from n lines ++ reply_line m line.reply
+replies_more n m [] line e =
+    let f : m ≡ n = omega arith in append-nil (reply_line n line.reply) ∙ ap (λ k. reply_line k line.reply) (sym f)
+replies_more n m (l ∷ lines) line e =
+    let f : m ≡ (n + 1) + length lines = omega arith in
+    ap (λ xs. reply_line n l.reply ++ xs) (replies_more (n + 1) m lines line f) ∙ sym (append_assoc (reply_line n l.reply) (replies_from (n + 1) lines) (reply_line m line.reply))
+
+-- ---- reports
+
+get_before : (lines : List Line) (line : Line) (k : ℕ) → k < length lines → slice_get (lines ++ line ∷ []) k ≡ slice_get lines k
+get_before lines line k less =
+    slice_get-get_or (lines ++ line ∷ []) k line (omega (arith, length-append lines (line ∷ [])))
+    ∙ ap Some (get_or_append_left lines (line ∷ []) line k less) ∙ sym (slice_get-get_or lines k line less)
+
+take_whole : (lines : List Line) (k : ℕ) → k ≡ length lines → take k lines ≡ lines
+take_whole lines k e = take_all k lines (omega arith)
+
+pub report_same : (lines : List Line) (s t : CloudState) (r : Reply) → ((name : ObjName) → t.versions name ≡ s.versions name) → t.trace ≡ s.trace → ReportIsRight lines s r → ReportIsRight lines t r
+report_same lines s t (reply.Report r) v e right = right_same lines s t r v e right
+report_same lines s t r v e right = tt
+
+-- the reports so far stay right, and the new one is
+reports_more : (lines : List Line) (line : Line) (u v : CloudState) → ((k : ℕ) → k < length lines + 1 → AgreeUpto k u v) → IsUpto (length lines + 1) v
+    → ReportsAreRight lines u → ReportIsRight (lines ++ line ∷ []) v line.reply → ReportsAreRight (lines ++ line ∷ []) v
+reports_more lines line u v agree all so new k l at = on (cases_lt k (length lines)) where
+  on : (k < length lines) ⊎ (length lines ≤ k) → ReportIsRight (take (k + 1) (lines ++ line ∷ [])) (upto v (k + 1)) l.reply
+  on (inl less) =
+      let old : slice_get lines k ≡ Some l = sym (get_before lines line k less) ∙ at in
+      let front : take (k + 1) (lines ++ line ∷ []) ≡ take (k + 1) lines = take-append-le (k + 1) lines (line ∷ []) (omega arith) in
+      let a : AgreeUpto (k + 1) u v = agree (k + 1) (omega arith) in
+      subst (λ ls. ReportIsRight ls (upto v (k + 1)) l.reply) (sym front)
+      (report_same (take (k + 1) lines) (upto u (k + 1)) (upto v (k + 1)) l.reply a.versions a.trace (so k l old))
+  on (inr more) =
+      let within : k < length (lines ++ line ∷ []) = slice_get_within (lines ++ line ∷ []) k l at in
+      let e : k ≡ length lines = omega (arith, length-append lines (line ∷ [])) in
+      let same : Some line ≡ Some l = sym (slice_get-push lines line k e) ∙ at in
+      let is : line ≡ l = cc in
+      let whole : take (k + 1) (lines ++ line ∷ []) ≡ lines ++ line ∷ [] = take_whole (lines ++ line ∷ []) (k + 1) (omega (arith, length-append lines (line ∷ []))) in
+      let n : k + 1 ≡ length lines + 1 = omega arith in
+      let upto_all : IsUpto (k + 1) v = subst (λ m. IsUpto m v) (sym n) all in
+      subst (λ ls. ReportIsRight ls (upto v (k + 1)) l.reply) (sym whole)
+      (report_same (lines ++ line ∷ []) v (upto v (k + 1)) l.reply
+      (λ name. versions_upto-all (k + 1) (v.versions name) (upto_all.versions name))
+      (trace_upto-all (k + 1) v.trace upto_all.trace)
+      (subst (λ (x : Line). ReportIsRight (lines ++ line ∷ []) v x.reply) is new))
+
+-- ---- one line more
+
+-- what stood and was right stands and is right with one line more
+pub stands_more : (lines : List Line) (line : Line) (n : ℕ) (t z : Seen) (old new : World) → n ≡ 1 + length lines
+    → StandsOn n line.event t z old new (Ok line.reply) → Grows n t z → (u : CloudState) → t.state ≡ Some u → WorldStands lines old u → ReportsAreRight lines u
+    → (v : CloudState) × (z.state ≡ Some v) × WorldStands (lines ++ line ∷ []) new v × ReportsAreRight (lines ++ line ∷ []) v
+stands_more lines line n t z old new k on grows u told stands so =
+    let f = on lines u (omega arith) told stands in
+    let g = grows u told in
+    let same : Some f.after ≡ Some g.0 = sym f.told ∙ g.1 in
+    let is : g.0 ≡ f.after = cc in
+    let agree : (j : ℕ) → j < length lines + 1 → AgreeUpto j u f.after = λ j less. subst (λ v. AgreeUpto j u v) is (g.2 j (omega arith)) in
+    let m : length (lines ++ line ∷ []) ≡ length lines + 1 = omega (arith, length-append lines (line ∷ [])) in
+    let upto_all : IsUpto (length lines + 1) f.after = subst (λ m. IsUpto m f.after) m f.stands.holds.cloud.upto in
+    (f.after, f.told, f.stands, reports_more lines line u f.after agree upto_all so f.right)
+
+-- the lines that were handled, with one more
+lines_more : (texts : List (List ℕ)) (text : List ℕ) (n : ℕ) (w v u : Told) (s t z : Seen) (first old new : World) (line : Line)
+    → n ≡ length texts + 1 → Handles texts w v s t first old → IsEvent text line.event → IsAnswered n line.event t z old new line.reply → Grows n t z
+    → Adds v u (reply_line n line.reply) → Handles (texts ++ text ∷ []) w u s z first new
+lines_more texts text n w v u s t z first old new line count h spells a grows adds =
+    let m : length h.lines ≡ length texts = spelled_length texts h.lines h.spelled in
+    let k : n ≡ 1 + length h.lines = omega arith in
+    let l : n ≡ length h.lines + 1 = omega arith in
+    record {
+      lines = h.lines ++ line ∷ [];
+      spelled = spelled_more texts h.lines text line h.spelled spells;
+      wrote = subst (λ xs. Adds w u xs) (sym (replies_more 1 n h.lines line k)) (adds_more w v u (replies h.lines) (reply_line n line.reply) h.wrote adds);
+      went = further h.lines line t z old new h.went (subst (λ j. Handled j line.event t z old new (Ok line.reply)) l a.handled);
+      stands = λ x told empty. let o = h.stands x told empty in stands_more h.lines line n t z old new k a.stands grows o.0 o.1 o.2 o.3;
+    }
+
+-- a new world stands for no lines over an empty cloud
+pub fresh_stands : (world : World) (t : CloudState) → IsNew world → IsEmptyCloud t → WorldStands [] world t
+fresh_stands world t fresh empty =
+    subst (λ b. Stands [] (session_at world.sessions) world.audit b t) (sym fresh.sees)
+    (subst (λ l. Stands [] (session_at l) world.audit false t) (sym fresh.sessions)
+    (subst (λ a. Stands [] (session_at (replicate 17 closed_session)) a false t) (sym fresh.audit) (nothing_stands_yet 17 t empty)))
+
+-- ---- the lines of a text
+
+pub at_start : (text : List ℕ) (w : Told) (s : Seen) (world : World) → IsNew world → IsAt text text 0 w w s s world world
+at_start text w s world fresh = record {
+  earlier = [];
+  at = refl;
+  count = refl;
+  handles = record {
+    lines = [];
+    spelled = tt;
+    wrote = adds_nothing w;
+    went = start;
+    stands = λ t told empty. (
+      t,
+      told,
+      fresh_stands world t fresh empty,
+      λ k line at. absurd (cc),
+    );
+  };
+}
+
+pub at_more : (text rest behind line : List ℕ) (n m : ℕ) (w v u : Told) (s t z : Seen) (first old new : World)
+    → IsAt text rest n w v s t first old → lines_of rest ≡ line ∷ lines_of behind → m ≡ n + 1 → LineWent (Ok tt) m line v u t z old new → Grows m t z
+    → IsAt text behind m w u s z first new
+at_more text rest behind line n m w v u s t z first old new is split next (event_handled event spells p) grows =
+    let c : length is.earlier ≡ n = is.count in
+    record {
+      earlier = is.earlier ++ line ∷ [];
+      at = is.at ∙ ap (λ ls. is.earlier ++ ls) split ∙ sym (append_assoc is.earlier (line ∷ []) (lines_of behind));
+      count = omega (arith, length-append is.earlier (line ∷ []));
+      handles = lines_more is.earlier line m w v u s t z first old new (record { event = event; reply = p.0 }) (omega arith) is.handles spells p.1 grows p.2;
+    }
+at_more text rest behind line n m w v u s t z first old new is split next (refused bad e p) grows = absurd p
+at_more text rest behind line n m w v u s t z first old new is split next (unread e f h) grows = absurd (cc)
+
+abbrev answered : (texts : List (List ℕ)) (w v : Told) (s t : Seen) (first world : World) → IsNew first
+    → (h : Handles texts w v s t first world) → AreAnswered h.lines s t
+answered texts w v s t first world fresh h = record { first = first; fresh = fresh; last = world; went = h.went }
+
+pub at_end : (text rest : List ℕ) (n : ℕ) (w v : Told) (s t : Seen) (first world : World) → IsNew first
+    → IsAt text rest n w v s t first world → rest ≡ [] → WentThrough text (Ok tt) w v s t
+at_end text rest n w v s t first world fresh is none = record {
+  lines = is.handles.lines;
+  earlier = is.earlier;
+  later = lines_of rest;
+  at = is.at;
+  spelled = is.handles.spelled;
+  so = (ap lines_of none, answered is.earlier w v s t first world fresh is.handles, is.handles.wrote);
+  theorem = λ x told empty. let o = is.handles.stands x told empty in (o.0, o.1, o.3);
+}
+
+-- where a run stops between two lines for want of memory
+pub at_stop : (text rest : List ℕ) (n : ℕ) (w v : Told) (s t : Seen) (first world : World) → IsNew first
+    → IsAt text rest n w v s t first world → WentThrough text (Err Memory) w v s t
+at_stop text rest n w v s t first world fresh is = record {
+  lines = is.handles.lines;
+  earlier = is.earlier;
+  later = lines_of rest;
+  at = is.at;
+  spelled = is.handles.spelled;
+  so = between (answered is.earlier w v s t first world fresh is.handles) is.handles.wrote;
+  theorem = λ x told empty. let o = is.handles.stands x told empty in (o.0, o.1, o.3);
+}
+
+-- ---- a line that ends the run
+
+-- a text of the lines was met, and calls were made at it
+pub record IsMet (text rest behind line : List ℕ) (n m : ℕ) (w v : Told) (s t z : Seen) (first old : World) : Type 0 where
+  pub fresh : IsNew first
+  pub is : IsAt text rest n w v s t first old
+  pub split : lines_of rest ≡ line ∷ lines_of behind
+  pub next : m ≡ n + 1
+  pub grows : Grows m t z
+
+met_count : {text rest behind line : List ℕ} {n m : ℕ} {w v : Told} {s t z : Seen} {first old : World}
+    → (met : IsMet text rest behind line n m w v s t z first old) → m ≡ length met.is.handles.lines + 1
+met_count {text} {rest} {behind} {line} {n} {m} met =
+    let at : length met.is.earlier ≡ n = met.is.count in
+    let k : length met.is.handles.lines ≡ length met.is.earlier = spelled_length met.is.earlier met.is.handles.lines met.is.handles.spelled in
+    let next : m ≡ n + 1 = met.next in
+    omega arith
+
+-- the reports of what was handled, after calls of a later line
+keeps : {text rest behind line : List ℕ} {n m : ℕ} {w v : Told} {s t z : Seen} {first old : World}
+    → (met : IsMet text rest behind line n m w v s t z first old) → KeepsTheTheorem met.is.handles.lines s z
+keeps {text} {rest} {behind} {line} {n} {m} met x told empty =
+    let h = met.is.handles in
+    let o = h.stands x told empty in
+    let g = met.grows o.0 o.1 in
+    let count : m ≡ length h.lines + 1 = met_count met in (
+      g.0,
+      g.1,
+      λ k line at.
+          let within : k < length h.lines = slice_get_within h.lines k line at in
+          let a : AgreeUpto (k + 1) o.0 g.0 = g.2 (k + 1) (omega arith) in
+          report_same (take (k + 1) h.lines) (upto o.0 (k + 1)) (upto g.0 (k + 1)) line.reply a.versions a.trace (o.3 k line at),
+    )
+
+-- the run ends before a text that has no reply
+ends_before : {text rest behind line : List ℕ} {n m : ℕ} {w v : Told} {s t z : Seen} {first old : World}
+    → (ended : Result (Unit {0}) LineFault) (u : Told) → (met : IsMet text rest behind line n m w v s t z first old)
+    → Ended ended met.is.handles.lines (line ∷ lines_of behind) w u s z → WentThrough text ended w u s z
+ends_before {text} {rest} {behind} {line} ended u met so = record {
+  lines = met.is.handles.lines;
+  earlier = met.is.earlier;
+  later = line ∷ lines_of behind;
+  at = met.is.at ∙ ap (λ ls. met.is.earlier ++ ls) met.split;
+  spelled = met.is.handles.spelled;
+  so = so;
+  theorem = keeps met;
+}
+
+-- the run ends behind a text that has a reply
+ends_behind : {text rest behind line : List ℕ} {n m : ℕ} {w v : Told} {s t z : Seen} {first old : World}
+    → (ended : Result (Unit {0}) LineFault) (u : Told) (new : World) (one : Line) → (met : IsMet text rest behind line n m w v s t z first old)
+    → IsEvent line one.event → IsAnswered m one.event t z old new one.reply
+    → Ended ended (met.is.handles.lines ++ one ∷ []) (lines_of behind) w u s z → WentThrough text ended w u s z
+ends_behind {text} {rest} {behind} {line} {n} {m} {w} {v} {s} {t} {z} {first} {old} ended u new one met spells a so =
+    let h = met.is.handles in
+    let count : m ≡ length h.lines + 1 = met_count met in
+    record {
+      lines = h.lines ++ one ∷ [];
+      earlier = met.is.earlier ++ line ∷ [];
+      later = lines_of behind;
+      at = met.is.at ∙ ap (λ ls. met.is.earlier ++ ls) met.split ∙ sym (append_assoc met.is.earlier (line ∷ []) (lines_of behind));
+      spelled = spelled_more met.is.earlier h.lines line one h.spelled spells;
+      so = so;
+      theorem = λ x told empty.
+          let o = h.stands x told empty in
+          let p = stands_more h.lines one m t z old new (omega arith) a.stands met.grows o.0 o.1 o.2 o.3 in
+          (p.0, p.1, p.3);
+    }
+
+-- the lines before the text, where no call was made at it
+before_unmoved : {text rest behind line : List ℕ} {n m : ℕ} {w v : Told} {s t z : Seen} {first old : World}
+    → (met : IsMet text rest behind line n m w v s t z first old) → z ≡ t → AreAnswered met.is.handles.lines s z
+before_unmoved {text} {rest} {behind} {line} {n} {m} {w} {v} {s} {t} {z} {first} {old} met e =
+    let h = met.is.handles in
+    subst (λ x. AreAnswered h.lines s x) (sym e) (answered met.is.earlier w v s t first old met.fresh h)
+
+-- the lines with the text's own
+with_answer : {text rest behind line : List ℕ} {n m : ℕ} {w v : Told} {s t z : Seen} {first old : World}
+    → (met : IsMet text rest behind line n m w v s t z first old) (new : World) (one : Line) → IsAnswered m one.event t z old new one.reply
+    → AreAnswered (met.is.handles.lines ++ one ∷ []) s z
+with_answer {text} {rest} {behind} {line} {n} {m} {w} {v} {s} {t} {z} {first} {old} met new one a = record {
+  first = first;
+  fresh = met.fresh;
+  last = new;
+  went = further met.is.handles.lines one t z old new met.is.handles.went (subst (λ j. Handled j one.event t z old new (Ok one.reply)) (met_count met) a.handled);
+}
+
+-- the event of the text has no reply
+no_answer : {text rest behind line : List ℕ} {n m : ℕ} {w v : Told} {s t z : Seen} {first old : World}
+    → (met : IsMet text rest behind line n m w v s t z first old) (u : Told) (new : World) (event : Event) (fault : WorldFault) → IsEvent line event
+    → Handled m event t z old new (Err fault) → u ≡ v → EndedBy fault met.is.handles.lines (line ∷ lines_of behind) w u s z
+no_answer {text} {rest} {behind} {line} {n} {m} {w} {v} {s} {t} {z} {first} {old} met u new event fault spells handled same =
+    let h = met.is.handles in
+    record {
+      event = event;
+      spelled = spells;
+      handled = record {
+        mid = t;
+        answered = answered met.is.earlier w v s t first old met.fresh h;
+        last = new;
+        handled = subst (λ j. Handled j event t z old new (Err fault)) (met_count met) handled;
+      };
+      wrote = subst (λ x. Adds w x (replies h.lines)) (sym same) h.wrote;
+    }
+
+-- the reply was cut
+cut_reply : {text rest behind line : List ℕ} {n m : ℕ} {w v : Told} {s t z : Seen} {first old : World}
+    → (met : IsMet text rest behind line n m w v s t z first old) (u : Told) (one : Line) → AddsPrefix v u (reply_line m one.reply)
+    → WroteFront (met.is.handles.lines ++ one ∷ []) (lines_of behind) w u
+cut_reply {text} {rest} {behind} {line} {n} {m} {w} {v} met u one front =
+    let ls = met.is.handles.lines in
+    let count : m ≡ length ls + 1 = met_count met in
+    let at : m ≡ length (ls ++ one ∷ []) = omega (arith, length-append ls (one ∷ [])) in
+    reply_cut ls one refl (record { between = v; whole = met.is.handles.wrote; front = subst (λ j. AddsPrefix v u (reply_line j one.reply)) at front })
+
+-- the refusal was cut
+cut_refusal : {text rest behind line : List ℕ} {n m : ℕ} {w v : Told} {s t z : Seen} {first old : World}
+    → (met : IsMet text rest behind line n m w v s t z first old) (u : Told) → ((event : Event) → IsEvent line event → ⊥) → AddsPrefix v u (bad_line m)
+    → WroteFront met.is.handles.lines (line ∷ lines_of behind) w u
+cut_refusal {text} {rest} {behind} {line} {n} {m} {w} {v} met u bad front =
+    refusal_cut bad (record { between = v; whole = met.is.handles.wrote; front = subst (λ j. AddsPrefix v u (bad_line j)) (met_count met) front })
+
+by_fault : {text rest behind line : List ℕ} {n m : ℕ} {w v : Told} {s t z : Seen} {first old : World}
+    → (u : Told) (new : World) (fault : LineFault) → IsMet text rest behind line n m w v s t z first old
+    → LineWent (Err fault) m line v u t z old new → WentThrough text (Err fault) w u s z
+by_fault {text} {rest} {behind} {line} {n} {m} {w} {v} {s} {t} {z} {first} {old} u new BadLine met (event_handled event spells p) = absurd p
+by_fault {text} {rest} {behind} {line} {n} {m} {w} {v} {s} {t} {z} {first} {old} u new BadLine met (refused bad e adds) =
+    let h = met.is.handles in
+    let all = adds_more w v u (replies h.lines) (bad_line m) h.wrote adds in
+    ends_before (Err BadLine) u met (bad, before_unmoved met e, subst (λ j. Adds w u (replies h.lines ++ bad_line j)) (met_count met) all)
+by_fault {text} {rest} {behind} {line} {n} {m} {w} {v} {s} {t} {z} {first} {old} u new BadLine met (unread e f same) = absurd (cc)
+by_fault {text} {rest} {behind} {line} {n} {m} {w} {v} {s} {t} {z} {first} {old} u new WriteFault met (event_handled event spells p) =
+    let one : Line = record { event = event; reply = p.0 } in
+    ends_behind (Err WriteFault) u new one met spells p.1 (with_answer met new one p.1, cut_reply met u one p.2)
+by_fault {text} {rest} {behind} {line} {n} {m} {w} {v} {s} {t} {z} {first} {old} u new WriteFault met (refused bad e front) = ends_before (Err WriteFault) u met (before_unmoved met e, cut_refusal met u bad front)
+by_fault {text} {rest} {behind} {line} {n} {m} {w} {v} {s} {t} {z} {first} {old} u new WriteFault met (unread e f same) = absurd (cc)
+by_fault {text} {rest} {behind} {line} {n} {m} {w} {v} {s} {t} {z} {first} {old} u new Memory met (event_handled event spells (inl p)) =
+    let one : Line = record { event = event; reply = p.0 } in
+    ends_behind (Err Memory) u new one met spells p.1 (writing (with_answer met new one p.1) (cut_reply met u one p.2))
+by_fault {text} {rest} {behind} {line} {n} {m} {w} {v} {s} {t} {z} {first} {old} u new Memory met (event_handled event spells (inr p)) = ends_before (Err Memory) u met (handling (no_answer met u new event world.Memory spells p.0 p.1))
+by_fault {text} {rest} {behind} {line} {n} {m} {w} {v} {s} {t} {z} {first} {old} u new Memory met (refused bad e front) = ends_before (Err Memory) u met (writing (before_unmoved met e) (cut_refusal met u bad front))
+by_fault {text} {rest} {behind} {line} {n} {m} {w} {v} {s} {t} {z} {first} {old} u new Memory met (unread e f same) =
+    let h = met.is.handles in
+    ends_before (Err Memory) u met (between (before_unmoved met f) (subst (λ x. Adds w x (replies h.lines)) (sym same) h.wrote))
+
+pub at_fault : (text rest behind line : List ℕ) (n m : ℕ) (w v u : Told) (s t z : Seen) (first old new : World) (fault : LineFault)
+    → IsNew first → IsAt text rest n w v s t first old → lines_of rest ≡ line ∷ lines_of behind → m ≡ n + 1
+    → LineWent (Err fault) m line v u t z old new → Grows m t z → WentThrough text (Err fault) w u s z
+at_fault text rest behind line n m w v u s t z first old new fault fresh is split next went grows =
+    let met : IsMet text rest behind line n m w v s t z first old = record { fresh = fresh; is = is; split = split; next = next; grows = grows } in
+    by_fault u new fault met went

@@ -1,0 +1,5 @@
+pub mod GoingLemmas
+pub mod PlayLemmas
+pub mod ShellLemmas
+pub mod GeneratedLemmas
+pub mod SettlingLemmas

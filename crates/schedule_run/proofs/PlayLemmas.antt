@@ -1,0 +1,109 @@
+-- A world that handles one event behind another.
+use Rattle.std.proofs.Common.{◌≡◌, ◌<◌, ◌+◌, ℕ, List, [], ◌∷◌, ◌++◌, length, take, Some, Result, Ok, Err, sym, ap, subst, ◌∙◌, append_assoc, arith, length-append}
+use Rattle.std.proofs.lemmas.List.{append-nil}
+use Rattle.std.proofs.lemmas.Option.{slice_get_within}
+use Rattle.cloud_trait.specs.Seen.{Seen}
+use Rattle.cloud_trait.specs.Upto.{upto, AgreeUpto}
+use Rattle.db_io.specs.Content.{Told, Adds, AddsPrefix}
+use Rattle.event_text.specs.declared.event.Event.{Event}
+use Rattle.event_text.specs.declared.event.Event.TheVariants.{Run}
+use Rattle.reply_text.specs.declared.reply.Reply.{Reply}
+use Rattle.reply_text.specs.declared.reply.Reply.TheVariants.{Begun}
+use Rattle.replay_meaning.specs.Standing.{Line}
+use Rattle.world_core.specs.declared.world.WorldFault.{WorldFault}
+use Rattle.world_core.specs.declared.world.WorldFault.TheVariants as world
+use Rattle.world_core.specs.Handled.{Handled}
+use Rattle.world_core.specs.Stands.{Grows}
+use Rattle.schedule_run.specs.declared.play.Play.{Play}
+use Rattle.schedule_run.specs.Answered.{start, further, KeepsTheTheorem}
+use Rattle.schedule_run.specs.Play.{IsFresh, IsNext, RanOut, uncounted, no_answer, Takes, answered_run, stops_run, RunsWhole, Played, StoppedAt, stopped_before, stopped_within}
+use Rattle.schedule_run.proofs.GoingLemmas.{stands_more, fresh_stands, report_same}
+
+-- nothing is handled yet
+pub played_nothing : (s : Seen) (play : Play) → IsFresh play → Played [] s s play
+played_nothing s play fresh = record {
+  count = fresh.none;
+  first = play.world;
+  fresh = fresh.world;
+  went = start;
+  stands = λ t told empty. (
+    t,
+    told,
+    fresh_stands play.world t fresh.world empty,
+    λ k line at. absurd (cc),
+  );
+}
+
+-- one event more
+pub played_more : (lines : List Line) (event : Event) (reply : Reply) (s t z : Seen) (old new : Play)
+    → Played lines s t old → IsNext event reply t z old new → Played (lines ++ record { event = event; reply = reply } ∷ []) s z new
+played_more lines event reply s t z old new p n =
+    let line : Line = record { event = event; reply = reply } in
+    let c : old.handled ≡ length lines = p.count in
+    let d : new.handled ≡ old.handled + 1 = n.count in
+    let at : new.handled ≡ length lines + 1 = omega arith in
+    record {
+      count = omega (arith, length-append lines (line ∷ []));
+      first = p.first;
+      fresh = p.fresh;
+      went = further lines line t z old.world new.world p.went (subst (λ j. Handled j event t z old.world new.world (Ok reply)) at n.handled);
+      stands = λ x told empty.
+          let o = p.stands x told empty in
+          stands_more lines line new.handled t z old.world new.world (omega arith) n.stands n.grows o.0 o.1 o.2 o.3;
+    }
+
+-- what was handled keeps the theorem where a later event grew the cloud
+keeps_behind : (lines : List Line) (n : ℕ) (s t z : Seen) (play : Play) → Played lines s t play → n ≡ length lines + 1 → Grows n t z → KeepsTheTheorem lines s z
+keeps_behind lines n s t z play p count grows x told empty =
+    let o = p.stands x told empty in
+    let g = grows o.0 o.1 in (
+      g.0,
+      g.1,
+      λ k line at.
+          let within : k < length lines = slice_get_within lines k line at in
+          let a : AgreeUpto (k + 1) o.0 g.0 = g.2 (k + 1) (omega arith) in
+          report_same (take (k + 1) lines) (upto o.0 (k + 1)) (upto g.0 (k + 1)) line.reply a.versions a.trace (o.3 k line at),
+    )
+
+-- memory ran out at the next event
+pub stopped_at : (lines : List Line) (event : Event) (s t z : Seen) (old new : Play) → Played lines s t old → RanOut event t z old new → StoppedAt event lines s z
+stopped_at lines event s t z old new p (uncounted same) = stopped_before old (subst (λ x. Played lines s x old) (sym same) p)
+stopped_at lines event s t z old new p (no_answer handled grows) =
+    let c : old.handled ≡ length lines = p.count in
+    let at : old.handled + 1 ≡ length lines + 1 = omega arith in
+    stopped_within
+    (record {
+      mid = t;
+      answered = record { first = p.first; fresh = p.fresh; last = old.world; went = p.went };
+      last = new.world;
+      handled = subst (λ j. Handled j event t z old.world new.world (Err world.Memory)) at handled;
+    })
+    (keeps_behind lines (old.handled + 1) s t z old p at grows)
+
+-- an event under the next number has no reply
+pub found_no_memory : (event : Event) (m : ℕ) (t z : Seen) (old new : Play) (fault : WorldFault) → m ≡ old.handled + 1
+    → Handled m event t z old.world new.world (Err fault) → Grows m t z → RanOut event t z old new
+found_no_memory event m t z old new world.Memory next handled grows =
+    no_answer (subst (λ j. Handled j event t z old.world new.world (Err world.Memory)) next handled) (subst (λ j. Grows j t z) next grows)
+
+-- an operation that an event began is run behind it
+pub run_behind : (event : Event) (result : Result Reply WorldFault) (s t z : Seen) (old mid new : Play) → IsNext event Begun s t old mid → Takes (Run 1) result t z mid new
+    → RunsWhole event result s z old new
+run_behind event (Ok reply) s t z old mid new begun takes = answered_run t mid begun takes
+run_behind event (Err fault) s t z old mid new begun takes = stops_run t mid begun takes
+
+-- ---- content that is written
+
+-- a front behind what is written whole
+pub prefix_behind : (w v u : Told) (xs ys : List ℕ) → Adds w v xs → AddsPrefix v u ys → AddsPrefix w u (xs ++ ys)
+prefix_behind w v u xs ys f g all e =
+    let h = g (all ++ xs) (f all e) in (
+      xs ++ h.0,
+      h.1,
+      ap (λ l. xs ++ l) h.2 ∙ sym (append_assoc xs h.0 h.1),
+      h.3 ∙ ap Some (append_assoc all xs h.0),
+    )
+
+-- all of it is a front of it
+pub prefix_whole : (w u : Told) (xs : List ℕ) → Adds w u xs → AddsPrefix w u xs
+prefix_whole w u xs f all e = (xs, [], sym (append-nil xs), f all e)

@@ -1,0 +1,401 @@
+-- The lines of a shell, one after another.
+use Rattle.std.proofs.Common.{◌≡◌, ◌+◌, ℕ, List, [], ◌∷◌, ◌++◌, length, Result, Ok, Err, Bool, true, false, if◌then◌else◌, refl, sym, ap, subst, ◌∙◌, append_assoc, inl, inr, arith, length-append}
+use Rattle.std.proofs.lemmas.List.{append-nil}
+use Rattle.cloud_trait.specs.Seen.{Seen}
+use Rattle.db_io.specs.Content.{Told, Adds, AddsPrefix}
+use Rattle.event_text.specs.declared.event.Event.{Event}
+use Rattle.event_text.specs.declared.event.Event.TheVariants.{Open, Close, Run}
+use Rattle.event_text.specs.Event.{IsShellLine}
+use Rattle.line_io.specs.Lines.{lines_of}
+use Rattle.line_io.specs.declared.output.OutputFault.{OutputFault}
+use Rattle.line_io.specs.declared.output.OutputFault.TheVariants as output
+use Rattle.line_io.specs.Output.{WasWritten}
+use Rattle.reply_text.specs.declared.reply.Reply.{Reply}
+use Rattle.reply_text.specs.declared.reply.Reply.TheVariants.{Begun}
+use Rattle.replay_meaning.specs.Standing.{Line}
+use Rattle.words.specs.Word.{IsReadTo}
+use Rattle.words.specs.declared.fault.TextFault.TheVariants.{NotInGrammar}
+use Rattle.schedule_run.specs.declared.play.Play.{Play}
+use Rattle.schedule_run.specs.declared.shell.ShellFault.{ShellFault}
+use Rattle.schedule_run.specs.declared.shell.ShellFault.TheVariants.{NotOpened, BadLine, WriteFault, Memory}
+use Rattle.schedule_run.specs.Play.{IsFresh, IsRun, answered, answered_run, StopsRun, stops_event, stops_run, Played}
+use Rattle.schedule_run.specs.Written.{NothingRan, reply_line, shown_from, bad_line}
+use Rattle.schedule_run.specs.Shell.{AreShellLines, IsBad, alone, with_run, no_events, more_events, WereRun, in_event, in_run, WereStopped, Opens, cut_opening, cut_lines, cut_closing, cut_refusal, out_before, out_writing, out_opening, out_next, ShellEnded, ShellWent, IsAt, RanOutAt, out_reply, out_event, EventRan, shown_by, ended, is_opened, opened_by, OpeningRan, ClosingRan, LineRefused, LineRan, event_run, refused, unread}
+use Rattle.schedule_run.proofs.GoingLemmas.{adds_more}
+use Rattle.schedule_run.proofs.PlayLemmas.{played_nothing, played_more, stopped_at, prefix_behind, prefix_whole}
+
+-- ---- events that are run whole
+
+run_nothing : (s : Seen) (play : Play) → IsFresh play → WereRun [] [] s s play
+run_nothing s play fresh = record { lines = []; whole = no_events; count = refl; played = played_nothing s play fresh }
+
+run_more : (events : List Event) (replies : List Reply) (event : Event) (reply : Reply) (s t z : Seen) (old new : Play)
+    → WereRun events replies s t old → IsRun event reply t z old new → WereRun (events ++ event ∷ []) (replies ++ reply ∷ []) s z new
+run_more events replies event reply s t z old new w (answered other next) = record {
+  lines = w.lines ++ record { event = event; reply = reply } ∷ [];
+  whole = more_events events event w.lines (record { event = event; reply = reply } ∷ []) replies reply w.whole (alone reply other);
+  count = omega (arith, length-append replies (reply ∷ []), length-append events (event ∷ []), w.count);
+  played = played_more w.lines event reply s t z old new w.played next;
+}
+run_more events replies event reply s t z old new w (answered_run mid play first last) =
+    let began : Line = record { event = event; reply = Begun } in
+    let ran : Line = record { event = Run 1; reply = reply } in
+    record {
+      lines = w.lines ++ began ∷ ran ∷ [];
+      whole = more_events events event w.lines (began ∷ ran ∷ []) replies reply w.whole (with_run reply);
+      count = omega (arith, length-append replies (reply ∷ []), length-append events (event ∷ []), w.count);
+      played = subst (λ ls. Played ls s z new) (append_assoc w.lines (began ∷ []) (ran ∷ []))
+          (played_more (w.lines ++ began ∷ []) (Run 1) reply s mid z play new (played_more w.lines event Begun s t mid old play w.played first) last);
+    }
+
+run_stopped : (events : List Event) (replies : List Reply) (event : Event) (s t z : Seen) (old new : Play)
+    → WereRun events replies s t old → StopsRun event t z old new → WereStopped events replies event s z
+run_stopped events replies event s t z old new w (stops_event out) = record {
+  lines = w.lines;
+  whole = w.whole;
+  stopped = in_event (stopped_at w.lines event s t z old new w.played out);
+}
+run_stopped events replies event s t z old new w (stops_run mid play first out) = record {
+  lines = w.lines;
+  whole = w.whole;
+  stopped = in_run
+      (stopped_at (w.lines ++ record { event = event; reply = Begun } ∷ []) (Run 1) s mid z play new
+      (played_more w.lines event Begun s t mid old play w.played first) out);
+}
+
+run_same : (events : List Event) (replies : List Reply) (s t z : Seen) (play : Play) → z ≡ t → WereRun events replies s t play → WereRun events replies s z play
+run_same events replies s t z play same w = subst (λ x. WereRun events replies s x play) (sym same) w
+
+-- ---- replies and texts
+
+shown_more : (n m : ℕ) (replies : List Reply) (reply : Reply) → m ≡ n + length replies → shown_from n (replies ++ reply ∷ []) ≡ shown_from n replies ++ reply_line m reply
+shown_more n m [] reply e =
+    let f : m ≡ n = omega arith in append-nil (reply_line n reply) ∙ ap (λ k. reply_line k reply) (sym f)
+shown_more n m (r ∷ replies) reply e =
+    let f : m ≡ (n + 1) + length replies = omega arith in
+    ap (λ xs. reply_line n r ++ xs) (shown_more (n + 1) m replies reply f) ∙ sym (append_assoc (reply_line n r) (shown_from (n + 1) replies) (reply_line m reply))
+
+shows_more : (w v u : Told) (replies : List Reply) (reply : Reply) (m : ℕ) → m ≡ length replies → Adds w v (shown_from 0 replies) → Adds v u (reply_line m reply)
+    → Adds w u (shown_from 0 (replies ++ reply ∷ []))
+shows_more w v u replies reply m e all one =
+    let f : m ≡ 0 + length replies = omega arith in
+    subst (λ xs. Adds w u xs) (sym (shown_more 0 m replies reply f)) (adds_more w v u (shown_from 0 replies) (reply_line m reply) all one)
+
+cuts_more : (w v u : Told) (replies : List Reply) (reply : Reply) (m : ℕ) → m ≡ length replies → Adds w v (shown_from 0 replies) → AddsPrefix v u (reply_line m reply)
+    → AddsPrefix w u (shown_from 0 (replies ++ reply ∷ []))
+cuts_more w v u replies reply m e all one =
+    let f : m ≡ 0 + length replies = omega arith in
+    subst (λ xs. AddsPrefix w u xs) (sym (shown_more 0 m replies reply f)) (prefix_behind w v u (shown_from 0 replies) (reply_line m reply) all one)
+
+opens_more : (replies more : List Reply) → Opens replies → Opens (replies ++ more)
+opens_more [] more opens = absurd opens
+opens_more (reply ∷ replies) more opens = opens
+
+shell_more : (texts : List (List ℕ)) (events : List Event) (text : List ℕ) (event : Event) → AreShellLines texts events → IsShellLine text event
+    → AreShellLines (texts ++ text ∷ []) (events ++ event ∷ [])
+shell_more [] [] text event s is = (is, tt)
+shell_more [] (e ∷ events) text event s is = absurd s
+shell_more (t ∷ texts) [] text event s is = absurd s
+shell_more (t ∷ texts) (e ∷ events) text event s is = (s.0, shell_more texts events text event s.1 is)
+
+-- where a reading answers that no shell's line is there, none is
+never_read : (event : Event) → IsReadTo (Err NotInGrammar) event → ⊥
+never_read event (inl e) = absurd (cc)
+never_read event (inr e) = absurd (cc)
+
+pub is_bad : (text : List ℕ) → ((event : Event) → IsShellLine text event → IsReadTo (Err NotInGrammar) event) → IsBad text
+is_bad text only event is = never_read event (only event is)
+
+-- ---- one event
+
+-- an event that was run, and whose last reply was written, or a part of it
+pub event_shown : (event : Event) (n : ℕ) (reply : Reply) (w u : Told) (s t : Seen) (old new : Play) (written : Result (Unit {0}) OutputFault) → IsRun event reply s t old new
+    → WasWritten w u (reply_line n reply) written → EventRan (shown_by written reply) n event w u s t old new
+event_shown event n reply w u s t old new (Ok done) run p = (run, p.0)
+event_shown event n reply w u s t old new (Err output.WriteFault) run p = (reply, run, p.0)
+event_shown event n reply w u s t old new (Err output.Memory) run p = out_reply reply run p.0
+
+-- an opening whose reply was written ends as the reply says
+pub opening_shown : (client : ℕ) (reply : Reply) (w u : Told) (s t : Seen) (old new : Play) → EventRan (Ok reply) 0 (Open 1 client) w u s t old new
+    → OpeningRan (opened_by reply) client w u s t old new
+opening_shown client reply w u s t old new ran = on (is_opened reply) refl where
+  on : (b : Bool) → is_opened reply ≡ b → OpeningRan (if b then Ok tt else Err NotOpened) client w u s t old new
+  on true is = (reply, is, ran)
+  on false is = (reply, is, ran)
+
+-- ---- the opening
+
+pub at_open : (client : ℕ) (text : List ℕ) (w u : Told) (s t : Seen) (old new : Play) → IsFresh old
+    → OpeningRan (Ok tt) client w u s t old new → IsAt client text text 0 w u s t new
+at_open client text w u s t old new fresh p = record {
+  events = [];
+  earlier = [];
+  at = refl;
+  spelled = tt;
+  count = refl;
+  replies = p.0 ∷ [];
+  run = run_more [] [] (Open 1 client) p.0 s s t old new (run_nothing s old fresh) p.2.0;
+  opened = p.1;
+  wrote = subst (λ xs. Adds w u xs) (sym (append-nil (reply_line 0 p.0))) p.2.1;
+}
+
+open_out : (client : ℕ) (text : List ℕ) (w u : Told) (s t : Seen) (old new : Play) → IsFresh old
+    → RanOutAt 0 (Open 1 client) w u s t old new → ShellEnded (Err Memory) client [] (lines_of text) w u s t
+open_out client text w u s t old new fresh (out_reply reply ran front) =
+    out_writing (cut_opening reply new (run_more [] [] (Open 1 client) reply s s t old new (run_nothing s old fresh) ran) front)
+open_out client text w u s t old new fresh (out_event stops same) =
+    out_opening (run_stopped [] [] (Open 1 client) s s t old new (run_nothing s old fresh) stops) same
+
+open_ended : (client : ℕ) (text : List ℕ) (w u : Told) (s t : Seen) (old new : Play) (fault : ShellFault) → IsFresh old
+    → OpeningRan (Err fault) client w u s t old new → ShellEnded (Err fault) client [] (lines_of text) w u s t
+open_ended client text w u s t old new NotOpened fresh p = record {
+  reply = p.0;
+  play = new;
+  run = run_more [] [] (Open 1 client) p.0 s s t old new (run_nothing s old fresh) p.2.0;
+  closed = p.1;
+  wrote = p.2.1;
+}
+open_ended client text w u s t old new BadLine fresh p = absurd p
+open_ended client text w u s t old new WriteFault fresh p =
+    cut_opening p.0 new (run_more [] [] (Open 1 client) p.0 s s t old new (run_nothing s old fresh) p.1) p.2
+open_ended client text w u s t old new Memory fresh p = open_out client text w u s t old new fresh p
+
+pub open_fault : (client : ℕ) (text : List ℕ) (w u : Told) (s t : Seen) (old new : Play) (fault : ShellFault) → IsFresh old
+    → OpeningRan (Err fault) client w u s t old new → ShellWent client text (Err fault) w u s t
+open_fault client text w u s t old new fault fresh p = record {
+  events = [];
+  earlier = [];
+  later = lines_of text;
+  at = refl;
+  spelled = tt;
+  so = open_ended client text w u s t old new fault fresh p;
+}
+
+-- where there is no memory for a world
+pub out_first : (client : ℕ) (text : List ℕ) (w u : Told) (s t : Seen) → NothingRan w u s t → ShellWent client text (Err Memory) w u s t
+out_first client text w u s t nothing = record {
+  events = [];
+  earlier = [];
+  later = lines_of text;
+  at = refl;
+  spelled = tt;
+  so = out_before nothing;
+}
+
+-- ---- one line more
+
+replies_count : (client : ℕ) (text rest : List ℕ) (n m : ℕ) (w v : Told) (s t : Seen) (play : Play)
+    → (is : IsAt client text rest n w v s t play) → m ≡ n + 1 → m ≡ length is.replies
+replies_count client text rest n m w v s t play is next =
+    let c : length is.events ≡ n = is.count in
+    let d : length is.replies ≡ length (Open 1 client ∷ is.events) = is.run.count in
+    omega arith
+
+pub at_more : (client : ℕ) (text rest behind line : List ℕ) (n m : ℕ) (w v u : Told) (s t z : Seen) (old new : Play)
+    → IsAt client text rest n w v s t old → lines_of rest ≡ line ∷ lines_of behind → m ≡ n + 1 → LineRan (Ok tt) m line v u t z old new
+    → IsAt client text behind m w u s z new
+at_more client text rest behind line n m w v u s t z old new is split next (event_run event (Ok reply) spells e ran) = record {
+  events = is.events ++ event ∷ [];
+  earlier = is.earlier ++ line ∷ [];
+  at = is.at ∙ ap (λ ls. is.earlier ++ ls) split ∙ sym (append_assoc is.earlier (line ∷ []) (lines_of behind));
+  spelled = shell_more is.earlier is.events line event is.spelled spells;
+  count = omega (arith, length-append is.events (event ∷ []), is.count);
+  replies = is.replies ++ reply ∷ [];
+  run = run_more (Open 1 client ∷ is.events) is.replies event reply s t z old new is.run ran.0;
+  opened = opens_more is.replies (reply ∷ []) is.opened;
+  wrote = shows_more w v u is.replies reply m (replies_count client text rest n m w v s t old is next) is.wrote ran.1;
+}
+at_more client text rest behind line n m w v u s t z old new is split next (event_run event (Err fault) spells e ran) = absurd (cc)
+at_more client text rest behind line n m w v u s t z old new is split next (refused bad e p) = absurd p
+at_more client text rest behind line n m w v u s t z old new is split next (unread e f same) = absurd (cc)
+
+-- where a shell stops between two lines for want of memory
+pub at_stop : (client : ℕ) (text rest : List ℕ) (n : ℕ) (w v : Told) (s t : Seen) (play : Play)
+    → IsAt client text rest n w v s t play → ShellWent client text (Err Memory) w v s t
+at_stop client text rest n w v s t play is = record {
+  events = is.events;
+  earlier = is.earlier;
+  later = lines_of rest;
+  at = is.at;
+  spelled = is.spelled;
+  so = out_writing (cut_lines is.replies play is.run is.opened (prefix_whole w v (shown_from 0 is.replies) is.wrote));
+}
+
+-- ---- the end
+
+close_out : (client : ℕ) (text rest : List ℕ) (n m : ℕ) (w v u : Told) (s t z : Seen) (old new : Play)
+    → (is : IsAt client text rest n w v s t old) → m ≡ n + 1 → RanOutAt m (Close 1) v u t z old new → ShellEnded (Err Memory) client is.events [] w u s z
+close_out client text rest n m w v u s t z old new is next (out_reply reply ran front) =
+    out_writing
+    (cut_closing (is.replies ++ reply ∷ []) new refl (run_more (Open 1 client ∷ is.events) is.replies (Close 1) reply s t z old new is.run ran)
+    (opens_more is.replies (reply ∷ []) is.opened)
+    (cuts_more w v u is.replies reply m (replies_count client text rest n m w v s t old is next) is.wrote front))
+close_out client text rest n m w v u s t z old new is next (out_event stops same) =
+    out_next is.replies (Close 1) refl (run_stopped (Open 1 client ∷ is.events) is.replies (Close 1) s t z old new is.run stops) is.opened
+    (subst (λ x. Adds w x (shown_from 0 is.replies)) (sym same) is.wrote)
+
+close_ended : (client : ℕ) (text rest : List ℕ) (n m : ℕ) (w v u : Told) (s t z : Seen) (old new : Play)
+    → (is : IsAt client text rest n w v s t old) → m ≡ n + 1 → (answer : Result Reply ShellFault) → EventRan answer m (Close 1) v u t z old new
+    → ShellEnded (ended answer) client is.events [] w u s z
+close_ended client text rest n m w v u s t z old new is next (Ok reply) ran = (
+  refl,
+  record {
+    replies = is.replies ++ reply ∷ [];
+    play = new;
+    run = run_more (Open 1 client ∷ is.events) is.replies (Close 1) reply s t z old new is.run ran.0;
+    opened = opens_more is.replies (reply ∷ []) is.opened;
+    wrote = shows_more w v u is.replies reply m (replies_count client text rest n m w v s t old is next) is.wrote ran.1;
+  },
+)
+close_ended client text rest n m w v u s t z old new is next (Err NotOpened) ran = absurd ran
+close_ended client text rest n m w v u s t z old new is next (Err BadLine) ran = absurd ran
+close_ended client text rest n m w v u s t z old new is next (Err WriteFault) ran =
+    cut_closing (is.replies ++ ran.0 ∷ []) new refl (run_more (Open 1 client ∷ is.events) is.replies (Close 1) ran.0 s t z old new is.run ran.1)
+    (opens_more is.replies (ran.0 ∷ []) is.opened)
+    (cuts_more w v u is.replies ran.0 m (replies_count client text rest n m w v s t old is next) is.wrote ran.2)
+close_ended client text rest n m w v u s t z old new is next (Err Memory) ran = close_out client text rest n m w v u s t z old new is next ran
+
+pub at_end : (client : ℕ) (text rest : List ℕ) (n m : ℕ) (w v u : Told) (s t z : Seen) (old new : Play) (result : Result (Unit {0}) ShellFault)
+    → IsAt client text rest n w v s t old → rest ≡ [] → m ≡ n + 1 → ClosingRan result m v u t z old new → ShellWent client text result w u s z
+at_end client text rest n m w v u s t z old new result is none next closing = record {
+  events = is.events;
+  earlier = is.earlier;
+  later = [];
+  at = is.at ∙ ap (λ r. is.earlier ++ lines_of r) none;
+  spelled = is.spelled;
+  so = subst (λ r. ShellEnded r client is.events [] w u s z) (sym closing.ends)
+      (close_ended client text rest n m w v u s t z old new is next closing.answer closing.ran);
+}
+
+-- ---- a line that ends the shell
+
+-- a line was met
+pub record IsMet (client : ℕ) (text rest behind line : List ℕ) (n m : ℕ) (w v : Told) (s t : Seen) (old : Play) : Type 0 where
+  pub is : IsAt client text rest n w v s t old
+  pub split : lines_of rest ≡ line ∷ lines_of behind
+  pub next : m ≡ n + 1
+
+met_count : {client : ℕ} {text rest behind line : List ℕ} {n m : ℕ} {w v : Told} {s t : Seen} {old : Play}
+    → (met : IsMet client text rest behind line n m w v s t old) → m ≡ length met.is.replies
+met_count {client} {text} {rest} {behind} {line} {n} {m} {w} {v} {s} {t} {old} met = replies_count client text rest n m w v s t old met.is met.next
+
+-- the shell ends before it
+ends_before : {client : ℕ} {text rest behind line : List ℕ} {n m : ℕ} {w v : Told} {s t : Seen} {old : Play}
+    → (result : Result (Unit {0}) ShellFault) (u : Told) (z : Seen) → (met : IsMet client text rest behind line n m w v s t old)
+    → ShellEnded result client met.is.events (line ∷ lines_of behind) w u s z → ShellWent client text result w u s z
+ends_before {client} {text} {rest} {behind} {line} {n} {m} {w} {v} {s} {t} {old} result u z met so = record {
+  events = met.is.events;
+  earlier = met.is.earlier;
+  later = line ∷ lines_of behind;
+  at = met.is.at ∙ ap (λ ls. met.is.earlier ++ ls) met.split;
+  spelled = met.is.spelled;
+  so = so;
+}
+
+-- its reply is cut
+ends_cut : {client : ℕ} {text rest behind line : List ℕ} {n m : ℕ} {w v : Told} {s t : Seen} {old : Play}
+    → (met : IsMet client text rest behind line n m w v s t old) (event : Event) (reply : Reply) (u : Told) (z : Seen) (new : Play)
+    → IsShellLine line event → IsRun event reply t z old new → AddsPrefix v u (reply_line m reply)
+    → ShellWent client text (Err WriteFault) w u s z × ShellWent client text (Err Memory) w u s z
+ends_cut {client} {text} {rest} {behind} {line} {n} {m} {w} {v} {s} {t} {old} met event reply u z new spells ran front =
+    let is = met.is in
+    let at : lines_of text ≡ (is.earlier ++ line ∷ []) ++ lines_of behind =
+    is.at ∙ ap (λ ls. is.earlier ++ ls) met.split ∙ sym (append_assoc is.earlier (line ∷ []) (lines_of behind)) in
+    let run : WereRun (Open 1 client ∷ (is.events ++ event ∷ [])) (is.replies ++ reply ∷ []) s z new =
+    run_more (Open 1 client ∷ is.events) is.replies event reply s t z old new is.run ran in
+    let opens : Opens (is.replies ++ reply ∷ []) = opens_more is.replies (reply ∷ []) is.opened in
+    let wrote : AddsPrefix w u (shown_from 0 (is.replies ++ reply ∷ [])) = cuts_more w v u is.replies reply m (met_count met) is.wrote front in
+    let spelled : AreShellLines (is.earlier ++ line ∷ []) (is.events ++ event ∷ []) = shell_more is.earlier is.events line event is.spelled spells in (
+      record {
+        events = is.events ++ event ∷ [];
+        earlier = is.earlier ++ line ∷ [];
+        later = lines_of behind;
+        at = at;
+        spelled = spelled;
+        so = cut_lines (is.replies ++ reply ∷ []) new run opens wrote;
+      },
+      record {
+        events = is.events ++ event ∷ [];
+        earlier = is.earlier ++ line ∷ [];
+        later = lines_of behind;
+        at = at;
+        spelled = spelled;
+        so = out_writing (cut_lines (is.replies ++ reply ∷ []) new run opens wrote);
+      },
+    )
+
+event_out : {client : ℕ} {text rest behind line : List ℕ} {n m : ℕ} {w v : Told} {s t : Seen} {old : Play}
+    → (met : IsMet client text rest behind line n m w v s t old) (event : Event) (u : Told) (z : Seen) (new : Play) → IsShellLine line event
+    → RanOutAt m event v u t z old new → ShellWent client text (Err Memory) w u s z
+event_out {client} {text} {rest} {behind} {line} {n} {m} {w} {v} {s} {t} {old} met event u z new spells (out_reply reply ran front) =
+    (ends_cut met event reply u z new spells ran front).1
+event_out {client} {text} {rest} {behind} {line} {n} {m} {w} {v} {s} {t} {old} met event u z new spells (out_event stops same) =
+    let is = met.is in
+    ends_before (Err Memory) u z met
+    (out_next is.replies event spells (run_stopped (Open 1 client ∷ is.events) is.replies event s t z old new is.run stops) is.opened
+    (subst (λ x. Adds w x (shown_from 0 is.replies)) (sym same) is.wrote))
+
+event_fault : {client : ℕ} {text rest behind line : List ℕ} {n m : ℕ} {w v : Told} {s t : Seen} {old : Play}
+    → (met : IsMet client text rest behind line n m w v s t old) (event : Event) (u : Told) (z : Seen) (new : Play) (fault : ShellFault)
+    → IsShellLine line event → EventRan (Err fault) m event v u t z old new → ShellWent client text (Err fault) w u s z
+event_fault met event u z new NotOpened spells ran = absurd ran
+event_fault met event u z new BadLine spells ran = absurd ran
+event_fault met event u z new WriteFault spells ran = (ends_cut met event ran.0 u z new spells ran.1 ran.2).0
+event_fault met event u z new Memory spells ran = event_out met event u z new spells ran
+
+-- its refusal is written, or a part of it
+line_refused : {client : ℕ} {text rest behind line : List ℕ} {n m : ℕ} {w v : Told} {s t : Seen} {old : Play}
+    → (met : IsMet client text rest behind line n m w v s t old) (u : Told) (z : Seen) (fault : ShellFault)
+    → IsBad line → z ≡ t → LineRefused (Err fault) m v u → ShellEnded (Err fault) client met.is.events (line ∷ lines_of behind) w u s z
+line_refused {client} {text} {rest} {behind} {line} {n} {m} {w} {v} {s} {t} {old} met u z NotOpened bad same p = absurd p
+line_refused {client} {text} {rest} {behind} {line} {n} {m} {w} {v} {s} {t} {old} met u z BadLine bad same p =
+    let is = met.is in (
+      bad,
+      record {
+        replies = is.replies;
+        play = old;
+        run = run_same (Open 1 client ∷ is.events) is.replies s t z old same is.run;
+        opened = is.opened;
+        wrote = subst (λ j. Adds w u (shown_from 0 is.replies ++ bad_line j)) (met_count met)
+            (adds_more w v u (shown_from 0 is.replies) (bad_line m) is.wrote p);
+      },
+    )
+line_refused {client} {text} {rest} {behind} {line} {n} {m} {w} {v} {s} {t} {old} met u z WriteFault bad same p =
+    let is = met.is in
+    cut_refusal is.replies old bad (run_same (Open 1 client ∷ is.events) is.replies s t z old same is.run) is.opened
+    (subst (λ j. AddsPrefix w u (shown_from 0 is.replies ++ bad_line j)) (met_count met)
+    (prefix_behind w v u (shown_from 0 is.replies) (bad_line m) is.wrote p))
+line_refused {client} {text} {rest} {behind} {line} {n} {m} {w} {v} {s} {t} {old} met u z Memory bad same p =
+    let is = met.is in
+    out_writing
+    (cut_refusal is.replies old bad (run_same (Open 1 client ∷ is.events) is.replies s t z old same is.run) is.opened
+    (subst (λ j. AddsPrefix w u (shown_from 0 is.replies ++ bad_line j)) (met_count met)
+    (prefix_behind w v u (shown_from 0 is.replies) (bad_line m) is.wrote p)))
+
+-- it was not read for want of memory
+line_unread : {client : ℕ} {text rest behind line : List ℕ} {n m : ℕ} {w v : Told} {s t : Seen} {old : Play}
+    → (met : IsMet client text rest behind line n m w v s t old) (u : Told) (z : Seen) → z ≡ t → u ≡ v
+    → ShellWent client text (Err Memory) w u s z
+line_unread {client} {text} {rest} {behind} {line} {n} {m} {w} {v} {s} {t} {old} met u z same told =
+    let is = met.is in
+    ends_before (Err Memory) u z met
+    (out_writing
+    (cut_lines is.replies old (run_same (Open 1 client ∷ is.events) is.replies s t z old same is.run) is.opened
+    (subst (λ x. AddsPrefix w x (shown_from 0 is.replies)) (sym told) (prefix_whole w v (shown_from 0 is.replies) is.wrote))))
+
+by_fault : {client : ℕ} {text rest behind line : List ℕ} {n m : ℕ} {w v : Told} {s t : Seen} {old : Play}
+    → (met : IsMet client text rest behind line n m w v s t old) (u : Told) (z : Seen) (new : Play) (fault : ShellFault)
+    → LineRan (Err fault) m line v u t z old new → ShellWent client text (Err fault) w u s z
+by_fault met u z new fault (event_run event (Ok reply) spells e ran) = absurd (cc)
+by_fault {client} {text} {rest} {behind} {line} {n} {m} {w} {v} {s} {t} {old} met u z new fault (event_run event (Err why) spells e ran) =
+    subst (λ r. ShellWent client text r w u s z) (sym e) (event_fault met event u z new why spells ran)
+by_fault met u z new fault (refused bad same p) = ends_before (Err fault) u z met (line_refused met u z fault bad same p)
+by_fault {client} {text} {rest} {behind} {line} {n} {m} {w} {v} {s} {t} {old} met u z new fault (unread e same told) =
+    subst (λ r. ShellWent client text r w u s z) (sym e) (line_unread met u z same told)
+
+pub at_fault : (client : ℕ) (text rest behind line : List ℕ) (n m : ℕ) (w v u : Told) (s t z : Seen) (old new : Play) (fault : ShellFault)
+    → IsAt client text rest n w v s t old → lines_of rest ≡ line ∷ lines_of behind → m ≡ n + 1 → LineRan (Err fault) m line v u t z old new
+    → ShellWent client text (Err fault) w u s z
+at_fault client text rest behind line n m w v u s t z old new fault is split next ran =
+    let met : IsMet client text rest behind line n m w v s t old = record { is = is; split = split; next = next } in
+    by_fault met u z new fault ran

@@ -1,0 +1,47 @@
+-- Lines that a world handles, one behind another.
+use Rattle.std.specs.Prelude.{ℕ, ◌≡◌, ◌+◌, false, List, [], ◌∷◌, ◌++◌, length, replicate, take, slice_get, Some, Ok, Err}
+use Rattle.client_session.specs.Session.{closed_session}
+use Rattle.cloud_trait.specs.State.{CloudState, IsEmptyCloud}
+use Rattle.cloud_trait.specs.Seen.{Seen}
+use Rattle.cloud_trait.specs.Upto.{upto}
+use Rattle.event_text.specs.declared.event.Event.{Event}
+use Rattle.replay_meaning.specs.Standing.{Line}
+use Rattle.replay_meaning.specs.Right.{ReportIsRight}
+use Rattle.world_core.specs.declared.world.World.{World}
+use Rattle.world_core.specs.declared.world.WorldFault.{WorldFault}
+use Rattle.world_core.specs.Handled.{Handled}
+
+-- a world whose sessions are closed, and that saw nothing
+pub record IsNew (world : World) : Type 0 where
+  pub sessions : world.sessions ≡ replicate 17 closed_session
+  pub audit : world.audit ≡ record { committed = []; order = [] }
+  pub sees : world.blind ≡ false
+
+-- these lines were handled one behind another: each did what its event asks for, and its reply is the reply to that
+pub data WentOn (before : Seen) (old : World) : List Line → Seen → World → Type 0 where
+  start : WentOn before old [] before old
+  further : (lines : List Line) (line : Line) (mid after : Seen) (world new : World)
+      → WentOn before old lines mid world → Handled (length lines + 1) line.event mid after world new (Ok line.reply)
+      → WentOn before old (lines ++ line ∷ []) after new
+
+-- these lines were handled from a new world on
+pub record AreAnswered (lines : List Line) (before after : Seen) : Type 0 where
+  pub first : World
+  pub fresh : IsNew first
+  pub last : World
+  pub went : WentOn before first lines after last
+
+-- behind these lines this event was handled, and has no reply, by this fault
+pub record IsUnanswered (lines : List Line) (event : Event) (fault : WorldFault) (before after : Seen) : Type 0 where
+  pub mid : Seen
+  pub answered : AreAnswered lines before mid
+  pub last : World
+  pub handled : Handled (length lines + 1) event mid after answered.last last (Err fault)
+
+-- every report is right for the lines up to its own and the state up to its line
+abbrev pub ReportsAreRight : List Line → CloudState → Type 0
+ReportsAreRight lines t = (k : ℕ) (line : Line) → slice_get lines k ≡ Some line → ReportIsRight (take (k + 1) lines) (upto t (k + 1)) line.reply
+
+-- over a cloud that was empty and told its state, every report of these lines is right for the state in which they left it
+abbrev pub KeepsTheTheorem : List Line → Seen → Seen → Type 0
+KeepsTheTheorem lines before after = (t : CloudState) → before.state ≡ Some t → IsEmptyCloud t → (u : CloudState) × (after.state ≡ Some u) × ReportsAreRight lines u

@@ -1,0 +1,74 @@
+-- A world that handles one event behind another, from a new one on.
+use Rattle.std.specs.Prelude.{◌≡◌, ◌+◌, List, length, Some, Result, Ok, Err}
+use Rattle.cloud_trait.specs.State.{CloudState, IsEmptyCloud}
+use Rattle.cloud_trait.specs.Seen.{Seen}
+use Rattle.event_text.specs.declared.event.Event.{Event}
+use Rattle.event_text.specs.declared.event.Event.TheVariants.{Run}
+use Rattle.reply_text.specs.declared.reply.Reply.{Reply}
+use Rattle.reply_text.specs.declared.reply.Reply.TheVariants.{Begun}
+use Rattle.replay_meaning.specs.Standing.{Line}
+use Rattle.world_core.specs.declared.world.World.{World}
+use Rattle.world_core.specs.declared.world.WorldFault.{WorldFault}
+use Rattle.world_core.specs.declared.world.WorldFault.TheVariants as world
+use Rattle.world_core.specs.Handled.{Handled}
+use Rattle.world_core.specs.Stands.{WorldStands, StandsOn, Grows}
+use Rattle.schedule_run.specs.declared.play.Play.{Play}
+use Rattle.schedule_run.specs.Answered.{IsNew, WentOn, IsUnanswered, ReportsAreRight, KeepsTheTheorem}
+
+-- a new world that has handled nothing
+pub record IsFresh (play : Play) : Type 0 where
+  pub world : IsNew play.world
+  pub none : play.handled ≡ 0
+
+-- ---- the next event
+
+-- it was handled under the next number and has this reply, and what stood stands with it
+pub record IsNext (event : Event) (reply : Reply) (before after : Seen) (old new : Play) : Type 0 where
+  pub count : new.handled ≡ old.handled + 1
+  pub handled : Handled new.handled event before after old.world new.world (Ok reply)
+  pub stands : StandsOn new.handled event before after old.world new.world (Ok reply)
+  pub grows : Grows new.handled before after
+
+-- memory ran out before it did anything, or while it was handled
+pub data RanOut (event : Event) (before after : Seen) (old new : Play) : Type 0 where
+  uncounted : after ≡ before → RanOut event before after old new
+  no_answer : Handled (old.handled + 1) event before after old.world new.world (Err world.Memory) → Grows (old.handled + 1) before after
+      → RanOut event before after old new
+
+abbrev pub Takes : Event → Result Reply WorldFault → Seen → Seen → Play → Play → Type 0
+Takes event (Ok reply) before after old new = IsNext event reply before after old new
+Takes event (Err fault) before after old new = RanOut event before after old new
+
+-- ---- an event that is run whole
+
+-- it was handled and, where it began an operation, the run of session 1: this is the last reply
+pub data IsRun (event : Event) (reply : Reply) (before after : Seen) (old new : Play) : Type 0 where
+  answered : (reply ≡ Begun → ⊥) → IsNext event reply before after old new → IsRun event reply before after old new
+  answered_run : (mid : Seen) (play : Play) → IsNext event Begun before mid old play → IsNext (Run 1) reply mid after play new
+      → IsRun event reply before after old new
+
+-- memory ran out at it, or at the run
+pub data StopsRun (event : Event) (before after : Seen) (old new : Play) : Type 0 where
+  stops_event : RanOut event before after old new → StopsRun event before after old new
+  stops_run : (mid : Seen) (play : Play) → IsNext event Begun before mid old play → RanOut (Run 1) mid after play new
+      → StopsRun event before after old new
+
+abbrev pub RunsWhole : Event → Result Reply WorldFault → Seen → Seen → Play → Play → Type 0
+RunsWhole event (Ok reply) before after old new = IsRun event reply before after old new
+RunsWhole event (Err fault) before after old new = StopsRun event before after old new
+
+-- ---- lines from a new world on
+
+-- these lines were handled from a new world on; over a cloud that was empty all stands for them, and every report is right
+pub record Played (lines : List Line) (start now : Seen) (play : Play) : Type 0 where
+  pub count : play.handled ≡ length lines
+  pub first : World
+  pub fresh : IsNew first
+  pub went : WentOn start first lines now play.world
+  pub stands : (t : CloudState) → start.state ≡ Some t → IsEmptyCloud t
+      → (u : CloudState) × (now.state ≡ Some u) × WorldStands lines play.world u × ReportsAreRight lines u
+
+-- behind these lines memory ran out: before this event did anything, or while it was handled. What was handled keeps the theorem
+pub data StoppedAt (event : Event) (lines : List Line) (start now : Seen) : Type 0 where
+  stopped_before : (play : Play) → Played lines start now play → StoppedAt event lines start now
+  stopped_within : IsUnanswered lines event world.Memory start now → KeepsTheTheorem lines start now → StoppedAt event lines start now

@@ -1,0 +1,146 @@
+-- What a replay writes and leaves, line by line.
+use Rattle.std.specs.Prelude.{ℕ, ◌≡◌, ◌+◌, ◌⊎◌, List, [], ◌∷◌, ◌++◌, length, Some, Result, Ok, Err}
+use Rattle.cloud_trait.specs.State.{CloudState, IsEmptyCloud}
+use Rattle.cloud_trait.specs.Seen.{Seen}
+use Rattle.db_io.specs.Content.{Told, Adds, AddsPrefix}
+use Rattle.event_text.specs.declared.event.Event.{Event}
+use Rattle.event_text.specs.Event.{IsEvent}
+use Rattle.line_io.specs.Lines.{lines_of}
+use Rattle.reply_text.specs.declared.reply.Reply.{Reply}
+use Rattle.replay_meaning.specs.Standing.{Line}
+use Rattle.world_core.specs.declared.world.World.{World}
+use Rattle.world_core.specs.declared.world.WorldFault.{WorldFault}
+use Rattle.world_core.specs.declared.world.WorldFault.TheVariants as world
+use Rattle.world_core.specs.Handled.{Handled}
+use Rattle.world_core.specs.Stands.{WorldStands, StandsOn}
+use Rattle.schedule_run.specs.declared.replay.LineFault.{LineFault}
+use Rattle.schedule_run.specs.declared.replay.LineFault.TheVariants.{BadLine, WriteFault, Memory}
+use Rattle.schedule_run.specs.Answered.{WentOn, AreAnswered, IsUnanswered, ReportsAreRight, KeepsTheTheorem}
+use Rattle.schedule_run.specs.Written.{NothingRan, reply_line, bad_line, replies}
+
+-- each text spells the event of its line
+abbrev pub AreSpelled : List (List ℕ) → List Line → Type 0
+AreSpelled [] [] = Unit {0}
+AreSpelled [] (line ∷ lines) = ⊥
+AreSpelled (text ∷ texts) [] = ⊥
+AreSpelled (text ∷ texts) (line ∷ lines) = IsEvent text line.event × AreSpelled texts lines
+
+-- ---- how the lines ended
+
+-- the first of these texts spells this event
+abbrev pub Begins : List (List ℕ) → Event → Type 0
+Begins [] event = ⊥
+Begins (text ∷ texts) event = IsEvent text event
+
+-- the first of these texts is in no grammar
+abbrev pub BeginsBad : List (List ℕ) → Type 0
+BeginsBad [] = ⊥
+BeginsBad (text ∷ texts) = (event : Event) → IsEvent text event → ⊥
+
+-- all of these bytes are written, and the first part of those
+pub record AddsFront (written now_written : Told) (all part : List ℕ) : Type 0 where
+  pub between : Told
+  pub whole : Adds written between all
+  pub front : AddsPrefix between now_written part
+
+-- a text was cut short: the reply to the last line, or what is written of the next text, which is in no grammar; all before it is written
+pub data WroteFront (lines : List Line) (later : List (List ℕ)) (written now_written : Told) : Type 0 where
+  reply_cut : (earlier : List Line) (line : Line) → lines ≡ earlier ++ line ∷ []
+      → AddsFront written now_written (replies earlier) (reply_line (length lines) line.reply) → WroteFront lines later written now_written
+  refusal_cut : BeginsBad later → AddsFront written now_written (replies lines) (bad_line (length lines + 1)) → WroteFront lines later written now_written
+
+-- the lines were handled and their replies are written, and the next one was handled, has no reply by this fault, and wrote nothing
+pub record EndedBy (fault : WorldFault) (lines : List Line) (later : List (List ℕ)) (written now_written : Told) (start now : Seen) : Type 0 where
+  pub event : Event
+  pub spelled : Begins later event
+  pub handled : IsUnanswered lines event fault start now
+  pub wrote : Adds written now_written (replies lines)
+
+-- where memory ran out: before the next line did anything, while a text was written, or while the next line was handled
+pub data RanOut (lines : List Line) (later : List (List ℕ)) (written now_written : Told) (start now : Seen) : Type 0 where
+  between : AreAnswered lines start now → Adds written now_written (replies lines) → RanOut lines later written now_written start now
+  writing : AreAnswered lines start now → WroteFront lines later written now_written → RanOut lines later written now_written start now
+  handling : EndedBy world.Memory lines later written now_written start now → RanOut lines later written now_written start now
+
+-- how these lines ended, before these texts
+abbrev pub Ended : Result (Unit {0}) LineFault → List Line → List (List ℕ) → Told → Told → Seen → Seen → Type 0
+Ended (Ok done) lines later written now_written start now =
+    (later ≡ []) × AreAnswered lines start now × Adds written now_written (replies lines)
+Ended (Err BadLine) lines later written now_written start now =
+    BeginsBad later × AreAnswered lines start now × Adds written now_written (replies lines ++ bad_line (length lines + 1))
+Ended (Err WriteFault) lines later written now_written start now = AreAnswered lines start now × WroteFront lines later written now_written
+Ended (Err Memory) lines later written now_written start now = RanOut lines later written now_written start now
+
+-- a text was handled line by line up to this end: the first lines of it spell the lines that were handled
+pub record WentThrough (text : List ℕ) (ended : Result (Unit {0}) LineFault) (written now_written : Told) (start now : Seen) : Type 0 where
+  pub lines : List Line
+  pub earlier : List (List ℕ)
+  pub later : List (List ℕ)
+  pub at : lines_of text ≡ earlier ++ later
+  pub spelled : AreSpelled earlier lines
+  pub so : Ended ended lines later written now_written start now
+  pub theorem : KeepsTheTheorem lines start now
+
+-- ---- between two lines
+
+-- these texts were handled line by line from a world on: their replies are written, and over a cloud that was empty all stands and is right
+pub record Handles (texts : List (List ℕ)) (written now_written : Told) (start now : Seen) (first world : World) : Type 0 where
+  pub lines : List Line
+  pub spelled : AreSpelled texts lines
+  pub wrote : Adds written now_written (replies lines)
+  pub went : WentOn start first lines now world
+  pub stands : (t : CloudState) → start.state ≡ Some t → IsEmptyCloud t
+      → (u : CloudState) × (now.state ≡ Some u) × WorldStands lines world u × ReportsAreRight lines u
+
+-- so many lines of the text stand before the rest, and were handled
+pub record IsAt (text rest : List ℕ) (n : ℕ) (written now_written : Told) (start now : Seen) (first world : World) : Type 0 where
+  pub earlier : List (List ℕ)
+  pub at : lines_of text ≡ earlier ++ lines_of rest
+  pub count : length earlier ≡ n
+  pub handles : Handles earlier written now_written start now first world
+
+-- ---- one line
+
+-- an event was handled and has this reply, and what stood stands with it
+pub record IsAnswered (n : ℕ) (event : Event) (start now : Seen) (old new : World) (reply : Reply) : Type 0 where
+  pub handled : Handled n event start now old new (Ok reply)
+  pub stands : StandsOn n event start now old new (Ok reply)
+
+-- what the event of a line did: its reply is written, or a part of it, or there is none
+abbrev pub LineHandled : Result (Unit {0}) LineFault → ℕ → Event → Told → Told → Seen → Seen → World → World → Type 0
+LineHandled (Ok done) n event written now_written start now old new =
+    (reply : Reply) × IsAnswered n event start now old new reply × Adds written now_written (reply_line n reply)
+LineHandled (Err BadLine) n event written now_written start now old new = ⊥
+LineHandled (Err WriteFault) n event written now_written start now old new =
+    (reply : Reply) × IsAnswered n event start now old new reply × AddsPrefix written now_written (reply_line n reply)
+LineHandled (Err Memory) n event written now_written start now old new =
+    ((reply : Reply) × IsAnswered n event start now old new reply × AddsPrefix written now_written (reply_line n reply))
+    ⊎ (Handled n event start now old new (Err world.Memory) × (now_written ≡ written))
+
+-- what a line did whose text is in no grammar: nothing of it was handled, and its refusal is written, or a part of it
+abbrev pub LineRefused : Result (Unit {0}) LineFault → ℕ → Told → Told → Type 0
+LineRefused (Err BadLine) n written now_written = Adds written now_written (bad_line n)
+LineRefused (Err WriteFault) n written now_written = AddsPrefix written now_written (bad_line n)
+LineRefused (Err Memory) n written now_written = AddsPrefix written now_written (bad_line n)
+LineRefused (Ok done) n written now_written = ⊥
+
+-- what a line did: its event was handled, or it is in no grammar, or memory ran out before
+pub data LineWent (result : Result (Unit {0}) LineFault) (n : ℕ) (text : List ℕ) (written now_written : Told) (start now : Seen) (old new : World) : Type 0 where
+  event_handled : (event : Event) → IsEvent text event → LineHandled result n event written now_written start now old new → LineWent result n text written now_written start now old new
+  refused : ((event : Event) → IsEvent text event → ⊥) → now ≡ start → LineRefused result n written now_written → LineWent result n text written now_written start now old new
+  unread : result ≡ Err Memory → now ≡ start → now_written ≡ written → LineWent result n text written now_written start now old new
+
+-- ---- a whole text
+
+-- a line of the text spells no event
+pub record HasBadLine (text : List ℕ) : Type 0 where
+  pub earlier : List (List ℕ)
+  pub line : List ℕ
+  pub later : List (List ℕ)
+  pub at : lines_of text ≡ earlier ++ line ∷ later
+  pub bad : (event : Event) → IsEvent line event → ⊥
+
+-- a text was handled line by line up to this end; or there was no memory for a world, and nothing ran
+abbrev pub ReplayWent : Result (Unit {0}) LineFault → List ℕ → Told → Told → Seen → Seen → Type 0
+ReplayWent (Err Memory) text written now_written start now = NothingRan written now_written start now ⊎ WentThrough text (Err Memory) written now_written start now
+ReplayWent ended text written now_written start now = WentThrough text ended written now_written start now

@@ -1,0 +1,58 @@
+-- What a settling writes and leaves.
+use Rattle.std.specs.Prelude.{◌≡◌, Bool, true, false, if◌then◌else◌, [], ◌∷◌, Result, Ok, Err}
+use Rattle.cloud_trait.specs.Seen.{Seen}
+use Rattle.db_io.specs.Content.{Told, Adds, AddsPrefix}
+use Rattle.event_text.specs.declared.event.Event.TheVariants.{Settle}
+use Rattle.line_io.specs.declared.output.OutputFault.{OutputFault}
+use Rattle.line_io.specs.declared.output.OutputFault.TheVariants as output
+use Rattle.reply_text.specs.declared.reply.Reply.{Reply}
+use Rattle.reply_text.specs.declared.reply.Reply.TheVariants.{Settled}
+use Rattle.schedule_run.specs.declared.play.Play.{Play}
+use Rattle.schedule_run.specs.declared.settling.SettleFault.{SettleFault}
+use Rattle.schedule_run.specs.declared.settling.SettleFault.TheVariants.{NotSettled, WriteFault, Memory}
+use Rattle.schedule_run.specs.Play.{Played, StoppedAt}
+use Rattle.schedule_run.specs.Written.{NothingRan, reply_line}
+
+-- a reply says that the settling is done
+abbrev pub is_settled : Reply → Bool
+is_settled (Settled calls) = true
+is_settled reply = false
+
+-- the one line `settle` was handled in a new world, and has this reply
+pub record WasSettled (reply : Reply) (start now : Seen) : Type 0 where
+  pub play : Play
+  pub played : Played (record { event = Settle; reply = reply } ∷ []) start now play
+
+-- it is written under number 1
+pub record ShowsSettling (reply : Reply) (written now_written : Told) (start now : Seen) : Type 0 where
+  pub handled : WasSettled reply start now
+  pub wrote : Adds written now_written (reply_line 1 reply)
+
+-- the first part of it is
+pub record CutsSettling (written now_written : Told) (start now : Seen) : Type 0 where
+  pub reply : Reply
+  pub handled : WasSettled reply start now
+  pub wrote : AddsPrefix written now_written (reply_line 1 reply)
+
+-- where memory ran out: before anything, while the line was handled, or while its reply was written
+pub data SettlingRanOut (written now_written : Told) (start now : Seen) : Type 0 where
+  out_before : NothingRan written now_written start now → SettlingRanOut written now_written start now
+  out_handling : StoppedAt Settle [] start now → now_written ≡ written → SettlingRanOut written now_written start now
+  out_writing : CutsSettling written now_written start now → SettlingRanOut written now_written start now
+
+-- how a settling ended: well exactly where its reply says that it is done
+abbrev pub SettleEnded : Result (Unit {0}) SettleFault → Told → Told → Seen → Seen → Type 0
+SettleEnded (Ok done) written now_written start now = (reply : Reply) × (is_settled reply ≡ true) × ShowsSettling reply written now_written start now
+SettleEnded (Err NotSettled) written now_written start now = (reply : Reply) × (is_settled reply ≡ false) × ShowsSettling reply written now_written start now
+SettleEnded (Err WriteFault) written now_written start now = CutsSettling written now_written start now
+SettleEnded (Err Memory) written now_written start now = SettlingRanOut written now_written start now
+
+-- the end that a reply leads to
+abbrev pub settled_by : Reply → Result (Unit {0}) SettleFault
+settled_by reply = if is_settled reply then Ok tt else Err NotSettled
+
+-- by how the reply was written
+abbrev pub settle_end_of : Result (Unit {0}) OutputFault → Reply → Result (Unit {0}) SettleFault
+settle_end_of (Ok done) reply = settled_by reply
+settle_end_of (Err output.WriteFault) reply = Err WriteFault
+settle_end_of (Err output.Memory) reply = Err Memory

@@ -1,0 +1,78 @@
+//! A world, and how many events it has handled.
+
+ghost use Rattle.std.specs.Prelude.{IfOk};
+ghost use Rattle.schedule_run.specs.Play.{IsFresh, Takes, RunsWhole};
+
+use cloud_trait::cloud::Bench;
+use db_base::refusal::Refused;
+use event_text::event::Event;
+use reply_text::reply::Reply;
+use std::alloc::Global;
+use world_core::world::{World, WorldFault};
+
+/// A world that handles one event behind another, each under the next number from 1 on.
+pub(crate) struct Play {
+    /// The world.
+    pub world: World,
+    /// How many events it has handled.
+    pub handled: u64,
+}
+
+// Written out, so that what holds one need not look into it to let it go.
+impl Drop for Play {
+    fn drop(self) {
+        let Play {
+            world: _,
+            handled: _,
+        } = self;
+    }
+}
+
+impl Play {
+    /// A new world, that has handled nothing. Refused for memory alone.
+    pub fn new(alloc: Global) -> Result<Play, Refused>
+        ensures { IfOk result (λ play. IsFresh play) }
+    {
+        Ok(Play {
+            world: World::new(alloc)?,
+            handled: 0,
+        })
+    }
+
+    /// Handles the next event.
+    pub fn take<C: Bench>(
+        &mut self,
+        alloc: Global,
+        cloud: &mut C,
+        event: &Event,
+    ) -> Result<Reply, WorldFault>
+        ensures { Takes event.now result (C.seen cloud.old) (C.seen cloud.new) self.old self.new }
+    {
+        self.handled = match self.handled.checked_add(1) {
+            Some(handled) => handled,
+            None => return Err(WorldFault::Memory),
+        };
+        match self.world.event(alloc, cloud, self.handled, event) {
+            Ok(reply) => Ok(reply),
+            Err(WorldFault::Memory) => Err(WorldFault::Memory),
+        }
+    }
+
+    /// Handles an event and, where it began an operation of session 1, the run of that session. The last reply.
+    pub fn run_whole<C: Bench>(
+        &mut self,
+        alloc: Global,
+        cloud: &mut C,
+        event: &Event,
+    ) -> Result<Reply, WorldFault>
+        ensures { RunsWhole event.now result (C.seen cloud.old) (C.seen cloud.new) self.old self.new }
+    {
+        match self.take(alloc, cloud, event) {
+            Ok(reply) => match reply {
+                Reply::Begun => self.take(alloc, cloud, &Event::Run { session: 1 }),
+                reply => Ok(reply),
+            },
+            Err(fault) => Err(fault),
+        }
+    }
+}

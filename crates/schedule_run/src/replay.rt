@@ -1,0 +1,133 @@
+ghost use Rattle.std.specs.Prelude.{◌≡◌, ◌<◌, ◌≤◌, Err};
+ghost use Rattle.event_text.specs.declared.event.Event.{Event};
+ghost use Rattle.event_text.specs.Event.{IsEvent};
+ghost use Rattle.world_core.specs.Stands.{Grows};
+ghost use Rattle.schedule_run.specs.Answered.{IsNew};
+ghost use Rattle.schedule_run.specs.Replayed.{HasBadLine, LineWent, LineHandled, ReplayWent, WentThrough};
+
+use crate::writing::{refuse, write_reply};
+use cloud_trait::cloud::Bench;
+use db_io::sink::Sink;
+use event_text::event::Event;
+use line_io::lines::next_line;
+use line_io::output::OutputFault;
+use std::alloc::Global;
+use words::fault::TextFault;
+use world_core::world::{World, WorldFault};
+
+/// Why a line ends the run.
+#[derive(Clone, Copy, Debug, PartialEq, Eq)]
+pub enum LineFault {
+    /// It is not in the grammar. What was handled before it stands.
+    BadLine,
+    /// A write failed.
+    WriteFault,
+    /// Memory ran out.
+    Memory,
+}
+
+/// Replays the lines of an input: one reply a line, in one write each.
+pub fn replay_lines<O: Sink, C: Bench>(
+    alloc: Global,
+    input: &[u8],
+    sink: &mut O,
+    cloud: &mut C,
+) -> Result<(), LineFault>
+    ensures bad_line { result ≡ Err LineFault.BadLine → HasBadLine input.now }
+    ensures write_fault { result ≡ Err LineFault.WriteFault
+        → (O.told sink.old).faults < (O.told sink.new).faults }
+    ensures went { ReplayWent result input.now (O.told sink.old) (O.told sink.new)
+        (C.seen cloud.old) (C.seen cloud.new) }
+{
+    match World::new(alloc) {
+        Ok(mut world) => go_on(alloc, &mut world, input, sink, cloud),
+        Err(_) => Err(LineFault::Memory),
+    }
+}
+
+/// Handles the lines of an input in a new world, up to the first that ends the run.
+fn go_on<O: Sink, C: Bench>(
+    alloc: Global,
+    world: &mut World,
+    input: &[u8],
+    sink: &mut O,
+    cloud: &mut C,
+) -> Result<(), LineFault>
+    requires fresh { IsNew world.old }
+    ensures went { WentThrough input.now result (O.told sink.old) (O.told sink.new)
+        (C.seen cloud.old) (C.seen cloud.new) }
+    ensures bad_line { result ≡ Err LineFault.BadLine → HasBadLine input.now }
+    ensures write_fault { result ≡ Err LineFault.WriteFault
+        → (O.told sink.old).faults < (O.told sink.new).faults }
+{
+    let mut rest = input;
+    let mut n: u64 = 0;
+    while !rest.is_empty() {
+        let (line, behind) = next_line(rest);
+        n = match n.checked_add(1) {
+            Some(n) => n,
+            None => return Err(LineFault::Memory),
+        };
+        match replay_line(alloc, world, sink, cloud, n, line) {
+            Ok(()) => rest = behind,
+            Err(fault) => return Err(fault),
+        }
+    }
+    Ok(())
+}
+
+/// Handles one line, and writes its reply.
+fn replay_line<O: Sink, C: Bench>(
+    alloc: Global,
+    world: &mut World,
+    sink: &mut O,
+    cloud: &mut C,
+    n: u64,
+    line: &[u8],
+) -> Result<(), LineFault>
+    ensures went { LineWent result n line.now (O.told sink.old) (O.told sink.new)
+        (C.seen cloud.old) (C.seen cloud.new)
+        world.old world.new }
+    ensures grows { Grows n (C.seen cloud.old) (C.seen cloud.new) }
+    ensures bad_line { result ≡ Err LineFault.BadLine → (event : Event) → IsEvent line.now event → ⊥ }
+    ensures write_fault { result ≡ Err LineFault.WriteFault
+        → (O.told sink.old).faults < (O.told sink.new).faults }
+    ensures faults { (O.told sink.old).faults ≤ (O.told sink.new).faults }
+{
+    match Event::read(alloc, line) {
+        Ok(event) => handle(alloc, world, sink, cloud, n, &event),
+        Err(TextFault::NotInGrammar) => match refuse(alloc, sink, n) {
+            Ok(()) => Err(LineFault::BadLine),
+            Err(OutputFault::WriteFault) => Err(LineFault::WriteFault),
+            Err(OutputFault::Memory) => Err(LineFault::Memory),
+        },
+        Err(TextFault::Memory) => Err(LineFault::Memory),
+    }
+}
+
+/// Handles the event of a line, and writes its reply.
+fn handle<O: Sink, C: Bench>(
+    alloc: Global,
+    world: &mut World,
+    sink: &mut O,
+    cloud: &mut C,
+    n: u64,
+    event: &Event,
+) -> Result<(), LineFault>
+    ensures handled { LineHandled result n event.now (O.told sink.old) (O.told sink.new)
+        (C.seen cloud.old) (C.seen cloud.new)
+        world.old world.new }
+    ensures grows { Grows n (C.seen cloud.old) (C.seen cloud.new) }
+    ensures write_fault { result ≡ Err LineFault.WriteFault
+        → (O.told sink.old).faults < (O.told sink.new).faults }
+    ensures faults { (O.told sink.old).faults ≤ (O.told sink.new).faults }
+{
+    match world.event(alloc, cloud, n, event) {
+        Ok(reply) => match write_reply(alloc, sink, n, &reply) {
+            Ok(()) => Ok(()),
+            Err(OutputFault::WriteFault) => Err(LineFault::WriteFault),
+            Err(OutputFault::Memory) => Err(LineFault::Memory),
+        },
+        Err(WorldFault::Memory) => Err(LineFault::Memory),
+    }
+}

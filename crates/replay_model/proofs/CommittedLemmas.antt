@@ -57,12 +57,12 @@ version_at-push_old vs v (suc i) h =
     ap (λ (o : Option Version). cond (suc i == 0) None (option_map (λ (x : Version). x.bytes) o)) (slice_get-append_left vs (v ∷ []) (suc i - 1) before)
 
 -- the version that landed, and those before it
-new_version : (who : Caller) (name : ObjName) (bytes : List ℕ) (b : CloudState) → version_at ((landed who name bytes b).versions name) (length (b.versions name) + 1) ≡ Some bytes
+pub new_version : (who : Caller) (name : ObjName) (bytes : List ℕ) (b : CloudState) → version_at ((landed who name bytes b).versions name) (length (b.versions name) + 1) ≡ Some bytes
 new_version who name bytes b =
     ap (λ vs. version_at vs (length (b.versions name) + 1)) (put_at_same object_cmp object_cmp-total b.versions name (b.versions name ++ record { who = who; bytes = bytes } ∷ []))
     ∙ version_at-push (b.versions name) (record { who = who; bytes = bytes })
 
-kept_version : (who : Caller) (name : ObjName) (bytes : List ℕ) (b : CloudState) (position : ℕ) (q : ObjName) → position ≤ length (b.versions q)
+pub kept_version : (who : Caller) (name : ObjName) (bytes : List ℕ) (b : CloudState) (position : ℕ) (q : ObjName) → position ≤ length (b.versions q)
     → version_at ((landed who name bytes b).versions q) position ≡ version_at (b.versions q) position
 kept_version who name bytes b position q =
     put_at_by (λ p vs. position ≤ length (b.versions p) → version_at vs position ≡ version_at (b.versions p) position) object_cmp object_cmp-equal b.versions name (b.versions name ++ record { who = who; bytes = bytes } ∷ [])

@@ -8,6 +8,9 @@ pub mod CommitSteps
 pub mod RunSteps
 pub mod Commits
 pub mod Acting
+pub mod RowKinds
+pub mod Once
+pub mod CallKinds
 pub mod Steps
 pub mod LineLemmas
 pub mod StartLemmas

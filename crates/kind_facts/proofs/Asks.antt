@@ -147,7 +147,7 @@ module _ (lines : List Line) (row : Landing) where
           (λ l. under_page_may p p.held.second (λ r. PutHeld (right_name p) p.out l (Some r)) (λ r. may))
       at paging.ReleasingRight = under_page_may p p.held.second Release (λ l. tt)
       at paging.PuttingHome = under_page_may p p.held.first (λ l. PutHeld (home_name p) p.out l None) (λ l. may)
-      at paging.DeletingNext = delete_page_may p (next_id p.deletions.ids)
+      at paging.Deleting = delete_page_may p (next_id p.deletions.ids)
       at paging.Releasing = under_page_may p (newest_lease p.held) Release (λ l. tt)
       at paging.Finished = tt
 

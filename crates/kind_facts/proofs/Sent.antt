@@ -54,7 +54,7 @@ entry_sent book order t holds place e there =
     let among = filter_at (is_entry_of e.tree (key_of e.change) e.client) order place e (own_entry e) there in
     let taken = map_there entry_of first.taken among.0 e (ap (λ (es : List Entry). slice_get es among.0) (sym first.ordered) ∙ among.1) in
     let logged = filter_there (is_of_key e.tree (key_of e.change) e.client) book.log among.0 taken.0
-        (ap (λ (rs : List AtomicRec). slice_get rs among.0) first.split ∙ get_front first.taken first.left among.0 taken.0 taken.1) in
+    (ap (λ (rs : List AtomicRec). slice_get rs among.0) first.split ∙ get_front first.taken first.left among.0 taken.0 taken.1) in
     record_sent book order t taken.0 e (holds.leaves.copied taken.0 (logged.place, logged.there) (inl (first.applied taken.0 (among.0, taken.1)))) taken.2
 
 -- and so was each of the order of a tree

@@ -1,7 +1,6 @@
 -- The call that a session has in hand is of a kind that its standing by the lines allows, and opens no transaction twice.
-use Rattle.std.proofs.Common.{◌≡◌, ◌≤◌, ◌+◌, ◌-◌, ◌⊎◌, ℕ, List, length, take, Option, Some, None, refl, sym, ap, subst, ◌∙◌, inl, inr, arith}
+use Rattle.std.proofs.Common.{◌≡◌, ◌≤◌, ◌+◌, ◌-◌, ◌⊎◌, ℕ, List, length, take, Option, Some, None, refl, sym, ap, subst, ◌∙◌, inl, inr}
 use Rattle.std.specs.Prelude.{All, slice_get}
-use Rattle.std.proofs.lemmas.List.{take_all}
 use Rattle.db_base.specs.declared.names.ObjName.TheVariants as object
 use Rattle.cloud_trait.specs.declared.state.Landing.{Landing}
 use Rattle.cloud_trait.specs.Ask.{Ask, Get, GetHeld, PutHeld, Send, Receive, Delete, Take, Renew, Release}
@@ -35,6 +34,7 @@ use Rattle.store_book.specs.Records.{entries_of}
 use Rattle.store_book.specs.Tally.{Store}
 use Rattle.tree_ckpt.specs.Making.{making_ask}
 use Rattle.replay_model.specs.Facts.{WorksAs}
+use Rattle.replay_model.proofs.CommittedLemmas.{now_standing}
 use Rattle.replay_model.proofs.Once.{at_place, not_opened, OpensUnopened}
 
 -- ---- puts of heads
@@ -106,9 +106,7 @@ module _ (lines : List Line) (row : Landing) (st : Store) (now : ℕ) (c : Cache
 
 -- how the session of a row within a line stands after the lines before it
 standing_now : (lines : List Line) (who : Caller) (row : Landing) → who.event ≡ length lines + 1 → row.who ≡ who → standing_of_row lines row ≡ standing lines who.session
-standing_now lines who row event is =
-    let all : length lines ≤ who.event - 1 = omega arith in
-    ap (λ (w : Caller). standing (take (w.event - 1) lines) w.session) is ∙ ap (λ (ls : List Line). standing ls who.session) (take_all (who.event - 1) lines all)
+standing_now lines who row event is = ap (λ (w : Caller). standing (take (w.event - 1) lines) w.session) is ∙ now_standing lines who event
 
 -- the row of a call within a line is of its kind
 pub call_kind : (lines : List Line) (who : Caller) (st : Store) (now : ℕ) (c : Cache) (part : Part) (w : Work) (ask : Ask) → who.event ≡ length lines + 1 → WorksAs w (standing lines who.session)

@@ -13,6 +13,7 @@ pub mod Once
 pub mod CallKinds
 pub mod Steps
 pub mod LineLemmas
+pub mod SettlerLemmas
 pub mod StartLemmas
 pub mod UptoRight
 pub mod LeftLemmas

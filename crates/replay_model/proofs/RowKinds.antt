@@ -1,5 +1,5 @@
 -- The kinds of rows stay under more lines and more versions, and a call that may be made leaves a row of its kind.
-use Rattle.std.proofs.Common.{◌≡◌, ◌≤◌, ◌+◌, ◌-◌, ℕ, List, [], ◌∷◌, ◌++◌, length, take, Option, Some, None, refl, sym, ap, subst, inl, inr, ◌⊎◌, arith}
+use Rattle.std.proofs.Common.{◌≡◌, ◌≤◌, ◌+◌, ◌-◌, ℕ, List, [], ◌∷◌, ◌++◌, length, take, Option, Some, None, refl, sym, ap, subst, ◌∙◌, inl, inr, ◌⊎◌, arith}
 use Rattle.std.specs.Prelude.{All}
 use Rattle.std.proofs.lemmas.List.{take-append-le}
 use Rattle.std.proofs.lemmas.List.Elements.{All-nil, All-push, All-same, All-weaker}
@@ -26,6 +26,10 @@ use Rattle.replay_meaning.specs.Kinds.{OpensClient, IsCommitting, CommitsFor, Co
 use Rattle.replay_model.specs.Facts.{IsPlaced, IsPlacedAt}
 use Rattle.replay_model.proofs.CommittedLemmas.{new_version, kept_version}
 use Rattle.store_book.proofs.Places.{get_front}
+
+-- what two facts of each item give
+all_both : {X : Type 0} (P Q R : X → Type 0) (xs : List X) → ((x : X) → P x → Q x → R x) → All P xs → All Q xs → All R xs
+all_both P Q R xs f h g k d less = f _ (h k d less) (g k d less)
 
 -- ---- more lines
 
@@ -84,7 +88,9 @@ module _ (lines more : List Line) (row : Landing) (within : row.who.event ≤ le
 
 pub kinds_line : (lines : List Line) (line : Line) (t : CloudState) → All (λ (r : Landing). r.who.event ≤ length lines + 1) t.trace → All (IsOfKind lines t) t.trace
     → All (IsOfKind (lines ++ line ∷ []) t) t.trace
-kinds_line lines line t early kinds k d less = kind_more lines (line ∷ []) _ (early k d less) t _ (kinds k d less)
+kinds_line lines line t early kinds =
+    all_both (λ (r : Landing). r.who.event ≤ length lines + 1) (IsOfKind lines t) (IsOfKind (lines ++ line ∷ []) t) t.trace
+    (λ row within kind. kind_more lines (line ∷ []) row within t row.site kind) early kinds
 
 -- ---- a call that lands
 
@@ -119,7 +125,8 @@ pub kinds_effect : (lines : List Line) (who : Caller) (ask : Ask) (b : CloudStat
     → All (IsOfKind lines b) b.trace → All (IsOfKind lines (effect who ask b)) (effect who ask b).trace
 kinds_effect lines who (PutHeld name bytes one two) b placed may h =
     let row : Landing = record { who = who; site = Object name; position = length (b.versions name) + 1 } in
-    let old : All (IsOfKind lines (landed who name bytes b)) b.trace = λ k d less. kind_kept lines who name bytes b _ _ (placed k d less) (h k d less) in
+    let old : All (IsOfKind lines (landed who name bytes b)) b.trace =
+    all_both (IsPlaced b.versions) (IsOfKind lines b) (IsOfKind lines (landed who name bytes b)) b.trace (λ r at kind. kind_kept lines who name bytes b r r.site at kind) placed h in
     All-push (IsOfKind lines (landed who name bytes b)) b.trace row old (put_kind lines who name bytes one two b row refl (may row refl))
 kinds_effect lines who (Send queue bytes) b placed may h =
     let row : Landing = record { who = who; site = Queue queue; position = length (b.messages queue) + 1 } in

@@ -39,7 +39,7 @@ use Rattle.session_facts.proofs.HeadPuts.{head_put}
 use Rattle.session_facts.proofs.Laws.{rest_keeps, decodes}
 use Rattle.replay_model.specs.Facts.{IsPlaced, WorksAs, CloudHolds}
 use Rattle.replay_model.proofs.CallKinds.{call_kind, call_opens}
-use Rattle.replay_model.proofs.Commits.{CommitsAs, ask_commits, audited_commits}
+use Rattle.replay_model.proofs.Commits.{CommitsAs, stood_on, ask_commits, audited_commits}
 use Rattle.replay_model.proofs.CommittedLemmas.{placed_effect, placed_called}
 use Rattle.replay_model.proofs.Once.{OpensUnopened, once_same, once_effect}
 use Rattle.replay_model.proofs.RowKinds.{kinds_same, kinds_effect}
@@ -230,7 +230,7 @@ call_holds lines who before after x sessions new turn a b blind blind_after even
 
     by : (ask : Ask) → ask_of_work w ≡ Some ask → IsByLines lines who w ask
     by ask hand = record {
-      commits = ask_commits lines who w ask event acts
+      commits = ask_commits lines who w ask (stood_on lines who w event acts)
           (λ client bytes one two is. head_put (store_of h.book h.order x) x.now (sessions who.session).cache w (h.stand.parts who.session) (h.stand.each who.session).work
           sound client bytes one two (hand ∙ ap (λ a. Some a) is));
       kind = call_kind lines who (store_of h.book h.order x) x.now (sessions who.session).cache (h.stand.parts who.session) w ask event acts (h.stand.each who.session).work sound hand;

@@ -121,7 +121,7 @@ settled_entries : (client : ℕ) (bytes : List ℕ) (head : Head) (changes : Lis
     → entries_of_bytes client (Some bytes) changes ≡ []
 settled_entries client bytes head changes e f = ap (λ o. entries_of_head client o changes) e ∙ ap (λ p. entries_of_phase p client head changes) f
 
-opened_entries : (client : ℕ) (bytes : List ℕ) (head : Head) (count : ℕ) (changes : List Noted) → head_of bytes ≡ Some head → head.phase ≡ phase.Open count
+pub opened_entries : (client : ℕ) (bytes : List ℕ) (head : Head) (count : ℕ) (changes : List Noted) → head_of bytes ≡ Some head → head.phase ≡ phase.Open count
     → entries_of_bytes client (Some bytes) changes ≡ map (committed_entry client head.epoch head.txn) changes
 opened_entries client bytes head count changes e f = ap (λ o. entries_of_head client o changes) e ∙ ap (λ p. entries_of_phase p client head changes) f
 

@@ -25,7 +25,7 @@ use Rattle.page_ckpt.specs.Paging.{paging_ask}
 use Rattle.recover_run.specs.Recovery.{Recovery, recovery_ask}
 use Rattle.replay_meaning.specs.Standing.{Line, Standing, standing, standing_of_row}
 use Rattle.replay_meaning.specs.Committed.{committed}
-use Rattle.replay_meaning.specs.Kinds.{OpensClient, CommitsFor, MayPutPhase, MayPutHead, MayPutBytes, IsOfKind, LandsOpen}
+use Rattle.replay_meaning.specs.Kinds.{OpensClient, CommitsFor, MaySettleHead, MayPutPhase, MayPutHead, MayPutBytes, IsOfKind, LandsOpen}
 use Rattle.session_facts.specs.Puts.{IsSoundWork, Commits, PutsHead}
 use Rattle.session_facts.specs.Sessions.{KnowsWork}
 use Rattle.session_facts.proofs.HeadPuts.{head_put}
@@ -44,6 +44,18 @@ put_may : (lines : List Line) (row : Landing) (client : ℕ) (bytes : List ℕ) 
     → MayPutBytes lines row client (Some bytes)
 put_may lines row client bytes head at spells is may = subst (MayPutHead lines row client) (sym spells) (subst (MayPutPhase lines row client) (sym is) may)
 
+never_opens : (head : Head) → (let none : Option Head = None in none ≡ Some head) → ⊥
+never_opens head e = absurd (cc)
+
+-- by a work that opens no transaction
+pub settled_may : (lines : List Line) (row : Landing) (w : Work) (client : ℕ) (bytes : List ℕ) → MaySettleHead lines row client → opens_of w ≡ None → PutsHead w client bytes
+    → MayPutBytes lines row client (Some bytes)
+settled_may lines row w client bytes may none p = on p.how
+  where
+    on : Commits w p.head ⊎ ((opens_of w ≡ None) × (p.head.phase ≡ phase.Settled)) → MayPutBytes lines row client (Some bytes)
+    on (inl o) = absurd (never_opens p.head (sym none ∙ o.opens))
+    on (inr settled) = put_may lines row client bytes p.head phase.Settled p.spells settled.1 may
+
 module _ (lines : List Line) (row : Landing) (st : Store) (now : ℕ) (c : Cache) (part : Part) where
   abbrev s : Standing
   s = standing_of_row lines row
@@ -54,14 +66,7 @@ module _ (lines : List Line) (row : Landing) (st : Store) (now : ℕ) (c : Cache
   opens_client r acts = record { posture = acts.0; own = acts.1 }
 
   opening_head : (r : Recovery) (client : ℕ) (bytes : List ℕ) → WorksAs (Opening r) s → PutsHead (Opening r) client bytes → MayPutBytes lines row client (Some bytes)
-  opening_head r client bytes acts p = on p.how
-    where
-      own : OpensClient client s
-      own = subst (λ n. OpensClient n s) p.client_is (opens_client r acts)
-
-      on : Commits (Opening r) p.head ⊎ ((opens_of (Opening r) ≡ None) × (p.head.phase ≡ phase.Settled)) → MayPutBytes lines row client (Some bytes)
-      on (inl o) = let opens : opens_of (Opening r) ≡ Some p.head = o.opens in absurd (cc)
-      on (inr settled) = put_may lines row client bytes p.head phase.Settled p.spells settled.1 (inl own)
+  opening_head r client bytes acts p = settled_may lines row (Opening r) client bytes (inl (subst (λ n. OpensClient n s) p.client_is (opens_client r acts))) refl p
 
   -- ---- a commit
 

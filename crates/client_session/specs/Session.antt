@@ -1,9 +1,10 @@
 -- How a session stands.
-use Rattle.std.specs.Prelude.{ℕ, ◌≡◌, ◌≢◌, ◌≤◌, ◌<◌, ◌⊎◌, ◌^◌, Bool, true, false, List, [], length, Option, Some, None, Result, Ok, Err}
+use Rattle.std.specs.Prelude.{ℕ, ◌≡◌, ◌≢◌, ◌≤◌, ◌<◌, ◌⊎◌, ◌^◌, ◌++◌, Bool, true, false, List, [], ◌∷◌, length, map, Option, Some, None, Result, Ok, Err}
 use Rattle.db_base.specs.declared.refusal.Refusal.{Refusal}
 use Rattle.db_base.specs.declared.refusal.Refusal.TheVariants as rule
 use Rattle.head_codec.specs.declared.head.Head.{Head}
 use Rattle.db_base.specs.Change.{key_of}
+use Rattle.db_base.specs.declared.pair.Pair.{Pair}
 use Rattle.db_base.specs.declared.change.Change.{Change}
 use Rattle.txn_buffer.specs.Noted.{Noted, found_in}
 use Rattle.db_base.specs.declared.refusal.Refused.{Refused}
@@ -19,7 +20,7 @@ use Rattle.cloud_trait.specs.declared.turn.Turn.TheVariants.{More, Ended, Stoppe
 use Rattle.cloud_trait.specs.Ask.{Ask, Renew, Release}
 use Rattle.cloud_trait.specs.Caller.{Caller}
 use Rattle.cloud_trait.specs.Claim.{Claim}
-use Rattle.cloud_trait.specs.Machine.{Goes, Ends, Stops, LeadsBy, Steps}
+use Rattle.cloud_trait.specs.Machine.{Goes, Ends, Stops, LeadsBy, Steps, Deed}
 use Rattle.cloud_trait.specs.Seen.{Seen}
 use Rattle.cloud_trait.specs.Views.{done_of, renewed_of}
 use Rattle.cloud_trait.specs.Weather.{Makes, RenewsLease}
@@ -29,17 +30,31 @@ use Rattle.recover_run.specs.declared.stage.RecoverAnswer.{RecoverAnswer}
 use Rattle.recover_run.specs.declared.stage.RecoverAnswer.TheVariants.{Opened}
 use Rattle.recover_run.specs.Bound.{calls_left as recovery_left}
 use Rattle.recover_run.specs.Recovery.{Recovery, new_recovery, recovery_ask, recovery_next, home_of, KeepsLeases, IsSound as IsSoundOpening}
+use Rattle.leaf_view.specs.Leaf.{Entry}
 use Rattle.page_cache.specs.Cache.{Cache, empty_cache}
+use Rattle.page_cache.specs.Held.{leaf_at}
+use Rattle.tree_walk.specs.Moves.{Moves}
 use Rattle.tree_walk.specs.Walk.{Walk, new_walk, asks, walk_ask, walk_ready, walk_next, KeepsNothing, calls_left as reading_left, IsAtLeaf}
 use Rattle.commit_run.specs.Ending.{calls_left as commit_left}
 use Rattle.commit_run.specs.Run.{Run, new_run, home_of as home_of_run, run_ask, asks as run_asks, run_ready, run_next, run_opens, KeepsHome}
 use Rattle.commit_run.specs.Sound.{IsSoundRun}
 use Rattle.record_read.specs.Read.{read_value}
+use Rattle.range_scan.specs.Ending.{calls_left as scanning_left}
+use Rattle.range_scan.specs.Pairs.{AreItemsIn}
+use Rattle.range_scan.specs.Scan.{Scan, new_scan, scan_object, scan_ask, scan_asks, scan_ready, scan_next, goes_on, moved_on, KeepsNothing as KeepsNothingRead}
 use Rattle.page_ckpt.specs.Ending.{calls_left as paging_left}
 use Rattle.page_ckpt.specs.Paging.{new_paging, paging_ask, PagingLeads, KeepsLeases as KeepsPageLeases, Paging as Page}
 use Rattle.tree_moves.specs.Work.{applying_in}
 use Rattle.tree_ckpt.specs.Ending.{calls_in}
 use Rattle.tree_ckpt.specs.Making.{Making, new_making, making_ask, MakingLeads, KeepsLeases as KeepsTreeLeases}
+use Rattle.settle_run.specs.declared.settled.Settled.{Settled}
+use Rattle.settle_run.specs.Ending.{calls_left as settling_left}
+use Rattle.settle_run.specs.Meaning.{Went, Meant}
+use Rattle.settle_run.specs.Parts.{part_applying, IsSoundPart}
+use Rattle.settle_run.specs.Settling.{Settling as SettlingState, new_settling, settle_ask, SettleLeads, KeepsSettling}
+use Rattle.client_session.specs.declared.listing.Listing.{Listing}
+use Rattle.client_session.specs.declared.shown.Shown.{Shown}
+use Rattle.client_session.specs.declared.shown.Shown.TheVariants.{Nothing, Read, Listed}
 use Rattle.client_session.specs.declared.answer.Answer.{Answer}
 use Rattle.client_session.specs.declared.answer.Answer.TheVariants as answer
 use Rattle.client_session.specs.declared.answer.Begun.{Begun}
@@ -47,18 +62,22 @@ use Rattle.client_session.specs.declared.answer.Begun.TheVariants.{Working, Answ
 use Rattle.client_session.specs.declared.op.Op.{Op}
 use Rattle.client_session.specs.declared.op.Op.TheVariants as op
 use Rattle.client_session.specs.declared.work.Work.{Work}
-use Rattle.client_session.specs.declared.work.Work.TheVariants.{Closed, Idle, Opening, Committing, Reading, Paging, Folding, Closing, Renewing, Broken}
+use Rattle.client_session.specs.declared.work.Work.TheVariants.{Closed, Idle, Opening, Committing, Reading, Scanning, Paging, Folding, Closing, Renewing, Settling, Broken}
 
--- a session: the changes that it noted, what it has in hand, what it keeps of the cloud, and the newest operation where that was a read
--- that ended at its leaf
+-- a session: the changes that it noted, what it has in hand, what it keeps of the cloud, and what its newest operation shows beside its
+-- answer
 pub record Acting : Type 0 where
   pub buffer : List Noted
   pub work : Work
   pub cache : Cache
-  pub read : Option Walk
+  pub shown : Shown
 
 abbrev pub closed_session : Acting
-closed_session = record { buffer = []; work = Closed; cache = empty_cache; read = None }
+closed_session = record { buffer = []; work = Closed; cache = empty_cache; shown = Nothing }
+
+-- a session that stands for no client and settles, before its first call
+abbrev pub settling_session : Acting
+settling_session = record closed_session { work = Settling new_settling }
 
 -- no answer waits for the release of the lease
 abbrev pub StopsAtMost : Option (Result RecoverAnswer Trouble) → Type 0
@@ -70,9 +89,19 @@ StopsAtMost None = Unit {0}
 abbrev pub IsOpening : Recovery → Type 0
 IsOpening m = (m.aim ≡ aim.Opening) × StopsAtMost m.ending
 
--- an opening in hand is one
+-- the newest call tells nothing of the cloud's state
+abbrev pub IsUntold : List Deed → Type 0
+IsUntold [] = Unit {0}
+IsUntold (d ∷ h) = d.after.state ≡ None
+
+-- a settling came here from its first call on, whatever the cloud tells
+abbrev pub IsSettling : SettlingState → Type 0
+IsSettling m = (h : List Deed) × Went h m × IsUntold h
+
+-- an opening in hand is one, and so is a settling
 abbrev pub IsOfClient : Work → Type 0
 IsOfClient (Opening m) = IsOpening m
+IsOfClient (Settling m) = IsSettling m
 IsOfClient work = Unit {0}
 
 -- the rule that refuses an operation of an open client, where one does
@@ -82,10 +111,12 @@ rule_of (Idle home) = None
 rule_of (Opening m) = Some rule.AtWork
 rule_of (Committing m) = Some rule.AtWork
 rule_of (Reading home m) = Some rule.AtWork
+rule_of (Scanning home m) = Some rule.AtWork
 rule_of (Paging home m) = Some rule.AtWork
 rule_of (Folding home m) = Some rule.AtWork
 rule_of (Closing lease) = Some rule.AtWork
 rule_of (Renewing home) = Some rule.AtWork
+rule_of (Settling m) = Some rule.AtWork
 rule_of (Broken lease) = Some rule.Broken
 
 -- ---- what is refused
@@ -112,7 +143,7 @@ GivesHome work left (Err refused.Memory) = ⊥
 
 -- and so of a session
 abbrev pub TakesHome : Acting → Acting → Result Home Refused → Type 0
-TakesHome old new (Ok home) = (old.work ≡ Idle home) × (new ≡ record old { work = Closed; read = None })
+TakesHome old new (Ok home) = (old.work ≡ Idle home) × (new ≡ record old { work = Closed; shown = Nothing })
 TakesHome old new (Err (refused.Rule r)) = (rule_of old.work ≡ Some r) × (new ≡ old)
 TakesHome old new (Err refused.Memory) = ⊥
 
@@ -123,10 +154,12 @@ opening_rule_of (Idle home) = Some rule.AlreadyOpen
 opening_rule_of (Opening m) = Some rule.AtWork
 opening_rule_of (Committing m) = Some rule.AtWork
 opening_rule_of (Reading home m) = Some rule.AtWork
+opening_rule_of (Scanning home m) = Some rule.AtWork
 opening_rule_of (Paging home m) = Some rule.AtWork
 opening_rule_of (Folding home m) = Some rule.AtWork
 opening_rule_of (Closing lease) = Some rule.AtWork
 opening_rule_of (Renewing home) = Some rule.AtWork
+opening_rule_of (Settling m) = Some rule.AtWork
 opening_rule_of (Broken lease) = None
 
 -- the lease that a broken session still has
@@ -137,10 +170,12 @@ old_lease (Idle home) = None
 old_lease (Opening m) = None
 old_lease (Committing m) = None
 old_lease (Reading home m) = None
+old_lease (Scanning home m) = None
 old_lease (Paging home m) = None
 old_lease (Folding home m) = None
 old_lease (Closing lease) = None
 old_lease (Renewing home) = None
+old_lease (Settling m) = None
 
 -- the opening of a client, behind the release of an old lease where one is left
 abbrev pub opening_of : ℕ → Option Claim → Work
@@ -161,7 +196,7 @@ BeginsWith Does old new (Err refused.Memory) = ⊥
 
 -- this is in hand then, and what was noted stays
 abbrev pub HasInHand : Acting → Work → Acting → Begun → Type 0
-HasInHand old work new begun = (begun ≡ Working) × (new ≡ record old { work = work; read = None })
+HasInHand old work new begun = (begun ≡ Working) × (new ≡ record old { work = work; shown = Nothing })
 
 -- the checkpoint of a page that a home begins
 abbrev pub paging_begun_by : ℕ → ℕ → Home → Work
@@ -194,7 +229,7 @@ CommitsNoted home buffer old new work begun =
 
 -- the buffer is empty then
 abbrev pub CommitsIn : Acting → Home → Acting → Begun → Type 0
-CommitsIn old home new begun = (new.buffer ≡ []) × CommitsNoted home old.buffer old.cache new.cache new.work begun × (new.read ≡ None)
+CommitsIn old home new begun = (new.buffer ≡ []) × CommitsNoted home old.buffer old.cache new.cache new.work begun × (new.shown ≡ Nothing)
 
 -- an open client behind an operation that stopped: want of memory leaves its lease alone
 abbrev pub stopped_work : Trouble → Home → Work
@@ -202,16 +237,62 @@ stopped_work trouble.Memory home = Broken home.lease
 stopped_work t home = Idle home
 
 -- a read is in hand, or it is answered at once and the home stays; want of memory leaves the lease alone
-abbrev pub ReadsOf : Home → Walk → Cache → Cache → Work → Option Walk → Begun → Type 0
-ReadsOf home start old new work read Working = (m : Walk) × (walk_ready (start, old) ≡ Goes (m, new)) × (work ≡ Reading home m) × (read ≡ None)
-ReadsOf home start old new work read (Answered answer.Value) =
-    (m : Walk) × (page : ℕ) × (walk_ready (start, old) ≡ Ends (m, new) page) × (work ≡ Idle home) × (read ≡ Some m)
-ReadsOf home start old new work read (Answered (answer.Trouble t)) =
-    (m : Walk) × (t ≢ trouble.Memory → walk_ready (start, old) ≡ Stops (m, new) t) × (work ≡ stopped_work t home) × (read ≡ None)
-ReadsOf home start old new work read (Answered answer) = ⊥
+abbrev pub ReadsOf : Home → Walk → Cache → Cache → Work → Shown → Begun → Type 0
+ReadsOf home start old new work shown Working = (m : Walk) × (walk_ready (start, old) ≡ Goes (m, new)) × (work ≡ Reading home m) × (shown ≡ Nothing)
+ReadsOf home start old new work shown (Answered answer.Value) =
+    (m : Walk) × (page : ℕ) × (walk_ready (start, old) ≡ Ends (m, new) page) × (work ≡ Idle home) × (shown ≡ Read m)
+ReadsOf home start old new work shown (Answered (answer.Trouble t)) =
+    (m : Walk) × (t ≢ trouble.Memory → walk_ready (start, old) ≡ Stops (m, new) t) × (work ≡ stopped_work t home) × (shown ≡ Nothing)
+ReadsOf home start old new work shown (Answered answer) = ⊥
 
 abbrev pub ReadsIn : ℕ → List ℕ → Acting → Home → Acting → Begun → Type 0
-ReadsIn tree key old home new begun = (new.buffer ≡ old.buffer) × ReadsOf home (new_walk tree (Some key) false) old.cache new.cache new.work new.read begun
+ReadsIn tree key old home new begun = (new.buffer ≡ old.buffer) × ReadsOf home (new_walk tree (Some key) false) old.cache new.cache new.work new.shown begun
+
+-- ---- scans
+
+-- a record of a leaf, as a scan shows it
+abbrev pub pair_of : Entry → Pair
+pair_of e = record { key = e.key; payload = e.payload }
+
+-- the records listed before with those of the leaf at which the scan ended, as the client sees them
+abbrev pub IsListed : Home → List Noted → Scan → Cache → List Pair → List Pair → Type 0
+IsListed home buffer m c pairs all = (items : List Entry) × AreItemsIn (leaf_at c (scan_object m)) m home.client home.head buffer items × (all ≡ pairs ++ map pair_of items)
+
+-- at the end of a leaf: its records are listed, and the scan goes on behind it, or is over; want of memory leaves the lease alone
+abbrev pub ListsLeaf : Home → List Noted → Listing → Cache → Work → Shown → Turn Answer → Type 0
+ListsLeaf home buffer m c work shown More =
+    (all : List Pair) × IsListed home buffer m.scan c m.pairs all × (goes_on m.scan ≡ true)
+    × (work ≡ Scanning home (record { scan = moved_on m.scan; pairs = all })) × (shown ≡ Nothing)
+ListsLeaf home buffer m c work shown (Ended answer.Scan) =
+    (all : List Pair) × IsListed home buffer m.scan c m.pairs all × (goes_on m.scan ≡ false) × (work ≡ Idle home) × (shown ≡ Listed all)
+ListsLeaf home buffer m c work shown (Ended (answer.Trouble t)) = (t ≡ trouble.Memory) × (work ≡ Broken home.lease) × (shown ≡ Nothing)
+ListsLeaf home buffer m c work shown turn = ⊥
+
+-- the session goes on by what a turn of its scan came to
+abbrev pub Follows : Home → List Noted → Listing → Cache → Turn ℕ → Work → Shown → Turn Answer → Type 0
+Follows home buffer m c More work shown turn = (work ≡ Scanning home m) × (shown ≡ Nothing) × (turn ≡ More)
+Follows home buffer m c (Ended page) work shown turn = ListsLeaf home buffer m c work shown turn
+Follows home buffer m c (Stopped t) work shown turn = (work ≡ stopped_work t home) × (shown ≡ Nothing) × (turn ≡ Ended (answer.Trouble t))
+
+-- the begin of an operation that came to a turn
+abbrev pub begins_by : Turn Answer → Begun → Type 0
+begins_by More begun = begun ≡ Working
+begins_by (Ended a) begun = begun ≡ Answered a
+begins_by (Stopped t) begun = begun ≡ Answered (answer.Trouble t)
+
+-- a scan is made ready, and the session goes on by what that came to
+pub record ScansOf (home : Home) (buffer : List Noted) (start : Scan) (old new : Cache) (work : Work) (shown : Shown) (begun : Begun) : Type 0 where
+  pub scan : Scan
+  pub moved : Turn ℕ
+  pub moves : Moves (scan_ready (start, old)) (scan, new) moved
+  pub turn : Turn Answer
+  pub follows : Follows home buffer (record { scan = scan; pairs = [] }) new moved work shown turn
+  pub begins : begins_by turn begun
+
+abbrev pub ScansIn : ℕ → Option (List ℕ) → Option (List ℕ) → Acting → Home → Acting → Begun → Type 0
+ScansIn tree from to old home new begun = (new.buffer ≡ old.buffer) × ScansOf home old.buffer (new_scan tree from to) old.cache new.cache new.work new.shown begun
+
+-- ---- every begin
 
 abbrev pub Begins : Op → Acting → Acting → Result Begun Refused → Type 0
 Begins (op.Open client) old new result = BeginsOpening client old new result
@@ -219,6 +300,7 @@ Begins op.Close old new result = BeginsWith (λ home. HasInHand old (Closing hom
 Begins op.Renew old new result = BeginsWith (λ home. HasInHand old (Renewing home)) old new result
 Begins op.Commit old new result = BeginsWith (CommitsIn old) old new result
 Begins (op.Read tree key) old new result = BeginsWith (ReadsIn tree key old) old new result
+Begins (op.Scan tree from to) old new result = BeginsWith (ScansIn tree from to old) old new result
 Begins (op.Page tree page) old new result = BeginsWith (λ home. HasInHand old (paging_begun_by tree page home)) old new result
 Begins (op.Tree tree) old new result = BeginsWith (λ home. HasInHand old (folding_begun_by tree home)) old new result
 
@@ -272,14 +354,27 @@ StepsReading home who before after old work (Ended (answer.Trouble k)) = Asks (w
 StepsReading home who before after old work turn = ⊥
 
 -- the same beside the cache: what is got goes into it, and at the end the leaf whose range holds the key stands there
-abbrev pub ReadsBy : Home → Caller → Seen → Seen → Walk → Cache → Cache → Work → Option Walk → Turn Answer → Type 0
-ReadsBy home who before after old c d work read More =
-    (m : Walk) × Steps asks (LeadsBy walk_next) KeepsNothing who before after (old, c) (m, d) More × (work ≡ Reading home m) × (read ≡ None)
-ReadsBy home who before after old c d work read (Ended answer.Value) =
-    (m : Walk) × (page : ℕ) × Steps asks (LeadsBy walk_next) KeepsNothing who before after (old, c) (m, d) (Ended page) × IsAtLeaf m d page × (work ≡ Idle home) × (read ≡ Some m)
-ReadsBy home who before after old c d work read (Ended (answer.Trouble k)) =
-    (m : Walk) × Steps asks (LeadsBy walk_next) KeepsNothing who before after (old, c) (m, d) (Stopped k) × (work ≡ stopped_work k home) × (read ≡ None)
-ReadsBy home who before after old c d work read turn = ⊥
+abbrev pub ReadsBy : Home → Caller → Seen → Seen → Walk → Cache → Cache → Work → Shown → Turn Answer → Type 0
+ReadsBy home who before after old c d work shown More =
+    (m : Walk) × Steps asks (LeadsBy walk_next) KeepsNothing who before after (old, c) (m, d) More × (work ≡ Reading home m) × (shown ≡ Nothing)
+ReadsBy home who before after old c d work shown (Ended answer.Value) =
+    (m : Walk) × (page : ℕ) × Steps asks (LeadsBy walk_next) KeepsNothing who before after (old, c) (m, d) (Ended page) × IsAtLeaf m d page × (work ≡ Idle home) × (shown ≡ Read m)
+ReadsBy home who before after old c d work shown (Ended (answer.Trouble k)) =
+    (m : Walk) × Steps asks (LeadsBy walk_next) KeepsNothing who before after (old, c) (m, d) (Stopped k) × (work ≡ stopped_work k home) × (shown ≡ Nothing)
+ReadsBy home who before after old c d work shown turn = ⊥
+
+-- a scan in hand has fewer calls left than so many
+abbrev pub ScansLess : ℕ → Work → Type 0
+ScansLess left (Scanning home m) = scanning_left m.scan < left
+ScansLess left work = ⊥
+
+-- one step of a scan beside the cache: what is got goes into it, and the session goes on by what the turn came to
+pub record StepsScanning (home : Home) (buffer : List Noted) (who : Caller) (before after : Seen) (old : Listing) (c d : Cache) (work : Work) (shown : Shown) (turn : Turn Answer) : Type 0 where
+  pub scan : Scan
+  pub moved : Turn ℕ
+  pub steps : Steps scan_asks (LeadsBy scan_next) KeepsNothingRead who before after (old.scan, c) (scan, d) moved
+  pub follows : Follows home buffer (record { scan = scan; pairs = old.pairs }) d moved work shown turn
+  pub less : turn ≡ More → ScansLess (scanning_left old.scan) work
 
 -- one step of a page checkpoint, and what it leaves in hand
 abbrev pub StepsPaging : Home → Caller → Seen → Seen → Page → Work → Turn Answer → Type 0
@@ -298,6 +393,16 @@ StepsFolding home who before after old work (Ended (answer.Done n)) =
 StepsFolding home who before after old work (Ended (answer.Trouble k)) =
     (m : Making) × Steps making_ask MakingLeads KeepsTreeLeases who before after old m (Stopped k) × (work ≡ stopped_work k home)
 StepsFolding home who before after old work turn = ⊥
+
+-- one step of a settling, and what it leaves in hand; at its end all its parts ran and all its calls are counted
+abbrev pub StepsSettling : Caller → Seen → Seen → SettlingState → Work → Turn Answer → Type 0
+StepsSettling who before after old work More =
+    (m : SettlingState) × Steps settle_ask SettleLeads KeepsSettling who before after old m More × (work ≡ Settling m) × (settling_left m < settling_left old)
+StepsSettling who before after old work (Ended (answer.Settled n)) =
+    (m : SettlingState) × Steps settle_ask SettleLeads KeepsSettling who before after old m (Ended n) × Meant who before after old m (Ended n) × (work ≡ Closed)
+StepsSettling who before after old work (Ended (answer.Trouble k)) =
+    (m : SettlingState) × Steps settle_ask SettleLeads KeepsSettling who before after old m (Stopped k) × (work ≡ Closed)
+StepsSettling who before after old work turn = ⊥
 
 -- a lease is given back: what the call answered, and what that comes to
 pub record GivesBack (lease : Claim) (who : Caller) (before after : Seen) (result : Result (Unit {0}) Trouble) : Type 0 where
@@ -325,15 +430,18 @@ StepsRenewing home who before after work (Ended (answer.Renewed end)) = (new : H
 StepsRenewing home who before after work (Ended (answer.Trouble k)) = (new : Home) × RenewsHome home new who before after (Err k) × (work ≡ stopped_work k new)
 StepsRenewing home who before after work turn = ⊥
 
--- one step of what is at work: an opening or a commit has the bytes in hand that it is to put or send
+-- one step of what is at work: an opening, a commit or a settling has the bytes in hand that it is to put or send
 abbrev pub StepsAt : Caller → Seen → Seen → Work → Work → Turn Answer → Type 0
 StepsAt who before after (Opening m) work turn = IsSoundOpening m × StepsOpening who before after m work turn
 StepsAt who before after (Committing m) work turn = IsSoundRun m × (c : Cache) × (d : Cache) × StepsCommit who before after m c d work turn
 StepsAt who before after (Reading home m) work turn = StepsReading home who before after m work turn
+StepsAt who before after (Scanning home m) work turn =
+    (buffer : List Noted) × (c : Cache) × (d : Cache) × (shown : Shown) × StepsScanning home buffer who before after m c d work shown turn
 StepsAt who before after (Paging home m) work turn = StepsPaging home who before after m work turn
 StepsAt who before after (Folding home m) work turn = StepsFolding home who before after m work turn
 StepsAt who before after (Closing lease) work turn = StepsClosing lease who before after work turn
 StepsAt who before after (Renewing home) work turn = StepsRenewing home who before after work turn
+StepsAt who before after (Settling m) work turn = IsSoundPart m.part × StepsSettling who before after m work turn
 StepsAt who before after Closed work turn = ⊥
 StepsAt who before after (Idle home) work turn = ⊥
 StepsAt who before after (Broken lease) work turn = ⊥
@@ -342,12 +450,14 @@ abbrev pub is_working : Work → Bool
 is_working (Opening m) = true
 is_working (Committing m) = true
 is_working (Reading home m) = true
+is_working (Scanning home m) = true
 is_working (Paging home m) = true
 is_working (Folding home m) = true
 is_working Closed = false
 is_working (Idle home) = false
 is_working (Closing lease) = true
 is_working (Renewing home) = true
+is_working (Settling m) = true
 is_working (Broken lease) = false
 
 -- one step of what is in hand; where nothing is at work it is refused and changes nothing
@@ -361,11 +471,12 @@ abbrev pub noted_behind : Work → List Noted → List Noted
 noted_behind (Closing lease) buffer = []
 noted_behind work buffer = buffer
 
--- what one step of what is at work leaves of the cache, and the read that it ended
-abbrev pub ShowsAt : Caller → Seen → Seen → Work → Cache → Cache → Work → Option Walk → Turn Answer → Type 0
-ShowsAt who before after (Reading home m) c d work read turn = ReadsBy home who before after m c d work read turn
-ShowsAt who before after (Committing m) c d work read turn = StepsCommit who before after m c d work turn × (read ≡ None)
-ShowsAt who before after old c d work read turn = (d ≡ c) × (read ≡ None)
+-- what one step of what is at work leaves of the cache, and what it shows
+abbrev pub ShowsAt : Caller → Seen → Seen → List Noted → Work → Cache → Cache → Work → Shown → Turn Answer → Type 0
+ShowsAt who before after buffer (Reading home m) c d work shown turn = ReadsBy home who before after m c d work shown turn
+ShowsAt who before after buffer (Scanning home m) c d work shown turn = StepsScanning home buffer who before after m c d work shown turn
+ShowsAt who before after buffer (Committing m) c d work shown turn = StepsCommit who before after m c d work turn × (shown ≡ Nothing)
+ShowsAt who before after buffer old c d work shown turn = (d ≡ c) × (shown ≡ Nothing)
 
 -- a closed session keeps nothing of the cloud
 abbrev pub shown_behind : Work → Cache → Cache
@@ -375,8 +486,8 @@ shown_behind work c = c
 -- a step of a session: the cache as the step leaves it, or none
 abbrev pub Shows : Caller → Seen → Seen → Acting → Acting → Result (Turn Answer) Refused → Type 0
 Shows who before after old new (Ok turn) =
-    (c : Cache) × ShowsAt who before after old.work old.cache c new.work new.read turn × (new.cache ≡ shown_behind new.work c)
-Shows who before after old new (Err e) = (new.cache ≡ old.cache) × (new.read ≡ old.read)
+    (c : Cache) × ShowsAt who before after new.buffer old.work old.cache c new.work new.shown turn × (new.cache ≡ shown_behind new.work c)
+Shows who before after old new (Err e) = (new.cache ≡ old.cache) × (new.shown ≡ old.shown)
 
 -- one step of a session
 pub record StepsSession (who : Caller) (before after : Seen) (old new : Acting) (result : Result (Turn Answer) Refused) : Type 0 where
@@ -389,12 +500,14 @@ abbrev pub calls_left : Work → ℕ
 calls_left (Opening m) = opening_left m
 calls_left (Committing m) = commit_left m
 calls_left (Reading home m) = reading_left m
+calls_left (Scanning home m) = scanning_left m.scan
 calls_left (Paging home m) = paging_left m
 calls_left (Folding home m) = calls_in m.work
 calls_left Closed = 0
 calls_left (Idle home) = 0
 calls_left (Closing lease) = 1
 calls_left (Renewing home) = 1
+calls_left (Settling m) = settling_left m
 calls_left (Broken lease) = 0
 
 -- the call in hand, where something is at work
@@ -402,12 +515,14 @@ abbrev pub ask_of_work : Work → Option Ask
 ask_of_work (Opening m) = Some (recovery_ask m)
 ask_of_work (Committing m) = Some (run_ask m)
 ask_of_work (Reading home m) = Some (walk_ask m)
+ask_of_work (Scanning home m) = Some (scan_ask m.scan)
 ask_of_work (Paging home m) = Some (paging_ask m)
 ask_of_work (Folding home m) = Some (making_ask m)
 ask_of_work Closed = None
 ask_of_work (Idle home) = None
 ask_of_work (Closing lease) = Some (Release lease)
 ask_of_work (Renewing home) = Some (Renew home.lease 600)
+ask_of_work (Settling m) = Some (settle_ask m)
 ask_of_work (Broken lease) = None
 
 -- the changes of the commit at work
@@ -415,12 +530,14 @@ abbrev pub committing_of : Work → Option (List Noted)
 committing_of (Committing m) = Some m.draft.writes.changes
 committing_of (Opening m) = None
 committing_of (Reading home m) = None
+committing_of (Scanning home m) = None
 committing_of (Paging home m) = None
 committing_of (Folding home m) = None
 committing_of Closed = None
 committing_of (Idle home) = None
 committing_of (Closing lease) = None
 committing_of (Renewing home) = None
+committing_of (Settling m) = None
 committing_of (Broken lease) = None
 
 -- the head that the put in hand opens, where it commits
@@ -428,17 +545,20 @@ abbrev pub opens_of : Work → Option Head
 opens_of (Committing m) = run_opens m
 opens_of (Opening m) = None
 opens_of (Reading home m) = None
+opens_of (Scanning home m) = None
 opens_of (Paging home m) = None
 opens_of (Folding home m) = None
 opens_of Closed = None
 opens_of (Idle home) = None
 opens_of (Closing lease) = None
 opens_of (Renewing home) = None
+opens_of (Settling m) = None
 opens_of (Broken lease) = None
 
 -- the items that the put in hand applies
 abbrev pub applying_of : Work → List PuItem
 applying_of (Reading home m) = []
+applying_of (Scanning home m) = []
 applying_of (Paging home m) = m.applying
 applying_of (Folding home m) = applying_in m.work
 applying_of (Committing m) = []
@@ -447,12 +567,21 @@ applying_of Closed = []
 applying_of (Idle home) = []
 applying_of (Closing lease) = []
 applying_of (Renewing home) = []
+applying_of (Settling m) = part_applying m.part
 applying_of (Broken lease) = []
 
 -- the payload that the newest operation read, as the client sees it
-abbrev pub value_in : Work → Option Walk → Cache → List Noted → Option (List ℕ)
-value_in (Idle home) (Some m) c buffer = read_value m c home.client home.head buffer
-value_in work read c buffer = None
+abbrev pub value_in : Work → Shown → Cache → List Noted → Option (List ℕ)
+value_in (Idle home) (Read m) c buffer = read_value m c home.client home.head buffer
+value_in work shown c buffer = None
 
 abbrev pub value_of : Acting → Option (List ℕ)
-value_of s = value_in s.work s.read s.cache s.buffer
+value_of s = value_in s.work s.shown s.cache s.buffer
+
+-- the records that the newest operation listed
+abbrev pub items_in : Shown → List Pair
+items_in (Listed pairs) = pairs
+items_in shown = []
+
+abbrev pub items_of : Acting → List Pair
+items_of s = items_in s.shown

@@ -1,5 +1,6 @@
 use cloud_trait::turn::CkptAnswer;
 use db_base::trouble::{CommitAnswer, Trouble};
+use settle_run::Settled;
 
 /// What the begin of an operation answers.
 #[derive(Debug, Drop)]
@@ -25,6 +26,10 @@ pub enum Answer {
     Done(CkptAnswer),
     /// A read found its leaf: the session shows the value.
     Value,
+    /// A scan came to its end: the session shows the records.
+    Scan,
+    /// A settling came to its end.
+    Settled(Settled),
     /// Why the operation stopped.
     Trouble(Trouble),
 }

@@ -14,6 +14,8 @@ pub enum Op {
     Commit,
     /// Reads a record of a tree.
     Read(TreeId, Key),
+    /// Scans the records of a tree from a key on, or from its left end, and below a key, or to its right end.
+    Scan(TreeId, Option<Key>, Option<Key>),
     /// Checkpoints a page of a tree.
     Page(TreeId, PageId),
     /// Checkpoints a tree.

@@ -1,6 +1,7 @@
 ghost use Rattle.client_session.specs.Session.{IsOfClient, ReadsBy, ReadsOf, StepsReading};
 
 use crate::answer::{Answer, Begun};
+use crate::shown::Shown;
 use crate::work::{Work, stopped};
 use cloud_trait::cloud::Cloud;
 use cloud_trait::turn::Turn;
@@ -10,28 +11,32 @@ use record_read::RecordRead;
 use recover_run::home::Home;
 use std::alloc::Global;
 
-/// Begins a read beside the open client: what is in hand then, and the read where it ended at once.
+/// Begins a read beside the open client: what is in hand then, and what it shows where it ended at once.
 pub(crate) fn begin_reading(
     alloc: Global,
     home: Home,
     mut read: RecordRead,
     cache: &mut PageCache,
-) -> (Work, Option<RecordRead>, Begun)
+) -> (Work, Shown, Begun)
     ensures reads { ReadsOf home read cache.old cache.new result.0 result.1 result.2 }
     ensures client { IsOfClient result.0 }
 {
     match read.ready(alloc, cache) {
-        Turn::More => (Work::Reading(home, read), None, Begun::Working),
-        Turn::Ended(_) => (Work::Idle(home), Some(read), Begun::Answered(Answer::Value)),
+        Turn::More => (Work::Reading(home, read), Shown::Nothing, Begun::Working),
+        Turn::Ended(_) => (
+            Work::Idle(home),
+            Shown::Read(read),
+            Begun::Answered(Answer::Value),
+        ),
         Turn::Stopped(trouble) => (
             stopped(&trouble, home),
-            None,
+            Shown::Nothing,
             Begun::Answered(Answer::Trouble(trouble)),
         ),
     }
 }
 
-/// Makes the call in hand of a read, beside the open client: what is in hand then, and the read where it ended.
+/// Makes the call in hand of a read, beside the open client: what is in hand then, and what it shows where it ended.
 pub(crate) fn step_reading<C: Cloud>(
     alloc: Global,
     cloud: &mut C,
@@ -39,17 +44,21 @@ pub(crate) fn step_reading<C: Cloud>(
     home: Home,
     mut read: RecordRead,
     cache: &mut PageCache,
-) -> (Work, Option<RecordRead>, Turn<Answer>)
+) -> (Work, Shown, Turn<Answer>)
     ensures steps { StepsReading home who (C.seen cloud.old) (C.seen cloud.new) read result.0 result.2 }
     ensures reads { ReadsBy home who (C.seen cloud.old) (C.seen cloud.new) read cache.old cache.new result.0 result.1 result.2 }
     ensures client { IsOfClient result.0 }
 {
     match read.step(alloc, cloud, who, cache) {
-        Turn::More => (Work::Reading(home, read), None, Turn::More),
-        Turn::Ended(_) => (Work::Idle(home), Some(read), Turn::Ended(Answer::Value)),
+        Turn::More => (Work::Reading(home, read), Shown::Nothing, Turn::More),
+        Turn::Ended(_) => (
+            Work::Idle(home),
+            Shown::Read(read),
+            Turn::Ended(Answer::Value),
+        ),
         Turn::Stopped(trouble) => (
             stopped(&trouble, home),
-            None,
+            Shown::Nothing,
             Turn::Ended(Answer::Trouble(trouble)),
         ),
     }

@@ -8,6 +8,8 @@ use crate::committing::commit_noted;
 use crate::op::Op;
 use crate::opening::opening;
 use crate::reading::begin_reading;
+use crate::scanning::begin_scanning;
+use crate::shown::Shown;
 use crate::work::Work;
 use cloud_trait::call::Call;
 use cloud_trait::cloud::Cloud;
@@ -16,13 +18,16 @@ use cloud_trait::who::Who;
 use db_base::change::Change;
 use db_base::ids::{ClientId, PageId, TreeId};
 use db_base::key::Key;
+use db_base::pair::Pair;
 use db_base::refusal::{Refusal, Refused};
 use head_codec::head::Head;
 use log_codec::record::PuItem;
 use page_cache::PageCache;
 use page_ckpt::PageCkpt;
+use range_scan::RangeScan;
 use record_read::RecordRead;
 use recover_run::home::Home;
+use settle_run::SettleRun;
 use std::alloc::Global;
 use std::marker::Model;
 use std::mem;
@@ -34,8 +39,8 @@ pub struct Session {
     buffer: TxnBuffer,
     work: Work,
     cache: PageCache,
-    // The newest operation, where it was a read that ended at its leaf.
-    read: Option<RecordRead>,
+    // What the newest operation shows.
+    shown: Shown,
 }
 
 // Written out, so that what holds a session need not look into it to let it go.
@@ -45,7 +50,7 @@ impl Drop for Session {
             buffer: _,
             work: _,
             cache: _,
-            read: _,
+            shown: _,
         } = self;
     }
 }
@@ -55,13 +60,13 @@ impl Model for Session {
 
     ghost Value = { Acting };
 
-    ghost view = { λ s. record { buffer = s.buffer; work = s.work; cache = s.cache; read = s.read } };
+    ghost view = { λ s. record { buffer = s.buffer; work = s.work; cache = s.cache; shown = s.shown } };
 
     ghost invariant = { λ s. IsOfClient s.work };
 }
 
 impl Session {
-    ghost use Rattle.client_session.specs.Session.{Acting, closed_session, rule_of, NoteRefused, AbortRefused, Begins, BeginsOpening, BeginsWith, HasInHand, IsOfClient, folding_begun_by, paging_begun_by, TakesHome, CommitsIn, StepsSession, ReadsIn, noted_behind, shown_behind, ask_of_work, committing_of, opens_of, applying_of, value_of};
+    ghost use Rattle.client_session.specs.Session.{Acting, closed_session, rule_of, NoteRefused, AbortRefused, Begins, BeginsOpening, BeginsWith, HasInHand, IsOfClient, folding_begun_by, paging_begun_by, TakesHome, CommitsIn, StepsSession, ReadsIn, ScansIn, settling_session, noted_behind, shown_behind, ask_of_work, committing_of, opens_of, applying_of, value_of, items_of};
 
     /// A closed session without changes. Refused for memory alone.
     pub fn new(alloc: Global) -> Result<Session, Refused>
@@ -75,8 +80,18 @@ impl Session {
             buffer: TxnBuffer::new(alloc)?,
             work: Work::Closed,
             cache,
-            read: None,
+            shown: Shown::Nothing,
         })
+    }
+
+    /// A session that stands for no client and settles. Refused for memory alone.
+    pub fn settling(alloc: Global) -> Result<Session, Refused>
+        ensures ok { IfOk result (λ s. s ≡ settling_session) }
+        ensures memory { IfErr result (λ e. e ≡ Refused.Memory) }
+    {
+        let mut session = Session::new(alloc)?;
+        session.has(Work::Settling(SettleRun::new(alloc)));
+        Ok(session)
     }
 
     /// Notes a change of an open client. A refusal changes nothing.
@@ -122,7 +137,7 @@ impl Session {
     {
         self.buffer.clear();
         self.cache.clear();
-        self.read = None;
+        self.shown = Shown::Nothing;
     }
 
     /// Begins an operation. A refusal changes nothing.
@@ -135,6 +150,7 @@ impl Session {
             Op::Renew => self.begin_renewal(),
             Op::Commit => self.begin_commit(alloc),
             Op::Read(tree, key) => self.begin_read(alloc, tree, key),
+            Op::Scan(tree, from, to) => self.begin_scan(alloc, tree, from, to),
             Op::Page(tree, page) => self.begin_page(alloc, tree, page),
             Op::Tree(tree) => self.begin_tree(alloc, tree),
         }
@@ -188,9 +204,27 @@ impl Session {
     {
         let home = self.take_home()?;
         let read = RecordRead::new(alloc, tree, key);
-        let (work, read, begun) = begin_reading(alloc, home, read, &mut self.cache);
+        let (work, shown, begun) = begin_reading(alloc, home, read, &mut self.cache);
         self.has(work);
-        self.shows(read);
+        self.shows(shown);
+        Ok(begun)
+    }
+
+    /// Begins a scan of records.
+    fn begin_scan(
+        &mut self,
+        alloc: Global,
+        tree: TreeId,
+        from: Option<Key>,
+        to: Option<Key>,
+    ) -> Result<Begun, Refused>
+        ensures { BeginsWith (ScansIn tree from to self.old) self.old self.new result }
+    {
+        let home = self.take_home()?;
+        let scan = RangeScan::new(alloc, tree, from, to);
+        let (work, shown, begun) = begin_scanning(alloc, home, scan, &mut self.cache, &self.buffer);
+        self.has(work);
+        self.shows(shown);
         Ok(begun)
     }
 
@@ -219,7 +253,7 @@ impl Session {
         let (work, home) = self.take_work().take_home();
         self.has(work);
         if home.is_ok() {
-            self.shows(None);
+            self.shows(Shown::Nothing);
         }
         home
     }
@@ -241,11 +275,11 @@ impl Session {
         self.work = work;
     }
 
-    /// Shows this read from now on.
-    fn shows(&mut self, read: Option<RecordRead>)
-        ensures { self.new ≡ record self.old { read = read } }
+    /// Shows this from now on.
+    fn shows(&mut self, shown: Shown)
+        ensures { self.new ≡ record self.old { shown = shown } }
     {
-        self.read = read;
+        self.shown = shown;
     }
 
     /// Makes the call in hand of the operation at work, and does the local work up to the next one.
@@ -262,9 +296,9 @@ impl Session {
         }
         self.drop_at_close();
         let work = self.take_work();
-        let (work, read, turn) = work.step(alloc, cloud, who, &mut self.cache);
+        let (work, shown, turn) = work.step(alloc, cloud, who, &mut self.cache, &self.buffer);
         self.has(work);
-        self.shows(read);
+        self.shows(shown);
         self.clear_where_closed();
         Ok(turn)
     }
@@ -321,11 +355,22 @@ impl Session {
     pub fn value(&self) -> Option<&[u8]>
         ensures { option_copied result ≡ value_of self.now }
     {
-        match (&self.work, &self.read) {
-            (Work::Idle(home), Some(read)) => {
+        match (&self.work, &self.shown) {
+            (Work::Idle(home), Shown::Read(read)) => {
                 read.value(&self.cache, home.client, &home.head, &self.buffer)
             }
             _ => None,
+        }
+    }
+
+    /// The records that the newest operation listed, in the order of their keys; none where it was no scan.
+    pub fn items(&self) -> &[Pair]
+        ensures { result.now ≡ items_of self.now }
+    {
+        match &self.shown {
+            Shown::Listed(pairs) => pairs.as_slice(),
+            Shown::Read(_) => &[],
+            Shown::Nothing => &[],
         }
     }
 }

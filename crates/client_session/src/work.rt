@@ -7,10 +7,14 @@ use crate::answer::Answer;
 use crate::closing::step_close;
 use crate::committing::step_committing;
 use crate::folding::step_folding;
+use crate::listing::Listing;
 use crate::opening::step_opening;
 use crate::paging::step_paging;
 use crate::reading::step_reading;
 use crate::renewing::step_renewal;
+use crate::scanning::step_scanning;
+use crate::settling::step_settling;
+use crate::shown::Shown;
 use cloud_trait::call::Call;
 use cloud_trait::cloud::Cloud;
 use cloud_trait::lease::Lease;
@@ -26,6 +30,7 @@ use page_ckpt::PageCkpt;
 use record_read::RecordRead;
 use recover_run::home::Home;
 use recover_run::recover::{CLIENT_TICKS, RecoverRun};
+use settle_run::SettleRun;
 use std::alloc::Global;
 use tree_ckpt::TreeCkpt;
 use txn_buffer::buffer::TxnBuffer;
@@ -42,6 +47,8 @@ pub enum Work {
     Committing(CommitRun),
     /// A read under way, beside the open client.
     Reading(Home, RecordRead),
+    /// A scan under way, beside the open client.
+    Scanning(Home, Listing),
     /// A page checkpoint under way, beside the open client.
     Paging(Home, PageCkpt),
     /// A tree checkpoint under way, beside the open client.
@@ -50,6 +57,8 @@ pub enum Work {
     Closing(Lease),
     /// An open client whose lease is being renewed.
     Renewing(Home),
+    /// A settling under way: no client is open.
+    Settling(SettleRun),
     /// The lease of a client whose newest operation left it in doubt.
     Broken(Lease),
 }
@@ -63,10 +72,12 @@ impl Drop for Work {
             Work::Opening(machine) => drop_opening(machine),
             Work::Committing(_) => {}
             Work::Reading(_, _) => {}
+            Work::Scanning(_, _) => {}
             Work::Paging(_, machine) => drop_paging(machine),
             Work::Folding(_, _) => {}
             Work::Closing(_) => {}
             Work::Renewing(_) => {}
+            Work::Settling(machine) => drop_settling(machine),
             Work::Broken(_) => {}
         }
     }
@@ -77,6 +88,9 @@ pub(crate) fn drop_opening(_machine: RecoverRun) {}
 
 /// Lets a page checkpoint go.
 pub(crate) fn drop_paging(_machine: PageCkpt) {}
+
+/// Lets a settling go.
+pub(crate) fn drop_settling(_machine: SettleRun) {}
 
 impl Work {
     ghost use Rattle.client_session.specs.Session.{rule_of, opening_rule_of, is_working, ask_of_work, committing_of, opens_of, applying_of};
@@ -91,10 +105,12 @@ impl Work {
             Work::Opening(_) => Some(Refusal::AtWork),
             Work::Committing(_) => Some(Refusal::AtWork),
             Work::Reading(_, _) => Some(Refusal::AtWork),
+            Work::Scanning(_, _) => Some(Refusal::AtWork),
             Work::Paging(_, _) => Some(Refusal::AtWork),
             Work::Folding(_, _) => Some(Refusal::AtWork),
             Work::Closing(_) => Some(Refusal::AtWork),
             Work::Renewing(_) => Some(Refusal::AtWork),
+            Work::Settling(_) => Some(Refusal::AtWork),
             Work::Broken(_) => Some(Refusal::Broken),
         }
     }
@@ -109,10 +125,12 @@ impl Work {
             Work::Opening(_) => Some(Refusal::AtWork),
             Work::Committing(_) => Some(Refusal::AtWork),
             Work::Reading(_, _) => Some(Refusal::AtWork),
+            Work::Scanning(_, _) => Some(Refusal::AtWork),
             Work::Paging(_, _) => Some(Refusal::AtWork),
             Work::Folding(_, _) => Some(Refusal::AtWork),
             Work::Closing(_) => Some(Refusal::AtWork),
             Work::Renewing(_) => Some(Refusal::AtWork),
+            Work::Settling(_) => Some(Refusal::AtWork),
             Work::Broken(_) => None,
         }
     }
@@ -125,10 +143,12 @@ impl Work {
             Work::Opening(_) => true,
             Work::Committing(_) => true,
             Work::Reading(_, _) => true,
+            Work::Scanning(_, _) => true,
             Work::Paging(_, _) => true,
             Work::Folding(_, _) => true,
             Work::Closing(_) => true,
             Work::Renewing(_) => true,
+            Work::Settling(_) => true,
             Work::Closed => false,
             Work::Idle(_) => false,
             Work::Broken(_) => false,
@@ -143,10 +163,12 @@ impl Work {
             Work::Opening(machine) => Some(machine.in_hand()),
             Work::Committing(machine) => Some(machine.in_hand()),
             Work::Reading(_, machine) => Some(machine.in_hand()),
+            Work::Scanning(_, listing) => Some(listing.scan.in_hand()),
             Work::Paging(_, machine) => Some(machine.in_hand()),
             Work::Folding(_, machine) => Some(machine.in_hand()),
             Work::Closing(lease) => Some(Call::Release(lease)),
             Work::Renewing(home) => Some(Call::Renew(&home.lease, CLIENT_TICKS)),
+            Work::Settling(machine) => Some(machine.in_hand()),
             Work::Closed => None,
             Work::Idle(_) => None,
             Work::Broken(_) => None,
@@ -163,10 +185,12 @@ impl Work {
             Work::Idle(_) => None,
             Work::Opening(_) => None,
             Work::Reading(_, _) => None,
+            Work::Scanning(_, _) => None,
             Work::Paging(_, _) => None,
             Work::Folding(_, _) => None,
             Work::Closing(_) => None,
             Work::Renewing(_) => None,
+            Work::Settling(_) => None,
             Work::Broken(_) => None,
         }
     }
@@ -181,10 +205,12 @@ impl Work {
             Work::Idle(_) => None,
             Work::Opening(_) => None,
             Work::Reading(_, _) => None,
+            Work::Scanning(_, _) => None,
             Work::Paging(_, _) => None,
             Work::Folding(_, _) => None,
             Work::Closing(_) => None,
             Work::Renewing(_) => None,
+            Work::Settling(_) => None,
             Work::Broken(_) => None,
         }
     }
@@ -195,6 +221,7 @@ impl Work {
     {
         match self {
             Work::Reading(_, _) => &[],
+            Work::Scanning(_, _) => &[],
             Work::Paging(_, machine) => machine.applying(),
             Work::Folding(_, machine) => machine.applying(),
             Work::Closed => &[],
@@ -203,6 +230,7 @@ impl Work {
             Work::Committing(_) => &[],
             Work::Closing(_) => &[],
             Work::Renewing(_) => &[],
+            Work::Settling(machine) => machine.applying(),
             Work::Broken(_) => &[],
         }
     }
@@ -225,6 +253,10 @@ impl Work {
                 Work::Reading(home, machine),
                 Err(Refused::Rule(Refusal::AtWork)),
             ),
+            Work::Scanning(home, listing) => (
+                Work::Scanning(home, listing),
+                Err(Refused::Rule(Refusal::AtWork)),
+            ),
             Work::Paging(home, machine) => (
                 Work::Paging(home, machine),
                 Err(Refused::Rule(Refusal::AtWork)),
@@ -235,6 +267,10 @@ impl Work {
             ),
             Work::Closing(lease) => (Work::Closing(lease), Err(Refused::Rule(Refusal::AtWork))),
             Work::Renewing(home) => (Work::Renewing(home), Err(Refused::Rule(Refusal::AtWork))),
+            Work::Settling(machine) => (
+                Work::Settling(machine),
+                Err(Refused::Rule(Refusal::AtWork)),
+            ),
             Work::Broken(lease) => (Work::Broken(lease), Err(Refused::Rule(Refusal::Broken))),
         }
     }
@@ -251,45 +287,53 @@ impl Work {
         }
     }
 
-    /// Makes the call in hand of what is at work: what is in hand then, the read where one ended, and what it came to.
+    /// Makes the call in hand of what is at work, where so much is noted: what is in hand then, what that shows, and what it came to.
     pub(crate) fn step<C: Cloud>(
         self,
         alloc: Global,
         cloud: &mut C,
         who: Who,
         cache: &mut PageCache,
-    ) -> (Work, Option<RecordRead>, Turn<Answer>)
+        buffer: &TxnBuffer,
+    ) -> (Work, Shown, Turn<Answer>)
         requires client { IsOfClient self }
         requires working { is_working self ≡ true }
         ensures steps { StepsAt who (C.seen cloud.old) (C.seen cloud.new) self result.0 result.2 }
-        ensures shows { ShowsAt who (C.seen cloud.old) (C.seen cloud.new) self cache.old cache.new result.0 result.1 result.2 }
+        ensures shows { ShowsAt who (C.seen cloud.old) (C.seen cloud.new) buffer.now self cache.old cache.new result.0 result.1 result.2 }
         ensures client { IsOfClient result.0 }
     {
         match self {
             Work::Reading(home, read) => step_reading(alloc, cloud, who, home, read, cache),
+            Work::Scanning(home, listing) => {
+                step_scanning(alloc, cloud, who, home, listing, cache, buffer)
+            }
             Work::Opening(machine) => {
                 let (work, turn) = step_opening(alloc, cloud, who, machine);
-                (work, None, turn)
+                (work, Shown::Nothing, turn)
             }
             Work::Committing(machine) => {
                 let (work, turn) = step_committing(alloc, cloud, who, machine, cache);
-                (work, None, turn)
+                (work, Shown::Nothing, turn)
             }
             Work::Paging(home, machine) => {
                 let (work, turn) = step_paging(alloc, cloud, who, home, machine);
-                (work, None, turn)
+                (work, Shown::Nothing, turn)
             }
             Work::Folding(home, machine) => {
                 let (work, turn) = step_folding(alloc, cloud, who, home, machine);
-                (work, None, turn)
+                (work, Shown::Nothing, turn)
             }
             Work::Closing(lease) => {
                 let (work, turn) = step_close(cloud, who, lease);
-                (work, None, turn)
+                (work, Shown::Nothing, turn)
             }
             Work::Renewing(home) => {
                 let (work, turn) = step_renewal(cloud, who, home);
-                (work, None, turn)
+                (work, Shown::Nothing, turn)
+            }
+            Work::Settling(machine) => {
+                let (work, turn) = step_settling(alloc, cloud, who, machine);
+                (work, Shown::Nothing, turn)
             }
             Work::Closed => unreachable!(),
             Work::Idle(_) => unreachable!(),

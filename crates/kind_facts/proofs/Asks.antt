@@ -34,7 +34,13 @@ use Rattle.tree_moves.specs.declared.work.Work.TheVariants.{TakingTree, GettingT
 use Rattle.tree_moves.specs.Work.{delete_ask, release_ask, work_ask}
 use Rattle.tree_ckpt.specs.Making.{Making, making_ask}
 use Rattle.tree_ckpt_facts.specs.Checkpoint.{KnowsWork, KnowsMaking}
-use Rattle.replay_meaning.specs.Kinds.{CommitsFor, MayPutRoot, MayPutPage, MaySend, MaySendPending}
+use Rattle.settle_run.specs.declared.part.Part.{Part as AtWork}
+use Rattle.settle_run.specs.declared.part.Part.TheVariants.{Client, Tree, Page}
+use Rattle.settle_run.specs.Parts.{part_ask}
+use Rattle.settle_run.specs.Settling.{Settling, settle_ask}
+use Rattle.settle_facts.specs.Settling.{KnowsAtWork, KnowsSettling}
+use Rattle.home_facts.specs.Homes.{Part}
+use Rattle.replay_meaning.specs.Kinds.{CommitsFor, IsOfSettler, MayPutRoot, MayPutPage, MaySend, MaySendPending}
 use Rattle.replay_meaning.specs.Standing.{Line, standing_of_row}
 use Rattle.kind_facts.specs.Asks.{MayAsk, MayAskBeside}
 
@@ -196,3 +202,18 @@ module _ (lines : List Line) (row : Landing) where
   -- it puts the root and pages of its tree
   pub making_asks : (st : Store) (now : ℕ) (m : Making) → KnowsMaking st now m → MayPutRoot lines row m.tree → MayAsk lines row (making_ask m)
   making_asks st now m k root = work_may st now m.tree m.work k.work root
+
+  -- ---- a settling
+
+  -- a part of it does what its recovery or checkpoint does, where all that is settled is allowed
+  part_may : (st : Store) (now : ℕ) (at : AtWork) (part : Part) → KnowsAtWork st now at part → IsOfSettler lines row
+      → ((client : ℕ) (bytes : List ℕ) (one : Claim) (two : Option Claim) → part_ask at ≡ PutHeld (object.Head client) bytes one two → MayAsk lines row (PutHeld (object.Head client) bytes one two))
+      → MayAsk lines row (part_ask at)
+  part_may st now (Client client m) part k own heads = may_ask lines row (recovery_ask m) heads (recovery_asks m (inr (inr own)))
+  part_may st now (Tree tree m) part k own heads = making_asks st now m k.knows (inr own)
+  part_may st now (Page tree page m) part k own heads = paging_asks m (inr (inr own))
+
+  pub settling_asks : (st : Store) (now : ℕ) (m : Settling) (part : Part) → KnowsSettling st now m part → IsOfSettler lines row
+      → ((client : ℕ) (bytes : List ℕ) (one : Claim) (two : Option Claim) → settle_ask m ≡ PutHeld (object.Head client) bytes one two → MayAsk lines row (PutHeld (object.Head client) bytes one two))
+      → MayAsk lines row (settle_ask m)
+  settling_asks st now m part k own heads = part_may st now m.part part k own heads

@@ -10,7 +10,7 @@ use Rattle.commit_writes.specs.declared.stage.Stage.{Stage}
 use Rattle.commit_writes.specs.declared.stage.Stage.TheVariants as stage
 use Rattle.commit_writes.specs.Writing.{Writing, opens_at}
 use Rattle.client_session.specs.declared.work.Work.{Work}
-use Rattle.client_session.specs.declared.work.Work.TheVariants.{Closed, Idle, Opening, Committing, Reading, Paging, Folding, Closing, Renewing, Broken}
+use Rattle.client_session.specs.declared.work.Work.TheVariants.{Closed, Idle, Opening, Committing, Reading, Scanning, Paging, Folding, Closing, Renewing, Settling, Broken}
 use Rattle.client_session.specs.Session.{opens_of, committing_of}
 use Rattle.head_codec.specs.declared.head.Head.{Head}
 use Rattle.head_codec.specs.declared.head.Phase.TheVariants as phase
@@ -66,6 +66,8 @@ work_is_new st now c (Committing r) part client head changes k own opens is =
     (subst (λ (cs : List Noted). IsNew st.book.log (home_of r).client head cs) same (run_is_new st now (r, c) part head k opens))
 work_is_new st now c (Opening r) part client head changes k own opens is = absurd (cc)
 work_is_new st now c (Reading home m) part client head changes k own opens is = absurd (cc)
+work_is_new st now c (Scanning home m) part client head changes k own opens is = absurd (cc)
+work_is_new st now c (Settling m) part client head changes k own opens is = absurd (cc)
 work_is_new st now c (Paging home p) part client head changes k own opens is = absurd (cc)
 work_is_new st now c (Folding home f) part client head changes k own opens is = absurd (cc)
 work_is_new st now c Closed part client head changes k own opens is = absurd (cc)

@@ -8,8 +8,8 @@ use Rattle.cloud_trait.specs.Caller.{Caller}
 use Rattle.cloud_trait.specs.Claim.{Claim}
 use Rattle.cloud_trait.specs.State.{CloudState}
 use Rattle.client_session.specs.declared.work.Work.{Work}
-use Rattle.client_session.specs.declared.work.Work.TheVariants.{Closed, Idle, Opening, Committing, Reading, Paging, Folding, Closing, Renewing, Broken}
-use Rattle.client_session.specs.Session.{ask_of_work, opens_of}
+use Rattle.client_session.specs.declared.work.Work.TheVariants.{Closed, Idle, Opening, Committing, Reading, Scanning, Paging, Folding, Closing, Renewing, Settling, Broken}
+use Rattle.client_session.specs.Session.{ask_of_work, opens_of, committing_of}
 use Rattle.commit_run.specs.Run.{Run, home_of, run_ask}
 use Rattle.head_codec.specs.declared.head.Head.{Head}
 use Rattle.head_codec.specs.declared.head.Phase.{Phase}
@@ -18,14 +18,16 @@ use Rattle.head_codec.specs.Spelling.{head_of}
 use Rattle.home_facts.specs.Homes.{Part}
 use Rattle.kind_facts.specs.Asks.{MayAsk}
 use Rattle.kind_facts.specs.New.{IsNew}
-use Rattle.kind_facts.proofs.Asks.{may_ask, recovery_asks, run_asks, paging_asks, making_asks}
+use Rattle.kind_facts.proofs.Asks.{may_ask, recovery_asks, run_asks, paging_asks, making_asks, settling_asks}
 use Rattle.kind_facts.proofs.Opens.{work_is_new}
 use Rattle.page_cache.specs.Cache.{Cache}
 use Rattle.page_ckpt.specs.Paging.{paging_ask}
+use Rattle.range_scan.specs.Scan.{scan_ask}
 use Rattle.recover_run.specs.Recovery.{Recovery, recovery_ask}
+use Rattle.settle_run.specs.Settling.{Settling as SettlingState, settle_ask}
 use Rattle.replay_meaning.specs.Standing.{Line, Standing, standing, standing_of_row}
 use Rattle.replay_meaning.specs.Committed.{committed}
-use Rattle.replay_meaning.specs.Kinds.{OpensClient, CommitsFor, MaySettleHead, MayPutPhase, MayPutHead, MayPutBytes, IsOfKind, LandsOpen}
+use Rattle.replay_meaning.specs.Kinds.{OpensClient, CommitsFor, IsOfSettler, MaySettleHead, MayPutPhase, MayPutHead, MayPutBytes, IsOfKind, LandsOpen}
 use Rattle.session_facts.specs.Puts.{IsSoundWork, Commits, PutsHead}
 use Rattle.session_facts.specs.Sessions.{KnowsWork}
 use Rattle.session_facts.proofs.HeadPuts.{head_put}
@@ -36,6 +38,20 @@ use Rattle.tree_ckpt.specs.Making.{making_ask}
 use Rattle.replay_model.specs.Facts.{WorksAs}
 use Rattle.replay_model.proofs.CommittedLemmas.{now_standing}
 use Rattle.replay_model.proofs.Once.{at_place, not_opened, OpensUnopened}
+
+-- the settler is at work
+abbrev pub IsSettling : Work → Type 0
+IsSettling (Settling m) = Unit {0}
+IsSettling w = ⊥
+
+-- a row of this caller is the settler's, of a line that settles
+abbrev pub IsSettlersRow : List Line → Caller → Type 0
+IsSettlersRow lines who = (row : Landing) → row.who ≡ who → IsOfSettler lines row
+
+-- a settling commits nothing
+pub settles_none : (w : Work) → IsSettling w → committing_of w ≡ None
+settles_none (Settling m) settles = refl
+settles_none w settles = absurd settles
 
 -- ---- puts of heads
 
@@ -84,40 +100,54 @@ module _ (lines : List Line) (row : Landing) (st : Store) (now : ℕ) (c : Cache
           (record { changes = r.draft.writes.changes; commits = acts.0; as_many = refl; own = acts.1 ∙ p.client_is })
       on (inr settled) = put_may lines row client bytes p.head phase.Settled p.spells settled.1 (inr (inl (subst (λ n. CommitsFor n s) p.client_is (commits_for r acts))))
 
+  -- ---- a settling
+
+  settling_head : (m : SettlingState) (client : ℕ) (bytes : List ℕ) → IsOfSettler lines row → PutsHead (Settling m) client bytes → MayPutBytes lines row client (Some bytes)
+  settling_head m client bytes own p = settled_may lines row (Settling m) client bytes (inr (inr own)) refl p
+
+  pub settle_asks : (w : Work) → IsSettling w → IsOfSettler lines row → KnowsWork st now c w part → IsSoundWork w → (ask : Ask) → ask_of_work w ≡ Some ask → MayAsk lines row ask
+  settle_asks (Settling m) settles own k sound ask e =
+      let is : settle_ask m ≡ ask = cc in
+      subst (MayAsk lines row) is
+      (settling_asks lines row st now m part k own (λ client bytes one two put. settling_head m client bytes own (head_put st now c (Settling m) part k sound client bytes one two (ap (λ a. Some a) put))))
+  settle_asks w settles own k sound ask e = absurd settles
+
   -- ---- the call in hand, by the work
 
-  work_asks : (w : Work) → WorksAs w s → KnowsWork st now c w part → IsSoundWork w → (ask : Ask) → ask_of_work w ≡ Some ask → MayAsk lines row ask
-  work_asks (Opening r) acts k sound ask e =
+  work_asks : (w : Work) → WorksAs w s → (IsSettling w → IsOfSettler lines row) → KnowsWork st now c w part → IsSoundWork w → (ask : Ask) → ask_of_work w ≡ Some ask → MayAsk lines row ask
+  work_asks (Opening r) acts settler k sound ask e =
       let is : recovery_ask r ≡ ask = cc in
       subst (MayAsk lines row) is
       (may_ask lines row (recovery_ask r) (λ client bytes one two put. opening_head r client bytes acts (head_put st now c (Opening r) part k sound client bytes one two (ap (λ a. Some a) put)))
       (recovery_asks lines row r (inr (inl (r.client, opens_client r acts)))))
-  work_asks (Committing r) acts k sound ask e =
+  work_asks (Committing r) acts settler k sound ask e =
       let is : run_ask r ≡ ask = cc in
       subst (MayAsk lines row) is
       (may_ask lines row (run_ask r) (λ client bytes one two put. commit_head r client bytes acts k (head_put st now c (Committing r) part k sound client bytes one two (ap (λ a. Some a) put)))
       (run_asks lines row r (commits_for r acts)))
-  work_asks (Reading home m) acts k sound ask e = subst (MayAsk lines row) (is _ ask e) tt
+  work_asks (Reading home m) acts settler k sound ask e = subst (MayAsk lines row) (is _ ask e) tt
     where
       is : (a b : Ask) → Some a ≡ Some b → a ≡ b
       is a b e = cc
-  work_asks (Paging home p) acts k sound ask e = let is : paging_ask p ≡ ask = cc in subst (MayAsk lines row) is (paging_asks lines row p (inl (p.page, acts.0)))
-  work_asks (Folding home f) acts k sound ask e = let is : making_ask f ≡ ask = cc in subst (MayAsk lines row) is (making_asks lines row st now f k.1 (inl acts.0))
-  work_asks (Closing l) acts k sound ask e = let is : Release l ≡ ask = cc in subst (MayAsk lines row) is tt
-  work_asks (Renewing home) acts k sound ask e = let is : Renew home.lease 600 ≡ ask = cc in subst (MayAsk lines row) is tt
-  work_asks Closed acts k sound ask e = absurd (cc)
-  work_asks (Idle home) acts k sound ask e = absurd (cc)
-  work_asks (Broken l) acts k sound ask e = absurd (cc)
+  work_asks (Scanning home m) acts settler k sound ask e = let is : scan_ask m.scan ≡ ask = cc in subst (MayAsk lines row) is tt
+  work_asks (Settling m) acts settler k sound ask e = settle_asks (Settling m) tt (settler tt) k sound ask e
+  work_asks (Paging home p) acts settler k sound ask e = let is : paging_ask p ≡ ask = cc in subst (MayAsk lines row) is (paging_asks lines row p (inl (p.page, acts.0)))
+  work_asks (Folding home f) acts settler k sound ask e = let is : making_ask f ≡ ask = cc in subst (MayAsk lines row) is (making_asks lines row st now f k.1 (inl acts.0))
+  work_asks (Closing l) acts settler k sound ask e = let is : Release l ≡ ask = cc in subst (MayAsk lines row) is tt
+  work_asks (Renewing home) acts settler k sound ask e = let is : Renew home.lease 600 ≡ ask = cc in subst (MayAsk lines row) is tt
+  work_asks Closed acts settler k sound ask e = absurd (cc)
+  work_asks (Idle home) acts settler k sound ask e = absurd (cc)
+  work_asks (Broken l) acts settler k sound ask e = absurd (cc)
 
 -- how the session of a row within a line stands after the lines before it
 standing_now : (lines : List Line) (who : Caller) (row : Landing) → who.event ≡ length lines + 1 → row.who ≡ who → standing_of_row lines row ≡ standing lines who.session
 standing_now lines who row event is = ap (λ (w : Caller). standing (take (w.event - 1) lines) w.session) is ∙ now_standing lines who event
 
--- the row of a call within a line is of its kind
+-- the row of a call within a line is of its kind, where it is the settler's if that is at work
 pub call_kind : (lines : List Line) (who : Caller) (st : Store) (now : ℕ) (c : Cache) (part : Part) (w : Work) (ask : Ask) → who.event ≡ length lines + 1 → WorksAs w (standing lines who.session)
-    → KnowsWork st now c w part → IsSoundWork w → ask_of_work w ≡ Some ask → (row : Landing) → row.who ≡ who → MayAsk lines row ask
-call_kind lines who st now c part w ask event acts k sound e row is =
-    work_asks lines row st now c part w (subst (WorksAs w) (sym (standing_now lines who row event is)) acts) k sound ask e
+    → (IsSettling w → IsSettlersRow lines who) → KnowsWork st now c w part → IsSoundWork w → ask_of_work w ≡ Some ask → (row : Landing) → row.who ≡ who → MayAsk lines row ask
+call_kind lines who st now c part w ask event acts settler k sound e row is =
+    work_asks lines row st now c part w (subst (WorksAs w) (sym (standing_now lines who row event is)) acts) (λ settles. settler settles row is) k sound ask e
 
 -- ---- a transaction opens once
 

@@ -28,7 +28,7 @@ use Rattle.decoding_facts.specs.Kinds.{MomentsDiffer}
 use Rattle.decoding_facts.proofs.Newest.{newest_last}
 use Rattle.history.specs.Audited.{Audited, committed_entry}
 use Rattle.client_session.specs.declared.work.Work.{Work}
-use Rattle.client_session.specs.declared.work.Work.TheVariants.{Closed, Idle, Opening, Committing, Reading, Paging, Folding, Closing, Renewing, Broken}
+use Rattle.client_session.specs.declared.work.Work.TheVariants.{Closed, Idle, Opening, Committing, Reading, Scanning, Paging, Folding, Closing, Renewing, Settling, Broken}
 use Rattle.client_session.specs.Session.{ask_of_work, committing_of, opens_of}
 use Rattle.replay_meaning.specs.Standing.{Line, Standing, standing}
 use Rattle.replay_meaning.specs.Committed.{committed, entries_of_bytes, entries_of_head, entries_of_phase, changes_at}
@@ -136,6 +136,8 @@ working_changes (Folding home f) s changes acts e = absurd (cc)
 working_changes (Closing lease) s changes acts e = absurd (cc)
 working_changes (Renewing home) s changes acts e = absurd (cc)
 working_changes (Reading home m) s changes acts e = absurd (cc)
+working_changes (Scanning home m) s changes acts e = absurd (cc)
+working_changes (Settling m) s changes acts e = absurd (cc)
 working_changes Closed s changes acts e = absurd (cc)
 working_changes (Idle home) s changes acts e = absurd (cc)
 working_changes (Broken lease) s changes acts e = absurd (cc)

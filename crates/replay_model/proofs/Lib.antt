@@ -3,6 +3,7 @@ pub mod CommittedLemmas
 pub mod OrderLemmas
 pub mod PagingPage
 pub mod ReadingWalk
+pub mod ScanningRange
 pub mod OpeningSteps
 pub mod CommitSteps
 pub mod RunSteps

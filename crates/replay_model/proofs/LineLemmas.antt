@@ -15,7 +15,7 @@ use Rattle.store_book.proofs.Names.{at_same, at_other}
 use Rattle.session_facts.specs.Sessions.{Sessions, SessionsStand}
 use Rattle.session_facts.proofs.Laws.{same_sessions}
 use Rattle.replay_meaning.specs.Standing.{Line, Standing, standing, after_line, after_own, session_of}
-use Rattle.replay_model.specs.Facts.{ActsAs, AllAct, CloudHolds, IsFrontOf, Stands, GoesOn}
+use Rattle.replay_model.specs.Facts.{ActsAs, AllAct, CloudHolds, IsFrontOf, SettlerRests, Stands, GoesOn}
 use Rattle.replay_model.proofs.OrderLemmas.{reported_line}
 use Rattle.replay_model.proofs.CommittedLemmas.{committed_line, standing_line, upto_more}
 use Rattle.replay_model.proofs.RowKinds.{kinds_line}
@@ -67,8 +67,8 @@ AllActWith lines line sessions = (n : ℕ) → ActsAs (sessions n) (after_line n
 
 -- a line that is through is one of the lines
 pub line_through : (lines : List Line) (line : Line) (sessions : Sessions) (a : Audited) (blind : Bool) (t : CloudState) → (h : CloudHolds (length lines + 1) lines sessions a blind t)
-    → AllActWith lines line sessions → IsFrontOf h.order line.reply → Stands (lines ++ line ∷ []) sessions a blind t
-line_through lines line sessions a blind t h acts front = record {
+    → AllActWith lines line sessions → SettlerRests sessions → IsFrontOf h.order line.reply → Stands (lines ++ line ∷ []) sessions a blind t
+line_through lines line sessions a blind t h acts rests front = record {
   holds = record {
     book = h.book;
     order = h.order;
@@ -84,6 +84,7 @@ line_through lines line sessions a blind t h acts front = record {
     reported = reported_line lines line h.order h.reported front;
   };
   acts = λ n. subst (λ z. ActsAs (sessions n) z) (sym (standing_line lines line n)) (acts n);
+  rests = rests;
 }
 
 -- the same sessions, pointwise

@@ -19,8 +19,7 @@ all_closed (suc count) zero = refl
 all_closed (suc count) (suc place) = all_closed count place
 
 pub closed_at : (count n : ℕ) → session_at (replicate count closed_session) n ≡ closed_session
-closed_at count zero = refl
-closed_at count (suc place) = all_closed count place
+closed_at count n = all_closed count n
 
 -- over an empty cloud closed sessions and an empty audit stand for no lines
 pub nothing_stands_yet : (count : ℕ) (t : CloudState) → IsEmptyCloud t → Stands [] (session_at (replicate count closed_session)) (record { committed = []; order = [] }) false t
@@ -34,4 +33,5 @@ nothing_stands_yet count t empty = record {
     reported = λ k line at. absurd (cc);
   });
   acts = λ n. subst (λ (a : Acting). ActsAs a unnamed) (sym (closed_at count n)) (record { buffer = refl; work = refl });
+  rests = closed_at count 0;
 }

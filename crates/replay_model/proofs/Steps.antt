@@ -1,5 +1,5 @@
 -- What a call of a session leaves of all that holds.
-use Rattle.std.proofs.Common.{◌≡◌, ◌≤◌, ◌+◌, ℕ, List, length, Some, Ok, refl, sym, ap, ◌∙◌, Bool, false, arith}
+use Rattle.std.proofs.Common.{◌≡◌, ◌≤◌, ◌+◌, ℕ, List, length, Some, Ok, refl, sym, ap, ◌∙◌, Bool, false, arith, Option, None}
 use Rattle.std.specs.Prelude.{All}
 use Rattle.db_base.specs.declared.trouble.Trouble.{Trouble}
 use Rattle.db_base.specs.declared.wish.Wish.{Wish}
@@ -16,15 +16,20 @@ use Rattle.cloud_trait.specs.Weather.{Makes, Leaves}
 use Rattle.cloud_trait.proofs.RowLemmas.{row_by, leaves_upto}
 use Rattle.history.specs.Audited.{Audited}
 use Rattle.kind_facts.specs.Asks.{MayAsk}
+use Rattle.page_cache.specs.Cache.{Cache}
+use Rattle.recover_run.specs.declared.home.Home.{Home}
 use Rattle.recover_run.specs.Recovery.{recovery_ask}
 use Rattle.commit_run.specs.Run.{run_ask}
 use Rattle.tree_ckpt.specs.Making.{making_ask}
 use Rattle.page_ckpt.specs.Paging.{paging_ask}
 use Rattle.client_session.specs.declared.answer.Answer.{Answer}
 use Rattle.client_session.specs.declared.answer.Answer.TheVariants as answer
+use Rattle.client_session.specs.declared.listing.Listing.{Listing}
+use Rattle.client_session.specs.declared.shown.Shown.{Shown}
 use Rattle.client_session.specs.declared.work.Work.{Work}
-use Rattle.client_session.specs.declared.work.Work.TheVariants.{Closed, Idle, Opening, Committing, Reading, Paging, Folding, Closing, Renewing, Broken}
-use Rattle.client_session.specs.Session.{Acting, StepsSession, StepsAt, ask_of_work}
+use Rattle.client_session.specs.declared.work.Work.TheVariants.{Closed, Idle, Opening, Committing, Reading, Scanning, Paging, Folding, Closing, Renewing, Settling, Broken}
+use Rattle.client_session.specs.Session.{Acting, Follows, StepsSession, StepsAt, ask_of_work, committing_of}
+use Rattle.txn_buffer.specs.Noted.{Noted}
 use Rattle.replay_meaning.specs.Standing.{Line, standing}
 use Rattle.replay_meaning.specs.Committed.{committed}
 use Rattle.replay_meaning.specs.Kinds.{IsOfKind, OpensOnce}
@@ -38,11 +43,13 @@ use Rattle.session_facts.proofs.Calling.{session_keeps}
 use Rattle.session_facts.proofs.HeadPuts.{head_put}
 use Rattle.session_facts.proofs.Laws.{rest_keeps, decodes}
 use Rattle.replay_model.specs.Facts.{IsPlaced, WorksAs, CloudHolds}
-use Rattle.replay_model.proofs.CallKinds.{call_kind, call_opens}
+use Rattle.replay_model.proofs.CallKinds.{IsSettling, IsSettlersRow, settles_none, settle_asks, call_kind, call_opens}
 use Rattle.replay_model.proofs.Commits.{CommitsAs, stood_on, ask_commits, audited_commits}
 use Rattle.replay_model.proofs.CommittedLemmas.{placed_effect, placed_called}
 use Rattle.replay_model.proofs.Once.{OpensUnopened, once_same, once_effect}
 use Rattle.replay_model.proofs.RowKinds.{kinds_same, kinds_effect}
+use Rattle.range_scan.specs.Scan.{scan_ask}
+use Rattle.settle_run.specs.Settling.{settle_ask}
 use Rattle.tree_walk.specs.Walk.{walk_ask}
 use Rattle.replay_model.proofs.OrderLemmas.{reported_more}
 
@@ -66,6 +73,7 @@ made_call who before after (Reading home m) new More p = record { ask = walk_ask
 made_call who before after (Reading home m) new (Ended answer.Value) p = record { ask = walk_ask m; answer = p.0.answer; hand = refl; made = p.0.made }
 made_call who before after (Reading home m) new (Ended (answer.Trouble k)) p = record { ask = walk_ask m; answer = p.0.answer; hand = refl; made = p.0.made }
 made_call who before after (Reading home m) new turn p = absurd p
+made_call who before after (Scanning home m) new turn (buffer, c, d, shown, p) = record { ask = scan_ask m.scan; answer = p.steps.answer; hand = refl; made = p.steps.made }
 made_call who before after (Paging home m) new More p = record { ask = paging_ask m; answer = p.1.answer; hand = refl; made = p.1.made }
 made_call who before after (Paging home m) new (Ended (answer.Done n)) p = record { ask = paging_ask m; answer = p.1.answer; hand = refl; made = p.1.made }
 made_call who before after (Paging home m) new (Ended (answer.Trouble k)) p = record { ask = paging_ask m; answer = p.1.answer; hand = refl; made = p.1.made }
@@ -80,19 +88,31 @@ made_call who before after (Closing lease) new turn p = absurd p
 made_call who before after (Renewing home) new (Ended (answer.Renewed end)) p = record { ask = Renew home.lease 600; answer = p.1.answer; hand = refl; made = p.1.made }
 made_call who before after (Renewing home) new (Ended (answer.Trouble k)) p = record { ask = Renew home.lease 600; answer = p.1.answer; hand = refl; made = p.1.made }
 made_call who before after (Renewing home) new turn p = absurd p
+made_call who before after (Settling m) new More p = record { ask = settle_ask m; answer = p.1.1.answer; hand = refl; made = p.1.1.made }
+made_call who before after (Settling m) new (Ended (answer.Settled n)) p = record { ask = settle_ask m; answer = p.1.1.answer; hand = refl; made = p.1.1.made }
+made_call who before after (Settling m) new (Ended (answer.Trouble k)) p = record { ask = settle_ask m; answer = p.1.1.answer; hand = refl; made = p.1.1.made }
+made_call who before after (Settling m) new turn p = absurd p.1
 made_call who before after Closed new turn p = absurd p
 made_call who before after (Idle home) new turn p = absurd p
 made_call who before after (Broken lease) new turn p = absurd p
+
+-- a step of a scan never stops
+scan_goes_on : (home : Home) (buffer : List Noted) (m : Listing) (c : Cache) (moved : Turn ℕ) (new : Work) (shown : Shown) (t : Trouble) → Follows home buffer m c moved new shown (Stopped t) → ⊥
+scan_goes_on home buffer m c More new shown t f = cc (f.2)
+scan_goes_on home buffer m c (Ended page) new shown t f = f
+scan_goes_on home buffer m c (Stopped k) new shown t f = cc (f.2)
 
 -- a step never stops: a trouble is an answer
 pub never_stops : (who : Caller) (before after : Seen) (w new : Work) (t : Trouble) → StepsAt who before after w new (Stopped t) → ⊥
 never_stops who before after (Opening m) new t p = p.1
 never_stops who before after (Committing m) new t (sound, c, d, p) = p
 never_stops who before after (Reading home m) new t p = p
+never_stops who before after (Scanning home m) new t (buffer, c, d, shown, p) = scan_goes_on home buffer (record { scan = p.scan; pairs = m.pairs }) d p.moved new shown t p.follows
 never_stops who before after (Paging home m) new t p = p
 never_stops who before after (Folding home f) new t p = p
 never_stops who before after (Closing lease) new t p = p
 never_stops who before after (Renewing home) new t p = p
+never_stops who before after (Settling m) new t p = p.1
 never_stops who before after Closed new t p = p
 never_stops who before after (Idle home) new t p = p
 never_stops who before after (Broken lease) new t p = p
@@ -102,10 +122,12 @@ sound_of : (who : Caller) (before after : Seen) (w new : Work) (turn : Turn Answ
 sound_of who before after (Opening m) new turn p = p.0
 sound_of who before after (Committing m) new turn p = p.0
 sound_of who before after (Reading home m) new turn p = tt
+sound_of who before after (Scanning home m) new turn p = tt
 sound_of who before after (Paging home m) new turn p = tt
 sound_of who before after (Folding home f) new turn p = tt
 sound_of who before after (Closing lease) new turn p = tt
 sound_of who before after (Renewing home) new turn p = tt
+sound_of who before after (Settling m) new turn p = p.0
 sound_of who before after Closed new turn p = absurd p
 sound_of who before after (Idle home) new turn p = absurd p
 sound_of who before after (Broken lease) new turn p = absurd p
@@ -214,12 +236,13 @@ call_leaves n lines who before after x sessions new turn a b blind blind_after e
       reported = reported_more lines h.order goes.order_after goes.order_goes_on h.reported;
     }
 
--- a call of a session within a line
+-- a call of a session within a line; one of the settler is of a line that settles
 pub call_holds : (lines : List Line) (who : Caller) (before after : Seen) (x : CloudState) (sessions : Sessions) (new : Acting) (turn : Turn Answer) (a b : Audited) (blind blind_after : Bool)
     → who.event ≡ length lines + 1 → before.state ≡ Some x → CloudHolds (length lines + 1) lines sessions a blind x → WorksAs (sessions who.session).work (standing lines who.session)
+    → (IsSettling (sessions who.session).work → IsSettlersRow lines who)
     → StepsSession who before after (sessions who.session) new (Ok turn) → Sees x after (sessions who.session).work a b blind blind_after
     → CallLeaves lines after sessions who.session new b blind_after
-call_holds lines who before after x sessions new turn a b blind blind_after event told h acts p sees =
+call_holds lines who before after x sessions new turn a b blind blind_after event told h acts settler p sees =
     call_leaves (length lines + 1) lines who before after x sessions new turn a b blind blind_after (omega (arith, event)) told h by p sees
   where
     w : Work
@@ -233,7 +256,36 @@ call_holds lines who before after x sessions new turn a b blind blind_after even
       commits = ask_commits lines who w ask (stood_on lines who w event acts)
           (λ client bytes one two is. head_put (store_of h.book h.order x) x.now (sessions who.session).cache w (h.stand.parts who.session) (h.stand.each who.session).work
           sound client bytes one two (hand ∙ ap (λ a. Some a) is));
-      kind = call_kind lines who (store_of h.book h.order x) x.now (sessions who.session).cache (h.stand.parts who.session) w ask event acts (h.stand.each who.session).work sound hand;
+      kind = call_kind lines who (store_of h.book h.order x) x.now (sessions who.session).cache (h.stand.parts who.session) w ask event acts settler (h.stand.each who.session).work sound hand;
+    }
+
+-- a call of the settler up to event n, where the line that settles is one of the lines
+pub settle_holds : (n : ℕ) (lines : List Line) (who : Caller) (before after : Seen) (x : CloudState) (sessions : Sessions) (new : Acting) (turn : Turn Answer) (a b : Audited) (blind blind_after : Bool)
+    → who.event ≤ n → before.state ≡ Some x → CloudHolds n lines sessions a blind x → IsSettling (sessions who.session).work → IsSettlersRow lines who
+    → StepsSession who before after (sessions who.session) new (Ok turn) → Sees x after (sessions who.session).work a b blind blind_after
+    → CallLeavesUpto n lines after sessions who.session new b blind_after
+settle_holds n lines who before after x sessions new turn a b blind blind_after event told h settles settler p sees =
+    call_leaves n lines who before after x sessions new turn a b blind blind_after event told h by p sees
+  where
+    w : Work
+    w = (sessions who.session).work
+
+    sound : IsSoundWork w
+    sound = sound_of who before after w new.work turn p.work
+
+    commits_none : (changes : List Noted) → committing_of w ≡ Some changes → ⊥
+    commits_none changes e = never (sym (settles_none w settles) ∙ e)
+      where
+        never : (let none : Option (List Noted) = None in none ≡ Some changes) → ⊥
+        never h = absurd (cc)
+
+    by : (ask : Ask) → ask_of_work w ≡ Some ask → IsByLines lines who w ask
+    by ask hand = record {
+      commits = ask_commits lines who w ask (λ changes e. absurd (commits_none changes e))
+          (λ client bytes one two is. head_put (store_of h.book h.order x) x.now (sessions who.session).cache w (h.stand.parts who.session) (h.stand.each who.session).work
+          sound client bytes one two (hand ∙ ap (λ a. Some a) is));
+      kind = λ row is. settle_asks lines row (store_of h.book h.order x) x.now (sessions who.session).cache (h.stand.parts who.session) w settles (settler row is)
+          (h.stand.each who.session).work sound ask hand;
     }
 
 -- ---- what is no call

@@ -1,5 +1,5 @@
 -- What holds after every line of a replay, of the cloud and of all sessions.
-use Rattle.std.specs.Prelude.{ℕ, zero, suc, ◌≡◌, ◌≤◌, ◌+◌, Bool, false, List, [], length, slice_get, unwrap_or, Some, All}
+use Rattle.std.specs.Prelude.{ℕ, ◌≡◌, ◌≤◌, ◌+◌, Bool, false, List, [], length, slice_get, unwrap_or, Some, All}
 use Rattle.cloud_trait.specs.Growth.{BeginsWith}
 use Rattle.cloud_trait.specs.State.{CloudState}
 use Rattle.cloud_trait.specs.Upto.{IsUpto}
@@ -14,7 +14,7 @@ use Rattle.reply_text.specs.declared.reply.Reply.TheVariants as reply
 use Rattle.client_session.specs.declared.work.Work.{Work}
 use Rattle.client_session.specs.declared.work.Work.TheVariants as work
 use Rattle.client_session.specs.Session.{Acting, closed_session}
-use Rattle.replay_meaning.specs.Standing.{Line, Closed, Idle, Broken, Working, Opening, Closing, Renewing, Committing, Reading as ReadingKey, Paging as PagingPage, Folding as FoldingTree, Standing, standing}
+use Rattle.replay_meaning.specs.Standing.{Line, Closed, Idle, Broken, Working, Opening, Closing, Renewing, Committing, Reading as ReadingKey, Scanning as ScanningRange, Paging as PagingPage, Folding as FoldingTree, Standing, standing}
 use Rattle.replay_meaning.specs.Committed.{Versions, committed}
 use Rattle.replay_meaning.specs.Kinds.{IsOfKind, OpensOnce}
 use Rattle.tree_walk.specs.Walk.{sought}
@@ -27,10 +27,9 @@ use Rattle.store_book.specs.Records.{entries_of}
 
 -- ---- the sessions of a list
 
--- the session of a number from 1; a number that has none has a closed one
+-- the session of a number; a number that has none has a closed one
 abbrev pub session_at : List Acting → Sessions
-session_at sessions zero = closed_session
-session_at sessions (suc place) = unwrap_or (slice_get sessions place) closed_session
+session_at sessions number = unwrap_or (slice_get sessions number) closed_session
 
 -- ---- what holds of a cloud
 
@@ -71,10 +70,12 @@ WorksAs (work.Idle home) s = (s.posture ≡ Idle) × (s.client ≡ home.client)
 WorksAs (work.Opening r) s = (s.posture ≡ Working Opening) × (s.client ≡ r.client) × (s.buffer ≡ []) × IsOpening r
 WorksAs (work.Committing r) s = (s.posture ≡ Working (Committing r.draft.writes.changes)) × (s.client ≡ (home_of r).client) × IsRunning r
 WorksAs (work.Reading home m) s = (s.posture ≡ Working (ReadingKey m.tree (sought m))) × (s.client ≡ home.client)
+WorksAs (work.Scanning home l) s = (s.posture ≡ Working (ScanningRange l.scan.walk.tree (sought l.scan.walk) (unwrap_or l.scan.to []))) × (s.client ≡ home.client)
 WorksAs (work.Paging home p) s = (s.posture ≡ Working (PagingPage p.tree p.page)) × (s.client ≡ home.client)
 WorksAs (work.Folding home f) s = (s.posture ≡ Working (FoldingTree f.tree)) × (s.client ≡ home.client)
 WorksAs (work.Closing lease) s = s.posture ≡ Working Closing
 WorksAs (work.Renewing home) s = (s.posture ≡ Working Renewing) × (s.client ≡ home.client)
+WorksAs (work.Settling m) s = s.posture ≡ Closed
 WorksAs (work.Broken lease) s = s.posture ≡ Broken
 
 pub record ActsAs (session : Acting) (s : Standing) : Type 0 where
@@ -97,10 +98,15 @@ pub record CloudHolds (n : ℕ) (lines : List Line) (sessions : Sessions) (audit
   pub seen : blind ≡ false → audit ≡ audit_of book order
   pub reported : Reported lines order
 
+-- the settler, which is session 0, is at work within its own line alone
+abbrev pub SettlerRests : Sessions → Type 0
+SettlerRests sessions = sessions 0 ≡ closed_session
+
 -- after lines
 pub record Stands (lines : List Line) (sessions : Sessions) (audit : Audited) (blind : Bool) (t : CloudState) : Type 0 where
   pub holds : CloudHolds (length lines) lines sessions audit blind t
   pub acts : AllAct lines sessions
+  pub rests : SettlerRests sessions
 
 -- within the line behind these, when what landed may be of that line
 pub record GoesOn (lines : List Line) (sessions : Sessions) (audit : Audited) (blind : Bool) (t : CloudState) : Type 0 where

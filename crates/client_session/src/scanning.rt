@@ -1,0 +1,140 @@
+ghost use Rattle.std.specs.Prelude.{◌≡◌, IfSome};
+ghost use Rattle.client_session.specs.Session.{Follows, IsListed, IsOfClient, ListsLeaf, ScansOf, StepsScanning, begins_by};
+
+use crate::answer::{Answer, Begun};
+use crate::listing::{Listing, list_items};
+use crate::shown::Shown;
+use crate::work::{Work, stopped};
+use cloud_trait::cloud::Cloud;
+use cloud_trait::turn::Turn;
+use cloud_trait::who::Who;
+use db_base::ids::PageId;
+use db_base::trouble::Trouble;
+use page_cache::PageCache;
+use range_scan::RangeScan;
+use recover_run::home::Home;
+use report_types::pair_list::PairList;
+use std::alloc::Global;
+use txn_buffer::buffer::TxnBuffer;
+
+/// Begins a scan beside the open client: what is in hand then, and the records where it ended at once.
+pub(crate) fn begin_scanning(
+    alloc: Global,
+    home: Home,
+    mut scan: RangeScan,
+    cache: &mut PageCache,
+    buffer: &TxnBuffer,
+) -> (Work, Shown, Begun)
+    ensures scans { ScansOf home buffer.now scan cache.old cache.new result.0 result.1 result.2 }
+    ensures client { IsOfClient result.0 }
+{
+    let turn = scan.ready(alloc, cache);
+    let listing = Listing {
+        scan,
+        pairs: PairList::new(alloc),
+    };
+    let (work, shown, turn) = follow(alloc, home, listing, cache, buffer, turn);
+    (work, shown, begun(turn))
+}
+
+/// The begin of an operation that came to this.
+fn begun(turn: Turn<Answer>) -> Begun
+    ensures { begins_by turn result }
+{
+    match turn {
+        Turn::More => Begun::Working,
+        Turn::Ended(answer) => Begun::Answered(answer),
+        Turn::Stopped(trouble) => Begun::Answered(Answer::Trouble(trouble)),
+    }
+}
+
+/// Makes the call in hand of a scan, beside the open client: what is in hand then, and the records where it ended.
+pub(crate) fn step_scanning<C: Cloud>(
+    alloc: Global,
+    cloud: &mut C,
+    who: Who,
+    home: Home,
+    mut listing: Listing,
+    cache: &mut PageCache,
+    buffer: &TxnBuffer,
+) -> (Work, Shown, Turn<Answer>)
+    ensures steps { StepsScanning home buffer.now who (C.seen cloud.old) (C.seen cloud.new) listing cache.old cache.new result.0 result.1 result.2 }
+    ensures client { IsOfClient result.0 }
+{
+    let turn = listing.scan.step(alloc, cloud, who, cache);
+    follow(alloc, home, listing, cache, buffer, turn)
+}
+
+/// Goes on by what a turn of the scan came to: at the end of a leaf its records are listed, and the scan goes on behind it.
+fn follow(
+    alloc: Global,
+    home: Home,
+    listing: Listing,
+    cache: &PageCache,
+    buffer: &TxnBuffer,
+    turn: Turn<PageId>,
+) -> (Work, Shown, Turn<Answer>)
+    ensures follows { Follows home buffer.now listing cache.now turn result.0 result.1 result.2 }
+    ensures client { IsOfClient result.0 }
+{
+    match turn {
+        Turn::More => (Work::Scanning(home, listing), Shown::Nothing, Turn::More),
+        Turn::Ended(_) => list_leaf(alloc, home, listing, cache, buffer),
+        Turn::Stopped(trouble) => (
+            stopped(&trouble, home),
+            Shown::Nothing,
+            Turn::Ended(Answer::Trouble(trouble)),
+        ),
+    }
+}
+
+/// Lists the records of the leaf at which the scan ended, and goes on behind it where something follows.
+fn list_leaf(
+    alloc: Global,
+    home: Home,
+    listing: Listing,
+    cache: &PageCache,
+    buffer: &TxnBuffer,
+) -> (Work, Shown, Turn<Answer>)
+    ensures lists { ListsLeaf home buffer.now listing cache.now result.0 result.1 result.2 }
+    ensures client { IsOfClient result.0 }
+{
+    let Listing { mut scan, pairs } = listing;
+    let Some(pairs) = with_leaf(alloc, &home, &scan, pairs, cache, buffer) else {
+        return (
+            Work::Broken(home.lease),
+            Shown::Nothing,
+            Turn::Ended(Answer::Trouble(Trouble::Memory)),
+        );
+    };
+    if scan.go_on() {
+        let work = Work::Scanning(home, Listing { scan, pairs });
+        return (work, Shown::Nothing, Turn::More);
+    }
+    (
+        Work::Idle(home),
+        Shown::Listed(pairs),
+        Turn::Ended(Answer::Scan),
+    )
+}
+
+/// The records listed before with those of the leaf at which the scan ended, as the client sees them; none where memory ran out.
+fn with_leaf(
+    alloc: Global,
+    home: &Home,
+    scan: &RangeScan,
+    pairs: PairList,
+    cache: &PageCache,
+    buffer: &TxnBuffer,
+) -> Option<PairList>
+    ensures { IfSome result (λ all. IsListed home.now buffer.now scan.now cache.now pairs all) }
+{
+    let Ok(items) = scan.items(alloc, cache, home.client, &home.head, buffer) else {
+        return None;
+    };
+    let mut all = pairs;
+    match list_items(alloc, &mut all, items) {
+        Ok(()) => Some(all),
+        Err(_) => None,
+    }
+}

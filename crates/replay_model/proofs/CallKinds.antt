@@ -114,40 +114,40 @@ module _ (lines : List Line) (row : Landing) (st : Store) (now : ℕ) (c : Cache
 
   -- ---- the call in hand, by the work
 
-  work_asks : (w : Work) → WorksAs w s → (IsSettling w → IsOfSettler lines row) → KnowsWork st now c w part → IsSoundWork w → (ask : Ask) → ask_of_work w ≡ Some ask → MayAsk lines row ask
-  work_asks (Opening r) acts settler k sound ask e =
+  work_asks : (w : Work) → WorksAs w s → KnowsWork st now c w part → IsSoundWork w → (ask : Ask) → ask_of_work w ≡ Some ask → MayAsk lines row ask
+  work_asks (Opening r) acts k sound ask e =
       let is : recovery_ask r ≡ ask = cc in
       subst (MayAsk lines row) is
       (may_ask lines row (recovery_ask r) (λ client bytes one two put. opening_head r client bytes acts (head_put st now c (Opening r) part k sound client bytes one two (ap (λ a. Some a) put)))
       (recovery_asks lines row r (inr (inl (r.client, opens_client r acts)))))
-  work_asks (Committing r) acts settler k sound ask e =
+  work_asks (Committing r) acts k sound ask e =
       let is : run_ask r ≡ ask = cc in
       subst (MayAsk lines row) is
       (may_ask lines row (run_ask r) (λ client bytes one two put. commit_head r client bytes acts k (head_put st now c (Committing r) part k sound client bytes one two (ap (λ a. Some a) put)))
       (run_asks lines row r (commits_for r acts)))
-  work_asks (Reading home m) acts settler k sound ask e = subst (MayAsk lines row) (is _ ask e) tt
+  work_asks (Reading home m) acts k sound ask e = subst (MayAsk lines row) (is _ ask e) tt
     where
       is : (a b : Ask) → Some a ≡ Some b → a ≡ b
       is a b e = cc
-  work_asks (Scanning home m) acts settler k sound ask e = let is : scan_ask m.scan ≡ ask = cc in subst (MayAsk lines row) is tt
-  work_asks (Settling m) acts settler k sound ask e = settle_asks (Settling m) tt (settler tt) k sound ask e
-  work_asks (Paging home p) acts settler k sound ask e = let is : paging_ask p ≡ ask = cc in subst (MayAsk lines row) is (paging_asks lines row p (inl (p.page, acts.0)))
-  work_asks (Folding home f) acts settler k sound ask e = let is : making_ask f ≡ ask = cc in subst (MayAsk lines row) is (making_asks lines row st now f k.1 (inl acts.0))
-  work_asks (Closing l) acts settler k sound ask e = let is : Release l ≡ ask = cc in subst (MayAsk lines row) is tt
-  work_asks (Renewing home) acts settler k sound ask e = let is : Renew home.lease 600 ≡ ask = cc in subst (MayAsk lines row) is tt
-  work_asks Closed acts settler k sound ask e = absurd (cc)
-  work_asks (Idle home) acts settler k sound ask e = absurd (cc)
-  work_asks (Broken l) acts settler k sound ask e = absurd (cc)
+  work_asks (Scanning home m) acts k sound ask e = let is : scan_ask m.scan ≡ ask = cc in subst (MayAsk lines row) is tt
+  work_asks (Settling m) acts k sound ask e = absurd acts
+  work_asks (Paging home p) acts k sound ask e = let is : paging_ask p ≡ ask = cc in subst (MayAsk lines row) is (paging_asks lines row p (inl (p.page, acts.0)))
+  work_asks (Folding home f) acts k sound ask e = let is : making_ask f ≡ ask = cc in subst (MayAsk lines row) is (making_asks lines row st now f k.1 (inl acts.0))
+  work_asks (Closing l) acts k sound ask e = let is : Release l ≡ ask = cc in subst (MayAsk lines row) is tt
+  work_asks (Renewing home) acts k sound ask e = let is : Renew home.lease 600 ≡ ask = cc in subst (MayAsk lines row) is tt
+  work_asks Closed acts k sound ask e = absurd (cc)
+  work_asks (Idle home) acts k sound ask e = absurd (cc)
+  work_asks (Broken l) acts k sound ask e = absurd (cc)
 
 -- how the session of a row within a line stands after the lines before it
 standing_now : (lines : List Line) (who : Caller) (row : Landing) → who.event ≡ length lines + 1 → row.who ≡ who → standing_of_row lines row ≡ standing lines who.session
 standing_now lines who row event is = ap (λ (w : Caller). standing (take (w.event - 1) lines) w.session) is ∙ now_standing lines who event
 
--- the row of a call within a line is of its kind, where it is the settler's if that is at work
+-- the row of a call within a line is of its kind
 pub call_kind : (lines : List Line) (who : Caller) (st : Store) (now : ℕ) (c : Cache) (part : Part) (w : Work) (ask : Ask) → who.event ≡ length lines + 1 → WorksAs w (standing lines who.session)
-    → (IsSettling w → IsSettlersRow lines who) → KnowsWork st now c w part → IsSoundWork w → ask_of_work w ≡ Some ask → (row : Landing) → row.who ≡ who → MayAsk lines row ask
-call_kind lines who st now c part w ask event acts settler k sound e row is =
-    work_asks lines row st now c part w (subst (WorksAs w) (sym (standing_now lines who row event is)) acts) (λ settles. settler settles row is) k sound ask e
+    → KnowsWork st now c w part → IsSoundWork w → ask_of_work w ≡ Some ask → (row : Landing) → row.who ≡ who → MayAsk lines row ask
+call_kind lines who st now c part w ask event acts k sound e row is =
+    work_asks lines row st now c part w (subst (WorksAs w) (sym (standing_now lines who row event is)) acts) k sound ask e
 
 -- ---- a transaction opens once
 

@@ -236,13 +236,12 @@ call_leaves n lines who before after x sessions new turn a b blind blind_after e
       reported = reported_more lines h.order goes.order_after goes.order_goes_on h.reported;
     }
 
--- a call of a session within a line; one of the settler is of a line that settles
+-- a call of a session within a line
 pub call_holds : (lines : List Line) (who : Caller) (before after : Seen) (x : CloudState) (sessions : Sessions) (new : Acting) (turn : Turn Answer) (a b : Audited) (blind blind_after : Bool)
     → who.event ≡ length lines + 1 → before.state ≡ Some x → CloudHolds (length lines + 1) lines sessions a blind x → WorksAs (sessions who.session).work (standing lines who.session)
-    → (IsSettling (sessions who.session).work → IsSettlersRow lines who)
     → StepsSession who before after (sessions who.session) new (Ok turn) → Sees x after (sessions who.session).work a b blind blind_after
     → CallLeaves lines after sessions who.session new b blind_after
-call_holds lines who before after x sessions new turn a b blind blind_after event told h acts settler p sees =
+call_holds lines who before after x sessions new turn a b blind blind_after event told h acts p sees =
     call_leaves (length lines + 1) lines who before after x sessions new turn a b blind blind_after (omega (arith, event)) told h by p sees
   where
     w : Work
@@ -256,7 +255,7 @@ call_holds lines who before after x sessions new turn a b blind blind_after even
       commits = ask_commits lines who w ask (stood_on lines who w event acts)
           (λ client bytes one two is. head_put (store_of h.book h.order x) x.now (sessions who.session).cache w (h.stand.parts who.session) (h.stand.each who.session).work
           sound client bytes one two (hand ∙ ap (λ a. Some a) is));
-      kind = call_kind lines who (store_of h.book h.order x) x.now (sessions who.session).cache (h.stand.parts who.session) w ask event acts settler (h.stand.each who.session).work sound hand;
+      kind = call_kind lines who (store_of h.book h.order x) x.now (sessions who.session).cache (h.stand.parts who.session) w ask event acts (h.stand.each who.session).work sound hand;
     }
 
 -- a call of the settler up to event n, where the line that settles is one of the lines

@@ -63,7 +63,7 @@ Reported lines order = (k : ℕ) (line : Line) → slice_get lines k ≡ Some li
 
 -- ---- how a session stands by the lines
 
--- a session's work is what the lines say that it has in hand
+-- a session's work is what the lines say that it has in hand; a settling is no session's of the lines
 abbrev pub WorksAs : Work → Standing → Type 0
 WorksAs work.Closed s = s.posture ≡ Closed
 WorksAs (work.Idle home) s = (s.posture ≡ Idle) × (s.client ≡ home.client)
@@ -75,7 +75,7 @@ WorksAs (work.Paging home p) s = (s.posture ≡ Working (PagingPage p.tree p.pag
 WorksAs (work.Folding home f) s = (s.posture ≡ Working (FoldingTree f.tree)) × (s.client ≡ home.client)
 WorksAs (work.Closing lease) s = s.posture ≡ Working Closing
 WorksAs (work.Renewing home) s = (s.posture ≡ Working Renewing) × (s.client ≡ home.client)
-WorksAs (work.Settling m) s = s.posture ≡ Closed
+WorksAs (work.Settling m) s = ⊥
 WorksAs (work.Broken lease) s = s.posture ≡ Broken
 
 pub record ActsAs (session : Acting) (s : Standing) : Type 0 where

@@ -1,5 +1,5 @@
 -- A commit that puts an open head commits a transaction of which nothing was committed before.
-use Rattle.std.proofs.Common.{◌≡◌, ℕ, List, length, Option, Some, None, sym, ap, subst, ◌∙◌}
+use Rattle.std.proofs.Common.{◌≡◌, ℕ, List, length, Some, sym, ap, subst, ◌∙◌}
 use Rattle.commit_facts.specs.Committing.{KnowsCommitAt, KnowsCommit, OpensBehind}
 use Rattle.commit_facts.proofs.Routing.{count_is}
 use Rattle.commit_run.specs.declared.hand.Hand.{Hand}

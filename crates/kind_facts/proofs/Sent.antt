@@ -1,5 +1,5 @@
 -- Each entry of the order was sent to a pending update queue of its tree.
-use Rattle.std.proofs.Common.{◌≡◌, ℕ, zero, suc, List, Some, inl, refl, sym, ap, ◌∙◌, Bool, true}
+use Rattle.std.proofs.Common.{◌≡◌, ℕ, zero, suc, List, inl, refl, sym, ap, ◌∙◌, true}
 use Rattle.std.specs.Prelude.{slice_get, ◌==◌, ◌&&◌}
 use Rattle.std.specs.Str.{bytes_eq}
 use Rattle.std.proofs.lemmas.Bool.{and_from, eq-eqb}
@@ -10,7 +10,7 @@ use Rattle.history.specs.Fold.{of_tree}
 use Rattle.landing_facts.specs.Holding.{Holds}
 use Rattle.left_facts.specs.Left.{IsCopied}
 use Rattle.log_codec.specs.declared.record.AtomicRec.{AtomicRec}
-use Rattle.number_facts.proofs.Lists.{Passes, map_there, filter_there, filter_at}
+use Rattle.number_facts.proofs.Lists.{map_there, filter_there, filter_at}
 use Rattle.order_facts.specs.Order.{FirstApplied, is_entry_of}
 use Rattle.replay_meaning.specs.Kinds.{IsPendingOf, WasSentFor}
 use Rattle.report_types.specs.declared.entry.Entry.{Entry}

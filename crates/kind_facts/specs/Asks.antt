@@ -1,5 +1,5 @@
 -- Which calls may be made, by how their session stood at the line.
-use Rattle.std.specs.Prelude.{ℕ, List, Some}
+use Rattle.std.specs.Prelude.{List, Some}
 use Rattle.cloud_trait.specs.Ask.{Ask, Get, GetHeld, PutHeld, Send, Receive, Delete, Take, Renew, Release}
 use Rattle.cloud_trait.specs.declared.state.Landing.{Landing}
 use Rattle.db_base.specs.declared.names.ObjName.TheVariants as object

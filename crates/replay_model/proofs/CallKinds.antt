@@ -1,11 +1,10 @@
 -- The call that a session has in hand is of a kind that its standing by the lines allows, and opens no transaction twice.
-use Rattle.std.proofs.Common.{◌≡◌, ◌≤◌, ◌+◌, ◌-◌, ◌⊎◌, ℕ, List, length, take, Option, Some, None, refl, sym, ap, subst, ◌∙◌, inl, inr}
+use Rattle.std.proofs.Common.{◌≡◌, ◌+◌, ◌-◌, ◌⊎◌, ℕ, List, length, take, Option, Some, None, refl, sym, ap, subst, ◌∙◌, inl, inr}
 use Rattle.std.specs.Prelude.{All, slice_get}
 use Rattle.db_base.specs.declared.names.ObjName.TheVariants as object
 use Rattle.cloud_trait.specs.declared.state.Landing.{Landing}
 use Rattle.cloud_trait.specs.Ask.{Ask, Get, GetHeld, PutHeld, Send, Receive, Delete, Take, Renew, Release}
 use Rattle.cloud_trait.specs.Caller.{Caller}
-use Rattle.cloud_trait.specs.Claim.{Claim}
 use Rattle.cloud_trait.specs.State.{CloudState}
 use Rattle.client_session.specs.declared.work.Work.{Work}
 use Rattle.client_session.specs.declared.work.Work.TheVariants.{Closed, Idle, Opening, Committing, Reading, Scanning, Paging, Folding, Closing, Renewing, Settling, Broken}
@@ -31,7 +30,6 @@ use Rattle.replay_meaning.specs.Kinds.{OpensClient, CommitsFor, IsOfSettler, May
 use Rattle.session_facts.specs.Puts.{IsSoundWork, Commits, PutsHead}
 use Rattle.session_facts.specs.Sessions.{KnowsWork}
 use Rattle.session_facts.proofs.HeadPuts.{head_put}
-use Rattle.store_book.specs.Book.{Book}
 use Rattle.store_book.specs.Records.{entries_of}
 use Rattle.store_book.specs.Tally.{Store}
 use Rattle.tree_ckpt.specs.Making.{making_ask}

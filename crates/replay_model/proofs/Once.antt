@@ -1,5 +1,5 @@
 -- No transaction opens twice: a head that opens one is put where nothing of it was committed.
-use Rattle.std.proofs.Common.{◌≡◌, ◌≤◌, ◌+◌, ℕ, zero, suc, List, [], ◌∷◌, ◌++◌, length, map, Option, Some, None, refl, sym, ap, subst, ◌∙◌, inl, inr, ◌⊎◌, arith}
+use Rattle.std.proofs.Common.{◌≡◌, ◌≤◌, ◌+◌, ℕ, zero, suc, List, [], ◌∷◌, ◌++◌, length, map, Option, Some, refl, sym, ap, subst, ◌∙◌, inl, inr, ◌⊎◌, arith}
 use Rattle.std.specs.Prelude.{All, slice_get}
 use Rattle.std.specs.List.{flat_map}
 use Rattle.std.proofs.lemmas.List.Elements.{All-head, All-tail}
@@ -29,7 +29,7 @@ use Rattle.replay_model.specs.Facts.{IsPlaced, IsPlacedAt}
 use Rattle.replay_model.proofs.CommittedLemmas.{new_version, kept_version}
 use Rattle.replay_model.proofs.Commits.{opened_entries}
 use Rattle.store_book.specs.Records.{IsIn, entry_of, entries_of}
-use Rattle.store_book.proofs.Places.{get_cases, get_single, get_within, in_front, in_behind}
+use Rattle.store_book.proofs.Places.{get_cases, get_single, in_front, in_behind}
 
 -- ---- lists
 

@@ -1,5 +1,5 @@
 -- A line that settles is one of the lines from its begin on: it changes no session's standing, and the settler's rows of it are told by it.
-use Rattle.std.proofs.Common.{◌≡◌, ◌+◌, ℕ, suc, List, [], ◌∷◌, ◌++◌, length, refl, sym, ap, subst, ◌∙◌, Bool, arith, length-append}
+use Rattle.std.proofs.Common.{◌≡◌, ◌+◌, suc, List, [], ◌∷◌, ◌++◌, length, refl, sym, ap, subst, ◌∙◌, Bool, arith, length-append}
 use Rattle.cloud_trait.specs.Caller.{Caller}
 use Rattle.cloud_trait.specs.State.{CloudState}
 use Rattle.cloud_trait.proofs.StateLemmas.{slice_get-push}

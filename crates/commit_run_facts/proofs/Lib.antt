@@ -8,3 +8,4 @@ pub mod RunOthers
 pub mod RunOutcomes
 pub mod RunHands
 pub mod HeadPuts
+pub mod Stopping

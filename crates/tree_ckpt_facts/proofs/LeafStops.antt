@@ -20,7 +20,7 @@ use Rattle.leaf_fold.specs.declared.folding.Folding.{Folding}
 use Rattle.leaf_fold.specs.declared.folding.Left.TheVariants.{Right, Handled}
 use Rattle.leaf_fold.specs.declared.plan.LeafPlan.{LeafPlan}
 use Rattle.leaf_fold.specs.Folding.{Step, bad_low, turned, to_right, planned, handled_by, handle, leaf_side, leaf_at, leaf_found, leaf_got, landed, counted, leaf_put, folding_next}
-use Rattle.leaf_fold.specs.Plan.{planned_by, leaf_plan} 
+use Rattle.leaf_fold.specs.Plan.{planned_by, leaf_plan}
 use Rattle.leaf_fold.specs.Plan as plan
 use Rattle.leaf_view.specs.Leaf.{Leaf}
 use Rattle.leaf_view.specs.Lookup.{empty_leaf, page_at}
@@ -151,7 +151,7 @@ put_may st now lease f ids k reply =
     some =
         let pages = on_pages f.page k.puts.first (k.puts.placing.front ∷ k.puts.placing.middle) in
         let e : length f.placing.puts ≡ length pages =
-            ap (λ (xs : List PagePut). length xs) k.puts.placing.puts_are ∙ (length-reverse (map (put_of leaf_bytes) pages) ∙ length-map (put_of leaf_bytes) pages) in
+            ap (λ (xs : List PagePut). length xs) k.puts.placing.puts_are ∙ (length-reverse (map (put_of leaf_bytes) pages) ∙ length-map pages (put_of leaf_bytes)) in
         omega (arith, e)
 
     full : has_nothing f.placing ≡ false

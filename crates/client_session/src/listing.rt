@@ -8,18 +8,12 @@ use report_types::pair_list::PairList;
 use std::alloc::{AllocError, Global};
 
 /// A scan, and the records of the leaves at which it ended.
+#[derive(Drop)]
 pub struct Listing {
     /// The scan.
     pub scan: RangeScan,
     /// The records, in the order of their keys.
     pub pairs: PairList,
-}
-
-// Written out, so that what holds a scan need not look into it to let it go.
-impl Drop for Listing {
-    fn drop(self) {
-        let Listing { scan: _, pairs: _ } = self;
-    }
 }
 
 /// Adds copies of the records of a leaf at the end of the list. Fails for memory alone.

@@ -18,7 +18,7 @@ work_less who before after Closed new p = absurd p
 work_less who before after (Idle home) new p = absurd p
 work_less who before after (Closing lease) new p = absurd p
 work_less who before after (Renewing home) new p = absurd p
-work_less who before after (Settling m) new p = subst (λ (z : Work). calls_left z < calls_left (Settling m)) (sym p.2) p.3
+work_less who before after (Settling m) new p = subst (λ (z : Work). calls_left z < calls_left (Settling m)) (sym p.1.2) p.1.3
 work_less who before after (Broken lease) new p = absurd p
 
 -- a step that goes on leaves fewer calls than before

@@ -50,7 +50,7 @@ use Rattle.tree_ckpt.specs.Making.{Making, new_making, making_ask, MakingLeads, 
 use Rattle.settle_run.specs.declared.settled.Settled.{Settled}
 use Rattle.settle_run.specs.Ending.{calls_left as settling_left}
 use Rattle.settle_run.specs.Meaning.{Went, Meant}
-use Rattle.settle_run.specs.Parts.{part_applying}
+use Rattle.settle_run.specs.Parts.{part_applying, IsSoundPart}
 use Rattle.settle_run.specs.Settling.{Settling as SettlingState, new_settling, settle_ask, SettleLeads, KeepsSettling}
 use Rattle.client_session.specs.declared.listing.Listing.{Listing}
 use Rattle.client_session.specs.declared.shown.Shown.{Shown}
@@ -425,7 +425,7 @@ StepsRenewing home who before after work (Ended (answer.Renewed end)) = (new : H
 StepsRenewing home who before after work (Ended (answer.Trouble k)) = (new : Home) × RenewsHome home new who before after (Err k) × (work ≡ stopped_work k new)
 StepsRenewing home who before after work turn = ⊥
 
--- one step of what is at work: an opening or a commit has the bytes in hand that it is to put or send
+-- one step of what is at work: an opening, a commit or a settling has the bytes in hand that it is to put or send
 abbrev pub StepsAt : Caller → Seen → Seen → Work → Work → Turn Answer → Type 0
 StepsAt who before after (Opening m) work turn = IsSoundOpening m × StepsOpening who before after m work turn
 StepsAt who before after (Committing m) work turn = IsSoundRun m × (c : Cache) × (d : Cache) × StepsCommit who before after m c d work turn
@@ -436,7 +436,7 @@ StepsAt who before after (Paging home m) work turn = StepsPaging home who before
 StepsAt who before after (Folding home m) work turn = StepsFolding home who before after m work turn
 StepsAt who before after (Closing lease) work turn = StepsClosing lease who before after work turn
 StepsAt who before after (Renewing home) work turn = StepsRenewing home who before after work turn
-StepsAt who before after (Settling m) work turn = StepsSettling who before after m work turn
+StepsAt who before after (Settling m) work turn = IsSoundPart m.part × StepsSettling who before after m work turn
 StepsAt who before after Closed work turn = ⊥
 StepsAt who before after (Idle home) work turn = ⊥
 StepsAt who before after (Broken lease) work turn = ⊥

@@ -1,4 +1,5 @@
 ghost use Rattle.client_session.specs.Session.{IsOfClient, IsSettling, StepsSettling};
+ghost use Rattle.settle_run.specs.Parts.{IsSoundPart};
 
 use crate::answer::Answer;
 use crate::work::{Work, drop_settling};
@@ -16,6 +17,7 @@ pub(crate) fn step_settling<C: Cloud>(
     mut machine: SettleRun,
 ) -> (Work, Turn<Answer>)
     requires { IsSettling machine }
+    ensures sound { IsSoundPart machine.part }
     ensures steps { StepsSettling who (C.seen cloud.old) (C.seen cloud.new) machine result.0 result.1 }
     ensures client { IsOfClient result.0 }
 {

@@ -84,7 +84,7 @@ goes_as who before after buffer (Folding home f) new c d shows s p shown acts =
     works_same new (Folding home p.0) s p.2 (acts.0 ∙ ap (λ k. Working (FoldingTree k)) (sym same), acts.1)
 goes_as who before after buffer (Closing lease) new c d shows s p shown acts = absurd p
 goes_as who before after buffer (Renewing home) new c d shows s p shown acts = absurd p
-goes_as who before after buffer (Settling m) new c d shows s p shown acts = works_same new (Settling p.0) s p.2 acts
+goes_as who before after buffer (Settling m) new c d shows s p shown acts = works_same new (Settling p.1.0) s p.1.2 acts
 goes_as who before after buffer Closed new c d shows s p shown acts = absurd p
 goes_as who before after buffer (Idle home) new c d shows s p shown acts = absurd p
 goes_as who before after buffer (Broken lease) new c d shows s p shown acts = absurd p
@@ -216,10 +216,10 @@ ends_as who before after (Renewing home) new s (answer.Trouble t) r p is acts =
     (acts.1 ∙ sym (ap (λ (h : Home). h.client) p.1.home)) refl
 ends_as who before after (Renewing home) new s a r p is acts = absurd p
 ends_as who before after (Settling m) new s (answer.Settled n) r p is acts =
-    ends_at (Settling m) new s (steps r s) s (after_reply s s ClosedPosture r (reply.Settled n.calls) is acts refl refl) (works_same new Closed s p.3 acts) refl
+    ends_at (Settling m) new s (steps r s) s (after_reply s s ClosedPosture r (reply.Settled n.calls) is acts refl refl) (works_same new Closed s p.1.3 acts) refl
 ends_as who before after (Settling m) new s (answer.Trouble t) r p is acts =
-    ends_at (Settling m) new s (steps r s) s (after_reply s s ClosedPosture r (reply.Trouble t) is.0 acts refl refl) (works_same new Closed s p.2 acts) refl
-ends_as who before after (Settling m) new s a r p is acts = absurd p
+    ends_at (Settling m) new s (steps r s) s (after_reply s s ClosedPosture r (reply.Trouble t) is.0 acts refl refl) (works_same new Closed s p.1.2 acts) refl
+ends_as who before after (Settling m) new s a r p is acts = absurd p.1
 ends_as who before after Closed new s a r p is acts = absurd p
 ends_as who before after (Idle home) new s a r p is acts = absurd p
 ends_as who before after (Broken lease) new s a r p is acts = absurd p

@@ -82,10 +82,10 @@ made_call who before after (Closing lease) new turn p = absurd p
 made_call who before after (Renewing home) new (Ended (answer.Renewed end)) p = record { ask = Renew home.lease 600; answer = p.1.answer; hand = refl; made = p.1.made }
 made_call who before after (Renewing home) new (Ended (answer.Trouble k)) p = record { ask = Renew home.lease 600; answer = p.1.answer; hand = refl; made = p.1.made }
 made_call who before after (Renewing home) new turn p = absurd p
-made_call who before after (Settling m) new More p = record { ask = settle_ask m; answer = p.1.answer; hand = refl; made = p.1.made }
-made_call who before after (Settling m) new (Ended (answer.Settled n)) p = record { ask = settle_ask m; answer = p.1.answer; hand = refl; made = p.1.made }
-made_call who before after (Settling m) new (Ended (answer.Trouble k)) p = record { ask = settle_ask m; answer = p.1.answer; hand = refl; made = p.1.made }
-made_call who before after (Settling m) new turn p = absurd p
+made_call who before after (Settling m) new More p = record { ask = settle_ask m; answer = p.1.1.answer; hand = refl; made = p.1.1.made }
+made_call who before after (Settling m) new (Ended (answer.Settled n)) p = record { ask = settle_ask m; answer = p.1.1.answer; hand = refl; made = p.1.1.made }
+made_call who before after (Settling m) new (Ended (answer.Trouble k)) p = record { ask = settle_ask m; answer = p.1.1.answer; hand = refl; made = p.1.1.made }
+made_call who before after (Settling m) new turn p = absurd p.1
 made_call who before after Closed new turn p = absurd p
 made_call who before after (Idle home) new turn p = absurd p
 made_call who before after (Broken lease) new turn p = absurd p
@@ -106,7 +106,7 @@ never_stops who before after (Paging home m) new t p = p
 never_stops who before after (Folding home f) new t p = p
 never_stops who before after (Closing lease) new t p = p
 never_stops who before after (Renewing home) new t p = p
-never_stops who before after (Settling m) new t p = p
+never_stops who before after (Settling m) new t p = p.1
 never_stops who before after Closed new t p = p
 never_stops who before after (Idle home) new t p = p
 never_stops who before after (Broken lease) new t p = p
@@ -121,7 +121,7 @@ sound_of who before after (Paging home m) new turn p = tt
 sound_of who before after (Folding home f) new turn p = tt
 sound_of who before after (Closing lease) new turn p = tt
 sound_of who before after (Renewing home) new turn p = tt
-sound_of who before after (Settling m) new turn p = tt
+sound_of who before after (Settling m) new turn p = p.0
 sound_of who before after Closed new turn p = absurd p
 sound_of who before after (Idle home) new turn p = absurd p
 sound_of who before after (Broken lease) new turn p = absurd p

@@ -1,14 +1,18 @@
 -- What an operation that begins leaves.
 use Rattle.std.specs.Prelude.{false}
 use Rattle.std.proofs.Common.{◌≡◌, ◌≢◌, ◌≤◌, ◌⊎◌, inl, inr, ℕ, List, [], ◌∷◌, length, Option, Some, None, Result, Ok, Err, refl, sym, ap, subst, ◌∙◌}
-use Rattle.client_session.specs.Session.{Acting, closed_session, ReadsIn, ReadsOf, stopped_work, Begins, BeginsOpening, BeginsWith, HasInHand, folding_begun_by, paging_begun_by, opening_rule_of, opening_of, old_lease, CommitsOf, CommitsNothing, CommitsNoted, CommitsIn}
+use Rattle.client_session.specs.Session.{Acting, closed_session, settling_session, ReadsIn, ReadsOf, ScansIn, ScansOf, Follows, ListsLeaf, stopped_work, Begins, BeginsOpening, BeginsWith, HasInHand, folding_begun_by, paging_begun_by, opening_rule_of, opening_of, old_lease, CommitsOf, CommitsNothing, CommitsNoted, CommitsIn}
+use Rattle.client_session.specs.declared.answer.Answer.{Answer}
 use Rattle.client_session.specs.declared.answer.Answer.TheVariants as answer
 use Rattle.client_session.specs.declared.answer.Begun.{Begun}
 use Rattle.client_session.specs.declared.answer.Begun.TheVariants.{Working, Answered}
+use Rattle.client_session.specs.declared.listing.Listing.{Listing}
 use Rattle.client_session.specs.declared.op.Op.{Op}
 use Rattle.client_session.specs.declared.op.Op.TheVariants as op
 use Rattle.client_session.specs.declared.work.Work.{Work}
-use Rattle.client_session.specs.declared.work.Work.TheVariants.{Closed, Idle, Opening, Committing, Reading, Folding, Paging, Closing, Renewing, Broken}
+use Rattle.client_session.specs.declared.work.Work.TheVariants.{Closed, Idle, Opening, Committing, Reading, Scanning, Folding, Paging, Closing, Renewing, Settling, Broken}
+use Rattle.cloud_trait.specs.declared.turn.Turn.{Turn}
+use Rattle.cloud_trait.specs.declared.turn.Turn.TheVariants.{More, Ended, Stopped}
 use Rattle.cloud_trait.specs.Claim.{Claim}
 use Rattle.cloud_trait.specs.Machine.{Next, Goes, Ends}
 use Rattle.cloud_trait.specs.State.{CloudState}
@@ -30,14 +34,21 @@ use Rattle.opening_facts.proofs.Begins.{opening_begins}
 use Rattle.recover_run.specs.declared.home.Home.{Home}
 use Rattle.recover_run.specs.declared.stage.Aim.TheVariants as aim
 use Rattle.page_facts.proofs.Begins.{paging_begins}
+use Rattle.range_scan.specs.Scan.{Scan, new_scan, scan_ready, moved_on}
 use Rattle.recover_run.specs.Recovery.{new_recovery}
 use Rattle.report_types.specs.declared.entry.Entry.{Entry}
+use Rattle.scan_facts.specs.Scans.{KnowsScan, KnowsScanning, IsAtScannedLeaf, ScanLeads}
+use Rattle.scan_facts.proofs.Scans.{scan_begins, scan_moves_on}
 use Rattle.session_facts.specs.Sessions.{leases_of, IsHome, KnowsWork, KnowsKept, Knows, Sessions, SessionsStand, IsRightOp}
 use Rattle.page_cache.specs.Cache.{Cache}
 use Rattle.session_facts.proofs.Troubles.{memory_or, stays_open}
 use Rattle.session_facts.proofs.Kept.{KnowsBoth}
+use Rattle.tree_walk.specs.Moves.{Moves}
 use Rattle.tree_walk.specs.Walk.{Walk, new_walk, walk_ready}
 use Rattle.session_facts.proofs.Laws.{session_changes, session_rests, session_leaves}
+use Rattle.settle_facts.specs.Settling.{KnowsSettling}
+use Rattle.settle_facts.proofs.Begins.{settling_begins}
+use Rattle.settle_run.specs.Settling.{new_settling}
 use Rattle.store_book.specs.Book.{Book}
 use Rattle.store_book.specs.Records.{IsIn}
 use Rattle.store_book.specs.Tally.{Store, at}
@@ -79,10 +90,12 @@ module _ (book : Book) (order : List Entry) (s : CloudState) (sessions : Session
   no_part c (Opening r) part e k = absurd (cc)
   no_part c (Committing w) part e k = absurd (cc)
   no_part c (Reading home m) part e k = absurd (cc)
+  no_part c (Scanning home m) part e k = absurd (cc)
   no_part c (Folding home f) part e k = absurd (cc)
   no_part c (Paging home p) part e k = absurd (cc)
   no_part c (Closing l) part e k = absurd (cc)
   no_part c (Renewing home) part e k = absurd (cc)
+  no_part c (Settling m) part e k = absurd (cc)
 
   -- its old lease is the one that it has in hand
   old_within : (work : Work) (client : ℕ) (x : Claim) → IsIn (leases_of_recovery (new_recovery client aim.Opening (old_lease work))) x → IsIn (leases_of work) x
@@ -92,10 +105,12 @@ module _ (book : Book) (order : List Entry) (s : CloudState) (sessions : Session
   old_within (Opening r) client x is = absurd (in_none [] x refl is)
   old_within (Committing w) client x is = absurd (in_none [] x refl is)
   old_within (Reading home m) client x is = absurd (in_none [] x refl is)
+  old_within (Scanning home m) client x is = absurd (in_none [] x refl is)
   old_within (Folding home f) client x is = absurd (in_none [] x refl is)
   old_within (Paging home p) client x is = absurd (in_none [] x refl is)
   old_within (Closing l) client x is = absurd (in_none [] x refl is)
   old_within (Renewing home) client x is = absurd (in_none [] x refl is)
+  old_within (Settling m) client x is = absurd (in_none [] x refl is)
 
   opening_after_all : (client : ℕ) → IsClient client → opening_rule_of old.work ≡ None → After (record closed_session { work = opening_of client (old_lease old.work) })
   opening_after_all client c none =
@@ -222,6 +237,8 @@ module _ (book : Book) (order : List Entry) (s : CloudState) (sessions : Session
   commits_of home new (Answered (answer.Renewed end)) idle none some never = absurd never
   commits_of home new (Answered (answer.Done n)) idle none some never = absurd never
   commits_of home new (Answered answer.Value) idle none some never = absurd never
+  commits_of home new (Answered answer.Scan) idle none some never = absurd never
+  commits_of home new (Answered (answer.Settled n)) idle none some never = absurd never
 
   begins_commit : (new : Acting) (result : Result Begun Refused) → BeginsWith (CommitsIn old) old new result → After new
   begins_commit new result = begins_with (CommitsIn old) new result (λ home begun idle d. on home begun idle d.0 d.1)
@@ -249,7 +266,7 @@ module _ (book : Book) (order : List Entry) (s : CloudState) (sessions : Session
       subst (WalkLeads st MayStop) (sym begins.1) begins.2
 
   reads_of : (tree : ℕ) (key : List ℕ) (home : Home) (new : Acting) (begun : Begun) → IsTree tree → old.work ≡ Idle home → new.buffer ≡ old.buffer
-      → ReadsOf home (new_walk tree (Some key) false) old.cache new.cache new.work new.read begun → After new
+      → ReadsOf home (new_walk tree (Some key) false) old.cache new.cache new.work new.shown begun → After new
   reads_of tree key home new Working is idle same (m, leads, e, none) =
       let k : KnowsWalking st m new.cache = subst (WalkLeads st MayStop) leads (walks tree key home is idle) in
       hands_on new (Reading home m) (same_buffer new same) e (mine home idle) ((home_known home idle, k.walk), k.cache)
@@ -264,9 +281,56 @@ module _ (book : Book) (order : List Entry) (s : CloudState) (sessions : Session
   reads_of tree key home new (Answered (answer.Renewed end)) is idle same never = absurd never
   reads_of tree key home new (Answered (answer.Commit a)) is idle same never = absurd never
   reads_of tree key home new (Answered (answer.Done n)) is idle same never = absurd never
+  reads_of tree key home new (Answered answer.Scan) is idle same never = absurd never
+  reads_of tree key home new (Answered (answer.Settled n)) is idle same never = absurd never
 
   begins_read : (tree : ℕ) (key : List ℕ) (new : Acting) (result : Result Begun Refused) → IsTree tree → BeginsWith (ReadsIn tree key old) old new result → After new
   begins_read tree key new result is = begins_with (ReadsIn tree key old) new result (λ home begun idle d. reads_of tree key home new begun is idle d.0 d.1)
+
+  -- ---- a scan
+
+  module _ (tree : ℕ) (from to : Option (List ℕ)) (home : Home) (new : Acting) (is : IsTree tree) (idle : old.work ≡ Idle home) (same : new.buffer ≡ old.buffer) where
+    -- what is known where the scan leads without a call
+    scans : ScanLeads st MayStop (scan_ready (new_scan tree from to, old.cache))
+    scans =
+        let begins = scan_begins st stand.cloud.holds.chains tree from to old.cache is (cache_known home idle) in
+        subst (ScanLeads st MayStop) (sym begins.1) begins.2
+
+    goes_on_well : (m : Listing) → new.work ≡ Scanning home m → KnowsScan st m.scan → KnowsCache st new.cache → After new
+    goes_on_well m e k looks = hands_on new (Scanning home m) (same_buffer new same) e (mine home idle) ((home_known home idle, k), looks)
+
+    lists_well : (m : Scan) (page : ℕ) (turn : Turn Answer) → KnowsScanning st m new.cache → IsAtScannedLeaf st m new.cache page
+        → ListsLeaf home old.buffer (record { scan = m; pairs = [] }) new.cache new.work new.shown turn → After new
+    lists_well m page More k there (all, listed, goes, e, none) =
+        goes_on_well (record { scan = moved_on m; pairs = all }) e (scan_moves_on st m k.scan new.cache page there) k.cache
+    lists_well m page (Ended answer.Scan) k there (all, listed, over, e, some) =
+        hands_on new (Idle home) (same_buffer new same) e (mine home idle) (home_known home idle, k.cache)
+    lists_well m page (Ended (answer.Trouble t)) k there (memory, e, none) = leaves_with new (Broken home.lease) (same_buffer new same) e (mine home idle) (refl, tt)
+    lists_well m page (Stopped t) k there never = absurd never
+    lists_well m page (Ended (answer.Opened epoch)) k there never = absurd never
+    lists_well m page (Ended answer.Closed) k there never = absurd never
+    lists_well m page (Ended (answer.Renewed end)) k there never = absurd never
+    lists_well m page (Ended (answer.Commit a)) k there never = absurd never
+    lists_well m page (Ended (answer.Done n)) k there never = absurd never
+    lists_well m page (Ended answer.Value) k there never = absurd never
+    lists_well m page (Ended (answer.Settled n)) k there never = absurd never
+
+    follows_well : (m : Scan) (moved : Turn ℕ) (turn : Turn Answer) → Moves (scan_ready (new_scan tree from to, old.cache)) (m, new.cache) moved
+        → Follows home old.buffer (record { scan = m; pairs = [] }) new.cache moved new.work new.shown turn → After new
+    follows_well m More turn leads (e, none, more) =
+        let k : KnowsScanning st m new.cache = subst (ScanLeads st MayStop) leads scans in
+        goes_on_well (record { scan = m; pairs = [] }) e k.scan k.cache
+    follows_well m (Ended page) turn leads listed =
+        let k : KnowsScanning st m new.cache × IsAtScannedLeaf st m new.cache page = subst (ScanLeads st MayStop) leads scans in
+        lists_well m page turn k.0 k.1 listed
+    follows_well m (Stopped t) turn leads (e, none, stopped) =
+        stops_well home t new idle same e (λ other. let k : KnowsCache st new.cache × MayStop t = subst (ScanLeads st MayStop) (leads other) scans in k.0)
+
+    scans_of : (begun : Begun) → ScansOf home old.buffer (new_scan tree from to) old.cache new.cache new.work new.shown begun → After new
+    scans_of begun p = follows_well p.scan p.moved p.turn p.moves p.follows
+
+  begins_scan : (tree : ℕ) (from to : Option (List ℕ)) (new : Acting) (result : Result Begun Refused) → IsTree tree → BeginsWith (ScansIn tree from to old) old new result → After new
+  begins_scan tree from to new result is = begins_with (ScansIn tree from to old) new result (λ home begun idle d. scans_of tree from to home new is idle d.0 begun d.1)
 
   begins_all : (o : Op) (new : Acting) (result : Result Begun Refused) → IsRightOp o → Begins o old new result → After new
   begins_all (op.Open client) new result right b = begins_opening client new result right b
@@ -274,6 +338,7 @@ module _ (book : Book) (order : List Entry) (s : CloudState) (sessions : Session
   begins_all op.Renew new result right b = begins_renew new result b
   begins_all op.Commit new result right b = begins_commit new result b
   begins_all (op.Read tree key) new result right b = begins_read tree key new result right b
+  begins_all (op.Scan tree from to) new result right b = begins_scan tree from to new result right b
   begins_all (op.Tree tree) new result right b = begins_tree tree new result right b
   begins_all (op.Page tree page) new result right b = begins_page tree page new result right.0 right.1 b
 
@@ -281,3 +346,16 @@ module _ (book : Book) (order : List Entry) (s : CloudState) (sessions : Session
 pub begins_keeps : (o : Op) (book : Book) (order : List Entry) (s : CloudState) (sessions : Sessions) (session : ℕ) (new : Acting) (result : Result Begun Refused) → IsRightOp o
     → SessionsStand book order s sessions → Begins o (sessions session) new result → SessionsStand book order s (at session new sessions)
 begins_keeps o book order s sessions session new result right stand begins = begins_all book order s sessions session stand o new result right begins
+
+-- a session that is closed begins to settle
+pub settling_begins_session : (book : Book) (order : List Entry) (s : CloudState) (sessions : Sessions) (session : ℕ) → sessions session ≡ closed_session
+    → SessionsStand book order s sessions → SessionsStand book order s (at session settling_session sessions)
+settling_begins_session book order s sessions session closed stand =
+    session_rests book order s sessions session settling_session stand (λ x is. absurd (in_none [] x refl is)) (record {
+      work = subst (KnowsSettling (store_of book order s) s.now new_settling) (sym away) (settling_begins (store_of book order s) s.now);
+      kept = empty_knows (store_of book order s);
+      buffer = may_none;
+    })
+  where
+    away : stand.parts session ≡ Away
+    away = (subst (λ (a : Acting). Knows (store_of book order s) s.now a (stand.parts session)) closed (stand.each session)).work

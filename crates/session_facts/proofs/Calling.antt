@@ -6,7 +6,7 @@ use Rattle.std.proofs.lemmas.List.{append-nil}
 use Rattle.client_session.specs.Session.{Acting, StepsSession, StepsWork, StepsAt, Shows, ShowsAt, ask_of_work, opens_of, committing_of, applying_of, is_working, noted_behind, shown_behind}
 use Rattle.client_session.specs.declared.answer.Answer.{Answer}
 use Rattle.client_session.specs.declared.work.Work.{Work}
-use Rattle.client_session.specs.declared.work.Work.TheVariants.{Closed, Idle, Opening, Committing, Reading, Folding, Paging, Closing, Renewing, Broken}
+use Rattle.client_session.specs.declared.work.Work.TheVariants.{Closed, Idle, Opening, Committing, Reading, Scanning, Folding, Paging, Closing, Renewing, Settling, Broken}
 use Rattle.cloud_facts.specs.Acting.{Setting, Outcome}
 use Rattle.cloud_facts.specs.Looks.{has_landed, audit_of}
 use Rattle.cloud_facts.proofs.Outcomes.{none_lands, weaker}
@@ -29,6 +29,7 @@ use Rattle.home_facts.specs.Homes.{Part, Parts}
 use Rattle.page_cache.specs.Cache.{Cache}
 use Rattle.page_ckpt.specs.Paging.{paging_ask}
 use Rattle.page_facts.specs.Checkpoint.{paging_note}
+use Rattle.range_scan.specs.Scan.{scan_ask}
 use Rattle.recover_run.specs.Recovery.{recovery_ask}
 use Rattle.report_types.specs.declared.entry.Entry.{Entry}
 use Rattle.session_facts.specs.Noting.{noted_head, noted_at, noted_in_hand, audited}
@@ -40,8 +41,12 @@ use Rattle.session_facts.proofs.Laws.{call_goes, same_sessions, setting_of, know
 use Rattle.session_facts.proofs.LeaseSteps.{IsStepOf, closing_step, renewing_step}
 use Rattle.session_facts.proofs.OpeningSteps.{opening_step}
 use Rattle.session_facts.proofs.ReadingSteps.{reading_step}
+use Rattle.session_facts.proofs.ScanningSteps.{scanning_step}
+use Rattle.session_facts.proofs.SettlingSteps.{settling_step, settling_noted}
 use Rattle.tree_walk.specs.Walk.{walk_ask}
 use Rattle.session_facts.proofs.PagingSteps.{paging_step, paging_noted}
+use Rattle.settle_facts.specs.Settling.{settling_note}
+use Rattle.settle_run.specs.Settling.{settle_ask}
 use Rattle.store_book.specs.Book.{Book}
 use Rattle.store_book.specs.Tally.{Store, at}
 use Rattle.store_book.proofs.Names.{at_same, at_other}
@@ -152,7 +157,7 @@ module _ (who : Caller) (before after : Seen) (s t : CloudState) (book : Book) (
   same_cache : (c : Cache) → c ≡ kept → KnowsCache st kept → KnowsCache st c
   same_cache c same k = subst (KnowsCache st) (sym same) k
 
-  works : (work : Work) (turn : Turn Answer) (c : Cache) → old ≡ work → StepsAt who before after work new.work turn → ShowsAt who before after work kept c new.work new.read turn
+  works : (work : Work) (turn : Turn Answer) (c : Cache) → old ≡ work → StepsAt who before after work new.work turn → ShowsAt who before after new.buffer work kept c new.work new.shown turn
       → new.cache ≡ shown_behind new.work c → Goes book order s t sessions who.session new
   works (Opening r) turn c is steps shown left =
       goes_by (recovery_ask r) (λ a. a) c (ap ask_of_work is)
@@ -170,7 +175,13 @@ module _ (who : Caller) (before after : Seen) (s t : CloudState) (book : Book) (
       (sym (ap (λ q. noted_at q (walk_ask w) (audit_of book order)) is ∙ nothing_noted (Reading home w) (walk_ask w) (audit_of book order) refl refl)) left
       (subst (Stepped (walk_ask w) (λ a. a) c) (sym is)
       (reading_step who before after book order s t stand.parts home w (setting_at (Reading home w) is) (λ later. (known_in (Reading home w) is later).0) (known_now (Reading home w) is).1
-      kept c (cache_now (Reading home w) is) told told_after new.work new.read turn shown))
+      kept c (cache_now (Reading home w) is) told told_after new.work new.shown turn shown))
+  works (Scanning home m) turn c is steps shown left =
+      goes_by (scan_ask m.scan) (λ a. a) c (ap ask_of_work is)
+      (sym (ap (λ q. noted_at q (scan_ask m.scan) (audit_of book order)) is ∙ nothing_noted (Scanning home m) (scan_ask m.scan) (audit_of book order) refl refl)) left
+      (subst (Stepped (scan_ask m.scan) (λ a. a) c) (sym is)
+      (scanning_step who before after book order s t stand.parts home m new.buffer (setting_at (Scanning home m) is) (λ later. (known_in (Scanning home m) is later).0)
+      (known_now (Scanning home m) is).1 kept c (cache_now (Scanning home m) is) told told_after new.work new.shown turn shown))
   works (Folding home m) turn c is steps shown left =
       goes_by (making_ask m) (making_note m (making_ask m)) c (ap ask_of_work is)
       (sym (ap (λ q. noted_at q (making_ask m) (audit_of book order)) is ∙ making_noted home m (making_ask m) (audit_of book order))) left
@@ -193,6 +204,12 @@ module _ (who : Caller) (before after : Seen) (s t : CloudState) (book : Book) (
       (subst (Stepped (Renew home.lease 600) (λ a. a) c) (sym is)
       (renewing_step who before after book order s t stand.parts home (setting_at (Renewing home) is) (known_in (Renewing home) is) c (same_cache c shown.0 (cache_now (Renewing home) is))
       told told_after new.work turn steps))
+  works (Settling m) turn c is steps shown left =
+      goes_by (settle_ask m) (settling_note m (settle_ask m)) c (ap ask_of_work is)
+      (sym (ap (λ q. noted_at q (settle_ask m) (audit_of book order)) is ∙ settling_noted m (settle_ask m) (audit_of book order))) left
+      (subst (Stepped (settle_ask m) (settling_note m (settle_ask m)) c) (sym is)
+      (settling_step who before after book order s t stand.parts m (setting_at (Settling m) is) (known_now (Settling m) is) steps.0
+      c (same_cache c shown.0 (cache_now (Settling m) is)) told told_after new.work turn steps.1))
   works Closed turn c is never shown left = absurd never
   works (Idle home) turn c is never shown left = absurd never
   works (Broken l) turn c is never shown left = absurd never
@@ -202,7 +219,7 @@ module _ (who : Caller) (before after : Seen) (s t : CloudState) (book : Book) (
   steps_keep (Ok turn) buffer shown steps = works old turn shown.0 refl steps shown.1 shown.2
   steps_keep (Err (refused.Rule r)) buffer shown steps =
       idle_goes s t book order sessions who.session new (state_is t s (sym told_after ∙ (ap (λ (x : Seen). x.state) steps.3 ∙ told)))
-      (λ i. record { buffer = (buffer ∙ stays old steps.1) i; work = steps.2 i; cache = shown.0 i; read = shown.1 i }) stand
+      (λ i. record { buffer = (buffer ∙ stays old steps.1) i; work = steps.2 i; cache = shown.0 i; shown = shown.1 i }) stand
     where
       -- what is not at work drops nothing that was noted
       stays : (work : Work) → is_working work ≡ false → noted_behind work (sessions who.session).buffer ≡ (sessions who.session).buffer
@@ -215,6 +232,8 @@ module _ (who : Caller) (before after : Seen) (s t : CloudState) (book : Book) (
       stays (Paging home p) e = refl
       stays (Renewing home) e = refl
       stays (Reading home m) e = refl
+      stays (Scanning home m) e = refl
+      stays (Settling m) e = refl
       stays (Closing l) e = absurd (cc)
   steps_keep (Err refused.Memory) buffer shown never = absurd never
 
@@ -230,6 +249,8 @@ noted_may (Folding home f) buffer may = may
 noted_may (Paging home p) buffer may = may
 noted_may (Renewing home) buffer may = may
 noted_may (Reading home m) buffer may = may
+noted_may (Scanning home m) buffer may = may
+noted_may (Settling m) buffer may = may
 
 -- a call of a session: any answer, landed or not
 pub session_keeps : (who : Caller) (before after : Seen) (s t : CloudState) (book : Book) (order : List Entry) (sessions : Sessions) (new : Acting) (result : Result (Turn Answer) Refused)

@@ -233,3 +233,5 @@ module _ (who : Caller) (before after : Seen) (book : Book) (order : List Entry)
   commit_step work (Ended (answer.Opened epoch)) never = absurd never
   commit_step work (Ended (answer.Done n)) never = absurd never
   commit_step work (Ended answer.Value) never = absurd never
+  commit_step work (Ended answer.Scan) never = absurd never
+  commit_step work (Ended (answer.Settled n)) never = absurd never

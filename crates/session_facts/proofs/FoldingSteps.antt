@@ -154,3 +154,5 @@ module _ (who : Caller) (before after : Seen) (book : Book) (order : List Entry)
   making_step work (Ended (answer.Opened epoch)) never = absurd never
   making_step work (Ended (answer.Commit a)) never = absurd never
   making_step work (Ended answer.Value) never = absurd never
+  making_step work (Ended answer.Scan) never = absurd never
+  making_step work (Ended (answer.Settled n)) never = absurd never

@@ -1,13 +1,10 @@
 -- The puts of heads that sessions have in hand.
 use Rattle.std.proofs.Common.{◌≡◌, ◌⊎◌, inl, inr, ℕ, Bool, true, false, List, [], ◌∷◌, length, Option, Some, None, refl, sym, ap, ◌∙◌}
-use Rattle.std.specs.Prelude.{unwrap_or}
-use Rattle.cloud_trait.specs.Ask.{Ask, GetHeld, PutHeld, Renew, Release}
+use Rattle.cloud_trait.specs.Ask.{Ask, PutHeld, Renew, Release}
 use Rattle.cloud_trait.specs.Claim.{Claim}
 use Rattle.client_session.specs.Session.{ask_of_work, opens_of}
 use Rattle.client_session.specs.declared.work.Work.{Work}
-use Rattle.client_session.specs.declared.work.Work.TheVariants.{Closed, Idle, Opening, Committing, Reading, Folding as FoldingTree, Paging, Closing, Renewing, Broken}
-use Rattle.ckpt_parts.specs.Deleting.{next_id}
-use Rattle.ckpt_parts.specs.Leasing.{newest_lease}
+use Rattle.client_session.specs.declared.work.Work.TheVariants.{Closed, Idle, Opening, Committing, Reading, Scanning, Folding, Paging, Closing, Renewing, Settling, Broken}
 use Rattle.commit_run.specs.Run.{Run, run_opens}
 use Rattle.commit_run_facts.specs.Puts.{OpensRun, PutsRun}
 use Rattle.commit_run_facts.proofs.HeadPuts.{run_puts}
@@ -18,18 +15,11 @@ use Rattle.home_facts.specs.Homes.{Part}
 use Rattle.opening_facts.proofs.HeadPuts.{opening_puts}
 use Rattle.page_cache.specs.Cache.{Cache}
 use Rattle.page_facts.proofs.HeadPuts.{paging_puts_none}
+use Rattle.range_scan.specs.Scan.{scan_ask}
 use Rattle.session_facts.specs.Puts.{IsSoundWork, Commits, PutsHead}
 use Rattle.session_facts.specs.Sessions.{KnowsWork}
+use Rattle.settle_facts.proofs.HeadPuts.{making_puts_none, settling_puts}
 use Rattle.store_book.specs.Tally.{Store}
-use Rattle.tree_ckpt.specs.Making.{making_ask}
-use Rattle.tree_moves.specs.declared.work.Work.{Work as TreeWork}
-use Rattle.tree_moves.specs.declared.work.Work.TheVariants.{TakingTree, GettingTree, Receiving, Descending, TakingPage, Folding as FoldingLeaf, ReleasingPage, LeftPage, Rising, Deleting, Releasing, Finished}
-use Rattle.tree_moves.specs.Work.{delete_ask, release_ask, work_ask}
-use Rattle.split_plan.specs.declared.put_list.PagePut.{PagePut}
-use Rattle.tree_parts.specs.declared.placing.Placing.{Placing}
-use Rattle.tree_parts.specs.Placing.{put_first, put_next, put_in_hand}
-use Rattle.tree_rising.specs.declared.rising.Rising.{Rising as Up}
-use Rattle.tree_rising.specs.Rising.{last_ask}
 use Rattle.tree_walk.specs.Walk.{walk_ask}
 
 -- ---- what an ask puts
@@ -66,43 +56,6 @@ never e = cc
 no_put : {X : Type 0} (a : Ask) (client : ℕ) (bytes : List ℕ) (one : Claim) (two : Option Claim) → puts_head a ≡ false → a ≡ PutHeld (object.Head client) bytes one two → X
 no_put a client bytes one two none e = absurd (never (sym (ap puts_head e) ∙ none))
 
--- ---- a tree checkpoint puts no head
-
-delete_none : (tree : ℕ) (id : Option ℕ) → puts_head (delete_ask tree id) ≡ false
-delete_none tree (Some id) = refl
-delete_none tree None = refl
-
-release_none : (tree : ℕ) (l : Option Claim) → puts_head (release_ask tree l) ≡ false
-release_none tree (Some l) = refl
-release_none tree None = refl
-
--- what is to be put are the tree object and pages
-placing_none : (p : Placing) (tree : ℕ) (l : Claim) (second : Option Claim) (last : Ask) → puts_head last ≡ false → puts_head (unwrap_or (put_in_hand p tree l second) last) ≡ false
-placing_none p tree l second last none = on p.reserved p.puts
-  where
-    on : (reserved : Option (List ℕ)) (puts : List PagePut) → puts_head (unwrap_or (put_first tree l (put_next tree l second puts) reserved) last) ≡ false
-    on (Some bytes) puts = refl
-    on None (x ∷ puts) = refl
-    on None [] = none
-
-last_none : (r : Up) (l : Claim) (bytes : Option (List ℕ)) → puts_head (last_ask r l bytes) ≡ false
-last_none r l (Some bytes) = refl
-last_none r l None = refl
-
-making_none : (tree : ℕ) (w : TreeWork) → puts_head (work_ask tree w) ≡ false
-making_none tree TakingTree = refl
-making_none tree (GettingTree l) = refl
-making_none tree (Receiving l root) = refl
-making_none tree (Descending h d) = refl
-making_none tree (TakingPage h c) = refl
-making_none tree (FoldingLeaf h f) = placing_none f.placing f.chart.tree h.lease (Some f.lease) (GetHeld (object.Page f.chart.tree f.page) f.lease) refl
-making_none tree (ReleasingPage h l o) = refl
-making_none tree (LeftPage h o) = refl
-making_none tree (Rising h r) = placing_none r.placing r.chart.tree h.lease None (last_ask r h.lease r.last) (last_none r h.lease r.last)
-making_none tree (Deleting h applied) = delete_none tree (next_id h.deletions.ids)
-making_none tree (Releasing held end) = release_none tree (newest_lease held)
-making_none tree Finished = refl
-
 -- ---- the whole
 
 -- a commit opens the head of the changes that it has
@@ -120,9 +73,13 @@ head_put st now c (Opening r) part k sound client bytes one two e =
     let p = opening_puts st now r part client bytes one two k sound (ask_is _ _ e) in
     record { head = p.head; spells = p.spells; client_is = p.client_is; how = inr (refl, p.settled) }
 head_put st now c (Committing r) part k sound client bytes one two e = commit_opens r client bytes (run_puts st now (r, c) client bytes one two part (ask_is _ _ e) k sound)
-head_put st now c (FoldingTree home m) part k sound client bytes one two e = no_put (making_ask m) client bytes one two (making_none m.tree m.work) (ask_is _ _ e)
+head_put st now c (Folding home m) part k sound client bytes one two e = absurd (making_puts_none m client bytes one two (ask_is _ _ e))
 head_put st now c (Paging home p) part k sound client bytes one two e = absurd (paging_puts_none p client bytes one two (ask_is _ _ e))
 head_put st now c (Reading home m) part k sound client bytes one two e = no_put (walk_ask m) client bytes one two refl (ask_is _ _ e)
+head_put st now c (Scanning home m) part k sound client bytes one two e = no_put (scan_ask m.scan) client bytes one two refl (ask_is _ _ e)
+head_put st now c (Settling m) part k sound client bytes one two e =
+    let p = settling_puts st now m part client bytes one two k sound (ask_is _ _ e) in
+    record { head = p.head; spells = p.spells; client_is = p.client_is; how = inr (refl, p.settled) }
 head_put st now c (Closing l) part k sound client bytes one two e = no_put (Release l) client bytes one two refl (ask_is _ _ e)
 head_put st now c (Renewing home) part k sound client bytes one two e = no_put (Renew home.lease 600) client bytes one two refl (ask_is _ _ e)
 head_put st now c Closed part k sound client bytes one two e = absurd (cc)

@@ -2,7 +2,7 @@
 use Rattle.std.proofs.Common.{◌≡◌, ◌≤◌, ℕ, List, [], ◌∷◌, refl, sym, ap, subst, ◌∙◌}
 use Rattle.client_session.specs.Session.{Acting}
 use Rattle.client_session.specs.declared.work.Work.{Work}
-use Rattle.client_session.specs.declared.work.Work.TheVariants.{Closed, Idle, Opening, Committing, Reading, Folding, Paging, Closing, Renewing, Broken}
+use Rattle.client_session.specs.declared.work.Work.TheVariants.{Closed, Idle, Opening, Committing, Reading, Scanning, Folding, Paging, Closing, Renewing, Settling, Broken}
 use Rattle.cloud_facts.specs.Acting.{HasLeaseOf}
 use Rattle.cloud_facts.specs.Others.{NoneJoins, Others}
 use Rattle.cloud_facts.proofs.Guarding.{others_itself, fewer_others}
@@ -16,8 +16,10 @@ use Rattle.page_cache.specs.Cache.{Cache}
 use Rattle.page_facts.specs.Checkpoint.{leases_of_paging}
 use Rattle.page_facts.proofs.PagingOthers.{paging_others}
 use Rattle.recover_run.specs.declared.home.Home.{Home}
+use Rattle.scan_facts.proofs.Scans.{scan_grows}
 use Rattle.session_facts.specs.Sessions.{leases_of, IsHome, KnowsWork, Knows}
 use Rattle.session_facts.proofs.Kept.{kept_grows}
+use Rattle.settle_facts.proofs.SettlingOthers.{settling_others, settling_lease}
 use Rattle.store_book.specs.Records.{IsIn}
 use Rattle.store_book.specs.Tally.{Store}
 use Rattle.store_book.proofs.Places.{in_behind}
@@ -39,6 +41,8 @@ work_others st su now later c (Opening r) part after o j k = opening_others st s
 work_others st su now later c (Committing r) part after o j k = run_others st su now later part after (r, c) o j k
 work_others st su now later c (Reading home w) part after o j k =
     (home_stays st su now later home part (home.lease ∷ []) after (0, refl) o k.0, walk_grows st su o.passes.grows w k.1)
+work_others st su now later c (Scanning home m) part after o j k =
+    (home_stays st su now later home part (home.lease ∷ []) after (0, refl) o k.0, scan_grows st su o.passes.grows m.scan k.1)
 work_others st su now later c (Folding home m) part after o j k = (
   home_stays st su now later home part (leases_of (Folding home m)) after (0, refl) o k.0,
   making_others st su now later m after
@@ -51,6 +55,7 @@ work_others st su now later c (Paging home p) part after o j k = (
 )
 work_others st su now later c (Closing l) part after o j k = k
 work_others st su now later c (Renewing home) part after o j k = home_stays st su now later home part (home.lease ∷ []) after (0, refl) o k
+work_others st su now later c (Settling m) part after o j k = settling_others st su now later m part after o k
 work_others st su now later c (Broken l) part after o j k = k
 
 pub knows_others : (st su : Store) (now later : ℕ) (session : Acting) (part : Part) → now ≤ later → Others (leases_of session.work) later st su → NoneJoins part st su
@@ -81,8 +86,10 @@ part_lease st now c (Idle home) part k = home_lease st now home part (home.lease
 part_lease st now c (Opening r) part k = opening_lease st now r part k
 part_lease st now c (Committing r) part k = run_part st now (r, c) part k
 part_lease st now c (Reading home w) part k = home_lease st now home part (home.lease ∷ []) (0, refl) k.0
+part_lease st now c (Scanning home m) part k = home_lease st now home part (home.lease ∷ []) (0, refl) k.0
 part_lease st now c (Folding home f) part k = home_lease st now home part (leases_of (Folding home f)) (0, refl) k.0
 part_lease st now c (Paging home p) part k = home_lease st now home part (leases_of (Paging home p)) (0, refl) k.0
 part_lease st now c (Closing l) part k = away_lease (l ∷ []) part k
 part_lease st now c (Renewing home) part k = home_lease st now home part (home.lease ∷ []) (0, refl) k
+part_lease st now c (Settling m) part k = settling_lease st now m part k
 part_lease st now c (Broken l) part k = away_lease (l ∷ []) part k

@@ -2,7 +2,7 @@
 use Rattle.std.proofs.Common.{ℕ, List}
 use Rattle.client_session.specs.Session.{shown_behind}
 use Rattle.client_session.specs.declared.work.Work.{Work}
-use Rattle.client_session.specs.declared.work.Work.TheVariants.{Closed, Idle, Opening, Committing, Reading, Folding, Paging, Closing, Renewing, Broken}
+use Rattle.client_session.specs.declared.work.Work.TheVariants.{Closed, Idle, Opening, Committing, Reading, Scanning, Folding, Paging, Closing, Renewing, Settling, Broken}
 use Rattle.cloud_facts.specs.Acting.{Outcome}
 use Rattle.cloud_trait.specs.Ask.{Ask}
 use Rattle.cloud_trait.specs.Caller.{Caller}
@@ -27,10 +27,12 @@ kept_from st c (Idle home) k = k
 kept_from st c (Opening r) k = k
 kept_from st c (Committing r) k = k
 kept_from st c (Reading home w) k = k
+kept_from st c (Scanning home m) k = k
 kept_from st c (Folding home m) k = k
 kept_from st c (Paging home p) k = k
 kept_from st c (Closing l) k = k
 kept_from st c (Renewing home) k = k
+kept_from st c (Settling m) k = k
 
 pub kept_grows : (st su : Store) (c : Cache) (work : Work) → Grows st su → KnowsKept st c work → KnowsKept su c work
 kept_grows st su c (Broken l) grows k = k
@@ -39,10 +41,12 @@ kept_grows st su c (Idle home) grows k = cache_grows st su grows c k
 kept_grows st su c (Opening r) grows k = cache_grows st su grows c k
 kept_grows st su c (Committing r) grows k = cache_grows st su grows c k
 kept_grows st su c (Reading home w) grows k = cache_grows st su grows c k
+kept_grows st su c (Scanning home m) grows k = cache_grows st su grows c k
 kept_grows st su c (Folding home m) grows k = cache_grows st su grows c k
 kept_grows st su c (Paging home p) grows k = cache_grows st su grows c k
 kept_grows st su c (Closing l) grows k = cache_grows st su grows c k
 kept_grows st su c (Renewing home) grows k = cache_grows st su grows c k
+kept_grows st su c (Settling m) grows k = cache_grows st su grows c k
 
 -- what a session knows of its work and its cache
 abbrev pub KnowsBoth : Cache → Work → Store → ℕ → Part → Type 0
@@ -55,10 +59,12 @@ both_shown c (Idle home) st now part k = k
 both_shown c (Opening r) st now part k = k
 both_shown c (Committing r) st now part k = k
 both_shown c (Reading home w) st now part k = k
+both_shown c (Scanning home m) st now part k = k
 both_shown c (Folding home m) st now part k = k
 both_shown c (Paging home p) st now part k = k
 both_shown c (Closing l) st now part k = k
 both_shown c (Renewing home) st now part k = k
+both_shown c (Settling m) st now part k = k
 both_shown c (Broken l) st now part k = k
 
 -- a call that leaves the cache alone

@@ -87,6 +87,8 @@ module _ (who : Caller) (before after : Seen) (book : Book) (order : List Entry)
   closing_step work (Ended (answer.Renewed end)) never = absurd never
   closing_step work (Ended (answer.Commit a)) never = absurd never
   closing_step work (Ended answer.Value) never = absurd never
+  closing_step work (Ended answer.Scan) never = absurd never
+  closing_step work (Ended (answer.Settled n)) never = absurd never
   closing_step work (Ended (answer.Done n)) never = absurd never
 
 -- ---- a renewal
@@ -191,4 +193,6 @@ module _ (who : Caller) (before after : Seen) (book : Book) (order : List Entry)
   renewing_step work (Ended answer.Closed) never = absurd never
   renewing_step work (Ended (answer.Commit a)) never = absurd never
   renewing_step work (Ended answer.Value) never = absurd never
+  renewing_step work (Ended answer.Scan) never = absurd never
+  renewing_step work (Ended (answer.Settled n)) never = absurd never
   renewing_step work (Ended (answer.Done n)) never = absurd never

@@ -8,6 +8,9 @@ pub mod OpeningSteps
 pub mod CommitSteps
 pub mod FoldingSteps
 pub mod PagingSteps
+pub mod GettingSteps
 pub mod ReadingSteps
+pub mod ScanningSteps
+pub mod SettlingSteps
 pub mod Calling
 pub mod HeadPuts

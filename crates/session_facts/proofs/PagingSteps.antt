@@ -147,3 +147,5 @@ module _ (who : Caller) (before after : Seen) (book : Book) (order : List Entry)
   paging_step work (Ended (answer.Opened epoch)) never = absurd never
   paging_step work (Ended (answer.Commit a)) never = absurd never
   paging_step work (Ended answer.Value) never = absurd never
+  paging_step work (Ended answer.Scan) never = absurd never
+  paging_step work (Ended (answer.Settled n)) never = absurd never

@@ -4,7 +4,7 @@ use Rattle.client_session.specs.Session.{Acting}
 use Rattle.client_session.specs.declared.op.Op.{Op}
 use Rattle.client_session.specs.declared.op.Op.TheVariants as op
 use Rattle.client_session.specs.declared.work.Work.{Work}
-use Rattle.client_session.specs.declared.work.Work.TheVariants.{Closed, Idle, Opening, Committing, Reading, Folding, Paging, Closing, Renewing, Broken}
+use Rattle.client_session.specs.declared.work.Work.TheVariants.{Closed, Idle, Opening, Committing, Reading, Scanning, Folding, Paging, Closing, Renewing, Settling, Broken}
 use Rattle.cloud_facts.specs.Acting.{KnowsHome}
 use Rattle.cloud_facts.specs.Looks.{audit_of}
 use Rattle.cloud_facts.specs.Standing.{StandsUnder}
@@ -22,7 +22,9 @@ use Rattle.page_cache.specs.Cache.{Cache}
 use Rattle.page_facts.specs.Checkpoint.{KnowsPaging, leases_of_paging}
 use Rattle.recover_run.specs.declared.home.Home.{Home}
 use Rattle.report_types.specs.declared.entry.Entry.{Entry}
+use Rattle.scan_facts.specs.Scans.{KnowsScan}
 use Rattle.session_facts.specs.Noting.{audited}
+use Rattle.settle_facts.specs.Settling.{KnowsSettling, leases_of_settling}
 use Rattle.store_book.specs.Book.{Book}
 use Rattle.store_book.specs.Tally.{Store, at}
 use Rattle.telling_facts.specs.Told.{store_of}
@@ -37,10 +39,12 @@ leases_of (Idle home) = home.lease ∷ []
 leases_of (Opening r) = leases_of_recovery r
 leases_of (Committing r) = (home_of_run r).lease ∷ []
 leases_of (Reading home m) = home.lease ∷ []
+leases_of (Scanning home m) = home.lease ∷ []
 leases_of (Folding home m) = home.lease ∷ leases_of_making m
 leases_of (Paging home p) = home.lease ∷ leases_of_paging p
 leases_of (Closing l) = l ∷ []
 leases_of (Renewing home) = home.lease ∷ []
+leases_of (Settling m) = leases_of_settling m
 leases_of (Broken l) = l ∷ []
 
 -- an open client that works on no commit
@@ -54,10 +58,12 @@ KnowsWork st now c (Idle home) part = IsHome st now home part
 KnowsWork st now c (Opening r) part = KnowsOpening st now r part
 KnowsWork st now c (Committing r) part = KnowsRun st now (r, c) part
 KnowsWork st now c (Reading home w) part = IsHome st now home part × KnowsWalk st w
+KnowsWork st now c (Scanning home m) part = IsHome st now home part × KnowsScan st m.scan
 KnowsWork st now c (Folding home m) part = IsHome st now home part × KnowsMaking st now m
 KnowsWork st now c (Paging home p) part = IsHome st now home part × KnowsPaging st now p
 KnowsWork st now c (Closing l) part = part ≡ Away
 KnowsWork st now c (Renewing home) part = IsHome st now home part
+KnowsWork st now c (Settling m) part = KnowsSettling st now m part
 KnowsWork st now c (Broken l) part = part ≡ Away
 
 -- what its cache keeps landed; a session in doubt looks at nothing that it keeps
@@ -95,6 +101,7 @@ IsRightOp op.Close = Unit {0}
 IsRightOp op.Renew = Unit {0}
 IsRightOp op.Commit = Unit {0}
 IsRightOp (op.Read tree key) = IsTree tree
+IsRightOp (op.Scan tree from to) = IsTree tree
 IsRightOp (op.Tree tree) = IsTree tree
 IsRightOp (op.Page tree page) = IsTree tree × IsPage page
 

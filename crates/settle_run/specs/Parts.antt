@@ -9,7 +9,7 @@ use Rattle.cloud_trait.specs.Ask.{Ask}
 use Rattle.cloud_trait.specs.Machine.{Next, Goes, Ends, Stops, LeadsBy, Deed, Came}
 use Rattle.recover_run.specs.declared.stage.Aim.TheVariants as aim
 use Rattle.recover_run.specs.declared.stage.RecoverAnswer.{RecoverAnswer}
-use Rattle.recover_run.specs.Recovery.{Recovery, new_recovery, recovery_ask, recovery_next, KeepsLeases as KeepsRecovery}
+use Rattle.recover_run.specs.Recovery.{Recovery, new_recovery, recovery_ask, recovery_next, KeepsLeases as KeepsRecovery, IsSound}
 use Rattle.tree_moves.specs.Work.{applying_in}
 use Rattle.tree_ckpt.specs.Making.{Making, new_making, making_ask, MakingLeads, KeepsLeases as KeepsMaking}
 use Rattle.page_ckpt.specs.Paging.{Paging, new_paging, paging_ask, PagingLeads, KeepsLeases as KeepsPaging}
@@ -52,6 +52,12 @@ abbrev pub part_received : Part → List ℕ
 part_received (Client client m) = []
 part_received (Tree tree m) = m.received
 part_received (Page tree page m) = m.received
+
+-- a recovery has the bytes in hand that it is to put or send
+abbrev pub IsSoundPart : Part → Type 0
+IsSoundPart (Client client m) = IsSound m
+IsSoundPart (Tree tree m) = Unit {0}
+IsSoundPart (Page tree page m) = Unit {0}
 
 -- ---- its steps
 

@@ -29,7 +29,7 @@ pub enum Part {
 }
 
 impl Part {
-    ghost use Rattle.settle_run.specs.Parts.{part_ask, part_applying, part_received, part_again, PartLeads, KeepsPart, PartWent};
+    ghost use Rattle.settle_run.specs.Parts.{part_ask, part_applying, part_received, part_again, IsSoundPart, PartLeads, KeepsPart, PartWent};
     ghost use Rattle.settle_run.specs.Ending.{part_left};
 
     /// The recovery of a client, before its first call.
@@ -101,6 +101,7 @@ impl Part {
     /// failed.
     pub(crate) fn step<C: Cloud>(&mut self, alloc: Global, cloud: &mut C, who: Who) -> Turn<u64>
         ensures steps { Steps part_ask PartLeads KeepsPart who (C.seen cloud.old) (C.seen cloud.new) self.old self.new result }
+        ensures sound { IsSoundPart self.old }
         // Each step that goes on leaves fewer calls.
         ensures less { (h : List Deed) → PartWent h self.old → result ≡ Turn.More → part_left self.new < part_left self.old }
     {

@@ -39,7 +39,7 @@ impl Model for SettleRun {
 }
 
 impl SettleRun {
-    ghost use Rattle.settle_run.specs.Parts.{part_applying};
+    ghost use Rattle.settle_run.specs.Parts.{part_applying, IsSoundPart};
     ghost use Rattle.settle_run.specs.Ending.{calls_left};
     ghost use Rattle.settle_run.specs.Meaning.{Went, Meant, Causes};
     ghost use Rattle.settle_run.specs.Standing.{Holds, GivesBack};
@@ -190,6 +190,8 @@ impl SettleRun {
     /// Makes the call in hand, and does the local work up to the next one.
     pub fn step<C: Cloud>(&mut self, alloc: Global, cloud: &mut C, who: Who) -> Turn<Settled>
         ensures steps { Steps settle_ask SettleLeads KeepsSettling who (C.seen cloud.old) (C.seen cloud.new) self.old self.new result }
+        // A recovery at work has the bytes in hand that it is to put or send.
+        ensures sound { IsSoundPart self.old.part }
         // Each step that goes on leaves fewer calls.
         ensures less { (h : List Deed) → Went h self.old → result ≡ Turn.More → calls_left self.new < calls_left self.old }
         // The part at work holds what it took and has not given back, and its call names leases that it holds.

@@ -1,0 +1,3 @@
+pub mod Rights
+pub mod Turns
+pub mod Scans

@@ -1,3 +1,4 @@
 pub mod Noting
 pub mod Sessions
 pub mod Puts
+pub mod Answering

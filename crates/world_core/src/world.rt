@@ -1,4 +1,4 @@
-ghost use Rattle.std.specs.Prelude.{◌≡◌, ℕ, ◌≤◌, ◌<◌, ◌⊎◌, true, false, [], replicate, Some, None, Ok, IfOk, IfErr};
+ghost use Rattle.std.specs.Prelude.{◌≡◌, ℕ, ◌≤◌, ◌<◌, ◌⊎◌, true, false, [], replicate, slice_get, Some, None, Ok, IfOk, IfErr};
 ghost use Rattle.world_core.specs.Put.{is_blind};
 ghost use Rattle.world_core.specs.Stands.{Grows};
 ghost use Rattle.world_core.specs.Handled.{WaitsFor};
@@ -6,7 +6,9 @@ ghost use Rattle.world_core.specs.Handled.{WaitsFor};
 use crate::asked::{Asked, Request};
 use crate::noting::{keep_landed, note_put};
 use crate::put::{Put, is_newest, put_in_hand};
-use crate::replying::{begun_reply, declined, done, reply_of, settled_reply, trouble_reply, turn_reply};
+use crate::replying::{
+    begun_reply, declined, done, reply_of, settled_reply, trouble_reply, turn_reply,
+};
 use crate::sessions::Sessions;
 use client_session::answer::Answer;
 use client_session::op::Op;
@@ -55,10 +57,10 @@ impl Drop for World {
 }
 
 impl World {
-    ghost use Rattle.client_session.specs.Session.{closed_session};
+    ghost use Rattle.client_session.specs.Session.{closed_session, settling_session};
     ghost use Rattle.world_core.specs.Stands.{StandsOn};
     ghost use Rattle.world_core.specs.Sessions.{Changes, IsNotWorking, IsAtWork, HasPut};
-    ghost use Rattle.world_core.specs.Handled.{Handled, Answers, Does, BeginsOp, NotesChange, DropsChanges, MakesStep, ComesTo, Runs, Settles, Crashes, CrashesDone, StepsLooked, Reports};
+    ghost use Rattle.world_core.specs.Handled.{Handled, Answers, Does, BeginsOp, NotesChange, DropsChanges, MakesStep, ComesTo, Runs, Settles, SettlesOn, Crashes, CrashesDone, StepsLooked, Reports};
 
     /// A world whose sessions are closed, and that saw nothing. Refused for memory alone.
     pub fn new(alloc: Global) -> Result<World, Refused>
@@ -239,7 +241,8 @@ impl World {
         }
     }
 
-    /// Settles: the settler makes plain steps until its answer, and is closed then.
+    /// Has the settler settle.
+    #[tactic(auto, using(crate::proofs::GrowthLemmas::grows_not))]
     fn settle<C: Bench>(
         &mut self,
         alloc: Global,
@@ -249,14 +252,24 @@ impl World {
         ensures settles { Settles n (C.seen cloud.old) (C.seen cloud.new) self.old self.new result }
         ensures grows { Grows n (C.seen cloud.old) (C.seen cloud.new) }
     {
-        let who = Who {
-            session: SessionNo::settler(),
-            event: n,
-        };
-        match self.sessions.settle(alloc, who.session) {
-            Ok(()) => {}
-            Err(why) => return declined(why),
+        let session = SessionNo::settler();
+        match self.sessions.settle(alloc, session) {
+            Ok(()) => self.settle_on(alloc, cloud, Who { session, event: n }),
+            Err(_) => Err(WorldFault::Memory),
         }
+    }
+
+    /// Makes plain steps of a session that settles until the answer, and closes it then.
+    fn settle_on<C: Bench>(
+        &mut self,
+        alloc: Global,
+        cloud: &mut C,
+        who: Who,
+    ) -> Result<Reply, WorldFault>
+        requires { slice_get self.old.sessions who.session ≡ Some settling_session }
+        ensures settles { SettlesOn who (C.seen cloud.old) (C.seen cloud.new) self.old self.new result }
+        ensures grows { Grows who.event (C.seen cloud.old) (C.seen cloud.new) }
+    {
         let answer = self.run_on(alloc, cloud, who);
         self.sessions.crash(who.session);
         match answer {

@@ -142,7 +142,7 @@ fresh_stands : (world : World) (t : CloudState) → IsNew world → IsEmptyCloud
 fresh_stands world t fresh empty =
     subst (λ b. Stands [] (session_at world.sessions) world.audit b t) (sym fresh.sees)
     (subst (λ l. Stands [] (session_at l) world.audit false t) (sym fresh.sessions)
-    (subst (λ a. Stands [] (session_at (replicate 16 closed_session)) a false t) (sym fresh.audit) (nothing_stands_yet 16 t empty)))
+    (subst (λ a. Stands [] (session_at (replicate 17 closed_session)) a false t) (sym fresh.audit) (nothing_stands_yet 17 t empty)))
 
 -- ---- the lines of a text
 

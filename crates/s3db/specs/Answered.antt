@@ -10,7 +10,7 @@ use Rattle.world_core.specs.Handled.{Handled}
 
 -- a world whose sessions are closed, and that saw nothing
 pub record IsNew (world : World) : Type 0 where
-  pub sessions : world.sessions ≡ replicate 16 closed_session
+  pub sessions : world.sessions ≡ replicate 17 closed_session
   pub audit : world.audit ≡ record { committed = []; order = [] }
   pub sees : world.blind ≡ false
 

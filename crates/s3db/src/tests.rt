@@ -411,7 +411,12 @@ fn replays_rows(rt: HostRuntime) -> Result<(), Fail> {
         (
             b"report 17\nwait 1\nwait 1000001\nsettle\nwait 01\n".as_slice(),
             Status::BadLine,
-            b"1 refused 5 bad-number\n2 waited\n3 refused 5 bad-number\n4 refused 99 not-built\nbad line 5\n".as_slice(),
+            b"1 refused 5 bad-number\n2 waited\n3 refused 5 bad-number\n4 settled 320\nbad line 5\n".as_slice(),
+        ),
+        (
+            b"open 1 1\nrun 1\ninsert 1 1 6b 76\ncommit 1\nrun 1\nscan 1 1 - -\nrun 1\nscan 1 1 - 6b\nrun 1\nscan 1 17 - -\nsettle\nclose 1\nrun 1\nsettle\nreport 1\n".as_slice(),
+            Status::Done,
+            b"1 begun\n2 opened 1\n3 noted\n4 begun\n5 committed 1\n6 begun\n7 scan 1 6b=76\n8 begun\n9 scan 0\n10 refused 5 bad-number\n11 not-settled busy client:1 600\n12 begun\n13 closed\n14 settled 332\n15 report 1\ncommitted 1\n1 1 1 insert 6b 76\norder 1\n1 1 1 insert 6b 76\ncontents 1\n6b 76\nleft 0 0\n".as_slice(),
         ),
         (
             b"open 17 1\nstep 0 plain\ncrash 17\ninsert 2 1 6b 76\nstep 1 plain\ncrash 1\ncrash 1 done\n".as_slice(),

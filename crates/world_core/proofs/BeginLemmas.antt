@@ -1,5 +1,5 @@
 -- Lines that begin an operation, note a change or drop what was noted.
-use Rattle.std.proofs.Common.{◌≡◌, ◌≤◌, ℕ, List, [], ◌∷◌, ◌++◌, length, false, Some, None, Result, Ok, Err, refl, sym, ap, subst, ◌∙◌, ◌⊎◌, inl, inr, ◌≢◌}
+use Rattle.std.proofs.Common.{◌≡◌, ◌≤◌, ℕ, List, [], ◌∷◌, ◌++◌, length, false, Some, None, Result, Ok, Err, unwrap_or, refl, sym, ap, subst, ◌∙◌, ◌⊎◌, inl, inr, ◌≢◌}
 use Rattle.std.proofs.lemmas.Bool.{cases_eq}
 use Rattle.db_base.specs.Ids.{IsClient, IsTree, IsPage}
 use Rattle.db_base.specs.Change.{IsChange}
@@ -19,33 +19,43 @@ use Rattle.cloud_trait.specs.Machine.{Goes, Ends}
 use Rattle.cloud_trait.specs.State.{CloudState}
 use Rattle.cloud_trait.specs.Seen.{Seen}
 use Rattle.recover_run.specs.declared.home.Home.{Home}
+use Rattle.client_session.specs.declared.answer.Answer.{Answer}
 use Rattle.client_session.specs.declared.answer.Answer.TheVariants as answer
 use Rattle.client_session.specs.declared.answer.Begun.{Begun}
 use Rattle.client_session.specs.declared.answer.Begun.TheVariants.{Working, Answered}
 use Rattle.client_session.specs.declared.op.Op.{Op}
 use Rattle.client_session.specs.declared.op.Op.TheVariants as op
+use Rattle.client_session.specs.declared.listing.Listing.{Listing}
+use Rattle.client_session.specs.declared.shown.Shown.{Shown}
+use Rattle.client_session.specs.declared.shown.Shown.TheVariants.{Nothing}
 use Rattle.client_session.specs.declared.work.Work.{Work}
 use Rattle.client_session.specs.declared.work.Work.TheVariants as work
-use Rattle.client_session.specs.Session.{Acting, Begins, BeginsOpening, BeginsWith, HasInHand, CommitsNothing, CommitsNoted, CommitsIn, CommitsOf, ReadsIn, ReadsOf, paging_begun_by, folding_begun_by, old_lease, rule_of, stopped_work}
+use Rattle.client_session.specs.Session.{Acting, Begins, BeginsOpening, BeginsWith, HasInHand, CommitsNothing, CommitsNoted, CommitsIn, CommitsOf, Follows, ReadsIn, ReadsOf, ScansIn, ScansOf, begins_by, paging_begun_by, folding_begun_by, old_lease, rule_of, stopped_work}
 use Rattle.session_facts.specs.Sessions.{Sessions, SessionsStand, IsRightOp}
 use Rattle.session_facts.proofs.Begins.{begins_keeps}
 use Rattle.session_facts.proofs.Laws.{buffer_keeps, same_sessions}
 use Rattle.page_cache.specs.Cache.{Cache}
+use Rattle.cloud_trait.specs.declared.turn.Turn.{Turn}
+use Rattle.cloud_trait.specs.declared.turn.Turn.TheVariants.{More, Ended, Stopped}
+use Rattle.range_scan.specs.Scan.{Scan, new_scan, scan_ready, moved_on}
+use Rattle.tree_walk.specs.Moves.{Moves}
 use Rattle.tree_walk.specs.Walk.{new_walk}
 use Rattle.commit_run.specs.Run.{home_of}
 use Rattle.commit_facts.specs.Committing.{MayCommit}
 use Rattle.commit_facts.proofs.Noted.{may_note, may_none}
 use Rattle.store_book.specs.Tally.{at}
 use Rattle.store_book.proofs.Names.{at_same, at_other}
-use Rattle.replay_meaning.specs.Standing.{Line, Standing, Working as WorkingOn, Committing as Noting, Reading as ReadingKey, standing, after_own, notes as notes_own}
+use Rattle.replay_meaning.specs.Standing.{Line, Standing, Working as WorkingOn, Committing as Noting, Reading as ReadingKey, Scanning as ScanningRange, standing, after_own, notes as notes_own}
 use Rattle.replay_model.specs.Facts.{session_at, ActsAs, WorksAs}
 use Rattle.replay_model.proofs.Acting.{IsReplyTo}
 use Rattle.replay_model.proofs.RunSteps.{RunsFor, IsRefusal, run_begins}
 use Rattle.replay_model.proofs.LineLemmas.{line_of, refused_own}
 use Rattle.replay_model.proofs.OpeningSteps.{opening_begins}
 use Rattle.replay_model.proofs.ReadingWalk.{reading_begins}
+use Rattle.replay_model.proofs.ScanningRange.{range_of, moved_range, scanning_begins, scanning_begins_ended}
 use Rattle.world_core.specs.declared.world.World.{World}
 use Rattle.world_core.specs.declared.world.WorldFault.{WorldFault}
+use Rattle.world_core.specs.Asked.{bound_of}
 use Rattle.world_core.specs.Sessions.{Changes, NotesIn, AbortsIn}
 use Rattle.world_core.specs.Replying.{declined, done_reply, trouble_reply, RepliesBegun}
 use Rattle.world_core.specs.Handled.{BeginsOp, NotesChange, DropsChanges}
@@ -67,7 +77,7 @@ begun_stands : (lines : List Line) (event : Event) (k : ℕ) (before after : See
     → SessionsStand ready.stands.holds.book ready.stands.holds.order t (at k c.after (session_at old.sessions))
 begun_stands lines event k before after old new t o result right ready c =
     begins_keeps o ready.stands.holds.book ready.stands.holds.order t (session_at old.sessions) k c.after c.does.begun right ready.stands.holds.stand
-    (subst (λ a. Begins o a c.after c.does.begun) (sym (changed_was k _ old.sessions new.sessions ready.some c)) c.does.begins)
+    (subst (λ a. Begins o a c.after c.does.begun) (sym (changed_was k _ old.sessions new.sessions c)) c.does.begins)
 
 -- how the session stands after it
 abbrev LeavesSession : Event → Reply → ℕ → List Line → Acting → Type 0
@@ -96,7 +106,7 @@ idle_of k lines a home e acts = subst (λ w. WorksAs w (standing lines k)) e act
 
 -- an operation begins that leaves what was noted
 has_in_hand : (event : Event) (k : ℕ) (r : Reply) (lines : List Line) (own : Home → Work) (a b : Acting) (begun : Result Begun Refused) → ActsAs a (standing lines k)
-    → ((home : Home) → WorksAs (work.Idle home) (standing lines k) → ActsAs (record a { work = own home; read = None }) (after_own event reply.Begun (standing lines k)))
+    → ((home : Home) → WorksAs (work.Idle home) (standing lines k) → ActsAs (record a { work = own home; shown = Nothing }) (after_own event reply.Begun (standing lines k)))
     → BeginsWith (λ home. HasInHand a (own home)) a b begun → RepliesBegun begun b (Ok r) → LeavesSession event r k lines b
 has_in_hand event k r lines own a b (Ok begun) acts stands begins e =
     let idle = idle_of k lines a begins.0 begins.1 acts in
@@ -160,7 +170,7 @@ stays_idle t home never = refl
 
 -- a read begins, or it is answered at once
 reads_of : (k tree : ℕ) (key : List ℕ) (r : Reply) (lines : List Line) (home : Home) (old : Cache) (b : Acting) (begun : Begun) → b.buffer ≡ (standing lines k).buffer
-    → WorksAs (work.Idle home) (standing lines k) → ReadsOf home (new_walk tree (Some key) false) old b.cache b.work b.read begun → RepliesBegun (Ok begun) b (Ok r)
+    → WorksAs (work.Idle home) (standing lines k) → ReadsOf home (new_walk tree (Some key) false) old b.cache b.work b.shown begun → RepliesBegun (Ok begun) b (Ok r)
     → LeavesSession (event.Read k tree key) r k lines b
 reads_of k tree key r lines home old b Working same idle reads e =
     let is : r ≡ reply.Begun = cc in
@@ -195,6 +205,69 @@ reads k tree key r lines a b (Ok begun) acts begins e =
 reads k tree key r lines a b (Err (refused.Rule rule)) acts begins e = refused_session (event.Read k tree key) r rule k lines a b e begins.1 acts
 reads k tree key r lines a b (Err refused.Memory) acts begins e = absurd begins
 
+-- the bytes of a bound
+bound_bytes : (bytes : List ℕ) → unwrap_or (bound_of bytes) [] ≡ bytes
+bound_bytes [] = refl
+bound_bytes (b ∷ bs) = refl
+
+-- a scan begins, or it is answered at once
+module _ (k tree : ℕ) (first last : List ℕ) (r : Reply) (lines : List Line) (home : Home) (b : Acting) (begun : Begun)
+    (same : b.buffer ≡ (standing lines k).buffer) (idle : WorksAs (work.Idle home) (standing lines k)) (replies : RepliesBegun (Ok begun) b (Ok r)) where
+  abbrev scan_line : Event
+  scan_line = event.Scan k tree first last
+
+  abbrev Left : Reply → Type 0
+  Left z = LeavesSession scan_line z k lines b
+
+  -- between these bounds
+  abbrev IsBetween : Listing → Type 0
+  IsBetween l = range_of l.scan ≡ WorkingOn (ScanningRange tree (unwrap_or (bound_of first) []) (unwrap_or (bound_of last) []))
+
+  scan_works : (l : Listing) → b.work ≡ work.Scanning home l → IsBetween l → begun ≡ Working → Left r
+  scan_works l e between is =
+      let answered : RepliesBegun (Ok Working) b (Ok r) = subst (λ x. RepliesBegun (Ok x) b (Ok r)) is replies in
+      let begins : r ≡ reply.Begun = cc in
+      let range : range_of l.scan ≡ WorkingOn (ScanningRange tree first last) =
+      between ∙ ap (λ i. WorkingOn (ScanningRange tree i (unwrap_or (bound_of last) []))) (bound_bytes first) ∙ ap (λ i. WorkingOn (ScanningRange tree first i)) (bound_bytes last) in
+      subst Left (sym begins) (acts_by b (work.Scanning home l) (after_own scan_line reply.Begun (standing lines k)) e same (sym range, idle.1), tt)
+
+  scan_shows : b.work ≡ work.Idle home → begun ≡ Answered answer.Scan → Left r
+  scan_shows e is =
+      let answered : RepliesBegun (Ok (Answered answer.Scan)) b (Ok r) = subst (λ x. RepliesBegun (Ok x) b (Ok r)) is replies in
+      let shows = (replies_to answer.Scan b r answered).0 in
+      subst Left (sym shows.1) (acts_by b (work.Idle home) (standing lines k) e same idle, tt)
+
+  scan_stops : (t : Trouble) → b.work ≡ stopped_work t home → begun ≡ Answered (answer.Trouble t) → Left r
+  scan_stops t e is =
+      let answered : RepliesBegun (Ok (Answered (answer.Trouble t))) b (Ok r) = subst (λ x. RepliesBegun (Ok x) b (Ok r)) is replies in
+      let stops = (replies_to (answer.Trouble t) b r answered).0 in
+      subst Left (sym stops.0) (acts_by b (work.Idle home) (standing lines k) (e ∙ stays_idle t home stops.1) same idle, tt)
+
+  scan_forgets : (t : Trouble) → t ≡ trouble.Memory → begun ≡ Answered (answer.Trouble t) → Left r
+  scan_forgets t memory is =
+      let answered : RepliesBegun (Ok (Answered (answer.Trouble t))) b (Ok r) = subst (λ x. RepliesBegun (Ok x) b (Ok r)) is replies in
+      absurd ((replies_to (answer.Trouble t) b r answered).0.1 memory)
+
+  scans_by : (buffer : List Noted) (old : Cache) (n : Scan) (moved : Turn ℕ) (turn : Turn Answer) → Moves (scan_ready (new_scan tree (bound_of first) (bound_of last), old)) (n, b.cache) moved
+      → Follows home buffer (record { scan = n; pairs = [] }) b.cache moved b.work b.shown turn → begins_by turn begun → Left r
+  scans_by buffer old n More turn moves f is =
+      scan_works (record { scan = n; pairs = [] }) f.0 (scanning_begins tree (bound_of first) (bound_of last) old b.cache n moves) (subst (λ z. begins_by z begun) f.2 is)
+  scans_by buffer old n (Ended page) More moves (all, listed, goes, e, shown) is =
+      scan_works (record { scan = moved_on n; pairs = all }) e (moved_range n ∙ scanning_begins_ended tree (bound_of first) (bound_of last) old b.cache n page moves) is
+  scans_by buffer old n (Ended page) (Ended answer.Scan) moves (all, listed, over, e, shown) is = scan_shows e is
+  scans_by buffer old n (Ended page) (Ended (answer.Trouble t)) moves f is = scan_forgets t f.0 is
+  scans_by buffer old n (Ended page) (Ended a) moves f is = absurd f
+  scans_by buffer old n (Ended page) (Stopped t) moves f is = absurd f
+  scans_by buffer old n (Stopped t) turn moves f is = scan_stops t f.0 (subst (λ z. begins_by z begun) f.2 is)
+
+scans : (k tree : ℕ) (first last : List ℕ) (r : Reply) (lines : List Line) (a b : Acting) (begun : Result Begun Refused) → ActsAs a (standing lines k)
+    → BeginsWith (ScansIn tree (bound_of first) (bound_of last) a) a b begun → RepliesBegun begun b (Ok r) → LeavesSession (event.Scan k tree first last) r k lines b
+scans k tree first last r lines a b (Ok begun) acts begins e =
+    let s : ScansOf begins.0 a.buffer (new_scan tree (bound_of first) (bound_of last)) a.cache b.cache b.work b.shown begun = begins.2.1 in
+    scans_by k tree first last r lines begins.0 b begun (begins.2.0 ∙ acts.buffer) (idle_of k lines a begins.0 begins.1 acts) e a.buffer a.cache s.scan s.moved s.turn s.moves s.follows s.begins
+scans k tree first last r lines a b (Err (refused.Rule rule)) acts begins e = refused_session (event.Scan k tree first last) r rule k lines a b e begins.1 acts
+scans k tree first last r lines a b (Err refused.Memory) acts begins e = absurd begins
+
 pub opening_begun : (lines : List Line) (k client : ℕ) (r : Reply) (before after : Seen) (old new : World) (t : CloudState) → IsClient client
     → Ready lines (event.Open k client) k before after old new t → Changes k (BeginsOp (op.Open client) (Ok r)) old.sessions new.sessions
     → StandsFor (lines ++ line_of (event.Open k client) r ∷ []) new after r
@@ -205,7 +278,7 @@ opening_begun lines k client r before after old new t is ready c =
 -- .. and leaves what stands
 module _ (lines : List Line) (event : Event) (k : ℕ) (r : Reply) (before after : Seen) (old new : World) (t : CloudState) (ready : Ready lines event k before after old new t) where
   in_hand_begun : (o : Op) (own : Home → Work) → IsRightOp o → (c : Changes k (BeginsOp o (Ok r)) old.sessions new.sessions)
-      → ((home : Home) → WorksAs (work.Idle home) (standing lines k) → ActsAs (record c.before { work = own home; read = None }) (after_own event reply.Begun (standing lines k)))
+      → ((home : Home) → WorksAs (work.Idle home) (standing lines k) → ActsAs (record c.before { work = own home; shown = Nothing }) (after_own event reply.Begun (standing lines k)))
       → BeginsWith (λ home. HasInHand c.before (own home)) c.before c.after c.does.begun → StandsFor (lines ++ line_of event r ∷ []) new after r
   in_hand_begun o own right c stands begins =
       let left = has_in_hand event k r lines own c.before c.after c.does.begun (acts_before lines event k before after old new t _ ready c) stands begins c.does.replies in
@@ -258,6 +331,14 @@ read_begun lines k tree key r before after old new t is ready c =
     quiet_line lines (event.Read k tree key) r k before after old new t _ ready c
     (begun_stands lines (event.Read k tree key) k before after old new t (op.Read tree key) (Ok r) is ready c) left.0 left.1
 
+pub scan_begun : (lines : List Line) (k tree : ℕ) (first last : List ℕ) (r : Reply) (before after : Seen) (old new : World) (t : CloudState) → IsTree tree
+    → Ready lines (event.Scan k tree first last) k before after old new t → Changes k (BeginsOp (op.Scan tree (bound_of first) (bound_of last)) (Ok r)) old.sessions new.sessions
+    → StandsFor (lines ++ line_of (event.Scan k tree first last) r ∷ []) new after r
+scan_begun lines k tree first last r before after old new t is ready c =
+    let left = scans k tree first last r lines c.before c.after c.does.begun (acts_before lines (event.Scan k tree first last) k before after old new t _ ready c) c.does.begins c.does.replies in
+    quiet_line lines (event.Scan k tree first last) r k before after old new t _ ready c
+    (begun_stands lines (event.Scan k tree first last) k before after old new t (op.Scan tree (bound_of first) (bound_of last)) (Ok r) is ready c) left.0 left.1
+
 -- ---- changes are noted and dropped
 
 -- a session that stays
@@ -272,7 +353,7 @@ same_stands lines event k before after old new t Does ready c same =
       where
         on : (n ≡ k) ⊎ (n ≢ k) → at k c.after (session_at old.sessions) n ≡ session_at old.sessions n
         on (inl e) =
-            at_same k c.after (session_at old.sessions) n e ∙ same ∙ sym (changed_was k Does old.sessions new.sessions ready.some c) ∙ ap (session_at old.sessions) (sym e)
+            at_same k c.after (session_at old.sessions) n e ∙ same ∙ sym (changed_was k Does old.sessions new.sessions c) ∙ ap (session_at old.sessions) (sym e)
         on (inr ne) = at_other k c.after (session_at old.sessions) n ne
 
 -- what a session works on does not look at the buffer of an open client
@@ -291,7 +372,7 @@ buffer_line lines event r k before after old new t Does buffer ready c is opened
     f = session_at old.sessions
 
     was : f k ≡ c.before
-    was = changed_was k Does old.sessions new.sessions ready.some c
+    was = changed_was k Does old.sessions new.sessions c
 
     stand : SessionsStand ready.stands.holds.book ready.stands.holds.order t (at k c.after f)
     stand =
@@ -321,7 +402,7 @@ notes lines event k tree change r before after old new t is_tree is_change own r
         let had = acts_before lines event k before after old new t _ ready c in
         let few : length (noted_in c.before.buffer tree change) ≤ 200 = subst (λ (a : Acting). length a.buffer ≤ 200) h.0 h.2 in
         let may : MayCommit c.before.buffer =
-        subst (λ (a : Acting). MayCommit a.buffer) (changed_was k _ old.sessions new.sessions ready.some c) (ready.stands.holds.stand.each k).buffer in
+        subst (λ (a : Acting). MayCommit a.buffer) (changed_was k _ old.sessions new.sessions c) (ready.stands.holds.stand.each k).buffer in
         subst P (sym is) (buffer_line lines event reply.Noted k before after old new t _ (noted_in c.before.buffer tree change) ready c h.0 h.1
         (may_note c.before.buffer tree change is_tree is_change few may)
         (own reply.Noted s ∙ ap (λ b. record s { buffer = noted_in b tree change }) (sym had.buffer)) tt)

@@ -9,5 +9,5 @@ pub replicate_more : (n : ℕ) (xs : List Acting) (x : Acting) → xs ≡ replic
 replicate_more n xs x e f =
     ap (λ l. l ++ x ∷ []) e ∙ ap (λ z. replicate n closed_session ++ z ∷ []) f ∙ replicate-append-replicate n 1 closed_session
 
-pub sixteen : (xs : List Acting) → xs ≡ replicate 16 closed_session → length xs ≡ 16
-sixteen xs e = ap length e ∙ length-replicate 16 closed_session
+pub seventeen : (xs : List Acting) → xs ≡ replicate 17 closed_session → length xs ≡ 17
+seventeen xs e = ap length e ∙ length-replicate 17 closed_session

@@ -19,12 +19,12 @@ use Rattle.world_core.specs.declared.world.WorldFault.{WorldFault}
 use Rattle.world_core.specs.declared.asked.Request.{Request}
 use Rattle.world_core.specs.declared.asked.Request.TheVariants.{Begin, Note, Abort, Step, Run, Crash}
 use Rattle.world_core.specs.declared.asked.Asked.{Asked}
-use Rattle.world_core.specs.declared.asked.Asked.TheVariants.{Session, Wait, Report, Unbuilt}
-use Rattle.world_core.specs.Asked.{IsOpening, IsReading, IsPaging, IsFolding, IsInsert, IsUpdate, IsDelete, IsNoted, IsStep, OfSession, Asks}
+use Rattle.world_core.specs.declared.asked.Asked.TheVariants.{Session, Wait, Report, Settle}
+use Rattle.world_core.specs.Asked.{bound_of, IsOpening, IsReading, IsScanning, IsPaging, IsFolding, IsInsert, IsUpdate, IsDelete, IsNoted, IsStep, OfSession, Asks}
 use Rattle.world_core.specs.Handled.{MakesNoCall, Does, Answers, Handled}
 use Rattle.world_core.specs.Stands.{WorldStands, StandsFor, StandsOn}
-use Rattle.world_core.proofs.StandsLemmas.{Ready, declines, runs, makes_step, crashes, waits, reports}
-use Rattle.world_core.proofs.BeginLemmas.{opening_begun, read_begun, paging_begun, close_begun, renewal_begun, folding_begun, commit_begun, notes, aborts}
+use Rattle.world_core.proofs.StandsLemmas.{Ready, declines, runs, makes_step, crashes, settles, waits, reports}
+use Rattle.world_core.proofs.BeginLemmas.{opening_begun, read_begun, scan_begun, paging_begun, close_begun, renewal_begun, folding_begun, commit_begun, notes, aborts}
 
 -- the line of a session, and what is known before it is looked at
 pub record Served (lines : List Line) (n k : ℕ) (t : CloudState) (before : Seen) (old : World) : Type 0 where
@@ -52,7 +52,7 @@ request_stands n k event Is (Session number request) before after old new r line
     declines lines event r _ before after old new t none.declines told stands
 request_stands n k event Is (Wait ticks) before after old new r lines t belongs answers at told stands served = absurd belongs
 request_stands n k event Is (Report tree) before after old new r lines t belongs answers at told stands served = absurd belongs
-request_stands n k event Is Unbuilt before after old new r lines t belongs answers at told stands served = absurd belongs
+request_stands n k event Is Settle before after old new r lines t belongs answers at told stands served = absurd belongs
 
 -- ---- a change is noted
 
@@ -87,11 +87,6 @@ does_own n k request own before after old new r is done = subst (λ z. Does n k 
 asked_is : (request own : Request) → (let a : Result Request Refused = Ok request in let b : Result Request Refused = Ok own in a ≡ b) → request ≡ own
 asked_is request own e = cc
 
-unbuilt : (n : ℕ) (event : Event) (asked : Asked) (before after : Seen) (old new : World) (r : Reply) (lines : List Line) (t : CloudState)
-    → asked ≡ Unbuilt → Answers n asked before after old new (Ok r) → before.state ≡ Some t → WorldStands lines old t → StandsFor (lines ++ line_of event r ∷ []) new after r
-unbuilt n event asked before after old new r lines t is answers told stands =
-    declines lines event r _ before after old new t (subst (λ z. Answers n z before after old new (Ok r)) is answers) told stands
-
 asked_stands : (n : ℕ) (event : Event) (asked : Asked) (before after : Seen) (old new : World) (r : Reply) (lines : List Line) (t : CloudState)
     → Asks event asked → Answers n asked before after old new (Ok r) → length lines + 1 ≡ n → before.state ≡ Some t → WorldStands lines old t
     → StandsFor (lines ++ line_of event r ∷ []) new after r
@@ -117,6 +112,11 @@ asked_stands n (event.Read k tree key) asked before after old new r lines t asks
     (λ request s is done.
     let h = does_own n k request (Begin (op.Read tree key)) before after old new r is.2 done in
     read_begun lines k tree key r before after old new t is.0 (ready_of lines (event.Read k tree key) n k before after old new t refl s h.0) h.1)
+asked_stands n (event.Scan k tree first last) asked before after old new r lines t asks answers at told stands =
+    request_stands n k (event.Scan k tree first last) (IsScanning tree first last) asked before after old new r lines t asks answers at told stands
+    (λ request s is done.
+    let h = does_own n k request (Begin (op.Scan tree (bound_of first) (bound_of last))) before after old new r is.3 done in
+    scan_begun lines k tree first last r before after old new t is.0 (ready_of lines (event.Scan k tree first last) n k before after old new t refl s h.0) h.1)
 asked_stands n (event.Page k tree page) asked before after old new r lines t asks answers at told stands =
     request_stands n k (event.Page k tree page) (IsPaging tree page) asked before after old new r lines t asks answers at told stands
     (λ request s is done.
@@ -161,7 +161,8 @@ asked_stands n (event.Wait ticks) asked before after old new r lines t asks answ
     waits lines ticks r before after old new t told stands (subst (λ z. Answers n z before after old new (Ok r)) asks answers)
 asked_stands n (event.Report tree) asked before after old new r lines t asks answers at told stands =
     reports lines tree r before after old new t told stands (subst (λ z. Answers n z before after old new (Ok r)) asks answers)
-asked_stands n event asked before after old new r lines t asks answers at told stands = unbuilt n event asked before after old new r lines t asks answers told stands
+asked_stands n event.Settle asked before after old new r lines t asks answers at told stands =
+    settles lines n r before after old new t at told stands (subst (λ z. Answers n z before after old new (Ok r)) asks answers)
 
 pub stands_after : (n : ℕ) (event : Event) (before after : Seen) (old new : World) (result : Result Reply WorldFault)
     → Handled n event before after old new result → StandsOn n event before after old new result

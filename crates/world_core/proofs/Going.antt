@@ -1,15 +1,20 @@
 -- One more step of a world.
-use Rattle.std.proofs.Common.{◌≡◌, ◌<◌, ◌-◌, ℕ, List, length, Option, Some, None, Result, Ok, sym, ap, subst, ◌∙◌, ◌⊎◌, inl, inr, Bool, true}
+use Rattle.std.proofs.Common.{◌≡◌, ◌<◌, ℕ, List, length, Option, Some, None, Result, Ok, sym, ap, subst, ◌∙◌, ◌⊎◌, inl, inr, Bool, true}
 use Rattle.std.specs.Prelude.{slice_get, slice_set, unwrap_or}
 use Rattle.std.proofs.lemmas.List.{get_or-set_same, length-set}
 use Rattle.std.proofs.lemmas.Option.{slice_get_within, slice_get-get_or}
 use Rattle.cloud_trait.specs.Caller.{Caller}
 use Rattle.cloud_trait.specs.Seen.{Seen}
-use Rattle.cloud_trait.specs.declared.turn.Turn.TheVariants.{More}
+use Rattle.cloud_trait.specs.declared.turn.Turn.TheVariants.{More, Ended, Stopped}
+use Rattle.page_cache.specs.Cache.{Cache}
+use Rattle.recover_run.specs.declared.home.Home.{Home}
+use Rattle.txn_buffer.specs.Noted.{Noted}
 use Rattle.db_base.specs.declared.wish.Wish.{Wish}
 use Rattle.client_session.specs.declared.work.Work.{Work}
-use Rattle.client_session.specs.declared.work.Work.TheVariants.{Closed, Idle, Opening, Committing, Reading, Paging, Folding, Closing, Renewing, Broken}
-use Rattle.client_session.specs.Session.{Acting, closed_session, StepsAt, ask_of_work, calls_left}
+use Rattle.client_session.specs.declared.work.Work.TheVariants.{Closed, Idle, Opening, Committing, Reading, Scanning, Paging, Folding, Closing, Renewing, Settling, Broken}
+use Rattle.client_session.specs.declared.listing.Listing.{Listing}
+use Rattle.client_session.specs.declared.shown.Shown.{Shown}
+use Rattle.client_session.specs.Session.{Acting, closed_session, Follows, StepsAt, ask_of_work, calls_left}
 use Rattle.client_session.proofs.Ending.{session_less}
 use Rattle.cloud_trait.specs.Ask.{Ask}
 use Rattle.world_core.specs.declared.put.Put.{Put}
@@ -29,12 +34,12 @@ use Rattle.world_core.specs.Handled.{StepsLooked, Went, further}
 pub same_session : (sessions : List Acting) (place : ℕ) (a b : Acting) → slice_get sessions place ≡ Some a → slice_get sessions place ≡ Some b → a ≡ b
 same_session sessions place a b e f = let g : Some a ≡ Some b = sym e ∙ f in cc
 
-pub put_before : (number : ℕ) (sessions : List Acting) (put : Option Put) (a : Acting) → HasPut number sessions put → slice_get sessions (number - 1) ≡ Some a → put_of a.work ≡ put
-put_before number sessions put a has there = ap (λ (z : Acting). put_of z.work) (same_session sessions (number - 1) a has.session there has.there) ∙ has.put_is
+pub put_before : (number : ℕ) (sessions : List Acting) (put : Option Put) (a : Acting) → HasPut number sessions put → slice_get sessions number ≡ Some a → put_of a.work ≡ put
+put_before number sessions put a has there = ap (λ (z : Acting). put_of z.work) (same_session sessions number a has.session there has.there) ∙ has.put_is
 
 -- what is in hand of the session of a number
 abbrev pub in_hand : List Acting → ℕ → Work
-in_hand sessions number = (unwrap_or (slice_get sessions (number - 1)) closed_session).work
+in_hand sessions number = (unwrap_or (slice_get sessions number) closed_session).work
 
 set_there : (sessions : List Acting) (place : ℕ) (before after : Acting) → slice_get sessions place ≡ Some before → slice_get (slice_set sessions place after) place ≡ Some after
 set_there sessions place before after there =
@@ -42,18 +47,27 @@ set_there sessions place before after there =
     let more : place < length (slice_set sessions place after) = subst (λ n. place < n) (sym (length-set sessions place after)) within in
     slice_get-get_or (slice_set sessions place after) place after more ∙ ap Some (get_or-set_same sessions place after after within)
 
-pub after_there : (number : ℕ) (Does : Acting → Acting → Type 0) (old new : List Acting) → (c : Changes number Does old new) → slice_get new (number - 1) ≡ Some c.after
-after_there number Does old new c = ap (λ l. slice_get l (number - 1)) c.rest ∙ set_there old (number - 1) c.before c.after c.there
+pub after_there : (number : ℕ) (Does : Acting → Acting → Type 0) (old new : List Acting) → (c : Changes number Does old new) → slice_get new number ≡ Some c.after
+after_there number Does old new c = ap (λ l. slice_get l number) c.rest ∙ set_there old number c.before c.after c.there
+
+-- a scan that goes on has a call in hand
+follows_asks : (home : Home) (buffer : List Noted) (m : Listing) (c : Cache) (moved : Turn ℕ) (new : Work) (shown : Shown) → Follows home buffer m c moved new shown More
+    → (ask : Ask) × (ask_of_work new ≡ Some ask)
+follows_asks home buffer m c More new shown f = (_, ap ask_of_work f.0)
+follows_asks home buffer m c (Ended page) new shown f = (_, ap ask_of_work f.3)
+follows_asks home buffer m c (Stopped t) new shown f = absurd (cc (f.2))
 
 -- a step that goes on leaves a call in hand
 more_asks : (who : Caller) (before after : Seen) (w new : Work) → StepsAt who before after w new More → (ask : Ask) × (ask_of_work new ≡ Some ask)
 more_asks who before after (Opening m) new p = (_, ap ask_of_work p.1.2)
 more_asks who before after (Committing m) new p = (_, ap ask_of_work p.3.2)
 more_asks who before after (Reading home m) new p = (_, ap ask_of_work p.2)
+more_asks who before after (Scanning home m) new (buffer, c, d, shown, p) = follows_asks home buffer (record { scan = p.scan; pairs = m.pairs }) d p.moved new shown p.follows
 more_asks who before after (Paging home m) new p = (_, ap ask_of_work p.2)
 more_asks who before after (Folding home f) new p = (_, ap ask_of_work p.2)
 more_asks who before after (Closing lease) new p = absurd p
 more_asks who before after (Renewing home) new p = absurd p
+more_asks who before after (Settling m) new p = (_, ap ask_of_work p.2)
 more_asks who before after Closed new p = absurd p
 more_asks who before after (Idle home) new p = absurd p
 more_asks who before after (Broken lease) new p = absurd p
@@ -92,11 +106,11 @@ less_further who before after old new turn is step = goes_less who Plain before 
 -- ---- what a step that is a put leaves of the audit
 
 -- what was noted is what the session that then stepped had in hand
-pub noted_of : (other number : ℕ) (sessions : List Acting) (a b : Acting) (name : ObjName) (old new : Audited) → other ≡ number → slice_get sessions (other - 1) ≡ Some a
-    → slice_get sessions (number - 1) ≡ Some b → new ≡ noted_put name a.work old → new ≡ noted_put name b.work old
+pub noted_of : (other number : ℕ) (sessions : List Acting) (a b : Acting) (name : ObjName) (old new : Audited) → other ≡ number → slice_get sessions other ≡ Some a
+    → slice_get sessions number ≡ Some b → new ≡ noted_put name a.work old → new ≡ noted_put name b.work old
 noted_of other number sessions a b name old new same e f noted =
-    let there : slice_get sessions (number - 1) ≡ Some a = subst (λ n. slice_get sessions (n - 1) ≡ Some a) same e in
-    noted ∙ ap (λ (z : Acting). noted_put name z.work old) (same_session sessions (number - 1) a b there f)
+    let there : slice_get sessions number ≡ Some a = subst (λ n. slice_get sessions n ≡ Some a) same e in
+    noted ∙ ap (λ (z : Acting). noted_put name z.work old) (same_session sessions number a b there f)
 
 -- a world that is blind was so, or a look of this step failed
 pub blinds : (blind : Bool) (before after : Option Bool) (first last : Result (Option Bool) WorldFault) (P Q : Type 0) → first ≡ Ok before → last ≡ Ok after

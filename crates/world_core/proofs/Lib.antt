@@ -1,5 +1,6 @@
 pub mod Closed
 pub mod Going
+pub mod Settling
 pub mod ReplyLemmas
 pub mod Stopping
 pub mod Landing

@@ -23,7 +23,7 @@ use Rattle.cloud_trait.specs.declared.turn.Turn.TheVariants.{More, Ended, Stoppe
 use Rattle.cloud_trait.proofs.EffectLemmas.{begins_same}
 use Rattle.client_session.specs.declared.answer.Answer.{Answer}
 use Rattle.client_session.specs.declared.answer.Answer.TheVariants as answer
-use Rattle.client_session.specs.Session.{Acting, closed_session, StepsSession, noted_behind, value_of}
+use Rattle.client_session.specs.Session.{Acting, closed_session, settling_session, StepsSession, items_of, noted_behind, value_of}
 use Rattle.history.specs.Audited.{Audited}
 use Rattle.history.specs.Fold.{of_tree}
 use Rattle.world_audit.specs.Counts.{heads_upto, AreWaiting}
@@ -31,10 +31,11 @@ use Rattle.store_book.specs.Tally.{at}
 use Rattle.store_book.proofs.Names.{at_same, at_other}
 use Rattle.session_facts.specs.Noting.{audited}
 use Rattle.session_facts.specs.Sessions.{Sessions, SessionsStand}
+use Rattle.session_facts.proofs.Begins.{settling_begins_session}
 use Rattle.session_facts.proofs.Laws.{crash_keeps}
 use Rattle.replay_meaning.specs.Standing.{Line, Standing, standing, after_line, after_own, session_of, steps}
 use Rattle.replay_meaning.specs.Right.{ReportIsRight}
-use Rattle.replay_model.specs.Facts.{session_at, ActsAs, AllAct, CloudHolds, IsFrontOf, Stands, GoesOn}
+use Rattle.replay_model.specs.Facts.{session_at, ActsAs, AllAct, CloudHolds, IsFrontOf, SettlerRests, Stands, GoesOn}
 use Rattle.replay_model.proofs.Acting.{IsReplyTo, goes_as, goes_noted, ends_as}
 use Rattle.replay_model.proofs.LineLemmas.{line_of, AllActWith, begins_line, begins_with, line_through, holds_same, own_line, still_line, refused_own, acts_set}
 use Rattle.replay_model.proofs.Lists.{session_there, session_set}
@@ -43,9 +44,9 @@ use Rattle.replay_model.proofs.ReportLemmas.{IsShown, report_right}
 use Rattle.world_core.specs.declared.world.World.{World}
 use Rattle.world_core.specs.declared.world.WorldFault.{WorldFault}
 use Rattle.world_core.specs.declared.world.WorldFault.TheVariants.{Memory}
-use Rattle.world_core.specs.Replying.{declined, trouble_reply, value_reply, RepliesTo, RepliesTurn}
+use Rattle.world_core.specs.Replying.{declined, trouble_reply, unsettled_reply, value_reply, RepliesTo, RepliesSettled, RepliesTurn}
 use Rattle.world_core.specs.Sessions.{Changes}
-use Rattle.world_core.specs.Handled.{Declines, MakesNoCall, StepsLooked, RefusesStep, MakesStep, Went, start, further, RunsTo, Runs, Dies, DiesDone, Crashes, WaitsFor, WaitsTooLong, Shows, Reports}
+use Rattle.world_core.specs.Handled.{Declines, Has, MakesNoCall, StepsLooked, RefusesStep, MakesStep, Went, start, further, RunsTo, Runs, SettlesTo, SettlesOn, Settles, Dies, DiesDone, Crashes, WaitsFor, WaitsTooLong, Shows, Reports}
 use Rattle.world_core.specs.Stands.{WorldStands, StandsFor, IsLeft, LeftIsRight}
 
 -- ---- replies that are no report
@@ -68,14 +69,14 @@ no_report_front order r h = tt
 
 -- ---- a line that is through
 
--- where all holds within a line and each session stands as the line says, it is one of the lines
+-- where all holds within a line, each session stands as the line says, and the settler rests, it is one of the lines
 pub through : (lines : List Line) (event : Event) (r : Reply) (after : Seen) (new : World) (t : CloudState) → after.state ≡ Some t
-    → CloudHolds (length lines + 1) lines (session_at new.sessions) new.audit new.blind t → AllActWith lines (line_of event r) (session_at new.sessions) → IsNoReport r
-    → StandsFor (lines ++ line_of event r ∷ []) new after r
-through lines event r after new t told holds acts plain = record {
+    → CloudHolds (length lines + 1) lines (session_at new.sessions) new.audit new.blind t → AllActWith lines (line_of event r) (session_at new.sessions)
+    → SettlerRests (session_at new.sessions) → IsNoReport r → StandsFor (lines ++ line_of event r ∷ []) new after r
+through lines event r after new t told holds acts rests plain = record {
   after = t;
   told = told;
-  stands = line_through lines (line_of event r) (session_at new.sessions) new.audit new.blind t holds acts (no_report_front holds.order r plain);
+  stands = line_through lines (line_of event r) (session_at new.sessions) new.audit new.blind t holds acts rests (no_report_front holds.order r plain);
   right = no_report_right (lines ++ line_of event r ∷ []) t r plain;
   left = no_report_left t r plain;
 }
@@ -92,6 +93,11 @@ world_acts lines old new t same stands =
     let P : World → Type 0 = λ w. AllAct lines (session_at w.sessions) in
     subst P (sym same) stands.acts
 
+world_rests : (lines : List Line) (old new : World) (t : CloudState) → new ≡ old → WorldStands lines old t → SettlerRests (session_at new.sessions)
+world_rests lines old new t same stands =
+    let P : World → Type 0 = λ w. SettlerRests (session_at w.sessions) in
+    subst P (sym same) stands.rests
+
 -- a line that is refused leaves all
 pub refuses : (lines : List Line) (event : Event) (r : Reply) (rule : Refusal) (before after : Seen) (old new : World) (t : CloudState)
     → r ≡ reply.Refused rule → after ≡ before → new ≡ old → before.state ≡ Some t → WorldStands lines old t → StandsFor (lines ++ line_of event r ∷ []) new after r
@@ -99,7 +105,7 @@ refuses lines event r rule before after old new t is same world told stands =
     let P : Reply → Type 0 = λ z. StandsFor (lines ++ line_of event z ∷ []) new after z in
     subst P (sym is) (through lines event (reply.Refused rule) after new t (ap (λ (z : Seen). z.state) same ∙ told)
     (world_holds lines old new t world stands)
-    (still_line lines event (reply.Refused rule) (session_at new.sessions) (refused_own event rule) (world_acts lines old new t world stands)) tt)
+    (still_line lines event (reply.Refused rule) (session_at new.sessions) (refused_own event rule) (world_acts lines old new t world stands)) (world_rests lines old new t world stands) tt)
 
 refused_is : (r : Reply) (rule : Refusal) → (let result : Result Reply WorldFault = Ok r in result ≡ declined (refused.Rule rule)) → r ≡ reply.Refused rule
 refused_is r rule e = cc
@@ -113,12 +119,17 @@ declines lines event r refused.Memory before after old new t is told stands = ab
 -- ---- one session changes
 
 -- the sessions of a list of which one changes
-pub changed_at : (number : ℕ) (Does : Acting → Acting → Type 0) (old new : List Acting) → 1 ≤ number → (c : Changes number Does old new) → (n : ℕ)
+pub changed_at : (number : ℕ) (Does : Acting → Acting → Type 0) (old new : List Acting) → (c : Changes number Does old new) → (n : ℕ)
     → session_at new n ≡ at number c.after (session_at old) n
-changed_at number Does old new some c n = ap (λ l. session_at l n) c.rest ∙ session_set old number c.before c.after some c.there n
+changed_at number Does old new c n = ap (λ l. session_at l n) c.rest ∙ session_set old number c.before c.after c.there n
 
-pub changed_was : (number : ℕ) (Does : Acting → Acting → Type 0) (old new : List Acting) → 1 ≤ number → (c : Changes number Does old new) → session_at old number ≡ c.before
-changed_was number Does old new some c = session_there old number c.before some c.there
+pub changed_was : (number : ℕ) (Does : Acting → Acting → Type 0) (old new : List Acting) → (c : Changes number Does old new) → session_at old number ≡ c.before
+changed_was number Does old new c = session_there old number c.before c.there
+
+-- the settler rests beside another session
+changed_rests : (number : ℕ) (Does : Acting → Acting → Type 0) (old new : List Acting) → 1 ≤ number → Changes number Does old new → SettlerRests (session_at old)
+    → SettlerRests (session_at new)
+changed_rests number Does old new some c rests = changed_at number Does old new c 0 ∙ at_other number c.after (session_at old) 0 (λ e. absurd (omega (arith, some, e))) ∙ rests
 
 -- what is known of a line that makes no call, before its session is looked at
 pub record Ready (lines : List Line) (event : Event) (number : ℕ) (before after : Seen) (old new : World) (t : CloudState) : Type 0 where
@@ -132,7 +143,7 @@ pub record Ready (lines : List Line) (event : Event) (number : ℕ) (before afte
 pub acts_before : (lines : List Line) (event : Event) (number : ℕ) (before after : Seen) (old new : World) (t : CloudState) (Does : Acting → Acting → Type 0)
     → Ready lines event number before after old new t → (c : Changes number Does old.sessions new.sessions) → ActsAs c.before (standing lines number)
 acts_before lines event number before after old new t Does ready c =
-    subst (λ a. ActsAs a (standing lines number)) (changed_was number Does old.sessions new.sessions ready.some c) (ready.stands.acts number)
+    subst (λ a. ActsAs a (standing lines number)) (changed_was number Does old.sessions new.sessions c) (ready.stands.acts number)
 
 -- the session that a line leaves without a call stands as the line and its reply say
 pub quiet_line : (lines : List Line) (event : Event) (r : Reply) (number : ℕ) (before after : Seen) (old new : World) (t : CloudState) (Does : Acting → Acting → Type 0)
@@ -141,10 +152,11 @@ pub quiet_line : (lines : List Line) (event : Event) (r : Reply) (number : ℕ) 
     → ActsAs c.after (after_own event r (standing lines number)) → IsNoReport r → StandsFor (lines ++ line_of event r ∷ []) new after r
 quiet_line lines event r number before after old new t Does ready c stand acts plain =
     through lines event r after new t (ap (λ (z : Seen). z.state) ready.quiet.seen ∙ ready.told) holds
-    (λ n. subst (λ a. ActsAs a (after_line n (standing lines n) (line_of event r))) (sym (same n)) (own_line lines number event r (session_at old.sessions) c.after ready.own ready.stands.acts acts n)) plain
+    (λ n. subst (λ a. ActsAs a (after_line n (standing lines n) (line_of event r))) (sym (same n)) (own_line lines number event r (session_at old.sessions) c.after ready.own ready.stands.acts acts n))
+    (changed_rests number Does old.sessions new.sessions ready.some c ready.stands.rests) plain
   where
     same : (n : ℕ) → session_at new.sessions n ≡ at number c.after (session_at old.sessions) n
-    same = changed_at number Does old.sessions new.sessions ready.some c
+    same = changed_at number Does old.sessions new.sessions c
 
     own : CloudHolds (length lines + 1) lines (at number c.after (session_at old.sessions)) old.audit old.blind t
     own = begins_with lines (session_at old.sessions) (at number c.after (session_at old.sessions)) old.audit old.blind t ready.stands.holds stand
@@ -186,7 +198,7 @@ pub record IsStepped (lines : List Line) (new : World) (after : Seen) : Type 0 w
   pub holds : CloudHolds (length lines + 1) lines (session_at new.sessions) new.audit new.blind state
 
 module _ (lines : List Line) (who : Caller) (wish : Wish) (before after : Seen) (old new : World) (turn : Turn Answer)
-    (event : who.event ≡ length lines + 1) (some : 1 ≤ who.session) (way : IsUnderWay lines old before) (p : StepsLooked who wish before after old new turn) where
+    (event : who.event ≡ length lines + 1) (way : IsUnderWay lines old before) (p : StepsLooked who wish before after old new turn) where
   abbrev f : Sessions
   f = session_at old.sessions
 
@@ -197,7 +209,7 @@ module _ (lines : List Line) (who : Caller) (wish : Wish) (before after : Seen) 
   wished = record way.after { wish = wish }
 
   was : f who.session ≡ p.session.before
-  was = changed_was who.session _ old.sessions new.sessions some p.session
+  was = changed_was who.session _ old.sessions new.sessions p.session
 
   pub steps_own : StepsSession who p.under p.to (f who.session) p.session.after (Ok turn)
   steps_own = subst (λ a. StepsSession who p.under p.to a p.session.after (Ok turn)) (sym was) p.session.does
@@ -219,23 +231,23 @@ module _ (lines : List Line) (who : Caller) (wish : Wish) (before after : Seen) 
     state = call.state;
     told = p.look_after.stays call.state call.told;
     holds = holds_same (length lines + 1) lines (at who.session p.session.after f) (session_at new.sessions) new.audit new.blind call.state
-        (changed_at who.session _ old.sessions new.sessions some p.session) call.holds;
+        (changed_at who.session _ old.sessions new.sessions p.session) call.holds;
   }
 
   -- the session is the changed one, the others are as they were
   pub sessions_after : (n : ℕ) → session_at new.sessions n ≡ at who.session p.session.after f n
-  sessions_after = changed_at who.session _ old.sessions new.sessions some p.session
+  sessions_after = changed_at who.session _ old.sessions new.sessions p.session
 
-step_more : (lines : List Line) (who : Caller) (wish : Wish) (before after : Seen) (old new : World) → who.event ≡ length lines + 1 → 1 ≤ who.session
+step_more : (lines : List Line) (who : Caller) (wish : Wish) (before after : Seen) (old new : World) → who.event ≡ length lines + 1
     → IsUnderWay lines old before → StepsLooked who wish before after old new More → IsUnderWay lines new after
-step_more lines who wish before after old new event some way p =
+step_more lines who wish before after old new event way p =
     let f : Sessions = session_at old.sessions in
-    let s = stepped lines who wish before after old new More event some way p in
-    let own = steps_own lines who wish before after old new More event some way p in
+    let s = stepped lines who wish before after old new More event way p in
+    let own = steps_own lines who wish before after old new More event way p in
     let acts = way.goes.acts who.session in
     let mine : ActsAs p.session.after (standing lines who.session) = record {
       buffer = own.buffer ∙ goes_noted who p.under p.to (f who.session).work p.session.after.work (f who.session).buffer own.work ∙ acts.buffer;
-      work = goes_as who p.under p.to (f who.session).work p.session.after.work (f who.session).cache own.shown.0 p.session.after.read (standing lines who.session) own.work own.shown.1 acts.work;
+      work = goes_as who p.under p.to p.session.after.buffer (f who.session).work p.session.after.work (f who.session).cache own.shown.0 p.session.after.shown (standing lines who.session) own.work own.shown.1 acts.work;
     } in
     let all : AllAct lines (at who.session p.session.after f) = acts_set lines who.session f p.session.after way.goes.acts mine in
     record {
@@ -243,15 +255,22 @@ step_more lines who wish before after old new event some way p =
       told = s.told;
       goes = record {
         holds = s.holds;
-        acts = λ n. subst (λ a. ActsAs a (standing lines n)) (sym (sessions_after lines who wish before after old new More event some way p n)) (all n);
+        acts = λ n. subst (λ a. ActsAs a (standing lines n)) (sym (sessions_after lines who wish before after old new More event way p n)) (all n);
       };
     }
 
-went_on : (lines : List Line) (who : Caller) (before : Seen) (old : World) (after : Seen) (new : World) → who.event ≡ length lines + 1 → 1 ≤ who.session
+went_on : (lines : List Line) (who : Caller) (before : Seen) (old : World) (after : Seen) (new : World) → who.event ≡ length lines + 1
     → IsUnderWay lines old before → Went who before old after new → IsUnderWay lines new after
-went_on lines who before old after new number some way start = way
-went_on lines who before old after new number some way (further mid _ world _ went step) =
-    step_more lines who Plain mid after world new number some (went_on lines who before old mid world number some way went) step
+went_on lines who before old after new number way start = way
+went_on lines who before old after new number way (further mid _ world _ went step) =
+    step_more lines who Plain mid after world new number (went_on lines who before old mid world number way went) step
+
+-- the settler rests while another session makes steps
+went_rests : (who : Caller) (before : Seen) (old : World) (after : Seen) (new : World) → 1 ≤ who.session → Went who before old after new → SettlerRests (session_at old.sessions)
+    → SettlerRests (session_at new.sessions)
+went_rests who before old after new some start rests = rests
+went_rests who before old after new some (further mid _ world _ went step) rests =
+    changed_rests who.session _ world.sessions new.sessions some step.session (went_rests who before old mid world some went rests)
 
 -- the reply that shows what was read is no report
 value_shown : (value : Option (List ℕ)) (r : Reply) → r ≡ value_reply value → IsReplyTo answer.Value r × IsNoReport r
@@ -266,6 +285,8 @@ replies_to (answer.Renewed end) left r e = let is : r ≡ reply.Renewed end = cc
 replies_to (answer.Done n) left r e = let is : r ≡ reply.Done n = cc in (is, subst IsNoReport (sym is) tt)
 replies_to (answer.Commit a) left r e = let is : r ≡ reply.Commit a = cc in (is, subst IsNoReport (sym is) tt)
 replies_to answer.Value left r e = value_shown (value_of left) r e
+replies_to answer.Scan left r e = ((items_of left, e), subst IsNoReport (sym e) tt)
+replies_to (answer.Settled n) left r e = let is : r ≡ reply.Settled n.calls = cc in (is, subst IsNoReport (sym is) tt)
 replies_to (answer.Trouble t) left r e = on t e
   where
     on : (t : Trouble) → (let result : Result Reply WorldFault = Ok r in result ≡ trouble_reply t) → ((r ≡ reply.Trouble t) × (t ≡ trouble.Memory → ⊥)) × IsNoReport r
@@ -285,12 +306,12 @@ replies_to (answer.Trouble t) left r e = on t e
 -- a line whose last step is answered
 step_ends : (lines : List Line) (event : Event) (who : Caller) (wish : Wish) (before after : Seen) (old new : World) (a : Answer) (r : Reply)
     → session_of event ≡ who.session → ((s : Standing) → after_own event r s ≡ steps r s) → who.event ≡ length lines + 1 → 1 ≤ who.session
-    → IsUnderWay lines old before → (p : StepsLooked who wish before after old new (Ended a)) → RepliesTo a p.session.after (Ok r)
+    → IsUnderWay lines old before → SettlerRests (session_at old.sessions) → (p : StepsLooked who wish before after old new (Ended a)) → RepliesTo a p.session.after (Ok r)
     → StandsFor (lines ++ line_of event r ∷ []) new after r
-step_ends lines event who wish before after old new a r own_is does number some way p replies =
+step_ends lines event who wish before after old new a r own_is does number some way rests p replies =
     let f : Sessions = session_at old.sessions in
-    let s = stepped lines who wish before after old new (Ended a) number some way p in
-    let own = steps_own lines who wish before after old new (Ended a) number some way p in
+    let s = stepped lines who wish before after old new (Ended a) number way p in
+    let own = steps_own lines who wish before after old new (Ended a) number way p in
     let acts = way.goes.acts who.session in
     let is = replies_to a p.session.after r replies in
     let ended = ends_as who p.under p.to (f who.session).work p.session.after.work (standing lines who.session) a r own.work is.0 acts.work in
@@ -301,7 +322,8 @@ step_ends lines event who wish before after old new a r own_is does number some 
     let all : AllActWith lines (line_of event r) (at who.session p.session.after f) =
     own_line lines who.session event r f p.session.after own_is way.goes.acts (subst (ActsAs p.session.after) (sym (does (standing lines who.session))) mine) in
     through lines event r after new s.state s.told s.holds
-    (λ n. subst (λ z. ActsAs z (after_line n (standing lines n) (line_of event r))) (sym (sessions_after lines who wish before after old new (Ended a) number some way p n)) (all n)) is.1
+    (λ n. subst (λ z. ActsAs z (after_line n (standing lines n) (line_of event r))) (sym (sessions_after lines who wish before after old new (Ended a) number way p n)) (all n))
+    (changed_rests who.session _ old.sessions new.sessions some p.session rests) is.1
 
 -- ---- the lines that make steps
 
@@ -319,8 +341,10 @@ runs_to : (lines : List Line) (k n : ℕ) (r : Reply) (before after : Seen) (old
     → before.state ≡ Some t → WorldStands lines old t → RunsTo n k before after old new (Ok r) → StandsFor (lines ++ line_of (event.Run k) r ∷ []) new after r
 runs_to lines k n r before after old new t at some told stands run =
     let who : Caller = record { session = k; event = n } in
-    step_ends lines (event.Run k) who Plain run.mid after run.world new run.answer r refl (λ s. refl) (sym at) some
-    (went_on lines who before old run.mid run.world (sym at) some (way_begins lines before old t told stands) run.went) run.steps run.replies
+    let c = run.comes in
+    step_ends lines (event.Run k) who Plain c.mid after c.world new run.answer r refl (λ s. refl) (sym at) some
+    (went_on lines who before old c.mid c.world (sym at) (way_begins lines before old t told stands) c.went)
+    (went_rests who before old c.mid c.world some c.went stands.rests) c.steps run.replies
 
 pub runs : (lines : List Line) (k n : ℕ) (r : Reply) (before after : Seen) (old new : World) (t : CloudState) → length lines + 1 ≡ n → 1 ≤ k
     → before.state ≡ Some t → WorldStands lines old t → Runs n k before after old new (Ok r) → StandsFor (lines ++ line_of (event.Run k) r ∷ []) new after r
@@ -331,10 +355,11 @@ runs lines k n r before after old new t at some told stands (inr (inr memory)) =
 -- a step that goes on
 called_line : (lines : List Line) (event : Event) (who : Caller) (wish : Wish) (before after : Seen) (old new : World)
     → ((s : Standing) → after_own event reply.Called s ≡ s) → who.event ≡ length lines + 1 → 1 ≤ who.session
-    → IsUnderWay lines old before → StepsLooked who wish before after old new More → StandsFor (lines ++ line_of event reply.Called ∷ []) new after reply.Called
-called_line lines event who wish before after old new still number some way p =
-    let on = step_more lines who wish before after old new number some way p in
-    through lines event reply.Called after new on.after on.told on.goes.holds (still_line lines event reply.Called (session_at new.sessions) still on.goes.acts) tt
+    → IsUnderWay lines old before → SettlerRests (session_at old.sessions) → StepsLooked who wish before after old new More → StandsFor (lines ++ line_of event reply.Called ∷ []) new after reply.Called
+called_line lines event who wish before after old new still number some way rests p =
+    let on = step_more lines who wish before after old new number way p in
+    through lines event reply.Called after new on.after on.told on.goes.holds (still_line lines event reply.Called (session_at new.sessions) still on.goes.acts)
+    (changed_rests who.session _ old.sessions new.sessions some p.session rests) tt
 
 step_to : (lines : List Line) (k n : ℕ) (wish : Wish) (r : Reply) (before after : Seen) (old new : World) (t : CloudState) (turn : Turn Answer) → length lines + 1 ≡ n → 1 ≤ k
     → before.state ≡ Some t → WorldStands lines old t → (p : StepsLooked (record { session = k; event = n }) wish before after old new turn)
@@ -343,10 +368,10 @@ step_to lines k n wish r before after old new t More at some told stands p repli
     let is : r ≡ reply.Called = cc in
     let P : Reply → Type 0 = λ z. StandsFor (lines ++ line_of (event.Step k wish) z ∷ []) new after z in
     subst P (sym is) (called_line lines (event.Step k wish) (record { session = k; event = n }) wish before after old new (λ s. refl) (sym at) some
-    (way_begins lines before old t told stands) p)
+    (way_begins lines before old t told stands) stands.rests p)
 step_to lines k n wish r before after old new t (Ended a) at some told stands p replies =
     step_ends lines (event.Step k wish) (record { session = k; event = n }) wish before after old new a r refl (λ s. refl) (sym at) some
-    (way_begins lines before old t told stands) p replies
+    (way_begins lines before old t told stands) stands.rests p replies
 step_to lines k n wish r before after old new t (Stopped trouble) at some told stands p replies =
     absurd (no_stop _ p.under p.to p.session.before p.session.after trouble p.session.does)
 
@@ -381,12 +406,37 @@ closed_twice k a f g h first second n = second n ∙ on (cases_eq n k)
     on (inl e) = at_same k closed_session g n e ∙ sym (at_same k closed_session f n e)
     on (inr ne) = at_other k closed_session g n ne ∙ first n ∙ at_other k a f n ne ∙ sym (at_other k closed_session f n ne)
 
+-- the sessions of a world in which one is this one then
+has_at : (k : ℕ) (a : Acting) (world new : World) → Has k a world new → (n : ℕ) → session_at new.sessions n ≡ at k a (session_at world.sessions) n
+has_at k a world new is n = changed_at k _ world.sessions new.sessions is.session_is n ∙ ap (λ z. at k z (session_at world.sessions) n) is.session_is.does
+
+-- what holds of a world in which a session is closed then
+closed_holds : (lines : List Line) (k : ℕ) (world new : World) (t : CloudState) → CloudHolds (length lines + 1) lines (session_at world.sessions) world.audit world.blind t
+    → Has k closed_session world new → CloudHolds (length lines + 1) lines (session_at new.sessions) new.audit new.blind t
+closed_holds lines k world new t h is = subst (λ a. At a new.blind) (sym is.audit) (subst (At world.audit) (sym is.blind) (holds_same (length lines + 1) lines (at k closed_session g) (session_at new.sessions) world.audit world.blind t (has_at k closed_session world new is) own))
+  where
+    g : Sessions
+    g = session_at world.sessions
+
+    At : Audited → Bool → Type 0
+    At a b = CloudHolds (length lines + 1) lines (session_at new.sessions) a b t
+
+    own : CloudHolds (length lines + 1) lines (at k closed_session g) world.audit world.blind t
+    own = record {
+      book = h.book;
+      order = h.order;
+      stand = crash_keeps h.book h.order t g k h.stand;
+      cloud = h.cloud;
+      seen = h.seen;
+      reported = h.reported;
+    }
+
 dies_done : (lines : List Line) (k n : ℕ) (r : Reply) (before after : Seen) (old new : World) (t : CloudState) → length lines + 1 ≡ n → 1 ≤ k
     → before.state ≡ Some t → WorldStands lines old t → DiesDone n k before after old new (Ok r) → StandsFor (lines ++ line_of (event.Crash k true) r ∷ []) new after r
 dies_done lines k n r before after old new t at_n some told stands h =
     let is : r ≡ reply.Crashed = cc (h.replies) in
     let P : Reply → Type 0 = λ z. StandsFor (lines ++ line_of (event.Crash k true) z ∷ []) new after z in
-    subst P (sym is) (through lines (event.Crash k true) reply.Crashed after new s.state s.told holds acts tt)
+    subst P (sym is) (through lines (event.Crash k true) reply.Crashed after new s.state s.told (closed_holds lines k h.world new s.state s.holds h.closes) acts rests tt)
   where
     who : Caller
     who = record { session = k; event = n }
@@ -397,38 +447,19 @@ dies_done lines k n r before after old new t at_n some told stands h =
     f : Sessions
     f = session_at old.sessions
 
-    g : Sessions
-    g = session_at h.world.sessions
-
     s : IsStepped lines h.world after
-    s = stepped lines who Plain before after old h.world h.turn (sym at_n) some way h.steps
-
-    closed : (m : ℕ) → session_at new.sessions m ≡ at k closed_session g m
-    closed m = changed_at k _ h.world.sessions new.sessions some h.closed m ∙ ap (λ a. at k a g m) h.closed.does
-
-    own : CloudHolds (length lines + 1) lines (at k closed_session g) h.world.audit h.world.blind s.state
-    own = record {
-      book = s.holds.book;
-      order = s.holds.order;
-      stand = crash_keeps s.holds.book s.holds.order s.state g k s.holds.stand;
-      cloud = s.holds.cloud;
-      seen = s.holds.seen;
-      reported = s.holds.reported;
-    }
-
-    At : Audited → Bool → Type 0
-    At a b = CloudHolds (length lines + 1) lines (session_at new.sessions) a b s.state
-
-    holds : CloudHolds (length lines + 1) lines (session_at new.sessions) new.audit new.blind s.state
-    holds =
-        subst (λ a. At a new.blind) (sym h.audit) (subst (At h.world.audit) (sym h.blind)
-        (holds_same (length lines + 1) lines (at k closed_session g) (session_at new.sessions) h.world.audit h.world.blind s.state closed own))
+    s = stepped lines who Plain before after old h.world h.turn (sym at_n) way h.steps
 
     acts : AllActWith lines (line_of (event.Crash k true) reply.Crashed) (session_at new.sessions)
     acts m =
         subst (λ z. ActsAs z (after_line m (standing lines m) (line_of (event.Crash k true) reply.Crashed)))
-        (sym (closed_twice k h.steps.session.after f g (session_at new.sessions) (sessions_after lines who Plain before after old h.world h.turn (sym at_n) some way h.steps) closed m))
+        (sym (closed_twice k h.steps.session.after f (session_at h.world.sessions) (session_at new.sessions) (sessions_after lines who Plain before after old h.world h.turn (sym at_n) way h.steps) (has_at k closed_session h.world new h.closes) m))
         (own_line lines k (event.Crash k true) reply.Crashed f closed_session refl way.goes.acts (crashed_own k true (standing lines k)) m)
+
+    rests : SettlerRests (session_at new.sessions)
+    rests =
+        changed_rests k _ h.world.sessions new.sessions some h.closes.session_is
+        (changed_rests k _ old.sessions h.world.sessions some h.steps.session stands.rests)
 
 pub crashes : (lines : List Line) (k n : ℕ) (done : Bool) (r : Reply) (before after : Seen) (old new : World) (t : CloudState) → length lines + 1 ≡ n → 1 ≤ k
     → before.state ≡ Some t → WorldStands lines old t → Crashes n k done before after old new (Ok r) → StandsFor (lines ++ line_of (event.Crash k done) r ∷ []) new after r
@@ -436,6 +467,82 @@ crashes lines k n false r before after old new t at some told stands h = dies li
 crashes lines k n true r before after old new t at some told stands (inl idle) = dies lines k true r before after old new t some told stands idle.dies
 crashes lines k n true r before after old new t at some told stands (inr (inl done)) = dies_done lines k n r before after old new t at some told stands done
 crashes lines k n true r before after old new t at some told stands (inr (inr memory)) = absurd (no_memory r memory)
+
+-- ---- a settling
+
+-- the reply to a settling is no report
+settled_plain : (a : Answer) (r : Reply) → RepliesSettled a (Ok r) → IsNoReport r
+settled_plain (answer.Settled n) r e = let is : r ≡ reply.Settled n.calls = cc in subst IsNoReport (sym is) tt
+settled_plain (answer.Trouble t) r e = on t e
+  where
+    on : (t : Trouble) → (let result : Result Reply WorldFault = Ok r in result ≡ unsettled_reply t) → IsNoReport r
+    on trouble.Memory e = absurd (cc)
+    on t e = let is : r ≡ reply.NotSettled t = cc in subst IsNoReport (sym is) tt
+settled_plain a r e = absurd e
+
+module _ (lines : List Line) (n : ℕ) (before : Seen) (old begun : World) (t : CloudState)
+    (number : n ≡ length lines + 1) (told : before.state ≡ Some t) (stands : WorldStands lines old t) (begins : Has 0 settling_session old begun) where
+  abbrev before_it : Sessions
+  before_it = session_at old.sessions
+
+  -- a settler at rest, and one that begins, stand as no line says of it
+  rests_as : ActsAs closed_session (standing lines 0)
+  rests_as = subst (λ a. ActsAs a (standing lines 0)) stands.rests (stands.acts 0)
+
+  settles_as : ActsAs settling_session (standing lines 0)
+  settles_as = record { buffer = rests_as.buffer; work = rests_as.work }
+
+  begun_holds : CloudHolds (length lines + 1) lines (session_at begun.sessions) begun.audit begun.blind t
+  begun_holds = subst (λ a. At a begun.blind) (sym begins.audit) (subst (At old.audit) (sym begins.blind) (holds_same (length lines + 1) lines (at 0 settling_session before_it) (session_at begun.sessions) old.audit old.blind t (has_at 0 settling_session old begun begins) own))
+    where
+      At : Audited → Bool → Type 0
+      At a b = CloudHolds (length lines + 1) lines (session_at begun.sessions) a b t
+
+      own : CloudHolds (length lines + 1) lines (at 0 settling_session before_it) old.audit old.blind t
+      own =
+          begins_with lines before_it (at 0 settling_session before_it) old.audit old.blind t stands.holds
+          (settling_begins_session stands.holds.book stands.holds.order t before_it 0 stands.rests stands.holds.stand)
+
+  settler_begins : IsUnderWay lines begun before
+  settler_begins = record {
+    after = t;
+    told = told;
+    goes = record {
+      holds = begun_holds;
+      acts = λ m. subst (λ a. ActsAs a (standing lines m)) (sym (has_at 0 settling_session old begun begins m)) (acts_set lines 0 before_it settling_session stands.acts settles_as m);
+    };
+  }
+
+  settler_ends : (after : Seen) (new : World) (r : Reply) → SettlesTo (record { session = 0; event = n }) before after begun new (Ok r)
+      → StandsFor (lines ++ line_of event.Settle r ∷ []) new after r
+  settler_ends after new r h =
+      through lines event.Settle r after new s.state s.told (closed_holds lines 0 h.left new s.state s.holds h.closes) (still_line lines event.Settle r (session_at new.sessions) (λ z. refl) acts)
+      (has_at 0 closed_session h.left new h.closes 0 ∙ at_same 0 closed_session (session_at h.left.sessions) 0 refl) (settled_plain h.answer r h.replies)
+    where
+      who : Caller
+      who = record { session = 0; event = n }
+
+      way : IsUnderWay lines h.comes.world h.comes.mid
+      way = went_on lines who before begun h.comes.mid h.comes.world number settler_begins h.comes.went
+
+      s : IsStepped lines h.left after
+      s = stepped lines who Plain h.comes.mid after h.comes.world h.left (Ended h.answer) number way h.comes.steps
+
+      acts : AllAct lines (session_at new.sessions)
+      acts m =
+          subst (λ a. ActsAs a (standing lines m))
+          (sym (closed_twice 0 h.comes.steps.session.after (session_at h.comes.world.sessions) (session_at h.left.sessions) (session_at new.sessions) (sessions_after lines who Plain h.comes.mid after h.comes.world h.left (Ended h.answer) number way h.comes.steps) (has_at 0 closed_session h.left new h.closes) m))
+          (acts_set lines 0 (session_at h.comes.world.sessions) closed_session way.goes.acts rests_as m)
+
+  settler_on : (after : Seen) (new : World) (r : Reply) → SettlesOn (record { session = 0; event = n }) before after begun new (Ok r)
+      → StandsFor (lines ++ line_of event.Settle r ∷ []) new after r
+  settler_on after new r (inl h) = settler_ends after new r h
+  settler_on after new r (inr memory) = absurd (no_memory r memory)
+
+pub settles : (lines : List Line) (n : ℕ) (r : Reply) (before after : Seen) (old new : World) (t : CloudState) → length lines + 1 ≡ n → before.state ≡ Some t → WorldStands lines old t
+    → Settles n before after old new (Ok r) → StandsFor (lines ++ line_of event.Settle r ∷ []) new after r
+settles lines n r before after old new t at told stands (inl h) = settler_on lines n before old h.begun t (sym at) told stands h.begins after new r h.settles
+settles lines n r before after old new t at told stands (inr memory) = absurd (no_memory r memory)
 
 -- ---- waits
 
@@ -452,7 +559,8 @@ waits lines ticks r before after old new t told stands (inl h) =
     let later : t.now ≤ w.after.now = end_later t.now ticks w.after.now (h.0.clock t told) w.later in
     subst P (sym is) (through lines (event.Wait ticks) reply.Waited after new w.after w.told
     (subst S (sym w.rest) (wait_holds (length lines + 1) lines (session_at new.sessions) new.audit new.blind t w.after.now _ later (world_holds lines old new t h.1 stands)))
-    (still_line lines (event.Wait ticks) reply.Waited (session_at new.sessions) (λ s. refl) (world_acts lines old new t h.1 stands)) tt)
+    (still_line lines (event.Wait ticks) reply.Waited (session_at new.sessions) (λ s. refl) (world_acts lines old new t h.1 stands))
+    (world_rests lines old new t h.1 stands) tt)
 waits lines ticks r before after old new t told stands (inr long) = declines lines (event.Wait ticks) r _ before after old new t long.declines told stands
 
 -- ---- reports
@@ -501,7 +609,7 @@ report_shown lines tree r before after world t told still stands is sees shows =
     stood : WorldStands (lines ++ line ∷ []) world t
     stood =
         line_through lines line (session_at world.sessions) world.audit world.blind t h
-        (still_line lines (event.Report tree) (reply.Report r) (session_at world.sessions) (λ s. refl) stands.acts) front
+        (still_line lines (event.Report tree) (reply.Report r) (session_at world.sessions) (λ s. refl) stands.acts) stands.rests front
 
 pub reports : (lines : List Line) (tree : ℕ) (r : Reply) (before after : Seen) (old new : World) (t : CloudState) → before.state ≡ Some t → WorldStands lines old t
     → Reports tree before after old new (Ok r) → StandsFor (lines ++ line_of (event.Report tree) r ∷ []) new after r
@@ -510,8 +618,8 @@ reports lines tree (reply.Report r) before after old new t told stands h =
     subst P (sym h.world) (report_shown lines tree r before after old t told (h.looked.stays t told) stands h.reply.0 h.reply.1 h.reply.2)
 reports lines tree (reply.Trouble trouble) before after old new t told stands h =
     through lines (event.Report tree) (reply.Trouble trouble) after new t (h.looked.stays t told) (world_holds lines old new t h.world stands)
-    (still_line lines (event.Report tree) (reply.Trouble trouble) (session_at new.sessions) (λ s. refl) (world_acts lines old new t h.world stands)) tt
+    (still_line lines (event.Report tree) (reply.Trouble trouble) (session_at new.sessions) (λ s. refl) (world_acts lines old new t h.world stands)) (world_rests lines old new t h.world stands) tt
 reports lines tree (reply.Refused rule) before after old new t told stands h =
     through lines (event.Report tree) (reply.Refused rule) after new t (h.looked.stays t told) (world_holds lines old new t h.world stands)
-    (still_line lines (event.Report tree) (reply.Refused rule) (session_at new.sessions) (λ s. refl) (world_acts lines old new t h.world stands)) tt
+    (still_line lines (event.Report tree) (reply.Refused rule) (session_at new.sessions) (λ s. refl) (world_acts lines old new t h.world stands)) (world_rests lines old new t h.world stands) tt
 reports lines tree r before after old new t told stands h = absurd h.reply

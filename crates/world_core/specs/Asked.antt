@@ -1,5 +1,5 @@
 -- What a line asks, and of which session.
-use Rattle.std.specs.Prelude.{ℕ, ◌≡◌, ◌<◌, List, length, ◌⊎◌, Result, Ok, Err}
+use Rattle.std.specs.Prelude.{ℕ, ◌≡◌, ◌≤◌, ◌<◌, List, [], ◌∷◌, length, ◌⊎◌, Option, Some, None, Result, Ok, Err}
 use Rattle.db_base.specs.Ids.{IsClient, IsTree, IsPage}
 use Rattle.db_base.specs.Key.{IsKey, IsPayload}
 use Rattle.db_base.specs.declared.change.Change.{Change}
@@ -14,7 +14,7 @@ use Rattle.client_session.specs.declared.op.Op.TheVariants as op
 use Rattle.world_core.specs.declared.asked.Request.{Request}
 use Rattle.world_core.specs.declared.asked.Request.TheVariants.{Begin, Note, Abort, Step, Run, Crash}
 use Rattle.world_core.specs.declared.asked.Asked.{Asked}
-use Rattle.world_core.specs.declared.asked.Asked.TheVariants.{Session, Wait, Report, Unbuilt}
+use Rattle.world_core.specs.declared.asked.Asked.TheVariants.{Session, Wait, Report, Settle}
 use Rattle.db_base.specs.declared.wish.Wish.{Wish}
 
 -- the opening of a client, or its number is no client's
@@ -37,6 +37,26 @@ IsNoKey key refused.Memory = Unit {0}
 abbrev pub IsReading : ℕ → List ℕ → Result Request Refused → Type 0
 IsReading tree key (Ok request) = IsTree tree × IsKey key × (request ≡ Begin (op.Read tree key))
 IsReading tree key (Err why) = ((why ≡ refused.Rule rule.BadNumber) × (IsTree tree → ⊥)) ⊎ (IsTree tree × IsNoKey key why)
+
+-- the key that bounds a scan; no byte is no bound
+abbrev pub bound_of : List ℕ → Option (List ℕ)
+bound_of [] = None
+bound_of (byte ∷ bytes) = Some (byte ∷ bytes)
+
+-- the bound of a scan, or its key is too long; or there is no memory for a copy of it
+abbrev pub IsBound : List ℕ → Result (Option (List ℕ)) Refused → Type 0
+IsBound bytes (Ok bound) = (bound ≡ bound_of bytes) × (length bytes ≤ 64)
+IsBound bytes (Err (refused.Rule r)) = (r ≡ rule.LongKey) × (64 < length bytes)
+IsBound bytes (Err refused.Memory) = Unit {0}
+
+-- why the bounds of a scan are refused: for the lower one first
+abbrev pub AreNoBounds : List ℕ → List ℕ → Refused → Type 0
+AreNoBounds from to why = IsBound from (Err why) ⊎ ((length from ≤ 64) × IsBound to (Err why))
+
+-- the scan of a tree between two bounds, or its number is no tree's, or else a bound is refused
+abbrev pub IsScanning : ℕ → List ℕ → List ℕ → Result Request Refused → Type 0
+IsScanning tree from to (Ok request) = IsTree tree × (length from ≤ 64) × (length to ≤ 64) × (request ≡ Begin (op.Scan tree (bound_of from) (bound_of to)))
+IsScanning tree from to (Err why) = ((why ≡ refused.Rule rule.BadNumber) × (IsTree tree → ⊥)) ⊎ (IsTree tree × AreNoBounds from to why)
 
 -- the checkpoint of a page of a tree, or one of the two numbers is none
 abbrev pub IsPaging : ℕ → ℕ → Result Request Refused → Type 0
@@ -88,7 +108,7 @@ abbrev pub OfSession : ℕ → (Result Request Refused → Type 0) → Asked →
 OfSession number Is (Session n request) = (n ≡ number) × Is request
 OfSession number Is (Wait ticks) = ⊥
 OfSession number Is (Report tree) = ⊥
-OfSession number Is Unbuilt = ⊥
+OfSession number Is Settle = ⊥
 
 -- what a line asks
 abbrev pub Asks : Event → Asked → Type 0
@@ -101,6 +121,7 @@ Asks (event.Renew session) asked = OfSession session (λ request. request ≡ Ok
 Asks (event.Commit session) asked = OfSession session (λ request. request ≡ Ok (Begin op.Commit)) asked
 Asks (event.Abort session) asked = OfSession session (λ request. request ≡ Ok Abort) asked
 Asks (event.Read session tree key) asked = OfSession session (IsReading tree key) asked
+Asks (event.Scan session tree from to) asked = OfSession session (IsScanning tree from to) asked
 Asks (event.Page session tree page) asked = OfSession session (IsPaging tree page) asked
 Asks (event.Tree session tree) asked = OfSession session (IsFolding tree) asked
 Asks (event.Run session) asked = OfSession session (λ request. request ≡ Ok Run) asked
@@ -108,4 +129,4 @@ Asks (event.Step session wish) asked = OfSession session (IsStep wish) asked
 Asks (event.Crash session done) asked = OfSession session (λ request. request ≡ Ok (Crash done)) asked
 Asks (event.Wait ticks) asked = asked ≡ Wait ticks
 Asks (event.Report tree) asked = asked ≡ Report tree
-Asks event asked = asked ≡ Unbuilt
+Asks event.Settle asked = asked ≡ Settle

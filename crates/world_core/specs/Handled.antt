@@ -23,7 +23,7 @@ use Rattle.cloud_trait.specs.declared.turn.Turn.TheVariants.{More, Ended}
 use Rattle.client_session.specs.declared.answer.Answer.{Answer}
 use Rattle.client_session.specs.declared.answer.Begun.{Begun}
 use Rattle.client_session.specs.declared.op.Op.{Op}
-use Rattle.client_session.specs.Session.{Acting, closed_session, Begins, StepsSession}
+use Rattle.client_session.specs.Session.{Acting, closed_session, settling_session, Begins, StepsSession}
 use Rattle.history.specs.Fold.{of_tree}
 use Rattle.history.specs.Audited.{Audited}
 use Rattle.world_audit.specs.Look.{Looked}
@@ -34,12 +34,12 @@ use Rattle.session_facts.specs.Noting.{audited}
 use Rattle.world_core.specs.declared.asked.Request.{Request}
 use Rattle.world_core.specs.declared.asked.Request.TheVariants.{Begin, Note, Abort, Step, Run, Crash}
 use Rattle.world_core.specs.declared.asked.Asked.{Asked}
-use Rattle.world_core.specs.declared.asked.Asked.TheVariants.{Session, Wait, Report, Unbuilt}
+use Rattle.world_core.specs.declared.asked.Asked.TheVariants.{Session, Wait, Report, Settle}
 use Rattle.world_core.specs.declared.world.World.{World}
 use Rattle.world_core.specs.declared.world.WorldFault.{WorldFault}
 use Rattle.world_core.specs.declared.world.WorldFault.TheVariants as fault
 use Rattle.world_core.specs.Asked.{Asks}
-use Rattle.world_core.specs.Replying.{declined, done_reply, RepliesTo, RepliesBegun, RepliesTurn}
+use Rattle.world_core.specs.Replying.{declined, done_reply, RepliesTo, RepliesBegun, RepliesSettled, RepliesTurn}
 use Rattle.world_core.specs.Sessions.{Changes, IsNotWorking, NotesIn, AbortsIn}
 
 -- ---- a line that is not done
@@ -72,6 +72,12 @@ pub record DropsChanges (result : Result Reply WorldFault) (old new : Acting) : 
   pub dropped : Result (Unit {0}) Refused
   pub drops : AbortsIn old new dropped
   pub replies : result ≡ done_reply reply.Aborted dropped
+
+-- one session is this one then, and nothing else of the world changes
+pub record Has (number : ℕ) (session : Acting) (old new : World) : Type 0 where
+  pub session_is : Changes number (λ a b. b ≡ session) old.sessions new.sessions
+  pub audit : new.audit ≡ old.audit
+  pub blind : new.blind ≡ old.blind
 
 -- ---- steps
 
@@ -124,22 +130,46 @@ pub data Went (who : Caller) (before : Seen) (old : World) : Seen → World → 
   start : Went who before old before old
   further : (mid after : Seen) (world new : World) → Went who before old mid world → StepsLooked who Plain mid after world new More → Went who before old after new
 
--- plain steps up to the first answer, which is the reply
-pub record RunsTo (n number : ℕ) (before after : Seen) (old new : World) (result : Result Reply WorldFault) : Type 0 where
+-- plain steps up to the first answer
+pub record ComesTo (who : Caller) (before after : Seen) (old new : World) (answer : Answer) : Type 0 where
   pub mid : Seen
   pub world : World
-  pub went : Went (record { session = number; event = n }) before old mid world
+  pub went : Went who before old mid world
+  pub steps : StepsLooked who Plain mid after world new (Ended answer)
+
+-- the answer is the reply
+pub record RunsTo (n number : ℕ) (before after : Seen) (old new : World) (result : Result Reply WorldFault) : Type 0 where
   pub answer : Answer
-  pub steps : StepsLooked (record { session = number; event = n }) Plain mid after world new (Ended answer)
-  pub replies : RepliesTo answer steps.session.after result
+  pub comes : ComesTo (record { session = number; event = n }) before after old new answer
+  pub replies : RepliesTo answer comes.steps.session.after result
 
--- or memory ran out on the way
-abbrev pub RunsOn : Caller → Seen → Seen → World → World → Result Reply WorldFault → Type 0
-RunsOn who before after old new result = RunsTo who.event who.session before after old new result ⊎ FindsNoMemory result
-
+-- a run is refused, or it comes to its answer; or memory ran out on the way
 abbrev pub Runs : ℕ → ℕ → Seen → Seen → World → World → Result Reply WorldFault → Type 0
 Runs n number before after old new result =
-    RefusesStep number before after old new result ⊎ RunsOn (record { session = number; event = n }) before after old new result
+    RefusesStep number before after old new result ⊎ (RunsTo n number before after old new result ⊎ FindsNoMemory result)
+
+-- ---- a settling
+
+-- a session that settles makes plain steps up to its answer, which is the reply, and is closed then
+pub record SettlesTo (who : Caller) (before after : Seen) (old new : World) (result : Result Reply WorldFault) : Type 0 where
+  pub left : World
+  pub answer : Answer
+  pub comes : ComesTo who before after old left answer
+  pub closes : Has who.session closed_session left new
+  pub replies : RepliesSettled answer result
+
+-- or memory ran out on the way
+abbrev pub SettlesOn : Caller → Seen → Seen → World → World → Result Reply WorldFault → Type 0
+SettlesOn who before after old new result = SettlesTo who before after old new result ⊎ FindsNoMemory result
+
+-- session 0 is the settler, and settles
+pub record SettlerSettles (n : ℕ) (before after : Seen) (old new : World) (result : Result Reply WorldFault) : Type 0 where
+  pub begun : World
+  pub begins : Has 0 settling_session old begun
+  pub settles : SettlesOn (record { session = 0; event = n }) before after begun new result
+
+abbrev pub Settles : ℕ → Seen → Seen → World → World → Result Reply WorldFault → Type 0
+Settles n before after old new result = SettlerSettles n before after old new result ⊎ FindsNoMemory result
 
 -- ---- a session that dies
 
@@ -154,9 +184,7 @@ pub record DiesDone (n number : ℕ) (before after : Seen) (old new : World) (re
   pub world : World
   pub turn : Turn Answer
   pub steps : StepsLooked (record { session = number; event = n }) Plain before after old world turn
-  pub closed : Changes number (λ a b. b ≡ closed_session) world.sessions new.sessions
-  pub audit : new.audit ≡ world.audit
-  pub blind : new.blind ≡ world.blind
+  pub closes : Has number closed_session world new
   pub replies : result ≡ Ok reply.Crashed
 
 -- where it has no call in hand it dies at once
@@ -243,7 +271,7 @@ Answers n (Session number request) before after old new result =
     (IsSession number × Serves n number request before after old new result) ⊎ IsNoSession number before after old new result
 Answers n (Wait ticks) before after old new result = (WaitsFor ticks before after result × (new ≡ old)) ⊎ WaitsTooLong ticks before after old new result
 Answers n (Report tree) before after old new result = Reports tree before after old new result
-Answers n Unbuilt before after old new result = Declines (refused.Rule rule.NotBuilt) before after old new result
+Answers n Settle before after old new result = Settles n before after old new result
 
 -- what a line does
 pub record Handled (n : ℕ) (event : Event) (before after : Seen) (old new : World) (result : Result Reply WorldFault) : Type 0 where

@@ -1,5 +1,6 @@
 -- The reply of a line: what it shows, and why there is none.
-use Rattle.std.specs.Prelude.{ℕ, ◌≡◌, ◌-◌, List, slice_get, Option, Some, None, Result, Ok, Err}
+use Rattle.std.specs.Prelude.{ℕ, ◌≡◌, List, Option, Some, None, Result, Ok, Err}
+use Rattle.db_base.specs.declared.pair.Pair.{Pair}
 use Rattle.db_base.specs.declared.refusal.Refused.{Refused}
 use Rattle.db_base.specs.declared.refusal.Refused.TheVariants as refused
 use Rattle.db_base.specs.declared.trouble.Trouble.{Trouble}
@@ -8,7 +9,7 @@ use Rattle.cloud_trait.specs.declared.turn.Turn.{Turn}
 use Rattle.cloud_trait.specs.declared.turn.Turn.TheVariants.{More, Ended, Stopped}
 use Rattle.reply_text.specs.declared.reply.Reply.{Reply}
 use Rattle.reply_text.specs.declared.reply.Reply.TheVariants as reply
-use Rattle.client_session.specs.Session.{Acting, value_of}
+use Rattle.client_session.specs.Session.{Acting, items_of, value_of}
 use Rattle.client_session.specs.declared.answer.Answer.{Answer}
 use Rattle.client_session.specs.declared.answer.Answer.TheVariants as answer
 use Rattle.client_session.specs.declared.answer.Begun.{Begun}
@@ -26,10 +27,23 @@ abbrev pub done_reply : Reply → Result (Unit {0}) Refused → Result Reply Wor
 done_reply r (Ok done) = Ok r
 done_reply r (Err why) = declined why
 
--- a trouble is a reply; want of memory has none, and is a fault
+-- a trouble that a reply can tell; want of memory is none, and is a fault
+abbrev pub told : Trouble → Result Trouble WorldFault
+told trouble.Memory = Err fault.Memory
+told t = Ok t
+
+-- the reply that tells a trouble so
+abbrev pub told_by : (Trouble → Reply) → Result Trouble WorldFault → Result Reply WorldFault
+told_by tell (Ok t) = Ok (tell t)
+told_by tell (Err why) = Err why
+
+-- the reply to the trouble of an operation
 abbrev pub trouble_reply : Trouble → Result Reply WorldFault
-trouble_reply trouble.Memory = Err fault.Memory
-trouble_reply t = Ok (reply.Trouble t)
+trouble_reply t = told_by (λ k. reply.Trouble k) (told t)
+
+-- and to that of a settling
+abbrev pub unsettled_reply : Trouble → Result Reply WorldFault
+unsettled_reply t = told_by (λ k. reply.NotSettled k) (told t)
 
 -- the reply that shows what was read
 abbrev pub value_reply : Option (List ℕ) → Reply
@@ -41,7 +55,12 @@ abbrev pub ShowsValue : Option (List ℕ) → Result Reply WorldFault → Type 0
 ShowsValue value (Ok r) = r ≡ value_reply value
 ShowsValue value (Err why) = Unit {0}
 
--- the reply to an answer shows it; that of a read shows the value that its session then has
+-- the reply shows these records, where there is memory for a copy of them
+abbrev pub ShowsItems : List Pair → Result Reply WorldFault → Type 0
+ShowsItems pairs (Ok r) = r ≡ reply.Scan pairs
+ShowsItems pairs (Err why) = Unit {0}
+
+-- the reply to an answer shows it; that of a read shows the value that its session then has, and that of a scan the records
 abbrev pub RepliesTo : Answer → Acting → Result Reply WorldFault → Type 0
 RepliesTo (answer.Opened epoch) left result = result ≡ Ok (reply.Opened epoch)
 RepliesTo answer.Closed left result = result ≡ Ok reply.Closed
@@ -49,13 +68,20 @@ RepliesTo (answer.Renewed end) left result = result ≡ Ok (reply.Renewed end)
 RepliesTo (answer.Done n) left result = result ≡ Ok (reply.Done n)
 RepliesTo (answer.Commit a) left result = result ≡ Ok (reply.Commit a)
 RepliesTo answer.Value left result = ShowsValue (value_of left) result
+RepliesTo answer.Scan left result = ShowsItems (items_of left) result
+RepliesTo (answer.Settled s) left result = result ≡ Ok (reply.Settled s.calls)
 RepliesTo (answer.Trouble t) left result = result ≡ trouble_reply t
 
--- the reply to an answer of the session of a number
-pub record IsAnswered (number : ℕ) (sessions : List Acting) (a : Answer) (result : Result Reply WorldFault) : Type 0 where
-  pub session : Acting
-  pub there : slice_get sessions (number - 1) ≡ Some session
-  pub replies : RepliesTo a session result
+-- the reply to the answer of a settling: how many calls it made, or its trouble; no other answer is one
+abbrev pub RepliesSettled : Answer → Result Reply WorldFault → Type 0
+RepliesSettled (answer.Settled s) result = result ≡ Ok (reply.Settled s.calls)
+RepliesSettled (answer.Trouble t) result = result ≡ unsettled_reply t
+RepliesSettled answer result = ⊥
+
+abbrev pub IsOfSettling : Answer → Type 0
+IsOfSettling (answer.Settled s) = Unit {0}
+IsOfSettling (answer.Trouble t) = Unit {0}
+IsOfSettling answer = ⊥
 
 -- the reply to the begin of an operation, which leaves this of its session
 abbrev pub RepliesBegun : Result Begun Refused → Acting → Result Reply WorldFault → Type 0

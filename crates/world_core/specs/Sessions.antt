@@ -1,5 +1,5 @@
 -- Sessions of which one changes.
-use Rattle.std.specs.Prelude.{ℕ, ◌≡◌, ◌-◌, ◌≤◌, [], List, length, slice_get, slice_set, Option, Some, None, Result, Ok, Err}
+use Rattle.std.specs.Prelude.{ℕ, ◌≡◌, ◌≤◌, [], List, length, slice_get, slice_set, Option, Some, None, Result, Ok, Err}
 use Rattle.db_base.specs.declared.change.Change.{Change}
 use Rattle.db_base.specs.declared.refusal.Refused.{Refused}
 use Rattle.txn_buffer.specs.Noted.{noted_in}
@@ -14,9 +14,9 @@ use Rattle.world_core.specs.declared.put.Put.{Put}
 pub record Changes (number : ℕ) (Does : Acting → Acting → Type 0) (old new : List Acting) : Type 0 where
   pub before : Acting
   pub after : Acting
-  pub there : slice_get old (number - 1) ≡ Some before
+  pub there : slice_get old number ≡ Some before
   pub does : Does before after
-  pub rest : new ≡ slice_set old (number - 1) after
+  pub rest : new ≡ slice_set old number after
 
 -- a change is noted in an open session; a refusal changes nothing
 abbrev pub NotesIn : ℕ → Change → Acting → Acting → Result (Unit {0}) Refused → Type 0
@@ -32,24 +32,24 @@ AbortsIn before after (Err why) = (after ≡ before) × AbortRefused before why
 -- a session of a number has nothing at work
 pub record IsNotWorking (number : ℕ) (sessions : List Acting) : Type 0 where
   pub session : Acting
-  pub there : slice_get sessions (number - 1) ≡ Some session
+  pub there : slice_get sessions number ≡ Some session
   pub idle : ask_of_work session.work ≡ None
 
 -- it has a call in hand
 pub record IsAtWork (number : ℕ) (sessions : List Acting) : Type 0 where
   pub session : Acting
-  pub there : slice_get sessions (number - 1) ≡ Some session
+  pub there : slice_get sessions number ≡ Some session
   pub ask : Ask
   pub hand : ask_of_work session.work ≡ Some ask
 
 -- it has this put in hand, or none
 pub record HasPut (number : ℕ) (sessions : List Acting) (put : Option Put) : Type 0 where
   pub session : Acting
-  pub there : slice_get sessions (number - 1) ≡ Some session
+  pub there : slice_get sessions number ≡ Some session
   pub put_is : put_of session.work ≡ put
 
 -- the audit has what a put of the object by the session of a number commits or applies
 pub record NotesPut (number : ℕ) (sessions : List Acting) (name : ObjName) (old new : Audited) : Type 0 where
   pub session : Acting
-  pub there : slice_get sessions (number - 1) ≡ Some session
+  pub there : slice_get sessions number ≡ Some session
   pub noted : new ≡ noted_put name session.work old

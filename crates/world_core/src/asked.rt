@@ -1,7 +1,7 @@
 //! What a line asks, and of which session.
 
 ghost use Rattle.std.specs.Prelude.{◌≡◌};
-ghost use Rattle.world_core.specs.Asked.{Asks, IsDelete, IsInsert, IsUpdate, IsOpening, IsReading, IsPaging, IsFolding, IsNoted, IsStep};
+ghost use Rattle.world_core.specs.Asked.{Asks, IsBound, IsDelete, IsInsert, IsUpdate, IsOpening, IsReading, IsScanning, IsPaging, IsFolding, IsNoted, IsStep};
 
 use client_session::op::Op;
 use db_base::blob::Blob;
@@ -39,8 +39,8 @@ pub enum Asked {
     Wait(u64),
     /// The report of the tree of this number.
     Report(u64),
-    /// What is not served yet.
-    Unbuilt,
+    /// A settling.
+    Settle,
 }
 
 impl Asked {
@@ -72,6 +72,12 @@ impl Asked {
             Event::Read { session, tree, key } => {
                 Asked::Session(*session, reading_of(alloc, *tree, key))
             }
+            Event::Scan {
+                session,
+                tree,
+                from,
+                to,
+            } => Asked::Session(*session, scanning_of(alloc, *tree, from, to)),
             Event::Page {
                 session,
                 tree,
@@ -83,7 +89,7 @@ impl Asked {
             Event::Crash { session, done } => Asked::Session(*session, Ok(Request::Crash(*done))),
             Event::Wait { ticks } => Asked::Wait(*ticks),
             Event::Report { tree } => Asked::Report(*tree),
-            Event::Scan { .. } | Event::Settle => Asked::Unbuilt,
+            Event::Settle => Asked::Settle,
         }
     }
 }
@@ -108,6 +114,37 @@ fn reading_of(alloc: Global, tree: u64, key: &Blob) -> Result<Request, Refused>
     };
     match Key::new(alloc, key.as_slice()) {
         Ok(key) => Ok(Request::Begin(Op::Read(tree, key))),
+        Err(why) => Err(why),
+    }
+}
+
+/// The scan of the records of the tree of this number, from one bound on and below the other.
+fn scanning_of(alloc: Global, tree: u64, from: &Blob, to: &Blob) -> Result<Request, Refused>
+    ensures { IsScanning tree from.now to.now result }
+{
+    let tree = match TreeId::new(tree) {
+        Ok(tree) => tree,
+        Err(rule) => return Err(Refused::Rule(rule)),
+    };
+    let from = match bound_of(alloc, from) {
+        Ok(from) => from,
+        Err(why) => return Err(why),
+    };
+    match bound_of(alloc, to) {
+        Ok(to) => Ok(Request::Begin(Op::Scan(tree, from, to))),
+        Err(why) => Err(why),
+    }
+}
+
+/// The key that bounds a scan; no byte is no bound.
+fn bound_of(alloc: Global, bytes: &Blob) -> Result<Option<Key>, Refused>
+    ensures { IsBound bytes.now result }
+{
+    if bytes.as_slice().is_empty() {
+        return Ok(None);
+    }
+    match Key::new(alloc, bytes.as_slice()) {
+        Ok(key) => Ok(Some(key)),
         Err(why) => Err(why),
     }
 }

@@ -1,6 +1,6 @@
 //! What the audit takes of a put that a session has in hand.
 
-ghost use Rattle.std.specs.Prelude.{◌≡◌, ◌≤◌, Some, OnOk};
+ghost use Rattle.std.specs.Prelude.{◌≡◌, Some, OnOk};
 ghost use Rattle.client_session.specs.Session.{opens_of, committing_of};
 ghost use Rattle.session_facts.specs.Noting.{noted_head};
 ghost use Rattle.world_core.specs.Put.{noted_put, kept_of};
@@ -23,7 +23,6 @@ pub(crate) fn note_put(
     number: SessionNo,
     name: ObjName,
 ) -> Result<(), Refused>
-    requires { 1 ≤ number }
     ensures { OnOk result (NotesPut number sessions.now name audit.old audit.new) }
 {
     note_put_of(alloc, audit, sessions.get(number), name)

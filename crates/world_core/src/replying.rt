@@ -1,18 +1,20 @@
 //! The reply of a line.
 
-ghost use Rattle.std.specs.Prelude.{◌≡◌};
-ghost use Rattle.client_session.specs.Session.{value_of};
-ghost use Rattle.world_core.specs.Replying.{declined, done_reply, trouble_reply, ShowsValue, RepliesTo, RepliesBegun, RepliesTurn};
+ghost use Rattle.std.specs.Prelude.{◌≡◌, IfOk};
+ghost use Rattle.client_session.specs.Session.{items_of, value_of};
+ghost use Rattle.world_core.specs.Replying.{declined, done_reply, told, trouble_reply, unsettled_reply, IsOfSettling, ShowsItems, ShowsValue, RepliesTo, RepliesBegun, RepliesSettled, RepliesTurn};
 
 use crate::world::WorldFault;
 use client_session::answer::{Answer, Begun};
 use client_session::session::Session;
 use cloud_trait::turn::Turn;
 use db_base::blob::Blob;
+use db_base::pair::Pair;
 use db_base::refusal::Refused;
 use db_base::trouble::Trouble;
 use reply_text::reply::Reply;
-use std::alloc::Global;
+use report_types::pair_list::PairList;
+use std::alloc::{AllocError, Global};
 
 /// The answer to a line that is not done.
 pub(crate) fn declined(why: Refused) -> Result<Reply, WorldFault>
@@ -79,6 +81,10 @@ pub(crate) fn reply_of(
         Answer::Done(answer) => Ok(Reply::Done(answer)),
         Answer::Commit(answer) => Ok(Reply::Commit(answer)),
         Answer::Value => value_reply(alloc, session),
+        Answer::Scan => scan_reply(alloc, session),
+        Answer::Settled(settled) => Ok(Reply::Settled {
+            calls: settled.calls,
+        }),
         Answer::Trouble(trouble) => trouble_reply(trouble),
     }
 }
@@ -96,34 +102,89 @@ fn value_reply(alloc: Global, session: &Session) -> Result<Reply, WorldFault>
     }
 }
 
+/// The reply that shows what the session listed.
+fn scan_reply(alloc: Global, session: &Session) -> Result<Reply, WorldFault>
+    ensures { ShowsItems (items_of session.now) result }
+{
+    match copies(alloc, session.items()) {
+        Ok(pairs) => Ok(Reply::Scan(pairs)),
+        Err(_) => Err(WorldFault::Memory),
+    }
+}
+
+/// A copy of the records. Fails for memory alone.
+fn copies(alloc: Global, pairs: &[Pair]) -> Result<PairList, AllocError>
+    ensures { IfOk result (λ list. list ≡ pairs.now) }
+{
+    let mut list = PairList::new(alloc);
+    let mut left = pairs;
+    while let Some((pair, rest)) = left.split_first() {
+        let key = Blob::copy_of(alloc, pair.key.as_slice())?;
+        let payload = Blob::copy_of(alloc, pair.payload.as_slice())?;
+        list.push(Pair { key, payload })?;
+        left = rest;
+    }
+    Ok(list)
+}
+
+/// The reply to the answer of a settling.
+pub(crate) fn settled_reply(answer: Answer) -> Result<Reply, WorldFault>
+    requires { IsOfSettling answer }
+    ensures { RepliesSettled answer result }
+{
+    match answer {
+        Answer::Settled(settled) => Ok(Reply::Settled {
+            calls: settled.calls,
+        }),
+        Answer::Trouble(trouble) => unsettled_reply(trouble),
+        _ => unreachable!(),
+    }
+}
+
 /// The reply to a trouble; want of memory has none.
 pub(crate) fn trouble_reply(trouble: Trouble) -> Result<Reply, WorldFault>
     ensures { result ≡ trouble_reply trouble }
 {
+    match told(trouble) {
+        Ok(trouble) => Ok(Reply::Trouble(trouble)),
+        Err(fault) => Err(fault),
+    }
+}
+
+/// The reply to a trouble that stopped a settling; want of memory has none.
+fn unsettled_reply(trouble: Trouble) -> Result<Reply, WorldFault>
+    ensures { result ≡ unsettled_reply trouble }
+{
+    match told(trouble) {
+        Ok(trouble) => Ok(Reply::NotSettled(trouble)),
+        Err(fault) => Err(fault),
+    }
+}
+
+/// The trouble, where a reply can tell it: want of memory is a fault.
+fn told(trouble: Trouble) -> Result<Trouble, WorldFault>
+    ensures { result ≡ told trouble }
+{
     match trouble {
         Trouble::Memory => Err(WorldFault::Memory),
-        Trouble::Failed => Ok(Reply::Trouble(Trouble::Failed)),
-        Trouble::Late { end, now } => Ok(Reply::Trouble(Trouble::Late { end, now })),
-        Trouble::Busy { lock, until } => Ok(Reply::Trouble(Trouble::Busy { lock, until })),
-        Trouble::Waiting { have, need } => Ok(Reply::Trouble(Trouble::Waiting { have, need })),
-        Trouble::Stale { page, least, got } => {
-            Ok(Reply::Trouble(Trouble::Stale { page, least, got }))
-        }
-        Trouble::Absent { page } => Ok(Reply::Trouble(Trouble::Absent { page })),
-        Trouble::NotALeaf { page } => Ok(Reply::Trouble(Trouble::NotALeaf { page })),
-        Trouble::Damaged { place, offset } => {
-            Ok(Reply::Trouble(Trouble::Damaged { place, offset }))
-        }
+        Trouble::Failed => Ok(Trouble::Failed),
+        Trouble::Late { end, now } => Ok(Trouble::Late { end, now }),
+        Trouble::Busy { lock, until } => Ok(Trouble::Busy { lock, until }),
+        Trouble::Waiting { have, need } => Ok(Trouble::Waiting { have, need }),
+        Trouble::Stale { page, least, got } => Ok(Trouble::Stale { page, least, got }),
+        Trouble::Absent { page } => Ok(Trouble::Absent { page }),
+        Trouble::NotALeaf { page } => Ok(Trouble::NotALeaf { page }),
+        Trouble::Damaged { place, offset } => Ok(Trouble::Damaged { place, offset }),
         Trouble::BadFence {
             page,
             expected,
             found,
-        } => Ok(Reply::Trouble(Trouble::BadFence {
+        } => Ok(Trouble::BadFence {
             page,
             expected,
             found,
-        })),
-        Trouble::Loop { page } => Ok(Reply::Trouble(Trouble::Loop { page })),
-        Trouble::Exhausted { what } => Ok(Reply::Trouble(Trouble::Exhausted { what })),
+        }),
+        Trouble::Loop { page } => Ok(Trouble::Loop { page }),
+        Trouble::Exhausted { what } => Ok(Trouble::Exhausted { what }),
     }
 }

@@ -1,4 +1,4 @@
-ghost use Rattle.std.specs.Prelude.{◌≡◌, ◌-◌, ◌≤◌, ◌<◌};
+ghost use Rattle.std.specs.Prelude.{◌≡◌, ◌<◌};
 
 use client_session::answer::{Answer, Begun};
 use client_session::op::Op;
@@ -12,7 +12,7 @@ use db_base::refusal::Refused;
 use std::alloc::Global;
 use std::marker::Model;
 
-/// The sessions of a replay, by their numbers from 1 to 16.
+/// The sessions of a replay, by their numbers: the settler, and those from 1 to 16 that lines name.
 pub struct Sessions {
     list: Vec<Session>,
 }
@@ -32,22 +32,22 @@ impl Model for Sessions {
 
     ghost view = { λ s. s.list.items };
 
-    ghost invariant = { λ s. length s.list.items ≡ 16 };
+    ghost invariant = { λ s. length s.list.items ≡ 17 };
 }
 
 impl Sessions {
-    ghost use Rattle.std.specs.Prelude.{replicate, slice_get, IfOk, IfErr, Some, Ok};
-    ghost use Rattle.client_session.specs.Session.{closed_session, Begins, StepsSession};
+    ghost use Rattle.std.specs.Prelude.{replicate, slice_get, IfOk, IfErr, OnOk, OnErr, Some, Ok};
+    ghost use Rattle.client_session.specs.Session.{closed_session, settling_session, Begins, StepsSession};
     ghost use Rattle.world_core.specs.Sessions.{Changes, IsAtWork, NotesIn, AbortsIn};
 
     /// Closed sessions. Refused for memory alone.
-    #[tactic(auto, using(crate::proofs::Closed::replicate_more, crate::proofs::Closed::sixteen))]
+    #[tactic(auto, using(crate::proofs::Closed::replicate_more, crate::proofs::Closed::seventeen))]
     pub fn new(alloc: Global) -> Result<Sessions, Refused>
-        ensures ok { IfOk result (λ s. s ≡ replicate 16 closed_session) }
+        ensures ok { IfOk result (λ s. s ≡ replicate 17 closed_session) }
         ensures memory { IfErr result (λ e. e ≡ Refused.Memory) }
     {
         let mut list = Vec::new(alloc);
-        for _count in 0..16u64 {
+        for _count in 0..17u64 {
             list.push(Session::new(alloc)?)?;
         }
         Ok(Sessions { list })
@@ -55,8 +55,7 @@ impl Sessions {
 
     /// The session of a number.
     pub(crate) fn get(&self, number: SessionNo) -> &Session
-        requires { 1 ≤ number }
-        ensures { slice_get self.now (number - 1) ≡ Some result.now }
+        ensures { slice_get self.now number ≡ Some result.now }
     {
         &self.list[place_of(number)]
     }
@@ -68,7 +67,6 @@ impl Sessions {
         number: SessionNo,
         op: Op,
     ) -> Result<Begun, Refused>
-        requires { 1 ≤ number }
         ensures { Changes number (λ a b. Begins op a b result) self.old self.new }
     {
         self.list[place_of(number)].begin(alloc, op)
@@ -81,7 +79,6 @@ impl Sessions {
         tree: TreeId,
         change: Change,
     ) -> Result<(), Refused>
-        requires { 1 ≤ number }
         ensures { Changes number (λ a b. NotesIn tree change a b result) self.old self.new }
     {
         self.list[place_of(number)].note(tree, change)
@@ -89,15 +86,23 @@ impl Sessions {
 
     /// Drops the changes of the session of a number.
     pub(crate) fn abort(&mut self, number: SessionNo) -> Result<(), Refused>
-        requires { 1 ≤ number }
         ensures { Changes number (λ a b. AbortsIn a b result) self.old self.new }
     {
         self.list[place_of(number)].abort()
     }
 
+    /// Has the session of a number settle from now on. Refused for memory alone, and nothing changes then.
+    pub(crate) fn settle(&mut self, alloc: Global, number: SessionNo) -> Result<(), Refused>
+        ensures ok { OnOk result (Changes number (λ a b. b ≡ settling_session) self.old self.new) }
+        ensures err { OnErr result (self.new ≡ self.old) }
+        ensures memory { IfErr result (λ e. e ≡ Refused.Memory) }
+    {
+        self.list[place_of(number)] = Session::settling(alloc)?;
+        Ok(())
+    }
+
     /// Closes the session of a number at once.
     pub(crate) fn crash(&mut self, number: SessionNo)
-        requires { 1 ≤ number }
         ensures { Changes number (λ a b. b ≡ closed_session) self.old self.new }
     {
         self.list[place_of(number)].crash();
@@ -105,8 +110,7 @@ impl Sessions {
 
     /// Makes a step of the session of a number, which has a call in hand.
     pub(crate) fn step<C: Cloud>(&mut self, alloc: Global, cloud: &mut C, who: Who) -> Turn<Answer>
-        requires number { 1 ≤ who.session }
-        requires works { IsAtWork who.session self.old }
+        requires { IsAtWork who.session self.old }
         ensures { Changes who.session (λ a b. StepsSession who (C.seen cloud.old) (C.seen cloud.new) a b (Ok result)) self.old self.new }
     {
         match self.list[place_of(who.session)].step(alloc, cloud, who) {
@@ -118,9 +122,8 @@ impl Sessions {
 
 /// The place of the session of a number.
 fn place_of(number: SessionNo) -> usize
-    requires { 1 ≤ number }
-    ensures is { result ≡ number - 1 }
-    ensures within { result < 16 }
+    ensures is { result ≡ number }
+    ensures within { result < 17 }
 {
-    (number.get() - 1) as usize
+    number.get() as usize
 }

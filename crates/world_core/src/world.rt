@@ -1,4 +1,4 @@
-ghost use Rattle.std.specs.Prelude.{◌≡◌, ℕ, ◌≤◌, ◌<◌, ◌⊎◌, true, false, [], replicate, Some, None, Ok, IfOk, IfErr};
+ghost use Rattle.std.specs.Prelude.{◌≡◌, ℕ, ◌≤◌, ◌<◌, ◌⊎◌, true, false, [], replicate, slice_get, Some, None, Ok, IfOk, IfErr};
 ghost use Rattle.world_core.specs.Put.{is_blind};
 ghost use Rattle.world_core.specs.Stands.{Grows};
 ghost use Rattle.world_core.specs.Handled.{WaitsFor};
@@ -6,7 +6,9 @@ ghost use Rattle.world_core.specs.Handled.{WaitsFor};
 use crate::asked::{Asked, Request};
 use crate::noting::{keep_landed, note_put};
 use crate::put::{Put, is_newest, put_in_hand};
-use crate::replying::{begun_reply, declined, done, reply_of, trouble_reply, turn_reply};
+use crate::replying::{
+    begun_reply, declined, done, reply_of, settled_reply, trouble_reply, turn_reply,
+};
 use crate::sessions::Sessions;
 use client_session::answer::Answer;
 use client_session::op::Op;
@@ -55,15 +57,14 @@ impl Drop for World {
 }
 
 impl World {
-    ghost use Rattle.client_session.specs.Session.{closed_session};
+    ghost use Rattle.client_session.specs.Session.{closed_session, settling_session};
     ghost use Rattle.world_core.specs.Stands.{StandsOn};
-    ghost use Rattle.world_core.specs.Replying.{IsAnswered};
     ghost use Rattle.world_core.specs.Sessions.{Changes, IsNotWorking, IsAtWork, HasPut};
-    ghost use Rattle.world_core.specs.Handled.{Handled, Answers, Does, BeginsOp, NotesChange, DropsChanges, MakesStep, Runs, RunsOn, Crashes, CrashesDone, StepsLooked, Reports};
+    ghost use Rattle.world_core.specs.Handled.{Handled, Answers, Does, BeginsOp, NotesChange, DropsChanges, MakesStep, ComesTo, Runs, Settles, SettlesOn, Crashes, CrashesDone, StepsLooked, Reports};
 
     /// A world whose sessions are closed, and that saw nothing. Refused for memory alone.
     pub fn new(alloc: Global) -> Result<World, Refused>
-        ensures sessions { IfOk result (λ w. w.sessions ≡ replicate 16 closed_session) }
+        ensures sessions { IfOk result (λ w. w.sessions ≡ replicate 17 closed_session) }
         ensures audit { IfOk result (λ w. w.audit ≡ record { committed = []; order = [] }) }
         ensures sees { IfOk result (λ w. w.blind ≡ false) }
         ensures memory { IfErr result (λ e. e ≡ Refused.Memory) }
@@ -75,8 +76,7 @@ impl World {
         })
     }
 
-    /// Handles the line of a number: what it does to the world, and the reply. A line that is not served yet is
-    /// refused and changes nothing.
+    /// Handles the line of a number: what it does to the world, and the reply.
     pub fn event<C: Bench>(
         &mut self,
         alloc: Global,
@@ -106,7 +106,7 @@ impl World {
             Asked::Session(number, request) => self.ask(alloc, cloud, n, number, request),
             Asked::Wait(ticks) => wait(cloud, ticks),
             Asked::Report(tree) => self.report(alloc, cloud, tree),
-            Asked::Unbuilt => declined(Refused::Rule(Refusal::NotBuilt)),
+            Asked::Settle => self.settle(alloc, cloud, n),
         }
     }
 
@@ -140,7 +140,6 @@ impl World {
         who: Who,
         request: Request,
     ) -> Result<Reply, WorldFault>
-        requires { 1 ≤ who.session }
         ensures does { Does who.event who.session request (C.seen cloud.old) (C.seen cloud.new) self.old self.new result }
         ensures grows { Grows who.event (C.seen cloud.old) (C.seen cloud.new) }
     {
@@ -155,7 +154,6 @@ impl World {
     }
 
     fn begin(&mut self, alloc: Global, number: SessionNo, op: Op) -> Result<Reply, WorldFault>
-        requires { 1 ≤ number }
         ensures session { Changes number (BeginsOp op result) self.old.sessions self.new.sessions }
         ensures audit { self.new.audit ≡ self.old.audit }
         ensures blind { self.new.blind ≡ self.old.blind }
@@ -165,7 +163,6 @@ impl World {
     }
 
     fn note(&mut self, number: SessionNo, tree: TreeId, change: Change) -> Result<Reply, WorldFault>
-        requires { 1 ≤ number }
         ensures session { Changes number (NotesChange tree change result) self.old.sessions self.new.sessions }
         ensures audit { self.new.audit ≡ self.old.audit }
         ensures blind { self.new.blind ≡ self.old.blind }
@@ -174,7 +171,6 @@ impl World {
     }
 
     fn abort(&mut self, number: SessionNo) -> Result<Reply, WorldFault>
-        requires { 1 ≤ number }
         ensures session { Changes number (DropsChanges result) self.old.sessions self.new.sessions }
         ensures audit { self.new.audit ≡ self.old.audit }
         ensures blind { self.new.blind ≡ self.old.blind }
@@ -184,7 +180,6 @@ impl World {
 
     /// Whether the session has a call in hand.
     fn works(&self, number: SessionNo) -> bool
-        requires { 1 ≤ number }
         ensures idle { result ≡ false → IsNotWorking number self.now.sessions }
         ensures works { result ≡ true → IsAtWork number self.now.sessions }
     {
@@ -199,7 +194,6 @@ impl World {
         who: Who,
         wish: Wish,
     ) -> Result<Reply, WorldFault>
-        requires { 1 ≤ who.session }
         ensures steps { MakesStep who.event who.session wish (C.seen cloud.old) (C.seen cloud.new) self.old self.new result }
         ensures grows { Grows who.event (C.seen cloud.old) (C.seen cloud.new) }
     {
@@ -214,43 +208,74 @@ impl World {
 
     /// Makes plain steps until the answer.
     fn run<C: Bench>(&mut self, alloc: Global, cloud: &mut C, who: Who) -> Result<Reply, WorldFault>
-        requires { 1 ≤ who.session }
         ensures runs { Runs who.event who.session (C.seen cloud.old) (C.seen cloud.new) self.old self.new result }
         ensures grows { Grows who.event (C.seen cloud.old) (C.seen cloud.new) }
     {
         if !self.works(who.session) {
             return Ok(Reply::Refused(Refusal::NotWorking));
         }
-        self.run_on(alloc, cloud, who)
+        match self.run_on(alloc, cloud, who) {
+            Ok(answer) => reply_of(alloc, self.sessions.get(who.session), answer),
+            Err(fault) => Err(fault),
+        }
     }
 
+    /// Makes plain steps of a session that is at work until the answer.
     fn run_on<C: Bench>(
         &mut self,
         alloc: Global,
         cloud: &mut C,
         who: Who,
-    ) -> Result<Reply, WorldFault>
-        requires session { 1 ≤ who.session }
-        requires works { IsAtWork who.session self.old.sessions }
-        ensures runs { RunsOn who (C.seen cloud.old) (C.seen cloud.new) self.old self.new result }
+    ) -> Result<Answer, WorldFault>
+        requires { IsAtWork who.session self.old.sessions }
+        ensures comes { IfOk result (λ answer. ComesTo who (C.seen cloud.old) (C.seen cloud.new) self.old self.new answer) }
         ensures grows { Grows who.event (C.seen cloud.old) (C.seen cloud.new) }
     {
         'steps: loop {
             let turn = self.step_under(alloc, cloud, who, Wish::Plain)?;
             match turn {
                 Turn::More => {}
-                Turn::Ended(answer) => return self.answer(alloc, who, answer),
+                Turn::Ended(answer) => return Ok(answer),
                 Turn::Stopped(_) => unreachable!(),
             }
         }
     }
 
-    /// The reply to an answer of the session.
-    fn answer(&self, alloc: Global, who: Who, answer: Answer) -> Result<Reply, WorldFault>
-        requires { 1 ≤ who.session }
-        ensures { IsAnswered who.session self.now.sessions answer result }
+    /// Has the settler settle.
+    #[tactic(auto, using(crate::proofs::GrowthLemmas::grows_not))]
+    fn settle<C: Bench>(
+        &mut self,
+        alloc: Global,
+        cloud: &mut C,
+        n: u64,
+    ) -> Result<Reply, WorldFault>
+        ensures settles { Settles n (C.seen cloud.old) (C.seen cloud.new) self.old self.new result }
+        ensures grows { Grows n (C.seen cloud.old) (C.seen cloud.new) }
     {
-        reply_of(alloc, self.sessions.get(who.session), answer)
+        let session = SessionNo::settler();
+        match self.sessions.settle(alloc, session) {
+            Ok(()) => self.settle_on(alloc, cloud, Who { session, event: n }),
+            Err(_) => Err(WorldFault::Memory),
+        }
+    }
+
+    /// Makes plain steps of a session that settles until the answer, and closes it then.
+    fn settle_on<C: Bench>(
+        &mut self,
+        alloc: Global,
+        cloud: &mut C,
+        who: Who,
+    ) -> Result<Reply, WorldFault>
+        requires { slice_get self.old.sessions who.session ≡ Some settling_session }
+        ensures settles { SettlesOn who (C.seen cloud.old) (C.seen cloud.new) self.old self.new result }
+        ensures grows { Grows who.event (C.seen cloud.old) (C.seen cloud.new) }
+    {
+        let answer = self.run_on(alloc, cloud, who);
+        self.sessions.crash(who.session);
+        match answer {
+            Ok(answer) => settled_reply(answer),
+            Err(fault) => Err(fault),
+        }
     }
 
     /// Lets the session die: at once, or once its call in hand is made.
@@ -262,7 +287,6 @@ impl World {
         who: Who,
         done: bool,
     ) -> Result<Reply, WorldFault>
-        requires { 1 ≤ who.session }
         ensures crashes { Crashes who.event who.session done (C.seen cloud.old) (C.seen cloud.new) self.old self.new result }
         ensures grows { Grows who.event (C.seen cloud.old) (C.seen cloud.new) }
     {
@@ -280,7 +304,6 @@ impl World {
         cloud: &mut C,
         who: Who,
     ) -> Result<Reply, WorldFault>
-        requires session { 1 ≤ who.session }
         requires works { IsAtWork who.session self.old.sessions }
         ensures dies { CrashesDone who (C.seen cloud.old) (C.seen cloud.new) self.old self.new result }
         ensures grows { Grows who.event (C.seen cloud.old) (C.seen cloud.new) }
@@ -299,7 +322,6 @@ impl World {
         who: Who,
         wish: Wish,
     ) -> Result<Turn<Answer>, WorldFault>
-        requires session { 1 ≤ who.session }
         requires works { IsAtWork who.session self.old.sessions }
         ensures looked { IfOk result (λ turn. StepsLooked who wish (C.seen cloud.old) (C.seen cloud.new) self.old self.new turn) }
         ensures grows { Grows who.event (C.seen cloud.old) (C.seen cloud.new) }
@@ -319,7 +341,6 @@ impl World {
         who: Who,
         wish: Wish,
     ) -> Result<Turn<Answer>, WorldFault>
-        requires session { 1 ≤ who.session }
         requires works { IsAtWork who.session self.old.sessions }
         requires no_put { HasPut who.session self.old.sessions None }
         ensures looked { IfOk result (λ turn. StepsLooked who wish (C.seen cloud.old) (C.seen cloud.new) self.old self.new turn) }
@@ -338,7 +359,6 @@ impl World {
         wish: Wish,
         put: &Put,
     ) -> Result<Turn<Answer>, WorldFault>
-        requires session { 1 ≤ who.session }
         requires works { IsAtWork who.session self.old.sessions }
         requires puts { HasPut who.session self.old.sessions (Some put.now) }
         ensures looked { IfOk result (λ turn. StepsLooked who wish (C.seen cloud.old) (C.seen cloud.new) self.old self.new turn) }

@@ -1,15 +1,15 @@
-use Rattle.world_core.specs.Handled.{start}
+use Rattle.world_core.specs.Handled.{start, StepsLooked}
 use Rattle.world_core.proofs.Going.{went_further, works_further, less_further}
 use Rattle.world_core.proofs.GrowthLemmas.{grows_same, grows_on}
-use Rattle.std.proofs.Common.{refl, inl}
-use Rattle.world_core.proofs.ReplyLemmas.{runs_to}
+use Rattle.std.proofs.Common.{refl, subst}
+use Rattle.db_base.specs.declared.wish.Wish.TheVariants.{Plain}
 use Rattle.world_core.proofs.world.World.run_on.Goals as goal
 
 pub steps-init : goal.steps-init
 steps-init g c = record {
   went = start;
   grows = grows_same _ (g.C.Cloud.seen c.args.cloud.now) (g.C.Cloud.seen c.args.cloud.now) refl;
-  works = c.requires.works;
+  works = c.requires;
 }
 
 pub steps-preserved : goal.steps-preserved
@@ -32,7 +32,10 @@ pub steps-smaller : goal.steps-smaller
 steps-smaller g c =
     less_further c.args.who (g.C.Cloud.seen c.steps.cloud) (g.C.Cloud.seen c.step_under.new.cloud) c.steps.self c.step_under.new.self c.in_ok-turn.turn c.in-More.is c.in_ok-turn.ensures.looked
 
-pub returns-in-Ended-clause-runs : goal.returns-in-Ended-clause-runs
-returns-in-Ended-clause-runs g c =
-    inl (runs_to c.args.who (g.C.Cloud.seen c.args.cloud.now) (g.C.Cloud.seen c.steps.cloud) (g.C.Cloud.seen c.step_under.new.cloud) c.args.self.now c.steps.self c.step_under.new.self
-    c.in_ok-turn.turn c.in-Ended.answer c.answer.result c.in-Ended.is c.steps.invariant.went c.in_ok-turn.ensures.looked c.answer.ensures)
+pub returns-in-Ended-clause-comes : goal.returns-in-Ended-clause-comes
+returns-in-Ended-clause-comes g c = record {
+  mid = g.C.Cloud.seen c.steps.cloud;
+  world = c.steps.self;
+  went = c.steps.invariant.went;
+  steps = subst (λ t. StepsLooked c.args.who Plain (g.C.Cloud.seen c.steps.cloud) (g.C.Cloud.seen c.step_under.new.cloud) c.steps.self c.step_under.new.self t) c.in-Ended.is c.in_ok-turn.ensures.looked;
+}

@@ -15,3 +15,4 @@ pub mod StartLemmas
 pub mod UptoRight
 pub mod LeftLemmas
 pub mod ReportLemmas
+pub mod Answering

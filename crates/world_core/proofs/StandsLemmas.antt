@@ -214,10 +214,10 @@ module _ (lines : List Line) (who : Caller) (wish : Wish) (before after : Seen) 
   pub steps_own : StepsSession who p.under p.to (f who.session) p.session.after (Ok turn)
   steps_own = subst (λ a. StepsSession who p.under p.to a p.session.after (Ok turn)) (sym was) p.session.does
 
-  told_under : p.under.state ≡ Some wished
+  pub told_under : p.under.state ≡ Some wished
   told_under = p.wishes.set x (p.look_before.stays x way.told)
 
-  call : CallLeaves lines p.to f who.session p.session.after new.audit new.blind
+  pub call : CallLeaves lines p.to f who.session p.session.after new.audit new.blind
   call =
       call_holds lines who p.under p.to wished f p.session.after turn old.audit new.audit old.blind new.blind event told_under
       (wish_holds (length lines + 1) lines f old.audit old.blind x wish way.goes.holds) (way.goes.acts who.session).work steps_own
@@ -259,7 +259,7 @@ step_more lines who wish before after old new event way p =
       };
     }
 
-went_on : (lines : List Line) (who : Caller) (before : Seen) (old : World) (after : Seen) (new : World) → who.event ≡ length lines + 1
+pub went_on : (lines : List Line) (who : Caller) (before : Seen) (old : World) (after : Seen) (new : World) → who.event ≡ length lines + 1
     → IsUnderWay lines old before → Went who before old after new → IsUnderWay lines new after
 went_on lines who before old after new number way start = way
 went_on lines who before old after new number way (further mid _ world _ went step) =
@@ -327,14 +327,14 @@ step_ends lines event who wish before after old new a r own_is does number some 
 
 -- ---- the lines that make steps
 
-no_stop : (who : Caller) (before after : Seen) (old new : Acting) (t : Trouble) → StepsSession who before after old new (Ok (Stopped t)) → ⊥
+pub no_stop : (who : Caller) (before after : Seen) (old new : Acting) (t : Trouble) → StepsSession who before after old new (Ok (Stopped t)) → ⊥
 no_stop who before after old new t p = never_stops who before after old.work new.work t p.work
 
 refused_step : (lines : List Line) (event : Event) (r : Reply) (number : ℕ) (before after : Seen) (old new : World) (t : CloudState)
     → RefusesStep number before after old new (Ok r) → before.state ≡ Some t → WorldStands lines old t → StandsFor (lines ++ line_of event r ∷ []) new after r
 refused_step lines event r number before after old new t h told stands = declines lines event r _ before after old new t h.declines told stands
 
-no_memory : (r : Reply) → (let result : Result Reply WorldFault = Ok r in let fault : Result Reply WorldFault = Err Memory in result ≡ fault) → ⊥
+pub no_memory : (r : Reply) → (let result : Result Reply WorldFault = Ok r in let fault : Result Reply WorldFault = Err Memory in result ≡ fault) → ⊥
 no_memory r e = absurd (cc)
 
 runs_to : (lines : List Line) (k n : ℕ) (r : Reply) (before after : Seen) (old new : World) (t : CloudState) → length lines + 1 ≡ n → 1 ≤ k
@@ -503,7 +503,7 @@ module _ (lines : List Line) (n : ℕ) (before : Seen) (old begun : World) (t : 
           begins_with lines before_it (at 0 settling_session before_it) old.audit old.blind t stands.holds
           (settling_begins_session stands.holds.book stands.holds.order t before_it 0 stands.rests stands.holds.stand)
 
-  settler_begins : IsUnderWay lines begun before
+  pub settler_begins : IsUnderWay lines begun before
   settler_begins = record {
     after = t;
     told = told;

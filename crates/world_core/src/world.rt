@@ -86,6 +86,7 @@ impl World {
     ) -> Result<Reply, WorldFault>
         ensures handled { Handled n event.now (C.seen cloud.old) (C.seen cloud.new) self.old self.new result }
         ensures stands { StandsOn n event.now (C.seen cloud.old) (C.seen cloud.new) self.old self.new result }
+        ensures sound { AnswersSoundly n event.now (C.seen cloud.old) (C.seen cloud.new) self.old self.new result }
         ensures grows { Grows n (C.seen cloud.old) (C.seen cloud.new) }
     {
         self.handle(alloc, cloud, n, event)

@@ -247,43 +247,40 @@ module _ (book : Book) (order : List Entry) (s : CloudState) (stands : StandsUnd
       → EndsWell (Lasts t.now (home_of m.0).lease) (run_next m reply)
   run_ends who t m part reply k call = on m.0.hand k.hand call
     where
-      abbrev d : Draft
-      d = m.0.draft
-
-      abbrev Sure : Type 0
-      Sure = Lasts t.now (home_of m.0).lease
-
-      walks : (first : Bool) (w : Walk) → KnowsSeeking st t.now d w part → IsCall who (ask_at (Change w) d.writes) reply s t → EndsWell Sure (walked first d w m.1 reply)
+      walks : (first : Bool) (w : Walk) → KnowsSeeking st t.now m.0.draft w part → IsCall who (ask_at (Change w) m.0.draft.writes) reply s t
+          → EndsWell (Lasts t.now (home_of m.0).lease) (walked first m.0.draft w m.1 reply)
       walks first w seeks call =
-          turned_well Sure st stands.holds first d (walk_next (w, m.1) reply) seeks.draft.may (turn_leaves st w m.1 reply k.cache (call_answers book order s stands who (object_of w) reply t call))
+          turned_well (Lasts t.now (home_of m.0).lease) st stands.holds first m.0.draft (walk_next (w, m.1) reply) seeks.draft.may (turn_leaves st w m.1 reply k.cache (call_answers book order s stands who (object_of w) reply t call))
           (λ lasts. walk_goes book order s stands who w m.1 reply t call (record { walk = seeks.walk lasts; cache = k.cache }))
 
-      on : (hand : Hand) → KnowsHand hand st t.now d part → IsCall who (ask_at hand d.writes) reply s t → EndsWell Sure (next_at hand d m.1 reply)
-      on Writes a call = wrote_well Sure d m.1 (writing_next d.writes reply) (writes Sure d.writes reply)
+      on : (hand : Hand) → KnowsHand hand st t.now m.0.draft part → IsCall who (ask_at hand m.0.draft.writes) reply s t
+          → EndsWell (Lasts t.now (home_of m.0).lease) (next_at hand m.0.draft m.1 reply)
+      on Writes a call =
+          wrote_well (Lasts t.now (home_of m.0).lease) m.0.draft m.1 (writing_next m.0.draft.writes reply) (writes (Lasts t.now (home_of m.0).lease) m.0.draft.writes reply)
       on (First w) a call = walks true w a call
       on (Change w) a call = walks false w a call
 
-  -- and one that is answered at once
-  pub ready_ends : (now : ℕ) (part : Part) (home : Owner) (changes : List Noted) (c : Cache) → KnowsHeld st now home part → MayCommit changes → KnowsCache st c
-      → EndsWell (Lasts now home.lease) (run_ready (new_run home changes, c))
-  ready_ends now part home changes c k may cache = on (is_spent home)
-    where
-      abbrev Sure : Type 0
-      Sure = Lasts now home.lease
+  module _ (now : ℕ) (part : Part) (home : Owner) (changes : List Noted) (c : Cache) (k : KnowsHeld st now home part) (may : MayCommit changes) (cache : KnowsCache st c) where
+    abbrev Sure : Type 0
+    Sure = Lasts now home.lease
 
-      abbrev numbered : Draft
-      numbered = new_draft (with_home (waiting home changes) (with_attempt home))
+    abbrev numbered : Draft
+    numbered = new_draft (with_home (waiting home changes) (with_attempt home))
 
-      tree : (e : Pending) → slice_get home.head.pending 0 ≡ Some e → Sure → IsTree e.tree
-      tree e is lasts =
-          entry_tree st home.client e stands.holds
-          (taken_entries st now numbered.writes.home part stands.holds (record { before = home.attempt; taken = refl; home = k }) lasts e (0, is))
+    tree : (e : Pending) → slice_get home.head.pending 0 ≡ Some e → Sure → IsTree e.tree
+    tree e is lasts =
+        entry_tree st home.client e stands.holds
+        (taken_entries st now numbered.writes.home part stands.holds (record { before = home.attempt; taken = refl; home = k }) lasts e (0, is))
 
-      long : (b : Bool) → EndsWell Sure (long_walk numbered c (cond b (option_map pending_target (slice_get home.head.pending 0)) None))
-      long true = long_well Sure st stands.holds numbered c may cache (slice_get home.head.pending 0) tree
-      long false = plan_on_well Sure st stands.holds numbered c may cache
+    long : (b : Bool) → EndsWell Sure (long_walk numbered c (cond b (option_map pending_target (slice_get home.head.pending 0)) None))
+    long true = long_well Sure st stands.holds numbered c may cache (slice_get home.head.pending 0) tree
+    long false = plan_on_well Sure st stands.holds numbered c may cache
 
-      on : (b : Bool) → EndsWell Sure (cond b (refused (new_draft (waiting home changes)) c (trouble.Exhausted counter.Txn))
-          (begin_walks (new_draft (cond b (waiting home changes) (with_home (waiting home changes) (with_attempt home)))) c))
-      on true = λ lasts. tt
-      on false = long (nat_lt 256 (length home.head.pending))
+    -- and one that is answered at once
+    pub ready_ends : EndsWell Sure (run_ready (new_run home changes, c))
+    ready_ends = on (is_spent home)
+      where
+        on : (b : Bool) → EndsWell Sure (cond b (refused (new_draft (waiting home changes)) c (trouble.Exhausted counter.Txn))
+            (begin_walks (new_draft (cond b (waiting home changes) (with_home (waiting home changes) (with_attempt home)))) c))
+        on true = λ lasts. tt
+        on false = long (nat_lt 256 (length home.head.pending))

@@ -44,10 +44,7 @@ StepMay (Stops s t) = MaySettle t
 tree_may : (s : Settling) (tree : ℕ) → StepMay (behind_tree s tree)
 tree_may s tree = on (nat_lt tree 16)
   where
-    abbrev over : Step
-    over = Ends s (record { calls = s.calls })
-
-    on : (b : Bool) → StepMay (cond b (begins (record s { visited = [] }) (part_of_tree (tree + 1))) over)
+    on : (b : Bool) → (let over : Step = Ends s (record { calls = s.calls }) in StepMay (cond b (begins (record s { visited = [] }) (part_of_tree (tree + 1))) over))
     on true = tt
     on false = tt
 

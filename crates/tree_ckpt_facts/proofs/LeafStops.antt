@@ -80,11 +80,8 @@ module _ (book : Book) (order : List Entry) (s : CloudState) (stands : StandsUnd
       on (x ∷ xs) = planned_may leaf.high (x ∷ xs) (leaf_plan (tree_held f.chart.root) f.page leaf f.chart.run.items) (plan_fair (tree_held f.chart.root) f.page leaf f.chart.run.items)
 
   right_may : (high : List ℕ) (right : ℕ) → leaf.high ≡ Some high → page_at leaf.right ≡ Some right → bytes_below f.chart.key high ≡ false → StopsWell (to_right f high right)
-  right_may high right is named out = subst On (sym fresh) tt
+  right_may high right is named out = subst (λ (seen : Bool). StopsWell (cond seen (Stops f (trouble.Loop right)) (Ends (turned f high right) (Right high right)))) (sym fresh) tt
     where
-      abbrev On : Bool → Type 0
-      On seen = StopsWell (cond seen (Stops f (trouble.Loop right)) (Ends (turned f high right) (Right high right)))
-
       way : IsOnWay (book.chain tree) 0 right high f.chart.key (f.visited ++ f.page ∷ [])
       way = leaf_right book order s stands tree k.at.chart.tree f.page f.low f.chart.key f.visited k.at.way high right is named out
 
@@ -127,10 +124,7 @@ placed_may : (f : Folding) (g : Result (Unit {0}) Trouble) → ((t : Trouble) �
 placed_may f (Err t) refused = refused t refl
 placed_may f (Ok x) refused = on (has_one_page f.placing)
   where
-    abbrev last : Step
-    last = Ends (counted (landed f)) Handled
-
-    on : (b : Bool) → StopsWell (cond b last (Goes (landed f)))
+    on : (b : Bool) → (let last : Step = Ends (counted (landed f)) Handled in StopsWell (cond b last (Goes (landed f))))
     on true = tt
     on false = tt
 

@@ -67,20 +67,15 @@ given_may k a t e = refusal (trouble_of a) t (given_of k a) (refused_may a) refl
 pub next_fair : (t : Tree) → IsFair (next_tree t)
 next_fair t = on (t.version == 18446744073709551615)
   where
-    abbrev kept : Result Tree Trouble
-    kept = Ok (record t { version = t.version + 1 })
-
-    on : (b : Bool) → IsFair (cond b (Err version_spent) kept)
+    on : (b : Bool) → (let kept : Result Tree Trouble = Ok (record t { version = t.version + 1 }) in IsFair (cond b (Err version_spent) kept))
     on true = tt
     on false = tt
 
 reserved_fair : (count : ℕ) (t : Tree) → IsFair (reserved count t)
 reserved_fair count t = on (nat_lt 18446744073709551615 (t.next + count))
   where
-    abbrev kept : Result Reserved Trouble
-    kept = Ok (record { put = Some (tree_bytes (record t { next = t.next + count })); first = t.next })
-
-    on : (b : Bool) → IsFair (cond b (Err pages_spent) kept)
+    on : (b : Bool)
+        → (let kept : Result Reserved Trouble = Ok (record { put = Some (tree_bytes (record t { next = t.next + count })); first = t.next }) in IsFair (cond b (Err pages_spent) kept))
     on true = tt
     on false = tt
 
@@ -91,10 +86,7 @@ by_fair count (Err t) may = may
 pub reservation_fair : (t : Tree) (page count : ℕ) → IsFair (reservation t page count)
 reservation_fair t page count = on (count == 0)
   where
-    abbrev kept : Result Reserved Trouble
-    kept = Ok (record { put = None; first = page })
-
-    on : (b : Bool) → IsFair (cond b kept (reserved_by count (next_tree t)))
+    on : (b : Bool) → (let kept : Result Reserved Trouble = Ok (record { put = None; first = page }) in IsFair (cond b kept (reserved_by count (next_tree t))))
     on true = tt
     on false = by_fair count (next_tree t) (next_fair t)
 

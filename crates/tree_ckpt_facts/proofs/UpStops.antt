@@ -38,12 +38,12 @@ by_fair page n (Err t) may = may
 linked_fair : (root : Tree) (page : ℕ) (n : Inner) (links : List Found) → IsFair (planned_of root page (linked_by links (Ok n)))
 linked_fair root page n links = on (n.version == 18446744073709551615)
   where
-    abbrev risen : Inner
-    risen = record n { version = n.version + 1; entries = with_links n links n.entries }
-
-    on : (b : Bool) → IsFair (planned_of root page (cond b (Err version_spent) (Ok risen)))
+    on : (b : Bool)
+        → (let risen : Inner = record n { version = n.version + 1; entries = with_links n links n.entries } in IsFair (planned_of root page (cond b (Err version_spent) (Ok risen))))
     on true = tt
-    on false = by_fair page risen (reservation root page (count_of (length risen.entries) - 1)) (reservation_fair root page (count_of (length risen.entries) - 1))
+    on false =
+        let risen : Inner = record n { version = n.version + 1; entries = with_links n links n.entries } in
+        by_fair page risen (reservation root page (count_of (length risen.entries) - 1)) (reservation_fair root page (count_of (length risen.entries) - 1))
 
 node_fair : (st : Store) (now : ℕ) (lease : Claim) (tree : ℕ) (root : Tree) (kept : KeptNode) (links : List Found) → KnowsNode st now lease tree kept → IsFair (node_plan root tree kept links)
 node_fair st now lease tree root kept links k =
@@ -56,10 +56,7 @@ cut_fair : (put : Option (List ℕ)) (count : ℕ) (t : Result Tree Trouble) →
 cut_fair put count (Err f) may = may
 cut_fair put count (Ok t) may = on (nat_lt 18446744073709551615 (t.next + count))
   where
-    abbrev kept : Result RootPlan Trouble
-    kept = Ok (lowered put (record t { next = t.next + count }) t.next)
-
-    on : (b : Bool) → IsFair (cond b (Err pages_spent) kept)
+    on : (b : Bool) → (let kept : Result RootPlan Trouble = Ok (lowered put (record t { next = t.next + count }) t.next) in IsFair (cond b (Err pages_spent) kept))
     on true = tt
     on false = tt
 
@@ -95,12 +92,10 @@ root_may r (Err t) may = may
 pub rise_may : (st : Store) (now : ℕ) (lease : Claim) (r : Rising) → KnowsNodes st now lease r.chart.tree (drop r.at r.chart.nodes) → StopsWell (rise r)
 rise_may st now lease r nodes = on (touched_node r) refl
   where
-    abbrev place : ℕ
-    place = touched_at r.chart.tree r.chart.links (drop r.at r.chart.nodes)
-
     on : (o : Option KeptNode) → touched_node r ≡ o → StopsWell (rise_at r (next_touched r) o)
     on None e = root_may r (last_plan r) (last_fair r)
     on (Some kept) e =
+        let place : ℕ = touched_at r.chart.tree r.chart.links (drop r.at r.chart.nodes) in
         node_may r (next_touched r + 1) (kept.level + 1) (node_plan (tree_held r.chart.root) r.chart.tree kept r.chart.links)
         (node_fair st now lease r.chart.tree (tree_held r.chart.root) kept r.chart.links (nodes kept (place, get_dropped r.at place r.chart.nodes kept e)))
 

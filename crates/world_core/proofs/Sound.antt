@@ -1,5 +1,5 @@
 -- Every line is answered soundly: no trouble is replied that only damage could cause.
-use Rattle.std.proofs.Common.{◌≡◌, ◌+◌, ◌⊎◌, inl, inr, ℕ, List, length, Option, Some, None, Result, Ok, Err, refl, sym, ap, subst, ◌∙◌}
+use Rattle.std.proofs.Common.{◌≡◌, ◌+◌, ◌⊎◌, inl, inr, ℕ, List, [], ◌∷◌, ◌++◌, length, Bool, true, false, Option, Some, None, Result, Ok, Err, refl, sym, ap, subst, ◌∙◌}
 use Rattle.client_session.specs.Session.{Acting, StepsSession, Begins, value_of, items_of}
 use Rattle.client_session.specs.declared.answer.Answer.{Answer}
 use Rattle.client_session.specs.declared.answer.Answer.TheVariants as answer
@@ -25,9 +25,9 @@ use Rattle.db_base.specs.declared.wish.Wish.{Wish}
 use Rattle.db_base.specs.declared.wish.Wish.TheVariants.{Plain}
 use Rattle.event_text.specs.declared.event.Event.{Event}
 use Rattle.event_text.specs.declared.event.Event.TheVariants as event
-use Rattle.replay_meaning.specs.Standing.{Line, Posture, Standing, session_of, standing}
+use Rattle.replay_meaning.specs.Standing.{Line, Closed, Posture, session_of, standing}
 use Rattle.replay_model.specs.Answers.{MayTrouble, IsSoundReply}
-use Rattle.replay_model.specs.Facts.{session_at}
+use Rattle.replay_model.specs.Facts.{session_at, ActsAs, CloudHolds}
 use Rattle.replay_model.proofs.Answering.{may_by_lines}
 use Rattle.replay_model.proofs.Steps.{CallLeaves, wish_holds}
 use Rattle.reply_text.specs.declared.reply.Reply.{Reply}
@@ -44,9 +44,9 @@ use Rattle.world_core.specs.declared.asked.Request.{Request}
 use Rattle.world_core.specs.declared.asked.Request.TheVariants.{Begin, Note, Abort, Step, Run, Crash}
 use Rattle.world_core.specs.declared.world.World.{World}
 use Rattle.world_core.specs.declared.world.WorldFault.{WorldFault}
-use Rattle.world_core.specs.Asked.{Asks, OfSession, IsOpening, IsReading, IsScanning, IsPaging, IsFolding, IsInsert, IsUpdate, IsDelete, IsNoted, IsStep}
-use Rattle.world_core.specs.Handled.{Declines, BeginsOp, MakesNoCall, StepsLooked, ComesTo, MakesStep, RunsTo, Runs, SettlesTo, Settles, Crashes, Does, Answers, Handled}
-use Rattle.world_core.specs.Replying.{declined, done_reply, unsettled_reply, value_reply, RepliesTo, RepliesSettled, RepliesBegun}
+use Rattle.world_core.specs.Asked.{Asks, OfSession, IsOpening, IsReading, IsScanning, IsPaging, IsFolding, IsInsert, IsUpdate, IsDelete, IsNoted, IsStep, bound_of}
+use Rattle.world_core.specs.Handled.{Declines, BeginsOp, MakesNoCall, StepsLooked, MakesStep, Runs, SettlesOn, Settles, Crashes, Does, Answers, Handled}
+use Rattle.world_core.specs.Replying.{declined, done_reply, unsettled_reply, value_reply, RepliesTo, RepliesSettled, RepliesBegun, RepliesTurn}
 use Rattle.world_core.specs.Sessions.{Changes}
 use Rattle.world_core.specs.Sound.{IsSoundFor, AnswersSoundly}
 use Rattle.world_core.specs.Stands.{WorldStands}
@@ -92,35 +92,45 @@ module _ (posture : Posture) (now : ℕ) (work : Work) where
 now_there : (number : ℕ) (Is : Acting → Acting → Type 0) (old new : List Acting) → (c : Changes number Is old new) → session_at new number ≡ c.after
 now_there number Is old new c = changed_at number Is old new c number ∙ at_same number c.after (session_at old) number refl
 
--- the answer of a step
-step_sound : (lines : List Line) (who : Caller) (wish : Wish) (before after : Seen) (old new : World) (a : Answer) (r : Reply) (u : CloudState) → who.event ≡ length lines + 1
-    → IsUnderWay lines old before → (p : StepsLooked who wish before after old new (Ended a)) → RepliesTo a p.session.after (Ok r) → after.state ≡ Some u
-    → IsSoundReply (standing lines who.session).posture u.now (session_at new.sessions who.session).work r
-step_sound lines who wish before after old new a r u number way p replies told =
-    answer_sound (standing lines who.session).posture u.now (session_at new.sessions who.session).work a p.session.after r replies stops ends
+-- the trouble of a step is right by how the lines say that its session stands
+step_stops : (lines : List Line) (who : Caller) (wish : Wish) (before after : Seen) (old new : World) (t : Trouble) → who.event ≡ length lines + 1 → IsUnderWay lines old before
+    → StepsLooked who wish before after old new (Ended (answer.Trouble t)) → MayTrouble (standing lines who.session).posture t
+step_stops lines who wish before after old new t number way p =
+    may_by_lines (session_at old.sessions who.session).work (standing lines who.session) t (way.goes.acts who.session).work
+    (session_stops who p.under p.to (record way.after { wish = wish }) left.state held.book held.order (session_at old.sessions) under left.told held.stand p.session.after t own)
   where
-    wished : CloudState
-    wished = record way.after { wish = wish }
+    held : CloudHolds (length lines + 1) lines (session_at old.sessions) old.audit old.blind (record way.after { wish = wish })
+    held = wish_holds (length lines + 1) lines (session_at old.sessions) old.audit old.blind way.after wish way.goes.holds
 
-    f : Sessions
-    f = session_at old.sessions
+    left : CallLeaves lines p.to (session_at old.sessions) who.session p.session.after new.audit new.blind
+    left = call lines who wish before after old new (Ended (answer.Trouble t)) number way p
 
-    held = wish_holds (length lines + 1) lines f old.audit old.blind way.after wish way.goes.holds
+    under : p.under.state ≡ Some (record way.after { wish = wish })
+    under = told_under lines who wish before after old new (Ended (answer.Trouble t)) number way p
 
-    left : CallLeaves lines p.to f who.session p.session.after new.audit new.blind
-    left = call lines who wish before after old new (Ended a) number way p
+    own : StepsSession who p.under p.to (session_at old.sessions who.session) p.session.after (Ok (Ended (answer.Trouble t)))
+    own = steps_own lines who wish before after old new (Ended (answer.Trouble t)) number way p
 
-    under : p.under.state ≡ Some wished
-    under = told_under lines who wish before after old new (Ended a) number way p
+-- and so is the end of a commit
+step_commits : (lines : List Line) (who : Caller) (wish : Wish) (before after : Seen) (old new : World) (c : CommitAnswer) (u : CloudState) → who.event ≡ length lines + 1
+    → IsUnderWay lines old before → StepsLooked who wish before after old new (Ended (answer.Commit c)) → after.state ≡ Some u
+    → MayEnd (HoldsLease u.now (session_at new.sessions who.session).work) c
+step_commits lines who wish before after old new c u number way p told =
+    subst (λ (w : Acting). MayEnd (HoldsLease u.now w.work) c) (sym (now_there who.session _ old.sessions new.sessions p.session))
+    (subst (λ (x : CloudState). MayEnd (HoldsLease x.now p.session.after.work) c) same
+    (session_ends who p.under p.to (record way.after { wish = wish }) left.state held.book held.order (session_at old.sessions) under left.told held.stand p.session.after c own))
+  where
+    held : CloudHolds (length lines + 1) lines (session_at old.sessions) old.audit old.blind (record way.after { wish = wish })
+    held = wish_holds (length lines + 1) lines (session_at old.sessions) old.audit old.blind way.after wish way.goes.holds
 
-    own : StepsSession who p.under p.to (f who.session) p.session.after (Ok (Ended a))
-    own = steps_own lines who wish before after old new (Ended a) number way p
+    left : CallLeaves lines p.to (session_at old.sessions) who.session p.session.after new.audit new.blind
+    left = call lines who wish before after old new (Ended (answer.Commit c)) number way p
 
-    stops : (t : Trouble) → a ≡ answer.Trouble t → (t ≡ trouble.Memory → ⊥) → MayTrouble (standing lines who.session).posture t
-    stops t is other =
-        may_by_lines (f who.session).work (standing lines who.session) t (way.goes.acts who.session).work
-        (session_stops who p.under p.to wished left.state held.book held.order f under left.told held.stand p.session.after t
-        (subst (λ b. StepsSession who p.under p.to (f who.session) p.session.after (Ok (Ended b))) is own))
+    under : p.under.state ≡ Some (record way.after { wish = wish })
+    under = told_under lines who wish before after old new (Ended (answer.Commit c)) number way p
+
+    own : StepsSession who p.under p.to (session_at old.sessions who.session) p.session.after (Ok (Ended (answer.Commit c)))
+    own = steps_own lines who wish before after old new (Ended (answer.Commit c)) number way p
 
     same : left.state ≡ u
     same = state_is left.state u (sym (p.look_after.stays left.state left.told) ∙ told)
@@ -128,12 +138,14 @@ step_sound lines who wish before after old new a r u number way p replies told =
         state_is : (x y : CloudState) → Some x ≡ Some y → x ≡ y
         state_is x y e = cc
 
-    ends : (c : CommitAnswer) → a ≡ answer.Commit c → MayEnd (HoldsLease u.now (session_at new.sessions who.session).work) c
-    ends c is =
-        subst (λ (w : Acting). MayEnd (HoldsLease u.now w.work) c) (sym (now_there who.session _ old.sessions new.sessions p.session))
-        (subst (λ (x : CloudState). MayEnd (HoldsLease x.now p.session.after.work) c) same
-        (session_ends who p.under p.to wished left.state held.book held.order f under left.told held.stand p.session.after c
-        (subst (λ b. StepsSession who p.under p.to (f who.session) p.session.after (Ok (Ended b))) is own)))
+-- the answer of a step
+step_sound : (lines : List Line) (who : Caller) (wish : Wish) (before after : Seen) (old new : World) (a : Answer) (r : Reply) (u : CloudState) → who.event ≡ length lines + 1
+    → IsUnderWay lines old before → (p : StepsLooked who wish before after old new (Ended a)) → RepliesTo a p.session.after (Ok r) → after.state ≡ Some u
+    → IsSoundReply (standing lines who.session).posture u.now (session_at new.sessions who.session).work r
+step_sound lines who wish before after old new a r u number way p replies told =
+    answer_sound (standing lines who.session).posture u.now (session_at new.sessions who.session).work a p.session.after r replies
+    (λ t is other. step_stops lines who wish before after old new t number way (subst (λ b. StepsLooked who wish before after old new (Ended b)) is p))
+    (λ c is. step_commits lines who wish before after old new c u number way (subst (λ b. StepsLooked who wish before after old new (Ended b)) is p) told)
 
 -- ---- what a line asks of a session
 
@@ -193,7 +205,7 @@ module _ (lines : List Line) (n k : ℕ) (before after : Seen) (old new : World)
   makes_sound wish (inl refuses) = not_done _ refuses.declines
   makes_sound wish (inr (inl step)) = on step.turn step.steps step.replies
     where
-      on : (turn : Turn Answer) (p : StepsLooked who wish before after old new turn) → Rattle.world_core.specs.Replying.RepliesTurn turn p.session.after (Ok r) → Sounds r
+      on : (turn : Turn Answer) (p : StepsLooked who wish before after old new turn) → RepliesTurn turn p.session.after (Ok r) → Sounds r
       on More p e = plainly reply.Called e tt
       on (Ended a) p e = step_sound lines who wish before after old new a r u (sym number) way p e told_after
       on (Stopped q) p e = absurd (no_stop _ p.under p.to p.session.before p.session.after q p.session.does)
@@ -264,15 +276,84 @@ module _ (lines : List Line) (n : ℕ) (before after : Seen) (old new : World) (
       from : IsUnderWay lines h.begun before
       from = settler_begins lines n before old h.begun t (sym number) told stands h.begins
 
-      by_end : SettlesTo settler before after h.begun new (Ok r) ⊎ _ → IsSoundReply (standing lines 0).posture u.now (session_at new.sessions 0).work r
+      by_end : SettlesOn settler before after h.begun new (Ok r) → IsSoundReply (standing lines 0).posture u.now (session_at new.sessions 0).work r
       by_end (inr memory) = absurd (no_memory r memory)
       by_end (inl s) = on s.answer s.comes.steps s.replies
         where
           way_there : IsUnderWay lines s.comes.world s.comes.mid
           way_there = went_on lines settler before h.begun s.comes.mid s.comes.world (sym number) from s.comes.went
 
-          on : (a : Answer) (p : StepsLooked settler Plain s.comes.mid after s.comes.world s.left (Ended a)) → RepliesSettled a (Ok r)
+          on : (a : Answer) → StepsLooked settler Plain s.comes.mid after s.comes.world s.left (Ended a) → RepliesSettled a (Ok r)
               → IsSoundReply (standing lines 0).posture u.now (session_at new.sessions 0).work r
           on (answer.Settled x) p e = let is : r ≡ reply.Settled x.calls = cc in subst (λ z. IsSoundReply (standing lines 0).posture u.now (session_at new.sessions 0).work z) (sym is) tt
-          on (answer.Trouble q) p e = ?
+          on (answer.Trouble q) p e =
+              unsettled q e
+              (subst (λ z. MayTrouble z q) closed (step_stops lines settler Plain s.comes.mid after s.comes.world s.left q (sym number) way_there p))
           on a p e = absurd e
+    -- the settler stands closed by the lines
+    closed : (standing lines 0).posture ≡ Closed
+    closed = (subst (λ a. ActsAs a (standing lines 0)) stands.rests (stands.acts 0)).work
+
+-- ---- every line
+
+asked_sound : (n : ℕ) (event : Event) (asked : Asked) (before after : Seen) (old new : World) (r : Reply) (lines : List Line) (t u : CloudState)
+    → Asks event asked → Answers n asked before after old new (Ok r) → length lines + 1 ≡ n → before.state ≡ Some t → WorldStands lines old t → after.state ≡ Some u
+    → IsSoundFor event (standing lines (session_of event)).posture u.now (session_at new.sessions (session_of event)).work r
+asked_sound n (event.Open k client) asked before after old new r lines t u asks answers at told stands later =
+    request_sound lines n k before after old new r t u at told stands later (IsOpening client) asked asks answers
+    (λ request is. same_right lines n k before after old new r t u at told stands later request (Begin (op.Open client)) (ap (λ q. Ok q) is.1) is.0)
+asked_sound n (event.Insert k tree key payload) asked before after old new r lines t u asks answers at told stands later =
+    request_sound lines n k before after old new r t u at told stands later (IsNoted tree (IsInsert key payload)) asked asks answers
+    (noted_right lines n k before after old new r t u at told stands later tree (IsInsert key payload))
+asked_sound n (event.Update k tree key payload) asked before after old new r lines t u asks answers at told stands later =
+    request_sound lines n k before after old new r t u at told stands later (IsNoted tree (IsUpdate key payload)) asked asks answers
+    (noted_right lines n k before after old new r t u at told stands later tree (IsUpdate key payload))
+asked_sound n (event.Delete k tree key) asked before after old new r lines t u asks answers at told stands later =
+    request_sound lines n k before after old new r t u at told stands later (IsNoted tree (IsDelete key)) asked asks answers
+    (noted_right lines n k before after old new r t u at told stands later tree (IsDelete key))
+asked_sound n (event.Read k tree key) asked before after old new r lines t u asks answers at told stands later =
+    request_sound lines n k before after old new r t u at told stands later (IsReading tree key) asked asks answers
+    (λ request is. same_right lines n k before after old new r t u at told stands later request (Begin (op.Read tree key)) (ap (λ q. Ok q) is.2) is.0)
+asked_sound n (event.Scan k tree from to) asked before after old new r lines t u asks answers at told stands later =
+    request_sound lines n k before after old new r t u at told stands later (IsScanning tree from to) asked asks answers
+    (λ request is. same_right lines n k before after old new r t u at told stands later request (Begin (op.Scan tree (bound_of from) (bound_of to))) (ap (λ q. Ok q) is.3) is.0)
+asked_sound n (event.Page k tree page) asked before after old new r lines t u asks answers at told stands later =
+    request_sound lines n k before after old new r t u at told stands later (IsPaging tree page) asked asks answers
+    (λ request is. same_right lines n k before after old new r t u at told stands later request (Begin (op.Page tree page)) (ap (λ q. Ok q) is.2) (is.0, is.1))
+asked_sound n (event.Tree k tree) asked before after old new r lines t u asks answers at told stands later =
+    request_sound lines n k before after old new r t u at told stands later (IsFolding tree) asked asks answers
+    (λ request is. same_right lines n k before after old new r t u at told stands later request (Begin (op.Tree tree)) (ap (λ q. Ok q) is.1) is.0)
+asked_sound n (event.Close k) asked before after old new r lines t u asks answers at told stands later =
+    request_sound lines n k before after old new r t u at told stands later (λ request. request ≡ Ok (Begin op.Close)) asked asks answers
+    (λ request is. same_right lines n k before after old new r t u at told stands later request (Begin op.Close) is tt)
+asked_sound n (event.Renew k) asked before after old new r lines t u asks answers at told stands later =
+    request_sound lines n k before after old new r t u at told stands later (λ request. request ≡ Ok (Begin op.Renew)) asked asks answers
+    (λ request is. same_right lines n k before after old new r t u at told stands later request (Begin op.Renew) is tt)
+asked_sound n (event.Commit k) asked before after old new r lines t u asks answers at told stands later =
+    request_sound lines n k before after old new r t u at told stands later (λ request. request ≡ Ok (Begin op.Commit)) asked asks answers
+    (λ request is. same_right lines n k before after old new r t u at told stands later request (Begin op.Commit) is tt)
+asked_sound n (event.Abort k) asked before after old new r lines t u asks answers at told stands later =
+    request_sound lines n k before after old new r t u at told stands later (λ request. request ≡ Ok Abort) asked asks answers
+    (λ request is. same_right lines n k before after old new r t u at told stands later request Abort is tt)
+asked_sound n (event.Step k wish) asked before after old new r lines t u asks answers at told stands later =
+    request_sound lines n k before after old new r t u at told stands later (IsStep wish) asked asks answers
+    (λ request is. same_right lines n k before after old new r t u at told stands later request (Step wish) (ap (λ q. Ok q) is) tt)
+asked_sound n (event.Run k) asked before after old new r lines t u asks answers at told stands later =
+    request_sound lines n k before after old new r t u at told stands later (λ request. request ≡ Ok Run) asked asks answers
+    (λ request is. same_right lines n k before after old new r t u at told stands later request Run is tt)
+asked_sound n (event.Crash k done) asked before after old new r lines t u asks answers at told stands later =
+    request_sound lines n k before after old new r t u at told stands later (λ request. request ≡ Ok (Crash done)) asked asks answers
+    (λ request is. same_right lines n k before after old new r t u at told stands later request (Crash done) is tt)
+asked_sound n (event.Wait ticks) asked before after old new r lines t u asks answers at told stands later = on (subst (λ z. Answers n z before after old new (Ok r)) asks answers)
+  where
+    on : Answers n (Wait ticks) before after old new (Ok r) → IsSoundReply (standing lines 0).posture u.now (session_at new.sessions 0).work r
+    on (inl h) = plainly lines n 0 before after old new r t u at told stands later reply.Waited h.0.replies tt
+    on (inr long) = not_done lines n 0 before after old new r t u at told stands later _ long.declines
+asked_sound n (event.Report tree) asked before after old new r lines t u asks answers at told stands later = tt
+asked_sound n event.Settle asked before after old new r lines t u asks answers at told stands later =
+    settle_sound lines n before after old new r t u at told stands (subst (λ z. Answers n z before after old new (Ok r)) asks answers)
+
+pub sound_after : (n : ℕ) (event : Event) (before after : Seen) (old new : World) (result : Result Reply WorldFault)
+    → Handled n event before after old new result → AnswersSoundly n event before after old new result
+sound_after n event before after old new (Ok r) h = λ lines t u at told stands later. asked_sound n event h.asked before after old new r lines t u h.asks h.answers at told stands later
+sound_after n event before after old new (Err fault) h = tt

@@ -25,7 +25,7 @@ stepped who before after old new buffer work left c d shown turn is_work is_cach
         d,
         subst (λ (b : List Noted). ShowsAt who before after b old.work old.cache d left shown turn) is_buffer
             (subst (λ (w : Work). ShowsAt who before after buffer w old.cache d left shown turn) is_work
-                (subst (λ (x : Cache). ShowsAt who before after buffer work x d left shown turn) is_cache shows)),
+            (subst (λ (x : Cache). ShowsAt who before after buffer work x d left shown turn) is_cache shows)),
         refl,
       );
     })

@@ -1,5 +1,5 @@
 -- How a session stands.
-use Rattle.std.specs.Prelude.{ℕ, ◌≡◌, ◌≢◌, ◌≤◌, ◌<◌, ◌⊎◌, ◌^◌, ◌++◌, Bool, true, false, List, [], length, map, Option, Some, None, Result, Ok, Err}
+use Rattle.std.specs.Prelude.{ℕ, ◌≡◌, ◌≢◌, ◌≤◌, ◌<◌, ◌⊎◌, ◌^◌, ◌++◌, Bool, true, false, List, [], ◌∷◌, length, map, Option, Some, None, Result, Ok, Err}
 use Rattle.db_base.specs.declared.refusal.Refusal.{Refusal}
 use Rattle.db_base.specs.declared.refusal.Refusal.TheVariants as rule
 use Rattle.head_codec.specs.declared.head.Head.{Head}
@@ -89,9 +89,14 @@ StopsAtMost None = Unit {0}
 abbrev pub IsOpening : Recovery → Type 0
 IsOpening m = (m.aim ≡ aim.Opening) × StopsAtMost m.ending
 
--- a settling came here from its first call on
+-- the newest call tells nothing of the cloud's state
+abbrev pub IsUntold : List Deed → Type 0
+IsUntold [] = Unit {0}
+IsUntold (d ∷ h) = d.after.state ≡ None
+
+-- a settling came here from its first call on, whatever the cloud tells
 abbrev pub IsSettling : SettlingState → Type 0
-IsSettling m = (h : List Deed) × Went h m
+IsSettling m = (h : List Deed) × Went h m × IsUntold h
 
 -- an opening in hand is one, and so is a settling
 abbrev pub IsOfClient : Work → Type 0

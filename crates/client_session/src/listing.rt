@@ -22,7 +22,7 @@ pub(crate) fn list_items(
     pairs: &mut PairList,
     items: Items<'_>,
 ) -> Result<(), AllocError>
-    ensures { OnOk result (pairs.new ≡ pairs.old ++ map pair_of items) }
+    ensures { OnOk result (pairs.new ≡ pairs.old ++ map pair_of items.entry) }
 {
     let mut left = items;
     while let Some((key, payload)) = left.take_first() {

@@ -1,7 +1,5 @@
-ghost use Rattle.std.specs.Prelude.{◌≡◌};
-ghost use Rattle.page_cache.specs.Held.{leaf_at};
-ghost use Rattle.range_scan.specs.Scan.{scan_object};
-ghost use Rattle.client_session.specs.Session.{Follows, IsOfClient, ListsLeaf, ScansOf, StepsScanning, begins_by};
+ghost use Rattle.std.specs.Prelude.{◌≡◌, IfSome};
+ghost use Rattle.client_session.specs.Session.{Follows, IsListed, IsOfClient, ListsLeaf, ScansOf, StepsScanning, begins_by};
 
 use crate::answer::{Answer, Begun};
 use crate::listing::{Listing, list_items};

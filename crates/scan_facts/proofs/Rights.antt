@@ -1,5 +1,5 @@
 -- At a leaf a scan ends, with what is to its right: a page further right, to which it has not come before.
-use Rattle.std.proofs.Common.{◌≡◌, ◌≢◌, ◌==◌, ◌||◌, ◌&&◌, ◌⊎◌, inl, inr, ℕ, zero, suc, Bool, true, false, cond, List, [], ◌∷◌, ◌++◌, Option, Some, None, unwrap_or, refl, sym, ap, subst, ◌∙◌, true≢false}
+use Rattle.std.proofs.Common.{◌≡◌, ◌≢◌, ◌==◌, ◌&&◌, ◌⊎◌, inl, inr, ℕ, zero, suc, Bool, true, false, cond, List, [], ◌∷◌, ◌++◌, Option, Some, None, unwrap_or, refl, sym, ap, subst, ◌∙◌, true≢false}
 use Rattle.std.specs.Prelude.{slice_get}
 use Rattle.std.proofs.lemmas.Bool.{or_cases, eqb-true}
 use Rattle.std.proofs.lemmas.List.Folds.{list_any-append}
@@ -9,7 +9,7 @@ use Rattle.chain_facts.specs.Links.{first_link}
 use Rattle.chain_facts.proofs.Pieces.{not_itself}
 use Rattle.chain_meaning.specs.Meets.{IsPassed}
 use Rattle.chain_meaning.proofs.Steps.{not_passed, passed_right}
-use Rattle.cloud_trait.specs.Machine.{Next, Goes, Ends, Stops}
+use Rattle.cloud_trait.specs.Machine.{Next, Ends, Stops}
 use Rattle.db_base.specs.Ids.{IsTree}
 use Rattle.db_base.specs.declared.names.ObjName.TheVariants as object
 use Rattle.db_base.specs.declared.trouble.Trouble.TheVariants as trouble
@@ -18,10 +18,10 @@ use Rattle.leaf_view.specs.Lookup.{page_at}
 use Rattle.page_cache.specs.Cache.{Cache}
 use Rattle.page_cache.specs.Held.{leaf_at}
 use Rattle.range_scan.specs.Scan.{Scan, scan_object, scan_came_to, right_behind, ended_at, leaf_ended, scan_beside}
-use Rattle.scan_facts.specs.Scans.{IsLeafLink, IsBehind, IsOnRight, StandsRight, IsFurther, LeadsRight, KnowsScan, IsAtScannedLeaf, ScanLeads}
+use Rattle.scan_facts.specs.Scans.{IsLeafLink, IsBehind, StandsRight, LeadsRight, KnowsScan, ScanLeads}
 use Rattle.store_book.specs.Book.{Link}
 use Rattle.store_book.specs.Records.{IsIn}
-use Rattle.store_book.specs.Tally.{Node, Leafy, Store, right_of}
+use Rattle.store_book.specs.Tally.{Node, Leafy, Store}
 use Rattle.tree_walk.specs.Walk.{Spot, is_among}
 use Rattle.walk_facts.specs.Caches.{KnowsCache, IsSeenLeaf}
 use Rattle.walk_facts.specs.Walks.{MayStop}

@@ -13,13 +13,13 @@ use Rattle.db_base.specs.declared.trouble.Trouble.{Trouble}
 use Rattle.page_cache.specs.Cache.{Cache}
 use Rattle.range_scan.specs.Scan.{Scan, new_scan, scan_object, scan_ask, is_wanted, goes_on, moved_on, walked_by, scan_ready, scan_next}
 use Rattle.report_types.specs.declared.entry.Entry.{Entry}
-use Rattle.scan_facts.specs.Scans.{IsBehind, IsOnRight, StandsRight, LeadsRight, KnowsScan, KnowsScanning, IsAtScannedLeaf, ScanLeads}
+use Rattle.scan_facts.specs.Scans.{IsBehind, StandsRight, LeadsRight, KnowsScan, KnowsScanning, IsAtScannedLeaf, ScanLeads}
 use Rattle.scan_facts.proofs.Turns.{scan_turns}
-use Rattle.store_book.specs.Book.{Book, Link}
+use Rattle.store_book.specs.Book.{Book}
 use Rattle.store_book.specs.Growth.{Grows}
 use Rattle.store_book.specs.Tally.{Store}
 use Rattle.telling_facts.specs.Told.{store_of}
-use Rattle.tree_walk.specs.Walk.{Spot, is_page, is_among, came_to, new_walk}
+use Rattle.tree_walk.specs.Walk.{Spot, is_page, is_among, came_to}
 use Rattle.walk_facts.specs.Caches.{KnowsCache}
 use Rattle.walk_facts.specs.Walks.{MayStop}
 use Rattle.walk_facts.proofs.Caches.{cache_grows}

@@ -21,7 +21,7 @@ use Rattle.page_cache.specs.Cache.{Cache, kept_at, accepts}
 use Rattle.page_cache.specs.Held.{leaf_at, as_leaf}
 use Rattle.page_cache.proofs.CacheLemmas.{accept_kept}
 use Rattle.range_scan.specs.Scan.{Scan, scan_object, scan_object_at, scan_came_to, leaf_ended, first_in, walked_by, right_read_in, right_accepted, right_got, scan_beside, next_at, scan_next}
-use Rattle.scan_facts.specs.Scans.{IsLeafLink, IsBehind, IsOnRight, StandsRight, KnowsScan, KnowsScanning, ScanLeads}
+use Rattle.scan_facts.specs.Scans.{IsLeafLink, IsBehind, IsOnRight, StandsRight, KnowsScanning, ScanLeads}
 use Rattle.scan_facts.proofs.Rights.{none_among, among_more, version, seen_low, leaf_leads}
 use Rattle.store_book.specs.Book.{Link}
 use Rattle.store_book.specs.Records.{IsIn}

@@ -25,7 +25,6 @@ use Rattle.recover_run.specs.declared.home.Home.{Home}
 use Rattle.report_types.specs.declared.entry.Entry.{Entry}
 use Rattle.session_facts.specs.Sessions.{IsHome}
 use Rattle.session_facts.proofs.GettingSteps.{get_handles, get_out, broken_out}
-use Rattle.session_facts.proofs.Kept.{KnowsBoth}
 use Rattle.session_facts.proofs.LeaseSteps.{IsStepOf}
 use Rattle.session_facts.proofs.Troubles.{memory_or, stays_open}
 use Rattle.store_book.specs.Book.{Book}

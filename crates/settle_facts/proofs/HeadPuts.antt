@@ -12,10 +12,10 @@ use Rattle.opening_facts.proofs.HeadPuts.{opening_puts}
 use Rattle.page_facts.proofs.HeadPuts.{paging_puts_none}
 use Rattle.settle_run.specs.declared.part.Part.{Part as AtWork}
 use Rattle.settle_run.specs.declared.part.Part.TheVariants.{Client, Tree, Page}
-use Rattle.settle_run.specs.Parts.{part_ask}
+use Rattle.settle_run.specs.Parts.{part_ask, IsSoundPart}
 use Rattle.settle_run.specs.Settling.{Settling, settle_ask}
 use Rattle.settle_facts.specs.Puts.{IsAtClient, PutsHead}
-use Rattle.settle_facts.specs.Settling.{KnowsAtWork, KnowsSettling, IsSoundAtWork, IsSoundSettling}
+use Rattle.settle_facts.specs.Settling.{KnowsAtWork, KnowsSettling}
 use Rattle.split_plan.specs.declared.put_list.PagePut.{PagePut}
 use Rattle.store_book.specs.Tally.{Store}
 use Rattle.tree_ckpt.specs.Making.{Making, making_ask}
@@ -82,11 +82,11 @@ making_puts_none m client bytes one two e = never (sym (ap puts_head e) ∙ work
 -- ---- the whole
 
 -- a put of a head in hand is that of a recovery, and of a head that is settled
-pub settling_puts : (st : Store) (now : ℕ) (s : Settling) (part : Part) (client : ℕ) (bytes : List ℕ) (one : Claim) (two : Option Claim) → KnowsSettling st now s part → IsSoundSettling s
+pub settling_puts : (st : Store) (now : ℕ) (s : Settling) (part : Part) (client : ℕ) (bytes : List ℕ) (one : Claim) (two : Option Claim) → KnowsSettling st now s part → IsSoundPart s.part
     → settle_ask s ≡ PutHeld (object.Head client) bytes one two → PutsHead s client bytes
 settling_puts st now s part client bytes one two k sound e = on s.part refl k sound e
   where
-    on : (w : AtWork) → s.part ≡ w → KnowsAtWork st now w part → IsSoundAtWork w → part_ask w ≡ PutHeld (object.Head client) bytes one two → PutsHead s client bytes
+    on : (w : AtWork) → s.part ≡ w → KnowsAtWork st now w part → IsSoundPart w → part_ask w ≡ PutHeld (object.Head client) bytes one two → PutsHead s client bytes
     on (Client other m) is k sound e =
         let p = opening_puts st now m part client bytes one two k.knows sound e in
         record { head = p.head; spells = p.spells; client_is = subst (λ w. IsAtClient w client) (sym is) (sym k.client_is ∙ p.client_is); settled = p.settled }

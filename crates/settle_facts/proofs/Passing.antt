@@ -1,5 +1,5 @@
 -- What is known where a part goes on, ends or stops is known of the settling.
-use Rattle.std.proofs.Common.{◌≡◌, ◌+◌, ◌≤◌, ℕ, zero, suc, Bool, true, false, cond, List, [], ◌∷◌, ◌++◌, Option, Some, None, refl, sym, ap, arith}
+use Rattle.std.proofs.Common.{◌≡◌, ◌+◌, ◌≤◌, ℕ, zero, suc, Bool, true, false, cond, List, [], ◌∷◌, Option, Some, None, refl, sym, arith}
 use Rattle.std.specs.Prelude.{◌==◌, nat_lt}
 use Rattle.std.proofs.lemmas.Bool.Decides.{nat_tests}
 use Rattle.cloud_trait.specs.declared.answer.Answer.{Answer}
@@ -13,8 +13,8 @@ use Rattle.recover_run.specs.Ids.{new_ids}
 use Rattle.settle_run.specs.declared.part.Part.{Part as AtWork}
 use Rattle.settle_run.specs.declared.part.Part.TheVariants.{Client, Tree, Page}
 use Rattle.settle_run.specs.Parts.{part_of_client, part_of_tree, part_again, part_received, PartLeads}
-use Rattle.settle_run.specs.Settling.{Settling, Step, begins, behind_client, to_page, behind_tree, is_visited, goes_right, goes_on, passed_with, passed, ended_by, counted, with_part, moved}
-use Rattle.settle_facts.specs.Settling.{KnowsAtWork, KnowsSettling, KnowsNext, leases_at_work, leases_next}
+use Rattle.settle_run.specs.Settling.{Settling, begins, behind_client, to_page, behind_tree, is_visited, goes_right, goes_on, passed_with, passed, ended_by, counted, with_part, moved}
+use Rattle.settle_facts.specs.Settling.{KnowsAtWork, KnowsNext, leases_at_work, leases_next}
 use Rattle.settle_facts.proofs.Begins.{client_begins, tree_begins, page_begins, behind_begins}
 use Rattle.store_book.specs.Tally.{Store}
 

@@ -24,7 +24,7 @@ use Rattle.recover_run.specs.declared.stage.Stage.TheVariants.{ReleasingOld, Tak
 use Rattle.recover_run.specs.Gathering.{gathered_with, lost_now, past_ids}
 use Rattle.recover_run.specs.Ids.{new_ids, rest_of}
 use Rattle.recover_run.specs.Items.{items_of}
-use Rattle.recover_run.specs.Recovery.{Recovery, Step, recovery_next, next_at, taken_by, behind, phase_read, head_read, bytes_read, none_read, got_by, goes_to, stopping, send_or_put, send_at, decided, deleting, gathered_by, received_by, deleted_by, with_pending, sent_by, clearing, kept_ids, put_by, opened, sweeping, swept_with, swept_by, ended, released, home_of}
+use Rattle.recover_run.specs.Recovery.{Recovery, Step, recovery_next, next_at, taken_by, behind, phase_read, head_read, bytes_read, none_read, got_by, goes_to, stopping, send_or_put, send_at, decided, deleting, gathered_by, received_by, deleted_by, with_pending, sent_by, clearing, kept_ids, put_by, opened, sweeping, swept_with, swept_by, ended, home_of}
 
 -- where a step leads the client and the aim are as they were, and where it ends for a settling no client is open
 abbrev pub Keeps : Recovery → Step → Type 0

@@ -1,10 +1,9 @@
 -- What a settling knows survives the calls of others.
-use Rattle.std.proofs.Common.{◌≡◌, ◌≤◌, ℕ, List, sym, subst}
+use Rattle.std.proofs.Common.{◌≤◌, ℕ, sym, subst}
 use Rattle.cloud_facts.specs.Acting.{HasLeaseOf}
 use Rattle.cloud_facts.specs.Others.{Others}
 use Rattle.cloud_facts.proofs.Guarding.{others_itself}
-use Rattle.cloud_trait.specs.Claim.{Claim}
-use Rattle.home_facts.specs.Homes.{Part, Away}
+use Rattle.home_facts.specs.Homes.{Part}
 use Rattle.opening_facts.proofs.Others.{opening_others, opening_lease}
 use Rattle.page_facts.proofs.PagingOthers.{paging_others}
 use Rattle.settle_run.specs.declared.part.Part.{Part as AtWork}

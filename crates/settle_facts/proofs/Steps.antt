@@ -1,6 +1,5 @@
 -- What a call of a settling leaves, whatever it was answered and whether it landed or not.
-use Rattle.std.proofs.Common.{◌≡◌, ◌≤◌, ℕ, List, ◌++◌, Option, None, refl, sym, ap, subst, ◌∙◌}
-use Rattle.std.specs.Prelude.{map}
+use Rattle.std.proofs.Common.{◌≡◌, ℕ, List, Option, None, refl, sym, ap, subst, ◌∙◌}
 use Rattle.std.proofs.lemmas.List.{append-nil}
 use Rattle.cloud_facts.specs.Acting.{Setting, Outcome, Aside}
 use Rattle.cloud_facts.specs.Call.{IsCall}
@@ -9,17 +8,16 @@ use Rattle.cloud_trait.specs.declared.answer.Answer.{Answer}
 use Rattle.cloud_trait.specs.declared.turn.CkptAnswer.{CkptAnswer}
 use Rattle.cloud_trait.specs.Ask.{Ask, Get, GetHeld, PutHeld, Send, Receive, Delete, Take, Renew, Release}
 use Rattle.cloud_trait.specs.Caller.{Caller}
-use Rattle.cloud_trait.specs.Claim.{Claim}
 use Rattle.cloud_trait.specs.Machine.{Next, Goes, Ends, Stops}
 use Rattle.cloud_trait.specs.State.{CloudState}
 use Rattle.cloud_trait.specs.Weather.{Fits}
 use Rattle.db_base.specs.Ids.{IsClient, IsTree, IsPage}
 use Rattle.db_base.specs.declared.names.ObjName.TheVariants as object
-use Rattle.history.specs.Audited.{Audited, applied_entry}
+use Rattle.history.specs.Audited.{Audited}
 use Rattle.home_facts.specs.Homes.{Part, Parts, Away}
 use Rattle.opening_facts.specs.Opening.{leases_of_recovery, KnowsEnd, KnowsNext as KnowsOpened}
 use Rattle.opening_facts.proofs.Outcomes.{opening_outcome}
-use Rattle.page_ckpt.specs.Paging.{Paging, Step as PageStep, PagingLeads, paging_ask}
+use Rattle.page_ckpt.specs.Paging.{Paging, Step as PageStep, paging_ask}
 use Rattle.page_facts.specs.Checkpoint.{KnowsAfter as KnowsPaged, KnowsNext as KnowsPagingNext, leases_of_paging, paging_note}
 use Rattle.page_facts.proofs.Steps.{paging_outcome}
 use Rattle.recover_run.specs.declared.home.Home.{Home}
@@ -28,9 +26,9 @@ use Rattle.recover_run.specs.Recovery.{Recovery, Step as RecoveryStep, recovery_
 use Rattle.report_types.specs.declared.entry.Entry.{Entry}
 use Rattle.settle_run.specs.declared.part.Part.{Part as AtWork}
 use Rattle.settle_run.specs.declared.part.Part.TheVariants.{Client, Tree, Page}
-use Rattle.settle_run.specs.Parts.{part_ask, part_applying, recovers, makes, pages, PartLeads}
-use Rattle.settle_run.specs.Settling.{Settling, Step, settle_ask, moved, SettleLeads}
-use Rattle.settle_facts.specs.Settling.{KnowsAtWork, KnowsSettling, IsSoundAtWork, IsSoundSettling, KnowsNext, KnowsAfter, leases_at_work, leases_of_settling, note_at_work, settling_note}
+use Rattle.settle_run.specs.Parts.{part_ask, IsSoundPart, recovers, makes, pages}
+use Rattle.settle_run.specs.Settling.{Settling, settle_ask}
+use Rattle.settle_facts.specs.Settling.{KnowsAtWork, KnowsSettling, KnowsNext, KnowsAfter, leases_at_work, leases_of_settling, note_at_work, settling_note}
 use Rattle.settle_facts.proofs.Pagings.{Keeps as KeepsPage, paging_keeps}
 use Rattle.settle_facts.proofs.Passing.{KnowsMoved, KnowsBehind, moved_knows}
 use Rattle.settle_facts.proofs.Recoveries.{Keeps as KeepsClient, recovery_keeps}
@@ -125,7 +123,7 @@ module _ (who : Caller) (s t : CloudState) (book : Book) (order : List Entry) (p
   abbrev Leaves : AtWork → (Audited → Audited) → Type 0
   Leaves w note = Outcome who book order s t parts (leases_at_work w) (part_ask w) note (KnowsBehind w reply)
 
-  work_outcome : (w : AtWork) → Setting book order s t.now parts who.session (leases_at_work w) → KnowsAtWork (store_of book order s) s.now w (parts who.session) → IsSoundAtWork w
+  work_outcome : (w : AtWork) → Setting book order s t.now parts who.session (leases_at_work w) → KnowsAtWork (store_of book order s) s.now w (parts who.session) → IsSoundPart w
       → IsCall who (part_ask w) reply s t → Fits (part_ask w) reply → Leaves w (note_at_work w (part_ask w))
   work_outcome (Client client m) setting k sound call fits =
       let later = at_work_later (store_of book order s) s.now t.now (Client client m) (parts who.session) call.later k in
@@ -148,7 +146,7 @@ module _ (who : Caller) (s t : CloudState) (book : Book) (order : List Entry) (p
 
 -- a call of a settling
 pub settling_outcome : (who : Caller) (s t : CloudState) (book : Book) (order : List Entry) (parts : Parts) (m : Settling) (reply : Answer)
-    → Setting book order s t.now parts who.session (leases_of_settling m) → KnowsSettling (store_of book order s) s.now m (parts who.session) → IsSoundSettling m
+    → Setting book order s t.now parts who.session (leases_of_settling m) → KnowsSettling (store_of book order s) s.now m (parts who.session) → IsSoundPart m.part
     → IsCall who (settle_ask m) reply s t → Fits (settle_ask m) reply
     → Outcome who book order s t parts (leases_of_settling m) (settle_ask m) (settling_note m (settle_ask m)) (KnowsAfter m reply)
 settling_outcome who s t book order parts m reply setting k sound call fits =

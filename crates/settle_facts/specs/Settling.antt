@@ -11,7 +11,7 @@ use Rattle.opening_facts.specs.Opening.{KnowsOpening, leases_of_recovery}
 use Rattle.page_ckpt.specs.Paging.{Paging}
 use Rattle.page_facts.specs.Checkpoint.{KnowsPaging, leases_of_paging}
 use Rattle.recover_run.specs.declared.stage.Aim.TheVariants as aim
-use Rattle.recover_run.specs.Recovery.{Recovery, IsSound}
+use Rattle.recover_run.specs.Recovery.{Recovery}
 use Rattle.settle_run.specs.declared.part.Part.{Part as AtWork}
 use Rattle.settle_run.specs.declared.part.Part.TheVariants.{Client, Tree, Page}
 use Rattle.settle_run.specs.Parts.{part_applying}
@@ -49,15 +49,6 @@ KnowsAtWork st now (Page tree page m) part = MakesPage st now tree page m part
 -- a settling knows what its part at work knows
 abbrev pub KnowsSettling : Store → ℕ → Settling → Part → Type 0
 KnowsSettling st now s part = KnowsAtWork st now s.part part
-
--- a recovery has the bytes in hand that it is to put or send
-abbrev pub IsSoundAtWork : AtWork → Type 0
-IsSoundAtWork (Client client m) = IsSound m
-IsSoundAtWork (Tree tree m) = Unit {0}
-IsSoundAtWork (Page tree page m) = Unit {0}
-
-abbrev pub IsSoundSettling : Settling → Type 0
-IsSoundSettling s = IsSoundAtWork s.part
 
 -- ---- where an answer leads
 

@@ -145,7 +145,7 @@ put_may st now lease f ids k reply =
     some =
         let pages = on_pages f.page k.puts.first (k.puts.placing.front ∷ k.puts.placing.middle) in
         let e : length f.placing.puts ≡ length pages =
-            ap (λ (xs : List PagePut). length xs) k.puts.placing.puts_are ∙ (length-reverse (map (put_of leaf_bytes) pages) ∙ length-map pages (put_of leaf_bytes)) in
+        ap (λ (xs : List PagePut). length xs) k.puts.placing.puts_are ∙ (length-reverse (map (put_of leaf_bytes) pages) ∙ length-map pages (put_of leaf_bytes)) in
         omega (arith, e)
 
     full : has_nothing f.placing ≡ false

@@ -1,5 +1,5 @@
 -- The begin of an operation that is answered at once stops for want of memory alone, and a commit ends so with no damage while its lease lasts.
-use Rattle.std.proofs.Common.{◌≡◌, ◌≢◌, ◌⊎◌, inl, inr, ℕ, List, [], Option, Some, None, Result, Ok, Err, refl, sym, ap, subst, ◌∙◌}
+use Rattle.std.proofs.Common.{◌≡◌, ◌≢◌, ◌⊎◌, inl, inr, ℕ, false, List, [], Option, Some, None, Result, Ok, Err, refl, sym, ap, subst, ◌∙◌}
 use Rattle.client_session.specs.Session.{Acting, Begins, BeginsWith, HasInHand, CommitsIn, CommitsOf, CommitsNoted, ReadsIn, ReadsOf, ScansIn, ScansOf, ListsLeaf, Follows, begins_by, paging_begun_by, folding_begun_by}
 use Rattle.client_session.specs.declared.answer.Answer.{Answer}
 use Rattle.client_session.specs.declared.answer.Answer.TheVariants as answer
@@ -79,7 +79,7 @@ module _ (book : Book) (order : List Entry) (s : CloudState) (sessions : Session
   -- ---- troubles
 
   read_stops : (tree : ℕ) (key : List ℕ) (home : Home) (t : Trouble) → IsTree tree → old.work ≡ Idle home → ReadsIn tree key old home new (Answered (answer.Trouble t)) → t ≡ trouble.Memory
-  read_stops tree key home t is idle (same, m, leads, e, none) =
+  read_stops tree key home t is idle (same, (m, leads, e, none)) =
       let begins = walk_begins st stand.cloud.holds.chains tree (Some key) false old.cache is (cache_known home idle) in
       by_memory t (λ other. goes_not (walk_ready (new_walk tree (Some key) false, old.cache)) begins.0 (m, new.cache) t begins.1 (leads other))
 
@@ -120,7 +120,7 @@ module _ (book : Book) (order : List Entry) (s : CloudState) (sessions : Session
     where
       never : (let x : Begun = Answered (answer.Trouble t) in let y : Begun = Answered (answer.Commit (Committed 0)) in x ≡ y) → ⊥
       never e = cc
-  commit_stops home t (inr (some, memory, broken)) = memory
+  commit_stops home t (inr (some, (memory, broken))) = memory
 
   pub begin_stops : (o : Op) (t : Trouble) → IsRightOp o → Begins o old new (Ok (Answered (answer.Trouble t))) → t ≡ trouble.Memory
   begin_stops (op.Open client) t is never = absurd never
@@ -136,14 +136,11 @@ module _ (book : Book) (order : List Entry) (s : CloudState) (sessions : Session
 
   commit_ends : (home : Home) (a : CommitAnswer) → old.work ≡ Idle home → CommitsNoted home old.buffer old.cache new.cache new.work (Answered (answer.Commit a)) → MayEnd (HoldsLease s.now new.work) a
   commit_ends home a idle (inl nothing) = subst (MayEnd (HoldsLease s.now new.work)) (sym (end_is a (Committed 0) nothing.answer)) tt
-  commit_ends home a idle (inr (some, m, leads, left)) =
+  commit_ends home a idle (inr (some, (m, leads, left))) =
       by_end a (subst (RunLeaseStays home.lease) leads (ready_lease home old.buffer old.cache)) left
       (subst (EndsWell (Lasts s.now home.lease)) leads
       (ready_ends book order s stand.cloud s.now (stand.parts session) home old.buffer old.cache (home_known home idle) (stand.each session).buffer (cache_known home idle)))
     where
-      home_is : (g h : Home) → Idle g ≡ Idle h → g ≡ h
-      home_is g h e = cc
-
       by_end : (a : CommitAnswer) → (home_of m).lease ≡ home.lease → new.work ≡ Idle (home_of m) → MayEnd (Lasts s.now home.lease) a → MayEnd (HoldsLease s.now new.work) a
       by_end (NotCommitted t) same is may = lasting_end s.now home.lease (home_of m) new.work (NotCommitted t) same is may
       by_end (CommittedOpen t) same is may = may

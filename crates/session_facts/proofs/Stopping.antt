@@ -238,7 +238,7 @@ module _ (who : Caller) (before after : Seen) (s t : CloudState) (book : Book) (
     where
       lists : (moved : Turn ℕ) → Follows home buffer (record { scan = shows.scan; pairs = l.pairs }) c moved new shown (Ended (answer.Commit a)) → ⊥
       lists More (work_is, none, more) = cc
-      lists (Ended page) no = no
+      lists (Ended page) never = never
       lists (Stopped q) (work_is, none, stopped) = cc
   by_commit buffer (Folding home m) new c shown a is never shows = absurd never
   by_commit buffer (Paging home p) new c shown a is never shows = absurd never

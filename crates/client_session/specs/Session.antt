@@ -47,7 +47,6 @@ use Rattle.page_ckpt.specs.Paging.{new_paging, paging_ask, PagingLeads, KeepsLea
 use Rattle.tree_moves.specs.Work.{applying_in}
 use Rattle.tree_ckpt.specs.Ending.{calls_in}
 use Rattle.tree_ckpt.specs.Making.{Making, new_making, making_ask, MakingLeads, KeepsLeases as KeepsTreeLeases}
-use Rattle.settle_run.specs.declared.settled.Settled.{Settled}
 use Rattle.settle_run.specs.Ending.{calls_left as settling_left}
 use Rattle.settle_run.specs.Meaning.{Went, Meant}
 use Rattle.settle_run.specs.Parts.{part_applying, IsSoundPart}

@@ -1,7 +1,7 @@
 -- What an operation that begins leaves.
 use Rattle.std.specs.Prelude.{false}
 use Rattle.std.proofs.Common.{◌≡◌, ◌≢◌, ◌≤◌, ◌⊎◌, inl, inr, ℕ, List, [], ◌∷◌, length, Option, Some, None, Result, Ok, Err, refl, sym, ap, subst, ◌∙◌}
-use Rattle.client_session.specs.Session.{Acting, closed_session, settling_session, ReadsIn, ReadsOf, ScansIn, ScansOf, Follows, ListsLeaf, stopped_work, Begins, BeginsOpening, BeginsWith, HasInHand, folding_begun_by, paging_begun_by, opening_rule_of, opening_of, old_lease, CommitsOf, CommitsNothing, CommitsNoted, CommitsIn}
+use Rattle.client_session.specs.Session.{Acting, closed_session, settling_session, ReadsIn, ReadsOf, ScansIn, ScansOf, Follows, ListsLeaf, stopped_work, Begins, BeginsOpening, BeginsWith, HasInHand, folding_begun_by, paging_begun_by, opening_rule_of, opening_of, old_lease, CommitsOf, CommitsNoted, CommitsIn}
 use Rattle.client_session.specs.declared.answer.Answer.{Answer}
 use Rattle.client_session.specs.declared.answer.Answer.TheVariants as answer
 use Rattle.client_session.specs.declared.answer.Begun.{Begun}
@@ -44,7 +44,7 @@ use Rattle.page_cache.specs.Cache.{Cache}
 use Rattle.session_facts.proofs.Troubles.{memory_or, stays_open}
 use Rattle.session_facts.proofs.Kept.{KnowsBoth}
 use Rattle.tree_walk.specs.Moves.{Moves}
-use Rattle.tree_walk.specs.Walk.{Walk, new_walk, walk_ready}
+use Rattle.tree_walk.specs.Walk.{new_walk, walk_ready}
 use Rattle.session_facts.proofs.Laws.{session_changes, session_rests, session_leaves}
 use Rattle.settle_facts.specs.Settling.{KnowsSettling}
 use Rattle.settle_facts.proofs.Begins.{settling_begins}

@@ -5,7 +5,7 @@ use Rattle.client_session.specs.Session.{StepsCommit, committed_work}
 use Rattle.client_session.specs.declared.answer.Answer.{Answer}
 use Rattle.client_session.specs.declared.answer.Answer.TheVariants as answer
 use Rattle.client_session.specs.declared.work.Work.{Work}
-use Rattle.client_session.specs.declared.work.Work.TheVariants.{Idle, Committing, Broken}
+use Rattle.client_session.specs.declared.work.Work.TheVariants.{Committing, Broken}
 use Rattle.cloud_facts.specs.Acting.{Setting, Outcome, Handles}
 use Rattle.cloud_facts.specs.Call.{IsCall}
 use Rattle.cloud_facts.proofs.Calls.{call_of}
@@ -34,7 +34,7 @@ use Rattle.commit_run_facts.proofs.RunLeases.{RunLeaseStays, run_lease}
 use Rattle.commit_run_facts.proofs.RunOutcomes.{run_outcome}
 use Rattle.commit_writes.specs.declared.stage.Stage.{Stage}
 use Rattle.commit_writes.specs.declared.stage.Stage.TheVariants.{Waiting, Logging, Opening, Sending, Settling, Deleting, Finished}
-use Rattle.commit_writes.specs.Writing.{Writing, send_ask, delete_ask, ask_at, writing_ask, opens_at}
+use Rattle.commit_writes.specs.Writing.{Writing, send_ask, delete_ask, ask_at, opens_at}
 use Rattle.db_base.specs.declared.names.ObjName.TheVariants as object
 use Rattle.db_base.specs.declared.trouble.Trouble.TheVariants as trouble
 use Rattle.db_base.specs.declared.trouble.CommitAnswer.{CommitAnswer}
@@ -54,9 +54,7 @@ use Rattle.session_facts.proofs.Troubles.{memory_or}
 use Rattle.store_book.specs.Book.{Book}
 use Rattle.store_book.specs.Tally.{Store}
 use Rattle.telling_facts.specs.Told.{store_of}
-use Rattle.tree_walk.specs.Walk.{walk_ask}
 use Rattle.txn_buffer.specs.Noted.{Noted}
-use Rattle.walk_facts.specs.Caches.{KnowsCache}
 
 -- ---- what the audit takes
 

@@ -1,5 +1,5 @@
 -- The puts of heads that sessions have in hand.
-use Rattle.std.proofs.Common.{◌≡◌, ◌⊎◌, inl, inr, ℕ, Bool, true, false, List, [], ◌∷◌, length, Option, Some, None, refl, sym, ap, ◌∙◌}
+use Rattle.std.proofs.Common.{◌≡◌, ◌⊎◌, inl, inr, ℕ, Bool, true, false, List, [], length, Option, Some, None, refl, sym, ap, ◌∙◌}
 use Rattle.cloud_trait.specs.Ask.{Ask, PutHeld, Renew, Release}
 use Rattle.cloud_trait.specs.Claim.{Claim}
 use Rattle.client_session.specs.Session.{ask_of_work, opens_of}

@@ -8,7 +8,7 @@ use Rattle.client_session.specs.declared.answer.Answer.{Answer}
 use Rattle.client_session.specs.declared.answer.Answer.TheVariants as answer
 use Rattle.client_session.specs.declared.work.Work.{Work}
 use Rattle.client_session.specs.declared.work.Work.TheVariants.{Settling}
-use Rattle.client_session.specs.Session.{Acting, StepsAt, settling_session}
+use Rattle.client_session.specs.Session.{Acting, StepsAt, StepsSettling, settling_session}
 use Rattle.settle_run.specs.Settling.{Settling as SettlingState, new_settling, settle_ask}
 use Rattle.world_core.specs.declared.world.World.{World}
 use Rattle.world_core.specs.Replying.{IsOfSettling}
@@ -28,13 +28,13 @@ IsSettling w = (m : SettlingState) × (w ≡ Settling m)
 
 -- one that goes on stays in hand
 goes_settling : (who : Caller) (before after : Seen) (w new : Work) → StepsAt who before after w new More → IsSettling w → IsSettling new
-goes_settling who before after w new p (m, is) = let q : StepsAt who before after (Settling m) new More = subst (λ z. StepsAt who before after z new More) is p in (q.0, q.2)
+goes_settling who before after w new p (m, is) = let q : StepsAt who before after (Settling m) new More = subst (λ z. StepsAt who before after z new More) is p in (q.1.0, q.1.2)
 
 -- one that is answered ends as a settling
 ends_settling : (who : Caller) (before after : Seen) (w new : Work) (a : Answer) → StepsAt who before after w new (Ended a) → IsSettling w → IsOfSettling a
-ends_settling who before after w new a p (m, is) = on a (subst (λ z. StepsAt who before after z new (Ended a)) is p)
+ends_settling who before after w new a p (m, is) = on a (let q : StepsAt who before after (Settling m) new (Ended a) = subst (λ z. StepsAt who before after z new (Ended a)) is p in q.1)
   where
-    on : (b : Answer) → StepsAt who before after (Settling m) new (Ended b) → IsOfSettling b
+    on : (b : Answer) → StepsSettling who before after m new (Ended b) → IsOfSettling b
     on (answer.Settled n) q = tt
     on (answer.Trouble t) q = tt
     on b q = absurd q

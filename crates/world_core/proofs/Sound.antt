@@ -273,6 +273,10 @@ module _ (lines : List Line) (n : ℕ) (before after : Seen) (old new : World) (
   settle_sound (inr memory) = absurd (no_memory r memory)
   settle_sound (inl h) = by_end h.settles
     where
+      -- the settler stands closed by the lines
+      closed : (standing lines 0).posture ≡ Closed
+      closed = (subst (λ a. ActsAs a (standing lines 0)) stands.rests (stands.acts 0)).work
+
       from : IsUnderWay lines h.begun before
       from = settler_begins lines n before old h.begun t (sym number) told stands h.begins
 
@@ -290,9 +294,6 @@ module _ (lines : List Line) (n : ℕ) (before after : Seen) (old new : World) (
               unsettled q e
               (subst (λ z. MayTrouble z q) closed (step_stops lines settler Plain s.comes.mid after s.comes.world s.left q (sym number) way_there p))
           on a p e = absurd e
-    -- the settler stands closed by the lines
-    closed : (standing lines 0).posture ≡ Closed
-    closed = (subst (λ a. ActsAs a (standing lines 0)) stands.rests (stands.acts 0)).work
 
 -- ---- every line
 

@@ -1,6 +1,7 @@
 -- One more step of a world.
 use Rattle.std.proofs.Common.{◌≡◌, ◌<◌, ℕ, List, length, Option, Some, None, Result, Ok, sym, ap, subst, ◌∙◌, ◌⊎◌, inl, inr, Bool, true}
-use Rattle.std.specs.Prelude.{slice_get, slice_set, unwrap_or}
+use Rattle.std.specs.Prelude.{slice_get, slice_set, unwrap_or, is_some}
+use Rattle.std.specs.Option.{option_map}
 use Rattle.std.proofs.lemmas.List.{get_or-set_same, length-set}
 use Rattle.std.proofs.lemmas.Option.{slice_get_within, slice_get-get_or}
 use Rattle.cloud_trait.specs.Caller.{Caller}
@@ -36,6 +37,12 @@ same_session sessions place a b e f = let g : Some a ≡ Some b = sym e ∙ f in
 
 pub put_before : (number : ℕ) (sessions : List Acting) (put : Option Put) (a : Acting) → HasPut number sessions put → slice_get sessions number ≡ Some a → put_of a.work ≡ put
 put_before number sessions put a has there = ap (λ (z : Acting). put_of z.work) (same_session sessions number a has.session there has.there) ∙ has.put_is
+
+-- a session with a call in hand is at work
+pub at_work : {X : Type 0} (ask : X → Ask) (call : Option X) (number : ℕ) (sessions : List Acting) (a : Acting) (is : Bool) → slice_get sessions number ≡ Some a
+    → option_map ask call ≡ ask_of_work a.work → is ≡ is_some call → is ≡ true → IsAtWork number sessions
+at_work ask None number sessions a is there hand some works = absurd (cc (some, works))
+at_work ask (Some x) number sessions a is there hand some works = record { session = a; there = there; ask = ask x; hand = sym hand }
 
 -- what is in hand of the session of a number
 abbrev pub in_hand : List Acting → ℕ → Work

@@ -1,6 +1,7 @@
 -- A session that settles has a call in hand, and its answer is that of a settling.
-use Rattle.std.proofs.Common.{◌≡◌, ℕ, List, Some, refl, sym, ap, subst, ◌∙◌}
-use Rattle.std.specs.Prelude.{slice_get}
+use Rattle.std.proofs.Common.{◌≡◌, ◌<◌, ℕ, List, length, Some, refl, sym, ap, subst, ◌∙◌, get_or}
+use Rattle.std.specs.Prelude.{slice_get, slice_set}
+use Rattle.std.proofs.lemmas.Option.{slice_get-get_or}
 use Rattle.cloud_trait.specs.Caller.{Caller}
 use Rattle.cloud_trait.specs.Seen.{Seen}
 use Rattle.cloud_trait.specs.declared.turn.Turn.TheVariants.{More, Ended}
@@ -8,13 +9,28 @@ use Rattle.client_session.specs.declared.answer.Answer.{Answer}
 use Rattle.client_session.specs.declared.answer.Answer.TheVariants as answer
 use Rattle.client_session.specs.declared.work.Work.{Work}
 use Rattle.client_session.specs.declared.work.Work.TheVariants.{Settling}
-use Rattle.client_session.specs.Session.{Acting, StepsAt, StepsSettling, settling_session}
+use Rattle.client_session.specs.Session.{Acting, StepsAt, StepsSettling, closed_session, settling_session}
 use Rattle.settle_run.specs.Settling.{Settling as SettlingState, new_settling, settle_ask}
 use Rattle.world_core.specs.declared.world.World.{World}
 use Rattle.world_core.specs.Replying.{IsOfSettling}
 use Rattle.world_core.specs.Sessions.{Changes, IsAtWork}
 use Rattle.world_core.specs.Handled.{Went, start, further, ComesTo}
 use Rattle.world_core.proofs.Going.{same_session, after_there}
+
+-- one of seventeen sessions settles then
+abbrev Begins : Acting → Acting → Type 0
+Begins before after = after ≡ settling_session
+
+pub settles_in : (number place : ℕ) (sessions items : List Acting) (a : Acting) → items ≡ sessions → length items ≡ 17 → place ≡ number → place < 17 → a ≡ settling_session
+    → Changes number (λ x b. b ≡ settling_session) sessions (slice_set items place a)
+settles_in number place sessions items a same long is within settles =
+    subst (λ l. Changes number Begins l (slice_set items place a)) same (subst (λ n. Changes n Begins items (slice_set items place a)) is (record {
+      before = get_or items place closed_session;
+      after = a;
+      there = slice_get-get_or items place closed_session (subst (λ n. place < n) (sym long) within);
+      does = settles;
+      rest = refl;
+    }))
 
 pub settling_there : (number : ℕ) (old new : List Acting) → Changes number (λ a b. b ≡ settling_session) old new → slice_get new number ≡ Some settling_session
 settling_there number old new c = after_there number _ old new c ∙ ap Some c.does

@@ -97,7 +97,8 @@ impl Sessions {
         ensures err { OnErr result (self.new ≡ self.old) }
         ensures memory { IfErr result (λ e. e ≡ Refused.Memory) }
     {
-        self.list[place_of(number)] = Session::settling(alloc)?;
+        let session = Session::settling(alloc)?;
+        put(&mut self.list[place_of(number)], session);
         Ok(())
     }
 
@@ -118,6 +119,13 @@ impl Sessions {
             Err(_) => unreachable!(),
         }
     }
+}
+
+/// Puts a session into a place.
+fn put(place: &mut Session, session: Session)
+    ensures { place.new ≡ session }
+{
+    *place = session;
 }
 
 /// The place of the session of a number.

@@ -21,21 +21,23 @@ use tree_ckpt::TreeCkpt;
 
 /// What is to come over a call.
 #[derive(Clone, Copy)]
-pub(crate) enum Mishap {
+pub(crate) enum Mishap<'a> {
     /// It fails.
     Fails,
     /// So many ticks go by before it.
     Waits(u64),
     /// It is a receive, and brings the messages at these positions.
-    Gives(&'static [u64]),
+    Gives(&'a [u64]),
 }
 
-/// A cloud, and what is to come over the calls of the next checkpoint, by their numbers from 1.
+/// What is to come over the calls of a checkpoint, by their numbers from 1.
+pub(crate) type Mishaps<'a> = &'a [(u64, Mishap<'a>)];
+
+/// A cloud with what checkpoints of tree 1 find there.
 #[derive(Drop)]
 pub(crate) struct Bench {
     alloc: Global,
     cloud: MemoryCloud,
-    pub(crate) mishaps: &'static [(u64, Mishap)],
 }
 
 fn who() -> Result<Who, Fail> {
@@ -86,7 +88,6 @@ impl Bench {
         Bench {
             alloc,
             cloud: MemoryCloud::new(alloc),
-            mishaps: &[],
         }
     }
 
@@ -153,19 +154,19 @@ impl Bench {
     }
 
     /// Lets come what is to come over a call.
-    fn spoil(&mut self, call: u64) -> Result<(), Fail> {
-        for (number, mishap) in self.mishaps {
+    fn spoil(&mut self, mishaps: Mishaps<'_>, call: u64) -> Result<(), Fail> {
+        for (number, mishap) in mishaps {
             if *number == call {
-                self.befall(*mishap)?;
+                self.befall(mishap)?;
             }
         }
         Ok(())
     }
 
-    fn befall(&mut self, mishap: Mishap) -> Result<(), Fail> {
+    fn befall(&mut self, mishap: &Mishap<'_>) -> Result<(), Fail> {
         match mishap {
             Mishap::Fails => self.cloud.wish(Wish::Fail),
-            Mishap::Waits(ticks) => self.cloud.wait(ticks),
+            Mishap::Waits(ticks) => self.cloud.wait(*ticks),
             Mishap::Gives(list) => {
                 let positions = Positions::new(self.alloc, list)?;
                 self.cloud.wish(Wish::Give(positions));
@@ -175,15 +176,14 @@ impl Bench {
     }
 
     /// Runs a checkpoint of the tree: its calls and its answer, a line for each.
-    pub(crate) fn tree_checkpoint(&mut self) -> Result<String, Fail> {
+    pub(crate) fn tree_checkpoint(&mut self, mishaps: Mishaps<'_>) -> Result<String, Fail> {
         let mut checkpoint = TreeCkpt::new(self.alloc, tree()?);
         let mut story = Story::new(self.alloc);
         for call in 1..400u64 {
             story.call(&checkpoint.in_hand())?;
-            self.spoil(call)?;
+            self.spoil(mishaps, call)?;
             let turn = checkpoint.step(self.alloc, &mut self.cloud, who()?);
             if story.answer(&turn)? {
-                self.mishaps = &[];
                 return Ok(story.into_text());
             }
         }
@@ -191,15 +191,18 @@ impl Bench {
     }
 
     /// Runs a checkpoint of a page: its calls and its answer, a line for each.
-    pub(crate) fn page_checkpoint(&mut self, page: u64) -> Result<String, Fail> {
+    pub(crate) fn page_checkpoint(
+        &mut self,
+        page: u64,
+        mishaps: Mishaps<'_>,
+    ) -> Result<String, Fail> {
         let mut checkpoint = PageCkpt::new(self.alloc, tree()?, PageId::new(page)?);
         let mut story = Story::new(self.alloc);
         for call in 1..400u64 {
             story.call(&checkpoint.in_hand())?;
-            self.spoil(call)?;
+            self.spoil(mishaps, call)?;
             let turn = checkpoint.step(self.alloc, &mut self.cloud, who()?);
             if story.answer(&turn)? {
-                self.mishaps = &[];
                 return Ok(story.into_text());
             }
         }

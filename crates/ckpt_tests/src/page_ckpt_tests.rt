@@ -21,7 +21,7 @@ fn applies_a_run(rt: HostRuntime) -> Result<(), Fail> {
     bench.put(1, ALONE)?;
     bench.update(2, 1, b"a", b"x")?;
     bench.update(1, 1, b"a", b"w")?;
-    let story = bench.page_checkpoint(1)?;
+    let story = bench.page_checkpoint(1, &[])?;
     assert_eq!(rt; story.as_str(), APPLIED);
     assert_eq!(rt; bench.version(1, 2)?, Some(ALONE_UPDATED));
     Ok(())
@@ -41,11 +41,9 @@ fn applies_a_message_once(rt: HostRuntime) -> Result<(), Fail> {
     let mut bench = Bench::new(rt.alloc());
     bench.put(1, ALONE)?;
     bench.update(1, 1, b"a", b"w")?;
-    bench.mishaps = &[(3, Mishap::Gives(&[1, 1]))];
-    let story = bench.page_checkpoint(1)?;
+    let story = bench.page_checkpoint(1, &[(3, Mishap::Gives(&[1, 1]))])?;
     assert!(rt; story.as_str().ends_with("done 1 1 0\n"));
-    bench.mishaps = &[(3, Mishap::Gives(&[1, 1]))];
-    let story = bench.page_checkpoint(1)?;
+    let story = bench.page_checkpoint(1, &[(3, Mishap::Gives(&[1, 1]))])?;
     assert_eq!(rt; story.as_str(), AGAIN);
     assert!(rt; bench.version(1, 3)?.is_none());
     Ok(())
@@ -66,10 +64,9 @@ fn applies_nothing_behind_a_gap(rt: HostRuntime) -> Result<(), Fail> {
     bench.update(1, 1, b"a", b"w")?;
     bench.update(1, 2, b"a", b"x")?;
     bench.update(1, 3, b"a", b"y")?;
-    bench.mishaps = &[(3, Mishap::Gives(&[2, 3]))];
-    let story = bench.page_checkpoint(1)?;
+    let story = bench.page_checkpoint(1, &[(3, Mishap::Gives(&[2, 3]))])?;
     assert_eq!(rt; story.as_str(), GAP);
-    let story = bench.page_checkpoint(1)?;
+    let story = bench.page_checkpoint(1, &[])?;
     assert!(rt; story.as_str().ends_with("done 3 3 0\n"));
     Ok(())
 }
@@ -79,8 +76,7 @@ fn counts_a_failed_deletion(rt: HostRuntime) -> Result<(), Fail> {
     let mut bench = Bench::new(rt.alloc());
     bench.put(1, ALONE)?;
     bench.update(1, 1, b"a", b"w")?;
-    bench.mishaps = &[(5, Mishap::Fails)];
-    let story = bench.page_checkpoint(1)?;
+    let story = bench.page_checkpoint(1, &[(5, Mishap::Fails)])?;
     assert!(rt; story.as_str().ends_with("done 1 0 1\n"));
     Ok(())
 }
@@ -105,7 +101,7 @@ fn puts_the_right_page_first(rt: HostRuntime) -> Result<(), Fail> {
     bench.put(1, LEFT)?;
     bench.put(2, RIGHT)?;
     bench.update(1, 1, b"c", b"w")?;
-    let story = bench.page_checkpoint(1)?;
+    let story = bench.page_checkpoint(1, &[])?;
     assert_eq!(rt; story.as_str(), RIGHT_FIRST);
     assert_eq!(rt; bench.version(2, 2)?, Some(RIGHT_UPDATED));
     assert_eq!(rt; bench.version(1, 2)?, Some(LEFT_RAISED));
@@ -131,13 +127,13 @@ fn leaves_a_right_page_that_lacks_nothing(rt: HostRuntime) -> Result<(), Fail> {
     bench.put(1, LEFT)?;
     bench.put(2, RIGHT_UPDATED)?;
     bench.update(1, 1, b"c", b"w")?;
-    let story = bench.page_checkpoint(1)?;
+    let story = bench.page_checkpoint(1, &[])?;
     assert_eq!(rt; story.as_str(), NOT_LACKED);
     Ok(())
 }
 
 /// The lease of page 1 ends before the put of page 2, whose own lease lasts.
-const LATE_HOME: &[(u64, Mishap)] = &[(4, Mishap::Waits(10)), (6, Mishap::Waits(20))];
+const LATE_HOME: &[(u64, Mishap<'static>)] = &[(4, Mishap::Waits(10)), (6, Mishap::Waits(20))];
 
 /// What is told then.
 const RIGHT_LATE: &str = "take page:1:1
@@ -157,8 +153,7 @@ fn puts_a_right_page_under_both_leases(rt: HostRuntime) -> Result<(), Fail> {
     bench.put(1, LEFT)?;
     bench.put(2, RIGHT)?;
     bench.update(1, 1, b"c", b"w")?;
-    bench.mishaps = LATE_HOME;
-    let story = bench.page_checkpoint(1)?;
+    let story = bench.page_checkpoint(1, LATE_HOME)?;
     assert_eq!(rt; story.as_str(), RIGHT_LATE);
     assert!(rt; bench.version(2, 2)?.is_none());
     Ok(())
@@ -178,8 +173,7 @@ fn is_late(rt: HostRuntime) -> Result<(), Fail> {
     let mut bench = Bench::new(rt.alloc());
     bench.put(1, LEFT)?;
     bench.update(1, 1, b"a", b"w")?;
-    bench.mishaps = &[(4, Mishap::Waits(30))];
-    let story = bench.page_checkpoint(1)?;
+    let story = bench.page_checkpoint(1, &[(4, Mishap::Waits(30))])?;
     assert_eq!(rt; story.as_str(), LATE);
     assert!(rt; bench.version(1, 2)?.is_none());
     Ok(())
@@ -225,7 +219,7 @@ fn stopped(alloc: Global, right: &[u8], key: &[u8], page: u64) -> Result<String,
     bench.put(1, LEFT)?;
     bench.put(2, right)?;
     bench.update(1, 1, key, b"w")?;
-    bench.page_checkpoint(page)
+    bench.page_checkpoint(page, &[])
 }
 
 #[test]
@@ -252,10 +246,10 @@ fn is_busy(rt: HostRuntime) -> Result<(), Fail> {
     bench.put(1, LEFT)?;
     bench.update(1, 1, b"c", b"w")?;
     let _right = bench.take(2, 50)?;
-    let story = bench.page_checkpoint(1)?;
+    let story = bench.page_checkpoint(1, &[])?;
     assert_eq!(rt; story.as_str(), BUSY);
     let _home = bench.take(1, 50)?;
-    let story = bench.page_checkpoint(1)?;
+    let story = bench.page_checkpoint(1, &[])?;
     assert_eq!(rt; story.as_str(), "take page:1:1\nbusy page:1:1 50\n");
     Ok(())
 }
@@ -272,7 +266,7 @@ damaged pu:1:1#1 0
 fn stops_at_a_damaged_message(rt: HostRuntime) -> Result<(), Fail> {
     let mut bench = Bench::new(rt.alloc());
     bench.send(1, b"Q")?;
-    let story = bench.page_checkpoint(1)?;
+    let story = bench.page_checkpoint(1, &[])?;
     assert_eq!(rt; story.as_str(), DAMAGED);
     Ok(())
 }

@@ -28,10 +28,10 @@ done 1 1 0
 #[test]
 fn applies_one_record(rt: HostRuntime) -> Result<(), Fail> {
     let mut bench = Bench::new(rt.alloc());
-    let story = bench.tree_checkpoint()?;
+    let story = bench.tree_checkpoint(&[])?;
     assert_eq!(rt; story.as_str(), NOTHING);
     bench.insert(1, b"k")?;
-    let story = bench.tree_checkpoint()?;
+    let story = bench.tree_checkpoint(&[])?;
     assert_eq!(rt; story.as_str(), ONE);
     assert_eq!(rt; bench.leaf(1)?, (1, 0, 1));
     assert_eq!(rt; bench.root()?, (1, 2, 1));
@@ -51,11 +51,9 @@ done 0 1 0
 fn applies_a_message_once(rt: HostRuntime) -> Result<(), Fail> {
     let mut bench = Bench::new(rt.alloc());
     bench.insert(1, b"k")?;
-    bench.mishaps = &[(3, Mishap::Gives(&[1, 1, 1]))];
-    let story = bench.tree_checkpoint()?;
+    let story = bench.tree_checkpoint(&[(3, Mishap::Gives(&[1, 1, 1]))])?;
     assert_eq!(rt; story.as_str(), ONE);
-    bench.mishaps = &[(3, Mishap::Gives(&[1]))];
-    let story = bench.tree_checkpoint()?;
+    let story = bench.tree_checkpoint(&[(3, Mishap::Gives(&[1]))])?;
     assert_eq!(rt; story.as_str(), AGAIN);
     Ok(())
 }
@@ -64,10 +62,9 @@ fn applies_a_message_once(rt: HostRuntime) -> Result<(), Fail> {
 fn applies_nothing_behind_a_gap(rt: HostRuntime) -> Result<(), Fail> {
     let mut bench = Bench::new(rt.alloc());
     bench.insert_many(1, 0x61, 3)?;
-    bench.mishaps = &[(3, Mishap::Gives(&[2, 3]))];
-    let story = bench.tree_checkpoint()?;
+    let story = bench.tree_checkpoint(&[(3, Mishap::Gives(&[2, 3]))])?;
     assert_eq!(rt; story.as_str(), NOTHING);
-    let story = bench.tree_checkpoint()?;
+    let story = bench.tree_checkpoint(&[])?;
     assert!(rt; story.as_str().ends_with("done 3 3 0\n"));
     Ok(())
 }
@@ -92,7 +89,7 @@ done 65 65 0
 fn cuts_a_leaf_of_65_records(rt: HostRuntime) -> Result<(), Fail> {
     let mut bench = Bench::new(rt.alloc());
     bench.insert_many(1, 0x61, 65)?;
-    let story = bench.tree_checkpoint()?;
+    let story = bench.tree_checkpoint(&[])?;
     assert_eq!(rt; story.as_str(), CUT);
     assert_eq!(rt; bench.root()?, (2, 3, 1));
     assert_eq!(rt; bench.leaf(1)?, (1, 2, 33));
@@ -121,7 +118,7 @@ done 129 129 0
 fn cuts_a_leaf_of_129_records(rt: HostRuntime) -> Result<(), Fail> {
     let mut bench = Bench::new(rt.alloc());
     bench.insert_many(1, 0x61, 129)?;
-    let story = bench.tree_checkpoint()?;
+    let story = bench.tree_checkpoint(&[])?;
     assert_eq!(rt; story.as_str(), CUT_IN_THREE);
     assert_eq!(rt; bench.root()?, (2, 4, 1));
     assert_eq!(rt; bench.child(&[0x61, 42])?, 1);
@@ -154,7 +151,7 @@ fn names_a_page_that_it_came_to_by_a_right_link(rt: HostRuntime) -> Result<(), F
     bench.put(1, LEFT)?;
     bench.put(2, RIGHT)?;
     bench.insert(1, b"p")?;
-    let story = bench.tree_checkpoint()?;
+    let story = bench.tree_checkpoint(&[])?;
     assert_eq!(rt; story.as_str(), RIGHT_LINK);
     assert_eq!(rt; bench.child(b"p")?, 2);
     Ok(())
@@ -213,11 +210,11 @@ fn cuts_the_root(rt: HostRuntime) -> Result<(), Fail> {
     let mut bench = Bench::new(rt.alloc());
     bench.put(0, full_root(rt.alloc())?.as_slice())?;
     bench.insert_many(1, 0x61, 65)?;
-    let story = bench.tree_checkpoint()?;
+    let story = bench.tree_checkpoint(&[])?;
     assert_eq!(rt; story.as_str(), ROOT_CUT);
     assert_eq!(rt; bench.root()?, (4, 68, 2));
     bench.insert_many(66, 0x60, 32)?;
-    let story = bench.tree_checkpoint()?;
+    let story = bench.tree_checkpoint(&[])?;
     assert_eq!(rt; story.as_str(), INNER_PUT);
     Ok(())
 }
@@ -234,7 +231,7 @@ release tree:1
 ";
 
 /// What goes by before the put, and what is told of it.
-const WAITS: [(&[(u64, Mishap)], &str); 3] = [
+const WAITS: [(&[(u64, Mishap<'static>)], &str); 3] = [
     (&[(6, Mishap::Waits(30))], "late 30 30\n"),
     (&[(6, Mishap::Waits(31))], "late 30 31\n"),
     (&[(6, Mishap::Waits(60))], "late 60 60\n"),
@@ -245,8 +242,7 @@ fn is_late(rt: HostRuntime) -> Result<(), Fail> {
     for (mishaps, late) in WAITS {
         let mut bench = Bench::new(rt.alloc());
         bench.insert(1, b"k")?;
-        bench.mishaps = mishaps;
-        let story = bench.tree_checkpoint()?;
+        let story = bench.tree_checkpoint(mishaps)?;
         assert_eq!(rt; story.as_str().strip_prefix(LATE), Some(late));
         assert!(rt; bench.version(1, 1)?.is_none());
     }
@@ -257,7 +253,7 @@ fn is_late(rt: HostRuntime) -> Result<(), Fail> {
 fn is_busy(rt: HostRuntime) -> Result<(), Fail> {
     let mut bench = Bench::new(rt.alloc());
     let _lease = bench.take(0, 10)?;
-    let story = bench.tree_checkpoint()?;
+    let story = bench.tree_checkpoint(&[])?;
     assert_eq!(rt; story.as_str(), "take tree:1\nbusy tree:1 10\n");
     Ok(())
 }
@@ -280,13 +276,13 @@ done 1 1 0
 fn a_split_moves_what_a_page_checkpoint_applies(rt: HostRuntime) -> Result<(), Fail> {
     let mut bench = Bench::new(rt.alloc());
     bench.insert_many(1, 0x61, 64)?;
-    let story = bench.tree_checkpoint()?;
+    let story = bench.tree_checkpoint(&[])?;
     assert!(rt; story.as_str().ends_with("done 64 64 0\n"));
     bench.update(1, 1, &[0x61, 63], b"u")?;
     bench.insert(65, &[0x61, 64])?;
-    let _cut = bench.tree_checkpoint()?;
+    let _cut = bench.tree_checkpoint(&[])?;
     assert_eq!(rt; bench.leaf(1)?, (2, 2, 33));
-    let story = bench.page_checkpoint(1)?;
+    let story = bench.page_checkpoint(1, &[])?;
     assert_eq!(rt; story.as_str(), BEHIND_A_SPLIT);
     Ok(())
 }

@@ -109,14 +109,6 @@ impl Bench {
         }
     }
 
-    /// The last attempt number that a commit took.
-    pub(crate) fn attempt(&self) -> u64 {
-        match &self.home {
-            Some(home) => home.attempt,
-            None => 0,
-        }
-    }
-
     /// What is pending: the page of each entry, 0 for the tree, with its number in the queue there.
     pub(crate) fn pending(&self) -> Result<String, Fail> {
         match &self.home {

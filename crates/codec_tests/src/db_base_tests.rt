@@ -100,6 +100,5 @@ fn values_keep_what_they_are_given(rt: HostRuntime) -> Result<(), Fail> {
         Text::new(alloc, "word").ok().ok_or("memory")?.as_str(),
         "word"
     );
-    assert_eq!(rt; Refusal::NotBuilt.number(), 99);
     Ok(())
 }

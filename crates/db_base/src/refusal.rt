@@ -26,12 +26,10 @@ pub enum Refusal {
     AlreadyOpen,
     /// The session is not at work.
     NotWorking,
-    /// The line is in the grammar and not served yet.
-    NotBuilt,
 }
 
 impl Refusal {
-    /// The number under which a reply shows the rule: 1 to 10, and 99 for a line that is not served yet.
+    /// The number under which a reply shows the rule: 1 to 10.
     pub fn number(self) -> u64
         ensures { result ≡ number_of_refusal self }
     {
@@ -46,7 +44,6 @@ impl Refusal {
             Refusal::Broken => 8,
             Refusal::AlreadyOpen => 9,
             Refusal::NotWorking => 10,
-            Refusal::NotBuilt => 99,
         }
     }
 }

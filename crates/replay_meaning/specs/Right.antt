@@ -1,5 +1,6 @@
 -- When a report is right: it shows what was committed by the lines, an order of it that is legal, and records that are those of the index and what
--- this order comes to; where nothing is left the order holds all, and it goes on from the orders that were reported before.
+-- this order comes to; where nothing is left the order holds all, and it goes on from the orders that were reported before; and all puts and sends
+-- are of kinds that their sessions' standing allows.
 use Rattle.std.specs.Prelude.{ℕ, ◌≡◌, List, [], ◌∷◌, Option, Some, None, slice_get, if◌then◌else◌}
 use Rattle.byte_format.specs.Order.{bytes_same}
 use Rattle.db_base.specs.declared.pair.Pair.{Pair}
@@ -15,6 +16,7 @@ use Rattle.reply_text.specs.declared.reply.Reply.TheVariants as reply
 use Rattle.tree_meaning.specs.Chain.{AreLeaves, records_of}
 use Rattle.replay_meaning.specs.Standing.{Line}
 use Rattle.replay_meaning.specs.Committed.{committed}
+use Rattle.replay_meaning.specs.Kinds.{KeepsKinds}
 use Rattle.tree_meaning.specs.Index.{Finds}
 
 -- the payload that records have at a key, where they have one
@@ -42,6 +44,7 @@ pub record IsRight (lines : List Line) (t : CloudState) (r : Report) : Type 0 wh
   pub legal : IsLegal r.order r.committed
   pub complete : r.heads ≡ 0 → r.messages ≡ 0 → HoldsAll r.order r.committed
   pub grown : (k : ℕ) (line : Line) → slice_get lines k ≡ Some line → GoesOnFrom r.tree r.order line.reply
+  pub kinds : KeepsKinds lines t r.order
 
 -- a reply that is a report is right
 abbrev pub ReportIsRight : List Line → CloudState → Reply → Type 0

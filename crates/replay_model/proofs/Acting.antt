@@ -27,7 +27,7 @@ use Rattle.tree_walk.specs.Walk.{sought}
 use Rattle.client_session.specs.Session.{Follows, StepsAt, ShowsAt, noted_behind, opened_work, committed_work, stopped_work}
 use Rattle.reply_text.specs.declared.reply.Reply.{Reply}
 use Rattle.reply_text.specs.declared.reply.Reply.TheVariants as reply
-use Rattle.replay_meaning.specs.Standing.{Standing, Posture, Closed as ClosedPosture, Working, Opening as OpeningTask, Closing as ClosingTask, Renewing as RenewingTask, Committing as Noting, Reading as ReadingKey, Scanning as ScanningRange, Paging as PagingPage, Folding as FoldingTree, steps, answered, idle, broken, shut}
+use Rattle.replay_meaning.specs.Standing.{Standing, Posture, Working, Opening as OpeningTask, Closing as ClosingTask, Renewing as RenewingTask, Committing as Noting, Reading as ReadingKey, Paging as PagingPage, Folding as FoldingTree, steps, answered, idle, broken, shut}
 use Rattle.replay_model.specs.Facts.{WorksAs}
 use Rattle.replay_model.proofs.OpeningSteps.{OpensFor, opens_on}
 use Rattle.replay_model.proofs.RunSteps.{RunsFor, AnyAnswer, runs_on}
@@ -84,7 +84,7 @@ goes_as who before after buffer (Folding home f) new c d shows s p shown acts =
     works_same new (Folding home p.0) s p.2 (acts.0 ∙ ap (λ k. Working (FoldingTree k)) (sym same), acts.1)
 goes_as who before after buffer (Closing lease) new c d shows s p shown acts = absurd p
 goes_as who before after buffer (Renewing home) new c d shows s p shown acts = absurd p
-goes_as who before after buffer (Settling m) new c d shows s p shown acts = works_same new (Settling p.1.0) s p.1.2 acts
+goes_as who before after buffer (Settling m) new c d shows s p shown acts = absurd acts
 goes_as who before after buffer Closed new c d shows s p shown acts = absurd p
 goes_as who before after buffer (Idle home) new c d shows s p shown acts = absurd p
 goes_as who before after buffer (Broken lease) new c d shows s p shown acts = absurd p
@@ -215,11 +215,7 @@ ends_as who before after (Renewing home) new s (answer.Trouble t) r p is acts =
     ends_idle (Renewing home) new p.0 s (Working RenewingTask) r (reply.Trouble t) is.0 acts.0 refl refl (p.2 ∙ stopped_idle t p.0 is.1)
     (acts.1 ∙ sym (ap (λ (h : Home). h.client) p.1.home)) refl
 ends_as who before after (Renewing home) new s a r p is acts = absurd p
-ends_as who before after (Settling m) new s (answer.Settled n) r p is acts =
-    ends_at (Settling m) new s (steps r s) s (after_reply s s ClosedPosture r (reply.Settled n.calls) is acts refl refl) (works_same new Closed s p.1.3 acts) refl
-ends_as who before after (Settling m) new s (answer.Trouble t) r p is acts =
-    ends_at (Settling m) new s (steps r s) s (after_reply s s ClosedPosture r (reply.Trouble t) is.0 acts refl refl) (works_same new Closed s p.1.2 acts) refl
-ends_as who before after (Settling m) new s a r p is acts = absurd p.1
+ends_as who before after (Settling m) new s a r p is acts = absurd acts
 ends_as who before after Closed new s a r p is acts = absurd p
 ends_as who before after (Idle home) new s a r p is acts = absurd p
 ends_as who before after (Broken lease) new s a r p is acts = absurd p

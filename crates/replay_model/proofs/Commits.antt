@@ -35,7 +35,7 @@ use Rattle.replay_meaning.specs.Committed.{committed, entries_of_bytes, entries_
 use Rattle.session_facts.specs.Noting.{noted_at, noted_head, noted_in_hand, audited}
 use Rattle.session_facts.specs.Puts.{Commits, PutsHead}
 use Rattle.replay_model.specs.Facts.{IsPlaced, WorksAs}
-use Rattle.replay_model.proofs.CommittedLemmas.{put_entries, committed_effect, now_entries, slice_get-append_left}
+use Rattle.replay_model.proofs.CommittedLemmas.{put_entries, committed_effect, now_standing, slice_get-append_left}
 
 -- ---- where bytes are the newest
 
@@ -121,7 +121,7 @@ settled_entries : (client : ℕ) (bytes : List ℕ) (head : Head) (changes : Lis
     → entries_of_bytes client (Some bytes) changes ≡ []
 settled_entries client bytes head changes e f = ap (λ o. entries_of_head client o changes) e ∙ ap (λ p. entries_of_phase p client head changes) f
 
-opened_entries : (client : ℕ) (bytes : List ℕ) (head : Head) (count : ℕ) (changes : List Noted) → head_of bytes ≡ Some head → head.phase ≡ phase.Open count
+pub opened_entries : (client : ℕ) (bytes : List ℕ) (head : Head) (count : ℕ) (changes : List Noted) → head_of bytes ≡ Some head → head.phase ≡ phase.Open count
     → entries_of_bytes client (Some bytes) changes ≡ map (committed_entry client head.epoch head.txn) changes
 opened_entries client bytes head count changes e f = ap (λ o. entries_of_head client o changes) e ∙ ap (λ p. entries_of_phase p client head changes) f
 
@@ -142,18 +142,25 @@ working_changes Closed s changes acts e = absurd (cc)
 working_changes (Idle home) s changes acts e = absurd (cc)
 working_changes (Broken lease) s changes acts e = absurd (cc)
 
+-- at its line the session stood on the changes that are committed
+abbrev pub StoodOn : List Line → Caller → Work → Type 0
+StoodOn lines who w = (changes : List Noted) → committing_of w ≡ Some changes → changes_at (standing (take (who.event - 1) lines) who.session).posture ≡ changes
+
+pub stood_on : (lines : List Line) (who : Caller) (w : Work) → who.event ≡ length lines + 1 → WorksAs w (standing lines who.session) → StoodOn lines who w
+stood_on lines who w event acts changes e =
+    ap (λ (s : Standing). changes_at s.posture) (now_standing lines who event) ∙ working_changes w (standing lines who.session) changes acts e
+
 -- a put of a head
-head_commits : (lines : List Line) (who : Caller) (w : Work) (client : ℕ) (bytes : List ℕ) (one : Claim) (two : Option Claim) → who.event ≡ length lines + 1
-    → WorksAs w (standing lines who.session) → PutsHead w client bytes → CommitsAs lines who w (PutHeld (object.Head client) bytes one two)
-head_commits lines who w client bytes one two event acts p = on p.how
+head_commits : (lines : List Line) (who : Caller) (w : Work) (client : ℕ) (bytes : List ℕ) (one : Claim) (two : Option Claim) → StoodOn lines who w
+    → PutsHead w client bytes → CommitsAs lines who w (PutHeld (object.Head client) bytes one two)
+head_commits lines who w client bytes one two stood p = on p.how
   where
     on : Commits w p.head ⊎ ((opens_of w ≡ None) × (p.head.phase ≡ phase.Settled)) → CommitsAs lines who w (PutHeld (object.Head client) bytes one two)
     on (inl c) =
         let taken : (a : Audited) → noted_head client (opens_of w) (committing_of w) a ≡ noted_head client (Some p.head) (Some c.changes) a =
         λ a. ap (λ o. noted_head client o (committing_of w) a) c.opens ∙ ap (λ o. noted_head client (Some p.head) o a) c.committing in
         let row : put_entries lines who (PutHeld (object.Head client) bytes one two) ≡ map (committed_entry client p.head.epoch p.head.txn) c.changes =
-        now_entries lines who client bytes one two event
-        ∙ ap (λ changes. entries_of_bytes client (Some bytes) changes) (working_changes w (standing lines who.session) c.changes acts c.committing)
+        ap (λ changes. entries_of_bytes client (Some bytes) changes) (stood c.changes c.committing)
         ∙ opened_entries client bytes p.head c.count c.changes p.spells c.phase_is in
         some client bytes one two (record {
           head = p.head;
@@ -166,19 +173,19 @@ head_commits lines who w client bytes one two event acts p = on p.how
     })
 
 -- a call in hand whose puts of heads are those of the work
-pub ask_commits : (lines : List Line) (who : Caller) (w : Work) (ask : Ask) → who.event ≡ length lines + 1 → WorksAs w (standing lines who.session)
+pub ask_commits : (lines : List Line) (who : Caller) (w : Work) (ask : Ask) → StoodOn lines who w
     → ((client : ℕ) (bytes : List ℕ) (one : Claim) (two : Option Claim) → ask ≡ PutHeld (object.Head client) bytes one two → PutsHead w client bytes) → CommitsAs lines who w ask
-ask_commits lines who w (PutHeld (object.Head client) bytes one two) event acts puts = head_commits lines who w client bytes one two event acts (puts client bytes one two refl)
-ask_commits lines who w (PutHeld (object.Tree tree) bytes one two) event acts puts = no_head lines who w (PutHeld (object.Tree tree) bytes one two) tt
-ask_commits lines who w (PutHeld (object.Page tree page) bytes one two) event acts puts = no_head lines who w (PutHeld (object.Page tree page) bytes one two) tt
-ask_commits lines who w (Get name) event acts puts = no_head lines who w (Get name) tt
-ask_commits lines who w (GetHeld name l) event acts puts = no_head lines who w (GetHeld name l) tt
-ask_commits lines who w (Send queue bytes) event acts puts = no_head lines who w (Send queue bytes) tt
-ask_commits lines who w (Receive queue most) event acts puts = no_head lines who w (Receive queue most) tt
-ask_commits lines who w (Delete queue id) event acts puts = no_head lines who w (Delete queue id) tt
-ask_commits lines who w (Take l ticks) event acts puts = no_head lines who w (Take l ticks) tt
-ask_commits lines who w (Renew l ticks) event acts puts = no_head lines who w (Renew l ticks) tt
-ask_commits lines who w (Release l) event acts puts = no_head lines who w (Release l) tt
+ask_commits lines who w (PutHeld (object.Head client) bytes one two) stood puts = head_commits lines who w client bytes one two stood (puts client bytes one two refl)
+ask_commits lines who w (PutHeld (object.Tree tree) bytes one two) stood puts = no_head lines who w (PutHeld (object.Tree tree) bytes one two) tt
+ask_commits lines who w (PutHeld (object.Page tree page) bytes one two) stood puts = no_head lines who w (PutHeld (object.Page tree page) bytes one two) tt
+ask_commits lines who w (Get name) stood puts = no_head lines who w (Get name) tt
+ask_commits lines who w (GetHeld name l) stood puts = no_head lines who w (GetHeld name l) tt
+ask_commits lines who w (Send queue bytes) stood puts = no_head lines who w (Send queue bytes) tt
+ask_commits lines who w (Receive queue most) stood puts = no_head lines who w (Receive queue most) tt
+ask_commits lines who w (Delete queue id) stood puts = no_head lines who w (Delete queue id) tt
+ask_commits lines who w (Take l ticks) stood puts = no_head lines who w (Take l ticks) tt
+ask_commits lines who w (Renew l ticks) stood puts = no_head lines who w (Renew l ticks) tt
+ask_commits lines who w (Release l) stood puts = no_head lines who w (Release l) tt
 
 -- ---- a call
 

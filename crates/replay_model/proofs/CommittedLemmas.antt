@@ -57,12 +57,12 @@ version_at-push_old vs v (suc i) h =
     ap (λ (o : Option Version). cond (suc i == 0) None (option_map (λ (x : Version). x.bytes) o)) (slice_get-append_left vs (v ∷ []) (suc i - 1) before)
 
 -- the version that landed, and those before it
-new_version : (who : Caller) (name : ObjName) (bytes : List ℕ) (b : CloudState) → version_at ((landed who name bytes b).versions name) (length (b.versions name) + 1) ≡ Some bytes
+pub new_version : (who : Caller) (name : ObjName) (bytes : List ℕ) (b : CloudState) → version_at ((landed who name bytes b).versions name) (length (b.versions name) + 1) ≡ Some bytes
 new_version who name bytes b =
     ap (λ vs. version_at vs (length (b.versions name) + 1)) (put_at_same object_cmp object_cmp-total b.versions name (b.versions name ++ record { who = who; bytes = bytes } ∷ []))
     ∙ version_at-push (b.versions name) (record { who = who; bytes = bytes })
 
-kept_version : (who : Caller) (name : ObjName) (bytes : List ℕ) (b : CloudState) (position : ℕ) (q : ObjName) → position ≤ length (b.versions q)
+pub kept_version : (who : Caller) (name : ObjName) (bytes : List ℕ) (b : CloudState) (position : ℕ) (q : ObjName) → position ≤ length (b.versions q)
     → version_at ((landed who name bytes b).versions q) position ≡ version_at (b.versions q) position
 kept_version who name bytes b position q =
     put_at_by (λ p vs. position ≤ length (b.versions p) → version_at vs position ≡ version_at (b.versions p) position) object_cmp object_cmp-equal b.versions name (b.versions name ++ record { who = who; bytes = bytes } ∷ [])
@@ -201,12 +201,11 @@ committed_more lines more t h =
 pub committed_line : (lines : List Line) (line : Line) (t : CloudState) → All (λ (r : Landing). r.who.event ≤ length lines + 1) t.trace → committed (lines ++ line ∷ []) t ≡ committed lines t
 committed_line lines line t h = committed_more lines (line ∷ []) t h
 
--- a put within a line commits by how its session stands after the lines before it
-pub now_entries : (lines : List Line) (who : Caller) (client : ℕ) (bytes : List ℕ) (one : Claim) (two : Option Claim) → who.event ≡ length lines + 1
-    → put_entries lines who (PutHeld (object.Head client) bytes one two) ≡ entries_of_bytes client (Some bytes) (changes_at (standing lines who.session).posture)
-now_entries lines who client bytes one two e =
+-- at a call within a line its session stands as after the lines before it
+pub now_standing : (lines : List Line) (who : Caller) → who.event ≡ length lines + 1 → standing (take (who.event - 1) lines) who.session ≡ standing lines who.session
+now_standing lines who e =
     let all : length lines ≤ who.event - 1 = omega arith in
-    ap (λ (ls : List Line). entries_of_bytes client (Some bytes) (changes_at (standing ls who.session).posture)) (take_all (who.event - 1) lines all)
+    ap (λ (ls : List Line). standing ls who.session) (take_all (who.event - 1) lines all)
 
 -- ---- the start
 

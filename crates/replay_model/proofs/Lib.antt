@@ -9,8 +9,12 @@ pub mod CommitSteps
 pub mod RunSteps
 pub mod Commits
 pub mod Acting
+pub mod RowKinds
+pub mod Once
+pub mod CallKinds
 pub mod Steps
 pub mod LineLemmas
+pub mod SettlerLemmas
 pub mod StartLemmas
 pub mod UptoRight
 pub mod LeftLemmas

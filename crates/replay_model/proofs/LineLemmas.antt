@@ -18,6 +18,7 @@ use Rattle.replay_meaning.specs.Standing.{Line, Standing, standing, after_line, 
 use Rattle.replay_model.specs.Facts.{ActsAs, AllAct, CloudHolds, IsFrontOf, SettlerRests, Stands, GoesOn}
 use Rattle.replay_model.proofs.OrderLemmas.{reported_line}
 use Rattle.replay_model.proofs.CommittedLemmas.{committed_line, standing_line, upto_more}
+use Rattle.replay_model.proofs.RowKinds.{kinds_line}
 
 abbrev pub line_of : Event → Reply → Line
 line_of event r = record { event = event; reply = r }
@@ -33,6 +34,8 @@ begins_line lines sessions a blind t s = record {
       placed = s.holds.cloud.placed;
       upto = upto_more (length lines) (length lines + 1) t (omega arith) s.holds.cloud.upto;
       committed = s.holds.cloud.committed;
+      kinds = s.holds.cloud.kinds;
+      once = s.holds.cloud.once;
     };
     seen = s.holds.seen;
     reported = s.holds.reported;
@@ -51,6 +54,8 @@ begins_with lines sessions others a blind t h stand = record {
     placed = h.cloud.placed;
     upto = upto_more (length lines) (length lines + 1) t (omega arith) h.cloud.upto;
     committed = h.cloud.committed;
+    kinds = h.cloud.kinds;
+    once = h.cloud.once;
   };
   seen = h.seen;
   reported = h.reported;
@@ -72,6 +77,8 @@ line_through lines line sessions a blind t h acts rests front = record {
       placed = h.cloud.placed;
       upto = upto_more (length lines + 1) (length (lines ++ line ∷ [])) t (omega (arith, length-append lines (line ∷ []))) h.cloud.upto;
       committed = h.cloud.committed ∙ sym (committed_line lines line t h.cloud.upto.trace);
+      kinds = kinds_line lines line t h.cloud.upto.trace h.cloud.kinds;
+      once = h.cloud.once;
     };
     seen = h.seen;
     reported = reported_line lines line h.order h.reported front;

@@ -1,5 +1,5 @@
 -- A report by an audit that saw all, and by looks at a cloud that stands, is right.
-use Rattle.std.proofs.Common.{◌≡◌, ℕ, List, refl, sym, ap, subst, ◌∙◌, false}
+use Rattle.std.proofs.Common.{◌≡◌, ℕ, List, length, refl, sym, ap, subst, ◌∙◌, false}
 use Rattle.db_base.specs.Ids.{IsTree}
 use Rattle.db_base.specs.declared.pair.Pair.{Pair}
 use Rattle.cloud_trait.specs.Growth.{BeginsWith}
@@ -11,6 +11,7 @@ use Rattle.report_types.specs.declared.entry.Entry.{Entry}
 use Rattle.report_types.specs.declared.report.Report.{Report}
 use Rattle.reply_text.specs.declared.reply.Reply.{Reply}
 use Rattle.reply_text.specs.declared.reply.Reply.TheVariants as reply
+use Rattle.kind_facts.proofs.Sent.{order_sent}
 use Rattle.landing_facts.specs.Reporting.{IsReportable}
 use Rattle.chain_meaning.specs.Contents.{IsRead}
 use Rattle.chain_meaning.proofs.Reports.{leaves_in, store_reads, all_leaves, finds_contents}
@@ -26,8 +27,9 @@ use Rattle.session_facts.specs.Sessions.{Sessions, SessionsStand}
 use Rattle.session_facts.proofs.Laws.{reports as reports_well, chains, decodes, numbers}
 use Rattle.replay_meaning.specs.Standing.{Line}
 use Rattle.replay_meaning.specs.Committed.{committed}
+use Rattle.replay_meaning.specs.Kinds.{KeepsKinds}
 use Rattle.replay_meaning.specs.Right.{IsRight, HoldsAll, GoesOnFrom, payload_at}
-use Rattle.replay_model.specs.Facts.{IsFrontOf, Reported, Stands}
+use Rattle.replay_model.specs.Facts.{CloudStands, IsFrontOf, Reported, Stands}
 use Rattle.replay_model.proofs.LeftLemmas.{nothing_left}
 
 -- what a report shows of a tree, by the audit and by what the cloud tells
@@ -40,10 +42,10 @@ pub record IsShown (tree : ℕ) (t : CloudState) (a : Audited) (r : Report) : Ty
   pub messages : AreWaiting t tree r.messages
 
 -- under a book and an order that the audit saw
-shown_right : (lines : List Line) (tree : ℕ) (book : Book) (order : List Entry) (sessions : Sessions) (t : CloudState) (r : Report) → SessionsStand book order t sessions
-    → entries_of book.log ≡ committed lines t → Reported lines order → IsTree tree → IsShown tree t (audit_of book order) r → IsRight lines t r
-shown_right lines tree book order sessions t r stand so reported is shown = record {
-  committed = shown.committed ∙ ap (of_tree tree) so ∙ ap (λ k. of_tree k (committed lines t)) at;
+shown_right : (n : ℕ) (lines : List Line) (tree : ℕ) (book : Book) (order : List Entry) (sessions : Sessions) (t : CloudState) (r : Report) → SessionsStand book order t sessions
+    → CloudStands n lines book t → Reported lines order → IsTree tree → IsShown tree t (audit_of book order) r → IsRight lines t r
+shown_right n lines tree book order sessions t r stand cloud reported is shown = record {
+  committed = shown.committed ∙ ap (of_tree tree) cloud.committed ∙ ap (λ k. of_tree k (committed lines t)) at;
   leaves = w.leaves;
   chain = subst (λ k. AreLeaves t k w.leaves) at w.lead;
   contents = w.are;
@@ -53,6 +55,11 @@ shown_right lines tree book order sessions t r stand so reported is shown = reco
   complete = λ heads messages. of_lists HoldsAll
       (reportable.complete (nothing_left book order t tree (chains book order t sessions stand) (numbers book order t sessions stand) (sym shown.heads ∙ heads) (subst (AreWaiting t tree) messages shown.messages)));
   grown = λ k line there. grown line.reply (reported k line there);
+  kinds = subst (KeepsKinds lines t) (sym shown.order) (record {
+    kinds = cloud.kinds;
+    once = cloud.once;
+    sent = λ place entry. order_sent book order t tree stand.cloud.holds place entry;
+  });
 }
   where
     at : tree ≡ r.tree
@@ -89,4 +96,4 @@ pub report_right : (lines : List Line) (tree : ℕ) (sessions : Sessions) (a : A
     → IsRight lines t r
 report_right lines tree sessions a t r stands is shown =
     let h = stands.holds in
-    shown_right lines tree h.book h.order sessions t r h.stand h.cloud.committed h.reported is (subst (λ z. IsShown tree t z r) (h.seen refl) shown)
+    shown_right (length lines) lines tree h.book h.order sessions t r h.stand h.cloud h.reported is (subst (λ z. IsShown tree t z r) (h.seen refl) shown)

@@ -6,8 +6,8 @@ use Rattle.cloud_trait.specs.Machine.{Next, Goes, Ends, Stops}
 use Rattle.commit_run.specs.declared.hand.Hand.{Hand}
 use Rattle.commit_run.specs.declared.hand.Hand.TheVariants.{Writes, First, Change}
 use Rattle.commit_run.specs.Draft.{Draft, new_draft, pruned_by_root, pruned_by_kept, pruned_with, pruned_behind, planned, leaf_noted, paged}
-use Rattle.commit_run.specs.Run.{Run, new_run, home_of, written, wrote, troubled, walking, by_turn, begun_turn, walk_to, seek, plan_on, next_target, stale_at, is_stale, walk_stopped, walk_turned, walked, long_walk, long_target, begin_walks, run_ready, next_at, run_next}
-use Rattle.commit_writes.specs.Writing.{Writing, pruned, numbered, with_home, with_attempt, is_spent, not_committed, log_or_open, begun, passes, routed_of, routing, writing_next}
+use Rattle.commit_run.specs.Run.{Run, new_run, home_of, wrote, troubled, walking, by_turn, begun_turn, seek, plan_on, next_target, stale_at, is_stale, walk_stopped, walk_turned, long_walk, long_target, begin_walks, run_ready, next_at, run_next}
+use Rattle.commit_writes.specs.Writing.{Writing, numbered, with_home, with_attempt, is_spent, not_committed, log_or_open, begun, passes, routed_of, routing, writing_next}
 use Rattle.db_base.specs.declared.names.ObjName.{ObjName}
 use Rattle.db_base.specs.declared.names.ObjName.TheVariants as object
 use Rattle.db_base.specs.declared.trouble.Trouble.{Trouble}

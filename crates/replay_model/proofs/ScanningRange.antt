@@ -11,7 +11,7 @@ use Rattle.cloud_trait.specs.Machine.{Next, Goes, Ends, Stops}
 use Rattle.cloud_trait.specs.Views.{got_of}
 use Rattle.page_cache.specs.Cache.{Cache, accepts}
 use Rattle.page_cache.specs.Held.{leaf_at}
-use Rattle.range_scan.specs.Scan.{Scan, new_scan, scan_object, right_in, right_behind, ended_at, leaf_ended, goes_on, moved_on, first_in, first_read, scan_beside, walked_by, right_read_in, right_read, right_accepted, right_got, scan_ready, scan_next, next_at, scan_came_to}
+use Rattle.range_scan.specs.Scan.{Scan, new_scan, scan_object, right_in, right_behind, ended_at, leaf_ended, goes_on, moved_on, first_in, first_read, scan_beside, walked_by, right_read_in, right_accepted, right_got, scan_ready, scan_next, next_at, scan_came_to}
 use Rattle.tree_walk.specs.Walk.{Spot, Walk, object_of, sought, walk_ready, walk_next, new_walk}
 use Rattle.replay_meaning.specs.Standing.{Posture, Working, Scanning}
 use Rattle.replay_model.proofs.ReadingWalk.{LooksFor, LeadsBesideFor, ready_for, next_for}

@@ -9,6 +9,8 @@ use Rattle.session_facts.proofs.Laws.{starts}
 use Rattle.replay_model.specs.Facts.{session_at, ActsAs, Stands}
 use Rattle.replay_model.proofs.CommittedLemmas.{empty_committed, empty_placed, empty_upto}
 use Rattle.replay_model.proofs.LineLemmas.{holds_same}
+use Rattle.replay_model.proofs.Once.{empty_once}
+use Rattle.replay_model.proofs.RowKinds.{empty_kinds}
 
 -- of closed sessions each is closed
 all_closed : (count place : ℕ) → unwrap_or (slice_get (replicate count closed_session) place) closed_session ≡ closed_session
@@ -26,7 +28,7 @@ nothing_stands_yet count t empty = record {
     book = empty_book;
     order = [];
     stand = starts t empty;
-    cloud = record { placed = empty_placed t empty; upto = empty_upto t empty; committed = sym (empty_committed [] t empty) };
+    cloud = record { placed = empty_placed t empty; upto = empty_upto t empty; committed = sym (empty_committed [] t empty); kinds = empty_kinds [] t empty; once = empty_once t empty };
     seen = λ e. refl;
     reported = λ k line at. absurd (cc);
   });

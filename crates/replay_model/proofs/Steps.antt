@@ -1,19 +1,21 @@
 -- What a call of a session leaves of all that holds.
-use Rattle.std.proofs.Common.{◌≡◌, ◌≤◌, ◌+◌, ℕ, List, length, Some, Ok, refl, sym, ap, ◌∙◌, Bool, false, arith}
+use Rattle.std.proofs.Common.{◌≡◌, ◌≤◌, ◌+◌, ℕ, List, length, Some, Ok, refl, sym, ap, ◌∙◌, Bool, false, arith, Option, None}
 use Rattle.std.specs.Prelude.{All}
 use Rattle.db_base.specs.declared.trouble.Trouble.{Trouble}
 use Rattle.db_base.specs.declared.wish.Wish.{Wish}
 use Rattle.cloud_facts.specs.Looks.{audit_of}
 use Rattle.cloud_trait.specs.declared.answer.Answer.{Answer as CallAnswer}
+use Rattle.cloud_trait.specs.declared.state.Landing.{Landing}
 use Rattle.cloud_trait.specs.declared.turn.Turn.{Turn}
 use Rattle.cloud_trait.specs.declared.turn.Turn.TheVariants.{More, Ended, Stopped}
-use Rattle.cloud_trait.specs.Ask.{Ask, Renew, Release}
+use Rattle.cloud_trait.specs.Ask.{Ask, Renew, Release, effect}
 use Rattle.cloud_trait.specs.Caller.{Caller}
 use Rattle.cloud_trait.specs.Seen.{Seen}
 use Rattle.cloud_trait.specs.State.{CloudState, called, newest}
 use Rattle.cloud_trait.specs.Weather.{Makes, Leaves}
 use Rattle.cloud_trait.proofs.RowLemmas.{row_by, leaves_upto}
 use Rattle.history.specs.Audited.{Audited}
+use Rattle.kind_facts.specs.Asks.{MayAsk}
 use Rattle.page_cache.specs.Cache.{Cache}
 use Rattle.recover_run.specs.declared.home.Home.{Home}
 use Rattle.recover_run.specs.Recovery.{recovery_ask}
@@ -26,10 +28,11 @@ use Rattle.client_session.specs.declared.listing.Listing.{Listing}
 use Rattle.client_session.specs.declared.shown.Shown.{Shown}
 use Rattle.client_session.specs.declared.work.Work.{Work}
 use Rattle.client_session.specs.declared.work.Work.TheVariants.{Closed, Idle, Opening, Committing, Reading, Scanning, Paging, Folding, Closing, Renewing, Settling, Broken}
-use Rattle.client_session.specs.Session.{Acting, Follows, StepsSession, StepsAt, ask_of_work}
+use Rattle.client_session.specs.Session.{Acting, Follows, StepsSession, StepsAt, ask_of_work, committing_of}
 use Rattle.txn_buffer.specs.Noted.{Noted}
 use Rattle.replay_meaning.specs.Standing.{Line, standing}
 use Rattle.replay_meaning.specs.Committed.{committed}
+use Rattle.replay_meaning.specs.Kinds.{IsOfKind, OpensOnce}
 use Rattle.store_book.specs.Records.{entries_of}
 use Rattle.store_book.specs.Tally.{at}
 use Rattle.telling_facts.specs.Told.{store_of}
@@ -40,8 +43,11 @@ use Rattle.session_facts.proofs.Calling.{session_keeps}
 use Rattle.session_facts.proofs.HeadPuts.{head_put}
 use Rattle.session_facts.proofs.Laws.{rest_keeps, decodes}
 use Rattle.replay_model.specs.Facts.{IsPlaced, WorksAs, CloudHolds}
-use Rattle.replay_model.proofs.Commits.{ask_commits, audited_commits}
+use Rattle.replay_model.proofs.CallKinds.{IsSettling, IsSettlersRow, settles_none, settle_asks, call_kind, call_opens}
+use Rattle.replay_model.proofs.Commits.{CommitsAs, stood_on, ask_commits, audited_commits}
 use Rattle.replay_model.proofs.CommittedLemmas.{placed_effect, placed_called}
+use Rattle.replay_model.proofs.Once.{OpensUnopened, once_same, once_effect}
+use Rattle.replay_model.proofs.RowKinds.{kinds_same, kinds_effect}
 use Rattle.range_scan.specs.Scan.{scan_ask}
 use Rattle.settle_run.specs.Settling.{settle_ask}
 use Rattle.tree_walk.specs.Walk.{walk_ask}
@@ -131,17 +137,27 @@ pub record Sees (x : CloudState) (after : Seen) (w : Work) (a b : Audited) (blin
   pub saw : blind_after ≡ false → blind ≡ false
   pub audit : blind_after ≡ false → (y : CloudState) → after.state ≡ Some y → b ≡ audited (newest x) (newest y) w a
 
--- what a call of a session leaves
-pub record CallLeaves (lines : List Line) (after : Seen) (sessions : Sessions) (session : ℕ) (new : Acting) (b : Audited) (blind : Bool) : Type 0 where
+-- what a call of a session leaves, up to event n
+pub record CallLeavesUpto (n : ℕ) (lines : List Line) (after : Seen) (sessions : Sessions) (session : ℕ) (new : Acting) (b : Audited) (blind : Bool) : Type 0 where
   pub state : CloudState
   pub told : after.state ≡ Some state
-  pub holds : CloudHolds (length lines + 1) lines (at session new sessions) b blind state
+  pub holds : CloudHolds n lines (at session new sessions) b blind state
 
-pub call_holds : (lines : List Line) (who : Caller) (before after : Seen) (x : CloudState) (sessions : Sessions) (new : Acting) (turn : Turn Answer) (a b : Audited) (blind blind_after : Bool)
-    → who.event ≡ length lines + 1 → before.state ≡ Some x → CloudHolds (length lines + 1) lines sessions a blind x → WorksAs (sessions who.session).work (standing lines who.session)
+-- and within the line behind these
+abbrev pub CallLeaves : List Line → Seen → Sessions → ℕ → Acting → Audited → Bool → Type 0
+CallLeaves lines after sessions session new b blind = CallLeavesUpto (length lines + 1) lines after sessions session new b blind
+
+-- the call in hand commits what the lines say, and its row is of a kind that they allow
+pub record IsByLines (lines : List Line) (who : Caller) (w : Work) (ask : Ask) : Type 0 where
+  pub commits : CommitsAs lines who w ask
+  pub kind : (row : Landing) → row.who ≡ who → MayAsk lines row ask
+
+-- whatever is at work, where its call is so
+pub call_leaves : (n : ℕ) (lines : List Line) (who : Caller) (before after : Seen) (x : CloudState) (sessions : Sessions) (new : Acting) (turn : Turn Answer) (a b : Audited) (blind blind_after : Bool)
+    → who.event ≤ n → before.state ≡ Some x → CloudHolds n lines sessions a blind x → ((ask : Ask) → ask_of_work (sessions who.session).work ≡ Some ask → IsByLines lines who (sessions who.session).work ask)
     → StepsSession who before after (sessions who.session) new (Ok turn) → Sees x after (sessions who.session).work a b blind blind_after
-    → CallLeaves lines after sessions who.session new b blind_after
-call_holds lines who before after x sessions new turn a b blind blind_after event told h acts p sees =
+    → CallLeavesUpto n lines after sessions who.session new b blind_after
+call_leaves n lines who before after x sessions new turn a b blind blind_after event told h by p sees =
     record { state = l.after; told = l.told; holds = holds }
   where
     w : Work
@@ -159,38 +175,116 @@ call_holds lines who before after x sessions new turn a b blind blind_after even
     b0 : CloudState
     b0 = called who l.after.now x
 
+    -- what the call keeps, where its effect does
+    kept : (P : CloudState → Type 0) → P b0 → P (effect who call.ask b0) → P l.after
+    kept P begun lands = row_by P who call.ask call.answer before.counts after.counts b0 l.after l.row begun (λ permits. lands)
+
     Placed : CloudState → Type 0
     Placed t = All (IsPlaced t.versions) t.trace
 
-    placed : All (IsPlaced l.after.versions) l.after.trace
-    placed =
-        row_by Placed who call.ask call.answer before.counts after.counts b0 l.after l.row (placed_called who l.after.now x h.cloud.placed)
-        (λ permits. placed_effect who call.ask b0 (placed_called who l.after.now x h.cloud.placed))
+    placed_before : Placed b0
+    placed_before = placed_called who l.after.now x h.cloud.placed
+
+    placed : Placed l.after
+    placed = kept Placed placed_before (placed_effect who call.ask b0 placed_before)
+
+    OfKind : CloudState → Type 0
+    OfKind t = All (IsOfKind lines t) t.trace
+
+    kinds_before : OfKind b0
+    kinds_before = kinds_same lines x b0 refl refl h.cloud.kinds
+
+    kinds : OfKind l.after
+    kinds = kept OfKind kinds_before (kinds_effect lines who call.ask b0 placed_before (by call.ask call.hand).kind kinds_before)
+
+    sound : IsSoundWork w
+    sound = sound_of who before after w new.work turn p.work
+
+    once_before : OpensOnce b0
+    once_before = once_same x b0 refl refl h.cloud.once
+
+    unopened : OpensUnopened b0 call.ask
+    unopened =
+        call_opens lines b0 (store_of h.book h.order x) x.now (sessions who.session).cache (h.stand.parts who.session) w call.ask h.cloud.committed kinds_before
+        (h.stand.each who.session).work sound call.hand
+
+    once : OpensOnce l.after
+    once = kept OpensOnce once_before (once_effect who call.ask b0 placed_before unopened once_before)
 
     entries : entries_of goes.book_after.log ≡ committed lines l.after
     entries =
         ap (λ (z : Audited). z.committed) (sym goes.noted)
         ∙ audited_commits lines who w call.ask call.answer before.counts after.counts x after.state (audit_of h.book h.order) call.hand l h.cloud.placed h.cloud.committed
-        (decodes goes.book_after goes.order_after l.after (at who.session new sessions) goes.stand)
-        (ask_commits lines who w call.ask event acts
-        (λ client bytes one two is. head_put (store_of h.book h.order x) x.now (sessions who.session).cache w (h.stand.parts who.session) (h.stand.each who.session).work
-        (sound_of who before after w new.work turn p.work) client bytes one two (call.hand ∙ ap (λ a. Some a) is)))
+        (decodes goes.book_after goes.order_after l.after (at who.session new sessions) goes.stand) (by call.ask call.hand).commits
 
     seen : blind_after ≡ false → b ≡ audit_of goes.book_after goes.order_after
     seen e = sees.audit e l.after l.told ∙ ap (λ z. audited (newest x) (newest l.after) w z) (h.seen (sees.saw e)) ∙ goes.noted
 
-    holds : CloudHolds (length lines + 1) lines (at who.session new sessions) b blind_after l.after
+    holds : CloudHolds n lines (at who.session new sessions) b blind_after l.after
     holds = record {
       book = goes.book_after;
       order = goes.order_after;
       stand = goes.stand;
       cloud = record {
         placed = placed;
-        upto = leaves_upto (length lines + 1) who call.ask call.answer before.counts after.counts x after.state l (omega arith) h.cloud.upto;
+        upto = leaves_upto n who call.ask call.answer before.counts after.counts x after.state l event h.cloud.upto;
         committed = entries;
+        kinds = kinds;
+        once = once;
       };
       seen = seen;
       reported = reported_more lines h.order goes.order_after goes.order_goes_on h.reported;
+    }
+
+-- a call of a session within a line
+pub call_holds : (lines : List Line) (who : Caller) (before after : Seen) (x : CloudState) (sessions : Sessions) (new : Acting) (turn : Turn Answer) (a b : Audited) (blind blind_after : Bool)
+    → who.event ≡ length lines + 1 → before.state ≡ Some x → CloudHolds (length lines + 1) lines sessions a blind x → WorksAs (sessions who.session).work (standing lines who.session)
+    → StepsSession who before after (sessions who.session) new (Ok turn) → Sees x after (sessions who.session).work a b blind blind_after
+    → CallLeaves lines after sessions who.session new b blind_after
+call_holds lines who before after x sessions new turn a b blind blind_after event told h acts p sees =
+    call_leaves (length lines + 1) lines who before after x sessions new turn a b blind blind_after (omega (arith, event)) told h by p sees
+  where
+    w : Work
+    w = (sessions who.session).work
+
+    sound : IsSoundWork w
+    sound = sound_of who before after w new.work turn p.work
+
+    by : (ask : Ask) → ask_of_work w ≡ Some ask → IsByLines lines who w ask
+    by ask hand = record {
+      commits = ask_commits lines who w ask (stood_on lines who w event acts)
+          (λ client bytes one two is. head_put (store_of h.book h.order x) x.now (sessions who.session).cache w (h.stand.parts who.session) (h.stand.each who.session).work
+          sound client bytes one two (hand ∙ ap (λ a. Some a) is));
+      kind = call_kind lines who (store_of h.book h.order x) x.now (sessions who.session).cache (h.stand.parts who.session) w ask event acts (h.stand.each who.session).work sound hand;
+    }
+
+-- a call of the settler up to event n, where the line that settles is one of the lines
+pub settle_holds : (n : ℕ) (lines : List Line) (who : Caller) (before after : Seen) (x : CloudState) (sessions : Sessions) (new : Acting) (turn : Turn Answer) (a b : Audited) (blind blind_after : Bool)
+    → who.event ≤ n → before.state ≡ Some x → CloudHolds n lines sessions a blind x → IsSettling (sessions who.session).work → IsSettlersRow lines who
+    → StepsSession who before after (sessions who.session) new (Ok turn) → Sees x after (sessions who.session).work a b blind blind_after
+    → CallLeavesUpto n lines after sessions who.session new b blind_after
+settle_holds n lines who before after x sessions new turn a b blind blind_after event told h settles settler p sees =
+    call_leaves n lines who before after x sessions new turn a b blind blind_after event told h by p sees
+  where
+    w : Work
+    w = (sessions who.session).work
+
+    sound : IsSoundWork w
+    sound = sound_of who before after w new.work turn p.work
+
+    commits_none : (changes : List Noted) → committing_of w ≡ Some changes → ⊥
+    commits_none changes e = never (sym (settles_none w settles) ∙ e)
+      where
+        never : (let none : Option (List Noted) = None in none ≡ Some changes) → ⊥
+        never h = absurd (cc)
+
+    by : (ask : Ask) → ask_of_work w ≡ Some ask → IsByLines lines who w ask
+    by ask hand = record {
+      commits = ask_commits lines who w ask (λ changes e. absurd (commits_none changes e))
+          (λ client bytes one two is. head_put (store_of h.book h.order x) x.now (sessions who.session).cache w (h.stand.parts who.session) (h.stand.each who.session).work
+          sound client bytes one two (hand ∙ ap (λ a. Some a) is));
+      kind = λ row is. settle_asks lines row (store_of h.book h.order x) x.now (sessions who.session).cache (h.stand.parts who.session) w settles (settler row is)
+          (h.stand.each who.session).work sound ask hand;
     }
 
 -- ---- what is no call
@@ -206,6 +300,8 @@ wish_holds n lines sessions a blind x wish h = record {
     placed = h.cloud.placed;
     upto = record { versions = h.cloud.upto.versions; messages = h.cloud.upto.messages; trace = h.cloud.upto.trace };
     committed = h.cloud.committed;
+    kinds = kinds_same lines x (record x { wish = wish }) refl refl h.cloud.kinds;
+    once = once_same x (record x { wish = wish }) refl refl h.cloud.once;
   };
   seen = h.seen;
   reported = h.reported;
@@ -222,6 +318,8 @@ wait_holds n lines sessions a blind x now waits later h = record {
     placed = h.cloud.placed;
     upto = record { versions = h.cloud.upto.versions; messages = h.cloud.upto.messages; trace = h.cloud.upto.trace };
     committed = h.cloud.committed;
+    kinds = kinds_same lines x (record x { now = now; waits = waits }) refl refl h.cloud.kinds;
+    once = once_same x (record x { now = now; waits = waits }) refl refl h.cloud.once;
   };
   seen = h.seen;
   reported = h.reported;

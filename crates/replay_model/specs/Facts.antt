@@ -16,6 +16,7 @@ use Rattle.client_session.specs.declared.work.Work.TheVariants as work
 use Rattle.client_session.specs.Session.{Acting, closed_session}
 use Rattle.replay_meaning.specs.Standing.{Line, Closed, Idle, Broken, Working, Opening, Closing, Renewing, Committing, Reading as ReadingKey, Scanning as ScanningRange, Paging as PagingPage, Folding as FoldingTree, Standing, standing}
 use Rattle.replay_meaning.specs.Committed.{Versions, committed}
+use Rattle.replay_meaning.specs.Kinds.{IsOfKind, OpensOnce}
 use Rattle.tree_walk.specs.Walk.{sought}
 use Rattle.commit_run.specs.Run.{home_of}
 use Rattle.replay_model.specs.Running.{IsOpening, IsRunning}
@@ -40,11 +41,14 @@ IsPlacedAt versions position (Queue queue) = Unit {0}
 abbrev pub IsPlaced : Versions → Landing → Type 0
 IsPlaced versions row = IsPlacedAt versions row.position row.site
 
--- the rows name versions that are there, all that landed did so up to event n, and the book has what the lines committed
+-- the rows name versions that are there, all that landed did so up to event n, and the book has what the lines committed; each row is of a kind
+-- that its session's standing allows, and no transaction opened twice
 pub record CloudStands (n : ℕ) (lines : List Line) (book : Book) (t : CloudState) : Type 0 where
   pub placed : All (IsPlaced t.versions) t.trace
   pub upto : IsUpto n t
   pub committed : entries_of book.log ≡ committed lines t
+  pub kinds : All (IsOfKind lines t) t.trace
+  pub once : OpensOnce t
 
 -- ---- what was reported
 
@@ -59,7 +63,7 @@ Reported lines order = (k : ℕ) (line : Line) → slice_get lines k ≡ Some li
 
 -- ---- how a session stands by the lines
 
--- a session's work is what the lines say that it has in hand
+-- a session's work is what the lines say that it has in hand; a settling is no session's of the lines
 abbrev pub WorksAs : Work → Standing → Type 0
 WorksAs work.Closed s = s.posture ≡ Closed
 WorksAs (work.Idle home) s = (s.posture ≡ Idle) × (s.client ≡ home.client)
@@ -71,7 +75,7 @@ WorksAs (work.Paging home p) s = (s.posture ≡ Working (PagingPage p.tree p.pag
 WorksAs (work.Folding home f) s = (s.posture ≡ Working (FoldingTree f.tree)) × (s.client ≡ home.client)
 WorksAs (work.Closing lease) s = s.posture ≡ Working Closing
 WorksAs (work.Renewing home) s = (s.posture ≡ Working Renewing) × (s.client ≡ home.client)
-WorksAs (work.Settling m) s = s.posture ≡ Closed
+WorksAs (work.Settling m) s = ⊥
 WorksAs (work.Broken lease) s = s.posture ≡ Broken
 
 pub record ActsAs (session : Acting) (s : Standing) : Type 0 where

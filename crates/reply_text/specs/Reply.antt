@@ -5,7 +5,7 @@ use Rattle.words.specs.Word.{hexadecimal}
 use Rattle.words.specs.Line.{text_of}
 use Rattle.db_base.specs.Refusal.{number_of_refusal}
 use Rattle.db_base.specs.declared.refusal.Refusal.{Refusal}
-use Rattle.db_base.specs.declared.refusal.Refusal.TheVariants.{EmptyKey, LongKey, LongPayload, TooManyChanges, BadNumber, NotOpen, AtWork, Broken, AlreadyOpen, NotWorking, NotBuilt}
+use Rattle.db_base.specs.declared.refusal.Refusal.TheVariants.{EmptyKey, LongKey, LongPayload, TooManyChanges, BadNumber, NotOpen, AtWork, Broken, AlreadyOpen, NotWorking}
 use Rattle.db_base.specs.declared.change.Change.{Change}
 use Rattle.db_base.specs.declared.change.Change.TheVariants.{Insert, Update, Delete}
 use Rattle.db_base.specs.declared.pair.Pair.{Pair}
@@ -33,7 +33,6 @@ refusal_word AtWork = codes "at-work"
 refusal_word Broken = codes "broken"
 refusal_word AlreadyOpen = codes "already-open"
 refusal_word NotWorking = codes "not-working"
-refusal_word NotBuilt = codes "not-built"
 
 -- the word of a counter
 abbrev pub counter_word : Counter → List ℕ

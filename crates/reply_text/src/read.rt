@@ -18,7 +18,7 @@ use words::fault::TextFault;
 use words::parts::Parts;
 
 /// All rules.
-const REFUSALS: [Refusal; 11] = [
+const REFUSALS: [Refusal; 10] = [
     Refusal::EmptyKey,
     Refusal::LongKey,
     Refusal::LongPayload,
@@ -29,7 +29,6 @@ const REFUSALS: [Refusal; 11] = [
     Refusal::Broken,
     Refusal::AlreadyOpen,
     Refusal::NotWorking,
-    Refusal::NotBuilt,
 ];
 
 /// The rule that a word names, where it names one. Takes no memory.

@@ -114,7 +114,6 @@ pub fn refusal_word(refusal: Refusal) -> &'static str
         Refusal::Broken => "broken",
         Refusal::AlreadyOpen => "already-open",
         Refusal::NotWorking => "not-working",
-        Refusal::NotBuilt => "not-built",
     }
 }
 

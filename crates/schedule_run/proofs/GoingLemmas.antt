@@ -7,10 +7,9 @@ use Rattle.std.proofs.lemmas.Bool.{cases_lt}
 use Rattle.client_session.specs.Session.{closed_session}
 use Rattle.cloud_trait.specs.State.{CloudState, IsEmptyCloud}
 use Rattle.cloud_trait.specs.Seen.{Seen}
-use Rattle.cloud_trait.specs.Upto.{upto, AgreeUpto, IsUpto}
-use Rattle.db_base.specs.declared.names.ObjName.{ObjName}
+use Rattle.cloud_trait.specs.Upto.{upto, AgreeUpto, IsUpto, posts_of}
 use Rattle.cloud_trait.proofs.StateLemmas.{slice_get-push}
-use Rattle.cloud_trait.proofs.UptoLemmas.{versions_upto-all, trace_upto-all}
+use Rattle.cloud_trait.proofs.UptoLemmas.{versions_upto-all, messages_upto-all, trace_upto-all}
 use Rattle.db_io.specs.Content.{Told, Adds, AddsPrefix}
 use Rattle.event_text.specs.declared.event.Event.{Event}
 use Rattle.event_text.specs.Event.{IsEvent}
@@ -20,7 +19,7 @@ use Rattle.reply_text.specs.declared.reply.Reply.TheVariants as reply
 use Rattle.replay_meaning.specs.Standing.{Line}
 use Rattle.replay_meaning.specs.Right.{ReportIsRight}
 use Rattle.replay_model.specs.Facts.{session_at, Stands}
-use Rattle.replay_model.proofs.UptoRight.{right_same}
+use Rattle.replay_model.proofs.UptoRight.{HoldTheSame, right_same}
 use Rattle.replay_model.proofs.StartLemmas.{nothing_stands_yet}
 use Rattle.world_core.specs.declared.world.World.{World}
 use Rattle.world_core.specs.declared.world.WorldFault.{WorldFault}
@@ -76,9 +75,9 @@ get_before lines line k less =
 take_whole : (lines : List Line) (k : ℕ) → k ≡ length lines → take k lines ≡ lines
 take_whole lines k e = take_all k lines (omega arith)
 
-pub report_same : (lines : List Line) (s t : CloudState) (r : Reply) → ((name : ObjName) → t.versions name ≡ s.versions name) → t.trace ≡ s.trace → ReportIsRight lines s r → ReportIsRight lines t r
-report_same lines s t (reply.Report r) v e right = right_same lines s t r v e right
-report_same lines s t r v e right = tt
+pub report_same : (lines : List Line) (s t : CloudState) (r : Reply) → HoldTheSame s t → ReportIsRight lines s r → ReportIsRight lines t r
+report_same lines s t (reply.Report r) same right = right_same lines s t r same right
+report_same lines s t r same right = tt
 
 -- the reports so far stay right, and the new one is
 reports_more : (lines : List Line) (line : Line) (u v : CloudState) → ((k : ℕ) → k < length lines + 1 → AgreeUpto k u v) → IsUpto (length lines + 1) v
@@ -90,7 +89,7 @@ reports_more lines line u v agree all so new k l at = on (cases_lt k (length lin
       let front : take (k + 1) (lines ++ line ∷ []) ≡ take (k + 1) lines = take-append-le (k + 1) lines (line ∷ []) (omega arith) in
       let a : AgreeUpto (k + 1) u v = agree (k + 1) (omega arith) in
       subst (λ ls. ReportIsRight ls (upto v (k + 1)) l.reply) (sym front)
-      (report_same (take (k + 1) lines) (upto u (k + 1)) (upto v (k + 1)) l.reply a.versions a.trace (so k l old))
+      (report_same (take (k + 1) lines) (upto u (k + 1)) (upto v (k + 1)) l.reply (record { versions = a.versions; messages = a.messages; trace = a.trace }) (so k l old))
   on (inr more) =
       let within : k < length (lines ++ line ∷ []) = slice_get_within (lines ++ line ∷ []) k l at in
       let e : k ≡ length lines = omega (arith, length-append lines (line ∷ [])) in
@@ -101,8 +100,11 @@ reports_more lines line u v agree all so new k l at = on (cases_lt k (length lin
       let upto_all : IsUpto (k + 1) v = subst (λ m. IsUpto m v) (sym n) all in
       subst (λ ls. ReportIsRight ls (upto v (k + 1)) l.reply) (sym whole)
       (report_same (lines ++ line ∷ []) v (upto v (k + 1)) l.reply
-      (λ name. versions_upto-all (k + 1) (v.versions name) (upto_all.versions name))
-      (trace_upto-all (k + 1) v.trace upto_all.trace)
+      (record {
+        versions = λ name. versions_upto-all (k + 1) (v.versions name) (upto_all.versions name);
+        messages = λ queue. ap posts_of (messages_upto-all (k + 1) (v.messages queue) (upto_all.messages queue));
+        trace = trace_upto-all (k + 1) v.trace upto_all.trace;
+      })
       (subst (λ (x : Line). ReportIsRight (lines ++ line ∷ []) v x.reply) is new))
 
 -- ---- one line more
@@ -239,7 +241,7 @@ keeps {text} {rest} {behind} {line} {n} {m} met x told empty =
       λ k line at.
           let within : k < length h.lines = slice_get_within h.lines k line at in
           let a : AgreeUpto (k + 1) o.0 g.0 = g.2 (k + 1) (omega arith) in
-          report_same (take (k + 1) h.lines) (upto o.0 (k + 1)) (upto g.0 (k + 1)) line.reply a.versions a.trace (o.3 k line at),
+          report_same (take (k + 1) h.lines) (upto o.0 (k + 1)) (upto g.0 (k + 1)) line.reply (record { versions = a.versions; messages = a.messages; trace = a.trace }) (o.3 k line at),
     )
 
 -- the run ends before a text that has no reply

@@ -62,7 +62,7 @@ keeps_behind lines n s t z play p count grows x told empty =
       λ k line at.
           let within : k < length lines = slice_get_within lines k line at in
           let a : AgreeUpto (k + 1) o.0 g.0 = g.2 (k + 1) (omega arith) in
-          report_same (take (k + 1) lines) (upto o.0 (k + 1)) (upto g.0 (k + 1)) line.reply a.versions a.trace (o.3 k line at),
+          report_same (take (k + 1) lines) (upto o.0 (k + 1)) (upto g.0 (k + 1)) line.reply (record { versions = a.versions; messages = a.messages; trace = a.trace }) (o.3 k line at),
     )
 
 -- memory ran out at the next event

@@ -84,8 +84,8 @@ fn answers_are_written(rt: HostRuntime) -> Result<(), Fail> {
     assert!(rt;
         is_written(
             alloc,
-            Reply::Refused(Refusal::NotBuilt),
-            "refused 99 not-built"
+            Reply::Refused(Refusal::NotWorking),
+            "refused 10 not-working"
         )?
     );
     assert!(rt; is_written(alloc, Reply::Opened { epoch: 1 }, "opened 1")?);

@@ -23,7 +23,9 @@ use Rattle.cloud_trait.specs.declared.turn.Turn.TheVariants.{More, Ended, Stoppe
 use Rattle.cloud_trait.proofs.EffectLemmas.{begins_same}
 use Rattle.client_session.specs.declared.answer.Answer.{Answer}
 use Rattle.client_session.specs.declared.answer.Answer.TheVariants as answer
-use Rattle.client_session.specs.Session.{Acting, closed_session, settling_session, StepsSession, items_of, noted_behind, value_of}
+use Rattle.client_session.specs.declared.work.Work.{Work}
+use Rattle.client_session.specs.declared.work.Work.TheVariants.{Closed, Idle, Opening, Committing, Reading, Scanning, Paging, Folding, Closing, Renewing, Settling, Broken}
+use Rattle.client_session.specs.Session.{Acting, closed_session, settling_session, StepsAt, StepsSession, items_of, noted_behind, value_of}
 use Rattle.history.specs.Audited.{Audited}
 use Rattle.history.specs.Fold.{of_tree}
 use Rattle.world_audit.specs.Counts.{heads_upto, AreWaiting}
@@ -36,10 +38,12 @@ use Rattle.session_facts.proofs.Laws.{crash_keeps}
 use Rattle.replay_meaning.specs.Standing.{Line, Standing, standing, after_line, after_own, session_of, steps}
 use Rattle.replay_meaning.specs.Right.{ReportIsRight}
 use Rattle.replay_model.specs.Facts.{session_at, ActsAs, AllAct, CloudHolds, IsFrontOf, SettlerRests, Stands, GoesOn}
+use Rattle.replay_model.proofs.CallKinds.{IsSettling, IsSettlersRow}
 use Rattle.replay_model.proofs.Acting.{IsReplyTo, goes_as, goes_noted, ends_as}
 use Rattle.replay_model.proofs.LineLemmas.{line_of, AllActWith, begins_line, begins_with, line_through, holds_same, own_line, still_line, refused_own, acts_set}
 use Rattle.replay_model.proofs.Lists.{session_there, session_set}
-use Rattle.replay_model.proofs.Steps.{CallLeaves, call_holds, never_stops, wish_holds, wait_holds}
+use Rattle.replay_model.proofs.SettlerLemmas.{settle_begins, settle_ends, settler_row}
+use Rattle.replay_model.proofs.Steps.{CallLeaves, CallLeavesUpto, call_holds, settle_holds, never_stops, wish_holds, wait_holds}
 use Rattle.replay_model.proofs.ReportLemmas.{IsShown, report_right}
 use Rattle.world_core.specs.declared.world.World.{World}
 use Rattle.world_core.specs.declared.world.WorldFault.{WorldFault}
@@ -411,17 +415,17 @@ has_at : (k : ℕ) (a : Acting) (world new : World) → Has k a world new → (n
 has_at k a world new is n = changed_at k _ world.sessions new.sessions is.session_is n ∙ ap (λ z. at k z (session_at world.sessions) n) is.session_is.does
 
 -- what holds of a world in which a session is closed then
-closed_holds : (lines : List Line) (k : ℕ) (world new : World) (t : CloudState) → CloudHolds (length lines + 1) lines (session_at world.sessions) world.audit world.blind t
-    → Has k closed_session world new → CloudHolds (length lines + 1) lines (session_at new.sessions) new.audit new.blind t
-closed_holds lines k world new t h is = subst (λ a. At a new.blind) (sym is.audit) (subst (At world.audit) (sym is.blind) (holds_same (length lines + 1) lines (at k closed_session g) (session_at new.sessions) world.audit world.blind t (has_at k closed_session world new is) own))
+closed_holds : (n : ℕ) (lines : List Line) (k : ℕ) (world new : World) (t : CloudState) → CloudHolds n lines (session_at world.sessions) world.audit world.blind t
+    → Has k closed_session world new → CloudHolds n lines (session_at new.sessions) new.audit new.blind t
+closed_holds n lines k world new t h is = subst (λ a. At a new.blind) (sym is.audit) (subst (At world.audit) (sym is.blind) (holds_same n lines (at k closed_session g) (session_at new.sessions) world.audit world.blind t (has_at k closed_session world new is) own))
   where
     g : Sessions
     g = session_at world.sessions
 
     At : Audited → Bool → Type 0
-    At a b = CloudHolds (length lines + 1) lines (session_at new.sessions) a b t
+    At a b = CloudHolds n lines (session_at new.sessions) a b t
 
-    own : CloudHolds (length lines + 1) lines (at k closed_session g) world.audit world.blind t
+    own : CloudHolds n lines (at k closed_session g) world.audit world.blind t
     own = record {
       book = h.book;
       order = h.order;
@@ -436,7 +440,7 @@ dies_done : (lines : List Line) (k n : ℕ) (r : Reply) (before after : Seen) (o
 dies_done lines k n r before after old new t at_n some told stands h =
     let is : r ≡ reply.Crashed = cc (h.replies) in
     let P : Reply → Type 0 = λ z. StandsFor (lines ++ line_of (event.Crash k true) z ∷ []) new after z in
-    subst P (sym is) (through lines (event.Crash k true) reply.Crashed after new s.state s.told (closed_holds lines k h.world new s.state s.holds h.closes) acts rests tt)
+    subst P (sym is) (through lines (event.Crash k true) reply.Crashed after new s.state s.told (closed_holds (length lines + 1) lines k h.world new s.state s.holds h.closes) acts rests tt)
   where
     who : Caller
     who = record { session = k; event = n }
@@ -480,17 +484,99 @@ settled_plain (answer.Trouble t) r e = on t e
     on t e = let is : r ≡ reply.NotSettled t = cc in subst IsNoReport (sym is) tt
 settled_plain a r e = absurd e
 
+-- a settling that goes on is one
+goes_settling : (who : Caller) (before after : Seen) (w new : Work) → StepsAt who before after w new More → IsSettling w → IsSettling new
+goes_settling who before after (Settling m) new p is = subst IsSettling (sym p.1.2) tt
+goes_settling who before after Closed new p is = absurd is
+goes_settling who before after (Idle home) new p is = absurd is
+goes_settling who before after (Opening m) new p is = absurd is
+goes_settling who before after (Committing m) new p is = absurd is
+goes_settling who before after (Reading home m) new p is = absurd is
+goes_settling who before after (Scanning home m) new p is = absurd is
+goes_settling who before after (Paging home m) new p is = absurd is
+goes_settling who before after (Folding home m) new p is = absurd is
+goes_settling who before after (Closing l) new p is = absurd is
+goes_settling who before after (Renewing home) new p is = absurd is
+goes_settling who before after (Broken l) new p is = absurd is
+
+-- the settler is under way within its line, which is one of these lines from its begin on, and the other sessions rest
+record SettlerGoes (n : ℕ) (lines : List Line) (first : Sessions) (world : World) (seen : Seen) : Type 0 where
+  state : CloudState
+  told : seen.state ≡ Some state
+  holds : CloudHolds n lines (session_at world.sessions) world.audit world.blind state
+  works : IsSettling (session_at world.sessions 0).work
+  others : (m : ℕ) → m ≢ 0 → session_at world.sessions m ≡ first m
+
+-- what a step of it leaves
+record SettlerLeft (n : ℕ) (lines : List Line) (first : Sessions) (world : World) (seen : Seen) : Type 0 where
+  state : CloudState
+  told : seen.state ≡ Some state
+  holds : CloudHolds n lines (session_at world.sessions) world.audit world.blind state
+  others : (m : ℕ) → m ≢ 0 → session_at world.sessions m ≡ first m
+
+abbrev settler : ℕ → Caller
+settler n = record { session = 0; event = n }
+
+module _ (n : ℕ) (lines : List Line) (first : Sessions) (row : IsSettlersRow lines (settler n)) (before after : Seen) (old new : World) (turn : Turn Answer)
+    (way : SettlerGoes n lines first old before) (p : StepsLooked (settler n) Plain before after old new turn) where
+  abbrev held : Sessions
+  held = session_at old.sessions
+
+  abbrev with_wish : CloudState
+  with_wish = record way.state { wish = Plain }
+
+  settler_was : held 0 ≡ p.session.before
+  settler_was = changed_was 0 _ old.sessions new.sessions p.session
+
+  settler_own : StepsSession (settler n) p.under p.to (held 0) p.session.after (Ok turn)
+  settler_own = subst (λ a. StepsSession (settler n) p.under p.to a p.session.after (Ok turn)) (sym settler_was) p.session.does
+
+  settler_call : CallLeavesUpto n lines p.to held 0 p.session.after new.audit new.blind
+  settler_call =
+      settle_holds n lines (settler n) p.under p.to with_wish held p.session.after turn old.audit new.audit old.blind new.blind (omega arith)
+      (p.wishes.set way.state (p.look_before.stays way.state way.told)) (wish_holds n lines held old.audit old.blind way.state Plain way.holds) way.works row settler_own
+      (record {
+        saw = p.saw;
+        audit = λ e y to. p.audit e way.state y way.told to ∙ ap (λ (a : Acting). audited (newest way.state) (newest y) a.work old.audit) (sym settler_was);
+      })
+
+  settler_left : SettlerLeft n lines first new after
+  settler_left = record {
+    state = settler_call.state;
+    told = p.look_after.stays settler_call.state settler_call.told;
+    holds = holds_same n lines (at 0 p.session.after held) (session_at new.sessions) new.audit new.blind settler_call.state
+        (changed_at 0 _ old.sessions new.sessions p.session) settler_call.holds;
+    others = λ m ne. changed_at 0 _ old.sessions new.sessions p.session m ∙ at_other 0 p.session.after held m ne ∙ way.others m ne;
+  }
+
+settler_more : (n : ℕ) (lines : List Line) (first : Sessions) → IsSettlersRow lines (settler n) → (before after : Seen) (old new : World)
+    → SettlerGoes n lines first old before → StepsLooked (settler n) Plain before after old new More → SettlerGoes n lines first new after
+settler_more n lines first row before after old new way p =
+    let left = settler_left n lines first row before after old new More way p in
+    let own = settler_own n lines first row before after old new More way p in
+    record {
+      state = left.state;
+      told = left.told;
+      holds = left.holds;
+      works = subst (λ (a : Acting). IsSettling a.work) (sym (changed_at 0 _ old.sessions new.sessions p.session 0 ∙ at_same 0 p.session.after (session_at old.sessions) 0 refl))
+          (goes_settling (settler n) p.under p.to (session_at old.sessions 0).work p.session.after.work own.work way.works);
+      others = left.others;
+    }
+
+settler_went : (n : ℕ) (lines : List Line) (first : Sessions) → IsSettlersRow lines (settler n) → (before : Seen) (old : World) (after : Seen) (new : World)
+    → SettlerGoes n lines first old before → Went (settler n) before old after new → SettlerGoes n lines first new after
+settler_went n lines first row before old after new way start = way
+settler_went n lines first row before old after new way (further mid _ world _ went step) =
+    settler_more n lines first row mid after world new (settler_went n lines first row before old mid world way went) step
+
 module _ (lines : List Line) (n : ℕ) (before : Seen) (old begun : World) (t : CloudState)
     (number : n ≡ length lines + 1) (told : before.state ≡ Some t) (stands : WorldStands lines old t) (begins : Has 0 settling_session old begun) where
   abbrev before_it : Sessions
   before_it = session_at old.sessions
 
-  -- a settler at rest, and one that begins, stand as no line says of it
+  -- a settler at rest stands as the lines say of it
   rests_as : ActsAs closed_session (standing lines 0)
   rests_as = subst (λ a. ActsAs a (standing lines 0)) stands.rests (stands.acts 0)
-
-  settles_as : ActsAs settling_session (standing lines 0)
-  settles_as = record { buffer = rests_as.buffer; work = rests_as.work }
 
   begun_holds : CloudHolds (length lines + 1) lines (session_at begun.sessions) begun.audit begun.blind t
   begun_holds = subst (λ a. At a begun.blind) (sym begins.audit) (subst (At old.audit) (sym begins.blind) (holds_same (length lines + 1) lines (at 0 settling_session before_it) (session_at begun.sessions) old.audit old.blind t (has_at 0 settling_session old begun begins) own))
@@ -503,38 +589,55 @@ module _ (lines : List Line) (n : ℕ) (before : Seen) (old begun : World) (t : 
           begins_with lines before_it (at 0 settling_session before_it) old.audit old.blind t stands.holds
           (settling_begins_session stands.holds.book stands.holds.order t before_it 0 stands.rests stands.holds.stand)
 
-  settler_begins : IsUnderWay lines begun before
-  settler_begins = record {
-    after = t;
+  settler_begins : (r : Reply) → IsNoReport r → SettlerGoes n (lines ++ line_of event.Settle r ∷ []) before_it begun before
+  settler_begins r plain = record {
+    state = t;
     told = told;
-    goes = record {
-      holds = begun_holds;
-      acts = λ m. subst (λ a. ActsAs a (standing lines m)) (sym (has_at 0 settling_session old begun begins m)) (acts_set lines 0 before_it settling_session stands.acts settles_as m);
-    };
+    holds = subst (λ k. CloudHolds k (lines ++ line_of event.Settle r ∷ []) (session_at begun.sessions) begun.audit begun.blind t) (sym number)
+        (settle_begins lines r (session_at begun.sessions) begun.audit begun.blind t (λ order. no_report_front order r plain) begun_holds);
+    works = subst (λ (a : Acting). IsSettling a.work) (sym (has_at 0 settling_session old begun begins 0 ∙ at_same 0 settling_session before_it 0 refl)) tt;
+    others = λ m ne. has_at 0 settling_session old begun begins m ∙ at_other 0 settling_session before_it m ne;
   }
 
-  settler_ends : (after : Seen) (new : World) (r : Reply) → SettlesTo (record { session = 0; event = n }) before after begun new (Ok r)
+  settler_ends : (after : Seen) (new : World) (r : Reply) → SettlesTo (settler n) before after begun new (Ok r)
       → StandsFor (lines ++ line_of event.Settle r ∷ []) new after r
-  settler_ends after new r h =
-      through lines event.Settle r after new s.state s.told (closed_holds lines 0 h.left new s.state s.holds h.closes) (still_line lines event.Settle r (session_at new.sessions) (λ z. refl) acts)
-      (has_at 0 closed_session h.left new h.closes 0 ∙ at_same 0 closed_session (session_at h.left.sessions) 0 refl) (settled_plain h.answer r h.replies)
+  settler_ends after new r h = record {
+    after = s.state;
+    told = s.told;
+    stands = settle_ends lines r (session_at new.sessions) new.audit new.blind s.state
+        (subst (λ k. CloudHolds k all (session_at new.sessions) new.audit new.blind s.state) number (closed_holds n all 0 h.left new s.state s.holds h.closes)) acts rests;
+    right = no_report_right all s.state r plain;
+    left = no_report_left s.state r plain;
+  }
     where
-      who : Caller
-      who = record { session = 0; event = n }
+      all : List Line
+      all = lines ++ line_of event.Settle r ∷ []
 
-      way : IsUnderWay lines h.comes.world h.comes.mid
-      way = went_on lines who before begun h.comes.mid h.comes.world number settler_begins h.comes.went
+      plain : IsNoReport r
+      plain = settled_plain h.answer r h.replies
 
-      s : IsStepped lines h.left after
-      s = stepped lines who Plain h.comes.mid after h.comes.world h.left (Ended h.answer) number way h.comes.steps
+      row : IsSettlersRow all (settler n)
+      row = settler_row lines r (settler n) refl number
+
+      way : SettlerGoes n all before_it h.comes.world h.comes.mid
+      way = settler_went n all before_it row before begun h.comes.mid h.comes.world (settler_begins r plain) h.comes.went
+
+      s : SettlerLeft n all before_it h.left after
+      s = settler_left n all before_it row h.comes.mid after h.comes.world h.left (Ended h.answer) way h.comes.steps
+
+      rests : SettlerRests (session_at new.sessions)
+      rests = has_at 0 closed_session h.left new h.closes 0 ∙ at_same 0 closed_session (session_at h.left.sessions) 0 refl
 
       acts : AllAct lines (session_at new.sessions)
-      acts m =
-          subst (λ a. ActsAs a (standing lines m))
-          (sym (closed_twice 0 h.comes.steps.session.after (session_at h.comes.world.sessions) (session_at h.left.sessions) (session_at new.sessions) (sessions_after lines who Plain h.comes.mid after h.comes.world h.left (Ended h.answer) number way h.comes.steps) (has_at 0 closed_session h.left new h.closes) m))
-          (acts_set lines 0 (session_at h.comes.world.sessions) closed_session way.goes.acts rests_as m)
+      acts m = on (cases_eq m 0)
+        where
+          on : (m ≡ 0) ⊎ (m ≢ 0) → ActsAs (session_at new.sessions m) (standing lines m)
+          on (inl e) = subst (λ j. ActsAs (session_at new.sessions j) (standing lines j)) (sym e) (subst (λ a. ActsAs a (standing lines 0)) (sym rests) rests_as)
+          on (inr ne) =
+              subst (λ a. ActsAs a (standing lines m))
+              (sym (has_at 0 closed_session h.left new h.closes m ∙ at_other 0 closed_session (session_at h.left.sessions) m ne ∙ s.others m ne)) (stands.acts m)
 
-  settler_on : (after : Seen) (new : World) (r : Reply) → SettlesOn (record { session = 0; event = n }) before after begun new (Ok r)
+  settler_on : (after : Seen) (new : World) (r : Reply) → SettlesOn (settler n) before after begun new (Ok r)
       → StandsFor (lines ++ line_of event.Settle r ∷ []) new after r
   settler_on after new r (inl h) = settler_ends after new r h
   settler_on after new r (inr memory) = absurd (no_memory r memory)

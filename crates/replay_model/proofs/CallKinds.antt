@@ -14,11 +14,11 @@ use Rattle.head_codec.specs.declared.head.Head.{Head}
 use Rattle.head_codec.specs.declared.head.Phase.{Phase}
 use Rattle.head_codec.specs.declared.head.Phase.TheVariants as phase
 use Rattle.head_codec.specs.Spelling.{head_of}
-use Rattle.home_facts.specs.Homes.{Part}
-use Rattle.kind_facts.specs.Asks.{MayAsk}
-use Rattle.kind_facts.specs.New.{IsNew}
-use Rattle.kind_facts.proofs.Asks.{may_ask, recovery_asks, run_asks, paging_asks, making_asks, settling_asks}
-use Rattle.kind_facts.proofs.Opens.{work_is_new}
+use Rattle.cloud_facts.specs.Homes.Homes.{Part}
+use Rattle.session_facts.specs.Kinds.Asks.{MayAsk}
+use Rattle.session_facts.specs.Kinds.New.{IsNew}
+use Rattle.session_facts.proofs.Kinds.Asks.{may_ask, recovery_asks, run_asks, paging_asks, making_asks, settling_asks}
+use Rattle.session_facts.proofs.Kinds.Opens.{work_is_new}
 use Rattle.page_cache.specs.Cache.{Cache}
 use Rattle.page_ckpt.specs.Paging.{paging_ask}
 use Rattle.range_scan.specs.Scan.{scan_ask}
@@ -27,11 +27,11 @@ use Rattle.settle_run.specs.Settling.{Settling as SettlingState, settle_ask}
 use Rattle.replay_meaning.specs.Standing.{Line, Standing, standing, standing_of_row}
 use Rattle.replay_meaning.specs.Committed.{committed}
 use Rattle.replay_meaning.specs.Kinds.{OpensClient, CommitsFor, IsOfSettler, MaySettleHead, MayPutPhase, MayPutHead, MayPutBytes, IsOfKind, LandsOpen}
-use Rattle.session_facts.specs.Puts.{IsSoundWork, Commits, PutsHead}
-use Rattle.session_facts.specs.Sessions.{KnowsWork}
-use Rattle.session_facts.proofs.HeadPuts.{head_put}
-use Rattle.store_book.specs.Records.{entries_of}
-use Rattle.store_book.specs.Tally.{Store}
+use Rattle.session_facts.specs.Sessions.Puts.{IsSoundWork, Commits, PutsHead}
+use Rattle.session_facts.specs.Sessions.Sessions.{KnowsWork}
+use Rattle.session_facts.proofs.Sessions.HeadPuts.{head_put}
+use Rattle.cloud_facts.specs.Book.Records.{entries_of}
+use Rattle.cloud_facts.specs.Book.Tally.{Store}
 use Rattle.tree_ckpt.specs.Making.{making_ask}
 use Rattle.replay_model.specs.Facts.{WorksAs}
 use Rattle.replay_model.proofs.CommittedLemmas.{now_standing}

@@ -11,7 +11,7 @@ use Rattle.head_codec.specs.declared.head.Phase.TheVariants as phase
 use Rattle.head_codec.specs.Spelling.{head_of}
 use Rattle.report_types.specs.declared.entry.Entry.{Entry}
 use Rattle.txn_buffer.specs.Noted.{Noted}
-use Rattle.cloud_facts.specs.Looks.{has_bytes, has_landed}
+use Rattle.cloud_facts.specs.Calls.Looks.{has_bytes, has_landed}
 use Rattle.cloud_trait.specs.declared.answer.Answer.{Answer}
 use Rattle.cloud_trait.specs.declared.state.Version.{Version}
 use Rattle.cloud_trait.specs.Caller.{Caller}
@@ -23,17 +23,17 @@ use Rattle.cloud_trait.specs.Weather.{Leaves}
 use Rattle.cloud_trait.proofs.NameLemmas.{object_cmp-total}
 use Rattle.cloud_trait.proofs.RowLemmas.{row_by}
 use Rattle.cloud_trait.proofs.StateLemmas.{landed_newest, put_at_same, slice_get-push}
-use Rattle.decoding_facts.specs.Decodes.{Decodes}
-use Rattle.decoding_facts.specs.Kinds.{MomentsDiffer}
-use Rattle.decoding_facts.proofs.Newest.{newest_last}
+use Rattle.cloud_facts.specs.Decoding.Decodes.{Decodes}
+use Rattle.cloud_facts.specs.Decoding.Kinds.{MomentsDiffer}
+use Rattle.cloud_facts.proofs.Decoding.Newest.{newest_last}
 use Rattle.history.specs.Audited.{Audited, committed_entry}
 use Rattle.client_session.specs.declared.work.Work.{Work}
 use Rattle.client_session.specs.declared.work.Work.TheVariants.{Closed, Idle, Opening, Committing, Reading, Scanning, Paging, Folding, Closing, Renewing, Settling, Broken}
 use Rattle.client_session.specs.Session.{ask_of_work, committing_of, opens_of}
 use Rattle.replay_meaning.specs.Standing.{Line, Standing, standing}
 use Rattle.replay_meaning.specs.Committed.{committed, entries_of_bytes, entries_of_head, entries_of_phase, changes_at}
-use Rattle.session_facts.specs.Noting.{noted_at, noted_head, noted_in_hand, audited}
-use Rattle.session_facts.specs.Puts.{Commits, PutsHead}
+use Rattle.session_facts.specs.Sessions.Noting.{noted_at, noted_head, noted_in_hand, audited}
+use Rattle.session_facts.specs.Sessions.Puts.{Commits, PutsHead}
 use Rattle.replay_model.specs.Facts.{IsPlaced, WorksAs}
 use Rattle.replay_model.proofs.CommittedLemmas.{put_entries, committed_effect, now_standing, slice_get-append_left}
 

@@ -10,10 +10,10 @@ use Rattle.reply_text.specs.declared.reply.Reply.{Reply}
 use Rattle.reply_text.specs.declared.reply.Reply.TheVariants as reply
 use Rattle.client_session.specs.Session.{Acting}
 use Rattle.history.specs.Audited.{Audited}
-use Rattle.store_book.specs.Tally.{at}
-use Rattle.store_book.proofs.Names.{at_same, at_other}
-use Rattle.session_facts.specs.Sessions.{Sessions, SessionsStand}
-use Rattle.session_facts.proofs.Laws.{same_sessions}
+use Rattle.cloud_facts.specs.Book.Tally.{at}
+use Rattle.cloud_facts.proofs.Book.Names.{at_same, at_other}
+use Rattle.session_facts.specs.Sessions.Sessions.{Sessions, SessionsStand}
+use Rattle.session_facts.proofs.Sessions.Laws.{same_sessions}
 use Rattle.replay_meaning.specs.Standing.{Line, Standing, standing, after_line, after_own, session_of}
 use Rattle.replay_model.specs.Facts.{ActsAs, AllAct, CloudHolds, IsFrontOf, SettlerRests, Stands, GoesOn}
 use Rattle.replay_model.proofs.OrderLemmas.{reported_line}

@@ -5,8 +5,8 @@ use Rattle.std.proofs.lemmas.Bool.{cases_eq}
 use Rattle.std.proofs.lemmas.List.{get_or-set_same, get_or-set_other}
 use Rattle.std.proofs.lemmas.Option.{slice_get_within, unwrap_or-slice_get}
 use Rattle.client_session.specs.Session.{Acting, closed_session}
-use Rattle.store_book.specs.Tally.{at}
-use Rattle.store_book.proofs.Names.{at_same, at_other}
+use Rattle.cloud_facts.specs.Book.Tally.{at}
+use Rattle.cloud_facts.proofs.Book.Names.{at_same, at_other}
 use Rattle.replay_model.specs.Facts.{session_at}
 
 -- what stands in two lists behind one another stands in one of them

@@ -21,15 +21,15 @@ use Rattle.history.specs.Audited.{committed_entry}
 use Rattle.log_codec.specs.declared.record.AtomicRec.{AtomicRec}
 use Rattle.report_types.specs.declared.entry.Entry.{Entry}
 use Rattle.txn_buffer.specs.Noted.{Noted}
-use Rattle.number_facts.proofs.Lists.{map_there}
+use Rattle.cloud_facts.proofs.Numbers.Lists.{map_there}
 use Rattle.replay_meaning.specs.Standing.{Line, standing_of_row}
 use Rattle.replay_meaning.specs.Committed.{Versions, changes_at, changes_of_row, entries_of_bytes, site_entries, row_entries, committed}
 use Rattle.replay_meaning.specs.Kinds.{CommitsCount, MayPutHead, MayPutPhase, MayPutBytes, IsOfKindAt, IsOfKind, LandsOpen, OpensOnce}
 use Rattle.replay_model.specs.Facts.{IsPlaced, IsPlacedAt}
 use Rattle.replay_model.proofs.CommittedLemmas.{new_version, kept_version}
 use Rattle.replay_model.proofs.Commits.{opened_entries}
-use Rattle.store_book.specs.Records.{IsIn, entry_of, entries_of}
-use Rattle.store_book.proofs.Places.{get_cases, get_single, in_front, in_behind}
+use Rattle.cloud_facts.specs.Book.Records.{IsIn, entry_of, entries_of}
+use Rattle.cloud_facts.proofs.Book.Places.{get_cases, get_single, in_front, in_behind}
 
 -- ---- lists
 

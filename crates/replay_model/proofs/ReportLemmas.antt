@@ -11,20 +11,20 @@ use Rattle.report_types.specs.declared.entry.Entry.{Entry}
 use Rattle.report_types.specs.declared.report.Report.{Report}
 use Rattle.reply_text.specs.declared.reply.Reply.{Reply}
 use Rattle.reply_text.specs.declared.reply.Reply.TheVariants as reply
-use Rattle.kind_facts.proofs.Sent.{order_sent}
-use Rattle.landing_facts.specs.Reporting.{IsReportable}
-use Rattle.chain_meaning.specs.Contents.{IsRead}
-use Rattle.chain_meaning.proofs.Reports.{leaves_in, store_reads, all_leaves, finds_contents}
+use Rattle.session_facts.proofs.Kinds.Sent.{order_sent}
+use Rattle.cloud_facts.specs.Landings.Reporting.{IsReportable}
+use Rattle.cloud_facts.specs.Meanings.Contents.{IsRead}
+use Rattle.cloud_facts.proofs.Meanings.Reports.{leaves_in, store_reads, all_leaves, finds_contents}
 use Rattle.tree_meaning.specs.Chain.{AreLeaves, Walked}
 use Rattle.tree_meaning.specs.Index.{Finds}
-use Rattle.store_book.specs.Book.{Book}
-use Rattle.store_book.specs.Records.{entries_of}
-use Rattle.store_book.specs.Tally.{Store}
-use Rattle.telling_facts.specs.Told.{store_of}
+use Rattle.cloud_facts.specs.Book.Book.{Book}
+use Rattle.cloud_facts.specs.Book.Records.{entries_of}
+use Rattle.cloud_facts.specs.Book.Tally.{Store}
+use Rattle.cloud_facts.specs.Tellings.Told.{store_of}
 use Rattle.world_audit.specs.Counts.{heads_upto, AreWaiting}
-use Rattle.cloud_facts.specs.Looks.{audit_of}
-use Rattle.session_facts.specs.Sessions.{Sessions, SessionsStand}
-use Rattle.session_facts.proofs.Laws.{reports as reports_well, chains, decodes, numbers}
+use Rattle.cloud_facts.specs.Calls.Looks.{audit_of}
+use Rattle.session_facts.specs.Sessions.Sessions.{Sessions, SessionsStand}
+use Rattle.session_facts.proofs.Sessions.Laws.{reports as reports_well, chains, decodes, numbers}
 use Rattle.replay_meaning.specs.Standing.{Line}
 use Rattle.replay_meaning.specs.Committed.{committed}
 use Rattle.replay_meaning.specs.Kinds.{KeepsKinds}

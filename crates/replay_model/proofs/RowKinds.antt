@@ -19,13 +19,13 @@ use Rattle.head_codec.specs.declared.head.Head.{Head}
 use Rattle.head_codec.specs.declared.head.Phase.{Phase}
 use Rattle.head_codec.specs.declared.head.Phase.TheVariants as phase
 use Rattle.head_codec.specs.Spelling.{head_of}
-use Rattle.kind_facts.specs.Asks.{MayAsk}
+use Rattle.session_facts.specs.Kinds.Asks.{MayAsk}
 use Rattle.replay_meaning.specs.Standing.{Line, Standing, standing, standing_of_row}
 use Rattle.replay_meaning.specs.Committed.{Versions}
 use Rattle.replay_meaning.specs.Kinds.{OpensClient, IsCommitting, CommitsFor, CommitsCount, FoldsTree, FoldsPage, IsOfSettler, MaySettleHead, MayPutRoot, MayPutPage, MaySendPending, MayPutPhase, MayPutHead, MayPutBytes, MaySend, IsOfKindAt, IsOfKind}
 use Rattle.replay_model.specs.Facts.{IsPlaced, IsPlacedAt}
 use Rattle.replay_model.proofs.CommittedLemmas.{new_version, kept_version}
-use Rattle.store_book.proofs.Places.{get_front}
+use Rattle.cloud_facts.proofs.Book.Places.{get_front}
 
 -- what two facts of each item give
 all_both : {X : Type 0} (P Q R : X → Type 0) (xs : List X) → ((x : X) → P x → Q x → R x) → All P xs → All Q xs → All R xs

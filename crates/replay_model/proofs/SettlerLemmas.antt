@@ -7,7 +7,7 @@ use Rattle.event_text.specs.declared.event.Event.TheVariants as event
 use Rattle.history.specs.Audited.{Audited}
 use Rattle.reply_text.specs.declared.reply.Reply.{Reply}
 use Rattle.report_types.specs.declared.entry.Entry.{Entry}
-use Rattle.session_facts.specs.Sessions.{Sessions}
+use Rattle.session_facts.specs.Sessions.Sessions.{Sessions}
 use Rattle.replay_meaning.specs.Standing.{Line}
 use Rattle.replay_model.specs.Facts.{ActsAs, AllAct, CloudHolds, IsFrontOf, SettlerRests, Stands}
 use Rattle.replay_model.proofs.CallKinds.{IsSettlersRow}

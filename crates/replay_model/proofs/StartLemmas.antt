@@ -3,9 +3,9 @@ use Rattle.std.proofs.Common.{◌≡◌, ℕ, zero, suc, [], refl, sym, subst, f
 use Rattle.std.specs.Prelude.{replicate, slice_get, unwrap_or}
 use Rattle.cloud_trait.specs.State.{CloudState, IsEmptyCloud}
 use Rattle.client_session.specs.Session.{Acting, closed_session}
-use Rattle.store_book.specs.Book.{empty_book}
+use Rattle.cloud_facts.specs.Book.Book.{empty_book}
 use Rattle.replay_meaning.specs.Standing.{unnamed}
-use Rattle.session_facts.proofs.Laws.{starts}
+use Rattle.session_facts.proofs.Sessions.Laws.{starts}
 use Rattle.replay_model.specs.Facts.{session_at, ActsAs, Stands}
 use Rattle.replay_model.proofs.CommittedLemmas.{empty_committed, empty_placed, empty_upto}
 use Rattle.replay_model.proofs.LineLemmas.{holds_same}

@@ -3,7 +3,7 @@ use Rattle.std.proofs.Common.{◌≡◌, ◌≤◌, ◌+◌, ℕ, List, length, 
 use Rattle.std.specs.Prelude.{All}
 use Rattle.db_base.specs.declared.trouble.Trouble.{Trouble}
 use Rattle.db_base.specs.declared.wish.Wish.{Wish}
-use Rattle.cloud_facts.specs.Looks.{audit_of}
+use Rattle.cloud_facts.specs.Calls.Looks.{audit_of}
 use Rattle.cloud_trait.specs.declared.answer.Answer.{Answer as CallAnswer}
 use Rattle.cloud_trait.specs.declared.state.Landing.{Landing}
 use Rattle.cloud_trait.specs.declared.turn.Turn.{Turn}
@@ -15,7 +15,7 @@ use Rattle.cloud_trait.specs.State.{CloudState, called, newest}
 use Rattle.cloud_trait.specs.Weather.{Makes, Leaves}
 use Rattle.cloud_trait.proofs.RowLemmas.{row_by, leaves_upto}
 use Rattle.history.specs.Audited.{Audited}
-use Rattle.kind_facts.specs.Asks.{MayAsk}
+use Rattle.session_facts.specs.Kinds.Asks.{MayAsk}
 use Rattle.page_cache.specs.Cache.{Cache}
 use Rattle.recover_run.specs.declared.home.Home.{Home}
 use Rattle.recover_run.specs.Recovery.{recovery_ask}
@@ -33,15 +33,15 @@ use Rattle.txn_buffer.specs.Noted.{Noted}
 use Rattle.replay_meaning.specs.Standing.{Line, standing}
 use Rattle.replay_meaning.specs.Committed.{committed}
 use Rattle.replay_meaning.specs.Kinds.{IsOfKind, OpensOnce}
-use Rattle.store_book.specs.Records.{entries_of}
-use Rattle.store_book.specs.Tally.{at}
-use Rattle.telling_facts.specs.Told.{store_of}
-use Rattle.session_facts.specs.Noting.{audited}
-use Rattle.session_facts.specs.Puts.{IsSoundWork}
-use Rattle.session_facts.specs.Sessions.{Sessions, Goes}
-use Rattle.session_facts.proofs.Calling.{session_keeps}
-use Rattle.session_facts.proofs.HeadPuts.{head_put}
-use Rattle.session_facts.proofs.Laws.{rest_keeps, decodes}
+use Rattle.cloud_facts.specs.Book.Records.{entries_of}
+use Rattle.cloud_facts.specs.Book.Tally.{at}
+use Rattle.cloud_facts.specs.Tellings.Told.{store_of}
+use Rattle.session_facts.specs.Sessions.Noting.{audited}
+use Rattle.session_facts.specs.Sessions.Puts.{IsSoundWork}
+use Rattle.session_facts.specs.Sessions.Sessions.{Sessions, Goes}
+use Rattle.session_facts.proofs.Sessions.Calling.{session_keeps}
+use Rattle.session_facts.proofs.Sessions.HeadPuts.{head_put}
+use Rattle.session_facts.proofs.Sessions.Laws.{rest_keeps, decodes}
 use Rattle.replay_model.specs.Facts.{IsPlaced, WorksAs, CloudHolds}
 use Rattle.replay_model.proofs.CallKinds.{IsSettling, IsSettlersRow, settles_none, settle_asks, call_kind, call_opens}
 use Rattle.replay_model.proofs.Commits.{CommitsAs, stood_on, ask_commits, audited_commits}

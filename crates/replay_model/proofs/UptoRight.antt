@@ -10,7 +10,7 @@ use Rattle.cloud_trait.specs.declared.state.Posted.{Posted}
 use Rattle.cloud_trait.proofs.UptoLemmas.{upto_versions, upto_posts, upto_trace}
 use Rattle.history.specs.Fold.{of_tree}
 use Rattle.log_codec.specs.Pu.{pu_of}
-use Rattle.number_facts.proofs.Lists.{map_at, map_there}
+use Rattle.cloud_facts.proofs.Numbers.Lists.{map_at, map_there}
 use Rattle.report_types.specs.declared.entry.Entry.{Entry}
 use Rattle.report_types.specs.declared.report.Report.{Report}
 use Rattle.tree_meaning.proofs.SameLemmas.{AreNewest, leads_same, finds_same}

@@ -20,10 +20,10 @@ use Rattle.replay_meaning.specs.Kinds.{IsOfKind, OpensOnce}
 use Rattle.tree_walk.specs.Walk.{sought}
 use Rattle.commit_run.specs.Run.{home_of}
 use Rattle.replay_model.specs.Running.{IsOpening, IsRunning}
-use Rattle.cloud_facts.specs.Looks.{audit_of}
-use Rattle.session_facts.specs.Sessions.{Sessions, SessionsStand}
-use Rattle.store_book.specs.Book.{Book}
-use Rattle.store_book.specs.Records.{entries_of}
+use Rattle.cloud_facts.specs.Calls.Looks.{audit_of}
+use Rattle.session_facts.specs.Sessions.Sessions.{Sessions, SessionsStand}
+use Rattle.cloud_facts.specs.Book.Book.{Book}
+use Rattle.cloud_facts.specs.Book.Records.{entries_of}
 
 -- ---- the sessions of a list
 

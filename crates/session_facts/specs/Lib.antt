@@ -1,3 +1,12 @@
-pub mod Noting
+pub mod Walks
+pub mod Scans
+pub mod Openings
+pub mod Commits
+pub mod CommitRuns
+pub mod Runs
+pub mod Trees
+pub mod TreeCheckpoints
+pub mod PageCheckpoints
+pub mod Settlings
 pub mod Sessions
-pub mod Puts
+pub mod Kinds

@@ -1,2 +1,2 @@
-//! Sessions: what many of them know of one cloud, whatever calls fail, and that each call, crash and wait keeps it.
+//! What each machine of a session knows of a cloud at each of its calls, that it survives what others do, and that every call of every session keeps it.
 #![tactic(auto)]

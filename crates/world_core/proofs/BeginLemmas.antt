@@ -30,9 +30,9 @@ use Rattle.client_session.specs.declared.shown.Shown.TheVariants.{Nothing}
 use Rattle.client_session.specs.declared.work.Work.{Work}
 use Rattle.client_session.specs.declared.work.Work.TheVariants as work
 use Rattle.client_session.specs.Session.{Acting, Begins, BeginsOpening, BeginsWith, HasInHand, CommitsNothing, CommitsNoted, CommitsIn, CommitsOf, Follows, ReadsIn, ReadsOf, ScansIn, ScansOf, begins_by, paging_begun_by, folding_begun_by, old_lease, rule_of, stopped_work}
-use Rattle.session_facts.specs.Sessions.{Sessions, SessionsStand, IsRightOp}
-use Rattle.session_facts.proofs.Begins.{begins_keeps}
-use Rattle.session_facts.proofs.Laws.{buffer_keeps, same_sessions}
+use Rattle.session_facts.specs.Sessions.Sessions.{Sessions, SessionsStand, IsRightOp}
+use Rattle.session_facts.proofs.Sessions.Begins.{begins_keeps}
+use Rattle.session_facts.proofs.Sessions.Laws.{buffer_keeps, same_sessions}
 use Rattle.page_cache.specs.Cache.{Cache}
 use Rattle.cloud_trait.specs.declared.turn.Turn.{Turn}
 use Rattle.cloud_trait.specs.declared.turn.Turn.TheVariants.{More, Ended, Stopped}
@@ -40,10 +40,10 @@ use Rattle.range_scan.specs.Scan.{Scan, new_scan, scan_ready, moved_on}
 use Rattle.tree_walk.specs.Moves.{Moves}
 use Rattle.tree_walk.specs.Walk.{new_walk}
 use Rattle.commit_run.specs.Run.{home_of}
-use Rattle.commit_facts.specs.Committing.{MayCommit}
-use Rattle.commit_facts.proofs.Noted.{may_note, may_none}
-use Rattle.store_book.specs.Tally.{at}
-use Rattle.store_book.proofs.Names.{at_same, at_other}
+use Rattle.session_facts.specs.Commits.Committing.{MayCommit}
+use Rattle.session_facts.proofs.Commits.Noted.{may_note, may_none}
+use Rattle.cloud_facts.specs.Book.Tally.{at}
+use Rattle.cloud_facts.proofs.Book.Names.{at_same, at_other}
 use Rattle.replay_meaning.specs.Standing.{Line, Standing, Working as WorkingOn, Committing as Noting, Reading as ReadingKey, Scanning as ScanningRange, standing, after_own, notes as notes_own}
 use Rattle.replay_model.specs.Facts.{session_at, ActsAs, WorksAs}
 use Rattle.replay_model.proofs.Acting.{IsReplyTo}

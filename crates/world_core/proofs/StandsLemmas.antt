@@ -29,12 +29,12 @@ use Rattle.client_session.specs.Session.{Acting, closed_session, settling_sessio
 use Rattle.history.specs.Audited.{Audited}
 use Rattle.history.specs.Fold.{of_tree}
 use Rattle.world_audit.specs.Counts.{heads_upto, AreWaiting}
-use Rattle.store_book.specs.Tally.{at}
-use Rattle.store_book.proofs.Names.{at_same, at_other}
-use Rattle.session_facts.specs.Noting.{audited}
-use Rattle.session_facts.specs.Sessions.{Sessions, SessionsStand}
-use Rattle.session_facts.proofs.Begins.{settling_begins_session}
-use Rattle.session_facts.proofs.Laws.{crash_keeps}
+use Rattle.cloud_facts.specs.Book.Tally.{at}
+use Rattle.cloud_facts.proofs.Book.Names.{at_same, at_other}
+use Rattle.session_facts.specs.Sessions.Noting.{audited}
+use Rattle.session_facts.specs.Sessions.Sessions.{Sessions, SessionsStand}
+use Rattle.session_facts.proofs.Sessions.Begins.{settling_begins_session}
+use Rattle.session_facts.proofs.Sessions.Laws.{crash_keeps}
 use Rattle.replay_meaning.specs.Standing.{Line, Standing, standing, after_line, after_own, session_of, steps}
 use Rattle.replay_meaning.specs.Right.{ReportIsRight}
 use Rattle.replay_model.specs.Facts.{session_at, ActsAs, AllAct, CloudHolds, IsFrontOf, SettlerRests, Stands, GoesOn}

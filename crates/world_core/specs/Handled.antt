@@ -30,7 +30,7 @@ use Rattle.world_audit.specs.Look.{Looked}
 use Rattle.world_audit.specs.Stop.{Stopped as StopsReport}
 use Rattle.tree_meaning.specs.Chain.{Walked}
 use Rattle.world_audit.specs.Counts.{heads_upto, AreWaiting}
-use Rattle.session_facts.specs.Noting.{audited}
+use Rattle.session_facts.specs.Sessions.Noting.{audited}
 use Rattle.world_core.specs.declared.asked.Request.{Request}
 use Rattle.world_core.specs.declared.asked.Request.TheVariants.{Begin, Note, Abort, Step, Run, Crash}
 use Rattle.world_core.specs.declared.asked.Asked.{Asked}

@@ -1,4 +1,0 @@
-pub mod Links
-pub mod Chain
-pub mod Landing
-pub mod Cuts

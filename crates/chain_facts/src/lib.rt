@@ -1,2 +1,0 @@
-//! The chains of pages: from the left end of each level of a tree its links are walked to the right, through the newest versions and through old ones.
-#![tactic(auto)]

@@ -1,3 +1,0 @@
-pub mod Meets
-pub mod Contents
-pub mod Got

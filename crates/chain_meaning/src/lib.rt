@@ -1,2 +1,0 @@
-//! What follows from the chains of a tree for what a report reads and a walk meets. Lemmas alone, with no code.
-#![tactic(auto)]

@@ -1,0 +1,147 @@
+-- Every call that lands keeps what holds of a cloud.
+use Rattle.std.proofs.Common.{◌≡◌, ℕ, List, [], sym, subst}
+use Rattle.db_base.specs.Ids.{IsTree}
+use Rattle.db_base.specs.declared.names.ObjName.TheVariants as object
+use Rattle.cloud_trait.specs.Ask.{Ask, Get, GetHeld, PutHeld, Send, Receive, Delete, Take, Renew, Release, effect, PutsNothing, TouchesNoMessage}
+use Rattle.cloud_trait.specs.Caller.{Caller}
+use Rattle.cloud_trait.specs.State.{CloudState, IsEmptyCloud, landed as put}
+use Rattle.cloud_facts.specs.Chains.Chain.{ChainHolds}
+use Rattle.cloud_facts.specs.Calls.Standing.{StandsUnder, IsTaken, Follows}
+use Rattle.cloud_facts.specs.Decoding.Decodes.{Decodes, IsNext, Spells}
+use Rattle.cloud_facts.specs.Decoding.Kinds.{IsNode}
+use Rattle.cloud_facts.proofs.Decoding.Landing.{empty_decodes, effect_decodes, same_decodes}
+use Rattle.cloud_facts.proofs.Decoding.Values.{head_next, inner_next, root_next, atomic_message, pu_message}
+use Rattle.cloud_facts.specs.Landings.Holding.{Holds}
+use Rattle.cloud_facts.specs.Landings.Landing.{Landing, opens, settles, logs, posts, marks_log, marks_post, puts_leaf, puts_page, puts_inner, puts_root, raises_root, stays}
+use Rattle.cloud_facts.specs.Landings.Landing.{Spells as SpellsNode}
+use Rattle.cloud_facts.proofs.Landings.LandingLemmas.{landing_keeps, landing_grows, empty_holds, opens_later, settles_later}
+use Rattle.leaf_view.specs.Leaf.{IsLeaf}
+use Rattle.report_types.specs.declared.entry.Entry.{Entry}
+use Rattle.cloud_facts.specs.Book.Book.{Book, empty_book}
+use Rattle.cloud_facts.specs.Book.Effects.{Taking, after_leaf, after_page}
+use Rattle.cloud_facts.specs.Book.Growth.{Grows}
+use Rattle.cloud_facts.specs.Book.Premises.{Takes, LandsFirst}
+use Rattle.cloud_facts.specs.Landings.Landing.{own_of}
+use Rattle.cloud_facts.specs.Book.Tally.{Node, Leafy, Branch, Store}
+use Rattle.cloud_facts.specs.Book.Telling.{tally_of}
+use Rattle.cloud_facts.specs.Tellings.Told.{store_of, Tells}
+use Rattle.cloud_facts.proofs.Tellings.Asks.{quiet_tells, told_by}
+use Rattle.cloud_facts.proofs.Tellings.Easy.{head_told, logged_told, posted_told, log_mark_told, post_mark_told, same_told}
+use Rattle.cloud_facts.proofs.Tellings.Laws.{taken_tells, taken_next, inner_tells, page_tells, raise_tells}
+use Rattle.cloud_facts.proofs.Tellings.Nodes.{root_told}
+use Rattle.cloud_facts.proofs.Tellings.Ready.{first_next}
+
+-- ---- what is told after a call
+
+leaf_told : (who : Caller) (book : Book) (order : List Entry) (s : CloudState) (p : Taking) (bytes : List ℕ) → ChainHolds (store_of book order s)
+    → Decodes s → IsLeaf bytes p.leaf
+    → Takes (store_of book order s) p → IsTaken (store_of book order s) p
+    → Tells (put who (object.Page p.tree p.page) bytes s) (after_leaf p (store_of book order s))
+leaf_told who book order s p bytes h d e takes taken =
+    subst (λ (x : Taking). Tells (put who (object.Page p.tree p.page) bytes s) (after_leaf x (store_of book order s))) (sym taken.is)
+    (taken_tells book order s p.tree takes.is_tree h d who p.page p.queue p.run taken.sizes taken.free bytes taken.lands
+    (subst (λ (x : Taking). IsLeaf bytes x.leaf) taken.is e))
+
+page_told : (who : Caller) (book : Book) (order : List Entry) (s : CloudState) (tree page : ℕ) (node : Node) (bytes : List ℕ) → IsTree tree
+    → ChainHolds (store_of book order s) → Decodes s
+    → SpellsNode bytes node → LandsFirst (store_of book order s) tree page (own_of page node)
+    → Tells (put who (object.Page tree page) bytes s) (after_page tree page node (own_of page node) (store_of book order s))
+page_told who book order s tree page (Leafy l) bytes is h d e first = page_tells book order s tree is h d who page bytes (Leafy l) e first
+page_told who book order s tree page (Branch n) bytes is h d e first = page_tells book order s tree is h d who page bytes (Branch n) e first
+
+pub landing_tells : (who : Caller) (book : Book) (order : List Entry) (s : CloudState) (ask : Ask) (su : Store) → ChainHolds (store_of book order s) → Decodes s
+    → (l : Landing who (store_of book order s) ask su) → Follows who (store_of book order s) ask su l → Tells (effect who ask s) su
+landing_tells who book order s ask su h d (opens client head records bytes one two e o) f = head_told who client bytes head records book order s e
+landing_tells who book order s ask su h d (settles client head bytes one two e o) f = head_told who client bytes head [] book order s e
+landing_tells who book order s ask su h d (logs client bytes r o) f = logged_told who client bytes book order s
+landing_tells who book order s ask su h d (posts tree page bytes r o) f = posted_told who tree page bytes book order s
+landing_tells who book order s ask su h d (marks_log client id o) f = log_mark_told client id book order s
+landing_tells who book order s ask su h d (marks_post tree page id o) f = post_mark_told tree page id book order s
+landing_tells who book order s ask su h d (puts_leaf p bytes one two e takes lands) f = leaf_told who book order s p bytes h d e takes f
+landing_tells who book order s ask su h d (puts_page tree page node bytes one two is e first lands) f =
+    page_told who book order s tree page node bytes is h d e first
+landing_tells who book order s ask su h d (puts_inner tree page node pieces bytes one two is e lands) f =
+    inner_tells book order s tree is h d who page bytes node pieces e lands
+landing_tells who book order s ask su h d (puts_root tree t bytes one two is e covers lands) f = root_told who tree bytes t book order s e
+landing_tells who book order s ask su h d (raises_root tree t level links bytes one two is e covers lands) f =
+    raise_tells book order s tree is h d who bytes t level links e lands
+landing_tells who book order s ask su h d (stays asked puts touches) f = quiet_tells who asked book order s puts touches
+
+-- ---- what the bytes of a call spell
+
+leaf_next : (book : Book) (order : List Entry) (s : CloudState) (who : Caller) (p : Taking) (bytes : List ℕ) → ChainHolds (store_of book order s)
+    → Decodes s → IsLeaf bytes p.leaf
+    → Takes (store_of book order s) p → IsTaken (store_of book order s) p → IsNext s (object.Page p.tree p.page) bytes
+leaf_next book order s who p bytes h d e takes taken =
+    taken_next book order s p.tree takes.is_tree h d who p.page p.queue p.run taken.sizes taken.free bytes taken.lands
+    (subst (λ (x : Taking). IsLeaf bytes x.leaf) taken.is e)
+
+node_is : (bytes : List ℕ) (node : Node) → SpellsNode bytes node → IsNode bytes node
+node_is bytes (Leafy l) e = e
+node_is bytes (Branch n) e = e
+
+quiet_spells : (s : CloudState) (ask : Ask) → PutsNothing ask → TouchesNoMessage ask → Spells s ask
+quiet_spells s (Get name) puts touches = tt
+quiet_spells s (GetHeld name l) puts touches = tt
+quiet_spells s (PutHeld name bytes one two) puts touches = absurd puts
+quiet_spells s (Send queue bytes) puts touches = absurd touches
+quiet_spells s (Receive queue most) puts touches = tt
+quiet_spells s (Delete queue id) puts touches = tt
+quiet_spells s (Take lock ticks) puts touches = tt
+quiet_spells s (Renew l ticks) puts touches = tt
+quiet_spells s (Release l) puts touches = tt
+
+pub landing_spells : (who : Caller) (book : Book) (order : List Entry) (s : CloudState) (ask : Ask) (su : Store) → ChainHolds (store_of book order s)
+    → Decodes s
+    → (l : Landing who (store_of book order s) ask su) → Follows who (store_of book order s) ask su l → Spells s ask
+landing_spells who book order s ask su h d (opens client head records bytes one two e o) f =
+    head_next s client bytes head e (opens_later (store_of book order s) client head records o)
+landing_spells who book order s ask su h d (settles client head bytes one two e o) f =
+    head_next s client bytes head e (settles_later ((store_of book order s).tally.head client) head o.behind o.phase)
+landing_spells who book order s ask su h d (logs client bytes r o) f = atomic_message client bytes r o.reads o.client_is
+landing_spells who book order s ask su h d (posts tree page bytes r o) f = pu_message tree page bytes _ o.reads
+landing_spells who book order s ask su h d (marks_log client id o) f = tt
+landing_spells who book order s ask su h d (marks_post tree page id o) f = tt
+landing_spells who book order s ask su h d (puts_leaf p bytes one two e takes lands) f = leaf_next book order s who p bytes h d e takes f
+landing_spells who book order s ask su h d (puts_page tree page node bytes one two is e first lands) f =
+    first_next book order s tree is h d page bytes node lands.absent (node_is bytes node e) f
+landing_spells who book order s ask su h d (puts_inner tree page node pieces bytes one two is e lands) f = inner_next s tree page bytes node d e f
+landing_spells who book order s ask su h d (puts_root tree t bytes one two is e covers lands) f = root_next s tree bytes t d e f
+landing_spells who book order s ask su h d (raises_root tree t level links bytes one two is e covers lands) f = root_next s tree bytes t d e f
+landing_spells who book order s ask su h d (stays asked puts touches) f = quiet_spells s asked puts touches
+
+-- ---- the whole
+
+-- after a call that lands the cloud stands under the book that the call leaves
+pub effect_stands : (who : Caller) (book : Book) (order : List Entry) (s : CloudState) (ask : Ask) (su : Store) → StandsUnder book order s
+    → (l : Landing who (store_of book order s) ask su) → Follows who (store_of book order s) ask su l → StandsUnder su.book su.order (effect who ask s)
+effect_stands who book order s ask su stands l f = record {
+  holds =
+      told_by Holds (effect who ask s) su (landing_tells who book order s ask su stands.holds.chains stands.decodes l f)
+      (landing_keeps who (store_of book order s) ask su stands.holds l);
+  decodes = effect_decodes who ask s stands.decodes (landing_spells who book order s ask su stands.holds.chains stands.decodes l f);
+}
+
+-- and what is told has only grown
+pub effect_grows : (who : Caller) (book : Book) (order : List Entry) (s : CloudState) (ask : Ask) (su : Store) → StandsUnder book order s
+    → (l : Landing who (store_of book order s) ask su) → Follows who (store_of book order s) ask su l
+    → Grows (store_of book order s) (store_of su.book su.order (effect who ask s))
+effect_grows who book order s ask su stands l f =
+    told_by (Grows (store_of book order s)) (effect who ask s) su (landing_tells who book order s ask su stands.holds.chains stands.decodes l f)
+    (landing_grows who (store_of book order s) ask su stands.holds l)
+
+-- what is told of a cloud is of its versions and messages alone
+pub same_store : (book : Book) (order : List Entry) (s t : CloudState) → t.versions ≡ s.versions → t.messages ≡ s.messages → store_of book order t ≡ store_of book order s
+same_store book order s t versions messages =
+    let told : tally_of book t ≡ tally_of book s = same_told book s t versions messages in
+    λ i. record { tally = told i; book = book; order = order }
+
+pub same_stands : (book : Book) (order : List Entry) (s t : CloudState) → t.versions ≡ s.versions → t.messages ≡ s.messages → StandsUnder book order s → StandsUnder book order t
+same_stands book order s t versions messages stands = record {
+  holds = subst Holds (sym (same_store book order s t versions messages)) stands.holds;
+  decodes = same_decodes s t versions messages stands.decodes;
+}
+
+-- an empty cloud stands under the empty book
+pub empty_stands : (s : CloudState) → IsEmptyCloud s → StandsUnder empty_book [] s
+empty_stands s empty = record { holds = empty_holds s empty; decodes = empty_decodes s empty }

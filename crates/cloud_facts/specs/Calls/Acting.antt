@@ -1,0 +1,107 @@
+-- A call of one session beside all others: what stands before it, and what it leaves, whatever machine made it.
+use Rattle.std.specs.Prelude.{ℕ, ◌≡◌, ◌≤◌, ◌⊎◌, List, [], ◌∷◌, Option, Some, None}
+use Rattle.cloud_facts.specs.Calls.Links.{LinksBy}
+use Rattle.cloud_facts.specs.Calls.Looks.{audited_at, audit_of}
+use Rattle.cloud_facts.specs.Calls.Others.{Passes, IsOfPart}
+use Rattle.cloud_facts.specs.Calls.Standing.{StandsUnder}
+use Rattle.cloud_trait.specs.declared.answer.Answer.{Answer}
+use Rattle.cloud_trait.specs.Ask.{Ask}
+use Rattle.cloud_trait.specs.Caller.{Caller}
+use Rattle.cloud_trait.specs.Claim.{Claim, Lasts}
+use Rattle.cloud_trait.specs.State.{CloudState, called, newest}
+use Rattle.db_base.specs.Ids.{IsClient}
+use Rattle.db_base.specs.declared.names.Lock.TheVariants as lock
+use Rattle.head_codec.specs.declared.head.Head.{Head}
+use Rattle.head_codec.specs.declared.head.Phase.TheVariants.{Settled}
+use Rattle.head_codec.specs.declared.lists.Pending.{Pending}
+use Rattle.history.specs.Audited.{Audited}
+use Rattle.cloud_facts.specs.Homes.Homes.{Home, Part, Away, AtHome, Opens, Parts, IsAlone, HomesHold}
+use Rattle.cloud_facts.specs.Leases.Guards.{IsGuarded}
+use Rattle.cloud_facts.specs.Leases.Leases.{Owns, KeptBy, GainedBy, RenewedTo}
+use Rattle.log_codec.specs.declared.record.AtomicRec.{AtomicRec}
+use Rattle.report_types.specs.declared.entry.Entry.{Entry}
+use Rattle.cloud_facts.specs.Book.Book.{Book}
+use Rattle.cloud_facts.specs.Book.Premises.{IsAppliedEntry}
+use Rattle.cloud_facts.specs.Book.Records.{IsIn}
+use Rattle.cloud_facts.specs.Book.Tally.{Tally, Store, at}
+use Rattle.cloud_facts.specs.Tellings.Told.{store_of}
+
+-- ---- an open client
+
+-- a head is another one without some pending entries, which are of records that are applied
+pub record IsPruned (t : Tally) (client : ℕ) (whole pruned : Head) : Type 0 where
+  pub epoch : pruned.epoch ≡ whole.epoch
+  pub txn : pruned.txn ≡ whole.txn
+  pub phase : pruned.phase ≡ whole.phase
+  pub counters : pruned.counters ≡ whole.counters
+  pub kept : (p : Pending) → IsIn whole.pending p → IsIn pruned.pending p ⊎ IsAppliedEntry t client p
+  pub from : (p : Pending) → IsIn pruned.pending p → IsIn whole.pending p
+
+-- an open client that works on no commit: its head is settled, and but for pruned entries the newest while its lease lasts, and its part is
+-- at home
+pub record KnowsHome (st : Store) (now client : ℕ) (lease : Claim) (head : Head) (attempt : ℕ) (part : Part) : Type 0 where
+  pub is_client : IsClient client
+  pub lock_is : lease.lock ≡ lock.Client client
+  pub within : head.txn ≤ attempt
+  pub settled : head.phase ≡ Settled
+  pub newest : Lasts now lease → IsPruned st.tally client (st.tally.head client) head
+  pub home : Home
+  pub part_is : part ≡ AtHome home
+  pub client_is : home.client ≡ client
+  pub lease_is : home.lease ≡ lease
+  pub epoch_is : home.epoch ≡ head.epoch
+  pub begun : home.attempt ≤ attempt
+
+-- the leases in hand of one that may have none
+abbrev pub of_option : Option Claim → List Claim
+of_option (Some l) = l ∷ []
+of_option None = []
+
+-- the lease of a part is in hand, and of its client
+abbrev pub HasLeaseOf : List Claim → Part → Type 0
+HasLeaseOf mine Away = Unit {0}
+HasLeaseOf mine (AtHome h) = IsIn mine h.lease × (h.lease.lock ≡ lock.Client h.client)
+HasLeaseOf mine (Opens o) = IsIn mine o.lease × (o.lease.lock ≡ lock.Client o.client)
+
+-- ---- before a call
+
+-- what stands before a call of a session that has these leases in hand, at the clock that the call leaves
+pub record Setting (book : Book) (order : List Entry) (s : CloudState) (now : ℕ) (parts : Parts) (session : ℕ) (mine : List Claim) : Type 0 where
+  pub cloud : StandsUnder book order s
+  pub homes : HomesHold (store_of book order s).tally now parts
+  -- while its lease of a client lasts, no other session has a part of the client with a lease that lasts
+  pub alone : (l : Claim) (client : ℕ) → IsIn mine l → l.lock ≡ lock.Client client → Lasts now l → IsAlone now parts session client
+
+-- ---- after it
+
+-- what a call leaves, the leases apart: what stands goes on exactly by what was seen to land, the session's part is a new one, and this is
+-- known; a landed put adds so much to the audit
+pub record Outcome (who : Caller) (book : Book) (order : List Entry) (s t : CloudState) (parts : Parts) (mine : List Claim) (ask : Ask)
+    (note : Audited → Audited) (Knows : Store → ℕ → Part → Type 0) : Type 0 where
+  pub book_after : Book
+  pub order_after : List Entry
+  pub cloud : StandsUnder book_after order_after t
+  pub passes : Passes (store_of book order s) (store_of book_after order_after t)
+  -- what joins the log is of the session's own home
+  pub joins : (r : AtomicRec) → IsIn book_after.log r → IsIn book.log r ⊎ IsOfPart (parts who.session) r
+  -- and what joins a tree's links is of a tree of which it has a lease that lasts
+  pub links : LinksBy mine t.now (store_of book order s) (store_of book_after order_after t)
+  pub part : Part
+  pub homes : HomesHold (store_of book_after order_after t).tally t.now (at who.session part parts)
+  pub knows : Knows (store_of book_after order_after t) t.now part
+  pub noted : audited_at (newest s) (newest t) ask note (audit_of book order) ≡ audit_of book_after order_after
+
+-- what a machine knows that touches neither the session's part nor any head
+pub record Aside (st : Store) (before : Part) (Knows : Store → ℕ → Type 0) (u : Store) (now : ℕ) (part : Part) : Type 0 where
+  pub part_is : part ≡ before
+  pub heads : (client : ℕ) → u.tally.head client ≡ st.tally.head client
+  pub knows : Knows u now
+
+-- what a call does to the leases in hand: it names the session's own, which guard what it puts, and none is new but one that it was given
+-- or that a renewal left
+pub record Handles (who : Caller) (s t : CloudState) (ask : Ask) (reply : Answer) (mine after : List Claim) : Type 0 where
+  pub owns : Owns (λ session. mine) who.session ask
+  pub guarded : IsGuarded s t.now ask
+  pub renewed : Claim
+  pub renews : RenewedTo who ask renewed (called who t.now s) t
+  pub own : (x : Claim) → IsIn after x → (IsIn mine x × KeptBy ask x) ⊎ GainedBy ask reply renewed x

@@ -1,0 +1,69 @@
+-- What the bytes of each object and of each queue spell.
+use Rattle.std.specs.Prelude.{ℕ, ◌≡◌, ◌+◌, ◌-◌, List, length, Some}
+use Rattle.db_base.specs.declared.names.ObjName.{ObjName}
+use Rattle.db_base.specs.declared.names.ObjName.TheVariants as object
+use Rattle.db_base.specs.declared.names.QueueName.{QueueName}
+use Rattle.db_base.specs.declared.names.QueueName.TheVariants.{Atomic, TreePu, PagePu}
+use Rattle.cloud_trait.specs.declared.state.Posted.{Posted}
+use Rattle.cloud_trait.specs.declared.state.Version.{Version}
+use Rattle.head_codec.specs.declared.head.Head.{Head}
+use Rattle.head_codec.specs.Spelling.{head_of}
+use Rattle.leaf_view.specs.Leaf.{IsLeaf}
+use Rattle.log_codec.specs.Atomic.{atomic_of}
+use Rattle.log_codec.specs.Pu.{pu_of}
+use Rattle.log_codec.specs.declared.record.AtomicRec.{AtomicRec}
+use Rattle.log_codec.specs.declared.record.PuRec.{PuRec}
+use Rattle.node_codec.specs.Inner.{IsInner}
+use Rattle.node_codec.specs.Tree.{Tree, IsTree}
+use Rattle.cloud_facts.specs.Book.Records.{StandsAt}
+use Rattle.cloud_facts.specs.Book.Tally.{Node, Leafy, Branch, version_of}
+
+-- ---- objects
+
+-- the bytes of a page spell a leaf or an inner node
+abbrev pub IsNode : List ℕ → Node → Type 0
+IsNode bytes (Leafy l) = IsLeaf bytes l
+IsNode bytes (Branch n) = IsInner bytes n
+
+-- bytes are the version of this number of an object; heads have no numbers
+abbrev pub IsNth : ObjName → ℕ → List ℕ → Type 0
+IsNth (object.Head client) n bytes = (h : Head) × (head_of bytes ≡ Some h)
+IsNth (object.Tree tree) n bytes = (t : Tree) × IsTree bytes t × (t.version ≡ n)
+IsNth (object.Page tree page) n bytes = (node : Node) × IsNode bytes node × (version_of node ≡ n)
+
+-- the n-th version of an object is one of its kind, and has the number n
+abbrev pub AreOfKind : ObjName → List Version → Type 0
+AreOfKind name vs = (place : ℕ) (v : Version) → StandsAt vs place v → IsNth name (place + 1) v.bytes
+
+-- two heads are of one epoch, transaction and phase
+pub record IsSameMoment (g h : Head) : Type 0 where
+  pub epoch : g.epoch ≡ h.epoch
+  pub txn : g.txn ≡ h.txn
+  pub phase : g.phase ≡ h.phase
+
+-- these bytes do not spell heads of one moment
+abbrev pub AreApart : List ℕ → List ℕ → Type 0
+AreApart a b = (g h : Head) → head_of a ≡ Some g → head_of b ≡ Some h → IsSameMoment g h → ⊥
+
+-- each version of a head is of another moment than the one before
+abbrev pub MomentsDiffer : ObjName → List Version → Type 0
+MomentsDiffer (object.Head client) vs = (place : ℕ) (v w : Version) → StandsAt vs place v → StandsAt vs (place + 1) w → AreApart v.bytes w.bytes
+MomentsDiffer (object.Tree tree) vs = Unit {0}
+MomentsDiffer (object.Page tree page) vs = Unit {0}
+
+-- bytes that land behind these versions are of another moment than the newest
+abbrev pub MovesOn : ObjName → List Version → List ℕ → Type 0
+MovesOn (object.Head client) vs bytes = (v : Version) → StandsAt vs (length vs - 1) v → AreApart v.bytes bytes
+MovesOn (object.Tree tree) vs bytes = Unit {0}
+MovesOn (object.Page tree page) vs bytes = Unit {0}
+
+-- ---- queues
+
+-- the bytes of a message: of an ATOMIC queue a record of its client, of the others a pending update record
+abbrev pub IsMessageOf : QueueName → List ℕ → Type 0
+IsMessageOf (Atomic client) bytes = (r : AtomicRec) × (atomic_of bytes ≡ Some r) × (r.client ≡ client)
+IsMessageOf (TreePu tree) bytes = (r : PuRec) × (pu_of bytes ≡ Some r)
+IsMessageOf (PagePu tree page) bytes = (r : PuRec) × (pu_of bytes ≡ Some r)
+
+abbrev pub AreMessagesOf : QueueName → List Posted → Type 0
+AreMessagesOf queue ms = (place : ℕ) (m : Posted) → StandsAt ms place m → IsMessageOf queue m.bytes

@@ -1,0 +1,5 @@
+-- What holds of every store, all in one, and that each call that lands keeps it: what a session owes for its calls.
+pub mod Holding
+pub mod Landing
+pub mod Reporting
+pub mod Turns

@@ -1,3 +1,0 @@
-pub mod Committing
-pub mod Noting
-pub mod Puts

@@ -1,2 +1,0 @@
-//! A commit: what it knows of a cloud at each of its calls, what others leave of that, and what its calls rest on and leave.
-#![tactic(auto)]

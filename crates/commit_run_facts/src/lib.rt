@@ -1,3 +1,0 @@
-//! A commit run: what it knows of a cloud at each of its calls beside its cache, from its first walk to its last deletion, what others leave of that, and
-//! what its calls rest on and leave.
-#![tactic(auto)]

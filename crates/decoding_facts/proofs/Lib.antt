@@ -1,4 +1,0 @@
-pub mod Reading
-pub mod Landing
-pub mod Newest
-pub mod Values

@@ -1,2 +1,0 @@
-//! Decoding: every version that landed and every message that was sent is one of its kind, and no put repeats the bytes before it.
-#![tactic(auto)]

@@ -1,2 +1,0 @@
-//! Homes: what holds of open clients and of openings, of two sessions at once.
-#![tactic(auto)]

@@ -1,3 +1,0 @@
-pub mod LandingLemmas
-pub mod ReportLemmas
-pub mod CopyLaws

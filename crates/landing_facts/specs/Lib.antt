@@ -1,4 +1,0 @@
-pub mod Holding
-pub mod Landing
-pub mod Reporting
-pub mod Turns

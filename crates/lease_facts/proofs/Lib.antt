@@ -1,2 +1,0 @@
-pub mod LeaseLemmas
-pub mod GuardLemmas

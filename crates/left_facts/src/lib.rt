@@ -1,2 +1,0 @@
-//! What is left: which committed records have their messages, in the pending update queues and in the ATOMIC queues.
-#![tactic(auto)]

@@ -1,2 +1,0 @@
-//! The numbers of the committed records: in each queue they count a client's records in the order of commit.
-#![tactic(auto)]

@@ -1,2 +1,0 @@
-//! Openings: what an opening or a recovery knows of a cloud, that it survives the calls of others, and what its own calls leave.
-#![tactic(auto)]

@@ -1,4 +1,0 @@
-pub mod Holding
-pub mod OpensLemmas
-pub mod SettlesLemmas
-pub mod StaysLemmas

@@ -1,5 +1,0 @@
-pub mod Received
-pub mod Runs
-pub mod Marks
-pub mod Leaves
-pub mod Takes

@@ -1,3 +1,0 @@
-pub mod Rights
-pub mod Turns
-pub mod Scans

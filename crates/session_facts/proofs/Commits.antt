@@ -1,0 +1,21 @@
+-- A commit: what it knows of a cloud at each of its calls, what others leave of that, and what its calls rest on and leave.
+pub mod Noted
+pub mod Distinct
+pub mod Routing
+pub mod Attempts
+pub mod Opened
+pub mod CommitOthers
+pub mod Logged
+pub mod Nexts
+pub mod Settled
+pub mod Ready
+pub mod Logging
+pub mod PutOpened
+pub mod SentOn
+pub mod PutSettled
+pub mod Deleting
+pub mod CommitLemmas
+pub mod HeadPuts
+pub mod CommitHands
+pub mod Begins
+pub mod CommitLeases

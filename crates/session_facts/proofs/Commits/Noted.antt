@@ -1,0 +1,50 @@
+-- Changes that may be committed.
+use Rattle.std.proofs.Common.{◌≡◌, ◌≤◌, ℕ, Bool, true, false, cond, List, [], ◌∷◌, length, zero, suc, refl, subst, arith}
+use Rattle.db_base.specs.Change.{key_of, net, IsChange}
+use Rattle.db_base.specs.Ids.{IsTree}
+use Rattle.db_base.specs.declared.change.Change.{Change}
+use Rattle.db_base.specs.declared.change.Change.TheVariants.{Insert, Update, Delete}
+use Rattle.cloud_facts.specs.Book.Records.{IsIn}
+use Rattle.cloud_facts.proofs.Book.Places.{in_none}
+use Rattle.txn_buffer.specs.Noted.{Noted, is_of, noted_in}
+use Rattle.txn_buffer.proofs.NotedLemmas.{AreDistinct-noted}
+use Rattle.session_facts.specs.Commits.Committing.{MayCommit}
+
+pub may_none : MayCommit []
+may_none = record { noted = record { most = omega arith; distinct = tt }; each = λ n is. absurd (in_none [] n refl is) }
+
+net_is : (a b : Change) → IsChange a → IsChange b → IsChange (net a b)
+net_is a (Insert key payload) p q = q
+net_is (Insert key old) (Update other payload) p q = record { key = q.key; payload = q.payload }
+net_is (Update key old) (Update other payload) p q = record { key = q.key; payload = q.payload }
+net_is (Delete key) (Update other payload) p q = p
+net_is (Insert key old) (Delete other) p q = q
+net_is (Update key old) (Delete other) p q = q
+net_is (Delete key) (Delete other) p q = q
+
+-- a change that is noted is of a tree, and is a change
+each_noted : (buffer : List Noted) (tree : ℕ) (change : Change) → IsTree tree → IsChange change → ((n : Noted) → IsIn buffer n → IsTree n.tree × IsChange n.change)
+    → (n : Noted) → IsIn (noted_in buffer tree change) n → IsTree n.tree × IsChange n.change
+each_noted [] tree change t c all n (zero, there) = let e : record { tree = tree; change = change } ≡ n = cc in subst (λ (m : Noted). IsTree m.tree × IsChange m.change) e (t, c)
+each_noted [] tree change t c all n (suc place, there) = absurd (cc)
+each_noted (entry ∷ rest) tree change t c all n is =
+    on (is_of tree (key_of change) entry) (each_noted rest tree change t c (λ m in_rest. all m (suc in_rest.0, in_rest.1)) n) is
+  where
+    first : IsTree entry.tree × IsChange entry.change
+    first = all entry (zero, refl)
+
+    on : (b : Bool) → (IsIn (noted_in rest tree change) n → IsTree n.tree × IsChange n.change)
+        → IsIn (cond b (record { tree = entry.tree; change = net entry.change change } ∷ rest) (entry ∷ noted_in rest tree change)) n → IsTree n.tree × IsChange n.change
+    on true again (zero, there) =
+        let e : record { tree = entry.tree; change = net entry.change change } ≡ n = cc in
+        subst (λ (m : Noted). IsTree m.tree × IsChange m.change) e (first.0, net_is entry.change change first.1 c)
+    on true again (suc place, there) = all n (suc place, there)
+    on false again (zero, there) = let e : entry ≡ n = cc in subst (λ (m : Noted). IsTree m.tree × IsChange m.change) e first
+    on false again (suc place, there) = again (place, there)
+
+pub may_note : (buffer : List Noted) (tree : ℕ) (change : Change) → IsTree tree → IsChange change → length (noted_in buffer tree change) ≤ 200 → MayCommit buffer
+    → MayCommit (noted_in buffer tree change)
+may_note buffer tree change t c most may = record {
+  noted = record { most = most; distinct = AreDistinct-noted buffer tree change may.noted.distinct };
+  each = each_noted buffer tree change t c may.each;
+}

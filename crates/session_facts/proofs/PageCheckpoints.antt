@@ -1,0 +1,11 @@
+-- Page checkpoints: what the checkpoint of a page knows of a cloud at each of its calls, in trees of any height, that others leave it, and what its calls rest on.
+pub mod Fences
+pub mod Chained
+pub mod PageReads
+pub mod PagingOthers
+pub mod Begins
+pub mod Nexts
+pub mod HeadPuts
+pub mod Hands
+pub mod Steps
+pub mod Unlinked

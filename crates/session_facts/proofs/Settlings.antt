@@ -1,0 +1,10 @@
+-- Settlings: what one knows of a cloud at each of its calls, that others leave it, and what each call leaves of a cloud and of its leases.
+pub mod Recoveries
+pub mod Pagings
+pub mod Passing
+pub mod Begins
+pub mod SettlingOthers
+pub mod HeadPuts
+pub mod Beside
+pub mod Hands
+pub mod Steps

@@ -1,0 +1,13 @@
+-- Checkpoints of trees of any height: what one knows at each of its calls, and what each call leaves of a cloud and of its leases.
+pub mod Begins
+pub mod Keys
+pub mod Trees
+pub mod Upward
+pub mod Nexts
+pub mod Going
+pub mod MakingOthers
+pub mod Held
+pub mod Guards
+pub mod UpGuards
+pub mod Hands
+pub mod Steps

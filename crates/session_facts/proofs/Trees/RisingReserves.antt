@@ -1,0 +1,187 @@
+-- The put that reserves the numbers of new pieces on the way up, of a node's and of the root's.
+use Rattle.std.proofs.Common.{◌≡◌, ◌+◌, ℕ, List, [], length, drop, Option, Some, None, refl, sym, ap, subst, ◌∙◌, arith}
+use Rattle.cloud_facts.specs.Chains.Cuts.{inner_node}
+use Rattle.cloud_facts.specs.Chains.Links.{top_of}
+use Rattle.cloud_facts.specs.Calls.Standing.{StandsUnder}
+use Rattle.cloud_facts.proofs.Calls.Passing.{landing_passes}
+use Rattle.cloud_trait.specs.Ask.{PutHeld}
+use Rattle.cloud_trait.specs.Caller.{Caller}
+use Rattle.cloud_trait.specs.Claim.{Claim}
+use Rattle.cloud_trait.specs.Machine.{Goes}
+use Rattle.cloud_trait.specs.State.{CloudState}
+use Rattle.db_base.specs.declared.names.ObjName.TheVariants as object
+use Rattle.cloud_facts.specs.Homes.Homes.{Part as Home}
+use Rattle.cloud_facts.specs.Landings.Landing.{Landing}
+use Rattle.node_codec.specs.Tree.{Tree}
+use Rattle.report_types.specs.declared.entry.Entry.{Entry}
+use Rattle.session_facts.specs.Runs.Runs.{TookRun}
+use Rattle.session_facts.proofs.Runs.Marks.{run_stays}
+use Rattle.split_plan.specs.Part.{NodePart}
+use Rattle.split_plan.specs.Plan.{node_bytes}
+use Rattle.cloud_facts.specs.Book.Book.{Book}
+use Rattle.cloud_facts.specs.Book.Effects.{after_root}
+use Rattle.cloud_facts.specs.Book.Growth.{Grows}
+use Rattle.cloud_facts.specs.Book.Tally.{Store}
+use Rattle.cloud_facts.specs.Book.Telling.{roots_of}
+use Rattle.cloud_facts.specs.Tellings.Told.{store_of}
+use Rattle.tree_parts.specs.Placing.{root_after, puts_after}
+use Rattle.tree_parts.specs.Read.{tree_held}
+use Rattle.tree_rising.specs.declared.rising.Rising.{Rising}
+use Rattle.tree_rising.specs.Rising.{landed, put_landed}
+use Rattle.session_facts.specs.Trees.Charts.{KnowsRoot}
+use Rattle.session_facts.specs.Trees.Placings.{AreReserved, IsReservation, reserving}
+use Rattle.session_facts.specs.Trees.Risings.{AppliesRun, ReservesNodes, ReservesRoot, PutsNode, IsRaised, PutsCut, cut, PutsOf, KnowsRising, RisesOn}
+use Rattle.session_facts.proofs.Trees.ChartOthers.{nodes_stay}
+use Rattle.session_facts.proofs.Trees.FoldOthers.{done_stays}
+use Rattle.session_facts.proofs.Trees.Reservations.{reservation_landing, reservation_held, reserved_then, root_known}
+use Rattle.session_facts.proofs.Trees.RisingEffects.{RisingEffect, has_reservation, goes_on, goes_last, some_puts}
+use Rattle.session_facts.proofs.Trees.RisingOthers.{node_stays}
+
+module _ (book : Book) (order : List Entry) (s : CloudState) (stands : StandsUnder book order s) (who : Caller) (own : Home) (mine : List Claim) (now : ℕ) (lease : Claim) (r : Rising) (ids : List ℕ)
+    (k : KnowsRising (store_of book order s) now lease r ids) (newest : top_of (roots_of s r.chart.tree) ≡ tree_held r.chart.root) (bytes : List ℕ) (some : r.placing.reserved ≡ Some bytes) where
+  abbrev st : Store
+  st = store_of book order s
+
+  abbrev tree : ℕ
+  tree = r.chart.tree
+
+  abbrev root : Tree
+  root = tree_held r.chart.root
+
+  module _ (count first : ℕ) (is : IsReservation root count first bytes) where
+    abbrev new : Tree
+    new = reserving count root
+
+    abbrev su : Store
+    su = after_root tree new st
+
+    abbrev lands : Landing who st (PutHeld (object.Tree tree) bytes lease None) su
+    lands = reservation_landing book order s stands tree k.tree who lease None root newest count first bytes is
+
+    grows : Grows st su
+    grows = (landing_passes who st (PutHeld (object.Tree tree) bytes lease None) su stands.holds lands).grows
+
+    held : tree_held (landed r).chart.root ≡ new
+    held =
+        ap (λ (o : Option (List ℕ)). tree_held (root_after o r.chart.root)) some
+        ∙ reservation_held book order s stands tree k.tree who lease None root newest count first bytes is
+
+    root_then : KnowsRoot su now lease tree (tree_held (landed r).chart.root)
+    root_then = subst (KnowsRoot su now lease tree) (sym held) (root_known book order s stands tree k.tree now lease new is.fits)
+
+    run_then : AppliesRun su (landed r).chart ids
+    run_then = record {
+      took = subst (λ (t : Tree). TookRun su tree 0 t.cursor r.chart.run ids) (sym held) (run_stays st su tree 0 root.cursor r.chart.run ids grows k.run.took);
+      done = λ x there. done_stays st su tree x grows (k.run.took.clients x there) (k.run.done x there);
+    }
+
+    left_is : (landed r).placing.puts ≡ r.placing.puts
+    left_is = ap (λ (o : Option (List ℕ)). puts_after o r.placing.puts) some
+
+    raised_then : (t : Tree) → IsRaised (st.book.chain tree) root r.chart.run.top t → IsRaised (su.book.chain tree) (tree_held (landed r).chart.root) r.chart.run.top t
+    raised_then t x = subst (λ (q : Tree). IsRaised (book.chain tree) q r.chart.run.top t) (sym held) (record { level = x.level; cursor = x.cursor; names = x.names })
+
+    free : (middle : List NodePart) → length middle ≡ count
+        → AreReserved inner_node (su.book.chain tree) (su.tally.nodes tree) (top_of (su.tally.roots tree)).next first middle []
+    free middle many = reserved_then book order s stands tree k.tree who lease None root newest count first bytes is inner_node middle many
+
+    node_then : (p : PutsNode st now lease r) → (p.placing.behind ≡ []) → length p.placing.middle ≡ count → p.first ≡ first → PutsNode su now lease (landed r)
+    node_then p none many at = record {
+      kept = p.kept;
+      node = node_stays st su now now lease tree p.kept (omega arith) grows (λ lasts. refl) p.node;
+      nodes = nodes_stay st su now now lease tree (drop r.at r.chart.nodes) (omega arith) grows (λ lasts page n e. refl) p.nodes;
+      apart = p.apart;
+      known = p.known;
+      found = p.found;
+      first = p.first;
+      links_are = p.links_are;
+      fit = p.fit;
+      placing = record {
+        front = p.placing.front;
+        middle = p.placing.middle;
+        behind = p.placing.behind;
+        pieces_are = p.placing.pieces_are;
+        puts_are = left_is ∙ p.placing.puts_are;
+      };
+      reserves = λ still.
+          subst (λ (b : List NodePart). AreReserved inner_node (su.book.chain tree) (su.tally.nodes tree) (top_of (su.tally.roots tree)).next p.first p.placing.middle b) (sym none)
+          (subst (λ (n : ℕ). AreReserved inner_node (su.book.chain tree) (su.tally.nodes tree) (top_of (su.tally.roots tree)).next n p.placing.middle []) (sym at) (free p.placing.middle many));
+    }
+
+    cut_then : (last : List ℕ) (p : PutsCut st now lease r last) → (p.behind ≡ []) → length p.middle ≡ count → p.first ≡ first → p.root.version ≡ root.version + 1 + 1 → p.root.next ≡ root.next + count
+        → PutsCut su now lease (landed r) last
+    cut_then last p none many at version next = record {
+      root = p.root;
+      raises = raised_then p.root p.raises;
+      first = p.first;
+      fits = p.fits;
+      bytes_are = p.bytes_are;
+      middle = p.middle;
+      behind = p.behind;
+      pieces_are = p.pieces_are;
+      puts_are = left_is ∙ p.puts_are;
+      fit = p.fit;
+      reserves = (
+        version ∙ ap (λ (t : Tree). t.version + 1) (sym held),
+        next ∙ ap (λ (t : Tree). t.next) (sym held),
+        λ still.
+            subst (λ (b : List NodePart). AreReserved inner_node (su.book.chain tree) (su.tally.nodes tree) (top_of (su.tally.roots tree)).next p.first p.middle b) (sym none)
+            (subst (λ (n : ℕ). AreReserved inner_node (su.book.chain tree) (su.tally.nodes tree) (top_of (su.tally.roots tree)).next n p.middle []) (sym at) (free p.middle many)),
+      );
+    }
+
+    known : PutsOf su now lease (landed r) r.last → KnowsRising su now lease (landed r) ids
+    known puts = record { tree = k.tree; root = root_then; run = run_then; puts = puts }
+
+    effect : RisesOn su now lease ids (put_landed r) → RisingEffect book order s who own mine now lease r ids (object.Tree tree) bytes
+    effect leads = record {
+      after = su;
+      lands = lands;
+      follows = ap (λ (t : Tree). t.version + 1) (sym newest);
+      commits = tt;
+      owes = tt;
+      heads = refl;
+      logged = refl;
+      noted = refl;
+      known = λ u stands_then told. leads;
+    }
+
+  -- ---- of a node, and of the root
+
+  pub node_reserves : (p : PutsNode st now lease r) → r.last ≡ None → RisingEffect book order s who own mine now lease r ids (object.Tree tree) bytes
+  node_reserves p none = effect (length p.placing.middle) p.first planned.1 (subst (RisesOn after now lease ids) (sym leads) then_known)
+    where
+      planned : (p.placing.behind ≡ []) × IsReservation root (length p.placing.middle) p.first bytes
+      planned = subst (λ (o : Option (List ℕ)). ReservesNodes st now lease tree root p.first p.placing.middle p.placing.behind o) some p.reserves
+
+      after : Store
+      after = after_root tree (reserving (length p.placing.middle) root) st
+
+      leads : put_landed r ≡ Goes (landed r)
+      leads =
+          goes_on r (has_reservation r bytes some)
+          (λ e. some_puts node_bytes p.kept.page p.first p.placing.front p.placing.middle
+          (sym p.placing.puts_are ∙ (sym (left_is (length p.placing.middle) p.first planned.1) ∙ e)))
+
+      then_known : KnowsRising after now lease (landed r) ids
+      then_known =
+          known (length p.placing.middle) p.first planned.1
+          (subst (λ (o : Option (List ℕ)). PutsOf after now lease (landed r) o) (sym none) (node_then (length p.placing.middle) p.first planned.1 p planned.0 refl refl))
+
+  pub root_reserves : (last : List ℕ) (p : PutsCut st now lease r last) → r.last ≡ Some last → RisingEffect book order s who own mine now lease r ids (object.Tree tree) bytes
+  root_reserves last p is_last = effect (length p.middle) p.first planned.1 (subst (RisesOn after now lease ids) (sym leads) then_known)
+    where
+      planned : (p.behind ≡ []) × IsReservation root (length p.middle) p.first bytes × (p.root.version ≡ root.version + 1 + 1) × (p.root.next ≡ root.next + length p.middle)
+      planned = subst (λ (o : Option (List ℕ)). ReservesRoot st now lease tree root p.root p.first p.middle p.behind o) some p.reserves
+
+      after : Store
+      after = after_root tree (reserving (length p.middle) root) st
+
+      leads : put_landed r ≡ Goes (landed r)
+      leads = goes_last r last (has_reservation r bytes some) is_last
+
+      then_known : KnowsRising after now lease (landed r) ids
+      then_known =
+          known (length p.middle) p.first planned.1
+          (subst (λ (o : Option (List ℕ)). PutsOf after now lease (landed r) o) (sym is_last)
+          (cut (cut_then (length p.middle) p.first planned.1 last p planned.0 refl refl planned.2 planned.3)))

@@ -1,0 +1,7 @@
+-- Walks: what a session's cache and a walk beside it know of a cloud, in trees of any height, and what the objects that they use show to be applied.
+pub mod Caches
+pub mod Steps
+pub mod Turns
+pub mod Walks
+pub mod Beside
+pub mod Prunings

@@ -1,9 +1,0 @@
-pub mod Recoveries
-pub mod Pagings
-pub mod Passing
-pub mod Begins
-pub mod SettlingOthers
-pub mod HeadPuts
-pub mod Beside
-pub mod Hands
-pub mod Steps

@@ -1,8 +1,0 @@
-pub mod Book
-pub mod Tally
-pub mod Telling
-pub mod Records
-pub mod Messages
-pub mod Effects
-pub mod Premises
-pub mod Growth

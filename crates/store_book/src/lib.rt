@@ -1,2 +1,0 @@
-//! The book and the tally: what a cloud tells of heads, queues and pages, as functions of names, and what each call that lands does to it.
-#![tactic(auto)]

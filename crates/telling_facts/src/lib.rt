@@ -1,2 +1,0 @@
-//! Telling: what a cloud tells under a book changes by each call that lands as the call's effect on the tally says.
-#![tactic(auto)]

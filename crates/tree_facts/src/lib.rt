@@ -1,2 +1,0 @@
-//! Checkpoints of trees of any height: what one knows at each of its calls, and what each call leaves of a cloud.
-#![tactic(auto)]

@@ -15,10 +15,10 @@ use Rattle.head_codec.specs.declared.head.Phase.{Phase}
 use Rattle.head_codec.specs.declared.head.Phase.TheVariants as phase
 use Rattle.head_codec.specs.Spelling.{head_of}
 use Rattle.cloud_facts.specs.Homes.Homes.{Part}
-use Rattle.session_facts.specs.Rows.Asks.{MayAsk}
-use Rattle.session_facts.specs.Rows.New.{IsNew}
-use Rattle.session_facts.proofs.Rows.Asks.{may_ask, recovery_asks, run_asks, paging_asks, making_asks, settling_asks}
-use Rattle.session_facts.proofs.Rows.Opens.{work_is_new}
+use Rattle.session_facts.specs.RowKinds.Asks.{MayAsk}
+use Rattle.session_facts.specs.RowKinds.New.{IsNew}
+use Rattle.session_facts.proofs.RowKinds.Asks.{may_ask, recovery_asks, run_asks, paging_asks, making_asks, settling_asks}
+use Rattle.session_facts.proofs.RowKinds.Opens.{work_is_new}
 use Rattle.page_cache.specs.Cache.{Cache}
 use Rattle.page_ckpt.specs.Paging.{paging_ask}
 use Rattle.range_scan.specs.Scan.{scan_ask}

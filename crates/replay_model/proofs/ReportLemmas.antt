@@ -11,7 +11,7 @@ use Rattle.report_types.specs.declared.entry.Entry.{Entry}
 use Rattle.report_types.specs.declared.report.Report.{Report}
 use Rattle.reply_text.specs.declared.reply.Reply.{Reply}
 use Rattle.reply_text.specs.declared.reply.Reply.TheVariants as reply
-use Rattle.session_facts.proofs.Rows.Sent.{order_sent}
+use Rattle.session_facts.proofs.RowKinds.Sent.{order_sent}
 use Rattle.cloud_facts.specs.Landings.Reporting.{IsReportable}
 use Rattle.cloud_facts.specs.Meanings.Contents.{IsRead}
 use Rattle.cloud_facts.proofs.Meanings.Reports.{leaves_in, store_reads, all_leaves, finds_contents}

@@ -19,7 +19,7 @@ use Rattle.head_codec.specs.declared.head.Head.{Head}
 use Rattle.head_codec.specs.declared.head.Phase.{Phase}
 use Rattle.head_codec.specs.declared.head.Phase.TheVariants as phase
 use Rattle.head_codec.specs.Spelling.{head_of}
-use Rattle.session_facts.specs.Rows.Asks.{MayAsk}
+use Rattle.session_facts.specs.RowKinds.Asks.{MayAsk}
 use Rattle.replay_meaning.specs.Standing.{Line, Standing, standing, standing_of_row}
 use Rattle.replay_meaning.specs.Committed.{Versions}
 use Rattle.replay_meaning.specs.Kinds.{OpensClient, IsCommitting, CommitsFor, CommitsCount, FoldsTree, FoldsPage, IsOfSettler, MaySettleHead, MayPutRoot, MayPutPage, MaySendPending, MayPutPhase, MayPutHead, MayPutBytes, MaySend, IsOfKindAt, IsOfKind}

@@ -15,7 +15,7 @@ use Rattle.cloud_trait.specs.State.{CloudState, called, newest}
 use Rattle.cloud_trait.specs.Weather.{Makes, Leaves}
 use Rattle.cloud_trait.proofs.RowLemmas.{row_by, leaves_upto}
 use Rattle.history.specs.Audited.{Audited}
-use Rattle.session_facts.specs.Rows.Asks.{MayAsk}
+use Rattle.session_facts.specs.RowKinds.Asks.{MayAsk}
 use Rattle.page_cache.specs.Cache.{Cache}
 use Rattle.recover_run.specs.declared.home.Home.{Home}
 use Rattle.recover_run.specs.Recovery.{recovery_ask}

@@ -9,4 +9,4 @@ pub mod TreeCheckpoints
 pub mod PageCheckpoints
 pub mod Settlings
 pub mod Sessions
-pub mod Rows
+pub mod RowKinds

@@ -20,7 +20,7 @@ use Rattle.session_facts.specs.Sessions.Puts.{IsClientOf}
 use Rattle.session_facts.specs.Sessions.Sessions.{KnowsWork}
 use Rattle.cloud_facts.specs.Book.Tally.{Store}
 use Rattle.txn_buffer.specs.Noted.{Noted}
-use Rattle.session_facts.specs.Rows.New.{IsNew}
+use Rattle.session_facts.specs.RowKinds.New.{IsNew}
 
 -- the put that opens
 opens_new : (st : Store) (now : ℕ) (w : Writing) (g : Home) (head : Head) → OpensBehind st now w g → w.home.head ≡ head → IsNew st.book.log w.home.client head w.changes

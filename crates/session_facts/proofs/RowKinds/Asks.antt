@@ -42,7 +42,7 @@ use Rattle.session_facts.specs.Settlings.Settling.{KnowsAtWork, KnowsSettling}
 use Rattle.cloud_facts.specs.Homes.Homes.{Part}
 use Rattle.replay_meaning.specs.Kinds.{CommitsFor, IsOfSettler, MayPutRoot, MayPutPage, MaySend, MaySendPending}
 use Rattle.replay_meaning.specs.Standing.{Line, standing_of_row}
-use Rattle.session_facts.specs.Rows.Asks.{MayAsk, MayAskBeside}
+use Rattle.session_facts.specs.RowKinds.Asks.{MayAsk, MayAskBeside}
 
 -- a call whose puts of heads are allowed, and what it puts and sends beside them
 pub may_ask : (lines : List Line) (row : Landing) (ask : Ask)

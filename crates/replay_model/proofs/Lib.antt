@@ -19,3 +19,4 @@ pub mod StartLemmas
 pub mod UptoRight
 pub mod LeftLemmas
 pub mod ReportLemmas
+pub mod Answering

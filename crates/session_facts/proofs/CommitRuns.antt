@@ -9,3 +9,4 @@ pub mod RunOthers
 pub mod RunOutcomes
 pub mod RunHands
 pub mod HeadPuts
+pub mod Stopping

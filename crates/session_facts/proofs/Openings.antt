@@ -8,7 +8,9 @@ pub mod Others
 pub mod Leading
 pub mod Gathering
 pub mod Clears
+pub mod Refusing
 pub mod Landings
 pub mod Outcomes
 pub mod HeadPuts
 pub mod Hands
+pub mod Stopping

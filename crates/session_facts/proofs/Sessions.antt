@@ -15,3 +15,6 @@ pub mod ScanningSteps
 pub mod SettlingSteps
 pub mod Calling
 pub mod HeadPuts
+pub mod SettlingStops
+pub mod Stopping
+pub mod BeginStops

@@ -3,6 +3,9 @@ pub mod Begins
 pub mod Keys
 pub mod Trees
 pub mod Upward
+pub mod Refusing
+pub mod LeafStops
+pub mod UpStops
 pub mod Nexts
 pub mod Going
 pub mod MakingOthers

@@ -2,3 +2,4 @@
 pub mod Running
 pub mod Noting
 pub mod Puts
+pub mod Stopping

@@ -2,3 +2,4 @@
 pub mod Noting
 pub mod Sessions
 pub mod Puts
+pub mod Answering

@@ -9,3 +9,4 @@ pub mod Marks
 pub mod StandsLemmas
 pub mod BeginLemmas
 pub mod EveryLine
+pub mod Sound

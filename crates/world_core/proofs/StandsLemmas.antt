@@ -218,10 +218,10 @@ module _ (lines : List Line) (who : Caller) (wish : Wish) (before after : Seen) 
   pub steps_own : StepsSession who p.under p.to (f who.session) p.session.after (Ok turn)
   steps_own = subst (λ a. StepsSession who p.under p.to a p.session.after (Ok turn)) (sym was) p.session.does
 
-  told_under : p.under.state ≡ Some wished
+  pub told_under : p.under.state ≡ Some wished
   told_under = p.wishes.set x (p.look_before.stays x way.told)
 
-  call : CallLeaves lines p.to f who.session p.session.after new.audit new.blind
+  pub call : CallLeaves lines p.to f who.session p.session.after new.audit new.blind
   call =
       call_holds lines who p.under p.to wished f p.session.after turn old.audit new.audit old.blind new.blind event told_under
       (wish_holds (length lines + 1) lines f old.audit old.blind x wish way.goes.holds) (way.goes.acts who.session).work steps_own
@@ -263,7 +263,7 @@ step_more lines who wish before after old new event way p =
       };
     }
 
-went_on : (lines : List Line) (who : Caller) (before : Seen) (old : World) (after : Seen) (new : World) → who.event ≡ length lines + 1
+pub went_on : (lines : List Line) (who : Caller) (before : Seen) (old : World) (after : Seen) (new : World) → who.event ≡ length lines + 1
     → IsUnderWay lines old before → Went who before old after new → IsUnderWay lines new after
 went_on lines who before old after new number way start = way
 went_on lines who before old after new number way (further mid _ world _ went step) =
@@ -331,14 +331,14 @@ step_ends lines event who wish before after old new a r own_is does number some 
 
 -- ---- the lines that make steps
 
-no_stop : (who : Caller) (before after : Seen) (old new : Acting) (t : Trouble) → StepsSession who before after old new (Ok (Stopped t)) → ⊥
+pub no_stop : (who : Caller) (before after : Seen) (old new : Acting) (t : Trouble) → StepsSession who before after old new (Ok (Stopped t)) → ⊥
 no_stop who before after old new t p = never_stops who before after old.work new.work t p.work
 
 refused_step : (lines : List Line) (event : Event) (r : Reply) (number : ℕ) (before after : Seen) (old new : World) (t : CloudState)
     → RefusesStep number before after old new (Ok r) → before.state ≡ Some t → WorldStands lines old t → StandsFor (lines ++ line_of event r ∷ []) new after r
 refused_step lines event r number before after old new t h told stands = declines lines event r _ before after old new t h.declines told stands
 
-no_memory : (r : Reply) → (let result : Result Reply WorldFault = Ok r in let fault : Result Reply WorldFault = Err Memory in result ≡ fault) → ⊥
+pub no_memory : (r : Reply) → (let result : Result Reply WorldFault = Ok r in let fault : Result Reply WorldFault = Err Memory in result ≡ fault) → ⊥
 no_memory r e = absurd (cc)
 
 runs_to : (lines : List Line) (k n : ℕ) (r : Reply) (before after : Seen) (old new : World) (t : CloudState) → length lines + 1 ≡ n → 1 ≤ k
@@ -475,7 +475,7 @@ crashes lines k n true r before after old new t at some told stands (inr (inr me
 -- ---- a settling
 
 -- the reply to a settling is no report
-settled_plain : (a : Answer) (r : Reply) → RepliesSettled a (Ok r) → IsNoReport r
+pub settled_plain : (a : Answer) (r : Reply) → RepliesSettled a (Ok r) → IsNoReport r
 settled_plain (answer.Settled n) r e = let is : r ≡ reply.Settled n.calls = cc in subst IsNoReport (sym is) tt
 settled_plain (answer.Trouble t) r e = on t e
   where
@@ -500,12 +500,12 @@ goes_settling who before after (Renewing home) new p is = absurd is
 goes_settling who before after (Broken l) new p is = absurd is
 
 -- the settler is under way within its line, which is one of these lines from its begin on, and the other sessions rest
-record SettlerGoes (n : ℕ) (lines : List Line) (first : Sessions) (world : World) (seen : Seen) : Type 0 where
-  state : CloudState
-  told : seen.state ≡ Some state
-  holds : CloudHolds n lines (session_at world.sessions) world.audit world.blind state
-  works : IsSettling (session_at world.sessions 0).work
-  others : (m : ℕ) → m ≢ 0 → session_at world.sessions m ≡ first m
+pub record SettlerGoes (n : ℕ) (lines : List Line) (first : Sessions) (world : World) (seen : Seen) : Type 0 where
+  pub state : CloudState
+  pub told : seen.state ≡ Some state
+  pub holds : CloudHolds n lines (session_at world.sessions) world.audit world.blind state
+  pub works : IsSettling (session_at world.sessions 0).work
+  pub others : (m : ℕ) → m ≢ 0 → session_at world.sessions m ≡ first m
 
 -- what a step of it leaves
 record SettlerLeft (n : ℕ) (lines : List Line) (first : Sessions) (world : World) (seen : Seen) : Type 0 where
@@ -514,7 +514,7 @@ record SettlerLeft (n : ℕ) (lines : List Line) (first : Sessions) (world : Wor
   holds : CloudHolds n lines (session_at world.sessions) world.audit world.blind state
   others : (m : ℕ) → m ≢ 0 → session_at world.sessions m ≡ first m
 
-abbrev settler : ℕ → Caller
+abbrev pub settler : ℕ → Caller
 settler n = record { session = 0; event = n }
 
 module _ (n : ℕ) (lines : List Line) (first : Sessions) (row : IsSettlersRow lines (settler n)) (before after : Seen) (old new : World) (turn : Turn Answer)
@@ -528,10 +528,10 @@ module _ (n : ℕ) (lines : List Line) (first : Sessions) (row : IsSettlersRow l
   settler_was : held 0 ≡ p.session.before
   settler_was = changed_was 0 _ old.sessions new.sessions p.session
 
-  settler_own : StepsSession (settler n) p.under p.to (held 0) p.session.after (Ok turn)
+  pub settler_own : StepsSession (settler n) p.under p.to (held 0) p.session.after (Ok turn)
   settler_own = subst (λ a. StepsSession (settler n) p.under p.to a p.session.after (Ok turn)) (sym settler_was) p.session.does
 
-  settler_call : CallLeavesUpto n lines p.to held 0 p.session.after new.audit new.blind
+  pub settler_call : CallLeavesUpto n lines p.to held 0 p.session.after new.audit new.blind
   settler_call =
       settle_holds n lines (settler n) p.under p.to with_wish held p.session.after turn old.audit new.audit old.blind new.blind (omega arith)
       (p.wishes.set way.state (p.look_before.stays way.state way.told)) (wish_holds n lines held old.audit old.blind way.state Plain way.holds) way.works row settler_own
@@ -563,7 +563,7 @@ settler_more n lines first row before after old new way p =
       others = left.others;
     }
 
-settler_went : (n : ℕ) (lines : List Line) (first : Sessions) → IsSettlersRow lines (settler n) → (before : Seen) (old : World) (after : Seen) (new : World)
+pub settler_went : (n : ℕ) (lines : List Line) (first : Sessions) → IsSettlersRow lines (settler n) → (before : Seen) (old : World) (after : Seen) (new : World)
     → SettlerGoes n lines first old before → Went (settler n) before old after new → SettlerGoes n lines first new after
 settler_went n lines first row before old after new way start = way
 settler_went n lines first row before old after new way (further mid _ world _ went step) =
@@ -589,7 +589,7 @@ module _ (lines : List Line) (n : ℕ) (before : Seen) (old begun : World) (t : 
           begins_with lines before_it (at 0 settling_session before_it) old.audit old.blind t stands.holds
           (settling_begins_session stands.holds.book stands.holds.order t before_it 0 stands.rests stands.holds.stand)
 
-  settler_begins : (r : Reply) → IsNoReport r → SettlerGoes n (lines ++ line_of event.Settle r ∷ []) before_it begun before
+  pub settler_begins : (r : Reply) → IsNoReport r → SettlerGoes n (lines ++ line_of event.Settle r ∷ []) before_it begun before
   settler_begins r plain = record {
     state = t;
     told = told;

@@ -7,8 +7,8 @@ use Rattle.cloud_trait.specs.declared.message.Message.{Message}
 use Rattle.db_base.specs.Ids.{IsClient}
 use Rattle.db_base.specs.declared.trouble.Trouble.{Trouble}
 use Rattle.cloud_facts.specs.Homes.Homes.{Part, Parts, HomesHold}
-use Rattle.session_facts.specs.Openings.Opening.{IsMessageThat, KnowsPut, KnowsEnd}
-use Rattle.session_facts.proofs.Openings.Gathering.{rest_all}
+use Rattle.session_facts.specs.Openings.Opening.{IsMessageThat, MayStop, EndsWell, KnowsPut, KnowsEnd}
+use Rattle.session_facts.proofs.Openings.Gathering.{AllRead, rest_all}
 use Rattle.session_facts.proofs.Openings.Leading.{Leads, away_from, stops_lead}
 use Rattle.session_facts.proofs.Openings.Messages.{items_sent, that_ids}
 use Rattle.recover_run.specs.declared.items.AtomicItem.{AtomicItem}
@@ -24,8 +24,8 @@ use Rattle.recover_run.proofs.Keeping.{all_new}
 use Rattle.cloud_facts.specs.Book.Tally.{Store, at}
 
 module _ (session : ℕ) (parts : Parts) (u : Store) (now : ℕ) (part : Part) (homes : HomesHold u.tally now (at session part parts)) where
-  stops : (r : Recovery) (ending : Result RecoverAnswer Trouble) → IsClient r.client → KnowsPut u now r part → Leads session parts u now (releasing r ending)
-  stops r ending is k = stops_lead session parts u now (away_from session parts u now part homes) r is ending k.held
+  stops : (r : Recovery) (ending : Result RecoverAnswer Trouble) → EndsWell ending → IsClient r.client → KnowsPut u now r part → Leads session parts u now (releasing r ending)
+  stops r ending may is k = stops_lead session parts u now (away_from session parts u now part homes) r is ending may k.held
 
   -- ---- deletions
 
@@ -50,7 +50,7 @@ module _ (session : ℕ) (parts : Parts) (u : Store) (now : ℕ) (part : Part) (
 
   opened_leads : (aim : Aim) (r : Recovery) → IsClient r.client → KnowsPut u now r part → Leads session parts u now (opened aim r)
   opened_leads Opening r is k = record { part = part; homes = homes; knows = home_known r k }
-  opened_leads Settling r is k = stops r _ is k
+  opened_leads Settling r is k = stops r _ tt is k
 
   -- ---- a receive
 
@@ -59,15 +59,16 @@ module _ (session : ℕ) (parts : Parts) (u : Store) (now : ℕ) (part : Part) (
   sweeping_leads r is [] k all = opened_leads r.aim (record r { swept = r.swept ++ []; ids = [] }) is k
   sweeping_leads r is (id ∷ ids) k all = record { part = part; homes = homes; knows = record { client = is; at = (k, all) } }
 
-  items_lead : (r : Recovery) → IsClient r.client → KnowsPut u now r part → (ms : List Message) → AllByRecursion (WasSent (u.tally.logged r.client)) ms
+  items_lead : (r : Recovery) → IsClient r.client → KnowsPut u now r part → (ms : List Message) → AllByRecursion (WasSent (u.tally.logged r.client)) ms → AllRead ms
       → (o : Result (List AtomicItem) Message) → items_of ms ≡ o → Leads session parts u now (swept_with r o)
-  items_lead r is k ms was (Err m) e = stops r _ is k
-  items_lead r is k ms was (Ok items) e =
+  items_lead r is k ms was read (Err m) e = absurd (read m e)
+  items_lead r is k ms was read (Ok items) e =
       sweeping_leads r is (new_ids r.swept (past_ids r.wanted items)) k
       (all_new (IsMessageThat u r.client (is_past r.wanted)) r.swept (past_ids r.wanted items)
       (that_ids u r.client (is_past r.wanted) items (items_sent (u.tally.logged r.client) ms items was e)))
 
   pub swept_leads : (r : Recovery) → IsClient r.client → KnowsPut u now r part → (g : Result (List Message) Trouble)
-      → ((ms : List Message) → g ≡ Ok ms → AllByRecursion (WasSent (u.tally.logged r.client)) ms) → Leads session parts u now (swept_by r g)
-  swept_leads r is k (Ok ms) was = items_lead r is k ms (was ms refl) (items_of ms) refl
-  swept_leads r is k (Err t) was = stops r (Err t) is k
+      → ((ms : List Message) → g ≡ Ok ms → AllByRecursion (WasSent (u.tally.logged r.client)) ms × AllRead ms) → ((t : Trouble) → g ≡ Err t → MayStop t)
+      → Leads session parts u now (swept_by r g)
+  swept_leads r is k (Ok ms) was refused = let w = was ms refl in items_lead r is k ms w.0 w.1 (items_of ms) refl
+  swept_leads r is k (Err t) was refused = stops r (Err t) (refused t refl) is k

@@ -15,7 +15,7 @@ use Rattle.db_base.specs.declared.trouble.Trouble.{Trouble}
 use Rattle.db_base.specs.declared.trouble.Trouble.TheVariants as trouble
 use Rattle.cloud_facts.specs.Homes.Homes.{Part, Parts, HomesHold}
 use Rattle.cloud_facts.specs.Lefts.Left.{IsCopied, AreLogged}
-use Rattle.session_facts.specs.Openings.Opening.{IsWanted, IsMessageThat, HasRead, KnowsGathering, KnowsSending}
+use Rattle.session_facts.specs.Openings.Opening.{IsWanted, IsMessageThat, HasRead, MayStop, KnowsGathering, KnowsSending}
 use Rattle.session_facts.proofs.Openings.Kept.{kept_with_all}
 use Rattle.session_facts.proofs.Openings.Leading.{Leads, away_from, stops_lead}
 use Rattle.session_facts.proofs.Openings.Messages.{IsSent, items_sent, sent_wanted, that_ids}
@@ -45,9 +45,13 @@ items_rising r ms items e up =
     kept_rising r.wanted (call ∷ []) r.gathered.kept items up
     (all_so (λ (x : AtomicItem). HoldsItem x ms) (λ (x : AtomicItem). Brought x (call ∷ [])) (λ x h. inl (ms, refl, h)) items (all_held ms items e))
 
+-- each message is a record
+abbrev pub AllRead : List Message → Type 0
+AllRead ms = (bad : Message) → items_of ms ≡ Err bad → ⊥
+
 module _ (session : ℕ) (parts : Parts) (u : Store) (now : ℕ) (part : Part) (homes : HomesHold u.tally now (at session part parts)) where
-  stops : (r : Recovery) (t : Trouble) → IsClient r.client → HasRead u r.client r.former r.lease r.wanted r.gathered.kept part → Leads session parts u now (stopping r t)
-  stops r t is read = stops_lead session parts u now (away_from session parts u now part homes) r is (Err t) read.held
+  stops : (r : Recovery) (t : Trouble) → MayStop t → IsClient r.client → HasRead u r.client r.former r.lease r.wanted r.gathered.kept part → Leads session parts u now (stopping r t)
+  stops r t may is read = stops_lead session parts u now (away_from session parts u now part homes) r is (Err t) may read.held
 
   -- ---- sends
 
@@ -73,9 +77,10 @@ module _ (session : ℕ) (parts : Parts) (u : Store) (now : ℕ) (part : Part) (
 
   -- the next one was sent
   pub sent_leads : {A : Type 0} → (r : Recovery) → IsClient r.client → (x : AtomicItem) → slice_get r.gathered.kept r.sent ≡ Some x → KnowsSending u r part r.sent
-      → (g : Result A Trouble) → ((a : A) → g ≡ Ok a → WasSentOn u.tally x.rec × IsCopied u.tally x.rec) → Leads session parts u now (sent_by r g)
-  sent_leads r is x there k (Err t) done = stops r t is k.read
-  sent_leads r is x there k (Ok a) done =
+      → (g : Result A Trouble) → ((a : A) → g ≡ Ok a → WasSentOn u.tally x.rec × IsCopied u.tally x.rec) → ((t : Trouble) → g ≡ Err t → MayStop t)
+      → Leads session parts u now (sent_by r g)
+  sent_leads r is x there k (Err t) done refused = stops r t (refused t refl) is k.read
+  sent_leads r is x there k (Ok a) done refused =
       subst (λ (o : Option AtomicItem). Leads session parts u now (send_at (with_pending r o) (r.sent + 1))) (sym there)
       (next_leads (with_pending r (Some x)) is (r.sent + 1) (slice_get r.gathered.kept (r.sent + 1)) refl (record {
         read = k.read;
@@ -106,7 +111,7 @@ module _ (session : ℕ) (parts : Parts) (u : Store) (now : ℕ) (part : Part) (
     where
       fewer : (b : Bool) → Leads session parts u now (cond b (goes_to Receiving r) (stopping r (trouble.Waiting (length r.gathered.kept) r.wanted.count)))
       fewer true = record { part = part; homes = homes; knows = record { client = is; at = k } }
-      fewer false = stops r _ is k.read
+      fewer false = stops r _ tt is k.read
 
       on : (b : Bool) → (length r.gathered.kept == r.wanted.count) ≡ b
           → Leads session parts u now (cond b (send_at r 0) (cond r.gathered.fresh (goes_to Receiving r) (stopping r (trouble.Waiting (length r.gathered.kept) r.wanted.count))))
@@ -125,16 +130,16 @@ module _ (session : ℕ) (parts : Parts) (u : Store) (now : ℕ) (part : Part) (
 
   -- a lost record was deleted
   pub deleted_leads : {A : Type 0} → (r : Recovery) → IsClient r.client → KnowsGathering u r part → AllByRecursion (IsMessageThat u r.client (is_lost r.wanted)) r.ids → (g : Result A Trouble)
-      → Leads session parts u now (deleted_by r g)
-  deleted_leads r is k all (Ok a) = deleting_leads r is (rest_of r.ids) k (rest_all _ r.ids all)
-  deleted_leads r is k all (Err t) = stops r t is k.read
+      → ((t : Trouble) → g ≡ Err t → MayStop t) → Leads session parts u now (deleted_by r g)
+  deleted_leads r is k all (Ok a) refused = deleting_leads r is (rest_of r.ids) k (rest_all _ r.ids all)
+  deleted_leads r is k all (Err t) refused = stops r t (refused t refl) is k.read
 
   -- ---- a receive
 
   gathered_leads : (r : Recovery) → IsClient r.client → AreLogged u r.client → KnowsGathering u r part → (ms : List Message) → AllByRecursion (WasSent (u.tally.logged r.client)) ms
-      → (o : Result (List AtomicItem) Message) → items_of ms ≡ o → Leads session parts u now (gathered_by r o)
-  gathered_leads r is logged k ms was (Err m) e = stops r _ is k.read
-  gathered_leads r is logged k ms was (Ok items) e =
+      → AllRead ms → (o : Result (List AtomicItem) Message) → items_of ms ≡ o → Leads session parts u now (gathered_by r o)
+  gathered_leads r is logged k ms was read (Err m) e = absurd (read m e)
+  gathered_leads r is logged k ms was read (Ok items) e =
       deleting_leads (record r { gathered = gathered_with r.wanted r.gathered items }) is (lost_now r.wanted r.gathered items)
       (record {
         read = record {
@@ -159,6 +164,7 @@ module _ (session : ℕ) (parts : Parts) (u : Store) (now : ℕ) (part : Part) (
           (λ x m. sent_wanted u r.client r.wanted x logged k.read.committed m) items sent
 
   pub received_leads : (r : Recovery) → IsClient r.client → AreLogged u r.client → KnowsGathering u r part → (g : Result (List Message) Trouble)
-      → ((ms : List Message) → g ≡ Ok ms → AllByRecursion (WasSent (u.tally.logged r.client)) ms) → Leads session parts u now (received_by r g)
-  received_leads r is logged k (Ok ms) was = gathered_leads r is logged k ms (was ms refl) (items_of ms) refl
-  received_leads r is logged k (Err t) was = stops r t is k.read
+      → ((ms : List Message) → g ≡ Ok ms → AllByRecursion (WasSent (u.tally.logged r.client)) ms × AllRead ms) → ((t : Trouble) → g ≡ Err t → MayStop t)
+      → Leads session parts u now (received_by r g)
+  received_leads r is logged k (Ok ms) was refused = let w = was ms refl in gathered_leads r is logged k ms w.0 w.1 (items_of ms) refl
+  received_leads r is logged k (Err t) was refused = stops r t (refused t refl) is k.read

@@ -29,12 +29,13 @@ use Rattle.cloud_facts.specs.Landings.Landing.{Landing, settles, posts, marks_lo
 use Rattle.cloud_facts.specs.Lefts.Left.{IsCopied}
 use Rattle.log_codec.specs.Pu.{pu_of}
 use Rattle.log_codec.specs.declared.record.AtomicRec.{AtomicRec}
-use Rattle.session_facts.specs.Openings.Opening.{leases_of_recovery, IsWanted, IsMessageThat, KnowsGathering, KnowsSending, KnowsPut, KnowsNext, opening_with}
+use Rattle.session_facts.specs.Openings.Opening.{leases_of_recovery, IsWanted, IsMessageThat, MayStop, KnowsGathering, KnowsSending, KnowsPut, KnowsNext, opening_with}
 use Rattle.session_facts.proofs.Openings.Clears.{kept_leads, cleared_leads}
 use Rattle.session_facts.proofs.Openings.Gathering.{sent_leads, deleted_leads}
 use Rattle.session_facts.proofs.Openings.Kept.{each_in, wanted_ids}
 use Rattle.session_facts.proofs.Openings.Leading.{Leads, away_from, stops_lead}
 use Rattle.session_facts.proofs.Openings.Marks.{past_low, marks_past, lost_low, marks_lost}
+use Rattle.session_facts.proofs.Openings.Refusing.{done_may, sent_may}
 use Rattle.session_facts.proofs.Openings.Others.{lease_in_hand, gathers_passes, sends_pass, messages_pass, put_passes}
 use Rattle.session_facts.proofs.Openings.Sends.{posts_record, posted_sent, settles_read}
 use Rattle.recover_run.specs.declared.items.AtomicItem.{AtomicItem}
@@ -102,7 +103,7 @@ module _ (who : Caller) (book : Book) (order : List Entry) (s t : CloudState) (p
       deletes id call (marks_lost st r.client r.wanted k.read.before id k.read.wanted_is holds.later that) spared (deleted_by r (done_of reply))
       (λ u passes heads homes.
       deleted_leads who.session parts u t.now part homes r is (gathers_passes st u r.client passes r.former r.lease r.wanted r.head r.gathered.kept part k)
-      (messages_pass st u r.client passes (is_lost r.wanted) r.ids all) (done_of reply))
+      (messages_pass st u r.client passes (is_lost r.wanted) r.ids all) (done_of reply) (done_may reply))
     where
       that : IsMessageThat st r.client (is_lost r.wanted) id
       that = (subst (AllByRecursion (IsMessageThat st r.client (is_lost r.wanted))) ids_are all).0
@@ -167,6 +168,7 @@ module _ (who : Caller) (book : Book) (order : List Entry) (s t : CloudState) (p
         → Leads who.session parts u t.now (sent_next r (sent_of reply))
     sends u passes homes done =
         sent_leads who.session parts u t.now part homes r is x there (sends_pass st u r.client passes r.former r.lease r.wanted r.head r.gathered.kept part r.sent k) (sent_of reply) done
+        (sent_may reply)
 
     pub record_sent : IsCall who send reply s t → Leaves send (sent_next r (sent_of reply))
     record_sent call = on (send_cases who (queue_of x.rec.tree x.rec.page) r.out reply s t call)
@@ -197,9 +199,9 @@ module _ (who : Caller) (book : Book) (order : List Entry) (s t : CloudState) (p
     put_store = after_head r.client r.head [] st
 
     -- it did not land
-    fails : (g : Result (Unit {0}) Trouble) → (g ≡ Ok tt → ⊥) → Leads who.session parts st t.now (put_by r g)
-    fails (Ok tt) never = absurd (never refl)
-    fails (Err e) never = stops_lead who.session parts st t.now (away_from who.session parts st t.now part here) r is (Err e) k.read.held
+    fails : (g : Result (Unit {0}) Trouble) → (g ≡ Ok tt → ⊥) → ((e : Trouble) → g ≡ Err e → MayStop e) → Leads who.session parts st t.now (put_by r g)
+    fails (Ok tt) never refused = absurd (never refl)
+    fails (Err e) never refused = stops_lead who.session parts st t.now (away_from who.session parts st t.now part here) r is (Err e) (refused e refl) k.read.held
 
     module _ (lasts : Lasts t.now k.read.held.now) where
       abbrev new : Home
@@ -247,12 +249,13 @@ module _ (who : Caller) (book : Book) (order : List Entry) (s t : CloudState) (p
         later = let e : r.wanted.epoch ≡ k.read.before.epoch = ap (λ (w : Wanted). w.epoch) k.read.wanted_is in omega (arith, e, epoch);
       }
 
-      lands_so : (g : Result (Unit {0}) Trouble) → Leads who.session parts put_store t.now (put_by r g)
-      lands_so (Ok tt) =
+      lands_so : (g : Result (Unit {0}) Trouble) → ((e : Trouble) → g ≡ Err e → MayStop e) → Leads who.session parts put_store t.now (put_by r g)
+      lands_so (Ok tt) refused =
           kept_leads who.session parts put_store t.now (AtHome new) opened r is has_put
           (wanted_ids put_store r.client r.wanted r.gathered.kept
           (sends_pass st put_store r.client passes r.former r.lease r.wanted r.head r.gathered.kept part (length r.gathered.kept) k).read.kept_are)
-      lands_so (Err e) = stops_lead who.session parts put_store t.now (away_from who.session parts put_store t.now (AtHome new) opened) r is (Err e) k.read.held
+      lands_so (Err e) refused =
+          stops_lead who.session parts put_store t.now (away_from who.session parts put_store t.now (AtHome new) opened) r is (Err e) (refused e refl) k.read.held
 
       head_landed : Lands who put (called who t.now s) t → Leads who.session parts put_store t.now (put_by r (done_of reply)) → Leaves put (put_by r (done_of reply))
       head_landed lands l =
@@ -265,7 +268,7 @@ module _ (who : Caller) (book : Book) (order : List Entry) (s t : CloudState) (p
         stayed e l = stays who book order s t parts (leases_of_recovery r) put (λ a. a) (KnowsNext (put_by r (done_of reply))) e setting.cloud l.part l.homes l.knows
 
         on : ((t ≡ called who t.now s) × (done_of reply ≡ Ok tt → ⊥)) ⊎ Lands who put (called who t.now s) t → Leaves put (put_by r (done_of reply))
-        on (inl p) = stayed p.0 (fails (done_of reply) p.1)
+        on (inl p) = stayed p.0 (fails (done_of reply) p.1 (done_may reply))
         on (inr lands) =
             let lasts = put_lasts who (object.Head r.client) r.out k.read.held.now None (called who t.now s) t lands in
-            head_landed lasts lands (lands_so lasts (done_of reply))
+            head_landed lasts lands (lands_so lasts (done_of reply) (done_may reply))

@@ -21,7 +21,7 @@ use Rattle.cloud_facts.proofs.Lefts.Ways.{of_ways}
 use Rattle.log_codec.specs.declared.record.AtomicRec.{AtomicRec}
 use Rattle.cloud_facts.proofs.Numbers.Lists.{filter_there}
 use Rattle.cloud_facts.proofs.Numbers.Ways.{is_way, way_epoch, way_txn}
-use Rattle.session_facts.specs.Openings.Opening.{HasFormer, HasLease, IsCommitted, IsWanted, HasRead, opening_with, KnowsNext}
+use Rattle.session_facts.specs.Openings.Opening.{HasFormer, HasLease, IsCommitted, IsWanted, HasRead, opening_with, MayStop, EndsWell, KnowsNext}
 use Rattle.session_facts.proofs.Openings.Sends.{there_at}
 use Rattle.recover_run.specs.declared.items.AtomicItem.{AtomicItem}
 use Rattle.recover_run.specs.declared.stage.Aim.{Aim}
@@ -46,6 +46,11 @@ pub record Leads (session : ℕ) (parts : Parts) (u : Store) (now : ℕ) (step :
 pub away_from : (session : ℕ) (parts : Parts) (u : Store) (now : ℕ) (part : Part) → HomesHold u.tally now (at session part parts) → HomesHold u.tally now (at session Away parts)
 away_from session parts u now part homes =
     subst (λ (ps : Parts). HomesHold u.tally now ps) (part_again session part Away parts) (away_keeps u.tally now (at session part parts) session homes)
+
+-- bytes that are there spell a head
+abbrev pub Reads : Option (List ℕ) → Type 0
+Reads None = Unit {0}
+Reads (Some bytes) = (h : Head) × (head_of bytes ≡ Some h)
 
 -- ---- the record that an open head has
 
@@ -72,8 +77,8 @@ committed_head st client h leaves is newest some = on h.phase refl
 module _ (session : ℕ) (parts : Parts) (u : Store) (now : ℕ) (away : HomesHold u.tally now (at session Away parts)) (r : Recovery) (is : IsClient r.client) where
   -- ---- without a part
 
-  pub stops_lead : (ending : Result RecoverAnswer Trouble) → HasLease r.client r.former r.lease → Leads session parts u now (releasing r ending)
-  stops_lead ending held = record { part = Away; homes = away; knows = record { client = is; at = (held, refl) } }
+  pub stops_lead : (ending : Result RecoverAnswer Trouble) → EndsWell ending → HasLease r.client r.former r.lease → Leads session parts u now (releasing r ending)
+  stops_lead ending may held = record { part = Away; homes = away; knows = record { client = is; at = (held, refl, may) } }
 
   pub old_leads : HasFormer r.former r.lease → r.gathered.kept ≡ [] → Leads session parts u now (old_released r)
   old_leads former new = record { part = Away; homes = away; knows = record { client = is; at = (refl, former.none, (new, refl)) } }
@@ -130,20 +135,20 @@ module _ (session : ℕ) (parts : Parts) (u : Store) (now : ℕ) (away : HomesHo
     head_leads h newest alone = on (h.epoch == 2 ^ 64 - 1)
       where
         on : (b : Bool) → Leads session parts u now (cond b (releasing r (Err (trouble.Exhausted counter.Epoch))) (phase_read h.phase (behind r h)))
-        on true = stops_lead (Err (trouble.Exhausted counter.Epoch)) held
+        on true = stops_lead (Err (trouble.Exhausted counter.Epoch)) tt held
         on false = phase_leads h h.phase refl newest alone
 
-    bytes_lead : (bytes : List ℕ) (o : Option Head) → head_of bytes ≡ o → u.tally.head r.client ≡ head_at (Some bytes) → IsAlone now parts session r.client
+    bytes_lead : (bytes : List ℕ) (o : Option Head) → head_of bytes ≡ o → Reads (Some bytes) → u.tally.head r.client ≡ head_at (Some bytes) → IsAlone now parts session r.client
         → Leads session parts u now (bytes_read r bytes o)
-    bytes_lead bytes (Some h) e newest alone = head_leads h (newest ∙ ap (λ (k : Option Head). unwrap_or k empty_head) e) alone
-    bytes_lead bytes None e newest alone = stops_lead _ held
+    bytes_lead bytes (Some h) e reads newest alone = head_leads h (newest ∙ ap (λ (k : Option Head). unwrap_or k empty_head) e) alone
+    bytes_lead bytes None e reads newest alone = let none : None ≡ Some reads.0 = sym e ∙ reads.1 in absurd (cc)
 
     none_leads : (aim : Aim) → u.tally.head r.client ≡ empty_head → IsAlone now parts session r.client → Leads session parts u now (none_read aim r)
     none_leads Opening newest alone = head_leads empty_head newest alone
-    none_leads Settling newest alone = stops_lead _ held
+    none_leads Settling newest alone = stops_lead _ tt held
 
-    pub got_leads : (g : Result (Option (List ℕ)) Trouble) → ((v : Option (List ℕ)) → g ≡ Ok v → (u.tally.head r.client ≡ head_at v) × IsAlone now parts session r.client)
-        → Leads session parts u now (got_by r g)
-    got_leads (Ok None) seen = let s = seen None refl in none_leads r.aim s.0 s.1
-    got_leads (Ok (Some bytes)) seen = let s = seen (Some bytes) refl in bytes_lead bytes (head_of bytes) refl s.0 s.1
-    got_leads (Err t) seen = stops_lead (Err t) held
+    pub got_leads : (g : Result (Option (List ℕ)) Trouble) → ((v : Option (List ℕ)) → g ≡ Ok v → (u.tally.head r.client ≡ head_at v) × IsAlone now parts session r.client × Reads v)
+        → ((t : Trouble) → g ≡ Err t → MayStop t) → Leads session parts u now (got_by r g)
+    got_leads (Ok None) seen refused = let s = seen None refl in none_leads r.aim s.0 s.1
+    got_leads (Ok (Some bytes)) seen refused = let s = seen (Some bytes) refl in bytes_lead bytes (head_of bytes) refl s.2 s.0 s.1
+    got_leads (Err t) seen refused = stops_lead (Err t) (refused t refl) held

@@ -14,7 +14,7 @@ use Rattle.cloud_trait.specs.Ask.{Ask, GetHeld, PutHeld, Send, Receive, Delete, 
 use Rattle.cloud_trait.specs.Caller.{Caller}
 use Rattle.cloud_trait.specs.Claim.{Claim, Lasts}
 use Rattle.cloud_trait.specs.Delivery.{WasSent}
-use Rattle.cloud_trait.specs.State.{CloudState}
+use Rattle.cloud_trait.specs.State.{CloudState, newest}
 use Rattle.cloud_trait.specs.Views.{given_of, got_of, received_of}
 use Rattle.cloud_trait.specs.Weather.{Fits}
 use Rattle.db_base.specs.Ids.{IsClient}
@@ -28,10 +28,11 @@ use Rattle.cloud_facts.specs.Homes.Homes.{Part, Parts, Away, IsAlone, HomesHold}
 use Rattle.cloud_facts.proofs.Homes.HomeLemmas.{keeps_part, away_keeps}
 use Rattle.session_facts.specs.Openings.Opening.{leases_of_recovery, HasFormer, HasLease, IsMessageThat, KnowsGathering, KnowsSending, KnowsPut, KnowsOpeningAt, KnowsOpening, KnowsNext}
 use Rattle.session_facts.proofs.Openings.Clears.{swept_leads}
-use Rattle.session_facts.proofs.Openings.Gathering.{received_leads}
+use Rattle.session_facts.proofs.Openings.Gathering.{AllRead, received_leads}
 use Rattle.session_facts.proofs.Openings.Landings.{lost_deleted, past_deleted, record_sent, head_put}
-use Rattle.session_facts.proofs.Openings.Leading.{Leads, old_leads, taken_leads, got_leads, ended_leads}
+use Rattle.session_facts.proofs.Openings.Leading.{Leads, Reads, old_leads, taken_leads, got_leads, ended_leads}
 use Rattle.session_facts.proofs.Openings.Others.{lease_in_hand}
+use Rattle.session_facts.proofs.Openings.Refusing.{newest_reads, all_read, got_may, received_may}
 use Rattle.session_facts.proofs.Openings.Sends.{queue_is}
 use Rattle.recover_run.specs.declared.items.AtomicItem.{AtomicItem}
 use Rattle.recover_run.specs.declared.stage.Stage.{Stage}
@@ -114,7 +115,7 @@ module _ (who : Caller) (book : Book) (order : List Entry) (s t : CloudState) (p
 
   at_getting : r.stage ≡ Getting → HasLease r.client r.former r.lease → r.gathered.kept ≡ [] → Out
   at_getting e held new =
-      quiet_at Getting e get asked tt tt (got_leads who.session parts st t.now away r is held new setting.cloud.holds.leaves setting.homes (got_of reply) seen)
+      quiet_at Getting e get asked tt tt (got_leads who.session parts st t.now away r is held new setting.cloud.holds.leaves setting.homes (got_of reply) seen (got_may reply))
     where
       get : Ask
       get = GetHeld (object.Head r.client) held.now
@@ -122,12 +123,15 @@ module _ (who : Caller) (book : Book) (order : List Entry) (s t : CloudState) (p
       asked : recovery_ask r ≡ get
       asked = under_lease Getting e r.lease held.now (λ l. GetHeld (object.Head r.client) l) refl held.is
 
-      seen : (v : Option (List ℕ)) → got_of reply ≡ Ok v → (st.tally.head r.client ≡ head_at v) × IsAlone t.now parts who.session r.client
-      seen v got =
-          let of = call_at get asked in (
-            newest_head (s.versions (object.Head r.client)) ∙ ap head_at (sym (held_seen who (object.Head r.client) held.now reply s t of v got)),
-            setting.alone held.now r.client (lease_in_hand r.former r.lease held.now held.is) held.lock (held_lasts who (object.Head r.client) held.now reply s t of v got),
-          )
+      newest_is : (v : Option (List ℕ)) → got_of reply ≡ Ok v → v ≡ newest s (object.Head r.client)
+      newest_is v got = held_seen who (object.Head r.client) held.now reply s t (call_at get asked) v got
+
+      seen : (v : Option (List ℕ)) → got_of reply ≡ Ok v → (st.tally.head r.client ≡ head_at v) × IsAlone t.now parts who.session r.client × Reads v
+      seen v got = (
+        newest_head (s.versions (object.Head r.client)) ∙ ap head_at (sym (newest_is v got)),
+        setting.alone held.now r.client (lease_in_hand r.former r.lease held.now held.is) held.lock (held_lasts who (object.Head r.client) held.now reply s t (call_at get asked) v got),
+        newest_reads s r.client v setting.cloud.decodes (sym (newest_is v got)),
+      )
 
   at_releasing : r.stage ≡ Releasing → HasLease r.client r.former r.lease → Out
   at_releasing e held =
@@ -137,18 +141,20 @@ module _ (who : Caller) (book : Book) (order : List Entry) (s t : CloudState) (p
   -- ---- receives
 
   sent_there : (stage : Stage) → r.stage ≡ stage → ask_at stage r ≡ Receive (queue.Atomic r.client) 256 → (ms : List Message) → received_of reply ≡ Ok ms
-      → AllByRecursion (WasSent (st.tally.logged r.client)) ms
-  sent_there stage e receives ms got = received_sent who (queue.Atomic r.client) reply s t (call_at (Receive (queue.Atomic r.client) 256) (asks stage e ∙ receives)) ms got
+      → AllByRecursion (WasSent (st.tally.logged r.client)) ms × AllRead ms
+  sent_there stage e receives ms got =
+      let was = received_sent who (queue.Atomic r.client) reply s t (call_at (Receive (queue.Atomic r.client) 256) (asks stage e ∙ receives)) ms got in
+      (was, all_read s r.client setting.cloud.decodes ms was)
 
   at_receiving : r.stage ≡ Receiving → KnowsGathering st r part → Out
   at_receiving e k =
       quiet_at Receiving e (Receive (queue.Atomic r.client) 256) (asks Receiving e) tt tt
-      (received_leads who.session parts st t.now part here r is (setting.cloud.holds.leaves.logged r.client is) k (received_of reply) (sent_there Receiving e refl))
+      (received_leads who.session parts st t.now part here r is (setting.cloud.holds.leaves.logged r.client is) k (received_of reply) (sent_there Receiving e refl) (received_may reply))
 
   at_sweeping : r.stage ≡ Sweeping → KnowsPut st t.now r part → Out
   at_sweeping e k =
       quiet_at Sweeping e (Receive (queue.Atomic r.client) 256) (asks Sweeping e) tt tt
-      (swept_leads who.session parts st t.now part here r is k (received_of reply) (sent_there Sweeping e refl))
+      (swept_leads who.session parts st t.now part here r is k (received_of reply) (sent_there Sweeping e refl) (received_may reply))
 
   -- ---- deletions
 

@@ -17,34 +17,38 @@ use Rattle.db_base.specs.Ids.{IsTree}
 use Rattle.db_base.specs.declared.names.ObjName.TheVariants as object
 use Rattle.db_base.specs.declared.names.QueueName.TheVariants as queue
 use Rattle.db_base.specs.declared.trouble.Trouble.{Trouble}
+use Rattle.cloud_facts.proofs.Decoding.Values.{newest_root_decodes}
 use Rattle.leaf_edit.specs.Merging.{Rises}
 use Rattle.leaf_edit.proofs.InOrder.{Rises-sorted}
 use Rattle.log_codec.specs.declared.record.PuItem.{PuItem}
 use Rattle.node_codec.proofs.NodeLemmas.{not_below_empty}
+use Rattle.node_codec.proofs.SpellingLaws.{tree_only}
 use Rattle.node_codec.specs.Node.{Entry, child_of}
 use Rattle.node_codec.specs.Tree.{Tree, tree_of}
 use Rattle.report_types.specs.declared.entry.Entry.{Entry as Change}
 use Rattle.run_cursor.specs.Covered.{covered_ids}
 use Rattle.run_cursor.specs.Run.{Taken, IsRun}
 use Rattle.session_facts.specs.Runs.Runs.{IsSentItem, TookRun, MayDelete}
-use Rattle.session_facts.proofs.Runs.Received.{items_sent}
+use Rattle.session_facts.proofs.Runs.Received.{items_sent, none_damaged}
 use Rattle.cloud_facts.specs.Book.Book.{Book}
 use Rattle.cloud_facts.specs.Book.Records.{IsIn}
 use Rattle.cloud_facts.specs.Book.Tally.{Store}
-use Rattle.cloud_facts.specs.Book.Telling.{nodes_of, roots_of}
+use Rattle.cloud_facts.specs.Book.Telling.{nodes_of, roots_of, newest_root}
 use Rattle.cloud_facts.specs.Tellings.Told.{store_of}
 use Rattle.tree_ckpt.specs.Standing.{OfTree}
-use Rattle.session_facts.specs.TreeCheckpoints.Checkpoint.{IsUnder, KnowsOnward, KnowsWorkNext}
+use Rattle.session_facts.specs.TreeCheckpoints.Checkpoint.{IsUnder, MayStop, KnowsOnward, KnowsWorkNext}
 use Rattle.session_facts.proofs.TreeCheckpoints.Keys.{least_from, none_from}
 use Rattle.session_facts.proofs.TreeCheckpoints.Nexts.{deleting_leads, rising_leads, descending_leads}
 use Rattle.session_facts.proofs.TreeCheckpoints.Trees.{root_read, run_taken, none_covered}
+use Rattle.session_facts.proofs.TreeCheckpoints.Refusing.{descent_may}
+use Rattle.session_facts.proofs.TreeCheckpoints.UpStops.{rise_may}
 use Rattle.session_facts.proofs.TreeCheckpoints.Upward.{StaysIn, rise_stays}
 use Rattle.tree_descent.specs.Descent.{begun, arrive}
 use Rattle.session_facts.specs.Trees.Charts.{KnowsRoot, KnowsChart}
 use Rattle.session_facts.specs.Trees.Folds.{IsDone, KnowsRun, IsLeast}
 use Rattle.session_facts.specs.Trees.Leaves.{KnowsRest}
 use Rattle.session_facts.specs.Trees.Risings.{AppliesRun}
-use Rattle.session_facts.specs.Trees.Ways.{KnowsWay}
+use Rattle.session_facts.specs.Trees.Ways.{KnowsWay, LeadsOn}
 use Rattle.session_facts.proofs.Trees.RisingSteps.{rises_from}
 use Rattle.session_facts.proofs.Trees.Strides.{arrives}
 use Rattle.session_facts.proofs.Trees.Walks.{way_begins}
@@ -81,7 +85,8 @@ module _ (book : Book) (order : List Change) (s : CloudState) (stands : StandsUn
     down_leads key least =
         subst (λ (e : Entry). Known (descending_on h (down_from to e))) (sym (ap entry_or way.1))
         (descending_leads st now tree h to (arrive (begun to way.0.0 way.0.1)) under (arrive_apart (begun to way.0.0 way.0.1) k.apart)
-        (descent_known st now h.lease h.deletions.ids to (λ t. Unit {0}) (arrive (begun to way.0.0 way.0.1)) (arrives st now h.lease stands.holds.chains (λ t. Unit {0}) (begun to way.0.0 way.0.1) way.2)
+        (descent_may st now h.lease (λ t. ⊥) (λ t never. absurd never) (arrive (begun to way.0.0 way.0.1)) arrived)
+        (descent_known st now h.lease h.deletions.ids to (λ t. ⊥) (arrive (begun to way.0.0 way.0.1)) arrived
         (arrive_apart (begun to way.0.0 way.0.1) k.apart) (record { took = k.run.took; done = k.run.done }) least))
       where
         to : Chart
@@ -93,11 +98,15 @@ module _ (book : Book) (order : List Change) (s : CloudState) (stands : StandsUn
         way : (e : Entry) × (child_of key (tree_held c.root).entries ≡ Some e) × KnowsWay st now h.lease (begun (record c { key = key }) e.0 e.1)
         way = way_begins st now h.lease (record c { key = key }) chained chart
 
+        arrived : LeadsOn st now h.lease (λ t. ⊥) (arrive (begun (record c { key = key }) way.0.0 way.0.1))
+        arrived = arrives st now h.lease stands.holds.chains (λ t. ⊥) (begun (record c { key = key }) way.0.0 way.0.1) way.2
+
     -- ---- up, where the records of the run are applied
 
     up_leads : ((x : PuItem) → IsIn c.run.items x → IsDone st c.tree x) → Known (going_by h c None)
     up_leads done =
         rising_leads st now tree h (up.rise (up.begun c)) under.lock_is (subst (λ (t : ℕ). StaysIn t (up.rise (up.begun c))) under.tree_is (rise_stays (up.begun c)))
+        (rise_may st now h.lease (up.begun c) k.chart.nodes)
         (rises_from book order s stands now h.lease c h.deletions.ids k.chart k.apart (record { took = k.run.took; done = done }))
 
     by_key : (from : Option (List ℕ)) → c.from ≡ from → (o : Option (List ℕ)) → next_key c ≡ o → Known (going_by h c o)
@@ -137,14 +146,19 @@ module _ (book : Book) (order : List Change) (s : CloudState) (stands : StandsUn
 
   -- ---- the tree object
 
-  read_leads : (l : Claim) (bytes : List ℕ) (t : Option Tree) → OfTree tree l → KnowsRoot st now l tree (tree_held (Some bytes)) → Known (tree_read tree l bytes t)
-  read_leads l bytes (Some t) own k = (own, k)
-  read_leads l bytes None own k = own
+  read_leads : (l : Claim) (bytes : List ℕ) (t : Option Tree) → tree_of bytes ≡ t → newest s (object.Tree tree) ≡ Some bytes → OfTree tree l → KnowsRoot st now l tree (tree_held (Some bytes))
+      → Known (tree_read tree l bytes t)
+  read_leads l bytes (Some t) e is own k = (own, k)
+  read_leads l bytes None e is own k =
+      let none : None ≡ Some (newest_root (roots_of s) tree) = sym e ∙ tree_only bytes (newest_root (roots_of s) tree) (newest_root_decodes s tree bytes stands.decodes is) in
+      absurd (cc)
 
-  pub got_leads : (l : Claim) (g : Result (Option (List ℕ)) Trouble) → OfTree tree l → ((v : Option (List ℕ)) → g ≡ Ok v → v ≡ newest s (object.Tree tree)) → Known (tree_got tree l g)
-  got_leads l (Ok (Some bytes)) own seen = read_leads l bytes (tree_of bytes) own (root_read book order s stands now l tree (Some bytes) (seen (Some bytes) refl))
-  got_leads l (Ok None) own seen = (own, root_read book order s stands now l tree None (seen None refl))
-  got_leads l (Err t) own seen = own
+  pub got_leads : (l : Claim) (g : Result (Option (List ℕ)) Trouble) → OfTree tree l → ((v : Option (List ℕ)) → g ≡ Ok v → v ≡ newest s (object.Tree tree))
+      → ((t : Trouble) → g ≡ Err t → MayStop t) → Known (tree_got tree l g)
+  got_leads l (Ok (Some bytes)) own seen refused =
+      read_leads l bytes (tree_of bytes) refl (sym (seen (Some bytes) refl)) own (root_read book order s stands now l tree (Some bytes) (seen (Some bytes) refl))
+  got_leads l (Ok None) own seen refused = (own, root_read book order s stands now l tree None (seen None refl))
+  got_leads l (Err t) own seen refused = (own, refused t refl)
 
   -- ---- the messages
 
@@ -177,11 +191,11 @@ module _ (book : Book) (order : List Change) (s : CloudState) (stands : StandsUn
 
     items_lead : (ms : List Message) (read : Result (List PuItem) Message) → items_of ms ≡ read → AllByRecursion (WasSent (st.tally.posts tree 0)) ms → (taken : Result Intake Trouble)
         → TakesItems (queue.TreePu tree) (tree_held root).cursor read taken → Known (intake_taken tree l root taken)
-    items_lead ms (Err m) e was taken is = subst (λ (g : Result Intake Trouble). Known (intake_taken tree l root g)) (sym is) own
+    items_lead ms (Err m) e was taken is = absurd (none_damaged st tree 0 ms m stands.holds.numbers was e)
     items_lead ms (Ok items) e was taken p =
         subst (λ (g : Result Intake Trouble). Known (intake_taken tree l root g)) (sym p.2) (run_leads items p.0 (items_sent (st.tally.posts tree 0) ms items was e) p.1)
 
     pub received_leads : (g : Result (List Message) Trouble) (next : Step) → ((ms : List Message) → g ≡ Ok ms → AllByRecursion (WasSent (st.tally.posts tree 0)) ms)
-        → ReceivedBy tree l root g next → Known next
-    received_leads (Ok ms) next was p = subst Known (sym p.2) (items_lead ms (items_of ms) refl (was ms refl) p.0 p.1)
-    received_leads (Err t) next was p = subst Known (sym p) own
+        → ((t : Trouble) → g ≡ Err t → MayStop t) → ReceivedBy tree l root g next → Known next
+    received_leads (Ok ms) next was refused p = subst Known (sym p.2) (items_lead ms (items_of ms) refl (was ms refl) p.0 p.1)
+    received_leads (Err t) next was refused p = subst Known (sym p) (own, refused t refl)

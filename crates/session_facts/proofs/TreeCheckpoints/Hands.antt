@@ -304,7 +304,7 @@ module _ (who : Caller) (s t : CloudState) (home : Claim) (client : ℕ) (home_l
           (λ next leads. subst (Within (h.lease ∷ [])) (sym leads) (rising_within h (rising_next r reply)));
     }
     work_hands (work.Deleting h applied) k comes = deletes h applied h.deletions.ids k.2 comes
-    work_hands (work.Releasing held end) k comes = releases held.first held.second end k comes
+    work_hands (work.Releasing held end) k comes = releases held.first held.second end k.0 comes
     work_hands work.Finished k comes = absurd k
 
 -- a call of a checkpoint beside its home's lease, and where its answer leads

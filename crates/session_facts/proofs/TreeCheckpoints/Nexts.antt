@@ -16,7 +16,8 @@ use Rattle.cloud_facts.specs.Book.Records.{IsIn}
 use Rattle.cloud_facts.specs.Book.Tally.{Store}
 use Rattle.tree_ckpt.specs.Standing.{OfTree, HasIds}
 use Rattle.tree_ckpt.proofs.Leaving.{SameLeaf, LeavesLeaf}
-use Rattle.session_facts.specs.TreeCheckpoints.Checkpoint.{IsUnder, OfPage, HoldsLast, KnowsOnward, KnowsWorkNext}
+use Rattle.session_facts.specs.TreeCheckpoints.Checkpoint.{IsUnder, OfPage, HoldsLast, MayStop, EndsWell, KnowsOnward, KnowsWorkNext}
+use Rattle.session_facts.proofs.TreeCheckpoints.Refusing.{StopsWell}
 use Rattle.session_facts.proofs.TreeCheckpoints.Upward.{StaysIn}
 use Rattle.tree_descent.specs.declared.descent.Descent.{Descent}
 use Rattle.session_facts.specs.Trees.FoldSteps.{KnowsStep}
@@ -35,9 +36,9 @@ module _ (u : Store) (now tree : ℕ) where
 
   -- ---- the tree's lease
 
-  pub taken_leads : (g : Result Claim Trouble) → ((l : Claim) → g ≡ Ok l → l.lock ≡ lock.Tree tree) → Known (tree_taken g)
-  taken_leads (Ok l) is = is l refl
-  taken_leads (Err t) is = tt
+  pub taken_leads : (g : Result Claim Trouble) → ((l : Claim) → g ≡ Ok l → l.lock ≡ lock.Tree tree) → ((t : Trouble) → g ≡ Err t → MayStop t) → Known (tree_taken g)
+  taken_leads (Ok l) is refused = is l refl
+  taken_leads (Err t) is refused = refused t refl
 
   -- ---- deletions
 
@@ -45,7 +46,7 @@ module _ (u : Store) (now tree : ℕ) where
   deleting_leads h applied own may = on h.deletions.ids refl
     where
       on : (ids : List ℕ) → h.deletions.ids ≡ ids → Known (deleting_by h applied (next_id ids))
-      on [] e = own
+      on [] e = (own, tt)
       on (id ∷ ids) e = (own, may, subst HasIds (sym e) tt)
 
   -- the id that was tried is left out
@@ -61,25 +62,26 @@ module _ (u : Store) (now tree : ℕ) where
 
   -- ---- up
 
-  pub rising_leads : (h : Held) (next : Next Rising (Unit {0})) → OfTree tree h.lease → StaysIn tree next → RisesOn u now h.lease h.deletions.ids next → Known (rising_on h next)
-  rising_leads h (Goes r) own stays k = (record { lock_is = own; tree_is = stays }, k)
-  rising_leads h (Ends r x) own stays k =
+  pub rising_leads : (h : Held) (next : Next Rising (Unit {0})) → OfTree tree h.lease → StaysIn tree next → StopsWell next → RisesOn u now h.lease h.deletions.ids next
+      → Known (rising_on h next)
+  rising_leads h (Goes r) own stays may k = (record { lock_is = own; tree_is = stays }, k)
+  rising_leads h (Ends r x) own stays may k =
       deleting_leads h r.chart.applied own (subst (λ (t : ℕ). MayDelete u t 0 h.deletions.ids) stays k)
-  rising_leads h (Stops r t) own stays k = own
+  rising_leads h (Stops r t) own stays may k = (own, may)
 
   -- ---- down
 
-  pub descending_leads : (h : Held) (c : Chart) (next : Next Descent (Unit {0})) → IsUnder tree h.lease c.tree → LeadsApart c next → KnowsDescent u now h.lease h.deletions.ids next
-      → Known (descending_on h next)
-  descending_leads h c (Goes d) under a k = (record { lock_is = under.lock_is; tree_is = ap (λ (x : Chart). x.tree) a.0 ∙ under.tree_is }, k)
-  descending_leads h c (Ends d x) under a k = (record { lock_is = under.lock_is; tree_is = ap (λ (x : Chart). x.tree) a.0 ∙ under.tree_is }, k)
-  descending_leads h c (Stops d t) under a k = under.lock_is
+  pub descending_leads : (h : Held) (c : Chart) (next : Next Descent (Unit {0})) → IsUnder tree h.lease c.tree → LeadsApart c next → StopsWell next
+      → KnowsDescent u now h.lease h.deletions.ids next → Known (descending_on h next)
+  descending_leads h c (Goes d) under a may k = (record { lock_is = under.lock_is; tree_is = ap (λ (x : Chart). x.tree) a.0 ∙ under.tree_is }, k)
+  descending_leads h c (Ends d x) under a may k = (record { lock_is = under.lock_is; tree_is = ap (λ (x : Chart). x.tree) a.0 ∙ under.tree_is }, k)
+  descending_leads h c (Stops d t) under a may k = (under.lock_is, may)
 
   -- ---- a leaf
 
   pub page_leads : (h : Held) (c : Coming) (g : Result Claim Trouble) → ((l : Claim) → g ≡ Ok l → l.lock ≡ lock.Page c.chart.tree c.page) → IsUnder tree h.lease c.chart.tree
-      → IsCome u now h.lease c.chart c.page c.low c.visited h.deletions.ids → Known (page_taken h c g)
-  page_leads h c (Ok l) is under k = (
+      → ((t : Trouble) → g ≡ Err t → MayStop t) → IsCome u now h.lease c.chart c.page c.low c.visited h.deletions.ids → Known (page_taken h c g)
+  page_leads h c (Ok l) is under refused k = (
     under,
     inl (record {
       at = record { chart = k.rest.chart; way = k.way; lock_is = is l refl };
@@ -89,7 +91,7 @@ module _ (u : Store) (now tree : ℕ) where
       placing_is = refl;
     }),
   )
-  page_leads h c (Err t) is under k = under.lock_is
+  page_leads h c (Err t) is under refused k = (under.lock_is, refused t refl)
 
   page_of : (f g : Folding) → SameLeaf f g → f.chart.tree ≡ tree → f.lease.lock ≡ lock.Page f.chart.tree f.page → OfPage tree g.lease
   page_of f g same tree_is is = record {
@@ -98,22 +100,22 @@ module _ (u : Store) (now tree : ℕ) where
   }
 
   pub folding_leads : (h : Held) (f : Folding) (next : Next Folding Left) → IsUnder tree h.lease f.chart.tree → f.lease.lock ≡ lock.Page f.chart.tree f.page → LeavesLeaf f next
-      → KnowsStep u now h.lease h.deletions.ids next → Known (folding_on h next)
-  folding_leads h f (Goes g) under is same k = (record { lock_is = under.lock_is; tree_is = same.tree ∙ under.tree_is }, inr k)
-  folding_leads h f (Ends g (left.Right low page)) under is same k =
+      → StopsWell next → KnowsStep u now h.lease h.deletions.ids next → Known (folding_on h next)
+  folding_leads h f (Goes g) under is same may k = (record { lock_is = under.lock_is; tree_is = same.tree ∙ under.tree_is }, inr k)
+  folding_leads h f (Ends g (left.Right low page)) under is same may k =
       (page_of f g same under.tree_is is, (record { lock_is = under.lock_is; tree_is = same.tree ∙ under.tree_is }, k))
-  folding_leads h f (Ends g left.Handled) under is same k =
+  folding_leads h f (Ends g left.Handled) under is same may k =
       (page_of f g same under.tree_is is, (record { lock_is = under.lock_is; tree_is = same.tree ∙ under.tree_is }, k))
-  folding_leads h f (Stops g t) under is same k = (under.lock_is, page_of f g same under.tree_is is)
+  folding_leads h f (Stops g t) under is same may k = ((under.lock_is, page_of f g same under.tree_is is), may)
 
   -- ---- leases given back
 
-  finished_leads : (end : Result CkptAnswer Trouble) → Known (finished end)
-  finished_leads (Ok a) = tt
-  finished_leads (Err t) = tt
+  finished_leads : (end : Result CkptAnswer Trouble) → EndsWell end → Known (finished end)
+  finished_leads (Ok a) may = tt
+  finished_leads (Err t) may = may
 
-  pub released_leads : (first second : Option Claim) (end : Result CkptAnswer Trouble) → HoldsLast tree first second
+  pub released_leads : (first second : Option Claim) (end : Result CkptAnswer Trouble) → HoldsLast tree first second → EndsWell end
       → Known (released_by (without_newest (record { first = first; second = second })) end (newest_lease (without_newest (record { first = first; second = second }))))
-  released_leads (Some l) (Some leaf) end own = own.0
-  released_leads (Some l) None end own = finished_leads end
-  released_leads None second end own = absurd own
+  released_leads (Some l) (Some leaf) end own may = (own.0, may)
+  released_leads (Some l) None end own may = finished_leads end may
+  released_leads None second end own may = absurd own

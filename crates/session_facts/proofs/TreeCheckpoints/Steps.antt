@@ -45,17 +45,21 @@ use Rattle.cloud_facts.specs.Tellings.Told.{store_of}
 use Rattle.tree_ckpt.specs.Making.{Making, making_ask, MakingLeads}
 use Rattle.tree_ckpt.specs.Standing.{OfTree, HasIds}
 use Rattle.tree_ckpt.proofs.Leaving.{next_leaves}
-use Rattle.session_facts.specs.TreeCheckpoints.Checkpoint.{IsUnder, HoldsLast, KnowsWork, KnowsMaking, KnowsWorkNext, KnowsMakingNext, KnowsAfter, leases_of_making, making_note}
+use Rattle.session_facts.specs.TreeCheckpoints.Checkpoint.{IsUnder, HoldsLast, MayStop, EndsWell, KnowsWork, KnowsMaking, KnowsWorkNext, KnowsMakingNext, KnowsAfter, leases_of_making, making_note}
 use Rattle.session_facts.proofs.TreeCheckpoints.Going.{left_leads, got_leads, received_leads}
 use Rattle.session_facts.proofs.TreeCheckpoints.MakingOthers.{lock_of, making_later}
 use Rattle.session_facts.proofs.TreeCheckpoints.Nexts.{taken_leads, deleted_leads, rising_leads, descending_leads, page_leads, folding_leads, released_leads}
+use Rattle.session_facts.proofs.TreeCheckpoints.LeafStops.{leaf_may, put_may}
+use Rattle.session_facts.proofs.TreeCheckpoints.Refusing.{StopsWell, descent_may, got_may, received_may, given_may}
 use Rattle.session_facts.proofs.TreeCheckpoints.Trees.{received_sent}
+use Rattle.session_facts.proofs.TreeCheckpoints.UpStops.{rising_may}
 use Rattle.session_facts.proofs.TreeCheckpoints.Upward.{StaysIn, rising_stays_in}
 use Rattle.tree_descent.specs.declared.descent.Descent.{Descent}
 use Rattle.tree_descent.specs.Descent.{descent_next}
 use Rattle.session_facts.specs.Trees.FoldSteps.{fold_note, KnowsStep}
 use Rattle.session_facts.specs.Trees.Leaves.{IsGetting, IsReading, IsPutting, KnowsLeaf}
 use Rattle.session_facts.specs.Trees.Risings.{KnowsRising, RisesOn}
+use Rattle.session_facts.specs.Trees.Ways.{LeadsOn}
 use Rattle.session_facts.proofs.Trees.FoldCalls.{put_outcome}
 use Rattle.session_facts.proofs.Trees.FoldGets.{leaf_leads}
 use Rattle.session_facts.proofs.Trees.RisingCalls.{known_outcome}
@@ -156,13 +160,14 @@ module _ (who : Caller) (s t : CloudState) (book : Book) (order : List Entry) (p
   -- ---- a leaf
 
   module _ (h : Held) (f : Folding) (under : IsUnder tree h.lease f.chart.tree) where
-    leads_from : (u : Store) → f.lease.lock ≡ lock.Page f.chart.tree f.page → KnowsStep u t.now h.lease h.deletions.ids (folding_next f reply) → After (work.Folding h f) u t.now
-    leads_from u is k next leads =
-        subst (KnowsWorkNext u t.now tree) (sym leads) (folding_leads u t.now tree h f (folding_next f reply) under is (next_leaves f reply) k)
+    leads_from : (u : Store) → f.lease.lock ≡ lock.Page f.chart.tree f.page → StopsWell (folding_next f reply) → KnowsStep u t.now h.lease h.deletions.ids (folding_next f reply)
+        → After (work.Folding h f) u t.now
+    leads_from u is may k next leads =
+        subst (KnowsWorkNext u t.now tree) (sym leads) (folding_leads u t.now tree h f (folding_next f reply) under is (next_leaves f reply) may k)
 
     at_reading : IsReading st t.now h.lease f h.deletions.ids → IsCall who (folding_ask f h.lease) reply s t → OutBy (work.Folding h f) (folding_ask f h.lease)
     at_reading k call =
-        subst (OutBy (work.Folding h f)) (sym asked) (quiet_at (work.Folding h f) get got tt tt (leads_from st k.at.lock_is known))
+        subst (OutBy (work.Folding h f)) (sym asked) (quiet_at (work.Folding h f) get got tt tt (leads_from st k.at.lock_is may known))
       where
         get : Ask
         get = GetHeld (object.Page f.chart.tree f.page) f.lease
@@ -176,6 +181,11 @@ module _ (who : Caller) (s t : CloudState) (book : Book) (order : List Entry) (p
         reads : folding_next f reply ≡ leaf_got f (got_of reply)
         reads = ap (λ (p : Placing). cond (has_nothing p) (leaf_got f (got_of reply)) (leaf_put f (done_of reply))) k.placing_is
 
+        may : StopsWell (folding_next f reply)
+        may =
+            subst StopsWell (sym reads)
+            (leaf_may book order s setting.cloud t.now h.lease f h.deletions.ids k (got_of reply) (λ v. held_seen who (object.Page f.chart.tree f.page) f.lease reply s t got v) (got_may reply))
+
         known : KnowsStep st t.now h.lease h.deletions.ids (folding_next f reply)
         known =
             subst (KnowsStep st t.now h.lease h.deletions.ids) (sym reads)
@@ -186,7 +196,7 @@ module _ (who : Caller) (s t : CloudState) (book : Book) (order : List Entry) (p
         subst (λ (note : Audited → Audited). Outcome who book order s t parts mine (folding_ask f h.lease) note (Aside st own (After (work.Folding h f))))
         (leaf_note m h f (folding_ask f h.lease))
         (less_known who book order s t parts mine (folding_ask f h.lease) (fold_note f (folding_ask f h.lease)) (λ u now. KnowsStep u now h.lease h.deletions.ids (folding_next f reply))
-        (After (work.Folding h f)) (λ u. leads_from u k.lock_is)
+        (After (work.Folding h f)) (λ u. leads_from u k.lock_is (put_may (store_of book order s) t.now h.lease f h.deletions.ids k reply))
         (put_outcome who s t book order parts mine h.lease f h.deletions.ids reply setting.cloud setting.homes held (lock_of tree f.chart.tree h.lease under) k call))
 
     at_leaf : IsIn mine h.lease → KnowsLeaf st t.now h.lease f h.deletions.ids → IsCall who (folding_ask f h.lease) reply s t → OutBy (work.Folding h f) (folding_ask f h.lease)
@@ -231,23 +241,27 @@ module _ (who : Caller) (s t : CloudState) (book : Book) (order : List Entry) (p
   at_descending h d under k g next leads =
       subst (KnowsWorkNext st t.now tree) (sym leads)
       (descending_leads st t.now tree h d.chart (descent_next d reply) under apart
-      (descent_known st t.now h.lease h.deletions.ids d.chart (λ trouble. got_of reply ≡ Err trouble) (descent_next d reply)
-      (walks.got_leads book order s setting.cloud t.now h.lease d (record { chart = k.rest.chart; way = k.way }) k.above (got_of reply)
-      (λ v. held_seen who (object.Page d.chart.tree d.page) h.lease reply s t g v)) apart k.rest.run k.least))
+      (descent_may st t.now h.lease (λ trouble. got_of reply ≡ Err trouble) (got_may reply) (descent_next d reply) led)
+      (descent_known st t.now h.lease h.deletions.ids d.chart (λ trouble. got_of reply ≡ Err trouble) (descent_next d reply) led apart k.rest.run k.least))
     where
+      led : LeadsOn st t.now h.lease (λ trouble. got_of reply ≡ Err trouble) (descent_next d reply)
+      led =
+          walks.got_leads book order s setting.cloud t.now h.lease d (record { chart = k.rest.chart; way = k.way }) k.above (got_of reply)
+          (λ v. held_seen who (object.Page d.chart.tree d.page) h.lease reply s t g v)
+
       apart : LeadsApart d.chart (descent_next d reply)
       apart = descent_apart d reply k.rest.apart k.fresh
 
-  at_releasing : (first second : Option Claim) (end : Result CkptAnswer Trouble) → HoldsLast tree first second
+  at_releasing : (first second : Option Claim) (end : Result CkptAnswer Trouble) → HoldsLast tree first second → EndsWell end
       → IsCall who (release_ask tree (newest_lease (record { first = first; second = second }))) reply s t
       → OutBy (work.Releasing (record { first = first; second = second }) end) (release_ask tree (newest_lease (record { first = first; second = second })))
-  at_releasing (Some l) (Some leaf) end own_is call =
+  at_releasing (Some l) (Some leaf) end own_is may call =
       quiet_at (work.Releasing (record { first = Some l; second = Some leaf }) end) (Release leaf) call tt tt
-      (λ next leads. subst (KnowsWorkNext st t.now tree) (sym leads) (released_leads st t.now tree (Some l) (Some leaf) end own_is))
-  at_releasing (Some l) None end own_is call =
+      (λ next leads. subst (KnowsWorkNext st t.now tree) (sym leads) (released_leads st t.now tree (Some l) (Some leaf) end own_is may))
+  at_releasing (Some l) None end own_is may call =
       quiet_at (work.Releasing (record { first = Some l; second = None }) end) (Release l) call tt tt
-      (λ next leads. subst (KnowsWorkNext st t.now tree) (sym leads) (released_leads st t.now tree (Some l) None end own_is))
-  at_releasing None second end own_is call = absurd own_is
+      (λ next leads. subst (KnowsWorkNext st t.now tree) (sym leads) (released_leads st t.now tree (Some l) None end own_is may))
+  at_releasing None second end own_is may call = absurd own_is
 
   at_rising : (h : Held) (r : Rising) → IsIn mine h.lease → IsUnder tree h.lease r.chart.tree → KnowsRising st t.now h.lease r h.deletions.ids
       → IsCall who (rising_ask r h.lease) reply s t → OutBy (work.Rising h r) (rising_ask r h.lease)
@@ -260,26 +274,29 @@ module _ (who : Caller) (s t : CloudState) (book : Book) (order : List Entry) (p
       risen : (u : Store) → RisesOn u t.now h.lease h.deletions.ids (rising_next r reply) → After (work.Rising h r) u t.now
       risen u leads_on next leads =
           subst (KnowsWorkNext u t.now tree) (sym leads)
-          (rising_leads u t.now tree h (rising_next r reply) under.lock_is (subst (λ (n : ℕ). StaysIn n (rising_next r reply)) under.tree_is (rising_stays_in r reply)) leads_on)
+          (rising_leads u t.now tree h (rising_next r reply) under.lock_is (subst (λ (n : ℕ). StaysIn n (rising_next r reply)) under.tree_is (rising_stays_in r reply))
+          (rising_may st t.now h.lease r h.deletions.ids k reply) leads_on)
 
   work_outcome : (w : Work) → ((x : Claim) → IsIn (claims_in w) x → IsIn mine x) → KnowsWork st t.now tree w → IsCall who (work_ask tree w) reply s t → OutBy w (work_ask tree w)
   work_outcome work.TakingTree within k call =
       quiet_at work.TakingTree (take_tree tree) call tt tt
       (λ next leads. subst (KnowsWorkNext st t.now tree) (sym leads)
-      (taken_leads st t.now tree (given_of (lock.Tree tree) reply) (given who (lock.Tree tree) 60 reply s t call)))
+      (taken_leads st t.now tree (given_of (lock.Tree tree) reply) (given who (lock.Tree tree) 60 reply s t call) (given_may (lock.Tree tree) reply)))
   work_outcome (work.GettingTree l) within k call =
       quiet_at (work.GettingTree l) (GetHeld (object.Tree tree) l) call tt tt
       (λ next leads. subst (KnowsWorkNext st t.now tree) (sym leads)
-      (got_leads book order s setting.cloud t.now tree of_tree l (got_of reply) k (λ v. held_seen who (object.Tree tree) l reply s t call v)))
+      (got_leads book order s setting.cloud t.now tree of_tree l (got_of reply) k (λ v. held_seen who (object.Tree tree) l reply s t call v) (got_may reply)))
   work_outcome (work.Receiving l root) within k call =
       quiet_at (work.Receiving l root) (Receive (queue.TreePu tree) 256) call tt tt
-      (λ next leads. received_leads book order s setting.cloud t.now tree of_tree l root k.0 k.1 (received_of reply) next (λ ms got. received_sent who tree reply s t ms call got) leads)
+      (λ next leads. received_leads book order s setting.cloud t.now tree of_tree l root k.0 k.1 (received_of reply) next (λ ms got. received_sent who tree reply s t ms call got)
+      (received_may reply) leads)
   work_outcome (work.Descending h d) within k call =
       quiet_at (work.Descending h d) (GetHeld (object.Page d.chart.tree d.page) h.lease) call tt tt (at_descending h d k.0 k.1 call)
   work_outcome (work.TakingPage h c) within k call =
       quiet_at (work.TakingPage h c) (Take (lock.Page c.chart.tree c.page) 30) call tt tt
       (λ next leads. subst (KnowsWorkNext st t.now tree) (sym leads)
-      (page_leads st t.now tree h c (given_of (lock.Page c.chart.tree c.page) reply) (given who (lock.Page c.chart.tree c.page) 30 reply s t call) k.0 k.1))
+      (page_leads st t.now tree h c (given_of (lock.Page c.chart.tree c.page) reply) (given who (lock.Page c.chart.tree c.page) 30 reply s t call) k.0
+      (given_may (lock.Page c.chart.tree c.page) reply) k.1))
   work_outcome (work.Folding h f) within k call = at_leaf h f k.0 (within h.lease (suc zero, refl)) k.1 call
   work_outcome (work.ReleasingPage h l o) within k call =
       quiet_at (work.ReleasingPage h l o) (Release l) call tt tt
@@ -287,7 +304,7 @@ module _ (who : Caller) (s t : CloudState) (book : Book) (order : List Entry) (p
   work_outcome (work.LeftPage h o) within k call = absurd k
   work_outcome (work.Rising h r) within k call = at_rising h r (within h.lease (zero, refl)) k.0 k.1 call
   work_outcome (work.Deleting h applied) within k call = at_deleting h applied k.0 k.1 h.deletions.ids refl k.2 call
-  work_outcome (work.Releasing held end) within k call = at_releasing held.first held.second end k call
+  work_outcome (work.Releasing held end) within k call = at_releasing held.first held.second end k.0 k.1 call
   work_outcome work.Finished within k call = absurd k
 
 -- ---- a call of a checkpoint
@@ -305,4 +322,11 @@ making_outcome who s t book order parts leases m reply setting within knows call
         let same : m.tree ≡ n.tree = sym leads.0.0 in
         record { tree = subst IsTree same knows.tree; work = subst (λ (tree : ℕ). KnowsWork u t.now tree n.work) same (k (Goes n.work) leads.1) }
     after u k (Ends n x) leads = tt
-    after u k (Stops n trouble) leads = tt
+    after u k (Stops n trouble) leads = k (Stops n.work trouble) leads.1
+
+-- why it stops, whatever was answered: for no page, no fence and no way that is broken
+pub making_stops : (who : Caller) (s t : CloudState) (book : Book) (order : List Entry) (parts : Parts) (leases : List Claim) (m : Making) (reply : Answer)
+    → Setting book order s t.now parts who.session leases → ((x : Claim) → IsIn (leases_of_making m) x → IsIn leases x) → KnowsMaking (store_of book order s) s.now m
+    → IsCall who (making_ask m) reply s t → (n : Making) (trouble : Trouble) → MakingLeads m reply (Stops n trouble) → MayStop trouble
+making_stops who s t book order parts leases m reply setting within knows call n trouble leads =
+    (making_outcome who s t book order parts leases m reply setting within knows call).knows.knows (Stops n trouble) leads

@@ -1,5 +1,5 @@
 -- What an opening or a recovery knows of a cloud at each of its calls.
-use Rattle.std.specs.Prelude.{ℕ, ◌≡◌, ◌<◌, ◌≤◌, Bool, true, List, [], ◌∷◌, ◌++◌, length, take, Option, Some, None}
+use Rattle.std.specs.Prelude.{ℕ, ◌≡◌, ◌<◌, ◌≤◌, Bool, true, List, [], ◌∷◌, ◌++◌, length, take, Option, Some, None, Result, Ok, Err}
 use Rattle.std.specs.List.{AllByRecursion}
 use Rattle.cloud_facts.specs.Calls.Acting.{KnowsHome, of_option}
 use Rattle.cloud_facts.specs.Calls.Others.{WasSentOn}
@@ -7,6 +7,8 @@ use Rattle.cloud_trait.specs.Claim.{Claim}
 use Rattle.cloud_trait.specs.Machine.{Goes, Ends, Stops}
 use Rattle.db_base.specs.Ids.{IsClient}
 use Rattle.db_base.specs.declared.names.Lock.TheVariants as lock
+use Rattle.db_base.specs.declared.trouble.Trouble.{Trouble}
+use Rattle.db_base.specs.declared.trouble.Trouble.TheVariants as trouble
 use Rattle.head_codec.specs.Head.{next_head}
 use Rattle.head_codec.specs.declared.head.Head.{Head}
 use Rattle.cloud_facts.specs.Homes.Homes.{Opening, Part, Away, Opens}
@@ -14,6 +16,7 @@ use Rattle.cloud_facts.specs.Lefts.Left.{IsCopied}
 use Rattle.log_codec.specs.declared.record.AtomicRec.{AtomicRec}
 use Rattle.recover_run.specs.declared.home.Home.{Home}
 use Rattle.recover_run.specs.declared.items.AtomicItem.{AtomicItem}
+use Rattle.recover_run.specs.declared.stage.RecoverAnswer.{RecoverAnswer}
 use Rattle.recover_run.specs.declared.stage.Stage.{Stage}
 use Rattle.recover_run.specs.declared.stage.Stage.TheVariants.{ReleasingOld, Taking, Getting, Receiving, Deleting, Sending, Putting, Clearing, Sweeping, Releasing, Finished}
 use Rattle.recover_run.specs.declared.wanted.Wanted.{Wanted}
@@ -102,6 +105,28 @@ pub record HasPut (st : Store) (now client : ℕ) (former lease : Option Claim) 
   pub home : KnowsHome st now client held.now head 0 part
   pub later : w.epoch < head.epoch
 
+-- ---- why it stops
+
+-- a call failed or came too late, the lease was held, records were not received, the last epoch is reached, or memory ran out: no head and no
+-- message is damaged
+abbrev pub MayStop : Trouble → Type 0
+MayStop trouble.Failed = Unit {0}
+MayStop (trouble.Late end now) = Unit {0}
+MayStop (trouble.Busy lock until) = Unit {0}
+MayStop (trouble.Waiting have need) = Unit {0}
+MayStop (trouble.Exhausted what) = Unit {0}
+MayStop trouble.Memory = Unit {0}
+MayStop t = ⊥
+
+-- once its lease is given back it ends, or stops so
+abbrev pub EndsWell : Result RecoverAnswer Trouble → Type 0
+EndsWell (Ok a) = Unit {0}
+EndsWell (Err t) = MayStop t
+
+abbrev pub MayEnd : Option (Result RecoverAnswer Trouble) → Type 0
+MayEnd (Some ending) = EndsWell ending
+MayEnd None = Unit {0}
+
 -- ---- by the stage
 
 abbrev pub KnowsGathering : Store → Recovery → Part → Type 0
@@ -127,7 +152,7 @@ KnowsOpeningAt Sending st now r part = KnowsSending st r part r.sent
 KnowsOpeningAt Putting st now r part = KnowsSending st r part (length r.gathered.kept)
 KnowsOpeningAt Clearing st now r part = KnowsPut st now r part × AllByRecursion (IsMessageThat st r.client (is_past r.wanted)) r.ids
 KnowsOpeningAt Sweeping st now r part = KnowsPut st now r part
-KnowsOpeningAt Releasing st now r part = HasLease r.client r.former r.lease × (part ≡ Away)
+KnowsOpeningAt Releasing st now r part = HasLease r.client r.former r.lease × (part ≡ Away) × MayEnd r.ending
 KnowsOpeningAt Finished st now r part = ⊥
 
 pub record KnowsOpening (st : Store) (now : ℕ) (r : Recovery) (part : Part) : Type 0 where

@@ -1,5 +1,5 @@
 -- What a checkpoint of a tree of any height knows where it stands, and wherever an answer leads.
-use Rattle.std.specs.Prelude.{ℕ, ◌≡◌, List, [], ◌++◌, map, Option, Some, None}
+use Rattle.std.specs.Prelude.{ℕ, ◌≡◌, List, [], ◌++◌, map, Option, Some, None, Result, Ok, Err}
 use Rattle.cloud_trait.specs.declared.answer.Answer.{Answer}
 use Rattle.cloud_trait.specs.declared.turn.CkptAnswer.{CkptAnswer}
 use Rattle.cloud_trait.specs.Ask.{Ask, PutHeld}
@@ -8,6 +8,8 @@ use Rattle.cloud_trait.specs.Machine.{Next, Goes, Ends, Stops}
 use Rattle.db_base.specs.Ids.{IsTree}
 use Rattle.db_base.specs.declared.names.Lock.TheVariants as lock
 use Rattle.db_base.specs.declared.names.ObjName.TheVariants as object
+use Rattle.db_base.specs.declared.trouble.Trouble.{Trouble}
+use Rattle.db_base.specs.declared.trouble.Trouble.TheVariants as trouble
 use Rattle.history.specs.Audited.{Audited, applied_entry}
 use Rattle.session_facts.specs.Runs.Runs.{MayDelete}
 use Rattle.cloud_facts.specs.Book.Tally.{Store}
@@ -43,6 +45,22 @@ HoldsLast tree (Some l) None = OfTree tree l
 HoldsLast tree (Some l) (Some leaf) = OfTree tree l × OfPage tree leaf
 HoldsLast tree None second = ⊥
 
+-- ---- why it stops
+
+-- a call failed or came too late, a lock was held, a counter stands at its last value, or memory ran out: no page, no fence and no way is broken
+abbrev pub MayStop : Trouble → Type 0
+MayStop trouble.Failed = Unit {0}
+MayStop (trouble.Late end now) = Unit {0}
+MayStop (trouble.Busy lock until) = Unit {0}
+MayStop (trouble.Exhausted what) = Unit {0}
+MayStop trouble.Memory = Unit {0}
+MayStop t = ⊥
+
+-- it ends, or it stops so
+abbrev pub EndsWell : Result CkptAnswer Trouble → Type 0
+EndsWell (Ok x) = Unit {0}
+EndsWell (Err t) = MayStop t
+
 -- ---- where it stands
 
 -- where it goes from a leaf
@@ -62,7 +80,7 @@ KnowsWork st now tree (ReleasingPage h l o) = OfPage tree l × KnowsOnward st no
 KnowsWork st now tree (LeftPage h o) = ⊥
 KnowsWork st now tree (Rising h r) = IsUnder tree h.lease r.chart.tree × KnowsRising st now h.lease r h.deletions.ids
 KnowsWork st now tree (Deleting h applied) = OfTree tree h.lease × MayDelete st tree 0 h.deletions.ids × HasIds h.deletions.ids
-KnowsWork st now tree (Releasing held end) = HoldsLast tree held.first held.second
+KnowsWork st now tree (Releasing held end) = HoldsLast tree held.first held.second × EndsWell end
 KnowsWork st now tree Finished = ⊥
 
 pub record KnowsMaking (st : Store) (now : ℕ) (m : Making) : Type 0 where
@@ -74,12 +92,12 @@ pub record KnowsMaking (st : Store) (now : ℕ) (m : Making) : Type 0 where
 abbrev pub KnowsWorkNext : Store → ℕ → ℕ → Step → Type 0
 KnowsWorkNext u now tree (Goes w) = KnowsWork u now tree w
 KnowsWorkNext u now tree (Ends w x) = Unit {0}
-KnowsWorkNext u now tree (Stops w t) = Unit {0}
+KnowsWorkNext u now tree (Stops w t) = MayStop t
 
 abbrev pub KnowsMakingNext : Store → ℕ → Next Making CkptAnswer → Type 0
 KnowsMakingNext u now (Goes n) = KnowsMaking u now n
 KnowsMakingNext u now (Ends n x) = Unit {0}
-KnowsMakingNext u now (Stops n t) = Unit {0}
+KnowsMakingNext u now (Stops n t) = MayStop t
 
 abbrev pub KnowsAfter : Making → Answer → Store → ℕ → Type 0
 KnowsAfter m reply u now = (next : Next Making CkptAnswer) → MakingLeads m reply next → KnowsMakingNext u now next

@@ -1,5 +1,9 @@
 use Rattle.world_core.proofs.EveryLine.{stands_after}
+use Rattle.world_core.proofs.Sound.{sound_after}
 use Rattle.world_core.proofs.world.World.event.Goals as goal
 
 pub returns-clause-stands : goal.returns-clause-stands
 returns-clause-stands g c = stands_after _ _ _ _ _ _ _ c.handle.ensures.handled
+
+pub returns-clause-sound : goal.returns-clause-sound
+returns-clause-sound g c = sound_after _ _ _ _ _ _ _ c.handle.ensures.handled

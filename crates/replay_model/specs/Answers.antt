@@ -1,0 +1,38 @@
+-- With which troubles a reply is right, by how its session stands: none that only damage could cause.
+use Rattle.std.specs.Prelude.{ℕ}
+use Rattle.client_session.specs.declared.work.Work.{Work}
+use Rattle.session_facts.specs.CommitRuns.Stopping.{MayStop as MayStopCommit, MayEnd}
+use Rattle.db_base.specs.declared.trouble.Trouble.{Trouble}
+use Rattle.session_facts.specs.Openings.Opening.{MayStop as MayStopOpening}
+use Rattle.session_facts.specs.PageCheckpoints.Checkpoint.{MayStop as MayStopPage}
+use Rattle.replay_meaning.specs.Standing.{Task, Opening, Closing, Renewing, Committing, Reading, Scanning, Paging, Folding, Posture, Closed, Idle, Broken, Working}
+use Rattle.reply_text.specs.declared.reply.Reply.{Reply}
+use Rattle.reply_text.specs.declared.reply.Reply.TheVariants as reply
+use Rattle.session_facts.specs.Sessions.Answering.{MayRefuse, MaySettle, HoldsLease}
+use Rattle.session_facts.specs.TreeCheckpoints.Checkpoint.{MayStop as MayStopTree}
+use Rattle.session_facts.specs.Walks.Walks.{MayStop as MayStopWalk}
+
+-- by what a session works on; that a page is absent or no leaf is answered for the page alone that the line named, and a stale page to reads
+abbrev pub MayFail : Task → Trouble → Type 0
+MayFail Opening t = MayStopOpening t
+MayFail Closing t = MayRefuse t
+MayFail Renewing t = MayRefuse t
+MayFail (Committing changes) t = MayStopCommit t
+MayFail (Reading tree key) t = MayStopWalk t
+MayFail (Scanning tree from to) t = MayStopWalk t
+MayFail (Paging tree page) t = MayStopPage page t
+MayFail (Folding tree) t = MayStopTree t
+
+-- by how it stands; one that is at no work is answered with none
+abbrev pub MayTrouble : Posture → Trouble → Type 0
+MayTrouble (Working task) t = MayFail task t
+MayTrouble Closed t = ⊥
+MayTrouble Idle t = ⊥
+MayTrouble Broken t = ⊥
+
+-- a reply to a session that stood so, and has this in hand behind it: a commit is refused with no trouble of damage while its lease lasts
+abbrev pub IsSoundReply : Posture → ℕ → Work → Reply → Type 0
+IsSoundReply posture now work (reply.Trouble t) = MayTrouble posture t
+IsSoundReply posture now work (reply.Commit a) = MayEnd (HoldsLease now work) a
+IsSoundReply posture now work (reply.NotSettled t) = MaySettle t
+IsSoundReply posture now work reply = Unit {0}

@@ -1,0 +1,129 @@
+-- Why a settling stops: for no object that is damaged, for no fence and for no stale read.
+use Rattle.std.proofs.Common.{◌≡◌, ◌+◌, ◌==◌, ℕ, Bool, true, false, cond, List, [], ◌∷◌, Option, Some, None, refl, sym, subst}
+use Rattle.std.specs.Prelude.{nat_lt}
+use Rattle.cloud_facts.specs.Calls.Acting.{Setting}
+use Rattle.cloud_facts.specs.Calls.Call.{IsCall}
+use Rattle.cloud_trait.specs.declared.answer.Answer.{Answer}
+use Rattle.cloud_trait.specs.declared.turn.CkptAnswer.{CkptAnswer}
+use Rattle.cloud_trait.specs.Caller.{Caller}
+use Rattle.cloud_trait.specs.Machine.{Next, Goes, Ends, Stops}
+use Rattle.cloud_trait.specs.State.{CloudState}
+use Rattle.db_base.specs.declared.trouble.Trouble.{Trouble}
+use Rattle.db_base.specs.declared.trouble.Trouble.TheVariants as trouble
+use Rattle.cloud_facts.specs.Homes.Homes.{Part, Parts}
+use Rattle.leaf_view.specs.Lookup.{page_at}
+use Rattle.session_facts.specs.Openings.Opening.{MayStop as MayStopOpening}
+use Rattle.session_facts.proofs.Openings.Stopping.{opening_stops}
+use Rattle.page_ckpt.specs.Paging.{Paging, PagingLeads}
+use Rattle.session_facts.specs.PageCheckpoints.Checkpoint.{MayStop as MayStopPage}
+use Rattle.session_facts.proofs.PageCheckpoints.Steps.{paging_stops}
+use Rattle.recover_run.specs.declared.stage.RecoverAnswer.{RecoverAnswer}
+use Rattle.recover_run.specs.Ids.{new_ids}
+use Rattle.recover_run.specs.Recovery.{Recovery, recovery_next}
+use Rattle.report_types.specs.declared.entry.Entry.{Entry}
+use Rattle.session_facts.specs.Sessions.Answering.{MaySettle}
+use Rattle.session_facts.specs.Settlings.Settling.{KnowsAtWork, KnowsSettling, leases_at_work, leases_of_settling}
+use Rattle.settle_run.specs.declared.part.Part.{Part as AtWork}
+use Rattle.settle_run.specs.declared.part.Part.TheVariants.{Client, Tree, Page}
+use Rattle.settle_run.specs.Parts.{part_ask, part_received, part_of_tree, recovers, makes, pages, PartLeads}
+use Rattle.settle_run.specs.Settling.{Settling, Step, settle_ask, begins, to_page, behind_tree, is_visited, goes_right, goes_on, passed_with, passed, ended_by, counted, with_part, moved, SettleLeads}
+use Rattle.cloud_facts.specs.Book.Book.{Book}
+use Rattle.cloud_facts.specs.Book.Tally.{Store}
+use Rattle.cloud_facts.specs.Tellings.Told.{store_of}
+use Rattle.tree_ckpt.specs.Making.{Making, MakingLeads}
+use Rattle.session_facts.specs.TreeCheckpoints.Checkpoint.{MayStop as MayStopTree}
+use Rattle.session_facts.proofs.TreeCheckpoints.Steps.{making_stops}
+
+-- ---- where a settling goes on
+
+abbrev StepMay : Step → Type 0
+StepMay (Goes s) = Unit {0}
+StepMay (Ends s x) = Unit {0}
+StepMay (Stops s t) = MaySettle t
+
+tree_may : (s : Settling) (tree : ℕ) → StepMay (behind_tree s tree)
+tree_may s tree = on (nat_lt tree 16)
+  where
+    on : (b : Bool) → (let over : Step = Ends s (record { calls = s.calls }) in StepMay (cond b (begins (record s { visited = [] }) (part_of_tree (tree + 1))) over))
+    on true = tt
+    on false = tt
+
+right_may : (s : Settling) (tree : ℕ) (o : Option ℕ) → StepMay (goes_right s tree o)
+right_may s tree None = tree_may s tree
+right_may s tree (Some page) = on (is_visited s page)
+  where
+    on : (b : Bool) → StepMay (cond b (Stops s (trouble.Loop page)) (to_page s tree page))
+    on true = tt
+    on false = tt
+
+on_may : (s : Settling) (w : AtWork) → StepMay (goes_on s w)
+on_may s (Client client m) = tt
+on_may s (Tree tree m) = tt
+on_may s (Page tree page m) = right_may s tree (page_at m.home.right)
+
+passed_may : (s : Settling) (ids : List ℕ) → StepMay (passed_with s ids)
+passed_may s [] = on_may s s.part
+passed_may s (id ∷ ids) = tt
+
+ended_may : (s : Settling) (left : ℕ) → StepMay (ended_by s left)
+ended_may s left = on (left == 0)
+  where
+    on : (b : Bool) → StepMay (cond b (passed s) (Stops s trouble.Failed))
+    on true = passed_may s (new_ids s.known (part_received s.part))
+    on false = tt
+
+-- ---- the part at work
+
+abbrev PartMay : Next AtWork ℕ → Type 0
+PartMay (Goes w) = Unit {0}
+PartMay (Ends w left) = Unit {0}
+PartMay (Stops w t) = MaySettle t
+
+moved_may : (s : Settling) (x : Next AtWork ℕ) → PartMay x → StepMay (moved s x)
+moved_may s (Goes w) may = tt
+moved_may s (Ends w left) may = ended_may (counted (with_part s w)) left
+moved_may s (Stops w t) may = may
+
+of_opening : (t : Trouble) → MayStopOpening t → MaySettle t
+of_opening (trouble.Damaged place offset) may = absurd may
+of_opening (trouble.BadFence page expected found) may = absurd may
+of_opening (trouble.Stale page least got) may = absurd may
+of_opening t may = tt
+
+of_tree : (t : Trouble) → MayStopTree t → MaySettle t
+of_tree (trouble.Damaged place offset) may = absurd may
+of_tree (trouble.BadFence page expected found) may = absurd may
+of_tree (trouble.Stale page least got) may = absurd may
+of_tree t may = tt
+
+of_page : (page : ℕ) (t : Trouble) → MayStopPage page t → MaySettle t
+of_page page (trouble.Damaged place offset) may = absurd may
+of_page page (trouble.BadFence named expected found) may = absurd may
+of_page page (trouble.Stale named least got) may = absurd may
+of_page page t may = tt
+
+module _ (who : Caller) (s t : CloudState) (book : Book) (order : List Entry) (parts : Parts) (reply : Answer) where
+  part_may : (w : AtWork) → Setting book order s t.now parts who.session (leases_at_work w) → KnowsAtWork (store_of book order s) s.now w (parts who.session) → IsCall who (part_ask w) reply s t
+      → (x : Next AtWork ℕ) → PartLeads w reply x → PartMay x
+  part_may (Client client m) setting k call x (step, leads, to) = subst PartMay (sym to) (on step leads)
+    where
+      on : (step : Next Recovery RecoverAnswer) → recovery_next m reply ≡ step → PartMay (recovers client step)
+      on (Goes n) leads = tt
+      on (Ends n a) leads = tt
+      on (Stops n q) leads = of_opening q (opening_stops (store_of book order s) s.now m (parts who.session) reply k.knows n q leads)
+  part_may (Tree tree m) setting k call x (step, leads, to) = subst PartMay (sym to) (on step leads)
+    where
+      on : (step : Next Making CkptAnswer) → MakingLeads m reply step → PartMay (makes tree step)
+      on (Goes n) leads = tt
+      on (Ends n a) leads = tt
+      on (Stops n q) leads = of_tree q (making_stops who s t book order parts (leases_at_work (Tree tree m)) m reply setting (λ y is. is) k.knows call n q leads)
+  part_may (Page tree page m) setting k call x (step, leads, to) = subst PartMay (sym to) (on step leads)
+    where
+      on : (step : Next Paging CkptAnswer) → PagingLeads m reply step → PartMay (pages tree page step)
+      on (Goes n) leads = tt
+      on (Ends n a) leads = tt
+      on (Stops n q) leads = of_page m.page q (paging_stops who s t book order parts (leases_at_work (Page tree page m)) m reply setting k.knows call n q leads)
+
+  pub settling_stops : (m : Settling) → Setting book order s t.now parts who.session (leases_of_settling m) → KnowsSettling (store_of book order s) s.now m (parts who.session)
+      → IsCall who (settle_ask m) reply s t → (n : Settling) (k : Trouble) → SettleLeads m reply (Stops n k) → MaySettle k
+  settling_stops m setting knows call n k (x, leads, to) = subst StepMay (sym to) (moved_may m x (part_may m.part setting knows call x leads))

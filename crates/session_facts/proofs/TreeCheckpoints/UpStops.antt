@@ -1,0 +1,122 @@
+-- The way up stops for no damage: its nodes are those that were got, and read as they were.
+use Rattle.std.proofs.Common.{◌≡◌, ◌+◌, ◌-◌, ◌==◌, ◌&&◌, ◌||◌, ℕ, Bool, true, false, cond, List, length, drop, Option, Some, None, Result, Ok, Err, refl, sym, ap, subst, ◌∙◌}
+use Rattle.std.specs.Prelude.{not, nat_lt, is_some, slice_get}
+use Rattle.cloud_trait.specs.declared.answer.Answer.{Answer}
+use Rattle.cloud_trait.specs.Claim.{Claim}
+use Rattle.cloud_trait.specs.Machine.{Goes, Ends, Stops}
+use Rattle.cloud_trait.specs.Views.{done_of}
+use Rattle.db_base.specs.declared.trouble.Trouble.{Trouble}
+use Rattle.node_codec.specs.Inner.{Inner}
+use Rattle.node_codec.specs.Tree.{Tree}
+use Rattle.split_plan.specs.Sizes.{count_of}
+use Rattle.cloud_facts.specs.Book.Tally.{Store}
+use Rattle.session_facts.specs.TreeCheckpoints.Checkpoint.{MayStop}
+use Rattle.session_facts.proofs.TreeCheckpoints.Refusing.{StopsWell, IsFair, done_may, next_fair, reservation_fair}
+use Rattle.session_facts.specs.Trees.Charts.{KnowsNode, KnowsNodes}
+use Rattle.session_facts.specs.Trees.Risings.{PutsOf, KnowsRising}
+use Rattle.session_facts.proofs.Trees.RisingGrounds.{get_dropped}
+use Rattle.tree_parts.proofs.Reading.{inner_is}
+use Rattle.tree_parts.specs.declared.kept.KeptNode.{KeptNode}
+use Rattle.tree_parts.specs.declared.link.Link.{Link as Found}
+use Rattle.tree_parts.specs.declared.reserve.Reserved.{Reserved}
+use Rattle.tree_parts.specs.Placing.{has_nothing}
+use Rattle.tree_parts.specs.Read.{tree_held, inner_read}
+use Rattle.tree_parts.specs.Reserve.{version_spent, pages_spent, next_tree, reservation}
+use Rattle.tree_rising.specs.declared.node.NodePlan.{NodePlan}
+use Rattle.tree_rising.specs.declared.rising.Rising.{Rising}
+use Rattle.tree_rising.specs.declared.root.RootPlan.{RootPlan}
+use Rattle.tree_rising.specs.Nodes.{touched_at, with_links, planned_by, planned, planned_of, linked_by, node_plan}
+use Rattle.tree_rising.specs.Rising.{put_node, plan_of, last_plan, put_root, next_touched, touched_node, rise_at, rise, landed, after_put, put_landed, risen_by, rising_next}
+use Rattle.tree_rising.specs.Root.{risen_by as root_risen, raised_root, lowered, cut_at, cut_by, cut_behind, root_cut, uncut, root_plan}
+
+-- ---- the plan of a node
+
+by_fair : (page : ℕ) (n : Inner) (r : Result Reserved Trouble) → IsFair r → IsFair (planned_by page n r)
+by_fair page n (Ok r) may = tt
+by_fair page n (Err t) may = may
+
+linked_fair : (root : Tree) (page : ℕ) (n : Inner) (links : List Found) → IsFair (planned_of root page (linked_by links (Ok n)))
+linked_fair root page n links = on (n.version == 18446744073709551615)
+  where
+    on : (b : Bool)
+        → (let risen : Inner = record n { version = n.version + 1; entries = with_links n links n.entries } in IsFair (planned_of root page (cond b (Err version_spent) (Ok risen))))
+    on true = tt
+    on false =
+        let risen : Inner = record n { version = n.version + 1; entries = with_links n links n.entries } in
+        by_fair page risen (reservation root page (count_of (length risen.entries) - 1)) (reservation_fair root page (count_of (length risen.entries) - 1))
+
+node_fair : (st : Store) (now : ℕ) (lease : Claim) (tree : ℕ) (root : Tree) (kept : KeptNode) (links : List Found) → KnowsNode st now lease tree kept → IsFair (node_plan root tree kept links)
+node_fair st now lease tree root kept links k =
+    subst (λ (x : Result Inner Trouble). IsFair (planned_of root kept.page (linked_by links x))) (inner_is tree kept.page kept.bytes k.inner k.spells)
+    (linked_fair root kept.page k.inner links)
+
+-- ---- that of the tree object
+
+cut_fair : (put : Option (List ℕ)) (count : ℕ) (t : Result Tree Trouble) → IsFair t → IsFair (cut_by put count t)
+cut_fair put count (Err f) may = may
+cut_fair put count (Ok t) may = on (nat_lt 18446744073709551615 (t.next + count))
+  where
+    on : (b : Bool) → (let kept : Result RootPlan Trouble = Ok (lowered put (record t { next = t.next + count }) t.next) in IsFair (cond b (Err pages_spent) kept))
+    on true = tt
+    on false = tt
+
+behind_fair : (t : Tree) (r : Result Reserved Trouble) → IsFair r → IsFair (cut_behind t r)
+behind_fair t (Ok r) may = cut_fair r.put (count_of (length t.entries)) (next_tree t) (next_fair t)
+behind_fair t (Err f) may = may
+
+root_fair : (root t : Tree) → IsFair (root_plan root t)
+root_fair root t = on (nat_lt 64 (length t.entries) && nat_lt root.level 255)
+  where
+    on : (b : Bool) → IsFair (cond b (root_cut root t) (Ok (uncut t)))
+    on true = behind_fair t (reservation root 1 (count_of (length t.entries))) (reservation_fair root 1 (count_of (length t.entries)))
+    on false = tt
+
+last_fair : (r : Rising) → IsFair (last_plan r)
+last_fair r = on (next_tree (tree_held r.chart.root)) (next_fair (tree_held r.chart.root))
+  where
+    on : (t : Result Tree Trouble) → IsFair t → IsFair (plan_of (tree_held r.chart.root) (root_risen (tree_held r.chart.root).level r.chart.links r.chart.run.top t))
+    on (Ok t) may = root_fair (tree_held r.chart.root) _
+    on (Err f) may = may
+
+-- ---- level by level
+
+node_may : (r : Rising) (next level : ℕ) (p : Result NodePlan Trouble) → IsFair p → StopsWell (put_node r next level p)
+node_may r next level (Ok p) may = tt
+node_may r next level (Err t) may = may
+
+root_may : (r : Rising) (p : Result RootPlan Trouble) → IsFair p → StopsWell (put_root r p)
+root_may r (Ok p) may = tt
+root_may r (Err t) may = may
+
+-- the nodes from here on were got
+pub rise_may : (st : Store) (now : ℕ) (lease : Claim) (r : Rising) → KnowsNodes st now lease r.chart.tree (drop r.at r.chart.nodes) → StopsWell (rise r)
+rise_may st now lease r nodes = on (touched_node r) refl
+  where
+    on : (o : Option KeptNode) → touched_node r ≡ o → StopsWell (rise_at r (next_touched r) o)
+    on None e = root_may r (last_plan r) (last_fair r)
+    on (Some kept) e =
+        let place : ℕ = touched_at r.chart.tree r.chart.links (drop r.at r.chart.nodes) in
+        node_may r (next_touched r + 1) (kept.level + 1) (node_plan (tree_held r.chart.root) r.chart.tree kept r.chart.links)
+        (node_fair st now lease r.chart.tree (tree_held r.chart.root) kept r.chart.links (nodes kept (place, get_dropped r.at place r.chart.nodes kept e)))
+
+-- ---- the puts
+
+pub rising_may : (st : Store) (now : ℕ) (lease : Claim) (r : Rising) (ids : List ℕ) → KnowsRising st now lease r ids → (reply : Answer) → StopsWell (rising_next r reply)
+rising_may st now lease r ids k reply = on (done_of reply) (done_may reply)
+  where
+    further : (b : Bool) (last : Option (List ℕ)) → PutsOf st now lease r last → StopsWell (cond (not b || is_some last) (Goes (landed r)) (rise (landed r)))
+    further b (Some bytes) puts = sent (not b)
+      where
+        sent : (c : Bool) → StopsWell (cond (c || true) (Goes (landed r)) (rise (landed r)))
+        sent true = tt
+        sent false = tt
+    further true None puts = rise_may st now lease (landed r) puts.nodes
+    further false None puts = tt
+
+    put : (b : Bool) → StopsWell (cond b (Ends r tt) (after_put (landed r)))
+    put true = tt
+    put false = further (has_nothing (landed r).placing) r.last k.puts
+
+    on : (g : Result (Unit {0}) Trouble) → ((t : Trouble) → g ≡ Err t → MayStop t) → StopsWell (risen_by r g)
+    on (Ok x) refused = put (has_nothing r.placing)
+    on (Err t) refused = refused t refl

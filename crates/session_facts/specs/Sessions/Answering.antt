@@ -1,0 +1,46 @@
+-- With which troubles a session may be answered, by what it has in hand: none that only damage could cause.
+use Rattle.std.specs.Prelude.{ℕ, ◌≡◌}
+use Rattle.client_session.specs.declared.work.Work.{Work}
+use Rattle.client_session.specs.declared.work.Work.TheVariants.{Closed, Idle, Opening, Committing, Reading, Scanning, Folding, Paging, Closing, Renewing, Settling, Broken}
+use Rattle.cloud_trait.specs.Claim.{Lasts}
+use Rattle.session_facts.specs.CommitRuns.Stopping.{MayStop as MayStopCommit}
+use Rattle.db_base.specs.declared.trouble.Trouble.{Trouble}
+use Rattle.db_base.specs.declared.trouble.Trouble.TheVariants as trouble
+use Rattle.session_facts.specs.Openings.Opening.{MayStop as MayStopOpening}
+use Rattle.session_facts.specs.PageCheckpoints.Checkpoint.{MayStop as MayStopPage}
+use Rattle.recover_run.specs.declared.home.Home.{Home}
+use Rattle.session_facts.specs.TreeCheckpoints.Checkpoint.{MayStop as MayStopTree}
+use Rattle.session_facts.specs.Walks.Walks.{MayStop as MayStopWalk}
+
+-- the one call of a close or a renewal failed or came too late, or memory ran out
+abbrev pub MayRefuse : Trouble → Type 0
+MayRefuse trouble.Failed = Unit {0}
+MayRefuse (trouble.Late end now) = Unit {0}
+MayRefuse trouble.Memory = Unit {0}
+MayRefuse t = ⊥
+
+-- a settling stops for no object that is damaged, for no fence and for no stale read
+abbrev pub MaySettle : Trouble → Type 0
+MaySettle (trouble.Damaged place offset) = ⊥
+MaySettle (trouble.BadFence page expected found) = ⊥
+MaySettle (trouble.Stale page least got) = ⊥
+MaySettle t = Unit {0}
+
+-- by what is at work
+abbrev pub MayAnswer : Work → Trouble → Type 0
+MayAnswer (Opening r) t = MayStopOpening t
+MayAnswer (Committing r) t = MayStopCommit t
+MayAnswer (Reading home w) t = MayStopWalk t
+MayAnswer (Scanning home m) t = MayStopWalk t
+MayAnswer (Folding home m) t = MayStopTree t
+MayAnswer (Paging home p) t = MayStopPage p.page t
+MayAnswer (Closing l) t = MayRefuse t
+MayAnswer (Renewing home) t = MayRefuse t
+MayAnswer (Settling m) t = MaySettle t
+MayAnswer Closed t = ⊥
+MayAnswer (Idle home) t = ⊥
+MayAnswer (Broken l) t = ⊥
+
+-- a client is open, and its lease lasts
+abbrev pub HoldsLease : ℕ → Work → Type 0
+HoldsLease now work = (home : Home) × (work ≡ Idle home) × Lasts now home.lease

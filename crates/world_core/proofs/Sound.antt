@@ -1,0 +1,385 @@
+-- Every line is answered soundly: no trouble is replied that only damage could cause.
+use Rattle.std.proofs.Common.{◌≡◌, ◌+◌, ◌⊎◌, inl, inr, ℕ, List, [], ◌∷◌, ◌++◌, length, Bool, true, false, Option, Some, None, Result, Ok, Err, refl, sym, ap, subst, ◌∙◌}
+use Rattle.client_session.specs.Session.{Acting, StepsSession, Begins, value_of, items_of}
+use Rattle.client_session.specs.declared.answer.Answer.{Answer}
+use Rattle.client_session.specs.declared.answer.Answer.TheVariants as answer
+use Rattle.client_session.specs.declared.answer.Begun.{Begun}
+use Rattle.client_session.specs.declared.answer.Begun.TheVariants.{Working, Answered}
+use Rattle.client_session.specs.declared.op.Op.{Op}
+use Rattle.client_session.specs.declared.op.Op.TheVariants as op
+use Rattle.client_session.specs.declared.work.Work.{Work}
+use Rattle.client_session.specs.declared.work.Work.TheVariants as work
+use Rattle.cloud_trait.specs.Caller.{Caller}
+use Rattle.cloud_trait.specs.Seen.{Seen}
+use Rattle.cloud_trait.specs.State.{CloudState}
+use Rattle.cloud_trait.specs.declared.turn.Turn.{Turn}
+use Rattle.cloud_trait.specs.declared.turn.Turn.TheVariants.{More, Ended, Stopped}
+use Rattle.session_facts.specs.CommitRuns.Stopping.{MayEnd}
+use Rattle.db_base.specs.declared.change.Change.{Change}
+use Rattle.db_base.specs.declared.change.Change.TheVariants.{Insert, Update, Delete}
+use Rattle.db_base.specs.declared.refusal.Refused.{Refused}
+use Rattle.db_base.specs.declared.refusal.Refused.TheVariants as refused
+use Rattle.db_base.specs.declared.trouble.CommitAnswer.{CommitAnswer}
+use Rattle.db_base.specs.declared.trouble.Trouble.{Trouble}
+use Rattle.db_base.specs.declared.trouble.Trouble.TheVariants as trouble
+use Rattle.db_base.specs.declared.wish.Wish.{Wish}
+use Rattle.db_base.specs.declared.wish.Wish.TheVariants.{Plain}
+use Rattle.event_text.specs.declared.event.Event.{Event}
+use Rattle.event_text.specs.declared.event.Event.TheVariants as event
+use Rattle.replay_meaning.specs.Standing.{Line, Posture, session_of, standing}
+use Rattle.replay_model.specs.Answers.{MayTrouble, IsSoundReply}
+use Rattle.replay_model.specs.Facts.{session_at, CloudHolds}
+use Rattle.replay_model.proofs.Answering.{may_by_lines}
+use Rattle.replay_model.proofs.CallKinds.{IsSettling, IsSettlersRow}
+use Rattle.replay_model.proofs.LineLemmas.{line_of}
+use Rattle.replay_model.proofs.SettlerLemmas.{settler_row}
+use Rattle.replay_model.proofs.Steps.{CallLeaves, CallLeavesUpto, wish_holds}
+use Rattle.reply_text.specs.declared.reply.Reply.{Reply}
+use Rattle.reply_text.specs.declared.reply.Reply.TheVariants as reply
+use Rattle.session_facts.specs.Sessions.Answering.{MaySettle, MayAnswer, HoldsLease}
+use Rattle.session_facts.specs.Sessions.Sessions.{Sessions, SessionsStand, IsRightOp}
+use Rattle.session_facts.proofs.Sessions.BeginStops.{begin_stops, begin_ends}
+use Rattle.session_facts.proofs.Sessions.Stopping.{session_stops, session_ends}
+use Rattle.cloud_facts.specs.Book.Tally.{at}
+use Rattle.cloud_facts.proofs.Book.Names.{at_same}
+use Rattle.world_core.specs.declared.asked.Asked.{Asked}
+use Rattle.world_core.specs.declared.asked.Asked.TheVariants.{Session, Wait, Report, Settle}
+use Rattle.world_core.specs.declared.asked.Request.{Request}
+use Rattle.world_core.specs.declared.asked.Request.TheVariants.{Begin, Note, Abort, Step, Run, Crash}
+use Rattle.world_core.specs.declared.world.World.{World}
+use Rattle.world_core.specs.declared.world.WorldFault.{WorldFault}
+use Rattle.world_core.specs.Asked.{Asks, OfSession, IsOpening, IsReading, IsScanning, IsPaging, IsFolding, IsInsert, IsUpdate, IsDelete, IsNoted, IsStep, bound_of}
+use Rattle.world_core.specs.Handled.{Declines, BeginsOp, MakesNoCall, StepsLooked, MakesStep, Runs, SettlesOn, Settles, Crashes, Does, Answers, Handled}
+use Rattle.world_core.specs.Replying.{declined, done_reply, unsettled_reply, value_reply, RepliesTo, RepliesSettled, RepliesBegun, RepliesTurn}
+use Rattle.world_core.specs.Sessions.{Changes}
+use Rattle.world_core.specs.Sound.{IsSoundFor, AnswersSoundly}
+use Rattle.world_core.specs.Stands.{WorldStands}
+use Rattle.world_core.proofs.StandsLemmas.{IsUnderWay, changed_at, changed_was, way_begins, told_under, call, steps_own, went_on, no_stop, no_memory, replies_to, SettlerGoes, settler, settler_own, settler_call, settler_went, settler_begins, settled_plain}
+
+-- ---- replies
+
+-- the reply of a line
+abbrev IsOk : Reply → Result Reply WorldFault → Type 0
+IsOk r result = (let own : Result Reply WorldFault = Ok r in own ≡ result)
+
+module _ (posture : Posture) (now : ℕ) (work : Work) where
+  abbrev Sound : Reply → Type 0
+  Sound r = IsSoundReply posture now work r
+
+  refused_sound : (r : Reply) (why : Refused) → IsOk r (declined why) → Sound r
+  refused_sound r (refused.Rule rule) e = let is : r ≡ reply.Refused rule = cc in subst Sound (sym is) tt
+  refused_sound r refused.Memory e = absurd (cc)
+
+  declines_sound : (r : Reply) (why : Refused) (before after : Seen) (old new : World) → Declines why before after old new (Ok r) → Sound r
+  declines_sound r why before after old new h = refused_sound r why h.reply
+
+  value_sound : (value : Option (List ℕ)) (r : Reply) → r ≡ value_reply value → Sound r
+  value_sound None r e = subst Sound (sym e) tt
+  value_sound (Some payload) r e = subst Sound (sym e) tt
+
+  -- the reply to an answer is sound where its trouble, or the end of a commit, is right
+  answer_sound : (a : Answer) (left : Acting) (r : Reply) → RepliesTo a left (Ok r) → ((t : Trouble) → a ≡ answer.Trouble t → (t ≡ trouble.Memory → ⊥) → MayTrouble posture t)
+      → ((c : CommitAnswer) → a ≡ answer.Commit c → MayEnd (HoldsLease now work) c) → Sound r
+  answer_sound (answer.Opened epoch) left r e stops ends = let is : r ≡ reply.Opened epoch = cc in subst Sound (sym is) tt
+  answer_sound answer.Closed left r e stops ends = let is : r ≡ reply.Closed = cc in subst Sound (sym is) tt
+  answer_sound (answer.Renewed end) left r e stops ends = let is : r ≡ reply.Renewed end = cc in subst Sound (sym is) tt
+  answer_sound (answer.Done n) left r e stops ends = let is : r ≡ reply.Done n = cc in subst Sound (sym is) tt
+  answer_sound (answer.Commit c) left r e stops ends = let is : r ≡ reply.Commit c = cc in subst Sound (sym is) (ends c refl)
+  answer_sound answer.Value left r e stops ends = value_sound (value_of left) r e
+  answer_sound answer.Scan left r e stops ends = subst Sound (sym e) tt
+  answer_sound (answer.Settled s) left r e stops ends = let is : r ≡ reply.Settled s.calls = cc in subst Sound (sym is) tt
+  answer_sound (answer.Trouble t) left r e stops ends = let is = replies_to (answer.Trouble t) left r e in subst Sound (sym is.0.0) (stops t refl is.0.1)
+
+-- ---- one session
+
+-- a session that a line changes is the new one
+now_there : (number : ℕ) (Is : Acting → Acting → Type 0) (old new : List Acting) → (c : Changes number Is old new) → session_at new number ≡ c.after
+now_there number Is old new c = changed_at number Is old new c number ∙ at_same number c.after (session_at old) number refl
+
+-- the trouble of a step is right by how the lines say that its session stands
+step_stops : (lines : List Line) (who : Caller) (wish : Wish) (before after : Seen) (old new : World) (t : Trouble) → who.event ≡ length lines + 1 → IsUnderWay lines old before
+    → StepsLooked who wish before after old new (Ended (answer.Trouble t)) → MayTrouble (standing lines who.session).posture t
+step_stops lines who wish before after old new t number way p =
+    may_by_lines (session_at old.sessions who.session).work (standing lines who.session) t (way.goes.acts who.session).work
+    (session_stops who p.under p.to (record way.after { wish = wish }) left.state held.book held.order (session_at old.sessions) under left.told held.stand p.session.after t own)
+  where
+    held : CloudHolds (length lines + 1) lines (session_at old.sessions) old.audit old.blind (record way.after { wish = wish })
+    held = wish_holds (length lines + 1) lines (session_at old.sessions) old.audit old.blind way.after wish way.goes.holds
+
+    left : CallLeaves lines p.to (session_at old.sessions) who.session p.session.after new.audit new.blind
+    left = call lines who wish before after old new (Ended (answer.Trouble t)) number way p
+
+    under : p.under.state ≡ Some (record way.after { wish = wish })
+    under = told_under lines who wish before after old new (Ended (answer.Trouble t)) number way p
+
+    own : StepsSession who p.under p.to (session_at old.sessions who.session) p.session.after (Ok (Ended (answer.Trouble t)))
+    own = steps_own lines who wish before after old new (Ended (answer.Trouble t)) number way p
+
+-- and so is the end of a commit
+step_commits : (lines : List Line) (who : Caller) (wish : Wish) (before after : Seen) (old new : World) (c : CommitAnswer) (u : CloudState) → who.event ≡ length lines + 1
+    → IsUnderWay lines old before → StepsLooked who wish before after old new (Ended (answer.Commit c)) → after.state ≡ Some u
+    → MayEnd (HoldsLease u.now (session_at new.sessions who.session).work) c
+step_commits lines who wish before after old new c u number way p told =
+    subst (λ (w : Acting). MayEnd (HoldsLease u.now w.work) c) (sym (now_there who.session _ old.sessions new.sessions p.session))
+    (subst (λ (x : CloudState). MayEnd (HoldsLease x.now p.session.after.work) c) same
+    (session_ends who p.under p.to (record way.after { wish = wish }) left.state held.book held.order (session_at old.sessions) under left.told held.stand p.session.after c own))
+  where
+    held : CloudHolds (length lines + 1) lines (session_at old.sessions) old.audit old.blind (record way.after { wish = wish })
+    held = wish_holds (length lines + 1) lines (session_at old.sessions) old.audit old.blind way.after wish way.goes.holds
+
+    left : CallLeaves lines p.to (session_at old.sessions) who.session p.session.after new.audit new.blind
+    left = call lines who wish before after old new (Ended (answer.Commit c)) number way p
+
+    under : p.under.state ≡ Some (record way.after { wish = wish })
+    under = told_under lines who wish before after old new (Ended (answer.Commit c)) number way p
+
+    own : StepsSession who p.under p.to (session_at old.sessions who.session) p.session.after (Ok (Ended (answer.Commit c)))
+    own = steps_own lines who wish before after old new (Ended (answer.Commit c)) number way p
+
+    same : left.state ≡ u
+    same = state_is left.state u (sym (p.look_after.stays left.state left.told) ∙ told)
+      where
+        state_is : (x y : CloudState) → Some x ≡ Some y → x ≡ y
+        state_is x y e = cc
+
+-- the answer of a step
+step_sound : (lines : List Line) (who : Caller) (wish : Wish) (before after : Seen) (old new : World) (a : Answer) (r : Reply) (u : CloudState) → who.event ≡ length lines + 1
+    → IsUnderWay lines old before → (p : StepsLooked who wish before after old new (Ended a)) → RepliesTo a p.session.after (Ok r) → after.state ≡ Some u
+    → IsSoundReply (standing lines who.session).posture u.now (session_at new.sessions who.session).work r
+step_sound lines who wish before after old new a r u number way p replies told =
+    answer_sound (standing lines who.session).posture u.now (session_at new.sessions who.session).work a p.session.after r replies
+    (λ t is other. step_stops lines who wish before after old new t number way (subst (λ b. StepsLooked who wish before after old new (Ended b)) is p))
+    (λ c is. step_commits lines who wish before after old new c u number way (subst (λ b. StepsLooked who wish before after old new (Ended b)) is p) told)
+
+-- ---- what a line asks of a session
+
+module _ (lines : List Line) (n k : ℕ) (before after : Seen) (old new : World) (r : Reply) (t u : CloudState) (number : length lines + 1 ≡ n) (told : before.state ≡ Some t)
+    (stands : WorldStands lines old t) (told_after : after.state ≡ Some u) where
+  abbrev Sounds : Reply → Type 0
+  Sounds q = IsSoundReply (standing lines k).posture u.now (session_at new.sessions k).work q
+
+  abbrev who : Caller
+  who = record { session = k; event = n }
+
+  way : IsUnderWay lines old before
+  way = way_begins lines before old t told stands
+
+  not_done : (why : Refused) → Declines why before after old new (Ok r) → Sounds r
+  not_done why h = declines_sound (standing lines k).posture u.now (session_at new.sessions k).work r why before after old new h
+
+  plainly : (q : Reply) → IsOk r (Ok q) → Sounds q → Sounds r
+  plainly q e sound = let is : r ≡ q = cc in subst Sounds (sym is) sound
+
+  done_sound : (q : Reply) → Sounds q → (done : Result (Unit {0}) Refused) → IsOk r (done_reply q done) → Sounds r
+  done_sound q sound (Ok x) e = plainly q e sound
+  done_sound q sound (Err why) e = refused_sound (standing lines k).posture u.now (session_at new.sessions k).work r why e
+
+  -- a begin makes no call
+  begin_sound : (o : Op) → IsRightOp o → MakesNoCall before after old new → Changes k (BeginsOp o (Ok r)) old.sessions new.sessions → Sounds r
+  begin_sound o right quiet c = on c.does.begun begins c.does.replies
+    where
+      f : Sessions
+      f = session_at old.sessions
+
+      begins : Begins o (f k) c.after c.does.begun
+      begins = subst (λ a. Begins o a c.after c.does.begun) (sym (changed_was k _ old.sessions new.sessions c)) c.does.begins
+
+      same : t ≡ u
+      same = state_is t u (sym told ∙ (sym (ap (λ (z : Seen). z.state) quiet.seen) ∙ told_after))
+        where
+          state_is : (x y : CloudState) → Some x ≡ Some y → x ≡ y
+          state_is x y e = cc
+
+      stops : (a : Answer) → Begins o (f k) c.after (Ok (Answered a)) → (q : Trouble) → a ≡ answer.Trouble q → (q ≡ trouble.Memory → ⊥) → MayTrouble (standing lines k).posture q
+      stops a does q is other =
+          absurd (other (begin_stops stands.holds.book stands.holds.order t f k c.after stands.holds.stand o q right (subst (λ b. Begins o (f k) c.after (Ok (Answered b))) is does)))
+
+      ends : (a : Answer) → Begins o (f k) c.after (Ok (Answered a)) → (q : CommitAnswer) → a ≡ answer.Commit q → MayEnd (HoldsLease u.now (session_at new.sessions k).work) q
+      ends a does q is =
+          subst (λ (w : Acting). MayEnd (HoldsLease u.now w.work) q) (sym (now_there k _ old.sessions new.sessions c))
+          (subst (λ (x : CloudState). MayEnd (HoldsLease x.now c.after.work) q) same
+          (begin_ends stands.holds.book stands.holds.order t f k c.after stands.holds.stand o q (subst (λ b. Begins o (f k) c.after (Ok (Answered b))) is does)))
+
+      on : (begun : Result Begun Refused) → Begins o (f k) c.after begun → RepliesBegun begun c.after (Ok r) → Sounds r
+      on (Ok Working) does e = plainly reply.Begun e tt
+      on (Ok (Answered a)) does e = answer_sound (standing lines k).posture u.now (session_at new.sessions k).work a c.after r e (stops a does) (ends a does)
+      on (Err why) does e = refused_sound (standing lines k).posture u.now (session_at new.sessions k).work r why e
+
+  makes_sound : (wish : Wish) → MakesStep n k wish before after old new (Ok r) → Sounds r
+  makes_sound wish (inl refuses) = not_done _ refuses.declines
+  makes_sound wish (inr (inl step)) = on step.turn step.steps step.replies
+    where
+      on : (turn : Turn Answer) (p : StepsLooked who wish before after old new turn) → RepliesTurn turn p.session.after (Ok r) → Sounds r
+      on More p e = plainly reply.Called e tt
+      on (Ended a) p e = step_sound lines who wish before after old new a r u (sym number) way p e told_after
+      on (Stopped q) p e = absurd (no_stop _ p.under p.to p.session.before p.session.after q p.session.does)
+  makes_sound wish (inr (inr memory)) = absurd (no_memory r memory)
+
+  runs_sound : Runs n k before after old new (Ok r) → Sounds r
+  runs_sound (inl refuses) = not_done _ refuses.declines
+  runs_sound (inr (inl run)) =
+      step_sound lines who Plain run.comes.mid after run.comes.world new run.answer r u (sym number)
+      (went_on lines who before old run.comes.mid run.comes.world (sym number) way run.comes.went) run.comes.steps run.replies told_after
+  runs_sound (inr (inr memory)) = absurd (no_memory r memory)
+
+  crash_sound : (done : Bool) → Crashes n k done before after old new (Ok r) → Sounds r
+  crash_sound false h = plainly reply.Crashed h.replies tt
+  crash_sound true (inl idle) = plainly reply.Crashed idle.dies.replies tt
+  crash_sound true (inr (inl h)) = plainly reply.Crashed h.replies tt
+  crash_sound true (inr (inr memory)) = absurd (no_memory r memory)
+
+  -- an operation that begins is a right one
+  abbrev IsRight : Request → Type 0
+  IsRight (Begin o) = IsRightOp o
+  IsRight request = Unit {0}
+
+  does_sound : (request : Request) → IsRight request → Does n k request before after old new (Ok r) → Sounds r
+  does_sound (Begin o) right h = begin_sound o right h.0 h.1
+  does_sound (Note tree change) right h = done_sound reply.Noted tt h.1.does.noted h.1.does.replies
+  does_sound Abort right h = done_sound reply.Aborted tt h.1.does.dropped h.1.does.replies
+  does_sound (Step wish) right h = makes_sound wish h
+  does_sound Run right h = runs_sound h
+  does_sound (Crash done) right h = crash_sound done h
+
+  request_sound : (Is : Result Request Refused → Type 0) (asked : Asked) → OfSession k Is asked → Answers n asked before after old new (Ok r)
+      → ((request : Request) → Is (Ok request) → IsRight request) → Sounds r
+  request_sound Is (Session j (Ok request)) belongs (inl p) right =
+      does_sound request (right request belongs.1) (subst (λ i. Does n i request before after old new (Ok r)) belongs.0 p.1)
+  request_sound Is (Session j (Err why)) belongs (inl p) right = not_done why p.1
+  request_sound Is (Session j request) belongs (inr none) right = not_done _ none.declines
+  request_sound Is (Wait ticks) belongs answers right = absurd belongs
+  request_sound Is (Report tree) belongs answers right = absurd belongs
+  request_sound Is Settle belongs answers right = absurd belongs
+
+  same_right : (request own : Request) → (let a : Result Request Refused = Ok request in let b : Result Request Refused = Ok own in a ≡ b) → IsRight own → IsRight request
+  same_right request own e right = let is : request ≡ own = cc in subst IsRight (sym is) right
+
+  noted_right : (tree : ℕ) (Is : Result Change Refused → Type 0) (request : Request) → IsNoted tree Is (Ok request) → IsRight request
+  noted_right tree Is (Note j change) is = tt
+  noted_right tree Is (Begin o) is = absurd is
+  noted_right tree Is Abort is = absurd is
+  noted_right tree Is (Step wish) is = absurd is
+  noted_right tree Is Run is = absurd is
+  noted_right tree Is (Crash done) is = absurd is
+
+-- ---- a settling
+
+settling_may : (w : Work) (t : Trouble) → IsSettling w → MayAnswer w t → MaySettle t
+settling_may (work.Settling m) t settles may = may
+settling_may w t settles may = absurd settles
+
+-- the trouble of a step of the settler
+settler_stops : (n : ℕ) (lines : List Line) (first : Sessions) → IsSettlersRow lines (settler n) → (before after : Seen) (old new : World) (t : Trouble)
+    → SettlerGoes n lines first old before → StepsLooked (settler n) Plain before after old new (Ended (answer.Trouble t)) → MaySettle t
+settler_stops n lines first row before after old new t way p =
+    settling_may (session_at old.sessions 0).work t way.works
+    (session_stops (settler n) p.under p.to (record way.state { wish = Plain }) left.state held.book held.order (session_at old.sessions) under left.told held.stand p.session.after t own)
+  where
+    held : CloudHolds n lines (session_at old.sessions) old.audit old.blind (record way.state { wish = Plain })
+    held = wish_holds n lines (session_at old.sessions) old.audit old.blind way.state Plain way.holds
+
+    left : CallLeavesUpto n lines p.to (session_at old.sessions) 0 p.session.after new.audit new.blind
+    left = settler_call n lines first row before after old new (Ended (answer.Trouble t)) way p
+
+    under : p.under.state ≡ Some (record way.state { wish = Plain })
+    under = p.wishes.set way.state (p.look_before.stays way.state way.told)
+
+    own : StepsSession (settler n) p.under p.to (session_at old.sessions 0) p.session.after (Ok (Ended (answer.Trouble t)))
+    own = settler_own n lines first row before after old new (Ended (answer.Trouble t)) way p
+
+module _ (lines : List Line) (n : ℕ) (before after : Seen) (old new : World) (r : Reply) (t u : CloudState) (number : length lines + 1 ≡ n) (told : before.state ≡ Some t)
+    (stands : WorldStands lines old t) where
+  abbrev Settled : Reply → Type 0
+  Settled q = IsSoundReply (standing lines 0).posture u.now (session_at new.sessions 0).work q
+
+  unsettled : (q : Trouble) → IsOk r (unsettled_reply q) → MaySettle q → Settled r
+  unsettled trouble.Memory e may = absurd (cc)
+  unsettled q e may = let is : r ≡ reply.NotSettled q = cc in subst Settled (sym is) may
+
+  settle_sound : Settles n before after old new (Ok r) → Settled r
+  settle_sound (inr memory) = absurd (no_memory r memory)
+  settle_sound (inl h) = by_end h.settles
+    where
+      by_end : SettlesOn (settler n) before after h.begun new (Ok r) → Settled r
+      by_end (inr memory) = absurd (no_memory r memory)
+      by_end (inl s) = on s.answer s.comes.steps s.replies
+        where
+          all : List Line
+          all = lines ++ line_of event.Settle r ∷ []
+
+          row : IsSettlersRow all (settler n)
+          row = settler_row lines r (settler n) refl (sym number)
+
+          way : SettlerGoes n all (session_at old.sessions) s.comes.world s.comes.mid
+          way =
+              settler_went n all (session_at old.sessions) row before h.begun s.comes.mid s.comes.world
+              (settler_begins lines n before old h.begun t (sym number) told stands h.begins r (settled_plain s.answer r s.replies)) s.comes.went
+
+          on : (a : Answer) → StepsLooked (settler n) Plain s.comes.mid after s.comes.world s.left (Ended a) → RepliesSettled a (Ok r) → Settled r
+          on (answer.Settled x) p e = let is : r ≡ reply.Settled x.calls = cc in subst Settled (sym is) tt
+          on (answer.Trouble q) p e = unsettled q e (settler_stops n all (session_at old.sessions) row s.comes.mid after s.comes.world s.left q way p)
+          on a p e = absurd e
+
+-- ---- every line
+
+asked_sound : (n : ℕ) (event : Event) (asked : Asked) (before after : Seen) (old new : World) (r : Reply) (lines : List Line) (t u : CloudState)
+    → Asks event asked → Answers n asked before after old new (Ok r) → length lines + 1 ≡ n → before.state ≡ Some t → WorldStands lines old t → after.state ≡ Some u
+    → IsSoundFor event (standing lines (session_of event)).posture u.now (session_at new.sessions (session_of event)).work r
+asked_sound n (event.Open k client) asked before after old new r lines t u asks answers at told stands later =
+    request_sound lines n k before after old new r t u at told stands later (IsOpening client) asked asks answers
+    (λ request is. same_right lines n k before after old new r t u at told stands later request (Begin (op.Open client)) (ap (λ q. Ok q) is.1) is.0)
+asked_sound n (event.Insert k tree key payload) asked before after old new r lines t u asks answers at told stands later =
+    request_sound lines n k before after old new r t u at told stands later (IsNoted tree (IsInsert key payload)) asked asks answers
+    (noted_right lines n k before after old new r t u at told stands later tree (IsInsert key payload))
+asked_sound n (event.Update k tree key payload) asked before after old new r lines t u asks answers at told stands later =
+    request_sound lines n k before after old new r t u at told stands later (IsNoted tree (IsUpdate key payload)) asked asks answers
+    (noted_right lines n k before after old new r t u at told stands later tree (IsUpdate key payload))
+asked_sound n (event.Delete k tree key) asked before after old new r lines t u asks answers at told stands later =
+    request_sound lines n k before after old new r t u at told stands later (IsNoted tree (IsDelete key)) asked asks answers
+    (noted_right lines n k before after old new r t u at told stands later tree (IsDelete key))
+asked_sound n (event.Read k tree key) asked before after old new r lines t u asks answers at told stands later =
+    request_sound lines n k before after old new r t u at told stands later (IsReading tree key) asked asks answers
+    (λ request is. same_right lines n k before after old new r t u at told stands later request (Begin (op.Read tree key)) (ap (λ q. Ok q) is.2) is.0)
+asked_sound n (event.Scan k tree from to) asked before after old new r lines t u asks answers at told stands later =
+    request_sound lines n k before after old new r t u at told stands later (IsScanning tree from to) asked asks answers
+    (λ request is. same_right lines n k before after old new r t u at told stands later request (Begin (op.Scan tree (bound_of from) (bound_of to))) (ap (λ q. Ok q) is.3) is.0)
+asked_sound n (event.Page k tree page) asked before after old new r lines t u asks answers at told stands later =
+    request_sound lines n k before after old new r t u at told stands later (IsPaging tree page) asked asks answers
+    (λ request is. same_right lines n k before after old new r t u at told stands later request (Begin (op.Page tree page)) (ap (λ q. Ok q) is.2) (is.0, is.1))
+asked_sound n (event.Tree k tree) asked before after old new r lines t u asks answers at told stands later =
+    request_sound lines n k before after old new r t u at told stands later (IsFolding tree) asked asks answers
+    (λ request is. same_right lines n k before after old new r t u at told stands later request (Begin (op.Tree tree)) (ap (λ q. Ok q) is.1) is.0)
+asked_sound n (event.Close k) asked before after old new r lines t u asks answers at told stands later =
+    request_sound lines n k before after old new r t u at told stands later (λ request. request ≡ Ok (Begin op.Close)) asked asks answers
+    (λ request is. same_right lines n k before after old new r t u at told stands later request (Begin op.Close) is tt)
+asked_sound n (event.Renew k) asked before after old new r lines t u asks answers at told stands later =
+    request_sound lines n k before after old new r t u at told stands later (λ request. request ≡ Ok (Begin op.Renew)) asked asks answers
+    (λ request is. same_right lines n k before after old new r t u at told stands later request (Begin op.Renew) is tt)
+asked_sound n (event.Commit k) asked before after old new r lines t u asks answers at told stands later =
+    request_sound lines n k before after old new r t u at told stands later (λ request. request ≡ Ok (Begin op.Commit)) asked asks answers
+    (λ request is. same_right lines n k before after old new r t u at told stands later request (Begin op.Commit) is tt)
+asked_sound n (event.Abort k) asked before after old new r lines t u asks answers at told stands later =
+    request_sound lines n k before after old new r t u at told stands later (λ request. request ≡ Ok Abort) asked asks answers
+    (λ request is. same_right lines n k before after old new r t u at told stands later request Abort is tt)
+asked_sound n (event.Step k wish) asked before after old new r lines t u asks answers at told stands later =
+    request_sound lines n k before after old new r t u at told stands later (IsStep wish) asked asks answers
+    (λ request is. same_right lines n k before after old new r t u at told stands later request (Step wish) (ap (λ q. Ok q) is) tt)
+asked_sound n (event.Run k) asked before after old new r lines t u asks answers at told stands later =
+    request_sound lines n k before after old new r t u at told stands later (λ request. request ≡ Ok Run) asked asks answers
+    (λ request is. same_right lines n k before after old new r t u at told stands later request Run is tt)
+asked_sound n (event.Crash k done) asked before after old new r lines t u asks answers at told stands later =
+    request_sound lines n k before after old new r t u at told stands later (λ request. request ≡ Ok (Crash done)) asked asks answers
+    (λ request is. same_right lines n k before after old new r t u at told stands later request (Crash done) is tt)
+asked_sound n (event.Wait ticks) asked before after old new r lines t u asks answers at told stands later = on (subst (λ z. Answers n z before after old new (Ok r)) asks answers)
+  where
+    on : Answers n (Wait ticks) before after old new (Ok r) → IsSoundReply (standing lines 0).posture u.now (session_at new.sessions 0).work r
+    on (inl h) = plainly lines n 0 before after old new r t u at told stands later reply.Waited h.0.replies tt
+    on (inr long) = not_done lines n 0 before after old new r t u at told stands later _ long.declines
+asked_sound n (event.Report tree) asked before after old new r lines t u asks answers at told stands later = tt
+asked_sound n event.Settle asked before after old new r lines t u asks answers at told stands later =
+    settle_sound lines n before after old new r t u at told stands (subst (λ z. Answers n z before after old new (Ok r)) asks answers)
+
+pub sound_after : (n : ℕ) (event : Event) (before after : Seen) (old new : World) (result : Result Reply WorldFault)
+    → Handled n event before after old new result → AnswersSoundly n event before after old new result
+sound_after n event before after old new (Ok r) h = λ lines t u at told stands later. asked_sound n event h.asked before after old new r lines t u h.asks h.answers at told stands later
+sound_after n event before after old new (Err fault) h = tt

@@ -9,3 +9,5 @@ pub mod Marks
 pub mod StandsLemmas
 pub mod BeginLemmas
 pub mod EveryLine
+pub mod AddedSteps
+pub mod AddedLines

@@ -4,3 +4,4 @@ pub mod Asked
 pub mod Replying
 pub mod Handled
 pub mod Stands
+pub mod Added

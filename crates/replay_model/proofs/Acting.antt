@@ -29,9 +29,11 @@ use Rattle.reply_text.specs.declared.reply.Reply.{Reply}
 use Rattle.reply_text.specs.declared.reply.Reply.TheVariants as reply
 use Rattle.replay_meaning.specs.Standing.{Standing, Posture, Working, Opening as OpeningTask, Closing as ClosingTask, Renewing as RenewingTask, Committing as Noting, Reading as ReadingKey, Paging as PagingPage, Folding as FoldingTree, steps, answered, idle, broken, shut}
 use Rattle.replay_model.specs.Facts.{WorksAs}
+use Rattle.replay_model.proofs.FoldingTree.{tree_stays}
 use Rattle.replay_model.proofs.OpeningSteps.{OpensFor, opens_on}
 use Rattle.replay_model.proofs.RunSteps.{RunsFor, AnyAnswer, runs_on}
 use Rattle.replay_model.proofs.PagingPage.{same_page}
+use Rattle.replay_model.proofs.SettledHead.{settled_on}
 use Rattle.replay_model.proofs.ReadingWalk.{reading_goes}
 use Rattle.replay_model.proofs.ScanningRange.{range_of, scanning_goes, scanning_ends, moved_range}
 
@@ -67,7 +69,7 @@ pub goes_as : (who : Caller) (before after : Seen) (buffer : List Noted) (w new 
     → ShowsAt who before after buffer w c d new shows More → WorksAs w s → WorksAs new s
 goes_as who before after buffer (Opening m) new c d shows s (sound, p) shown acts =
     let on : OpensFor m.client (Goes p.0) = subst (OpensFor m.client) p.1.took (opens_on m p.1.answer acts.3) in
-    works_same new (Opening p.0) s p.2 (acts.0, acts.1 ∙ sym on.0, acts.2, on.1)
+    works_same new (Opening p.0) s p.2 (acts.0, acts.1 ∙ sym on.0, acts.2, on.1, settled_on m p.0 p.1.answer p.1.took acts.4)
 goes_as who before after buffer (Committing r) new c d shows s (sound, e, f, p) (q, none) acts =
     let on : RunsFor AnyAnswer r.draft.writes.changes (home_of_run r).client (Goes (q.0, d)) =
     subst (RunsFor AnyAnswer r.draft.writes.changes (home_of_run r).client) q.1.took (runs_on (r, c) q.1.answer acts.2) in
@@ -81,7 +83,7 @@ goes_as who before after buffer (Paging home m) new c d shows s p shown acts =
     works_same new (Paging home p.0) s p.2 (acts.0 ∙ ap (λ k. Working (PagingPage k m.page)) (sym same.0) ∙ ap (λ k. Working (PagingPage p.0.tree k)) (sym same.1), acts.1)
 goes_as who before after buffer (Folding home f) new c d shows s p shown acts =
     let same : p.0.tree ≡ f.tree = p.1.took.0.0 in
-    works_same new (Folding home p.0) s p.2 (acts.0 ∙ ap (λ k. Working (FoldingTree k)) (sym same), acts.1)
+    works_same new (Folding home p.0) s p.2 (acts.0 ∙ ap (λ k. Working (FoldingTree k)) (sym same), acts.1, tree_stays f p.0 p.1.answer p.1.took acts.2)
 goes_as who before after buffer (Closing lease) new c d shows s p shown acts = absurd p
 goes_as who before after buffer (Renewing home) new c d shows s p shown acts = absurd p
 goes_as who before after buffer (Settling m) new c d shows s p shown acts = absurd acts

@@ -1,45 +1,43 @@
 -- The call that a session has in hand is of a kind that its standing by the lines allows, and opens no transaction twice.
-use Rattle.std.proofs.Common.{◌≡◌, ◌+◌, ◌-◌, ◌⊎◌, ℕ, List, length, take, Option, Some, None, refl, sym, ap, subst, ◌∙◌, inl, inr}
+use Rattle.std.proofs.Common.{◌≡◌, ◌+◌, ◌-◌, ◌⊎◌, ℕ, List, length, take, Some, None, refl, sym, ap, subst, ◌∙◌, inl, inr}
 use Rattle.std.specs.Prelude.{All, slice_get}
 use Rattle.db_base.specs.declared.names.ObjName.TheVariants as object
 use Rattle.cloud_trait.specs.declared.state.Landing.{Landing}
 use Rattle.cloud_trait.specs.Ask.{Ask, Get, GetHeld, PutHeld, Send, Receive, Delete, Take, Renew, Release}
 use Rattle.cloud_trait.specs.Caller.{Caller}
+use Rattle.cloud_trait.specs.Seen.{Seen}
+use Rattle.cloud_trait.specs.declared.turn.Turn.TheVariants.{More}
 use Rattle.cloud_trait.specs.State.{CloudState}
 use Rattle.client_session.specs.declared.work.Work.{Work}
-use Rattle.client_session.specs.declared.work.Work.TheVariants.{Closed, Idle, Opening, Committing, Reading, Scanning, Paging, Folding, Closing, Renewing, Settling, Broken}
-use Rattle.client_session.specs.Session.{ask_of_work, opens_of, committing_of}
-use Rattle.commit_run.specs.Run.{Run, home_of, run_ask}
+use Rattle.client_session.specs.declared.work.Work.TheVariants.{Settling}
+use Rattle.client_session.specs.Session.{StepsAt, ask_of_work, opens_of, committing_of}
 use Rattle.head_codec.specs.declared.head.Head.{Head}
-use Rattle.head_codec.specs.declared.head.Phase.{Phase}
 use Rattle.head_codec.specs.declared.head.Phase.TheVariants as phase
 use Rattle.head_codec.specs.Spelling.{head_of}
 use Rattle.cloud_facts.specs.Homes.Homes.{Part}
 use Rattle.session_facts.specs.RowKinds.Asks.{MayAsk}
 use Rattle.session_facts.specs.RowKinds.New.{IsNew}
-use Rattle.session_facts.proofs.RowKinds.Asks.{may_ask, recovery_asks, run_asks, paging_asks, making_asks, settling_asks}
 use Rattle.session_facts.proofs.RowKinds.Opens.{work_is_new}
 use Rattle.page_cache.specs.Cache.{Cache}
-use Rattle.page_ckpt.specs.Paging.{paging_ask}
-use Rattle.range_scan.specs.Scan.{scan_ask}
-use Rattle.recover_run.specs.Recovery.{Recovery, recovery_ask}
-use Rattle.settle_run.specs.Settling.{Settling as SettlingState, settle_ask}
-use Rattle.replay_meaning.specs.Standing.{Line, Standing, standing, standing_of_row}
+use Rattle.settle_run.specs.Settling.{settle_ask}
+use Rattle.replay_meaning.specs.Standing.{Line, standing, standing_of_row}
 use Rattle.replay_meaning.specs.Committed.{committed}
-use Rattle.replay_meaning.specs.Kinds.{OpensClient, CommitsFor, IsOfSettler, MaySettleHead, MayPutPhase, MayPutHead, MayPutBytes, IsOfKind, LandsOpen}
+use Rattle.replay_meaning.specs.Kinds.{IsOfSettler, IsOfKind, LandsOpen}
 use Rattle.session_facts.specs.Sessions.Puts.{IsSoundWork, Commits, PutsHead}
 use Rattle.session_facts.specs.Sessions.Sessions.{KnowsWork}
 use Rattle.session_facts.proofs.Sessions.HeadPuts.{head_put}
 use Rattle.cloud_facts.specs.Book.Records.{entries_of}
 use Rattle.cloud_facts.specs.Book.Tally.{Store}
-use Rattle.tree_ckpt.specs.Making.{making_ask}
 use Rattle.replay_model.specs.Facts.{WorksAs}
+use Rattle.replay_model.specs.Running.{PutsSettled}
+use Rattle.replay_model.proofs.CallAsks.{settling_may, work_asks}
 use Rattle.replay_model.proofs.CommittedLemmas.{now_standing}
+use Rattle.replay_model.proofs.SettlingHeads.{settling_stays}
 use Rattle.replay_model.proofs.Once.{at_place, not_opened, OpensUnopened}
 
--- the settler is at work
+-- the settler is at work, and puts no head but settled ones
 abbrev pub IsSettling : Work → Type 0
-IsSettling (Settling m) = Unit {0}
+IsSettling (Settling m) = PutsSettled m.part
 IsSettling w = ⊥
 
 -- a row of this caller is the settler's, of a line that settles
@@ -51,101 +49,27 @@ pub settles_none : (w : Work) → IsSettling w → committing_of w ≡ None
 settles_none (Settling m) settles = refl
 settles_none w settles = absurd settles
 
--- ---- puts of heads
+-- the call of a settling at work, for a row of the settler's
+pub settle_asks : (lines : List Line) (row : Landing) (w : Work) → IsSettling w → IsOfSettler lines row → IsSoundWork w → (ask : Ask) → ask_of_work w ≡ Some ask → MayAsk lines row ask
+settle_asks lines row (Settling m) settles own sound ask e =
+    let is : settle_ask m ≡ ask = cc in
+    subst (MayAsk lines row) is (settling_may lines row m settles sound own)
+settle_asks lines row w settles own sound ask e = absurd settles
 
--- of a phase that the standing allows
-put_may : (lines : List Line) (row : Landing) (client : ℕ) (bytes : List ℕ) (head : Head) (at : Phase) → head_of bytes ≡ Some head → head.phase ≡ at → MayPutPhase lines row client at
-    → MayPutBytes lines row client (Some bytes)
-put_may lines row client bytes head at spells is may = subst (MayPutHead lines row client) (sym spells) (subst (MayPutPhase lines row client) (sym is) may)
-
-never_opens : (head : Head) → (let none : Option Head = None in none ≡ Some head) → ⊥
-never_opens head e = absurd (cc)
-
--- by a work that opens no transaction
-pub settled_may : (lines : List Line) (row : Landing) (w : Work) (client : ℕ) (bytes : List ℕ) → MaySettleHead lines row client → opens_of w ≡ None → PutsHead w client bytes
-    → MayPutBytes lines row client (Some bytes)
-settled_may lines row w client bytes may none p = on p.how
-  where
-    on : Commits w p.head ⊎ ((opens_of w ≡ None) × (p.head.phase ≡ phase.Settled)) → MayPutBytes lines row client (Some bytes)
-    on (inl o) = absurd (never_opens p.head (sym none ∙ o.opens))
-    on (inr settled) = put_may lines row client bytes p.head phase.Settled p.spells settled.1 may
-
-module _ (lines : List Line) (row : Landing) (st : Store) (now : ℕ) (c : Cache) (part : Part) where
-  abbrev s : Standing
-  s = standing_of_row lines row
-
-  -- ---- an opening
-
-  opens_client : (r : Recovery) → WorksAs (Opening r) s → OpensClient r.client s
-  opens_client r acts = record { posture = acts.0; own = acts.1 }
-
-  opening_head : (r : Recovery) (client : ℕ) (bytes : List ℕ) → WorksAs (Opening r) s → PutsHead (Opening r) client bytes → MayPutBytes lines row client (Some bytes)
-  opening_head r client bytes acts p = settled_may lines row (Opening r) client bytes (inl (subst (λ n. OpensClient n s) p.client_is (opens_client r acts))) refl p
-
-  -- ---- a commit
-
-  commits_for : (r : Run) → WorksAs (Committing r) s → CommitsFor (home_of r).client s
-  commits_for r acts = record { commits = (r.draft.writes.changes, acts.0); own = acts.1 }
-
-  commit_head : (r : Run) (client : ℕ) (bytes : List ℕ) → WorksAs (Committing r) s → KnowsWork st now c (Committing r) part → PutsHead (Committing r) client bytes
-      → MayPutBytes lines row client (Some bytes)
-  commit_head r client bytes acts k p = on p.how
-    where
-      on : Commits (Committing r) p.head ⊎ ((opens_of (Committing r) ≡ None) × (p.head.phase ≡ phase.Settled)) → MayPutBytes lines row client (Some bytes)
-      on (inl o) =
-          let new : IsNew st.book.log client p.head r.draft.writes.changes = work_is_new st now c (Committing r) part client p.head r.draft.writes.changes k p.client_is o.opens refl in
-          put_may lines row client bytes p.head (phase.Open (length r.draft.writes.changes)) p.spells new.count
-          (record { changes = r.draft.writes.changes; commits = acts.0; as_many = refl; own = acts.1 ∙ p.client_is })
-      on (inr settled) = put_may lines row client bytes p.head phase.Settled p.spells settled.1 (inr (inl (subst (λ n. CommitsFor n s) p.client_is (commits_for r acts))))
-
-  -- ---- a settling
-
-  settling_head : (m : SettlingState) (client : ℕ) (bytes : List ℕ) → IsOfSettler lines row → PutsHead (Settling m) client bytes → MayPutBytes lines row client (Some bytes)
-  settling_head m client bytes own p = settled_may lines row (Settling m) client bytes (inr (inr own)) refl p
-
-  pub settle_asks : (w : Work) → IsSettling w → IsOfSettler lines row → KnowsWork st now c w part → IsSoundWork w → (ask : Ask) → ask_of_work w ≡ Some ask → MayAsk lines row ask
-  settle_asks (Settling m) settles own k sound ask e =
-      let is : settle_ask m ≡ ask = cc in
-      subst (MayAsk lines row) is
-      (settling_asks lines row st now m part k own (λ client bytes one two put. settling_head m client bytes own (head_put st now c (Settling m) part k sound client bytes one two (ap (λ a. Some a) put))))
-  settle_asks w settles own k sound ask e = absurd settles
-
-  -- ---- the call in hand, by the work
-
-  work_asks : (w : Work) → WorksAs w s → KnowsWork st now c w part → IsSoundWork w → (ask : Ask) → ask_of_work w ≡ Some ask → MayAsk lines row ask
-  work_asks (Opening r) acts k sound ask e =
-      let is : recovery_ask r ≡ ask = cc in
-      subst (MayAsk lines row) is
-      (may_ask lines row (recovery_ask r) (λ client bytes one two put. opening_head r client bytes acts (head_put st now c (Opening r) part k sound client bytes one two (ap (λ a. Some a) put)))
-      (recovery_asks lines row r (inr (inl (r.client, opens_client r acts)))))
-  work_asks (Committing r) acts k sound ask e =
-      let is : run_ask r ≡ ask = cc in
-      subst (MayAsk lines row) is
-      (may_ask lines row (run_ask r) (λ client bytes one two put. commit_head r client bytes acts k (head_put st now c (Committing r) part k sound client bytes one two (ap (λ a. Some a) put)))
-      (run_asks lines row r (commits_for r acts)))
-  work_asks (Reading home m) acts k sound ask e = subst (MayAsk lines row) (is _ ask e) tt
-    where
-      is : (a b : Ask) → Some a ≡ Some b → a ≡ b
-      is a b e = cc
-  work_asks (Scanning home m) acts k sound ask e = let is : scan_ask m.scan ≡ ask = cc in subst (MayAsk lines row) is tt
-  work_asks (Settling m) acts k sound ask e = absurd acts
-  work_asks (Paging home p) acts k sound ask e = let is : paging_ask p ≡ ask = cc in subst (MayAsk lines row) is (paging_asks lines row p (inl (p.page, acts.0)))
-  work_asks (Folding home f) acts k sound ask e = let is : making_ask f ≡ ask = cc in subst (MayAsk lines row) is (making_asks lines row st now f k.1 (inl acts.0))
-  work_asks (Closing l) acts k sound ask e = let is : Release l ≡ ask = cc in subst (MayAsk lines row) is tt
-  work_asks (Renewing home) acts k sound ask e = let is : Renew home.lease 600 ≡ ask = cc in subst (MayAsk lines row) is tt
-  work_asks Closed acts k sound ask e = absurd (cc)
-  work_asks (Idle home) acts k sound ask e = absurd (cc)
-  work_asks (Broken l) acts k sound ask e = absurd (cc)
+-- a settling that goes on is one
+pub settling_goes : (who : Caller) (before after : Seen) (w new : Work) → StepsAt who before after w new More → IsSettling w → IsSettling new
+settling_goes who before after (Settling m) new p is = subst IsSettling (sym p.1.2) (settling_stays m p.1.0 p.1.1.answer p.1.1.took is)
+settling_goes who before after w new p is = absurd is
 
 -- how the session of a row within a line stands after the lines before it
 standing_now : (lines : List Line) (who : Caller) (row : Landing) → who.event ≡ length lines + 1 → row.who ≡ who → standing_of_row lines row ≡ standing lines who.session
 standing_now lines who row event is = ap (λ (w : Caller). standing (take (w.event - 1) lines) w.session) is ∙ now_standing lines who event
 
 -- the row of a call within a line is of its kind
-pub call_kind : (lines : List Line) (who : Caller) (st : Store) (now : ℕ) (c : Cache) (part : Part) (w : Work) (ask : Ask) → who.event ≡ length lines + 1 → WorksAs w (standing lines who.session)
-    → KnowsWork st now c w part → IsSoundWork w → ask_of_work w ≡ Some ask → (row : Landing) → row.who ≡ who → MayAsk lines row ask
-call_kind lines who st now c part w ask event acts k sound e row is =
-    work_asks lines row st now c part w (subst (WorksAs w) (sym (standing_now lines who row event is)) acts) k sound ask e
+pub call_kind : (lines : List Line) (who : Caller) (w : Work) (ask : Ask) → who.event ≡ length lines + 1 → WorksAs w (standing lines who.session)
+    → IsSoundWork w → ask_of_work w ≡ Some ask → (row : Landing) → row.who ≡ who → MayAsk lines row ask
+call_kind lines who w ask event acts sound e row is =
+    work_asks lines row w (subst (WorksAs w) (sym (standing_now lines who row event is)) acts) sound ask e
 
 -- ---- a transaction opens once
 

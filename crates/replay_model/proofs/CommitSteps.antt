@@ -1,9 +1,10 @@
 -- The writes of a commit go on with the same changes of the same client, or end for it.
-use Rattle.std.proofs.Common.{◌≡◌, ℕ, List, ◌++◌, [], ◌∷◌, Option, Some, None, Result, Ok, Err, refl}
+use Rattle.std.proofs.Common.{◌≡◌, ℕ, List, ◌++◌, [], ◌∷◌, Option, Some, None, Result, Ok, Err, refl, ap, length}
 use Rattle.std.specs.Prelude.{slice_get, ◌+◌}
 use Rattle.db_base.specs.declared.trouble.Trouble.{Trouble}
 use Rattle.db_base.specs.declared.trouble.Trouble.TheVariants as trouble
 use Rattle.db_base.specs.declared.trouble.CommitAnswer.{CommitAnswer}
+use Rattle.head_codec.specs.declared.head.Phase.TheVariants as phase
 use Rattle.log_codec.specs.declared.record.AtomicRec.{AtomicRec}
 use Rattle.txn_buffer.specs.Noted.{Noted}
 use Rattle.cloud_trait.specs.declared.answer.Answer.{Answer}
@@ -22,19 +23,19 @@ WritesFor changes client (Stops new t) = t ≡ trouble.Memory
 
 -- ---- records go to the ATOMIC queue
 
-logs_or_opens : (w : Writing) (o : Option AtomicRec) → WritesFor w.changes w.home.client (log_or_open w o)
-logs_or_opens w (Some r) = (refl, refl, tt)
-logs_or_opens w None = (refl, refl, tt)
+pub logs_or_opens : (w : Writing) (o : Option AtomicRec) → length w.records ≡ length w.changes → WritesFor w.changes w.home.client (log_or_open w o)
+logs_or_opens w (Some r) as_many = (refl, refl, as_many)
+logs_or_opens w None as_many = (refl, refl, ap phase.Open as_many)
 
-logged : (w : Writing) (g : Result ℕ Trouble) → WritesFor w.changes w.home.client (logged_by w g)
-logged w (Ok id) = logs_or_opens (record w { ids = w.ids ++ id ∷ []; place = w.place + 1 }) (slice_get w.records (w.place + 1))
-logged w (Err t) = refl
+logged : (w : Writing) (g : Result ℕ Trouble) → length w.records ≡ length w.changes → WritesFor w.changes w.home.client (logged_by w g)
+logged w (Ok id) as_many = logs_or_opens (record w { ids = w.ids ++ id ∷ []; place = w.place + 1 }) (slice_get w.records (w.place + 1)) as_many
+logged w (Err t) as_many = refl
 
 -- ---- the head that commits, and what comes behind it
 
 sends_or_settles : (w : Writing) (o : Option AtomicRec) → WritesFor w.changes w.home.client (send_or_settle w o)
 sends_or_settles w (Some r) = (refl, refl, tt)
-sends_or_settles w None = (refl, refl, tt)
+sends_or_settles w None = (refl, refl, refl)
 
 sends : (w : Writing) (n : ℕ) → WritesFor w.changes w.home.client (send_at w n)
 sends w n = sends_or_settles (record w { place = n }) (slice_get w.records n)
@@ -68,8 +69,8 @@ deleted w g = deletes w (w.place + 1)
 
 -- ---- the whole
 
-writes_at : (w : Writing) (stage : Stage) (a : Answer) → WritesAt stage → WritesFor w.changes w.home.client (next_at stage w a)
-writes_at w Logging a is = logged w (sent_of a)
+writes_at : (w : Writing) (stage : Stage) (a : Answer) → WritesAt stage w → WritesFor w.changes w.home.client (next_at stage w a)
+writes_at w Logging a is = logged w (sent_of a) is
 writes_at w Opening a is = opened w (done_of a)
 writes_at w Sending a is = sent w (sent_of a)
 writes_at w Settling a is = settled w (done_of a)

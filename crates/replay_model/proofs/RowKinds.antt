@@ -86,22 +86,32 @@ module _ (lines more : List Line) (row : Landing) (within : row.who.event ≤ le
   kind_more t (Object (object.Page tree page)) h = page_more tree h
   kind_more t (Queue queue) h = send_more queue h
 
+-- rows that landed by the next line stay of their kinds
+pub rows_line : (lines : List Line) (line : Line) (t : CloudState) (rows : List Landing) → All (λ (r : Landing). r.who.event ≤ length lines + 1) rows → All (IsOfKind lines t) rows
+    → All (IsOfKind (lines ++ line ∷ []) t) rows
+rows_line lines line t rows early kinds =
+    all_both (λ (r : Landing). r.who.event ≤ length lines + 1) (IsOfKind lines t) (IsOfKind (lines ++ line ∷ []) t) rows
+    (λ row within kind. kind_more lines (line ∷ []) row within t row.site kind) early kinds
+
 pub kinds_line : (lines : List Line) (line : Line) (t : CloudState) → All (λ (r : Landing). r.who.event ≤ length lines + 1) t.trace → All (IsOfKind lines t) t.trace
     → All (IsOfKind (lines ++ line ∷ []) t) t.trace
-kinds_line lines line t early kinds =
-    all_both (λ (r : Landing). r.who.event ≤ length lines + 1) (IsOfKind lines t) (IsOfKind (lines ++ line ∷ []) t) t.trace
-    (λ row within kind. kind_more lines (line ∷ []) row within t row.site kind) early kinds
+kinds_line lines line t early kinds = rows_line lines line t t.trace early kinds
 
 -- ---- a call that lands
 
+-- the kind of a row is told by the versions
+kind_same_at : (lines : List Line) (s t : CloudState) (row : Landing) (site : Site) → t.versions ≡ s.versions → IsOfKindAt lines s row site → IsOfKindAt lines t row site
+kind_same_at lines s t row (Object (object.Head client)) v g =
+    subst (λ (vs : Versions). MayPutBytes lines row client (version_at (vs (object.Head client)) row.position)) (sym v) g
+kind_same_at lines s t row (Object (object.Tree tree)) v g = g
+kind_same_at lines s t row (Object (object.Page tree page)) v g = g
+kind_same_at lines s t row (Queue queue) v g = g
+
+pub rows_same : (lines : List Line) (s t : CloudState) (rows : List Landing) → t.versions ≡ s.versions → All (IsOfKind lines s) rows → All (IsOfKind lines t) rows
+rows_same lines s t rows v h = All-weaker (IsOfKind lines s) (IsOfKind lines t) (λ row. kind_same_at lines s t row row.site v) rows h
+
 pub kinds_same : (lines : List Line) (s t : CloudState) → t.versions ≡ s.versions → t.trace ≡ s.trace → All (IsOfKind lines s) s.trace → All (IsOfKind lines t) t.trace
-kinds_same lines s t v e h = All-same (IsOfKind lines t) t.trace s.trace e (All-weaker (IsOfKind lines s) (IsOfKind lines t) (λ row. at row row.site) s.trace h)
-  where
-    at : (row : Landing) (site : Site) → IsOfKindAt lines s row site → IsOfKindAt lines t row site
-    at row (Object (object.Head client)) g = subst (λ (vs : Versions). MayPutBytes lines row client (version_at (vs (object.Head client)) row.position)) (sym v) g
-    at row (Object (object.Tree tree)) g = g
-    at row (Object (object.Page tree page)) g = g
-    at row (Queue queue) g = g
+kinds_same lines s t v e h = All-same (IsOfKind lines t) t.trace s.trace e (rows_same lines s t s.trace v h)
 
 -- a row that is placed stays of its kind under one version more
 kind_kept : (lines : List Line) (who : Caller) (name : ObjName) (bytes : List ℕ) (b : CloudState) (row : Landing) (site : Site) → IsPlacedAt b.versions row.position site

@@ -1,12 +1,13 @@
 -- A commit, walks and writes, goes on with the same changes of the same client, or ends for it.
-use Rattle.std.proofs.Common.{◌≡◌, ℕ, List, Option, Some, None, refl, Bool, true, false, cond}
+use Rattle.std.proofs.Common.{◌≡◌, ◌≤◌, ℕ, zero, suc, List, [], ◌∷◌, length, Option, Some, None, refl, ap, Bool, true, false, cond, arith}
 use Rattle.std.specs.Prelude.{slice_get}
+use Rattle.std.specs.Option.{option_map}
 use Rattle.cloud_trait.specs.declared.answer.Answer.{Answer}
 use Rattle.cloud_trait.specs.Machine.{Next, Goes, Ends, Stops}
 use Rattle.commit_run.specs.declared.hand.Hand.{Hand}
 use Rattle.commit_run.specs.declared.hand.Hand.TheVariants.{Writes, First, Change}
 use Rattle.commit_run.specs.Draft.{Draft, new_draft, pruned_by_root, pruned_by_kept, pruned_with, pruned_behind, planned, leaf_noted, paged}
-use Rattle.commit_run.specs.Run.{Run, new_run, home_of, wrote, troubled, walking, by_turn, begun_turn, seek, plan_on, next_target, stale_at, is_stale, walk_stopped, walk_turned, long_walk, long_target, begin_walks, run_ready, next_at, run_next}
+use Rattle.commit_run.specs.Run.{Run, new_run, home_of, wrote, troubled, walking, by_turn, begun_turn, seek, plan_on, next_target, stale_at, is_stale, walk_stopped, walk_turned, long_walk, long_target, begin_walks, run_ready, next_at, run_next, target_of}
 use Rattle.commit_writes.specs.Writing.{Writing, numbered, with_home, with_attempt, is_spent, not_committed, log_or_open, begun, passes, routed_of, routing, writing_next}
 use Rattle.db_base.specs.declared.names.ObjName.{ObjName}
 use Rattle.db_base.specs.declared.names.ObjName.TheVariants as object
@@ -15,11 +16,13 @@ use Rattle.db_base.specs.declared.trouble.Trouble.TheVariants as trouble
 use Rattle.db_base.specs.declared.trouble.Counter.TheVariants as counter
 use Rattle.db_base.specs.declared.trouble.CommitAnswer.{CommitAnswer}
 use Rattle.db_base.specs.declared.trouble.CommitAnswer.TheVariants.{NotCommitted}
+use Rattle.head_codec.specs.declared.head.Phase.TheVariants as phase
 use Rattle.leaf_view.specs.Leaf.{Leaf}
 use Rattle.log_codec.specs.declared.record.AtomicRec.{AtomicRec}
 use Rattle.node_codec.specs.Tree.{Tree}
 use Rattle.page_cache.specs.Cache.{Cache}
 use Rattle.recover_run.specs.declared.home.Home.{Home}
+use Rattle.session_facts.proofs.Commits.Routing.{count_is}
 use Rattle.tree_walk.specs.Walk.{Walk, new_walk, walk_ready, walk_next}
 use Rattle.txn_buffer.specs.Noted.{Noted}
 use Rattle.replay_model.specs.Running.{IsRunning}
@@ -42,6 +45,12 @@ any : (changes : List Noted) (client : ℕ) (next : Next (Run × Cache) CommitAn
 any changes client (Goes m) k = k
 any changes client (Ends m a) k = (k.0, tt)
 any changes client (Stops m t) k = k
+
+-- where no change is left that needs a page, each has one
+none_left : (changes : List Noted) (place : ℕ) → option_map target_of (slice_get changes place) ≡ None → length changes ≤ place
+none_left [] place none = omega arith
+none_left (n ∷ changes) zero none = absurd (cc)
+none_left (n ∷ changes) (suc place) none = omega (arith, none_left changes place none)
 
 module _ (changes : List Noted) (client : ℕ) where
   -- the writes are of these changes and this client
@@ -70,20 +79,20 @@ module _ (changes : List Noted) (client : ℕ) where
 
   -- ---- to the first write
 
-  logs : (d : Draft) (c : Cache) (w : Writing) (o : Option AtomicRec) → IsFor w → Refuses (wrote d c (log_or_open w o))
-  logs d c w (Some r) f = (f.changes_are, f.client_is, tt)
-  logs d c w None f = (f.changes_are, f.client_is, tt)
+  logs : (d : Draft) (c : Cache) (w : Writing) (o : Option AtomicRec) → IsFor w → length w.records ≡ length w.changes → Refuses (wrote d c (log_or_open w o))
+  logs d c w (Some r) f as_many = (f.changes_are, f.client_is, as_many)
+  logs d c w None f as_many = (f.changes_are, f.client_is, ap phase.Open as_many)
 
-  begins : (d : Draft) (c : Cache) (w : Writing) (records : List AtomicRec) → IsFor w → Refuses (wrote d c (begun w records))
-  begins d c w records f =
-      logs d c (record w { records = records; place = 0 }) (slice_get records 0) (record { changes_are = f.changes_are; client_is = f.client_is })
+  begins : (d : Draft) (c : Cache) (w : Writing) (records : List AtomicRec) → IsFor w → length records ≡ length w.changes → Refuses (wrote d c (begun w records))
+  begins d c w records f as_many =
+      logs d c (record w { records = records; place = 0 }) (slice_get records 0) (record { changes_are = f.changes_are; client_is = f.client_is }) as_many
 
-  routes : (d : Draft) (c : Cache) (w : Writing) (pages : List ℕ) → IsFor w → Refuses (wrote d c (routing w pages))
-  routes d c w pages f = on (passes (routed_of w.home w.changes pages))
+  routes : (d : Draft) (c : Cache) (w : Writing) (pages : List ℕ) → IsFor w → length w.changes ≤ length pages → Refuses (wrote d c (routing w pages))
+  routes d c w pages f paged = on (passes (routed_of w.home w.changes pages))
     where
       on : (b : Bool) → Refuses (wrote d c (cond b (not_committed w (trouble.Exhausted counter.Number)) (begun w (routed_of w.home w.changes pages))))
       on true = (f.client_is, (trouble.Exhausted counter.Number, refl))
-      on false = begins d c w (routed_of w.home w.changes pages) f
+      on false = begins d c w (routed_of w.home w.changes pages) f (count_is w.home.client w.home.head.epoch w.home.attempt w.home.head w.changes pages paged)
 
   -- ---- walks
 
@@ -101,12 +110,12 @@ module _ (changes : List Noted) (client : ℕ) where
   begins_walk first d (Ends m page) f = goes_walking first (pruned_behind d m.0 m.1) m.0 m.1 (by_use d.writes m.1 m.0.used f)
   begins_walk first d (Stops m t) f = stops_so (pruned_behind d m.0 m.1) m.1 t (by_use d.writes m.1 m.0.used f)
 
-  seeks : (d : Draft) (c : Cache) (o : Option (ℕ × List ℕ)) → IsFor d.writes → Refuses (seek d c o)
-  seeks d c (Some to) f = begins_walk false d (walk_ready (new_walk to.0 (Some to.1) false, c)) f
-  seeks d c None f = routes d c d.writes d.plan.pages f
+  seeks : (d : Draft) (c : Cache) (o : Option (ℕ × List ℕ)) → next_target d ≡ o → IsFor d.writes → Refuses (seek d c o)
+  seeks d c (Some to) is f = begins_walk false d (walk_ready (new_walk to.0 (Some to.1) false, c)) f
+  seeks d c None is f = routes d c d.writes d.plan.pages f (none_left d.writes.changes (length d.plan.pages) is)
 
   plans : (d : Draft) (c : Cache) → IsFor d.writes → Refuses (plan_on d c)
-  plans d c f = seeks (planned d) c (next_target (planned d)) f
+  plans d c f = seeks (planned d) c (next_target (planned d)) refl f
 
   stale_so : (first : Bool) (d : Draft) (c : Cache) → IsFor d.writes → Refuses (stale_at first d c)
   stale_so true d c f = plans d c f

@@ -118,7 +118,7 @@ never_stops who before after (Idle home) new t p = p
 never_stops who before after (Broken lease) new t p = p
 
 -- what is at work has the bytes in hand that it is to put or send
-sound_of : (who : Caller) (before after : Seen) (w new : Work) (turn : Turn Answer) → StepsAt who before after w new turn → IsSoundWork w
+pub sound_of : (who : Caller) (before after : Seen) (w new : Work) (turn : Turn Answer) → StepsAt who before after w new turn → IsSoundWork w
 sound_of who before after (Opening m) new turn p = p.0
 sound_of who before after (Committing m) new turn p = p.0
 sound_of who before after (Reading home m) new turn p = tt
@@ -255,7 +255,7 @@ call_holds lines who before after x sessions new turn a b blind blind_after even
       commits = ask_commits lines who w ask (stood_on lines who w event acts)
           (λ client bytes one two is. head_put (store_of h.book h.order x) x.now (sessions who.session).cache w (h.stand.parts who.session) (h.stand.each who.session).work
           sound client bytes one two (hand ∙ ap (λ a. Some a) is));
-      kind = call_kind lines who (store_of h.book h.order x) x.now (sessions who.session).cache (h.stand.parts who.session) w ask event acts (h.stand.each who.session).work sound hand;
+      kind = call_kind lines who w ask event acts sound hand;
     }
 
 -- a call of the settler up to event n, where the line that settles is one of the lines
@@ -283,8 +283,7 @@ settle_holds n lines who before after x sessions new turn a b blind blind_after 
       commits = ask_commits lines who w ask (λ changes e. absurd (commits_none changes e))
           (λ client bytes one two is. head_put (store_of h.book h.order x) x.now (sessions who.session).cache w (h.stand.parts who.session) (h.stand.each who.session).work
           sound client bytes one two (hand ∙ ap (λ a. Some a) is));
-      kind = λ row is. settle_asks lines row (store_of h.book h.order x) x.now (sessions who.session).cache (h.stand.parts who.session) w settles (settler row is)
-          (h.stand.each who.session).work sound ask hand;
+      kind = λ row is. settle_asks lines row w settles (settler row is) sound ask hand;
     }
 
 -- ---- what is no call

@@ -19,7 +19,7 @@ use Rattle.replay_meaning.specs.Committed.{Versions, committed}
 use Rattle.replay_meaning.specs.Kinds.{IsOfKind, OpensOnce}
 use Rattle.tree_walk.specs.Walk.{sought}
 use Rattle.commit_run.specs.Run.{home_of}
-use Rattle.replay_model.specs.Running.{IsOpening, IsRunning}
+use Rattle.replay_model.specs.Running.{IsOpening, IsSettledHead, IsRunning, IsOfTree}
 use Rattle.cloud_facts.specs.Calls.Looks.{audit_of}
 use Rattle.session_facts.specs.Sessions.Sessions.{Sessions, SessionsStand}
 use Rattle.cloud_facts.specs.Book.Book.{Book}
@@ -63,16 +63,16 @@ Reported lines order = (k : ℕ) (line : Line) → slice_get lines k ≡ Some li
 
 -- ---- how a session stands by the lines
 
--- a session's work is what the lines say that it has in hand; a settling is no session's of the lines
+-- a session's work is what the lines say that it has in hand, and under way; a settling is no session's of the lines
 abbrev pub WorksAs : Work → Standing → Type 0
 WorksAs work.Closed s = s.posture ≡ Closed
 WorksAs (work.Idle home) s = (s.posture ≡ Idle) × (s.client ≡ home.client)
-WorksAs (work.Opening r) s = (s.posture ≡ Working Opening) × (s.client ≡ r.client) × (s.buffer ≡ []) × IsOpening r
+WorksAs (work.Opening r) s = (s.posture ≡ Working Opening) × (s.client ≡ r.client) × (s.buffer ≡ []) × IsOpening r × IsSettledHead r
 WorksAs (work.Committing r) s = (s.posture ≡ Working (Committing r.draft.writes.changes)) × (s.client ≡ (home_of r).client) × IsRunning r
 WorksAs (work.Reading home m) s = (s.posture ≡ Working (ReadingKey m.tree (sought m))) × (s.client ≡ home.client)
 WorksAs (work.Scanning home l) s = (s.posture ≡ Working (ScanningRange l.scan.walk.tree (sought l.scan.walk) (unwrap_or l.scan.to []))) × (s.client ≡ home.client)
 WorksAs (work.Paging home p) s = (s.posture ≡ Working (PagingPage p.tree p.page)) × (s.client ≡ home.client)
-WorksAs (work.Folding home f) s = (s.posture ≡ Working (FoldingTree f.tree)) × (s.client ≡ home.client)
+WorksAs (work.Folding home f) s = (s.posture ≡ Working (FoldingTree f.tree)) × (s.client ≡ home.client) × IsOfTree f.tree f.work
 WorksAs (work.Closing lease) s = s.posture ≡ Working Closing
 WorksAs (work.Renewing home) s = (s.posture ≡ Working Renewing) × (s.client ≡ home.client)
 WorksAs (work.Settling m) s = ⊥

@@ -62,10 +62,10 @@ use Rattle.world_core.specs.Stands.{StandsFor}
 use Rattle.world_core.proofs.StandsLemmas.{IsNoReport, Ready, acts_before, changed_was, quiet_line, quiet_refused, replies_to}
 
 -- the reply of a line
-abbrev IsOk : Reply → Result Reply WorldFault → Type 0
+abbrev pub IsOk : Reply → Result Reply WorldFault → Type 0
 IsOk r result = (let own : Result Reply WorldFault = Ok r in own ≡ result)
 
-refused_is : (r : Reply) (rule : Refusal) → IsOk r (declined (refused.Rule rule)) → r ≡ reply.Refused rule
+pub refused_is : (r : Reply) (rule : Refusal) → IsOk r (declined (refused.Rule rule)) → r ≡ reply.Refused rule
 refused_is r rule e = cc
 
 -- ---- an operation begins
@@ -79,32 +79,32 @@ begun_stands lines event k before after old new t o result right ready c =
     (subst (λ a. Begins o a c.after c.does.begun) (sym (changed_was k _ old.sessions new.sessions c)) c.does.begins)
 
 -- how the session stands after it
-abbrev LeavesSession : Event → Reply → ℕ → List Line → Acting → Type 0
+abbrev pub LeavesSession : Event → Reply → ℕ → List Line → Acting → Type 0
 LeavesSession event r k lines a = ActsAs a (after_own event r (standing lines k)) × IsNoReport r
 
-refused_session : (event : Event) (r : Reply) (rule : Refusal) (k : ℕ) (lines : List Line) (a b : Acting) → IsOk r (declined (refused.Rule rule)) → b ≡ a → ActsAs a (standing lines k)
+pub refused_session : (event : Event) (r : Reply) (rule : Refusal) (k : ℕ) (lines : List Line) (a b : Acting) → IsOk r (declined (refused.Rule rule)) → b ≡ a → ActsAs a (standing lines k)
     → LeavesSession event r k lines b
 refused_session event r rule k lines a b e same acts =
     let is : r ≡ reply.Refused rule = refused_is r rule e in
     let P : Reply → Type 0 = λ z. LeavesSession event z k lines b in
     subst P (sym is) (subst (ActsAs b) (sym (refused_own event rule (standing lines k))) (subst (λ z. ActsAs z (standing lines k)) (sym same) acts), tt)
 
-opens : (k client : ℕ) (r : Reply) (lines : List Line) (a b : Acting) (begun : Result Begun Refused) → ActsAs a (standing lines k) → BeginsOpening client a b begun → RepliesBegun begun b (Ok r)
+pub opens : (k client : ℕ) (r : Reply) (lines : List Line) (a b : Acting) (begun : Result Begun Refused) → ActsAs a (standing lines k) → BeginsOpening client a b begun → RepliesBegun begun b (Ok r)
     → LeavesSession (event.Open k client) r k lines b
 opens k client r lines a b (Ok Working) acts begins e =
     let is : r ≡ reply.Begun = cc in
     let P : Reply → Type 0 = λ z. LeavesSession (event.Open k client) z k lines b in
-    subst P (sym is) (subst (λ z. ActsAs z (after_own (event.Open k client) reply.Begun (standing lines k))) (sym begins.1) (record { buffer = refl; work = (refl, refl, refl, opening_begins client (old_lease a.work)) }), tt)
+    subst P (sym is) (subst (λ z. ActsAs z (after_own (event.Open k client) reply.Begun (standing lines k))) (sym begins.1) (record { buffer = refl; work = (refl, refl, refl, opening_begins client (old_lease a.work), refl) }), tt)
 opens k client r lines a b (Ok (Answered x)) acts begins e = absurd begins
 opens k client r lines a b (Err (refused.Rule rule)) acts begins e = refused_session (event.Open k client) r rule k lines a b e begins.1 acts
 opens k client r lines a b (Err refused.Memory) acts begins e = absurd begins
 
 -- what the lines say of an open client
-idle_of : (k : ℕ) (lines : List Line) (a : Acting) (home : Home) → a.work ≡ work.Idle home → ActsAs a (standing lines k) → WorksAs (work.Idle home) (standing lines k)
+pub idle_of : (k : ℕ) (lines : List Line) (a : Acting) (home : Home) → a.work ≡ work.Idle home → ActsAs a (standing lines k) → WorksAs (work.Idle home) (standing lines k)
 idle_of k lines a home e acts = subst (λ w. WorksAs w (standing lines k)) e acts.work
 
 -- an operation begins that leaves what was noted
-has_in_hand : (event : Event) (k : ℕ) (r : Reply) (lines : List Line) (own : Home → Work) (a b : Acting) (begun : Result Begun Refused) → ActsAs a (standing lines k)
+pub has_in_hand : (event : Event) (k : ℕ) (r : Reply) (lines : List Line) (own : Home → Work) (a b : Acting) (begun : Result Begun Refused) → ActsAs a (standing lines k)
     → ((home : Home) → WorksAs (work.Idle home) (standing lines k) → ActsAs (record a { work = own home; shown = Nothing }) (after_own event reply.Begun (standing lines k)))
     → BeginsWith (λ home. HasInHand a (own home)) a b begun → RepliesBegun begun b (Ok r) → LeavesSession event r k lines b
 has_in_hand event k r lines own a b (Ok begun) acts stands begins e =
@@ -152,7 +152,7 @@ commits_nothing k r lines buffer home c b begun same idle empty nothing e =
     let P : Reply → Type 0 = λ z. LeavesSession (event.Commit k) z k lines b in
     subst P (sym is) (acts_by b (work.Idle home) (standing lines k) nothing.work_is (empty ∙ sym nothing.none ∙ same) idle, tt)
 
-commits : (k : ℕ) (r : Reply) (lines : List Line) (a b : Acting) (begun : Result Begun Refused) → ActsAs a (standing lines k) → BeginsWith (CommitsIn a) a b begun
+pub commits : (k : ℕ) (r : Reply) (lines : List Line) (a b : Acting) (begun : Result Begun Refused) → ActsAs a (standing lines k) → BeginsWith (CommitsIn a) a b begun
     → RepliesBegun begun b (Ok r) → LeavesSession (event.Commit k) r k lines b
 commits k r lines a b (Ok begun) acts begins e = on begins.2.1
   where
@@ -197,7 +197,7 @@ reads_of k tree key r lines home old b (Answered (answer.Trouble t)) same idle r
     subst P (sym is.0) (acts_by b (work.Idle home) (standing lines k) (reads.2 ∙ stays_idle t home is.1) same idle, tt)
 reads_of k tree key r lines home old b (Answered a) same idle reads e = absurd reads
 
-reads : (k tree : ℕ) (key : List ℕ) (r : Reply) (lines : List Line) (a b : Acting) (begun : Result Begun Refused) → ActsAs a (standing lines k) → BeginsWith (ReadsIn tree key a) a b begun
+pub reads : (k tree : ℕ) (key : List ℕ) (r : Reply) (lines : List Line) (a b : Acting) (begun : Result Begun Refused) → ActsAs a (standing lines k) → BeginsWith (ReadsIn tree key a) a b begun
     → RepliesBegun begun b (Ok r) → LeavesSession (event.Read k tree key) r k lines b
 reads k tree key r lines a b (Ok begun) acts begins e =
     reads_of k tree key r lines begins.0 a.cache b begun (begins.2.0 ∙ acts.buffer) (idle_of k lines a begins.0 begins.1 acts) begins.2.1 e
@@ -259,7 +259,7 @@ module _ (k tree : ℕ) (first last : List ℕ) (r : Reply) (lines : List Line) 
   scans_by buffer old n (Ended page) (Stopped t) moves f is = absurd f
   scans_by buffer old n (Stopped t) turn moves f is = scan_stops t f.0 (subst (λ z. begins_by z begun) f.2 is)
 
-scans : (k tree : ℕ) (first last : List ℕ) (r : Reply) (lines : List Line) (a b : Acting) (begun : Result Begun Refused) → ActsAs a (standing lines k)
+pub scans : (k tree : ℕ) (first last : List ℕ) (r : Reply) (lines : List Line) (a b : Acting) (begun : Result Begun Refused) → ActsAs a (standing lines k)
     → BeginsWith (ScansIn tree (bound_of first) (bound_of last) a) a b begun → RepliesBegun begun b (Ok r) → LeavesSession (event.Scan k tree first last) r k lines b
 scans k tree first last r lines a b (Ok begun) acts begins e =
     let s : ScansOf begins.0 a.buffer (new_scan tree (bound_of first) (bound_of last)) a.cache b.cache b.work b.shown begun = begins.2.1 in
@@ -292,7 +292,7 @@ pub folding_begun : (lines : List Line) (k tree : ℕ) (r : Reply) (before after
     → StandsFor (lines ++ line_of (event.Tree k tree) r ∷ []) new after r
 folding_begun lines k tree r before after old new t is ready c =
     in_hand_begun lines (event.Tree k tree) k r before after old new t ready (op.Tree tree) (folding_begun_by tree) is c
-    (λ home idle. record { buffer = same_buffer lines (event.Tree k tree) k r before after old new t ready (op.Tree tree) c; work = (refl, idle.1) }) c.does.begins
+    (λ home idle. record { buffer = same_buffer lines (event.Tree k tree) k r before after old new t ready (op.Tree tree) c; work = (refl, idle.1, tt) }) c.does.begins
 
 pub paging_begun : (lines : List Line) (k tree page : ℕ) (r : Reply) (before after : Seen) (old new : World) (t : CloudState) → IsTree tree → IsPage page
     → Ready lines (event.Page k tree page) k before after old new t → Changes k (BeginsOp (op.Page tree page) (Ok r)) old.sessions new.sessions
@@ -356,7 +356,7 @@ same_stands lines event k before after old new t Does ready c same =
         on (inr ne) = at_other k c.after (session_at old.sessions) n ne
 
 -- what a session works on does not look at the buffer of an open client
-works_with : (w : Work) (s : Standing) (buffer : List Noted) → rule_of w ≡ None → WorksAs w s → WorksAs w (record s { buffer = buffer })
+pub works_with : (w : Work) (s : Standing) (buffer : List Noted) → rule_of w ≡ None → WorksAs w s → WorksAs w (record s { buffer = buffer })
 works_with (work.Idle home) s buffer opened works = works
 works_with w s buffer opened works = absurd (cc)
 

@@ -56,13 +56,13 @@ request_stands n k event Is Settle before after old new r lines t belongs answer
 
 -- ---- a change is noted
 
-insert_is : (key payload : List ℕ) → IsKey key → IsPayload payload → IsChange (Insert key payload)
+pub insert_is : (key payload : List ℕ) → IsKey key → IsPayload payload → IsChange (Insert key payload)
 insert_is key payload k p = record { key = k; payload = p }
 
-update_is : (key payload : List ℕ) → IsKey key → IsPayload payload → IsChange (Update key payload)
+pub update_is : (key payload : List ℕ) → IsKey key → IsPayload payload → IsChange (Update key payload)
 update_is key payload k p = record { key = k; payload = p }
 
-delete_is : (key : List ℕ) → IsKey key → IsChange (Delete key)
+pub delete_is : (key : List ℕ) → IsKey key → IsChange (Delete key)
 delete_is key k = record { key = k; payload = omega arith }
 
 noted_line : (lines : List Line) (event : Event) (n k tree : ℕ) (change : Change) (request : Request) (before after : Seen) (old new : World) (r : Reply) (t : CloudState) (Is : Result Change Refused → Type 0)
@@ -80,11 +80,11 @@ noted_line lines event n k tree change Run before after old new r t Is own does 
 noted_line lines event n k tree change (Crash d) before after old new r t Is own does is_change s noted done = absurd noted
 
 -- what is done is what was asked
-does_own : (n k : ℕ) (request own : Request) (before after : Seen) (old new : World) (r : Reply) → request ≡ own → Does n k request before after old new (Ok r)
+pub does_own : (n k : ℕ) (request own : Request) (before after : Seen) (old new : World) (r : Reply) → request ≡ own → Does n k request before after old new (Ok r)
     → Does n k own before after old new (Ok r)
 does_own n k request own before after old new r is done = subst (λ z. Does n k z before after old new (Ok r)) is done
 
-asked_is : (request own : Request) → (let a : Result Request Refused = Ok request in let b : Result Request Refused = Ok own in a ≡ b) → request ≡ own
+pub asked_is : (request own : Request) → (let a : Result Request Refused = Ok request in let b : Result Request Refused = Ok own in a ≡ b) → request ≡ own
 asked_is request own e = cc
 
 asked_stands : (n : ℕ) (event : Event) (asked : Asked) (before after : Seen) (old new : World) (r : Reply) (lines : List Line) (t : CloudState)

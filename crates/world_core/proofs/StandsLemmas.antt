@@ -23,9 +23,7 @@ use Rattle.cloud_trait.specs.declared.turn.Turn.TheVariants.{More, Ended, Stoppe
 use Rattle.cloud_trait.proofs.EffectLemmas.{begins_same}
 use Rattle.client_session.specs.declared.answer.Answer.{Answer}
 use Rattle.client_session.specs.declared.answer.Answer.TheVariants as answer
-use Rattle.client_session.specs.declared.work.Work.{Work}
-use Rattle.client_session.specs.declared.work.Work.TheVariants.{Closed, Idle, Opening, Committing, Reading, Scanning, Paging, Folding, Closing, Renewing, Settling, Broken}
-use Rattle.client_session.specs.Session.{Acting, closed_session, settling_session, StepsAt, StepsSession, items_of, noted_behind, value_of}
+use Rattle.client_session.specs.Session.{Acting, closed_session, settling_session, StepsSession, items_of, noted_behind, value_of}
 use Rattle.history.specs.Audited.{Audited}
 use Rattle.history.specs.Fold.{of_tree}
 use Rattle.world_audit.specs.Counts.{heads_upto, AreWaiting}
@@ -38,7 +36,7 @@ use Rattle.session_facts.proofs.Sessions.Laws.{crash_keeps}
 use Rattle.replay_meaning.specs.Standing.{Line, Standing, standing, after_line, after_own, session_of, steps}
 use Rattle.replay_meaning.specs.Right.{ReportIsRight}
 use Rattle.replay_model.specs.Facts.{session_at, ActsAs, AllAct, CloudHolds, IsFrontOf, SettlerRests, Stands, GoesOn}
-use Rattle.replay_model.proofs.CallKinds.{IsSettling, IsSettlersRow}
+use Rattle.replay_model.proofs.CallKinds.{IsSettling, IsSettlersRow, settling_goes}
 use Rattle.replay_model.proofs.Acting.{IsReplyTo, goes_as, goes_noted, ends_as}
 use Rattle.replay_model.proofs.LineLemmas.{line_of, AllActWith, begins_line, begins_with, line_through, holds_same, own_line, still_line, refused_own, acts_set}
 use Rattle.replay_model.proofs.Lists.{session_there, session_set}
@@ -111,7 +109,7 @@ refuses lines event r rule before after old new t is same world told stands =
     (world_holds lines old new t world stands)
     (still_line lines event (reply.Refused rule) (session_at new.sessions) (refused_own event rule) (world_acts lines old new t world stands)) (world_rests lines old new t world stands) tt)
 
-refused_is : (r : Reply) (rule : Refusal) → (let result : Result Reply WorldFault = Ok r in result ≡ declined (refused.Rule rule)) → r ≡ reply.Refused rule
+pub refused_is : (r : Reply) (rule : Refusal) → (let result : Result Reply WorldFault = Ok r in result ≡ declined (refused.Rule rule)) → r ≡ reply.Refused rule
 refused_is r rule e = cc
 
 pub declines : (lines : List Line) (event : Event) (r : Reply) (why : Refused) (before after : Seen) (old new : World) (t : CloudState)
@@ -131,7 +129,7 @@ pub changed_was : (number : ℕ) (Does : Acting → Acting → Type 0) (old new 
 changed_was number Does old new c = session_there old number c.before c.there
 
 -- the settler rests beside another session
-changed_rests : (number : ℕ) (Does : Acting → Acting → Type 0) (old new : List Acting) → 1 ≤ number → Changes number Does old new → SettlerRests (session_at old)
+pub changed_rests : (number : ℕ) (Does : Acting → Acting → Type 0) (old new : List Acting) → 1 ≤ number → Changes number Does old new → SettlerRests (session_at old)
     → SettlerRests (session_at new)
 changed_rests number Does old new some c rests = changed_at number Does old new c 0 ∙ at_other number c.after (session_at old) 0 (λ e. absurd (omega (arith, some, e))) ∙ rests
 
@@ -270,7 +268,7 @@ went_on lines who before old after new number way (further mid _ world _ went st
     step_more lines who Plain mid after world new number (went_on lines who before old mid world number way went) step
 
 -- the settler rests while another session makes steps
-went_rests : (who : Caller) (before : Seen) (old : World) (after : Seen) (new : World) → 1 ≤ who.session → Went who before old after new → SettlerRests (session_at old.sessions)
+pub went_rests : (who : Caller) (before : Seen) (old : World) (after : Seen) (new : World) → 1 ≤ who.session → Went who before old after new → SettlerRests (session_at old.sessions)
     → SettlerRests (session_at new.sessions)
 went_rests who before old after new some start rests = rests
 went_rests who before old after new some (further mid _ world _ went step) rests =
@@ -388,7 +386,7 @@ makes_step lines k n wish r before after old new t at some told stands (inr (inr
 
 -- ---- a session that dies
 
-crashed_own : (k : ℕ) (done : Bool) (s : Standing) → ActsAs closed_session (after_own (event.Crash k done) reply.Crashed s)
+pub crashed_own : (k : ℕ) (done : Bool) (s : Standing) → ActsAs closed_session (after_own (event.Crash k done) reply.Crashed s)
 crashed_own k done s = record { buffer = refl; work = refl }
 
 dies : (lines : List Line) (k : ℕ) (done : Bool) (r : Reply) (before after : Seen) (old new : World) (t : CloudState) → 1 ≤ k
@@ -403,7 +401,7 @@ dies lines k done r before after old new t some told stands h =
     (subst (λ a. ActsAs a (after_own (event.Crash k done) reply.Crashed (standing lines k))) (sym h.closed.does) (crashed_own k done (standing lines k))) tt)
 
 -- closing a session that a step changed closes it
-closed_twice : (k : ℕ) (a : Acting) (f g h : Sessions) → ((n : ℕ) → g n ≡ at k a f n) → ((n : ℕ) → h n ≡ at k closed_session g n) → (n : ℕ) → h n ≡ at k closed_session f n
+pub closed_twice : (k : ℕ) (a : Acting) (f g h : Sessions) → ((n : ℕ) → g n ≡ at k a f n) → ((n : ℕ) → h n ≡ at k closed_session g n) → (n : ℕ) → h n ≡ at k closed_session f n
 closed_twice k a f g h first second n = second n ∙ on (cases_eq n k)
   where
     on : (n ≡ k) ⊎ (n ≢ k) → at k closed_session g n ≡ at k closed_session f n
@@ -411,7 +409,7 @@ closed_twice k a f g h first second n = second n ∙ on (cases_eq n k)
     on (inr ne) = at_other k closed_session g n ne ∙ first n ∙ at_other k a f n ne ∙ sym (at_other k closed_session f n ne)
 
 -- the sessions of a world in which one is this one then
-has_at : (k : ℕ) (a : Acting) (world new : World) → Has k a world new → (n : ℕ) → session_at new.sessions n ≡ at k a (session_at world.sessions) n
+pub has_at : (k : ℕ) (a : Acting) (world new : World) → Has k a world new → (n : ℕ) → session_at new.sessions n ≡ at k a (session_at world.sessions) n
 has_at k a world new is n = changed_at k _ world.sessions new.sessions is.session_is n ∙ ap (λ z. at k z (session_at world.sessions) n) is.session_is.does
 
 -- what holds of a world in which a session is closed then
@@ -484,21 +482,6 @@ settled_plain (answer.Trouble t) r e = on t e
     on t e = let is : r ≡ reply.NotSettled t = cc in subst IsNoReport (sym is) tt
 settled_plain a r e = absurd e
 
--- a settling that goes on is one
-goes_settling : (who : Caller) (before after : Seen) (w new : Work) → StepsAt who before after w new More → IsSettling w → IsSettling new
-goes_settling who before after (Settling m) new p is = subst IsSettling (sym p.1.2) tt
-goes_settling who before after Closed new p is = absurd is
-goes_settling who before after (Idle home) new p is = absurd is
-goes_settling who before after (Opening m) new p is = absurd is
-goes_settling who before after (Committing m) new p is = absurd is
-goes_settling who before after (Reading home m) new p is = absurd is
-goes_settling who before after (Scanning home m) new p is = absurd is
-goes_settling who before after (Paging home m) new p is = absurd is
-goes_settling who before after (Folding home m) new p is = absurd is
-goes_settling who before after (Closing l) new p is = absurd is
-goes_settling who before after (Renewing home) new p is = absurd is
-goes_settling who before after (Broken l) new p is = absurd is
-
 -- the settler is under way within its line, which is one of these lines from its begin on, and the other sessions rest
 pub record SettlerGoes (n : ℕ) (lines : List Line) (first : Sessions) (world : World) (seen : Seen) : Type 0 where
   pub state : CloudState
@@ -559,7 +542,7 @@ settler_more n lines first row before after old new way p =
       told = left.told;
       holds = left.holds;
       works = subst (λ (a : Acting). IsSettling a.work) (sym (changed_at 0 _ old.sessions new.sessions p.session 0 ∙ at_same 0 p.session.after (session_at old.sessions) 0 refl))
-          (goes_settling (settler n) p.under p.to (session_at old.sessions 0).work p.session.after.work own.work way.works);
+          (settling_goes (settler n) p.under p.to (session_at old.sessions 0).work p.session.after.work own.work way.works);
       others = left.others;
     }
 
@@ -595,7 +578,7 @@ module _ (lines : List Line) (n : ℕ) (before : Seen) (old begun : World) (t : 
     told = told;
     holds = subst (λ k. CloudHolds k (lines ++ line_of event.Settle r ∷ []) (session_at begun.sessions) begun.audit begun.blind t) (sym number)
         (settle_begins lines r (session_at begun.sessions) begun.audit begun.blind t (λ order. no_report_front order r plain) begun_holds);
-    works = subst (λ (a : Acting). IsSettling a.work) (sym (has_at 0 settling_session old begun begins 0 ∙ at_same 0 settling_session before_it 0 refl)) tt;
+    works = subst (λ (a : Acting). IsSettling a.work) (sym (has_at 0 settling_session old begun begins 0 ∙ at_same 0 settling_session before_it 0 refl)) refl;
     others = λ m ne. has_at 0 settling_session old begun begins m ∙ at_other 0 settling_session before_it m ne;
   }
 

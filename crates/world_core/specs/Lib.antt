@@ -5,3 +5,4 @@ pub mod Replying
 pub mod Handled
 pub mod Stands
 pub mod Sound
+pub mod Added

@@ -9,9 +9,6 @@ pub mod Marks
 pub mod StandsLemmas
 pub mod BeginLemmas
 pub mod EveryLine
-<<<<<<< HEAD
 pub mod Sound
-=======
 pub mod AddedSteps
 pub mod AddedLines
->>>>>>> aeeb51921de6c3bfb4bdc33fe3a04d2d3b08ba84

@@ -3,6 +3,9 @@ pub mod Recoveries
 pub mod Pagings
 pub mod Passing
 pub mod Begins
+pub mod Rights
+pub mod PageSteps
+pub mod Ways
 pub mod SettlingOthers
 pub mod HeadPuts
 pub mod Beside

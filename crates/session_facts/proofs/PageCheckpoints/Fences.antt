@@ -79,7 +79,7 @@ newest_landed nodes page l newest = on (nodes page) refl
 -- ---- the link that a run takes
 
 -- a right page that is named
-named_right : (n page : ℕ) → page_at n ≡ Some page → n ≡ page
+pub named_right : (n page : ℕ) → page_at n ≡ Some page → n ≡ page
 named_right zero page e = absurd (cc)
 named_right (suc n) page e = cc
 
@@ -87,7 +87,7 @@ none_named : (n : ℕ) → page_at n ≡ None → n ≡ 0
 none_named zero e = refl
 none_named (suc n) e = absurd (cc)
 
-some_named : (n page : ℕ) → page_at n ≡ Some page → n ≢ 0
+pub some_named : (n page : ℕ) → page_at n ≡ Some page → n ≢ 0
 some_named zero page e none = absurd (cc)
 some_named (suc n) page e none = absurd (cc)
 
@@ -152,7 +152,7 @@ module _ (chain : ℕ → List Link) (height : ℕ) (levels : AreLevels chain he
       on (inr (zero, there)) = let same : next ≡ p = cc in subst (IsUpto (chain 0) low) same upto_itself
       on (inr (suc place, there)) = absurd (in_none [] p refl (place, there))
 
-  unseen : (visited : List ℕ) → ((p : ℕ) → IsIn visited p → IsUpto (chain 0) at p) → list_any (λ q. q == next) visited ≡ false
+  pub unseen : (visited : List ℕ) → ((p : ℕ) → IsIn visited p → IsUpto (chain 0) at p) → list_any (λ q. q == next) visited ≡ false
   unseen [] behind = refl
   unseen (q ∷ visited) behind = on (q == next) refl (unseen visited (λ p is. behind p (suc is.0, is.1)))
     where

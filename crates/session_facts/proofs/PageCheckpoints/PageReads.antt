@@ -1,6 +1,7 @@
 -- What the held get of a page shows: the newest version of the page that was named, and at a right page the leaf that its link promised.
 use Rattle.std.proofs.Common.{◌≡◌, ◌==◌, inl, inr, ℕ, Bool, true, false, cond, List, [], Option, Some, None, Result, Ok, Err, refl, sym, ap, subst, ◌∙◌}
 use Rattle.std.proofs.lemmas.Bool.{eqb-true, eq-eqb}
+use Rattle.std.specs.Prelude.{◌-◌, length, slice_get}
 use Rattle.byte_format.specs.Order.{bytes_same}
 use Rattle.byte_format.proofs.OrderLemmas.{same_itself}
 use Rattle.cloud_facts.specs.Chains.Chain.{IsChained}
@@ -10,14 +11,18 @@ use Rattle.cloud_facts.specs.Calls.Standing.{StandsUnder}
 use Rattle.cloud_facts.proofs.Calls.Firsts.{newest_leafy, chain_leaf}
 use Rattle.cloud_facts.proofs.Calls.Pages.{none_landed, some_landed}
 use Rattle.cloud_trait.specs.State.{CloudState, newest}
+use Rattle.cloud_trait.specs.declared.state.Version.{Version}
 use Rattle.db_base.specs.Ids.{IsTree}
 use Rattle.db_base.specs.declared.names.ObjName.TheVariants as object
 use Rattle.db_base.specs.declared.trouble.Trouble.{Trouble}
 use Rattle.db_base.specs.declared.trouble.Trouble.TheVariants as trouble
 use Rattle.cloud_facts.specs.Decoding.Kinds.{IsNode}
+use Rattle.cloud_facts.proofs.Decoding.Newest.{newest_last}
+use Rattle.cloud_facts.proofs.Decoding.Reading.{node_reads}
 use Rattle.cloud_facts.proofs.Decoding.Values.{newest_page_decodes}
 use Rattle.leaf_view.specs.Leaf.{Leaf, IsLeaf}
 use Rattle.leaf_view.specs.Lookup.{empty_leaf}
+use Rattle.node_codec.specs.Inner.{IsInner}
 use Rattle.page_ckpt.specs.Paging.{IsNoInner, HoldsNamed}
 use Rattle.ckpt_parts.specs.Leaves.{IsNoLeaf}
 use Rattle.report_types.specs.declared.entry.Entry.{Entry}
@@ -25,7 +30,7 @@ use Rattle.session_facts.proofs.Runs.Leaves.{absent_page, spelled_page}
 use Rattle.cloud_facts.specs.Book.Book.{Book, Link}
 use Rattle.cloud_facts.specs.Book.Records.{IsIn}
 use Rattle.cloud_facts.specs.Book.Tally.{Node, Leafy, Branch, low_of}
-use Rattle.cloud_facts.specs.Book.Telling.{leaf_in, nodes_of, roots_of, newest_leaf, newest_root}
+use Rattle.cloud_facts.specs.Book.Telling.{leaf_in, node_in, nodes_of, roots_of, newest_leaf, newest_root}
 use Rattle.cloud_facts.proofs.Chains.Newest.{newest_is}
 use Rattle.session_facts.specs.PageCheckpoints.Checkpoint.{MayStop}
 use Rattle.session_facts.specs.PageCheckpoints.Rights.{IsNewestLeaf}
@@ -100,6 +105,26 @@ module _ (book : Book) (order : List Entry) (s : CloudState) (stands : StandsUnd
     plain_is (Some bytes) plain e (inl (l, spells, is)) = is ∙ ap ok (sym (ap leaf_in (spelled_page s tree link.page bytes l e spells)))
     plain_is (Some bytes) plain e (inr (no_leaf, is)) =
         absurd (no_leaf leaf (subst (IsNode bytes) leafy (newest_page_decodes s tree link.page bytes stands.decodes e)))
+
+    -- whatever names it
+    pub named_leaf : (got : Option (List ℕ)) (found : Found) → newest s (object.Page tree link.page) ≡ got → HoldsNamed tree link.page got found → found ≡ Ok leaf
+    named_leaf None found e is = plain_is None found e is
+    named_leaf (Some bytes) found e (inl (n, spells, is)) = absurd (both (sym as_inner ∙ as_leaf))
+      where
+        last : (v : Version) × (slice_get (s.versions (object.Page tree link.page)) (length (s.versions (object.Page tree link.page)) - 1) ≡ Some v) × (v.bytes ≡ bytes)
+        last = newest_last (s.versions (object.Page tree link.page)) bytes e
+
+        as_inner : node_in last.0 ≡ Branch n
+        as_inner = node_reads last.0 (Branch n) (subst (λ (b : List ℕ). IsInner b n) (sym last.2) spells)
+
+        as_leaf : node_in last.0 ≡ Leafy leaf
+        as_leaf =
+            node_reads last.0 (Leafy leaf)
+            (subst (λ (b : List ℕ). IsNode b (Leafy leaf)) (sym last.2) (subst (IsNode bytes) leafy (newest_page_decodes s tree link.page bytes stands.decodes e)))
+
+        both : Branch n ≡ Leafy leaf → ⊥
+        both q = absurd (cc)
+    named_leaf (Some bytes) found e (inr (no_inner, reads)) = plain_is (Some bytes) found e reads
 
     pub linked_is : (got : Option (List ℕ)) (found : Found) → newest s (object.Page tree link.page) ≡ got → HoldsLinked tree link.page link.low got found
         → IsLinkedLeaf (nodes_of s tree) link.page link.low found

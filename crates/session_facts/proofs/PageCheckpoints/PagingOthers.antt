@@ -43,7 +43,7 @@ in_both tree page right held h =
 in_grown : {X : Type 0} (xs ys : List X) (x : X) → BeginsWith xs ys → IsIn xs x → IsIn ys x
 in_grown xs ys x (more, is) there = subst (λ zs. IsIn zs x) (sym is) (in_front xs more x there)
 
-landed_stays : (nodes more : ℕ → List Node) (page : ℕ) (l : Leaf) → BeginsWith (nodes page) (more page) → IsLanded nodes page l → IsLanded more page l
+pub landed_stays : (nodes more : ℕ → List Node) (page : ℕ) (l : Leaf) → BeginsWith (nodes page) (more page) → IsLanded nodes page l → IsLanded more page l
 landed_stays nodes more page l begins (inl empty) = inl empty
 landed_stays nodes more page l begins (inr there) = inr (in_grown (nodes page) (more page) (Leafy l) begins there)
 

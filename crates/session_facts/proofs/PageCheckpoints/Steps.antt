@@ -102,19 +102,19 @@ refused_may page Memory = tt
 refusal : {X : Type 0} (page : ℕ) (a b : Trouble) (g : Result X Trouble) → MayStop page a → g ≡ Err a → g ≡ Err b → MayStop page b
 refusal page a b g may e f = let same : a ≡ b = cc in subst (MayStop page) same may
 
-got_may : (page : ℕ) (a : Answer) (t : Trouble) → got_of a ≡ Err t → MayStop page t
+pub got_may : (page : ℕ) (a : Answer) (t : Trouble) → got_of a ≡ Err t → MayStop page t
 got_may page (Got v) t e = absurd (cc)
 got_may page a t e = refusal page (trouble_of a) t (got_of a) (refused_may page a) refl e
 
-received_may : (page : ℕ) (a : Answer) (t : Trouble) → received_of a ≡ Err t → MayStop page t
+pub received_may : (page : ℕ) (a : Answer) (t : Trouble) → received_of a ≡ Err t → MayStop page t
 received_may page (Received ms) t e = absurd (cc)
 received_may page a t e = refusal page (trouble_of a) t (received_of a) (refused_may page a) refl e
 
-done_may : (page : ℕ) (a : Answer) (t : Trouble) → done_of a ≡ Err t → MayStop page t
+pub done_may : (page : ℕ) (a : Answer) (t : Trouble) → done_of a ≡ Err t → MayStop page t
 done_may page Done t e = absurd (cc)
 done_may page a t e = refusal page (trouble_of a) t (done_of a) (refused_may page a) refl e
 
-given_may : (page : ℕ) (k : Lock) (a : Answer) (t : Trouble) → given_of k a ≡ Err t → MayStop page t
+pub given_may : (page : ℕ) (k : Lock) (a : Answer) (t : Trouble) → given_of k a ≡ Err t → MayStop page t
 given_may page k (Given l) t e = absurd (cc)
 given_may page k (Held until) t e = refusal page (trouble.Busy k until) t (given_of k (Held until)) tt refl e
 given_may page k a t e = refusal page (trouble_of a) t (given_of k a) (refused_may page a) refl e

@@ -216,4 +216,4 @@ module _ (lines : List Line) (row : Landing) where
   pub settling_asks : (st : Store) (now : ℕ) (m : Settling) (part : Part) → KnowsSettling st now m part → IsOfSettler lines row
       → ((client : ℕ) (bytes : List ℕ) (one : Claim) (two : Option Claim) → settle_ask m ≡ PutHeld (object.Head client) bytes one two → MayAsk lines row (PutHeld (object.Head client) bytes one two))
       → MayAsk lines row (settle_ask m)
-  settling_asks st now m part k own heads = part_may st now m.part part k own heads
+  settling_asks st now m part k own heads = part_may st now m.part part k.work own heads

@@ -1,4 +1,4 @@
--- Why a settling stops: for no object that is damaged, for no fence and for no stale read.
+-- Why a settling stops: for no object that is damaged, no fence, no way, no page and no stale read.
 use Rattle.std.proofs.Common.{◌≡◌, ◌+◌, ◌==◌, ℕ, Bool, true, false, cond, List, [], ◌∷◌, Option, Some, None, refl, sym, subst}
 use Rattle.std.specs.Prelude.{nat_lt}
 use Rattle.cloud_facts.specs.Calls.Acting.{Setting}
@@ -6,6 +6,7 @@ use Rattle.cloud_facts.specs.Calls.Call.{IsCall}
 use Rattle.cloud_trait.specs.declared.answer.Answer.{Answer}
 use Rattle.cloud_trait.specs.declared.turn.CkptAnswer.{CkptAnswer}
 use Rattle.cloud_trait.specs.Caller.{Caller}
+use Rattle.cloud_trait.specs.Claim.{Claim}
 use Rattle.cloud_trait.specs.Machine.{Next, Goes, Ends, Stops}
 use Rattle.cloud_trait.specs.State.{CloudState}
 use Rattle.db_base.specs.declared.trouble.Trouble.{Trouble}
@@ -22,7 +23,8 @@ use Rattle.recover_run.specs.Ids.{new_ids}
 use Rattle.recover_run.specs.Recovery.{Recovery, recovery_next}
 use Rattle.report_types.specs.declared.entry.Entry.{Entry}
 use Rattle.session_facts.specs.Sessions.Answering.{MaySettle}
-use Rattle.session_facts.specs.Settlings.Settling.{KnowsAtWork, KnowsSettling, leases_at_work, leases_of_settling}
+use Rattle.session_facts.specs.Settlings.Settling.{IsOfNoPage, KnowsAtWork, KnowsSettling, leases_at_work, leases_of_settling}
+use Rattle.session_facts.proofs.Settlings.Ways.{PartWay, part_way, unvisited}
 use Rattle.settle_run.specs.declared.part.Part.{Part as AtWork}
 use Rattle.settle_run.specs.declared.part.Part.TheVariants.{Client, Tree, Page}
 use Rattle.settle_run.specs.Parts.{part_ask, part_received, part_of_tree, recovers, makes, pages, PartLeads}
@@ -41,6 +43,12 @@ StepMay (Goes s) = Unit {0}
 StepMay (Ends s x) = Unit {0}
 StepMay (Stops s t) = MaySettle t
 
+-- where a checkpoint of a page leads is a page whose own checkpoints did not begin before
+abbrev LeadsOnce : AtWork → Settling → Type 0
+LeadsOnce (Client client m) s = Unit {0}
+LeadsOnce (Tree tree m) s = Unit {0}
+LeadsOnce (Page tree page m) s = (right : ℕ) → page_at m.home.right ≡ Some right → is_visited s right ≡ false
+
 tree_may : (s : Settling) (tree : ℕ) → StepMay (behind_tree s tree)
 tree_may s tree = on (nat_lt tree 16)
   where
@@ -48,82 +56,95 @@ tree_may s tree = on (nat_lt tree 16)
     on true = tt
     on false = tt
 
-right_may : (s : Settling) (tree : ℕ) (o : Option ℕ) → StepMay (goes_right s tree o)
-right_may s tree None = tree_may s tree
-right_may s tree (Some page) = on (is_visited s page)
-  where
-    on : (b : Bool) → StepMay (cond b (Stops s (trouble.Loop page)) (to_page s tree page))
-    on true = tt
-    on false = tt
+right_may : (s : Settling) (tree : ℕ) (o : Option ℕ) → ((right : ℕ) → o ≡ Some right → is_visited s right ≡ false) → StepMay (goes_right s tree o)
+right_may s tree None once = tree_may s tree
+right_may s tree (Some page) once = subst (λ b. StepMay (cond b (Stops s (trouble.Loop page)) (to_page s tree page))) (sym (once page refl)) tt
 
-on_may : (s : Settling) (w : AtWork) → StepMay (goes_on s w)
-on_may s (Client client m) = tt
-on_may s (Tree tree m) = tt
-on_may s (Page tree page m) = right_may s tree (page_at m.home.right)
+on_may : (s : Settling) (w : AtWork) → LeadsOnce w s → StepMay (goes_on s w)
+on_may s (Client client m) once = tt
+on_may s (Tree tree m) once = tt
+on_may s (Page tree page m) once = right_may s tree (page_at m.home.right) once
 
-passed_may : (s : Settling) (ids : List ℕ) → StepMay (passed_with s ids)
-passed_may s [] = on_may s s.part
-passed_may s (id ∷ ids) = tt
+passed_may : (s : Settling) (ids : List ℕ) → LeadsOnce s.part s → StepMay (passed_with s ids)
+passed_may s [] once = on_may s s.part once
+passed_may s (id ∷ ids) once = tt
 
-ended_may : (s : Settling) (left : ℕ) → StepMay (ended_by s left)
-ended_may s left = on (left == 0)
+ended_may : (s : Settling) (left : ℕ) → LeadsOnce s.part s → StepMay (ended_by s left)
+ended_may s left once = on (left == 0)
   where
     on : (b : Bool) → StepMay (cond b (passed s) (Stops s trouble.Failed))
-    on true = passed_may s (new_ids s.known (part_received s.part))
+    on true = passed_may s (new_ids s.known (part_received s.part)) once
     on false = tt
 
 -- ---- the part at work
 
-abbrev PartMay : Next AtWork ℕ → Type 0
-PartMay (Goes w) = Unit {0}
-PartMay (Ends w left) = Unit {0}
-PartMay (Stops w t) = MaySettle t
+abbrev PartMay : Settling → Next AtWork ℕ → Type 0
+PartMay s (Goes w) = Unit {0}
+PartMay s (Ends w left) = LeadsOnce w s
+PartMay s (Stops w t) = MaySettle t
 
-moved_may : (s : Settling) (x : Next AtWork ℕ) → PartMay x → StepMay (moved s x)
+-- the settling counts a call, and stands as its part does
+same_once : (s : Settling) (w : AtWork) → LeadsOnce w s → LeadsOnce w (counted (with_part s w))
+same_once s (Client client m) once = tt
+same_once s (Tree tree m) once = tt
+same_once s (Page tree page m) once = once
+
+moved_may : (s : Settling) (x : Next AtWork ℕ) → PartMay s x → StepMay (moved s x)
 moved_may s (Goes w) may = tt
-moved_may s (Ends w left) may = ended_may (counted (with_part s w)) left
+moved_may s (Ends w left) may = ended_may (counted (with_part s w)) left (same_once s w may)
 moved_may s (Stops w t) may = may
 
 of_opening : (t : Trouble) → MayStopOpening t → MaySettle t
-of_opening (trouble.Damaged place offset) may = absurd may
-of_opening (trouble.BadFence page expected found) may = absurd may
-of_opening (trouble.Stale page least got) may = absurd may
-of_opening t may = tt
+of_opening t may = may
 
 of_tree : (t : Trouble) → MayStopTree t → MaySettle t
-of_tree (trouble.Damaged place offset) may = absurd may
-of_tree (trouble.BadFence page expected found) may = absurd may
-of_tree (trouble.Stale page least got) may = absurd may
-of_tree t may = tt
+of_tree trouble.Failed may = tt
+of_tree (trouble.Late end now) may = tt
+of_tree (trouble.Busy lock until) may = tt
+of_tree (trouble.Exhausted what) may = tt
+of_tree trouble.Memory may = tt
+of_tree t may = absurd may
 
-of_page : (page : ℕ) (t : Trouble) → MayStopPage page t → MaySettle t
-of_page page (trouble.Damaged place offset) may = absurd may
-of_page page (trouble.BadFence named expected found) may = absurd may
-of_page page (trouble.Stale named least got) may = absurd may
-of_page page t may = tt
+of_page : (page : ℕ) (t : Trouble) → MayStopPage page t → IsOfNoPage t → MaySettle t
+of_page page trouble.Failed may fair = tt
+of_page page (trouble.Late end now) may fair = tt
+of_page page (trouble.Busy lock until) may fair = tt
+of_page page (trouble.Exhausted what) may fair = tt
+of_page page trouble.Memory may fair = tt
+of_page page (trouble.Absent named) may fair = absurd fair
+of_page page (trouble.NotALeaf named) may fair = absurd fair
+of_page page t may fair = absurd may
 
-module _ (who : Caller) (s t : CloudState) (book : Book) (order : List Entry) (parts : Parts) (reply : Answer) where
-  part_may : (w : AtWork) → Setting book order s t.now parts who.session (leases_at_work w) → KnowsAtWork (store_of book order s) s.now w (parts who.session) → IsCall who (part_ask w) reply s t
-      → (x : Next AtWork ℕ) → PartLeads w reply x → PartMay x
-  part_may (Client client m) setting k call x (step, leads, to) = subst PartMay (sym to) (on step leads)
+module _ (who : Caller) (s t : CloudState) (book : Book) (order : List Entry) (parts : Parts) (reply : Answer) (at : Settling) (leases : List Claim)
+    (setting : Setting book order s t.now parts who.session leases) where
+  abbrev st : Store
+  st = store_of book order s
+
+  part_may : (w : AtWork) → Setting book order s t.now parts who.session (leases_at_work w) → KnowsAtWork st s.now w (parts who.session) → IsCall who (part_ask w) reply s t
+      → (x : Next AtWork ℕ) → PartLeads w reply x → PartWay st at.visited x → PartMay at x
+  part_may (Client client m) held k call x (step, leads, to) way = subst (PartMay at) (sym to) (on step leads)
     where
-      on : (step : Next Recovery RecoverAnswer) → recovery_next m reply ≡ step → PartMay (recovers client step)
+      on : (step : Next Recovery RecoverAnswer) → recovery_next m reply ≡ step → PartMay at (recovers client step)
       on (Goes n) leads = tt
       on (Ends n a) leads = tt
-      on (Stops n q) leads = of_opening q (opening_stops (store_of book order s) s.now m (parts who.session) reply k.knows n q leads)
-  part_may (Tree tree m) setting k call x (step, leads, to) = subst PartMay (sym to) (on step leads)
+      on (Stops n q) leads = of_opening q (opening_stops st s.now m (parts who.session) reply k.knows n q leads)
+  part_may (Tree tree m) held k call x (step, leads, to) way = subst (PartMay at) (sym to) (on step leads)
     where
-      on : (step : Next Making CkptAnswer) → MakingLeads m reply step → PartMay (makes tree step)
+      on : (step : Next Making CkptAnswer) → MakingLeads m reply step → PartMay at (makes tree step)
       on (Goes n) leads = tt
       on (Ends n a) leads = tt
-      on (Stops n q) leads = of_tree q (making_stops who s t book order parts (leases_at_work (Tree tree m)) m reply setting (λ y is. is) k.knows call n q leads)
-  part_may (Page tree page m) setting k call x (step, leads, to) = subst PartMay (sym to) (on step leads)
+      on (Stops n q) leads = of_tree q (making_stops who s t book order parts (leases_at_work (Tree tree m)) m reply held (λ y is. is) k.knows call n q leads)
+  part_may (Page tree page m) held k call x (step, leads, to) way = subst (PartMay at) (sym to) (on step leads (subst (PartWay st at.visited) to way))
     where
-      on : (step : Next Paging CkptAnswer) → PagingLeads m reply step → PartMay (pages tree page step)
-      on (Goes n) leads = tt
-      on (Ends n a) leads = tt
-      on (Stops n q) leads = of_page m.page q (paging_stops who s t book order parts (leases_at_work (Page tree page m)) m reply setting k.knows call n q leads)
+      on : (step : Next Paging CkptAnswer) → PagingLeads m reply step → PartWay st at.visited (pages tree page step) → PartMay at (pages tree page step)
+      on (Goes n) leads way = tt
+      on (Ends n a) leads way = unvisited who s t book order parts leases reply at.visited setting tree way.0 at page n.home way.1 way.2
+      on (Stops n q) leads way = of_page m.page q (paging_stops who s t book order parts (leases_at_work (Page tree page m)) m reply held k.knows call n q leads) way
 
-  pub settling_stops : (m : Settling) → Setting book order s t.now parts who.session (leases_of_settling m) → KnowsSettling (store_of book order s) s.now m (parts who.session)
-      → IsCall who (settle_ask m) reply s t → (n : Settling) (k : Trouble) → SettleLeads m reply (Stops n k) → MaySettle k
-  settling_stops m setting knows call n k (x, leads, to) = subst StepMay (sym to) (moved_may m x (part_may m.part setting knows call x leads))
+pub settling_stops : (who : Caller) (s t : CloudState) (book : Book) (order : List Entry) (parts : Parts) (reply : Answer) (m : Settling)
+    → Setting book order s t.now parts who.session (leases_of_settling m) → KnowsSettling (store_of book order s) s.now m (parts who.session)
+    → IsCall who (settle_ask m) reply s t → (n : Settling) (k : Trouble) → SettleLeads m reply (Stops n k) → MaySettle k
+settling_stops who s t book order parts reply m setting knows call n k (x, leads, to) =
+    subst StepMay (sym to) (moved_may m x
+    (part_may who s t book order parts reply m (leases_of_settling m) setting m.part setting knows.work call x leads
+    (part_way who s t book order parts (leases_of_settling m) reply m.visited setting m.part knows.work knows.way call x leads)))

@@ -39,4 +39,4 @@ module _ (st : Store) (now : ℕ) (part : Part) (away : part ≡ Away) where
 
 -- a settling begins with the recovery of client 1, and knows nothing
 pub settling_begins : (st : Store) (now : ℕ) → KnowsSettling st now new_settling Away
-settling_begins st now = client_begins st now Away refl 1 (record { some = omega arith; most = omega arith })
+settling_begins st now = record { work = client_begins st now Away refl 1 (record { some = omega arith; most = omega arith }); way = tt }

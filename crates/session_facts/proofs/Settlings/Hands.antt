@@ -88,10 +88,10 @@ pub settling_handles : (who : Caller) (s t : CloudState) (book : Book) (order : 
     → SettleLeads m reply next → Handles who s t (settle_ask m) reply (leases_of_settling m) (leases_next next)
 settling_handles who s t book order parts leases m part reply setting k call next (n, leads, is) =
     subst (Handles who s t (settle_ask m) reply (leases_of_settling m)) (moved_leases m n ∙ sym (ap leases_next is))
-    (work_handles who s t book order parts leases reply part setting m.part k call n leads)
+    (work_handles who s t book order parts leases reply part setting m.part k.work call n leads)
 
 -- wherever it leads, and also where memory ran out, all may be let go
 pub settling_drops : (who : Caller) (s t : CloudState) (book : Book) (order : List Entry) (parts : Parts) (leases : List Claim) (m : Settling) (part : Part) (reply : Answer)
     → Setting book order s t.now parts who.session leases → KnowsSettling (store_of book order s) s.now m part → IsCall who (settle_ask m) reply s t
     → Handles who s t (settle_ask m) reply (leases_of_settling m) []
-settling_drops who s t book order parts leases m part reply setting k call = work_drops who s t book order parts leases reply part setting m.part k call
+settling_drops who s t book order parts leases m part reply setting k call = work_drops who s t book order parts leases reply part setting m.part k.work call

@@ -84,7 +84,7 @@ making_puts_none m client bytes one two e = never (sym (ap puts_head e) ∙ work
 -- a put of a head in hand is that of a recovery, and of a head that is settled
 pub settling_puts : (st : Store) (now : ℕ) (s : Settling) (part : Part) (client : ℕ) (bytes : List ℕ) (one : Claim) (two : Option Claim) → KnowsSettling st now s part → IsSoundPart s.part
     → settle_ask s ≡ PutHeld (object.Head client) bytes one two → PutsHead s client bytes
-settling_puts st now s part client bytes one two k sound e = on s.part refl k sound e
+settling_puts st now s part client bytes one two k sound e = on s.part refl k.work sound e
   where
     on : (w : AtWork) → s.part ≡ w → KnowsAtWork st now w part → IsSoundPart w → part_ask w ≡ PutHeld (object.Head client) bytes one two → PutsHead s client bytes
     on (Client other m) is k sound e =

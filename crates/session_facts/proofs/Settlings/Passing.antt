@@ -13,8 +13,8 @@ use Rattle.recover_run.specs.Ids.{new_ids}
 use Rattle.settle_run.specs.declared.part.Part.{Part as AtWork}
 use Rattle.settle_run.specs.declared.part.Part.TheVariants.{Client, Tree, Page}
 use Rattle.settle_run.specs.Parts.{part_of_client, part_of_tree, part_again, part_received, PartLeads}
-use Rattle.settle_run.specs.Settling.{Settling, begins, behind_client, to_page, behind_tree, is_visited, goes_right, goes_on, passed_with, passed, ended_by, counted, with_part, moved}
-use Rattle.session_facts.specs.Settlings.Settling.{KnowsAtWork, KnowsNext, leases_at_work, leases_next}
+use Rattle.settle_run.specs.Settling.{Settling, Step, begins, behind_client, to_page, behind_tree, is_visited, goes_right, goes_on, passed_with, passed, ended_by, counted, with_part, moved}
+use Rattle.session_facts.specs.Settlings.Settling.{KnowsAtWork, leases_at_work, leases_next}
 use Rattle.session_facts.proofs.Settlings.Begins.{client_begins, tree_begins, page_begins, behind_begins}
 use Rattle.cloud_facts.specs.Book.Tally.{Store}
 
@@ -41,6 +41,12 @@ leases_moved (Goes w) = leases_at_work w
 leases_moved (Ends w left) = []
 leases_moved (Stops w t) = []
 
+-- what is at work next
+abbrev pub WorksNext : Step → Store → ℕ → Part → Type 0
+WorksNext (Goes n) st now part = KnowsAtWork st now n.part part
+WorksNext (Ends n x) st now part = part ≡ Away
+WorksNext (Stops n t) st now part = part ≡ Away
+
 -- ---- what comes next knows nothing yet
 
 module _ (st : Store) (now : ℕ) (part : Part) (away : part ≡ Away) where
@@ -49,41 +55,41 @@ module _ (st : Store) (now : ℕ) (part : Part) (away : part ≡ Away) where
   again_knows (Tree tree m) is = tree_begins st now part away tree is
   again_knows (Page tree page m) is = page_begins st now part away tree page is.0 is.1
 
-  behind_tree_knows : (s : Settling) (tree : ℕ) → IsTree tree → KnowsNext (behind_tree s tree) st now part
+  behind_tree_knows : (s : Settling) (tree : ℕ) → IsTree tree → WorksNext (behind_tree s tree) st now part
   behind_tree_knows s tree is = on (nat_lt tree 16) refl
     where
       more : nat_lt tree 16 ≡ true → tree + 1 ≤ 16
       more e = grind (arith, nat_tests)
 
-      on : (b : Bool) → nat_lt tree 16 ≡ b → KnowsNext (cond b (begins (record s { visited = [] }) (part_of_tree (tree + 1))) (Ends s (record { calls = s.calls }))) st now part
+      on : (b : Bool) → nat_lt tree 16 ≡ b → WorksNext (cond b (begins (record s { visited = [] }) (part_of_tree (tree + 1))) (Ends s (record { calls = s.calls }))) st now part
       on true e = tree_begins st now part away (tree + 1) (record { some = omega (arith, is.some); most = more e })
       on false e = away
 
-  right_knows : (s : Settling) (tree right : ℕ) → IsTree tree → KnowsNext (goes_right s tree (page_at right)) st now part
+  right_knows : (s : Settling) (tree right : ℕ) → IsTree tree → WorksNext (goes_right s tree (page_at right)) st now part
   right_knows s tree zero is = behind_tree_knows s tree is
   right_knows s tree (suc n) is = on (is_visited s (suc n))
     where
-      on : (b : Bool) → KnowsNext (cond b (Stops s (trouble.Loop (suc n))) (to_page s tree (suc n))) st now part
+      on : (b : Bool) → WorksNext (cond b (Stops s (trouble.Loop (suc n))) (to_page s tree (suc n))) st now part
       on true = away
       on false = page_begins st now part away tree (suc n) is (omega arith)
 
-  on_knows : (s : Settling) (w : AtWork) → IsPlace w → KnowsNext (goes_on s w) st now part
+  on_knows : (s : Settling) (w : AtWork) → IsPlace w → WorksNext (goes_on s w) st now part
   on_knows s (Client client m) is = behind_begins st now part away client is
   on_knows s (Tree tree m) is = page_begins st now part away tree 1 is (omega arith)
   on_knows s (Page tree page m) is = right_knows s tree m.home.right is.0
 
-  passed_knows : (s : Settling) (ids : List ℕ) → IsPlace s.part → KnowsNext (passed_with s ids) st now part
+  passed_knows : (s : Settling) (ids : List ℕ) → IsPlace s.part → WorksNext (passed_with s ids) st now part
   passed_knows s [] is = on_knows s s.part is
   passed_knows s (id ∷ ids) is = again_knows s.part is
 
-  ended_knows : (s : Settling) (left : ℕ) → IsPlace s.part → KnowsNext (ended_by s left) st now part
+  ended_knows : (s : Settling) (left : ℕ) → IsPlace s.part → WorksNext (ended_by s left) st now part
   ended_knows s left is = on (left == 0)
     where
-      on : (b : Bool) → KnowsNext (cond b (passed s) (Stops s trouble.Failed)) st now part
+      on : (b : Bool) → WorksNext (cond b (passed s) (Stops s trouble.Failed)) st now part
       on true = passed_knows s (new_ids s.known (part_received s.part)) is
       on false = away
 
-pub moved_knows : (s : Settling) (n : Next AtWork ℕ) (st : Store) (now : ℕ) (part : Part) → KnowsMoved n st now part → KnowsNext (moved s n) st now part
+pub moved_knows : (s : Settling) (n : Next AtWork ℕ) (st : Store) (now : ℕ) (part : Part) → KnowsMoved n st now part → WorksNext (moved s n) st now part
 moved_knows s (Goes w) st now part k = k
 moved_knows s (Ends w left) st now part k = ended_knows st now part k.1 (counted (with_part s w)) left k.0
 moved_knows s (Stops w t) st now part k = k

@@ -9,6 +9,7 @@ use Rattle.session_facts.proofs.PageCheckpoints.PagingOthers.{paging_others}
 use Rattle.settle_run.specs.declared.part.Part.{Part as AtWork}
 use Rattle.settle_run.specs.declared.part.Part.TheVariants.{Client, Tree, Page}
 use Rattle.settle_run.specs.Settling.{Settling}
+use Rattle.session_facts.proofs.Settlings.Rights.{way_stays}
 use Rattle.session_facts.specs.Settlings.Settling.{KnowsAtWork, KnowsSettling, leases_at_work, leases_of_settling}
 use Rattle.cloud_facts.specs.Book.Tally.{Store}
 use Rattle.session_facts.proofs.TreeCheckpoints.MakingOthers.{making_others}
@@ -27,10 +28,11 @@ at_work_later st now later w part after k = at_work_others st st now later w par
 
 pub settling_others : (st su : Store) (now later : ℕ) (s : Settling) (part : Part) → now ≤ later → Others (leases_of_settling s) later st su → KnowsSettling st now s part
     → KnowsSettling su later s part
-settling_others st su now later s part after o k = at_work_others st su now later s.part part after o k
+settling_others st su now later s part after o k =
+    record { work = at_work_others st su now later s.part part after o k.work; way = way_stays st su s.part s.visited o.passes.grows k.way }
 
 pub settling_later : (st : Store) (now later : ℕ) (s : Settling) (part : Part) → now ≤ later → KnowsSettling st now s part → KnowsSettling st later s part
-settling_later st now later s part after k = at_work_later st now later s.part part after k
+settling_later st now later s part after k = record { work = at_work_later st now later s.part part after k.work; way = k.way }
 
 -- ---- the lease of its part
 
@@ -41,4 +43,4 @@ at_work_lease st now (Page tree page m) part k = subst (HasLeaseOf (leases_at_wo
 
 -- what a settling has of a client stands under the lease in hand
 pub settling_lease : (st : Store) (now : ℕ) (s : Settling) (part : Part) → KnowsSettling st now s part → HasLeaseOf (leases_of_settling s) part
-settling_lease st now s part k = at_work_lease st now s.part part k
+settling_lease st now s part k = at_work_lease st now s.part part k.work

@@ -27,13 +27,16 @@ use Rattle.report_types.specs.declared.entry.Entry.{Entry}
 use Rattle.settle_run.specs.declared.part.Part.{Part as AtWork}
 use Rattle.settle_run.specs.declared.part.Part.TheVariants.{Client, Tree, Page}
 use Rattle.settle_run.specs.Parts.{part_ask, IsSoundPart, recovers, makes, pages}
-use Rattle.settle_run.specs.Settling.{Settling, settle_ask}
+use Rattle.settle_run.specs.Settling.{Settling, Step, settle_ask, moved}
 use Rattle.session_facts.specs.Settlings.Settling.{KnowsAtWork, KnowsSettling, KnowsNext, KnowsAfter, leases_at_work, leases_of_settling, note_at_work, settling_note}
 use Rattle.session_facts.proofs.Settlings.Pagings.{Keeps as KeepsPage, paging_keeps}
-use Rattle.session_facts.proofs.Settlings.Passing.{KnowsMoved, KnowsBehind, moved_knows}
+use Rattle.session_facts.proofs.Settlings.Passing.{WorksNext, KnowsMoved, KnowsBehind, moved_knows}
+use Rattle.session_facts.proofs.Settlings.Rights.{way_stays}
+use Rattle.session_facts.proofs.Settlings.Ways.{WayIn, part_way, moved_way}
 use Rattle.session_facts.proofs.Settlings.Recoveries.{Keeps as KeepsClient, recovery_keeps}
 use Rattle.session_facts.proofs.Settlings.SettlingOthers.{at_work_later}
 use Rattle.cloud_facts.specs.Book.Book.{Book}
+use Rattle.cloud_facts.specs.Book.Growth.{Grows}
 use Rattle.cloud_facts.specs.Book.Tally.{Store}
 use Rattle.cloud_facts.specs.Tellings.Told.{store_of}
 use Rattle.tree_ckpt.specs.Making.{Making, MakingLeads, making_ask}
@@ -144,12 +147,34 @@ module _ (who : Caller) (s t : CloudState) (book : Book) (order : List Entry) (p
       (λ st now part a. paging_moves st now part (store_of book order s) (parts who.session) tree page m reply k.away (subst IsTree k.tree_is k.knows.tree) (subst IsPage k.page_is k.knows.page) k.tree_is k.page_is a)
       (paging_outcome who s t book order parts (leases_of_paging m) m reply setting k.knows call))
 
+-- what is at work next, on its way to the right
+with_way : (st su : Store) (now : ℕ) (part : Part) (next : Step) → Grows st su → WorksNext next su now part → WayIn st next → KnowsNext next su now part
+with_way st su now part (Goes n) grows works way = record { work = works; way = way_stays st su n.part n.visited grows way }
+with_way st su now part (Ends n x) grows works way = works
+with_way st su now part (Stops n q) grows works way = works
+
 -- a call of a settling
 pub settling_outcome : (who : Caller) (s t : CloudState) (book : Book) (order : List Entry) (parts : Parts) (m : Settling) (reply : Answer)
     → Setting book order s t.now parts who.session (leases_of_settling m) → KnowsSettling (store_of book order s) s.now m (parts who.session) → IsSoundPart m.part
     → IsCall who (settle_ask m) reply s t → Fits (settle_ask m) reply
     → Outcome who book order s t parts (leases_of_settling m) (settle_ask m) (settling_note m (settle_ask m)) (KnowsAfter m reply)
-settling_outcome who s t book order parts m reply setting k sound call fits =
-    weaker who book order s t parts (leases_of_settling m) (settle_ask m) (settling_note m (settle_ask m)) (KnowsBehind m.part reply) (KnowsAfter m reply)
-    (λ st now part behind next leads. subst (λ q. KnowsNext q st now part) (sym leads.2) (moved_knows m leads.0 st now part (behind leads.0 leads.1)))
-    (work_outcome who s t book order parts reply m.part setting k sound call fits)
+settling_outcome who s t book order parts m reply setting k sound call fits = record {
+  book_after = o.book_after;
+  order_after = o.order_after;
+  cloud = o.cloud;
+  passes = o.passes;
+  joins = o.joins;
+  links = o.links;
+  part = o.part;
+  homes = o.homes;
+  knows = λ next leads.
+      subst (λ q. KnowsNext q (store_of o.book_after o.order_after t) t.now o.part) (sym leads.2)
+      (with_way (store_of book order s) (store_of o.book_after o.order_after t) t.now o.part (moved m leads.0) o.passes.grows
+      (moved_knows m leads.0 (store_of o.book_after o.order_after t) t.now o.part (o.knows leads.0 leads.1))
+      (moved_way who s t book order parts (leases_of_settling m) reply m.visited setting m leads.0 refl
+      (part_way who s t book order parts (leases_of_settling m) reply m.visited setting m.part k.work k.way call leads.0 leads.1)));
+  noted = o.noted;
+}
+  where
+    o : Outcome who book order s t parts (leases_at_work m.part) (part_ask m.part) (note_at_work m.part (part_ask m.part)) (KnowsBehind m.part reply)
+    o = work_outcome who s t book order parts reply m.part setting k.work sound call fits

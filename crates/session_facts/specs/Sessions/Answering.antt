@@ -19,12 +19,16 @@ MayRefuse (trouble.Late end now) = Unit {0}
 MayRefuse trouble.Memory = Unit {0}
 MayRefuse t = ⊥
 
--- a settling stops for no object that is damaged, for no fence and for no stale read
+-- a settling stops as its openings and checkpoints do: no object is damaged, no page is absent or no leaf, no fence and no way is broken, and
+-- no read is stale
 abbrev pub MaySettle : Trouble → Type 0
-MaySettle (trouble.Damaged place offset) = ⊥
-MaySettle (trouble.BadFence page expected found) = ⊥
-MaySettle (trouble.Stale page least got) = ⊥
-MaySettle t = Unit {0}
+MaySettle trouble.Failed = Unit {0}
+MaySettle (trouble.Late end now) = Unit {0}
+MaySettle (trouble.Busy lock until) = Unit {0}
+MaySettle (trouble.Waiting have need) = Unit {0}
+MaySettle (trouble.Exhausted what) = Unit {0}
+MaySettle trouble.Memory = Unit {0}
+MaySettle t = ⊥
 
 -- by what is at work
 abbrev pub MayAnswer : Work → Trouble → Type 0

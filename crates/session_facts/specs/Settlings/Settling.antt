@@ -1,21 +1,27 @@
 -- What a settling knows of a cloud at each of its calls.
-use Rattle.std.specs.Prelude.{ℕ, ◌≡◌, List, [], ◌++◌, map}
+use Rattle.std.specs.Prelude.{ℕ, ◌≡◌, List, [], ◌++◌, map, Some, None}
 use Rattle.cloud_trait.specs.declared.answer.Answer.{Answer}
 use Rattle.cloud_trait.specs.Ask.{Ask, PutHeld}
 use Rattle.cloud_trait.specs.Claim.{Claim}
 use Rattle.cloud_trait.specs.Machine.{Goes, Ends, Stops}
 use Rattle.db_base.specs.declared.names.ObjName.TheVariants as object
+use Rattle.db_base.specs.declared.trouble.Trouble.{Trouble}
+use Rattle.db_base.specs.declared.trouble.Trouble.TheVariants as trouble
 use Rattle.history.specs.Audited.{Audited, applied_entry}
 use Rattle.cloud_facts.specs.Homes.Homes.{Part, Away}
 use Rattle.session_facts.specs.Openings.Opening.{KnowsOpening, leases_of_recovery}
 use Rattle.page_ckpt.specs.Paging.{Paging}
+use Rattle.page_ckpt.specs.declared.stage.Stage.{Stage}
+use Rattle.page_ckpt.specs.declared.stage.Stage.TheVariants.{TakingHome, GettingHome}
 use Rattle.session_facts.specs.PageCheckpoints.Checkpoint.{KnowsPaging, leases_of_paging}
+use Rattle.session_facts.specs.PageCheckpoints.Rights.{IsLanded, IsUpto}
 use Rattle.recover_run.specs.declared.stage.Aim.TheVariants as aim
 use Rattle.recover_run.specs.Recovery.{Recovery}
 use Rattle.settle_run.specs.declared.part.Part.{Part as AtWork}
 use Rattle.settle_run.specs.declared.part.Part.TheVariants.{Client, Tree, Page}
 use Rattle.settle_run.specs.Parts.{part_applying}
 use Rattle.settle_run.specs.Settling.{Settling, Step, SettleLeads}
+use Rattle.cloud_facts.specs.Book.Records.{IsIn}
 use Rattle.cloud_facts.specs.Book.Tally.{Store}
 use Rattle.tree_ckpt.specs.Making.{Making}
 use Rattle.session_facts.specs.TreeCheckpoints.Checkpoint.{KnowsMaking, leases_of_making}
@@ -46,9 +52,40 @@ KnowsAtWork st now (Client client m) part = Recovers st now client m part
 KnowsAtWork st now (Tree tree m) part = MakesTree st now tree m part
 KnowsAtWork st now (Page tree page m) part = MakesPage st now tree page m part
 
--- a settling knows what its part at work knows
-abbrev pub KnowsSettling : Store → ℕ → Settling → Part → Type 0
-KnowsSettling st now s part = KnowsAtWork st now s.part part
+-- ---- the way to the right
+
+-- the page was read
+abbrev pub IsPast : Stage → Type 0
+IsPast TakingHome = ⊥
+IsPast GettingHome = ⊥
+IsPast stage = Unit {0}
+
+-- no page is absent, and none is no leaf
+abbrev pub IsOfNoPage : Trouble → Type 0
+IsOfNoPage (trouble.Absent page) = ⊥
+IsOfNoPage (trouble.NotALeaf page) = ⊥
+IsOfNoPage t = Unit {0}
+
+-- what a checkpoint has of its page once it read it landed, and it stops for no page
+pub record ReadsPage (st : Store) (tree page : ℕ) (m : Paging) : Type 0 where
+  pub landed : m.trouble ≡ None → IsPast m.stage → IsLanded (st.tally.nodes tree) page m.home
+  pub fair : (t : Trouble) → m.trouble ≡ Some t → IsOfNoPage t
+
+-- the page is that of a link of the leaf chain, and no page whose own checkpoints began is further right
+pub record ComesTo (st : Store) (tree page : ℕ) (visited : List ℕ) : Type 0 where
+  pub low : List ℕ
+  pub linked : IsIn (st.book.chain tree 0) (record { low = low; page = page })
+  pub behind : (p : ℕ) → IsIn visited p → IsUpto (st.book.chain tree 0) low p
+
+abbrev pub KnowsWay : Store → AtWork → List ℕ → Type 0
+KnowsWay st (Client client m) visited = Unit {0}
+KnowsWay st (Tree tree m) visited = Unit {0}
+KnowsWay st (Page tree page m) visited = ComesTo st tree page visited × ReadsPage st tree page m
+
+-- a settling knows what its part at work knows, and where it is on its way to the right
+pub record KnowsSettling (st : Store) (now : ℕ) (s : Settling) (part : Part) : Type 0 where
+  pub work : KnowsAtWork st now s.part part
+  pub way : KnowsWay st s.part s.visited
 
 -- ---- where an answer leads
 

@@ -1,0 +1,266 @@
+-- What a settling knows of its way to the right is known behind each of its steps, and no step leads to a page twice.
+use Rattle.std.proofs.Common.{◌≡◌, ◌∙◌, ◌+◌, ℕ, suc, Bool, true, false, cond, List, [], ◌∷◌, ◌++◌, Option, Some, None, Result, Ok, Err, refl, sym, ap, subst, arith}
+use Rattle.std.specs.Prelude.{◌==◌, nat_lt}
+use Rattle.ckpt_parts.specs.Leaves.{HoldsLinked}
+use Rattle.ckpt_parts.specs.Leasing.{newest_lease, without_newest}
+use Rattle.ckpt_parts.specs.declared.leases.Leases.{Leases}
+use Rattle.cloud_facts.specs.Book.Book.{Book, Link}
+use Rattle.cloud_facts.specs.Book.Tally.{Store}
+use Rattle.cloud_facts.specs.Book.Telling.{nodes_of, roots_of, newest_leaf, newest_root}
+use Rattle.cloud_facts.specs.Calls.Acting.{Setting}
+use Rattle.cloud_facts.specs.Calls.Call.{IsCall}
+use Rattle.cloud_facts.proofs.Calls.Heads.{held_seen}
+use Rattle.cloud_facts.specs.Chains.Chain.{IsChained, AreLevels}
+use Rattle.cloud_facts.specs.Homes.Homes.{Part, Parts}
+use Rattle.cloud_facts.specs.Tellings.Told.{store_of}
+use Rattle.cloud_trait.specs.Ask.{Ask, GetHeld}
+use Rattle.cloud_trait.specs.Caller.{Caller}
+use Rattle.cloud_trait.specs.Claim.{Claim}
+use Rattle.cloud_trait.specs.Machine.{Next, Goes, Ends, Stops}
+use Rattle.cloud_trait.specs.State.{CloudState, newest}
+use Rattle.cloud_trait.specs.Views.{given_of, got_of, received_of, done_of}
+use Rattle.cloud_trait.specs.declared.answer.Answer.{Answer}
+use Rattle.cloud_trait.specs.declared.turn.CkptAnswer.{CkptAnswer}
+use Rattle.db_base.specs.Ids.{IsTree}
+use Rattle.db_base.specs.declared.names.Lock.TheVariants as lock
+use Rattle.db_base.specs.declared.trouble.Trouble.{Trouble}
+use Rattle.db_base.specs.declared.trouble.Trouble.TheVariants as trouble
+use Rattle.leaf_view.specs.Leaf.{Leaf}
+use Rattle.leaf_view.specs.Lookup.{page_at}
+use Rattle.page_ckpt.specs.Paging.{Paging, Step as PageStep, ask_at, paging_ask, under, home_name, right_name, held_after, handed, without_onward, HoldsNamed, AbsorbsAt, PagingLeads}
+use Rattle.page_ckpt.specs.declared.stage.Stage.{Stage}
+use Rattle.page_ckpt.specs.declared.stage.Stage.TheVariants.{TakingHome, GettingHome, Receiving, TakingRight, GettingRight, PuttingRight, ReleasingRight, PuttingHome, Deleting as DeletingNext, Releasing, Finished}
+use Rattle.recover_run.specs.Ids.{new_ids}
+use Rattle.recover_run.specs.Recovery.{Recovery, Step as RecoveryStep}
+use Rattle.report_types.specs.declared.entry.Entry.{Entry}
+use Rattle.session_facts.specs.PageCheckpoints.Checkpoint.{HasPage, HasRight, MayStop, ComesOn, KnowsPagingAt, KnowsPaging}
+use Rattle.session_facts.specs.PageCheckpoints.Rights.{IsLanded}
+use Rattle.session_facts.proofs.PageCheckpoints.Fences.{newest_landed}
+use Rattle.session_facts.proofs.PageCheckpoints.PageReads.{IsNamed, IsLinkedLeaf, named_is, named_leaf, linked_is}
+use Rattle.session_facts.proofs.PageCheckpoints.Steps.{got_may, received_may, done_may, given_may}
+use Rattle.session_facts.proofs.Settlings.PageSteps.{IsFair, IsRead, HasRead, home_taken_has, home_got_has, received_has, right_taken_has, right_got_has, right_put_has, on_has, home_put_has, deleted_has, released_has}
+use Rattle.session_facts.proofs.Settlings.Rights.{reads_nothing, first_comes, right_comes, right_unvisited}
+use Rattle.session_facts.specs.Settlings.Settling.{IsPast, IsOfNoPage, ReadsPage, ComesTo, KnowsAtWork, KnowsWay}
+use Rattle.settle_run.specs.declared.part.Part.{Part as AtWork}
+use Rattle.settle_run.specs.declared.part.Part.TheVariants.{Client, Tree, Page}
+use Rattle.settle_run.specs.Parts.{part_of_client, part_of_tree, part_again, part_ask, part_received, recovers, makes, pages, PartLeads}
+use Rattle.settle_run.specs.Settling.{Settling, Step, begins, behind_client, to_page, behind_tree, is_visited, goes_right, goes_on, passed_with, passed, ended_by, counted, with_part, moved}
+use Rattle.tree_ckpt.specs.Making.{Making, MakingLeads}
+
+-- ---- a step of a page's checkpoint
+
+-- what stops the checkpoint of any page is of no page
+fair_of : (t : Trouble) → ((page : ℕ) → MayStop page t) → IsOfNoPage t
+fair_of (trouble.Absent named) may = absurd (never named (may (suc named)))
+  where
+    never : (n : ℕ) → n ≡ suc n → ⊥
+    never n e = absurd (omega (arith, e))
+fair_of (trouble.NotALeaf named) may = absurd (never named (may (suc named)))
+  where
+    never : (n : ℕ) → n ≡ suc n → ⊥
+    never n e = absurd (omega (arith, e))
+fair_of t may = tt
+
+module _ (who : Caller) (s t : CloudState) (book : Book) (order : List Entry) (parts : Parts) (leases : List Claim) (p : Paging) (reply : Answer)
+    (setting : Setting book order s t.now parts who.session leases) (k : KnowsPaging (store_of book order s) s.now p) (call : IsCall who (paging_ask p) reply s t)
+    (visited : List ℕ) (comes : ComesTo (store_of book order s) p.tree p.page visited) (reads : ReadsPage (store_of book order s) p.tree p.page p) where
+  abbrev L : Leaf → Type 0
+  L l = IsLanded (nodes_of s p.tree) p.page l
+
+  abbrev link : Link
+  link = record { low = comes.low; page = p.page }
+
+  call_at : (ask : Ask) → paging_ask p ≡ ask → IsCall who ask reply s t
+  call_at ask is = subst (λ (q : Ask). IsCall who q reply s t) is call
+
+  asks : (stage : Stage) → p.stage ≡ stage → paging_ask p ≡ ask_at stage p
+  asks stage e = ap (λ (g : Stage). ask_at g p) e
+
+  had : (stage : Stage) → p.stage ≡ stage → IsPast stage → p.trouble ≡ None → L p.home
+  had stage e past none = reads.landed none (subst IsPast (sym e) past)
+
+  -- the page that a link names is a leaf
+  named : (e : p.stage ≡ GettingHome) (has : HasPage p) (got : Option (List ℕ)) (found : Result Leaf Trouble) → got_of reply ≡ Ok got → HoldsNamed p.tree p.page got found
+      → IsRead L found
+  named e has got found is holds =
+      on found (newest_leaf (nodes_of s) p.tree p.page) (named_leaf book order s setting.cloud p.tree k.tree link comes.linked got found newest_is holds)
+      (named_is book order s setting.cloud p.tree k.tree p.page got found newest_is holds)
+    where
+      get : paging_ask p ≡ GetHeld (home_name p) has.lease
+      get = asks GettingHome e ∙ ap (λ (l : Leases). under p l.first (λ c. GetHeld (home_name p) c)) has.is
+
+      newest_is : newest s (home_name p) ≡ got
+      newest_is = sym (held_seen who (home_name p) has.lease reply s t (call_at (GetHeld (home_name p) has.lease) get) got is)
+
+      on : (g : Result Leaf Trouble) (l : Leaf) → g ≡ Ok l → IsNamed (nodes_of s p.tree) p.page g → IsRead L g
+      on (Ok m) l leaf newest = newest_landed (nodes_of s p.tree) p.page m newest
+      on (Err x) l leaf newest = absurd (cc)
+
+  -- and so is a right page
+  right_named : (e : p.stage ≡ GettingRight) (has : HasRight p) (comes_on : ComesOn (store_of book order s) s.now p has.lease) (got : Option (List ℕ)) (found : Result Leaf Trouble)
+      → got_of reply ≡ Ok got → HoldsLinked p.tree p.at.page p.at.low got found → (x : Trouble) → found ≡ Err x → IsOfNoPage x
+  right_named e has comes_on got found is holds x fails = never leaf.leaf x (sym leaf.is ∙ fails)
+    where
+      never : (l : Leaf) (x : Trouble) → (let read : Result Leaf Trouble = Ok l in let failed : Result Leaf Trouble = Err x in read ≡ failed) → IsOfNoPage x
+      never l x e = absurd (cc)
+
+      get : paging_ask p ≡ GetHeld (right_name p) has.second
+      get = asks GettingRight e ∙ ap (λ (l : Leases). under p l.second (λ c. GetHeld (right_name p) c)) has.is
+
+      leaf : IsLinkedLeaf (nodes_of s p.tree) p.at.page p.at.low found
+      leaf = linked_is book order s setting.cloud p.tree k.tree (record { low = p.at.low; page = p.at.page }) comes_on.linked got found
+          (sym (held_seen who (right_name p) has.second reply s t (call_at (GetHeld (right_name p) has.second) get) got is)) holds
+
+  pub page_has : (next : PageStep) → PagingLeads p reply next → HasRead L next
+  page_has next leads = on p.stage refl k.at leads
+    where
+      on : (stage : Stage) → p.stage ≡ stage → KnowsPagingAt stage (store_of book order s) s.now p → AbsorbsAt stage (record p { held = held_after stage p.held }) reply next → HasRead L next
+      on TakingHome e a goes =
+          subst (HasRead L) (sym goes)
+          (home_taken_has L p reads.fair (given_of (lock.Page p.tree p.page) reply) (λ x is. fair_of x (λ page. given_may page (lock.Page p.tree p.page) reply x is)))
+      on GettingHome e a goes =
+          home_got_has L p reads.fair (got_of reply) next (named e a.0) (λ x is. fair_of x (λ page. got_may page reply x is)) goes
+      on Receiving e a goes =
+          received_has L p (had Receiving e tt) reads.fair (received_of reply) next (λ x is. fair_of x (λ page. received_may page reply x is)) goes
+      on TakingRight e a goes =
+          subst (HasRead L) (sym goes)
+          (right_taken_has L p (had TakingRight e tt) reads.fair (given_of (lock.Page p.tree p.at.page) reply)
+          (λ x is. fair_of x (λ page. given_may page (lock.Page p.tree p.at.page) reply x is)))
+      on GettingRight e a goes =
+          right_got_has L p (had GettingRight e tt) reads.fair (got_of reply) next (right_named e a.0 a.1) (λ x is. fair_of x (λ page. got_may page reply x is)) goes
+      on PuttingRight e a goes =
+          subst (HasRead L) (sym goes) (right_put_has L p (had PuttingRight e tt) reads.fair (done_of reply) (λ x is. fair_of x (λ page. done_may page reply x is)))
+      on ReleasingRight e a goes =
+          on_has L (without_onward (record p { held = held_after ReleasingRight p.held })) (had ReleasingRight e tt) reads.fair p.onward next goes
+      on PuttingHome e a goes =
+          subst (HasRead L) (sym goes) (home_put_has L p (had PuttingHome e tt) reads.fair (done_of reply) (λ x is. fair_of x (λ page. done_may page reply x is)))
+      on DeletingNext e a goes = subst (HasRead L) (sym goes) (deleted_has L p (had DeletingNext e tt) reads.fair (done_of reply))
+      on Releasing e a goes =
+          subst (HasRead L) (sym goes)
+          (released_has L (record p { held = without_newest p.held }) (had Releasing e tt) reads.fair (newest_lease (without_newest p.held)))
+      on Finished e never goes = absurd never
+
+-- ---- a step of the part at work
+
+-- a part that is over: a page's checkpoint has what it read of the page
+abbrev pub EndsAt : Store → AtWork → List ℕ → Type 0
+EndsAt st (Client client m) visited = Unit {0}
+EndsAt st (Tree tree m) visited = IsTree tree
+EndsAt st (Page tree page m) visited = IsTree tree × ComesTo st tree page visited × IsLanded (st.tally.nodes tree) page m.home
+
+-- a checkpoint of a page stops for no page
+abbrev pub StopsFor : AtWork → Trouble → Type 0
+StopsFor (Client client m) t = Unit {0}
+StopsFor (Tree tree m) t = Unit {0}
+StopsFor (Page tree page m) t = IsOfNoPage t
+
+abbrev pub PartWay : Store → List ℕ → Next AtWork ℕ → Type 0
+PartWay st visited (Goes w) = KnowsWay st w visited
+PartWay st visited (Ends w left) = EndsAt st w visited
+PartWay st visited (Stops w t) = StopsFor w t
+
+-- what comes next is on the way
+abbrev pub WayIn : Store → Step → Type 0
+WayIn st (Goes n) = KnowsWay st n.part n.visited
+WayIn st (Ends n x) = Unit {0}
+WayIn st (Stops n q) = Unit {0}
+
+module _ (who : Caller) (s t : CloudState) (book : Book) (order : List Entry) (parts : Parts) (leases : List Claim) (reply : Answer) (visited : List ℕ)
+    (setting : Setting book order s t.now parts who.session leases) where
+  abbrev st : Store
+  st = store_of book order s
+
+  pub part_way : (w : AtWork) → KnowsAtWork st s.now w (parts who.session) → KnowsWay st w visited → IsCall who (part_ask w) reply s t → (x : Next AtWork ℕ) → PartLeads w reply x
+      → PartWay st visited x
+  part_way (Client client m) k way call x (step, leads, to) = subst (PartWay st visited) (sym to) (on step)
+    where
+      on : (step : RecoveryStep) → PartWay st visited (recovers client step)
+      on (Goes n) = tt
+      on (Ends n a) = tt
+      on (Stops n q) = tt
+  part_way (Tree tree m) k way call x (step, leads, to) = subst (PartWay st visited) (sym to) (on step)
+    where
+      on : (step : Next Making CkptAnswer) → PartWay st visited (makes tree step)
+      on (Goes n) = tt
+      on (Ends n a) = subst IsTree k.tree_is k.knows.tree
+      on (Stops n q) = tt
+  part_way (Page tree page m) k way call x (step, leads, to) = subst (PartWay st visited) (sym to) (on step read)
+    where
+      Read : ℕ → ℕ → Type 0
+      Read tree page = HasRead (λ l. IsLanded (nodes_of s tree) page l) step
+
+      read : Read tree page
+      read =
+          subst (λ (n : ℕ). Read tree n) k.page_is (subst (λ (n : ℕ). Read n m.page) k.tree_is
+          (page_has who s t book order parts leases m reply setting k.knows call visited
+          (subst (λ (n : ℕ). ComesTo st m.tree n visited) (sym k.page_is) (subst (λ (n : ℕ). ComesTo st n page visited) (sym k.tree_is) way.0))
+          (subst (λ (n : ℕ). ReadsPage st m.tree n m) (sym k.page_is) (subst (λ (n : ℕ). ReadsPage st n page m) (sym k.tree_is) way.1)) step leads))
+
+      on : (step : PageStep) → HasRead (λ l. IsLanded (nodes_of s tree) page l) step → PartWay st visited (pages tree page step)
+      on (Goes n) r = (way.0, record { landed = r.0; fair = r.1 })
+      on (Ends n a) r = (subst IsTree k.tree_is k.knows.tree, way.0, r)
+      on (Stops n q) r = r
+
+  -- ---- a step of the settling
+
+  abbrev WayNext : Step → Type 0
+  WayNext next = WayIn st next
+
+  module _ (tree : ℕ) (is : IsTree tree) where
+    chained : IsChained (book.chain tree) (nodes_of s tree) (roots_of s tree) (st.tally.done tree) (st.tally.cursor tree 0)
+    chained = setting.cloud.holds.chains tree is
+
+    abbrev height : ℕ
+    height = (newest_root (roots_of s) tree).level
+
+    -- the right page is none whose own checkpoints began
+    pub unvisited : (m : Settling) (page : ℕ) (home : Leaf) → ComesTo st tree page m.visited → IsLanded (st.tally.nodes tree) page home → (right : ℕ) → page_at home.right ≡ Some right
+        → is_visited m right ≡ false
+    unvisited m page home comes landed right named = right_unvisited st tree height chained.levels chained.versions page home m.visited comes landed right named m refl
+
+    to_right : (m : Settling) (page : ℕ) (home : Leaf) → ComesTo st tree page m.visited → IsLanded (st.tally.nodes tree) page home → (o : Option ℕ) → page_at home.right ≡ o
+        → WayNext (goes_right m tree o)
+    to_right m page home comes landed None e = on (nat_lt tree 16)
+      where
+        on : (b : Bool) → WayNext (cond b (begins (record m { visited = [] }) (part_of_tree (tree + 1))) (Ends m (record { calls = m.calls })))
+        on true = tt
+        on false = tt
+    to_right m page home comes landed (Some right) e = on (is_visited m right)
+      where
+        on : (b : Bool) → WayNext (cond b (Stops m (trouble.Loop right)) (to_page m tree right))
+        on true = tt
+        on false =
+            (right_comes st tree height chained.levels chained.versions page home m.visited comes landed right e, reads_nothing st tree right)
+
+    first : (m : Settling) → WayNext (to_page (record m { visited = [] }) tree 1)
+    first m = (first_comes st tree height chained.levels chained.versions, reads_nothing st tree 1)
+
+  on_way : (m : Settling) (w : AtWork) → EndsAt st w m.visited → WayNext (goes_on m w)
+  on_way m (Client client r) ends = on (nat_lt client 64)
+    where
+      on : (b : Bool) → WayNext (begins m (cond b (part_of_client (client + 1)) (part_of_tree 1)))
+      on true = tt
+      on false = tt
+  on_way m (Tree tree r) ends = first tree ends m
+  on_way m (Page tree page r) ends = to_right tree ends.0 m page r.home ends.1 ends.2 (page_at r.home.right) refl
+
+  again_way : (w : AtWork) (visited : List ℕ) → EndsAt st w visited → KnowsWay st (part_again w) visited
+  again_way (Client client r) visited ends = tt
+  again_way (Tree tree r) visited ends = tt
+  again_way (Page tree page r) visited ends = (ends.1, reads_nothing st tree page)
+
+  passed_way : (m : Settling) (ids : List ℕ) → EndsAt st m.part m.visited → WayNext (passed_with m ids)
+  passed_way m [] ends = on_way m m.part ends
+  passed_way m (id ∷ ids) ends = again_way m.part m.visited ends
+
+  ended_way : (m : Settling) (left : ℕ) → EndsAt st m.part m.visited → WayNext (ended_by m left)
+  ended_way m left ends = on (left == 0)
+    where
+      on : (b : Bool) → WayNext (cond b (passed m) (Stops m trouble.Failed))
+      on true = passed_way m (new_ids m.known (part_received m.part)) ends
+      on false = tt
+
+  pub moved_way : (m : Settling) (x : Next AtWork ℕ) → m.visited ≡ visited → PartWay st visited x → WayNext (moved m x)
+  moved_way m (Goes w) same way = subst (KnowsWay st w) (sym same) way
+  moved_way m (Ends w left) same way = ended_way (counted (with_part m w)) left (subst (EndsAt st w) (sym same) way)
+  moved_way m (Stops w q) same way = tt

@@ -1,5 +1,5 @@
 -- A world that handles one event behind another.
-use Rattle.std.proofs.Common.{◌≡◌, ◌<◌, ◌+◌, ℕ, List, [], ◌∷◌, ◌++◌, length, take, Some, Result, Ok, Err, sym, ap, subst, ◌∙◌, append_assoc, arith, length-append}
+use Rattle.std.proofs.Common.{◌≡◌, ◌<◌, ◌+◌, ℕ, List, [], ◌∷◌, ◌++◌, length, take, Some, Result, Ok, Err, refl, sym, ap, subst, ◌∙◌, append_assoc, arith, length-append}
 use Rattle.std.proofs.lemmas.List.{append-nil}
 use Rattle.std.proofs.lemmas.Option.{slice_get_within}
 use Rattle.cloud_trait.specs.Seen.{Seen}
@@ -9,15 +9,34 @@ use Rattle.event_text.specs.declared.event.Event.{Event}
 use Rattle.event_text.specs.declared.event.Event.TheVariants.{Run}
 use Rattle.reply_text.specs.declared.reply.Reply.{Reply}
 use Rattle.reply_text.specs.declared.reply.Reply.TheVariants.{Begun}
-use Rattle.replay_meaning.specs.Standing.{Line}
+use Rattle.client_session.specs.Session.{Acting, closed_session}
+use Rattle.cloud_trait.specs.State.{CloudState}
+use Rattle.replay_meaning.specs.Standing.{Line, unnamed}
+use Rattle.replay_model.specs.Facts.{session_at, ActsAs}
+use Rattle.replay_model.proofs.AddedRows.{adds_nothing as nothing_added}
+use Rattle.replay_model.proofs.StartLemmas.{closed_at}
+use Rattle.world_core.specs.declared.world.World.{World}
+use Rattle.world_core.specs.Added.{WorldAdds}
+use Rattle.world_core.proofs.AddedLines.{handled_adds}
 use Rattle.world_core.specs.declared.world.WorldFault.{WorldFault}
 use Rattle.world_core.specs.declared.world.WorldFault.TheVariants as world
 use Rattle.world_core.specs.Handled.{Handled}
 use Rattle.world_core.specs.Stands.{Grows}
 use Rattle.schedule_run.specs.declared.play.Play.{Play}
-use Rattle.schedule_run.specs.Answered.{start, further, KeepsTheTheorem}
+use Rattle.schedule_run.specs.Answered.{IsNew, start, further, KeepsTheTheorem}
 use Rattle.schedule_run.specs.Play.{IsFresh, IsNext, RanOut, uncounted, no_answer, Takes, answered_run, stops_run, RunsWhole, Played, StoppedAt, stopped_before, stopped_within}
 use Rattle.schedule_run.proofs.GoingLemmas.{stands_more, fresh_stands, report_same}
+
+-- a new world added nothing to any cloud
+fresh_adds : (s : Seen) (world : World) (t : CloudState) → s.state ≡ Some t → IsNew world → WorldAdds [] t world s
+fresh_adds s world t told fresh = record {
+  rows = record { state = t; told = told; adds = nothing_added 0 [] t };
+  acts = λ n. subst (λ (a : Acting). ActsAs a unnamed) (sym (closed n)) (record { buffer = refl; work = refl });
+  rests = closed 0;
+}
+  where
+    closed : (n : ℕ) → session_at world.sessions n ≡ closed_session
+    closed n = ap (λ (l : List Acting). session_at l n) fresh.sessions ∙ closed_at 17 n
 
 -- nothing is handled yet
 pub played_nothing : (s : Seen) (play : Play) → IsFresh play → Played [] s s play
@@ -26,6 +45,7 @@ played_nothing s play fresh = record {
   first = play.world;
   fresh = fresh.world;
   went = start;
+  kinds = λ t told. fresh_adds s play.world t told fresh.world;
   stands = λ t told empty. (
     t,
     told,
@@ -47,6 +67,7 @@ played_more lines event reply s t z old new p n =
       first = p.first;
       fresh = p.fresh;
       went = further lines line t z old.world new.world p.went (subst (λ j. Handled j event t z old.world new.world (Ok reply)) at n.handled);
+      kinds = λ x told. handled_adds new.handled event t z old.world new.world reply lines x (omega arith) n.handled (p.kinds x told);
       stands = λ x told empty.
           let o = p.stands x told empty in
           stands_more lines line new.handled t z old.world new.world (omega arith) n.stands n.grows o.0 o.1 o.2 o.3;
@@ -78,6 +99,7 @@ stopped_at lines event s t z old new p (no_answer handled grows) =
       last = new.world;
       handled = subst (λ j. Handled j event t z old.world new.world (Err world.Memory)) at handled;
     })
+    (λ x told. (p.kinds x told).rows)
     (keeps_behind lines (old.handled + 1) s t z old p at grows)
 
 -- an event under the next number has no reply

@@ -1,21 +1,80 @@
 -- The end of a settling.
-use Rattle.std.proofs.Common.{◌≡◌, [], Result, Bool, true, false, Ok, Err, if◌then◌else◌, refl}
+use Rattle.std.proofs.Common.{◌≡◌, ◌≤◌, ◌-◌, ◌∙◌, ℕ, List, [], ◌∷◌, take, Some, Result, Bool, true, false, Ok, Err, if◌then◌else◌, refl, sym, ap, subst, arith}
+use Rattle.std.specs.Prelude.{slice_get}
+use Rattle.std.proofs.lemmas.List.{append_cancel_left}
 use Rattle.cloud_trait.specs.Seen.{Seen}
+use Rattle.cloud_trait.specs.State.{CloudState, version_at}
+use Rattle.cloud_trait.specs.declared.state.Landing.{Landing}
+use Rattle.db_base.specs.declared.names.ObjName.TheVariants as object
 use Rattle.db_io.specs.Content.{Told}
 use Rattle.event_text.specs.declared.event.Event.TheVariants.{Settle}
+use Rattle.head_codec.specs.declared.head.Head.{Head}
+use Rattle.head_codec.specs.Spelling.{head_of}
 use Rattle.line_io.specs.declared.output.OutputFault.{OutputFault}
 use Rattle.line_io.specs.declared.output.OutputFault.TheVariants as output
 use Rattle.line_io.specs.Output.{WasWritten}
+use Rattle.replay_meaning.specs.Kinds.{CommitsCount, MayPutPhase, MayPutHead, MayPutBytes, IsOfKindAt, IsOfKind, LandsOpen}
+use Rattle.replay_meaning.specs.Standing.{Line, Closed, Working, Committing, standing, standing_of_row}
+use Rattle.replay_model.specs.Added.{AddsKinds, AddsTo}
+use Rattle.replay_model.proofs.Once.{at_place}
 use Rattle.reply_text.specs.declared.reply.Reply.{Reply}
 use Rattle.schedule_run.specs.declared.play.Play.{Play}
 use Rattle.schedule_run.specs.declared.settling.SettleFault.TheVariants.{NotSettled}
-use Rattle.schedule_run.specs.Play.{IsFresh, IsNext, RanOut, StoppedAt}
-use Rattle.schedule_run.specs.Settling.{is_settled, settled_by, settle_end_of, WasSettled, ShowsSettling, out_writing, SettleEnded}
+use Rattle.schedule_run.specs.Play.{IsFresh, IsNext, RanOut, Played, StoppedAt}
+use Rattle.schedule_run.specs.Settling.{is_settled, settled_by, settle_end_of, OpensNothing, WasSettled, ShowsSettling, out_writing, SettleEnded}
 use Rattle.schedule_run.specs.Written.{reply_line}
+use Rattle.txn_buffer.specs.Noted.{Noted}
 use Rattle.schedule_run.proofs.PlayLemmas.{played_nothing, played_more, stopped_at}
 
+-- a row of the first line opens nothing: no line before it began a commit
+row_opens : (line : Line) (u : CloudState) (row : Landing) (client : ℕ) (head : Head) → row.who.event ≤ 1 → IsOfKind (line ∷ []) u row → LandsOpen u row client head → ⊥
+row_opens line u row client head early kind o = never commits.changes (sym closed ∙ commits.commits)
+  where
+    lines : List Line
+    lines = line ∷ []
+
+    put : MayPutBytes lines row client (version_at (u.versions (object.Head client)) row.position)
+    put = subst (IsOfKindAt lines u row) o.site kind
+
+    spelled : MayPutHead lines row client (head_of o.bytes)
+    spelled = subst (MayPutBytes lines row client) o.put put
+
+    commits : CommitsCount client o.count (standing_of_row lines row)
+    commits = subst (MayPutPhase lines row client) o.opens (subst (MayPutHead lines row client) o.spells spelled)
+
+    first : row.who.event - 1 ≡ 0
+    first = omega (arith, early)
+
+    closed : (standing_of_row lines row).posture ≡ Closed
+    closed = ap (λ n. (standing (take n lines) row.who.session).posture) first
+
+    never : (changes : List Noted) → Closed ≡ Working (Committing changes) → ⊥
+    never changes e = absurd (cc)
+
+settled_opens : (line : Line) (s t : Seen) (play : Play) → Played (line ∷ []) s t play → OpensNothing s t
+settled_opens line s t play p x u added from to rows place row client head there o =
+    row_opens line u row client head (at_place (λ (r : Landing). r.who.event ≤ 1) a.added place row a.early at)
+    (subst (λ z. IsOfKind (line ∷ []) z row) same (at_place (IsOfKind (line ∷ []) w.state) a.added place row a.kinds at)) o
+  where
+    w : AddsTo 1 (line ∷ []) x t
+    w = (p.kinds x from).rows
+
+    a : AddsKinds 1 (line ∷ []) x w.state
+    a = w.adds
+
+    same : w.state ≡ u
+    same = let e : Some w.state ≡ Some u = sym w.told ∙ to in cc
+
+    whole : added ≡ a.added
+    whole = append_cancel_left x.trace added a.added (sym rows ∙ ap (λ (z : CloudState). z.trace) (sym same) ∙ a.trace)
+
+    at : slice_get a.added place ≡ Some row
+    at = ap (λ rs. slice_get rs place) (sym whole) ∙ there
+
 pub was_settled : (reply : Reply) (s t : Seen) (old new : Play) → IsFresh old → IsNext Settle reply s t old new → WasSettled reply s t
-was_settled reply s t old new fresh next = record { play = new; played = played_more [] Settle reply s s t old new (played_nothing s old fresh) next }
+was_settled reply s t old new fresh next =
+    let played = played_more [] Settle reply s s t old new (played_nothing s old fresh) next in
+    record { play = new; played = played; opens = settled_opens (record { event = Settle; reply = reply }) s t new played }
 
 -- a settling ends as its reply says
 pub settle_end : (reply : Reply) (w u : Told) (s t : Seen) → ShowsSettling reply w u s t → SettleEnded (settled_by reply) w u s t

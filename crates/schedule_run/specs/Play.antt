@@ -11,6 +11,8 @@ use Rattle.world_core.specs.declared.world.World.{World}
 use Rattle.world_core.specs.declared.world.WorldFault.{WorldFault}
 use Rattle.world_core.specs.declared.world.WorldFault.TheVariants as world
 use Rattle.world_core.specs.Handled.{Handled}
+use Rattle.replay_model.specs.Added.{AddsTo}
+use Rattle.world_core.specs.Added.{WorldAdds}
 use Rattle.world_core.specs.Stands.{WorldStands, StandsOn, Grows}
 use Rattle.schedule_run.specs.declared.play.Play.{Play}
 use Rattle.schedule_run.specs.Answered.{IsNew, WentOn, IsUnanswered, ReportsAreRight, KeepsTheTheorem}
@@ -59,16 +61,20 @@ RunsWhole event (Err fault) before after old new = StopsRun event before after o
 
 -- ---- lines from a new world on
 
--- these lines were handled from a new world on; over a cloud that was empty all stands for them, and every report is right
+-- these lines were handled from a new world on; over any cloud that tells its state each row that they added is of a kind that its session's standing
+-- by them allows, and over one that was empty all stands for them, and every report is right
 pub record Played (lines : List Line) (start now : Seen) (play : Play) : Type 0 where
   pub count : play.handled ≡ length lines
   pub first : World
   pub fresh : IsNew first
   pub went : WentOn start first lines now play.world
+  pub kinds : (t : CloudState) → start.state ≡ Some t → WorldAdds lines t play.world now
   pub stands : (t : CloudState) → start.state ≡ Some t → IsEmptyCloud t
       → (u : CloudState) × (now.state ≡ Some u) × WorldStands lines play.world u × ReportsAreRight lines u
 
--- behind these lines memory ran out: before this event did anything, or while it was handled. What was handled keeps the theorem
+-- behind these lines memory ran out: before this event did anything, or while it was handled. What was handled keeps the theorem, and what it added to
+-- any cloud is of its kind
 pub data StoppedAt (event : Event) (lines : List Line) (start now : Seen) : Type 0 where
   stopped_before : (play : Play) → Played lines start now play → StoppedAt event lines start now
-  stopped_within : IsUnanswered lines event world.Memory start now → KeepsTheTheorem lines start now → StoppedAt event lines start now
+  stopped_within : (out : IsUnanswered lines event world.Memory start now) → ((t : CloudState) → start.state ≡ Some t → AddsTo (length lines) lines t out.mid)
+      → KeepsTheTheorem lines start now → StoppedAt event lines start now

@@ -1,10 +1,14 @@
 -- What a settling writes and leaves.
-use Rattle.std.specs.Prelude.{◌≡◌, Bool, true, false, if◌then◌else◌, [], ◌∷◌, Result, Ok, Err}
+use Rattle.std.specs.Prelude.{ℕ, ◌≡◌, Bool, true, false, if◌then◌else◌, List, [], ◌∷◌, ◌++◌, slice_get, Some, Result, Ok, Err}
 use Rattle.cloud_trait.specs.Seen.{Seen}
+use Rattle.cloud_trait.specs.State.{CloudState}
+use Rattle.cloud_trait.specs.declared.state.Landing.{Landing}
 use Rattle.db_io.specs.Content.{Told, Adds, AddsPrefix}
 use Rattle.event_text.specs.declared.event.Event.TheVariants.{Settle}
+use Rattle.head_codec.specs.declared.head.Head.{Head}
 use Rattle.line_io.specs.declared.output.OutputFault.{OutputFault}
 use Rattle.line_io.specs.declared.output.OutputFault.TheVariants as output
+use Rattle.replay_meaning.specs.Kinds.{LandsOpen}
 use Rattle.reply_text.specs.declared.reply.Reply.{Reply}
 use Rattle.reply_text.specs.declared.reply.Reply.TheVariants.{Settled}
 use Rattle.schedule_run.specs.declared.play.Play.{Play}
@@ -18,10 +22,17 @@ abbrev pub is_settled : Reply → Bool
 is_settled (Settled calls) = true
 is_settled reply = false
 
+-- none of the rows that were added to the trace of a cloud opens a transaction
+abbrev pub OpensNothing : Seen → Seen → Type 0
+OpensNothing start now =
+    (t u : CloudState) (added : List Landing) → start.state ≡ Some t → now.state ≡ Some u → u.trace ≡ t.trace ++ added
+    → (place : ℕ) (row : Landing) (client : ℕ) (head : Head) → slice_get added place ≡ Some row → LandsOpen u row client head → ⊥
+
 -- the one line `settle` was handled in a new world, and has this reply
 pub record WasSettled (reply : Reply) (start now : Seen) : Type 0 where
   pub play : Play
   pub played : Played (record { event = Settle; reply = reply } ∷ []) start now play
+  pub opens : OpensNothing start now
 
 -- it is written under number 1
 pub record ShowsSettling (reply : Reply) (written now_written : Told) (start now : Seen) : Type 0 where

@@ -5,7 +5,7 @@ ghost use Rattle.world_core.specs.Stands.{Grows};
 ghost use Rattle.schedule_run.specs.Answered.{IsNew};
 ghost use Rattle.schedule_run.specs.Replayed.{HasBadLine, LineWent, LineHandled, ReplayWent, WentThrough};
 
-use crate::writing::{refuse, write_reply};
+use crate::writing::{let_go, refuse, write_reply};
 use cloud_trait::cloud::Bench;
 use db_io::sink::Sink;
 use event_text::event::Event;
@@ -123,11 +123,15 @@ fn handle<O: Sink, C: Bench>(
     ensures faults { (O.told sink.old).faults ≤ (O.told sink.new).faults }
 {
     match world.event(alloc, cloud, n, event) {
-        Ok(reply) => match write_reply(alloc, sink, n, &reply) {
-            Ok(()) => Ok(()),
-            Err(OutputFault::WriteFault) => Err(LineFault::WriteFault),
-            Err(OutputFault::Memory) => Err(LineFault::Memory),
-        },
+        Ok(reply) => {
+            let written = write_reply(alloc, sink, n, &reply);
+            let_go(reply);
+            match written {
+                Ok(()) => Ok(()),
+                Err(OutputFault::WriteFault) => Err(LineFault::WriteFault),
+                Err(OutputFault::Memory) => Err(LineFault::Memory),
+            }
+        }
         Err(WorldFault::Memory) => Err(LineFault::Memory),
     }
 }

@@ -176,7 +176,10 @@ fn ended(answer: Result<Reply, ShellFault>) -> Result<(), ShellFault>
     ensures { result ≡ ended answer }
 {
     match answer {
-        Ok(_) => Ok(()),
+        Ok(reply) => {
+            let_go(reply);
+            Ok(())
+        }
         Err(fault) => Err(fault),
     }
 }

@@ -1,6 +1,6 @@
 //! The summary of a generated schedule.
 
-ghost use Rattle.std.specs.Prelude.{◌≡◌, ◌++◌, IfOk, OnOk};
+ghost use Rattle.std.specs.Prelude.{◌≡◌, [], ◌∷◌, ◌++◌, codes, IfOk, OnOk};
 ghost use Rattle.std.specs.Fmt.{decimal};
 ghost use Rattle.schedule_run.specs.Summary.{labelled, committed_word, order_word, contents_word, left_words, summary};
 ghost use Rattle.reply_text.specs.Reply.{reply_text};
@@ -11,24 +11,22 @@ use reply_text::reply::Reply;
 use report_types::report::Report;
 use std::alloc::Global;
 
-/// A line of a name, a space and a value.
-fn add_labelled(text: &mut Blob, name: &str, value: &Blob) -> Result<(), Refused>
+/// Adds a line of a name, a space and a value.
+fn add_labelled(text: &mut Blob, name: &str, value: &[u8]) -> Result<(), Refused>
     ensures { OnOk result (text.new ≡ text.old ++ labelled name.now value.now) }
 {
     text.add(name.as_bytes())?;
     text.add(b" ")?;
-    text.add(value.as_slice())?;
+    text.add(value)?;
     text.add(b"\n")
 }
 
-/// A number, decimal.
-fn number(alloc: Global, n: u64) -> Result<Blob, Refused>
-    ensures { IfOk result (λ text. text ≡ decimal n) }
+/// Adds a line of a name and a number, decimal.
+fn add_number(text: &mut Blob, name: &str, n: u64) -> Result<(), Refused>
+    ensures { OnOk result (text.new ≡ text.old ++ labelled name.now (decimal n)) }
 {
     let mut number = itoa::Buffer::new();
-    let mut text = Blob::new(alloc);
-    text.add(number.format(n).as_bytes())?;
-    Ok(text)
+    add_labelled(text, name, number.format(n).as_bytes())
 }
 
 /// The text of a reply.
@@ -41,6 +39,14 @@ fn text_of(alloc: Global, reply: &Reply) -> Result<Blob, Refused>
     }
 }
 
+/// Adds a line of a name and the text of a reply.
+fn add_reply(alloc: Global, text: &mut Blob, name: &str, reply: &Reply) -> Result<(), Refused>
+    ensures { OnOk result (text.new ≡ text.old ++ labelled name.now (reply_text reply.now)) }
+{
+    let word = text_of(alloc, reply)?;
+    add_labelled(text, name, word.as_slice())
+}
+
 /// The summary: how many events, the figures of the report, and the text of the settling's reply.
 pub(crate) fn summary(
     alloc: Global,
@@ -51,62 +57,86 @@ pub(crate) fn summary(
     ensures { IfOk result (λ text. text ≡ summary count settling.now report.now) }
 {
     let mut text = Blob::new(alloc);
-    add_labelled(&mut text, "events", &number(alloc, count)?)?;
-    add_labelled(&mut text, "committed", &committed_word(alloc, report)?)?;
-    add_labelled(&mut text, "order", &order_word(alloc, report)?)?;
-    add_labelled(&mut text, "contents", &contents_word(alloc, report)?)?;
-    text.add(text_of(alloc, settling)?.as_slice())?;
-    text.add(b"\n")?;
-    add_labelled(&mut text, "left", &left_words(alloc, report)?)?;
+    add_summary(alloc, &mut text, count, settling, report)?;
     Ok(text)
 }
 
-/// How many entries are committed, or the text of a reply that is no report.
-fn committed_word(alloc: Global, reply: &Reply) -> Result<Blob, Refused>
-    ensures { IfOk result (λ text. text ≡ committed_word reply.now) }
+/// Adds the lines of the summary.
+fn add_summary(
+    alloc: Global,
+    text: &mut Blob,
+    count: u64,
+    settling: &Reply,
+    report: &Reply,
+) -> Result<(), Refused>
+    ensures { OnOk result (text.new ≡ text.old ++ summary count settling.now report.now) }
+{
+    add_number(text, "events", count)?;
+    add_committed(alloc, text, report)?;
+    add_order(alloc, text, report)?;
+    add_contents(alloc, text, report)?;
+    add_text(alloc, text, settling)?;
+    add_left(alloc, text, report)
+}
+
+/// Adds how many entries are committed, or the text of a reply that is no report.
+fn add_committed(alloc: Global, text: &mut Blob, reply: &Reply) -> Result<(), Refused>
+    ensures { OnOk result (text.new ≡ text.old ++ labelled (codes "committed") (committed_word reply.now)) }
 {
     match reply {
-        Reply::Report(report) => number(alloc, report.committed.len() as u64),
-        _ => text_of(alloc, reply),
+        Reply::Report(report) => add_number(text, "committed", report.committed.len() as u64),
+        _ => add_reply(alloc, text, "committed", reply),
     }
 }
 
-/// How many entries are in order, or the text of a reply that is no report.
-fn order_word(alloc: Global, reply: &Reply) -> Result<Blob, Refused>
-    ensures { IfOk result (λ text. text ≡ order_word reply.now) }
+/// Adds how many entries are in order, or the text of a reply that is no report.
+fn add_order(alloc: Global, text: &mut Blob, reply: &Reply) -> Result<(), Refused>
+    ensures { OnOk result (text.new ≡ text.old ++ labelled (codes "order") (order_word reply.now)) }
 {
     match reply {
-        Reply::Report(report) => number(alloc, report.order.len() as u64),
-        _ => text_of(alloc, reply),
+        Reply::Report(report) => add_number(text, "order", report.order.len() as u64),
+        _ => add_reply(alloc, text, "order", reply),
     }
 }
 
-/// How many records there are, or the text of a reply that is no report.
-fn contents_word(alloc: Global, reply: &Reply) -> Result<Blob, Refused>
-    ensures { IfOk result (λ text. text ≡ contents_word reply.now) }
+/// Adds how many records there are, or the text of a reply that is no report.
+fn add_contents(alloc: Global, text: &mut Blob, reply: &Reply) -> Result<(), Refused>
+    ensures { OnOk result (text.new ≡ text.old ++ labelled (codes "contents") (contents_word reply.now)) }
 {
     match reply {
-        Reply::Report(report) => number(alloc, report.contents.len() as u64),
-        _ => text_of(alloc, reply),
+        Reply::Report(report) => add_number(text, "contents", report.contents.len() as u64),
+        _ => add_reply(alloc, text, "contents", reply),
     }
 }
 
-/// How many heads and messages are left, or the text of a reply that is no report.
-fn left_words(alloc: Global, reply: &Reply) -> Result<Blob, Refused>
-    ensures { IfOk result (λ text. text ≡ left_words reply.now) }
+/// Adds a line of the text of a reply.
+fn add_text(alloc: Global, text: &mut Blob, reply: &Reply) -> Result<(), Refused>
+    ensures { OnOk result (text.new ≡ text.old ++ reply_text reply.now ++ 10 ∷ []) }
+{
+    let line = text_of(alloc, reply)?;
+    text.add(line.as_slice())?;
+    text.add(b"\n")
+}
+
+/// Adds how many heads and messages are left, or the text of a reply that is no report.
+fn add_left(alloc: Global, text: &mut Blob, reply: &Reply) -> Result<(), Refused>
+    ensures { OnOk result (text.new ≡ text.old ++ labelled (codes "left") (left_words reply.now)) }
 {
     match reply {
-        Reply::Report(report) => left(alloc, report),
-        _ => text_of(alloc, reply),
+        Reply::Report(report) => add_counts(text, report),
+        _ => add_reply(alloc, text, "left", reply),
     }
 }
 
-/// How many heads and messages are left.
-fn left(alloc: Global, report: &Report) -> Result<Blob, Refused>
-    ensures { IfOk result (λ text. text ≡ left_words (Reply.Report report.now)) }
+/// Adds how many heads and messages are left.
+fn add_counts(text: &mut Blob, report: &Report) -> Result<(), Refused>
+    ensures { OnOk result (text.new ≡ text.old ++ labelled (codes "left") (left_words (Reply.Report report.now))) }
 {
-    let mut text = number(alloc, report.heads)?;
+    let mut heads = itoa::Buffer::new();
+    let mut messages = itoa::Buffer::new();
+    text.add(b"left ")?;
+    text.add(heads.format(report.heads).as_bytes())?;
     text.add(b" ")?;
-    text.add(number(alloc, report.messages)?.as_slice())?;
-    Ok(text)
+    text.add(messages.format(report.messages).as_bytes())?;
+    text.add(b"\n")
 }

@@ -9,7 +9,7 @@ use std::process::ExitCode;
 use std::{fs, io};
 
 /// The schedules, by name: each lies in the folder `data`, with its replies.
-const NAMES: [&str; 11] = [
+const NAMES: [&str; 15] = [
     "first-path",
     "two-transactions",
     "three-trees",
@@ -17,8 +17,12 @@ const NAMES: [&str; 11] = [
     "withheld-record",
     "odd-messages",
     "late-holder",
+    "lease-ends",
+    "two-writers",
+    "old-read",
     "late-update",
     "half-cut",
+    "settling",
     "days-use",
     "three-levels",
 ];

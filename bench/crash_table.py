@@ -6,10 +6,9 @@ answers Failed, and has not landed, or has. The session dies in any case, its le
 its report is held against bench/model.py, and against the counts that the script calls for.
 
 Usage: bench/crash_table.py PROGRAM [NAME..]      the scripts of these names, all five where none is given
-       bench/crash_table.py --write FOLDER        writes the schedules of the cases into a folder, and runs nothing
+       bench/crash_table.py --scripts FOLDER      writes the scripts and reports that the crate example_runs has of four of them
 """
 
-import os
 import subprocess
 import sys
 from concurrent.futures import ThreadPoolExecutor
@@ -89,12 +88,39 @@ def judge(name, call, hit, schedule, output):
         model.must("41 76" in report["contents"], "the insert is not there")
 
 
+def entry(txn, line):
+    what, _, _, *rest = line.split(" ")
+    return f"1 1 {txn} {what} {' '.join(rest)}"
+
+
+def report_of(name):
+    """The report of a settled store, of what the script's lines commit: they have one client, and an update that is taken last."""
+    committed, txn = [], 1
+    _, lines, last, _, _ = SCRIPTS[name]
+    for line in [*lines, last]:
+        if line.startswith(("insert", "update")):
+            committed.append(entry(txn, line))
+        txn += line == "commit 1"
+    order = sorted(committed, key=lambda it: " update " in it)
+    records = model.fold(it.split(" ", 3)[3] for it in order)
+    contents = [f"{key} {records[key]}" for key in sorted(records)]
+    return [f"committed {len(committed)}", *committed, f"order {len(order)}", *order, f"contents {len(contents)}", *contents, "left 0 0"]
+
+
+def write_scripts(folder):
+    def write(name, lines):
+        with open(f"{folder}/{name}", "w") as it:
+            it.write("\n".join(lines) + "\n")
+
+    for name in ("page", "cut", "recovery", "commit"):
+        write(f"{name}.script", [*SCRIPTS[name][1], SCRIPTS[name][2]])
+        write(f"{name}.report", [" report 1", *report_of(name)])
+    write("nothing.report", [" report 1", "committed 0", "order 0", "contents 0", "left 0 0"])
+
+
 def main(words):
-    if words[:1] == ["--write"]:
-        os.makedirs(words[1], exist_ok=True)
-        for name, call, hit, schedule in cases(SCRIPTS):
-            with open(f"{words[1]}/{name}-{call}-{hit.replace(' ', '-')}", "w") as it:
-                it.write(schedule)
+    if words[:1] == ["--scripts"]:
+        write_scripts(words[1])
         return 0
 
     def run(case):

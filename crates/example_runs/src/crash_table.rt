@@ -71,10 +71,18 @@ fn case(alloc: Global, script: &[u8], call: u64, hit: &str) -> Result<Vec<u8>, A
     Ok(schedule)
 }
 
-/// Whether what the schedule writes ends with this report.
+/// Whether the schedule settles the store, and what it writes ends with this report.
 fn reports(alloc: Global, schedule: &[u8], report: &[u8]) -> bool {
     match output(alloc, schedule) {
-        Some(sink) => sink.written().ends_with(report),
+        Some(sink) => settles(sink.written()) && sink.written().ends_with(report),
         None => false,
+    }
+}
+
+/// Whether there is a reply of a settling that came to its end.
+fn settles(written: &[u8]) -> bool {
+    match str::from_utf8(written) {
+        Ok(text) => text.contains(" settled "),
+        Err(_) => false,
     }
 }

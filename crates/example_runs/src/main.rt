@@ -4,14 +4,24 @@
 
 mod crash_table;
 mod files;
+mod generated;
 mod output;
 mod schedules;
 
+use std::io;
 use std::process::ExitCode;
 
 fn main(rt: HostRuntime) -> ExitCode {
-    match (schedules::run(&rt), crash_table::run(&rt)) {
-        (Ok(true), Ok(true)) => ExitCode::from(0),
-        (_, _) => ExitCode::from(1),
+    match all(&rt) {
+        Ok(true) => ExitCode::from(0),
+        Ok(false) | Err(_) => ExitCode::from(1),
     }
+}
+
+/// Whether all is as written.
+fn all(rt: &HostRuntime) -> io::Result<bool> {
+    let schedules = schedules::run(rt)?;
+    let cases = crash_table::run(rt)?;
+    let generated = generated::run(rt)?;
+    Ok(schedules && cases && generated)
 }

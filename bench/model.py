@@ -1,0 +1,226 @@
+#!/usr/bin/env python3
+"""A small model of what a schedule commits, with no page, queue or lease in it. It follows the lines and the kinds of
+replies, and holds every report against what it follows:
+
+- `committed` is what the lines committed, each transaction whole, one client's in their order;
+- `order` has committed entries alone, each once, one client's entries of a key in their order, behind the last order;
+- `contents` is the fold of `order`, from no record, in key order;
+- behind `left 0 0` the order has every committed entry.
+
+A commit that was cut off by a crash, or is in doubt, is committed where the next report says so, and never afterwards.
+A read or a scan shows payloads that a session noted for that key. Lines and replies are matched by their numbers.
+
+Usage: bench/model.py SCHEDULE REPLIES [..]     prints one line for each pair; status 1 where one is not as the model says
+"""
+
+import sys
+
+NOTES = ("insert", "update", "delete")
+# What a change behind another one of its key comes to, within one transaction.
+NET = {
+    ("insert", "insert"): "insert", ("insert", "update"): "insert", ("insert", "delete"): "delete",
+    ("update", "insert"): "insert", ("update", "update"): "update", ("update", "delete"): "delete",
+    ("delete", "insert"): "insert", ("delete", "update"): "delete", ("delete", "delete"): "delete",
+}
+
+
+class Wrong(Exception):
+    pass
+
+
+def must(holds, what):
+    if not holds:
+        raise Wrong(what)
+
+
+def fold(changes):
+    """The records that changes come to."""
+    records = {}
+    for change in changes:
+        what, key, *payload = change.split(" ")
+        if what == "insert" or (what == "update" and key in records):
+            records[key] = payload[0]
+        elif what == "delete":
+            records.pop(key, None)
+    return records
+
+
+def replies_of(text):
+    """The replies of an output: for each number its first line and the lines of its report."""
+    replies, lines = [], text.split("\n")
+    must(lines.pop() == "", "the last reply has no line feed")
+    at = 0
+    while at < len(lines):
+        number, _, said = lines[at].partition(" ")
+        must(number == str(len(replies) + 1), f"reply {len(replies) + 1} is not there: {lines[at][:60]}")
+        at += 1
+        report = None
+        if said.startswith("report "):
+            report = {}
+            for part in ("committed", "order", "contents"):
+                word, count = lines[at].split(" ")
+                must(word == part, f"reply {number} has no {part}")
+                report[part] = lines[at + 1 : at + 1 + int(count)]
+                at += 1 + int(count)
+            word, *left = lines[at].split(" ")
+            must(word == "left", f"reply {number} has no left")
+            report["left"] = [int(it) for it in left]
+            at += 1
+        replies.append((said, report))
+    return replies
+
+
+class Session:
+    def __init__(self):
+        self.client = self.epoch = 0
+        self.buffer = {}
+        self.at_work = None
+
+
+class Model:
+    def __init__(self):
+        self.sessions = {}
+        self.attempts = {}
+        self.noted = {}
+        # What was tried, in its order: for each transaction its changes, and those of them that nobody knows of yet.
+        self.tried, self.doubtful = [], set()
+        self.orders = {}
+        self.reports = []
+
+    def entries(self, tree, transactions):
+        return [f"{client} {epoch} {txn} {change}" for (client, epoch, txn), changes in transactions for of, change in changes if of == tree]
+
+    def line(self, line, said, report):
+        what, *words = line.split(" ")
+        if said.startswith("refused "):
+            return
+        if what == "report":
+            must(report is not None or not said.startswith("report"), "no report")
+            if report is not None:
+                self.report(words[0], report)
+            return
+        if what in ("wait", "settle"):
+            return
+        session = self.sessions.setdefault(words[0], Session())
+        if what in NOTES:
+            must(said == "noted", f"{line}: {said}")
+            self.note(session, what, *words[1:])
+        elif what == "abort":
+            session.buffer = {}
+        elif what == "crash":
+            if session.at_work == "commit":
+                self.doubt(self.attempt(session))
+            self.sessions[words[0]] = Session()
+        elif said == "begun":
+            session.at_work = what
+            if what == "open":
+                # (a session in doubt that opens again forgets what it noted)
+                session.client, session.buffer = words[1], {}
+            if what == "commit":
+                self.attempts[session.client, session.epoch] = self.attempts.get((session.client, session.epoch), 0) + 1
+            session.asked = words[1:]
+        elif what in ("run", "step") and said != "called":
+            self.answer(session, said)
+            session.at_work = None
+
+    def note(self, session, what, tree, key, *payload):
+        self.noted.setdefault((tree, key), set()).update(payload)
+        before = session.buffer.get((tree, key))
+        if before:
+            what = NET[before.split(" ")[0], what]
+        session.buffer[tree, key] = " ".join([what, key, *([] if what == "delete" else payload)])
+
+    def attempt(self, session):
+        number = self.attempts[session.client, session.epoch]
+        return (session.client, session.epoch, number), [(tree, change) for (tree, _), change in session.buffer.items()]
+
+    def doubt(self, attempt):
+        self.tried.append(attempt)
+        self.doubtful.add(attempt[0])
+
+    def answer(self, session, said):
+        word, *rest = said.split(" ")
+        if session.at_work == "open" and word == "opened":
+            session.epoch = int(rest[0])
+        elif session.at_work == "commit":
+            attempt = self.attempt(session)
+            if word in ("committed", "committed-open"):
+                must(word != "committed" or int(rest[0]) == attempt[0][2], f"{said}: the attempt is {attempt[0][2]}")
+                self.tried.append(attempt)
+            elif word == "in-doubt":
+                self.doubt(attempt)
+            else:
+                must(word == "not-committed", said)
+            session.buffer = {}
+        elif session.at_work == "read" and word == "value":
+            must(rest[0] in self.noted.get(tuple(session.asked), ()), f"{said}: nobody noted it")
+        elif session.at_work == "scan" and word == "scan":
+            tree, low, high = session.asked
+            keys = [it.split("=")[0] for it in rest[1:]]
+            must(len(keys) == int(rest[0]) and keys == sorted(set(keys)), "a scan out of order")
+            must(all((low == "-" or low <= it) and (high == "-" or it < high) for it in keys), "a scan out of its bounds")
+            must(all(it.split("=")[1] in self.noted.get((tree, it.split("=")[0]), ()) for it in rest[1:]), "a scan of what nobody noted")
+
+    def report(self, tree, report):
+        for attempt in [it for it in self.tried if it[0] in self.doubtful]:
+            entries = self.entries(tree, [attempt])
+            if entries:
+                has = [it in report["committed"] for it in entries]
+                must(all(has) or not any(has), f"transaction {attempt[0]} is committed in part")
+                self.doubtful.remove(attempt[0])
+                if not all(has):
+                    self.tried.remove(attempt)
+        told, known = report["committed"], self.entries(tree, self.tried)
+        must(sorted(told) == sorted(known), f"committed has {len(told)} entries, and the lines committed {len(known)}")
+        for client in {it[0][0] for it in self.tried}:
+            of = [it for it in known if it.split(" ")[0] == client]
+            must([it for it in told if it.split(" ")[0] == client] == of, f"committed has client {client}'s entries in another order")
+        order = report["order"]
+        must(len(set(order)) == len(order), "an entry stands twice in the order")
+        must(set(order) <= set(told), "the order has an entry that was not committed")
+        at = {it: number for number, it in enumerate(told)}
+        last = {}
+        for it in order:
+            client, _, _, _, key, *_ = it.split(" ")
+            must(last.get((client, key), -1) < at[it], f"client {client}'s changes of {key} are turned round")
+            last[client, key] = at[it]
+        before = self.orders.get(tree, [])
+        must(order[: len(before)] == before, "the order does not go on from the last one")
+        self.orders[tree] = order
+        records = fold(it.split(" ", 3)[3] for it in order)
+        must(report["contents"] == [f"{key} {records[key]}" for key in sorted(records)], "the contents are not the fold of the order")
+        must(report["left"] != [0, 0] or len(order) == len(told), "nothing is left, and the order has not all that was committed")
+        self.reports.append(report)
+
+
+def check(schedule, output):
+    """Holds an output against its schedule, and returns its reports. Raises Wrong where it is not as the model says."""
+    lines, replies = schedule.split("\n")[:-1], replies_of(output)
+    must(len(lines) == len(replies), f"{len(lines)} lines and {len(replies)} replies")
+    model = Model()
+    for number, (line, (said, report)) in enumerate(zip(lines, replies), 1):
+        try:
+            model.line(line, said, report)
+        except Wrong as wrong:
+            raise Wrong(f"line {number}, {line}: {wrong}")
+    return model.reports
+
+
+def main(words):
+    bad = 0
+    for schedule, replies in zip(words[::2], words[1::2]):
+        with open(schedule) as lines, open(replies) as output:
+            text, said = lines.read(), output.read()
+        try:
+            reports = check(text, said)
+            last = reports[-1] if reports else None
+            what = f"; the last has {len(last['committed'])} committed, {len(last['order'])} in order, {len(last['contents'])} contents" if last else ""
+            print(f"{schedule}: {text.count(chr(10))} lines, {len(reports)} reports as the model says{what}")
+        except Wrong as wrong:
+            bad = 1
+            print(f"{schedule}: NOT as the model says: {wrong}")
+    return bad
+
+
+if __name__ == "__main__":
+    sys.exit(main(sys.argv[1:]))

@@ -7,3 +7,9 @@ pub mod Fences
 pub mod Charts
 pub mod Folds
 pub mod Ending
+pub mod Brought
+pub mod Passed
+pub mod Ways
+pub mod Plots
+pub mod Rises
+pub mod Causing

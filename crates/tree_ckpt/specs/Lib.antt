@@ -1,3 +1,4 @@
 pub mod Making
 pub mod Standing
 pub mod Ending
+pub mod Causing

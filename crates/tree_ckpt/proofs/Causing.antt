@@ -401,7 +401,7 @@ step_tells m cs a next k fits leads = tells_by m.tree m.work cs a next k fits le
 
 -- ---- histories
 
-came_brought : (tree : ℕ) (h : List Deed) (m : Making) → Came making_ask MakingLeads (new_making tree) h m → KnowsAt m.tree m.work (calls_of h)
+pub came_brought : (tree : ℕ) (h : List Deed) (m : Making) → Came making_ask MakingLeads (new_making tree) h m → KnowsAt m.tree m.work (calls_of h)
 came_brought tree [] m came = subst (λ (n : Making). KnowsAt n.tree n.work []) (sym came) tt
 came_brought tree (d ∷ h) m came =
     let from : Making = came.0 in

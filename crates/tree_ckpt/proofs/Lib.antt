@@ -13,3 +13,4 @@ pub mod Ways
 pub mod Plots
 pub mod Rises
 pub mod Causing
+pub mod Doing

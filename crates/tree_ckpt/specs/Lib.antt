@@ -2,3 +2,4 @@ pub mod Making
 pub mod Standing
 pub mod Ending
 pub mod Causing
+pub mod Meaning

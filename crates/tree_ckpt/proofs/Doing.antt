@@ -5,7 +5,7 @@ use Rattle.db_base.specs.declared.names.Lock.TheVariants as lock
 use Rattle.db_base.specs.declared.names.ObjName.TheVariants as object
 use Rattle.db_base.specs.declared.names.QueueName.TheVariants as queue
 use Rattle.db_base.specs.declared.trouble.Trouble.{Trouble}
-use Rattle.node_codec.specs.Tree.{Tree, tree_of}
+use Rattle.node_codec.specs.Tree.{Tree, tree_of, tree_bytes}
 use Rattle.log_codec.specs.declared.record.PuItem.{PuItem}
 use Rattle.run_cursor.specs.Run.{Taken}
 use Rattle.run_cursor.specs.Covered.{covered_ids}
@@ -15,7 +15,7 @@ use Rattle.cloud_trait.specs.declared.message.Message.{Message}
 use Rattle.cloud_trait.specs.declared.turn.CkptAnswer.{CkptAnswer}
 use Rattle.cloud_trait.specs.declared.turn.Turn.{Turn}
 use Rattle.cloud_trait.specs.declared.turn.Turn.TheVariants.{More, Ended, Stopped}
-use Rattle.cloud_trait.specs.Ask.{Ask, GetHeld, Receive, Delete, Release}
+use Rattle.cloud_trait.specs.Ask.{Ask, GetHeld, Receive, Delete, Release, PutHeld}
 use Rattle.cloud_trait.specs.Claim.{Claim}
 use Rattle.cloud_trait.specs.Machine.{Next, Goes, Ends, Stops, Took, Deed, Came, calls_of}
 use Rattle.cloud_trait.specs.Views.{given_of, got_of, done_of, received_of}
@@ -51,6 +51,11 @@ use Rattle.tree_ckpt.specs.Making.{Making, new_making, making_ask, MakingLeads, 
 use Rattle.tree_ckpt.specs.Standing.{Went, HasIds}
 use Rattle.tree_ckpt.specs.Causing.{Calls}
 use Rattle.tree_ckpt.specs.Meaning.{Opening, opening_calls, IsOpened, IsAtWork, AreAtWork, IsRootPut, Works, Tried, deletes_over, tried_before, one_more, one_less, went_count, failed_count, IsDone, MeansDone}
+use Rattle.leaf_fold.specs.declared.folding.Left.TheVariants.{Right, Handled}
+use Rattle.tree_descent.specs.Descent.{begun}
+use Rattle.tree_ckpt.proofs.Charts.{GoesFurther, arrive_further, descent_further}
+use Rattle.tree_ckpt.proofs.Leaving.{LeavesLeaf, next_leaves}
+use Rattle.tree_ckpt.proofs.Lasts.{IsLastRoot, LastIs, UpKeeps, none_last, rise_keeps, risen_keeps}
 use Rattle.tree_ckpt.proofs.Causing.{KnowsAt, came_brought}
 use Rattle.tree_ckpt.proofs.Folds.{not_empty}
 use Rattle.tree_ckpt.proofs.Rises.{IsRising}
@@ -58,8 +63,9 @@ use Rattle.tree_ckpt.proofs.Rises.{IsRising}
 -- ---- what is known
 
 -- while leaves and nodes are worked on
-pub record Amid (tree : ℕ) (h : Held) (cs : Calls) : Type 0 where
+pub record Amid (tree : ℕ) (h : Held) (run : Taken) (cs : Calls) : Type 0 where
   pub opening : Opening
+  pub same : opening.run ≡ run
   pub opened : IsOpened opening
   pub some : has_items opening.run.items ≡ true
   pub ids : h.deletions ≡ to_delete (covered_ids opening.run.top opening.items)
@@ -94,16 +100,20 @@ abbrev KnowsEnd : ℕ → Leases → Result CkptAnswer Trouble → Calls → Typ
 KnowsEnd tree held (Ok x) cs = Ending tree held x cs
 KnowsEnd tree held (Err t) cs = Unit {0}
 
+abbrev run_onward : Onward → Taken
+run_onward (onward.Right c) = c.chart.run
+run_onward (onward.Handled c) = c.run
+
 abbrev pub DoneAt : ℕ → Work → Calls → Type 0
 DoneAt tree work.TakingTree cs = cs ≡ []
 DoneAt tree (work.GettingTree l) cs = cs ≡ (take_tree tree, call.Given l) ∷ []
 DoneAt tree (work.Receiving l root) cs = cs ≡ (GetHeld (object.Tree tree) l, call.Got root) ∷ (take_tree tree, call.Given l) ∷ []
-DoneAt tree (work.Descending h d) cs = Amid tree h cs
-DoneAt tree (work.TakingPage h c) cs = Amid tree h cs
-DoneAt tree (work.Folding h f) cs = Amid tree h cs
-DoneAt tree (work.ReleasingPage h l o) cs = Amid tree h cs
-DoneAt tree (work.LeftPage h o) cs = Amid tree h cs
-DoneAt tree (work.Rising h r) cs = Amid tree h cs
+DoneAt tree (work.Descending h d) cs = Amid tree h d.chart.run cs
+DoneAt tree (work.TakingPage h c) cs = Amid tree h c.chart.run cs
+DoneAt tree (work.Folding h f) cs = Amid tree h f.chart.run cs
+DoneAt tree (work.ReleasingPage h l o) cs = Amid tree h (run_onward o) cs
+DoneAt tree (work.LeftPage h o) cs = Amid tree h (run_onward o) cs
+DoneAt tree (work.Rising h r) cs = Amid tree h r.chart.run cs × LastIs r
 DoneAt tree (work.Deleting h applied) cs = Late tree h.lease h.deletions applied cs × HasIds h.deletions.ids
 DoneAt tree (work.Releasing held end) cs = KnowsEnd tree held end cs
 DoneAt tree work.Finished cs = ⊥
@@ -183,9 +193,10 @@ tried_done tree l (id ∷ ids) deleted left applied a cs has k = deleted_done tr
 -- ---- the work
 
 -- one call more
-amid_more : (tree : ℕ) (h : Held) (ask : Ask) (a : Answer) (cs : Calls) → IsAtWork ask → Amid tree h cs → Amid tree h ((ask, a) ∷ cs)
-amid_more tree h ask a cs at k = record {
+amid_more : (tree : ℕ) (h : Held) (run : Taken) (ask : Ask) (a : Answer) (cs : Calls) → IsAtWork ask → Amid tree h run cs → Amid tree h run ((ask, a) ∷ cs)
+amid_more tree h run ask a cs at k = record {
   opening = k.opening;
+  same = k.same;
   opened = k.opened;
   some = k.some;
   ids = k.ids;
@@ -194,10 +205,24 @@ amid_more tree h ask a cs at k = record {
   calls = ap (λ (xs : Calls). (ask, a) ∷ xs) k.calls;
 }
 
-descending_done : (tree : ℕ) (h : Held) (cs : Calls) (next : Next Descent (Unit {0})) → Amid tree h cs → GoesDone tree cs (descending_on h next)
-descending_done tree h cs (Goes d) k = k
-descending_done tree h cs (Ends d x) k = k
-descending_done tree h cs (Stops d t) k = tt
+-- the run stays
+amid_same : (tree : ℕ) (h : Held) (run other : Taken) (cs : Calls) → other ≡ run → Amid tree h run cs → Amid tree h other cs
+amid_same tree h run other cs e k = record {
+  opening = k.opening;
+  same = k.same ∙ sym e;
+  opened = k.opened;
+  some = k.some;
+  ids = k.ids;
+  work = k.work;
+  works = k.works;
+  calls = k.calls;
+}
+
+descending_done : (tree : ℕ) (h : Held) (c : Chart) (n : ℕ) (cs : Calls) (next : Next Descent (Unit {0})) → GoesFurther n c next → Amid tree h c.run cs
+    → GoesDone tree cs (descending_on h next)
+descending_done tree h c n cs (Goes d) f k = amid_same tree h c.run d.chart.run cs f.run k
+descending_done tree h c n cs (Ends d x) f k = amid_same tree h c.run d.chart.run cs f.run k
+descending_done tree h c n cs (Stops d t) f k = tt
 
 -- the work between two puts of the way up does not end it
 abbrev GoesUp : Next Rising (Unit {0}) → Type 0
@@ -219,34 +244,44 @@ rise_up r = on (rise.touched_node r) where
   on (Some n) = node_up r (rise.next_touched r + 1) (n.level + 1) (node_plan (tree_held r.chart.root) r.chart.tree n r.chart.links)
   on None = root_up r (rise.last_plan r)
 
-rising_begun : (tree : ℕ) (h : Held) (cs : Calls) (next : Next Rising (Unit {0})) → GoesUp next → Amid tree h cs → GoesDone tree cs (rising_on h next)
-rising_begun tree h cs (Goes r) up k = k
-rising_begun tree h cs (Ends r x) up k = absurd up
-rising_begun tree h cs (Stops r t) up k = tt
+rising_begun : (tree : ℕ) (h : Held) (r : Rising) (cs : Calls) (next : Next Rising (Unit {0})) → GoesUp next → UpKeeps r next → Amid tree h r.chart.run cs
+    → GoesDone tree cs (rising_on h next)
+rising_begun tree h r cs (Goes e) up keeps k = (amid_same tree h r.chart.run e.chart.run cs keeps.0 k, keeps.1)
+rising_begun tree h r cs (Ends e x) up keeps k = absurd up
+rising_begun tree h r cs (Stops e t) up keeps k = tt
 
-going_by_done : (tree : ℕ) (h : Held) (c : Chart) (cs : Calls) (key : Option (List ℕ)) → Amid tree h cs → GoesDone tree cs (going_by h c key)
-going_by_done tree h c cs (Some key) k = descending_done tree h cs (down_from (record c { key = key }) (root_entry (record c { key = key }))) k
-going_by_done tree h c cs None k = rising_begun tree h cs (rise.rise (rise.begun c)) (rise_up (rise.begun c)) k
+going_by_done : (tree : ℕ) (h : Held) (c : Chart) (cs : Calls) (key : Option (List ℕ)) → Amid tree h c.run cs → GoesDone tree cs (going_by h c key)
+going_by_done tree h c cs (Some key) k =
+    let d : Descent = begun (record c { key = key }) (root_entry (record c { key = key })).0 (root_entry (record c { key = key })).1 in
+    descending_done tree h (record c { key = key }) 0 cs (down_from (record c { key = key }) (root_entry (record c { key = key }))) (arrive_further d) k
+going_by_done tree h c cs None k =
+    rising_begun tree h (rise.begun c) cs (rise.rise (rise.begun c)) (rise_up (rise.begun c)) (rise_keeps (rise.begun c) (none_last (rise.begun c) refl)) k
 
-left_done : (tree : ℕ) (h : Held) (o : Onward) (cs : Calls) → Amid tree h cs → GoesDone tree cs (page_left h o)
+left_done : (tree : ℕ) (h : Held) (o : Onward) (cs : Calls) → Amid tree h (run_onward o) cs → GoesDone tree cs (page_left h o)
 left_done tree h (onward.Right c) cs k = k
 left_done tree h (onward.Handled c) cs k = going_by_done tree h c cs (next_key c) k
 
-folding_done : (tree : ℕ) (h : Held) (cs : Calls) (next : Next Folding Left) → Amid tree h cs → GoesDone tree cs (folding_on h next)
-folding_done tree h cs (Goes f) k = k
-folding_done tree h cs (Ends f out) k = k
-folding_done tree h cs (Stops f t) k = tt
+folding_done : (tree : ℕ) (h : Held) (f : Folding) (cs : Calls) (next : Next Folding Left) → LeavesLeaf f next → Amid tree h f.chart.run cs
+    → GoesDone tree cs (folding_on h next)
+folding_done tree h f cs (Goes g) s k = amid_same tree h f.chart.run g.chart.run cs s.run k
+folding_done tree h f cs (Ends g (Right low page)) s k = amid_same tree h f.chart.run g.chart.run cs s.run k
+folding_done tree h f cs (Ends g Handled) s k = amid_same tree h f.chart.run g.chart.run cs s.run k
+folding_done tree h f cs (Stops g t) s k = tt
 
-taken_done : (tree : ℕ) (h : Held) (c : Coming) (cs : Calls) (given : Result Claim Trouble) → Amid tree h cs → GoesDone tree cs (page_taken h c given)
+taken_done : (tree : ℕ) (h : Held) (c : Coming) (cs : Calls) (given : Result Claim Trouble) → Amid tree h c.chart.run cs → GoesDone tree cs (page_taken h c given)
 taken_done tree h c cs (Ok l) k = k
 taken_done tree h c cs (Err t) k = tt
 
 -- ---- the end of the way up
 
--- it ends by a put of the tree object that was done
+-- a put of the tree object that was done
+abbrev IsPutOf : ℕ → Claim → List ℕ → Ask × Answer → Type 0
+IsPutOf tree l bytes c = c ≡ (PutHeld (object.Tree tree) bytes l None, call.Done)
+
+-- it ends by such a put
 abbrev UpEnds : Rising → Claim → Answer → Next Rising (Unit {0}) → Type 0
 UpEnds r l a (Goes e) = Unit {0}
-UpEnds r l a (Ends e x) = IsRootPut r.chart.tree l (rise.rising_ask r l, a)
+UpEnds r l a (Ends e x) = (bytes : List ℕ) × IsPutOf r.chart.tree l bytes (rise.rising_ask r l, a) × (r.last ≡ Some bytes)
 UpEnds r l a (Stops e t) = Unit {0}
 
 up_goes : (r : Rising) (l : Claim) (a : Answer) (next : Next Rising (Unit {0})) → GoesUp next → UpEnds r l a next
@@ -273,7 +308,7 @@ landed_ends l r some = on r.placing.reserved r.placing.puts r.last some where
       → UpEnds (with_placing reserved puts last) l call.Done (rise.put_landed (with_placing reserved puts last))
   on (Some bytes) puts last some = goes (with_placing (Some bytes) puts last) false refl
   on None (x ∷ xs) last some = goes (with_placing None (x ∷ xs) last) (length (x ∷ xs) == 0) (not_empty (x ∷ xs) (omega arith))
-  on None [] (Some bytes) some = (bytes, refl)
+  on None [] (Some bytes) some = (bytes, refl, refl)
   on None [] None some = absurd (cc (some))
 
 up_ends : (l : Claim) (r : Rising) (a : Answer) → IsRising r → UpEnds r l a (rise.rising_next r a)
@@ -293,12 +328,13 @@ never_empty : {X : Type 0} (b : Bool) → b ≡ true → b ≡ false → X
 never_empty true e f = absurd (cc (f))
 never_empty false e f = absurd (cc (e))
 
-amid_late : (tree : ℕ) (h : Held) (c : Ask × Answer) (cs : Calls) (applied : ℕ) → Amid tree h cs → IsRootPut tree h.lease c → Late tree h.lease h.deletions applied (c ∷ cs)
-amid_late tree h c cs applied k put = record {
+amid_late : (tree : ℕ) (h : Held) (run : Taken) (c : Ask × Answer) (cs : Calls) (applied : ℕ) → Amid tree h run cs → IsRootPut tree h.lease run c
+    → Late tree h.lease h.deletions applied (c ∷ cs)
+amid_late tree h run c cs applied k put = record {
   opening = k.opening;
   opened = k.opened;
   work = c ∷ k.work;
-  works = (k.some, put, k.works);
+  works = (k.some, subst (λ (r : Taken). IsRootPut tree h.lease r c) (sym k.same) put, k.works);
   tries = [];
   calls = ap (λ (xs : Calls). c ∷ xs) k.calls;
   covered = ap (λ (d : Deleting). d.ids) k.ids;
@@ -307,13 +343,27 @@ amid_late tree h c cs applied k put = record {
   nothing = λ e. never_empty (has_items k.opening.run.items) k.some e;
 }
 
-rising_done : (tree : ℕ) (h : Held) (ask : Ask) (a : Answer) (cs : Calls) (r : Rising) (next : Next Rising (Unit {0})) → Amid tree h cs → IsAtWork ask → ask ≡ rise.rising_ask r h.lease
-    → r.chart.tree ≡ tree → UpEnds r h.lease a next → GoesDone tree ((ask, a) ∷ cs) (rising_on h next)
-rising_done tree h ask a cs r (Goes e) k at is same up = amid_more tree h ask a cs at k
-rising_done tree h ask a cs r (Ends e x) k at is same up =
-    deleting_done tree h.lease h.deletions.ids h.deletions.deleted h.deletions.left e.chart.applied ((ask, a) ∷ cs)
-    (amid_late tree h (ask, a) cs e.chart.applied k (subst (λ (b : Ask). IsRootPut tree h.lease (b, a)) (sym is) (subst (λ (t : ℕ). IsRootPut t h.lease (rise.rising_ask r h.lease, a)) same up)))
-rising_done tree h ask a cs r (Stops e t) k at is same up = tt
+root_put_is : (tree : ℕ) (l : Claim) (r : Rising) (a : Answer) (bytes : List ℕ) → IsPutOf r.chart.tree l bytes (rise.rising_ask r l, a)
+    → r.last ≡ Some bytes → LastIs r → r.chart.tree ≡ tree → IsRootPut tree l r.chart.run (rise.rising_ask r l, a)
+root_put_is tree l r a bytes e last known same =
+    let is : IsLastRoot r.chart.run bytes = known bytes last in
+    (
+      is.0,
+      is.1,
+      e ∙ (ap (λ (bs : List ℕ). (PutHeld (object.Tree r.chart.tree) bs l None, call.Done)) is.2
+          ∙ ap (λ (t : ℕ). (PutHeld (object.Tree t) (tree_bytes is.0) l None, call.Done)) same),
+      is.3,
+    )
+
+rising_done : (tree : ℕ) (h : Held) (a : Answer) (cs : Calls) (r : Rising) (next : Next Rising (Unit {0})) → Amid tree h r.chart.run cs → LastIs r
+    → IsAtWork (rise.rising_ask r h.lease) → r.chart.tree ≡ tree → UpKeeps r next → UpEnds r h.lease a next
+    → GoesDone tree ((rise.rising_ask r h.lease, a) ∷ cs) (rising_on h next)
+rising_done tree h a cs r (Goes e) k last at same keeps up =
+    (amid_same tree h r.chart.run e.chart.run _ keeps.0 (amid_more tree h r.chart.run (rise.rising_ask r h.lease) a cs at k), keeps.1)
+rising_done tree h a cs r (Ends e x) k last at same keeps up =
+    deleting_done tree h.lease h.deletions.ids h.deletions.deleted h.deletions.left e.chart.applied ((rise.rising_ask r h.lease, a) ∷ cs)
+    (amid_late tree h r.chart.run (rise.rising_ask r h.lease, a) cs e.chart.applied k (root_put_is tree h.lease r a up.0 up.1 up.2 last same))
+rising_done tree h a cs r (Stops e t) k last at same keeps up = tt
 
 put_at_work : (reserved : Option (List ℕ)) (puts : List PagePut) (tree : ℕ) (l : Claim) (second : Option Claim) (ask : Ask) → IsAtWork ask
     → IsAtWork (unwrap_or (put_first tree l (put_next tree l second puts) reserved) ask)
@@ -380,13 +430,13 @@ tree_got_done tree l a (Err t) e = tt
 abbrev received_calls : ℕ → Claim → Option (List ℕ) → Answer → Calls
 received_calls tree l root a = (Receive (queue.TreePu tree) 256, a) ∷ opened_calls tree l (call.Got root)
 
-started_done : (tree : ℕ) (l : Claim) (o : Opening) (i : Intake) (c : Chart) (b : Bool) → has_items i.run.items ≡ b → IsOpened o → o.run ≡ i.run
+started_done : (tree : ℕ) (l : Claim) (o : Opening) (i : Intake) (c : Chart) (b : Bool) → c.run ≡ i.run → has_items i.run.items ≡ b → IsOpened o → o.run ≡ i.run
     → i.deletions ≡ to_delete (covered_ids o.run.top o.items)
     → GoesDone tree (opening_calls tree l o) (started (record { lease = l; deletions = i.deletions }) c b)
-started_done tree l o i c true e opened run ids =
+started_done tree l o i c true at e opened run ids =
     going_by_done tree (record { lease = l; deletions = i.deletions }) c (opening_calls tree l o) (next_key c)
-    (record { opening = o; opened = opened; some = ap (λ (r : Taken). has_items r.items) run ∙ e; ids = ids; work = []; works = tt; calls = refl })
-started_done tree l o i c false e opened run ids =
+    (record { opening = o; same = run ∙ sym at; opened = opened; some = ap (λ (r : Taken). has_items r.items) run ∙ e; ids = ids; work = []; works = tt; calls = refl })
+started_done tree l o i c false at e opened run ids =
     deleting_done tree l i.deletions.ids i.deletions.deleted i.deletions.left 0 (opening_calls tree l o) (record {
       opening = o;
       opened = opened;
@@ -408,7 +458,7 @@ items_done tree l root ms i (Ok items) e h =
     let run : Taken = h.0 in
     let is : i ≡ intake_of items run = cc (h.2) in
     let o : Opening = record { got = root; messages = ms; items = items; run = run } in
-    started_done tree l o i (chart_of tree root i.run) (has_items i.run.items) refl (record { read = e; run = h.1 })
+    started_done tree l o i (chart_of tree root i.run) (has_items i.run.items) refl refl (record { read = e; run = h.1 })
     (sym (ap (λ (j : Intake). j.run) is)) (ap (λ (j : Intake). j.deletions) is)
 
 received_done : (tree : ℕ) (l : Claim) (root : Option (List ℕ)) (a : Answer) (g : Result (List Message) Trouble) (next : Step) → received_of a ≡ g
@@ -453,22 +503,23 @@ done_by tree (work.GettingTree l) cs a next k d e =
 done_by tree (work.Receiving l root) cs a next k d h =
     at_calls tree (Receive (queue.TreePu tree) 256) a cs _ next d (received_done tree l root a (received_of a) next refl h)
 done_by tree (work.Descending h w) cs a next k d e =
-    by_made tree cs (descent_ask w h.lease) a next _ e (descending_done tree h _ (descent_next w a) (amid_more tree h (descent_ask w h.lease) a cs tt d))
+    by_made tree cs (descent_ask w h.lease) a next _ e
+    (descending_done tree h w.chart 1 _ (descent_next w a) (descent_further w a) (amid_more tree h w.chart.run (descent_ask w h.lease) a cs tt d))
 done_by tree (work.TakingPage h c) cs a next k d e =
     by_made tree cs (work_ask tree (work.TakingPage h c)) a next _ e
-    (taken_done tree h c _ (given_of (lock.Page c.chart.tree c.page) a) (amid_more tree h (work_ask tree (work.TakingPage h c)) a cs tt d))
+    (taken_done tree h c _ (given_of (lock.Page c.chart.tree c.page) a) (amid_more tree h c.chart.run (work_ask tree (work.TakingPage h c)) a cs tt d))
 done_by tree (work.Folding h f) cs a next k d e =
     by_made tree cs (folding_ask f h.lease) a next _ e
-    (folding_done tree h _ (folding_next f a)
-    (amid_more tree h (folding_ask f h.lease) a cs (put_at_work f.placing.reserved f.placing.puts f.chart.tree h.lease (Some f.lease) (GetHeld (object.Page f.chart.tree f.page) f.lease) tt) d))
+    (folding_done tree h f _ (folding_next f a) (next_leaves f a)
+    (amid_more tree h f.chart.run (folding_ask f h.lease) a cs (put_at_work f.placing.reserved f.placing.puts f.chart.tree h.lease (Some f.lease) (GetHeld (object.Page f.chart.tree f.page) f.lease) tt) d))
 done_by tree (work.ReleasingPage h l o) cs a next k d e =
-    by_made tree cs (Release l) a next _ e (left_done tree h o _ (amid_more tree h (Release l) a cs tt d))
+    by_made tree cs (Release l) a next _ e (left_done tree h o _ (amid_more tree h (run_onward o) (Release l) a cs tt d))
 done_by tree (work.LeftPage h o) cs a next k d e = absurd k
 done_by tree (work.Rising h r) cs a next k d e =
     by_made tree cs (rise.rising_ask r h.lease) a next _ e
-    (rising_done tree h (rise.rising_ask r h.lease) a cs r (rise.rising_next r a) d
-    (put_at_work r.placing.reserved r.placing.puts r.chart.tree h.lease None (rise.last_ask r h.lease r.last) (last_at_work r h.lease r.last)) refl k.0.same
-    (up_ends h.lease r a k.1))
+    (rising_done tree h a cs r (rise.rising_next r a) d.0 d.1
+    (put_at_work r.placing.reserved r.placing.puts r.chart.tree h.lease None (rise.last_ask r h.lease r.last) (last_at_work r h.lease r.last)) k.0.same
+    (risen_keeps r (done_of a) d.1) (up_ends h.lease r a k.1))
 done_by tree (work.Deleting h applied) cs a next k d e =
     by_made tree cs (delete_ask tree (next_id h.deletions.ids)) a next _ e
     (tried_done tree h.lease h.deletions.ids h.deletions.deleted h.deletions.left applied a cs d.1 d.0)

@@ -13,4 +13,5 @@ pub mod Ways
 pub mod Plots
 pub mod Rises
 pub mod Causing
+pub mod Lasts
 pub mod Doing

@@ -2,6 +2,8 @@
 use Rattle.std.specs.Prelude.{ℕ, ◌≡◌, ◌+◌, Bool, true, false, List, [], ◌∷◌, ◌++◌, Option, None, Ok}
 use Rattle.db_base.specs.declared.names.ObjName.TheVariants as object
 use Rattle.db_base.specs.declared.names.QueueName.TheVariants as queue
+use Rattle.node_codec.specs.Node.{raised}
+use Rattle.node_codec.specs.Tree.{Tree, tree_bytes}
 use Rattle.log_codec.specs.declared.record.PuItem.{PuItem}
 use Rattle.run_cursor.specs.Run.{Taken, IsRun}
 use Rattle.run_cursor.specs.Covered.{covered_ids}
@@ -53,14 +55,15 @@ abbrev pub AreAtWork : Calls → Type 0
 AreAtWork [] = Unit {0}
 AreAtWork (c ∷ cs) = IsAtWork c.0 × AreAtWork cs
 
--- the tree object landed under the tree's lease
-abbrev pub IsRootPut : ℕ → Claim → Ask × Answer → Type 0
-IsRootPut tree lease c = (bytes : List ℕ) × (c ≡ (PutHeld (object.Tree tree) bytes lease None, Done))
+-- the tree object landed under the tree's lease, with a cursor that is raised to the run's top
+abbrev pub IsRootPut : ℕ → Claim → Taken → Ask × Answer → Type 0
+IsRootPut tree lease run c =
+    (t : Tree) × (before : List (ℕ × ℕ)) × (c ≡ (PutHeld (object.Tree tree) (tree_bytes t) lease None, Done)) × (t.cursor ≡ raised before run.top)
 
 -- nothing is put where the run is empty; else leaves and nodes are, and the tree object last
 abbrev pub Works : ℕ → Claim → Taken → Calls → Type 0
 Works tree lease run [] = has_items run.items ≡ false
-Works tree lease run (c ∷ cs) = (has_items run.items ≡ true) × IsRootPut tree lease c × AreAtWork cs
+Works tree lease run (c ∷ cs) = (has_items run.items ≡ true) × IsRootPut tree lease run c × AreAtWork cs
 
 -- ---- the deletions
 

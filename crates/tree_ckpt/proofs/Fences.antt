@@ -1,11 +1,10 @@
 -- A leaf that was read has a high key only where it has a right page.
-use Rattle.std.proofs.Common.{◌≡◌, ℕ, zero, suc, Bool, true, false, cond, List, length, Option, Some, None, Result, Ok, Err, refl, sym, ap, subst, ◌∙◌}
+use Rattle.std.proofs.Common.{◌≡◌, ℕ, zero, suc, Bool, true, false, cond, List, length, Option, None, Result, Ok, Err, refl, sym, ap, subst}
 use Rattle.std.specs.Prelude.{◌==◌, not}
 use Rattle.std.specs.Int.{w8, w64}
-use Rattle.byte_format.specs.Format.{Format, Reading, ◌>>=◌, greatest, number, text, behind, ◌then◌, seen_as, mark_at, option_at, list_of}
+use Rattle.byte_format.specs.Format.{Format, ◌>>=◌, greatest, number, text, behind, ◌then◌, seen_as, mark_at, option_at, list_of}
 use Rattle.byte_format.specs.HighKey.{key_above, high_key}
 use Rattle.byte_format.specs.Whole.{whole, offset}
-use Rattle.db_base.specs.declared.trouble.Trouble.{Trouble}
 use Rattle.leaf_view.specs.Leaf.{Leaf, Head, Heads, head_of, head_parts, leaf, leaf_head, leaf_of, leaf_parts, done_item, record_item}
 use Rattle.leaf_view.specs.Lookup.{page_at}
 use Rattle.tree_parts.specs.Read.{leaf_read, leaf_or}

@@ -1,13 +1,13 @@
 -- What the work at a leaf leaves to be done.
-use Rattle.std.proofs.Common.{◌≡◌, ◌<◌, ◌≤◌, ◌+◌, ◌-◌, ℕ, zero, suc, Bool, true, false, cond, List, [], ◌∷◌, ◌++◌, length, length-append, drop, Option, Some, None, Result, Ok, Err, refl, sym, ap, subst, ◌∙◌, arith}
-use Rattle.std.specs.Prelude.{◌==◌, ◌||◌, ◌&&◌, map, reverse, is_none}
+use Rattle.std.proofs.Common.{◌≡◌, ◌<◌, ◌≤◌, ◌+◌, ◌-◌, ℕ, Bool, true, false, cond, List, [], ◌∷◌, ◌++◌, length, length-append, Option, Some, None, Result, Ok, Err, refl, sym, subst, arith}
+use Rattle.std.specs.Prelude.{◌==◌, ◌||◌, ◌&&◌, map, is_none}
 use Rattle.std.proofs.lemmas.Bool.{ne_eqb}
 use Rattle.std.proofs.lemmas.List.{length-map, length-reverse}
 use Rattle.byte_format.specs.Order.{bytes_below, bytes_same}
 use Rattle.db_base.specs.declared.trouble.Trouble.{Trouble}
 use Rattle.db_base.specs.declared.trouble.Trouble.TheVariants as trouble
 use Rattle.cloud_trait.specs.declared.answer.Answer.{Answer}
-use Rattle.cloud_trait.specs.Machine.{Next, Goes, Ends, Stops}
+use Rattle.cloud_trait.specs.Machine.{Goes, Ends, Stops}
 use Rattle.cloud_trait.specs.Views.{got_of, done_of}
 use Rattle.leaf_view.specs.Leaf.{Leaf}
 use Rattle.leaf_view.specs.Lookup.{empty_leaf, page_at}
@@ -18,23 +18,21 @@ use Rattle.node_codec.specs.Tree.{Tree}
 use Rattle.run_cursor.specs.Covered.{is_seen}
 use Rattle.split_plan.specs.declared.put_list.PagePut.{PagePut}
 use Rattle.split_plan.specs.Cut.{cut_by}
-use Rattle.split_plan.specs.Part.{Part, LeafPart, record_key, part_of_leaf}
+use Rattle.split_plan.specs.Part.{LeafPart, record_key, part_of_leaf}
 use Rattle.split_plan.specs.Plan.{put_of, on_pages, leaf_bytes, leaf_pieces}
 use Rattle.split_plan.specs.Sizes.{count_of, cuts_of}
 use Rattle.tree_parts.specs.declared.chart.Chart.{Chart}
 use Rattle.tree_parts.specs.declared.link.Link.{Link}
-use Rattle.tree_parts.specs.declared.placing.Placing.{Placing}
 use Rattle.tree_parts.specs.declared.reserve.Reserved.{Reserved}
 use Rattle.tree_parts.specs.Kept.{links_at}
-use Rattle.tree_parts.specs.Placing.{has_nothing, has_one_page, landed_placing, puts_after}
+use Rattle.tree_parts.specs.Placing.{has_nothing, has_one_page, puts_after}
 use Rattle.tree_parts.specs.Read.{leaf_read, tree_held}
 use Rattle.tree_parts.specs.Reserve.{reservation, version_spent}
 use Rattle.leaf_fold.specs.declared.folding.Folding.{Folding}
-use Rattle.leaf_fold.specs.declared.folding.Left.{Left}
 use Rattle.leaf_fold.specs.declared.folding.Left.TheVariants.{Right, Handled}
 use Rattle.leaf_fold.specs.declared.plan.LeafPlan.{LeafPlan}
 use Rattle.leaf_fold.specs.Plan as plan
-use Rattle.leaf_fold.specs.Folding.{Step, turned, to_right, handled_to, put_planned, planned, handled_by, handle, leaf_side, leaf_at, leaf_found, leaf_got, bad_low, landed, counted, placed, leaf_put, folding_next}
+use Rattle.leaf_fold.specs.Folding.{Step, turned, to_right, planned, handled_by, handle, leaf_side, leaf_at, leaf_found, leaf_got, bad_low, landed, counted, leaf_put, folding_next}
 use Rattle.tree_ckpt.specs.Ending.{unhandled, behind_key, puts_left, from_on_or_none}
 use Rattle.tree_ckpt.specs.Standing.{IsPlanned}
 use Rattle.tree_ckpt.proofs.Fences.{HasSides, leaf_sides}

@@ -7,3 +7,11 @@ pub mod Fences
 pub mod Charts
 pub mod Folds
 pub mod Ending
+pub mod Brought
+pub mod Passed
+pub mod Ways
+pub mod Plots
+pub mod Rises
+pub mod Causing
+pub mod Lasts
+pub mod Doing

@@ -18,8 +18,7 @@ use Rattle.cloud_trait.specs.Weather.{Fits}
 use Rattle.node_codec.specs.Tree.{Tree, tree_of}
 use Rattle.split_plan.specs.declared.put_list.PagePut.{PagePut}
 use Rattle.ckpt_parts.specs.declared.intake.Intake.{Intake}
-use Rattle.ckpt_parts.specs.declared.leases.Leases.{Leases}
-use Rattle.ckpt_parts.specs.Deleting.{Deleting, next_id, tried}
+use Rattle.ckpt_parts.specs.Deleting.{next_id, tried}
 use Rattle.ckpt_parts.specs.Intakes.{has_items}
 use Rattle.ckpt_parts.specs.Leasing.{claims_of, newest_lease, without_newest, outstanding, outstanding_after}
 use Rattle.tree_parts.specs.declared.chart.Chart.{Chart}
@@ -29,7 +28,7 @@ use Rattle.tree_descent.specs.declared.descent.Descent.{Descent}
 use Rattle.tree_descent.specs.Descent.{descent_next}
 use Rattle.leaf_fold.specs.declared.folding.Folding.{Folding}
 use Rattle.leaf_fold.specs.declared.folding.Left.{Left}
-use Rattle.leaf_fold.specs.Folding.{folding_ask, folding_next}
+use Rattle.leaf_fold.specs.Folding.{folding_next}
 use Rattle.tree_rising.specs.declared.rising.Rising.{Rising}
 use Rattle.tree_rising.specs.Rising.{rising_next, last_ask}
 use Rattle.tree_rising.specs.Rising as rise
@@ -39,10 +38,10 @@ use Rattle.tree_moves.specs.declared.work.Onward.{Onward}
 use Rattle.tree_moves.specs.declared.work.Onward.TheVariants as onward
 use Rattle.tree_moves.specs.declared.work.Work.{Work}
 use Rattle.tree_moves.specs.declared.work.Work.TheVariants as work
-use Rattle.tree_moves.specs.Work.{work_ask, take_tree, delete_ask, release_ask, claims_in, handed}
-use Rattle.tree_moves.specs.Moves.{Step, stopping, finished, released_by, deleting, deleting_by, deleted_by, went, rising_on, descending_on, root_entry, down_from, next_key, going, going_by, page_taken, folding_on, page_left, tree_taken, tree_read, tree_got, chart_of, started, intake_taken, ReceivedBy, Absorbs, Leads}
+use Rattle.tree_moves.specs.Work.{work_ask, take_tree, delete_ask, release_ask, claims_in}
+use Rattle.tree_moves.specs.Moves.{Step, stopping, finished, released_by, deleting, deleting_by, deleted_by, went, rising_on, descending_on, root_entry, down_from, next_key, going, going_by, page_taken, folding_on, page_left, tree_taken, tree_read, tree_got, chart_of, started, intake_taken, ReceivedBy, Leads}
 use Rattle.tree_ckpt.specs.Making.{Making, new_making, making_ask, MakingLeads, KeepsLeases}
-use Rattle.tree_ckpt.specs.Standing.{Went, OfTree, OfLeaf, HasIds, HoldsOne, HoldsAt, StandsAt, Stands, IsFreeOf, IsOldest, Names, GivesBack}
+use Rattle.tree_ckpt.specs.Standing.{Went, OfTree, OfLeaf, HasIds, HoldsOne, HoldsAt, StandsAt, Stands, Names, GivesBack}
 use Rattle.tree_ckpt.proofs.Folds.{PlansAfter, plans_after}
 use Rattle.tree_ckpt.proofs.Leaving.{SameLeaf, LeavesLeaf, next_leaves}
 

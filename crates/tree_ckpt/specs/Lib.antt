@@ -1,3 +1,5 @@
 pub mod Making
 pub mod Standing
 pub mod Ending
+pub mod Causing
+pub mod Meaning

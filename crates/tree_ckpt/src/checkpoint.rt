@@ -56,6 +56,8 @@ impl TreeCkpt {
     ghost use Rattle.tree_moves.specs.Work.{applying_in, claims_in};
     ghost use Rattle.tree_ckpt.specs.Ending.{calls_in, IsShort};
     ghost use Rattle.tree_ckpt.specs.Standing.{Went, Names, GivesBack};
+    ghost use Rattle.tree_ckpt.specs.Causing.{Causes};
+    ghost use Rattle.tree_ckpt.specs.Meaning.{MeansDone};
     ghost use Rattle.tree_ckpt.specs.Making.{new_making, making_ask, with_received, with_work, handed_over, AbsorbsBy, WentBy, SameLeases, MakingLeads, KeepsLeases};
 
     /// The checkpoint of a tree. Takes no memory.
@@ -173,6 +175,10 @@ impl TreeCkpt {
         ensures names { (h : List Deed) → Went h self.old → Names (making_ask self.old) (outstanding h) }
         // Before an end all leases are given back.
         ensures gives_back { (h : List Deed) → Went h self.old → GivesBack self.new result }
+        // A trouble that it keeps or answers was shown by the answer of a step, and by what its calls brought before.
+        ensures causes { (h : List Deed) → Went h self.old → Causes who (C.seen cloud.old) (C.seen cloud.new) h self.old self.new result }
+        // At Done the calls were these, in this order.
+        ensures done { (h : List Deed) → Went h self.old → MeansDone (making_ask self.old) self.old h result }
     {
         let answer = self.call(cloud, who);
         self.absorb(alloc, answer)

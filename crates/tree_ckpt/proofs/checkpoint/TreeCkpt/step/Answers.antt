@@ -1,3 +1,5 @@
+use Rattle.tree_ckpt.proofs.Doing.{went_done, took_done}
+use Rattle.tree_ckpt.proofs.Causing.{went_brought, took_tells}
 use Rattle.tree_ckpt.proofs.Ending.{took_less}
 use Rattle.tree_ckpt.proofs.Leading.{took_handed}
 use Rattle.tree_ckpt.proofs.Standing.{went_stands, stands_names, stands_gives}
@@ -24,4 +26,17 @@ returns-clause-names g c = λ h went. stands_names c.args.self.now h (went_stand
 pub returns-clause-gives_back : goal.returns-clause-gives_back
 returns-clause-gives_back g c = λ h went.
     stands_gives c.args.self.now _ h c.call-answer.result _ (went_stands c.args.self.now h went) c.call-answer.ensures.made.fits
+    (took_handed c.args.self.now _ _ c.call-answer.result _ c.call-answer.ensures.left c.absorb.ensures.took)
+
+pub returns-clause-causes : goal.returns-clause-causes
+returns-clause-causes g c = λ h went. record {
+  answer = c.call-answer.result;
+  made = c.call-answer.ensures.made;
+  tells = took_tells c.args.self.now _ h c.call-answer.result _ (went_brought c.args.self.now h went) c.call-answer.ensures.made.fits
+      (took_handed c.args.self.now _ _ c.call-answer.result _ c.call-answer.ensures.left c.absorb.ensures.took);
+}
+
+pub returns-clause-done : goal.returns-clause-done
+returns-clause-done g c = λ h went.
+    took_done c.args.self.now _ h c.call-answer.result _ (went_brought c.args.self.now h went) (went_done c.args.self.now h went)
     (took_handed c.args.self.now _ _ c.call-answer.result _ c.call-answer.ensures.left c.absorb.ensures.took)

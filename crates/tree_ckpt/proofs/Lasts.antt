@@ -1,0 +1,126 @@
+-- The tree object that is put last has a cursor that is raised to the run's top.
+use Rattle.std.proofs.Common.{◌≡◌, ◌+◌, ℕ, Bool, true, false, cond, List, [], ◌∷◌, length, Option, Some, None, Result, Ok, Err, refl, sym, subst, ◌∙◌}
+use Rattle.std.specs.Prelude.{◌==◌, ◌||◌, ◌&&◌, not, nat_lt, is_some}
+use Rattle.db_base.specs.declared.trouble.Trouble.{Trouble}
+use Rattle.node_codec.specs.Node.{raised, with_entry}
+use Rattle.node_codec.specs.Tree.{Tree, tree_bytes, with_child}
+use Rattle.cloud_trait.specs.Machine.{Goes, Ends, Stops}
+use Rattle.run_cursor.specs.Run.{Taken}
+use Rattle.split_plan.specs.Plan.{root_above}
+use Rattle.split_plan.specs.Sizes.{count_of}
+use Rattle.tree_parts.specs.declared.kept.KeptNode.{KeptNode}
+use Rattle.tree_parts.specs.declared.link.Link.{Link}
+use Rattle.tree_parts.specs.declared.reserve.Reserved.{Reserved}
+use Rattle.tree_parts.specs.Placing.{has_nothing}
+use Rattle.tree_parts.specs.Read.{tree_held}
+use Rattle.tree_parts.specs.Reserve.{version_spent, pages_spent, reservation}
+use Rattle.tree_rising.specs.declared.node.NodePlan.{NodePlan}
+use Rattle.tree_rising.specs.declared.rising.Rising.{Rising}
+use Rattle.tree_rising.specs.declared.root.RootPlan.{RootPlan}
+use Rattle.tree_rising.specs.Nodes.{node_plan}
+use Rattle.tree_rising.specs.Root.{is_named, with_named, new_pages, lowered, cut_at, cut_by, cut_behind, root_cut, root_plan, uncut}
+use Rattle.tree_rising.specs.Root as root
+use Rattle.tree_rising.specs.Rising.{Step, next_touched, touched_node, put_node, plan_of, last_plan, put_root, rise_at, rise, landed, after_put, risen_by}
+
+-- bytes of a tree object whose cursor is raised to the run's top
+abbrev pub IsLastRoot : Taken → List ℕ → Type 0
+IsLastRoot run bytes = (t : Tree) × (before : List (ℕ × ℕ)) × (bytes ≡ tree_bytes t) × (t.cursor ≡ raised before run.top)
+
+-- where the last put is made, it is such
+abbrev pub LastIs : Rising → Type 0
+LastIs r = (bytes : List ℕ) → r.last ≡ Some bytes → IsLastRoot r.chart.run bytes
+
+pub none_last : (r : Rising) → r.last ≡ None → LastIs r
+none_last r none bytes e = absurd (let other : None ≡ Some bytes = sym none ∙ e in cc (other))
+
+-- ---- the plan
+
+child_cursor : (low : List ℕ) (page : ℕ) (t : Tree) → (with_child low page t).cursor ≡ t.cursor
+child_cursor low page t = on (nat_lt page t.next) where
+  on : (b : Bool) → (cond b (record t { entries = with_entry low page t.entries }) t).cursor ≡ t.cursor
+  on true = refl
+  on false = refl
+
+named_cursor : (level : ℕ) (ls : List Link) (t : Tree) → (with_named level ls t).cursor ≡ t.cursor
+named_cursor level [] t = refl
+named_cursor level (l ∷ ls) t = on (is_named level l) (λ u. named_cursor level ls u) where
+  on : (b : Bool) → ((u : Tree) → (with_named level ls u).cursor ≡ u.cursor) → (with_named level ls (cond b (with_child l.low l.page t) t)).cursor ≡ t.cursor
+  on true rest = rest (with_child l.low l.page t) ∙ child_cursor l.low l.page t
+  on false rest = rest t
+
+abbrev PlanLasts : Taken → Result RootPlan Trouble → Type 0
+PlanLasts run (Ok p) = IsLastRoot run p.last
+PlanLasts run (Err t) = Unit {0}
+
+cut_lasts : (run : Taken) (before : List (ℕ × ℕ)) (t : Tree) (put : Option (List ℕ)) (count : ℕ) → t.cursor ≡ raised before run.top → PlanLasts run (cut_at put count t)
+cut_lasts run before t put count e = on (nat_lt 18446744073709551615 (t.next + count)) where
+  on : (b : Bool) → PlanLasts run (cond b (Err pages_spent) (Ok (lowered put (record t { next = t.next + count }) t.next)))
+  on true = tt
+  on false = (root_above (new_pages t.next (record t { next = t.next + count })) (record t { next = t.next + count }), before, refl, e)
+
+next_lasts : (run : Taken) (before : List (ℕ × ℕ)) (t : Tree) (put : Option (List ℕ)) (count : ℕ) (b : Bool) → t.cursor ≡ raised before run.top
+    → PlanLasts run (cut_by put count (cond b (Err version_spent) (Ok (record t { version = t.version + 1 }))))
+next_lasts run before t put count true e = tt
+next_lasts run before t put count false e = cut_lasts run before (record t { version = t.version + 1 }) put count e
+
+behind_lasts : (run : Taken) (before : List (ℕ × ℕ)) (t : Tree) (r : Result Reserved Trouble) → t.cursor ≡ raised before run.top → PlanLasts run (cut_behind t r)
+behind_lasts run before t (Ok r) e = next_lasts run before t r.put (count_of (length t.entries)) (t.version == 18446744073709551615) e
+behind_lasts run before t (Err f) e = tt
+
+root_lasts : (run : Taken) (before : List (ℕ × ℕ)) (stood t : Tree) → t.cursor ≡ raised before run.top → PlanLasts run (root_plan stood t)
+root_lasts run before stood t e = on (nat_lt 64 (length t.entries) && nat_lt stood.level 255) where
+  on : (b : Bool) → PlanLasts run (cond b (root_cut stood t) (Ok (uncut t)))
+  on true = behind_lasts run before t (reservation stood 1 (count_of (length t.entries))) e
+  on false = (t, before, refl, e)
+
+last_lasts : (r : Rising) → PlanLasts r.chart.run (last_plan r)
+last_lasts r = on ((tree_held r.chart.root).version == 18446744073709551615) where
+  up : Tree
+  up = record (record (tree_held r.chart.root) { version = (tree_held r.chart.root).version + 1 }) { cursor = raised (tree_held r.chart.root).cursor r.chart.run.top }
+
+  on : (b : Bool)
+      → PlanLasts r.chart.run (plan_of (tree_held r.chart.root) (root.risen_by (tree_held r.chart.root).level r.chart.links r.chart.run.top
+      (cond b (Err version_spent) (Ok (record (tree_held r.chart.root) { version = (tree_held r.chart.root).version + 1 })))))
+  on true = tt
+  on false =
+      root_lasts r.chart.run (tree_held r.chart.root).cursor (tree_held r.chart.root) (with_named (tree_held r.chart.root).level r.chart.links up)
+      (named_cursor (tree_held r.chart.root).level r.chart.links up)
+
+-- ---- the way up
+
+-- where it goes on the run stays, and the last put is as it is to be
+abbrev pub UpKeeps : Rising → Step → Type 0
+UpKeeps r (Goes e) = (e.chart.run ≡ r.chart.run) × LastIs e
+UpKeeps r (Ends e x) = Unit {0}
+UpKeeps r (Stops e t) = Unit {0}
+
+node_keeps : (r : Rising) (next level : ℕ) (p : Result NodePlan Trouble) → LastIs r → UpKeeps r (put_node r next level p)
+node_keeps r next level (Ok p) last = (refl, last)
+node_keeps r next level (Err t) last = tt
+
+root_keeps : (r : Rising) (p : Result RootPlan Trouble) → PlanLasts r.chart.run p → UpKeeps r (put_root r p)
+root_keeps r (Ok p) lasts = (refl, λ bytes e. let same : p.last ≡ bytes = cc (e) in subst (IsLastRoot r.chart.run) same lasts)
+root_keeps r (Err t) lasts = tt
+
+pub rise_keeps : (r : Rising) → LastIs r → UpKeeps r (rise r)
+rise_keeps r last = on (touched_node r) where
+  on : (o : Option KeptNode) → UpKeeps r (rise_at r (next_touched r) o)
+  on (Some n) = node_keeps r (next_touched r + 1) (n.level + 1) (node_plan (tree_held r.chart.root) r.chart.tree n r.chart.links) last
+  on None = root_keeps r (last_plan r) (last_lasts r)
+
+-- the same from where a put landed
+from_landed : (r : Rising) (next : Step) → UpKeeps (landed r) next → UpKeeps r next
+from_landed r (Goes e) h = h
+from_landed r (Ends e x) h = tt
+from_landed r (Stops e t) h = tt
+
+pub risen_keeps : (r : Rising) (done : Result (Unit {0}) Trouble) → LastIs r → UpKeeps r (risen_by r done)
+risen_keeps r (Err t) last = tt
+risen_keeps r (Ok x) last = on (has_nothing r.placing) where
+  further : (b : Bool) → UpKeeps (landed r) (cond b (Goes (landed r)) (rise (landed r)))
+  further true = (refl, last)
+  further false = rise_keeps (landed r) last
+
+  on : (b : Bool) → UpKeeps r (cond b (Ends r tt) (after_put (landed r)))
+  on true = tt
+  on false = from_landed r (after_put (landed r)) (further (not (has_nothing (landed r).placing) || is_some r.last))

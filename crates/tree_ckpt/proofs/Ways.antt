@@ -1,0 +1,255 @@
+-- Why the way down stops.
+use Rattle.std.proofs.Common.{◌≡◌, ◌<◌, ◌≤◌, ℕ, zero, suc, Bool, true, false, cond, List, [], ◌∷◌, length, Option, Some, None, Result, Ok, Err, refl, sym, ap, subst, ◌∙◌, inl, inr, ◌⊎◌, arith}
+use Rattle.std.specs.Prelude.{◌==◌, ◌&&◌, not, ◌-◌}
+use Rattle.std.proofs.lemmas.Bool.{eqb-true, eqb-false}
+use Rattle.byte_format.specs.Order.{bytes_below, bytes_same}
+use Rattle.byte_format.specs.Whole.{offset}
+use Rattle.byte_format.proofs.OrderLemmas.{same_is}
+use Rattle.db_base.specs.declared.names.ObjName.TheVariants as object
+use Rattle.db_base.specs.declared.trouble.Trouble.{Trouble}
+use Rattle.db_base.specs.declared.trouble.Trouble.TheVariants as trouble
+use Rattle.node_codec.specs.Inner.{Inner, inner_of, inner_format}
+use Rattle.node_codec.specs.Node.{Entry, child_of, later_of, page_at}
+use Rattle.node_codec.proofs.NodeLemmas.{not_below_empty}
+use Rattle.cloud_trait.specs.declared.answer.Answer.{Answer}
+use Rattle.cloud_trait.specs.Ask.{Ask}
+use Rattle.cloud_trait.specs.Machine.{Next, Goes, Ends, Stops}
+use Rattle.run_cursor.specs.Covered.{is_seen}
+use Rattle.tree_parts.specs.declared.chart.Chart.{Chart}
+use Rattle.tree_parts.specs.declared.kept.KeptNode.{KeptNode}
+use Rattle.tree_parts.specs.Read.{damaged, inner_or, tree_held}
+use Rattle.tree_descent.specs.declared.descent.Descent.{Descent}
+use Rattle.tree_descent.specs.declared.descent.Reach.{Reach}
+use Rattle.tree_descent.specs.declared.descent.Reach.TheVariants.{Node, Leaf}
+use Rattle.tree_descent.specs.declared.fork.Fork.{Fork}
+use Rattle.tree_descent.specs.declared.fork.Fork.TheVariants.{Right, Down}
+use Rattle.tree_descent.specs.Fork.{bad_fence, down_to, fork_at, forked_on}
+use Rattle.tree_descent.specs.Descent.{begun, forked, forked_by, fork_of, passed, go_on, stride_at, kept_at, stride, follow, walk, arrived, arrive, absent_node, with_node, got_node, descent_got}
+use Rattle.tree_moves.specs.Moves.{entry_or, root_entry, down_from}
+use Rattle.tree_ckpt.specs.Causing.{Calls, Brings, WasGot, WasNode, WasRead, Shows}
+use Rattle.tree_ckpt.proofs.Brought.{IsKept, Charted, OnWay, read_behind, seen_read, kept_with, kept_found}
+use Rattle.tree_ckpt.proofs.Passed.{unseen, unseen_most, unseen_less}
+
+-- on the way down to a key
+pub record KnowsWay (tree : ℕ) (d : Descent) (cs : Calls) : Type 0 where
+  pub chart : Charted tree d.chart cs
+  pub way : OnWay tree d.level d.low d.page d.visited cs
+  pub upto : bytes_below d.chart.key d.low ≡ false
+
+-- the entry of a key is not above it
+child_at_most : (key : List ℕ) (es : List Entry) (e : Entry) → child_of key es ≡ Some e → bytes_below key e.0 ≡ false
+child_at_most key [] e h = absurd (cc (h))
+child_at_most key (x ∷ xs) e h = rest (child_of key xs) (child_at_most key xs e) h where
+  first : (b : Bool) → bytes_below key x.0 ≡ b → cond b None (Some x) ≡ Some e → bytes_below key e.0 ≡ false
+  first true same h = absurd (cc (h))
+  first false same h = let is : x ≡ e = cc (h) in subst (λ (y : Entry). bytes_below key y.0 ≡ false) is same
+
+  rest : (o : Option Entry) → (o ≡ Some e → bytes_below key e.0 ≡ false) → later_of (cond (bytes_below key x.0) None (Some x)) o ≡ Some e → bytes_below key e.0 ≡ false
+  rest (Some y) below h = below h
+  rest None below h = first (bytes_below key x.0) refl h
+
+-- how many nodes that were got are before the way still
+abbrev ahead : Descent → ℕ
+ahead d = unseen d.visited d.chart.nodes
+
+module _ (tree : ℕ) (cs : Calls) (ask : Ask) (a : Answer) where
+  -- ---- behind a node
+
+  node_read : (page : ℕ) (n : Inner) → WasNode tree page n cs → WasRead tree page cs
+  node_read page n w = (w.0, w.2)
+
+  down_knows : (d : Descent) (n : Inner) → KnowsWay tree d cs → WasNode tree d.page n cs → n.level ≡ d.level → (o : Option Entry) → child_of d.chart.key n.entries ≡ o
+      → KnowsWay tree (passed d (down_to o)) cs
+  down_knows d n k w level (Some e) found = record {
+    chart = k.chart;
+    way = record {
+      link = inr (inl (d.page, n, w, inl (ap (λ (m : ℕ). m - 1) (sym level), (d.chart.key, ap entry_or found))));
+      seen = read_behind tree d.visited d.page cs k.way.seen (node_read d.page n w);
+    };
+    upto = child_at_most d.chart.key n.entries e found;
+  }
+  down_knows d n k w level None found = record {
+    chart = k.chart;
+    way = record {
+      link = inr (inl (d.page, n, w, inl (ap (λ (m : ℕ). m - 1) (sym level), (d.chart.key, ap entry_or found))));
+      seen = read_behind tree d.visited d.page cs k.way.seen (node_read d.page n w);
+    };
+    upto = not_below_empty d.chart.key;
+  }
+
+  fork_knows : (d : Descent) (n : Inner) → KnowsWay tree d cs → WasNode tree d.page n cs → n.level ≡ d.level → (down : Fork) → KnowsWay tree (passed d down) cs
+      → (high : Option (List ℕ)) → n.high ≡ high → (right : Option ℕ) → page_at n.right ≡ right → KnowsWay tree (passed d (fork_at d.chart.key down high right)) cs
+  fork_knows d n k w level down below None h right r = below
+  fork_knows d n k w level down below (Some high) h None r = below
+  fork_knows d n k w level down below (Some high) h (Some right) r = on (bytes_below d.chart.key high) refl where
+    on : (b : Bool) → bytes_below d.chart.key high ≡ b → KnowsWay tree (passed d (cond b down (Right high right))) cs
+    on true e = below
+    on false e = record {
+      chart = record { same = k.chart.same; root = k.chart.root; nodes = k.chart.nodes };
+      way = record {
+        link = inr (inl (d.page, n, w, inr (sym level, (h, r))));
+        seen = read_behind tree d.visited d.page cs k.way.seen (node_read d.page n w);
+      };
+      upto = e;
+    }
+
+  passed_knows : (d : Descent) (n : Inner) → KnowsWay tree d cs → WasNode tree d.page n cs → n.level ≡ d.level → KnowsWay tree (passed d (forked_on d.chart.key n)) cs
+  passed_knows d n k w level =
+      fork_knows d n k w level _ (down_knows d n k w level (child_of d.chart.key n.entries) refl) n.high refl (page_at n.right) refl
+
+  -- ---- a node
+
+  -- where a node leads, it is known; what it stops for is shown
+  abbrev ForkTells : Descent → Result Fork Trouble → Type 0
+  ForkTells d (Ok fork) = KnowsWay tree (passed d fork) cs
+  ForkTells d (Err t) = Shows tree cs ask a t
+
+  forked_tells : (d : Descent) (n : Inner) → KnowsWay tree d cs → WasNode tree d.page n cs → ForkTells d (forked d n)
+  forked_tells d n k w = on (n.level == d.level) refl where
+    low_same : bytes_same n.low d.low ≡ true → bytes_below d.chart.key n.low ≡ false
+    low_same e = subst (λ (l : List ℕ). bytes_below d.chart.key l ≡ false) (sym (same_is n.low d.low e)) k.upto
+
+    never : {X : Type 0} → (b : Bool) → b ≡ true → b ≡ false → X
+    never true e f = absurd (cc (f))
+    never false e f = absurd (cc (e))
+
+    fenced : (level : n.level ≡ d.level) (same : Bool) → bytes_same n.low d.low ≡ same → (below : Bool) → bytes_below d.chart.key n.low ≡ below
+        → ForkTells d (cond (same && not below) (Ok (forked_on d.chart.key n)) (Err (bad_fence d.page d.low n.low)))
+    fenced level true e false f = passed_knows d n k w level
+    fenced level true e true f = never (bytes_below d.chart.key n.low) f (low_same e)
+    fenced level false e below f = (e, (d.level, k.way.link, inl (n, w, refl)))
+
+    on : (b : Bool) → (n.level == d.level) ≡ b
+        → ForkTells d (cond b (cond (bytes_same n.low d.low && not (bytes_below d.chart.key n.low)) (Ok (forked_on d.chart.key n)) (Err (bad_fence d.page d.low n.low))) (Err (damaged d.chart.tree d.page 10)))
+    on true e = fenced (eqb-true n.level d.level e) (bytes_same n.low d.low) refl (bytes_below d.chart.key n.low) refl
+    on false e =
+        inl (object.Page d.chart.tree d.page, refl, (k.chart.same, inr (inr (refl, (d.level, d.low, n, k.way.link, w, eqb-false n.level d.level e)))))
+
+  read_tells : (d : Descent) (bytes : List ℕ) → KnowsWay tree d cs → WasGot (object.Page tree d.page) (Some bytes) cs
+      → ((n : Inner) × (inner_of bytes ≡ Some n)) ⊎ Brings (object.Page tree d.page) (Some bytes) (ask, a) → ForkTells d (fork_of d bytes)
+  read_tells d bytes k got is = on (inner_of bytes) refl is where
+    on : (o : Option Inner) → inner_of bytes ≡ o → ((n : Inner) × (inner_of bytes ≡ Some n)) ⊎ Brings (object.Page tree d.page) (Some bytes) (ask, a)
+        → ForkTells d (forked_by d (inner_or d.chart.tree d.page (offset inner_format bytes) o))
+    on (Some n) e is = forked_tells d n k (bytes, e, got)
+    on None e (inl is) = absurd (let other : None ≡ Some is.0 = sym e ∙ is.1 in cc (other))
+    on None e (inr new) = inl (object.Page d.chart.tree d.page, refl, (k.chart.same, inl (bytes, new, inr (e, refl))))
+
+  -- ---- one stride
+
+  abbrev StridesOn : Descent → Next Descent Reach → Type 0
+  StridesOn d (Goes e) = KnowsWay tree e cs × (ahead e < ahead d)
+  StridesOn d (Ends e Node) = KnowsWay tree e cs
+  StridesOn d (Ends e Leaf) = KnowsWay tree e cs × (e.level ≡ 0)
+  StridesOn d (Stops e t) = Shows tree cs ask a t
+
+  passed_ahead : (d : Descent) (fork : Fork) (k : KeptNode) → kept_at d ≡ Some k → is_seen d.visited d.page ≡ false → ahead (passed d fork) < ahead d
+  passed_ahead d (Right low page) k found fresh = unseen_less d.visited d.page d.chart.nodes k found fresh
+  passed_ahead d (Down low page) k found fresh = unseen_less d.visited d.page d.chart.nodes k found fresh
+
+  go_on_tells : (d : Descent) (fork : Result Fork Trouble) (k : KeptNode) → kept_at d ≡ Some k → is_seen d.visited d.page ≡ false → ForkTells d fork
+      → StridesOn d (go_on d fork)
+  go_on_tells d (Ok fork) k found fresh h = (h, passed_ahead d fork k found fresh)
+  go_on_tells d (Err t) k found fresh h = h
+
+  stride_at_tells : (d : Descent) → KnowsWay tree d cs → is_seen d.visited d.page ≡ false → (o : Option KeptNode) → kept_at d ≡ o → StridesOn d (stride_at d o)
+  stride_at_tells d k fresh None e = k
+  stride_at_tells d k fresh (Some kept) e =
+      let there : IsKept tree kept cs × (kept.page ≡ d.page) = kept_found tree d.page d.chart.nodes kept cs k.chart.nodes e in
+      let got : WasGot (object.Page tree d.page) (Some kept.bytes) cs =
+      subst (λ (p : ℕ). WasGot (object.Page tree p) (Some kept.bytes) cs) there.1 there.0.0 in
+      go_on_tells d (fork_of d kept.bytes) kept e fresh (read_tells d kept.bytes k got (inl there.0.1))
+
+  stride_tells : (d : Descent) → KnowsWay tree d cs → StridesOn d (stride d)
+  stride_tells d k = on (d.level == 0) refl where
+    further : (b : Bool) → is_seen d.visited d.page ≡ b → StridesOn d (cond b (Stops d (trouble.Loop d.page)) (stride_at d (kept_at d)))
+    further true seen = (seen_read tree d.visited d.page cs k.way.seen seen, (d.level, d.low, k.way.link))
+    further false fresh = stride_at_tells d k fresh (kept_at d) refl
+
+    on : (b : Bool) → (d.level == 0) ≡ b → StridesOn d (cond b (Ends d Leaf) (cond (is_seen d.visited d.page) (Stops d (trouble.Loop d.page)) (stride_at d (kept_at d))))
+    on true e = (k, eqb-true d.level 0 e)
+    on false e = further (is_seen d.visited d.page) refl
+
+  -- ---- all of them
+
+  abbrev Arrives : Next Descent Reach → Type 0
+  Arrives (Goes e) = KnowsWay tree e cs
+  Arrives (Ends e Node) = KnowsWay tree e cs
+  Arrives (Ends e Leaf) = KnowsWay tree e cs × (e.level ≡ 0)
+  Arrives (Stops e t) = Shows tree cs ask a t
+
+  follow_tells : (d : Descent) (next : Descent → Next Descent Reach) (x : Next Descent Reach) → StridesOn d x
+      → ((e : Descent) → KnowsWay tree e cs → ahead e < ahead d → Arrives (next e)) → Arrives (follow next x)
+  follow_tells d next (Goes e) k on = on e k.0 k.1
+  follow_tells d next (Ends e Node) k on = k
+  follow_tells d next (Ends e Leaf) k on = k
+  follow_tells d next (Stops e t) k on = k
+
+  walk_tells : (n : ℕ) (d : Descent) → KnowsWay tree d cs → ahead d ≤ n → Arrives (walk n d)
+  unfolding walk
+  walk_tells zero d k most =
+      follow_tells d (λ (e : Descent). Stops e (trouble.Loop e.page)) (stride d) (stride_tells d k) (λ e known less. absurd (omega (arith, less, most)))
+  walk_tells (suc n) d k most = follow_tells d (walk n) (stride d) (stride_tells d k) (λ e known less. walk_tells n e known (omega (arith, less, most)))
+
+  -- where the way goes on it is known, and so is the leaf that it ends at
+  abbrev pub WayTells : Next Descent (Unit {0}) → Type 0
+  WayTells (Goes e) = KnowsWay tree e cs
+  WayTells (Ends e x) = KnowsWay tree e cs × (e.level ≡ 0)
+  WayTells (Stops e t) = Shows tree cs ask a t
+
+  pub arrive_tells : (d : Descent) → KnowsWay tree d cs → WayTells (arrive d)
+  arrive_tells d k = on (walk (length d.chart.nodes) d) (walk_tells (length d.chart.nodes) d k (unseen_most d.visited d.chart.nodes)) where
+    on : (x : Next Descent Reach) → Arrives x → WayTells (arrived x)
+    on (Goes e) h = h
+    on (Ends e Node) h = h
+    on (Ends e Leaf) h = h
+    on (Stops e t) h = h
+
+  -- ---- from the tree object
+
+  begun_knows : (c : Chart) → Charted tree c cs → (o : Option Entry) → child_of c.key (tree_held c.root).entries ≡ o
+      → KnowsWay tree (begun c (entry_or o).0 (entry_or o).1) cs
+  begun_knows c k (Some e) found = record {
+    chart = k;
+    way = record { link = inl (tree_held c.root, k.root, refl, (c.key, ap entry_or found)); seen = tt };
+    upto = child_at_most c.key (tree_held c.root).entries e found;
+  }
+  begun_knows c k None found = record {
+    chart = k;
+    way = record { link = inl (tree_held c.root, k.root, refl, (c.key, ap entry_or found)); seen = tt };
+    upto = not_below_empty c.key;
+  }
+
+  pub down_tells : (c : Chart) → Charted tree c cs → WayTells (down_from c (root_entry c))
+  down_tells c k = arrive_tells _ (begun_knows c k (child_of c.key (tree_held c.root).entries) refl)
+
+  -- ---- a node that is got
+
+  got_node_tells : (d : Descent) (bytes : List ℕ) → KnowsWay tree d cs → WasGot (object.Page tree d.page) (Some bytes) cs
+      → Brings (object.Page tree d.page) (Some bytes) (ask, a) → (o : Option Inner) → inner_of bytes ≡ o → WayTells (got_node d bytes (forked_by d (inner_or d.chart.tree d.page (offset inner_format bytes) o)))
+  got_node_tells d bytes k got new None e = inl (object.Page d.chart.tree d.page, refl, (k.chart.same, inl (bytes, new, inr (e, refl))))
+  got_node_tells d bytes k got new (Some n) e = on (forked d n) (forked_tells (with_node d bytes) n known (bytes, e, got)) where
+    known : KnowsWay tree (with_node d bytes) cs
+    known = record {
+      chart = record {
+        same = k.chart.same;
+        root = k.chart.root;
+        nodes = kept_with tree (record { page = d.page; level = d.level; low = d.low; bytes = bytes }) d.chart.nodes cs (got, (n, e)) k.chart.nodes;
+      };
+      way = k.way;
+      upto = k.upto;
+    }
+
+    on : (r : Result Fork Trouble) → ForkTells (with_node d bytes) r → WayTells (got_node d bytes r)
+    on (Ok fork) h = arrive_tells (passed (with_node d bytes) fork) h
+    on (Err t) h = h
+
+  absent_tells : (d : Descent) → KnowsWay tree d cs → Brings (object.Page tree d.page) None (ask, a) → Shows tree cs ask a (absent_node d)
+  absent_tells d k new = on (d.page == 1) refl where
+    on : (b : Bool) → (d.page == 1) ≡ b → Shows tree cs ask a (cond b (damaged d.chart.tree d.page 0) (trouble.Absent d.page))
+    on true e = inl (object.Page d.chart.tree d.page, refl, (k.chart.same, inr (inl (eqb-true d.page 1 e, refl, new))))
+    on false e = (eqb-false d.page 1 e, new, (d.level, d.low, k.way.link))
+
+  pub node_got_tells : (d : Descent) (bytes : Option (List ℕ)) → KnowsWay tree d cs → WasGot (object.Page tree d.page) bytes cs
+      → Brings (object.Page tree d.page) bytes (ask, a) → WayTells (descent_got d (Ok bytes))
+  node_got_tells d (Some bytes) k got new = got_node_tells d bytes k got new (inner_of bytes) refl
+  node_got_tells d None k got new = absent_tells d k new

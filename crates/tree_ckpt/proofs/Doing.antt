@@ -346,8 +346,7 @@ amid_late tree h run c cs applied k put = record {
 root_put_is : (tree : ℕ) (l : Claim) (r : Rising) (a : Answer) (bytes : List ℕ) → IsPutOf r.chart.tree l bytes (rise.rising_ask r l, a)
     → r.last ≡ Some bytes → LastIs r → r.chart.tree ≡ tree → IsRootPut tree l r.chart.run (rise.rising_ask r l, a)
 root_put_is tree l r a bytes e last known same =
-    let is : IsLastRoot r.chart.run bytes = known bytes last in
-    (
+    let is : IsLastRoot r.chart.run bytes = known bytes last in (
       is.0,
       is.1,
       e ∙ (ap (λ (bs : List ℕ). (PutHeld (object.Tree r.chart.tree) bs l None, call.Done)) is.2

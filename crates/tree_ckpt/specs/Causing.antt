@@ -96,7 +96,7 @@ abbrev pub IsLink : ℕ → ℕ → List ℕ → ℕ → Calls → Type 0
 IsLink tree level low page cs =
     ((t : Tree) × WasRoot tree t cs × (level ≡ t.level - 1) × NamesPage t.entries low page)
     ⊎ (((from : ℕ) × (n : Inner) × WasNode tree from n cs
-        × (((level ≡ n.level - 1) × NamesPage n.entries low page) ⊎ ((level ≡ n.level) × GoesRight n.high (node.page_at n.right) low page)))
+    × (((level ≡ n.level - 1) × NamesPage n.entries low page) ⊎ ((level ≡ n.level) × GoesRight n.high (node.page_at n.right) low page)))
     ⊎ ((from : ℕ) × (l : Leaf) × WasLeaf tree from l cs × (level ≡ 0) × GoesRight l.high (page_at l.right) low page))
 
 -- ---- troubles

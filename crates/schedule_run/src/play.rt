@@ -76,3 +76,6 @@ impl Play {
         }
     }
 }
+
+/// Lets an event go: no other function has to look into its parts for that.
+pub(crate) fn let_event_go(_event: Event) {}

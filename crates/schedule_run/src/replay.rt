@@ -5,6 +5,7 @@ ghost use Rattle.world_core.specs.Stands.{Grows};
 ghost use Rattle.schedule_run.specs.Answered.{IsNew};
 ghost use Rattle.schedule_run.specs.Replayed.{HasBadLine, LineWent, LineHandled, ReplayWent, WentThrough};
 
+use crate::play::let_event_go;
 use crate::writing::{let_go, refuse, write_reply};
 use cloud_trait::cloud::Bench;
 use db_io::sink::Sink;
@@ -95,7 +96,11 @@ fn replay_line<O: Sink, C: Bench>(
     ensures faults { (O.told sink.old).faults ≤ (O.told sink.new).faults }
 {
     match Event::read(alloc, line) {
-        Ok(event) => handle(alloc, world, sink, cloud, n, &event),
+        Ok(event) => {
+            let end = handle(alloc, world, sink, cloud, n, &event);
+            let_event_go(event);
+            end
+        }
         Err(TextFault::NotInGrammar) => match refuse(alloc, sink, n) {
             Ok(()) => Err(LineFault::BadLine),
             Err(OutputFault::WriteFault) => Err(LineFault::WriteFault),

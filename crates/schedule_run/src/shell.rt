@@ -4,7 +4,7 @@ ghost use Rattle.event_text.specs.Event.{IsShellLine};
 ghost use Rattle.schedule_run.specs.Play.{IsFresh};
 ghost use Rattle.schedule_run.specs.Shell.{HasBadShellLine, ShellWent, OpeningRan, ClosingRan, LineRan, EventRan, ended, opened_by, shown_by};
 
-use crate::play::Play;
+use crate::play::{Play, let_event_go};
 use crate::writing::{let_go, refuse, write_reply};
 use cloud_trait::cloud::Bench;
 use db_base::ids::ClientId;
@@ -111,9 +111,13 @@ fn open<O: Sink, C: Bench>(
         Ok(reply) => {
             let end = opened(&reply);
             let_go(reply);
+            let_event_go(event);
             end
         }
-        Err(fault) => Err(fault),
+        Err(fault) => {
+            let_event_go(event);
+            Err(fault)
+        }
     }
 }
 
@@ -144,7 +148,11 @@ fn run_line<O: Sink, C: Bench>(
     ensures faults { (O.told sink.old).faults ≤ (O.told sink.new).faults }
 {
     match Event::read_shell(alloc, line) {
-        Ok(event) => ended(run_event(alloc, play, sink, cloud, n, &event)),
+        Ok(event) => {
+            let end = ended(run_event(alloc, play, sink, cloud, n, &event));
+            let_event_go(event);
+            end
+        }
         Err(TextFault::NotInGrammar) => match refuse(alloc, sink, n) {
             Ok(()) => Err(ShellFault::BadLine),
             Err(OutputFault::WriteFault) => Err(ShellFault::WriteFault),

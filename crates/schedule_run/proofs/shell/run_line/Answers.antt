@@ -4,7 +4,7 @@ use Rattle.schedule_run.proofs.ShellLemmas.{is_bad}
 use Rattle.schedule_run.proofs.shell.run_line.Goals as goal
 
 pub returns-in-Ok-clause-line : goal.returns-in-Ok-clause-line
-returns-in-Ok-clause-line g c = event_run c.in-Ok.event c.run_event.result c.in-Ok.ensures.found c.ended.ensures c.run_event.ensures.event
+returns-in-Ok-clause-line g c = event_run c.in-Ok.event c.run_event.result c.in-Ok.ensures.found c.ended-end.ensures c.run_event.ensures.event
 
 pub returns-in-Ok-refuse-clause-line : goal.returns-in-Ok-refuse-clause-line
 returns-in-Ok-refuse-clause-line g c =

@@ -1,6 +1,6 @@
 -- Every line is answered soundly: no trouble is replied that only damage could cause.
-use Rattle.std.proofs.Common.{◌≡◌, ◌+◌, ◌⊎◌, inl, inr, ℕ, List, [], ◌∷◌, ◌++◌, length, Bool, true, false, Option, Some, None, Result, Ok, Err, refl, sym, ap, subst, ◌∙◌}
-use Rattle.client_session.specs.Session.{Acting, StepsSession, Begins, value_of, items_of}
+use Rattle.std.proofs.Common.{◌≡◌, ◌+◌, inl, inr, ℕ, List, [], ◌∷◌, ◌++◌, length, Bool, true, false, Option, Some, None, Result, Ok, Err, refl, sym, ap, subst, ◌∙◌}
+use Rattle.client_session.specs.Session.{Acting, StepsSession, Begins, value_of}
 use Rattle.client_session.specs.declared.answer.Answer.{Answer}
 use Rattle.client_session.specs.declared.answer.Answer.TheVariants as answer
 use Rattle.client_session.specs.declared.answer.Begun.{Begun}
@@ -16,7 +16,6 @@ use Rattle.cloud_trait.specs.declared.turn.Turn.{Turn}
 use Rattle.cloud_trait.specs.declared.turn.Turn.TheVariants.{More, Ended, Stopped}
 use Rattle.session_facts.specs.CommitRuns.Stopping.{MayEnd}
 use Rattle.db_base.specs.declared.change.Change.{Change}
-use Rattle.db_base.specs.declared.change.Change.TheVariants.{Insert, Update, Delete}
 use Rattle.db_base.specs.declared.refusal.Refused.{Refused}
 use Rattle.db_base.specs.declared.refusal.Refused.TheVariants as refused
 use Rattle.db_base.specs.declared.trouble.CommitAnswer.{CommitAnswer}
@@ -37,10 +36,12 @@ use Rattle.replay_model.proofs.Steps.{CallLeaves, CallLeavesUpto, wish_holds}
 use Rattle.reply_text.specs.declared.reply.Reply.{Reply}
 use Rattle.reply_text.specs.declared.reply.Reply.TheVariants as reply
 use Rattle.session_facts.specs.Sessions.Answering.{MaySettle, MayAnswer, HoldsLease}
-use Rattle.session_facts.specs.Sessions.Sessions.{Sessions, SessionsStand, IsRightOp}
+use Rattle.session_facts.specs.Sessions.Sessions.{Sessions, IsRightOp}
 use Rattle.session_facts.proofs.Sessions.BeginStops.{begin_stops, begin_ends}
 use Rattle.session_facts.proofs.Sessions.Stopping.{session_stops, session_ends}
 use Rattle.cloud_facts.specs.Book.Tally.{at}
+use Rattle.cloud_facts.specs.Tellings.Told.{store_of}
+use Rattle.cloud_facts.proofs.Audits.Whole.{only_slips}
 use Rattle.cloud_facts.proofs.Book.Names.{at_same}
 use Rattle.world_core.specs.declared.asked.Asked.{Asked}
 use Rattle.world_core.specs.declared.asked.Asked.TheVariants.{Session, Wait, Report, Settle}
@@ -49,10 +50,10 @@ use Rattle.world_core.specs.declared.asked.Request.TheVariants.{Begin, Note, Abo
 use Rattle.world_core.specs.declared.world.World.{World}
 use Rattle.world_core.specs.declared.world.WorldFault.{WorldFault}
 use Rattle.world_core.specs.Asked.{Asks, OfSession, IsOpening, IsReading, IsScanning, IsPaging, IsFolding, IsInsert, IsUpdate, IsDelete, IsNoted, IsStep, bound_of}
-use Rattle.world_core.specs.Handled.{Declines, BeginsOp, MakesNoCall, StepsLooked, MakesStep, Runs, SettlesOn, Settles, Crashes, Does, Answers, Handled}
+use Rattle.world_core.specs.Handled.{Declines, BeginsOp, MakesNoCall, StepsLooked, MakesStep, Runs, SettlesOn, Settles, Crashes, Reports, Does, Answers, Handled}
 use Rattle.world_core.specs.Replying.{declined, done_reply, unsettled_reply, value_reply, RepliesTo, RepliesSettled, RepliesBegun, RepliesTurn}
 use Rattle.world_core.specs.Sessions.{Changes}
-use Rattle.world_core.specs.Sound.{IsSoundFor, AnswersSoundly}
+use Rattle.world_core.specs.Sound.{IsSoundReport, IsSoundFor, AnswersSoundly}
 use Rattle.world_core.specs.Stands.{WorldStands}
 use Rattle.world_core.proofs.StandsLemmas.{IsUnderWay, changed_at, changed_was, way_begins, told_under, call, steps_own, went_on, no_stop, no_memory, replies_to, SettlerGoes, settler, settler_own, settler_call, settler_went, settler_begins, settled_plain}
 
@@ -320,11 +321,20 @@ module _ (lines : List Line) (n : ℕ) (before after : Seen) (old new : World) (
           on (answer.Trouble q) p e = unsettled q e (settler_stops n all (session_at old.sessions) row s.comes.mid after s.comes.world s.left q way p)
           on a p e = absurd e
 
+-- ---- a report
+
+report_sound : (lines : List Line) (tree : ℕ) (r : Reply) (before after : Seen) (old new : World) (t : CloudState) → before.state ≡ Some t → WorldStands lines old t
+    → Reports tree before after old new (Ok r) → old.blind ≡ false → IsSoundReport r
+report_sound lines tree (reply.Trouble q) before after old new t told stands h sees =
+    let cloud = stands.holds.stand.cloud in
+    only_slips t (store_of stands.holds.book stands.holds.order t) tree refl cloud.holds.chains h.reply.0 cloud.decodes q (h.reply.1.stands sees t told)
+report_sound lines tree r before after old new t told stands h sees = tt
+
 -- ---- every line
 
 asked_sound : (n : ℕ) (event : Event) (asked : Asked) (before after : Seen) (old new : World) (r : Reply) (lines : List Line) (t u : CloudState)
     → Asks event asked → Answers n asked before after old new (Ok r) → length lines + 1 ≡ n → before.state ≡ Some t → WorldStands lines old t → after.state ≡ Some u
-    → IsSoundFor event (standing lines (session_of event)).posture u.now (session_at new.sessions (session_of event)).work r
+    → IsSoundFor event old.blind (standing lines (session_of event)).posture u.now (session_at new.sessions (session_of event)).work r
 asked_sound n (event.Open k client) asked before after old new r lines t u asks answers at told stands later =
     request_sound lines n k before after old new r t u at told stands later (IsOpening client) asked asks answers
     (λ request is. same_right lines n k before after old new r t u at told stands later request (Begin (op.Open client)) (ap (λ q. Ok q) is.1) is.0)
@@ -375,7 +385,8 @@ asked_sound n (event.Wait ticks) asked before after old new r lines t u asks ans
     on : Answers n (Wait ticks) before after old new (Ok r) → IsSoundReply (standing lines 0).posture u.now (session_at new.sessions 0).work r
     on (inl h) = plainly lines n 0 before after old new r t u at told stands later reply.Waited h.0.replies tt
     on (inr long) = not_done lines n 0 before after old new r t u at told stands later _ long.declines
-asked_sound n (event.Report tree) asked before after old new r lines t u asks answers at told stands later = tt
+asked_sound n (event.Report tree) asked before after old new r lines t u asks answers at told stands later =
+    report_sound lines tree r before after old new t told stands (subst (λ z. Answers n z before after old new (Ok r)) asks answers)
 asked_sound n event.Settle asked before after old new r lines t u asks answers at told stands later =
     settle_sound lines n before after old new r t u at told stands (subst (λ z. Answers n z before after old new (Ok r)) asks answers)
 

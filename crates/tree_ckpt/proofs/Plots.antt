@@ -29,7 +29,7 @@ use Rattle.leaf_fold.specs.declared.folding.Left.TheVariants.{Right, Handled}
 use Rattle.leaf_fold.specs.declared.plan.LeafPlan.{LeafPlan}
 use Rattle.leaf_fold.specs.Plan as plan
 use Rattle.leaf_fold.specs.Folding.{Step, turned, to_right, planned, handled_by, handle, leaf_side, leaf_at, leaf_found, leaf_got, bad_low, landed, counted, placed}
-use Rattle.tree_ckpt.specs.Causing.{Calls, Brings, WasGot, WasPut, WasRoot, WasLeaf, WasRead, IsLink, Shows}
+use Rattle.tree_ckpt.specs.Causing.{NeedsPages, Calls, Brings, WasGot, WasPut, WasRoot, WasLeaf, WasRead, IsLink, Shows}
 use Rattle.tree_ckpt.proofs.Brought.{Charted, AreRead, OnWay, read_behind, seen_read}
 
 -- at a leaf under its lease
@@ -51,23 +51,23 @@ module _ (tree : ℕ) (cs : Calls) (ask : Ask) (a : Answer) where
   abbrev made_reservation : ℕ → Tree → Reserved
   made_reservation count u = record { put = Some (tree_bytes (record u { next = u.next + count })); first = u.next }
 
-  reserved_tells : (t u : Tree) (count : ℕ) → WasRoot tree t cs → u.next ≡ t.next → PlanTells (reserved count u)
-  reserved_tells t u count w same = on (nat_lt 18446744073709551615 (u.next + count)) refl where
+  reserved_tells : (t u : Tree) (count : ℕ) → WasRoot tree t cs → NeedsPages tree cs count → u.next ≡ t.next → PlanTells (reserved count u)
+  reserved_tells t u count w needs same = on (nat_lt 18446744073709551615 (u.next + count)) refl where
     on : (b : Bool) → nat_lt 18446744073709551615 (u.next + count) ≡ b → PlanTells (cond b (Err pages_spent) (Ok (made_reservation count u)))
-    on true e = (t, count, w, omega (arith, ltb-true 18446744073709551615 (u.next + count) e, same))
+    on true e = (t, count, w, needs, omega (arith, ltb-true 18446744073709551615 (u.next + count) e, same))
     on false e = tt
 
-  next_reserved : (t : Tree) (count : ℕ) → WasRoot tree t cs → PlanTells (reserved_by count (next_tree t))
-  next_reserved t count w = on (t.version == 18446744073709551615) refl where
+  next_reserved : (t : Tree) (count : ℕ) → WasRoot tree t cs → NeedsPages tree cs count → PlanTells (reserved_by count (next_tree t))
+  next_reserved t count w needs = on (t.version == 18446744073709551615) refl where
     on : (b : Bool) → (t.version == 18446744073709551615) ≡ b → PlanTells (reserved_by count (cond b (Err version_spent) (Ok (record t { version = t.version + 1 }))))
     on true e = version_tells t w (eqb-true t.version 18446744073709551615 e)
-    on false e = reserved_tells t (record t { version = t.version + 1 }) count w refl
+    on false e = reserved_tells t (record t { version = t.version + 1 }) count w needs refl
 
-  pub reservation_tells : (t : Tree) (page count : ℕ) → WasRoot tree t cs → PlanTells (reservation t page count)
-  reservation_tells t page count w = on (count == 0) where
+  pub reservation_tells : (t : Tree) (page count : ℕ) → WasRoot tree t cs → NeedsPages tree cs count → PlanTells (reservation t page count)
+  reservation_tells t page count w needs = on (count == 0) where
     on : (b : Bool) → PlanTells (cond b (Ok (record { put = None; first = page })) (reserved_by count (next_tree t)))
     on true = tt
-    on false = next_reserved t count w
+    on false = next_reserved t count w needs
 
   -- ---- a leaf
 
@@ -89,7 +89,7 @@ module _ (tree : ℕ) (cs : Calls) (ask : Ask) (a : Answer) where
     on true e = inr (inr (page, l, leafed, eqb-true l.version 18446744073709551615 e))
     on false e =
         planned_by_tells page (applied l 0 run) (reservation root page (count_of (length (applied l 0 run).records) - 1))
-        (reservation_tells root page (count_of (length (applied l 0 run).records) - 1) w)
+        (reservation_tells root page (count_of (length (applied l 0 run).records) - 1) w (inl (page, l, run, leafed, refl)))
 
   planned_tells : (f : Folding) → KnowsLeaf tree f cs → (high : Option (List ℕ)) (items : List PuItem) (p : Result LeafPlan Trouble) → PlanTells p
       → LeafTells (planned f high items p)

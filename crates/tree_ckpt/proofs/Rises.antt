@@ -29,7 +29,7 @@ use Rattle.tree_rising.specs.Nodes as nodes
 use Rattle.tree_rising.specs.Root.{is_named, with_named, risen, raised_root, lowered, cut_at, cut_by, cut_behind, root_cut, root_plan, uncut}
 use Rattle.tree_rising.specs.Root as root
 use Rattle.tree_rising.specs.Rising.{Step, next_touched, touched_node, put_node, plan_of, last_plan, put_root, rise_at, rise, landed, after_put, put_landed}
-use Rattle.tree_ckpt.specs.Causing.{Calls, WasRoot, WasNode, Shows}
+use Rattle.tree_ckpt.specs.Causing.{NeedsPages, Calls, WasRoot, WasNode, Shows}
 use Rattle.tree_ckpt.proofs.Brought.{IsKept, AreKept, Charted}
 use Rattle.tree_ckpt.proofs.Folds.{not_empty}
 use Rattle.tree_ckpt.proofs.Plots.{PlanTells, HasPut, version_tells, reservation_tells, chart_landed}
@@ -123,7 +123,7 @@ module _ (tree : ℕ) (cs : Calls) (ask : Ask) (a : Answer) where
     on true e = inr (inl (page, n, node, eqb-true n.version 18446744073709551615 e))
     on false e =
         node_planned page (record n { version = n.version + 1; entries = nodes.with_links n ls n.entries })
-        (reservation t page (count_of (length (nodes.with_links n ls n.entries)) - 1)) (reservation_tells tree cs ask a t page (count_of (length (nodes.with_links n ls n.entries)) - 1) w)
+        (reservation t page (count_of (length (nodes.with_links n ls n.entries)) - 1)) (reservation_tells tree cs ask a t page (count_of (length (nodes.with_links n ls n.entries)) - 1) w (inr (inl (page, n, ls, node, refl))))
 
   node_tells : (t : Tree) (of : ℕ) (k : KeptNode) (ls : List Link) → WasRoot tree t cs → IsKept tree k cs → Planned (nodes.node_plan t of k ls)
   node_tells t of k ls w kept = on (inner_of k.bytes) refl where
@@ -133,27 +133,27 @@ module _ (tree : ℕ) (cs : Calls) (ask : Ask) (a : Answer) where
 
   -- ---- the tree object
 
-  cut_tells : (t u : Tree) (put : Option (List ℕ)) (count : ℕ) → WasRoot tree t cs → u.next ≡ t.next → Planned (cut_at put count u)
-  cut_tells t u put count w same = on (nat_lt 18446744073709551615 (u.next + count)) refl where
+  cut_tells : (t u : Tree) (put : Option (List ℕ)) (count : ℕ) → WasRoot tree t cs → NeedsPages tree cs count → u.next ≡ t.next → Planned (cut_at put count u)
+  cut_tells t u put count w needs same = on (nat_lt 18446744073709551615 (u.next + count)) refl where
     on : (b : Bool) → nat_lt 18446744073709551615 (u.next + count) ≡ b
         → Planned (cond b (Err pages_spent) (Ok (lowered put (record u { next = u.next + count }) u.next)))
-    on true e = (t, count, w, omega (arith, ltb-true 18446744073709551615 (u.next + count) e, same))
+    on true e = (t, count, w, needs, omega (arith, ltb-true 18446744073709551615 (u.next + count) e, same))
     on false e = tt
 
-  next_cut : (t u : Tree) (put : Option (List ℕ)) (count : ℕ) → WasRoot tree t cs → u.version ≡ t.version + 1 → u.next ≡ t.next → Planned (cut_by put count (next_tree u))
-  next_cut t u put count w version same = on (u.version == 18446744073709551615) refl where
+  next_cut : (t u : Tree) (put : Option (List ℕ)) (count : ℕ) → WasRoot tree t cs → NeedsPages tree cs count → u.version ≡ t.version + 1 → u.next ≡ t.next → Planned (cut_by put count (next_tree u))
+  next_cut t u put count w needs version same = on (u.version == 18446744073709551615) refl where
     on : (b : Bool) → (u.version == 18446744073709551615) ≡ b → Planned (cut_by put count (cond b (Err version_spent) (Ok (record u { version = u.version + 1 }))))
     on true e = inl (t, w, omega (arith, version, eqb-true u.version 18446744073709551615 e))
-    on false e = cut_tells t (record u { version = u.version + 1 }) put count w same
+    on false e = cut_tells t (record u { version = u.version + 1 }) put count w needs same
 
-  behind_tells : (t u : Tree) (r : Result Reserved Trouble) → Planned r → WasRoot tree t cs → u.version ≡ t.version + 1 → u.next ≡ t.next → Planned (cut_behind u r)
-  behind_tells t u (Ok r) h w version same = next_cut t u r.put (count_of (length u.entries)) w version same
-  behind_tells t u (Err f) h w version same = h
+  behind_tells : (t u : Tree) (r : Result Reserved Trouble) → Planned r → WasRoot tree t cs → NeedsPages tree cs (count_of (length u.entries)) → u.version ≡ t.version + 1 → u.next ≡ t.next → Planned (cut_behind u r)
+  behind_tells t u (Ok r) h w needs version same = next_cut t u r.put (count_of (length u.entries)) w needs version same
+  behind_tells t u (Err f) h w needs version same = h
 
-  root_tells : (t u : Tree) → WasRoot tree t cs → u.version ≡ t.version + 1 → u.next ≡ t.next → Planned (root_plan t u)
-  root_tells t u w version same = on (nat_lt 64 (length u.entries) && nat_lt t.level 255) where
+  root_tells : (t u : Tree) → WasRoot tree t cs → NeedsPages tree cs (count_of (length u.entries)) → u.version ≡ t.version + 1 → u.next ≡ t.next → Planned (root_plan t u)
+  root_tells t u w needs version same = on (nat_lt 64 (length u.entries) && nat_lt t.level 255) where
     on : (b : Bool) → Planned (cond b (root_cut t u) (Ok (uncut u)))
-    on true = behind_tells t u (reservation t 1 (count_of (length u.entries))) (reservation_tells tree cs ask a t 1 (count_of (length u.entries)) w) w version same
+    on true = behind_tells t u (reservation t 1 (count_of (length u.entries))) (reservation_tells tree cs ask a t 1 (count_of (length u.entries)) w needs) w needs version same
     on false = tt
 
   last_tells : (r : Rising) → Charted tree r.chart cs → Planned (last_plan r)
@@ -167,7 +167,8 @@ module _ (tree : ℕ) (cs : Calls) (ask : Ask) (a : Answer) where
     on true e = version_tells tree cs ask a (tree_held r.chart.root) k.root (eqb-true (tree_held r.chart.root).version 18446744073709551615 e)
     on false e =
         let named = named_numbered (tree_held r.chart.root).level r.chart.links up in
-        root_tells (tree_held r.chart.root) (with_named (tree_held r.chart.root).level r.chart.links up) k.root named.0 named.1
+        root_tells (tree_held r.chart.root) (with_named (tree_held r.chart.root).level r.chart.links up) k.root
+        (inr (inr (tree_held r.chart.root, r.chart.links, r.chart.run.top, k.root, refl))) named.0 named.1
 
   -- ---- the way
 

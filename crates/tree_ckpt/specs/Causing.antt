@@ -1,5 +1,11 @@
 -- Why a tree checkpoint stops: each trouble is shown by the answer of the step that brings it, and by what its calls brought before.
-use Rattle.std.specs.Prelude.{ℕ, ◌≡◌, ◌≢◌, ◌<◌, ◌≤◌, ◌+◌, ◌-◌, false, List, [], ◌∷◌, Option, Some, None, Ok, Err, ◌⊎◌}
+use Rattle.leaf_edit.specs.Applied.{applied}
+use Rattle.log_codec.specs.declared.record.PuItem.{PuItem}
+use Rattle.split_plan.specs.Sizes.{count_of}
+use Rattle.tree_parts.specs.declared.link.Link.{Link}
+use Rattle.tree_rising.specs.Nodes.{with_links}
+use Rattle.tree_rising.specs.Root.{risen}
+use Rattle.std.specs.Prelude.{length, ℕ, ◌≡◌, ◌≢◌, ◌<◌, ◌≤◌, ◌+◌, ◌-◌, false, List, [], ◌∷◌, Option, Some, None, Ok, Err, ◌⊎◌}
 use Rattle.db_base.specs.declared.names.Lock.{Lock}
 use Rattle.db_base.specs.declared.names.Lock.TheVariants as lock
 use Rattle.db_base.specs.declared.names.ObjName.{ObjName}
@@ -144,9 +150,18 @@ IsSpent tree cs =
     ⊎ (((page : ℕ) × (n : Inner) × WasNode tree page n cs × (n.version ≡ greatest_number))
     ⊎ ((page : ℕ) × (l : Leaf) × WasLeaf tree page l cs × (l.version ≡ greatest_number)))
 
--- the numbers of new pages pass the greatest one
+-- So many new pages are needed where a leaf that was got is cut with a run applied, an inner node with links, or the tree object with a cursor and
+-- links. The first piece keeps its page, but for a tree object, whose pieces are all new.
+abbrev pub NeedsPages : ℕ → Calls → ℕ → Type 0
+NeedsPages tree cs count =
+    ((page : ℕ) × (l : Leaf) × (run : List PuItem) × WasLeaf tree page l cs × (count ≡ count_of (length (applied l 0 run).records) - 1))
+    ⊎ (((page : ℕ) × (n : Inner) × (ls : List Link) × WasNode tree page n cs × (count ≡ count_of (length (with_links n ls n.entries)) - 1))
+    ⊎ ((t : Tree) × (ls : List Link) × (top : List (ℕ × ℕ)) × WasRoot tree t cs
+        × (count ≡ count_of (length (risen t.level ls top (record t { version = t.version + 1 })).entries))))
+
+-- the numbers of so many new pages pass the greatest one
 abbrev pub HasNoPages : ℕ → Calls → Type 0
-HasNoPages tree cs = (t : Tree) × (count : ℕ) × WasRoot tree t cs × (greatest_number < t.next + count)
+HasNoPages tree cs = (t : Tree) × (count : ℕ) × WasRoot tree t cs × NeedsPages tree cs count × (greatest_number < t.next + count)
 
 -- how long leases of a checkpoint are taken for
 abbrev pub ticks_of : Lock → ℕ

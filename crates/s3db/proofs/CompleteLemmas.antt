@@ -23,7 +23,7 @@ use Rattle.schedule_run.specs.Shell.{AreShellLines, HasBadShellLine, ShellWent, 
 use Rattle.s3db.specs.declared.status.Status.{Status}
 use Rattle.s3db.specs.declared.status.Status.TheVariants as status
 use Rattle.s3db.specs.Status.{ended_as, status_of_input, status_of_line, status_of_settle, status_of_shell}
-use Rattle.s3db.specs.Run.{AsksForShell, AsksToSettle, ReadWhole, Replays, replay_unread, replay_went, RunsShell, shell_unread, shell_went, Ran, WasBad, WasTooLong}
+use Rattle.s3db.specs.Run.{AsksForShell, AsksToSettle, Replays, replay_unread, replay_went, RunsShell, shell_unread, shell_went, Ran, WasBad, WasTooLong}
 use Rattle.s3db.specs.Complete.{WentInOrder, ReadBadLine, IsKnown, EndsWith, IsComplete, StopsAtBadLine}
 
 -- ---- what was read

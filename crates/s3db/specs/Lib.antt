@@ -1,3 +1,4 @@
 pub mod Status
 pub mod Arguments
 pub mod Run
+pub mod Complete

@@ -2,6 +2,7 @@ ghost use Rattle.std.specs.Prelude.{◌≡◌, ◌<◌, ◌≤◌, ◌⊎◌, So
 ghost use Rattle.command_words.specs.Words.{shape_of};
 ghost use Rattle.schedule_run.specs.Replayed.{HasBadLine};
 ghost use Rattle.schedule_run.specs.Shell.{HasBadShellLine};
+ghost use Rattle.s3db.specs.Complete.{IsComplete, StopsAtBadLine};
 ghost use Rattle.s3db.specs.Run.{AsksForShell, AsksToSettle, AsksWithin, Generates, HasBad, IsOfSchedule, IsOfSettling, Ran, Replays, RunsSettling, RunsShell, WasBad, WasTooLong, WasWithin};
 
 use crate::status::Status;
@@ -43,6 +44,14 @@ pub fn run<I: Source, O: Sink, C: Bench>(
         → (O.told sink.old).faults < (O.told sink.new).faults }
     ensures not_settled { result ≡ Status.NotSettled → AsksToSettle (shape_of (map string_bytes words.now)) }
     ensures not_opened { result ≡ Status.NotOpened → AsksForShell (shape_of (map string_bytes words.now)) }
+    // Where no read or write failed, the input was not too long and no line of it is bad, it is done.
+    ensures complete { IsComplete (shape_of (map string_bytes words.now)) result
+        (I.told source.old) (I.told source.new) (O.told sink.old) (O.told sink.new)
+        (C.seen cloud.old) (C.seen cloud.new) }
+    // Where a line of it is bad, it ends by that.
+    ensures at_bad_line { StopsAtBadLine (shape_of (map string_bytes words.now)) result
+        (I.told source.old) (I.told source.new) (O.told sink.old) (O.told sink.new)
+        (C.seen cloud.old) (C.seen cloud.new) }
     ensures ran { Ran (shape_of (map string_bytes words.now)) result
         (I.told source.old) (I.told source.new) (O.told sink.old) (O.told sink.new)
         (C.seen cloud.old) (C.seen cloud.new) }

@@ -4,7 +4,6 @@ use Rattle.std.proofs.lemmas.List.{append-nil}
 use Rattle.std.proofs.lemmas.Option.{slice_get_within}
 use Rattle.cloud_trait.specs.Seen.{Seen}
 use Rattle.cloud_trait.specs.Upto.{upto, AgreeUpto}
-use Rattle.db_io.specs.Content.{Told, Adds, AddsPrefix}
 use Rattle.event_text.specs.declared.event.Event.{Event}
 use Rattle.event_text.specs.declared.event.Event.TheVariants.{Run}
 use Rattle.reply_text.specs.declared.reply.Reply.{Reply}
@@ -113,19 +112,3 @@ pub run_behind : (event : Event) (result : Result Reply WorldFault) (s t z : See
     → RunsWhole event result s z old new
 run_behind event (Ok reply) s t z old mid new begun takes = answered_run t mid begun takes
 run_behind event (Err fault) s t z old mid new begun takes = stops_run t mid begun takes
-
--- ---- content that is written
-
--- a front behind what is written whole
-pub prefix_behind : (w v u : Told) (xs ys : List ℕ) → Adds w v xs → AddsPrefix v u ys → AddsPrefix w u (xs ++ ys)
-prefix_behind w v u xs ys f g all e =
-    let h = g (all ++ xs) (f all e) in (
-      xs ++ h.0,
-      h.1,
-      ap (λ l. xs ++ l) h.2 ∙ sym (append_assoc xs h.0 h.1),
-      h.3 ∙ ap Some (append_assoc all xs h.0),
-    )
-
--- all of it is a front of it
-pub prefix_whole : (w u : Told) (xs : List ℕ) → Adds w u xs → AddsPrefix w u xs
-prefix_whole w u xs f all e = (xs, [], sym (append-nil xs), f all e)

@@ -19,10 +19,10 @@ use Rattle.schedule_run.specs.declared.play.Play.{Play}
 use Rattle.schedule_run.specs.declared.shell.ShellFault.{ShellFault}
 use Rattle.schedule_run.specs.declared.shell.ShellFault.TheVariants.{NotOpened, BadLine, WriteFault, Memory}
 use Rattle.schedule_run.specs.Play.{IsFresh, IsRun, answered, answered_run, StopsRun, stops_event, stops_run, Played}
-use Rattle.schedule_run.specs.Written.{NothingRan, reply_line, shown_from, bad_line}
-use Rattle.schedule_run.specs.Shell.{AreShellLines, IsBad, alone, with_run, no_events, more_events, WereRun, in_event, in_run, WereStopped, Opens, cut_opening, cut_lines, cut_closing, cut_refusal, out_before, out_writing, out_opening, out_next, ShellEnded, ShellWent, IsAt, RanOutAt, out_reply, out_event, EventRan, shown_by, ended, is_opened, opened_by, OpeningRan, ClosingRan, LineRefused, LineRan, event_run, refused, unread}
+use Rattle.schedule_run.specs.Written.{AddsFront, NothingRan, reply_line, shown_from, bad_line}
+use Rattle.schedule_run.specs.Shell.{AreShellLines, IsBad, alone, with_run, no_events, more_events, WereRun, in_event, in_run, WereStopped, Opens, cut_opening, cut_line, cut_closing, cut_refusal, out_before, out_writing, out_between, out_opening, out_next, ShellEnded, ShellWent, IsAt, RanOutAt, out_reply, out_event, EventRan, shown_by, ended, is_opened, opened_by, OpeningRan, ClosingRan, LineRefused, LineRan, event_run, refused, unread}
 use Rattle.schedule_run.proofs.GoingLemmas.{adds_more}
-use Rattle.schedule_run.proofs.PlayLemmas.{played_nothing, played_more, stopped_at, prefix_behind, prefix_whole}
+use Rattle.schedule_run.proofs.PlayLemmas.{played_nothing, played_more, stopped_at}
 
 -- ---- events that are run whole
 
@@ -81,11 +81,10 @@ shows_more w v u replies reply m e all one =
     let f : m ≡ 0 + length replies = omega arith in
     subst (λ xs. Adds w u xs) (sym (shown_more 0 m replies reply f)) (adds_more w v u (shown_from 0 replies) (reply_line m reply) all one)
 
-cuts_more : (w v u : Told) (replies : List Reply) (reply : Reply) (m : ℕ) → m ≡ length replies → Adds w v (shown_from 0 replies) → AddsPrefix v u (reply_line m reply)
-    → AddsPrefix w u (shown_from 0 (replies ++ reply ∷ []))
-cuts_more w v u replies reply m e all one =
-    let f : m ≡ 0 + length replies = omega arith in
-    subst (λ xs. AddsPrefix w u xs) (sym (shown_more 0 m replies reply f)) (prefix_behind w v u (shown_from 0 replies) (reply_line m reply) all one)
+-- a text under the next number is cut, behind replies that are written
+cut_behind : (w v u : Told) (replies : List Reply) (text : ℕ → List ℕ) (m : ℕ) → m ≡ length replies → Adds w v (shown_from 0 replies) → AddsPrefix v u (text m)
+    → AddsFront w u (shown_from 0 replies) (text (length replies))
+cut_behind w v u replies text m e all front = record { between = v; whole = all; front = subst (λ j. AddsPrefix v u (text j)) e front }
 
 opens_more : (replies more : List Reply) → Opens replies → Opens (replies ++ more)
 opens_more [] more opens = absurd opens
@@ -142,7 +141,7 @@ at_open client text w u s t old new fresh p = record {
 open_out : (client : ℕ) (text : List ℕ) (w u : Told) (s t : Seen) (old new : Play) → IsFresh old
     → RanOutAt 0 (Open 1 client) w u s t old new → ShellEnded (Err Memory) client [] (lines_of text) w u s t
 open_out client text w u s t old new fresh (out_reply reply ran front) =
-    out_writing (cut_opening reply new (run_more [] [] (Open 1 client) reply s s t old new (run_nothing s old fresh) ran) front)
+    out_writing (cut_opening reply new refl (run_more [] [] (Open 1 client) reply s s t old new (run_nothing s old fresh) ran) front)
 open_out client text w u s t old new fresh (out_event stops same) =
     out_opening (run_stopped [] [] (Open 1 client) s s t old new (run_nothing s old fresh) stops) same
 
@@ -157,7 +156,7 @@ open_ended client text w u s t old new NotOpened fresh p = record {
 }
 open_ended client text w u s t old new BadLine fresh p = absurd p
 open_ended client text w u s t old new WriteFault fresh p =
-    cut_opening p.0 new (run_more [] [] (Open 1 client) p.0 s s t old new (run_nothing s old fresh) p.1) p.2
+    cut_opening p.0 new refl (run_more [] [] (Open 1 client) p.0 s s t old new (run_nothing s old fresh) p.1) p.2
 open_ended client text w u s t old new Memory fresh p = open_out client text w u s t old new fresh p
 
 pub open_fault : (client : ℕ) (text : List ℕ) (w u : Told) (s t : Seen) (old new : Play) (fault : ShellFault) → IsFresh old
@@ -218,7 +217,7 @@ at_stop client text rest n w v s t play is = record {
   later = lines_of rest;
   at = is.at;
   spelled = is.spelled;
-  so = out_writing (cut_lines is.replies play is.run is.opened (prefix_whole w v (shown_from 0 is.replies) is.wrote));
+  so = out_between is.replies play is.run is.opened is.wrote;
 }
 
 -- ---- the end
@@ -227,9 +226,8 @@ close_out : (client : ℕ) (text rest : List ℕ) (n m : ℕ) (w v u : Told) (s 
     → (is : IsAt client text rest n w v s t old) → m ≡ n + 1 → RanOutAt m (Close 1) v u t z old new → ShellEnded (Err Memory) client is.events [] w u s z
 close_out client text rest n m w v u s t z old new is next (out_reply reply ran front) =
     out_writing
-    (cut_closing (is.replies ++ reply ∷ []) new refl (run_more (Open 1 client ∷ is.events) is.replies (Close 1) reply s t z old new is.run ran)
-    (opens_more is.replies (reply ∷ []) is.opened)
-    (cuts_more w v u is.replies reply m (replies_count client text rest n m w v s t old is next) is.wrote front))
+    (cut_closing is.replies reply new refl (run_more (Open 1 client ∷ is.events) is.replies (Close 1) reply s t z old new is.run ran) is.opened
+    (cut_behind w v u is.replies (λ j. reply_line j reply) m (replies_count client text rest n m w v s t old is next) is.wrote front))
 close_out client text rest n m w v u s t z old new is next (out_event stops same) =
     out_next is.replies (Close 1) refl (run_stopped (Open 1 client ∷ is.events) is.replies (Close 1) s t z old new is.run stops) is.opened
     (subst (λ x. Adds w x (shown_from 0 is.replies)) (sym same) is.wrote)
@@ -250,9 +248,8 @@ close_ended client text rest n m w v u s t z old new is next (Ok reply) ran = (
 close_ended client text rest n m w v u s t z old new is next (Err NotOpened) ran = absurd ran
 close_ended client text rest n m w v u s t z old new is next (Err BadLine) ran = absurd ran
 close_ended client text rest n m w v u s t z old new is next (Err WriteFault) ran =
-    cut_closing (is.replies ++ ran.0 ∷ []) new refl (run_more (Open 1 client ∷ is.events) is.replies (Close 1) ran.0 s t z old new is.run ran.1)
-    (opens_more is.replies (ran.0 ∷ []) is.opened)
-    (cuts_more w v u is.replies ran.0 m (replies_count client text rest n m w v s t old is next) is.wrote ran.2)
+    cut_closing is.replies ran.0 new refl (run_more (Open 1 client ∷ is.events) is.replies (Close 1) ran.0 s t z old new is.run ran.1) is.opened
+    (cut_behind w v u is.replies (λ j. reply_line j ran.0) m (replies_count client text rest n m w v s t old is next) is.wrote ran.2)
 close_ended client text rest n m w v u s t z old new is next (Err Memory) ran = close_out client text rest n m w v u s t z old new is next ran
 
 pub at_end : (client : ℕ) (text rest : List ℕ) (n m : ℕ) (w v u : Told) (s t z : Seen) (old new : Play) (result : Result (Unit {0}) ShellFault)
@@ -303,8 +300,8 @@ ends_cut {client} {text} {rest} {behind} {line} {n} {m} {w} {v} {s} {t} {old} me
     is.at ∙ ap (λ ls. is.earlier ++ ls) met.split ∙ sym (append_assoc is.earlier (line ∷ []) (lines_of behind)) in
     let run : WereRun (Open 1 client ∷ (is.events ++ event ∷ [])) (is.replies ++ reply ∷ []) s z new =
     run_more (Open 1 client ∷ is.events) is.replies event reply s t z old new is.run ran in
-    let opens : Opens (is.replies ++ reply ∷ []) = opens_more is.replies (reply ∷ []) is.opened in
-    let wrote : AddsPrefix w u (shown_from 0 (is.replies ++ reply ∷ [])) = cuts_more w v u is.replies reply m (met_count met) is.wrote front in
+    let wrote : AddsFront w u (shown_from 0 is.replies) (reply_line (length is.replies) reply) =
+    cut_behind w v u is.replies (λ j. reply_line j reply) m (met_count met) is.wrote front in
     let spelled : AreShellLines (is.earlier ++ line ∷ []) (is.events ++ event ∷ []) = shell_more is.earlier is.events line event is.spelled spells in (
       record {
         events = is.events ++ event ∷ [];
@@ -312,7 +309,7 @@ ends_cut {client} {text} {rest} {behind} {line} {n} {m} {w} {v} {s} {t} {old} me
         later = lines_of behind;
         at = at;
         spelled = spelled;
-        so = cut_lines (is.replies ++ reply ∷ []) new run opens wrote;
+        so = cut_line is.replies reply new run is.opened wrote;
       },
       record {
         events = is.events ++ event ∷ [];
@@ -320,7 +317,7 @@ ends_cut {client} {text} {rest} {behind} {line} {n} {m} {w} {v} {s} {t} {old} me
         later = lines_of behind;
         at = at;
         spelled = spelled;
-        so = out_writing (cut_lines (is.replies ++ reply ∷ []) new run opens wrote);
+        so = out_writing (cut_line is.replies reply new run is.opened wrote);
       },
     )
 
@@ -363,14 +360,12 @@ line_refused {client} {text} {rest} {behind} {line} {n} {m} {w} {v} {s} {t} {old
 line_refused {client} {text} {rest} {behind} {line} {n} {m} {w} {v} {s} {t} {old} met u z WriteFault bad same p =
     let is = met.is in
     cut_refusal is.replies old bad (run_same (Open 1 client ∷ is.events) is.replies s t z old same is.run) is.opened
-    (subst (λ j. AddsPrefix w u (shown_from 0 is.replies ++ bad_line j)) (met_count met)
-    (prefix_behind w v u (shown_from 0 is.replies) (bad_line m) is.wrote p))
+    (cut_behind w v u is.replies bad_line m (met_count met) is.wrote p)
 line_refused {client} {text} {rest} {behind} {line} {n} {m} {w} {v} {s} {t} {old} met u z Memory bad same p =
     let is = met.is in
     out_writing
     (cut_refusal is.replies old bad (run_same (Open 1 client ∷ is.events) is.replies s t z old same is.run) is.opened
-    (subst (λ j. AddsPrefix w u (shown_from 0 is.replies ++ bad_line j)) (met_count met)
-    (prefix_behind w v u (shown_from 0 is.replies) (bad_line m) is.wrote p)))
+    (cut_behind w v u is.replies bad_line m (met_count met) is.wrote p))
 
 -- it was not read for want of memory
 line_unread : {client : ℕ} {text rest behind line : List ℕ} {n m : ℕ} {w v : Told} {s t : Seen} {old : Play}
@@ -379,9 +374,8 @@ line_unread : {client : ℕ} {text rest behind line : List ℕ} {n m : ℕ} {w v
 line_unread {client} {text} {rest} {behind} {line} {n} {m} {w} {v} {s} {t} {old} met u z same told =
     let is = met.is in
     ends_before (Err Memory) u z met
-    (out_writing
-    (cut_lines is.replies old (run_same (Open 1 client ∷ is.events) is.replies s t z old same is.run) is.opened
-    (subst (λ x. AddsPrefix w x (shown_from 0 is.replies)) (sym told) (prefix_whole w v (shown_from 0 is.replies) is.wrote))))
+    (out_between is.replies old (run_same (Open 1 client ∷ is.events) is.replies s t z old same is.run) is.opened
+    (subst (λ x. Adds w x (shown_from 0 is.replies)) (sym told) is.wrote))
 
 by_fault : {client : ℕ} {text rest behind line : List ℕ} {n m : ℕ} {w v : Told} {s t : Seen} {old : Play}
     → (met : IsMet client text rest behind line n m w v s t old) (u : Told) (z : Seen) (new : Play) (fault : ShellFault)

@@ -16,7 +16,7 @@ use Rattle.world_core.specs.Stands.{WorldStands, StandsOn}
 use Rattle.schedule_run.specs.declared.replay.LineFault.{LineFault}
 use Rattle.schedule_run.specs.declared.replay.LineFault.TheVariants.{BadLine, WriteFault, Memory}
 use Rattle.schedule_run.specs.Answered.{WentOn, AreAnswered, IsUnanswered, ReportsAreRight, KeepsTheTheorem}
-use Rattle.schedule_run.specs.Written.{NothingRan, reply_line, bad_line, replies}
+use Rattle.schedule_run.specs.Written.{AddsFront, NothingRan, reply_line, bad_line, replies}
 
 -- each text spells the event of its line
 abbrev pub AreSpelled : List (List ℕ) → List Line → Type 0
@@ -36,12 +36,6 @@ Begins (text ∷ texts) event = IsEvent text event
 abbrev pub BeginsBad : List (List ℕ) → Type 0
 BeginsBad [] = ⊥
 BeginsBad (text ∷ texts) = (event : Event) → IsEvent text event → ⊥
-
--- all of these bytes are written, and the first part of those
-pub record AddsFront (written now_written : Told) (all part : List ℕ) : Type 0 where
-  pub between : Told
-  pub whole : Adds written between all
-  pub front : AddsPrefix between now_written part
 
 -- a text was cut short: the reply to the last line, or what is written of the next text, which is in no grammar; all before it is written
 pub data WroteFront (lines : List Line) (later : List (List ℕ)) (written now_written : Told) : Type 0 where

@@ -15,7 +15,7 @@ use Rattle.schedule_run.specs.declared.play.Play.{Play}
 use Rattle.schedule_run.specs.declared.shell.ShellFault.{ShellFault}
 use Rattle.schedule_run.specs.declared.shell.ShellFault.TheVariants.{NotOpened, BadLine, WriteFault, Memory}
 use Rattle.schedule_run.specs.Play.{Played, StoppedAt, IsRun, StopsRun}
-use Rattle.schedule_run.specs.Written.{NothingRan, reply_line, shown_from, bad_line}
+use Rattle.schedule_run.specs.Written.{AddsFront, NothingRan, reply_line, shown_from, bad_line}
 
 -- ---- the lines of a shell
 
@@ -110,27 +110,30 @@ pub record ShowedBadLine (events : List Event) (written now_written : Told) (sta
   pub opened : Opens replies
   pub wrote : Adds written now_written (shown_from 0 replies ++ bad_line (length replies))
 
--- a front of the text is written: of the opening's reply, of the replies up to those of these lines, with that of the closing behind the last
--- one, or with the number of a bad line
+-- a text was cut short, the last: the opening's reply, that of the last of these lines, that of the closing behind them all, or the refusal of the
+-- next line; all before it is written
 pub data WasCut (client : ℕ) (events : List Event) (later : List (List ℕ)) (written now_written : Told) (start now : Seen) : Type 0 where
-  cut_opening : (reply : Reply) (play : Play) → WereRun (Open 1 client ∷ []) (reply ∷ []) start now play
+  cut_opening : (reply : Reply) (play : Play) → events ≡ [] → WereRun (Open 1 client ∷ []) (reply ∷ []) start now play
       → AddsPrefix written now_written (reply_line 0 reply) → WasCut client events later written now_written start now
-  cut_lines : (replies : List Reply) (play : Play) → WereRun (Open 1 client ∷ events) replies start now play → Opens replies
-      → AddsPrefix written now_written (shown_from 0 replies) → WasCut client events later written now_written start now
-  cut_closing : (replies : List Reply) (play : Play) → later ≡ [] → WereRun (Open 1 client ∷ (events ++ Close 1 ∷ [])) replies start now play → Opens replies
-      → AddsPrefix written now_written (shown_from 0 replies) → WasCut client events later written now_written start now
+  cut_line : (replies : List Reply) (reply : Reply) (play : Play) → WereRun (Open 1 client ∷ events) (replies ++ reply ∷ []) start now play → Opens replies
+      → AddsFront written now_written (shown_from 0 replies) (reply_line (length replies) reply) → WasCut client events later written now_written start now
+  cut_closing : (replies : List Reply) (reply : Reply) (play : Play) → later ≡ []
+      → WereRun (Open 1 client ∷ (events ++ Close 1 ∷ [])) (replies ++ reply ∷ []) start now play → Opens replies
+      → AddsFront written now_written (shown_from 0 replies) (reply_line (length replies) reply) → WasCut client events later written now_written start now
   cut_refusal : (replies : List Reply) (play : Play) → BeginsBad later → WereRun (Open 1 client ∷ events) replies start now play → Opens replies
-      → AddsPrefix written now_written (shown_from 0 replies ++ bad_line (length replies)) → WasCut client events later written now_written start now
+      → AddsFront written now_written (shown_from 0 replies) (bad_line (length replies)) → WasCut client events later written now_written start now
 
 -- what a shell runs next, before these lines: the event of the first or, before none, the closing
 abbrev pub IsNextOf : List (List ℕ) → Event → Type 0
 IsNextOf [] event = event ≡ Close 1
 IsNextOf (text ∷ texts) event = IsShellLine text event
 
--- where memory ran out: before anything, while a text was written, at the opening, or at the next event
+-- where memory ran out: before anything, while a text was written, between two lines, at the opening, or at the next event
 pub data ShellRanOut (client : ℕ) (events : List Event) (later : List (List ℕ)) (written now_written : Told) (start now : Seen) : Type 0 where
   out_before : NothingRan written now_written start now → ShellRanOut client events later written now_written start now
   out_writing : WasCut client events later written now_written start now → ShellRanOut client events later written now_written start now
+  out_between : (replies : List Reply) (play : Play) → WereRun (Open 1 client ∷ events) replies start now play → Opens replies
+      → Adds written now_written (shown_from 0 replies) → ShellRanOut client events later written now_written start now
   out_opening : WereStopped [] [] (Open 1 client) start now → now_written ≡ written → ShellRanOut client events later written now_written start now
   out_next : (replies : List Reply) (event : Event) → IsNextOf later event → WereStopped (Open 1 client ∷ events) replies event start now → Opens replies
       → Adds written now_written (shown_from 0 replies) → ShellRanOut client events later written now_written start now

@@ -2,6 +2,7 @@ use Rattle.std.proofs.Common.{◌≡◌, Some, None, map, sym, ◌∙◌, subst}
 use Rattle.std.specs.Prelude.{string_bytes}
 use Rattle.s3db.specs.Run.{AsksToSettle, AsksForShell}
 use Rattle.s3db.proofs.RunLemmas.{asked_within, not_asked}
+use Rattle.s3db.proofs.CompleteLemmas.{completes, stops_at_bad_line, out_of_memory}
 use Rattle.s3db.proofs.run.run.Goals as goal
 
 pub run_asked-requires : goal.run_asked-requires
@@ -28,3 +29,41 @@ returns-in-Ok-clause-ran g c = rw c.in-Ok.ensures c.run_asked.ensures.ran
 
 pub returns-in-Err-Memory-clause-ran : goal.returns-in-Err-Memory-clause-ran
 returns-in-Err-Memory-clause-ran g c = not_asked _ _ _ _
+
+pub returns-in-Ok-clause-complete : goal.returns-in-Ok-clause-complete
+returns-in-Ok-clause-complete g c =
+    let e = c.run_asked.ensures in
+    rw c.in-Ok.ensures
+    (completes _ _ _ _ _ _ _ _
+    (record {
+      bad_words = e.not_words;
+      read_fault = e.read_fault;
+      too_long = e.too_long;
+      bad_line = e.bad_line;
+      write_fault = e.write_fault;
+      not_settled = e.not_settled;
+      not_opened = e.not_opened;
+    })
+    e.ran)
+
+pub returns-in-Ok-clause-at_bad_line : goal.returns-in-Ok-clause-at_bad_line
+returns-in-Ok-clause-at_bad_line g c =
+    let e = c.run_asked.ensures in
+    rw c.in-Ok.ensures
+    (stops_at_bad_line _ _ _ _ _ _ _ _
+    (record {
+      bad_words = e.not_words;
+      read_fault = e.read_fault;
+      too_long = e.too_long;
+      bad_line = e.bad_line;
+      write_fault = e.write_fault;
+      not_settled = e.not_settled;
+      not_opened = e.not_opened;
+    })
+    e.ran)
+
+pub returns-in-Err-Memory-clause-complete : goal.returns-in-Err-Memory-clause-complete
+returns-in-Err-Memory-clause-complete g c order good = out_of_memory _ _ _ _ _ _
+
+pub returns-in-Err-Memory-clause-at_bad_line : goal.returns-in-Err-Memory-clause-at_bad_line
+returns-in-Err-Memory-clause-at_bad_line g c order known bad = out_of_memory _ _ _ _ _ _

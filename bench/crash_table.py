@@ -6,7 +6,7 @@ answers Failed, and has not landed, or has. The session dies in any case, its le
 its report is held against bench/model.py, and against the counts that the script calls for.
 
 Usage: bench/crash_table.py PROGRAM [NAME..]      the scripts of these names, all five where none is given
-       bench/crash_table.py --scripts FOLDER      writes the scripts and reports that the crate example_runs has of four of them
+       bench/crash_table.py --scripts FOLDER      writes the scripts and reports that the crate example_runs has of them
 """
 
 import subprocess
@@ -112,7 +112,7 @@ def write_scripts(folder):
         with open(f"{folder}/{name}", "w") as it:
             it.write("\n".join(lines) + "\n")
 
-    for name in ("page", "cut", "recovery", "commit"):
+    for name in SCRIPTS:
         write(f"{name}.script", [*SCRIPTS[name][1], SCRIPTS[name][2]])
         write(f"{name}.report", [" report 1", *report_of(name)])
     write("nothing.report", [" report 1", "committed 0", "order 0", "contents 0", "left 0 0"])

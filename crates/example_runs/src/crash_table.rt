@@ -6,11 +6,12 @@ use std::alloc::{AllocError, Global};
 use std::io;
 
 /// What is cut off: the name of its files, and how many calls it makes. Its script ends with the line that begins it.
-const OPERATIONS: [(&str, u64); 4] = [
+const OPERATIONS: [(&str, u64); 5] = [
     ("crash/page", 10),
     ("crash/cut", 12),
     ("crash/recovery", 11),
     ("crash/commit", 11),
+    ("crash/root", 13),
 ];
 
 /// How it is cut off, and whether the call in hand lands: the session dies before the call or behind it, or the call

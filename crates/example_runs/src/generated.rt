@@ -1,5 +1,7 @@
 //! A generated schedule of a thousand rounds, with its summary.
 
+ghost use Rattle.std.specs.Prelude.{◌≤◌};
+
 use crate::files::read;
 use db_io::memory_sink::MemorySink;
 use memory_cloud::memory::MemoryCloud;

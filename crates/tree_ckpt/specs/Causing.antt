@@ -157,7 +157,7 @@ NeedsPages tree cs count =
     ((page : ℕ) × (l : Leaf) × (run : List PuItem) × WasLeaf tree page l cs × (count ≡ count_of (length (applied l 0 run).records) - 1))
     ⊎ (((page : ℕ) × (n : Inner) × (ls : List Link) × WasNode tree page n cs × (count ≡ count_of (length (with_links n ls n.entries)) - 1))
     ⊎ ((t : Tree) × (ls : List Link) × (top : List (ℕ × ℕ)) × WasRoot tree t cs
-        × (count ≡ count_of (length (risen t.level ls top (record t { version = t.version + 1 })).entries))))
+    × (count ≡ count_of (length (risen t.level ls top (record t { version = t.version + 1 })).entries))))
 
 -- the numbers of so many new pages pass the greatest one
 abbrev pub HasNoPages : ℕ → Calls → Type 0

@@ -1,8 +1,8 @@
 -- The lines of a replay, one after another.
 use Rattle.std.proofs.Common.{suc, ◌≡◌, ◌<◌, ◌≤◌, ◌+◌, ◌⊎◌, ℕ, List, [], ◌∷◌, ◌++◌, length, take, Some, Result, Ok, Err, refl, sym, ap, subst, ◌∙◌, inl, inr, append_assoc, arith, length-append}
 use Rattle.std.specs.Prelude.{slice_get, replicate, false}
-use Rattle.std.proofs.lemmas.List.{append-nil, take-append-le, take_all, get_or_append_left}
-use Rattle.std.proofs.lemmas.Option.{slice_get_within, slice_get-get_or}
+use Rattle.std.proofs.lemmas.List.{append-nil, take-append-le}
+use Rattle.std.proofs.lemmas.Option.{slice_get_within}
 use Rattle.std.proofs.lemmas.Bool.{cases_lt}
 use Rattle.client_session.specs.Session.{closed_session}
 use Rattle.cloud_trait.specs.State.{CloudState, IsEmptyCloud}
@@ -28,7 +28,8 @@ use Rattle.world_core.specs.Handled.{Handled}
 use Rattle.world_core.specs.Stands.{WorldStands, StandsOn, Grows}
 use Rattle.schedule_run.specs.declared.replay.LineFault.{LineFault}
 use Rattle.schedule_run.specs.declared.replay.LineFault.TheVariants.{BadLine, WriteFault, Memory}
-use Rattle.schedule_run.specs.Answered.{IsNew, start, further, AreAnswered, ReportsAreRight, KeepsTheTheorem}
+use Rattle.schedule_run.specs.Answered.{IsNew, WentOn, start, further, AreAnswered, ReportsAreRight, RepliesAreSound, KeepsTheTheorem}
+use Rattle.schedule_run.proofs.SoundLemmas.{get_before, take_whole, went_soundly}
 use Rattle.schedule_run.specs.Written.{reply_line, replies_from, replies, bad_line}
 use Rattle.schedule_run.specs.Replayed.{AreSpelled, WroteFront, reply_cut, refusal_cut, EndedBy, between, writing, handling, Ended, WentThrough, Handles, IsAt, IsAnswered, LineWent, event_handled, refused, unread}
 
@@ -66,14 +67,6 @@ replies_more n m (l ∷ lines) line e =
     ap (λ xs. reply_line n l.reply ++ xs) (replies_more (n + 1) m lines line f) ∙ sym (append_assoc (reply_line n l.reply) (replies_from (n + 1) lines) (reply_line m line.reply))
 
 -- ---- reports
-
-get_before : (lines : List Line) (line : Line) (k : ℕ) → k < length lines → slice_get (lines ++ line ∷ []) k ≡ slice_get lines k
-get_before lines line k less =
-    slice_get-get_or (lines ++ line ∷ []) k line (omega (arith, length-append lines (line ∷ [])))
-    ∙ ap Some (get_or_append_left lines (line ∷ []) line k less) ∙ sym (slice_get-get_or lines k line less)
-
-take_whole : (lines : List Line) (k : ℕ) → k ≡ length lines → take k lines ≡ lines
-take_whole lines k e = take_all k lines (omega arith)
 
 pub report_same : (lines : List Line) (s t : CloudState) (r : Reply) → HoldTheSame s t → ReportIsRight lines s r → ReportIsRight lines t r
 report_same lines s t (reply.Report r) same right = right_same lines s t r same right
@@ -146,6 +139,11 @@ fresh_stands world t fresh empty =
     (subst (λ l. Stands [] (session_at l) world.audit false t) (sym fresh.sessions)
     (subst (λ a. Stands [] (session_at (replicate 17 closed_session)) a false t) (sym fresh.audit) (nothing_stands_yet 17 t empty)))
 
+-- and so every reply of lines that were handled from it on is sound
+pub replies_sound : (lines : List Line) (s t : Seen) (first world : World) (x : CloudState) → WentOn s first lines t world → IsNew first → s.state ≡ Some x → IsEmptyCloud x
+    → RepliesAreSound lines
+replies_sound lines s t first world x went fresh told empty = (went_soundly s first x lines t world went told (fresh_stands first x fresh empty)).sound
+
 -- ---- the lines of a text
 
 pub at_start : (text : List ℕ) (w : Told) (s : Seen) (world : World) → IsNew world → IsAt text text 0 w w s s world world
@@ -194,7 +192,7 @@ at_end text rest n w v s t first world fresh is none = record {
   at = is.at;
   spelled = is.handles.spelled;
   so = (ap lines_of none, answered is.earlier w v s t first world fresh is.handles, is.handles.wrote);
-  theorem = λ x told empty. let o = is.handles.stands x told empty in (o.0, o.1, o.3);
+  theorem = λ x told empty. let o = is.handles.stands x told empty in (o.0, o.1, o.3, replies_sound is.handles.lines s t first world x is.handles.went fresh told empty);
 }
 
 -- where a run stops between two lines for want of memory
@@ -207,7 +205,7 @@ at_stop text rest n w v s t first world fresh is = record {
   at = is.at;
   spelled = is.handles.spelled;
   so = between (answered is.earlier w v s t first world fresh is.handles) is.handles.wrote;
-  theorem = λ x told empty. let o = is.handles.stands x told empty in (o.0, o.1, o.3);
+  theorem = λ x told empty. let o = is.handles.stands x told empty in (o.0, o.1, o.3, replies_sound is.handles.lines s t first world x is.handles.went fresh told empty);
 }
 
 -- ---- a line that ends the run
@@ -231,7 +229,7 @@ met_count {text} {rest} {behind} {line} {n} {m} met =
 -- the reports of what was handled, after calls of a later line
 keeps : {text rest behind line : List ℕ} {n m : ℕ} {w v : Told} {s t z : Seen} {first old : World}
     → (met : IsMet text rest behind line n m w v s t z first old) → KeepsTheTheorem met.is.handles.lines s z
-keeps {text} {rest} {behind} {line} {n} {m} met x told empty =
+keeps {text} {rest} {behind} {line} {n} {m} {w} {v} {s} {t} {z} {first} {old} met x told empty =
     let h = met.is.handles in
     let o = h.stands x told empty in
     let g = met.grows o.0 o.1 in
@@ -242,6 +240,7 @@ keeps {text} {rest} {behind} {line} {n} {m} met x told empty =
           let within : k < length h.lines = slice_get_within h.lines k line at in
           let a : AgreeUpto (k + 1) o.0 g.0 = g.2 (k + 1) (omega arith) in
           report_same (take (k + 1) h.lines) (upto o.0 (k + 1)) (upto g.0 (k + 1)) line.reply (record { versions = a.versions; messages = a.messages; trace = a.trace }) (o.3 k line at),
+      replies_sound h.lines s t first old x h.went met.fresh told empty,
     )
 
 -- the run ends before a text that has no reply
@@ -256,6 +255,17 @@ ends_before {text} {rest} {behind} {line} ended u met so = record {
   spelled = met.is.handles.spelled;
   so = so;
   theorem = keeps met;
+}
+
+-- the lines with the text's own
+with_answer : {text rest behind line : List ℕ} {n m : ℕ} {w v : Told} {s t z : Seen} {first old : World}
+    → (met : IsMet text rest behind line n m w v s t z first old) (new : World) (one : Line) → IsAnswered m one.event t z old new one.reply
+    → AreAnswered (met.is.handles.lines ++ one ∷ []) s z
+with_answer {text} {rest} {behind} {line} {n} {m} {w} {v} {s} {t} {z} {first} {old} met new one a = record {
+  first = first;
+  fresh = met.fresh;
+  last = new;
+  went = further met.is.handles.lines one t z old new met.is.handles.went (subst (λ j. Handled j one.event t z old new (Ok one.reply)) (met_count met) a.handled);
 }
 
 -- the run ends behind a text that has a reply
@@ -276,7 +286,8 @@ ends_behind {text} {rest} {behind} {line} {n} {m} {w} {v} {s} {t} {z} {first} {o
       theorem = λ x told empty.
           let o = h.stands x told empty in
           let p = stands_more h.lines one m t z old new (omega arith) a.stands met.grows o.0 o.1 o.2 o.3 in
-          (p.0, p.1, p.3);
+          let q : AreAnswered (h.lines ++ one ∷ []) s z = with_answer met new one a in
+          (p.0, p.1, p.3, replies_sound (h.lines ++ one ∷ []) s z q.first q.last x q.went q.fresh told empty);
     }
 
 -- the lines before the text, where no call was made at it
@@ -285,17 +296,6 @@ before_unmoved : {text rest behind line : List ℕ} {n m : ℕ} {w v : Told} {s 
 before_unmoved {text} {rest} {behind} {line} {n} {m} {w} {v} {s} {t} {z} {first} {old} met e =
     let h = met.is.handles in
     subst (λ x. AreAnswered h.lines s x) (sym e) (answered met.is.earlier w v s t first old met.fresh h)
-
--- the lines with the text's own
-with_answer : {text rest behind line : List ℕ} {n m : ℕ} {w v : Told} {s t z : Seen} {first old : World}
-    → (met : IsMet text rest behind line n m w v s t z first old) (new : World) (one : Line) → IsAnswered m one.event t z old new one.reply
-    → AreAnswered (met.is.handles.lines ++ one ∷ []) s z
-with_answer {text} {rest} {behind} {line} {n} {m} {w} {v} {s} {t} {z} {first} {old} met new one a = record {
-  first = first;
-  fresh = met.fresh;
-  last = new;
-  went = further met.is.handles.lines one t z old new met.is.handles.went (subst (λ j. Handled j one.event t z old new (Ok one.reply)) (met_count met) a.handled);
-}
 
 -- the event of the text has no reply
 no_answer : {text rest behind line : List ℕ} {n m : ℕ} {w v : Told} {s t z : Seen} {first old : World}

@@ -1,3 +1,4 @@
+pub mod SoundLemmas
 pub mod GoingLemmas
 pub mod PlayLemmas
 pub mod ShellLemmas

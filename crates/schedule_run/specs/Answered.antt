@@ -1,15 +1,17 @@
 -- Lines that a world handles, one behind another.
-use Rattle.std.specs.Prelude.{ℕ, ◌≡◌, ◌+◌, false, List, [], ◌∷◌, ◌++◌, length, replicate, take, slice_get, Some, Ok, Err}
+use Rattle.std.specs.Prelude.{ℕ, ◌≡◌, ◌+◌, Bool, false, List, [], ◌∷◌, ◌++◌, length, replicate, take, slice_get, Some, Ok, Err}
 use Rattle.client_session.specs.Session.{closed_session}
+use Rattle.client_session.specs.declared.work.Work.{Work}
 use Rattle.cloud_trait.specs.State.{CloudState, IsEmptyCloud}
 use Rattle.cloud_trait.specs.Seen.{Seen}
 use Rattle.cloud_trait.specs.Upto.{upto}
 use Rattle.event_text.specs.declared.event.Event.{Event}
-use Rattle.replay_meaning.specs.Standing.{Line}
+use Rattle.replay_meaning.specs.Standing.{Line, session_of, standing}
 use Rattle.replay_meaning.specs.Right.{ReportIsRight}
 use Rattle.world_core.specs.declared.world.World.{World}
 use Rattle.world_core.specs.declared.world.WorldFault.{WorldFault}
 use Rattle.world_core.specs.Handled.{Handled}
+use Rattle.world_core.specs.Sound.{IsSoundFor}
 
 -- a world whose sessions are closed, and that saw nothing
 pub record IsNew (world : World) : Type 0 where
@@ -42,6 +44,18 @@ pub record IsUnanswered (lines : List Line) (event : Event) (fault : WorldFault)
 abbrev pub ReportsAreRight : List Line → CloudState → Type 0
 ReportsAreRight lines t = (k : ℕ) (line : Line) → slice_get lines k ≡ Some line → ReportIsRight (take (k + 1) lines) (upto t (k + 1)) line.reply
 
--- over a cloud that was empty and told its state, every report of these lines is right for the state in which they left it
+-- the reply to a line is sound by how the lines before it say that its session stood: it shows no trouble that only damage could cause
+pub record IsSoundLine (before : List Line) (line : Line) : Type 0 where
+  pub blind : Bool
+  pub now : ℕ
+  pub work : Work
+  pub sound : IsSoundFor line.event blind (standing before (session_of line.event)).posture now work line.reply
+
+abbrev pub RepliesAreSound : List Line → Type 0
+RepliesAreSound lines = (k : ℕ) (line : Line) → slice_get lines k ≡ Some line → IsSoundLine (take k lines) line
+
+-- over a cloud that was empty and told its state, every report of these lines is right for the state in which they left it, and every reply is
+-- sound
 abbrev pub KeepsTheTheorem : List Line → Seen → Seen → Type 0
-KeepsTheTheorem lines before after = (t : CloudState) → before.state ≡ Some t → IsEmptyCloud t → (u : CloudState) × (after.state ≡ Some u) × ReportsAreRight lines u
+KeepsTheTheorem lines before after =
+    (t : CloudState) → before.state ≡ Some t → IsEmptyCloud t → (u : CloudState) × (after.state ≡ Some u) × ReportsAreRight lines u × RepliesAreSound lines

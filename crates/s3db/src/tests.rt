@@ -1,14 +1,16 @@
 use crate::arguments::fault_of;
 use crate::run::run;
 use crate::status::Status;
+use cloud_trait::cloud::Bench;
 use db_base::ids::{ClientId, MsgId, PageId, TreeId};
 use db_base::names::{ObjName, QueueName};
 use db_io::memory_sink::MemorySink;
 use db_io::memory_source::MemorySource;
+use folder_cloud::{FolderCloud, Ticks};
 use memory_cloud::memory::MemoryCloud;
 use std::alloc::Global;
-use std::io;
 use std::test::Fail;
+use std::{fs, io};
 
 /// What a replay of the input writes over an empty cloud, and how it ends; these reads and writes fail.
 fn replayed(
@@ -37,11 +39,11 @@ fn replayed_over(
 }
 
 /// What a run of these words writes over this cloud, and how it ends.
-fn ran_over(
+fn ran_over<C: Bench>(
     alloc: Global,
     words: &[&str],
     input: &[u8],
-    cloud: &mut MemoryCloud,
+    cloud: &mut C,
 ) -> Result<(Status, MemorySink), Fail> {
     let mut list = Vec::new(alloc);
     for word in words {
@@ -83,16 +85,19 @@ fn sums_a_generated_schedule(rt: HostRuntime) -> Result<(), Fail> {
     Ok(())
 }
 
+/// The lines of a shell, and what it writes.
+const SHELL: &[u8] = b"insert 1 6b 76\ncommit\ntree 1\nread 1 6b\n";
+
+const SHOWN: &[u8] = b"0 opened 1\n1 noted\n2 committed 1\n3 done 1 1 0\n4 value 76\n5 closed\n";
+
+/// What a settling behind it writes.
+const SETTLED: &[u8] = b"1 settled 322\n";
+
 #[test]
 fn runs_a_shell_twice(rt: HostRuntime) -> Result<(), Fail> {
     let mut cloud = MemoryCloud::new(rt.alloc());
     for (words, input, status, output) in [
-        (
-            ["shell", "1", "db"],
-            b"insert 1 6b 76\ncommit\ntree 1\nread 1 6b\n".as_slice(),
-            Status::Done,
-            b"0 opened 1\n1 noted\n2 committed 1\n3 done 1 1 0\n4 value 76\n5 closed\n".as_slice(),
-        ),
+        (["shell", "1", "db"], SHELL, Status::Done, SHOWN),
         // A commit in a new epoch, a refused line, and a line that is no shell's: the session stays open.
         (
             ["shell", "1", "db"],
@@ -119,6 +124,42 @@ fn runs_a_shell_twice(rt: HostRuntime) -> Result<(), Fail> {
         assert_eq!(rt; ended, status);
         assert_eq!(rt; sink.written(), output);
     }
+    Ok(())
+}
+
+/// A clock that stands still.
+#[derive(Drop)]
+struct Still;
+
+impl Ticks for Still {
+    fn now(&mut self) -> u64 {
+        0
+    }
+}
+
+/// Whether a shell over this empty cloud, and a settling behind it, write what they must.
+fn shell_and_settling<C: Bench>(alloc: Global, cloud: &mut C) -> Result<bool, Fail> {
+    let (ended, shown) = ran_over(alloc, &["shell", "1", "db"], SHELL, cloud)?;
+    let (settled, text) = ran_over(alloc, &["settle", "db"], b"", cloud)?;
+    let is_shown = ended == Status::Done && shown.written() == SHOWN;
+    let is_settled = settled == Status::Done && text.written() == SETTLED;
+    Ok(is_shown && is_settled)
+}
+
+#[test]
+fn settles_behind_a_shell(rt: HostRuntime) -> Result<(), Fail> {
+    let mut cloud = MemoryCloud::new(rt.alloc());
+    let is_right = shell_and_settling(rt.alloc(), &mut cloud)?;
+    assert!(rt; is_right);
+    Ok(())
+}
+
+#[test]
+fn runs_over_a_folder(rt: HostRuntime) -> Result<(), Fail> {
+    let _old = fs::remove_dir_all(&rt, "shell-test");
+    let mut cloud = FolderCloud::open(&rt, "shell-test", Still)?;
+    let is_right = shell_and_settling(rt.alloc(), &mut cloud)?;
+    assert!(rt; is_right);
     Ok(())
 }
 

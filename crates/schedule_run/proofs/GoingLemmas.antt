@@ -1,7 +1,7 @@
 -- The lines of a replay, one after another.
 use Rattle.std.proofs.Common.{suc, ◌≡◌, ◌<◌, ◌≤◌, ◌+◌, ◌⊎◌, ℕ, List, [], ◌∷◌, ◌++◌, length, take, Some, Result, Ok, Err, refl, sym, ap, subst, ◌∙◌, inl, inr, append_assoc, arith, length-append}
 use Rattle.std.specs.Prelude.{slice_get, replicate, false}
-use Rattle.std.proofs.lemmas.List.{append-nil, take-append-le}
+use Rattle.std.proofs.lemmas.List.{append-nil, nil_from_length, take-append-le}
 use Rattle.std.proofs.lemmas.Option.{slice_get_within}
 use Rattle.std.proofs.lemmas.Bool.{cases_lt}
 use Rattle.client_session.specs.Session.{closed_session}
@@ -184,14 +184,14 @@ abbrev answered : (texts : List (List ℕ)) (w v : Told) (s t : Seen) (first wor
 answered texts w v s t first world fresh h = record { first = first; fresh = fresh; last = world; went = h.went }
 
 pub at_end : (text rest : List ℕ) (n : ℕ) (w v : Told) (s t : Seen) (first world : World) → IsNew first
-    → IsAt text rest n w v s t first world → rest ≡ [] → WentThrough text (Ok tt) w v s t
+    → IsAt text rest n w v s t first world → length rest ≡ 0 → WentThrough text (Ok tt) w v s t
 at_end text rest n w v s t first world fresh is none = record {
   lines = is.handles.lines;
   earlier = is.earlier;
   later = lines_of rest;
   at = is.at;
   spelled = is.handles.spelled;
-  so = (ap lines_of none, answered is.earlier w v s t first world fresh is.handles, is.handles.wrote);
+  so = (ap lines_of (nil_from_length rest none), answered is.earlier w v s t first world fresh is.handles, is.handles.wrote);
   theorem = λ x told empty. let o = is.handles.stands x told empty in (o.0, o.1, o.3, replies_sound is.handles.lines s t first world x is.handles.went fresh told empty);
 }
 

@@ -1,5 +1,5 @@
-use Rattle.std.proofs.Common.{arith}
-use Rattle.schedule_run.proofs.GoingLemmas.{at_start, at_stop, at_more, at_fault}
+use Rattle.std.proofs.Common.{rules, tests, arith}
+use Rattle.schedule_run.proofs.GoingLemmas.{at_start, at_end, at_stop, at_more, at_fault}
 use Rattle.schedule_run.proofs.replay.go_on.Goals as goal
 
 -- src/replay.rt:71:5
@@ -21,3 +21,7 @@ loop-rest-preserved g c = record {
 pub returns-in-Err-clause-went : goal.returns-in-Err-clause-went
 returns-in-Err-clause-went g c =
     at_fault _ _ c.next_line.result.1.now c.next_line.result.0.now _ _ _ _ _ _ _ _ _ _ c.replay_line.new.world c.in-Err.fault c.requires.fresh c.loop-rest.invariant.at c.next_line.ensures.lines c.in-Some.ensures.1 c.in-Err.ensures.went c.in-Err.ensures.grows
+
+-- src/replay.rt:50:1
+pub returns-clause-went : goal.returns-clause-went
+returns-clause-went g c = at_end _ _ _ _ _ _ _ _ _ c.requires.fresh c.loop-rest.invariant.at (search (rules, tests))

@@ -1,0 +1,309 @@
+//! Checkpoints of tree 1 over a cloud in memory.
+
+use crate::script::{Mishap, Mishaps, Step};
+use crate::story::Story;
+use cloud_trait::cloud::{Bench as Schedule, Cloud};
+use cloud_trait::grant::Grant;
+use cloud_trait::lease::Lease;
+use cloud_trait::who::Who;
+use db_base::ids::{PageId, SessionNo, TreeId};
+use db_base::names::{Lock, ObjName, QueueName};
+use db_base::wish::{Positions, Wish};
+use leaf_view::LeafView;
+use memory_cloud::memory::MemoryCloud;
+use node_codec::TreeView;
+use page_ckpt::PageCkpt;
+use std::alloc::Global;
+use std::test::Fail;
+use tree_ckpt::TreeCkpt;
+
+/// A cloud with what checkpoints of tree 1 find there.
+#[derive(Drop)]
+struct Bench {
+    alloc: Global,
+    cloud: MemoryCloud,
+}
+
+/// Plays a script over an empty cloud.
+pub(crate) fn play(alloc: Global, script: &[Step<'_>]) -> Result<(), Fail> {
+    let mut bench = empty(alloc);
+    bench.play(script)
+}
+
+/// Plays a script over a cloud with this tree object alone.
+pub(crate) fn play_over(alloc: Global, root: &[u8], script: &[Step<'_>]) -> Result<(), Fail> {
+    let mut bench = empty(alloc);
+    bench.put(0, root)?;
+    bench.play(script)
+}
+
+/// The bench with an empty cloud.
+fn empty(alloc: Global) -> Bench {
+    Bench {
+        alloc,
+        cloud: MemoryCloud::new(alloc),
+    }
+}
+
+fn who() -> Result<Who, Fail> {
+    Ok(Who::new(SessionNo::new(3)?, 7))
+}
+
+fn tree() -> Result<TreeId, Fail> {
+    Ok(TreeId::new(1)?)
+}
+
+fn page(number: u64) -> Result<PageId, Fail> {
+    Ok(PageId::new(number)?)
+}
+
+/// A lock by its number.
+fn lock(number: u64) -> Result<Lock, Fail> {
+    if number == 0 {
+        return Ok(Lock::Tree(tree()?));
+    }
+    Ok(Lock::Page(tree()?, page(number)?))
+}
+
+/// An object by its number.
+fn object(number: u64) -> Result<ObjName, Fail> {
+    if number == 0 {
+        return Ok(ObjName::Tree(tree()?));
+    }
+    Ok(ObjName::Page(tree()?, page(number)?))
+}
+
+/// A queue by its number.
+fn queue(number: u64) -> Result<QueueName, Fail> {
+    if number == 0 {
+        return Ok(QueueName::TreePu(tree()?));
+    }
+    Ok(QueueName::PagePu(tree()?, page(number)?))
+}
+
+/// A pending update record of epoch 1 and transaction 1: an insert (1) or an update (2) with its key and payload.
+fn record(client: u8, number: u8, kind: u8, key: u8, payload: u8) -> [u8; 33] {
+    [
+        0x50, 1, client, 0, 0, 0, 0, 0, 0, 0, 1, 0, 0, 0, 0, 0, 0, 0, 1, 0, 0, 0, 0, 0, 0, 0,
+        number, kind, 1, key, 0, 1, payload,
+    ]
+}
+
+/// Whether this is so.
+fn is(so: bool) -> Result<(), Fail> {
+    if so {
+        Ok(())
+    } else {
+        Err(Fail::from("another object"))
+    }
+}
+
+impl Bench {
+    fn play(&mut self, script: &[Step<'_>]) -> Result<(), Fail> {
+        for step in script {
+            self.step(*step)?;
+        }
+        Ok(())
+    }
+
+    /// Plays a step: what is done before a checkpoint, or a checkpoint, or a look.
+    fn step(&mut self, step: Step<'_>) -> Result<(), Fail> {
+        match step {
+            Step::Puts(number, bytes) => self.put(number, bytes),
+            Step::Sends(to, bytes) => self.send(to, bytes),
+            Step::Inserts(from, key, count) => self.insert(from, key, count),
+            Step::Updates(client, number, key, payload) => {
+                self.send(1, &record(client, number, 2, key, payload))
+            }
+            Step::Takes(number, ticks) => self.hold(number, ticks),
+            Step::Waits(ticks) => {
+                self.cloud.wait(ticks);
+                Ok(())
+            }
+            Step::Tree(mishaps, wanted) => self.tree_checkpoint(mishaps, 400, wanted),
+            Step::Crashes(call, wanted) => self.tree_checkpoint(&[], call, wanted),
+            Step::Page(number, mishaps, wanted) => self.page_checkpoint(number, mishaps, wanted),
+            Step::Has(number, version, bytes) => self.has(number, version, bytes),
+            Step::Leaf(number, version, right, count) => {
+                self.leaf(number, version, right, count)
+            }
+            Step::Root(version, next, level) => self.root(version, next, level),
+            Step::Leads(key, number) => self.leads(key, number),
+        }
+    }
+
+    fn take(&mut self, number: u64, ticks: u64) -> Result<Lease, Fail> {
+        match self.cloud.take(who()?, lock(number)?, ticks)? {
+            Grant::Given(lease) => Ok(lease),
+            Grant::Held(_) => Err(Fail::from("held")),
+        }
+    }
+
+    fn hold(&mut self, number: u64, ticks: u64) -> Result<(), Fail> {
+        let _lease = self.take(number, ticks)?;
+        Ok(())
+    }
+
+    fn put(&mut self, number: u64, bytes: &[u8]) -> Result<(), Fail> {
+        let (who, name) = (who()?, object(number)?);
+        let lease = self.take(number, 9)?;
+        self.cloud.put_held(who, name, bytes, &lease, None)?;
+        self.cloud.release(who, lease)?;
+        Ok(())
+    }
+
+    fn send(&mut self, number: u64, bytes: &[u8]) -> Result<(), Fail> {
+        let (who, queue) = (who()?, queue(number)?);
+        let _id = self.cloud.send(who, queue, bytes)?;
+        Ok(())
+    }
+
+    fn insert(&mut self, from: u8, key: u8, count: u8) -> Result<(), Fail> {
+        for index in 0..count {
+            let (number, key) = (from.saturating_add(index), key.saturating_add(index));
+            self.send(0, &record(1, number, 1, key, 0x76))?;
+        }
+        Ok(())
+    }
+
+    /// Lets come what is to come over a call.
+    fn spoil(&mut self, mishaps: Mishaps<'_>, call: u64) -> Result<(), Fail> {
+        for (number, mishap) in mishaps {
+            if *number == call {
+                self.befall(mishap)?;
+            }
+        }
+        Ok(())
+    }
+
+    fn befall(&mut self, mishap: &Mishap<'_>) -> Result<(), Fail> {
+        match mishap {
+            Mishap::Fails => self.cloud.wish(Wish::Fail),
+            Mishap::Waits(ticks) => self.cloud.wait(*ticks),
+            Mishap::Gives(list) => {
+                let positions = Positions::new(self.alloc, list)?;
+                self.cloud.wish(Wish::Give(positions));
+            }
+        }
+        Ok(())
+    }
+
+    fn tree_checkpoint(
+        &mut self,
+        mishaps: Mishaps<'_>,
+        crash: u64,
+        wanted: &str,
+    ) -> Result<(), Fail> {
+        let mut checkpoint = TreeCkpt::new(self.alloc, tree()?);
+        let mut story = Story::new(self.alloc);
+        self.make_tree(&mut checkpoint, &mut story, mishaps, crash)?;
+        story.is(wanted)
+    }
+
+    /// Makes the calls of a checkpoint of the tree, to its end or to this call.
+    fn make_tree(
+        &mut self,
+        checkpoint: &mut TreeCkpt,
+        story: &mut Story,
+        mishaps: Mishaps<'_>,
+        crash: u64,
+    ) -> Result<(), Fail> {
+        for call in 1..crash {
+            self.spoil(mishaps, call)?;
+            if self.step_tree(checkpoint, story)? {
+                return Ok(());
+            }
+        }
+        Ok(())
+    }
+
+    /// Tells of a call of a checkpoint of the tree, and makes it; true where it ended.
+    fn step_tree(&mut self, checkpoint: &mut TreeCkpt, story: &mut Story) -> Result<bool, Fail> {
+        tell_tree(checkpoint, story)?;
+        let turn = checkpoint.step(self.alloc, &mut self.cloud, who()?);
+        story.answer(&turn)
+    }
+
+    fn page_checkpoint(
+        &mut self,
+        number: u64,
+        mishaps: Mishaps<'_>,
+        wanted: &str,
+    ) -> Result<(), Fail> {
+        let mut checkpoint = PageCkpt::new(self.alloc, tree()?, page(number)?);
+        let mut story = Story::new(self.alloc);
+        self.make_page(&mut checkpoint, &mut story, mishaps)?;
+        story.is(wanted)
+    }
+
+    /// Makes the calls of a checkpoint of a page.
+    fn make_page(
+        &mut self,
+        checkpoint: &mut PageCkpt,
+        story: &mut Story,
+        mishaps: Mishaps<'_>,
+    ) -> Result<(), Fail> {
+        for call in 1..400u64 {
+            self.spoil(mishaps, call)?;
+            if self.step_page(checkpoint, story)? {
+                return Ok(());
+            }
+        }
+        Ok(())
+    }
+
+    /// Tells of a call of a checkpoint of a page, and makes it; true where it ended.
+    fn step_page(&mut self, checkpoint: &mut PageCkpt, story: &mut Story) -> Result<bool, Fail> {
+        tell_page(checkpoint, story)?;
+        let turn = checkpoint.step(self.alloc, &mut self.cloud, who()?);
+        story.answer(&turn)
+    }
+
+    fn has(&self, number: u64, version: u64, bytes: Option<&[u8]>) -> Result<(), Fail> {
+        is(self.cloud.version(object(number)?, version) == bytes)
+    }
+
+    fn leaf(&mut self, number: u64, version: u64, right: u64, count: usize) -> Result<(), Fail> {
+        let bytes = self.cloud.peek(object(number)?)?.ok_or("absent")?;
+        let view = LeafView::read(bytes.as_slice()).ok().ok_or("no leaf")?;
+        is(view.version() == version)?;
+        is(right_of(&view) == right)?;
+        is(view.records().len() == count)
+    }
+
+    fn root(&mut self, version: u64, next: u64, level: u8) -> Result<(), Fail> {
+        let bytes = self.cloud.peek(object(0)?)?.ok_or("absent")?;
+        let view = TreeView::read(bytes.as_slice()).ok().ok_or("no root")?;
+        is(view.version() == version)?;
+        is(view.next() == next)?;
+        is(view.level() == level)
+    }
+
+    fn leads(&mut self, key: u8, number: u64) -> Result<(), Fail> {
+        let bytes = self.cloud.peek(object(0)?)?.ok_or("absent")?;
+        let view = TreeView::read(bytes.as_slice()).ok().ok_or("no root")?;
+        is(view.child(&[key]).1.get() == number)
+    }
+}
+
+/// Tells of the call in hand. The type of a lease is named, for the checker of borrows wants it beside a call.
+fn tell_tree(checkpoint: &TreeCkpt, story: &mut Story) -> Result<(), Fail> {
+    let _none: Option<Lease> = None;
+    let call = checkpoint.in_hand();
+    story.call(&call)
+}
+
+/// Tells of the call in hand. The type of a lease is named, for the checker of borrows wants it beside a call.
+fn tell_page(checkpoint: &PageCkpt, story: &mut Story) -> Result<(), Fail> {
+    let _none: Option<Lease> = None;
+    let call = checkpoint.in_hand();
+    story.call(&call)
+}
+
+/// The right page of a leaf, 0 for none.
+fn right_of(view: &LeafView<'_>) -> u64 {
+    match view.right() {
+        Some(right) => right.get(),
+        None => 0,
+    }
+}

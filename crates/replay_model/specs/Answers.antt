@@ -1,6 +1,4 @@
 -- With which troubles a reply is right, by how its session stands: none that only damage could cause.
-use Rattle.std.specs.Prelude.{ℕ}
-use Rattle.client_session.specs.declared.work.Work.{Work}
 use Rattle.session_facts.specs.CommitRuns.Stopping.{MayStop as MayStopCommit, MayEnd}
 use Rattle.db_base.specs.declared.trouble.Trouble.{Trouble}
 use Rattle.session_facts.specs.Openings.Opening.{MayStop as MayStopOpening}
@@ -8,7 +6,7 @@ use Rattle.session_facts.specs.PageCheckpoints.Checkpoint.{MayStop as MayStopPag
 use Rattle.replay_meaning.specs.Standing.{Task, Opening, Closing, Renewing, Committing, Reading, Scanning, Paging, Folding, Posture, Closed, Idle, Broken, Working}
 use Rattle.reply_text.specs.declared.reply.Reply.{Reply}
 use Rattle.reply_text.specs.declared.reply.Reply.TheVariants as reply
-use Rattle.session_facts.specs.Sessions.Answering.{MayRefuse, MaySettle, HoldsLease}
+use Rattle.session_facts.specs.Sessions.Answering.{MayRefuse, MaySettle}
 use Rattle.session_facts.specs.TreeCheckpoints.Checkpoint.{MayStop as MayStopTree}
 use Rattle.session_facts.specs.Walks.Walks.{MayStop as MayStopWalk}
 
@@ -30,9 +28,9 @@ MayTrouble Closed t = ⊥
 MayTrouble Idle t = ⊥
 MayTrouble Broken t = ⊥
 
--- a reply to a session that stood so, and has this in hand behind it: a commit is refused with no trouble of damage while its lease lasts
-abbrev pub IsSoundReply : Posture → ℕ → Work → Reply → Type 0
-IsSoundReply posture now work (reply.Trouble t) = MayTrouble posture t
-IsSoundReply posture now work (reply.Commit a) = MayEnd (HoldsLease now work) a
-IsSoundReply posture now work (reply.NotSettled t) = MaySettle t
-IsSoundReply posture now work reply = Unit {0}
+-- a reply to a session that stood so
+abbrev pub IsSoundReply : Posture → Reply → Type 0
+IsSoundReply posture (reply.Trouble t) = MayTrouble posture t
+IsSoundReply posture (reply.Commit a) = MayEnd a
+IsSoundReply posture (reply.NotSettled t) = MaySettle t
+IsSoundReply posture reply = Unit {0}

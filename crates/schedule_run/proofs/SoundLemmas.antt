@@ -8,7 +8,6 @@ use Rattle.cloud_trait.proofs.StateLemmas.{slice_get-push}
 use Rattle.cloud_trait.specs.Seen.{Seen}
 use Rattle.cloud_trait.specs.State.{CloudState}
 use Rattle.replay_meaning.specs.Standing.{Line, session_of}
-use Rattle.replay_model.specs.Facts.{session_at}
 use Rattle.world_core.specs.declared.world.World.{World}
 use Rattle.world_core.specs.Stands.{WorldStands}
 use Rattle.world_core.proofs.EveryLine.{stands_after}
@@ -58,10 +57,10 @@ went_soundly before old t lines after new start told stands = record { state = t
 went_soundly before old t lines after new (further earlier line mid _ world _ went handled) told stands =
     let o = went_soundly before old t earlier mid world went told stands in
     let f = stands_after (length earlier + 1) line.event mid after world new (Ok line.reply) handled earlier o.state refl o.told o.stands in
-    let q = sound_after (length earlier + 1) line.event mid after world new (Ok line.reply) handled earlier o.state f.after refl o.told o.stands f.told in
+    let q = sound_after (length earlier + 1) line.event mid after world new (Ok line.reply) handled earlier o.state refl o.told o.stands in
     record {
       state = f.after;
       told = f.told;
       stands = f.stands;
-      sound = sound_more earlier line o.sound (record { blind = world.blind; now = f.after.now; work = (session_at new.sessions (session_of line.event)).work; sound = q });
+      sound = sound_more earlier line o.sound q;
     }

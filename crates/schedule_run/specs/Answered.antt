@@ -1,7 +1,6 @@
 -- Lines that a world handles, one behind another.
-use Rattle.std.specs.Prelude.{ℕ, ◌≡◌, ◌+◌, Bool, false, List, [], ◌∷◌, ◌++◌, length, replicate, take, slice_get, Some, Ok, Err}
+use Rattle.std.specs.Prelude.{ℕ, ◌≡◌, ◌+◌, false, List, [], ◌∷◌, ◌++◌, length, replicate, take, slice_get, Some, Ok, Err}
 use Rattle.client_session.specs.Session.{closed_session}
-use Rattle.client_session.specs.declared.work.Work.{Work}
 use Rattle.cloud_trait.specs.State.{CloudState, IsEmptyCloud}
 use Rattle.cloud_trait.specs.Seen.{Seen}
 use Rattle.cloud_trait.specs.Upto.{upto}
@@ -45,11 +44,8 @@ abbrev pub ReportsAreRight : List Line → CloudState → Type 0
 ReportsAreRight lines t = (k : ℕ) (line : Line) → slice_get lines k ≡ Some line → ReportIsRight (take (k + 1) lines) (upto t (k + 1)) line.reply
 
 -- the reply to a line is sound by how the lines before it say that its session stood: it shows no trouble that only damage could cause
-pub record IsSoundLine (before : List Line) (line : Line) : Type 0 where
-  pub blind : Bool
-  pub now : ℕ
-  pub work : Work
-  pub sound : IsSoundFor line.event blind (standing before (session_of line.event)).posture now work line.reply
+abbrev pub IsSoundLine : List Line → Line → Type 0
+IsSoundLine before line = IsSoundFor line.event (standing before (session_of line.event)).posture line.reply
 
 abbrev pub RepliesAreSound : List Line → Type 0
 RepliesAreSound lines = (k : ℕ) (line : Line) → slice_get lines k ≡ Some line → IsSoundLine (take k lines) line

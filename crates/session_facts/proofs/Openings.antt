@@ -4,6 +4,7 @@ pub mod Messages
 pub mod Sends
 pub mod Marks
 pub mod Begins
+pub mod Entries
 pub mod Others
 pub mod Leading
 pub mod Gathering

@@ -9,6 +9,8 @@ use Rattle.client_session.specs.declared.op.Op.{Op}
 use Rattle.client_session.specs.declared.op.Op.TheVariants as op
 use Rattle.client_session.specs.declared.work.Work.{Work}
 use Rattle.client_session.specs.declared.work.Work.TheVariants as work
+use Rattle.cloud_facts.specs.Audits.Slip.{IsSlip}
+use Rattle.cloud_facts.specs.Calls.Standing.{StandsUnder}
 use Rattle.cloud_trait.specs.Caller.{Caller}
 use Rattle.cloud_trait.specs.Seen.{Seen}
 use Rattle.cloud_trait.specs.State.{CloudState}
@@ -35,7 +37,7 @@ use Rattle.replay_model.proofs.SettlerLemmas.{settler_row}
 use Rattle.replay_model.proofs.Steps.{CallLeaves, CallLeavesUpto, wish_holds}
 use Rattle.reply_text.specs.declared.reply.Reply.{Reply}
 use Rattle.reply_text.specs.declared.reply.Reply.TheVariants as reply
-use Rattle.session_facts.specs.Sessions.Answering.{MaySettle, MayAnswer, HoldsLease}
+use Rattle.session_facts.specs.Sessions.Answering.{MaySettle, MayAnswer}
 use Rattle.session_facts.specs.Sessions.Sessions.{Sessions, IsRightOp}
 use Rattle.session_facts.proofs.Sessions.BeginStops.{begin_stops, begin_ends}
 use Rattle.session_facts.proofs.Sessions.Stopping.{session_stops, session_ends}
@@ -63,9 +65,9 @@ use Rattle.world_core.proofs.StandsLemmas.{IsUnderWay, changed_at, changed_was, 
 abbrev IsOk : Reply → Result Reply WorldFault → Type 0
 IsOk r result = (let own : Result Reply WorldFault = Ok r in own ≡ result)
 
-module _ (posture : Posture) (now : ℕ) (work : Work) where
+module _ (posture : Posture) where
   abbrev Sound : Reply → Type 0
-  Sound r = IsSoundReply posture now work r
+  Sound r = IsSoundReply posture r
 
   refused_sound : (r : Reply) (why : Refused) → IsOk r (declined why) → Sound r
   refused_sound r (refused.Rule rule) e = let is : r ≡ reply.Refused rule = cc in subst Sound (sym is) tt
@@ -80,7 +82,7 @@ module _ (posture : Posture) (now : ℕ) (work : Work) where
 
   -- the reply to an answer is sound where its trouble, or the end of a commit, is right
   answer_sound : (a : Answer) (left : Acting) (r : Reply) → RepliesTo a left (Ok r) → ((t : Trouble) → a ≡ answer.Trouble t → (t ≡ trouble.Memory → ⊥) → MayTrouble posture t)
-      → ((c : CommitAnswer) → a ≡ answer.Commit c → MayEnd (HoldsLease now work) c) → Sound r
+      → ((c : CommitAnswer) → a ≡ answer.Commit c → MayEnd c) → Sound r
   answer_sound (answer.Opened epoch) left r e stops ends = let is : r ≡ reply.Opened epoch = cc in subst Sound (sym is) tt
   answer_sound answer.Closed left r e stops ends = let is : r ≡ reply.Closed = cc in subst Sound (sym is) tt
   answer_sound (answer.Renewed end) left r e stops ends = let is : r ≡ reply.Renewed end = cc in subst Sound (sym is) tt
@@ -92,10 +94,6 @@ module _ (posture : Posture) (now : ℕ) (work : Work) where
   answer_sound (answer.Trouble t) left r e stops ends = let is = replies_to (answer.Trouble t) left r e in subst Sound (sym is.0.0) (stops t refl is.0.1)
 
 -- ---- one session
-
--- a session that a line changes is the new one
-now_there : (number : ℕ) (Is : Acting → Acting → Type 0) (old new : List Acting) → (c : Changes number Is old new) → session_at new number ≡ c.after
-now_there number Is old new c = changed_at number Is old new c number ∙ at_same number c.after (session_at old) number refl
 
 -- the trouble of a step is right by how the lines say that its session stands
 step_stops : (lines : List Line) (who : Caller) (wish : Wish) (before after : Seen) (old new : World) (t : Trouble) → who.event ≡ length lines + 1 → IsUnderWay lines old before
@@ -117,13 +115,10 @@ step_stops lines who wish before after old new t number way p =
     own = steps_own lines who wish before after old new (Ended (answer.Trouble t)) number way p
 
 -- and so is the end of a commit
-step_commits : (lines : List Line) (who : Caller) (wish : Wish) (before after : Seen) (old new : World) (c : CommitAnswer) (u : CloudState) → who.event ≡ length lines + 1
-    → IsUnderWay lines old before → StepsLooked who wish before after old new (Ended (answer.Commit c)) → after.state ≡ Some u
-    → MayEnd (HoldsLease u.now (session_at new.sessions who.session).work) c
-step_commits lines who wish before after old new c u number way p told =
-    subst (λ (w : Acting). MayEnd (HoldsLease u.now w.work) c) (sym (now_there who.session _ old.sessions new.sessions p.session))
-    (subst (λ (x : CloudState). MayEnd (HoldsLease x.now p.session.after.work) c) same
-    (session_ends who p.under p.to (record way.after { wish = wish }) left.state held.book held.order (session_at old.sessions) under left.told held.stand p.session.after c own))
+step_commits : (lines : List Line) (who : Caller) (wish : Wish) (before after : Seen) (old new : World) (c : CommitAnswer) → who.event ≡ length lines + 1
+    → IsUnderWay lines old before → StepsLooked who wish before after old new (Ended (answer.Commit c)) → MayEnd c
+step_commits lines who wish before after old new c number way p =
+    session_ends who p.under p.to (record way.after { wish = wish }) left.state held.book held.order (session_at old.sessions) under left.told held.stand p.session.after c own
   where
     held : CloudHolds (length lines + 1) lines (session_at old.sessions) old.audit old.blind (record way.after { wish = wish })
     held = wish_holds (length lines + 1) lines (session_at old.sessions) old.audit old.blind way.after wish way.goes.holds
@@ -137,27 +132,21 @@ step_commits lines who wish before after old new c u number way p told =
     own : StepsSession who p.under p.to (session_at old.sessions who.session) p.session.after (Ok (Ended (answer.Commit c)))
     own = steps_own lines who wish before after old new (Ended (answer.Commit c)) number way p
 
-    same : left.state ≡ u
-    same = state_is left.state u (sym (p.look_after.stays left.state left.told) ∙ told)
-      where
-        state_is : (x y : CloudState) → Some x ≡ Some y → x ≡ y
-        state_is x y e = cc
-
 -- the answer of a step
-step_sound : (lines : List Line) (who : Caller) (wish : Wish) (before after : Seen) (old new : World) (a : Answer) (r : Reply) (u : CloudState) → who.event ≡ length lines + 1
-    → IsUnderWay lines old before → (p : StepsLooked who wish before after old new (Ended a)) → RepliesTo a p.session.after (Ok r) → after.state ≡ Some u
-    → IsSoundReply (standing lines who.session).posture u.now (session_at new.sessions who.session).work r
-step_sound lines who wish before after old new a r u number way p replies told =
-    answer_sound (standing lines who.session).posture u.now (session_at new.sessions who.session).work a p.session.after r replies
+step_sound : (lines : List Line) (who : Caller) (wish : Wish) (before after : Seen) (old new : World) (a : Answer) (r : Reply) → who.event ≡ length lines + 1
+    → IsUnderWay lines old before → (p : StepsLooked who wish before after old new (Ended a)) → RepliesTo a p.session.after (Ok r)
+    → IsSoundReply (standing lines who.session).posture r
+step_sound lines who wish before after old new a r number way p replies =
+    answer_sound (standing lines who.session).posture a p.session.after r replies
     (λ t is other. step_stops lines who wish before after old new t number way (subst (λ b. StepsLooked who wish before after old new (Ended b)) is p))
-    (λ c is. step_commits lines who wish before after old new c u number way (subst (λ b. StepsLooked who wish before after old new (Ended b)) is p) told)
+    (λ c is. step_commits lines who wish before after old new c number way (subst (λ b. StepsLooked who wish before after old new (Ended b)) is p))
 
 -- ---- what a line asks of a session
 
-module _ (lines : List Line) (n k : ℕ) (before after : Seen) (old new : World) (r : Reply) (t u : CloudState) (number : length lines + 1 ≡ n) (told : before.state ≡ Some t)
-    (stands : WorldStands lines old t) (told_after : after.state ≡ Some u) where
+module _ (lines : List Line) (n k : ℕ) (before after : Seen) (old new : World) (r : Reply) (t : CloudState) (number : length lines + 1 ≡ n) (told : before.state ≡ Some t)
+    (stands : WorldStands lines old t) where
   abbrev Sounds : Reply → Type 0
-  Sounds q = IsSoundReply (standing lines k).posture u.now (session_at new.sessions k).work q
+  Sounds q = IsSoundReply (standing lines k).posture q
 
   abbrev who : Caller
   who = record { session = k; event = n }
@@ -166,14 +155,14 @@ module _ (lines : List Line) (n k : ℕ) (before after : Seen) (old new : World)
   way = way_begins lines before old t told stands
 
   not_done : (why : Refused) → Declines why before after old new (Ok r) → Sounds r
-  not_done why h = declines_sound (standing lines k).posture u.now (session_at new.sessions k).work r why before after old new h
+  not_done why h = declines_sound (standing lines k).posture r why before after old new h
 
   plainly : (q : Reply) → IsOk r (Ok q) → Sounds q → Sounds r
   plainly q e sound = let is : r ≡ q = cc in subst Sounds (sym is) sound
 
   done_sound : (q : Reply) → Sounds q → (done : Result (Unit {0}) Refused) → IsOk r (done_reply q done) → Sounds r
   done_sound q sound (Ok x) e = plainly q e sound
-  done_sound q sound (Err why) e = refused_sound (standing lines k).posture u.now (session_at new.sessions k).work r why e
+  done_sound q sound (Err why) e = refused_sound (standing lines k).posture r why e
 
   -- a begin makes no call
   begin_sound : (o : Op) → IsRightOp o → MakesNoCall before after old new → Changes k (BeginsOp o (Ok r)) old.sessions new.sessions → Sounds r
@@ -185,26 +174,18 @@ module _ (lines : List Line) (n k : ℕ) (before after : Seen) (old new : World)
       begins : Begins o (f k) c.after c.does.begun
       begins = subst (λ a. Begins o a c.after c.does.begun) (sym (changed_was k _ old.sessions new.sessions c)) c.does.begins
 
-      same : t ≡ u
-      same = state_is t u (sym told ∙ (sym (ap (λ (z : Seen). z.state) quiet.seen) ∙ told_after))
-        where
-          state_is : (x y : CloudState) → Some x ≡ Some y → x ≡ y
-          state_is x y e = cc
-
       stops : (a : Answer) → Begins o (f k) c.after (Ok (Answered a)) → (q : Trouble) → a ≡ answer.Trouble q → (q ≡ trouble.Memory → ⊥) → MayTrouble (standing lines k).posture q
       stops a does q is other =
           absurd (other (begin_stops stands.holds.book stands.holds.order t f k c.after stands.holds.stand o q right (subst (λ b. Begins o (f k) c.after (Ok (Answered b))) is does)))
 
-      ends : (a : Answer) → Begins o (f k) c.after (Ok (Answered a)) → (q : CommitAnswer) → a ≡ answer.Commit q → MayEnd (HoldsLease u.now (session_at new.sessions k).work) q
+      ends : (a : Answer) → Begins o (f k) c.after (Ok (Answered a)) → (q : CommitAnswer) → a ≡ answer.Commit q → MayEnd q
       ends a does q is =
-          subst (λ (w : Acting). MayEnd (HoldsLease u.now w.work) q) (sym (now_there k _ old.sessions new.sessions c))
-          (subst (λ (x : CloudState). MayEnd (HoldsLease x.now c.after.work) q) same
-          (begin_ends stands.holds.book stands.holds.order t f k c.after stands.holds.stand o q (subst (λ b. Begins o (f k) c.after (Ok (Answered b))) is does)))
+          begin_ends stands.holds.book stands.holds.order t f k c.after stands.holds.stand o q (subst (λ b. Begins o (f k) c.after (Ok (Answered b))) is does)
 
       on : (begun : Result Begun Refused) → Begins o (f k) c.after begun → RepliesBegun begun c.after (Ok r) → Sounds r
       on (Ok Working) does e = plainly reply.Begun e tt
-      on (Ok (Answered a)) does e = answer_sound (standing lines k).posture u.now (session_at new.sessions k).work a c.after r e (stops a does) (ends a does)
-      on (Err why) does e = refused_sound (standing lines k).posture u.now (session_at new.sessions k).work r why e
+      on (Ok (Answered a)) does e = answer_sound (standing lines k).posture a c.after r e (stops a does) (ends a does)
+      on (Err why) does e = refused_sound (standing lines k).posture r why e
 
   makes_sound : (wish : Wish) → MakesStep n k wish before after old new (Ok r) → Sounds r
   makes_sound wish (inl refuses) = not_done _ refuses.declines
@@ -212,15 +193,15 @@ module _ (lines : List Line) (n k : ℕ) (before after : Seen) (old new : World)
     where
       on : (turn : Turn Answer) (p : StepsLooked who wish before after old new turn) → RepliesTurn turn p.session.after (Ok r) → Sounds r
       on More p e = plainly reply.Called e tt
-      on (Ended a) p e = step_sound lines who wish before after old new a r u (sym number) way p e told_after
+      on (Ended a) p e = step_sound lines who wish before after old new a r (sym number) way p e
       on (Stopped q) p e = absurd (no_stop _ p.under p.to p.session.before p.session.after q p.session.does)
   makes_sound wish (inr (inr memory)) = absurd (no_memory r memory)
 
   runs_sound : Runs n k before after old new (Ok r) → Sounds r
   runs_sound (inl refuses) = not_done _ refuses.declines
   runs_sound (inr (inl run)) =
-      step_sound lines who Plain run.comes.mid after run.comes.world new run.answer r u (sym number)
-      (went_on lines who before old run.comes.mid run.comes.world (sym number) way run.comes.went) run.comes.steps run.replies told_after
+      step_sound lines who Plain run.comes.mid after run.comes.world new run.answer r (sym number)
+      (went_on lines who before old run.comes.mid run.comes.world (sym number) way run.comes.went) run.comes.steps run.replies
   runs_sound (inr (inr memory)) = absurd (no_memory r memory)
 
   crash_sound : (done : Bool) → Crashes n k done before after old new (Ok r) → Sounds r
@@ -288,10 +269,10 @@ settler_stops n lines first row before after old new t way p =
     own : StepsSession (settler n) p.under p.to (session_at old.sessions 0) p.session.after (Ok (Ended (answer.Trouble t)))
     own = settler_own n lines first row before after old new (Ended (answer.Trouble t)) way p
 
-module _ (lines : List Line) (n : ℕ) (before after : Seen) (old new : World) (r : Reply) (t u : CloudState) (number : length lines + 1 ≡ n) (told : before.state ≡ Some t)
+module _ (lines : List Line) (n : ℕ) (before after : Seen) (old new : World) (r : Reply) (t : CloudState) (number : length lines + 1 ≡ n) (told : before.state ≡ Some t)
     (stands : WorldStands lines old t) where
   abbrev Settled : Reply → Type 0
-  Settled q = IsSoundReply (standing lines 0).posture u.now (session_at new.sessions 0).work q
+  Settled q = IsSoundReply (standing lines 0).posture q
 
   unsettled : (q : Trouble) → IsOk r (unsettled_reply q) → MaySettle q → Settled r
   unsettled trouble.Memory e may = absurd (cc)
@@ -324,73 +305,78 @@ module _ (lines : List Line) (n : ℕ) (before after : Seen) (old new : World) (
 -- ---- a report
 
 report_sound : (lines : List Line) (tree : ℕ) (r : Reply) (before after : Seen) (old new : World) (t : CloudState) → before.state ≡ Some t → WorldStands lines old t
-    → Reports tree before after old new (Ok r) → old.blind ≡ false → IsSoundReport r
-report_sound lines tree (reply.Trouble q) before after old new t told stands h sees =
-    let cloud = stands.holds.stand.cloud in
-    only_slips t (store_of stands.holds.book stands.holds.order t) tree refl cloud.holds.chains h.reply.0 cloud.decodes q (h.reply.1.stands sees t told)
-report_sound lines tree r before after old new t told stands h sees = tt
+    → Reports tree before after old new (Ok r) → IsSoundReport r
+report_sound lines tree (reply.Trouble q) before after old new t told stands h = on old.blind refl
+  where
+    cloud : StandsUnder stands.holds.book stands.holds.order t
+    cloud = stands.holds.stand.cloud
+
+    on : (b : Bool) → old.blind ≡ b → IsSlip q
+    on true blind = inl (h.reply.1.blinded blind)
+    on false sees = only_slips t (store_of stands.holds.book stands.holds.order t) tree refl cloud.holds.chains h.reply.0 cloud.decodes q (h.reply.1.stands sees t told)
+report_sound lines tree r before after old new t told stands h = tt
 
 -- ---- every line
 
-asked_sound : (n : ℕ) (event : Event) (asked : Asked) (before after : Seen) (old new : World) (r : Reply) (lines : List Line) (t u : CloudState)
-    → Asks event asked → Answers n asked before after old new (Ok r) → length lines + 1 ≡ n → before.state ≡ Some t → WorldStands lines old t → after.state ≡ Some u
-    → IsSoundFor event old.blind (standing lines (session_of event)).posture u.now (session_at new.sessions (session_of event)).work r
-asked_sound n (event.Open k client) asked before after old new r lines t u asks answers at told stands later =
-    request_sound lines n k before after old new r t u at told stands later (IsOpening client) asked asks answers
-    (λ request is. same_right lines n k before after old new r t u at told stands later request (Begin (op.Open client)) (ap (λ q. Ok q) is.1) is.0)
-asked_sound n (event.Insert k tree key payload) asked before after old new r lines t u asks answers at told stands later =
-    request_sound lines n k before after old new r t u at told stands later (IsNoted tree (IsInsert key payload)) asked asks answers
-    (noted_right lines n k before after old new r t u at told stands later tree (IsInsert key payload))
-asked_sound n (event.Update k tree key payload) asked before after old new r lines t u asks answers at told stands later =
-    request_sound lines n k before after old new r t u at told stands later (IsNoted tree (IsUpdate key payload)) asked asks answers
-    (noted_right lines n k before after old new r t u at told stands later tree (IsUpdate key payload))
-asked_sound n (event.Delete k tree key) asked before after old new r lines t u asks answers at told stands later =
-    request_sound lines n k before after old new r t u at told stands later (IsNoted tree (IsDelete key)) asked asks answers
-    (noted_right lines n k before after old new r t u at told stands later tree (IsDelete key))
-asked_sound n (event.Read k tree key) asked before after old new r lines t u asks answers at told stands later =
-    request_sound lines n k before after old new r t u at told stands later (IsReading tree key) asked asks answers
-    (λ request is. same_right lines n k before after old new r t u at told stands later request (Begin (op.Read tree key)) (ap (λ q. Ok q) is.2) is.0)
-asked_sound n (event.Scan k tree from to) asked before after old new r lines t u asks answers at told stands later =
-    request_sound lines n k before after old new r t u at told stands later (IsScanning tree from to) asked asks answers
-    (λ request is. same_right lines n k before after old new r t u at told stands later request (Begin (op.Scan tree (bound_of from) (bound_of to))) (ap (λ q. Ok q) is.3) is.0)
-asked_sound n (event.Page k tree page) asked before after old new r lines t u asks answers at told stands later =
-    request_sound lines n k before after old new r t u at told stands later (IsPaging tree page) asked asks answers
-    (λ request is. same_right lines n k before after old new r t u at told stands later request (Begin (op.Page tree page)) (ap (λ q. Ok q) is.2) (is.0, is.1))
-asked_sound n (event.Tree k tree) asked before after old new r lines t u asks answers at told stands later =
-    request_sound lines n k before after old new r t u at told stands later (IsFolding tree) asked asks answers
-    (λ request is. same_right lines n k before after old new r t u at told stands later request (Begin (op.Tree tree)) (ap (λ q. Ok q) is.1) is.0)
-asked_sound n (event.Close k) asked before after old new r lines t u asks answers at told stands later =
-    request_sound lines n k before after old new r t u at told stands later (λ request. request ≡ Ok (Begin op.Close)) asked asks answers
-    (λ request is. same_right lines n k before after old new r t u at told stands later request (Begin op.Close) is tt)
-asked_sound n (event.Renew k) asked before after old new r lines t u asks answers at told stands later =
-    request_sound lines n k before after old new r t u at told stands later (λ request. request ≡ Ok (Begin op.Renew)) asked asks answers
-    (λ request is. same_right lines n k before after old new r t u at told stands later request (Begin op.Renew) is tt)
-asked_sound n (event.Commit k) asked before after old new r lines t u asks answers at told stands later =
-    request_sound lines n k before after old new r t u at told stands later (λ request. request ≡ Ok (Begin op.Commit)) asked asks answers
-    (λ request is. same_right lines n k before after old new r t u at told stands later request (Begin op.Commit) is tt)
-asked_sound n (event.Abort k) asked before after old new r lines t u asks answers at told stands later =
-    request_sound lines n k before after old new r t u at told stands later (λ request. request ≡ Ok Abort) asked asks answers
-    (λ request is. same_right lines n k before after old new r t u at told stands later request Abort is tt)
-asked_sound n (event.Step k wish) asked before after old new r lines t u asks answers at told stands later =
-    request_sound lines n k before after old new r t u at told stands later (IsStep wish) asked asks answers
-    (λ request is. same_right lines n k before after old new r t u at told stands later request (Step wish) (ap (λ q. Ok q) is) tt)
-asked_sound n (event.Run k) asked before after old new r lines t u asks answers at told stands later =
-    request_sound lines n k before after old new r t u at told stands later (λ request. request ≡ Ok Run) asked asks answers
-    (λ request is. same_right lines n k before after old new r t u at told stands later request Run is tt)
-asked_sound n (event.Crash k done) asked before after old new r lines t u asks answers at told stands later =
-    request_sound lines n k before after old new r t u at told stands later (λ request. request ≡ Ok (Crash done)) asked asks answers
-    (λ request is. same_right lines n k before after old new r t u at told stands later request (Crash done) is tt)
-asked_sound n (event.Wait ticks) asked before after old new r lines t u asks answers at told stands later = on (subst (λ z. Answers n z before after old new (Ok r)) asks answers)
+asked_sound : (n : ℕ) (event : Event) (asked : Asked) (before after : Seen) (old new : World) (r : Reply) (lines : List Line) (t : CloudState)
+    → Asks event asked → Answers n asked before after old new (Ok r) → length lines + 1 ≡ n → before.state ≡ Some t → WorldStands lines old t
+    → IsSoundFor event (standing lines (session_of event)).posture r
+asked_sound n (event.Open k client) asked before after old new r lines t asks answers at told stands =
+    request_sound lines n k before after old new r t at told stands (IsOpening client) asked asks answers
+    (λ request is. same_right lines n k before after old new r t at told stands request (Begin (op.Open client)) (ap (λ q. Ok q) is.1) is.0)
+asked_sound n (event.Insert k tree key payload) asked before after old new r lines t asks answers at told stands =
+    request_sound lines n k before after old new r t at told stands (IsNoted tree (IsInsert key payload)) asked asks answers
+    (noted_right lines n k before after old new r t at told stands tree (IsInsert key payload))
+asked_sound n (event.Update k tree key payload) asked before after old new r lines t asks answers at told stands =
+    request_sound lines n k before after old new r t at told stands (IsNoted tree (IsUpdate key payload)) asked asks answers
+    (noted_right lines n k before after old new r t at told stands tree (IsUpdate key payload))
+asked_sound n (event.Delete k tree key) asked before after old new r lines t asks answers at told stands =
+    request_sound lines n k before after old new r t at told stands (IsNoted tree (IsDelete key)) asked asks answers
+    (noted_right lines n k before after old new r t at told stands tree (IsDelete key))
+asked_sound n (event.Read k tree key) asked before after old new r lines t asks answers at told stands =
+    request_sound lines n k before after old new r t at told stands (IsReading tree key) asked asks answers
+    (λ request is. same_right lines n k before after old new r t at told stands request (Begin (op.Read tree key)) (ap (λ q. Ok q) is.2) is.0)
+asked_sound n (event.Scan k tree from to) asked before after old new r lines t asks answers at told stands =
+    request_sound lines n k before after old new r t at told stands (IsScanning tree from to) asked asks answers
+    (λ request is. same_right lines n k before after old new r t at told stands request (Begin (op.Scan tree (bound_of from) (bound_of to))) (ap (λ q. Ok q) is.3) is.0)
+asked_sound n (event.Page k tree page) asked before after old new r lines t asks answers at told stands =
+    request_sound lines n k before after old new r t at told stands (IsPaging tree page) asked asks answers
+    (λ request is. same_right lines n k before after old new r t at told stands request (Begin (op.Page tree page)) (ap (λ q. Ok q) is.2) (is.0, is.1))
+asked_sound n (event.Tree k tree) asked before after old new r lines t asks answers at told stands =
+    request_sound lines n k before after old new r t at told stands (IsFolding tree) asked asks answers
+    (λ request is. same_right lines n k before after old new r t at told stands request (Begin (op.Tree tree)) (ap (λ q. Ok q) is.1) is.0)
+asked_sound n (event.Close k) asked before after old new r lines t asks answers at told stands =
+    request_sound lines n k before after old new r t at told stands (λ request. request ≡ Ok (Begin op.Close)) asked asks answers
+    (λ request is. same_right lines n k before after old new r t at told stands request (Begin op.Close) is tt)
+asked_sound n (event.Renew k) asked before after old new r lines t asks answers at told stands =
+    request_sound lines n k before after old new r t at told stands (λ request. request ≡ Ok (Begin op.Renew)) asked asks answers
+    (λ request is. same_right lines n k before after old new r t at told stands request (Begin op.Renew) is tt)
+asked_sound n (event.Commit k) asked before after old new r lines t asks answers at told stands =
+    request_sound lines n k before after old new r t at told stands (λ request. request ≡ Ok (Begin op.Commit)) asked asks answers
+    (λ request is. same_right lines n k before after old new r t at told stands request (Begin op.Commit) is tt)
+asked_sound n (event.Abort k) asked before after old new r lines t asks answers at told stands =
+    request_sound lines n k before after old new r t at told stands (λ request. request ≡ Ok Abort) asked asks answers
+    (λ request is. same_right lines n k before after old new r t at told stands request Abort is tt)
+asked_sound n (event.Step k wish) asked before after old new r lines t asks answers at told stands =
+    request_sound lines n k before after old new r t at told stands (IsStep wish) asked asks answers
+    (λ request is. same_right lines n k before after old new r t at told stands request (Step wish) (ap (λ q. Ok q) is) tt)
+asked_sound n (event.Run k) asked before after old new r lines t asks answers at told stands =
+    request_sound lines n k before after old new r t at told stands (λ request. request ≡ Ok Run) asked asks answers
+    (λ request is. same_right lines n k before after old new r t at told stands request Run is tt)
+asked_sound n (event.Crash k done) asked before after old new r lines t asks answers at told stands =
+    request_sound lines n k before after old new r t at told stands (λ request. request ≡ Ok (Crash done)) asked asks answers
+    (λ request is. same_right lines n k before after old new r t at told stands request (Crash done) is tt)
+asked_sound n (event.Wait ticks) asked before after old new r lines t asks answers at told stands = on (subst (λ z. Answers n z before after old new (Ok r)) asks answers)
   where
-    on : Answers n (Wait ticks) before after old new (Ok r) → IsSoundReply (standing lines 0).posture u.now (session_at new.sessions 0).work r
-    on (inl h) = plainly lines n 0 before after old new r t u at told stands later reply.Waited h.0.replies tt
-    on (inr long) = not_done lines n 0 before after old new r t u at told stands later _ long.declines
-asked_sound n (event.Report tree) asked before after old new r lines t u asks answers at told stands later =
+    on : Answers n (Wait ticks) before after old new (Ok r) → IsSoundReply (standing lines 0).posture r
+    on (inl h) = plainly lines n 0 before after old new r t at told stands reply.Waited h.0.replies tt
+    on (inr long) = not_done lines n 0 before after old new r t at told stands _ long.declines
+asked_sound n (event.Report tree) asked before after old new r lines t asks answers at told stands =
     report_sound lines tree r before after old new t told stands (subst (λ z. Answers n z before after old new (Ok r)) asks answers)
-asked_sound n event.Settle asked before after old new r lines t u asks answers at told stands later =
-    settle_sound lines n before after old new r t u at told stands (subst (λ z. Answers n z before after old new (Ok r)) asks answers)
+asked_sound n event.Settle asked before after old new r lines t asks answers at told stands =
+    settle_sound lines n before after old new r t at told stands (subst (λ z. Answers n z before after old new (Ok r)) asks answers)
 
 pub sound_after : (n : ℕ) (event : Event) (before after : Seen) (old new : World) (result : Result Reply WorldFault)
     → Handled n event before after old new result → AnswersSoundly n event before after old new result
-sound_after n event before after old new (Ok r) h = λ lines t u at told stands later. asked_sound n event h.asked before after old new r lines t u h.asks h.answers at told stands later
+sound_after n event before after old new (Ok r) h = λ lines t at told stands. asked_sound n event h.asked before after old new r lines t h.asks h.answers at told stands
 sound_after n event before after old new (Err fault) h = tt

@@ -240,10 +240,11 @@ pub record Shows (tree : ℕ) (s : Option CloudState) (audit : Audited) (r : Rep
   pub messages : (x : CloudState) → s ≡ Some x → AreWaiting x tree r.messages
 
 -- why a tree has no report: a trouble stopped it, which is a failure only where a look failed in it or an earlier one blinded the audit, and
--- which else stands in the cloud where it is told
+-- which else stands in the cloud where it is told; a blinded one failed
 pub record StopsBy (tree : ℕ) (before after : Seen) (blind : Bool) (t : Trouble) : Type 0 where
   pub failed : t ≡ trouble.Failed → (blind ≡ true) ⊎ Rose before.counts.dark after.counts.dark
   pub stands : blind ≡ false → (x : CloudState) → before.state ≡ Some x → StopsReport x tree t
+  pub blinded : blind ≡ true → t ≡ trouble.Failed
 
 -- the reply to the report of a tree; a number that is no tree's is refused
 abbrev pub ReportReply : ℕ → Seen → Seen → World → Result Reply WorldFault → Type 0

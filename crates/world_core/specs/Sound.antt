@@ -1,6 +1,5 @@
 -- No line is answered with a trouble that only damage could cause.
-use Rattle.std.specs.Prelude.{ℕ, ◌≡◌, ◌+◌, Bool, false, List, length, Some, Result, Ok, Err}
-use Rattle.client_session.specs.declared.work.Work.{Work}
+use Rattle.std.specs.Prelude.{ℕ, ◌≡◌, ◌+◌, List, length, Some, Result, Ok, Err}
 use Rattle.cloud_facts.specs.Audits.Slip.{IsSlip}
 use Rattle.cloud_trait.specs.Seen.{Seen}
 use Rattle.cloud_trait.specs.State.{CloudState}
@@ -8,7 +7,6 @@ use Rattle.event_text.specs.declared.event.Event.{Event}
 use Rattle.event_text.specs.declared.event.Event.TheVariants as event
 use Rattle.replay_meaning.specs.Standing.{Line, Posture, session_of, standing}
 use Rattle.replay_model.specs.Answers.{IsSoundReply}
-use Rattle.replay_model.specs.Facts.{session_at}
 use Rattle.reply_text.specs.declared.reply.Reply.{Reply}
 use Rattle.reply_text.specs.declared.reply.Reply.TheVariants as reply
 use Rattle.world_core.specs.declared.world.World.{World}
@@ -20,14 +18,14 @@ abbrev pub IsSoundReport : Reply → Type 0
 IsSoundReport (reply.Trouble t) = IsSlip t
 IsSoundReport reply = Unit {0}
 
--- the reply to a line whose session stood so, and has this in hand behind it; a report is no session's, and is so where no look failed before
-abbrev pub IsSoundFor : Event → Bool → Posture → ℕ → Work → Reply → Type 0
-IsSoundFor (event.Report tree) blind posture now work reply = blind ≡ false → IsSoundReport reply
-IsSoundFor event blind posture now work reply = IsSoundReply posture now work reply
+-- the reply to a line whose session stood so; a report is no session's
+abbrev pub IsSoundFor : Event → Posture → Reply → Type 0
+IsSoundFor (event.Report tree) posture reply = IsSoundReport reply
+IsSoundFor event posture reply = IsSoundReply posture reply
 
 -- whatever lines a world and a cloud stood for before a line, its reply is sound by how they say that its session stood
 abbrev pub AnswersSoundly : ℕ → Event → Seen → Seen → World → World → Result Reply WorldFault → Type 0
 AnswersSoundly n event before after old new (Ok reply) =
-    (lines : List Line) (t u : CloudState) → length lines + 1 ≡ n → before.state ≡ Some t → WorldStands lines old t → after.state ≡ Some u
-    → IsSoundFor event old.blind (standing lines (session_of event)).posture u.now (session_at new.sessions (session_of event)).work reply
+    (lines : List Line) (t : CloudState) → length lines + 1 ≡ n → before.state ≡ Some t → WorldStands lines old t
+    → IsSoundFor event (standing lines (session_of event)).posture reply
 AnswersSoundly n event before after old new (Err fault) = Unit {0}

@@ -2,7 +2,7 @@
 use Rattle.std.proofs.Common.{◌≡◌, ◌≤◌, ℕ, Bool, true, false, cond, List, length, Option, Some, None, refl, subst}
 use Rattle.std.specs.Prelude.{nat_lt, slice_get}
 use Rattle.std.specs.Option.{option_map}
-use Rattle.cloud_trait.specs.Claim.{Claim, Lasts}
+use Rattle.cloud_trait.specs.Claim.{Claim}
 use Rattle.cloud_facts.specs.Calls.Standing.{StandsUnder}
 use Rattle.cloud_trait.specs.State.{CloudState}
 use Rattle.session_facts.specs.Commits.Committing.{MayCommit}
@@ -11,7 +11,6 @@ use Rattle.commit_run.specs.Draft.{Draft, new_draft}
 use Rattle.commit_run.specs.Run.{new_run, refused, long_walk, pending_target, begin_walks, run_ready}
 use Rattle.session_facts.specs.CommitRuns.Running.{KnowsDraft, KnowsRunNext}
 use Rattle.session_facts.proofs.CommitRuns.Plans.{empty_known}
-use Rattle.session_facts.proofs.CommitRuns.Prunes.{taken_entries, entry_tree}
 use Rattle.session_facts.proofs.CommitRuns.Refusals.{RefusesAtMost, ready_refuses}
 use Rattle.session_facts.proofs.CommitRuns.RunLeases.{RunLeaseStays, ready_lease}
 use Rattle.session_facts.proofs.CommitRuns.Steps.{Step, LedTo, walk_first, walk_to_led, plan_on_led}
@@ -54,18 +53,18 @@ module _ (May : Trouble → Type 0) (st : Store) (now : ℕ) (h : Holds st) (par
     plan = λ lasts. empty_known st.book changes;
   }
 
-  long_led : (b : Bool) → ((e : Pending) → slice_get home.head.pending 0 ≡ Some e → Lasts now home.lease → IsTree e.tree)
+  long_led : (b : Bool) → ((e : Pending) → slice_get home.head.pending 0 ≡ Some e → IsTree e.tree)
       → Led (long_walk numbered c (cond b (option_map pending_target (slice_get home.head.pending 0)) None))
   long_led false tree = plan_on_led May st now h parts session homes begins numbered c known cache
   long_led true tree = on (slice_get home.head.pending 0) refl
     where
       on : (o : Option Pending) → slice_get home.head.pending 0 ≡ o → Led (long_walk numbered c (option_map pending_target o))
-      on (Some e) is = walk_to_led May st now h parts session homes begins true numbered c (pending_target e) known cache (λ lasts. tree e is lasts)
+      on (Some e) is = walk_to_led May st now h parts session homes begins true numbered c (pending_target e) known cache (tree e is)
       on None is = plan_on_led May st now h parts session homes begins numbered c known cache
 
-  -- the first pending entry is of a tree while the lease lasts
-  first_tree : (e : Pending) → slice_get home.head.pending 0 ≡ Some e → Lasts now home.lease → IsTree e.tree
-  first_tree e is lasts = entry_tree st home.client e h (taken_entries st now numbered.writes.home (parts session) h known.taken lasts e (0, is))
+  -- the first pending entry is of a tree
+  first_tree : (e : Pending) → slice_get home.head.pending 0 ≡ Some e → IsTree e.tree
+  first_tree e is = k.trees e (0, is)
 
   pub ready_led : Led (run_ready (new_run home changes, c))
   ready_led = on (is_spent home)

@@ -26,7 +26,10 @@ module _ (st su : Store) (now later : ℕ) (part : Part) (after : now ≤ later)
     taken = record {
       before = k.taken.before;
       taken = k.taken.taken;
-      home = home_others st su now later d.writes.home.client d.writes.home.lease d.writes.home.head k.taken.before part (d.writes.home.lease ∷ []) after (0, refl) o k.taken.home;
+      home = record {
+        at = home_others st su now later d.writes.home.client d.writes.home.lease d.writes.home.head k.taken.before part (d.writes.home.lease ∷ []) after (0, refl) o k.taken.home.at;
+        trees = k.taken.home.trees;
+      };
     };
     may = k.may;
     some = k.some;
@@ -35,7 +38,7 @@ module _ (st su : Store) (now later : ℕ) (part : Part) (after : now ≤ later)
   }
 
   seeking_others : (d : Draft) (w : Walk) → Others (d.writes.home.lease ∷ []) later st su → KnowsSeeking st now d w part → KnowsSeeking su later d w part
-  seeking_others d w o k = record { draft = draft_others d o k.draft; walk = λ lasts. walk_grows st su o.passes.grows w (k.walk (omega (arith, lasts, after))) }
+  seeking_others d w o k = record { draft = draft_others d o k.draft; walk = walk_grows st su o.passes.grows w k.walk }
 
   pub run_others : (m : Run × Cache) → Others ((home_of m.0).lease ∷ []) later st su → NoneJoins part st su → KnowsRun st now m part → KnowsRun su later m part
   run_others m o joins k = record { hand = on m.0.hand k.hand; cache = cache_grows st su o.passes.grows m.1 k.cache }
@@ -47,13 +50,13 @@ module _ (st su : Store) (now later : ℕ) (part : Part) (after : now ≤ later)
 
 -- the lease of its part is in hand
 draft_lease : (st : Store) (now : ℕ) (d : Draft) (part : Part) → KnowsDraft st now d part → HasLeaseOf (d.writes.home.lease ∷ []) part
-draft_lease st now d part k = subst (HasLeaseOf (d.writes.home.lease ∷ [])) (sym k.taken.home.part_is) (in_hand, locked)
+draft_lease st now d part k = subst (HasLeaseOf (d.writes.home.lease ∷ [])) (sym k.taken.home.at.part_is) (in_hand, locked)
   where
-    in_hand : IsIn (d.writes.home.lease ∷ []) k.taken.home.home.lease
-    in_hand = subst (λ (l : Claim). IsIn (d.writes.home.lease ∷ []) l) (sym k.taken.home.lease_is) (0, refl)
+    in_hand : IsIn (d.writes.home.lease ∷ []) k.taken.home.at.home.lease
+    in_hand = subst (λ (l : Claim). IsIn (d.writes.home.lease ∷ []) l) (sym k.taken.home.at.lease_is) (0, refl)
 
-    locked : k.taken.home.home.lease.lock ≡ lock.Client k.taken.home.home.client
-    locked = ap (λ (l : Claim). l.lock) k.taken.home.lease_is ∙ (k.taken.home.lock_is ∙ ap (λ c. lock.Client c) (sym k.taken.home.client_is))
+    locked : k.taken.home.at.home.lease.lock ≡ lock.Client k.taken.home.at.home.client
+    locked = ap (λ (l : Claim). l.lock) k.taken.home.at.lease_is ∙ (k.taken.home.at.lock_is ∙ ap (λ c. lock.Client c) (sym k.taken.home.at.client_is))
 
 pub run_part : (st : Store) (now : ℕ) (m : Run × Cache) (part : Part) → KnowsRun st now m part → HasLeaseOf ((home_of m.0).lease ∷ []) part
 run_part st now m part k = on m.0.hand k.hand

@@ -72,7 +72,7 @@ module _ (who : Caller) (book : Book) (order : List Entry) (s t : CloudState) (p
       led =
           turned_led MayStop st t.now setting.cloud.holds parts who.session setting.homes (walk_first st setting.cloud.holds) first d (walk_next (w, c) reply) k.draft
           (turn_leaves st w c reply cache (call_answers book order s setting.cloud who (object_of w) reply t call))
-          (λ lasts. walk_goes book order s setting.cloud who w c reply t call (record { walk = k.walk lasts; cache = cache }))
+          (walk_goes book order s setting.cloud who w c reply t call (record { walk = k.walk; cache = cache }))
 
   outcome_at : (hand : Hand) → KnowsHand hand st t.now d (parts who.session) → IsSoundAt hand d.writes → IsCall who (ask_at hand d.writes) reply s t
       → OutcomeOf (ask_at hand d.writes) (noted_in hand d.writes (ask_at hand d.writes)) (KnowsRunNext (next_at hand d c reply))

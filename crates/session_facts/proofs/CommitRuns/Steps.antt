@@ -12,7 +12,6 @@ use Rattle.commit_run.specs.Run.{Run, target_of, wrote, refused, troubled, held,
 use Rattle.session_facts.specs.CommitRuns.Running.{KnowsDraft, KnowsSeeking, KnowsHand, KnowsRunNext}
 use Rattle.session_facts.proofs.CommitRuns.Plans.{advanced_known, first_known, leaf_known}
 use Rattle.session_facts.proofs.CommitRuns.Prunes.{draft_prunes}
-use Rattle.session_facts.proofs.CommitRuns.RunLeases.{pruned_lease}
 use Rattle.commit_writes.specs.Writing.{Writing, routing}
 use Rattle.db_base.specs.Ids.{IsTree}
 use Rattle.db_base.specs.declared.names.ObjName.{ObjName}
@@ -73,13 +72,6 @@ module _ (May : Trouble → Type 0) (st : Store) (now : ℕ) (h : Holds st) (par
   abbrev Known : Draft → Type 0
   Known d = KnowsDraft st now d part
 
-  abbrev Lasting : Draft → Type 0
-  Lasting d = Lasts now d.writes.home.lease
-
-  -- what a walk used changes no lease
-  before : (d : Draft) (w : Walk) (c : Cache) → Lasting (pruned_behind d w c) → Lasting d
-  before d w c lasts = subst (λ (l : Claim). Lasts now l) (pruned_lease d w c) lasts
-
   -- the part stays as it is
   stays : (step : Step) → KnowsRunNext step st now part → Led step
   stays step k = record { part = part; homes = keeps_part st.tally now parts session part refl homes; knows = k }
@@ -97,27 +89,27 @@ module _ (May : Trouble → Type 0) (st : Store) (now : ℕ) (h : Holds st) (par
   troubled_led d c t k cache = refused_led d c t k cache
 
   -- a walk is in hand
-  walking_led : (first : Bool) (d : Draft) (w : Walk) (c : Cache) → Known d → (Lasting d → KnowsWalk st w) → KnowsCache st c → Led (walking first d w c)
+  walking_led : (first : Bool) (d : Draft) (w : Walk) (c : Cache) → Known d → KnowsWalk st w → KnowsCache st c → Led (walking first d w c)
   walking_led first d w c k walk cache =
       stays (walking first d w c) (record { hand = held_known st now part d w first (record { draft = k; walk = walk }); cache = cache })
 
   -- ---- a walk begins
 
-  begun_led : (first : Bool) (d : Draft) (n : Next (Walk × Cache) ℕ) → Known d → LeavesKnown st n → (Lasting d → WalkLeads st May n)
+  begun_led : (first : Bool) (d : Draft) (n : Next (Walk × Cache) ℕ) → Known d → LeavesKnown st n → WalkLeads st May n
       → Led (by_turn (begun_turn first d) n)
   begun_led first d (Goes m) k cache leads =
-      walking_led first (pruned_behind d m.0 m.1) m.0 m.1 (draft_prunes st now h part d k m.0 m.1 (λ lasts. (leads lasts).walk) cache)
-      (λ lasts. (leads (before d m.0 m.1 lasts)).walk) cache
+      walking_led first (pruned_behind d m.0 m.1) m.0 m.1 (draft_prunes st now h part d k m.0 m.1 leads.walk cache)
+      leads.walk cache
   begun_led first d (Ends m page) k cache leads =
-      walking_led first (pruned_behind d m.0 m.1) m.0 m.1 (draft_prunes st now h part d k m.0 m.1 (λ lasts. (leads lasts).0.walk) cache)
-      (λ lasts. (leads (before d m.0 m.1 lasts)).0.walk) cache
+      walking_led first (pruned_behind d m.0 m.1) m.0 m.1 (draft_prunes st now h part d k m.0 m.1 leads.0.walk cache)
+      leads.0.walk cache
   begun_led first d (Stops m t) k cache leads =
-      troubled_led (pruned_behind d m.0 m.1) m.1 t (draft_prunes st now h part d k m.0 m.1 (λ lasts. (leads lasts).0.walk) cache) cache
+      troubled_led (pruned_behind d m.0 m.1) m.1 t (draft_prunes st now h part d k m.0 m.1 leads.0.walk cache) cache
 
-  pub walk_to_led : (first : Bool) (d : Draft) (c : Cache) (to : ℕ × List ℕ) → Known d → KnowsCache st c → (Lasting d → IsTree to.0) → Led (walk_to first d c to)
+  pub walk_to_led : (first : Bool) (d : Draft) (c : Cache) (to : ℕ × List ℕ) → Known d → KnowsCache st c → IsTree to.0 → Led (walk_to first d c to)
   walk_to_led first d c to k cache tree =
       begun_led first d (walk_ready (new_walk to.0 (Some to.1) first, c)) k (ready_leaves st (new_walk to.0 (Some to.1) first) c cache)
-      (λ lasts. begins to.0 to.1 first c (tree lasts) cache)
+      (begins to.0 to.1 first c tree cache)
 
   -- ---- from one walk to the next
 
@@ -125,7 +117,7 @@ module _ (May : Trouble → Type 0) (st : Store) (now : ℕ) (h : Holds st) (par
   seek_led : (d : Draft) (c : Cache) → Known d → KnowsCache st c → (o : Option Noted) → slice_get d.writes.changes (length d.plan.pages) ≡ o
       → Led (seek d c (option_map target_of o))
   seek_led d c k cache (Some n) e =
-      walk_to_led false d c (target_of n) k cache (λ lasts. (k.may.each n (length d.plan.pages, e)).0)
+      walk_to_led false d c (target_of n) k cache (k.may.each n (length d.plan.pages, e)).0
   seek_led d c k cache None e =
       record {
         part = written.part;
@@ -174,7 +166,7 @@ module _ (May : Trouble → Type 0) (st : Store) (now : ℕ) (h : Holds st) (par
       on false = troubled_led d c t k cache
 
   -- the leaf at which a walk ended
-  noted_known : (d : Draft) (w : Walk) (c : Cache) (page : ℕ) → Known d → (Lasting d → IsAtSeenLeaf st w c page) → Known (leaf_noted d w c page)
+  noted_known : (d : Draft) (w : Walk) (c : Cache) (page : ℕ) → Known d → IsAtSeenLeaf st w c page → Known (leaf_noted d w c page)
   noted_known d w c page k at = on (leaf_at c (object_of w)) refl
     where
       same : (a b : Leaf) → Some a ≡ Some b → a ≡ b
@@ -188,20 +180,20 @@ module _ (May : Trouble → Type 0) (st : Store) (now : ℕ) (h : Holds st) (par
         some = k.some;
         none = k.none;
         plan = λ lasts.
-            let seen = at lasts in
+            let seen = at in
             let one : seen.leaf ≡ leaf = same seen.leaf leaf (sym seen.kept ∙ (ap (λ (name : ObjName). leaf_at c name) (sym seen.in_hand) ∙ e)) in
             leaf_known st.book d.writes.changes d.plan w.tree page leaf
             (subst (λ (l : Leaf). IsIn (st.book.chain w.tree 0) (record { low = l.low; page = page })) one seen.linked) (k.plan lasts);
       }
 
-  pub turned_led : (first : Bool) (d : Draft) (n : Next (Walk × Cache) ℕ) → Known d → LeavesKnown st n → (Lasting d → WalkLeads st May n)
+  pub turned_led : (first : Bool) (d : Draft) (n : Next (Walk × Cache) ℕ) → Known d → LeavesKnown st n → WalkLeads st May n
       → Led (by_turn (walk_turned first d) n)
   turned_led first d (Goes m) k cache leads =
-      walking_led first (pruned_behind d m.0 m.1) m.0 m.1 (draft_prunes st now h part d k m.0 m.1 (λ lasts. (leads lasts).walk) cache)
-      (λ lasts. (leads (before d m.0 m.1 lasts)).walk) cache
+      walking_led first (pruned_behind d m.0 m.1) m.0 m.1 (draft_prunes st now h part d k m.0 m.1 leads.walk cache)
+      leads.walk cache
   turned_led first d (Ends m page) k cache leads =
       plan_on_led (leaf_noted (pruned_behind d m.0 m.1) m.0 m.1 page) m.1
-      (noted_known (pruned_behind d m.0 m.1) m.0 m.1 page (draft_prunes st now h part d k m.0 m.1 (λ lasts. (leads lasts).0.walk) cache)
-      (λ lasts. (leads (before d m.0 m.1 lasts)).1)) cache
+      (noted_known (pruned_behind d m.0 m.1) m.0 m.1 page (draft_prunes st now h part d k m.0 m.1 leads.0.walk cache)
+      leads.1) cache
   turned_led first d (Stops m t) k cache leads =
-      walk_stopped_led first (pruned_behind d m.0 m.1) m.1 t (draft_prunes st now h part d k m.0 m.1 (λ lasts. (leads lasts).0.walk) cache) cache
+      walk_stopped_led first (pruned_behind d m.0 m.1) m.1 t (draft_prunes st now h part d k m.0 m.1 leads.0.walk cache) cache

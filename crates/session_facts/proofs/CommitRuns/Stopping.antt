@@ -19,7 +19,6 @@ use Rattle.commit_run.specs.Draft.{Draft, new_draft, pruned_by_root, pruned_by_k
 use Rattle.commit_run.specs.Run.{Run, new_run, home_of, target_of, next_target, asks, ask_at, wrote, refused, troubled, by_turn, begun_turn, walk_to, seek, plan_on, stale_at, is_stale, walk_stopped, walk_turned, walked, long_walk, pending_target, begin_walks, run_ready, next_at, run_next}
 use Rattle.session_facts.specs.CommitRuns.Running.{KnowsSeeking, KnowsHand, KnowsRun}
 use Rattle.session_facts.specs.CommitRuns.Stopping.{MayStop, MayEnd}
-use Rattle.session_facts.proofs.CommitRuns.Prunes.{taken_entries, entry_tree}
 use Rattle.session_facts.proofs.CommitRuns.Steps.{Step}
 use Rattle.commit_writes.specs.declared.stage.Stage.{Stage}
 use Rattle.commit_writes.specs.declared.stage.Stage.TheVariants.{Waiting, Logging, Opening, Sending, Settling, Deleting, Finished}
@@ -87,154 +86,153 @@ walk_fair t may stale = absurd may
 
 -- ---- what is written
 
-module _ (Sure : Type 0) where
-  abbrev WritesWell : Next Writing CommitAnswer → Type 0
-  WritesWell (Goes w) = Unit {0}
-  WritesWell (Ends w a) = MayEnd Sure a
-  WritesWell (Stops w t) = MayStop t
+abbrev WritesWell : Next Writing CommitAnswer → Type 0
+WritesWell (Goes w) = Unit {0}
+WritesWell (Ends w a) = MayEnd a
+WritesWell (Stops w t) = MayStop t
 
-  logs : (w : Writing) (o : Option AtomicRec) → WritesWell (log_or_open w o)
-  logs w (Some r) = tt
-  logs w None = tt
+logs : (w : Writing) (o : Option AtomicRec) → WritesWell (log_or_open w o)
+logs w (Some r) = tt
+logs w None = tt
 
-  logged : (w : Writing) (g : Result ℕ Trouble) → IsFair g → WritesWell (logged_by w g)
-  logged w (Ok id) may = logs (record w { ids = w.ids ++ id ∷ []; place = w.place + 1 }) (slice_get w.records (w.place + 1))
-  logged w (Err t) may = λ sure. may
+logged : (w : Writing) (g : Result ℕ Trouble) → IsFair g → WritesWell (logged_by w g)
+logged w (Ok id) may = logs (record w { ids = w.ids ++ id ∷ []; place = w.place + 1 }) (slice_get w.records (w.place + 1))
+logged w (Err t) may = may
 
-  sends : (w : Writing) (n : ℕ) → WritesWell (send_at w n)
-  sends w n = on (slice_get w.records n)
+sends : (w : Writing) (n : ℕ) → WritesWell (send_at w n)
+sends w n = on (slice_get w.records n)
+  where
+    on : (o : Option AtomicRec) → WritesWell (send_or_settle (record w { place = n }) o)
+    on (Some r) = tt
+    on None = tt
+
+not_open : (w : Writing) (t : Trouble) → WritesWell (not_opened w t)
+not_open w (trouble.Late end now) = tt
+not_open w t = tt
+
+opened : (w : Writing) (g : Result (Unit {0}) Trouble) → WritesWell (opened_by w g)
+opened w (Ok x) = sends w 0
+opened w (Err t) = not_open w t
+
+sent : (w : Writing) (g : Result ℕ Trouble) → IsFair g → WritesWell (sent_by w g)
+sent w (Ok id) may = sends w (w.place + 1)
+sent w (Err t) may = may
+
+deletes : (w : Writing) (n : ℕ) → WritesWell (delete_at w n)
+deletes w n = on (slice_get w.ids n)
+  where
+    on : (o : Option ℕ) → WritesWell (delete_or_end (record w { place = n }) o)
+    on (Some id) = tt
+    on None = tt
+
+settled : (w : Writing) (g : Result (Unit {0}) Trouble) → IsFair g → WritesWell (settled_by w g)
+settled w (Ok x) may = deletes w 0
+settled w (Err t) may = may
+
+deleted : (w : Writing) (g : Result (Unit {0}) Trouble) → WritesWell (deleted_by w g)
+deleted w (Err trouble.Memory) = tt
+deleted w done = deletes w (w.place + 1)
+
+writes : (w : Writing) (a : Answer) → WritesWell (writing_next w a)
+writes w a = on w.stage
+  where
+    on : (stage : Stage) → WritesWell (writes_at stage w a)
+    on Waiting = tt
+    on Logging = logged w (sent_of a) (sent_fair a)
+    on Opening = opened w (done_of a)
+    on Sending = sent w (sent_of a) (sent_fair a)
+    on Settling = settled w (done_of a) (done_fair a)
+    on Deleting = deleted w (done_of a)
+    on Finished = tt
+
+routes : (w : Writing) (pages : List ℕ) → WritesWell (routing w pages)
+routes w pages = on (passes (routed_of w.home w.changes pages))
+  where
+    on : (b : Bool) → WritesWell (cond b (not_committed w (trouble.Exhausted counter.Number)) (begun w (routed_of w.home w.changes pages)))
+    on true = tt
+    on false = logs (record w { records = routed_of w.home w.changes pages; place = 0 }) (slice_get (routed_of w.home w.changes pages) 0)
+
+-- ---- where a step leads
+
+abbrev pub EndsWell : Step → Type 0
+EndsWell (Goes m) = Unit {0}
+EndsWell (Ends m a) = MayEnd a
+EndsWell (Stops m t) = MayStop t
+
+wrote_well : (d : Draft) (c : Cache) (n : Next Writing CommitAnswer) → WritesWell n → EndsWell (wrote d c n)
+wrote_well d c (Goes w) may = tt
+wrote_well d c (Ends w a) may = may
+wrote_well d c (Stops w t) may = may
+
+troubled_well : (d : Draft) (c : Cache) (t : Trouble) → MayStop t → EndsWell (troubled d c t)
+troubled_well d c trouble.Memory may = tt
+troubled_well d c t may = may
+
+-- ---- walks
+
+-- a walk begins with a call
+abbrev Begins : Next (Walk × Cache) ℕ → Type 0
+Begins (Goes m) = Unit {0}
+Begins (Ends m page) = Unit {0}
+Begins (Stops m t) = ⊥
+
+begun_well : (first : Bool) (d : Draft) (n : Next (Walk × Cache) ℕ) → Begins n → EndsWell (by_turn (begun_turn first d) n)
+begun_well first d (Goes m) may = tt
+begun_well first d (Ends m page) may = tt
+begun_well first d (Stops m t) may = troubled_well (pruned_behind d m.0 m.1) m.1 t (absurd may)
+
+module _ (st : Store) (h : Holds st) where
+  begins : (tree : ℕ) (key : List ℕ) (fresh : Bool) (c : Cache) → IsTree tree → KnowsCache st c → Begins (walk_ready (new_walk tree (Some key) fresh, c))
+  begins tree key fresh c is cache = subst Begins (sym (walk_begins st h.chains tree (Some key) fresh c is cache).1) tt
+
+  walk_to_well : (first : Bool) (d : Draft) (c : Cache) (to : ℕ × List ℕ) → KnowsCache st c → IsTree to.0 → EndsWell (walk_to first d c to)
+  walk_to_well first d c to cache tree = begun_well first d (walk_ready (new_walk to.0 (Some to.1) first, c)) (begins to.0 to.1 first c tree cache)
+
+  plan_on_well : (d : Draft) (c : Cache) → MayCommit d.writes.changes → KnowsCache st c → EndsWell (plan_on d c)
+  plan_on_well d c may cache = on (slice_get d.writes.changes (length (planned d).plan.pages)) refl
     where
-      on : (o : Option AtomicRec) → WritesWell (send_or_settle (record w { place = n }) o)
-      on (Some r) = tt
-      on None = tt
+      on : (o : Option Noted) → slice_get d.writes.changes (length (planned d).plan.pages) ≡ o → EndsWell (seek (planned d) c (option_map target_of o))
+      on (Some n) e = walk_to_well false (planned d) c (target_of n) cache (may.each n (length (planned d).plan.pages, e)).0
+      on None e = wrote_well (planned d) c (routing d.writes (planned d).plan.pages) (routes d.writes (planned d).plan.pages)
 
-  not_open : (w : Writing) (t : Trouble) → WritesWell (not_opened w t)
-  not_open w (trouble.Late end now) = λ sure. tt
-  not_open w t = tt
-
-  opened : (w : Writing) (g : Result (Unit {0}) Trouble) → WritesWell (opened_by w g)
-  opened w (Ok x) = sends w 0
-  opened w (Err t) = not_open w t
-
-  sent : (w : Writing) (g : Result ℕ Trouble) → IsFair g → WritesWell (sent_by w g)
-  sent w (Ok id) may = sends w (w.place + 1)
-  sent w (Err t) may = may
-
-  deletes : (w : Writing) (n : ℕ) → WritesWell (delete_at w n)
-  deletes w n = on (slice_get w.ids n)
+  -- pruning leaves the changes
+  same_changes : (w : Writing) (c : Cache) (used : Option ObjName) → MayCommit w.changes → MayCommit (pruned_with w c used).changes
+  same_changes w c None may = may
+  same_changes w c (Some (object.Head client)) may = may
+  same_changes w c (Some (object.Tree tree)) may = on (root_at c (object.Tree tree))
     where
-      on : (o : Option ℕ) → WritesWell (delete_or_end (record w { place = n }) o)
-      on (Some id) = tt
-      on None = tt
-
-  settled : (w : Writing) (g : Result (Unit {0}) Trouble) → IsFair g → WritesWell (settled_by w g)
-  settled w (Ok x) may = deletes w 0
-  settled w (Err t) may = may
-
-  deleted : (w : Writing) (g : Result (Unit {0}) Trouble) → WritesWell (deleted_by w g)
-  deleted w (Err trouble.Memory) = tt
-  deleted w done = deletes w (w.place + 1)
-
-  writes : (w : Writing) (a : Answer) → WritesWell (writing_next w a)
-  writes w a = on w.stage
+      on : (o : Option Tree) → MayCommit (pruned_by_root w tree o).changes
+      on (Some root) = may
+      on None = may
+  same_changes w c (Some (object.Page tree page)) may = on (leaf_at c (object.Page tree page))
     where
-      on : (stage : Stage) → WritesWell (writes_at stage w a)
-      on Waiting = tt
-      on Logging = logged w (sent_of a) (sent_fair a)
-      on Opening = opened w (done_of a)
-      on Sending = sent w (sent_of a) (sent_fair a)
-      on Settling = settled w (done_of a) (done_fair a)
-      on Deleting = deleted w (done_of a)
-      on Finished = tt
+      on : (o : Option Leaf) → MayCommit (pruned_by_kept w tree o).changes
+      on (Some leaf) = may
+      on None = may
 
-  routes : (w : Writing) (pages : List ℕ) → WritesWell (routing w pages)
-  routes w pages = on (passes (routed_of w.home w.changes pages))
+  stopped_well : (first : Bool) (d : Draft) (c : Cache) (t : Trouble) → MayCommit d.writes.changes → KnowsCache st c → MayStopWalk t → EndsWell (walk_stopped first d c t)
+  stopped_well first d c t may cache stops = on (is_stale t) refl
     where
-      on : (b : Bool) → WritesWell (cond b (not_committed w (trouble.Exhausted counter.Number)) (begun w (routed_of w.home w.changes pages)))
-      on true = λ sure. tt
-      on false = logs (record w { records = routed_of w.home w.changes pages; place = 0 }) (slice_get (routed_of w.home w.changes pages) 0)
+      passed_over : (b : Bool) → EndsWell (stale_at b d c)
+      passed_over true = plan_on_well d c may cache
+      passed_over false = plan_on_well (paged d 1) c may cache
 
-  -- ---- where a step leads
+      on : (b : Bool) → is_stale t ≡ b → EndsWell (cond b (stale_at first d c) (troubled d c t))
+      on true e = passed_over first
+      on false e = troubled_well d c t (walk_fair t stops e)
 
-  abbrev pub EndsWell : Step → Type 0
-  EndsWell (Goes m) = Unit {0}
-  EndsWell (Ends m a) = MayEnd Sure a
-  EndsWell (Stops m t) = MayStop t
+  turned_well : (first : Bool) (d : Draft) (n : Next (Walk × Cache) ℕ) → MayCommit d.writes.changes → LeavesKnown st n → WalkLeads st MayStopWalk n
+      → EndsWell (by_turn (walk_turned first d) n)
+  turned_well first d (Goes m) may cache leads = tt
+  turned_well first d (Ends m page) may cache leads =
+      plan_on_well (leaf_noted (pruned_behind d m.0 m.1) m.0 m.1 page) m.1 (same_changes d.writes m.1 m.0.used may) cache
+  turned_well first d (Stops m t) may cache leads =
+      stopped_well first (pruned_behind d m.0 m.1) m.1 t (same_changes d.writes m.1 m.0.used may) cache leads.1
 
-  wrote_well : (d : Draft) (c : Cache) (n : Next Writing CommitAnswer) → WritesWell n → EndsWell (wrote d c n)
-  wrote_well d c (Goes w) may = tt
-  wrote_well d c (Ends w a) may = may
-  wrote_well d c (Stops w t) may = may
-
-  troubled_well : (d : Draft) (c : Cache) (t : Trouble) → (Sure → MayStop t) → EndsWell (troubled d c t)
-  troubled_well d c trouble.Memory may = tt
-  troubled_well d c t may = may
-
-  -- ---- walks
-
-  -- a walk begins with a call
-  abbrev Begins : Next (Walk × Cache) ℕ → Type 0
-  Begins (Goes m) = Unit {0}
-  Begins (Ends m page) = Unit {0}
-  Begins (Stops m t) = ⊥
-
-  begun_well : (first : Bool) (d : Draft) (n : Next (Walk × Cache) ℕ) → (Sure → Begins n) → EndsWell (by_turn (begun_turn first d) n)
-  begun_well first d (Goes m) may = tt
-  begun_well first d (Ends m page) may = tt
-  begun_well first d (Stops m t) may = troubled_well (pruned_behind d m.0 m.1) m.1 t (λ sure. absurd (may sure))
-
-  module _ (st : Store) (h : Holds st) where
-    begins : (tree : ℕ) (key : List ℕ) (fresh : Bool) (c : Cache) → IsTree tree → KnowsCache st c → Begins (walk_ready (new_walk tree (Some key) fresh, c))
-    begins tree key fresh c is cache = subst Begins (sym (walk_begins st h.chains tree (Some key) fresh c is cache).1) tt
-
-    walk_to_well : (first : Bool) (d : Draft) (c : Cache) (to : ℕ × List ℕ) → KnowsCache st c → (Sure → IsTree to.0) → EndsWell (walk_to first d c to)
-    walk_to_well first d c to cache tree = begun_well first d (walk_ready (new_walk to.0 (Some to.1) first, c)) (λ sure. begins to.0 to.1 first c (tree sure) cache)
-
-    plan_on_well : (d : Draft) (c : Cache) → MayCommit d.writes.changes → KnowsCache st c → EndsWell (plan_on d c)
-    plan_on_well d c may cache = on (slice_get d.writes.changes (length (planned d).plan.pages)) refl
-      where
-        on : (o : Option Noted) → slice_get d.writes.changes (length (planned d).plan.pages) ≡ o → EndsWell (seek (planned d) c (option_map target_of o))
-        on (Some n) e = walk_to_well false (planned d) c (target_of n) cache (λ sure. (may.each n (length (planned d).plan.pages, e)).0)
-        on None e = wrote_well (planned d) c (routing d.writes (planned d).plan.pages) (routes d.writes (planned d).plan.pages)
-
-    -- pruning leaves the changes
-    same_changes : (w : Writing) (c : Cache) (used : Option ObjName) → MayCommit w.changes → MayCommit (pruned_with w c used).changes
-    same_changes w c None may = may
-    same_changes w c (Some (object.Head client)) may = may
-    same_changes w c (Some (object.Tree tree)) may = on (root_at c (object.Tree tree))
-      where
-        on : (o : Option Tree) → MayCommit (pruned_by_root w tree o).changes
-        on (Some root) = may
-        on None = may
-    same_changes w c (Some (object.Page tree page)) may = on (leaf_at c (object.Page tree page))
-      where
-        on : (o : Option Leaf) → MayCommit (pruned_by_kept w tree o).changes
-        on (Some leaf) = may
-        on None = may
-
-    stopped_well : (first : Bool) (d : Draft) (c : Cache) (t : Trouble) → MayCommit d.writes.changes → KnowsCache st c → (Sure → MayStopWalk t) → EndsWell (walk_stopped first d c t)
-    stopped_well first d c t may cache stops = on (is_stale t) refl
-      where
-        passed_over : (b : Bool) → EndsWell (stale_at b d c)
-        passed_over true = plan_on_well d c may cache
-        passed_over false = plan_on_well (paged d 1) c may cache
-
-        on : (b : Bool) → is_stale t ≡ b → EndsWell (cond b (stale_at first d c) (troubled d c t))
-        on true e = passed_over first
-        on false e = troubled_well d c t (λ sure. walk_fair t (stops sure) e)
-
-    turned_well : (first : Bool) (d : Draft) (n : Next (Walk × Cache) ℕ) → MayCommit d.writes.changes → LeavesKnown st n → (Sure → WalkLeads st MayStopWalk n)
-        → EndsWell (by_turn (walk_turned first d) n)
-    turned_well first d (Goes m) may cache leads = tt
-    turned_well first d (Ends m page) may cache leads =
-        plan_on_well (leaf_noted (pruned_behind d m.0 m.1) m.0 m.1 page) m.1 (same_changes d.writes m.1 m.0.used may) cache
-    turned_well first d (Stops m t) may cache leads =
-        stopped_well first (pruned_behind d m.0 m.1) m.1 t (same_changes d.writes m.1 m.0.used may) cache (λ sure. (leads sure).1)
-
-    long_well : (d : Draft) (c : Cache) → MayCommit d.writes.changes → KnowsCache st c → (o : Option Pending) → ((e : Pending) → o ≡ Some e → Sure → IsTree e.tree)
-        → EndsWell (long_walk d c (option_map pending_target o))
-    long_well d c may cache (Some e) tree = walk_to_well true d c (pending_target e) cache (tree e refl)
-    long_well d c may cache None tree = plan_on_well d c may cache
+  long_well : (d : Draft) (c : Cache) → MayCommit d.writes.changes → KnowsCache st c → (o : Option Pending) → ((e : Pending) → o ≡ Some e → IsTree e.tree)
+      → EndsWell (long_walk d c (option_map pending_target o))
+  long_well d c may cache (Some e) tree = walk_to_well true d c (pending_target e) cache (tree e refl)
+  long_well d c may cache None tree = plan_on_well d c may cache
 
 -- ---- the whole
 
@@ -244,43 +242,35 @@ module _ (book : Book) (order : List Entry) (s : CloudState) (stands : StandsUnd
 
   -- how a call of a commit ends
   pub run_ends : (who : Caller) (t : CloudState) (m : Run × Cache) (part : Part) (reply : Answer) → KnowsRun st t.now m part → IsCall who (asks m) reply s t
-      → EndsWell (Lasts t.now (home_of m.0).lease) (run_next m reply)
+      → EndsWell (run_next m reply)
   run_ends who t m part reply k call = on m.0.hand k.hand call
     where
       walks : (first : Bool) (w : Walk) → KnowsSeeking st t.now m.0.draft w part → IsCall who (ask_at (Change w) m.0.draft.writes) reply s t
-          → EndsWell (Lasts t.now (home_of m.0).lease) (walked first m.0.draft w m.1 reply)
+          → EndsWell (walked first m.0.draft w m.1 reply)
       walks first w seeks call =
-          turned_well (Lasts t.now (home_of m.0).lease) st stands.holds first m.0.draft (walk_next (w, m.1) reply) seeks.draft.may (turn_leaves st w m.1 reply k.cache (call_answers book order s stands who (object_of w) reply t call))
-          (λ lasts. walk_goes book order s stands who w m.1 reply t call (record { walk = seeks.walk lasts; cache = k.cache }))
+          turned_well st stands.holds first m.0.draft (walk_next (w, m.1) reply) seeks.draft.may (turn_leaves st w m.1 reply k.cache (call_answers book order s stands who (object_of w) reply t call))
+          (walk_goes book order s stands who w m.1 reply t call (record { walk = seeks.walk; cache = k.cache }))
 
       on : (hand : Hand) → KnowsHand hand st t.now m.0.draft part → IsCall who (ask_at hand m.0.draft.writes) reply s t
-          → EndsWell (Lasts t.now (home_of m.0).lease) (next_at hand m.0.draft m.1 reply)
+          → EndsWell (next_at hand m.0.draft m.1 reply)
       on Writes a call =
-          wrote_well (Lasts t.now (home_of m.0).lease) m.0.draft m.1 (writing_next m.0.draft.writes reply) (writes (Lasts t.now (home_of m.0).lease) m.0.draft.writes reply)
+          wrote_well m.0.draft m.1 (writing_next m.0.draft.writes reply) (writes m.0.draft.writes reply)
       on (First w) a call = walks true w a call
       on (Change w) a call = walks false w a call
 
   module _ (now : ℕ) (part : Part) (home : Owner) (changes : List Noted) (c : Cache) (k : KnowsHeld st now home part) (may : MayCommit changes) (cache : KnowsCache st c) where
-    abbrev Sure : Type 0
-    Sure = Lasts now home.lease
-
     abbrev numbered : Draft
     numbered = new_draft (with_home (waiting home changes) (with_attempt home))
 
-    tree : (e : Pending) → slice_get home.head.pending 0 ≡ Some e → Sure → IsTree e.tree
-    tree e is lasts =
-        entry_tree st home.client e stands.holds
-        (taken_entries st now numbered.writes.home part stands.holds (record { before = home.attempt; taken = refl; home = k }) lasts e (0, is))
-
-    long : (b : Bool) → EndsWell Sure (long_walk numbered c (cond b (option_map pending_target (slice_get home.head.pending 0)) None))
-    long true = long_well Sure st stands.holds numbered c may cache (slice_get home.head.pending 0) tree
-    long false = plan_on_well Sure st stands.holds numbered c may cache
+    long : (b : Bool) → EndsWell (long_walk numbered c (cond b (option_map pending_target (slice_get home.head.pending 0)) None))
+    long true = long_well st stands.holds numbered c may cache (slice_get home.head.pending 0) (λ e is. k.trees e (0, is))
+    long false = plan_on_well st stands.holds numbered c may cache
 
     -- and one that is answered at once
-    pub ready_ends : EndsWell Sure (run_ready (new_run home changes, c))
+    pub ready_ends : EndsWell (run_ready (new_run home changes, c))
     ready_ends = on (is_spent home)
       where
-        on : (b : Bool) → EndsWell Sure (cond b (refused (new_draft (waiting home changes)) c (trouble.Exhausted counter.Txn))
+        on : (b : Bool) → EndsWell (cond b (refused (new_draft (waiting home changes)) c (trouble.Exhausted counter.Txn))
             (begin_walks (new_draft (cond b (waiting home changes) (with_home (waiting home changes) (with_attempt home)))) c))
-        on true = λ lasts. tt
+        on true = tt
         on false = long (nat_lt 256 (length home.head.pending))

@@ -1,6 +1,7 @@
 -- A commit begins to write.
 use Rattle.std.proofs.Common.{◌≡◌, ◌≤◌, ℕ, Bool, true, false, cond, List, [], length, refl, sym, subst, ◌∙◌, arith}
 use Rattle.cloud_facts.specs.Calls.Acting.{KnowsHome}
+use Rattle.session_facts.specs.Openings.Client.{KnowsClient}
 use Rattle.cloud_trait.specs.Claim.{Lasts}
 use Rattle.session_facts.specs.Commits.Committing.{MayCommit, AreLeavesFor, attempt_of, IsOfAttempt, Routes, KnowsTaken, KnowsNext, Reaches}
 use Rattle.session_facts.proofs.Commits.Nexts.{Known, Stands, part_next, next_homes, logs_at}
@@ -19,32 +20,35 @@ use Rattle.cloud_facts.proofs.Book.Places.{in_none}
 
 -- the home of a session that works on no commit
 abbrev pub KnowsHeld : Store → ℕ → Held → Part → Type 0
-KnowsHeld st now home part = KnowsHome st now home.client home.lease home.head home.attempt part
+KnowsHeld st now home part = KnowsClient st now home.client home.lease home.head home.attempt part
 
 -- with the number that was taken, it is left so where nothing is written
 pub taken_left : (st : Store) (now : ℕ) (home : Held) (part : Part) → KnowsTaken st now home part → KnowsHeld st now home part
 taken_left st now home part t = record {
-  is_client = k.is_client;
-  lock_is = k.lock_is;
-  within = let within = k.within in let taken = t.taken in omega (arith, within, taken);
-  settled = k.settled;
-  newest = k.newest;
-  home = k.home;
-  part_is = k.part_is;
-  client_is = k.client_is;
-  lease_is = k.lease_is;
-  epoch_is = k.epoch_is;
-  begun = let before = k.begun in let taken = t.taken in omega (arith, before, taken);
+  at = record {
+    is_client = k.is_client;
+    lock_is = k.lock_is;
+    within = let within = k.within in let taken = t.taken in omega (arith, within, taken);
+    settled = k.settled;
+    newest = k.newest;
+    home = k.home;
+    part_is = k.part_is;
+    client_is = k.client_is;
+    lease_is = k.lease_is;
+    epoch_is = k.epoch_is;
+    begun = let before = k.begun in let taken = t.taken in omega (arith, before, taken);
+  };
+  trees = t.home.trees;
 }
   where
     k : KnowsHome st now home.client home.lease home.head t.before part
-    k = t.home
+    k = t.home.at
 
 module _ (st : Store) (now : ℕ) (parts : Parts) (session : ℕ) (w : Writing) (pages : List ℕ) (t : KnowsTaken st now w.home (parts session)) (may : MayCommit w.changes)
     (some : 1 ≤ length w.changes) (none : w.ids ≡ []) (paged : length w.changes ≤ length pages) (leaves : Lasts now w.home.lease → AreLeavesFor st.book w.changes pages)
     (homes : HomesHold st.tally now parts) (left : Leaves st) where
   abbrev k : KnowsHome st now w.home.client w.home.lease w.home.head t.before (parts session)
-  k = t.home
+  k = t.home.at
 
   abbrev recs : List AtomicRec
   recs = routed_of w.home w.changes pages
@@ -53,7 +57,7 @@ module _ (st : Store) (now : ℕ) (parts : Parts) (session : ℕ) (w : Writing) 
   with_records = record w { records = recs }
 
   abbrev began : Home
-  began = record t.home.home { attempt = w.home.attempt; sent = []; needed = [] }
+  began = record t.home.at.home { attempt = w.home.attempt; sent = []; needed = [] }
 
   -- no record of the epoch is of a later transaction than was begun
   uncommitted : (r : AtomicRec) → IsIn st.book.log r → IsOfAttempt (attempt_of w) r → ⊥
@@ -84,6 +88,7 @@ module _ (st : Store) (now : ℕ) (parts : Parts) (session : ℕ) (w : Writing) 
     leaves = leaves;
     records_are = refl;
     newest = k.newest;
+    trees = t.home.trees;
     uncommitted = uncommitted;
   }
 

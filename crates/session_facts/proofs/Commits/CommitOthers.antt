@@ -101,6 +101,7 @@ module _ (st su : Store) (now later : ℕ) (x : Attempt) (after : now ≤ later)
     leaves = λ lasts. leaves_others st su changes a.pages grows (a.leaves (earlier lasts));
     records_are = a.records_are;
     newest = λ lasts. pruned_stays st su x.client base is_client grows (still lasts) (a.newest (earlier lasts));
+    trees = a.trees;
     uncommitted = λ r is of. a.uncommitted r (none r is of) of;
   }
 
@@ -162,6 +163,7 @@ commit_others st su now later w part after o joins k =
       txn_is = a.txn_is;
       past = past_on w.home.head (st.tally.head w.home.client) (su.tally.head w.home.client) a.past ((o.passes).grows.heads w.home.client);
       newest = λ lasts. still lasts ∙ a.newest (omega (arith, lasts, after));
+      trees = a.trees;
       needed = a.needed;
       messages = messages a.messages;
     }

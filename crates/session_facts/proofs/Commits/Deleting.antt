@@ -60,6 +60,7 @@ module _ (who : Caller) (book : Book) (order : List Entry) (s t : CloudState) (p
     txn_is = a.txn_is;
     past = a.past;
     newest = a.newest;
+    trees = a.trees;
     needed = a.needed;
     messages = messages_stay st su (attempt_of w) w.ids (log_mark_grows st client id) a.messages;
   }

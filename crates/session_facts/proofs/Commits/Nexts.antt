@@ -1,7 +1,8 @@
 -- What a commit knows where an answer leads.
 use Rattle.std.proofs.Common.{◌≡◌, ◌≤◌, ◌+◌, ℕ, List, [], ◌∷◌, ◌++◌, take, Option, Some, None, Result, Ok, Err, refl, sym, ap, subst, ◌∙◌, arith}
 use Rattle.std.specs.Prelude.{slice_get}
-use Rattle.cloud_facts.specs.Calls.Acting.{IsPruned, KnowsHome}
+use Rattle.cloud_facts.specs.Calls.Acting.{IsPruned}
+use Rattle.session_facts.specs.Openings.Client.{AreOfTrees, KnowsClient}
 use Rattle.cloud_facts.proofs.Calls.OthersLemmas.{pruned_itself}
 use Rattle.cloud_trait.specs.Claim.{Lasts}
 use Rattle.cloud_trait.specs.Machine.{Next, Goes, Ends, Stops}
@@ -79,19 +80,22 @@ knows_at u now w part g stands k = record { client = stands.client; lock = stand
 
 -- a settled head of the epoch is left
 pub knows_home : (u : Store) (now : ℕ) (x : Attempt) (changes : List Noted) (part : Part) (g : Home) (head : Head) → Stands x changes part g → head.epoch ≡ x.epoch → head.txn ≤ x.txn
-    → head.phase ≡ phase.Settled → (Lasts now x.lease → IsPruned u.tally x.client (u.tally.head x.client) head) → KnowsHome u now x.client x.lease head x.txn part
-knows_home u now x changes part g head stands epoch within settled newest = record {
-  is_client = stands.client;
-  lock_is = stands.lock;
-  within = within;
-  settled = settled;
-  newest = newest;
-  home = g;
-  part_is = (stands.home).part_is;
-  client_is = (stands.home).client_is;
-  lease_is = (stands.home).lease_is;
-  epoch_is = (stands.home).epoch_is ∙ sym epoch;
-  begun = let e = (stands.home).attempt_is in omega (arith, e);
+    → head.phase ≡ phase.Settled → (Lasts now x.lease → IsPruned u.tally x.client (u.tally.head x.client) head) → AreOfTrees head.pending → KnowsClient u now x.client x.lease head x.txn part
+knows_home u now x changes part g head stands epoch within settled newest trees = record {
+  at = record {
+    is_client = stands.client;
+    lock_is = stands.lock;
+    within = within;
+    settled = settled;
+    newest = newest;
+    home = g;
+    part_is = (stands.home).part_is;
+    client_is = (stands.home).client_is;
+    lease_is = (stands.home).lease_is;
+    epoch_is = (stands.home).epoch_is ∙ sym epoch;
+    begun = let e = (stands.home).attempt_is in omega (arith, e);
+  };
+  trees = trees;
 }
 
 -- ---- the next call
@@ -161,11 +165,11 @@ module _ (u : Store) (now : ℕ) (w : Writing) (part : Part) (g : Home) (stands 
     changes = stands.changes_may;
     home = g;
     at_home = stands.home;
-    at = record { settled = a.settled; txn_is = a.txn_is; past = a.past; newest = a.newest; needed = a.needed; messages = a.messages };
+    at = record { settled = a.settled; txn_is = a.txn_is; past = a.past; newest = a.newest; trees = a.trees; needed = a.needed; messages = a.messages };
   }
   delete_next n None a =
       knows_home u now (attempt_of w) w.changes part g w.home.head stands refl (let e = a.txn_is in omega (arith, e)) a.settled
-      (λ lasts. subst (λ (h : Head). IsPruned u.tally w.home.client h w.home.head) (sym (a.newest lasts)) (pruned_itself u.tally w.home.client w.home.head))
+      (λ lasts. subst (λ (h : Head). IsPruned u.tally w.home.client h w.home.head) (sym (a.newest lasts)) (pruned_itself u.tally w.home.client w.home.head)) a.trees
 
   pub deletes_at : (n : ℕ) → Deletes u now w g → Known (delete_at w n) u now part
   deletes_at n a = delete_next n (slice_get w.ids n) a
@@ -175,7 +179,7 @@ module _ (u : Store) (now : ℕ) (w : Writing) (part : Part) (g : Home) (stands 
 module _ (u : Store) (now : ℕ) (w : Writing) (part : Part) where
   -- a home that nothing was committed from
   abbrev pub IsLeft : Head → Type 0
-  IsLeft head = KnowsHome u now w.home.client w.home.lease head w.home.attempt part
+  IsLeft head = KnowsClient u now w.home.client w.home.lease head w.home.attempt part
 
   pub logged_known : (v : Result ℕ Trouble) → ((id : ℕ) → v ≡ Ok id → Known (log_at (record w { ids = w.ids ++ id ∷ [] }) (w.place + 1)) u now part) → IsLeft w.home.head
       → Known (logged_by w v) u now part

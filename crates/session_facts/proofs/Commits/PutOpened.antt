@@ -59,7 +59,7 @@ module _ (who : Caller) (book : Book) (order : List Entry) (s t : CloudState) (p
   left : (u : Store) → (Lasts t.now w.home.lease → IsPruned u.tally client (u.tally.head client) a.base) → IsLeft u t.now w part (restored w.home.head w.before)
   left u newest =
       subst (λ h. IsLeft u t.now w part h) (sym (restored_is w a.base a.head a.before))
-      (knows_home u t.now (attempt_of w) w.changes part g a.base ready.stands (a.routes).epoch_is (let e = (a.routes).later in omega (arith, e)) (a.routes).settled newest)
+      (knows_home u t.now (attempt_of w) w.changes part g a.base ready.stands (a.routes).epoch_is (let e = (a.routes).later in omega (arith, e)) (a.routes).settled newest (a.routes).trees)
 
   -- ---- where it landed
 

@@ -11,6 +11,7 @@ use Rattle.cloud_trait.specs.Caller.{Caller}
 use Rattle.cloud_trait.specs.Claim.{Lasts}
 use Rattle.cloud_trait.specs.State.{CloudState, called}
 use Rattle.cloud_trait.specs.Views.{done_of}
+use Rattle.session_facts.proofs.Openings.Entries.{settled_trees}
 use Rattle.session_facts.specs.Commits.Committing.{attempt_of, SettlesOpened, Deletes, KnowsNext}
 use Rattle.session_facts.specs.Commits.Noting.{noted_at}
 use Rattle.session_facts.proofs.Commits.Attempts.{messages_stay}
@@ -96,6 +97,7 @@ module _ (who : Caller) (book : Book) (order : List Entry) (s t : CloudState) (p
       txn_is = ap (λ (h : Head). h.txn) k.head ∙ (k.has).txn_is;
       past = inl here;
       newest = λ still. here;
+      trees = settled_trees st client w.home.head (ready.setting).cloud.holds settles;
       needed = refl;
       messages = messages_stay st su (attempt_of w) w.ids (head_grows st client w.home.head [] (settles_later (st.tally.head client) w.home.head settles.behind settles.phase)) k.messages;
     }

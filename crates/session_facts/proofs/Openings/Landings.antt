@@ -3,7 +3,7 @@ use Rattle.std.proofs.Common.{◌≡◌, ◌+◌, ◌<◌, ◌≤◌, ◌⊎◌,
 use Rattle.std.specs.Prelude.{slice_get}
 use Rattle.std.specs.List.{AllByRecursion}
 use Rattle.std.proofs.lemmas.List.{append-nil}
-use Rattle.cloud_facts.specs.Calls.Acting.{IsPruned, Setting, Outcome}
+use Rattle.cloud_facts.specs.Calls.Acting.{IsPruned, KnowsHome, Setting, Outcome}
 use Rattle.cloud_facts.specs.Calls.Call.{IsCall}
 use Rattle.cloud_facts.specs.Calls.Looks.{audit_of}
 use Rattle.cloud_facts.specs.Calls.Others.{Passes, WasSentOn}
@@ -47,7 +47,8 @@ use Rattle.route_plan.specs.Record.{pu_record_of}
 use Rattle.cloud_facts.specs.Book.Book.{Book}
 use Rattle.cloud_facts.specs.Book.Effects.{after_head, after_log_mark, after_posted}
 use Rattle.cloud_facts.specs.Book.Messages.{IsLogMessage}
-use Rattle.cloud_facts.specs.Book.Premises.{MarksLog}
+use Rattle.cloud_facts.specs.Book.Premises.{MarksLog, Settles}
+use Rattle.session_facts.proofs.Openings.Entries.{settled_trees}
 use Rattle.cloud_facts.specs.Book.Records.{IsIn}
 use Rattle.cloud_facts.specs.Book.Tally.{Store, at}
 use Rattle.cloud_facts.specs.Book.Telling.{queue_of}
@@ -131,23 +132,23 @@ module _ (who : Caller) (book : Book) (order : List Entry) (s t : CloudState) (p
       that = (subst (AllByRecursion (IsMessageThat st r.client (is_past r.wanted))) ids_are all).0
 
       home : Home
-      home = k.home.home
+      home = k.home.at.home
 
-      holds : HomeHolds st.tally t.now k.home.home
-      holds = subst (λ (p : Part). PartHolds st.tally t.now p) k.home.part_is part_holds
+      holds : HomeHolds st.tally t.now k.home.at.home
+      holds = subst (λ (p : Part). PartHolds st.tally t.now p) k.home.at.part_is part_holds
 
       later : r.wanted.epoch < (st.tally.head r.client).epoch
       later =
-          let early : k.home.home.epoch ≤ (st.tally.head r.client).epoch = subst (λ c. k.home.home.epoch ≤ (st.tally.head c).epoch) k.home.client_is holds.early in
-          let e = k.home.epoch_is in let above = k.later in omega (arith, early, e, above)
+          let early : k.home.at.home.epoch ≤ (st.tally.head r.client).epoch = subst (λ c. k.home.at.home.epoch ≤ (st.tally.head c).epoch) k.home.at.client_is holds.early in
+          let e = k.home.at.epoch_is in let above = k.later in omega (arith, early, e, above)
 
-      low : (q : AtomicRec) → IsLogMessage (st.tally.logged r.client) id q → q.epoch < k.home.home.epoch
-      low q m = let past = past_low st r.client r.wanted id that q m in let e = k.home.epoch_is in let above = k.later in omega (arith, past, e, above)
+      low : (q : AtomicRec) → IsLogMessage (st.tally.logged r.client) id q → q.epoch < k.home.at.home.epoch
+      low q m = let past = past_low st r.client r.wanted id that q m in let e = k.home.at.epoch_is in let above = k.later in omega (arith, past, e, above)
 
       spared : IsSpared st.tally t.now parts r.client id
       spared =
-          subst (λ c. IsSpared st.tally t.now parts c id) k.home.client_is
-          (spared_early st.tally t.now parts who.session k.home.home id (mine ∙ k.home.part_is) (λ q m. low q (subst (λ c. IsLogMessage (st.tally.logged c) id q) k.home.client_is m)) setting.homes)
+          subst (λ c. IsSpared st.tally t.now parts c id) k.home.at.client_is
+          (spared_early st.tally t.now parts who.session k.home.at.home id (mine ∙ k.home.at.part_is) (λ q m. low q (subst (λ c. IsLogMessage (st.tally.logged c) id q) k.home.at.client_is m)) setting.homes)
 
   -- ---- a send
 
@@ -213,10 +214,11 @@ module _ (who : Caller) (book : Book) (order : List Entry) (s t : CloudState) (p
           opens_newest : OpeningHolds st.tally t.now (opening_with r.client k.read.before k.read.held.now) → st.tally.head r.client ≡ k.read.before
           opens_newest h = h.newest lasts
 
+      settles_so : Settles st r.client r.head
+      settles_so = settles_read st r.client r.former r.lease r.wanted r.head r.gathered.kept part setting.cloud.holds.leaves is k newest
+
       abbrev settling : Landing who st put put_store
-      settling =
-          settles r.client r.head r.out k.read.held.now None spells
-          (settles_read st r.client r.former r.lease r.wanted r.head r.gathered.kept part setting.cloud.holds.leaves is k newest)
+      settling = settles r.client r.head r.out k.read.held.now None spells settles_so
 
       passes : Passes st put_store
       passes = landing_passes who st put put_store setting.cloud.holds settling
@@ -230,22 +232,25 @@ module _ (who : Caller) (book : Book) (order : List Entry) (s t : CloudState) (p
           (setting.alone k.read.held.now r.client (lease_in_hand r.former r.lease k.read.held.now k.read.held.is) k.read.held.lock lasts)
           (setting.cloud.holds.leaves.logged r.client is).early setting.homes
 
+      home_at : KnowsHome put_store t.now r.client k.read.held.now r.head 0 (AtHome new)
+      home_at = record {
+        is_client = is;
+        lock_is = k.read.held.lock;
+        within = let none : r.head.txn ≡ 0 = ap (λ (h : Head). h.txn) k.head_is in omega (arith, none);
+        settled = ap (λ (h : Head). h.phase) k.head_is;
+        newest = λ l. subst (λ (h : Head). IsPruned put_store.tally r.client h r.head) (sym (at_same r.client r.head st.tally.head r.client refl)) (pruned_itself put_store.tally r.client r.head);
+        home = new;
+        part_is = refl;
+        client_is = refl;
+        lease_is = refl;
+        epoch_is = refl;
+        begun = omega arith;
+      }
+
       has_put : KnowsPut put_store t.now r (AtHome new)
       has_put = record {
         held = k.read.held;
-        home = record {
-          is_client = is;
-          lock_is = k.read.held.lock;
-          within = let none : r.head.txn ≡ 0 = ap (λ (h : Head). h.txn) k.head_is in omega (arith, none);
-          settled = ap (λ (h : Head). h.phase) k.head_is;
-          newest = λ l. subst (λ (h : Head). IsPruned put_store.tally r.client h r.head) (sym (at_same r.client r.head st.tally.head r.client refl)) (pruned_itself put_store.tally r.client r.head);
-          home = new;
-          part_is = refl;
-          client_is = refl;
-          lease_is = refl;
-          epoch_is = refl;
-          begun = omega arith;
-        };
+        home = record { at = home_at; trees = settled_trees st r.client r.head setting.cloud.holds settles_so };
         later = let e : r.wanted.epoch ≡ k.read.before.epoch = ap (λ (w : Wanted). w.epoch) k.read.wanted_is in omega (arith, e, epoch);
       }
 

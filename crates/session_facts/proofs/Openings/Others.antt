@@ -11,6 +11,7 @@ use Rattle.head_codec.specs.declared.head.Head.{Head}
 use Rattle.cloud_facts.specs.Homes.Homes.{Part, Away}
 use Rattle.cloud_facts.specs.Lefts.Left.{IsCopied}
 use Rattle.log_codec.specs.declared.record.AtomicRec.{AtomicRec}
+use Rattle.session_facts.specs.Openings.Client.{KnowsClient}
 use Rattle.session_facts.specs.Openings.Opening.{leases_of_recovery, IsCommitted, IsWanted, IsMessageThat, HasRead, Gathers, SendsOn, HasPut, KnowsOpeningAt, KnowsOpening}
 use Rattle.session_facts.proofs.Openings.Kept.{each_in}
 use Rattle.session_facts.proofs.Openings.Messages.{log_message_stays}
@@ -91,20 +92,26 @@ module _ (st su : Store) (client : ℕ) (passes : Passes st su) where
 
 -- what an open client knows, where its newest head stays while its lease lasts
 pub home_passes : (st su : Store) (now later client : ℕ) (lease : Claim) (head : Head) (attempt : ℕ) (part : Part) → now ≤ later → Grows st su
-    → (Lasts later lease → su.tally.head client ≡ st.tally.head client) → KnowsHome st now client lease head attempt part → KnowsHome su later client lease head attempt part
-home_passes st su now later client lease head attempt part after grows same k = record {
-  is_client = k.is_client;
-  lock_is = k.lock_is;
-  within = k.within;
-  settled = k.settled;
-  newest = λ lasts. pruned_stays st su client head k.is_client grows (same lasts) (k.newest (omega (arith, lasts, after)));
-  home = k.home;
-  part_is = k.part_is;
-  client_is = k.client_is;
-  lease_is = k.lease_is;
-  epoch_is = k.epoch_is;
-  begun = k.begun;
+    → (Lasts later lease → su.tally.head client ≡ st.tally.head client) → KnowsClient st now client lease head attempt part → KnowsClient su later client lease head attempt part
+home_passes st su now later client lease head attempt part after grows same c = record {
+  at = record {
+    is_client = k.is_client;
+    lock_is = k.lock_is;
+    within = k.within;
+    settled = k.settled;
+    newest = λ lasts. pruned_stays st su client head k.is_client grows (same lasts) (k.newest (omega (arith, lasts, after)));
+    home = k.home;
+    part_is = k.part_is;
+    client_is = k.client_is;
+    lease_is = k.lease_is;
+    epoch_is = k.epoch_is;
+    begun = k.begun;
+  };
+  trees = c.trees;
 }
+  where
+    k : KnowsHome st now client lease head attempt part
+    k = c.at
 
 pub put_passes : (st su : Store) (now later client : ℕ) (former lease : Option Claim) (w : Wanted) (head : Head) (part : Part) → now ≤ later → Grows st su
     → ((l : Claim) → lease ≡ Some l → l.lock ≡ lock.Client client → Lasts later l → su.tally.head client ≡ st.tally.head client)
@@ -151,9 +158,9 @@ opening_lease st now r part k = on r.stage k.at
 
     put : HasPut st now r.client r.former r.lease r.wanted r.head part → HasLeaseOf (leases_of_recovery r) part
     put a =
-        subst (HasLeaseOf (leases_of_recovery r)) (sym a.home.part_is) (
-          subst (IsIn (leases_of_recovery r)) (sym a.home.lease_is) (lease_in_hand r.former r.lease a.held.now a.held.is),
-          ap (λ (l : Claim). l.lock) a.home.lease_is ∙ (a.held.lock ∙ ap lock.Client (sym a.home.client_is)),
+        subst (HasLeaseOf (leases_of_recovery r)) (sym a.home.at.part_is) (
+          subst (IsIn (leases_of_recovery r)) (sym a.home.at.lease_is) (lease_in_hand r.former r.lease a.held.now a.held.is),
+          ap (λ (l : Claim). l.lock) a.home.at.lease_is ∙ (a.held.lock ∙ ap lock.Client (sym a.home.at.client_is)),
         )
 
     on : (stage : Stage) → KnowsOpeningAt stage st now r part → HasLeaseOf (leases_of_recovery r) part

@@ -1,4 +1,4 @@
--- The begin of an operation that is answered at once stops for want of memory alone, and a commit ends so with no damage while its lease lasts.
+-- The begin of an operation that is answered at once stops for want of memory alone, and a commit ends so with no damage.
 use Rattle.std.proofs.Common.{◌≡◌, ◌≢◌, ◌⊎◌, inl, inr, ℕ, false, List, [], Option, Some, None, Result, Ok, Err, refl, sym, ap, subst, ◌∙◌}
 use Rattle.client_session.specs.Session.{Acting, Begins, BeginsWith, HasInHand, CommitsIn, CommitsOf, CommitsNoted, ReadsIn, ReadsOf, ScansIn, ScansOf, ListsLeaf, Follows, begins_by, paging_begun_by, folding_begun_by}
 use Rattle.client_session.specs.declared.answer.Answer.{Answer}
@@ -11,12 +11,10 @@ use Rattle.client_session.specs.declared.work.Work.{Work}
 use Rattle.client_session.specs.declared.work.Work.TheVariants.{Idle, Closing, Renewing}
 use Rattle.cloud_trait.specs.declared.turn.Turn.{Turn}
 use Rattle.cloud_trait.specs.declared.turn.Turn.TheVariants.{More, Ended, Stopped}
-use Rattle.cloud_trait.specs.Claim.{Lasts}
 use Rattle.cloud_trait.specs.Machine.{Next, Goes, Ends, Stops}
 use Rattle.cloud_trait.specs.State.{CloudState}
 use Rattle.commit_run.specs.Run.{Run, new_run, home_of, run_ready}
 use Rattle.session_facts.specs.CommitRuns.Stopping.{MayEnd}
-use Rattle.session_facts.proofs.CommitRuns.RunLeases.{RunLeaseStays, ready_lease}
 use Rattle.session_facts.proofs.CommitRuns.Stopping.{EndsWell, ready_ends}
 use Rattle.db_base.specs.Ids.{IsTree}
 use Rattle.db_base.specs.declared.trouble.CommitAnswer.{CommitAnswer}
@@ -28,9 +26,8 @@ use Rattle.range_scan.specs.Scan.{Scan, new_scan, scan_ready}
 use Rattle.recover_run.specs.declared.home.Home.{Home}
 use Rattle.report_types.specs.declared.entry.Entry.{Entry}
 use Rattle.session_facts.proofs.Scans.Scans.{scan_begins}
-use Rattle.session_facts.specs.Sessions.Answering.{HoldsLease}
 use Rattle.session_facts.specs.Sessions.Sessions.{IsHome, KnowsWork, KnowsKept, Sessions, SessionsStand, IsRightOp}
-use Rattle.session_facts.proofs.Sessions.Stopping.{or_memory, lasting_end}
+use Rattle.session_facts.proofs.Sessions.Stopping.{or_memory}
 use Rattle.session_facts.proofs.Sessions.Troubles.{memory_or}
 use Rattle.cloud_facts.specs.Book.Book.{Book}
 use Rattle.cloud_facts.specs.Book.Tally.{Store}
@@ -134,18 +131,11 @@ module _ (book : Book) (order : List Entry) (s : CloudState) (sessions : Session
 
   -- ---- the end of a commit
 
-  commit_ends : (home : Home) (a : CommitAnswer) → old.work ≡ Idle home → CommitsNoted home old.buffer old.cache new.cache new.work (Answered (answer.Commit a)) → MayEnd (HoldsLease s.now new.work) a
-  commit_ends home a idle (inl nothing) = subst (MayEnd (HoldsLease s.now new.work)) (sym (end_is a (Committed 0) nothing.answer)) tt
+  commit_ends : (home : Home) (a : CommitAnswer) → old.work ≡ Idle home → CommitsNoted home old.buffer old.cache new.cache new.work (Answered (answer.Commit a)) → MayEnd a
+  commit_ends home a idle (inl nothing) = subst MayEnd (sym (end_is a (Committed 0) nothing.answer)) tt
   commit_ends home a idle (inr (some, (m, leads, left))) =
-      by_end a (subst (RunLeaseStays home.lease) leads (ready_lease home old.buffer old.cache)) left
-      (subst (EndsWell (Lasts s.now home.lease)) leads
-      (ready_ends book order s stand.cloud s.now (stand.parts session) home old.buffer old.cache (home_known home idle) (stand.each session).buffer (cache_known home idle)))
-    where
-      by_end : (a : CommitAnswer) → (home_of m).lease ≡ home.lease → new.work ≡ Idle (home_of m) → MayEnd (Lasts s.now home.lease) a → MayEnd (HoldsLease s.now new.work) a
-      by_end (NotCommitted t) same is may = lasting_end s.now home.lease (home_of m) new.work (NotCommitted t) same is may
-      by_end (CommittedOpen t) same is may = may
-      by_end (Committed txn) same is may = tt
-      by_end InDoubt same is may = tt
+      subst EndsWell leads
+      (ready_ends book order s stand.cloud s.now (stand.parts session) home old.buffer old.cache (home_known home idle) (stand.each session).buffer (cache_known home idle))
 
   scan_no_end : (tree : ℕ) (from to : Option (List ℕ)) (home : Home) (a : CommitAnswer) → ScansIn tree from to old home new (Answered (answer.Commit a)) → ⊥
   scan_no_end tree from to home a (same, p) = on p.moved p.turn p.follows p.begins
@@ -177,7 +167,7 @@ module _ (book : Book) (order : List Entry) (s : CloudState) (sessions : Session
       on (Ended page) turn listed begun = lists turn listed begun
       on (Stopped q) turn (work_is, none, stopped) begun = troubled q (at turn (Ended (answer.Trouble q)) stopped begun)
 
-  pub begin_ends : (o : Op) (a : CommitAnswer) → Begins o old new (Ok (Answered (answer.Commit a))) → MayEnd (HoldsLease s.now new.work) a
+  pub begin_ends : (o : Op) (a : CommitAnswer) → Begins o old new (Ok (Answered (answer.Commit a))) → MayEnd a
   begin_ends (op.Open client) a never = absurd never
   begin_ends op.Close a (home, idle, does) = absurd (no_work home old new (Closing home.lease) (answer.Commit a) does)
   begin_ends op.Renew a (home, idle, does) = absurd (no_work home old new (Renewing home) (answer.Commit a) does)

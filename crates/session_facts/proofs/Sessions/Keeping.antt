@@ -31,7 +31,8 @@ use Rattle.session_facts.proofs.Walks.Walks.{walk_grows}
 
 home_stays : (st su : Store) (now later : ℕ) (home : Home) (part : Part) (mine : List Claim) → now ≤ later → IsIn mine home.lease → Others mine later st su → IsHome st now home part
     → IsHome su later home part
-home_stays st su now later home part mine after here o k = home_others st su now later home.client home.lease home.head home.attempt part mine after here o k
+home_stays st su now later home part mine after here o k =
+    record { at = home_others st su now later home.client home.lease home.head home.attempt part mine after here o k.at; trees = k.trees }
 
 pub work_others : (st su : Store) (now later : ℕ) (c : Cache) (work : Work) (part : Part) → now ≤ later → Others (leases_of work) later st su → NoneJoins part st su
     → KnowsWork st now c work part → KnowsWork su later c work part
@@ -77,8 +78,8 @@ away_lease mine part e = subst (HasLeaseOf mine) (sym e) tt
 
 home_lease : (st : Store) (now : ℕ) (home : Home) (part : Part) (mine : List Claim) → IsIn mine home.lease → IsHome st now home part → HasLeaseOf mine part
 home_lease st now home part mine here k =
-    subst (HasLeaseOf mine) (sym k.part_is)
-    (subst (λ l. IsIn mine l) (sym k.lease_is) here, ap (λ (l : Claim). l.lock) k.lease_is ∙ (k.lock_is ∙ ap (λ c. lock.Client c) (sym k.client_is)))
+    subst (HasLeaseOf mine) (sym k.at.part_is)
+    (subst (λ l. IsIn mine l) (sym k.at.lease_is) here, ap (λ (l : Claim). l.lock) k.at.lease_is ∙ (k.at.lock_is ∙ ap (λ c. lock.Client c) (sym k.at.client_is)))
 
 pub part_lease : (st : Store) (now : ℕ) (c : Cache) (work : Work) (part : Part) → KnowsWork st now c work part → HasLeaseOf (leases_of work) part
 part_lease st now c Closed part k = away_lease [] part k

@@ -6,7 +6,7 @@ use Rattle.client_session.specs.declared.answer.Answer.{Answer}
 use Rattle.client_session.specs.declared.answer.Answer.TheVariants as answer
 use Rattle.client_session.specs.declared.work.Work.{Work}
 use Rattle.client_session.specs.declared.work.Work.TheVariants.{Closed, Idle, Closing, Renewing, Broken}
-use Rattle.cloud_facts.specs.Calls.Acting.{Setting, Outcome, Handles}
+use Rattle.cloud_facts.specs.Calls.Acting.{KnowsHome, Setting, Outcome, Handles}
 use Rattle.cloud_facts.specs.Calls.Call.{IsCall}
 use Rattle.cloud_facts.proofs.Calls.Calls.{call_of, permitted}
 use Rattle.cloud_facts.proofs.Calls.Outcomes.{quiet, gives_up}
@@ -124,8 +124,8 @@ module _ (who : Caller) (before after : Seen) (book : Book) (order : List Entry)
     setting : Setting book order s t.now parts who.session (home.lease ∷ [])
     setting = set call.later
 
-    knows : IsHome st t.now home (parts who.session)
-    knows = knows_at call.later
+    knows : KnowsHome st t.now home.client home.lease home.head home.attempt (parts who.session)
+    knows = (knows_at call.later).at
 
     both : RenewsBoth who 600 home.lease new.lease (called who t.now s) t
     both = renews_both who home.lease new.lease renews.answer before after s t call e f renews.lease
@@ -142,17 +142,20 @@ module _ (who : Caller) (before after : Seen) (book : Book) (order : List Entry)
 
     home_after : IsHome st t.now (record home { lease = new.lease }) part
     home_after = record {
-      is_client = knows.is_client;
-      lock_is = renewed_lock who home.lease new.lease s t both ∙ knows.lock_is;
-      within = knows.within;
-      settled = knows.settled;
-      newest = λ lasts. knows.newest (lasted lasts);
-      home = record knows.home { lease = new.lease };
-      part_is = refl;
-      client_is = knows.client_is;
-      lease_is = refl;
-      epoch_is = knows.epoch_is;
-      begun = knows.begun;
+      at = record {
+        is_client = knows.is_client;
+        lock_is = renewed_lock who home.lease new.lease s t both ∙ knows.lock_is;
+        within = knows.within;
+        settled = knows.settled;
+        newest = λ lasts. knows.newest (lasted lasts);
+        home = record knows.home { lease = new.lease };
+        part_is = refl;
+        client_is = knows.client_is;
+        lease_is = refl;
+        epoch_is = knows.epoch_is;
+        begun = knows.begun;
+      };
+      trees = (knows_at call.later).trees;
     }
 
     open_outcome : Outcome who book order s t parts (home.lease ∷ []) (Renew home.lease 600) (λ a. a) (λ su now p. IsHome su now new p)

@@ -79,11 +79,14 @@ module _ (who : Caller) (before after : Seen) (book : Book) (order : List Entry)
     outcome = paging_outcome who s t book order parts (leases_of (PagingOn home p)) p reply (setting call.later) knows call
 
     home_handles : Handles who s t (paging_ask p) reply (leases_of (PagingOn home p)) (home.lease ∷ [])
-    home_handles = paging_home_handles who s t book order parts (leases_of (PagingOn home p)) p reply (setting call.later) knows call home.lease home.client knows_home.lock_is
+    home_handles = paging_home_handles who s t book order parts (leases_of (PagingOn home p)) p reply (setting call.later) knows call home.lease home.client knows_home.at.lock_is
 
     -- the home is as it was
     at_home : (u : Store) (part : Part) → Grows st u → Known u t.now part → IsHome u t.now home part
-    at_home u part grows a = home_aside st u s.now t.now home.client home.lease home.head home.attempt (parts who.session) part (KnowsAfter p reply) call.later grows knows_home a
+    at_home u part grows a = record {
+      at = home_aside st u s.now t.now home.client home.lease home.head home.attempt (parts who.session) part (KnowsAfter p reply) call.later grows knows_home.at a;
+      trees = knows_home.trees;
+    }
 
     -- what is known by the whole outcome, at the clock that the call leaves
     known_as : (work : Work) → ((u : Store) (part : Part) → Grows st u → Known u t.now part → KnowsWork u t.now c work part)
@@ -105,7 +108,7 @@ module _ (who : Caller) (before after : Seen) (book : Book) (order : List Entry)
     goes_on n leads = record {
       reply = reply;
       call = call;
-      handles = paging_handles who s t book order parts (leases_of (PagingOn home p)) p reply (setting call.later) knows call home.lease home.client knows_home.lock_is (Goes n) leads;
+      handles = paging_handles who s t book order parts (leases_of (PagingOn home p)) p reply (setting call.later) knows call home.lease home.client knows_home.at.lock_is (Goes n) leads;
       outcome = known_as (PagingOn home n) (λ u part grows a. (at_home u part grows a, a.knows (Goes n) leads));
     }
 

@@ -1,4 +1,4 @@
--- A session is answered with no trouble that only damage could cause, and a commit ends with none while its lease lasts.
+-- A session is answered with no trouble that only damage could cause, and a commit ends with none.
 use Rattle.std.proofs.Common.{◌≡◌, ◌≢◌, ◌≤◌, ◌⊎◌, inl, inr, ℕ, List, [], ◌∷◌, Option, Some, None, Result, Ok, Err, refl, sym, ap, subst, ◌∙◌}
 use Rattle.client_session.specs.Session.{Acting, StepsSession, StepsAt, ShowsAt, StepsOpening, StepsCommit, ReadsBy, ListsLeaf, Follows, StepsScanning, StepsPaging, StepsFolding, StepsSettling, StepsClosing, StepsRenewing, committed_work}
 use Rattle.client_session.specs.declared.answer.Answer.{Answer}
@@ -16,7 +16,6 @@ use Rattle.cloud_trait.specs.declared.turn.Turn.{Turn}
 use Rattle.cloud_trait.specs.declared.turn.Turn.TheVariants.{More, Ended, Stopped}
 use Rattle.cloud_trait.specs.Ask.{Ask}
 use Rattle.cloud_trait.specs.Caller.{Caller}
-use Rattle.cloud_trait.specs.Claim.{Claim, Lasts}
 use Rattle.cloud_trait.specs.Machine.{Next, Goes, Ends, Stops, LeadsBy, Took}
 use Rattle.cloud_trait.specs.Seen.{Seen}
 use Rattle.cloud_trait.specs.State.{CloudState}
@@ -24,7 +23,6 @@ use Rattle.cloud_trait.specs.Views.{trouble_of, done_of, renewed_of}
 use Rattle.cloud_trait.specs.Weather.{Makes}
 use Rattle.commit_run.specs.Run.{Run, home_of, run_ask, run_next}
 use Rattle.session_facts.specs.CommitRuns.Stopping.{MayStop as MayStopCommit, MayEnd}
-use Rattle.session_facts.proofs.CommitRuns.RunLeases.{RunLeaseStays, run_lease}
 use Rattle.session_facts.proofs.CommitRuns.Stopping.{EndsWell, run_ends}
 use Rattle.db_base.specs.declared.trouble.CommitAnswer.{CommitAnswer}
 use Rattle.db_base.specs.declared.trouble.CommitAnswer.TheVariants.{Committed, NotCommitted, InDoubt, CommittedOpen}
@@ -41,7 +39,7 @@ use Rattle.recover_run.specs.declared.home.Home.{Home}
 use Rattle.recover_run.specs.Recovery.{Recovery, recovery_ask}
 use Rattle.report_types.specs.declared.entry.Entry.{Entry}
 use Rattle.session_facts.proofs.Scans.Scans.{scan_stops}
-use Rattle.session_facts.specs.Sessions.Answering.{MayRefuse, MayAnswer, HoldsLease}
+use Rattle.session_facts.specs.Sessions.Answering.{MayRefuse, MayAnswer}
 use Rattle.session_facts.specs.Sessions.Sessions.{leases_of, KnowsWork, KnowsKept, Sessions, SessionsStand}
 use Rattle.session_facts.proofs.Sessions.Laws.{setting_of, known_at}
 use Rattle.session_facts.proofs.Sessions.SettlingStops.{settling_stops}
@@ -93,20 +91,6 @@ renewed_may : (a : Reply) (t : Trouble) → renewed_of a ≡ Err t → MayRefuse
 renewed_may (Renewed end) t e = absurd (cc)
 renewed_may a t e = refusal (trouble_of a) t (renewed_of a) (refused_may a) refl e
 
--- ---- how a commit ends
-
--- by the home that is left, which has the lease that it had
-pub lasting_end : (now : ℕ) (l : Claim) (home : Home) (work : Work) (a : CommitAnswer) → home.lease ≡ l → work ≡ committed_work a home → MayEnd (Lasts now l) a → MayEnd (HoldsLease now work) a
-lasting_end now l home work (NotCommitted t) same is may = λ holds.
-    let one : Idle home ≡ Idle holds.0 = sym is ∙ holds.1 in
-    may (subst (Lasts now) (ap (λ (h : Home). h.lease) (sym (home_is home holds.0 one)) ∙ same) holds.2)
-  where
-    home_is : (g h : Home) → Idle g ≡ Idle h → g ≡ h
-    home_is g h e = cc
-lasting_end now l home work (CommittedOpen t) same is may = may
-lasting_end now l home work (Committed txn) same is may = tt
-lasting_end now l home work InDoubt same is may = tt
-
 module _ (who : Caller) (before after : Seen) (s t : CloudState) (book : Book) (order : List Entry) (sessions : Sessions) (told : before.state ≡ Some s) (told_after : after.state ≡ Some t)
     (stand : SessionsStand book order s sessions) where
   abbrev old : Work
@@ -145,7 +129,7 @@ module _ (who : Caller) (before after : Seen) (s t : CloudState) (book : Book) (
   commit_may r is c work k (m, steps, broken) =
       let call = called (run_ask r) steps.answer steps.made in
       or_memory MayStopCommit k tt
-      (λ other. subst (EndsWell (Lasts t.now (home_of r).lease)) (steps.took.0 other)
+      (λ other. subst EndsWell (steps.took.0 other)
       (run_ends book order s stand.cloud who t (r, kept) (stand.parts who.session) steps.answer (known_in (Committing r) is call.later) call))
 
   reading_may : (home : Home) (w : Walk) → old ≡ Reading home w → (d : Cache) (work : Work) (shown : Shown) (k : Trouble) → ReadsBy home who before after w kept d work shown (Ended (answer.Trouble k))
@@ -222,15 +206,14 @@ module _ (who : Caller) (before after : Seen) (s t : CloudState) (book : Book) (
 
   -- ---- a commit
 
-  commit_ends : (r : Run) → old ≡ Committing r → (c : Cache) (work : Work) (a : CommitAnswer) → StepsCommit who before after r kept c work (Ended (answer.Commit a)) → MayEnd (HoldsLease t.now work) a
+  commit_ends : (r : Run) → old ≡ Committing r → (c : Cache) (work : Work) (a : CommitAnswer) → StepsCommit who before after r kept c work (Ended (answer.Commit a)) → MayEnd a
   commit_ends r is c work a (m, steps, left) =
       let call = called (run_ask r) steps.answer steps.made in
-      lasting_end t.now (home_of r).lease (home_of m) work a (subst (RunLeaseStays (home_of r).lease) steps.took (run_lease (r, kept) steps.answer)) left
-      (subst (EndsWell (Lasts t.now (home_of r).lease)) steps.took
-      (run_ends book order s stand.cloud who t (r, kept) (stand.parts who.session) steps.answer (known_in (Committing r) is call.later) call))
+      subst EndsWell steps.took
+      (run_ends book order s stand.cloud who t (r, kept) (stand.parts who.session) steps.answer (known_in (Committing r) is call.later) call)
 
   by_commit : (buffer : List Noted) (work new : Work) (c : Cache) (shown : Shown) (a : CommitAnswer) → old ≡ work → StepsAt who before after work new (Ended (answer.Commit a))
-      → ShowsAt who before after buffer work kept c new shown (Ended (answer.Commit a)) → MayEnd (HoldsLease t.now new) a
+      → ShowsAt who before after buffer work kept c new shown (Ended (answer.Commit a)) → MayEnd a
   by_commit buffer (Committing r) new c shown a is steps shows = commit_ends r is c new a shows.0
   by_commit buffer (Opening r) new c shown a is never shows = absurd never.1
   by_commit buffer (Reading home w) new c shown a is never shows = absurd never
@@ -250,5 +233,5 @@ module _ (who : Caller) (before after : Seen) (s t : CloudState) (book : Book) (
   by_commit buffer (Broken l) new c shown a is never shows = absurd never
 
   -- a step that is answered with the end of a commit
-  pub session_ends : (new : Acting) (a : CommitAnswer) → StepsSession who before after (sessions who.session) new (Ok (Ended (answer.Commit a))) → MayEnd (HoldsLease t.now new.work) a
+  pub session_ends : (new : Acting) (a : CommitAnswer) → StepsSession who before after (sessions who.session) new (Ok (Ended (answer.Commit a))) → MayEnd a
   session_ends new a steps = by_commit new.buffer old new.work steps.shown.0 new.shown a refl steps.work steps.shown.1

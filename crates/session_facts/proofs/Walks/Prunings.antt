@@ -46,7 +46,7 @@ module _ {X : Type 0} (test : X → Bool) where
       on b (inl is) = inl (more b is)
       on b (inr e) = inr e
 
-  kept_from : (xs : List X) (x : X) → IsIn (filter (λ y. not (test y)) xs) x → IsIn xs x
+  pub kept_from : (xs : List X) (x : X) → IsIn (filter (λ y. not (test y)) xs) x → IsIn xs x
   kept_from [] x is = is
   kept_from (y ∷ xs) x is = on (test y) (kept_from xs x) is
     where

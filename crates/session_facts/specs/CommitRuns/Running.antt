@@ -39,10 +39,10 @@ pub record KnowsDraft (st : Store) (now : ℕ) (d : Draft) (part : Part) : Type 
   pub none : d.writes.ids ≡ []
   pub plan : Lasts now d.writes.home.lease → KnowsPlan st.book d.writes.changes d.plan
 
--- while the lease lasts a walk in hand is on its way down the tree
+-- a walk in hand is on its way down the tree, whether the lease lasts or not
 pub record KnowsSeeking (st : Store) (now : ℕ) (d : Draft) (w : Walk) (part : Part) : Type 0 where
   pub draft : KnowsDraft st now d part
-  pub walk : Lasts now d.writes.home.lease → KnowsWalk st w
+  pub walk : KnowsWalk st w
 
 -- ---- the whole
 

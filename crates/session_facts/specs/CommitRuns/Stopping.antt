@@ -12,8 +12,8 @@ MayStop (trouble.Exhausted what) = Unit {0}
 MayStop trouble.Memory = Unit {0}
 MayStop t = ⊥
 
--- a commit that stays open has such a trouble, and so has one that is refused, where this holds
-abbrev pub MayEnd : Type 0 → CommitAnswer → Type 0
-MayEnd Holds (NotCommitted t) = Holds → MayStop t
-MayEnd Holds (CommittedOpen t) = MayStop t
-MayEnd Holds answer = Unit {0}
+-- a commit that is refused has such a trouble, and so has one that stays open
+abbrev pub MayEnd : CommitAnswer → Type 0
+MayEnd (NotCommitted t) = MayStop t
+MayEnd (CommittedOpen t) = MayStop t
+MayEnd answer = Unit {0}

@@ -1,6 +1,6 @@
 -- What a commit knows of the cloud at each of its calls.
 use Rattle.std.specs.Prelude.{ℕ, ◌≡◌, ◌+◌, ◌<◌, ◌≤◌, ◌⊎◌, List, [], length, take}
-use Rattle.cloud_facts.specs.Calls.Acting.{IsPruned, KnowsHome}
+use Rattle.cloud_facts.specs.Calls.Acting.{IsPruned}
 use Rattle.cloud_facts.specs.Calls.Others.{WasSentOn}
 use Rattle.cloud_trait.specs.Claim.{Claim, Lasts}
 use Rattle.cloud_trait.specs.Machine.{Next, Goes, Ends, Stops}
@@ -20,6 +20,7 @@ use Rattle.cloud_facts.specs.Homes.Homes.{Home, Part, Away, AtHome, Parts, Homes
 use Rattle.cloud_facts.specs.Lefts.Left.{IsCopied}
 use Rattle.log_codec.specs.declared.record.AtomicRec.{AtomicRec}
 use Rattle.recover_run.specs.declared.home.Home.{Home as Held}
+use Rattle.session_facts.specs.Openings.Client.{AreOfTrees, KnowsClient}
 use Rattle.route_plan.specs.Heads.{opened_head, settled_head}
 use Rattle.route_plan.specs.Route.{routed}
 use Rattle.cloud_facts.specs.Book.Book.{Book}
@@ -75,7 +76,7 @@ abbrev pub AreLeavesFor : Book → List Noted → List ℕ → Type 0
 AreLeavesFor book changes pages = (place : ℕ) (n : Noted) (page : ℕ) → StandsAt changes place n → StandsAt pages place page → IsLeafFor book n.tree n.change page
 
 -- the records are those of the changes, each with its page, behind a settled head, and none of them is committed; while the lease lasts the
--- pages are those of leaves, and the head is the newest but for pruned entries
+-- pages are those of leaves, and the head is the newest but for pruned entries; its pending entries are of trees
 pub record Routes (st : Store) (now : ℕ) (x : Attempt) (changes : List Noted) (records : List AtomicRec) (base : Head) : Type 0 where
   pub settled : base.phase ≡ Settled
   pub epoch_is : base.epoch ≡ x.epoch
@@ -86,13 +87,14 @@ pub record Routes (st : Store) (now : ℕ) (x : Attempt) (changes : List Noted) 
   pub leaves : Lasts now x.lease → AreLeavesFor st.book changes pages
   pub records_are : records ≡ routed x.client base.epoch x.txn base changes pages
   pub newest : Lasts now x.lease → IsPruned st.tally x.client (st.tally.head x.client) base
+  pub trees : AreOfTrees base.pending
   pub uncommitted : (r : AtomicRec) → IsIn st.book.log r → IsOfAttempt x r → ⊥
 
 -- a home that took the next attempt number, and wrote nothing of that transaction yet
 pub record KnowsTaken (st : Store) (now : ℕ) (held : Held) (part : Part) : Type 0 where
   pub before : ℕ
   pub taken : held.attempt ≡ before + 1
-  pub home : KnowsHome st now held.client held.lease held.head before part
+  pub home : KnowsClient st now held.client held.lease held.head before part
 
 -- a home has sent these records of its last transaction to the ATOMIC queue, and needs them there
 pub record HasSent (g : Home) (records : List AtomicRec) : Type 0 where
@@ -144,12 +146,13 @@ pub record SettlesOpened (st : Store) (now : ℕ) (w : Writing) : Type 0 where
   pub messages : AreMessagesOf st (attempt_of w) w.ids
 
 -- the head that settles landed: it is the newest or an earlier one, and the newest while the lease lasts; the ATOMIC messages of the
--- transaction are needed no more
+-- transaction are needed no more; its pending entries are of trees
 pub record Deletes (st : Store) (now : ℕ) (w : Writing) (g : Home) : Type 0 where
   pub settled : w.home.head.phase ≡ Settled
   pub txn_is : w.home.head.txn ≡ w.home.attempt
   pub past : (st.tally.head w.home.client ≡ w.home.head) ⊎ IsLater w.home.head (st.tally.head w.home.client)
   pub newest : Lasts now w.home.lease → st.tally.head w.home.client ≡ w.home.head
+  pub trees : AreOfTrees w.home.head.pending
   pub needed : g.needed ≡ []
   pub messages : AreMessagesOf st (attempt_of w) w.ids
 
@@ -184,8 +187,8 @@ pub record KnowsCommit (st : Store) (now : ℕ) (w : Writing) (part : Part) : Ty
 
 -- what is known of the home that a commit leaves; where the commit may stand open the home is given up
 abbrev pub KnowsEnd : Store → ℕ → Held → CommitAnswer → Part → Type 0
-KnowsEnd st now home (Committed txn) part = KnowsHome st now home.client home.lease home.head home.attempt part
-KnowsEnd st now home (NotCommitted t) part = KnowsHome st now home.client home.lease home.head home.attempt part
+KnowsEnd st now home (Committed txn) part = KnowsClient st now home.client home.lease home.head home.attempt part
+KnowsEnd st now home (NotCommitted t) part = KnowsClient st now home.client home.lease home.head home.attempt part
 KnowsEnd st now home InDoubt part = part ≡ Away
 KnowsEnd st now home (CommittedOpen t) part = part ≡ Away
 

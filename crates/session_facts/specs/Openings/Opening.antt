@@ -1,7 +1,7 @@
 -- What an opening or a recovery knows of a cloud at each of its calls.
 use Rattle.std.specs.Prelude.{ℕ, ◌≡◌, ◌<◌, ◌≤◌, Bool, true, List, [], ◌∷◌, ◌++◌, length, take, Option, Some, None, Result, Ok, Err}
 use Rattle.std.specs.List.{AllByRecursion}
-use Rattle.cloud_facts.specs.Calls.Acting.{KnowsHome, of_option}
+use Rattle.cloud_facts.specs.Calls.Acting.{of_option}
 use Rattle.cloud_facts.specs.Calls.Others.{WasSentOn}
 use Rattle.cloud_trait.specs.Claim.{Claim}
 use Rattle.cloud_trait.specs.Machine.{Goes, Ends, Stops}
@@ -24,6 +24,7 @@ use Rattle.recover_run.specs.Gathering.{wanted_of, is_lost, is_past}
 use Rattle.recover_run.specs.Meaning.{head_behind}
 use Rattle.recover_run.specs.Recovery.{Recovery, Step, home_of}
 use Rattle.recover_run.proofs.Knowing.{IsRising}
+use Rattle.session_facts.specs.Openings.Client.{KnowsClient}
 use Rattle.cloud_facts.specs.Book.Messages.{IsLogMessage}
 use Rattle.cloud_facts.specs.Book.Records.{IsIn, StandsAt}
 use Rattle.cloud_facts.specs.Book.Tally.{Store}
@@ -102,7 +103,7 @@ pub record SendsOn (st : Store) (client : ℕ) (former lease : Option Claim) (w 
 -- the head of the next epoch landed: the client is open, and works on no commit
 pub record HasPut (st : Store) (now client : ℕ) (former lease : Option Claim) (w : Wanted) (head : Head) (part : Part) : Type 0 where
   pub held : HasLease client former lease
-  pub home : KnowsHome st now client held.now head 0 part
+  pub home : KnowsClient st now client held.now head 0 part
   pub later : w.epoch < head.epoch
 
 -- ---- why it stops
@@ -162,7 +163,7 @@ pub record KnowsOpening (st : Store) (now : ℕ) (r : Recovery) (part : Part) : 
 -- ---- where an answer leads
 
 abbrev pub KnowsEnd : Option Home → Store → ℕ → Part → Type 0
-KnowsEnd (Some h) st now part = KnowsHome st now h.client h.lease h.head h.attempt part
+KnowsEnd (Some h) st now part = KnowsClient st now h.client h.lease h.head h.attempt part
 KnowsEnd None st now part = part ≡ Away
 
 abbrev pub KnowsNext : Step → Store → ℕ → Part → Type 0

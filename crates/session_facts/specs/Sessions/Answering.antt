@@ -1,14 +1,11 @@
 -- With which troubles a session may be answered, by what it has in hand: none that only damage could cause.
-use Rattle.std.specs.Prelude.{ℕ, ◌≡◌}
 use Rattle.client_session.specs.declared.work.Work.{Work}
 use Rattle.client_session.specs.declared.work.Work.TheVariants.{Closed, Idle, Opening, Committing, Reading, Scanning, Folding, Paging, Closing, Renewing, Settling, Broken}
-use Rattle.cloud_trait.specs.Claim.{Lasts}
 use Rattle.session_facts.specs.CommitRuns.Stopping.{MayStop as MayStopCommit}
 use Rattle.db_base.specs.declared.trouble.Trouble.{Trouble}
 use Rattle.db_base.specs.declared.trouble.Trouble.TheVariants as trouble
 use Rattle.session_facts.specs.Openings.Opening.{MayStop as MayStopOpening}
 use Rattle.session_facts.specs.PageCheckpoints.Checkpoint.{MayStop as MayStopPage}
-use Rattle.recover_run.specs.declared.home.Home.{Home}
 use Rattle.session_facts.specs.TreeCheckpoints.Checkpoint.{MayStop as MayStopTree}
 use Rattle.session_facts.specs.Walks.Walks.{MayStop as MayStopWalk}
 
@@ -44,7 +41,3 @@ MayAnswer (Settling m) t = MaySettle t
 MayAnswer Closed t = ⊥
 MayAnswer (Idle home) t = ⊥
 MayAnswer (Broken l) t = ⊥
-
--- a client is open, and its lease lasts
-abbrev pub HoldsLease : ℕ → Work → Type 0
-HoldsLease now work = (home : Home) × (work ≡ Idle home) × Lasts now home.lease

@@ -5,7 +5,6 @@ use Rattle.client_session.specs.declared.op.Op.{Op}
 use Rattle.client_session.specs.declared.op.Op.TheVariants as op
 use Rattle.client_session.specs.declared.work.Work.{Work}
 use Rattle.client_session.specs.declared.work.Work.TheVariants.{Closed, Idle, Opening, Committing, Reading, Scanning, Folding, Paging, Closing, Renewing, Settling, Broken}
-use Rattle.cloud_facts.specs.Calls.Acting.{KnowsHome}
 use Rattle.cloud_facts.specs.Calls.Looks.{audit_of}
 use Rattle.cloud_facts.specs.Calls.Standing.{StandsUnder}
 use Rattle.cloud_trait.specs.Claim.{Claim}
@@ -17,6 +16,7 @@ use Rattle.session_facts.specs.CommitRuns.Running.{KnowsRun}
 use Rattle.db_base.specs.Ids.{IsClient, IsTree, IsPage}
 use Rattle.cloud_facts.specs.Homes.Homes.{Part, Away, Parts, HomesHold}
 use Rattle.cloud_facts.specs.Leases.Leases.{Hands, LeasesHold}
+use Rattle.session_facts.specs.Openings.Client.{KnowsClient}
 use Rattle.session_facts.specs.Openings.Opening.{KnowsOpening, leases_of_recovery}
 use Rattle.page_cache.specs.Cache.{Cache}
 use Rattle.session_facts.specs.PageCheckpoints.Checkpoint.{KnowsPaging, leases_of_paging}
@@ -49,7 +49,7 @@ leases_of (Broken l) = l ∷ []
 
 -- an open client that works on no commit
 abbrev pub IsHome : Store → ℕ → Home → Part → Type 0
-IsHome st now home part = KnowsHome st now home.client home.lease home.head home.attempt part
+IsHome st now home part = KnowsClient st now home.client home.lease home.head home.attempt part
 
 -- what a session knows of a store at a moment, by what it has in hand beside its cache, and by its part
 abbrev pub KnowsWork : Store → ℕ → Cache → Work → Part → Type 0

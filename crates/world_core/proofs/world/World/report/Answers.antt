@@ -9,6 +9,7 @@ returns-in-Err-report g c = record {
   world = refl;
   looked = c.in-Err-report.ensures.looked;
   reply = subst (λ r. ReportReply c.args.tree (g.C.Cloud.seen c.args.cloud.now) (g.C.Cloud.seen c.report.new.cloud) c.args.self.now r) (sym c.trouble_reply.ensures) (report_stops c.args.tree (g.C.Cloud.seen c.args.cloud.now) (g.C.Cloud.seen c.report.new.cloud) c.args.self.now c.in-Err-report.trouble (c.in-Ok.ensures.valid.0 refl) (record {
+    blinded = λ e. absurd (cc);
     failed = λ e. inr (c.in-Err-report.ensures.failed e);
     stands = λ sees x told. subst (λ k. Stopped x k c.in-Err-report.trouble) c.in-Ok.ensures.ok (c.in-Err-report.ensures.stopped x told);
   }));

@@ -1,0 +1,19 @@
+-- What an open client that works on no commit knows.
+use Rattle.std.specs.Prelude.{ℕ, List}
+use Rattle.cloud_facts.specs.Book.Records.{IsIn}
+use Rattle.cloud_facts.specs.Book.Tally.{Store}
+use Rattle.cloud_facts.specs.Calls.Acting.{KnowsHome}
+use Rattle.cloud_facts.specs.Homes.Homes.{Part}
+use Rattle.cloud_trait.specs.Claim.{Claim}
+use Rattle.db_base.specs.Ids.{IsTree}
+use Rattle.head_codec.specs.declared.head.Head.{Head}
+use Rattle.head_codec.specs.declared.lists.Pending.{Pending}
+
+-- pending entries are of trees
+abbrev pub AreOfTrees : List Pending → Type 0
+AreOfTrees pending = (p : Pending) → IsIn pending p → IsTree p.tree
+
+-- its home, and that the pending entries of its head are of trees, whether its lease lasts or not
+pub record KnowsClient (st : Store) (now client : ℕ) (lease : Claim) (head : Head) (attempt : ℕ) (part : Part) : Type 0 where
+  pub at : KnowsHome st now client lease head attempt part
+  pub trees : AreOfTrees head.pending

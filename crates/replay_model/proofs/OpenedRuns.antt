@@ -6,7 +6,7 @@ use Rattle.cloud_trait.specs.Machine.{Next, Goes, Ends, Stops}
 use Rattle.cloud_trait.specs.Views.{sent_of, done_of}
 use Rattle.commit_writes.specs.declared.stage.Stage.{Stage}
 use Rattle.commit_writes.specs.declared.stage.Stage.TheVariants.{Waiting, Logging, Opening, Sending, Settling, Deleting, Finished}
-use Rattle.commit_writes.specs.Writing.{Writing, with_home, with_attempt, is_spent, log_or_open, not_committed, routed_of, passes, begun, routing, next_at as writing_next_at, send_or_settle, send_at, delete_or_end, delete_at, logged_by, not_opened, opened_by, sent_by, settled_by, deleted_by, numbered}
+use Rattle.commit_writes.specs.Writing.{Writing, with_home, with_attempt, is_spent, log_or_open, not_committed, routed_of, passes, begun, routing, next_at as writing_next_at, send_or_settle, send_at, delete_or_end, delete_at, logged_by, not_opened, opened_by, sent_by, settled_by, deleted_by}
 use Rattle.commit_run.specs.declared.hand.Hand.{Hand}
 use Rattle.commit_run.specs.declared.hand.Hand.TheVariants.{Writes, First, Change}
 use Rattle.commit_run.specs.Draft.{Draft, new_draft, pruned_by_root, pruned_by_kept, pruned_with, pruned_behind, planned, leaf_noted, paged}

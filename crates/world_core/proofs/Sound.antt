@@ -1,6 +1,6 @@
 -- Every line is answered soundly: no trouble is replied that only damage could cause.
-use Rattle.std.proofs.Common.{◌≡◌, ◌+◌, ◌⊎◌, inl, inr, ℕ, List, [], ◌∷◌, ◌++◌, length, Bool, true, false, Option, Some, None, Result, Ok, Err, refl, sym, ap, subst, ◌∙◌}
-use Rattle.client_session.specs.Session.{Acting, StepsSession, Begins, value_of, items_of}
+use Rattle.std.proofs.Common.{◌≡◌, ◌+◌, inl, inr, ℕ, List, [], ◌∷◌, ◌++◌, length, Bool, true, false, Option, Some, None, Result, Ok, Err, refl, sym, ap, subst, ◌∙◌}
+use Rattle.client_session.specs.Session.{Acting, StepsSession, Begins, value_of}
 use Rattle.client_session.specs.declared.answer.Answer.{Answer}
 use Rattle.client_session.specs.declared.answer.Answer.TheVariants as answer
 use Rattle.client_session.specs.declared.answer.Begun.{Begun}
@@ -16,7 +16,6 @@ use Rattle.cloud_trait.specs.declared.turn.Turn.{Turn}
 use Rattle.cloud_trait.specs.declared.turn.Turn.TheVariants.{More, Ended, Stopped}
 use Rattle.session_facts.specs.CommitRuns.Stopping.{MayEnd}
 use Rattle.db_base.specs.declared.change.Change.{Change}
-use Rattle.db_base.specs.declared.change.Change.TheVariants.{Insert, Update, Delete}
 use Rattle.db_base.specs.declared.refusal.Refused.{Refused}
 use Rattle.db_base.specs.declared.refusal.Refused.TheVariants as refused
 use Rattle.db_base.specs.declared.trouble.CommitAnswer.{CommitAnswer}
@@ -37,7 +36,7 @@ use Rattle.replay_model.proofs.Steps.{CallLeaves, CallLeavesUpto, wish_holds}
 use Rattle.reply_text.specs.declared.reply.Reply.{Reply}
 use Rattle.reply_text.specs.declared.reply.Reply.TheVariants as reply
 use Rattle.session_facts.specs.Sessions.Answering.{MaySettle, MayAnswer, HoldsLease}
-use Rattle.session_facts.specs.Sessions.Sessions.{Sessions, SessionsStand, IsRightOp}
+use Rattle.session_facts.specs.Sessions.Sessions.{Sessions, IsRightOp}
 use Rattle.session_facts.proofs.Sessions.BeginStops.{begin_stops, begin_ends}
 use Rattle.session_facts.proofs.Sessions.Stopping.{session_stops, session_ends}
 use Rattle.cloud_facts.specs.Book.Tally.{at}

@@ -74,7 +74,7 @@ abbrev with_rows : CloudState → List Landing → CloudState
 with_rows b rows = record b { trace = rows }
 
 -- the rows that a call leaves are those from before with what it adds to the others
-effect_rows : (who : Caller) (ask : Ask) (b : CloudState) (before added : List Landing) → b.trace ≡ before ++ added
+pub effect_rows : (who : Caller) (ask : Ask) (b : CloudState) (before added : List Landing) → b.trace ≡ before ++ added
     → (effect who ask b).trace ≡ before ++ (effect who ask (with_rows b added)).trace
 effect_rows who (PutHeld name bytes one two) b before added e =
     let row : Landing = record { who = who; site = Object name; position = length (b.versions name) + 1 } in
@@ -93,7 +93,7 @@ effect_rows who (Release l) b before added e =
     effect_trace who (Release l) b tt ∙ e ∙ ap (λ rows. before ++ rows) (sym (effect_trace who (Release l) (with_rows b added) tt))
 
 -- and the versions do not look at them
-effect_same : (who : Caller) (ask : Ask) (b : CloudState) (rows : List Landing) → (effect who ask b).versions ≡ (effect who ask (with_rows b rows)).versions
+pub effect_same : (who : Caller) (ask : Ask) (b : CloudState) (rows : List Landing) → (effect who ask b).versions ≡ (effect who ask (with_rows b rows)).versions
 effect_same who (PutHeld name bytes one two) b rows = refl
 effect_same who (Send queue bytes) b rows = refl
 effect_same who (Get name) b rows = refl

@@ -18,6 +18,8 @@ pub mod CallAsks
 pub mod CallKinds
 pub mod Steps
 pub mod AddedRows
+pub mod OpenedRuns
+pub mod OpenedCalls
 pub mod LineLemmas
 pub mod SettlerLemmas
 pub mod StartLemmas

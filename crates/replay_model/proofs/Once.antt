@@ -122,7 +122,7 @@ abbrev pub OpensUnopened : CloudState → Ask → Type 0
 OpensUnopened t (PutHeld (object.Head client) bytes one two) = (head : Head) (count : ℕ) → head_of bytes ≡ Some head → head.phase ≡ phase.Open count → IsUnopened t client head
 OpensUnopened t ask = Unit {0}
 
-lands_same : (s t : CloudState) (row : Landing) (client : ℕ) (head : Head) → t.versions ≡ s.versions → LandsOpen t row client head → LandsOpen s row client head
+pub lands_same : (s t : CloudState) (row : Landing) (client : ℕ) (head : Head) → t.versions ≡ s.versions → LandsOpen t row client head → LandsOpen s row client head
 lands_same s t row client head v o = record {
   site = o.site;
   bytes = o.bytes;
@@ -138,7 +138,7 @@ once_same s t v r once i j a b client x y at_i at_j open_a open_b =
     (lands_same s t a client x v open_a) (lands_same s t b client y v open_b)
 
 -- a row of a queue opens no head
-sends_none : (t : CloudState) (row : Landing) (client : ℕ) (head : Head) (queue : _) → row.site ≡ Queue queue → LandsOpen t row client head → ⊥
+pub sends_none : (t : CloudState) (row : Landing) (client : ℕ) (head : Head) (queue : _) → row.site ≡ Queue queue → LandsOpen t row client head → ⊥
 sends_none t row client head queue is o = let never : Queue queue ≡ Object (object.Head client) = sym is ∙ o.site in absurd (cc)
 
 -- one row more that opens nothing twice
@@ -163,7 +163,7 @@ module _ (rows : List Landing) (row : Landing) (s t : CloudState) (trace : t.tra
       on (inr p) (inr q) = last_place rows row i p.0 a p.1 p.2 ∙ sym (last_place rows row j q.0 b q.1 q.2)
 
 -- a row that was placed put the same before
-put_kept : (who : Caller) (name : ObjName) (bytes : List ℕ) (b : CloudState) (row : Landing) (client : ℕ) (head : Head) → IsPlaced b.versions row
+pub put_kept : (who : Caller) (name : ObjName) (bytes : List ℕ) (b : CloudState) (row : Landing) (client : ℕ) (head : Head) → IsPlaced b.versions row
     → LandsOpen (landed who name bytes b) row client head → LandsOpen b row client head
 put_kept who name bytes b row client head placed o =
     let within : row.position ≤ length (b.versions (object.Head client)) = subst (IsPlacedAt b.versions row.position) o.site placed in

@@ -45,7 +45,7 @@ pub record IsAdding (lines : List Line) (first : CloudState) (world : World) (se
 rows_begin : (lines : List Line) (first : CloudState) (seen : Seen) → AddsTo (length lines) lines first seen → AddsTo (length lines + 1) lines first seen
 rows_begin lines first seen a = record { state = a.state; told = a.told; adds = adds_later (length lines) (length lines + 1) lines first a.state (omega arith) a.adds }
 
-adding_begins : (lines : List Line) (first : CloudState) (world : World) (seen : Seen) → WorldAdds lines first world seen → IsAdding lines first world seen
+pub adding_begins : (lines : List Line) (first : CloudState) (world : World) (seen : Seen) → WorldAdds lines first world seen → IsAdding lines first world seen
 adding_begins lines first world seen w = record { rows = rows_begin lines first seen w.rows; acts = w.acts }
 
 -- where what is added within the line is of its kind, and the sessions stand as it says, it is one of the lines
@@ -149,7 +149,7 @@ more_adding lines first who wish before after old new event way p =
       acts = λ n. subst (λ a. ActsAs a (standing lines n)) (sym (sessions_after lines first who wish before after old new More event way p n)) (all n);
     }
 
-went_adding : (lines : List Line) (first : CloudState) (who : Caller) (before : Seen) (old : World) (after : Seen) (new : World) → who.event ≡ length lines + 1
+pub went_adding : (lines : List Line) (first : CloudState) (who : Caller) (before : Seen) (old : World) (after : Seen) (new : World) → who.event ≡ length lines + 1
     → IsAdding lines first old before → Went who before old after new → IsAdding lines first new after
 went_adding lines first who before old after new number way start = way
 went_adding lines first who before old after new number way (further mid _ world _ went step) =

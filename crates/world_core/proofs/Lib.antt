@@ -12,3 +12,4 @@ pub mod EveryLine
 pub mod Sound
 pub mod AddedSteps
 pub mod AddedLines
+pub mod OpenedLines

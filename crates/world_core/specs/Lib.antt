@@ -6,3 +6,4 @@ pub mod Handled
 pub mod Stands
 pub mod Sound
 pub mod Added
+pub mod Opened

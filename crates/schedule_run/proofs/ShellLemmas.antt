@@ -1,5 +1,5 @@
 -- The lines of a shell, one after another.
-use Rattle.std.proofs.Common.{◌≡◌, ◌+◌, ℕ, List, [], ◌∷◌, ◌++◌, length, Result, Ok, Err, Bool, true, false, if◌then◌else◌, refl, sym, ap, subst, ◌∙◌, append_assoc, inl, inr, arith, length-append}
+use Rattle.std.proofs.Common.{◌≡◌, ◌+◌, ℕ, List, [], ◌∷◌, ◌++◌, length, Some, Result, Ok, Err, Bool, true, false, if◌then◌else◌, refl, sym, ap, subst, ◌∙◌, append_assoc, inl, inr, arith, length-append}
 use Rattle.std.proofs.lemmas.List.{append-nil}
 use Rattle.cloud_trait.specs.Seen.{Seen}
 use Rattle.db_io.specs.Content.{Told, Adds, AddsPrefix}
@@ -18,16 +18,42 @@ use Rattle.words.specs.declared.fault.TextFault.TheVariants.{NotInGrammar}
 use Rattle.schedule_run.specs.declared.play.Play.{Play}
 use Rattle.schedule_run.specs.declared.shell.ShellFault.{ShellFault}
 use Rattle.schedule_run.specs.declared.shell.ShellFault.TheVariants.{NotOpened, BadLine, WriteFault, Memory}
-use Rattle.schedule_run.specs.Play.{IsFresh, IsRun, answered, answered_run, StopsRun, stops_event, stops_run, Played}
+use Rattle.schedule_run.specs.Play.{IsFresh, IsNext, IsRun, answered, answered_run, StopsRun, stops_event, stops_run, Played}
 use Rattle.schedule_run.specs.Written.{AddsFront, NothingRan, reply_line, shown_from, bad_line}
-use Rattle.schedule_run.specs.Shell.{AreShellLines, IsBad, alone, with_run, no_events, more_events, WereRun, in_event, in_run, WereStopped, Opens, cut_opening, cut_line, cut_closing, cut_refusal, out_before, out_writing, out_between, out_opening, out_next, ShellEnded, ShellWent, IsAt, RanOutAt, out_reply, out_event, EventRan, shown_by, ended, is_opened, opened_by, OpeningRan, ClosingRan, LineRefused, LineRan, event_run, refused, unread}
+use Rattle.schedule_run.specs.Shell.{AreShellLines, IsBad, alone, with_run, no_events, more_events, WereRun, in_event, in_run, WereStopped, Opens, WasCut, cut_opening, cut_line, cut_closing, cut_refusal, out_before, out_writing, out_between, out_opening, out_next, ShellEnded, ShellWent, IsAt, RanOutAt, out_reply, out_event, EventRan, shown_by, ended, is_opened, opened_by, OpeningRan, ClosingRan, LineRefused, LineRan, event_run, refused, unread}
 use Rattle.schedule_run.proofs.GoingLemmas.{adds_more}
+use Rattle.schedule_run.proofs.ShellOnce.{of_shell, shells_more, once_nothing, once_more, once_behind, none_twice}
+use Rattle.schedule_run.specs.ShellOnce.{AllShells, AreShells}
+use Rattle.replay_model.specs.Opened.{AddsNoneTwice}
+use Rattle.world_core.specs.Opened.{WorldOnce}
+use Rattle.world_core.proofs.OpenedLines.{handled_once}
+use Rattle.cloud_trait.specs.State.{CloudState}
 use Rattle.schedule_run.proofs.PlayLemmas.{played_nothing, played_more, stopped_at}
 
 -- ---- events that are run whole
 
 run_nothing : (s : Seen) (play : Play) → IsFresh play → WereRun [] [] s s play
-run_nothing s play fresh = record { lines = []; whole = no_events; count = refl; played = played_nothing s play fresh }
+run_nothing s play fresh = record {
+  lines = [];
+  whole = no_events;
+  count = refl;
+  played = played_nothing s play fresh;
+  once = λ shells t told. once_nothing s play.world t told fresh.world;
+}
+
+-- the number under which the next event is handled
+next_number : (event : Event) (reply : Reply) (lines : List Line) (s t z : Seen) (old new : Play) → Played lines s t old → IsNext event reply t z old new → length lines + 1 ≡ new.handled
+next_number event reply lines s t z old new p n =
+    let c : old.handled ≡ length lines = p.count in
+    let d : new.handled ≡ old.handled + 1 = n.count in
+    omega arith
+
+-- one event more opens no transaction twice
+once_next : (events : List Event) (replies : List Reply) (event : Event) (reply : Reply) (s t z : Seen) (old new : Play) → WereRun events replies s t old → IsNext event reply t z old new
+    → AreShells (events ++ event ∷ []) → (x : CloudState) → s.state ≡ Some x → WorldOnce x new.world z
+once_next events replies event reply s t z old new w next shells x told =
+    once_more events event reply new.handled w.lines x t z old.world new.world (next_number event reply w.lines s t z old new w.played next) shells next.handled (w.played.kinds x told)
+    (λ own. w.once own x told)
 
 run_more : (events : List Event) (replies : List Reply) (event : Event) (reply : Reply) (s t z : Seen) (old new : Play)
     → WereRun events replies s t old → IsRun event reply t z old new → WereRun (events ++ event ∷ []) (replies ++ reply ∷ []) s z new
@@ -36,6 +62,7 @@ run_more events replies event reply s t z old new w (answered other next) = reco
   whole = more_events events event w.lines (record { event = event; reply = reply } ∷ []) replies reply w.whole (alone reply other);
   count = omega (arith, length-append replies (reply ∷ []), length-append events (event ∷ []), w.count);
   played = played_more w.lines event reply s t z old new w.played next;
+  once = λ shells x told. once_behind events event x new.world z (once_next events replies event reply s t z old new w next shells x told);
 }
 run_more events replies event reply s t z old new w (answered_run mid play first last) =
     let began : Line = record { event = event; reply = Begun } in
@@ -46,6 +73,11 @@ run_more events replies event reply s t z old new w (answered_run mid play first
       count = omega (arith, length-append replies (reply ∷ []), length-append events (event ∷ []), w.count);
       played = subst (λ ls. Played ls s z new) (append_assoc w.lines (began ∷ []) (ran ∷ []))
           (played_more (w.lines ++ began ∷ []) (Run 1) reply s mid z play new (played_more w.lines event Begun s t mid old play w.played first) last);
+      once = λ shells x told.
+          let p = played_more w.lines event Begun s t mid old play w.played first in
+          once_behind events event x new.world z
+          (handled_once new.handled (Run 1) mid z play.world new.world reply (w.lines ++ began ∷ []) x (next_number (Run 1) reply (w.lines ++ began ∷ []) s mid z play new p last) refl
+          last.handled (p.kinds x told) (once_next events replies event Begun s t mid old play w first shells x told));
     }
 
 run_stopped : (events : List Event) (replies : List Reply) (event : Event) (s t z : Seen) (old new : Play)
@@ -105,6 +137,48 @@ never_read event (inr e) = absurd (cc)
 pub is_bad : (text : List ℕ) → ((event : Event) → IsShellLine text event → IsReadTo (Err NotInGrammar) event) → IsBad text
 is_bad text only event is = never_read event (only event is)
 
+-- ---- the whole
+
+-- the events of these lines are a shell's
+all_shells : (texts : List (List ℕ)) (events : List Event) → AreShellLines texts events → AllShells events
+all_shells [] [] spelled = tt
+all_shells [] (e ∷ events) spelled = absurd spelled
+all_shells (t ∷ texts) [] spelled = absurd spelled
+all_shells (t ∷ texts) (e ∷ events) spelled = (of_shell t e spelled.0, all_shells texts events spelled.1)
+
+module _ (client : ℕ) (events : List Event) (s z : Seen) (x : CloudState) (told : s.state ≡ Some x) (shells : AllShells events) where
+  opened_behind : (later : List Event) (replies : List Reply) (play : Play) → AllShells later → WereRun (Open 1 client ∷ later) replies s z play → AddsNoneTwice x z
+  opened_behind later replies play all run = none_twice x play.world z (run.once ((client, refl), all) x told)
+
+  closed_behind : AllShells (events ++ Close 1 ∷ [])
+  closed_behind = shells_more events (Close 1) shells refl
+
+  cut_once : (later : List (List ℕ)) (w u : Told) → WasCut client events later w u s z → AddsNoneTwice x z
+  cut_once later w u (cut_opening reply play none run front) = opened_behind [] (reply ∷ []) play tt run
+  cut_once later w u (cut_line replies reply play run opens front) = opened_behind events (replies ++ reply ∷ []) play shells run
+  cut_once later w u (cut_closing replies reply play none run opens front) = opened_behind (events ++ Close 1 ∷ []) (replies ++ reply ∷ []) play closed_behind run
+  cut_once later w u (cut_refusal replies play bad run opens front) = opened_behind events replies play shells run
+
+  ended_once : (result : Result (Unit {0}) ShellFault) (later : List (List ℕ)) (w u : Told) → ShellEnded result client events later w u s z → (result ≡ Err Memory → ⊥) → AddsNoneTwice x z
+  ended_once (Ok done) later w u so finds = opened_behind (events ++ Close 1 ∷ []) so.1.replies so.1.play closed_behind so.1.run
+  ended_once (Err NotOpened) later w u so finds = opened_behind [] (so.reply ∷ []) so.play tt so.run
+  ended_once (Err BadLine) later w u so finds = opened_behind events so.1.replies so.1.play shells so.1.run
+  ended_once (Err WriteFault) later w u so finds = cut_once later w u so
+  ended_once (Err Memory) later w u so finds = absurd (finds refl)
+
+-- how it went, by how it ended
+shell_went : {client : ℕ} {text : List ℕ} {result : Result (Unit {0}) ShellFault} {w u : Told} {s z : Seen} → (events : List Event) (earlier later : List (List ℕ))
+    → lines_of text ≡ earlier ++ later → AreShellLines earlier events → ShellEnded result client events later w u s z → ShellWent client text result w u s z
+shell_went {client} {text} {result} {w} {u} {s} {z} events earlier later at spelled so = record {
+  events = events;
+  earlier = earlier;
+  later = later;
+  at = at;
+  spelled = spelled;
+  so = so;
+  opens_once = λ finds x told. ended_once client events s z x told (all_shells earlier events spelled) result later w u so finds;
+}
+
 -- ---- one event
 
 -- an event that was run, and whose last reply was written, or a part of it
@@ -161,25 +235,13 @@ open_ended client text w u s t old new Memory fresh p = open_out client text w u
 
 pub open_fault : (client : ℕ) (text : List ℕ) (w u : Told) (s t : Seen) (old new : Play) (fault : ShellFault) → IsFresh old
     → OpeningRan (Err fault) client w u s t old new → ShellWent client text (Err fault) w u s t
-open_fault client text w u s t old new fault fresh p = record {
-  events = [];
-  earlier = [];
-  later = lines_of text;
-  at = refl;
-  spelled = tt;
-  so = open_ended client text w u s t old new fault fresh p;
-}
+open_fault client text w u s t old new fault fresh p = shell_went [] [] (lines_of text) refl tt
+    (open_ended client text w u s t old new fault fresh p)
 
 -- where there is no memory for a world
 pub out_first : (client : ℕ) (text : List ℕ) (w u : Told) (s t : Seen) → NothingRan w u s t → ShellWent client text (Err Memory) w u s t
-out_first client text w u s t nothing = record {
-  events = [];
-  earlier = [];
-  later = lines_of text;
-  at = refl;
-  spelled = tt;
-  so = out_before nothing;
-}
+out_first client text w u s t nothing = shell_went [] [] (lines_of text) refl tt
+    (out_before nothing)
 
 -- ---- one line more
 
@@ -211,14 +273,8 @@ at_more client text rest behind line n m w v u s t z old new is split next (unre
 -- where a shell stops between two lines for want of memory
 pub at_stop : (client : ℕ) (text rest : List ℕ) (n : ℕ) (w v : Told) (s t : Seen) (play : Play)
     → IsAt client text rest n w v s t play → ShellWent client text (Err Memory) w v s t
-at_stop client text rest n w v s t play is = record {
-  events = is.events;
-  earlier = is.earlier;
-  later = lines_of rest;
-  at = is.at;
-  spelled = is.spelled;
-  so = out_between is.replies play is.run is.opened is.wrote;
-}
+at_stop client text rest n w v s t play is = shell_went is.events is.earlier (lines_of rest) is.at is.spelled
+    (out_between is.replies play is.run is.opened is.wrote)
 
 -- ---- the end
 
@@ -254,15 +310,8 @@ close_ended client text rest n m w v u s t z old new is next (Err Memory) ran = 
 
 pub at_end : (client : ℕ) (text rest : List ℕ) (n m : ℕ) (w v u : Told) (s t z : Seen) (old new : Play) (result : Result (Unit {0}) ShellFault)
     → IsAt client text rest n w v s t old → rest ≡ [] → m ≡ n + 1 → ClosingRan result m v u t z old new → ShellWent client text result w u s z
-at_end client text rest n m w v u s t z old new result is none next closing = record {
-  events = is.events;
-  earlier = is.earlier;
-  later = [];
-  at = is.at ∙ ap (λ r. is.earlier ++ lines_of r) none;
-  spelled = is.spelled;
-  so = subst (λ r. ShellEnded r client is.events [] w u s z) (sym closing.ends)
-      (close_ended client text rest n m w v u s t z old new is next closing.answer closing.ran);
-}
+at_end client text rest n m w v u s t z old new result is none next closing = shell_went is.events is.earlier [] (is.at ∙ ap (λ r. is.earlier ++ lines_of r) none) is.spelled
+    (subst (λ r. ShellEnded r client is.events [] w u s z) (sym closing.ends) (close_ended client text rest n m w v u s t z old new is next closing.answer closing.ran))
 
 -- ---- a line that ends the shell
 
@@ -280,14 +329,8 @@ met_count {client} {text} {rest} {behind} {line} {n} {m} {w} {v} {s} {t} {old} m
 ends_before : {client : ℕ} {text rest behind line : List ℕ} {n m : ℕ} {w v : Told} {s t : Seen} {old : Play}
     → (result : Result (Unit {0}) ShellFault) (u : Told) (z : Seen) → (met : IsMet client text rest behind line n m w v s t old)
     → ShellEnded result client met.is.events (line ∷ lines_of behind) w u s z → ShellWent client text result w u s z
-ends_before {client} {text} {rest} {behind} {line} {n} {m} {w} {v} {s} {t} {old} result u z met so = record {
-  events = met.is.events;
-  earlier = met.is.earlier;
-  later = line ∷ lines_of behind;
-  at = met.is.at ∙ ap (λ ls. met.is.earlier ++ ls) met.split;
-  spelled = met.is.spelled;
-  so = so;
-}
+ends_before {client} {text} {rest} {behind} {line} {n} {m} {w} {v} {s} {t} {old} result u z met so = shell_went met.is.events met.is.earlier (line ∷ lines_of behind) (met.is.at ∙ ap (λ ls. met.is.earlier ++ ls) met.split) met.is.spelled
+    so
 
 -- its reply is cut
 ends_cut : {client : ℕ} {text rest behind line : List ℕ} {n m : ℕ} {w v : Told} {s t : Seen} {old : Play}
@@ -303,22 +346,9 @@ ends_cut {client} {text} {rest} {behind} {line} {n} {m} {w} {v} {s} {t} {old} me
     let wrote : AddsFront w u (shown_from 0 is.replies) (reply_line (length is.replies) reply) =
     cut_behind w v u is.replies (λ j. reply_line j reply) m (met_count met) is.wrote front in
     let spelled : AreShellLines (is.earlier ++ line ∷ []) (is.events ++ event ∷ []) = shell_more is.earlier is.events line event is.spelled spells in (
-      record {
-        events = is.events ++ event ∷ [];
-        earlier = is.earlier ++ line ∷ [];
-        later = lines_of behind;
-        at = at;
-        spelled = spelled;
-        so = cut_line is.replies reply new run is.opened wrote;
-      },
-      record {
-        events = is.events ++ event ∷ [];
-        earlier = is.earlier ++ line ∷ [];
-        later = lines_of behind;
-        at = at;
-        spelled = spelled;
-        so = out_writing (cut_line is.replies reply new run is.opened wrote);
-      },
+      shell_went (is.events ++ event ∷ []) (is.earlier ++ line ∷ []) (lines_of behind) at spelled (cut_line is.replies reply new run is.opened wrote),
+      shell_went (is.events ++ event ∷ []) (is.earlier ++ line ∷ []) (lines_of behind) at spelled
+          (out_writing (cut_line is.replies reply new run is.opened wrote)),
     )
 
 event_out : {client : ℕ} {text rest behind line : List ℕ} {n m : ℕ} {w v : Told} {s t : Seen} {old : Play}

@@ -3,6 +3,7 @@ pub mod Written
 pub mod Replayed
 pub mod Play
 pub mod Settling
+pub mod ShellOnce
 pub mod Shell
 pub mod Summary
 pub mod Generated

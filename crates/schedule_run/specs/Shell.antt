@@ -1,6 +1,7 @@
 -- What a shell writes and leaves, line by line.
-use Rattle.std.specs.Prelude.{ℕ, ◌≡◌, Bool, true, false, if◌then◌else◌, List, [], ◌∷◌, ◌++◌, length, Result, Ok, Err}
+use Rattle.std.specs.Prelude.{ℕ, ◌≡◌, ◌≢◌, Some, Bool, true, false, if◌then◌else◌, List, [], ◌∷◌, ◌++◌, length, Result, Ok, Err}
 use Rattle.cloud_trait.specs.Seen.{Seen}
+use Rattle.cloud_trait.specs.State.{CloudState}
 use Rattle.db_io.specs.Content.{Told, Adds, AddsPrefix}
 use Rattle.event_text.specs.declared.event.Event.{Event}
 use Rattle.event_text.specs.declared.event.Event.TheVariants.{Open, Close, Run}
@@ -11,10 +12,12 @@ use Rattle.line_io.specs.declared.output.OutputFault.TheVariants as output
 use Rattle.reply_text.specs.declared.reply.Reply.{Reply}
 use Rattle.reply_text.specs.declared.reply.Reply.TheVariants.{Begun, Opened}
 use Rattle.replay_meaning.specs.Standing.{Line}
+use Rattle.replay_model.specs.Opened.{AddsNoneTwice}
 use Rattle.schedule_run.specs.declared.play.Play.{Play}
 use Rattle.schedule_run.specs.declared.shell.ShellFault.{ShellFault}
 use Rattle.schedule_run.specs.declared.shell.ShellFault.TheVariants.{NotOpened, BadLine, WriteFault, Memory}
 use Rattle.schedule_run.specs.Play.{Played, StoppedAt, IsRun, StopsRun}
+use Rattle.schedule_run.specs.ShellOnce.{AreShells, OnceBehind}
 use Rattle.schedule_run.specs.Written.{AddsFront, NothingRan, reply_line, shown_from, bad_line}
 
 -- ---- the lines of a shell
@@ -56,12 +59,14 @@ pub data AreWhole : List Event → List Line → List Reply → Type 0 where
   more_events : (events : List Event) (event : Event) (lines of_it : List Line) (replies : List Reply) (reply : Reply)
       → AreWhole events lines replies → IsWhole event of_it reply → AreWhole (events ++ event ∷ []) (lines ++ of_it) (replies ++ reply ∷ [])
 
--- these events were run whole from a new world on, and these are their last replies
+-- these events were run whole from a new world on, and these are their last replies; where they are a shell's, no transaction was opened twice, over any
+-- cloud that tells its state
 pub record WereRun (events : List Event) (replies : List Reply) (start now : Seen) (play : Play) : Type 0 where
   pub lines : List Line
   pub whole : AreWhole events lines replies
   pub count : length replies ≡ length events
   pub played : Played lines start now play
+  pub once : AreShells events → (t : CloudState) → start.state ≡ Some t → OnceBehind events t play.world now
 
 -- memory ran out at an event behind these lines, or at the run of what it began
 pub data StoppedIn (event : Event) (lines : List Line) (start now : Seen) : Type 0 where
@@ -148,7 +153,8 @@ ShellEnded (Err BadLine) client events later written now_written start now =
 ShellEnded (Err WriteFault) client events later written now_written start now = WasCut client events later written now_written start now
 ShellEnded (Err Memory) client events later written now_written start now = ShellRanOut client events later written now_written start now
 
--- the lines of a text were run up to this end
+-- the lines of a text were run up to this end; where memory did not run out, no two of the rows that they added to the trace of a cloud put open heads that
+-- agree in client, epoch and transaction, whatever was in the cloud before
 pub record ShellWent (client : ℕ) (text : List ℕ) (ended : Result (Unit {0}) ShellFault) (written now_written : Told) (start now : Seen) : Type 0 where
   pub events : List Event
   pub earlier : List (List ℕ)
@@ -156,6 +162,7 @@ pub record ShellWent (client : ℕ) (text : List ℕ) (ended : Result (Unit {0})
   pub at : lines_of text ≡ earlier ++ later
   pub spelled : AreShellLines earlier events
   pub so : ShellEnded ended client events later written now_written start now
+  pub opens_once : ended ≢ Err Memory → (t : CloudState) → start.state ≡ Some t → AddsNoneTwice t now
 
 -- ---- between two lines
 

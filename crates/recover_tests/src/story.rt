@@ -1,0 +1,52 @@
+//! What machines did, as a text: a line for each call, and one for each answer.
+
+use call_text::call_text;
+use cloud_trait::call::Call;
+use db_base::trouble::Trouble;
+use reply_text::write::trouble_text;
+use std::alloc::Global;
+use std::test::Fail;
+
+#[derive(Drop)]
+pub(crate) struct Story {
+    alloc: Global,
+    text: String,
+}
+
+impl Story {
+    pub(crate) fn new(alloc: Global) -> Story {
+        Story {
+            alloc,
+            text: String::new(alloc),
+        }
+    }
+
+    pub(crate) fn as_str(&self) -> &str {
+        self.text.as_str()
+    }
+
+    /// Adds a line.
+    pub(crate) fn line(&mut self, text: &str) -> Result<(), Fail> {
+        self.text.push_str(text)?;
+        self.text.push_str("\n")?;
+        Ok(())
+    }
+
+    /// Adds a word and a number.
+    pub(crate) fn number(&mut self, word: &str, number: u64) -> Result<(), Fail> {
+        let text = format!(in self.alloc; "{word} {number}")?;
+        self.line(text.as_str())
+    }
+
+    /// Adds a call.
+    pub(crate) fn call(&mut self, call: &Call<'_>) -> Result<(), Fail> {
+        let text = call_text(self.alloc, call)?;
+        self.line(text.as_str())
+    }
+
+    /// Adds a trouble.
+    pub(crate) fn trouble(&mut self, trouble: &Trouble) -> Result<(), Fail> {
+        let text = trouble_text(self.alloc, trouble).ok().ok_or("no text")?;
+        self.line(text.as_str())
+    }
+}

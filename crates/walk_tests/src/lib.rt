@@ -1,0 +1,17 @@
+//! Tests of a session's cache and of the machines that read trees.
+#![tactic(auto)]
+
+#[cfg(test)]
+mod objects;
+#[cfg(test)]
+mod page_cache_tests;
+#[cfg(test)]
+mod range_scan_tests;
+#[cfg(test)]
+mod record_read_tests;
+#[cfg(test)]
+mod session;
+#[cfg(test)]
+mod story;
+#[cfg(test)]
+mod tree_walk_tests;

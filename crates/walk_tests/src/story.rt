@@ -1,0 +1,89 @@
+//! What machines did, as a text: a line for each call, and one for each answer.
+
+use call_text::call_text;
+use cloud_trait::call::Call;
+use cloud_trait::turn::Turn;
+use db_base::ids::PageId;
+use db_base::trouble::Trouble;
+use range_scan::Items;
+use reply_text::write::trouble_text;
+use std::alloc::Global;
+use std::test::Fail;
+use words::bytes::hexadecimal;
+
+#[derive(Drop)]
+pub(crate) struct Story {
+    alloc: Global,
+    text: String,
+}
+
+impl Story {
+    pub(crate) fn new(alloc: Global) -> Story {
+        Story {
+            alloc,
+            text: String::new(alloc),
+        }
+    }
+
+    pub(crate) fn as_str(&self) -> &str {
+        self.text.as_str()
+    }
+
+    /// Adds a line.
+    pub(crate) fn line(&mut self, text: &str) -> Result<(), Fail> {
+        self.text.push_str(text)?;
+        self.text.push_str("\n")?;
+        Ok(())
+    }
+
+    /// Adds a word and a number.
+    pub(crate) fn number(&mut self, word: &str, number: u64) -> Result<(), Fail> {
+        let text = format!(in self.alloc; "{word} {number}")?;
+        self.line(text.as_str())
+    }
+
+    /// Adds bytes in hexadecimal.
+    fn bytes(&mut self, bytes: &[u8]) -> Result<(), Fail> {
+        let text = hexadecimal(self.alloc, bytes)?;
+        self.line(text.as_str())
+    }
+
+    /// Adds a call.
+    pub(crate) fn call(&mut self, call: &Call<'_>) -> Result<(), Fail> {
+        let text = call_text(self.alloc, call)?;
+        self.line(text.as_str())
+    }
+
+    /// Adds a trouble.
+    pub(crate) fn trouble(&mut self, trouble: &Trouble) -> Result<(), Fail> {
+        let text = trouble_text(self.alloc, trouble).ok().ok_or("no text")?;
+        self.line(text.as_str())
+    }
+
+    /// Adds the leaf at which a machine ended, or its trouble; false where it goes on.
+    pub(crate) fn end(&mut self, turn: &Turn<PageId>) -> Result<bool, Fail> {
+        match turn {
+            Turn::More => return Ok(false),
+            Turn::Ended(page) => self.number("leaf", page.get())?,
+            Turn::Stopped(trouble) => self.trouble(trouble)?,
+        }
+        Ok(true)
+    }
+
+    /// Adds the payload that was read.
+    pub(crate) fn value(&mut self, value: Option<&[u8]>) -> Result<(), Fail> {
+        match value {
+            Some(payload) => self.bytes(payload),
+            None => self.line("none"),
+        }
+    }
+
+    /// Adds the keys that a scan lists of a leaf.
+    pub(crate) fn keys(&mut self, items: Items<'_>) -> Result<(), Fail> {
+        let mut items = items;
+        while let Some((key, _)) = items.take_first() {
+            self.bytes(key)?;
+        }
+        Ok(())
+    }
+}

@@ -142,7 +142,9 @@ impl Client {
         Err(Fail::from("no end"))
     }
 
+    /// Tells of the call in hand, where it is told. The type of a lease is named, for the checker of borrows wants it beside a call.
     fn tell_settling(&mut self, call: u64, run: &SettleRun) -> Result<(), Fail> {
+        let _none: Option<Lease> = None;
         let (first, last) = self.told;
         if first <= call && call <= last {
             self.story.call(&run.in_hand())?;

@@ -6,8 +6,6 @@ mod objects;
 #[cfg(test)]
 mod page_cache_tests;
 #[cfg(test)]
-mod range_scan_tests;
-#[cfg(test)]
 mod record_read_tests;
 #[cfg(test)]
 mod session;

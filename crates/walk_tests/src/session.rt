@@ -15,7 +15,6 @@ use db_base::wish::Wish;
 use head_codec::head::Head;
 use memory_cloud::memory::MemoryCloud;
 use page_cache::PageCache;
-use range_scan::RangeScan;
 use record_read::RecordRead;
 use std::alloc::Global;
 use std::test::Fail;
@@ -147,7 +146,9 @@ impl Session {
         Err(Fail::from("no end"))
     }
 
+    /// One call of a walk. The type of a lease is named, for the checker of borrows wants it beside a call.
     fn walk_on(&mut self, walk: &mut Walk) -> Result<Turn<PageId>, Fail> {
+        let _none: Option<Lease> = None;
         self.story.call(&walk.in_hand())?;
         Ok(walk.step(self.alloc, &mut self.cloud, self.who, &mut self.cache))
     }
@@ -165,7 +166,9 @@ impl Session {
         Err(Fail::from("no end"))
     }
 
+    /// One call of a read; as with a walk, the type of a lease is named.
     fn read_on(&mut self, read: &mut RecordRead) -> Result<Turn<PageId>, Fail> {
+        let _none: Option<Lease> = None;
         self.story.call(&read.in_hand())?;
         Ok(read.step(self.alloc, &mut self.cloud, self.who, &mut self.cache))
     }
@@ -173,52 +176,5 @@ impl Session {
     fn tell_value(&mut self, read: &RecordRead) -> Result<(), Fail> {
         let value = read.value(&self.cache, self.client, &self.head, &self.buffer);
         self.story.value(value)
-    }
-
-    /// A scan from a key on and below another: its calls, the keys that it lists behind each leaf, and its trouble.
-    pub(crate) fn scan(&mut self, from: &[u8], to: &[u8]) -> Result<(), Fail> {
-        let from = key(self.alloc, from)?;
-        let to = key(self.alloc, to)?;
-        let mut scan = RangeScan::new(self.alloc, self.tree, from, to);
-        let mut turn = scan.ready(self.alloc, &mut self.cache);
-        for _ in 1..20u64 {
-            if !self.tell_leaf(&mut scan, &turn)? {
-                return Ok(());
-            }
-            turn = self.scan_on(&mut scan)?;
-        }
-        Err(Fail::from("no end"))
-    }
-
-    /// Tells what a scan lists behind a leaf, or its trouble; false where nothing follows.
-    fn tell_leaf(&mut self, scan: &mut RangeScan, turn: &Turn<PageId>) -> Result<bool, Fail> {
-        match turn {
-            Turn::More => Ok(true),
-            Turn::Ended(_) => {
-                self.list(scan)?;
-                Ok(scan.go_on())
-            }
-            Turn::Stopped(trouble) => {
-                self.story.trouble(trouble)?;
-                Ok(false)
-            }
-        }
-    }
-
-    fn scan_on(&mut self, scan: &mut RangeScan) -> Result<Turn<PageId>, Fail> {
-        self.story.call(&scan.in_hand())?;
-        Ok(scan.step(self.alloc, &mut self.cloud, self.who, &mut self.cache))
-    }
-
-    /// The keys that a scan lists of the leaf at which it ended.
-    fn list(&mut self, scan: &RangeScan) -> Result<(), Fail> {
-        let items = scan.items(
-            self.alloc,
-            &self.cache,
-            self.client,
-            &self.head,
-            &self.buffer,
-        )?;
-        self.story.keys(items)
     }
 }

@@ -5,7 +5,6 @@ use cloud_trait::call::Call;
 use cloud_trait::turn::Turn;
 use db_base::ids::PageId;
 use db_base::trouble::Trouble;
-use range_scan::Items;
 use reply_text::write::trouble_text;
 use std::alloc::Global;
 use std::test::Fail;
@@ -76,14 +75,5 @@ impl Story {
             Some(payload) => self.bytes(payload),
             None => self.line("none"),
         }
-    }
-
-    /// Adds the keys that a scan lists of a leaf.
-    pub(crate) fn keys(&mut self, items: Items<'_>) -> Result<(), Fail> {
-        let mut items = items;
-        while let Some((key, _)) = items.take_first() {
-            self.bytes(key)?;
-        }
-        Ok(())
     }
 }

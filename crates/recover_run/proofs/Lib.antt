@@ -5,3 +5,4 @@ pub mod Knowing
 pub mod Meaning
 pub mod Reading
 pub mod Spelled
+pub mod Standing

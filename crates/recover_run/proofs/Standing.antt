@@ -46,7 +46,7 @@ IsMiddle Finished = ⊥
 IsMiddle stage = Unit {0}
 
 -- a settling alone gives the lease back before Opened
-abbrev EndsSo : Option (Result RecoverAnswer Trouble) → Aim → Type 0
+abbrev pub EndsSo : Option (Result RecoverAnswer Trouble) → Aim → Type 0
 EndsSo (Some (Ok (Opened epoch))) aim = aim ≡ Settling
 EndsSo (Some (Ok Nothing)) aim = Unit {0}
 EndsSo (Some (Err t)) aim = Unit {0}

@@ -102,6 +102,7 @@ impl RecoverRun {
     ghost use Rattle.recover_run.specs.Recovery.{Recovery, new_recovery, recovery_ask, recovery_next, handed_over, SameLeases, KeepsLeases, IsSound, home_of, releasing, stopping, old_released, taken_by, got_by, head_read, bytes_read, none_read, phase_read, putting, send_at, decided, next_deletion, gathered_by, received_by, deleted_by, sent_by, next_clearing, put_by, clearing_kept, cleared, opened, swept_by, swept_with, released, damaged_message, next_sweep, with_pending, delete_next, send_next, take_lease};
     ghost use Rattle.recover_run.specs.Bound.{calls_left, KnowsAtMost};
     ghost use Rattle.recover_run.specs.Meaning.{Meant};
+    ghost use Rattle.recover_run.specs.Causing.{Causes};
     ghost use Rattle.recover_run.specs.Standing.{Went, leases_of, outstanding, Names, GivesBack};
     ghost use Rattle.recover_run.specs.Items.{items_of};
 
@@ -627,6 +628,8 @@ impl RecoverRun {
         ensures names { (client : ℕ) (aim : Aim) (former : Option Claim) (h : List Deed) → Went client aim former h self.old → Names client former h (recovery_ask self.old) }
         // Before an end all leases are given back, but for the client's at the end of an opening.
         ensures gives_back { (client : ℕ) (aim : Aim) (former : Option Claim) (h : List Deed) → Went client aim former h self.old → GivesBack client aim h self.new result }
+        // A trouble comes exactly where the answer of a step shows it, and it is to answer Nothing wherever a settling reads no head.
+        ensures causes { (client : ℕ) (aim : Aim) (former : Option Claim) (h : List Deed) → Went client aim former h self.old → Causes who (C.seen cloud.old) (C.seen cloud.new) h self.old self.new result }
     {
         // Read for the clause `sound`.
         let _ = &self.stage;

@@ -1,7 +1,11 @@
+pub mod Causing
 pub mod Ending
+pub mod Exact
 pub mod Handing
 pub mod Keeping
 pub mod Knowing
 pub mod Meaning
 pub mod Reading
+pub mod Seeing
 pub mod Spelled
+pub mod Standing

@@ -8,3 +8,5 @@ pub mod Kept
 pub mod Meaning
 pub mod Recovery
 pub mod Sending
+pub mod Causing
+pub mod Standing

@@ -1,11 +1,12 @@
-ghost use Rattle.std.specs.Prelude.{◌≡◌, ◌≤◌, ◌<◌, ◌+◌, ◌^◌, Ok, None, IfSome, IfNone, slice_get};
+ghost use Rattle.std.specs.Prelude.{ℕ, ◌≡◌, ◌≤◌, ◌<◌, ◌+◌, ◌^◌, Ok, List, Option, None, IfSome, IfNone, slice_get};
 ghost use Rattle.std.specs.List.{AllByRecursion};
 ghost use Rattle.head_codec.specs.declared.lists.Pending.{Pending};
 ghost use Rattle.head_codec.specs.Counters.{AreCounters};
 ghost use Rattle.head_codec.specs.Spelling.{HasSpelling, head_of};
 ghost use Rattle.cloud_trait.specs.Ask.{Release};
 ghost use Rattle.cloud_trait.specs.Call.{ask_of, Lends};
-ghost use Rattle.cloud_trait.specs.Machine.{LeadsBy, Took, Steps};
+ghost use Rattle.cloud_trait.specs.Claim.{Claim};
+ghost use Rattle.cloud_trait.specs.Machine.{LeadsBy, Took, Steps, Deed};
 ghost use Rattle.cloud_trait.specs.Weather.{Makes};
 ghost use Rattle.recover_run.specs.Kept.{AllPlaced};
 
@@ -101,6 +102,8 @@ impl RecoverRun {
     ghost use Rattle.recover_run.specs.Recovery.{Recovery, new_recovery, recovery_ask, recovery_next, handed_over, SameLeases, KeepsLeases, IsSound, home_of, releasing, stopping, old_released, taken_by, got_by, head_read, bytes_read, none_read, phase_read, putting, send_at, decided, next_deletion, gathered_by, received_by, deleted_by, sent_by, next_clearing, put_by, clearing_kept, cleared, opened, swept_by, swept_with, released, damaged_message, next_sweep, with_pending, delete_next, send_next, take_lease};
     ghost use Rattle.recover_run.specs.Bound.{calls_left, KnowsAtMost};
     ghost use Rattle.recover_run.specs.Meaning.{Meant};
+    ghost use Rattle.recover_run.specs.Causing.{Causes};
+    ghost use Rattle.recover_run.specs.Standing.{Went, leases_of, outstanding, Names, GivesBack};
     ghost use Rattle.recover_run.specs.Items.{items_of};
 
     /// The recovery of a client. A lease that is handed in is given back first. Takes no memory.
@@ -619,6 +622,14 @@ impl RecoverRun {
         ensures means { Meant who (C.seen cloud.old) (C.seen cloud.new) self.old self.new result }
         ensures sound { IsSound self.old }
         ensures less { result ≡ Turn.More → calls_left (2 ^ 64) 255 self.new < calls_left (2 ^ 64) 255 self.old }
+        // The leases that it holds are the one that was handed in and those that it took, but for those that it gave back.
+        ensures leases { (client : ℕ) (aim : Aim) (former : Option Claim) (h : List Deed) → Went client aim former h self.old → leases_of self.old ≡ outstanding former h }
+        // The call names a lease that it holds, and takes no lock that it holds.
+        ensures names { (client : ℕ) (aim : Aim) (former : Option Claim) (h : List Deed) → Went client aim former h self.old → Names client former h (recovery_ask self.old) }
+        // Before an end all leases are given back, but for the client's at the end of an opening.
+        ensures gives_back { (client : ℕ) (aim : Aim) (former : Option Claim) (h : List Deed) → Went client aim former h self.old → GivesBack client aim h self.new result }
+        // A trouble comes exactly where the answer of a step shows it, and it is to answer Nothing wherever a settling reads no head.
+        ensures causes { (client : ℕ) (aim : Aim) (former : Option Claim) (h : List Deed) → Went client aim former h self.old → Causes who (C.seen cloud.old) (C.seen cloud.new) h self.old self.new result }
     {
         // Read for the clause `sound`.
         let _ = &self.stage;

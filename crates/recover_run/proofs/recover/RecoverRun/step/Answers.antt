@@ -1,8 +1,11 @@
-use Rattle.std.proofs.Common.{◌^◌, subst}
-use Rattle.recover_run.specs.Recovery.{IsSound}
+use Rattle.std.proofs.Common.{◌^◌, refl, subst}
+use Rattle.recover_run.specs.Recovery.{IsSound, recovery_ask}
 use Rattle.recover_run.proofs.Ending.{took_less}
+use Rattle.recover_run.proofs.Exact.{took_exact, took_nothing, took_answers}
 use Rattle.recover_run.proofs.Handing.{handed_keeps, took_handed}
+use Rattle.recover_run.proofs.Causing.{took_tells}
 use Rattle.recover_run.proofs.Meaning.{came_means}
+use Rattle.recover_run.proofs.Standing.{stands_leases, stands_names, stands_gives}
 use Rattle.recover_run.proofs.recover.RecoverRun.step.Goals as goal
 
 pub absorb-turn-requires : goal.absorb-turn-requires
@@ -23,3 +26,28 @@ returns-clause-means g c = record {
   made = c.call-answer.ensures.made;
   means = came_means c.args.self.now _ c.call-answer.result _ (took_handed c.args.self.now _ _ _ _ c.call-answer.ensures.left c.absorb-turn.ensures);
 }
+
+pub returns-clause-leases : goal.returns-clause-leases
+returns-clause-leases g c = λ client aim former h went. stands_leases client aim former h c.args.self.now went
+
+pub returns-clause-names : goal.returns-clause-names
+returns-clause-names g c = λ client aim former h went. stands_names client aim former h c.args.self.now went
+
+pub returns-clause-gives_back : goal.returns-clause-gives_back
+returns-clause-gives_back g c = λ client aim former h went.
+    stands_gives client aim former
+    (record { who = c.args.who; ask = recovery_ask c.args.self.now; answer = c.call-answer.result; before = g.C.Cloud.seen c.args.cloud.now; after = g.C.Cloud.seen c.call-answer.new.cloud })
+    h c.args.self.now _ _ went refl c.call-answer.ensures.made.fits
+    (took_handed c.args.self.now _ _ _ _ c.call-answer.ensures.left c.absorb-turn.ensures)
+
+pub returns-clause-causes : goal.returns-clause-causes
+returns-clause-causes g c = λ client aim former h went.
+    let took = took_handed c.args.self.now _ _ _ _ c.call-answer.ensures.left c.absorb-turn.ensures in
+    record {
+      answer = c.call-answer.result;
+      made = c.call-answer.ensures.made;
+      tells = took_tells client aim former h c.args.self.now _ c.call-answer.result _ went c.call-answer.ensures.made.fits took;
+      exact = took_exact client aim former h c.args.self.now _ c.call-answer.result _ went c.call-answer.ensures.made.fits took;
+      nothing = took_nothing c.args.self.now _ c.call-answer.result _ took;
+      answers = took_answers client aim former h c.args.self.now _ c.call-answer.result _ went took;
+    }

@@ -1,7 +1,13 @@
+pub mod Calmly
+pub mod Emptying
 pub mod Ending
+pub mod GoingWell
 pub mod Handing
 pub mod Keeping
 pub mod Knowing
+pub mod Leading
+pub mod Marks
 pub mod Meaning
 pub mod Reading
 pub mod Spelled
+pub mod Sweeping

@@ -1,5 +1,6 @@
 pub mod Bound
 pub mod Calls
+pub mod Emptying
 pub mod Gathering
 pub mod Holding
 pub mod Ids
@@ -8,3 +9,4 @@ pub mod Kept
 pub mod Meaning
 pub mod Recovery
 pub mod Sending
+pub mod Well

@@ -2,6 +2,8 @@ use Rattle.std.proofs.Common.{◌^◌, subst}
 use Rattle.recover_run.specs.Recovery.{IsSound}
 use Rattle.recover_run.proofs.Ending.{took_less}
 use Rattle.recover_run.proofs.Handing.{handed_keeps, took_handed}
+use Rattle.recover_run.proofs.Emptying.{came_empties}
+use Rattle.recover_run.proofs.GoingWell.{came_well}
 use Rattle.recover_run.proofs.Meaning.{came_means}
 use Rattle.recover_run.proofs.recover.RecoverRun.step.Goals as goal
 
@@ -22,4 +24,22 @@ returns-clause-means g c = record {
   answer = c.call-answer.result;
   made = c.call-answer.ensures.made;
   means = came_means c.args.self.now _ c.call-answer.result _ (took_handed c.args.self.now _ _ _ _ c.call-answer.ensures.left c.absorb-turn.ensures);
+}
+
+pub returns-clause-empties : goal.returns-clause-empties
+returns-clause-empties g c = record {
+  answer = c.call-answer.result;
+  made = c.call-answer.ensures.made;
+  empties =
+      came_empties _ _ _ c.args.self.now _ c.call-answer.result _ c.call-answer.ensures.made
+      (took_handed c.args.self.now _ _ _ _ c.call-answer.ensures.left c.absorb-turn.ensures);
+}
+
+pub returns-clause-well : goal.returns-clause-well
+returns-clause-well g c = record {
+  answer = c.call-answer.result;
+  made = c.call-answer.ensures.made;
+  well =
+      came_well _ _ _ c.args.self.now _ c.call-answer.result _ c.call-answer.ensures.made
+      (took_handed c.args.self.now _ _ _ _ c.call-answer.ensures.left c.absorb-turn.ensures);
 }

@@ -43,7 +43,7 @@ use Rattle.recover_run.proofs.Sweeping.{IsEmptied, SweptAt, SweptNext, Delivers,
 
 -- ---- what a calm call did to the queue
 
-delete_marks : (who : Caller) (q : QueueName) (id : ℕ) (a : Answer) (c d : Counts) (b t : CloudState) → Weather who (Delete q id) a c d b t → GoesWell a → a ≢ Memory
+pub delete_marks : (who : Caller) (q : QueueName) (id : ℕ) (a : Answer) (c d : Counts) (b t : CloudState) → Weather who (Delete q id) a c d b t → GoesWell a → a ≢ Memory
     → t.messages q ≡ marked (b.messages q) id
 delete_marks who q id Done c d b t row well other =
     ap (λ (u : CloudState). u.messages q) row.0 ∙ put_at_same queue_cmp queue_cmp-total b.messages q (marked (b.messages q) id)
@@ -69,7 +69,7 @@ release_touches r None = tt
 put_epoch : (old : Option Claim) (cs : Calls) (r : Recovery) → Put old cs r → r.head.epoch ≡ r.wanted.epoch + 1
 put_epoch old cs r k = ap (λ (h : Head). h.epoch) k.head_is ∙ sym (ap (λ (w : Wanted). w.epoch + 1) k.known.wanted_is)
 
-row_at : (st : Stage) (from : Recovery) (d : Deed) (b t : CloudState) → from.stage ≡ st → Moves from d b t
+pub row_at : (st : Stage) (from : Recovery) (d : Deed) (b t : CloudState) → from.stage ≡ st → Moves from d b t
     → Weather d.who (ask_at st from) d.answer d.before.counts d.after.counts (called d.who t.now b) t
 row_at st from d b t at m =
     subst (λ s. Weather d.who (ask_at s from) d.answer d.before.counts d.after.counts (called d.who t.now b) t) at (row_of_move from d b t m)

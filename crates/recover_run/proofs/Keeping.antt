@@ -156,7 +156,7 @@ kept_named w cs [] all = tt
 kept_named w cs (x ∷ kept) all = ((x, refl, counted_past w x.rec all.0.0, all.0.1), kept_named w cs kept all.1)
 
 -- strictly ascending numbers up to a bound, as many as there are: each follows the one before it
-rising_room : (w : Wanted) (cs : Calls) (n : ℕ) (kept : List AtomicItem) → IsRising n kept → AllByRecursion (IsKept w cs) kept → n ≤ w.count + 1 → n + length kept ≤ w.count + 1
+pub rising_room : (w : Wanted) (cs : Calls) (n : ℕ) (kept : List AtomicItem) → IsRising n kept → AllByRecursion (IsKept w cs) kept → n ≤ w.count + 1 → n + length kept ≤ w.count + 1
 rising_room w cs n [] up all within = omega (arith, within)
 rising_room w cs n (x ∷ kept) up all within =
     let last : x.rec.index ≤ w.count = counted_index w x.rec all.0.0 in

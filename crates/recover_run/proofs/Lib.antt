@@ -1,6 +1,7 @@
 pub mod Calmly
 pub mod Emptying
 pub mod Ending
+pub mod Finding
 pub mod GoingWell
 pub mod Handing
 pub mod Keeping
@@ -8,6 +9,8 @@ pub mod Knowing
 pub mod Leading
 pub mod Marks
 pub mod Meaning
+pub mod Missing
 pub mod Reading
+pub mod Sifting
 pub mod Spelled
 pub mod Sweeping

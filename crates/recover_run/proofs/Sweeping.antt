@@ -41,7 +41,7 @@ same_true : (a b : ℕ) → (a == b) ≡ true → a ≡ b
 same_true a b e = grind (arith, nat_tests)
 
 -- what holds of each id of a set holds of an id that it has
-all_has : (P : ℕ → Type 0) (set : List ℕ) (id : ℕ) → AllByRecursion P set → has_id set id ≡ true → P id
+pub all_has : (P : ℕ → Type 0) (set : List ℕ) (id : ℕ) → AllByRecursion P set → has_id set id ≡ true → P id
 all_has P [] id all e = absurd (cc)
 all_has P (x ∷ set) id all e = on (x == id) refl e (λ f. all_has P set id all.1 f) where
   on : (b : Bool) → (x == id) ≡ b → (b || has_id set id) ≡ true → (has_id set id ≡ true → P id) → P id
@@ -49,7 +49,7 @@ all_has P (x ∷ set) id all e = on (x == id) refl e (λ f. all_has P set id all
   on false other e rest = rest e
 
 -- where none is new, the set has each
-none_new : (set ids : List ℕ) → new_ids set ids ≡ [] → AllByRecursion (λ id. has_id set id ≡ true) ids
+pub none_new : (set ids : List ℕ) → new_ids set ids ≡ [] → AllByRecursion (λ id. has_id set id ≡ true) ids
 none_new set [] e = tt
 none_new set (id ∷ ids) e = on (has_id set id) refl e (λ f. none_new set ids f) where
   on : (b : Bool) → has_id set id ≡ b → cond b (new_ids set ids) (id ∷ new_ids (set ++ id ∷ []) ids) ≡ []
@@ -63,7 +63,7 @@ has_more x ids id e = on (x == id) where
   on true = refl
   on false = e
 
-each_has : (ids : List ℕ) → AllByRecursion (λ id. has_id ids id ≡ true) ids
+pub each_has : (ids : List ℕ) → AllByRecursion (λ id. has_id ids id ≡ true) ids
 each_has [] = tt
 each_has (id ∷ ids) = (here, more ids (each_has ids)) where
   here : has_id (id ∷ ids) id ≡ true
@@ -127,7 +127,7 @@ clearing_swept ms r [] all = none r.swept all where
 clearing_swept ms r (id ∷ ids) all = all
 
 -- of the handled ids the deletion of the first leaves those behind it
-deletes_first : (ms : List Posted) (id : ℕ) (ids swept : List ℕ) → AllByRecursion (IsHandled ms (id ∷ ids)) swept → AllByRecursion (IsHandled (marked ms id) ids) swept
+pub deletes_first : (ms : List Posted) (id : ℕ) (ids swept : List ℕ) → AllByRecursion (IsHandled ms (id ∷ ids)) swept → AllByRecursion (IsHandled (marked ms id) ids) swept
 deletes_first ms id ids [] all = tt
 deletes_first ms id ids (x ∷ swept) all = (here all.0, deletes_first ms id ids swept all.1) where
   here : IsHandled ms (id ∷ ids) x → IsHandled (marked ms id) ids x
@@ -142,11 +142,11 @@ cleared_swept ms ns r [] e all = absurd e
 cleared_swept ms ns r (id ∷ ids) e all =
     clearing_swept ns r ids (subst (λ l. AllByRecursion (IsHandled l ids) r.swept) (sym e) (deletes_first ms id ids r.swept all))
 
-handled_ids : (ms : List Posted) (ids xs : List ℕ) → AllByRecursion (λ id. has_id ids id ≡ true) xs → AllByRecursion (IsHandled ms ids) xs
+pub handled_ids : (ms : List Posted) (ids xs : List ℕ) → AllByRecursion (λ id. has_id ids id ≡ true) xs → AllByRecursion (IsHandled ms ids) xs
 handled_ids ms ids [] all = tt
 handled_ids ms ids (x ∷ xs) all = (inl all.0, handled_ids ms ids xs all.1)
 
-handled_gone : (ms : List Posted) (ids xs : List ℕ) → AllByRecursion (IsGone ms) xs → AllByRecursion (IsHandled ms ids) xs
+pub handled_gone : (ms : List Posted) (ids xs : List ℕ) → AllByRecursion (IsGone ms) xs → AllByRecursion (IsHandled ms ids) xs
 handled_gone ms ids [] all = tt
 handled_gone ms ids (x ∷ xs) all = (inr all.0, handled_gone ms ids xs all.1)
 

@@ -7,6 +7,7 @@ pub mod Ids
 pub mod Items
 pub mod Kept
 pub mod Meaning
+pub mod Missing
 pub mod Recovery
 pub mod Sending
 pub mod Well

@@ -102,6 +102,7 @@ impl RecoverRun {
     ghost use Rattle.recover_run.specs.Bound.{calls_left, KnowsAtMost};
     ghost use Rattle.recover_run.specs.Emptying.{Emptied};
     ghost use Rattle.recover_run.specs.Meaning.{Meant};
+    ghost use Rattle.recover_run.specs.Missing.{MissesNone};
     ghost use Rattle.recover_run.specs.Well.{GoneWell};
     ghost use Rattle.recover_run.specs.Items.{items_of};
 
@@ -621,6 +622,7 @@ impl RecoverRun {
         ensures means { Meant who (C.seen cloud.old) (C.seen cloud.new) self.old self.new result }
         ensures empties { Emptied who (C.seen cloud.old) (C.seen cloud.new) self.old self.new result }
         ensures well { GoneWell who (C.seen cloud.old) (C.seen cloud.new) self.old self.new result }
+        ensures complete { MissesNone who (C.seen cloud.old) (C.seen cloud.new) self.old self.new result }
         ensures sound { IsSound self.old }
         ensures less { result ≡ Turn.More → calls_left (2 ^ 64) 255 self.new < calls_left (2 ^ 64) 255 self.old }
     {

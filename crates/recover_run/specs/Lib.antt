@@ -1,12 +1,15 @@
 pub mod Bound
 pub mod Calls
+pub mod Emptying
 pub mod Gathering
 pub mod Holding
 pub mod Ids
 pub mod Items
 pub mod Kept
 pub mod Meaning
+pub mod Missing
 pub mod Recovery
 pub mod Sending
 pub mod Causing
 pub mod Standing
+pub mod Well

@@ -101,9 +101,12 @@ impl Model for RecoverRun {
 impl RecoverRun {
     ghost use Rattle.recover_run.specs.Recovery.{Recovery, new_recovery, recovery_ask, recovery_next, handed_over, SameLeases, KeepsLeases, IsSound, home_of, releasing, stopping, old_released, taken_by, got_by, head_read, bytes_read, none_read, phase_read, putting, send_at, decided, next_deletion, gathered_by, received_by, deleted_by, sent_by, next_clearing, put_by, clearing_kept, cleared, opened, swept_by, swept_with, released, damaged_message, next_sweep, with_pending, delete_next, send_next, take_lease};
     ghost use Rattle.recover_run.specs.Bound.{calls_left, KnowsAtMost};
+    ghost use Rattle.recover_run.specs.Emptying.{Emptied};
     ghost use Rattle.recover_run.specs.Meaning.{Meant};
     ghost use Rattle.recover_run.specs.Causing.{Causes};
     ghost use Rattle.recover_run.specs.Standing.{Went, leases_of, outstanding, Names, GivesBack};
+    ghost use Rattle.recover_run.specs.Missing.{MissesNone};
+    ghost use Rattle.recover_run.specs.Well.{GoneWell};
     ghost use Rattle.recover_run.specs.Items.{items_of};
 
     /// The recovery of a client. A lease that is handed in is given back first. Takes no memory.
@@ -620,6 +623,9 @@ impl RecoverRun {
     pub fn step<C: Cloud>(&mut self, alloc: Global, cloud: &mut C, who: Who) -> Turn<RecoverAnswer>
         ensures steps { Steps recovery_ask (LeadsBy recovery_next) KeepsLeases who (C.seen cloud.old) (C.seen cloud.new) self.old self.new result }
         ensures means { Meant who (C.seen cloud.old) (C.seen cloud.new) self.old self.new result }
+        ensures empties { Emptied who (C.seen cloud.old) (C.seen cloud.new) self.old self.new result }
+        ensures well { GoneWell who (C.seen cloud.old) (C.seen cloud.new) self.old self.new result }
+        ensures complete { MissesNone who (C.seen cloud.old) (C.seen cloud.new) self.old self.new result }
         ensures sound { IsSound self.old }
         ensures less { result ≡ Turn.More → calls_left (2 ^ 64) 255 self.new < calls_left (2 ^ 64) 255 self.old }
         // The leases that it holds are the one that was handed in and those that it took, but for those that it gave back.

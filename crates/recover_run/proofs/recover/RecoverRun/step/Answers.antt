@@ -6,6 +6,10 @@ use Rattle.recover_run.proofs.Handing.{handed_keeps, took_handed}
 use Rattle.recover_run.proofs.Causing.{took_tells}
 use Rattle.recover_run.proofs.Meaning.{came_means}
 use Rattle.recover_run.proofs.Standing.{stands_leases, stands_names, stands_gives}
+use Rattle.recover_run.proofs.Emptying.{came_empties}
+use Rattle.recover_run.proofs.GoingWell.{came_well}
+use Rattle.recover_run.proofs.Meaning.{came_means}
+use Rattle.recover_run.proofs.Missing.{came_waits}
 use Rattle.recover_run.proofs.recover.RecoverRun.step.Goals as goal
 
 pub absorb-turn-requires : goal.absorb-turn-requires
@@ -51,3 +55,29 @@ returns-clause-causes g c = λ client aim former h went.
       nothing = took_nothing c.args.self.now _ c.call-answer.result _ took;
       answers = took_answers client aim former h c.args.self.now _ c.call-answer.result _ went took;
     }
+pub returns-clause-empties : goal.returns-clause-empties
+returns-clause-empties g c = record {
+  answer = c.call-answer.result;
+  made = c.call-answer.ensures.made;
+  empties =
+      came_empties _ _ _ c.args.self.now _ c.call-answer.result _ c.call-answer.ensures.made
+      (took_handed c.args.self.now _ _ _ _ c.call-answer.ensures.left c.absorb-turn.ensures);
+}
+
+pub returns-clause-well : goal.returns-clause-well
+returns-clause-well g c = record {
+  answer = c.call-answer.result;
+  made = c.call-answer.ensures.made;
+  well =
+      came_well _ _ _ c.args.self.now _ c.call-answer.result _ c.call-answer.ensures.made
+      (took_handed c.args.self.now _ _ _ _ c.call-answer.ensures.left c.absorb-turn.ensures);
+}
+
+pub returns-clause-complete : goal.returns-clause-complete
+returns-clause-complete g c = record {
+  answer = c.call-answer.result;
+  made = c.call-answer.ensures.made;
+  waits =
+      came_waits _ _ _ c.args.self.now _ c.call-answer.result _ c.call-answer.ensures.made
+      (took_handed c.args.self.now _ _ _ _ c.call-answer.ensures.left c.absorb-turn.ensures);
+}

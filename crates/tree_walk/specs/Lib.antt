@@ -1,2 +1,4 @@
 pub mod Moves
 pub mod Walk
+pub mod Causing
+pub mod Within

@@ -4,3 +4,4 @@ pub mod WalkLemmas
 pub mod Refusing
 pub mod Causing
 pub mod Onceness
+pub mod Serving

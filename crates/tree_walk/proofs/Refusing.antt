@@ -10,9 +10,9 @@ use Rattle.db_base.specs.declared.trouble.Trouble.{Trouble}
 use Rattle.db_base.specs.declared.trouble.Trouble.TheVariants.{Stale, Damaged}
 use Rattle.page_cache.specs.Spelled.{version_read}
 use Rattle.page_cache.specs.Cache.{Cache, served_at, placed, served, accepts, accepts_no_leaf, accepts_leaf, accepts_read}
-use Rattle.page_cache.specs.Refused.{IsDamaged}
+use Rattle.page_cache.specs.Refused.{IsDamaged, least_of}
 use Rattle.page_cache.proofs.CacheLemmas.{Outcome, never, the_trouble}
-use Rattle.tree_walk.specs.Causing.{IsOld}
+use Rattle.tree_walk.specs.Causing.{IsOld, IsVersionOf}
 
 -- a greatest version that a version is below is the least that may be seen
 least_is : (version least : ℕ) → version < least → least ≡ max 1 least
@@ -90,3 +90,50 @@ refused_shows c (Page tree page) false None t h =
       is = sym (the_trouble (Stale page 1 0) t h);
     })
 refused_shows c name as_leaf (Some bytes) t h = read_shows c name as_leaf bytes (version_read name as_leaf bytes) t refl h
+
+-- ---- and exactly then
+
+pub damaged_refused : (c : Cache) (name : ObjName) (as_leaf : Bool) (got : Option (List ℕ)) (t : Trouble) → IsDamaged name as_leaf got t → accepts c name as_leaf got ≡ Err t
+damaged_refused c name as_leaf got t h =
+    let bytes : accepts c name as_leaf got ≡ accepts c name as_leaf (Some h.bytes) = ap (accepts c name as_leaf) h.were in
+    bytes ∙ ap (accepts_read c name as_leaf h.bytes) h.fault ∙ ap (λ (u : Trouble). Err u) (sym h.is)
+
+missed_before : (page n : ℕ) → (page ≡ 1 → 0 < n) → ((page == 1) && (n == 0)) ≡ false
+missed_before page n h = on (page == 1) refl (n == 0) refl where
+  on : (a : Bool) → (page == 1) ≡ a → (b : Bool) → (n == 0) ≡ b → (a && b) ≡ false
+  on false e b f = refl
+  on true e false f = refl
+  on true e true f =
+      let some : 0 < n = h (eqb-true page 1 e) in
+      let none : n ≡ 0 = eqb-true n 0 f in
+      absurd (omega (arith, some, none))
+
+-- of a page
+page_refused : (c : Cache) (tree page found : ℕ) (as_leaf : Bool) (got : Option (List ℕ)) → IsVersionOf (Page tree page) as_leaf got found
+    → (got ≡ None) ⊎ ((as_leaf ≡ true) × (found < served_at c (Page tree page))) → (as_leaf ≡ true → page ≡ 1 → got ≡ None → 0 < served_at c (Page tree page))
+    → accepts c (Page tree page) as_leaf got ≡ Err (Stale page (least_of c (Page tree page) as_leaf) found)
+page_refused c tree page found true None version older missed =
+    let name = Page tree page in
+    ap (λ (b : Bool). cond b (Ok (0, placed c name None)) (Err (Stale page (max 1 (served_at c name)) 0))) (missed_before page (served_at c name) (λ first. missed refl first refl))
+    ∙ ap (λ (k : ℕ). Err (Stale page (max 1 (served_at c name)) k)) (sym version)
+page_refused c tree page found false None version older missed = ap (λ (k : ℕ). Err (Stale page 1 k)) (sym version)
+page_refused c tree page found as_leaf (Some bytes) version (inl none) missed = absurd (cc (none))
+page_refused c tree page found false (Some bytes) version (inr h) missed = absurd (cc (h.0))
+page_refused c tree page found true (Some bytes) version (inr h) missed =
+    let name = Page tree page in
+    ap (accepts_read c name true bytes) version
+    ∙ ap (λ (b : Bool). cond b (Err (Stale page (served_at c name) found)) (Ok (found, served (placed c name (Some bytes)) name found))) (lt-ltb found (served_at c name) h.1)
+    ∙ ap (λ (k : ℕ). Err (Stale page k found)) (least_is found (served_at c name) h.1)
+
+pub old_refused : (c : Cache) (name : ObjName) (as_leaf : Bool) (got : Option (List ℕ)) (t : Trouble) → IsOld c name as_leaf got t → accepts c name as_leaf got ≡ Err t
+old_refused c name as_leaf got t h =
+    on name h.of h.version h.older h.missed h.is
+  where
+    on : (n : ObjName) → n ≡ Page h.tree h.page → IsVersionOf n as_leaf got h.found → (got ≡ None) ⊎ ((as_leaf ≡ true) × (h.found < served_at c n))
+        → (as_leaf ≡ true → h.page ≡ 1 → got ≡ None → 0 < served_at c n) → t ≡ Stale h.page (least_of c n as_leaf) h.found → accepts c n as_leaf got ≡ Err t
+    on (Head client) e version older missed is = absurd (cc (e))
+    on (Tree tree) e version older missed is = absurd (cc (e))
+    on (Page tree page) e version older missed is =
+        let same : page ≡ h.page = cc (e) in
+        page_refused c tree page h.found as_leaf got version older (λ leaf first absent. missed leaf (sym same ∙ first) absent)
+        ∙ ap (λ (p : ℕ). Err (Stale p (least_of c (Page tree page) as_leaf) h.found)) same ∙ ap (λ (u : Trouble). Err u) (sym is)

@@ -2,3 +2,4 @@ pub mod Moves
 pub mod Walk
 pub mod Causing
 pub mod Within
+pub mod Serving

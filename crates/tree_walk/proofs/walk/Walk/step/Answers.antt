@@ -4,6 +4,7 @@ use Rattle.tree_walk.proofs.Causing.{moved_causes}
 use Rattle.tree_walk.proofs.Ending.{moved_less, spots_most}
 use Rattle.tree_walk.proofs.Leaves.{moved_ends}
 use Rattle.tree_walk.proofs.Onceness.{moved_within}
+use Rattle.tree_walk.proofs.Serving.{moved_exact, moved_serves, moved_calmly}
 use Rattle.tree_walk.proofs.walk.Walk.step.Goals as goal
 
 pub returns-clause-less : goal.returns-clause-less
@@ -26,3 +27,16 @@ returns-clause-causes g c =
 pub returns-clause-within : goal.returns-clause-within
 returns-clause-within g c = λ h went.
     moved_within h c.args.self.now c.args.cache.now (c.absorb.new.self, c.absorb.new.cache) c.perform-answer.result c.absorb.result went c.absorb.ensures
+
+pub returns-clause-exact : goal.returns-clause-exact
+returns-clause-exact g c =
+    moved_exact c.args.who _ c.args.self.now c.args.cache.now (c.absorb.new.self, c.absorb.new.cache) c.perform-answer.result c.absorb.result _ _ c.in_hand.ensures c.perform-answer.ensures c.absorb.ensures
+
+pub returns-clause-serves : goal.returns-clause-serves
+returns-clause-serves g c =
+    moved_serves c.args.who _ c.args.self.now c.args.cache.now (c.absorb.new.self, c.absorb.new.cache) c.perform-answer.result c.absorb.result _ _ (subst IsWalk c.self.view_is c.self.invariant)
+    c.in_hand.ensures c.perform-answer.ensures c.absorb.ensures
+
+pub returns-clause-well : goal.returns-clause-well
+returns-clause-well g c =
+    moved_calmly c.args.who _ c.args.self.now c.args.cache.now (c.absorb.new.self, c.absorb.new.cache) c.perform-answer.result c.absorb.result _ _ c.in_hand.ensures c.perform-answer.ensures c.absorb.ensures

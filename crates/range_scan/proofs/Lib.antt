@@ -1,3 +1,6 @@
 pub mod ScanLemmas
 pub mod Ending
 pub mod Pairs
+pub mod Walking
+pub mod Served
+pub mod Listing

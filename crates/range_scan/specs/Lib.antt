@@ -1,3 +1,4 @@
 pub mod Scan
 pub mod Ending
 pub mod Pairs
+pub mod Listing

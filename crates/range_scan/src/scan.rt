@@ -1,4 +1,4 @@
-ghost use Rattle.std.specs.Prelude.{◌≡◌, ◌≢◌, ◌<◌, ℕ, true, Some, is_some, IfOk};
+ghost use Rattle.std.specs.Prelude.{◌≡◌, ◌≢◌, ◌<◌, ℕ, true, false, List, Some, is_some, IfOk};
 ghost use Rattle.page_cache.specs.Held.{leaf_at};
 ghost use Rattle.std.specs.Option.{option_copied, option_map};
 ghost use Rattle.byte_format.specs.Order.{below_bound};
@@ -66,6 +66,7 @@ impl RangeScan {
     ghost use Rattle.range_scan.specs.Scan.{new_scan, scan_object, scan_ask, scan_asks, right_in, scan_came_to, leaf_ended, goes_on, moved_on, first_read, walked_on, right_read_in, right_read, right_got, scan_ready, scan_next, scan_beside, next_at, KeepsNothing};
     ghost use Rattle.range_scan.specs.Ending.{calls_left};
     ghost use Rattle.range_scan.specs.Pairs.{AreItemsIn};
+    ghost use Rattle.range_scan.specs.Listing.{Range, Move, Scanned, Means};
 
     /// The scan of a tree from a key on, or from its left end, and below a key, or to its right end. Takes no memory.
     pub fn new(alloc: Global, tree: TreeId, from: Option<Key>, to: Option<Key>) -> RangeScan
@@ -263,6 +264,23 @@ impl RangeScan {
         self.take_right(alloc, cache, answer.got())
     }
 
+    /// Makes the call of the walk in hand.
+    fn step_walk<C: Cloud>(
+        &mut self,
+        alloc: Global,
+        cloud: &mut C,
+        who: Who,
+        cache: &mut PageCache,
+    ) -> Turn<PageId>
+        requires { is_some self.old.spot ≡ false }
+        ensures steps { Steps scan_asks (LeadsBy scan_next) KeepsNothing who (C.seen cloud.old) (C.seen cloud.new) (self.old, cache.old) (self.new, cache.new) result }
+        ensures less { result ≡ Turn.More → calls_left self.new < calls_left self.old }
+        ensures further { (page : ℕ) → result ≡ Turn.Ended page → goes_on self.new ≡ true → calls_left (moved_on self.new) < calls_left self.old }
+    {
+        let turn = self.walk.step(alloc, cloud, who, cache);
+        self.walked(alloc, cache, turn)
+    }
+
     /// Makes the call in hand, and does the local work up to the next one. It ends with the page of each leaf in turn.
     pub fn step<C: Cloud>(
         &mut self,
@@ -275,12 +293,14 @@ impl RangeScan {
         // Each call that it goes on from, in its walk or behind the leaf at which it ended, comes to one more page.
         ensures less { result ≡ Turn.More → calls_left self.new < calls_left self.old }
         ensures further { (page : ℕ) → result ≡ Turn.Ended page → goes_on self.new ≡ true → calls_left (moved_on self.new) < calls_left self.old }
+        // Where it ends, it is at a leaf that its call got; the ranges of its leaves meet, from the first key on.
+        ensures means { (r : Range) (h : List Move) → Scanned r h (self.old, cache.old) → Means r who (C.seen cloud.old) (C.seen cloud.new) (self.old, cache.old) (self.new, cache.new) h result }
     {
         if self.spot.is_some() {
-            return self.step_right(alloc, cloud, who, cache);
+            self.step_right(alloc, cloud, who, cache)
+        } else {
+            self.step_walk(alloc, cloud, who, cache)
         }
-        let turn = self.walk.step(alloc, cloud, who, cache);
-        self.walked(alloc, cache, turn)
     }
 
     /// Goes on behind the leaf at which the scan ended; false where nothing follows. Takes no memory.

@@ -1,0 +1,116 @@
+-- What a scan comes to over its whole run: the leaves at which it ends, in turn.
+use Rattle.std.specs.Prelude.{ℕ, ◌≡◌, true, false, List, [], ◌∷◌, map, Option, Some, None}
+use Rattle.byte_format.specs.Order.{below_bound}
+use Rattle.db_base.specs.declared.names.ObjName.TheVariants as object
+use Rattle.leaf_view.specs.Leaf.{Leaf}
+use Rattle.leaf_view.specs.Lookup.{holds}
+use Rattle.cloud_trait.specs.declared.answer.Answer.{Answer}
+use Rattle.cloud_trait.specs.declared.answer.Answer.TheVariants.{Got}
+use Rattle.cloud_trait.specs.declared.turn.Turn.{Turn}
+use Rattle.cloud_trait.specs.declared.turn.Turn.TheVariants.{More, Ended, Stopped}
+use Rattle.cloud_trait.specs.Ask.{Ask, Get}
+use Rattle.cloud_trait.specs.Caller.{Caller}
+use Rattle.cloud_trait.specs.Machine.{Goes, Ends, Deed, IsMade, Follows}
+use Rattle.cloud_trait.specs.Seen.{Seen}
+use Rattle.cloud_trait.specs.Weather.{Makes}
+use Rattle.page_cache.specs.Cache.{Cache}
+use Rattle.page_cache.specs.Held.{leaf_at, as_leaf}
+use Rattle.range_scan.specs.Scan.{Scan, new_scan, scan_object, scan_asks, goes_on, moved_on, scan_ready, scan_next}
+
+-- what is asked for: a tree, the key from which on and the one below which pairs are listed
+pub record Range : Type 0 where
+  pub tree : ℕ
+  pub from : Option (List ℕ)
+  pub to : Option (List ℕ)
+
+-- the scan of a range before its first turn
+abbrev pub scan_of : Range → Scan
+scan_of r = new_scan r.tree r.from r.to
+
+-- a call that a scan went on from, and the leaf behind which it went on, where the call brought it to the end of one
+pub record Move : Type 0 where
+  pub deed : Deed
+  pub behind : Option Leaf
+
+-- where a call led: on to the next call, or to the end of a leaf that the cache kept, and on behind it
+abbrev pub LedTo : Scan × Cache → Answer → Option Leaf → Scan × Cache → Type 0
+LedTo m a None n = scan_next m a ≡ Goes n
+LedTo m a (Some l) n =
+    (s : Scan) × ((page : ℕ) × (scan_next m a ≡ Ends (s, n.1) page) × (leaf_at n.1 (scan_object s) ≡ Some l) × (goes_on s ≡ true) × (n.0 ≡ moved_on s))
+
+abbrev pub deeds_of : List Move → List Deed
+deeds_of h = map (λ (x : Move). x.deed) h
+
+-- the scan of a range came from its begin to this state by these moves, the newest first
+abbrev pub Scanned : Range → List Move → Scan × Cache → Type 0
+Scanned r [] m = (c : Cache) × (scan_ready (scan_of r, c) ≡ Goes m)
+Scanned r (x ∷ h) m =
+    (from : Scan × Cache) × Scanned r h from × (x.deed.ask ≡ scan_asks from) × IsMade x.deed × LedTo from x.deed.answer x.behind m × Follows (deeds_of h) x.deed
+
+-- ---- leaves
+
+-- the leaf of a page as a get answered it; a page 1 that was never put is the empty leaf
+pub record IsGot (tree : ℕ) (ask : Ask) (a : Answer) (l : Leaf) : Type 0 where
+  pub page : ℕ
+  pub got : Option (List ℕ)
+  pub asked : ask ≡ Get (object.Page tree page)
+  pub answered : a ≡ Got got
+  pub spelled : as_leaf (Some got) ≡ Some l
+
+abbrev pub joined : Option Leaf → List Leaf → List Leaf
+joined None ls = ls
+joined (Some l) ls = l ∷ ls
+
+-- the leaves behind which it went on, the newest first
+abbrev pub leaves_of : List Move → List Leaf
+leaves_of [] = []
+leaves_of (x ∷ h) = joined x.behind (leaves_of h)
+
+-- a leaf behind which a scan went on is the one that its call got
+abbrev pub IsGotBy : ℕ → Deed → Option Leaf → Type 0
+IsGotBy tree d None = Unit {0}
+IsGotBy tree d (Some l) = IsGot tree d.ask d.answer l
+
+-- .. and so is each of them
+abbrev pub AreGot : ℕ → List Move → Type 0
+AreGot tree [] = Unit {0}
+AreGot tree (x ∷ h) = IsGotBy tree x.deed x.behind × AreGot tree h
+
+-- the first leaf holds the first key, or is at the tree's left end where there is none
+abbrev pub BeginsAt : Option (List ℕ) → Leaf → Type 0
+BeginsAt (Some key) l = holds l key ≡ true
+BeginsAt None l = l.low ≡ []
+
+-- a leaf begins where the one before it ends, and below the key at which the scan stops
+abbrev pub Continues : Range → Leaf → List Leaf → Type 0
+Continues r l [] = BeginsAt r.from l
+Continues r l (before ∷ ls) = (before.high ≡ Some l.low) × (below_bound l.low r.to ≡ true)
+
+-- the ranges of leaves, the newest first, meet from the first one on
+abbrev pub AreMeeting : Range → List Leaf → Type 0
+AreMeeting r [] = Unit {0}
+AreMeeting r (l ∷ ls) = Continues r l ls × AreMeeting r ls
+
+-- nothing is to be listed behind a leaf: it has no high key, and so no right page, or one that is not below the key at which the scan stops
+abbrev pub IsPast : Option (List ℕ) → Option (List ℕ) → Type 0
+IsPast to None = Unit {0}
+IsPast to (Some high) = below_bound high to ≡ false
+
+-- a scan at a leaf that its newest call got and that the cache keeps: with the leaves behind which it went on, each of which a call got, it
+-- meets from the first one on, and where the scan does not go on, it is the last
+pub record IsAt (r : Range) (who : Caller) (before after : Seen) (old new : Scan × Cache) (h : List Move) (page : ℕ) : Type 0 where
+  pub leaf : Leaf
+  pub answer : Answer
+  pub made : Makes who (scan_asks old) answer before after
+  pub got : IsGot r.tree (scan_asks old) answer leaf
+  pub in_hand : scan_object new.0 ≡ object.Page r.tree page
+  pub kept : leaf_at new.1 (object.Page r.tree page) ≡ Some leaf
+  pub earlier : AreGot r.tree h
+  pub meeting : AreMeeting r (leaf ∷ leaves_of h)
+  pub last : goes_on new.0 ≡ false → IsPast r.to leaf.high
+
+-- what a step means: at its end the scan is at a leaf
+abbrev pub Means : Range → Caller → Seen → Seen → Scan × Cache → Scan × Cache → List Move → Turn ℕ → Type 0
+Means r who before after old new h More = Unit {0}
+Means r who before after old new h (Ended page) = IsAt r who before after old new h page
+Means r who before after old new h (Stopped t) = Unit {0}

@@ -76,7 +76,7 @@ stale_shown shows link number false d c = plan_shown shows link number (paged d 
 abbrev pub WalkCause : Walk → Answer → Trouble → Type 0
 WalkCause w a t = ShowsWalk w a t ⊎ (t ≡ trouble.Exhausted counter.Number)
 
-walked_shown : (first : Bool) (d : Draft) (w : Walk) (c : Cache) (a : Answer) → Fits (Get (object_of w)) a → Shown (WalkCause w a) (walked first d w c a)
+pub walked_shown : (first : Bool) (d : Draft) (w : Walk) (c : Cache) (a : Answer) → Fits (Get (object_of w)) a → Shown (WalkCause w a) (walked first d w c a)
 walked_shown first d w c a fits = on (walk_next (w, c) a) (next_stops w c a fits) where
   link : (t : Trouble) → IsOfLink t → WalkCause w a t
   link t h = inl (inr (inr h))

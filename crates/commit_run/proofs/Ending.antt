@@ -156,7 +156,7 @@ planned_fewer d more h = omega (arith, h, length-append d.plan.pages (pages_of d
 behind_within : (d : Draft) (w : Walk) (c : Cache) → IsWithin d → IsWithin (pruned_behind d w c)
 behind_within d w c within = subst (λ (cs : List Noted). length d.plan.pages ≤ length cs) (sym (used_same d.writes c w.used).0) within
 
-behind_target : (d : Draft) (w : Walk) (c : Cache) → next_target (pruned_behind d w c) ≡ next_target d
+pub behind_target : (d : Draft) (w : Walk) (c : Cache) → next_target (pruned_behind d w c) ≡ next_target d
 behind_target d w c = ap (λ (cs : List Noted). option_map target_of (slice_get cs (length d.plan.pages))) (used_same d.writes c w.used).0
 
 behind_unknown : (d : Draft) (w : Walk) (c : Cache) → unknown (pruned_behind d w c) ≡ unknown d
@@ -172,14 +172,14 @@ plan_from d e c walks same within fewer =
       more_walks a b k h = omega (arith, h)
 
 -- a walk ended at a leaf that holds its key: the next change's leaf is known
-noted_finds : (d : Draft) (tree page : ℕ) (key : List ℕ) (leaf : Leaf) (o : Option Leaf) → o ≡ Some leaf → holds leaf key ≡ true → next_target d ≡ Some (tree, key)
+pub noted_finds : (d : Draft) (tree page : ℕ) (key : List ℕ) (leaf : Leaf) (o : Option Leaf) → o ≡ Some leaf → holds leaf key ≡ true → next_target d ≡ Some (tree, key)
     → 1 ≤ length (pages_of d.writes.home.head.pending (with_kept d.plan tree page o).ended (drop (length (with_kept d.plan tree page o).pages) d.writes.changes))
 noted_finds d tree page key leaf o e holding target =
     let found : (p : ℕ) × (ended_page (d.plan.ended ++ ended_of tree page leaf ∷ []) tree key ≡ Some p) = found_last tree key d.plan.ended (ended_of tree page leaf) (held_spans tree page key leaf holding) in
     subst (λ (x : Option Leaf). 1 ≤ length (pages_of d.writes.home.head.pending (with_kept d.plan tree page x).ended (drop (length (with_kept d.plan tree page x).pages) d.writes.changes))) (sym e)
     (next_found d.writes.home.head.pending (d.plan.ended ++ ended_of tree page leaf ∷ []) tree key found.0 found.1 d.writes.changes (length d.plan.pages) target)
 
-noted_pages : (p : Plan) (tree page : ℕ) (o : Option Leaf) → (with_kept p tree page o).pages ≡ p.pages
+pub noted_pages : (p : Plan) (tree page : ℕ) (o : Option Leaf) → (with_kept p tree page o).pages ≡ p.pages
 noted_pages p tree page None = refl
 noted_pages p tree page (Some leaf) = refl
 

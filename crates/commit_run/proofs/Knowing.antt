@@ -1,5 +1,5 @@
 -- What is known of a commit at each of its calls, by its calls so far.
-use Rattle.std.proofs.Common.{◌≡◌, ℕ, ◌++◌, List, length, Some}
+use Rattle.std.proofs.Common.{◌≡◌, ℕ, ◌++◌, List, length, Some, false}
 use Rattle.std.specs.Prelude.{slice_get, Option}
 use Rattle.std.specs.List.{AllByRecursion}
 use Rattle.db_base.specs.declared.names.ObjName.TheVariants as object
@@ -15,7 +15,7 @@ use Rattle.page_cache.specs.Cache.{Cache}
 use Rattle.page_cache.specs.Held.{as_leaf}
 use Rattle.tree_walk.specs.Walk.{IsWalk, sought}
 use Rattle.commit_plan.specs.Ended.{Ended}
-use Rattle.commit_writes.specs.Writing.{Writing, waiting, begun, routed_of, writing_ask, writing_next}
+use Rattle.commit_writes.specs.Writing.{Writing, waiting, begun, routed_of, passes, writing_ask, writing_next}
 use Rattle.commit_writes.specs.Calls.{Calls, told}
 use Rattle.commit_run.specs.declared.hand.Hand.{Hand}
 use Rattle.commit_run.specs.declared.hand.Hand.TheVariants.{Writes, First, Change}
@@ -49,6 +49,7 @@ pub record KnowsBegun (home : Home) (changes : List Noted) (calls : Calls) (w : 
   pub gets : AllByRecursion IsGet calls
   pub known : length pages ≡ length changes
   pub leaves : AreLeaves calls changes pages
+  pub fits : passes (routed_of (walked_home home uses) changes pages) ≡ false
   pub begins : begun (waiting (walked_home home uses) changes) (routed_of (walked_home home uses) changes pages) ≡ Goes w
 
 -- .. and others after it

@@ -11,3 +11,5 @@ pub mod Walked
 pub mod Meaning
 pub mod Stopping
 pub mod Causing
+pub mod Grouping
+pub mod Exacting

@@ -64,7 +64,7 @@ known_at home changes h d Writes k = record { later = []; first = h; are = refl;
 known_at home changes h d (First w) k = k
 known_at home changes h d (Change w) k = k
 
-follows_part : (later first : List Deed) (d : Deed) → Follows (later ++ first) d → Follows later d
+pub follows_part : (later first : List Deed) (d : Deed) → Follows (later ++ first) d → Follows later d
 follows_part [] first d f = tt
 follows_part (l ∷ later) first d f = f
 
@@ -98,7 +98,7 @@ step_knows home changes h d draft (First w) c m k asked made goes follows =
 step_knows home changes h d draft (Change w) c m k asked made goes follows =
     walk_knows home changes h d false draft w (next_at (Change w) draft c d.answer) m (turned_by home changes (told h) false draft w c d.answer k) asked goes
 
-came_knows : (home : Home) (changes : List Noted) (c : Cache) (start : Run × Cache) → run_ready (new_run home changes, c) ≡ Goes start → (h : List Deed) (m : Run × Cache)
+pub came_knows : (home : Home) (changes : List Noted) (c : Cache) (start : Run × Cache) → run_ready (new_run home changes, c) ≡ Goes start → (h : List Deed) (m : Run × Cache)
     → Came asks (LeadsBy run_next) start h m → KnowsAt home changes h m.0.draft m.0.hand
 came_knows home changes c start goes [] m came =
     subst (λ (n : Run × Cache). KnowsAt home changes [] n.0.draft n.0.hand) (sym came) (known_at home changes [] start.0.draft start.0.hand (starts_knows home changes c start goes))
@@ -135,7 +135,7 @@ walk_meant false draft w c who before after n turn steps = record {
       (turned_by home changes (told h) false draft w c steps.answer (came_knows home changes cache start goes h (record { draft = draft; hand = Change w }, c) came)) steps.took;
 }
 
-told_append : (later first : List Deed) → told (later ++ first) ≡ told first ++ told later
+pub told_append : (later first : List Deed) → told (later ++ first) ≡ told first ++ told later
 told_append [] first = sym (append-nil (told first))
 told_append (d ∷ later) first =
     ap (λ (l : Calls). l ++ (d.ask, d.answer) ∷ []) (told_append later first) ∙ append_assoc (told first) (told later) ((d.ask, d.answer) ∷ [])

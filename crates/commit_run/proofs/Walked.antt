@@ -69,7 +69,7 @@ within_of : (home : Home) (changes : List Noted) (uses : List Use) (w v : Writin
     → length pages ≤ length w.changes → length pages ≤ length v.changes
 within_of home changes uses w v pages e same h = subst (λ (cs : List Noted). length pages ≤ length cs) (ap (λ (x : Writing). x.changes) e ∙ sym same) h
 
-knows_pruned : (home : Home) (changes : List Noted) (calls : Calls) (d : Draft) (w : Walk) (c : Cache) → KnowsDraft home changes calls d → KnowsDraft home changes calls (pruned_behind d w c)
+pub knows_pruned : (home : Home) (changes : List Noted) (calls : Calls) (d : Draft) (w : Walk) (c : Cache) → KnowsDraft home changes calls d → KnowsDraft home changes calls (pruned_behind d w c)
 knows_pruned home changes calls d w c k =
     let more : Prunes home changes (pruned_with d.writes c w.used) =
     subst (λ (x : Writing). Prunes home changes (pruned_with x c w.used)) (sym k.writes) (used_more home changes k.uses c w.used) in
@@ -135,18 +135,18 @@ routed_by home changes calls d c k known =
       records : List AtomicRec
       records = routed_of h changes d.plan.pages
 
-      begins : (o : Option AtomicRec) → slice_get records 0 ≡ o → begun (waiting h changes) records ≡ log_or_open (record (waiting h changes) { records = records; place = 0 }) o
+      begins : passes records ≡ false → (o : Option AtomicRec) → slice_get records 0 ≡ o → begun (waiting h changes) records ≡ log_or_open (record (waiting h changes) { records = records; place = 0 }) o
           → KnowsNext home changes calls (wrote d c (log_or_open (record (waiting h changes) { records = records; place = 0 }) o))
-      begins (Some r) e is = record { uses = k.uses; pages = d.plan.pages; gets = k.gets; known = known; leaves = k.leaves; begins = is }
-      begins None e is = record { uses = k.uses; pages = d.plan.pages; gets = k.gets; known = known; leaves = k.leaves; begins = is }
+      begins fits (Some r) e is = record { uses = k.uses; pages = d.plan.pages; gets = k.gets; known = known; leaves = k.leaves; fits = fits; begins = is }
+      begins fits None e is = record { uses = k.uses; pages = d.plan.pages; gets = k.gets; known = known; leaves = k.leaves; fits = fits; begins = is }
 
       on : (b : Bool) → passes records ≡ b → KnowsNext home changes calls (wrote d c (if b then not_committed (waiting h changes) (trouble.Exhausted counter.Number) else begun (waiting h changes) records))
       on true e = inl (record { uses = k.uses; gets = k.gets; left_so = refl; why = inr (inr (d.plan.pages, refl, e)) })
-      on false e = begins (slice_get records 0) refl refl
+      on false e = begins e (slice_get records 0) refl refl
 
 -- ---- a walk begins
 
-unended_ready : (w : Walk) (c : Cache) (m : Walk × Cache) (page : ℕ) → walk_ready (w, c) ≡ Ends m page → ⊥
+pub unended_ready : (w : Walk) (c : Cache) (m : Walk × Cache) (page : ℕ) → walk_ready (w, c) ≡ Ends m page → ⊥
 unended_ready w c m page h = on (goes_on c (rested w)) (through_unended c 64 (rested w)) h where
   on : (x : Next Walk ℕ) → Unended x → beside (x, c) ≡ Ends m page → ⊥
   on (Goes v) u e = absurd (cc (e))
@@ -242,19 +242,19 @@ stale_by home changes calls false d c w k leaf = plans_on home changes calls (pa
 
 -- ---- a turn of the walk in hand
 
-draft_of : (home : Home) (changes : List Noted) (calls : Calls) (first : Bool) (d : Draft) (w : Walk) → KnowsHand home changes calls d (held first w) → KnowsDraft home changes calls d
+pub draft_of : (home : Home) (changes : List Noted) (calls : Calls) (first : Bool) (d : Draft) (w : Walk) → KnowsHand home changes calls d (held first w) → KnowsDraft home changes calls d
 draft_of home changes calls true d w k = k.0
 draft_of home changes calls false d w k = k.0
 
-walk_of : (home : Home) (changes : List Noted) (calls : Calls) (first : Bool) (d : Draft) (w : Walk) → KnowsHand home changes calls d (held first w) → IsWalk w
+pub walk_of : (home : Home) (changes : List Noted) (calls : Calls) (first : Bool) (d : Draft) (w : Walk) → KnowsHand home changes calls d (held first w) → IsWalk w
 walk_of home changes calls true d w k = k.1
 walk_of home changes calls false d w k = k.1
 
-target_at : (home : Home) (changes : List Noted) (calls : Calls) (first : Bool) (d : Draft) (w : Walk) → KnowsHand home changes calls d (held first w) → first ≡ false → next_target d ≡ Some (w.tree, sought w)
+pub target_at : (home : Home) (changes : List Noted) (calls : Calls) (first : Bool) (d : Draft) (w : Walk) → KnowsHand home changes calls d (held first w) → first ≡ false → next_target d ≡ Some (w.tree, sought w)
 target_at home changes calls true d w k other = absurd (cc (other))
 target_at home changes calls false d w k other = k.2
 
-same_target : (w v : Walk) → aim v ≡ aim w → ◌≡◌ {A = ℕ × List ℕ} (w.tree, sought w) (v.tree, sought v)
+pub same_target : (w v : Walk) → aim v ≡ aim w → ◌≡◌ {A = ℕ × List ℕ} (w.tree, sought w) (v.tree, sought v)
 same_target w v e = ap (λ (a : ℕ × Option (List ℕ)). (a.0, unwrap_or a.1 [])) (sym e)
 
 stopped_at : (calls : Calls) (w : Walk) (c : Cache) (a : Answer) (m : Walk × Cache) (t : Trouble) → walk_next (w, c) a ≡ Stops m t → (tree : ℕ) (key : List ℕ) → w.tree ≡ tree → sought w ≡ key

@@ -1,6 +1,10 @@
 pub mod Causing
 pub mod Draft
 pub mod Ending
+pub mod Exact
 pub mod Meaning
+pub mod Names
 pub mod Run
 pub mod Sound
+pub mod Well
+pub mod Within

@@ -127,6 +127,10 @@ impl Draft {
     ghost use Rattle.commit_run.specs.Run.{Led, IsHeld, held, wrote, troubled, begun_turn, walk_to, seek, next_target, plan_on, stale_at, walk_stopped, walk_turned, long_target, begin_walks, asks, run_ready, run_next, Keeps, KeepsHome};
     ghost use Rattle.commit_run.specs.Meaning.{Meant};
     ghost use Rattle.commit_run.specs.Causing.{Causes};
+    ghost use Rattle.commit_run.specs.Exact.{Exact};
+    ghost use Rattle.commit_run.specs.Names.{Names};
+    ghost use Rattle.commit_run.specs.Well.{Well};
+    ghost use Rattle.commit_run.specs.Within.{Within};
     ghost use Rattle.commit_run.specs.Ending.{left_at};
     ghost use Rattle.commit_writes.specs.Sound.{IsSound};
 
@@ -404,6 +408,10 @@ impl Draft {
         ensures causes { (c : Cache) → Causes who (C.seen cloud.old) (C.seen cloud.new) (record { draft = self.old; hand = Hand.Writes }, c) result }
         ensures sound { IsSound self.old.writes }
         ensures less { result ≡ Turn.More → left_at Hand.Writes self.new < left_at Hand.Writes self.old }
+        ensures within { (c : Cache) → Within (record { draft = self.old; hand = Hand.Writes }, c) }
+        ensures names { (c : Cache) → Names (record { draft = self.old; hand = Hand.Writes }, c) }
+        ensures exact { (c : Cache) → Exact who (C.seen cloud.old) (C.seen cloud.new) (record { draft = self.old; hand = Hand.Writes }, c) result }
+        ensures well { (c : Cache) → Well who (C.seen cloud.old) (C.seen cloud.new) (record { draft = self.old; hand = Hand.Writes }, c) result }
     {
         self.writes.step(alloc, cloud, who)
     }
@@ -424,6 +432,10 @@ impl Draft {
         ensures causes { Causes who (C.seen cloud.old) (C.seen cloud.new) (record { draft = self.old; hand = held first walk }, cache.old) result.1 }
         ensures held { IsHeld self.new result.0 }
         ensures less { result.1 ≡ Turn.More → left_at result.0 self.new < left_at (held first walk) self.old }
+        ensures within { Within (record { draft = self.old; hand = held first walk }, cache.old) }
+        ensures names { Names (record { draft = self.old; hand = held first walk }, cache.old) }
+        ensures exact { Exact who (C.seen cloud.old) (C.seen cloud.new) (record { draft = self.old; hand = held first walk }, cache.old) result.1 }
+        ensures well { Well who (C.seen cloud.old) (C.seen cloud.new) (record { draft = self.old; hand = held first walk }, cache.old) result.1 }
     {
         let mut walk = walk;
         let turn = walk.step(alloc, cloud, who, cache);

@@ -46,6 +46,10 @@ impl Model for CommitRun {
 impl CommitRun {
     ghost use Rattle.commit_run.specs.Run.{new_run, run_ask, asks, run_ready, run_next, run_opens, home_of, Led, Keeps, KeepsHome};
     ghost use Rattle.commit_run.specs.Causing.{Causes};
+    ghost use Rattle.commit_run.specs.Exact.{Exact, ExactReady};
+    ghost use Rattle.commit_run.specs.Names.{Names};
+    ghost use Rattle.commit_run.specs.Well.{Well};
+    ghost use Rattle.commit_run.specs.Within.{Within};
     ghost use Rattle.commit_run.specs.Ending.{calls_left, most_calls};
     ghost use Rattle.commit_run.specs.Sound.{IsSoundRun};
     ghost use Rattle.commit_run.specs.Meaning.{Meant, MeansReady};
@@ -107,6 +111,7 @@ impl CommitRun {
         ensures kept { Keeps (home_of self.old) (home_of self.new) }
         ensures means { (home : Home) (changes : List Noted) → self.old ≡ new_run home changes → MeansReady home changes (home_of self.new) result }
         ensures calls { (home : Home) (changes : List Noted) → self.old ≡ new_run home changes → result ≡ Turn.More → calls_left self.new ≤ most_calls (length changes) }
+        ensures exact { (home : Home) (changes : List Noted) → self.old ≡ new_run home changes → ExactReady home result }
     {
         let (hand, turn) = self.draft.begin(alloc, cache);
         self.hand = hand;
@@ -127,6 +132,12 @@ impl CommitRun {
         ensures causes { Causes who (C.seen cloud.old) (C.seen cloud.new) (self.old, cache.old) result }
         ensures sound { IsSoundRun self.old }
         ensures less { result ≡ Turn.More → calls_left self.new < calls_left self.old }
+        // With this call it made those of one walk a change and one more at most, and three a change and two behind them.
+        ensures within { Within (self.old, cache.old) }
+        ensures names { Names (self.old, cache.old) }
+        // It ends with each answer exactly where the calls demand it.
+        ensures exact { Exact who (C.seen cloud.old) (C.seen cloud.new) (self.old, cache.old) result }
+        ensures well { Well who (C.seen cloud.old) (C.seen cloud.new) (self.old, cache.old) result }
     {
         match mem::replace(&mut self.hand, Hand::Writes) {
             Hand::Writes => self.draft.step_writes(alloc, cloud, who),

@@ -1,4 +1,6 @@
+pub mod Counting
 pub mod Ending
+pub mod Exacting
 pub mod Keeping
 pub mod Knowing
 pub mod Meaning

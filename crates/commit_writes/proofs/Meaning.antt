@@ -33,6 +33,7 @@ use Rattle.commit_writes.specs.declared.stage.Stage.TheVariants.{Waiting, Loggin
 use Rattle.commit_writes.specs.Writing.{Writing, waiting, with_head, before_of, restored, begun, writing_ask, writing_next, ask_at, next_at, head_ask, log_ask, send_ask, delete_ask, logged_by, opened_by, sent_by, settled_by, deleted_by, log_or_open, send_or_settle, delete_or_end, KeepsHome}
 use Rattle.commit_writes.specs.Calls.{Calls, told, log_of, logged_calls, post_of, posted_calls, deleted_calls, put_of, opened_of, settled_of, all_logged, all_opened, all_posted, all_settled}
 use Rattle.commit_writes.specs.Meaning.{WasTried, IsOpenAnswered, IsSettleAnswered, MeansTurn}
+use Rattle.commit_writes.specs.Within.{Went}
 use Rattle.commit_writes.proofs.Knowing.{KnowsLogging, KnowsOpening, KnowsSending, KnowsSettling, KnowsDeleting, KnowsAt, Knows, KnowsNext}
 
 -- ---- lists of calls with one more
@@ -132,7 +133,7 @@ put_asked : (h : Home) (w : Writing) (head : Head) (of : Head) → w.home ≡ wi
 put_asked h w head of home out =
     ap (λ (x : Home). PutHeld (object.Head x.client) w.out x.lease None) home ∙ ap (λ b. PutHeld (object.Head h.client) b h.lease None) out
 
-post_asked : (w : Writing) (o : Option AtomicRec) (r : AtomicRec) → o ≡ Some r → w.out ≡ pu_bytes (pu_record_of r) → send_ask w o ≡ post_of r
+pub post_asked : (w : Writing) (o : Option AtomicRec) (r : AtomicRec) → o ≡ Some r → w.out ≡ pu_bytes (pu_record_of r) → send_ask w o ≡ post_of r
 post_asked w o r e out = ap (λ x. send_ask w x) e ∙ ap (λ b. Send (queue_name r.tree r.page) b) out
 
 delete_asked : (h : Home) (w : Writing) (o : Option ℕ) (id : ℕ) (head : Head) → o ≡ Some id → w.home ≡ with_head h head → delete_ask w o ≡ Delete (queue.Atomic h.client) id
@@ -327,7 +328,11 @@ came_knows h changes rs start goes [] m came = subst (Knows h rs []) (sym came) 
 came_knows h changes rs start goes (d ∷ ds) m (from, came, asked, made, leads, follows) =
     knows_more h rs (told ds) from m d.ask d.answer (came_knows h changes rs start goes ds from came) asked made.fits leads
 
-only_memory : (t : Trouble) → (t ≢ trouble.Memory → t ≡ trouble.Memory) → t ≡ trouble.Memory
+-- the same of a commit that came here
+pub went_knows : (home : Home) (records : List AtomicRec) (h : List Deed) (w : Writing) → Went home records h w → Knows home records (told h) w
+went_knows home records h w (some, changes, start, begins, came) = came_knows home changes records start begins h w came
+
+pub only_memory : (t : Trouble) → (t ≢ trouble.Memory → t ≡ trouble.Memory) → t ≡ trouble.Memory
 only_memory trouble.Memory f = refl
 only_memory t f = f (λ e. cc)
 

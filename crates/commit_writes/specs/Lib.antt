@@ -1,5 +1,9 @@
 pub mod Calls
 pub mod Ending
+pub mod Exact
 pub mod Meaning
+pub mod Names
 pub mod Sound
+pub mod Well
+pub mod Within
 pub mod Writing

@@ -1,4 +1,4 @@
-ghost use Rattle.std.specs.Prelude.{◌≡◌, ◌≤◌, ◌<◌, ◌+◌, ◌*◌, length, not};
+ghost use Rattle.std.specs.Prelude.{◌≡◌, ◌≤◌, ◌<◌, ◌+◌, ◌*◌, List, length, not};
 ghost use Rattle.std.specs.Option.{option_copied};
 ghost use Rattle.std.specs.List.{AllByRecursion};
 ghost use Rattle.log_codec.specs.Atomic.{HasPlace};
@@ -63,6 +63,13 @@ impl CommitWrites {
     ghost use Rattle.route_plan.specs.Prune.{pruned_by_leaf, pruned_by_tree};
     ghost use Rattle.commit_writes.specs.Ending.{calls_left};
     ghost use Rattle.commit_writes.specs.Sound.{IsSound};
+    ghost use Rattle.commit_writes.specs.Within.{Went, IsWithin};
+    ghost use Rattle.commit_writes.specs.Exact.{Exact};
+    ghost use Rattle.commit_writes.specs.Names.{IsOwnCall};
+    ghost use Rattle.commit_writes.specs.Well.{Well};
+    ghost use Rattle.recover_run.specs.declared.home.Home.{Home as AnyHome};
+    ghost use Rattle.log_codec.specs.declared.record.AtomicRec.{AtomicRec as AnyRecord};
+    ghost use Rattle.cloud_trait.specs.Machine.{Deed};
 
     /// The commit of changes by a home, before its first write. Takes no memory.
     pub fn new(alloc: Global, home: Home, changes: TxnBuffer) -> CommitWrites
@@ -460,6 +467,11 @@ impl CommitWrites {
         ensures means { Meant who (C.seen cloud.old) (C.seen cloud.new) self.old self.new result }
         ensures sound { IsSound self.old }
         ensures less { result ≡ Turn.More → calls_left self.new < calls_left self.old }
+        ensures within { (home : AnyHome) (records : List AnyRecord) (h : List Deed) → Went home records h self.old → IsWithin records h }
+        // It ends with each answer exactly where the calls demand it.
+        ensures exact { Exact who (C.seen cloud.old) (C.seen cloud.new) self.old result }
+        ensures names { IsOwnCall self.old.home (writing_ask self.old) }
+        ensures well { Well who (C.seen cloud.old) (C.seen cloud.new) self.old result }
     {
         let answer = self.call(cloud, who);
         self.absorb(alloc, answer)

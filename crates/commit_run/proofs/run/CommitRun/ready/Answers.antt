@@ -2,6 +2,7 @@ use Rattle.std.proofs.Common.{subst}
 use Rattle.commit_run.specs.Run.{Run, run_ready, Led}
 use Rattle.commit_run.proofs.Meaning.{ready_means}
 use Rattle.commit_run.proofs.Ending.{ready_most}
+use Rattle.commit_run.proofs.Exacting.{ready_exact}
 use Rattle.commit_run.proofs.run.CommitRun.ready.Goals as goal
 
 pub returns-clause-means : goal.returns-clause-means
@@ -12,4 +13,9 @@ returns-clause-means c =
 pub returns-clause-calls : goal.returns-clause-calls
 returns-clause-calls c =
     λ home changes new. ready_most home changes c.args.cache.now c.args.self.now (record { draft = c.begin-hand.new.self; hand = c.begin-hand.result.0 }, c.begin-hand.new.cache) c.begin-hand.result.1 new
+    (subst (λ (r : Run). Led (run_ready (r, c.args.cache.now)) (record { draft = c.begin-hand.new.self; hand = c.begin-hand.result.0 }, c.begin-hand.new.cache) c.begin-hand.result.1) c.self.view_is c.begin-hand.ensures.led)
+
+pub returns-clause-exact : goal.returns-clause-exact
+returns-clause-exact c =
+    λ home changes new. ready_exact home changes c.args.cache.now c.args.self.now (record { draft = c.begin-hand.new.self; hand = c.begin-hand.result.0 }, c.begin-hand.new.cache) c.begin-hand.result.1 new
     (subst (λ (r : Run). Led (run_ready (r, c.args.cache.now)) (record { draft = c.begin-hand.new.self; hand = c.begin-hand.result.0 }, c.begin-hand.new.cache) c.begin-hand.result.1) c.self.view_is c.begin-hand.ensures.led)

@@ -37,7 +37,7 @@ use Rattle.page_ckpt.specs.Standing.{HoldsAt, Stands}
 use Rattle.page_ckpt.specs.Causing.{Shows, IsShown, Tells, LeadsOn, IsHomeSpent, IsRightSpent, greatest_number}
 
 -- what a step tells of its trouble
-abbrev NextTells : Paging → Answer → Step → Type 0
+abbrev pub NextTells : Paging → Answer → Step → Type 0
 NextTells p a (Goes n) = (t : Trouble) → n.trouble ≡ Some t → IsShown p a n t
 NextTells p a (Ends n x) = p.trouble ≡ None
 NextTells p a (Stops n t) = t ≢ trouble.Memory → IsShown p a n t
@@ -206,7 +206,7 @@ items_shows : (n : Paging) (p : Paging) (first second : Option Claim) (cursor : 
 items_shows n p first second cursor ms (Ok items) t e h = absurd (cc (h.2))
 items_shows n p first second cursor ms (Err m) t e h =
     let same : t ≡ message_damage (own_queue p) m = cc (h) in
-    subst (λ (u : Trouble). Shows (leased p Receiving first second) (call.Received ms) n u) (sym same) (inr (ms, (m, refl, e, refl, refl)))
+    subst (λ (u : Trouble). Shows (leased p Receiving first second) (call.Received ms) n u) (sym same) (inr (refl, (ms, (m, refl, e, refl, refl))))
 
 -- where a run was taken, each message was a record
 items_read : (q : QueueName) (cursor : List (ℕ × ℕ)) (read : Result (List PuItem) Message) (i : Intake) → TakesItems q cursor read (Ok i)
@@ -355,7 +355,7 @@ tells_by DeletingNext p first second a next = deleting_next p first second a nex
 tells_by Releasing p first second a next = releasing p first second a next
 tells_by Finished p first second a next = finished p first second a next
 
-step_tells : (p : Paging) (h : List Deed) (a : Answer) (next : Step) → Stands p h → Fits (paging_ask p) a → PagingLeads p a next → NextTells p a next
+pub step_tells : (p : Paging) (h : List Deed) (a : Answer) (next : Step) → Stands p h → Fits (paging_ask p) a → PagingLeads p a next → NextTells p a next
 unfolding TellsBy
 step_tells p h a next s fits leads = tells_by p.stage p p.held.first p.held.second a next fits s.own leads
 

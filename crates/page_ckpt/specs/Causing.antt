@@ -50,8 +50,8 @@ BreaksPage p a page at =
 -- a received message that is no record, the first such
 abbrev pub BreaksMessage : Paging → Answer → Place → ℕ → Type 0
 BreaksMessage p a where_it_is at =
-    (ms : List Message) × ((m : Message) × (a ≡ call.Received ms) × (items_of ms ≡ Err m) × (where_it_is ≡ place.Message (own_queue p) m.id)
-    × (at ≡ pu_offset m.bytes))
+    (p.stage ≡ Receiving) × ((ms : List Message) × ((m : Message) × (a ≡ call.Received ms) × (items_of ms ≡ Err m) × (where_it_is ≡ place.Message (own_queue p) m.id)
+    × (at ≡ pu_offset m.bytes)))
 
 -- a right page whose low key is not the one that led there
 abbrev pub BreaksFence : Paging → Answer → ℕ → List ℕ → List ℕ → Type 0

@@ -1,5 +1,5 @@
 -- Why a page checkpoint stops.
-use Rattle.std.proofs.Common.{◌≡◌, ◌≢◌, ℕ, Bool, true, false, cond, List, Option, Some, None, Result, Ok, Err, refl, sym, subst, inl, inr}
+use Rattle.std.proofs.Common.{◌≡◌, ◌≢◌, ℕ, Bool, true, false, cond, List, Option, Some, None, Result, Ok, Err, ◌⊎◌, refl, sym, subst, inl, inr}
 use Rattle.std.specs.Prelude.{◌==◌}
 use Rattle.std.proofs.lemmas.Bool.{eqb-false}
 use Rattle.db_base.specs.declared.names.Lock.TheVariants as lock
@@ -34,19 +34,23 @@ use Rattle.page_ckpt.specs.declared.stage.Stage.{Stage}
 use Rattle.page_ckpt.specs.declared.stage.Stage.TheVariants.{TakingHome, GettingHome, Receiving, TakingRight, GettingRight, PuttingRight, ReleasingRight, PuttingHome, Deleting as DeletingNext, Releasing, Finished}
 use Rattle.page_ckpt.specs.Paging.{Paging, Step, paging_ask, ask_at, own_queue, handed, stopping, deleting, deleting_by, home_taken_by, HoldsNamed, HomeGot, home_read, link_of, is_visited, LeafPut, to_right, GoesOn, RunStarted, with_intake, IntakeTaken, ReceivedBy, right_taken_by, RightLacks, RightRead, RightGot, right_put_by, home_put_by, with_applied, without_applying, without_onward, went, finished_by, released_by, AbsorbsAt, PagingLeads, KeepsLeases}
 use Rattle.page_ckpt.specs.Standing.{HoldsAt, Stands}
-use Rattle.page_ckpt.specs.Causing.{Shows, IsShown, Tells}
+use Rattle.page_ckpt.specs.Causing.{Shows, IsShown, Tells, LeadsOn, IsHomeSpent, IsRightSpent, greatest_number}
 
 -- what a step tells of its trouble
-abbrev NextTells : Paging → Answer → Step → Type 0
-NextTells p a (Goes n) = (t : Trouble) → n.trouble ≡ Some t → IsShown p a t
+abbrev pub NextTells : Paging → Answer → Step → Type 0
+NextTells p a (Goes n) = (t : Trouble) → n.trouble ≡ Some t → IsShown p a n t
 NextTells p a (Ends n x) = p.trouble ≡ None
-NextTells p a (Stops n t) = t ≢ trouble.Memory → IsShown p a t
+NextTells p a (Stops n t) = t ≢ trouble.Memory → IsShown p a n t
 
 by_built : (p : Paging) (a : Answer) (next built : Step) → next ≡ built → NextTells p a built → NextTells p a next
 by_built p a next built e h = subst (NextTells p a) (sym e) h
 
-stop_tells : (p q : Paging) (a : Answer) (t : Trouble) → Shows p a t → NextTells p a (stopping q t)
-stop_tells p q a t shows = λ u e. let same : t ≡ u = cc (e) in inr (subst (λ (v : Trouble). Shows p a v) same shows)
+-- the leases are given back next
+abbrev stopped : Paging → Trouble → Paging
+stopped q t = record q { stage = Releasing; trouble = Some t }
+
+stop_tells : (p q : Paging) (a : Answer) (t : Trouble) → Shows p a (stopped q t) t → NextTells p a (stopping q t)
+stop_tells p q a t shows = λ u e. let same : t ≡ u = cc (e) in inr (subst (λ (v : Trouble). Shows p a (stopped q t) v) same shows)
 
 -- at a stage with these leases
 abbrev leased : Paging → Stage → Option Claim → Option Claim → Paging
@@ -60,74 +64,78 @@ absent_shows p page t e = on (page == 1) refl e where
   on true is h = absurd (cc (h))
   on false is h = (eqb-false page 1 is, cc (h))
 
-named_shows : (p : Paging) (l : Claim) (got : Option (List ℕ)) (t : Trouble) → HoldsNamed p.tree p.page got (Err t)
-    → Shows (leased p GettingHome (Some l) None) (call.Got got) t
-named_shows p l None t e =
+named_shows : (n : Paging) (p : Paging) (l : Claim) (got : Option (List ℕ)) (t : Trouble) → HoldsNamed p.tree p.page got (Err t)
+    → Shows (leased p GettingHome (Some l) None) (call.Got got) n t
+named_shows n p l None t e =
     let absent : (p.page ≢ 1) × (t ≡ trouble.Absent p.page) = absent_shows p p.page t e in
-    subst (λ (u : Trouble). Shows (leased p GettingHome (Some l) None) (call.Got None) u) (sym absent.1) (inl (refl, refl), absent.0, refl)
-named_shows p l (Some bytes) t (inl h) =
+    subst (λ (u : Trouble). Shows (leased p GettingHome (Some l) None) (call.Got None) n u) (sym absent.1) (inl (refl, refl), absent.0, refl)
+named_shows n p l (Some bytes) t (inl h) =
     let is : t ≡ trouble.NotALeaf p.page = cc (h.2) in
-    subst (λ (u : Trouble). Shows (leased p GettingHome (Some l) None) (call.Got (Some bytes)) u) (sym is) (refl, refl, (bytes, (h.0, refl, h.1)))
-named_shows p l (Some bytes) t (inr (no_inner, inl h)) = absurd (cc (h.2))
-named_shows p l (Some bytes) t (inr (no_inner, inr h)) =
+    subst (λ (u : Trouble). Shows (leased p GettingHome (Some l) None) (call.Got (Some bytes)) n u) (sym is) (refl, refl, (bytes, (h.0, refl, h.1)))
+named_shows n p l (Some bytes) t (inr (no_inner, inl h)) = absurd (cc (h.2))
+named_shows n p l (Some bytes) t (inr (no_inner, inr h)) =
     let is : t ≡ page_damage p.tree p.page (offset leaf bytes) = cc (h.1) in
-    subst (λ (u : Trouble). Shows (leased p GettingHome (Some l) None) (call.Got (Some bytes)) u) (sym is)
+    subst (λ (u : Trouble). Shows (leased p GettingHome (Some l) None) (call.Got (Some bytes)) n u) (sym is)
     (inl (p.page, refl, (inl (refl, refl), (bytes, refl, h.0, refl, λ k. no_inner))))
 
 never_home : {X : Type 0} → GettingRight ≡ GettingHome → X
 never_home e = absurd (cc (e))
 
-right_shows : (p : Paging) (l r : Claim) (got : Option (List ℕ)) (t : Trouble) → HoldsLeaf p.tree p.at.page got (Err t)
-    → Shows (leased p GettingRight (Some l) (Some r)) (call.Got got) t
-right_shows p l r None t e =
+right_shows : (n : Paging) (p : Paging) (l r : Claim) (got : Option (List ℕ)) (t : Trouble) → HoldsLeaf p.tree p.at.page got (Err t)
+    → Shows (leased p GettingRight (Some l) (Some r)) (call.Got got) n t
+right_shows n p l r None t e =
     let absent : (p.at.page ≢ 1) × (t ≡ trouble.Absent p.at.page) = absent_shows p p.at.page t e in
-    subst (λ (u : Trouble). Shows (leased p GettingRight (Some l) (Some r)) (call.Got None) u) (sym absent.1) (inr (refl, refl), absent.0, refl)
-right_shows p l r (Some bytes) t (inl h) = absurd (cc (h.2))
-right_shows p l r (Some bytes) t (inr h) =
+    subst (λ (u : Trouble). Shows (leased p GettingRight (Some l) (Some r)) (call.Got None) n u) (sym absent.1) (inr (refl, refl), absent.0, refl)
+right_shows n p l r (Some bytes) t (inl h) = absurd (cc (h.2))
+right_shows n p l r (Some bytes) t (inr h) =
     let is : t ≡ page_damage p.tree p.at.page (offset leaf bytes) = cc (h.1) in
-    subst (λ (u : Trouble). Shows (leased p GettingRight (Some l) (Some r)) (call.Got (Some bytes)) u) (sym is)
+    subst (λ (u : Trouble). Shows (leased p GettingRight (Some l) (Some r)) (call.Got (Some bytes)) n u) (sym is)
     (inl (p.at.page, refl, (inr (refl, refl), (bytes, refl, h.0, refl, λ k. never_home k))))
 
-fence_shows : (p : Paging) (l r : Claim) (got : Option (List ℕ)) (found : Leaf) (t : Trouble) (b : Bool) → bytes_same p.at.low found.low ≡ b
+fence_shows : (n : Paging) (p : Paging) (l r : Claim) (got : Option (List ℕ)) (found : Leaf) (t : Trouble) (b : Bool) → bytes_same p.at.low found.low ≡ b
     → HoldsLeaf p.tree p.at.page got (Ok found)
     → ◌≡◌ {A = Result Leaf Trouble} (Err t) (cond b (Ok found) (Err (bad_fence p.at.page p.at.low found)))
-    → Shows (leased p GettingRight (Some l) (Some r)) (call.Got got) t
-fence_shows p l r got found t true is holds e = absurd (cc (e))
-fence_shows p l r got found t false is holds e =
+    → Shows (leased p GettingRight (Some l) (Some r)) (call.Got got) n t
+fence_shows n p l r got found t true is holds e = absurd (cc (e))
+fence_shows n p l r got found t false is holds e =
     let same : t ≡ bad_fence p.at.page p.at.low found = cc (e) in
-    subst (λ (u : Trouble). Shows (leased p GettingRight (Some l) (Some r)) (call.Got got) u) (sym same)
-    (refl, refl, is, (got, (found, refl, holds, refl)))
+    subst (λ (u : Trouble). Shows (leased p GettingRight (Some l) (Some r)) (call.Got got) n u) (sym same)
+    (refl, refl, refl, is, (got, (found, refl, holds, refl)))
 
-linked_shows : (p : Paging) (l r : Claim) (got : Option (List ℕ)) (plain : Result Leaf Trouble) (t : Trouble) → HoldsLeaf p.tree p.at.page got plain
-    → Err t ≡ fenced p.at.page p.at.low plain → Shows (leased p GettingRight (Some l) (Some r)) (call.Got got) t
-linked_shows p l r got (Ok found) t holds e = fence_shows p l r got found t (bytes_same p.at.low found.low) refl holds e
-linked_shows p l r got (Err u) t holds e =
+linked_shows : (n : Paging) (p : Paging) (l r : Claim) (got : Option (List ℕ)) (plain : Result Leaf Trouble) (t : Trouble) → HoldsLeaf p.tree p.at.page got plain
+    → Err t ≡ fenced p.at.page p.at.low plain → Shows (leased p GettingRight (Some l) (Some r)) (call.Got got) n t
+linked_shows n p l r got (Ok found) t holds e = fence_shows n p l r got found t (bytes_same p.at.low found.low) refl holds e
+linked_shows n p l r got (Err u) t holds e =
     let same : u ≡ t = cc (e) in
-    subst (λ (v : Trouble). Shows (leased p GettingRight (Some l) (Some r)) (call.Got got) v) same (right_shows p l r got u holds)
+    subst (λ (v : Trouble). Shows (leased p GettingRight (Some l) (Some r)) (call.Got got) n v) same (right_shows n p l r got u holds)
 
 -- ---- on to the next page
 
-put_tells : (q p : Paging) (a : Answer) (stage : Stage) (l : Leaf) (next : Step) → q.trouble ≡ p.trouble → LeafPut p stage l next → NextTells q a next
-put_tells q p a stage l next same (inl h) = by_built q a next _ h.1 (stop_tells q p a (trouble.Exhausted counter.Version) refl)
-put_tells q p a stage l next same (inr h) = by_built q a next _ h.1.2 (λ t e. inl (subst (λ (o : Option Trouble). o ≡ Some t) (sym same) e))
+put_tells : (q p : Paging) (a : Answer) (stage : Stage) (l : Leaf) (next : Step) → q.trouble ≡ p.trouble
+    → (l.version ≡ greatest_number → IsHomeSpent q a p ⊎ IsRightSpent q a) → LeafPut p stage l next → NextTells q a next
+put_tells q p a stage l next same spent (inl h) = by_built q a next _ h.1 (stop_tells q p a (trouble.Exhausted counter.Version) (refl, spent h.0))
+put_tells q p a stage l next same spent (inr h) = by_built q a next _ h.1.2 (λ t e. inl (subst (λ (o : Option Trouble). o ≡ Some t) (sym same) e))
 
-right_tells : (q p : Paging) (a : Answer) (link : Link) (b : Bool) → q.trouble ≡ p.trouble → is_visited q link.page ≡ b → NextTells q a (to_right p link b)
-right_tells q p a link true same is = stop_tells q p a (trouble.Loop link.page) is
-right_tells q p a link false same is = λ t e. inl (subst (λ (o : Option Trouble). o ≡ Some t) (sym same) e)
+right_tells : (q p : Paging) (a : Answer) (link : Link) (b : Bool) → q.trouble ≡ p.trouble → is_visited q link.page ≡ b → LeadsOn q a p (Some link)
+    → NextTells q a (to_right p link b)
+right_tells q p a link true same is leads = stop_tells q p a (trouble.Loop link.page) (is, (link, leads, refl))
+right_tells q p a link false same is leads = λ t e. inl (subst (λ (o : Option Trouble). o ≡ Some t) (sym same) e)
 
-on_tells : (q p : Paging) (a : Answer) (link : Option Link) (next : Step) → q.trouble ≡ p.trouble
-    → ((page : ℕ) → is_visited q page ≡ is_visited p page) → GoesOn p link next → NextTells q a next
-on_tells q p a (Some link) next same visited h = by_built q a next _ h (right_tells q p a link (is_visited p link.page) same (visited link.page))
-on_tells q p a None next same visited h = put_tells q p a PuttingHome p.home next same h
+on_tells : (q p : Paging) (a : Answer) (link : Option Link) (next : Step) → q.trouble ≡ p.trouble → p.home ≡ q.home
+    → ((page : ℕ) → is_visited q page ≡ is_visited p page) → LeadsOn q a p link → GoesOn p link next → NextTells q a next
+on_tells q p a (Some link) next same home visited leads h =
+    by_built q a next _ h (right_tells q p a link (is_visited p link.page) same (visited link.page) leads)
+on_tells q p a None next same home visited leads h =
+    put_tells q p a PuttingHome p.home next same (λ e. inl (leads, subst (λ (l : Leaf). l.version ≡ greatest_number) home e)) h
 
 deleting_tells : (q p : Paging) (a : Answer) (id : Option ℕ) → q.trouble ≡ p.trouble → NextTells q a (deleting_by p id)
 deleting_tells q p a (Some id) same = λ t e. inl (subst (λ (o : Option Trouble). o ≡ Some t) (sym same) e)
 deleting_tells q p a None same = λ t e. inl (subst (λ (o : Option Trouble). o ≡ Some t) (sym same) e)
 
-run_tells : (q p : Paging) (a : Answer) (b : Bool) (next : Step) → q.trouble ≡ p.trouble
-    → ((page : ℕ) → is_visited q page ≡ is_visited p page) → RunStarted p b next → NextTells q a next
-run_tells q p a true next same visited h = on_tells q p a (link_of p.home p.run.items) next same visited h
-run_tells q p a false next same visited h = by_built q a next _ h (deleting_tells q p a (next_id p.deletions.ids) same)
+run_tells : (q p : Paging) (a : Answer) (b : Bool) (next : Step) → q.trouble ≡ p.trouble → p.home ≡ q.home
+    → ((page : ℕ) → is_visited q page ≡ is_visited p page) → (b ≡ true → LeadsOn q a p (link_of p.home p.run.items)) → RunStarted p b next → NextTells q a next
+run_tells q p a true next same home visited leads h = on_tells q p a (link_of p.home p.run.items) next same home visited (leads refl) h
+run_tells q p a false next same home visited leads h = by_built q a next _ h (deleting_tells q p a (next_id p.deletions.ids) same)
 
 -- ---- the stages
 
@@ -140,7 +148,7 @@ taking_home : (p : Paging) (first second : Option Claim) (a : Answer) (next : St
 unfolding TellsBy
 taking_home p first second (call.Given l) next fits own h = by_built (leased p TakingHome first second) (call.Given l) next _ h (λ t e. inl e)
 taking_home p first second (call.Held until) next fits own h = by_built (leased p TakingHome first second) (call.Held until) next _ h (λ k. inr (refl, refl))
-taking_home p first second call.Failed next fits own h = by_built (leased p TakingHome first second) call.Failed next _ h (λ k. inr refl)
+taking_home p first second call.Failed next fits own h = by_built (leased p TakingHome first second) call.Failed next _ h (λ k. inr (refl, tt))
 taking_home p first second call.Memory next fits own h = by_built (leased p TakingHome first second) call.Memory next _ h (λ k. absurd (k refl))
 taking_home p first second (call.Got v) next fits own h = absurd fits
 taking_home p first second (call.Sent id) next fits own h = absurd fits
@@ -155,7 +163,7 @@ taking_right p first second (call.Given l) next fits own h = by_built (leased p 
 taking_right p first second (call.Held until) next fits own h =
     by_built (leased p TakingRight first second) (call.Held until) next _ h (stop_tells (leased p TakingRight first second) (leased p TakingRight first second) (call.Held until) (trouble.Busy (lock.Page p.tree p.at.page) until) (refl, refl))
 taking_right p first second call.Failed next fits own h =
-    by_built (leased p TakingRight first second) call.Failed next _ h (stop_tells (leased p TakingRight first second) (leased p TakingRight first second) call.Failed trouble.Failed refl)
+    by_built (leased p TakingRight first second) call.Failed next _ h (stop_tells (leased p TakingRight first second) (leased p TakingRight first second) call.Failed trouble.Failed (refl, tt))
 taking_right p first second call.Memory next fits own h =
     by_built (leased p TakingRight first second) call.Memory next _ h (stop_tells (leased p TakingRight first second) (leased p TakingRight first second) call.Memory trouble.Memory tt)
 taking_right p first second (call.Got v) next fits own h = absurd fits
@@ -169,7 +177,7 @@ home_read_tells : (p : Paging) (l : Claim) (got : Option (List ℕ)) (found : Re
     → NextTells (leased p GettingHome (Some l) None) (call.Got got) (home_read (leased p GettingHome (Some l) None) found)
 home_read_tells p l got (Ok found) named = λ t e. inl e
 home_read_tells p l got (Err t) named =
-    stop_tells (leased p GettingHome (Some l) None) (leased p GettingHome (Some l) None) (call.Got got) t (named_shows p l got t named)
+    stop_tells (leased p GettingHome (Some l) None) (leased p GettingHome (Some l) None) (call.Got got) t (named_shows (stopped (leased p GettingHome (Some l) None) t) p l got t named)
 
 getting_home_by : (p : Paging) (l : Claim) (a : Answer) (next : Step) → TellsBy GettingHome p (Some l) None a next
 unfolding TellsBy
@@ -177,7 +185,7 @@ getting_home_by p l (call.Got got) next fits own h = by_built (leased p GettingH
 getting_home_by p l (call.Late until now) next fits own h =
     by_built (leased p GettingHome (Some l) None) (call.Late until now) next _ h (stop_tells (leased p GettingHome (Some l) None) (leased p GettingHome (Some l) None) (call.Late until now) (trouble.Late until now) refl)
 getting_home_by p l call.Failed next fits own h =
-    by_built (leased p GettingHome (Some l) None) call.Failed next _ h (stop_tells (leased p GettingHome (Some l) None) (leased p GettingHome (Some l) None) call.Failed trouble.Failed refl)
+    by_built (leased p GettingHome (Some l) None) call.Failed next _ h (stop_tells (leased p GettingHome (Some l) None) (leased p GettingHome (Some l) None) call.Failed trouble.Failed (refl, tt))
 getting_home_by p l call.Memory next fits own h =
     by_built (leased p GettingHome (Some l) None) call.Memory next _ h (stop_tells (leased p GettingHome (Some l) None) (leased p GettingHome (Some l) None) call.Memory trouble.Memory tt)
 getting_home_by p l (call.Given m) next fits own h = absurd fits
@@ -193,28 +201,35 @@ getting_home p (Some l) None a next fits own h = getting_home_by p l a next fits
 getting_home p (Some l) (Some r) a next fits own h = absurd own
 getting_home p None second a next fits own h = absurd own
 
-items_shows : (p : Paging) (first second : Option Claim) (cursor : List (ℕ × ℕ)) (ms : List Message) (read : Result (List PuItem) Message) (t : Trouble) → items_of ms ≡ read
-    → TakesItems (own_queue p) cursor read (Err t) → Shows (leased p Receiving first second) (call.Received ms) t
-items_shows p first second cursor ms (Ok items) t e h = absurd (cc (h.2))
-items_shows p first second cursor ms (Err m) t e h =
+items_shows : (n : Paging) (p : Paging) (first second : Option Claim) (cursor : List (ℕ × ℕ)) (ms : List Message) (read : Result (List PuItem) Message) (t : Trouble) → items_of ms ≡ read
+    → TakesItems (own_queue p) cursor read (Err t) → Shows (leased p Receiving first second) (call.Received ms) n t
+items_shows n p first second cursor ms (Ok items) t e h = absurd (cc (h.2))
+items_shows n p first second cursor ms (Err m) t e h =
     let same : t ≡ message_damage (own_queue p) m = cc (h) in
-    subst (λ (u : Trouble). Shows (leased p Receiving first second) (call.Received ms) u) (sym same) (inr (ms, (m, refl, e, refl, refl)))
+    subst (λ (u : Trouble). Shows (leased p Receiving first second) (call.Received ms) n u) (sym same) (inr (refl, (ms, (m, refl, e, refl, refl))))
+
+-- where a run was taken, each message was a record
+items_read : (q : QueueName) (cursor : List (ℕ × ℕ)) (read : Result (List PuItem) Message) (i : Intake) → TakesItems q cursor read (Ok i)
+    → (items : List PuItem) × (read ≡ Ok items)
+items_read q cursor (Ok items) i takes = (items, refl)
+items_read q cursor (Err m) i takes = absurd (cc (takes))
 
 intake_tells : (p : Paging) (first second : Option Claim) (cursor : List (ℕ × ℕ)) (ms : List Message) (taken : Result Intake Trouble) (next : Step)
     → TakesItems (own_queue p) cursor (items_of ms) taken → IntakeTaken (record (leased p Receiving first second) { received = ids_of ms }) taken next
     → NextTells (leased p Receiving first second) (call.Received ms) next
 intake_tells p first second cursor ms (Ok i) next takes h =
+    let read : (items : List PuItem) × (items_of ms ≡ Ok items) = items_read (own_queue p) cursor (items_of ms) i takes in
     run_tells (leased p Receiving first second) (with_intake (record (leased p Receiving first second) { received = ids_of ms }) i) (call.Received ms)
-    (has_items i.run.items) next refl (λ page. refl) h
+    (has_items i.run.items) next refl refl (λ page. refl) (λ has. inl (refl, (ms, (read.0, refl, read.1, has)), refl)) h
 intake_tells p first second cursor ms (Err t) next takes h =
     by_built (leased p Receiving first second) (call.Received ms) next _ h (stop_tells (leased p Receiving first second) (record (leased p Receiving first second) { received = ids_of ms }) (call.Received ms) t
-    (items_shows p first second cursor ms (items_of ms) t refl takes))
+    (items_shows (stopped (record (leased p Receiving first second) { received = ids_of ms }) t) p first second cursor ms (items_of ms) t refl takes))
 
 receiving : (p : Paging) (first second : Option Claim) (a : Answer) (next : Step) → TellsBy Receiving p first second a next
 unfolding TellsBy
 receiving p first second (call.Received ms) next fits own h = intake_tells p first second h.0 ms h.2.0 next h.2.1 h.2.2
 receiving p first second call.Failed next fits own h =
-    by_built (leased p Receiving first second) call.Failed next _ h (stop_tells (leased p Receiving first second) (leased p Receiving first second) call.Failed trouble.Failed refl)
+    by_built (leased p Receiving first second) call.Failed next _ h (stop_tells (leased p Receiving first second) (leased p Receiving first second) call.Failed trouble.Failed (refl, tt))
 receiving p first second call.Memory next fits own h =
     by_built (leased p Receiving first second) call.Memory next _ h (stop_tells (leased p Receiving first second) (leased p Receiving first second) call.Memory trouble.Memory tt)
 receiving p first second (call.Got v) next fits own h = absurd fits
@@ -225,18 +240,19 @@ receiving p first second (call.Held until) next fits own h = absurd fits
 receiving p first second (call.Renewed until) next fits own h = absurd fits
 receiving p first second (call.Late until now) next fits own h = absurd fits
 
-right_lacks_tells : (q p : Paging) (a : Answer) (l : Leaf) (b : Bool) (next : Step) → q.trouble ≡ p.trouble → RightLacks p l b next → NextTells q a next
-right_lacks_tells q p a l true next same h = put_tells q p a PuttingRight l next same h
-right_lacks_tells q p a l false next same h = by_built q a next _ h (λ t e. inl (subst (λ (o : Option Trouble). o ≡ Some t) (sym same) e))
+right_lacks_tells : (q p : Paging) (a : Answer) (l : Leaf) (b : Bool) (next : Step) → q.trouble ≡ p.trouble
+    → (b ≡ true → l.version ≡ greatest_number → IsHomeSpent q a p ⊎ IsRightSpent q a) → RightLacks p l b next → NextTells q a next
+right_lacks_tells q p a l true next same spent h = put_tells q p a PuttingRight l next same (spent refl) h
+right_lacks_tells q p a l false next same spent h = by_built q a next _ h (λ t e. inl (subst (λ (o : Option Trouble). o ≡ Some t) (sym same) e))
 
 right_read_tells : (p : Paging) (l r : Claim) (got : Option (List ℕ)) (found : Result Leaf Trouble) (next : Step) → HoldsLinked p.tree p.at.page p.at.low got found
     → RightRead (leased p GettingRight (Some l) (Some r)) found next → NextTells (leased p GettingRight (Some l) (Some r)) (call.Got got) next
 right_read_tells p l r got (Ok found) next holds h =
     right_lacks_tells (leased p GettingRight (Some l) (Some r)) (record (leased p GettingRight (Some l) (Some r)) { onward = link_of found p.run.items }) (call.Got got) found
-    (has_items (lacked found p.page p.run.items)) next refl h
+    (has_items (lacked found p.page p.run.items)) next refl (λ has spent. inr (refl, (got, (found, refl, holds, has, spent)))) h
 right_read_tells p l r got (Err t) next holds h =
     by_built (leased p GettingRight (Some l) (Some r)) (call.Got got) next _ h (stop_tells (leased p GettingRight (Some l) (Some r)) (leased p GettingRight (Some l) (Some r)) (call.Got got) t
-    (linked_shows p l r got holds.0 t holds.1 holds.2))
+    (linked_shows (stopped (leased p GettingRight (Some l) (Some r)) t) p l r got holds.0 t holds.1 holds.2))
 
 getting_right_by : (p : Paging) (l r : Claim) (a : Answer) (next : Step) → TellsBy GettingRight p (Some l) (Some r) a next
 unfolding TellsBy
@@ -244,7 +260,7 @@ getting_right_by p l r (call.Got got) next fits own h = right_read_tells p l r g
 getting_right_by p l r (call.Late until now) next fits own h =
     by_built (leased p GettingRight (Some l) (Some r)) (call.Late until now) next _ h (stop_tells (leased p GettingRight (Some l) (Some r)) (leased p GettingRight (Some l) (Some r)) (call.Late until now) (trouble.Late until now) refl)
 getting_right_by p l r call.Failed next fits own h =
-    by_built (leased p GettingRight (Some l) (Some r)) call.Failed next _ h (stop_tells (leased p GettingRight (Some l) (Some r)) (leased p GettingRight (Some l) (Some r)) call.Failed trouble.Failed refl)
+    by_built (leased p GettingRight (Some l) (Some r)) call.Failed next _ h (stop_tells (leased p GettingRight (Some l) (Some r)) (leased p GettingRight (Some l) (Some r)) call.Failed trouble.Failed (refl, tt))
 getting_right_by p l r call.Memory next fits own h =
     by_built (leased p GettingRight (Some l) (Some r)) call.Memory next _ h (stop_tells (leased p GettingRight (Some l) (Some r)) (leased p GettingRight (Some l) (Some r)) call.Memory trouble.Memory tt)
 getting_right_by p l r (call.Given m) next fits own h = absurd fits
@@ -265,7 +281,7 @@ unfolding TellsBy
 putting_right_by p l r call.Done next fits own h = by_built (leased p PuttingRight (Some l) (Some r)) call.Done next _ h (λ t e. inl e)
 putting_right_by p l r (call.Late until now) next fits own h =
     by_built (leased p PuttingRight (Some l) (Some r)) (call.Late until now) next _ h (stop_tells (leased p PuttingRight (Some l) (Some r)) (without_applying (leased p PuttingRight (Some l) (Some r))) (call.Late until now) (trouble.Late until now) refl)
-putting_right_by p l r call.Failed next fits own h = by_built (leased p PuttingRight (Some l) (Some r)) call.Failed next _ h (stop_tells (leased p PuttingRight (Some l) (Some r)) (without_applying (leased p PuttingRight (Some l) (Some r))) call.Failed trouble.Failed refl)
+putting_right_by p l r call.Failed next fits own h = by_built (leased p PuttingRight (Some l) (Some r)) call.Failed next _ h (stop_tells (leased p PuttingRight (Some l) (Some r)) (without_applying (leased p PuttingRight (Some l) (Some r))) call.Failed trouble.Failed (refl, tt))
 putting_right_by p l r call.Memory next fits own h = by_built (leased p PuttingRight (Some l) (Some r)) call.Memory next _ h (stop_tells (leased p PuttingRight (Some l) (Some r)) (without_applying (leased p PuttingRight (Some l) (Some r))) call.Memory trouble.Memory tt)
 putting_right_by p l r (call.Got v) next fits own h = absurd fits
 putting_right_by p l r (call.Sent id) next fits own h = absurd fits
@@ -282,7 +298,7 @@ putting_right p None second a next fits own h = absurd own
 
 releasing_right : (p : Paging) (first second : Option Claim) (a : Answer) (next : Step) → TellsBy ReleasingRight p first second a next
 unfolding TellsBy
-releasing_right p first second a next fits own h = on_tells (leased p ReleasingRight first second) (without_onward (handed (leased p ReleasingRight first second))) a p.onward next refl (λ page. refl) h
+releasing_right p first second a next fits own h = on_tells (leased p ReleasingRight first second) (without_onward (handed (leased p ReleasingRight first second))) a p.onward next refl refl (λ page. refl) (inr (refl, refl)) h
 
 putting_home_by : (p : Paging) (l : Claim) (a : Answer) (next : Step) → TellsBy PuttingHome p (Some l) None a next
 unfolding TellsBy
@@ -290,7 +306,7 @@ putting_home_by p l call.Done next fits own h =
     by_built (leased p PuttingHome (Some l) None) call.Done next _ h (deleting_tells (leased p PuttingHome (Some l) None) (with_applied (leased p PuttingHome (Some l) None)) call.Done (next_id p.deletions.ids) refl)
 putting_home_by p l (call.Late until now) next fits own h =
     by_built (leased p PuttingHome (Some l) None) (call.Late until now) next _ h (stop_tells (leased p PuttingHome (Some l) None) (without_applying (leased p PuttingHome (Some l) None)) (call.Late until now) (trouble.Late until now) refl)
-putting_home_by p l call.Failed next fits own h = by_built (leased p PuttingHome (Some l) None) call.Failed next _ h (stop_tells (leased p PuttingHome (Some l) None) (without_applying (leased p PuttingHome (Some l) None)) call.Failed trouble.Failed refl)
+putting_home_by p l call.Failed next fits own h = by_built (leased p PuttingHome (Some l) None) call.Failed next _ h (stop_tells (leased p PuttingHome (Some l) None) (without_applying (leased p PuttingHome (Some l) None)) call.Failed trouble.Failed (refl, tt))
 putting_home_by p l call.Memory next fits own h = by_built (leased p PuttingHome (Some l) None) call.Memory next _ h (stop_tells (leased p PuttingHome (Some l) None) (without_applying (leased p PuttingHome (Some l) None)) call.Memory trouble.Memory tt)
 putting_home_by p l (call.Got v) next fits own h = absurd fits
 putting_home_by p l (call.Sent id) next fits own h = absurd fits
@@ -339,7 +355,7 @@ tells_by DeletingNext p first second a next = deleting_next p first second a nex
 tells_by Releasing p first second a next = releasing p first second a next
 tells_by Finished p first second a next = finished p first second a next
 
-step_tells : (p : Paging) (h : List Deed) (a : Answer) (next : Step) → Stands p h → Fits (paging_ask p) a → PagingLeads p a next → NextTells p a next
+pub step_tells : (p : Paging) (h : List Deed) (a : Answer) (next : Step) → Stands p h → Fits (paging_ask p) a → PagingLeads p a next → NextTells p a next
 unfolding TellsBy
 step_tells p h a next s fits leads = tells_by p.stage p p.held.first p.held.second a next fits s.own leads
 

@@ -3,3 +3,6 @@ pub mod Ending
 pub mod Standing
 pub mod Knowing
 pub mod Causing
+pub mod Resting
+pub mod Exactly
+pub mod Wellness

@@ -11,6 +11,8 @@ use Rattle.byte_format.specs.Order.{bytes_same}
 use Rattle.byte_format.specs.Whole.{offset}
 use Rattle.leaf_view.specs.Leaf.{Leaf, leaf}
 use Rattle.node_codec.specs.Inner.{Inner, IsInner}
+use Rattle.leaf_edit.specs.Lacked.{lacked}
+use Rattle.log_codec.specs.declared.record.PuItem.{PuItem}
 use Rattle.log_codec.specs.Pu.{pu_offset}
 use Rattle.cloud_trait.specs.declared.answer.Answer.{Answer}
 use Rattle.cloud_trait.specs.declared.answer.Answer.TheVariants as call
@@ -18,15 +20,22 @@ use Rattle.cloud_trait.specs.declared.message.Message.{Message}
 use Rattle.cloud_trait.specs.declared.turn.CkptAnswer.{CkptAnswer}
 use Rattle.cloud_trait.specs.declared.turn.Turn.{Turn}
 use Rattle.cloud_trait.specs.declared.turn.Turn.TheVariants.{More, Ended, Stopped}
-use Rattle.cloud_trait.specs.Ask.{Ask, Take}
+use Rattle.cloud_trait.specs.Ask.{Ask, Delete, Take, Release}
 use Rattle.cloud_trait.specs.Caller.{Caller}
 use Rattle.cloud_trait.specs.Seen.{Seen}
 use Rattle.cloud_trait.specs.Weather.{Makes}
-use Rattle.ckpt_parts.specs.Intakes.{items_of}
-use Rattle.ckpt_parts.specs.Leaves.{IsNoLeaf, HoldsLeaf}
+use Rattle.ckpt_parts.specs.Intakes.{items_of, has_items}
+use Rattle.ckpt_parts.specs.Leaves.{IsNoLeaf, HoldsLeaf, HoldsLinked}
+use Rattle.page_ckpt.specs.declared.link.Link.{Link}
 use Rattle.page_ckpt.specs.declared.stage.Stage.{Stage}
-use Rattle.page_ckpt.specs.declared.stage.Stage.TheVariants.{GettingHome, GettingRight}
-use Rattle.page_ckpt.specs.Paging.{Paging, paging_ask, own_queue, IsNoInner, is_visited}
+use Rattle.page_ckpt.specs.declared.stage.Stage.TheVariants.{GettingHome, Receiving, GettingRight, ReleasingRight}
+use Rattle.page_ckpt.specs.Paging.{Paging, paging_ask, own_queue, IsNoInner, is_visited, link_of}
+
+-- a call whose failure stops the checkpoint: each but a deletion and a release
+abbrev pub Matters : Ask → Type 0
+Matters (Delete queue id) = ⊥
+Matters (Release l) = ⊥
+Matters ask = Unit {0}
 
 -- the page that the held get in hand reads: the checkpoint's own, or the right page at hand
 abbrev pub Reads : Paging → ℕ → Type 0
@@ -41,40 +50,68 @@ BreaksPage p a page at =
 -- a received message that is no record, the first such
 abbrev pub BreaksMessage : Paging → Answer → Place → ℕ → Type 0
 BreaksMessage p a where_it_is at =
-    (ms : List Message) × ((m : Message) × (a ≡ call.Received ms) × (items_of ms ≡ Err m) × (where_it_is ≡ place.Message (own_queue p) m.id)
-    × (at ≡ pu_offset m.bytes))
+    (p.stage ≡ Receiving) × ((ms : List Message) × ((m : Message) × (a ≡ call.Received ms) × (items_of ms ≡ Err m) × (where_it_is ≡ place.Message (own_queue p) m.id)
+    × (at ≡ pu_offset m.bytes)))
 
 -- a right page whose low key is not the one that led there
 abbrev pub BreaksFence : Paging → Answer → ℕ → List ℕ → List ℕ → Type 0
 BreaksFence p a page expected found =
-    (page ≡ p.at.page) × (expected ≡ p.at.low) × (bytes_same expected found ≡ false)
+    (p.stage ≡ GettingRight) × (page ≡ p.at.page) × (expected ≡ p.at.low) × (bytes_same expected found ≡ false)
     × ((got : Option (List ℕ)) × ((l : Leaf) × (a ≡ call.Got got) × HoldsLeaf p.tree page got (Ok l) × (found ≡ l.low)))
 
--- what the answer to the call in hand must be where this trouble comes of it; want of memory is free
-abbrev pub Shows : Paging → Answer → Trouble → Type 0
-Shows p a trouble.Failed = a ≡ call.Failed
-Shows p a (trouble.Late e n) = a ≡ call.Late e n
-Shows p a (trouble.Busy lock until) = (paging_ask p ≡ Take lock 30) × (a ≡ call.Held until)
-Shows p a (trouble.Absent page) = Reads p page × (page ≢ 1) × (a ≡ call.Got None)
-Shows p a (trouble.NotALeaf page) =
-    (page ≡ p.page) × (p.stage ≡ GettingHome) × ((bytes : List ℕ) × ((n : Inner) × (a ≡ call.Got (Some bytes)) × IsInner bytes n))
-Shows p a (trouble.Damaged where_it_is at) =
+-- a receive brought records, and a run of them was taken that has items
+abbrev pub BringsRun : Answer → List PuItem → Type 0
+BringsRun a run = (ms : List Message) × ((items : List PuItem) × (a ≡ call.Received ms) × (items_of ms ≡ Ok items) × (has_items run ≡ true))
+
+-- this link leads on, or none does: from the page as it was read, once a run was taken, or from a right page that is given back
+abbrev pub LeadsOn : Paging → Answer → Paging → Option Link → Type 0
+LeadsOn p a n link =
+    ((p.stage ≡ Receiving) × BringsRun a n.run.items × (link ≡ link_of p.home n.run.items)) ⊎ ((p.stage ≡ ReleasingRight) × (link ≡ p.onward))
+
+-- a link leads on to a page that was come to before
+abbrev pub GoesRound : Paging → Answer → Paging → ℕ → Type 0
+GoesRound p a n page = (is_visited p page ≡ true) × ((link : Link) × LeadsOn p a n (Some link) × (page ≡ link.page))
+
+abbrev pub greatest_number : ℕ
+greatest_number = 18446744073709551615
+
+-- the page itself is to be put, since no link leads on, and has the greatest version
+abbrev pub IsHomeSpent : Paging → Answer → Paging → Type 0
+IsHomeSpent p a n = LeadsOn p a n None × (p.home.version ≡ greatest_number)
+
+-- the right page in hand lacks items of the run, and has the greatest version
+abbrev pub IsRightSpent : Paging → Answer → Type 0
+IsRightSpent p a =
+    (p.stage ≡ GettingRight)
+    × ((got : Option (List ℕ)) × ((l : Leaf) × (a ≡ call.Got got) × HoldsLinked p.tree p.at.page p.at.low got (Ok l)
+    × (has_items (lacked l p.page p.run.items) ≡ true) × (l.version ≡ greatest_number)))
+
+-- What the answer to the call in hand must be where this trouble comes of it; for a link that leads on from the page, the step has taken the run.
+-- Want of memory is free.
+abbrev pub Shows : Paging → Answer → Paging → Trouble → Type 0
+Shows p a n trouble.Failed = (a ≡ call.Failed) × Matters (paging_ask p)
+Shows p a n (trouble.Late end now) = a ≡ call.Late end now
+Shows p a n (trouble.Busy lock until) = (paging_ask p ≡ Take lock 30) × (a ≡ call.Held until)
+Shows p a n (trouble.Absent page) = Reads p page × (page ≢ 1) × (a ≡ call.Got None)
+Shows p a n (trouble.NotALeaf page) =
+    (page ≡ p.page) × (p.stage ≡ GettingHome) × ((bytes : List ℕ) × ((i : Inner) × (a ≡ call.Got (Some bytes)) × IsInner bytes i))
+Shows p a n (trouble.Damaged where_it_is at) =
     ((page : ℕ) × (where_it_is ≡ place.Object (object.Page p.tree page)) × BreaksPage p a page at) ⊎ BreaksMessage p a where_it_is at
-Shows p a (trouble.BadFence page expected found) = BreaksFence p a page expected found
-Shows p a (trouble.Loop page) = is_visited p page ≡ true
-Shows p a (trouble.Exhausted what) = what ≡ counter.Version
-Shows p a (trouble.Waiting have need) = ⊥
-Shows p a (trouble.Stale page least got) = ⊥
-Shows p a trouble.Memory = Unit {0}
+Shows p a n (trouble.BadFence page expected found) = BreaksFence p a page expected found
+Shows p a n (trouble.Loop page) = GoesRound p a n page
+Shows p a n (trouble.Exhausted what) = (what ≡ counter.Version) × (IsHomeSpent p a n ⊎ IsRightSpent p a)
+Shows p a n (trouble.Waiting have need) = ⊥
+Shows p a n (trouble.Stale page least got) = ⊥
+Shows p a n trouble.Memory = Unit {0}
 
 -- a trouble that is kept or answered after a call was kept before it, or the call's answer shows it
-abbrev pub IsShown : Paging → Answer → Trouble → Type 0
-IsShown p a t = (p.trouble ≡ Some t) ⊎ Shows p a t
+abbrev pub IsShown : Paging → Answer → Paging → Trouble → Type 0
+IsShown p a n t = (p.trouble ≡ Some t) ⊎ Shows p a n t
 
 abbrev pub Tells : Paging → Answer → Paging → Turn CkptAnswer → Type 0
-Tells p a n More = (t : Trouble) → n.trouble ≡ Some t → IsShown p a t
+Tells p a n More = (t : Trouble) → n.trouble ≡ Some t → IsShown p a n t
 Tells p a n (Ended answer) = p.trouble ≡ None
-Tells p a n (Stopped t) = t ≢ trouble.Memory → IsShown p a t
+Tells p a n (Stopped t) = t ≢ trouble.Memory → IsShown p a n t
 
 -- what a step tells of its trouble, by the answer that the cloud gave
 pub record Causes (who : Caller) (before after : Seen) (old new : Paging) (turn : Turn CkptAnswer) : Type 0 where

@@ -3,3 +3,5 @@ pub mod Ending
 pub mod Standing
 pub mod Meaning
 pub mod Causing
+pub mod Exact
+pub mod Well

@@ -88,7 +88,9 @@ impl PageCkpt {
     ghost use Rattle.ckpt_parts.specs.Intakes.{has_items};
     ghost use Rattle.ckpt_parts.specs.Leasing.{newest_lease, claims_of, outstanding};
     ghost use Rattle.page_ckpt.specs.Causing.{Causes};
+    ghost use Rattle.page_ckpt.specs.Exact.{Exact};
     ghost use Rattle.page_ckpt.specs.Meaning.{MeansDone};
+    ghost use Rattle.page_ckpt.specs.Well.{EndsWell};
     ghost use Rattle.page_ckpt.specs.Standing.{Went, Names, GivesBack, AreFew};
     ghost use Rattle.leaf_view.specs.Lookup.{page_at};
     ghost use Rattle.log_codec.specs.Order.{IsOrdered};
@@ -602,7 +604,8 @@ impl PageCkpt {
 
     /// Takes the answer of the call in hand. A lease that the call gave back has left.
     fn absorb(&mut self, alloc: Global, answer: Answer) -> Turn<CkptAnswer>
-        ensures { Took Absorbs SameLeases self.old answer self.new result }
+        ensures took { Took Absorbs SameLeases self.old answer self.new result }
+        ensures memory { answer ≡ Answer.Memory → result ≡ Turn.Stopped Trouble.Memory }
     {
         match (self.stage, answer) {
             (_, Answer::Memory) => Turn::Stopped(Trouble::Memory),
@@ -636,8 +639,12 @@ impl PageCkpt {
         ensures gives_back { (h : List Deed) → Went h self.old → GivesBack self.new result }
         // A trouble that it keeps or answers was shown by the answer of a step.
         ensures causes { (h : List Deed) → Went h self.old → Causes who (C.seen cloud.old) (C.seen cloud.new) self.old self.new result }
+        // It keeps or answers a trouble exactly where the answer of a step shows it.
+        ensures exact { (h : List Deed) → Went h self.old → Exact who (C.seen cloud.old) (C.seen cloud.new) self.old self.new result }
         // At Done the calls were these, in this order.
         ensures done { (h : List Deed) → Went h self.old → MeansDone (paging_ask self.old) self.new h result }
+        // Where all calls went well, an end leaves no message, and no stop is for a call that failed, a lease that was over or a lock that was held.
+        ensures well { (h : List Deed) → Went h self.old → EndsWell who (C.seen cloud.old) (C.seen cloud.new) h self.old self.new result }
         // Five calls, one for each id that is deleted, and four for each right page that is come to, are all.
         ensures few { (h : List Deed) → Went h self.old → AreFew self.old (length h + 1) }
     {

@@ -1,5 +1,9 @@
 use Rattle.page_ckpt.proofs.Causing.{took_tells}
 use Rattle.page_ckpt.proofs.Ending.{took_less}
+use Rattle.page_ckpt.proofs.Exactly.{took_owes}
+use Rattle.page_ckpt.proofs.Resting.{went_quiet}
+use Rattle.page_ckpt.proofs.Wellness.{took_well}
+use Rattle.calm_calls.proofs.CalmLemmas.{goes_well}
 use Rattle.page_ckpt.proofs.Knowing.{went_knows, knows_done}
 use Rattle.page_ckpt.proofs.Leading.{took_handed}
 use Rattle.page_ckpt.proofs.Standing.{went_stands, stands_names, stands_gives, stands_few}
@@ -9,13 +13,13 @@ pub returns-clause-steps : goal.returns-clause-steps
 returns-clause-steps g c = record {
   answer = c.call-answer.result;
   made = c.call-answer.ensures.made;
-  took = took_handed c.args.self.now _ _ c.call-answer.result _ c.call-answer.ensures.left c.absorb-turn.ensures;
+  took = took_handed c.args.self.now _ _ c.call-answer.result _ c.call-answer.ensures.left c.absorb-turn.ensures.took;
 }
 
 pub returns-clause-less : goal.returns-clause-less
 returns-clause-less g c =
     took_less c.args.self.now _ c.call-answer.result _ c.call-answer.ensures.made.fits c.has_few_visited.ensures
-    (took_handed c.args.self.now _ _ c.call-answer.result _ c.call-answer.ensures.left c.absorb-turn.ensures)
+    (took_handed c.args.self.now _ _ c.call-answer.result _ c.call-answer.ensures.left c.absorb-turn.ensures.took)
 
 pub returns-clause-leases : goal.returns-clause-leases
 returns-clause-leases g c = λ h went. (went_stands c.args.self.now h went).held
@@ -26,7 +30,7 @@ returns-clause-names g c = λ h went. stands_names c.args.self.now h (went_stand
 pub returns-clause-gives_back : goal.returns-clause-gives_back
 returns-clause-gives_back g c = λ h went.
     stands_gives c.args.self.now _ h c.call-answer.result _ (went_stands c.args.self.now h went) c.call-answer.ensures.made.fits
-    (took_handed c.args.self.now _ _ c.call-answer.result _ c.call-answer.ensures.left c.absorb-turn.ensures)
+    (took_handed c.args.self.now _ _ c.call-answer.result _ c.call-answer.ensures.left c.absorb-turn.ensures.took)
 
 pub returns-clause-few : goal.returns-clause-few
 returns-clause-few g c = λ h went. stands_few c.args.self.now h (went_stands c.args.self.now h went)
@@ -34,12 +38,35 @@ returns-clause-few g c = λ h went. stands_few c.args.self.now h (went_stands c.
 pub returns-clause-done : goal.returns-clause-done
 returns-clause-done g c = λ h went.
     knows_done c.args.self.now _ h c.call-answer.result _ (went_knows c.args.self.now h went)
-    (took_handed c.args.self.now _ _ c.call-answer.result _ c.call-answer.ensures.left c.absorb-turn.ensures)
+    (took_handed c.args.self.now _ _ c.call-answer.result _ c.call-answer.ensures.left c.absorb-turn.ensures.took)
 
 pub returns-clause-causes : goal.returns-clause-causes
 returns-clause-causes g c = λ h went. record {
   answer = c.call-answer.result;
   made = c.call-answer.ensures.made;
   tells = took_tells c.args.self.now _ h c.call-answer.result _ (went_stands c.args.self.now h went) c.call-answer.ensures.made.fits
-      (took_handed c.args.self.now _ _ c.call-answer.result _ c.call-answer.ensures.left c.absorb-turn.ensures);
+      (took_handed c.args.self.now _ _ c.call-answer.result _ c.call-answer.ensures.left c.absorb-turn.ensures.took);
+}
+
+pub returns-clause-exact : goal.returns-clause-exact
+returns-clause-exact g c = λ h went. record {
+  answer = c.call-answer.result;
+  made = c.call-answer.ensures.made;
+  tells = took_tells c.args.self.now _ h c.call-answer.result _ (went_stands c.args.self.now h went) c.call-answer.ensures.made.fits
+      (took_handed c.args.self.now _ _ c.call-answer.result _ c.call-answer.ensures.left c.absorb-turn.ensures.took);
+  owes = λ t other shown. took_owes c.args.self.now _ h c.call-answer.result _ t (went_stands c.args.self.now h went) (went_quiet c.args.self.now h went)
+      c.call-answer.ensures.made.fits (took_handed c.args.self.now _ _ c.call-answer.result _ c.call-answer.ensures.left c.absorb-turn.ensures.took) other shown;
+  memory = c.absorb-turn.ensures.memory;
+}
+
+pub returns-clause-well : goal.returns-clause-well
+returns-clause-well g c = λ h went. record {
+  answer = c.call-answer.result;
+  made = c.call-answer.ensures.made;
+  well = λ calm had. took_well c.args.self.now _ h c.call-answer.result _ went calm.1 had (goes_well _ c.call-answer.ensures.made calm.0)
+      (took_handed c.args.self.now _ _ c.call-answer.result _ c.call-answer.ensures.left c.absorb-turn.ensures.took)
+      (took_tells c.args.self.now _ h c.call-answer.result _ (went_stands c.args.self.now h went) c.call-answer.ensures.made.fits
+      (took_handed c.args.self.now _ _ c.call-answer.result _ c.call-answer.ensures.left c.absorb-turn.ensures.took))
+      (knows_done c.args.self.now _ h c.call-answer.result _ (went_knows c.args.self.now h went)
+      (took_handed c.args.self.now _ _ c.call-answer.result _ c.call-answer.ensures.left c.absorb-turn.ensures.took));
 }

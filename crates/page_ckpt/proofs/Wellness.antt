@@ -1,0 +1,142 @@
+-- A page checkpoint whose calls go well.
+use Rattle.std.proofs.Common.{◌≡◌, ◌≢◌, ◌⊎◌, ℕ, List, [], ◌∷◌, Option, Some, None, refl, sym, subst, inl, inr, ◌∙◌}
+use Rattle.db_base.specs.declared.names.QueueName.{QueueName}
+use Rattle.db_base.specs.declared.trouble.Trouble.{Trouble}
+use Rattle.db_base.specs.declared.trouble.Trouble.TheVariants as trouble
+use Rattle.cloud_trait.specs.declared.answer.Answer.{Answer}
+use Rattle.cloud_trait.specs.declared.answer.Answer.TheVariants as call
+use Rattle.cloud_trait.specs.declared.turn.CkptAnswer.{CkptAnswer}
+use Rattle.cloud_trait.specs.declared.turn.Turn.{Turn}
+use Rattle.cloud_trait.specs.declared.turn.Turn.TheVariants.{More, Ended, Stopped}
+use Rattle.cloud_trait.specs.Ask.{Ask, Delete}
+use Rattle.cloud_trait.specs.Machine.{Goes, Ends, Stops, Took, Deed, Came, IsMade, calls_of}
+use Rattle.cloud_trait.specs.Views.{done_of}
+use Rattle.cloud_trait.specs.Weather.{Fits}
+use Rattle.calm_calls.specs.Calm.{GoesWell, IsCalm, AreCalm}
+use Rattle.calm_calls.specs.Plenty.{HadMemory}
+use Rattle.calm_calls.proofs.CalmLemmas.{goes_well}
+use Rattle.page_ckpt.specs.declared.link.Link.{Link}
+use Rattle.page_ckpt.specs.Paging.{Paging, new_paging, paging_ask, went, PagingLeads, KeepsLeases}
+use Rattle.page_ckpt.specs.Standing.{Went, Stands}
+use Rattle.page_ckpt.specs.Meaning.{Calls, Scene, Tried, scene, scene_queue, deletes_over, one_less, failed_count, main_calls, IsDone, MeansDone}
+use Rattle.page_ckpt.specs.Causing.{Reads, Shows, IsShown, Tells}
+use Rattle.page_ckpt.specs.Well.{IsLeft, IsWell}
+use Rattle.page_ckpt.proofs.Standing.{came_stands}
+use Rattle.page_ckpt.proofs.Causing.{NextTells, step_tells}
+use Rattle.page_ckpt.proofs.Resting.{IsBeside, NextRests, IsQuiet, has_none, step_rests, came_quiet}
+
+-- ---- what is shown where the call went well
+
+reads_left : (p : Paging) (page : ℕ) → Reads p page → (page ≡ p.page) ⊎ (page ≡ p.at.page)
+reads_left p page (inl h) = inl h.1
+reads_left p page (inr h) = inr h.1
+
+shown_left : (p n : Paging) (a : Answer) (t : Trouble) → GoesWell a → Shows p a n t → IsLeft p.page p.at t
+shown_left p n a trouble.Failed well s = subst GoesWell s.0 well
+shown_left p n a (trouble.Late end now) well s = subst GoesWell s well
+shown_left p n a (trouble.Busy lock until) well s = subst GoesWell s.1 well
+shown_left p n a (trouble.Absent page) well s = (s.1, reads_left p page s.0)
+shown_left p n a (trouble.NotALeaf page) well s = s.0
+shown_left p n a (trouble.Damaged where_it_is at) well s = tt
+shown_left p n a (trouble.BadFence page expected found) well s = (s.1, s.2)
+shown_left p n a (trouble.Loop page) well s = tt
+shown_left p n a (trouble.Exhausted what) well s = s.0
+shown_left p n a (trouble.Waiting have need) well s = s
+shown_left p n a (trouble.Stale page least got) well s = s
+shown_left p n a trouble.Memory well s = tt
+
+left_beside : (p n : Paging) (t : Trouble) → IsBeside p n → IsLeft p.page p.at t → IsLeft n.page n.at t
+left_beside p n t b k = subst (λ (page : ℕ). IsLeft page n.at t) (sym b.0) (subst (λ (at : Link). IsLeft p.page at t) (sym b.1) k)
+
+-- ---- a trouble that is kept in a calm history
+
+kept_left : (from n : Paging) (a : Answer) (t : Trouble) → IsQuiet from → GoesWell a → (from.trouble ≡ Some t → IsLeft from.page from.at t)
+    → NextRests from (Goes n) → NextTells from a (Goes n) → n.trouble ≡ Some t → IsLeft n.page n.at t
+kept_left from n a t quiet well before (inl rests) tells kept = left_beside from n t rests.1 (on (tells t kept)) where
+  on : IsShown from a n t → IsLeft from.page from.at t
+  on (inl e) = before e
+  on (inr shows) = shown_left from n a t well shows
+kept_left from n a t quiet well before (inr on) tells kept = absurd (has_none from t quiet on.0 (sym on.1 ∙ kept))
+
+came_left : (tree page : ℕ) (h : List Deed) (p : Paging) (t : Trouble) → Came paging_ask PagingLeads (new_paging tree page) h p → AreCalm h
+    → p.trouble ≡ Some t → IsLeft p.page p.at t
+came_left tree page [] p t came calm kept = absurd (fresh_has_none (subst (λ (q : Paging). q.trouble ≡ Some t) came kept)) where
+  fresh_has_none : None ≡ Some t → ⊥
+  fresh_has_none e = absurd (cc (e))
+came_left tree page (d ∷ h) p t came calm kept =
+    let from : Paging = came.0 in
+    let fits : Fits (paging_ask from) d.answer = subst (λ (ask : Ask). Fits ask d.answer) came.2 came.3.fits in
+    kept_left from p d.answer t (came_quiet tree page h from came.1) (goes_well d came.3 calm.0) (λ e. came_left tree page h from t came.1 calm.1 e)
+    (step_rests from d.answer (Goes p) came.4) (step_tells from h d.answer (Goes p) (came_stands tree page h from came.1) fits came.4) kept
+
+-- ---- deletions that went
+
+-- a call that was made, went well, and was not answered for want of memory
+abbrev HasGone : Ask × Answer → Type 0
+HasGone c = Fits c.0 c.1 × GoesWell c.1 × (c.1 ≢ call.Memory)
+
+abbrev HaveGone : Calls → Type 0
+HaveGone [] = Unit {0}
+HaveGone (c ∷ cs) = HasGone c × HaveGone cs
+
+came_gone : (tree page : ℕ) (h : List Deed) (p : Paging) → Came paging_ask PagingLeads (new_paging tree page) h p → AreCalm h → HadMemory h
+    → HaveGone (calls_of h)
+came_gone tree page [] p came calm had = tt
+came_gone tree page (d ∷ h) p came calm had =
+    ((came.3.fits, goes_well d came.3 calm.0, had.0), came_gone tree page h came.0 came.1 calm.1 had.1)
+
+deletion_done : (queue : QueueName) (id : ℕ) (a : Answer) → HasGone (Delete queue id, a) → a ≡ call.Done
+deletion_done queue id call.Done g = refl
+deletion_done queue id call.Failed g = absurd g.1
+deletion_done queue id call.Memory g = absurd (g.2 refl)
+deletion_done queue id (call.Got v) g = absurd g.0
+deletion_done queue id (call.Sent n) g = absurd g.0
+deletion_done queue id (call.Received ms) g = absurd g.0
+deletion_done queue id (call.Given l) g = absurd g.0
+deletion_done queue id (call.Held until) g = absurd g.0
+deletion_done queue id (call.Renewed until) g = absurd g.0
+deletion_done queue id (call.Late end now) g = absurd g.0
+
+none_failed : (s : Scene) (tried : Tried) (rest : Calls) → HaveGone (deletes_over s tried rest) → failed_count tried ≡ 0
+none_failed s [] rest gone = refl
+none_failed s (t ∷ ts) rest gone =
+    subst (λ (a : Answer). one_less (went (done_of a)) (failed_count ts) ≡ 0) (sym (deletion_done (scene_queue s) t.0 t.1 gone.0)) (none_failed s ts rest gone.1)
+
+done_leaves_none : (release : Ask) (p : Paging) (h : List Deed) (x : CkptAnswer) → HaveGone (calls_of h) → IsDone release p h x → x.left ≡ 0
+done_leaves_none release p h x gone done =
+    subst (λ (y : CkptAnswer). y.left ≡ 0) (sym done.answers)
+    (none_failed (scene p) done.tried (main_calls (scene p) done.lease done.opening done.visits done.out) (subst HaveGone done.calls gone))
+
+-- ---- all
+
+stopped_left : (old new : Paging) (a : Answer) (t : Trouble) → GoesWell a → (old.trouble ≡ Some t → IsLeft old.page old.at t) → IsBeside old new
+    → IsShown old a new t → IsLeft new.page new.at t
+stopped_left old new a t well before beside (inl e) = left_beside old new t beside (before e)
+stopped_left old new a t well before beside (inr shows) = left_beside old new t beside (shown_left old new a t well shows)
+
+is_memory : (t : Trouble) → (t ≡ trouble.Memory) ⊎ (t ≢ trouble.Memory)
+is_memory trouble.Memory = inl refl
+is_memory trouble.Failed = inr (λ e. absurd (cc (e)))
+is_memory (trouble.Late end now) = inr (λ e. absurd (cc (e)))
+is_memory (trouble.Busy lock until) = inr (λ e. absurd (cc (e)))
+is_memory (trouble.Absent page) = inr (λ e. absurd (cc (e)))
+is_memory (trouble.NotALeaf page) = inr (λ e. absurd (cc (e)))
+is_memory (trouble.Damaged where_it_is at) = inr (λ e. absurd (cc (e)))
+is_memory (trouble.BadFence page expected found) = inr (λ e. absurd (cc (e)))
+is_memory (trouble.Loop page) = inr (λ e. absurd (cc (e)))
+is_memory (trouble.Exhausted what) = inr (λ e. absurd (cc (e)))
+is_memory (trouble.Waiting have need) = inr (λ e. absurd (cc (e)))
+is_memory (trouble.Stale page least got) = inr (λ e. absurd (cc (e)))
+
+stop_well : (old new : Paging) (h : List Deed) (a : Answer) (t : Trouble) → Went h old → AreCalm h → GoesWell a
+    → Took PagingLeads KeepsLeases old a new (Stopped t) → Tells old a new (Stopped t) → (t ≡ trouble.Memory) ⊎ (t ≢ trouble.Memory) → IsLeft new.page new.at t
+stop_well old new h a t came calm well took tells (inl memory) = subst (IsLeft new.page new.at) (sym memory) tt
+stop_well old new h a t came calm well took tells (inr other) =
+    stopped_left old new a t well (came_left old.tree old.page h old t came calm) (step_rests old a (Stops new t) (took.0 other)) (tells other)
+
+pub took_well : (old new : Paging) (h : List Deed) (a : Answer) (turn : Turn CkptAnswer) → Went h old → AreCalm h → HadMemory h → GoesWell a
+    → Took PagingLeads KeepsLeases old a new turn → Tells old a new turn → MeansDone (paging_ask old) new h turn → IsWell new turn
+took_well old new h a More came calm had well took tells done = tt
+took_well old new h a (Ended x) came calm had well took tells done =
+    done_leaves_none (paging_ask old) new h x (came_gone old.tree old.page h old came calm had) done
+took_well old new h a (Stopped t) came calm had well took tells done = stop_well old new h a t came calm well took tells (is_memory t)

@@ -14,4 +14,8 @@ pub mod Plots
 pub mod Rises
 pub mod Causing
 pub mod Lasts
+pub mod Answers
+pub mod Tours
+pub mod Climbs
+pub mod Telling
 pub mod Doing

@@ -24,12 +24,14 @@ use Rattle.tree_rising.specs.declared.rising.Rising.{Rising}
 use Rattle.tree_rising.specs.declared.root.RootPlan.{RootPlan}
 use Rattle.tree_rising.specs.Nodes.{node_plan}
 use Rattle.tree_rising.specs.Rising as rise
+use Rattle.tree_moves.specs.Moves.{next_key}
 use Rattle.tree_moves.specs.Work.{take_tree}
 use Rattle.tree_ckpt.specs.Causing.{Calls, WasGot}
 use Rattle.tree_ckpt.specs.Meaning.{Opening, opening_calls}
 use Rattle.tree_ckpt.specs.Working.{done_over, puts_of, Visit, visits_over, root_behind, AreVisits, lacked_on, Climb, climbs_over, root_above, links_above, AreClimbs, IsLast, Worked, worked_calls, IsWorked}
 use Rattle.tree_ckpt.proofs.Answers.{done_is}
 use Rattle.tree_ckpt.proofs.Brought.{IsKept, AreKept}
+use Rattle.tree_ckpt.proofs.Covers.{AreHandled, all_handled}
 use Rattle.tree_ckpt.proofs.Folds.{not_empty}
 use Rattle.tree_ckpt.proofs.Rises.{IsRising, kept_at}
 use Rattle.tree_ckpt.proofs.Tours.{RestsAt, put_in_turn, none_left}
@@ -62,6 +64,7 @@ pub record Ups (lease : Claim) (tree : ℕ) (run : Taken) (count : ℕ) (nodes :
   pub visits : List Visit
   pub are : AreVisits tree lease run o.got visits
   pub applied : count ≡ lacked_on run visits
+  pub covers : AreHandled run run.items visits
   pub kept : AreKept tree nodes (visits_over tree lease visits [])
   pub links : List Link
   pub climbs : List Climb
@@ -109,6 +112,7 @@ module _ (lease : Claim) (r : Rising) (o : Opening) (work : Calls) (none : r.las
           visits = k.ups.visits;
           are = k.ups.are;
           applied = k.ups.applied;
+          covers = k.ups.covers;
           kept = k.ups.kept;
           links = k.ups.links;
           climbs = record { node = n; plan = p } ∷ k.ups.climbs;
@@ -135,6 +139,7 @@ module _ (lease : Claim) (r : Rising) (o : Opening) (work : Calls) (none : r.las
           visits = k.ups.visits;
           are = k.ups.are;
           applied = k.ups.applied;
+          covers = k.ups.covers;
           kept = k.ups.kept;
           links = k.ups.links;
           climbs = k.ups.climbs;
@@ -160,13 +165,14 @@ module _ (lease : Claim) (r : Rising) (o : Opening) (work : Calls) (none : r.las
     on None e = root_climbs (rise.last_plan r) refl
 
 -- behind the last leaf
-pub begun_climbs : (lease : Claim) (c : Chart) (o : Opening) (work : Calls) → AreKept c.tree c.nodes work → RestsAt lease c o work
+pub begun_climbs : (lease : Claim) (c : Chart) (o : Opening) (work : Calls) → next_key c ≡ None → AreKept c.tree c.nodes work → RestsAt lease c o work
     → UpClimbs lease (rise.rise (rise.begun c)) o work
-begun_climbs lease c o work kept k = rise_climbs lease (rise.begun c) o work refl (record {
+begun_climbs lease c o work all kept k = rise_climbs lease (rise.begun c) o work refl (record {
   ups = record {
     visits = k.visits;
     are = k.are;
     applied = k.applied;
+    covers = all_handled c.run c.from c.run.items k.visits all k.handled;
     kept = subst (λ (cs : Calls). AreKept c.tree c.nodes cs) k.calls kept;
     links = c.links;
     climbs = [];
@@ -229,7 +235,7 @@ module _ (lease : Claim) (r : Rising) (o : Opening) (work : Calls) (k : Climbs l
       → Risen lease r.chart.tree r.chart.run r.chart.applied o ((rise.last_ask r lease last, call.Done) ∷ work)
   last_climbs nothing (Some bytes) some up = record {
     worked = record { visits = k.ups.visits; links = k.ups.links; climbs = k.ups.climbs; last = up.0 };
-    is = record { visits = k.ups.are; climbs = k.ups.climbed; last = up.2 };
+    is = record { visits = k.ups.are; covers = k.ups.covers; climbs = k.ups.climbed; last = up.2 };
     calls =
         ap (λ (bs : List ℕ). (PutHeld (object.Tree r.chart.tree) bs lease None, call.Done) ∷ work) up.1
         ∙ ap (λ (cs : Calls). (PutHeld (object.Tree r.chart.tree) up.0.last lease None, call.Done) ∷ cs)
@@ -257,6 +263,7 @@ module _ (lease : Claim) (r : Rising) (o : Opening) (work : Calls) (k : Climbs l
       visits = k.ups.visits;
       are = k.ups.are;
       applied = k.ups.applied;
+      covers = k.ups.covers;
       kept = k.ups.kept;
       links = k.ups.links;
       climbs = k.ups.climbs;
@@ -274,6 +281,7 @@ module _ (lease : Claim) (r : Rising) (o : Opening) (work : Calls) (k : Climbs l
       visits = k.ups.visits;
       are = k.ups.are;
       applied = k.ups.applied;
+      covers = k.ups.covers;
       kept = k.ups.kept;
       links = k.ups.links;
       climbs = k.ups.climbs;

@@ -9,6 +9,8 @@ use Rattle.node_codec.specs.Tree.{Tree, tree_of, tree_bytes}
 use Rattle.log_codec.specs.declared.record.PuItem.{PuItem}
 use Rattle.run_cursor.specs.Run.{Taken}
 use Rattle.run_cursor.specs.Covered.{covered_ids}
+use Rattle.leaf_edit.specs.Merging.{Rises}
+use Rattle.leaf_edit.proofs.InOrder.{Rises-sorted}
 use Rattle.cloud_trait.specs.declared.answer.Answer.{Answer}
 use Rattle.cloud_trait.specs.declared.answer.Answer.TheVariants as call
 use Rattle.cloud_trait.specs.declared.message.Message.{Message}
@@ -62,8 +64,10 @@ use Rattle.tree_ckpt.proofs.Leaving.{LeavesLeaf, next_leaves}
 use Rattle.tree_ckpt.proofs.Lasts.{IsLastRoot, LastIs, UpKeeps, none_last, rise_keeps, risen_keeps}
 use Rattle.tree_ckpt.proofs.Causing.{KnowsOnward, KnowsAt, came_brought}
 use Rattle.tree_ckpt.proofs.Climbs.{kept_at_work, Climbs, UpClimbs, RiseClimbs, Risen, begun_climbs, rising_climbs}
+use Rattle.tree_ckpt.proofs.Covers.{IsLeast, least_is}
+use Rattle.tree_ckpt.proofs.Lows.{IsUpto, ComesUpto, begun_upto}
 use Rattle.tree_ckpt.proofs.Telling.{went_told}
-use Rattle.tree_ckpt.proofs.Tours.{RestsAt, ToursAt, WayTours, AtLeaf, VisitsAt, LeafTours, rests_tours, first_rests, way_tours, descent_tours, leaf_tours, taken_tours, left_rests}
+use Rattle.tree_ckpt.proofs.Tours.{RestsAt, ToursAt, WayTours, AtLeaf, VisitsAt, LeavesUpto, LeafTours, rests_tours, first_rests, way_tours, descent_tours, leaf_tours, taken_tours, left_rests}
 use Rattle.tree_ckpt.proofs.Folds.{not_empty}
 use Rattle.tree_ckpt.proofs.Rises.{IsRising}
 
@@ -114,14 +118,19 @@ abbrev chart_onward : Onward → Chart
 chart_onward (onward.Right c) = c.chart
 chart_onward (onward.Handled c) = c
 
+-- a leaf on the right has a low key not above the least key that is not handled
+abbrev GoesUpto : Onward → Type 0
+GoesUpto (onward.Right c) = IsLeast c.chart.run.items c.chart.from c.chart.key × IsUpto c.low c.chart.key
+GoesUpto (onward.Handled c) = Unit {0}
+
 abbrev pub DoneAt : ℕ → Work → Calls → Type 0
 DoneAt tree work.TakingTree cs = cs ≡ []
 DoneAt tree (work.GettingTree l) cs = cs ≡ (take_tree tree, call.Given l) ∷ []
 DoneAt tree (work.Receiving l root) cs = cs ≡ (GetHeld (object.Tree tree) l, call.Got root) ∷ (take_tree tree, call.Given l) ∷ []
-DoneAt tree (work.Descending h d) cs = Amid tree h d.chart.run (λ o w. ToursAt h.lease d.chart o w) cs
-DoneAt tree (work.TakingPage h c) cs = Amid tree h c.chart.run (λ o w. ToursAt h.lease c.chart o w) cs
+DoneAt tree (work.Descending h d) cs = Amid tree h d.chart.run (λ o w. ToursAt h.lease d.chart o w × ComesUpto d) cs
+DoneAt tree (work.TakingPage h c) cs = Amid tree h c.chart.run (λ o w. ToursAt h.lease c.chart o w × IsUpto c.low c.chart.key) cs
 DoneAt tree (work.Folding h f) cs = Amid tree h f.chart.run (λ o w. AtLeaf h.lease f o w) cs
-DoneAt tree (work.ReleasingPage h l x) cs = Amid tree h (chart_onward x).run (λ o w. VisitsAt h.lease l (chart_onward x) o w) cs
+DoneAt tree (work.ReleasingPage h l x) cs = Amid tree h (chart_onward x).run (λ o w. VisitsAt h.lease l (chart_onward x) o w × GoesUpto x) cs
 DoneAt tree (work.LeftPage h x) cs = ⊥
 DoneAt tree (work.Rising h r) cs = Amid tree h r.chart.run (λ o w. Climbs h.lease r o w) cs × LastIs r
 DoneAt tree (work.Deleting h applied) cs = Late tree h.lease h.deletions applied cs × HasIds h.deletions.ids
@@ -223,7 +232,7 @@ amid_more tree h run Is Js ask a cs at step k = record {
 
 -- the run stays, and more is known of the work
 amid_as : (tree : ℕ) (h : Held) (run other : Taken) (Is Js : Opening → Calls → Type 0) (cs : Calls) → other ≡ run
-    → ((o : Opening) (w : Calls) → cs ≡ w ++ opening_calls tree h.lease o → Is o w → Js o w) → Amid tree h run Is cs → Amid tree h other Js cs
+    → ((o : Opening) (w : Calls) → cs ≡ w ++ opening_calls tree h.lease o → Rises run.items → Is o w → Js o w) → Amid tree h run Is cs → Amid tree h other Js cs
 amid_as tree h run other Is Js cs e step k = record {
   opening = k.opening;
   same = k.same ∙ sym e;
@@ -232,17 +241,17 @@ amid_as tree h run other Is Js cs e step k = record {
   ids = k.ids;
   work = k.work;
   works = k.works;
-  is = step k.opening k.work k.calls k.is;
+  is = step k.opening k.work k.calls (subst (λ (r : Taken). Rises r.items) k.same (Rises-sorted k.opening.run.items k.opened.run.sorted)) k.is;
   calls = k.calls;
 }
 
 amid_same : (tree : ℕ) (h : Held) (run other : Taken) (Is : Opening → Calls → Type 0) (cs : Calls) → other ≡ run → Amid tree h run Is cs → Amid tree h other Is cs
-amid_same tree h run other Is cs e k = amid_as tree h run other Is Is cs e (λ o w same is. is) k
+amid_same tree h run other Is cs e k = amid_as tree h run other Is Is cs e (λ o w same rises is. is) k
 
 descending_done : (tree : ℕ) (h : Held) (c : Chart) (n : ℕ) (cs : Calls) (next : Next Descent (Unit {0})) → GoesFurther n c next
     → Amid tree h c.run (λ o w. WayTours h.lease next o w) cs → GoesDone tree cs (descending_on h next)
-descending_done tree h c n cs (Goes d) f k = amid_same tree h c.run d.chart.run (λ o w. ToursAt h.lease d.chart o w) cs f.run k
-descending_done tree h c n cs (Ends d x) f k = amid_same tree h c.run d.chart.run (λ o w. ToursAt h.lease d.chart o w) cs f.run k
+descending_done tree h c n cs (Goes d) f k = amid_same tree h c.run d.chart.run (λ o w. ToursAt h.lease d.chart o w × ComesUpto d) cs f.run k
+descending_done tree h c n cs (Ends d x) f k = amid_same tree h c.run d.chart.run (λ o w. ToursAt h.lease d.chart o w × ComesUpto d) cs f.run k
 descending_done tree h c n cs (Stops d t) f k = tt
 
 -- the work between two puts of the way up does not end it
@@ -275,19 +284,20 @@ rising_begun tree h r cs (Stops e t) up keeps k = tt
 abbrev HasGot : Chart → Calls → Type 0
 HasGot c cs = AreKept c.tree c.nodes cs
 
-going_by_done : (tree : ℕ) (h : Held) (c : Chart) (cs : Calls) (key : Option (List ℕ)) → HasGot c cs → Amid tree h c.run (λ o w. RestsAt h.lease c o w) cs
-    → GoesDone tree cs (going_by h c key)
-going_by_done tree h c cs (Some key) got k =
+going_by_done : (tree : ℕ) (h : Held) (c : Chart) (cs : Calls) (key : Option (List ℕ)) → next_key c ≡ key → HasGot c cs
+    → Amid tree h c.run (λ o w. RestsAt h.lease c o w) cs → GoesDone tree cs (going_by h c key)
+going_by_done tree h c cs (Some key) e got k =
     let keyed : Chart = record c { key = key } in
     let next : Next Descent (Unit {0}) = down_from keyed (root_entry keyed) in
-    descending_done tree h keyed 0 cs next (arrive_further (begun keyed (root_entry keyed).0 (root_entry keyed).1))
+    let further : GoesFurther 0 keyed next = arrive_further (begun keyed (root_entry keyed).0 (root_entry keyed).1) in
+    descending_done tree h keyed 0 cs next further
     (amid_as tree h c.run c.run (λ o w. RestsAt h.lease c o w) (λ o w. WayTours h.lease next o w) cs refl
-    (λ o w same is. way_tours h.lease 0 keyed next o w (arrive_further (begun keyed (root_entry keyed).0 (root_entry keyed).1)) (rests_tours h.lease keyed o w is)) k)
-going_by_done tree h c cs None got k =
+    (λ o w same rises is. way_tours h.lease 0 keyed next o w further (begun_upto keyed) (rests_tours h.lease keyed o w (least_is c.from key c.run.items rises e) is)) k)
+going_by_done tree h c cs None e got k =
     let next : Next Rising (Unit {0}) = rise.rise (rise.begun c) in
     rising_begun tree h (rise.begun c) cs next (rise_up (rise.begun c)) (rise_keeps (rise.begun c) (none_last (rise.begun c) refl))
     (amid_as tree h c.run c.run (λ o w. RestsAt h.lease c o w) (λ o w. UpClimbs h.lease next o w) cs refl
-    (λ o w same is. begun_climbs h.lease c o w (kept_at_work c.tree c.nodes tree h.lease o w (subst (HasGot c) same got)) is) k)
+    (λ o w same rises is. begun_climbs h.lease c o w e (kept_at_work c.tree c.nodes tree h.lease o w (subst (HasGot c) same got)) is) k)
 
 -- as its tree is the tree
 chart_got : (tree : ℕ) (c : Chart) (cs : Calls) → Charted tree c cs → HasGot c cs
@@ -298,17 +308,21 @@ onward_more tree (onward.Right y) c cs k = chart_got tree y.chart (c ∷ cs) (ch
 onward_more tree (onward.Handled y) c cs k = chart_got tree y (c ∷ cs) (chart_more tree y c cs k)
 
 left_done : (tree : ℕ) (h : Held) (x : Onward) (cs : Calls) → HasGot (chart_onward x) cs
-    → Amid tree h (chart_onward x).run (λ o w. RestsAt h.lease (chart_onward x) o w) cs → GoesDone tree cs (page_left h x)
+    → Amid tree h (chart_onward x).run (λ o w. RestsAt h.lease (chart_onward x) o w × GoesUpto x) cs → GoesDone tree cs (page_left h x)
 left_done tree h (onward.Right c) cs got k =
-    amid_as tree h c.chart.run c.chart.run (λ o w. RestsAt h.lease c.chart o w) (λ o w. ToursAt h.lease c.chart o w) cs refl
-    (λ o w same is. rests_tours h.lease c.chart o w is) k
-left_done tree h (onward.Handled c) cs got k = going_by_done tree h c cs (next_key c) got k
+    amid_as tree h c.chart.run c.chart.run (λ o w. RestsAt h.lease c.chart o w × GoesUpto (onward.Right c)) (λ o w. ToursAt h.lease c.chart o w × IsUpto c.low c.chart.key) cs refl
+    (λ o w same rises is. (rests_tours h.lease c.chart o w is.1.0 is.0, is.1.1)) k
+left_done tree h (onward.Handled c) cs got k =
+    going_by_done tree h c cs (next_key c) refl got
+    (amid_as tree h c.run c.run (λ o w. RestsAt h.lease c o w × GoesUpto (onward.Handled c)) (λ o w. RestsAt h.lease c o w) cs refl (λ o w same rises is. is.0) k)
 
 folding_done : (tree : ℕ) (h : Held) (f : Folding) (cs : Calls) (next : Next Folding Left) → LeavesLeaf f next
     → Amid tree h f.chart.run (λ o w. LeafTours h.lease next o w) cs → GoesDone tree cs (folding_on h next)
 folding_done tree h f cs (Goes g) s k = amid_same tree h f.chart.run g.chart.run (λ o w. AtLeaf h.lease g o w) cs s.run k
-folding_done tree h f cs (Ends g (Right low page)) s k = amid_same tree h f.chart.run g.chart.run (λ o w. VisitsAt h.lease g.lease g.chart o w) cs s.run k
-folding_done tree h f cs (Ends g Handled) s k = amid_same tree h f.chart.run g.chart.run (λ o w. VisitsAt h.lease g.lease g.chart o w) cs s.run k
+folding_done tree h f cs (Ends g (Right low page)) s k =
+    amid_same tree h f.chart.run g.chart.run (λ o w. VisitsAt h.lease g.lease g.chart o w × LeavesUpto g.chart (Right low page)) cs s.run k
+folding_done tree h f cs (Ends g Handled) s k =
+    amid_same tree h f.chart.run g.chart.run (λ o w. VisitsAt h.lease g.lease g.chart o w × LeavesUpto g.chart Handled) cs s.run k
 folding_done tree h f cs (Stops g t) s k = tt
 
 -- a leaf's lease was given
@@ -317,10 +331,10 @@ TakenTours lease c (Ok l) o w = AtLeaf lease (fold.begun c.chart l c.page c.low 
 TakenTours lease c (Err t) o w = Unit {0}
 
 given_tours : (tree : ℕ) (h : Held) (c : Coming) (a : Answer) (given : Result Claim Trouble) → given_of (lock.Page c.chart.tree c.page) a ≡ given → (o : Opening) (w : Calls)
-    → ToursAt h.lease c.chart o w → TakenTours h.lease c given o ((work_ask tree (work.TakingPage h c), a) ∷ w)
+    → ToursAt h.lease c.chart o w × IsUpto c.low c.chart.key → TakenTours h.lease c given o ((work_ask tree (work.TakingPage h c), a) ∷ w)
 given_tours tree h c a (Ok l) e o w k =
     subst (λ (b : Answer). TakenTours h.lease c (Ok l) o ((work_ask tree (work.TakingPage h c), b) ∷ w)) (sym (given_is (lock.Page c.chart.tree c.page) a l e))
-    (taken_tours h.lease c.chart l c.page c.low c.visited o w k)
+    (taken_tours h.lease c.chart l c.page c.low c.visited o w k.1 k.0)
 given_tours tree h c a (Err t) e o w k = tt
 
 taken_done : (tree : ℕ) (h : Held) (c : Coming) (cs : Calls) (given : Result Claim Trouble) → Amid tree h c.chart.run (λ o w. TakenTours h.lease c given o w) cs
@@ -475,7 +489,7 @@ started_done : (tree : ℕ) (l : Claim) (o : Opening) (i : Intake) (c : Chart) (
     → i.deletions ≡ to_delete (covered_ids o.run.top o.items) → HasGot c (opening_calls tree l o) → RestsAt l c o []
     → GoesDone tree (opening_calls tree l o) (started (record { lease = l; deletions = i.deletions }) c b)
 started_done tree l o i c true at e opened run ids got rests =
-    going_by_done tree (record { lease = l; deletions = i.deletions }) c (opening_calls tree l o) (next_key c) got
+    going_by_done tree (record { lease = l; deletions = i.deletions }) c (opening_calls tree l o) (next_key c) refl got
     (record { opening = o; same = run ∙ sym at; opened = opened; some = ap (λ (r : Taken). has_items r.items) run ∙ e; ids = ids; work = []; works = tt; is = rests; calls = refl })
 started_done tree l o i c false at e opened run ids got rests =
     deleting_done tree l i.deletions.ids i.deletions.deleted i.deletions.left 0 (opening_calls tree l o) (record {
@@ -502,7 +516,7 @@ items_done tree l root ms i (Ok items) e h =
     let is : i ≡ intake_of items run = cc (h.2) in
     let o : Opening = record { got = root; messages = ms; items = items; run = run } in
     started_done tree l o i (chart_of tree root i.run) (has_items i.run.items) refl refl (record { read = e; run = h.1 })
-    (sym (ap (λ (j : Intake). j.run) is)) (ap (λ (j : Intake). j.deletions) is) tt (first_rests l (chart_of tree root i.run) o refl refl)
+    (sym (ap (λ (j : Intake). j.run) is)) (ap (λ (j : Intake). j.deletions) is) tt (first_rests l (chart_of tree root i.run) o refl refl refl)
 
 received_done : (tree : ℕ) (l : Claim) (root : Option (List ℕ)) (a : Answer) (g : Result (List Message) Trouble) (next : Step) → received_of a ≡ g
     → ReceivedBy tree l root g next → GoesDone tree (received_calls tree l root a) next
@@ -548,12 +562,12 @@ done_by tree (work.Receiving l root) cs a next k d h =
 done_by tree (work.Descending h w) cs a next k d e =
     by_made tree cs (descent_ask w h.lease) a next _ e
     (descending_done tree h w.chart 1 ((descent_ask w h.lease, a) ∷ cs) (descent_next w a) (descent_further w a)
-    (amid_more tree h w.chart.run (λ o x. ToursAt h.lease w.chart o x) (λ o x. WayTours h.lease (descent_next w a) o x) (descent_ask w h.lease) a cs tt
-    (descent_tours h.lease w a) d))
+    (amid_more tree h w.chart.run (λ o x. ToursAt h.lease w.chart o x × ComesUpto w) (λ o x. WayTours h.lease (descent_next w a) o x) (descent_ask w h.lease) a cs tt
+    (λ o x is. descent_tours h.lease w a o x is.0) d))
 done_by tree (work.TakingPage h c) cs a next k d e =
     by_made tree cs (work_ask tree (work.TakingPage h c)) a next _ e
     (taken_done tree h c ((work_ask tree (work.TakingPage h c), a) ∷ cs) (given_of (lock.Page c.chart.tree c.page) a)
-    (amid_more tree h c.chart.run (λ o x. ToursAt h.lease c.chart o x) (λ o x. TakenTours h.lease c (given_of (lock.Page c.chart.tree c.page) a) o x)
+    (amid_more tree h c.chart.run (λ o x. ToursAt h.lease c.chart o x × IsUpto c.low c.chart.key) (λ o x. TakenTours h.lease c (given_of (lock.Page c.chart.tree c.page) a) o x)
     (work_ask tree (work.TakingPage h c)) a cs tt (given_tours tree h c a (given_of (lock.Page c.chart.tree c.page) a) refl) d))
 done_by tree (work.Folding h f) cs a next k d e =
     by_made tree cs (folding_ask f h.lease) a next _ e
@@ -564,8 +578,8 @@ done_by tree (work.Folding h f) cs a next k d e =
 done_by tree (work.ReleasingPage h l x) cs a next k d e =
     by_made tree cs (Release l) a next _ e
     (left_done tree h x ((Release l, a) ∷ cs) (onward_more tree x (Release l, a) cs k)
-    (amid_more tree h (chart_onward x).run (λ o w. VisitsAt h.lease l (chart_onward x) o w) (λ o w. RestsAt h.lease (chart_onward x) o w) (Release l) a cs tt
-    (left_rests h.lease l (chart_onward x) a) d))
+    (amid_more tree h (chart_onward x).run (λ o w. VisitsAt h.lease l (chart_onward x) o w × GoesUpto x) (λ o w. RestsAt h.lease (chart_onward x) o w × GoesUpto x) (Release l) a cs tt
+    (λ o w is. (left_rests h.lease l (chart_onward x) a o w is.0, is.1)) d))
 done_by tree (work.LeftPage h x) cs a next k d e = absurd k
 done_by tree (work.Rising h r) cs a next k d e =
     by_made tree cs (rise.rising_ask r h.lease) a next _ e

@@ -15,6 +15,8 @@ pub mod Rises
 pub mod Causing
 pub mod Lasts
 pub mod Answers
+pub mod Lows
+pub mod Covers
 pub mod Tours
 pub mod Climbs
 pub mod Telling

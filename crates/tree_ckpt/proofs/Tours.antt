@@ -36,78 +36,93 @@ use Rattle.leaf_fold.specs.Plan.{leaf_plan}
 use Rattle.leaf_fold.specs.Folding as fold
 use Rattle.tree_ckpt.specs.Causing.{Calls}
 use Rattle.tree_ckpt.specs.Meaning.{Opening}
-use Rattle.tree_ckpt.specs.Working.{done_over, page_puts, puts_of, Visit, placing_of, held_over, visits_over, AreLooks, HoldsLeaf, PutsLacked, IsVisit, root_behind, AreVisits, lacked_where, lacked_on}
+use Rattle.tree_ckpt.specs.Working.{done_over, page_puts, puts_of, Visit, placing_of, held_over, visits_over, AreLooks, HoldsLeaf, PutsLacked, IsVisit, root_behind, AreVisits, lacked_where, lacked_on, IsSettled}
 use Rattle.tree_ckpt.proofs.Answers.{got_is, done_is}
 use Rattle.tree_ckpt.proofs.Charts.{IsFurther, GoesFurther, descent_further}
+use Rattle.tree_ckpt.proofs.Covers.{IsLeast, AreHandledTo, none_handled, handled_more, handled_here, low_upto}
 use Rattle.tree_ckpt.proofs.Folds.{not_empty, plan_some}
+use Rattle.tree_ckpt.proofs.Lows.{IsUpto, ComesUpto, WayUpto, descent_upto}
 
 -- ---- between leaves
 
 -- behind visits
-pub record Rests (lease : Claim) (tree : ℕ) (run : Taken) (stood : Option (List ℕ)) (count : ℕ) (o : Opening) (work : Calls) : Type 0 where
+pub record Rests (lease : Claim) (tree : ℕ) (run : Taken) (stood : Option (List ℕ)) (count : ℕ) (from : Option (List ℕ)) (o : Opening) (work : Calls) : Type 0 where
   pub visits : List Visit
   pub are : AreVisits tree lease run o.got visits
   pub root : stood ≡ root_behind o.got visits
   pub applied : count ≡ lacked_on run visits
+  pub handled : AreHandledTo run run.items from visits
   pub calls : work ≡ visits_over tree lease visits []
 
--- behind visits, and on the way down to the next leaf
-pub record Tours (lease : Claim) (tree : ℕ) (run : Taken) (stood : Option (List ℕ)) (count : ℕ) (o : Opening) (work : Calls) : Type 0 where
+-- behind visits, and on the way down to the leaf of the least key that is not handled
+pub record Tours (lease : Claim) (tree : ℕ) (run : Taken) (stood : Option (List ℕ)) (count : ℕ) (from : Option (List ℕ)) (key : List ℕ) (o : Opening) (work : Calls) : Type 0 where
   pub before : Calls
-  pub rests : Rests lease tree run stood count o before
+  pub rests : Rests lease tree run stood count from o before
+  pub least : IsLeast run.items from key
   pub looks : Calls
   pub looked : AreLooks tree lease looks
   pub calls : work ≡ looks ++ before
 
 abbrev pub RestsAt : Claim → Chart → Opening → Calls → Type 0
-RestsAt lease c o work = Rests lease c.tree c.run c.root c.applied o work
+RestsAt lease c o work = Rests lease c.tree c.run c.root c.applied c.from o work
 
 abbrev pub ToursAt : Claim → Chart → Opening → Calls → Type 0
-ToursAt lease c o work = Tours lease c.tree c.run c.root c.applied o work
+ToursAt lease c o work = Tours lease c.tree c.run c.root c.applied c.from c.key o work
 
-pub rests_tours : (lease : Claim) (c : Chart) (o : Opening) (work : Calls) → RestsAt lease c o work → ToursAt lease c o work
-rests_tours lease c o work k = record { before = work; rests = k; looks = []; looked = tt; calls = refl }
+pub rests_tours : (lease : Claim) (c : Chart) (o : Opening) (work : Calls) → IsLeast c.run.items c.from c.key → RestsAt lease c o work → ToursAt lease c o work
+rests_tours lease c o work least k = record { before = work; rests = k; least = least; looks = []; looked = tt; calls = refl }
 
 -- before the first leaf
-pub first_rests : (lease : Claim) (c : Chart) (o : Opening) → c.root ≡ o.got → c.applied ≡ 0 → RestsAt lease c o []
-first_rests lease c o root applied = record { visits = []; are = tt; root = root; applied = applied; calls = refl }
+pub first_rests : (lease : Claim) (c : Chart) (o : Opening) → c.root ≡ o.got → c.applied ≡ 0 → c.from ≡ Some [] → RestsAt lease c o []
+first_rests lease c o root applied from = record {
+  visits = [];
+  are = tt;
+  root = root;
+  applied = applied;
+  handled = subst (λ (b : Option (List ℕ)). AreHandledTo c.run c.run.items b []) (sym from) (none_handled c.run c.run.items);
+  calls = refl;
+}
 
 further_tours : (lease : Claim) (n : ℕ) (c e : Chart) (o : Opening) (work : Calls) → IsFurther n c e → ToursAt lease c o work → ToursAt lease e o work
 further_tours lease n c e o work f k =
-    subst (λ (m : ℕ). Tours lease e.tree e.run e.root m o work) (sym f.applied)
-    (subst (λ (r : Option (List ℕ)). Tours lease e.tree e.run r c.applied o work) (sym f.root)
-    (subst (λ (r : Taken). Tours lease e.tree r c.root c.applied o work) (sym f.run)
-    (subst (λ (t : ℕ). Tours lease t c.run c.root c.applied o work) (sym f.tree) k)))
+    subst (λ (key : List ℕ). Tours lease e.tree e.run e.root e.applied e.from key o work) (sym f.key)
+    (subst (λ (b : Option (List ℕ)). Tours lease e.tree e.run e.root e.applied b c.key o work) (sym f.from)
+    (subst (λ (m : ℕ). Tours lease e.tree e.run e.root m c.from c.key o work) (sym f.applied)
+    (subst (λ (r : Option (List ℕ)). Tours lease e.tree e.run r c.applied c.from c.key o work) (sym f.root)
+    (subst (λ (r : Taken). Tours lease e.tree r c.root c.applied c.from c.key o work) (sym f.run)
+    (subst (λ (t : ℕ). Tours lease t c.run c.root c.applied c.from c.key o work) (sym f.tree) k)))))
 
 -- where the way down goes on or ends
 abbrev pub WayTours : {A : Type 0} → Claim → Next Descent A → Opening → Calls → Type 0
-WayTours lease (Goes d) o work = ToursAt lease d.chart o work
-WayTours lease (Ends d x) o work = ToursAt lease d.chart o work
+WayTours lease (Goes d) o work = ToursAt lease d.chart o work × ComesUpto d
+WayTours lease (Ends d x) o work = ToursAt lease d.chart o work × ComesUpto d
 WayTours lease (Stops d t) o work = Unit {0}
 
-pub way_tours : {A : Type 0} (lease : Claim) (n : ℕ) (c : Chart) (next : Next Descent A) (o : Opening) (work : Calls) → GoesFurther n c next → ToursAt lease c o work
+pub way_tours : {A : Type 0} (lease : Claim) (n : ℕ) (c : Chart) (next : Next Descent A) (o : Opening) (work : Calls) → GoesFurther n c next → WayUpto next → ToursAt lease c o work
     → WayTours lease next o work
-way_tours lease n c (Goes d) o work f k = further_tours lease n c d.chart o work f k
-way_tours lease n c (Ends d x) o work f k = further_tours lease n c d.chart o work f k
-way_tours lease n c (Stops d t) o work f k = tt
+way_tours lease n c (Goes d) o work f upto k = (further_tours lease n c d.chart o work f k, upto)
+way_tours lease n c (Ends d x) o work f upto k = (further_tours lease n c d.chart o work f k, upto)
+way_tours lease n c (Stops d t) o work f upto k = tt
 
 pub descent_tours : (lease : Claim) (d : Descent) (a : Answer) (o : Opening) (work : Calls) → ToursAt lease d.chart o work
     → WayTours lease (descent_next d a) o ((descent_ask d lease, a) ∷ work)
-descent_tours lease d a o work k = on (got_of a) refl (descent_further d a) where
+descent_tours lease d a o work k = on (got_of a) refl (descent_further d a) (descent_upto d a) where
   ask : Ask
   ask = descent_ask d lease
 
-  on : (g : Result (Option (List ℕ)) Trouble) → got_of a ≡ g → GoesFurther 1 d.chart (descent_got d g) → WayTours lease (descent_got d g) o ((ask, a) ∷ work)
-  on (Ok (Some bytes)) e f =
-      way_tours lease 1 d.chart (got_node d bytes (fork_of d bytes)) o ((ask, a) ∷ work) f (record {
+  on : (g : Result (Option (List ℕ)) Trouble) → got_of a ≡ g → GoesFurther 1 d.chart (descent_got d g) → WayUpto (descent_got d g)
+      → WayTours lease (descent_got d g) o ((ask, a) ∷ work)
+  on (Ok (Some bytes)) e f upto =
+      way_tours lease 1 d.chart (got_node d bytes (fork_of d bytes)) o ((ask, a) ∷ work) f upto (record {
         before = k.before;
         rests = k.rests;
+        least = k.least;
         looks = (ask, a) ∷ k.looks;
         looked = ((d.page, bytes, ap (λ (x : Answer). (ask, x)) (got_is a (Some bytes) e)), k.looked);
         calls = ap (λ (cs : Calls). (ask, a) ∷ cs) k.calls;
       })
-  on (Ok None) e f = tt
-  on (Err t) e f = tt
+  on (Ok None) e f upto = tt
+  on (Err t) e f upto = tt
 
 -- ---- puts
 
@@ -173,6 +188,7 @@ pub record Begins (lease : Claim) (f : Folding) (o : Opening) (work : Calls) : T
   pub before : Calls
   pub tours : ToursAt lease f.chart o before
   pub empty : f.placing ≡ fold.no_placing
+  pub upto : IsUpto f.low f.chart.key
   pub calls : work ≡ (Take (lock.Page f.chart.tree f.page) 30, call.Given f.lease) ∷ before
 
 -- it was got, and its puts are under way
@@ -184,6 +200,7 @@ pub record Puts (lease : Claim) (f : Folding) (o : Opening) (work : Calls) : Typ
   pub own : visit.lease ≡ f.lease
   pub root : landed_root f.placing f.chart.root ≡ root_behind o.got (visit ∷ visits)
   pub applied : f.chart.applied + length f.lacked ≡ lacked_on f.chart.run (visit ∷ visits)
+  pub handled : AreHandledTo f.chart.run f.chart.run.items f.chart.from (visit ∷ visits)
   pub calls : done_over (puts_of f.chart.tree lease (Some f.lease) f.placing) work ≡ held_over f.chart.tree lease visit (visits_over f.chart.tree lease visits [])
   pub some : 0 < length f.placing.puts
 
@@ -191,7 +208,7 @@ abbrev pub AtLeaf : Claim → Folding → Opening → Calls → Type 0
 AtLeaf lease f o work = Begins lease f o work ⊎ Puts lease f o work
 
 -- it is done, and was not given back yet
-pub record Visits (lease l : Claim) (tree : ℕ) (run : Taken) (stood : Option (List ℕ)) (count : ℕ) (o : Opening) (work : Calls) : Type 0 where
+pub record Visits (lease l : Claim) (tree : ℕ) (run : Taken) (stood : Option (List ℕ)) (count : ℕ) (from : Option (List ℕ)) (o : Opening) (work : Calls) : Type 0 where
   pub visits : List Visit
   pub are : AreVisits tree lease run o.got visits
   pub visit : Visit
@@ -199,15 +216,21 @@ pub record Visits (lease l : Claim) (tree : ℕ) (run : Taken) (stood : Option (
   pub own : visit.lease ≡ l
   pub root : stood ≡ root_behind o.got (visit ∷ visits)
   pub applied : count ≡ lacked_on run (visit ∷ visits)
+  pub handled : AreHandledTo run run.items from (visit ∷ visits)
   pub calls : work ≡ held_over tree lease visit (visits_over tree lease visits [])
 
 abbrev pub VisitsAt : Claim → Claim → Chart → Opening → Calls → Type 0
-VisitsAt lease own c o work = Visits lease own c.tree c.run c.root c.applied o work
+VisitsAt lease own c o work = Visits lease own c.tree c.run c.root c.applied c.from o work
+
+-- a leaf that is left for its right page, which has a low key not above the key at hand
+abbrev pub LeavesUpto : Chart → Left → Type 0
+LeavesUpto c (Right low page) = IsLeast c.run.items c.from c.key × IsUpto low c.key
+LeavesUpto c Handled = Unit {0}
 
 -- where the work at it leads
 abbrev pub LeafTours : Claim → Next Folding Left → Opening → Calls → Type 0
 LeafTours lease (Goes f) o work = AtLeaf lease f o work
-LeafTours lease (Ends f out) o work = VisitsAt lease f.lease f.chart o work
+LeafTours lease (Ends f out) o work = VisitsAt lease f.lease f.chart o work × LeavesUpto f.chart out
 LeafTours lease (Stops f t) o work = Unit {0}
 
 -- ---- the get
@@ -217,6 +240,7 @@ record IsGot (lease : Claim) (f : Folding) (got : Option (List ℕ)) (l : Leaf) 
   before : Calls
   tours : ToursAt lease f.chart o before
   holds : HoldsLeaf f.page l got
+  upto : IsUpto f.low f.chart.key
   calls : work ≡ (GetHeld (object.Page f.chart.tree f.page) f.lease, call.Got got) ∷ (Take (lock.Page f.chart.tree f.page) 30, call.Given f.lease) ∷ before
 
 module _ (lease : Claim) (f : Folding) (got : Option (List ℕ)) (l : Leaf) (o : Opening) (work : Calls) (k : IsGot lease f got l o work) where
@@ -237,10 +261,11 @@ module _ (lease : Claim) (f : Folding) (got : Option (List ℕ)) (l : Leaf) (o :
       (k.tours.calls ∙ ap (λ (cs : Calls). k.tours.looks ++ cs) k.tours.rests.calls)
 
   -- nothing is put
-  passed : PutsLacked f.chart.run (root_behind o.got k.tours.rests.visits) f.page l None
-      → Visits lease f.lease f.chart.tree f.chart.run f.chart.root f.chart.applied o work
+  passed : (from : Option (List ℕ)) → AreHandledTo f.chart.run f.chart.run.items from (visit_with None ∷ k.tours.rests.visits)
+      → PutsLacked f.chart.run (root_behind o.got k.tours.rests.visits) f.page l None
+      → Visits lease f.lease f.chart.tree f.chart.run f.chart.root f.chart.applied from o work
   unfolding visit_with visit_calls
-  passed puts = record {
+  passed from handled puts = record {
     visits = k.tours.rests.visits;
     are = k.tours.rests.are;
     visit = visit_with None;
@@ -248,13 +273,21 @@ module _ (lease : Claim) (f : Folding) (got : Option (List ℕ)) (l : Leaf) (o :
     own = refl;
     root = k.tours.rests.root;
     applied = omega (arith, k.tours.rests.applied);
+    handled = handled;
     calls = got_calls;
   }
 
-  planned_tours : (items : List PuItem) → lacked l 0 f.chart.run.items ≡ items → has_items items ≡ true → (p : Result LeafPlan Trouble)
+  -- where it is settled the keys below its high key are handled
+  handles : IsUpto l.low f.chart.key → (plan : Option LeafPlan) → IsSettled f.chart.run l plan
+      → AreHandledTo f.chart.run f.chart.run.items l.high (visit_with plan ∷ k.tours.rests.visits)
+  unfolding visit_with
+  handles low plan settled =
+      handled_here f.chart.run f.chart.run.items f.chart.from f.chart.key (visit_with plan) k.tours.rests.visits settled low k.tours.least k.tours.rests.handled
+
+  planned_tours : IsUpto l.low f.chart.key → (items : List PuItem) → lacked l 0 f.chart.run.items ≡ items → has_items items ≡ true → (p : Result LeafPlan Trouble)
       → leaf_plan (tree_held f.chart.root) f.page l f.chart.run.items ≡ p → LeafTours lease (fold.planned f l.high items p) o work
   unfolding visit_with visit_calls
-  planned_tours items same some (Ok p) e = inr (record {
+  planned_tours low items same some (Ok p) e = inr (record {
     visits = k.tours.rests.visits;
     are = k.tours.rests.are;
     visit = visit_with (Some p);
@@ -269,34 +302,38 @@ module _ (lease : Claim) (f : Folding) (got : Option (List ℕ)) (l : Leaf) (o :
     own = refl;
     root = ap (landed_root p.placing) k.tours.rests.root;
     applied = omega (arith, k.tours.rests.applied, ap (λ (xs : List PuItem). length xs) same);
+    handled = handles low (Some p) tt;
     calls = ap (done_over (puts_of f.chart.tree lease (Some f.lease) p.placing)) got_calls;
     some = plan_some (tree_held f.chart.root) f.page l f.chart.run.items p e;
   })
-  planned_tours items same some (Err t) e = tt
+  planned_tours low items same some (Err t) e = tt
 
-  handled_tours : (items : List PuItem) → lacked l 0 f.chart.run.items ≡ items → LeafTours lease (fold.handled_by f l items) o work
-  handled_tours [] same = passed (inl (ap has_items same))
-  handled_tours (x ∷ xs) same = planned_tours (x ∷ xs) same refl (leaf_plan (tree_held f.chart.root) f.page l f.chart.run.items) refl
+  handled_tours : IsUpto l.low f.chart.key → (items : List PuItem) → lacked l 0 f.chart.run.items ≡ items → LeafTours lease (fold.handled_by f l items) o work
+  handled_tours low [] same = (passed l.high (handles low None (ap has_items same)) (inl (ap has_items same)), tt)
+  handled_tours low (x ∷ xs) same = planned_tours low (x ∷ xs) same refl (leaf_plan (tree_held f.chart.root) f.page l f.chart.run.items) refl
 
-  right_tours : (high : List ℕ) (right : ℕ) → page_at l.right ≡ Some right → LeafTours lease (fold.to_right f high right) o work
-  right_tours high right e = on ((right == f.page) || is_seen f.visited right) where
+  right_tours : (high : List ℕ) (right : ℕ) → page_at l.right ≡ Some right → IsUpto high f.chart.key → LeafTours lease (fold.to_right f high right) o work
+  right_tours high right e upto = on ((right == f.page) || is_seen f.visited right) where
     on : (b : Bool) → LeafTours lease (cond b (Stops f (trouble.Loop right)) (Ends (fold.turned f high right) (Right high right))) o work
     on true = tt
-    on false = passed (inr (right, e))
+    on false = (
+      passed f.chart.from (handled_more f.chart.run f.chart.run.items f.chart.from (visit_with None) k.tours.rests.visits k.tours.rests.handled) (inr (right, e)),
+      (k.tours.least, upto),
+    )
 
-  side_tours : (high : Option (List ℕ)) (right : Option ℕ) → page_at l.right ≡ right → LeafTours lease (fold.leaf_side f l high right) o work
-  side_tours None right e = handled_tours (lacked l 0 f.chart.run.items) refl
-  side_tours (Some high) None e = handled_tours (lacked l 0 f.chart.run.items) refl
-  side_tours (Some high) (Some right) e = on (bytes_below f.chart.key high) where
-    on : (b : Bool) → LeafTours lease (cond b (fold.handle f l) (fold.to_right f high right)) o work
-    on true = handled_tours (lacked l 0 f.chart.run.items) refl
-    on false = right_tours high right e
+  side_tours : IsUpto l.low f.chart.key → (high : Option (List ℕ)) (right : Option ℕ) → page_at l.right ≡ right → LeafTours lease (fold.leaf_side f l high right) o work
+  side_tours low None right e = handled_tours low (lacked l 0 f.chart.run.items) refl
+  side_tours low (Some high) None e = handled_tours low (lacked l 0 f.chart.run.items) refl
+  side_tours low (Some high) (Some right) e = on (bytes_below f.chart.key high) refl where
+    on : (b : Bool) → bytes_below f.chart.key high ≡ b → LeafTours lease (cond b (fold.handle f l) (fold.to_right f high right)) o work
+    on true under = handled_tours low (lacked l 0 f.chart.run.items) refl
+    on false under = right_tours high right e under
 
   at_tours : LeafTours lease (fold.leaf_at f l) o work
-  at_tours = on (bytes_same l.low f.low) where
-    on : (b : Bool) → LeafTours lease (cond b (fold.leaf_side f l l.high (page_at l.right)) (Stops f (fold.bad_low f l.low))) o work
-    on true = side_tours l.high (page_at l.right) refl
-    on false = tt
+  at_tours = on (bytes_same l.low f.low) refl where
+    on : (b : Bool) → bytes_same l.low f.low ≡ b → LeafTours lease (cond b (fold.leaf_side f l l.high (page_at l.right)) (Stops f (fold.bad_low f l.low))) o work
+    on true same = side_tours (low_upto l f.low f.chart.key same k.upto) l.high (page_at l.right) refl
+    on false same = tt
 
 -- the get of a leaf that is taken
 abbrev get_of : Folding → Ask
@@ -309,6 +346,7 @@ got_tours lease f a o work k (Ok (Some bytes)) e = on (whole leaf bytes) refl wh
   on (Ok l) is = at_tours lease f (Some bytes) l o ((get_of f, a) ∷ work) (record {
     before = k.before;
     tours = k.tours;
+    upto = k.upto;
     holds = is;
     calls = ap (λ (x : Answer). (get_of f, x) ∷ work) (got_is a (Some bytes) e) ∙ ap (λ (cs : Calls). (get_of f, call.Got (Some bytes)) ∷ cs) k.calls;
   })
@@ -318,6 +356,7 @@ got_tours lease f a o work k (Ok None) e = on (f.page == 1) refl where
   on true one = at_tours lease f None empty_leaf o ((get_of f, a) ∷ work) (record {
     before = k.before;
     tours = k.tours;
+    upto = k.upto;
     holds = (eqb-true f.page 1 one, refl);
     calls = ap (λ (x : Answer). (get_of f, x) ∷ work) (got_is a None e) ∙ ap (λ (cs : Calls). (get_of f, call.Got None) ∷ cs) k.calls;
   })
@@ -338,16 +377,20 @@ placed_tours lease f o work k = on (has_one_page f.placing) refl where
 
   on : (b : Bool) → has_one_page f.placing ≡ b
       → LeafTours lease (cond b (Ends (fold.counted (fold.landed f)) Handled) (Goes (fold.landed f))) o ((put_ask lease f, call.Done) ∷ work)
-  on true e = record {
-    visits = k.visits;
-    are = k.are;
-    visit = k.visit;
-    is = k.is;
-    own = k.own;
-    root = k.root;
-    applied = k.applied;
-    calls = sym (none_left (landed_placing f.placing) f.chart.tree lease (Some f.lease) ((put_ask lease f, call.Done) ∷ work) (one_lands f.placing e)) ∙ turn;
-  }
+  on true e = (
+    record {
+      visits = k.visits;
+      are = k.are;
+      visit = k.visit;
+      is = k.is;
+      own = k.own;
+      root = k.root;
+      applied = k.applied;
+      handled = k.handled;
+      calls = sym (none_left (landed_placing f.placing) f.chart.tree lease (Some f.lease) ((put_ask lease f, call.Done) ∷ work) (one_lands f.placing e)) ∙ turn;
+    },
+    tt,
+  )
   on false e = inr (record {
     visits = k.visits;
     are = k.are;
@@ -356,6 +399,7 @@ placed_tours lease f o work k = on (has_one_page f.placing) refl where
     own = k.own;
     root = k.root;
     applied = k.applied;
+    handled = k.handled;
     calls = turn;
     some = more_left f.placing k.some e;
   })
@@ -384,9 +428,14 @@ leaf_tours lease f a o work (inr k) =
 
 -- ---- from one to the next
 
-pub taken_tours : (lease : Claim) (c : Chart) (l : Claim) (page : ℕ) (low visited : List ℕ) (o : Opening) (work : Calls) → ToursAt lease c o work
+pub taken_tours : (lease : Claim) (c : Chart) (l : Claim) (page : ℕ) (low visited : List ℕ) (o : Opening) (work : Calls) → IsUpto low c.key → ToursAt lease c o work
     → AtLeaf lease (fold.begun c l page low visited) o ((Take (lock.Page c.tree page) 30, call.Given l) ∷ work)
-taken_tours lease c l page low visited o work k = inl (record { before = work; tours = k; empty = refl; calls = refl })
+taken_tours lease c l page low visited o work upto k = inl (record { before = work; tours = k; empty = refl; upto = upto; calls = refl })
+
+freed_handled : (run : Taken) (xs : List PuItem) (from : Option (List ℕ)) (v : Visit) (a : Answer) (visits : List Visit) → AreHandledTo run xs from (v ∷ visits)
+    → AreHandledTo run xs from (record v { freed = a } ∷ visits)
+freed_handled run [] from v a visits h = tt
+freed_handled run (x ∷ xs) from v a visits h = (h.0, freed_handled run xs from v a visits h.1)
 
 pub left_rests : (lease own : Claim) (c : Chart) (a : Answer) (o : Opening) (work : Calls) → VisitsAt lease own c o work → RestsAt lease c o ((Release own, a) ∷ work)
 left_rests lease own c a o work k =
@@ -396,5 +445,6 @@ left_rests lease own c a o work k =
       are = (record { looks = k.is.looks; holds = k.is.holds; puts = k.is.puts }, k.are);
       root = k.root;
       applied = k.applied;
+      handled = freed_handled c.run c.run.items c.from k.visit a k.visits k.handled;
       calls = ap (λ (cs : Calls). (Release own, a) ∷ cs) k.calls ∙ ap (λ (l : Claim). (Release l, a) ∷ held_over c.tree lease k.visit (visits_over c.tree lease k.visits [])) (sym k.own);
     }

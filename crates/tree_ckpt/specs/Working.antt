@@ -1,10 +1,12 @@
 -- The work of a tree checkpoint, as its calls tell it: from leaf to leaf, and then up.
 use Rattle.std.specs.Prelude.{ℕ, ◌≡◌, ◌+◌, true, false, List, [], ◌∷◌, ◌++◌, map, length, Option, Some, None, Ok, ◌⊎◌}
+use Rattle.std.specs.List.{AllByRecursion}
+use Rattle.db_base.specs.Change.{key_of}
 use Rattle.db_base.specs.declared.names.Lock.TheVariants as lock
 use Rattle.db_base.specs.declared.names.ObjName.TheVariants as object
 use Rattle.byte_format.specs.Whole.{whole}
 use Rattle.leaf_view.specs.Leaf.{Leaf, leaf}
-use Rattle.leaf_view.specs.Lookup.{empty_leaf, page_at}
+use Rattle.leaf_view.specs.Lookup.{empty_leaf, page_at, holds}
 use Rattle.node_codec.specs.Tree.{Tree}
 use Rattle.leaf_edit.specs.Lacked.{lacked}
 use Rattle.run_cursor.specs.Run.{Taken}
@@ -122,6 +124,16 @@ abbrev pub lacked_on : Taken → List Visit → ℕ
 lacked_on run [] = 0
 lacked_on run (v ∷ vs) = lacked_on run vs + lacked_where run v.leaf v.plan
 
+-- a leaf was put, or it lacked nothing
+abbrev pub IsSettled : Taken → Leaf → Option LeafPlan → Type 0
+IsSettled run l (Some plan) = Unit {0}
+IsSettled run l None = has_items (lacked l 0 run.items) ≡ false
+
+-- a key lies in the range of such a leaf
+abbrev pub IsHandled : Taken → List ℕ → List Visit → Type 0
+IsHandled run key [] = ⊥
+IsHandled run key (v ∷ vs) = ((holds v.leaf key ≡ true) × IsSettled run v.leaf v.plan) ⊎ IsHandled run key vs
+
 -- ---- up
 
 -- an inner node that was got, and what was planned for it
@@ -175,9 +187,11 @@ worked_calls tree one w =
 abbrev pub folded_root : Option (List ℕ) → Worked → Option (List ℕ)
 folded_root got w = root_behind got w.visits
 
--- each put is as planned from what was got before it; the first tree object is what the get brought
+-- Each put is as planned from what was got before it; the first tree object is what the get brought. Each item of the run lies in the range of a leaf
+-- that was put, or lacked nothing.
 pub record IsWorked (tree : ℕ) (one : Claim) (run : Taken) (got : Option (List ℕ)) (w : Worked) : Type 0 where
   pub visits : AreVisits tree one run got w.visits
+  pub covers : AllByRecursion (λ x. IsHandled run (key_of x.rec.change) w.visits) run.items
   pub climbs : AreClimbs tree (fold_calls tree one w) (folded_root got w) w.links w.climbs
   pub last : IsLast (tree_held (root_above (folded_root got w) w.climbs)) (links_above w.links w.climbs) run.top w.last
 

@@ -60,7 +60,7 @@ pub record KnowsComing (tree : ℕ) (c : Coming) (cs : Calls) : Type 0 where
   pub chart : Charted tree c.chart cs
   pub way : OnWay tree 0 c.low c.page c.visited cs
 
-abbrev KnowsOnward : ℕ → Onward → Calls → Type 0
+abbrev pub KnowsOnward : ℕ → Onward → Calls → Type 0
 KnowsOnward tree (onward.Right c) cs = KnowsComing tree c cs
 KnowsOnward tree (onward.Handled c) cs = Charted tree c cs
 

@@ -18,8 +18,11 @@ use Rattle.tree_descent.specs.declared.fork.Fork.{Fork}
 use Rattle.tree_descent.specs.declared.fork.Fork.TheVariants.{Right, Down}
 use Rattle.tree_descent.specs.Descent.{passed, fork_of, go_on, stride_at, kept_at, stride, follow, walk, arrived, arrive, with_node, got_node, descent_got, descent_next}
 
--- a chart of the same run and key with no fewer links, and so many nodes more at least
+-- a chart of the same tree, run and key with no fewer links, and so many nodes more at least
 pub record IsFurther (more : ℕ) (c e : Chart) : Type 0 where
+  pub tree : e.tree ≡ c.tree
+  pub root : e.root ≡ c.root
+  pub applied : e.applied ≡ c.applied
   pub run : e.run ≡ c.run
   pub from : e.from ≡ c.from
   pub key : e.key ≡ c.key
@@ -27,10 +30,13 @@ pub record IsFurther (more : ℕ) (c e : Chart) : Type 0 where
   pub links : length c.links ≤ length e.links
 
 pub further_itself : (c : Chart) → IsFurther 0 c c
-further_itself c = record { run = refl; from = refl; key = refl; nodes = omega arith; links = omega arith }
+further_itself c = record { tree = refl; root = refl; applied = refl; run = refl; from = refl; key = refl; nodes = omega arith; links = omega arith }
 
 pub further_on : (n m : ℕ) (c d e : Chart) → IsFurther n c d → IsFurther m d e → IsFurther (n + m) c e
 further_on n m c d e f g = record {
+  tree = g.tree ∙ f.tree;
+  root = g.root ∙ f.root;
+  applied = g.applied ∙ f.applied;
   run = g.run ∙ f.run;
   from = g.from ∙ f.from;
   key = g.key ∙ f.key;
@@ -52,7 +58,7 @@ passed_further : (d : Descent) (fork : Fork) → IsFurther 0 d.chart (passed d f
 passed_further d (Right low page) =
     let one : length (d.chart.links ++ record { level = d.level + 1; low = low; page = page } ∷ []) ≡ length d.chart.links + 1 =
     length-append d.chart.links (record { level = d.level + 1; low = low; page = page } ∷ []) in
-    record { run = refl; from = refl; key = refl; nodes = omega arith; links = omega (arith, one) }
+    record { tree = refl; root = refl; applied = refl; run = refl; from = refl; key = refl; nodes = omega arith; links = omega (arith, one) }
 passed_further d (Down low page) = further_itself d.chart
 
 go_on_further : (d : Descent) (fork : Result Fork Trouble) → GoesFurther 0 d.chart (go_on d fork)
@@ -106,15 +112,15 @@ node_further : (d : Descent) (bytes : List ℕ) → IsFurther 1 d.chart (with_no
 node_further d bytes =
     let k : KeptNode = record { page = d.page; level = d.level; low = d.low; bytes = bytes } in
     let one : length (with_kept k d.chart.nodes) ≡ length d.chart.nodes + 1 = length-insert d.chart.nodes (place_of k d.chart.nodes) k (place_within k d.chart.nodes) in
-    record { run = refl; from = refl; key = refl; nodes = omega (arith, one); links = omega arith }
+    record { tree = refl; root = refl; applied = refl; run = refl; from = refl; key = refl; nodes = omega (arith, one); links = omega arith }
 
 later : (c d : Chart) (n : ℕ) → IsFurther n c d → (s : Next Descent (Unit {0})) → GoesFurther 0 d s → GoesFurther n c s
 later c d n f (Goes e) h = shown (further_on n 0 c d e.chart f h) where
   shown : IsFurther (n + 0) c e.chart → IsFurther n c e.chart
-  shown g = record { run = g.run; from = g.from; key = g.key; nodes = omega (arith, g.nodes); links = g.links }
+  shown g = record { tree = g.tree; root = g.root; applied = g.applied; run = g.run; from = g.from; key = g.key; nodes = omega (arith, g.nodes); links = g.links }
 later c d n f (Ends e x) h = shown (further_on n 0 c d e.chart f h) where
   shown : IsFurther (n + 0) c e.chart → IsFurther n c e.chart
-  shown g = record { run = g.run; from = g.from; key = g.key; nodes = omega (arith, g.nodes); links = g.links }
+  shown g = record { tree = g.tree; root = g.root; applied = g.applied; run = g.run; from = g.from; key = g.key; nodes = omega (arith, g.nodes); links = g.links }
 later c d n f (Stops e t) h = tt
 
 got_further : (d : Descent) (bytes : List ℕ) (fork : Result Fork Trouble) → GoesFurther 1 d.chart (got_node d bytes fork)

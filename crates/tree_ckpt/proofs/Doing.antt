@@ -9,6 +9,8 @@ use Rattle.node_codec.specs.Tree.{Tree, tree_of, tree_bytes}
 use Rattle.log_codec.specs.declared.record.PuItem.{PuItem}
 use Rattle.run_cursor.specs.Run.{Taken}
 use Rattle.run_cursor.specs.Covered.{covered_ids}
+use Rattle.leaf_edit.specs.Merging.{Rises}
+use Rattle.leaf_edit.proofs.InOrder.{Rises-sorted}
 use Rattle.cloud_trait.specs.declared.answer.Answer.{Answer}
 use Rattle.cloud_trait.specs.declared.answer.Answer.TheVariants as call
 use Rattle.cloud_trait.specs.declared.message.Message.{Message}
@@ -33,6 +35,7 @@ use Rattle.tree_descent.specs.Descent.{descent_ask, descent_next}
 use Rattle.leaf_fold.specs.declared.folding.Folding.{Folding}
 use Rattle.leaf_fold.specs.declared.folding.Left.{Left}
 use Rattle.leaf_fold.specs.Folding.{folding_ask, folding_next}
+use Rattle.leaf_fold.specs.Folding as fold
 use Rattle.tree_rising.specs.declared.node.NodePlan.{NodePlan}
 use Rattle.tree_rising.specs.declared.rising.Rising.{Rising}
 use Rattle.tree_rising.specs.declared.root.RootPlan.{RootPlan}
@@ -50,20 +53,28 @@ use Rattle.tree_moves.specs.Moves.{Step, released_by, answer_of, deleting, went,
 use Rattle.tree_ckpt.specs.Making.{Making, new_making, making_ask, MakingLeads, KeepsLeases}
 use Rattle.tree_ckpt.specs.Standing.{Went, HasIds}
 use Rattle.tree_ckpt.specs.Causing.{Calls}
+use Rattle.tree_ckpt.specs.Working.{Worked, WorksBy, applied_count}
 use Rattle.tree_ckpt.specs.Meaning.{Opening, opening_calls, IsOpened, IsAtWork, AreAtWork, IsRootPut, Works, Tried, deletes_over, tried_before, one_more, one_less, went_count, failed_count, IsDone, MeansDone}
 use Rattle.leaf_fold.specs.declared.folding.Left.TheVariants.{Right, Handled}
 use Rattle.tree_descent.specs.Descent.{begun}
+use Rattle.tree_ckpt.proofs.Answers.{got_is, given_is, received_is}
+use Rattle.tree_ckpt.proofs.Brought.{AreKept, Charted, chart_more}
 use Rattle.tree_ckpt.proofs.Charts.{GoesFurther, arrive_further, descent_further}
 use Rattle.tree_ckpt.proofs.Leaving.{LeavesLeaf, next_leaves}
 use Rattle.tree_ckpt.proofs.Lasts.{IsLastRoot, LastIs, UpKeeps, none_last, rise_keeps, risen_keeps}
-use Rattle.tree_ckpt.proofs.Causing.{KnowsAt, came_brought}
+use Rattle.tree_ckpt.proofs.Causing.{KnowsOnward, KnowsAt, came_brought}
+use Rattle.tree_ckpt.proofs.Climbs.{kept_at_work, Climbs, UpClimbs, RiseClimbs, Risen, begun_climbs, rising_climbs}
+use Rattle.tree_ckpt.proofs.Covers.{IsLeast, least_is}
+use Rattle.tree_ckpt.proofs.Lows.{IsUpto, ComesUpto, begun_upto}
+use Rattle.tree_ckpt.proofs.Telling.{went_told}
+use Rattle.tree_ckpt.proofs.Tours.{RestsAt, ToursAt, WayTours, AtLeaf, VisitsAt, LeavesUpto, LeafTours, rests_tours, first_rests, way_tours, descent_tours, leaf_tours, taken_tours, left_rests}
 use Rattle.tree_ckpt.proofs.Folds.{not_empty}
 use Rattle.tree_ckpt.proofs.Rises.{IsRising}
 
 -- ---- what is known
 
--- while leaves and nodes are worked on
-pub record Amid (tree : ℕ) (h : Held) (run : Taken) (cs : Calls) : Type 0 where
+-- while leaves and nodes are worked on, where such work was done
+pub record Amid (tree : ℕ) (h : Held) (run : Taken) (Is : Opening → Calls → Type 0) (cs : Calls) : Type 0 where
   pub opening : Opening
   pub same : opening.run ≡ run
   pub opened : IsOpened opening
@@ -71,6 +82,7 @@ pub record Amid (tree : ℕ) (h : Held) (run : Taken) (cs : Calls) : Type 0 wher
   pub ids : h.deletions ≡ to_delete (covered_ids opening.run.top opening.items)
   pub work : Calls
   pub works : AreAtWork work
+  pub is : Is opening work
   pub calls : cs ≡ work ++ opening_calls tree h.lease opening
 
 -- once the tree object was put, or where the run is empty
@@ -84,7 +96,9 @@ pub record Late (tree : ℕ) (lease : Claim) (deletions : Deleting) (applied : �
   pub covered : tried_before tries deletions.ids ≡ covered_ids opening.run.top opening.items
   pub deleted : deletions.deleted ≡ went_count tries
   pub left : deletions.left ≡ failed_count tries
-  pub nothing : has_items opening.run.items ≡ false → applied ≡ 0
+  pub worked : Option Worked
+  pub each : WorksBy tree lease opening.run opening.got work worked
+  pub counted : applied ≡ applied_count opening.run worked
 
 -- an end is kept
 pub record Ending (tree : ℕ) (held : Leases) (x : CkptAnswer) (cs : Calls) : Type 0 where
@@ -100,20 +114,25 @@ abbrev KnowsEnd : ℕ → Leases → Result CkptAnswer Trouble → Calls → Typ
 KnowsEnd tree held (Ok x) cs = Ending tree held x cs
 KnowsEnd tree held (Err t) cs = Unit {0}
 
-abbrev run_onward : Onward → Taken
-run_onward (onward.Right c) = c.chart.run
-run_onward (onward.Handled c) = c.run
+abbrev chart_onward : Onward → Chart
+chart_onward (onward.Right c) = c.chart
+chart_onward (onward.Handled c) = c
+
+-- a leaf on the right has a low key not above the least key that is not handled
+abbrev GoesUpto : Onward → Type 0
+GoesUpto (onward.Right c) = IsLeast c.chart.run.items c.chart.from c.chart.key × IsUpto c.low c.chart.key
+GoesUpto (onward.Handled c) = Unit {0}
 
 abbrev pub DoneAt : ℕ → Work → Calls → Type 0
 DoneAt tree work.TakingTree cs = cs ≡ []
 DoneAt tree (work.GettingTree l) cs = cs ≡ (take_tree tree, call.Given l) ∷ []
 DoneAt tree (work.Receiving l root) cs = cs ≡ (GetHeld (object.Tree tree) l, call.Got root) ∷ (take_tree tree, call.Given l) ∷ []
-DoneAt tree (work.Descending h d) cs = Amid tree h d.chart.run cs
-DoneAt tree (work.TakingPage h c) cs = Amid tree h c.chart.run cs
-DoneAt tree (work.Folding h f) cs = Amid tree h f.chart.run cs
-DoneAt tree (work.ReleasingPage h l o) cs = Amid tree h (run_onward o) cs
-DoneAt tree (work.LeftPage h o) cs = Amid tree h (run_onward o) cs
-DoneAt tree (work.Rising h r) cs = Amid tree h r.chart.run cs × LastIs r
+DoneAt tree (work.Descending h d) cs = Amid tree h d.chart.run (λ o w. ToursAt h.lease d.chart o w × ComesUpto d) cs
+DoneAt tree (work.TakingPage h c) cs = Amid tree h c.chart.run (λ o w. ToursAt h.lease c.chart o w × IsUpto c.low c.chart.key) cs
+DoneAt tree (work.Folding h f) cs = Amid tree h f.chart.run (λ o w. AtLeaf h.lease f o w) cs
+DoneAt tree (work.ReleasingPage h l x) cs = Amid tree h (chart_onward x).run (λ o w. VisitsAt h.lease l (chart_onward x) o w × GoesUpto x) cs
+DoneAt tree (work.LeftPage h x) cs = ⊥
+DoneAt tree (work.Rising h r) cs = Amid tree h r.chart.run (λ o w. Climbs h.lease r o w) cs × LastIs r
 DoneAt tree (work.Deleting h applied) cs = Late tree h.lease h.deletions applied cs × HasIds h.deletions.ids
 DoneAt tree (work.Releasing held end) cs = KnowsEnd tree held end cs
 DoneAt tree work.Finished cs = ⊥
@@ -167,7 +186,9 @@ deleted_done tree l id ids deleted left applied a true cs e k =
       covered = k.covered;
       deleted = ap (λ (n : ℕ). n + 1) k.deleted ∙ ap (λ (b : Bool). one_more b (went_count k.tries)) (sym e);
       left = k.left ∙ ap (λ (b : Bool). one_less b (failed_count k.tries)) (sym e);
-      nothing = k.nothing;
+      worked = k.worked;
+      each = k.each;
+      counted = k.counted;
     })
 deleted_done tree l id ids deleted left applied a false cs e k =
     deleting_done tree l ids deleted (left + 1) applied ((Delete (queue.TreePu tree) id, a) ∷ cs) (record {
@@ -180,7 +201,9 @@ deleted_done tree l id ids deleted left applied a false cs e k =
       covered = k.covered;
       deleted = k.deleted ∙ ap (λ (b : Bool). one_more b (went_count k.tries)) (sym e);
       left = ap (λ (n : ℕ). n + 1) k.left ∙ ap (λ (b : Bool). one_less b (failed_count k.tries)) (sym e);
-      nothing = k.nothing;
+      worked = k.worked;
+      each = k.each;
+      counted = k.counted;
     })
 
 tried_done : (tree : ℕ) (l : Claim) (ids : List ℕ) (deleted left applied : ℕ) (a : Answer) (cs : Calls) → HasIds ids
@@ -193,8 +216,9 @@ tried_done tree l (id ∷ ids) deleted left applied a cs has k = deleted_done tr
 -- ---- the work
 
 -- one call more
-amid_more : (tree : ℕ) (h : Held) (run : Taken) (ask : Ask) (a : Answer) (cs : Calls) → IsAtWork ask → Amid tree h run cs → Amid tree h run ((ask, a) ∷ cs)
-amid_more tree h run ask a cs at k = record {
+amid_more : (tree : ℕ) (h : Held) (run : Taken) (Is Js : Opening → Calls → Type 0) (ask : Ask) (a : Answer) (cs : Calls) → IsAtWork ask
+    → ((o : Opening) (w : Calls) → Is o w → Js o ((ask, a) ∷ w)) → Amid tree h run Is cs → Amid tree h run Js ((ask, a) ∷ cs)
+amid_more tree h run Is Js ask a cs at step k = record {
   opening = k.opening;
   same = k.same;
   opened = k.opened;
@@ -202,12 +226,14 @@ amid_more tree h run ask a cs at k = record {
   ids = k.ids;
   work = (ask, a) ∷ k.work;
   works = (at, k.works);
+  is = step k.opening k.work k.is;
   calls = ap (λ (xs : Calls). (ask, a) ∷ xs) k.calls;
 }
 
--- the run stays
-amid_same : (tree : ℕ) (h : Held) (run other : Taken) (cs : Calls) → other ≡ run → Amid tree h run cs → Amid tree h other cs
-amid_same tree h run other cs e k = record {
+-- the run stays, and more is known of the work
+amid_as : (tree : ℕ) (h : Held) (run other : Taken) (Is Js : Opening → Calls → Type 0) (cs : Calls) → other ≡ run
+    → ((o : Opening) (w : Calls) → cs ≡ w ++ opening_calls tree h.lease o → Rises run.items → Is o w → Js o w) → Amid tree h run Is cs → Amid tree h other Js cs
+amid_as tree h run other Is Js cs e step k = record {
   opening = k.opening;
   same = k.same ∙ sym e;
   opened = k.opened;
@@ -215,13 +241,17 @@ amid_same tree h run other cs e k = record {
   ids = k.ids;
   work = k.work;
   works = k.works;
+  is = step k.opening k.work k.calls (subst (λ (r : Taken). Rises r.items) k.same (Rises-sorted k.opening.run.items k.opened.run.sorted)) k.is;
   calls = k.calls;
 }
 
-descending_done : (tree : ℕ) (h : Held) (c : Chart) (n : ℕ) (cs : Calls) (next : Next Descent (Unit {0})) → GoesFurther n c next → Amid tree h c.run cs
-    → GoesDone tree cs (descending_on h next)
-descending_done tree h c n cs (Goes d) f k = amid_same tree h c.run d.chart.run cs f.run k
-descending_done tree h c n cs (Ends d x) f k = amid_same tree h c.run d.chart.run cs f.run k
+amid_same : (tree : ℕ) (h : Held) (run other : Taken) (Is : Opening → Calls → Type 0) (cs : Calls) → other ≡ run → Amid tree h run Is cs → Amid tree h other Is cs
+amid_same tree h run other Is cs e k = amid_as tree h run other Is Is cs e (λ o w same rises is. is) k
+
+descending_done : (tree : ℕ) (h : Held) (c : Chart) (n : ℕ) (cs : Calls) (next : Next Descent (Unit {0})) → GoesFurther n c next
+    → Amid tree h c.run (λ o w. WayTours h.lease next o w) cs → GoesDone tree cs (descending_on h next)
+descending_done tree h c n cs (Goes d) f k = amid_same tree h c.run d.chart.run (λ o w. ToursAt h.lease d.chart o w × ComesUpto d) cs f.run k
+descending_done tree h c n cs (Ends d x) f k = amid_same tree h c.run d.chart.run (λ o w. ToursAt h.lease d.chart o w × ComesUpto d) cs f.run k
 descending_done tree h c n cs (Stops d t) f k = tt
 
 -- the work between two puts of the way up does not end it
@@ -244,31 +274,71 @@ rise_up r = on (rise.touched_node r) where
   on (Some n) = node_up r (rise.next_touched r + 1) (n.level + 1) (node_plan (tree_held r.chart.root) r.chart.tree n r.chart.links)
   on None = root_up r (rise.last_plan r)
 
-rising_begun : (tree : ℕ) (h : Held) (r : Rising) (cs : Calls) (next : Next Rising (Unit {0})) → GoesUp next → UpKeeps r next → Amid tree h r.chart.run cs
-    → GoesDone tree cs (rising_on h next)
-rising_begun tree h r cs (Goes e) up keeps k = (amid_same tree h r.chart.run e.chart.run cs keeps.0 k, keeps.1)
+rising_begun : (tree : ℕ) (h : Held) (r : Rising) (cs : Calls) (next : Next Rising (Unit {0})) → GoesUp next → UpKeeps r next
+    → Amid tree h r.chart.run (λ o w. UpClimbs h.lease next o w) cs → GoesDone tree cs (rising_on h next)
+rising_begun tree h r cs (Goes e) up keeps k = (amid_same tree h r.chart.run e.chart.run (λ o w. Climbs h.lease e o w) cs keeps.0 k, keeps.1)
 rising_begun tree h r cs (Ends e x) up keeps k = absurd up
 rising_begun tree h r cs (Stops e t) up keeps k = tt
 
-going_by_done : (tree : ℕ) (h : Held) (c : Chart) (cs : Calls) (key : Option (List ℕ)) → Amid tree h c.run cs → GoesDone tree cs (going_by h c key)
-going_by_done tree h c cs (Some key) k =
-    let d : Descent = begun (record c { key = key }) (root_entry (record c { key = key })).0 (root_entry (record c { key = key })).1 in
-    descending_done tree h (record c { key = key }) 0 cs (down_from (record c { key = key }) (root_entry (record c { key = key }))) (arrive_further d) k
-going_by_done tree h c cs None k =
-    rising_begun tree h (rise.begun c) cs (rise.rise (rise.begun c)) (rise_up (rise.begun c)) (rise_keeps (rise.begun c) (none_last (rise.begun c) refl)) k
+-- the nodes of a chart were got
+abbrev HasGot : Chart → Calls → Type 0
+HasGot c cs = AreKept c.tree c.nodes cs
 
-left_done : (tree : ℕ) (h : Held) (o : Onward) (cs : Calls) → Amid tree h (run_onward o) cs → GoesDone tree cs (page_left h o)
-left_done tree h (onward.Right c) cs k = k
-left_done tree h (onward.Handled c) cs k = going_by_done tree h c cs (next_key c) k
+going_by_done : (tree : ℕ) (h : Held) (c : Chart) (cs : Calls) (key : Option (List ℕ)) → next_key c ≡ key → HasGot c cs
+    → Amid tree h c.run (λ o w. RestsAt h.lease c o w) cs → GoesDone tree cs (going_by h c key)
+going_by_done tree h c cs (Some key) e got k =
+    let keyed : Chart = record c { key = key } in
+    let next : Next Descent (Unit {0}) = down_from keyed (root_entry keyed) in
+    let further : GoesFurther 0 keyed next = arrive_further (begun keyed (root_entry keyed).0 (root_entry keyed).1) in
+    descending_done tree h keyed 0 cs next further
+    (amid_as tree h c.run c.run (λ o w. RestsAt h.lease c o w) (λ o w. WayTours h.lease next o w) cs refl
+    (λ o w same rises is. way_tours h.lease 0 keyed next o w further (begun_upto keyed) (rests_tours h.lease keyed o w (least_is c.from key c.run.items rises e) is)) k)
+going_by_done tree h c cs None e got k =
+    let next : Next Rising (Unit {0}) = rise.rise (rise.begun c) in
+    rising_begun tree h (rise.begun c) cs next (rise_up (rise.begun c)) (rise_keeps (rise.begun c) (none_last (rise.begun c) refl))
+    (amid_as tree h c.run c.run (λ o w. RestsAt h.lease c o w) (λ o w. UpClimbs h.lease next o w) cs refl
+    (λ o w same rises is. begun_climbs h.lease c o w e (kept_at_work c.tree c.nodes tree h.lease o w (subst (HasGot c) same got)) is) k)
 
-folding_done : (tree : ℕ) (h : Held) (f : Folding) (cs : Calls) (next : Next Folding Left) → LeavesLeaf f next → Amid tree h f.chart.run cs
-    → GoesDone tree cs (folding_on h next)
-folding_done tree h f cs (Goes g) s k = amid_same tree h f.chart.run g.chart.run cs s.run k
-folding_done tree h f cs (Ends g (Right low page)) s k = amid_same tree h f.chart.run g.chart.run cs s.run k
-folding_done tree h f cs (Ends g Handled) s k = amid_same tree h f.chart.run g.chart.run cs s.run k
+-- as its tree is the tree
+chart_got : (tree : ℕ) (c : Chart) (cs : Calls) → Charted tree c cs → HasGot c cs
+chart_got tree c cs k = subst (λ (t : ℕ). AreKept t c.nodes cs) (sym k.same) k.nodes
+
+onward_more : (tree : ℕ) (x : Onward) (c : Ask × Answer) (cs : Calls) → KnowsOnward tree x cs → HasGot (chart_onward x) (c ∷ cs)
+onward_more tree (onward.Right y) c cs k = chart_got tree y.chart (c ∷ cs) (chart_more tree y.chart c cs k.chart)
+onward_more tree (onward.Handled y) c cs k = chart_got tree y (c ∷ cs) (chart_more tree y c cs k)
+
+left_done : (tree : ℕ) (h : Held) (x : Onward) (cs : Calls) → HasGot (chart_onward x) cs
+    → Amid tree h (chart_onward x).run (λ o w. RestsAt h.lease (chart_onward x) o w × GoesUpto x) cs → GoesDone tree cs (page_left h x)
+left_done tree h (onward.Right c) cs got k =
+    amid_as tree h c.chart.run c.chart.run (λ o w. RestsAt h.lease c.chart o w × GoesUpto (onward.Right c)) (λ o w. ToursAt h.lease c.chart o w × IsUpto c.low c.chart.key) cs refl
+    (λ o w same rises is. (rests_tours h.lease c.chart o w is.1.0 is.0, is.1.1)) k
+left_done tree h (onward.Handled c) cs got k =
+    going_by_done tree h c cs (next_key c) refl got
+    (amid_as tree h c.run c.run (λ o w. RestsAt h.lease c o w × GoesUpto (onward.Handled c)) (λ o w. RestsAt h.lease c o w) cs refl (λ o w same rises is. is.0) k)
+
+folding_done : (tree : ℕ) (h : Held) (f : Folding) (cs : Calls) (next : Next Folding Left) → LeavesLeaf f next
+    → Amid tree h f.chart.run (λ o w. LeafTours h.lease next o w) cs → GoesDone tree cs (folding_on h next)
+folding_done tree h f cs (Goes g) s k = amid_same tree h f.chart.run g.chart.run (λ o w. AtLeaf h.lease g o w) cs s.run k
+folding_done tree h f cs (Ends g (Right low page)) s k =
+    amid_same tree h f.chart.run g.chart.run (λ o w. VisitsAt h.lease g.lease g.chart o w × LeavesUpto g.chart (Right low page)) cs s.run k
+folding_done tree h f cs (Ends g Handled) s k =
+    amid_same tree h f.chart.run g.chart.run (λ o w. VisitsAt h.lease g.lease g.chart o w × LeavesUpto g.chart Handled) cs s.run k
 folding_done tree h f cs (Stops g t) s k = tt
 
-taken_done : (tree : ℕ) (h : Held) (c : Coming) (cs : Calls) (given : Result Claim Trouble) → Amid tree h c.chart.run cs → GoesDone tree cs (page_taken h c given)
+-- a leaf's lease was given
+abbrev TakenTours : Claim → Coming → Result Claim Trouble → Opening → Calls → Type 0
+TakenTours lease c (Ok l) o w = AtLeaf lease (fold.begun c.chart l c.page c.low c.visited) o w
+TakenTours lease c (Err t) o w = Unit {0}
+
+given_tours : (tree : ℕ) (h : Held) (c : Coming) (a : Answer) (given : Result Claim Trouble) → given_of (lock.Page c.chart.tree c.page) a ≡ given → (o : Opening) (w : Calls)
+    → ToursAt h.lease c.chart o w × IsUpto c.low c.chart.key → TakenTours h.lease c given o ((work_ask tree (work.TakingPage h c), a) ∷ w)
+given_tours tree h c a (Ok l) e o w k =
+    subst (λ (b : Answer). TakenTours h.lease c (Ok l) o ((work_ask tree (work.TakingPage h c), b) ∷ w)) (sym (given_is (lock.Page c.chart.tree c.page) a l e))
+    (taken_tours h.lease c.chart l c.page c.low c.visited o w k.1 k.0)
+given_tours tree h c a (Err t) e o w k = tt
+
+taken_done : (tree : ℕ) (h : Held) (c : Coming) (cs : Calls) (given : Result Claim Trouble) → Amid tree h c.chart.run (λ o w. TakenTours h.lease c given o w) cs
+    → GoesDone tree cs (page_taken h c given)
 taken_done tree h c cs (Ok l) k = k
 taken_done tree h c cs (Err t) k = tt
 
@@ -328,20 +398,25 @@ never_empty : {X : Type 0} (b : Bool) → b ≡ true → b ≡ false → X
 never_empty true e f = absurd (cc (f))
 never_empty false e f = absurd (cc (e))
 
-amid_late : (tree : ℕ) (h : Held) (run : Taken) (c : Ask × Answer) (cs : Calls) (applied : ℕ) → Amid tree h run cs → IsRootPut tree h.lease run c
-    → Late tree h.lease h.deletions applied (c ∷ cs)
-amid_late tree h run c cs applied k put = record {
-  opening = k.opening;
-  opened = k.opened;
-  work = c ∷ k.work;
-  works = (k.some, subst (λ (r : Taken). IsRootPut tree h.lease r c) (sym k.same) put, k.works);
-  tries = [];
-  calls = ap (λ (xs : Calls). c ∷ xs) k.calls;
-  covered = ap (λ (d : Deleting). d.ids) k.ids;
-  deleted = ap (λ (d : Deleting). d.deleted) k.ids;
-  left = ap (λ (d : Deleting). d.left) k.ids;
-  nothing = λ e. never_empty (has_items k.opening.run.items) k.some e;
-}
+amid_late : (tree : ℕ) (h : Held) (run : Taken) (Is : Opening → Calls → Type 0) (c : Ask × Answer) (cs : Calls) (applied : ℕ) (k : Amid tree h run Is cs)
+    → IsRootPut tree h.lease run c → Risen h.lease tree run applied k.opening (c ∷ k.work) → Late tree h.lease h.deletions applied (c ∷ cs)
+amid_late tree h run Is c cs applied k put ended =
+    let end : Risen h.lease tree k.opening.run applied k.opening (c ∷ k.work) =
+    subst (λ (r : Taken). Risen h.lease tree r applied k.opening (c ∷ k.work)) (sym k.same) ended in
+    record {
+      opening = k.opening;
+      opened = k.opened;
+      work = c ∷ k.work;
+      works = (k.some, subst (λ (r : Taken). IsRootPut tree h.lease r c) (sym k.same) put, k.works);
+      tries = [];
+      calls = ap (λ (xs : Calls). c ∷ xs) k.calls;
+      covered = ap (λ (d : Deleting). d.ids) k.ids;
+      deleted = ap (λ (d : Deleting). d.deleted) k.ids;
+      left = ap (λ (d : Deleting). d.left) k.ids;
+      worked = Some end.worked;
+      each = (k.some, end.calls, end.is);
+      counted = end.applied;
+    }
 
 root_put_is : (tree : ℕ) (l : Claim) (r : Rising) (a : Answer) (bytes : List ℕ) → IsPutOf r.chart.tree l bytes (rise.rising_ask r l, a)
     → r.last ≡ Some bytes → LastIs r → r.chart.tree ≡ tree → IsRootPut tree l r.chart.run (rise.rising_ask r l, a)
@@ -354,15 +429,20 @@ root_put_is tree l r a bytes e last known same =
       is.3,
     )
 
-rising_done : (tree : ℕ) (h : Held) (a : Answer) (cs : Calls) (r : Rising) (next : Next Rising (Unit {0})) → Amid tree h r.chart.run cs → LastIs r
+rising_done : (tree : ℕ) (h : Held) (a : Answer) (cs : Calls) (r : Rising) (next : Next Rising (Unit {0})) → Amid tree h r.chart.run (λ o w. Climbs h.lease r o w) cs → LastIs r
     → IsAtWork (rise.rising_ask r h.lease) → r.chart.tree ≡ tree → UpKeeps r next → UpEnds r h.lease a next
+    → ((o : Opening) (w : Calls) → Climbs h.lease r o w → RiseClimbs h.lease r next o ((rise.rising_ask r h.lease, a) ∷ w))
     → GoesDone tree ((rise.rising_ask r h.lease, a) ∷ cs) (rising_on h next)
-rising_done tree h a cs r (Goes e) k last at same keeps up =
-    (amid_same tree h r.chart.run e.chart.run _ keeps.0 (amid_more tree h r.chart.run (rise.rising_ask r h.lease) a cs at k), keeps.1)
-rising_done tree h a cs r (Ends e x) k last at same keeps up =
+rising_done tree h a cs r (Goes e) k last at same keeps up step = (
+  amid_same tree h r.chart.run e.chart.run (λ o w. Climbs h.lease e o w) ((rise.rising_ask r h.lease, a) ∷ cs) keeps.0
+      (amid_more tree h r.chart.run (λ o w. Climbs h.lease r o w) (λ o w. Climbs h.lease e o w) (rise.rising_ask r h.lease) a cs at step k),
+  keeps.1,
+)
+rising_done tree h a cs r (Ends e x) k last at same keeps up step =
     deleting_done tree h.lease h.deletions.ids h.deletions.deleted h.deletions.left e.chart.applied ((rise.rising_ask r h.lease, a) ∷ cs)
-    (amid_late tree h r.chart.run (rise.rising_ask r h.lease, a) cs e.chart.applied k (root_put_is tree h.lease r a up.0 up.1 up.2 last same))
-rising_done tree h a cs r (Stops e t) k last at same keeps up = tt
+    (amid_late tree h r.chart.run (λ o w. Climbs h.lease r o w) (rise.rising_ask r h.lease, a) cs e.chart.applied k (root_put_is tree h.lease r a up.0 up.1 up.2 last same)
+    (subst (λ (t : ℕ). Risen h.lease t r.chart.run e.chart.applied k.opening ((rise.rising_ask r h.lease, a) ∷ k.work)) same (step k.opening k.work k.is)))
+rising_done tree h a cs r (Stops e t) k last at same keeps up step = tt
 
 put_at_work : (reserved : Option (List ℕ)) (puts : List PagePut) (tree : ℕ) (l : Claim) (second : Option Claim) (ask : Ask) → IsAtWork ask
     → IsAtWork (unwrap_or (put_first tree l (put_next tree l second puts) reserved) ask)
@@ -389,30 +469,6 @@ tree_taken_done tree call.Done cs next k e = subst (λ (s : Step). NextDone tree
 tree_taken_done tree (call.Renewed until) cs next k e = subst (λ (s : Step). NextDone tree cs (take_tree tree) (call.Renewed until) s) (sym e) tt
 tree_taken_done tree (call.Late until now) cs next k e = subst (λ (s : Step). NextDone tree cs (take_tree tree) (call.Late until now) s) (sym e) tt
 
-got_is : (a : Answer) (v : Option (List ℕ)) → got_of a ≡ Ok v → a ≡ call.Got v
-got_is (call.Got w) v e = cc (e)
-got_is (call.Sent id) v e = absurd (cc (e))
-got_is (call.Received ms) v e = absurd (cc (e))
-got_is call.Done v e = absurd (cc (e))
-got_is (call.Given l) v e = absurd (cc (e))
-got_is (call.Held until) v e = absurd (cc (e))
-got_is (call.Renewed until) v e = absurd (cc (e))
-got_is (call.Late until now) v e = absurd (cc (e))
-got_is call.Failed v e = absurd (cc (e))
-got_is call.Memory v e = absurd (cc (e))
-
-received_is : (a : Answer) (ms : List Message) → received_of a ≡ Ok ms → a ≡ call.Received ms
-received_is (call.Got w) ms e = absurd (cc (e))
-received_is (call.Sent id) ms e = absurd (cc (e))
-received_is (call.Received got) ms e = cc (e)
-received_is call.Done ms e = absurd (cc (e))
-received_is (call.Given l) ms e = absurd (cc (e))
-received_is (call.Held until) ms e = absurd (cc (e))
-received_is (call.Renewed until) ms e = absurd (cc (e))
-received_is (call.Late until now) ms e = absurd (cc (e))
-received_is call.Failed ms e = absurd (cc (e))
-received_is call.Memory ms e = absurd (cc (e))
-
 -- the tree object was got
 abbrev opened_calls : ℕ → Claim → Answer → Calls
 opened_calls tree l a = (GetHeld (object.Tree tree) l, a) ∷ (take_tree tree, call.Given l) ∷ []
@@ -430,12 +486,12 @@ abbrev received_calls : ℕ → Claim → Option (List ℕ) → Answer → Calls
 received_calls tree l root a = (Receive (queue.TreePu tree) 256, a) ∷ opened_calls tree l (call.Got root)
 
 started_done : (tree : ℕ) (l : Claim) (o : Opening) (i : Intake) (c : Chart) (b : Bool) → c.run ≡ i.run → has_items i.run.items ≡ b → IsOpened o → o.run ≡ i.run
-    → i.deletions ≡ to_delete (covered_ids o.run.top o.items)
+    → i.deletions ≡ to_delete (covered_ids o.run.top o.items) → HasGot c (opening_calls tree l o) → RestsAt l c o []
     → GoesDone tree (opening_calls tree l o) (started (record { lease = l; deletions = i.deletions }) c b)
-started_done tree l o i c true at e opened run ids =
-    going_by_done tree (record { lease = l; deletions = i.deletions }) c (opening_calls tree l o) (next_key c)
-    (record { opening = o; same = run ∙ sym at; opened = opened; some = ap (λ (r : Taken). has_items r.items) run ∙ e; ids = ids; work = []; works = tt; calls = refl })
-started_done tree l o i c false at e opened run ids =
+started_done tree l o i c true at e opened run ids got rests =
+    going_by_done tree (record { lease = l; deletions = i.deletions }) c (opening_calls tree l o) (next_key c) refl got
+    (record { opening = o; same = run ∙ sym at; opened = opened; some = ap (λ (r : Taken). has_items r.items) run ∙ e; ids = ids; work = []; works = tt; is = rests; calls = refl })
+started_done tree l o i c false at e opened run ids got rests =
     deleting_done tree l i.deletions.ids i.deletions.deleted i.deletions.left 0 (opening_calls tree l o) (record {
       opening = o;
       opened = opened;
@@ -446,7 +502,9 @@ started_done tree l o i c false at e opened run ids =
       covered = ap (λ (d : Deleting). d.ids) ids;
       deleted = ap (λ (d : Deleting). d.deleted) ids;
       left = ap (λ (d : Deleting). d.left) ids;
-      nothing = λ empty. refl;
+      worked = None;
+      each = (ap (λ (r : Taken). has_items r.items) run ∙ e, refl);
+      counted = refl;
     })
 
 items_done : (tree : ℕ) (l : Claim) (root : Option (List ℕ)) (ms : List Message) (i : Intake) (read : Result (List PuItem) Message) → items_of ms ≡ read
@@ -458,7 +516,7 @@ items_done tree l root ms i (Ok items) e h =
     let is : i ≡ intake_of items run = cc (h.2) in
     let o : Opening = record { got = root; messages = ms; items = items; run = run } in
     started_done tree l o i (chart_of tree root i.run) (has_items i.run.items) refl refl (record { read = e; run = h.1 })
-    (sym (ap (λ (j : Intake). j.run) is)) (ap (λ (j : Intake). j.deletions) is)
+    (sym (ap (λ (j : Intake). j.run) is)) (ap (λ (j : Intake). j.deletions) is) tt (first_rests l (chart_of tree root i.run) o refl refl refl)
 
 received_done : (tree : ℕ) (l : Claim) (root : Option (List ℕ)) (a : Answer) (g : Result (List Message) Trouble) (next : Step) → received_of a ≡ g
     → ReceivedBy tree l root g next → GoesDone tree (received_calls tree l root a) next
@@ -503,22 +561,31 @@ done_by tree (work.Receiving l root) cs a next k d h =
     at_calls tree (Receive (queue.TreePu tree) 256) a cs _ next d (received_done tree l root a (received_of a) next refl h)
 done_by tree (work.Descending h w) cs a next k d e =
     by_made tree cs (descent_ask w h.lease) a next _ e
-    (descending_done tree h w.chart 1 _ (descent_next w a) (descent_further w a) (amid_more tree h w.chart.run (descent_ask w h.lease) a cs tt d))
+    (descending_done tree h w.chart 1 ((descent_ask w h.lease, a) ∷ cs) (descent_next w a) (descent_further w a)
+    (amid_more tree h w.chart.run (λ o x. ToursAt h.lease w.chart o x × ComesUpto w) (λ o x. WayTours h.lease (descent_next w a) o x) (descent_ask w h.lease) a cs tt
+    (λ o x is. descent_tours h.lease w a o x is.0) d))
 done_by tree (work.TakingPage h c) cs a next k d e =
     by_made tree cs (work_ask tree (work.TakingPage h c)) a next _ e
-    (taken_done tree h c _ (given_of (lock.Page c.chart.tree c.page) a) (amid_more tree h c.chart.run (work_ask tree (work.TakingPage h c)) a cs tt d))
+    (taken_done tree h c ((work_ask tree (work.TakingPage h c), a) ∷ cs) (given_of (lock.Page c.chart.tree c.page) a)
+    (amid_more tree h c.chart.run (λ o x. ToursAt h.lease c.chart o x × IsUpto c.low c.chart.key) (λ o x. TakenTours h.lease c (given_of (lock.Page c.chart.tree c.page) a) o x)
+    (work_ask tree (work.TakingPage h c)) a cs tt (given_tours tree h c a (given_of (lock.Page c.chart.tree c.page) a) refl) d))
 done_by tree (work.Folding h f) cs a next k d e =
     by_made tree cs (folding_ask f h.lease) a next _ e
-    (folding_done tree h f _ (folding_next f a) (next_leaves f a)
-    (amid_more tree h f.chart.run (folding_ask f h.lease) a cs (put_at_work f.placing.reserved f.placing.puts f.chart.tree h.lease (Some f.lease) (GetHeld (object.Page f.chart.tree f.page) f.lease) tt) d))
-done_by tree (work.ReleasingPage h l o) cs a next k d e =
-    by_made tree cs (Release l) a next _ e (left_done tree h o _ (amid_more tree h (run_onward o) (Release l) a cs tt d))
-done_by tree (work.LeftPage h o) cs a next k d e = absurd k
+    (folding_done tree h f ((folding_ask f h.lease, a) ∷ cs) (folding_next f a) (next_leaves f a)
+    (amid_more tree h f.chart.run (λ o x. AtLeaf h.lease f o x) (λ o x. LeafTours h.lease (folding_next f a) o x) (folding_ask f h.lease) a cs
+    (put_at_work f.placing.reserved f.placing.puts f.chart.tree h.lease (Some f.lease) (GetHeld (object.Page f.chart.tree f.page) f.lease) tt)
+    (leaf_tours h.lease f a) d))
+done_by tree (work.ReleasingPage h l x) cs a next k d e =
+    by_made tree cs (Release l) a next _ e
+    (left_done tree h x ((Release l, a) ∷ cs) (onward_more tree x (Release l, a) cs k)
+    (amid_more tree h (chart_onward x).run (λ o w. VisitsAt h.lease l (chart_onward x) o w × GoesUpto x) (λ o w. RestsAt h.lease (chart_onward x) o w × GoesUpto x) (Release l) a cs tt
+    (λ o w is. (left_rests h.lease l (chart_onward x) a o w is.0, is.1)) d))
+done_by tree (work.LeftPage h x) cs a next k d e = absurd k
 done_by tree (work.Rising h r) cs a next k d e =
     by_made tree cs (rise.rising_ask r h.lease) a next _ e
     (rising_done tree h a cs r (rise.rising_next r a) d.0 d.1
     (put_at_work r.placing.reserved r.placing.puts r.chart.tree h.lease None (rise.last_ask r h.lease r.last) (last_at_work r h.lease r.last)) k.0.same
-    (risen_keeps r (done_of a) d.1) (up_ends h.lease r a k.1))
+    (risen_keeps r (done_of a) d.1) (up_ends h.lease r a k.1) (λ o w is. rising_climbs h.lease r a o w k.1 is))
 done_by tree (work.Deleting h applied) cs a next k d e =
     by_made tree cs (delete_ask tree (next_id h.deletions.ids)) a next _ e
     (tried_done tree h.lease h.deletions.ids h.deletions.deleted h.deletions.left applied a cs d.1 d.0)
@@ -547,27 +614,30 @@ went_done m h came = came_done m.tree h m came
 
 -- ---- an end
 
-ends_done : (tree : ℕ) (ask : Ask) (h : List Deed) (x : CkptAnswer) → EndsBy tree (calls_of h) ask x → IsDone ask tree h x
-ends_done tree ask h x k =
-    let end : Ending tree k.held x (calls_of h) = k.ending in
-    let late : Late tree end.lease end.deletions end.applied (calls_of h) = end.late in
+ends_done : (ask : Ask) (m : Making) (h : List Deed) (x : CkptAnswer) → Went h m → EndsBy m.tree (calls_of h) ask x → IsDone ask m.tree m.received h x
+ends_done ask m h x went k =
+    let end : Ending m.tree k.held x (calls_of h) = k.ending in
+    let late : Late m.tree end.lease end.deletions end.applied (calls_of h) = end.late in
     record {
       lease = end.lease;
       opening = late.opening;
       opened = late.opened;
+      told = went_told m h end.lease late.opening late.work late.tries went late.works late.calls;
       work = late.work;
       works = late.works;
+      worked = late.worked;
+      each = late.each;
       tried = late.tries;
       calls = late.calls;
       last = k.last;
       covered = subst (λ (ids : List ℕ). tried_before late.tries ids ≡ covered_ids late.opening.run.top late.opening.items) end.done late.covered;
       deleted = ap (λ (y : CkptAnswer). y.deleted) end.answer ∙ late.deleted;
       left = ap (λ (y : CkptAnswer). y.left) end.answer ∙ late.left;
-      nothing = λ empty. ap (λ (y : CkptAnswer). y.applied) end.answer ∙ late.nothing empty;
+      applied = ap (λ (y : CkptAnswer). y.applied) end.answer ∙ late.counted;
     }
 
-pub took_done : (old new : Making) (h : List Deed) (a : Answer) (turn : Turn CkptAnswer) → KnowsAt old.tree old.work (calls_of h) → DoneAt old.tree old.work (calls_of h)
+pub took_done : (old new : Making) (h : List Deed) (a : Answer) (turn : Turn CkptAnswer) → Went h old → KnowsAt old.tree old.work (calls_of h) → DoneAt old.tree old.work (calls_of h)
     → Took MakingLeads KeepsLeases old a new turn → MeansDone (making_ask old) old h turn
-took_done old new h a More k d took = tt
-took_done old new h a (Ended x) k d took = ends_done old.tree (making_ask old) h x (step_done old (calls_of h) a (Ends new.work x) k d took.1)
-took_done old new h a (Stopped t) k d took = tt
+took_done old new h a More went k d took = tt
+took_done old new h a (Ended x) went k d took = ends_done (making_ask old) old h x went (step_done old (calls_of h) a (Ends new.work x) k d took.1)
+took_done old new h a (Stopped t) went k d took = tt

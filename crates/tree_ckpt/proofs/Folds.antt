@@ -87,7 +87,7 @@ planned_some : (page : ℕ) (l : Leaf) (r : Result Reserved Trouble) (p : LeafPl
 planned_some page l (Ok r) p e = let same : plan.in_pieces page l r ≡ p = cc (e) in subst (λ (q : LeafPlan). 0 < length q.placing.puts) same (pieces_some page l r)
 planned_some page l (Err t) p e = absurd (cc (e))
 
-plan_some : (root : Tree) (page : ℕ) (l : Leaf) (run : List PuItem) (p : LeafPlan) → plan.leaf_plan root page l run ≡ Ok p → 0 < length p.placing.puts
+pub plan_some : (root : Tree) (page : ℕ) (l : Leaf) (run : List PuItem) (p : LeafPlan) → plan.leaf_plan root page l run ≡ Ok p → 0 < length p.placing.puts
 plan_some root page l run p e = on (l.version == 18446744073709551615) e where
   made : Leaf
   made = applied l 0 run

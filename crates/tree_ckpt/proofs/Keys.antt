@@ -44,7 +44,7 @@ next_from from low (x ∷ xs) e = on (bytes_below (key x) from) refl (next_from 
   on true f rest g = rest g
   on false f rest g = let same : key x ≡ low = cc (g) in subst (λ (k : List ℕ). bytes_below k from ≡ false) same f
 
-not_itself : (a : List ℕ) → bytes_below a a ≡ false
+pub not_itself : (a : List ℕ) → bytes_below a a ≡ false
 not_itself a = ap is_lt (tied_itself nat_list_cmp_total a)
 
 -- one that is handled before it is not above it

@@ -14,4 +14,10 @@ pub mod Plots
 pub mod Rises
 pub mod Causing
 pub mod Lasts
+pub mod Answers
+pub mod Lows
+pub mod Covers
+pub mod Tours
+pub mod Climbs
+pub mod Telling
 pub mod Doing

@@ -34,7 +34,7 @@ use Rattle.tree_ckpt.proofs.Brought.{IsKept, AreKept, Charted}
 use Rattle.tree_ckpt.proofs.Folds.{not_empty}
 use Rattle.tree_ckpt.proofs.Plots.{PlanTells, HasPut, version_tells, reservation_tells, chart_landed}
 
-kept_at : (tree : ℕ) (ks : List KeptNode) (at : ℕ) (k : KeptNode) (cs : Calls) → AreKept tree ks cs → slice_get ks at ≡ Some k → IsKept tree k cs
+pub kept_at : (tree : ℕ) (ks : List KeptNode) (at : ℕ) (k : KeptNode) (cs : Calls) → AreKept tree ks cs → slice_get ks at ≡ Some k → IsKept tree k cs
 kept_at tree [] at k cs h e = absurd (cc (e))
 kept_at tree (x ∷ xs) zero k cs h e = let same : x ≡ k = cc (e) in subst (λ (n : KeptNode). IsKept tree n cs) same h.0
 kept_at tree (x ∷ xs) (suc at) k cs h e = kept_at tree xs at k cs h.1 e

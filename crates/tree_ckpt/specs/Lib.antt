@@ -2,4 +2,5 @@ pub mod Making
 pub mod Standing
 pub mod Ending
 pub mod Causing
+pub mod Working
 pub mod Meaning

@@ -17,12 +17,13 @@ use Rattle.cloud_trait.specs.Ask.{Ask, GetHeld, PutHeld, Receive, Delete, Releas
 use Rattle.cloud_trait.specs.Claim.{Claim}
 use Rattle.cloud_trait.specs.Machine.{Deed, calls_of}
 use Rattle.cloud_trait.specs.Views.{done_of}
-use Rattle.ckpt_parts.specs.Intakes.{items_of, has_items}
+use Rattle.ckpt_parts.specs.Intakes.{ids_of, items_of, has_items}
 use Rattle.tree_parts.specs.Read.{tree_held}
 use Rattle.tree_moves.specs.Work.{take_tree}
 use Rattle.tree_moves.specs.Moves.{went}
 use Rattle.tree_ckpt.specs.Making.{Making}
 use Rattle.tree_ckpt.specs.Causing.{Calls}
+use Rattle.tree_ckpt.specs.Working.{Worked, WorksBy, applied_count}
 
 -- ---- the opening: the tree is taken, its object is read under the lease, and its queue is received from
 
@@ -100,24 +101,27 @@ failed_count (t ∷ ts) = one_less (went (done_of t.1)) (failed_count ts)
 -- ---- the whole
 
 -- Done, by the call `release`: the calls before it were the opening with its one receive, the work with the tree object's put as the last,
--- and then the deletions of exactly the ids that the run's top covers. The answer counts those that went and those that failed, and no
--- record is applied where the run is empty.
-pub record IsDone (release : Ask) (tree : ℕ) (h : List Deed) (answer : CkptAnswer) : Type 0 where
+-- and then the deletions of exactly the ids that the run's top covers. The work was that of leaves and of the way up, each put as planned from
+-- what was got. The answer counts the items that the leaves lacked, and the deletions that went and those that failed.
+pub record IsDone (release : Ask) (tree : ℕ) (received : List ℕ) (h : List Deed) (answer : CkptAnswer) : Type 0 where
   pub lease : Claim
   pub opening : Opening
   pub opened : IsOpened opening
+  pub told : received ≡ ids_of opening.messages
   pub work : Calls
   pub works : Works tree lease opening.run work
+  pub worked : Option Worked
+  pub each : WorksBy tree lease opening.run opening.got work worked
   pub tried : Tried
   pub calls : calls_of h ≡ deletes_over tree tried (work ++ opening_calls tree lease opening)
   pub last : release ≡ Release lease
   pub covered : tried_before tried [] ≡ covered_ids opening.run.top opening.items
   pub deleted : answer.deleted ≡ went_count tried
   pub left : answer.left ≡ failed_count tried
-  pub nothing : has_items opening.run.items ≡ false → answer.applied ≡ 0
+  pub applied : answer.applied ≡ applied_count opening.run worked
 
 -- what an end says of the calls before it
 abbrev pub MeansDone : Ask → Making → List Deed → Turn CkptAnswer → Type 0
 MeansDone last m h More = Unit {0}
-MeansDone last m h (Ended answer) = IsDone last m.tree h answer
+MeansDone last m h (Ended answer) = IsDone last m.tree m.received h answer
 MeansDone last m h (Stopped t) = Unit {0}

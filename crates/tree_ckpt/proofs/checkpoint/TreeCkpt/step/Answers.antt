@@ -38,5 +38,5 @@ returns-clause-causes g c = λ h went. record {
 
 pub returns-clause-done : goal.returns-clause-done
 returns-clause-done g c = λ h went.
-    took_done c.args.self.now _ h c.call-answer.result _ (went_brought c.args.self.now h went) (went_done c.args.self.now h went)
+    took_done c.args.self.now _ h c.call-answer.result _ went (went_brought c.args.self.now h went) (went_done c.args.self.now h went)
     (took_handed c.args.self.now _ _ c.call-answer.result _ c.call-answer.ensures.left c.absorb.ensures.took)

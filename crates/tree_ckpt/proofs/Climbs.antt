@@ -1,0 +1,324 @@
+-- How the work of a tree checkpoint goes up.
+use Rattle.std.proofs.Common.{◌≡◌, ◌+◌, ℕ, Bool, true, false, cond, List, [], ◌∷◌, ◌++◌, length, Option, Some, None, Result, Ok, Err, refl, sym, ap, subst, ◌∙◌, inl, inr, arith}
+use Rattle.std.specs.Prelude.{◌==◌, ◌||◌, not, is_some, unwrap_or}
+use Rattle.db_base.specs.declared.names.ObjName.TheVariants as object
+use Rattle.db_base.specs.declared.names.QueueName.TheVariants as queue
+use Rattle.db_base.specs.declared.trouble.Trouble.{Trouble}
+use Rattle.split_plan.specs.declared.put_list.PagePut.{PagePut}
+use Rattle.cloud_trait.specs.declared.answer.Answer.{Answer}
+use Rattle.cloud_trait.specs.declared.answer.Answer.TheVariants as call
+use Rattle.cloud_trait.specs.Ask.{Ask, GetHeld, PutHeld, Receive}
+use Rattle.cloud_trait.specs.Claim.{Claim}
+use Rattle.cloud_trait.specs.Machine.{Next, Goes, Ends, Stops}
+use Rattle.cloud_trait.specs.Views.{done_of}
+use Rattle.run_cursor.specs.Run.{Taken}
+use Rattle.tree_parts.specs.declared.chart.Chart.{Chart}
+use Rattle.tree_parts.specs.declared.kept.KeptNode.{KeptNode}
+use Rattle.tree_parts.specs.declared.link.Link.{Link}
+use Rattle.tree_parts.specs.declared.placing.Placing.{Placing}
+use Rattle.tree_parts.specs.Kept.{links_at}
+use Rattle.tree_parts.specs.Placing.{put_in_hand, landed_root, landed_placing, has_nothing}
+use Rattle.tree_parts.specs.Read.{tree_held}
+use Rattle.tree_rising.specs.declared.node.NodePlan.{NodePlan}
+use Rattle.tree_rising.specs.declared.rising.Rising.{Rising}
+use Rattle.tree_rising.specs.declared.root.RootPlan.{RootPlan}
+use Rattle.tree_rising.specs.Nodes.{node_plan}
+use Rattle.tree_rising.specs.Rising as rise
+use Rattle.tree_moves.specs.Moves.{next_key}
+use Rattle.tree_moves.specs.Work.{take_tree}
+use Rattle.tree_ckpt.specs.Causing.{Calls, WasGot}
+use Rattle.tree_ckpt.specs.Meaning.{Opening, opening_calls}
+use Rattle.tree_ckpt.specs.Working.{done_over, puts_of, Visit, visits_over, root_behind, AreVisits, lacked_on, Climb, climbs_over, root_above, links_above, AreClimbs, IsLast, Worked, worked_calls, IsWorked}
+use Rattle.tree_ckpt.proofs.Answers.{done_is}
+use Rattle.tree_ckpt.proofs.Brought.{IsKept, AreKept}
+use Rattle.tree_ckpt.proofs.Covers.{AreHandled, all_handled}
+use Rattle.tree_ckpt.proofs.Folds.{not_empty}
+use Rattle.tree_ckpt.proofs.Rises.{IsRising, kept_at}
+use Rattle.tree_ckpt.proofs.Tours.{RestsAt, put_in_turn, none_left}
+
+-- ---- what was got was got by the work
+
+got_at_work : (tree page : ℕ) (v : Option (List ℕ)) (of : ℕ) (lease : Claim) (o : Opening) (work : Calls)
+    → WasGot (object.Page tree page) v (work ++ opening_calls of lease o) → WasGot (object.Page tree page) v work
+got_at_work tree page v of lease o [] (inl b) =
+    absurd (let e : Receive (queue.TreePu of) 256 ≡ GetHeld (object.Page tree page) b.0 = ap (λ (c : Ask × Answer). c.0) b.1 in cc (e))
+got_at_work tree page v of lease o [] (inr (inl b)) =
+    absurd (let e : GetHeld (object.Tree of) lease ≡ GetHeld (object.Page tree page) b.0 = ap (λ (c : Ask × Answer). c.0) b.1 in cc (e))
+got_at_work tree page v of lease o [] (inr (inr (inl b))) =
+    absurd (let e : take_tree of ≡ GetHeld (object.Page tree page) b.0 = ap (λ (c : Ask × Answer). c.0) b.1 in cc (e))
+got_at_work tree page v of lease o [] (inr (inr (inr x))) = absurd x
+got_at_work tree page v of lease o (c ∷ cs) (inl b) = inl b
+got_at_work tree page v of lease o (c ∷ cs) (inr h) = inr (got_at_work tree page v of lease o cs h)
+
+pub kept_at_work : (tree : ℕ) (ks : List KeptNode) (of : ℕ) (lease : Claim) (o : Opening) (work : Calls) → AreKept tree ks (work ++ opening_calls of lease o) → AreKept tree ks work
+kept_at_work tree [] of lease o work h = tt
+kept_at_work tree (k ∷ ks) of lease o work h = (
+  (got_at_work tree k.page (Some k.bytes) of lease o work h.0.0, h.0.1),
+  kept_at_work tree ks of lease o work h.1,
+)
+
+-- ---- what is known
+
+-- the visits below, the nodes that they got, and the nodes that are planned
+pub record Ups (lease : Claim) (tree : ℕ) (run : Taken) (count : ℕ) (nodes : List KeptNode) (found : List Link) (o : Opening) : Type 0 where
+  pub visits : List Visit
+  pub are : AreVisits tree lease run o.got visits
+  pub applied : count ≡ lacked_on run visits
+  pub covers : AreHandled run run.items visits
+  pub kept : AreKept tree nodes (visits_over tree lease visits [])
+  pub links : List Link
+  pub climbs : List Climb
+  pub climbed : AreClimbs tree (visits_over tree lease visits []) (root_behind o.got visits) links climbs
+  pub linked : found ≡ links_above links climbs
+
+abbrev pub UpsAt : Claim → Chart → Opening → Type 0
+UpsAt lease c o = Ups lease c.tree c.run c.applied c.nodes c.links o
+
+-- the puts of the newest plan are under way, those of a node or of the tree object
+abbrev UpTo : ℕ → Claim → List (ℕ × ℕ) → Placing → Option (List ℕ) → Option (List ℕ) → List Link → Calls → Calls → Option (List ℕ) → Type 0
+UpTo tree lease top p root stood links below work None = (landed_root p root ≡ stood) × (done_over (puts_of tree lease None p) work ≡ below)
+UpTo tree lease top p root stood links below work (Some bytes) =
+    (last : RootPlan) × (bytes ≡ last.last) × IsLast (tree_held stood) links top last
+    × (done_over (puts_of tree lease None p) work ≡ done_over (puts_of tree lease None last.placing) below)
+
+pub record Climbs (lease : Claim) (r : Rising) (o : Opening) (work : Calls) : Type 0 where
+  pub ups : UpsAt lease r.chart o
+  pub upto : UpTo r.chart.tree lease r.chart.run.top r.placing r.chart.root (root_above (root_behind o.got ups.visits) ups.climbs) (links_above ups.links ups.climbs)
+      (climbs_over r.chart.tree lease ups.climbs (visits_over r.chart.tree lease ups.visits [])) work r.last
+
+-- all was put that was planned
+pub record Ready (lease : Claim) (r : Rising) (o : Opening) (work : Calls) : Type 0 where
+  pub ups : UpsAt lease r.chart o
+  pub root : r.chart.root ≡ root_above (root_behind o.got ups.visits) ups.climbs
+  pub calls : work ≡ climbs_over r.chart.tree lease ups.climbs (visits_over r.chart.tree lease ups.visits [])
+
+-- ---- the next plan
+
+-- where it goes on, the plan is under way
+abbrev pub UpClimbs : Claim → Next Rising (Unit {0}) → Opening → Calls → Type 0
+UpClimbs lease (Goes r) o work = Climbs lease r o work
+UpClimbs lease (Ends r x) o work = ⊥
+UpClimbs lease (Stops r t) o work = Unit {0}
+
+module _ (lease : Claim) (r : Rising) (o : Opening) (work : Calls) (none : r.last ≡ None) (k : Ready lease r o work) where
+  node_climbs : (n : KeptNode) (next : ℕ) → IsKept r.chart.tree n (visits_over r.chart.tree lease k.ups.visits []) → (p : Result NodePlan Trouble)
+      → node_plan (tree_held r.chart.root) r.chart.tree n r.chart.links ≡ p → UpClimbs lease (rise.put_node r next (n.level + 1) p) o work
+  node_climbs n next kept (Ok p) e =
+      let stood : Option (List ℕ) = root_above (root_behind o.got k.ups.visits) k.ups.climbs in
+      let links : List Link = links_above k.ups.links k.ups.climbs in
+      let below : Calls = climbs_over r.chart.tree lease k.ups.climbs (visits_over r.chart.tree lease k.ups.visits []) in
+      record {
+        ups = record {
+          visits = k.ups.visits;
+          are = k.ups.are;
+          applied = k.ups.applied;
+          covers = k.ups.covers;
+          kept = k.ups.kept;
+          links = k.ups.links;
+          climbs = record { node = n; plan = p } ∷ k.ups.climbs;
+          climbed = (
+            kept.0,
+            subst (λ (ls : List Link). node_plan (tree_held stood) r.chart.tree n ls ≡ Ok p) k.ups.linked
+            (subst (λ (root : Option (List ℕ)). node_plan (tree_held root) r.chart.tree n r.chart.links ≡ Ok p) k.root e),
+            k.ups.climbed,
+          );
+          linked = ap (λ (ls : List Link). ls ++ links_at (n.level + 1) p.entries) k.ups.linked;
+        };
+        upto = subst (λ (last : Option (List ℕ)).
+            UpTo r.chart.tree lease r.chart.run.top p.placing r.chart.root (landed_root p.placing stood) (links ++ links_at (n.level + 1) p.entries)
+            (done_over (puts_of r.chart.tree lease None p.placing) below) work last) (sym none)
+            (ap (landed_root p.placing) k.root, ap (done_over (puts_of r.chart.tree lease None p.placing)) k.calls);
+      }
+  node_climbs n next kept (Err t) e = tt
+
+  root_climbs : (p : Result RootPlan Trouble) → rise.last_plan r ≡ p → UpClimbs lease (rise.put_root r p) o work
+  root_climbs (Ok p) e =
+      let stood : Option (List ℕ) = root_above (root_behind o.got k.ups.visits) k.ups.climbs in
+      record {
+        ups = record {
+          visits = k.ups.visits;
+          are = k.ups.are;
+          applied = k.ups.applied;
+          covers = k.ups.covers;
+          kept = k.ups.kept;
+          links = k.ups.links;
+          climbs = k.ups.climbs;
+          climbed = k.ups.climbed;
+          linked = k.ups.linked;
+        };
+        upto = (
+          p,
+          refl,
+          subst (λ (ls : List Link). IsLast (tree_held stood) ls r.chart.run.top p) k.ups.linked
+          (subst (λ (root : Option (List ℕ)). IsLast (tree_held root) r.chart.links r.chart.run.top p) k.root e),
+          ap (done_over (puts_of r.chart.tree lease None p.placing)) k.calls,
+        );
+      }
+  root_climbs (Err t) e = tt
+
+  pub rise_climbs : UpClimbs lease (rise.rise r) o work
+  rise_climbs = on (rise.touched_node r) refl where
+    on : (n : Option KeptNode) → rise.touched_node r ≡ n → UpClimbs lease (rise.rise_at r (rise.next_touched r) n) o work
+    on (Some n) e =
+        node_climbs n (rise.next_touched r + 1) (kept_at r.chart.tree r.chart.nodes (rise.next_touched r) n (visits_over r.chart.tree lease k.ups.visits []) k.ups.kept e)
+        (node_plan (tree_held r.chart.root) r.chart.tree n r.chart.links) refl
+    on None e = root_climbs (rise.last_plan r) refl
+
+-- behind the last leaf
+pub begun_climbs : (lease : Claim) (c : Chart) (o : Opening) (work : Calls) → next_key c ≡ None → AreKept c.tree c.nodes work → RestsAt lease c o work
+    → UpClimbs lease (rise.rise (rise.begun c)) o work
+begun_climbs lease c o work all kept k = rise_climbs lease (rise.begun c) o work refl (record {
+  ups = record {
+    visits = k.visits;
+    are = k.are;
+    applied = k.applied;
+    covers = all_handled c.run c.from c.run.items k.visits all k.handled;
+    kept = subst (λ (cs : Calls). AreKept c.tree c.nodes cs) k.calls kept;
+    links = c.links;
+    climbs = [];
+    climbed = tt;
+    linked = refl;
+  };
+  root = k.root;
+  calls = k.calls;
+})
+
+-- ---- a put
+
+-- the way up is done
+pub record Risen (lease : Claim) (tree : ℕ) (run : Taken) (count : ℕ) (o : Opening) (work : Calls) : Type 0 where
+  pub worked : Worked
+  pub is : IsWorked tree lease run o.got worked
+  pub calls : work ≡ worked_calls tree lease worked
+  pub applied : count ≡ lacked_on run worked.visits
+
+abbrev pub RiseClimbs : Claim → Rising → Next Rising (Unit {0}) → Opening → Calls → Type 0
+RiseClimbs lease r (Goes e) o work = Climbs lease e o work
+RiseClimbs lease r (Ends e x) o work = Risen lease r.chart.tree r.chart.run e.chart.applied o work
+RiseClimbs lease r (Stops e t) o work = Unit {0}
+
+goes_up : (lease : Claim) (r : Rising) (next : Next Rising (Unit {0})) (o : Opening) (work : Calls) → UpClimbs lease next o work → RiseClimbs lease r next o work
+goes_up lease r (Goes e) o work h = h
+goes_up lease r (Ends e x) o work h = absurd h
+goes_up lease r (Stops e t) o work h = tt
+
+none_in_hand : (p : Placing) (tree : ℕ) (one : Claim) (two : Option Claim) (other : Ask) → has_nothing p ≡ true → unwrap_or (put_in_hand p tree one two) other ≡ other
+none_in_hand p tree one two other none = on p.reserved p.puts none where
+  placing : Option (List ℕ) → List PagePut → Placing
+  placing reserved puts = record { reserved = reserved; puts = puts }
+
+  on : (reserved : Option (List ℕ)) (puts : List PagePut) → has_nothing (placing reserved puts) ≡ true → unwrap_or (put_in_hand (placing reserved puts) tree one two) other ≡ other
+  on (Some bytes) puts e = absurd (cc (e))
+  on None (x ∷ xs) e = absurd (let some : (length (x ∷ xs) == 0) ≡ false = not_empty (x ∷ xs) (omega arith) in cc)
+  on None [] e = refl
+
+none_of : (last : Option (List ℕ)) → is_some last ≡ false → last ≡ None
+none_of (Some bytes) e = absurd (cc (e))
+none_of None e = refl
+
+neither : (a b : Bool) → (not a || b) ≡ false → (a ≡ true) × (b ≡ false)
+neither true b e = (refl, e)
+neither false b e = absurd (cc (e))
+
+some_last : (a b : Bool) → a ≡ true → (not a || b) ≡ true → b ≡ true
+some_last true b e h = h
+some_last false b e h = absurd (cc (e))
+
+module _ (lease : Claim) (r : Rising) (o : Opening) (work : Calls) (k : Climbs lease r o work) where
+  abbrev UpBy : Placing → Option (List ℕ) → Calls → Option (List ℕ) → Type 0
+  UpBy p root calls last =
+      UpTo r.chart.tree lease r.chart.run.top p root (root_above (root_behind o.got k.ups.visits) k.ups.climbs) (links_above k.ups.links k.ups.climbs)
+      (climbs_over r.chart.tree lease k.ups.climbs (visits_over r.chart.tree lease k.ups.visits [])) calls last
+
+  -- the put of the tree object
+  last_climbs : has_nothing r.placing ≡ true → (last : Option (List ℕ)) → is_some last ≡ true → UpBy r.placing r.chart.root work last
+      → Risen lease r.chart.tree r.chart.run r.chart.applied o ((rise.last_ask r lease last, call.Done) ∷ work)
+  last_climbs nothing (Some bytes) some up = record {
+    worked = record { visits = k.ups.visits; links = k.ups.links; climbs = k.ups.climbs; last = up.0 };
+    is = record { visits = k.ups.are; covers = k.ups.covers; climbs = k.ups.climbed; last = up.2 };
+    calls =
+        ap (λ (bs : List ℕ). (PutHeld (object.Tree r.chart.tree) bs lease None, call.Done) ∷ work) up.1
+        ∙ ap (λ (cs : Calls). (PutHeld (object.Tree r.chart.tree) up.0.last lease None, call.Done) ∷ cs)
+        (sym (none_left r.placing r.chart.tree lease None work nothing) ∙ up.3);
+    applied = k.ups.applied;
+  }
+  last_climbs nothing None some up = absurd (cc (some))
+
+  put_call : Ask × Answer
+  put_call = (rise.rising_ask r lease, call.Done)
+
+  turn : has_nothing r.placing ≡ false
+      → done_over (puts_of r.chart.tree lease None (landed_placing r.placing)) (put_call ∷ work) ≡ done_over (puts_of r.chart.tree lease None r.placing) work
+  unfolding put_call
+  turn some = sym (put_in_turn r.placing r.chart.tree lease None (rise.last_ask r lease r.last) work some)
+
+  landed_up : has_nothing r.placing ≡ false → (last : Option (List ℕ)) → UpBy r.placing r.chart.root work last
+      → UpBy (landed_placing r.placing) (landed_root r.placing r.chart.root) (put_call ∷ work) last
+  landed_up some (Some bytes) up = (up.0, up.1, up.2, turn some ∙ up.3)
+  landed_up some None up = (up.0, turn some ∙ up.1)
+
+  landed_climbs : has_nothing r.placing ≡ false → Climbs lease (rise.landed r) o (put_call ∷ work)
+  landed_climbs some = record {
+    ups = record {
+      visits = k.ups.visits;
+      are = k.ups.are;
+      applied = k.ups.applied;
+      covers = k.ups.covers;
+      kept = k.ups.kept;
+      links = k.ups.links;
+      climbs = k.ups.climbs;
+      climbed = k.ups.climbed;
+      linked = k.ups.linked;
+    };
+    upto = landed_up some r.last k.upto;
+  }
+
+  ready_by : has_nothing r.placing ≡ false → has_nothing (landed_placing r.placing) ≡ true → (last : Option (List ℕ)) → is_some last ≡ false
+      → UpBy r.placing r.chart.root work last → Ready lease (rise.landed r) o (put_call ∷ work)
+  ready_by some nothing (Some bytes) none up = absurd (cc (none))
+  ready_by some nothing None none up = record {
+    ups = record {
+      visits = k.ups.visits;
+      are = k.ups.are;
+      applied = k.ups.applied;
+      covers = k.ups.covers;
+      kept = k.ups.kept;
+      links = k.ups.links;
+      climbs = k.ups.climbs;
+      climbed = k.ups.climbed;
+      linked = k.ups.linked;
+    };
+    root = up.0;
+    calls = sym (none_left (landed_placing r.placing) r.chart.tree lease None (put_call ∷ work) nothing) ∙ turn some ∙ up.1;
+  }
+
+  after_climbs : has_nothing r.placing ≡ false → RiseClimbs lease r (rise.after_put (rise.landed r)) o (put_call ∷ work)
+  after_climbs some = on (not (has_nothing (landed_placing r.placing)) || is_some r.last) refl where
+    on : (b : Bool) → (not (has_nothing (landed_placing r.placing)) || is_some r.last) ≡ b
+        → RiseClimbs lease r (cond b (Goes (rise.landed r)) (rise.rise (rise.landed r))) o (put_call ∷ work)
+    on true e = landed_climbs some
+    on false e =
+        let both = neither (has_nothing (landed_placing r.placing)) (is_some r.last) e in
+        goes_up lease r (rise.rise (rise.landed r)) o (put_call ∷ work)
+        (rise_climbs lease (rise.landed r) o (put_call ∷ work) (none_of r.last both.1) (ready_by some both.0 r.last both.1 k.upto))
+
+  landed_rises : IsRising r → RiseClimbs lease r (rise.put_landed r) o ((rise.rising_ask r lease, call.Done) ∷ work)
+  unfolding put_call
+  landed_rises rising = on (has_nothing r.placing) refl where
+    on : (b : Bool) → has_nothing r.placing ≡ b
+        → RiseClimbs lease r (cond b (Ends r tt) (rise.after_put (rise.landed r))) o ((rise.rising_ask r lease, call.Done) ∷ work)
+    on true e =
+        subst (λ (ask : Ask). Risen lease r.chart.tree r.chart.run r.chart.applied o ((ask, call.Done) ∷ work))
+        (sym (none_in_hand r.placing r.chart.tree lease None (rise.last_ask r lease r.last) e))
+        (last_climbs e r.last (some_last (has_nothing r.placing) (is_some r.last) e rising) k.upto)
+    on false e = after_climbs e
+
+  risen_climbs : (a : Answer) → IsRising r → (done : Result (Unit {0}) Trouble) → done_of a ≡ done
+      → RiseClimbs lease r (rise.risen_by r done) o ((rise.rising_ask r lease, a) ∷ work)
+  risen_climbs a rising (Ok x) e =
+      subst (λ (b : Answer). RiseClimbs lease r (rise.put_landed r) o ((rise.rising_ask r lease, b) ∷ work)) (sym (done_is a x e)) (landed_rises rising)
+  risen_climbs a rising (Err t) e = tt
+
+pub rising_climbs : (lease : Claim) (r : Rising) (a : Answer) (o : Opening) (work : Calls) → IsRising r → Climbs lease r o work
+    → RiseClimbs lease r (rise.rising_next r a) o ((rise.rising_ask r lease, a) ∷ work)
+rising_climbs lease r a o work rising k = risen_climbs lease r o work k a rising (done_of a) refl

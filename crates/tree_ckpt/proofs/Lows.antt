@@ -1,0 +1,158 @@
+-- The way down leads to no page whose low key is above the key.
+use Rattle.std.proofs.Common.{◌≡◌, ℕ, zero, suc, Bool, true, false, cond, List, [], ◌∷◌, length, Option, Some, None, Result, Ok, Err, refl}
+use Rattle.std.specs.Prelude.{◌==◌, ◌&&◌, not}
+use Rattle.byte_format.specs.Order.{bytes_below, bytes_same}
+use Rattle.db_base.specs.declared.trouble.Trouble.{Trouble}
+use Rattle.db_base.specs.declared.trouble.Trouble.TheVariants as trouble
+use Rattle.cloud_trait.specs.declared.answer.Answer.{Answer}
+use Rattle.cloud_trait.specs.Machine.{Next, Goes, Ends, Stops}
+use Rattle.cloud_trait.specs.Views.{got_of}
+use Rattle.node_codec.specs.Inner.{Inner}
+use Rattle.node_codec.specs.Node.{Entry, child_of, later_of, page_at}
+use Rattle.run_cursor.specs.Covered.{is_seen}
+use Rattle.tree_parts.specs.declared.chart.Chart.{Chart}
+use Rattle.tree_parts.specs.declared.kept.KeptNode.{KeptNode}
+use Rattle.tree_parts.specs.Read.{damaged, inner_read, tree_held}
+use Rattle.tree_descent.specs.declared.descent.Descent.{Descent}
+use Rattle.tree_descent.specs.declared.descent.Reach.{Reach}
+use Rattle.tree_descent.specs.declared.descent.Reach.TheVariants.{Node, Leaf}
+use Rattle.tree_descent.specs.declared.fork.Fork.{Fork}
+use Rattle.tree_descent.specs.declared.fork.Fork.TheVariants.{Right, Down}
+use Rattle.tree_descent.specs.Fork.{bad_fence, down_to, fork_at, forked_on}
+use Rattle.tree_descent.specs.Fork as fork
+use Rattle.tree_descent.specs.Descent.{begun, forked_by, passed, fork_of, go_on, stride_at, kept_at, stride, follow, walk, arrived, arrive, with_node, got_node, descent_got, descent_next}
+use Rattle.tree_moves.specs.Moves.{entry_or, root_entry}
+
+-- a low key is not above a key
+abbrev pub IsUpto : List ℕ → List ℕ → Type 0
+IsUpto low key = bytes_below key low ≡ false
+
+none_below : (key : List ℕ) → IsUpto [] key
+none_below [] = refl
+none_below (n ∷ ns) = refl
+
+-- ---- entries
+
+abbrev IfUpto : List ℕ → Option Entry → Type 0
+IfUpto key None = Unit {0}
+IfUpto key (Some e) = IsUpto e.0 key
+
+later_upto : (key : List ℕ) (a b : Option Entry) → IfUpto key a → IfUpto key b → IfUpto key (later_of a b)
+later_upto key a None h k = h
+later_upto key a (Some e) h k = k
+
+child_upto : (key : List ℕ) (es : List Entry) → IfUpto key (child_of key es)
+child_upto key [] = tt
+child_upto key (e ∷ es) = later_upto key (cond (bytes_below key e.0) None (Some e)) (child_of key es) (on (bytes_below key e.0) refl) (child_upto key es) where
+  on : (b : Bool) → bytes_below key e.0 ≡ b → IfUpto key (cond b None (Some e))
+  on true h = tt
+  on false h = h
+
+entry_upto : (key : List ℕ) (o : Option Entry) → IfUpto key o → IsUpto (entry_or o).0 key
+entry_upto key (Some e) h = h
+entry_upto key None h = none_below key
+
+-- ---- nodes
+
+abbrev ForkUpto : List ℕ → Fork → Type 0
+ForkUpto key (Right low page) = IsUpto low key
+ForkUpto key (Down low page) = IsUpto low key
+
+down_upto : (key : List ℕ) (o : Option Entry) → IfUpto key o → ForkUpto key (down_to o)
+down_upto key (Some e) h = h
+down_upto key None h = none_below key
+
+fork_upto : (key : List ℕ) (down : Fork) (high : Option (List ℕ)) (right : Option ℕ) → ForkUpto key down → ForkUpto key (fork_at key down high right)
+fork_upto key down None right h = h
+fork_upto key down (Some high) None h = h
+fork_upto key down (Some high) (Some right) h = on (bytes_below key high) refl where
+  on : (b : Bool) → bytes_below key high ≡ b → ForkUpto key (cond b down (Right high right))
+  on true e = h
+  on false e = e
+
+forked_upto : (key : List ℕ) (n : Inner) → ForkUpto key (forked_on key n)
+forked_upto key n = fork_upto key (fork.down_from key n) n.high (page_at n.right) (down_upto key (child_of key n.entries) (child_upto key n.entries))
+
+abbrev FoundUpto : List ℕ → Result Fork Trouble → Type 0
+FoundUpto key (Ok f) = ForkUpto key f
+FoundUpto key (Err t) = Unit {0}
+
+either_found : (key : List ℕ) (b : Bool) (x y : Result Fork Trouble) → FoundUpto key x → FoundUpto key y → FoundUpto key (cond b x y)
+either_found key true x y h k = h
+either_found key false x y h k = k
+
+found_upto : (d : Descent) (bytes : List ℕ) → FoundUpto d.chart.key (fork_of d bytes)
+found_upto d bytes = on (inner_read d.chart.tree d.page bytes) where
+  on : (r : Result Inner Trouble) → FoundUpto d.chart.key (forked_by d r)
+  on (Ok n) =
+      let bad : Result Fork Trouble = Err (bad_fence d.page d.low n.low) in
+      either_found d.chart.key (n.level == d.level) (cond (bytes_same n.low d.low && not (bytes_below d.chart.key n.low)) (Ok (forked_on d.chart.key n)) bad)
+      (Err (damaged d.chart.tree d.page 10))
+      (either_found d.chart.key (bytes_same n.low d.low && not (bytes_below d.chart.key n.low)) (Ok (forked_on d.chart.key n)) bad (forked_upto d.chart.key n) tt) tt
+  on (Err t) = tt
+
+-- ---- the way
+
+-- it has come to a page whose low key is not above the key
+abbrev pub ComesUpto : Descent → Type 0
+ComesUpto d = IsUpto d.low d.chart.key
+
+abbrev pub WayUpto : {A : Type 0} → Next Descent A → Type 0
+WayUpto (Goes d) = ComesUpto d
+WayUpto (Ends d x) = ComesUpto d
+WayUpto (Stops d t) = Unit {0}
+
+passed_upto : (d : Descent) (f : Fork) → ForkUpto d.chart.key f → ComesUpto (passed d f)
+passed_upto d (Right low page) h = h
+passed_upto d (Down low page) h = h
+
+go_on_upto : (d : Descent) (f : Result Fork Trouble) → FoundUpto d.chart.key f → WayUpto (go_on d f)
+go_on_upto d (Ok f) h = passed_upto d f h
+go_on_upto d (Err t) h = tt
+
+stride_at_upto : (d : Descent) (k : Option KeptNode) → ComesUpto d → WayUpto (stride_at d k)
+stride_at_upto d (Some k) h = go_on_upto d (fork_of d k.bytes) (found_upto d k.bytes)
+stride_at_upto d None h = h
+
+either_way : {A : Type 0} (b : Bool) (x y : Next Descent A) → WayUpto x → WayUpto y → WayUpto (cond b x y)
+either_way true x y h k = h
+either_way false x y h k = k
+
+stride_upto : (d : Descent) → ComesUpto d → WayUpto (stride d)
+stride_upto d h =
+    either_way (d.level == 0) (Ends d Leaf) (cond (is_seen d.visited d.page) (Stops d (trouble.Loop d.page)) (stride_at d (kept_at d))) h
+    (either_way (is_seen d.visited d.page) (Stops d (trouble.Loop d.page)) (stride_at d (kept_at d)) tt (stride_at_upto d (kept_at d) h))
+
+follow_upto : (next : Descent → Next Descent Reach) → ((e : Descent) → ComesUpto e → WayUpto (next e)) → (s : Next Descent Reach) → WayUpto s → WayUpto (follow next s)
+follow_upto next each (Goes e) h = each e h
+follow_upto next each (Ends e reach) h = h
+follow_upto next each (Stops e t) h = tt
+
+walk_upto : (n : ℕ) (d : Descent) → ComesUpto d → WayUpto (walk n d)
+unfolding walk
+walk_upto zero d h = follow_upto (λ e. Stops e (trouble.Loop e.page)) (λ e k. tt) (stride d) (stride_upto d h)
+walk_upto (suc n) d h = follow_upto (walk n) (walk_upto n) (stride d) (stride_upto d h)
+
+arrived_upto : (s : Next Descent Reach) → WayUpto s → WayUpto (arrived s)
+arrived_upto (Goes d) h = h
+arrived_upto (Ends d Node) h = h
+arrived_upto (Ends d Leaf) h = h
+arrived_upto (Stops d t) h = tt
+
+arrive_upto : (d : Descent) → ComesUpto d → WayUpto (arrive d)
+arrive_upto d h = arrived_upto (walk (length d.chart.nodes) d) (walk_upto (length d.chart.nodes) d h)
+
+-- from the tree object
+pub begun_upto : (c : Chart) → WayUpto (arrive (begun c (root_entry c).0 (root_entry c).1))
+begun_upto c = arrive_upto (begun c (root_entry c).0 (root_entry c).1) (entry_upto c.key (child_of c.key (tree_held c.root).entries) (child_upto c.key (tree_held c.root).entries))
+
+pub descent_upto : (d : Descent) (a : Answer) → WayUpto (descent_next d a)
+descent_upto d a = on (got_of a) where
+  found : (bytes : List ℕ) (f : Result Fork Trouble) → FoundUpto d.chart.key f → WayUpto (got_node d bytes f)
+  found bytes (Ok f) h = arrive_upto (passed (with_node d bytes) f) (passed_upto (with_node d bytes) f h)
+  found bytes (Err t) h = tt
+
+  on : (g : Result (Option (List ℕ)) Trouble) → WayUpto (descent_got d g)
+  on (Ok (Some bytes)) = found bytes (fork_of d bytes) (found_upto d bytes)
+  on (Ok None) = tt
+  on (Err t) = tt

@@ -1,0 +1,450 @@
+-- How the work of a tree checkpoint goes from leaf to leaf.
+use Rattle.std.proofs.Common.{◌≡◌, ◌<◌, ◌+◌, ℕ, Bool, true, false, cond, List, [], ◌∷◌, ◌++◌, length, Option, Some, None, Result, Ok, Err, refl, sym, ap, subst, ◌∙◌, inl, inr, ◌⊎◌, arith}
+use Rattle.std.specs.Prelude.{◌==◌, ◌||◌, ◌&&◌, is_none, drop, unwrap_or}
+use Rattle.std.proofs.lemmas.Bool.{eqb-true}
+use Rattle.byte_format.specs.Order.{bytes_below, bytes_same}
+use Rattle.byte_format.specs.Whole.{whole, offset}
+use Rattle.db_base.specs.declared.names.Lock.TheVariants as lock
+use Rattle.db_base.specs.declared.names.ObjName.TheVariants as object
+use Rattle.db_base.specs.declared.trouble.Trouble.{Trouble}
+use Rattle.db_base.specs.declared.trouble.Trouble.TheVariants as trouble
+use Rattle.leaf_view.specs.Leaf.{Leaf, leaf}
+use Rattle.leaf_view.specs.Lookup.{empty_leaf, page_at}
+use Rattle.leaf_edit.specs.Lacked.{lacked}
+use Rattle.log_codec.specs.declared.record.PuItem.{PuItem}
+use Rattle.cloud_trait.specs.declared.answer.Answer.{Answer}
+use Rattle.cloud_trait.specs.declared.answer.Answer.TheVariants as call
+use Rattle.cloud_trait.specs.Ask.{Ask, GetHeld, PutHeld, Take, Release}
+use Rattle.cloud_trait.specs.Claim.{Claim}
+use Rattle.cloud_trait.specs.Machine.{Next, Goes, Ends, Stops}
+use Rattle.cloud_trait.specs.Views.{got_of, done_of}
+use Rattle.run_cursor.specs.Covered.{is_seen}
+use Rattle.run_cursor.specs.Run.{Taken}
+use Rattle.split_plan.specs.declared.put_list.PagePut.{PagePut}
+use Rattle.ckpt_parts.specs.Intakes.{has_items}
+use Rattle.tree_parts.specs.declared.chart.Chart.{Chart}
+use Rattle.tree_parts.specs.declared.placing.Placing.{Placing}
+use Rattle.tree_parts.specs.Placing.{put_in_hand, landed_root, landed_placing, has_nothing, has_one_page}
+use Rattle.tree_parts.specs.Read.{leaf_or, tree_held}
+use Rattle.tree_descent.specs.declared.descent.Descent.{Descent}
+use Rattle.tree_descent.specs.Descent.{descent_ask, descent_got, descent_next, got_node, fork_of}
+use Rattle.leaf_fold.specs.declared.folding.Folding.{Folding}
+use Rattle.leaf_fold.specs.declared.folding.Left.{Left}
+use Rattle.leaf_fold.specs.declared.folding.Left.TheVariants.{Right, Handled}
+use Rattle.leaf_fold.specs.declared.plan.LeafPlan.{LeafPlan}
+use Rattle.leaf_fold.specs.Plan.{leaf_plan}
+use Rattle.leaf_fold.specs.Folding as fold
+use Rattle.tree_ckpt.specs.Causing.{Calls}
+use Rattle.tree_ckpt.specs.Meaning.{Opening}
+use Rattle.tree_ckpt.specs.Working.{done_over, page_puts, puts_of, Visit, placing_of, held_over, visits_over, AreLooks, HoldsLeaf, PutsLacked, IsVisit, root_behind, AreVisits, lacked_where, lacked_on, IsSettled}
+use Rattle.tree_ckpt.proofs.Answers.{got_is, done_is}
+use Rattle.tree_ckpt.proofs.Charts.{IsFurther, GoesFurther, descent_further}
+use Rattle.tree_ckpt.proofs.Covers.{IsLeast, AreHandledTo, none_handled, handled_more, handled_here, low_upto}
+use Rattle.tree_ckpt.proofs.Folds.{not_empty, plan_some}
+use Rattle.tree_ckpt.proofs.Lows.{IsUpto, ComesUpto, WayUpto, descent_upto}
+
+-- ---- between leaves
+
+-- behind visits
+pub record Rests (lease : Claim) (tree : ℕ) (run : Taken) (stood : Option (List ℕ)) (count : ℕ) (from : Option (List ℕ)) (o : Opening) (work : Calls) : Type 0 where
+  pub visits : List Visit
+  pub are : AreVisits tree lease run o.got visits
+  pub root : stood ≡ root_behind o.got visits
+  pub applied : count ≡ lacked_on run visits
+  pub handled : AreHandledTo run run.items from visits
+  pub calls : work ≡ visits_over tree lease visits []
+
+-- behind visits, and on the way down to the leaf of the least key that is not handled
+pub record Tours (lease : Claim) (tree : ℕ) (run : Taken) (stood : Option (List ℕ)) (count : ℕ) (from : Option (List ℕ)) (key : List ℕ) (o : Opening) (work : Calls) : Type 0 where
+  pub before : Calls
+  pub rests : Rests lease tree run stood count from o before
+  pub least : IsLeast run.items from key
+  pub looks : Calls
+  pub looked : AreLooks tree lease looks
+  pub calls : work ≡ looks ++ before
+
+abbrev pub RestsAt : Claim → Chart → Opening → Calls → Type 0
+RestsAt lease c o work = Rests lease c.tree c.run c.root c.applied c.from o work
+
+abbrev pub ToursAt : Claim → Chart → Opening → Calls → Type 0
+ToursAt lease c o work = Tours lease c.tree c.run c.root c.applied c.from c.key o work
+
+pub rests_tours : (lease : Claim) (c : Chart) (o : Opening) (work : Calls) → IsLeast c.run.items c.from c.key → RestsAt lease c o work → ToursAt lease c o work
+rests_tours lease c o work least k = record { before = work; rests = k; least = least; looks = []; looked = tt; calls = refl }
+
+-- before the first leaf
+pub first_rests : (lease : Claim) (c : Chart) (o : Opening) → c.root ≡ o.got → c.applied ≡ 0 → c.from ≡ Some [] → RestsAt lease c o []
+first_rests lease c o root applied from = record {
+  visits = [];
+  are = tt;
+  root = root;
+  applied = applied;
+  handled = subst (λ (b : Option (List ℕ)). AreHandledTo c.run c.run.items b []) (sym from) (none_handled c.run c.run.items);
+  calls = refl;
+}
+
+further_tours : (lease : Claim) (n : ℕ) (c e : Chart) (o : Opening) (work : Calls) → IsFurther n c e → ToursAt lease c o work → ToursAt lease e o work
+further_tours lease n c e o work f k =
+    subst (λ (key : List ℕ). Tours lease e.tree e.run e.root e.applied e.from key o work) (sym f.key)
+    (subst (λ (b : Option (List ℕ)). Tours lease e.tree e.run e.root e.applied b c.key o work) (sym f.from)
+    (subst (λ (m : ℕ). Tours lease e.tree e.run e.root m c.from c.key o work) (sym f.applied)
+    (subst (λ (r : Option (List ℕ)). Tours lease e.tree e.run r c.applied c.from c.key o work) (sym f.root)
+    (subst (λ (r : Taken). Tours lease e.tree r c.root c.applied c.from c.key o work) (sym f.run)
+    (subst (λ (t : ℕ). Tours lease t c.run c.root c.applied c.from c.key o work) (sym f.tree) k)))))
+
+-- where the way down goes on or ends
+abbrev pub WayTours : {A : Type 0} → Claim → Next Descent A → Opening → Calls → Type 0
+WayTours lease (Goes d) o work = ToursAt lease d.chart o work × ComesUpto d
+WayTours lease (Ends d x) o work = ToursAt lease d.chart o work × ComesUpto d
+WayTours lease (Stops d t) o work = Unit {0}
+
+pub way_tours : {A : Type 0} (lease : Claim) (n : ℕ) (c : Chart) (next : Next Descent A) (o : Opening) (work : Calls) → GoesFurther n c next → WayUpto next → ToursAt lease c o work
+    → WayTours lease next o work
+way_tours lease n c (Goes d) o work f upto k = (further_tours lease n c d.chart o work f k, upto)
+way_tours lease n c (Ends d x) o work f upto k = (further_tours lease n c d.chart o work f k, upto)
+way_tours lease n c (Stops d t) o work f upto k = tt
+
+pub descent_tours : (lease : Claim) (d : Descent) (a : Answer) (o : Opening) (work : Calls) → ToursAt lease d.chart o work
+    → WayTours lease (descent_next d a) o ((descent_ask d lease, a) ∷ work)
+descent_tours lease d a o work k = on (got_of a) refl (descent_further d a) (descent_upto d a) where
+  ask : Ask
+  ask = descent_ask d lease
+
+  on : (g : Result (Option (List ℕ)) Trouble) → got_of a ≡ g → GoesFurther 1 d.chart (descent_got d g) → WayUpto (descent_got d g)
+      → WayTours lease (descent_got d g) o ((ask, a) ∷ work)
+  on (Ok (Some bytes)) e f upto =
+      way_tours lease 1 d.chart (got_node d bytes (fork_of d bytes)) o ((ask, a) ∷ work) f upto (record {
+        before = k.before;
+        rests = k.rests;
+        least = k.least;
+        looks = (ask, a) ∷ k.looks;
+        looked = ((d.page, bytes, ap (λ (x : Answer). (ask, x)) (got_is a (Some bytes) e)), k.looked);
+        calls = ap (λ (cs : Calls). (ask, a) ∷ cs) k.calls;
+      })
+  on (Ok None) e f upto = tt
+  on (Err t) e f upto = tt
+
+-- ---- puts
+
+-- the put in hand is the first of those that are left
+pub put_in_turn : (p : Placing) (tree : ℕ) (one : Claim) (two : Option Claim) (other : Ask) (work : Calls) → has_nothing p ≡ false
+    → done_over (puts_of tree one two p) work ≡ done_over (puts_of tree one two (landed_placing p)) ((unwrap_or (put_in_hand p tree one two) other, call.Done) ∷ work)
+put_in_turn p tree one two other work some = on p.reserved p.puts some where
+  placing : Option (List ℕ) → List PagePut → Placing
+  placing reserved puts = record { reserved = reserved; puts = puts }
+
+  on : (reserved : Option (List ℕ)) (puts : List PagePut) → has_nothing (placing reserved puts) ≡ false
+      → done_over (puts_of tree one two (placing reserved puts)) work
+      ≡ done_over (puts_of tree one two (landed_placing (placing reserved puts))) ((unwrap_or (put_in_hand (placing reserved puts) tree one two) other, call.Done) ∷ work)
+  on (Some bytes) puts e = refl
+  on None (x ∷ xs) e = refl
+  on None [] e = absurd (cc (e))
+
+-- nothing is left to put
+pub none_left : (p : Placing) (tree : ℕ) (one : Claim) (two : Option Claim) (work : Calls) → has_nothing p ≡ true → done_over (puts_of tree one two p) work ≡ work
+none_left p tree one two work none = on p.reserved p.puts none where
+  placing : Option (List ℕ) → List PagePut → Placing
+  placing reserved puts = record { reserved = reserved; puts = puts }
+
+  on : (reserved : Option (List ℕ)) (puts : List PagePut) → has_nothing (placing reserved puts) ≡ true → done_over (puts_of tree one two (placing reserved puts)) work ≡ work
+  on (Some bytes) puts e = absurd (cc (e))
+  on None (x ∷ xs) e = absurd (let other : (length (x ∷ xs) == 0) ≡ false = not_empty (x ∷ xs) (omega arith) in cc)
+  on None [] e = refl
+
+pub page_left : (p : Placing) → 0 < length p.puts → has_nothing p ≡ false
+page_left p some = on p.reserved where
+  on : (reserved : Option (List ℕ)) → (is_none reserved && (length p.puts == 0)) ≡ false
+  on (Some bytes) = refl
+  on None = not_empty p.puts some
+
+-- behind the last put nothing is left, and behind others a page is
+one_lands : (p : Placing) → has_one_page p ≡ true → has_nothing (landed_placing p) ≡ true
+one_lands p e = on p.reserved p.puts e where
+  placing : Option (List ℕ) → List PagePut → Placing
+  placing reserved puts = record { reserved = reserved; puts = puts }
+
+  on : (reserved : Option (List ℕ)) (puts : List PagePut) → has_one_page (placing reserved puts) ≡ true → has_nothing (landed_placing (placing reserved puts)) ≡ true
+  on (Some bytes) puts f = absurd (cc (f))
+  on None [] f = refl
+  on None (x ∷ []) f = refl
+  on None (x ∷ y ∷ ys) f = absurd (let one : length (x ∷ y ∷ ys) ≡ 1 = eqb-true (length (x ∷ y ∷ ys)) 1 f in omega (arith, one))
+
+more_left : (p : Placing) → 0 < length p.puts → has_one_page p ≡ false → 0 < length (landed_placing p).puts
+more_left p some e = on p.reserved p.puts some e where
+  placing : Option (List ℕ) → List PagePut → Placing
+  placing reserved puts = record { reserved = reserved; puts = puts }
+
+  on : (reserved : Option (List ℕ)) (puts : List PagePut) → 0 < length puts → has_one_page (placing reserved puts) ≡ false
+      → 0 < length (landed_placing (placing reserved puts)).puts
+  on (Some bytes) puts h f = h
+  on None [] h f = absurd (omega (arith, h))
+  on None (x ∷ []) h f = absurd (cc (f))
+  on None (x ∷ y ∷ ys) h f = omega arith
+
+-- ---- at a leaf
+
+-- it is taken, and was not got yet
+pub record Begins (lease : Claim) (f : Folding) (o : Opening) (work : Calls) : Type 0 where
+  pub before : Calls
+  pub tours : ToursAt lease f.chart o before
+  pub empty : f.placing ≡ fold.no_placing
+  pub upto : IsUpto f.low f.chart.key
+  pub calls : work ≡ (Take (lock.Page f.chart.tree f.page) 30, call.Given f.lease) ∷ before
+
+-- it was got, and its puts are under way
+pub record Puts (lease : Claim) (f : Folding) (o : Opening) (work : Calls) : Type 0 where
+  pub visits : List Visit
+  pub are : AreVisits f.chart.tree lease f.chart.run o.got visits
+  pub visit : Visit
+  pub is : IsVisit f.chart.tree lease f.chart.run (root_behind o.got visits) visit
+  pub own : visit.lease ≡ f.lease
+  pub root : landed_root f.placing f.chart.root ≡ root_behind o.got (visit ∷ visits)
+  pub applied : f.chart.applied + length f.lacked ≡ lacked_on f.chart.run (visit ∷ visits)
+  pub handled : AreHandledTo f.chart.run f.chart.run.items f.chart.from (visit ∷ visits)
+  pub calls : done_over (puts_of f.chart.tree lease (Some f.lease) f.placing) work ≡ held_over f.chart.tree lease visit (visits_over f.chart.tree lease visits [])
+  pub some : 0 < length f.placing.puts
+
+abbrev pub AtLeaf : Claim → Folding → Opening → Calls → Type 0
+AtLeaf lease f o work = Begins lease f o work ⊎ Puts lease f o work
+
+-- it is done, and was not given back yet
+pub record Visits (lease l : Claim) (tree : ℕ) (run : Taken) (stood : Option (List ℕ)) (count : ℕ) (from : Option (List ℕ)) (o : Opening) (work : Calls) : Type 0 where
+  pub visits : List Visit
+  pub are : AreVisits tree lease run o.got visits
+  pub visit : Visit
+  pub is : IsVisit tree lease run (root_behind o.got visits) visit
+  pub own : visit.lease ≡ l
+  pub root : stood ≡ root_behind o.got (visit ∷ visits)
+  pub applied : count ≡ lacked_on run (visit ∷ visits)
+  pub handled : AreHandledTo run run.items from (visit ∷ visits)
+  pub calls : work ≡ held_over tree lease visit (visits_over tree lease visits [])
+
+abbrev pub VisitsAt : Claim → Claim → Chart → Opening → Calls → Type 0
+VisitsAt lease own c o work = Visits lease own c.tree c.run c.root c.applied c.from o work
+
+-- a leaf that is left for its right page, which has a low key not above the key at hand
+abbrev pub LeavesUpto : Chart → Left → Type 0
+LeavesUpto c (Right low page) = IsLeast c.run.items c.from c.key × IsUpto low c.key
+LeavesUpto c Handled = Unit {0}
+
+-- where the work at it leads
+abbrev pub LeafTours : Claim → Next Folding Left → Opening → Calls → Type 0
+LeafTours lease (Goes f) o work = AtLeaf lease f o work
+LeafTours lease (Ends f out) o work = VisitsAt lease f.lease f.chart o work × LeavesUpto f.chart out
+LeafTours lease (Stops f t) o work = Unit {0}
+
+-- ---- the get
+
+-- this leaf was got
+record IsGot (lease : Claim) (f : Folding) (got : Option (List ℕ)) (l : Leaf) (o : Opening) (work : Calls) : Type 0 where
+  before : Calls
+  tours : ToursAt lease f.chart o before
+  holds : HoldsLeaf f.page l got
+  upto : IsUpto f.low f.chart.key
+  calls : work ≡ (GetHeld (object.Page f.chart.tree f.page) f.lease, call.Got got) ∷ (Take (lock.Page f.chart.tree f.page) 30, call.Given f.lease) ∷ before
+
+module _ (lease : Claim) (f : Folding) (got : Option (List ℕ)) (l : Leaf) (o : Opening) (work : Calls) (k : IsGot lease f got l o work) where
+  -- the visit that it is, with what was planned
+  visit_with : Option LeafPlan → Visit
+  visit_with plan = record { looks = k.tours.looks; page = f.page; lease = f.lease; got = got; leaf = l; plan = plan; freed = call.Done }
+
+  visit_calls : Calls
+  visit_calls =
+      (GetHeld (object.Page f.chart.tree f.page) f.lease, call.Got got) ∷ (Take (lock.Page f.chart.tree f.page) 30, call.Given f.lease)
+      ∷ k.tours.looks ++ visits_over f.chart.tree lease k.tours.rests.visits []
+
+  got_calls : work ≡ visit_calls
+  unfolding visit_calls
+  got_calls =
+      k.calls
+      ∙ ap (λ (cs : Calls). (GetHeld (object.Page f.chart.tree f.page) f.lease, call.Got got) ∷ (Take (lock.Page f.chart.tree f.page) 30, call.Given f.lease) ∷ cs)
+      (k.tours.calls ∙ ap (λ (cs : Calls). k.tours.looks ++ cs) k.tours.rests.calls)
+
+  -- nothing is put
+  passed : (from : Option (List ℕ)) → AreHandledTo f.chart.run f.chart.run.items from (visit_with None ∷ k.tours.rests.visits)
+      → PutsLacked f.chart.run (root_behind o.got k.tours.rests.visits) f.page l None
+      → Visits lease f.lease f.chart.tree f.chart.run f.chart.root f.chart.applied from o work
+  unfolding visit_with visit_calls
+  passed from handled puts = record {
+    visits = k.tours.rests.visits;
+    are = k.tours.rests.are;
+    visit = visit_with None;
+    is = record { looks = k.tours.looked; holds = k.holds; puts = puts };
+    own = refl;
+    root = k.tours.rests.root;
+    applied = omega (arith, k.tours.rests.applied);
+    handled = handled;
+    calls = got_calls;
+  }
+
+  -- where it is settled the keys below its high key are handled
+  handles : IsUpto l.low f.chart.key → (plan : Option LeafPlan) → IsSettled f.chart.run l plan
+      → AreHandledTo f.chart.run f.chart.run.items l.high (visit_with plan ∷ k.tours.rests.visits)
+  unfolding visit_with
+  handles low plan settled =
+      handled_here f.chart.run f.chart.run.items f.chart.from f.chart.key (visit_with plan) k.tours.rests.visits settled low k.tours.least k.tours.rests.handled
+
+  planned_tours : IsUpto l.low f.chart.key → (items : List PuItem) → lacked l 0 f.chart.run.items ≡ items → has_items items ≡ true → (p : Result LeafPlan Trouble)
+      → leaf_plan (tree_held f.chart.root) f.page l f.chart.run.items ≡ p → LeafTours lease (fold.planned f l.high items p) o work
+  unfolding visit_with visit_calls
+  planned_tours low items same some (Ok p) e = inr (record {
+    visits = k.tours.rests.visits;
+    are = k.tours.rests.are;
+    visit = visit_with (Some p);
+    is = record {
+      looks = k.tours.looked;
+      holds = k.holds;
+      puts = (
+        ap has_items same ∙ some,
+        subst (λ (r : Option (List ℕ)). leaf_plan (tree_held r) f.page l f.chart.run.items ≡ Ok p) k.tours.rests.root e,
+      );
+    };
+    own = refl;
+    root = ap (landed_root p.placing) k.tours.rests.root;
+    applied = omega (arith, k.tours.rests.applied, ap (λ (xs : List PuItem). length xs) same);
+    handled = handles low (Some p) tt;
+    calls = ap (done_over (puts_of f.chart.tree lease (Some f.lease) p.placing)) got_calls;
+    some = plan_some (tree_held f.chart.root) f.page l f.chart.run.items p e;
+  })
+  planned_tours low items same some (Err t) e = tt
+
+  handled_tours : IsUpto l.low f.chart.key → (items : List PuItem) → lacked l 0 f.chart.run.items ≡ items → LeafTours lease (fold.handled_by f l items) o work
+  handled_tours low [] same = (passed l.high (handles low None (ap has_items same)) (inl (ap has_items same)), tt)
+  handled_tours low (x ∷ xs) same = planned_tours low (x ∷ xs) same refl (leaf_plan (tree_held f.chart.root) f.page l f.chart.run.items) refl
+
+  right_tours : (high : List ℕ) (right : ℕ) → page_at l.right ≡ Some right → IsUpto high f.chart.key → LeafTours lease (fold.to_right f high right) o work
+  right_tours high right e upto = on ((right == f.page) || is_seen f.visited right) where
+    on : (b : Bool) → LeafTours lease (cond b (Stops f (trouble.Loop right)) (Ends (fold.turned f high right) (Right high right))) o work
+    on true = tt
+    on false = (
+      passed f.chart.from (handled_more f.chart.run f.chart.run.items f.chart.from (visit_with None) k.tours.rests.visits k.tours.rests.handled) (inr (right, e)),
+      (k.tours.least, upto),
+    )
+
+  side_tours : IsUpto l.low f.chart.key → (high : Option (List ℕ)) (right : Option ℕ) → page_at l.right ≡ right → LeafTours lease (fold.leaf_side f l high right) o work
+  side_tours low None right e = handled_tours low (lacked l 0 f.chart.run.items) refl
+  side_tours low (Some high) None e = handled_tours low (lacked l 0 f.chart.run.items) refl
+  side_tours low (Some high) (Some right) e = on (bytes_below f.chart.key high) refl where
+    on : (b : Bool) → bytes_below f.chart.key high ≡ b → LeafTours lease (cond b (fold.handle f l) (fold.to_right f high right)) o work
+    on true under = handled_tours low (lacked l 0 f.chart.run.items) refl
+    on false under = right_tours high right e under
+
+  at_tours : LeafTours lease (fold.leaf_at f l) o work
+  at_tours = on (bytes_same l.low f.low) refl where
+    on : (b : Bool) → bytes_same l.low f.low ≡ b → LeafTours lease (cond b (fold.leaf_side f l l.high (page_at l.right)) (Stops f (fold.bad_low f l.low))) o work
+    on true same = side_tours (low_upto l f.low f.chart.key same k.upto) l.high (page_at l.right) refl
+    on false same = tt
+
+-- the get of a leaf that is taken
+abbrev get_of : Folding → Ask
+get_of f = GetHeld (object.Page f.chart.tree f.page) f.lease
+
+got_tours : (lease : Claim) (f : Folding) (a : Answer) (o : Opening) (work : Calls) → Begins lease f o work → (g : Result (Option (List ℕ)) Trouble) → got_of a ≡ g
+    → LeafTours lease (fold.leaf_got f g) o ((get_of f, a) ∷ work)
+got_tours lease f a o work k (Ok (Some bytes)) e = on (whole leaf bytes) refl where
+  on : (r : Result Leaf ℕ) → whole leaf bytes ≡ r → LeafTours lease (fold.leaf_found f (leaf_or f.chart.tree f.page (offset leaf bytes) r)) o ((get_of f, a) ∷ work)
+  on (Ok l) is = at_tours lease f (Some bytes) l o ((get_of f, a) ∷ work) (record {
+    before = k.before;
+    tours = k.tours;
+    upto = k.upto;
+    holds = is;
+    calls = ap (λ (x : Answer). (get_of f, x) ∷ work) (got_is a (Some bytes) e) ∙ ap (λ (cs : Calls). (get_of f, call.Got (Some bytes)) ∷ cs) k.calls;
+  })
+  on (Err left) is = tt
+got_tours lease f a o work k (Ok None) e = on (f.page == 1) refl where
+  on : (b : Bool) → (f.page == 1) ≡ b → LeafTours lease (cond b (fold.leaf_at f empty_leaf) (Stops f (trouble.Absent f.page))) o ((get_of f, a) ∷ work)
+  on true one = at_tours lease f None empty_leaf o ((get_of f, a) ∷ work) (record {
+    before = k.before;
+    tours = k.tours;
+    upto = k.upto;
+    holds = (eqb-true f.page 1 one, refl);
+    calls = ap (λ (x : Answer). (get_of f, x) ∷ work) (got_is a None e) ∙ ap (λ (cs : Calls). (get_of f, call.Got None) ∷ cs) k.calls;
+  })
+  on false one = tt
+got_tours lease f a o work k (Err t) e = tt
+
+-- ---- the puts
+
+-- what is put for a leaf in hand
+abbrev put_ask : Claim → Folding → Ask
+put_ask lease f = fold.folding_ask f lease
+
+placed_tours : (lease : Claim) (f : Folding) (o : Opening) (work : Calls) → Puts lease f o work → LeafTours lease (fold.placed f) o ((put_ask lease f, call.Done) ∷ work)
+placed_tours lease f o work k = on (has_one_page f.placing) refl where
+  turn : done_over (puts_of f.chart.tree lease (Some f.lease) (landed_placing f.placing)) ((put_ask lease f, call.Done) ∷ work)
+      ≡ held_over f.chart.tree lease k.visit (visits_over f.chart.tree lease k.visits [])
+  turn = sym (put_in_turn f.placing f.chart.tree lease (Some f.lease) (get_of f) work (page_left f.placing k.some)) ∙ k.calls
+
+  on : (b : Bool) → has_one_page f.placing ≡ b
+      → LeafTours lease (cond b (Ends (fold.counted (fold.landed f)) Handled) (Goes (fold.landed f))) o ((put_ask lease f, call.Done) ∷ work)
+  on true e = (
+    record {
+      visits = k.visits;
+      are = k.are;
+      visit = k.visit;
+      is = k.is;
+      own = k.own;
+      root = k.root;
+      applied = k.applied;
+      handled = k.handled;
+      calls = sym (none_left (landed_placing f.placing) f.chart.tree lease (Some f.lease) ((put_ask lease f, call.Done) ∷ work) (one_lands f.placing e)) ∙ turn;
+    },
+    tt,
+  )
+  on false e = inr (record {
+    visits = k.visits;
+    are = k.are;
+    visit = k.visit;
+    is = k.is;
+    own = k.own;
+    root = k.root;
+    applied = k.applied;
+    handled = k.handled;
+    calls = turn;
+    some = more_left f.placing k.some e;
+  })
+
+put_tours : (lease : Claim) (f : Folding) (a : Answer) (o : Opening) (work : Calls) → Puts lease f o work → (done : Result (Unit {0}) Trouble) → done_of a ≡ done
+    → LeafTours lease (fold.leaf_put f done) o ((put_ask lease f, a) ∷ work)
+put_tours lease f a o work k (Ok x) e =
+    subst (λ (b : Answer). LeafTours lease (fold.placed f) o ((put_ask lease f, b) ∷ work)) (sym (done_is a x e)) (placed_tours lease f o work k)
+put_tours lease f a o work k (Err t) e = tt
+
+-- ---- all at a leaf
+
+nothing_yet : (p : Placing) → p ≡ fold.no_placing → has_nothing p ≡ true
+nothing_yet p e = ap has_nothing e
+
+pub leaf_tours : (lease : Claim) (f : Folding) (a : Answer) (o : Opening) (work : Calls) → AtLeaf lease f o work
+    → LeafTours lease (fold.folding_next f a) o ((fold.folding_ask f lease, a) ∷ work)
+leaf_tours lease f a o work (inl k) =
+    subst (λ (b : Bool). LeafTours lease (cond b (fold.leaf_got f (got_of a)) (fold.leaf_put f (done_of a))) o ((fold.folding_ask f lease, a) ∷ work))
+    (sym (nothing_yet f.placing k.empty))
+    (subst (λ (p : Placing). LeafTours lease (fold.leaf_got f (got_of a)) o ((unwrap_or (put_in_hand p f.chart.tree lease (Some f.lease)) (get_of f), a) ∷ work))
+    (sym k.empty) (got_tours lease f a o work k (got_of a) refl))
+leaf_tours lease f a o work (inr k) =
+    subst (λ (b : Bool). LeafTours lease (cond b (fold.leaf_got f (got_of a)) (fold.leaf_put f (done_of a))) o ((fold.folding_ask f lease, a) ∷ work))
+    (sym (page_left f.placing k.some)) (put_tours lease f a o work k (done_of a) refl)
+
+-- ---- from one to the next
+
+pub taken_tours : (lease : Claim) (c : Chart) (l : Claim) (page : ℕ) (low visited : List ℕ) (o : Opening) (work : Calls) → IsUpto low c.key → ToursAt lease c o work
+    → AtLeaf lease (fold.begun c l page low visited) o ((Take (lock.Page c.tree page) 30, call.Given l) ∷ work)
+taken_tours lease c l page low visited o work upto k = inl (record { before = work; tours = k; empty = refl; upto = upto; calls = refl })
+
+freed_handled : (run : Taken) (xs : List PuItem) (from : Option (List ℕ)) (v : Visit) (a : Answer) (visits : List Visit) → AreHandledTo run xs from (v ∷ visits)
+    → AreHandledTo run xs from (record v { freed = a } ∷ visits)
+freed_handled run [] from v a visits h = tt
+freed_handled run (x ∷ xs) from v a visits h = (h.0, freed_handled run xs from v a visits h.1)
+
+pub left_rests : (lease own : Claim) (c : Chart) (a : Answer) (o : Opening) (work : Calls) → VisitsAt lease own c o work → RestsAt lease c o ((Release own, a) ∷ work)
+left_rests lease own c a o work k =
+    let freed : Visit = record k.visit { freed = a } in
+    record {
+      visits = freed ∷ k.visits;
+      are = (record { looks = k.is.looks; holds = k.is.holds; puts = k.is.puts }, k.are);
+      root = k.root;
+      applied = k.applied;
+      handled = freed_handled c.run c.run.items c.from k.visit a k.visits k.handled;
+      calls = ap (λ (cs : Calls). (Release own, a) ∷ cs) k.calls ∙ ap (λ (l : Claim). (Release l, a) ∷ held_over c.tree lease k.visit (visits_over c.tree lease k.visits [])) (sym k.own);
+    }

@@ -1,0 +1,206 @@
+-- The work of a tree checkpoint, as its calls tell it: from leaf to leaf, and then up.
+use Rattle.std.specs.Prelude.{ℕ, ◌≡◌, ◌+◌, true, false, List, [], ◌∷◌, ◌++◌, map, length, Option, Some, None, Ok, ◌⊎◌}
+use Rattle.std.specs.List.{AllByRecursion}
+use Rattle.db_base.specs.Change.{key_of}
+use Rattle.db_base.specs.declared.names.Lock.TheVariants as lock
+use Rattle.db_base.specs.declared.names.ObjName.TheVariants as object
+use Rattle.byte_format.specs.Whole.{whole}
+use Rattle.leaf_view.specs.Leaf.{Leaf, leaf}
+use Rattle.leaf_view.specs.Lookup.{empty_leaf, page_at, holds}
+use Rattle.node_codec.specs.Tree.{Tree}
+use Rattle.leaf_edit.specs.Lacked.{lacked}
+use Rattle.run_cursor.specs.Run.{Taken}
+use Rattle.split_plan.specs.declared.put_list.PagePut.{PagePut}
+use Rattle.cloud_trait.specs.declared.answer.Answer.{Answer}
+use Rattle.cloud_trait.specs.declared.answer.Answer.TheVariants.{Got, Done, Given}
+use Rattle.cloud_trait.specs.Ask.{Ask, GetHeld, PutHeld, Take, Release}
+use Rattle.cloud_trait.specs.Claim.{Claim}
+use Rattle.ckpt_parts.specs.Intakes.{has_items}
+use Rattle.tree_parts.specs.declared.kept.KeptNode.{KeptNode}
+use Rattle.tree_parts.specs.declared.link.Link.{Link}
+use Rattle.tree_parts.specs.declared.placing.Placing.{Placing}
+use Rattle.tree_parts.specs.Kept.{links_at}
+use Rattle.tree_parts.specs.Placing.{landed_root}
+use Rattle.tree_parts.specs.Read.{tree_held}
+use Rattle.leaf_fold.specs.declared.plan.LeafPlan.{LeafPlan}
+use Rattle.leaf_fold.specs.Folding.{no_placing}
+use Rattle.leaf_fold.specs.Plan.{leaf_plan}
+use Rattle.tree_rising.specs.declared.node.NodePlan.{NodePlan}
+use Rattle.tree_rising.specs.declared.root.RootPlan.{RootPlan}
+use Rattle.tree_rising.specs.Nodes.{node_plan}
+use Rattle.tree_rising.specs.Rising.{plan_of}
+use Rattle.tree_rising.specs.Root.{raised_root}
+use Rattle.tree_ckpt.specs.Causing.{Calls, WasGot}
+
+-- ---- puts
+
+-- these calls answered Done one after another, the newest first, over the calls before them
+abbrev pub done_over : List Ask → Calls → Calls
+done_over [] rest = rest
+done_over (ask ∷ asks) rest = done_over asks ((ask, Done) ∷ rest)
+
+-- pages are put under the tree's lease, a leaf's also under the leaf's
+abbrev pub page_puts : ℕ → Claim → Option Claim → List PagePut → List Ask
+page_puts tree one two [] = []
+page_puts tree one two (x ∷ xs) = PutHeld (object.Page tree x.page) x.bytes one two ∷ page_puts tree one two xs
+
+-- a tree object with the numbers of new pages is put before them, where there is one
+abbrev pub reserved_before : ℕ → Claim → Option (List ℕ) → List Ask → List Ask
+reserved_before tree one (Some bytes) asks = PutHeld (object.Tree tree) bytes one None ∷ asks
+reserved_before tree one None asks = asks
+
+abbrev pub puts_of : ℕ → Claim → Option Claim → Placing → List Ask
+puts_of tree one two p = reserved_before tree one p.reserved (page_puts tree one two p.puts)
+
+-- ---- a leaf
+
+-- A leaf that was come to: what was got on the way down to it, its page and lease, what its get brought, the leaf that this is, what was
+-- planned for it, where something was, and what its release answered.
+pub record Visit : Type 0 where
+  pub looks : Calls
+  pub page : ℕ
+  pub lease : Claim
+  pub got : Option (List ℕ)
+  pub leaf : Leaf
+  pub plan : Option LeafPlan
+  pub freed : Answer
+
+abbrev pub placing_of : Option LeafPlan → Placing
+placing_of (Some p) = p.placing
+placing_of None = no_placing
+
+-- the leaf is taken and got under its lease, and what was planned is put under the tree's lease and its own
+abbrev pub held_over : ℕ → Claim → Visit → Calls → Calls
+held_over tree one v rest =
+    done_over (puts_of tree one (Some v.lease) (placing_of v.plan))
+    ((GetHeld (object.Page tree v.page) v.lease, Got v.got) ∷ (Take (lock.Page tree v.page) 30, Given v.lease) ∷ v.looks ++ rest)
+
+-- and then it is given back
+abbrev pub visit_over : ℕ → Claim → Visit → Calls → Calls
+visit_over tree one v rest = (Release v.lease, v.freed) ∷ held_over tree one v rest
+
+abbrev pub visits_over : ℕ → Claim → List Visit → Calls → Calls
+visits_over tree one [] rest = rest
+visits_over tree one (v ∷ vs) rest = visit_over tree one v (visits_over tree one vs rest)
+
+-- on the way down pages are got under the tree's lease
+abbrev pub AreLooks : ℕ → Claim → Calls → Type 0
+AreLooks tree one [] = Unit {0}
+AreLooks tree one (c ∷ cs) = ((page : ℕ) × (bytes : List ℕ) × (c ≡ (GetHeld (object.Page tree page) one, Got (Some bytes)))) × AreLooks tree one cs
+
+-- the page is this leaf; an absent page 1 is the empty leaf
+abbrev pub HoldsLeaf : ℕ → Leaf → Option (List ℕ) → Type 0
+HoldsLeaf page l (Some bytes) = whole leaf bytes ≡ Ok l
+HoldsLeaf page l None = (page ≡ 1) × (l ≡ empty_leaf)
+
+-- What is planned is the leaf with the run applied, in its pieces, with their numbers from the tree object that stands. Nothing is where the leaf
+-- lacks no item of the run, or is left for the page on its right.
+abbrev pub PutsLacked : Taken → Option (List ℕ) → ℕ → Leaf → Option LeafPlan → Type 0
+PutsLacked run root page l (Some plan) = (has_items (lacked l 0 run.items) ≡ true) × (leaf_plan (tree_held root) page l run.items ≡ Ok plan)
+PutsLacked run root page l None = (has_items (lacked l 0 run.items) ≡ false) ⊎ ((right : ℕ) × (page_at l.right ≡ Some right))
+
+pub record IsVisit (tree : ℕ) (one : Claim) (run : Taken) (root : Option (List ℕ)) (v : Visit) : Type 0 where
+  pub looks : AreLooks tree one v.looks
+  pub holds : HoldsLeaf v.page v.leaf v.got
+  pub puts : PutsLacked run root v.page v.leaf v.plan
+
+-- ---- leaf by leaf
+
+-- the tree object that stands behind visits, the newest first: the newest reservation, or that which was got
+abbrev pub root_behind : Option (List ℕ) → List Visit → Option (List ℕ)
+root_behind got [] = got
+root_behind got (v ∷ vs) = landed_root (placing_of v.plan) (root_behind got vs)
+
+abbrev pub AreVisits : ℕ → Claim → Taken → Option (List ℕ) → List Visit → Type 0
+AreVisits tree one run got [] = Unit {0}
+AreVisits tree one run got (v ∷ vs) = IsVisit tree one run (root_behind got vs) v × AreVisits tree one run got vs
+
+-- how many items the leaf lacked, where it was put
+abbrev pub lacked_where : Taken → Leaf → Option LeafPlan → ℕ
+lacked_where run l (Some plan) = length (lacked l 0 run.items)
+lacked_where run l None = 0
+
+abbrev pub lacked_on : Taken → List Visit → ℕ
+lacked_on run [] = 0
+lacked_on run (v ∷ vs) = lacked_on run vs + lacked_where run v.leaf v.plan
+
+-- a leaf was put, or it lacked nothing
+abbrev pub IsSettled : Taken → Leaf → Option LeafPlan → Type 0
+IsSettled run l (Some plan) = Unit {0}
+IsSettled run l None = has_items (lacked l 0 run.items) ≡ false
+
+-- a key lies in the range of such a leaf
+abbrev pub IsHandled : Taken → List ℕ → List Visit → Type 0
+IsHandled run key [] = ⊥
+IsHandled run key (v ∷ vs) = ((holds v.leaf key ≡ true) × IsSettled run v.leaf v.plan) ⊎ IsHandled run key vs
+
+-- ---- up
+
+-- an inner node that was got, and what was planned for it
+pub record Climb : Type 0 where
+  pub node : KeptNode
+  pub plan : NodePlan
+
+-- all that is put is put under the tree's lease
+abbrev pub climbs_over : ℕ → Claim → List Climb → Calls → Calls
+climbs_over tree one [] rest = rest
+climbs_over tree one (u ∷ us) rest = done_over (puts_of tree one None u.plan.placing) (climbs_over tree one us rest)
+
+-- the tree object that stands behind them, and the links that are known then: those of below, and the new pieces
+abbrev pub root_above : Option (List ℕ) → List Climb → Option (List ℕ)
+root_above root [] = root
+root_above root (u ∷ us) = landed_root u.plan.placing (root_above root us)
+
+abbrev pub links_above : List Link → List Climb → List Link
+links_above links [] = links
+links_above links (u ∷ us) = links_above links us ++ links_at (u.node.level + 1) u.plan.entries
+
+-- What is planned is a node that was got among these calls, with the links that go to it, in its pieces, with their numbers from the tree object that
+-- stands.
+abbrev pub AreClimbs : ℕ → Calls → Option (List ℕ) → List Link → List Climb → Type 0
+AreClimbs tree cs root links [] = Unit {0}
+AreClimbs tree cs root links (u ∷ us) =
+    WasGot (object.Page tree u.node.page) (Some u.node.bytes) cs × (node_plan (tree_held (root_above root us)) tree u.node (links_above links us) ≡ Ok u.plan)
+    × AreClimbs tree cs root links us
+
+-- what is put last: the tree object with its links and its cursor raised, behind its pieces where it is cut
+abbrev pub IsLast : Tree → List Link → List (ℕ × ℕ) → RootPlan → Type 0
+IsLast root links top last = plan_of root (raised_root root links top) ≡ Ok last
+
+-- ---- the whole work
+
+-- the visits, the links that they found, the nodes that were put on the way up, and the tree object that was put last; the newest first
+pub record Worked : Type 0 where
+  pub visits : List Visit
+  pub links : List Link
+  pub climbs : List Climb
+  pub last : RootPlan
+
+abbrev pub fold_calls : ℕ → Claim → Worked → Calls
+fold_calls tree one w = visits_over tree one w.visits []
+
+abbrev pub worked_calls : ℕ → Claim → Worked → Calls
+worked_calls tree one w =
+    (PutHeld (object.Tree tree) w.last.last one None, Done) ∷ done_over (puts_of tree one None w.last.placing) (climbs_over tree one w.climbs (fold_calls tree one w))
+
+-- the tree object that stands when the way up begins
+abbrev pub folded_root : Option (List ℕ) → Worked → Option (List ℕ)
+folded_root got w = root_behind got w.visits
+
+-- Each put is as planned from what was got before it; the first tree object is what the get brought. Each item of the run lies in the range of a leaf
+-- that was put, or lacked nothing.
+pub record IsWorked (tree : ℕ) (one : Claim) (run : Taken) (got : Option (List ℕ)) (w : Worked) : Type 0 where
+  pub visits : AreVisits tree one run got w.visits
+  pub covers : AllByRecursion (λ x. IsHandled run (key_of x.rec.change) w.visits) run.items
+  pub climbs : AreClimbs tree (fold_calls tree one w) (folded_root got w) w.links w.climbs
+  pub last : IsLast (tree_held (root_above (folded_root got w) w.climbs)) (links_above w.links w.climbs) run.top w.last
+
+-- the work is such where the run has an item, and there is none where it is empty
+abbrev pub WorksBy : ℕ → Claim → Taken → Option (List ℕ) → Calls → Option Worked → Type 0
+WorksBy tree one run got cs (Some w) = (has_items run.items ≡ true) × (cs ≡ worked_calls tree one w) × IsWorked tree one run got w
+WorksBy tree one run got cs None = (has_items run.items ≡ false) × (cs ≡ [])
+
+-- how many items were applied
+abbrev pub applied_count : Taken → Option Worked → ℕ
+applied_count run (Some w) = lacked_on run w.visits
+applied_count run None = 0

@@ -3,7 +3,6 @@ pub mod Ending
 pub mod Exact
 pub mod Calmly
 pub mod Emptying
-pub mod Ending
 pub mod Finding
 pub mod GoingWell
 pub mod Handing
@@ -18,5 +17,4 @@ pub mod Seeing
 pub mod Spelled
 pub mod Standing
 pub mod Sifting
-pub mod Spelled
 pub mod Sweeping

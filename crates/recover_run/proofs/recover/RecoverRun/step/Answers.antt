@@ -8,7 +8,6 @@ use Rattle.recover_run.proofs.Meaning.{came_means}
 use Rattle.recover_run.proofs.Standing.{stands_leases, stands_names, stands_gives}
 use Rattle.recover_run.proofs.Emptying.{came_empties}
 use Rattle.recover_run.proofs.GoingWell.{came_well}
-use Rattle.recover_run.proofs.Meaning.{came_means}
 use Rattle.recover_run.proofs.Missing.{came_waits}
 use Rattle.recover_run.proofs.recover.RecoverRun.step.Goals as goal
 

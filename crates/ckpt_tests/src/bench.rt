@@ -11,7 +11,7 @@ use db_base::names::{Lock, ObjName, QueueName};
 use db_base::wish::{Positions, Wish};
 use leaf_view::LeafView;
 use memory_cloud::memory::MemoryCloud;
-use node_codec::TreeView;
+use node_codec::{InnerView, TreeView};
 use page_ckpt::PageCkpt;
 use std::alloc::Global;
 use std::test::Fail;
@@ -89,6 +89,15 @@ fn record(client: u8, number: u8, kind: u8, key: u8, payload: u8) -> [u8; 33] {
     ]
 }
 
+/// Client 1's insert of the key of two bytes that spell its number.
+fn wide_record(number: u16) -> [u8; 34] {
+    let [high, low] = number.to_be_bytes();
+    [
+        0x50, 1, 1, 0, 0, 0, 0, 0, 0, 0, 1, 0, 0, 0, 0, 0, 0, 0, 1, 0, 0, 0, 0, 0, 0, high, low, 1,
+        2, high, low, 0, 1, 0x76,
+    ]
+}
+
 /// Whether this is so.
 fn is(so: bool) -> Result<(), Fail> {
     if so {
@@ -129,6 +138,8 @@ impl Bench {
             }
             Step::Root(version, next, level) => self.root(version, next, level),
             Step::Leads(key, number) => self.leads(key, number),
+            Step::Grows(times) => self.grow(times),
+            Step::Node(number, count) => self.node(number, count),
         }
     }
 
@@ -164,6 +175,38 @@ impl Bench {
             self.send(0, &record(1, number, 1, key, 0x76))?;
         }
         Ok(())
+    }
+
+    /// Sends client 1's insert of the key of a number.
+    fn insert_wide(&mut self, number: u16) -> Result<(), Fail> {
+        self.send(0, &wide_record(number))
+    }
+
+    /// Makes a checkpoint behind each 64 inserts, which applies them all.
+    fn grow(&mut self, times: u16) -> Result<(), Fail> {
+        let mut number = 1u16;
+        for _ in 0..times {
+            for _ in 0..64u16 {
+                self.insert_wide(number)?;
+                number = number.saturating_add(1);
+            }
+            self.fold()?;
+        }
+        Ok(())
+    }
+
+    /// Makes a checkpoint of the tree that applies 64 records.
+    fn fold(&mut self) -> Result<(), Fail> {
+        let mut checkpoint = TreeCkpt::new(self.alloc, tree()?);
+        let mut story = Story::new(self.alloc);
+        self.make_tree(&mut checkpoint, &mut story, &[], 400)?;
+        story.ends("done 64 64 0\n")
+    }
+
+    fn node(&mut self, number: u64, count: usize) -> Result<(), Fail> {
+        let bytes = self.cloud.peek(object(number)?)?.ok_or("absent")?;
+        let view = InnerView::read(bytes.as_slice()).ok().ok_or("no node")?;
+        is(view.entries().count() == count)
     }
 
     /// Lets come what is to come over a call.
@@ -279,10 +322,10 @@ impl Bench {
         is(view.level() == level)
     }
 
-    fn leads(&mut self, key: u8, number: u64) -> Result<(), Fail> {
+    fn leads(&mut self, key: &[u8], number: u64) -> Result<(), Fail> {
         let bytes = self.cloud.peek(object(0)?)?.ok_or("absent")?;
         let view = TreeView::read(bytes.as_slice()).ok().ok_or("no root")?;
-        is(view.child(&[key]).1.get() == number)
+        is(view.child(key).1.get() == number)
     }
 }
 

@@ -41,6 +41,10 @@ pub(crate) enum Step<'a> {
     Leaf(u64, u64, u64, usize),
     /// The newest tree object: its version, its next free page and its level.
     Root(u64, u64, u8),
-    /// The newest tree object leads a key of one byte to this page.
-    Leads(u8, u64),
+    /// The newest tree object leads a key to this page.
+    Leads(&'a [u8], u64),
+    /// Client 1's inserts to an empty tree: so many times 64 of them, their keys of two bytes ascending, and each time a checkpoint.
+    Grows(u16),
+    /// The newest inner node of a page has so many entries.
+    Node(u64, usize),
 }

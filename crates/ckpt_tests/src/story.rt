@@ -66,6 +66,15 @@ impl Story {
         self.line(text.as_str())
     }
 
+    /// Whether it was to end so.
+    pub(crate) fn ends(&self, wanted: &str) -> Result<(), Fail> {
+        if self.text.as_str().ends_with(wanted) {
+            Ok(())
+        } else {
+            Err(Fail::from("another end"))
+        }
+    }
+
     /// Whether this was to be told.
     pub(crate) fn is(&self, wanted: &str) -> Result<(), Fail> {
         if self.text.as_str() == wanted {

@@ -131,8 +131,8 @@ const SPLIT: &[Step<'static>] = &[
     Step::Root(3, 3, 1),
     Step::Leaf(1, 2, 2, 33),
     Step::Leaf(2, 1, 0, 32),
-    Step::Leads(0x21, 1),
-    Step::Leads(0x22, 2),
+    Step::Leads(&[0x21], 1),
+    Step::Leads(&[0x22], 2),
     Step::Page(1, &[], BEHIND_A_CUT),
     Step::Leaf(1, 3, 2, 33),
     Step::Leaf(2, 2, 0, 32),
@@ -227,15 +227,73 @@ const THREE: &[Step<'static>] = &[
     Step::Inserts(1, 0x01, 129),
     Step::Tree(&[], CUT_IN_THREE),
     Step::Root(2, 4, 1),
-    Step::Leads(43, 1),
-    Step::Leads(44, 2),
-    Step::Leads(86, 2),
-    Step::Leads(87, 3),
+    Step::Leads(&[43], 1),
+    Step::Leads(&[44], 2),
+    Step::Leads(&[86], 2),
+    Step::Leads(&[87], 3),
 ];
 
 #[test]
 fn cuts_a_leaf_of_129_records(rt: HostRuntime) -> Result<(), Fail> {
     play(rt.alloc(), THREE)
+}
+
+/// A checkpoint of 200 records, whose leaf is cut in four.
+const CUT_IN_FOUR: &str = "take tree:1
+get_held tree:1
+receive pu:1:0
+take page:1:1
+get_held page:1:1
+put_held tree:1
+put_held page:1:4
+put_held page:1:3
+put_held page:1:2
+put_held page:1:1
+release page:1:1
+put_held tree:1
+delete pu:1:0#1
+release tree:1
+done 200 200 0
+";
+
+/// Keys 01 to c8, 50 in each piece.
+const FOUR: &[Step<'static>] = &[
+    Step::Inserts(1, 0x01, 200),
+    Step::Tree(&[], CUT_IN_FOUR),
+    Step::Root(2, 5, 1),
+    Step::Leads(&[], 1),
+    Step::Leads(&[0x32], 1),
+    Step::Leads(&[0x33], 2),
+    Step::Leads(&[0x64], 2),
+    Step::Leads(&[0x65], 3),
+    Step::Leads(&[0x96], 3),
+    Step::Leads(&[0x97], 4),
+    Step::Leaf(1, 1, 2, 50),
+    Step::Leaf(2, 1, 3, 50),
+    Step::Leaf(3, 1, 4, 50),
+    Step::Leaf(4, 1, 0, 50),
+];
+
+#[test]
+fn cuts_a_leaf_of_200_records(rt: HostRuntime) -> Result<(), Fail> {
+    play(rt.alloc(), FOUR)
+}
+
+/// 65 checkpoints of 64 keys each, in ascending order: the tree object is cut by the last.
+const GROWN: &[Step<'static>] = &[
+    Step::Grows(65),
+    Step::Root(130, 68, 2),
+    Step::Leads(&[], 66),
+    Step::Leads(&[0x08, 0x40], 66),
+    Step::Leads(&[0x08, 0x41], 67),
+    Step::Node(66, 33),
+    Step::Node(67, 32),
+    Step::Page(66, &[], "take page:1:66\nget_held page:1:66\nrelease page:1:66\nnot-leaf 66\n"),
+];
+
+#[test]
+fn grows_to_three_levels(rt: HostRuntime) -> Result<(), Fail> {
+    play(rt.alloc(), GROWN)
 }
 
 /// A checkpoint whose key stands right of the leaf to which the tree object leads.
@@ -261,9 +319,9 @@ const NAMES: &[Step<'static>] = &[
     Step::Puts(1, LEFT),
     Step::Puts(2, RIGHT),
     Step::Inserts(1, b'p', 1),
-    Step::Leads(b'p', 1),
+    Step::Leads(b"p", 1),
     Step::Tree(&[], RIGHT_LINK),
-    Step::Leads(b'p', 2),
+    Step::Leads(b"p", 2),
 ];
 
 #[test]

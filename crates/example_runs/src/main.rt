@@ -5,6 +5,7 @@
 mod crash_table;
 mod files;
 mod generated;
+mod grown;
 mod output;
 mod schedules;
 
@@ -23,5 +24,6 @@ fn all(rt: &HostRuntime) -> io::Result<bool> {
     let schedules = schedules::run(rt)?;
     let cases = crash_table::run(rt)?;
     let generated = generated::run(rt)?;
-    Ok(schedules && cases && generated)
+    let grown = grown::run(rt)?;
+    Ok(schedules && cases && generated && grown)
 }

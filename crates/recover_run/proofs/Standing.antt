@@ -21,6 +21,7 @@ use Rattle.cloud_trait.specs.Ask.{Ask, GetHeld, PutHeld, Take, Release}
 use Rattle.cloud_trait.specs.Claim.{Claim}
 use Rattle.cloud_trait.specs.Machine.{Next, Goes, Ends, Stops, LeadsBy, Took, Came, Deed, calls_of}
 use Rattle.cloud_trait.specs.Views.{given_of, got_of, sent_of, received_of, done_of}
+use Rattle.cloud_trait.specs.Seen.{Seen}
 use Rattle.cloud_trait.specs.Weather.{Fits}
 use Rattle.recover_run.specs.declared.items.AtomicItem.{AtomicItem}
 use Rattle.recover_run.specs.declared.stage.Aim.{Aim}
@@ -406,12 +407,22 @@ stands_names client aim old h r went =
 
 -- ---- what an end leaves
 
-pub stands_gives : (client : ℕ) (aim : Aim) (old : Option Claim) (d : Deed) (h : List Deed) (r n : Recovery) (turn : Turn RecoverAnswer) → Went client aim old h r
-    → d.ask ≡ recovery_ask r → Fits (recovery_ask r) d.answer → Took (LeadsBy recovery_next) KeepsLeases r d.answer n turn → GivesBack client aim h n turn
-stands_gives client aim old d h r n More went asks fits took = tt
-stands_gives client aim old d h r n (Ended x) went asks fits took =
-    subst (NextStands client aim old d h) took
-    (stands_at r.stage client aim old d h r (came_known client aim old h r went).at (went_stands client aim old h r went) asks fits)
-stands_gives client aim old d h r n (Stopped t) went asks fits took = λ k.
-    subst (NextStands client aim old d h) (took.0 k)
-    (stands_at r.stage client aim old d h r (came_known client aim old h r went).at (went_stands client aim old h r went) asks fits)
+-- a deed that asked and answered this
+abbrev deed_of : Ask → Answer → Deed
+deed_of q a =
+    let none : Seen = record { counts = record { faults = 0; withheld = 0; stale = 0; dark = 0 }; state = None; heard = None } in
+    record { who = record { session = 0; event = 0 }; ask = q; answer = a; before = none; after = none }
+
+pub stands_gives : (client : ℕ) (aim : Aim) (old : Option Claim) (h : List Deed) (r n : Recovery) (a : Answer) (turn : Turn RecoverAnswer) → Went client aim old h r
+    → Fits (recovery_ask r) a → Took (LeadsBy recovery_next) KeepsLeases r a n turn → GivesBack client aim h n turn
+stands_gives client aim old h r n a turn went fits took = on turn took where
+  d : Deed
+  d = deed_of (recovery_ask r) a
+
+  there : NextStands client aim old d h (recovery_next r a)
+  there = stands_at r.stage client aim old d h r (came_known client aim old h r went).at (went_stands client aim old h r went) refl fits
+
+  on : (turn : Turn RecoverAnswer) → Took (LeadsBy recovery_next) KeepsLeases r a n turn → GivesBack client aim h n turn
+  on More took = tt
+  on (Ended x) took = subst (NextStands client aim old d h) took there
+  on (Stopped t) took = λ k. subst (NextStands client aim old d h) (took.0 k) there

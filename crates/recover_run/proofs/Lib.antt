@@ -9,3 +9,4 @@ pub mod Reading
 pub mod Seeing
 pub mod Spelled
 pub mod Standing
+pub mod Within

@@ -10,3 +10,4 @@ pub mod Recovery
 pub mod Sending
 pub mod Causing
 pub mod Standing
+pub mod Within

@@ -6,6 +6,7 @@ use Rattle.recover_run.proofs.Handing.{handed_keeps, took_handed}
 use Rattle.recover_run.proofs.Causing.{took_tells}
 use Rattle.recover_run.proofs.Meaning.{came_means}
 use Rattle.recover_run.proofs.Standing.{stands_leases, stands_names, stands_gives}
+use Rattle.recover_run.proofs.Within.{went_few}
 use Rattle.recover_run.proofs.recover.RecoverRun.step.Goals as goal
 
 pub absorb-turn-requires : goal.absorb-turn-requires
@@ -49,3 +50,6 @@ returns-clause-causes g c = λ client aim former h went.
       nothing = took_nothing c.args.self.now _ c.call-answer.result _ took;
       answers = took_answers client aim former h c.args.self.now _ c.call-answer.result _ went took;
     }
+
+pub returns-clause-within : goal.returns-clause-within
+returns-clause-within g c = λ client aim former h went. went_few client aim former h c.args.self.now went

@@ -1,7 +1,7 @@
 -- How many calls a recovery makes at most, by the ids that they received.
-use Rattle.std.proofs.Common.{◌≡◌, ◌≢◌, ◌<◌, ◌≤◌, ◌+◌, ◌-◌, ◌*◌, ◌^◌, ℕ, zero, suc, List, [], ◌∷◌, ◌++◌, length, length-append, Bool, true, false, cond, Option, Some, None, Result, Ok, Err, inl, inr, refl, ap, sym, subst, ◌∙◌, arith}
-use Rattle.std.specs.Prelude.{◌==◌, ◌||◌, nat_eq, map, filter, slice_get}
-use Rattle.std.specs.List.{AllByRecursion, IsDistinct, list_any}
+use Rattle.std.proofs.Common.{◌≡◌, ◌<◌, ◌≤◌, ◌+◌, ◌-◌, ◌*◌, ◌^◌, ℕ, List, [], ◌∷◌, ◌++◌, length, length-append, Bool, true, false, cond, Option, Some, None, Result, Ok, Err, refl, ap, sym, subst, ◌∙◌, arith}
+use Rattle.std.specs.Prelude.{◌==◌, ◌||◌, nat_eq, filter, slice_get}
+use Rattle.std.specs.List.{AllByRecursion, IsDistinct}
 use Rattle.std.specs.Set.{is_member}
 use Rattle.std.proofs.lemmas.Bool.Decides.{nat_tests}
 use Rattle.std.proofs.lemmas.Cmp.{nat_eq_equiv}
@@ -21,9 +21,9 @@ use Rattle.head_codec.specs.Spelling.{head_of}
 use Rattle.cloud_trait.specs.declared.answer.Answer.{Answer}
 use Rattle.cloud_trait.specs.declared.answer.Answer.TheVariants as call
 use Rattle.cloud_trait.specs.declared.message.Message.{Message}
-use Rattle.cloud_trait.specs.Ask.{Ask, GetHeld, PutHeld, Take, Release}
+use Rattle.cloud_trait.specs.Ask.{Ask, GetHeld, PutHeld, Release}
 use Rattle.cloud_trait.specs.Claim.{Claim}
-use Rattle.cloud_trait.specs.Machine.{Next, Goes, Ends, Stops, LeadsBy, Deed, calls_of}
+use Rattle.cloud_trait.specs.Machine.{Goes, Ends, Stops, Deed, calls_of}
 use Rattle.cloud_trait.specs.Views.{given_of, got_of, sent_of, received_of, done_of}
 use Rattle.recover_run.specs.declared.items.AtomicItem.{AtomicItem}
 use Rattle.recover_run.specs.declared.stage.Aim.{Aim}
@@ -32,15 +32,15 @@ use Rattle.recover_run.specs.declared.stage.Stage.{Stage}
 use Rattle.recover_run.specs.declared.stage.Stage.TheVariants.{ReleasingOld, Taking, Getting, Receiving, Deleting, Sending, Putting, Clearing, Sweeping, Releasing, Finished}
 use Rattle.recover_run.specs.declared.stage.RecoverAnswer.{RecoverAnswer}
 use Rattle.recover_run.specs.declared.wanted.Wanted.{Wanted}
-use Rattle.recover_run.specs.Bound.{calls_left, left_at, put_left, KnowsAtMost}
-use Rattle.recover_run.specs.Calls.{Calls, IsStart, head_in}
+use Rattle.recover_run.specs.Bound.{calls_left, left_at, KnowsAtMost}
+use Rattle.recover_run.specs.Calls.{Calls, IsStart}
 use Rattle.recover_run.specs.Causing.{ids_in, known_ids}
 use Rattle.recover_run.specs.Gathering.{Gathered, gathered_with, kept_with, is_counted, is_lost, is_past, lost_now, lost_ids, past_ids, wanted_of, count_of}
 use Rattle.recover_run.specs.Ids.{has_id, new_ids, rest_of}
 use Rattle.recover_run.specs.Items.{items_of, ids_of}
 use Rattle.recover_run.specs.Kept.{with_item}
 use Rattle.log_codec.specs.declared.record.AtomicRec.{AtomicRec}
-use Rattle.recover_run.specs.Recovery.{Recovery, Step, new_recovery, recovery_ask, recovery_next, ask_at, next_at, under, take_lease, delete_next, send_next, taken_by, got_by, none_read, bytes_read, head_read, phase_read, behind, stopping, received_by, gathered_by, deleting, decided, deleted_by, send_at, send_or_put, sent_by, with_pending, put_by, kept_ids, clearing, cleared, swept_by, swept_with, sweeping, opened, ended}
+use Rattle.recover_run.specs.Recovery.{Recovery, Step, new_recovery, recovery_ask, ask_at, next_at, under, delete_next, send_next, taken_by, got_by, none_read, bytes_read, head_read, phase_read, behind, stopping, received_by, gathered_by, deleting, decided, deleted_by, send_at, send_or_put, sent_by, with_pending, put_by, kept_ids, clearing, swept_by, swept_with, sweeping, opened, ended}
 use Rattle.recover_run.specs.Standing.{Went}
 use Rattle.recover_run.specs.Within.{counted, counted_after, count_in, AreFew}
 use Rattle.recover_run.proofs.Ending.{ReadyAt, less_ready}
@@ -105,9 +105,10 @@ within_new set (id ∷ ids) = on (has_id set id) refl (within_new set ids) (with
       → Within (set ++ cond b (new_ids set ids) (id ∷ new_ids (set ++ id ∷ []) ids)) (id ∷ ids)
   on true e same more = (has_more set (new_ids set ids) id e, same)
   on false e same more =
-      let here : has_id (id ∷ new_ids (set ++ id ∷ []) ids) id ≡ true = or_left (id == id) (has_id (new_ids (set ++ id ∷ []) ids) id) (same_is id) in
-      (has_behind set (id ∷ new_ids (set ++ id ∷ []) ids) id here,
-      subst (λ (l : List ℕ). Within l ids) (append_assoc set (id ∷ []) (new_ids (set ++ id ∷ []) ids)) more)
+      let here : has_id (id ∷ new_ids (set ++ id ∷ []) ids) id ≡ true = or_left (id == id) (has_id (new_ids (set ++ id ∷ []) ids) id) (same_is id) in (
+        has_behind set (id ∷ new_ids (set ++ id ∷ []) ids) id here,
+        subst (λ (l : List ℕ). Within l ids) (append_assoc set (id ∷ []) (new_ids (set ++ id ∷ []) ids)) more,
+      )
 
 -- no id stands twice
 apart_end : (x : ℕ) (xs : List ℕ) (id : ℕ) → AllByRecursion (λ (y : ℕ). nat_eq x y ≡ false) xs → nat_eq x id ≡ false

@@ -6,12 +6,10 @@ use Rattle.std.proofs.lemmas.Bool.Decides.{nat_tests}
 use Rattle.db_base.specs.declared.names.Lock.TheVariants as lock
 use Rattle.db_base.specs.declared.names.ObjName.TheVariants as object
 use Rattle.db_base.specs.declared.names.QueueName.TheVariants as queue
-use Rattle.db_base.specs.declared.names.Place.{Place}
 use Rattle.db_base.specs.declared.names.Place.TheVariants as place
 use Rattle.db_base.specs.declared.names.QueueName.{QueueName}
 use Rattle.db_base.specs.declared.trouble.Trouble.{Trouble}
 use Rattle.db_base.specs.declared.trouble.Trouble.TheVariants as trouble
-use Rattle.db_base.specs.declared.trouble.Counter.{Counter}
 use Rattle.db_base.specs.declared.trouble.Counter.TheVariants as counter
 use Rattle.head_codec.specs.declared.head.Head.{Head}
 use Rattle.head_codec.specs.declared.head.Phase.{Phase}
@@ -24,9 +22,9 @@ use Rattle.cloud_trait.specs.declared.answer.Answer.TheVariants as call
 use Rattle.cloud_trait.specs.declared.message.Message.{Message}
 use Rattle.cloud_trait.specs.declared.turn.Turn.{Turn}
 use Rattle.cloud_trait.specs.declared.turn.Turn.TheVariants.{More, Ended, Stopped}
-use Rattle.cloud_trait.specs.Ask.{Ask, GetHeld, PutHeld, Send, Receive, Delete, Take, Release}
+use Rattle.cloud_trait.specs.Ask.{Ask, GetHeld, PutHeld, Send, Delete, Take}
 use Rattle.cloud_trait.specs.Claim.{Claim}
-use Rattle.cloud_trait.specs.Machine.{Next, Goes, Ends, Stops, LeadsBy, Took, Deed, calls_of}
+use Rattle.cloud_trait.specs.Machine.{Goes, Ends, Stops, LeadsBy, Took, Deed, calls_of}
 use Rattle.cloud_trait.specs.Views.{given_of, got_of, sent_of, received_of, done_of}
 use Rattle.cloud_trait.specs.Weather.{Fits}
 use Rattle.recover_run.specs.declared.items.AtomicItem.{AtomicItem}
@@ -36,20 +34,18 @@ use Rattle.recover_run.specs.declared.stage.Aim.TheVariants.{Opening, Settling}
 use Rattle.recover_run.specs.declared.stage.Stage.{Stage}
 use Rattle.recover_run.specs.declared.stage.Stage.TheVariants.{ReleasingOld, Taking, Getting, Receiving, Deleting, Sending, Putting, Clearing, Sweeping, Releasing, Finished}
 use Rattle.recover_run.specs.declared.stage.RecoverAnswer.{RecoverAnswer}
-use Rattle.recover_run.specs.declared.stage.RecoverAnswer.TheVariants.{Opened, Nothing}
 use Rattle.recover_run.specs.Calls.{Calls, Brought, HoldsItem, head_in}
-use Rattle.recover_run.specs.Causing.{known_ids, NothingNew, Counts, BreaksHead, BreaksMessage, HasGathered, IsWaiting, Shows, IsShown, Tells, Keeps, Answers, IsAbsent}
-use Rattle.recover_run.specs.Gathering.{Gathered, gathered_with, kept_with, lost_now, past_ids}
-use Rattle.recover_run.specs.Ids.{new_ids, has_some, rest_of}
-use Rattle.recover_run.specs.Items.{items_of, ids_of}
-use Rattle.recover_run.specs.Meaning.{IsKept}
-use Rattle.recover_run.specs.Recovery.{Recovery, Step, new_recovery, recovery_ask, recovery_next, ask_at, next_at, under, take_lease, receive_next, delete_next, send_next, damaged_message, taken_by, got_by, none_read, bytes_read, head_read, phase_read, behind, stopping, received_by, gathered_by, deleting, next_deletion, decided, deleted_by, send_at, send_or_put, sent_by, with_pending, put_by, kept_ids, clearing, cleared, swept_by, swept_with, sweeping, next_sweep, opened, ended, KeepsLeases}
+use Rattle.recover_run.specs.Causing.{known_ids, NothingNew, Counts, HasGathered, Shows, IsShown, Tells}
+use Rattle.recover_run.specs.Gathering.{gathered_with, kept_with, lost_now, past_ids}
+use Rattle.recover_run.specs.Ids.{new_ids, rest_of}
+use Rattle.recover_run.specs.Items.{items_of}
+use Rattle.recover_run.specs.Recovery.{Recovery, Step, recovery_ask, recovery_next, ask_at, next_at, under, receive_next, delete_next, send_next, damaged_message, taken_by, got_by, none_read, bytes_read, head_read, phase_read, behind, stopping, received_by, gathered_by, deleting, decided, deleted_by, send_at, send_or_put, sent_by, with_pending, put_by, kept_ids, clearing, swept_by, swept_with, sweeping, opened, ended, KeepsLeases}
 use Rattle.recover_run.specs.Standing.{Went}
 use Rattle.recover_run.proofs.Keeping.{all_so, all_held, kept_more, kept_all, kept_rising, rising_room}
 use Rattle.recover_run.proofs.Knowing.{KnowsAt, Gathering}
 use Rattle.recover_run.proofs.Meaning.{came_known}
-use Rattle.recover_run.proofs.Seeing.{SeenAt, FreshIs, received_new, received_fresh, went_seen}
-use Rattle.recover_run.proofs.Standing.{Has, StandsAt, EndsSo, went_stands}
+use Rattle.recover_run.proofs.Seeing.{SeenAt, FreshIs, received_fresh, went_seen}
+use Rattle.recover_run.proofs.Standing.{StandsAt, EndsSo, went_stands}
 
 -- what a step tells of its trouble
 abbrev NextTells : Recovery → Answer → Calls → Step → Type 0

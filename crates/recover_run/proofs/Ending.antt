@@ -78,18 +78,18 @@ below_send : (d n m : ℕ) (r : Recovery) (o : Option AtomicItem)
 below_send d n m r (Some x) f = λ k. (f (k.seen, k.lost)).1
 below_send d n m r None f = λ k. (f (k.seen, k.lost)).0
 
-below_sent_at : (d n : ℕ) (r : Recovery) (o : Option AtomicItem) → slice_get r.gathered.kept r.sent ≡ o → SendsRecord r o
+below_sent_at : (d n : ℕ) (r : Recovery) (o : Option AtomicItem) (y : AtomicItem) → slice_get r.gathered.kept r.sent ≡ o → o ≡ Some y
     → Below d n ((length r.gathered.kept - r.sent) + put_left d) (send_at (with_pending r o) (r.sent + 1))
-below_sent_at d n r (Some x) e is =
+below_sent_at d n r (Some x) y e is =
     let within : r.sent < length r.gathered.kept = slice_get_within r.gathered.kept r.sent x e in
     below_send d n ((length r.gathered.kept - r.sent) + put_left d) (record (with_pending r (Some x)) { sent = r.sent + 1 })
     (slice_get r.gathered.kept (r.sent + 1)) (λ b. (omega arith, omega arith))
-below_sent_at d n r None e is = absurd is
+below_sent_at d n r None y e is = absurd (cc (is))
 
-below_sent : (d n : ℕ) (r : Recovery) (g : Result ℕ Trouble) → SendsRecord r (slice_get r.gathered.kept r.sent)
+below_sent : (d n : ℕ) (r : Recovery) (g : Result ℕ Trouble) (y : AtomicItem) → slice_get r.gathered.kept r.sent ≡ Some y
     → Below d n ((length r.gathered.kept - r.sent) + put_left d) (sent_by r g)
-below_sent d n r (Ok _) is = below_sent_at d n r (slice_get r.gathered.kept r.sent) refl is
-below_sent d n r (Err t) is = λ k. omega arith
+below_sent d n r (Ok _) y is = below_sent_at d n r (slice_get r.gathered.kept r.sent) y refl is
+below_sent d n r (Err t) y is = λ k. omega arith
 
 -- ---- gathering
 
@@ -179,21 +179,48 @@ below_ended d n m r None = tt
 
 -- ---- each step
 
-below_at : (d n : ℕ) (stage : Stage) (r : Recovery) (a : Answer) → IsSoundAt stage r → Below d n (left_at stage d n r) (next_at stage r a)
+-- a deletion in hand has an id, and a send a record
+abbrev pub ReadyAt : Stage → Recovery → Type 0
+ReadyAt Deleting r = 1 ≤ length r.ids
+ReadyAt Sending r = (x : AtomicItem) × (slice_get r.gathered.kept r.sent ≡ Some x)
+ReadyAt Clearing r = 1 ≤ length r.ids
+ReadyAt stage r = Unit {0}
+
+below_at : (d n : ℕ) (stage : Stage) (r : Recovery) (a : Answer) → ReadyAt stage r → Below d n (left_at stage d n r) (next_at stage r a)
 below_at d n ReleasingOld r a is = λ k. omega arith
 below_at d n Taking r a is = below_taken d n r (given_of (lock.Client r.client) a)
 below_at d n Getting r a is = below_got d n r (got_of a)
 below_at d n Receiving r a is = below_received d n r (received_of a)
-below_at d n Deleting r a is = below_deleted d n r (done_of a) is.1
-below_at d n Sending r a is = below_sent d n r (sent_of a) is.1
+below_at d n Deleting r a is = below_deleted d n r (done_of a) is
+below_at d n Sending r a is = below_sent d n r (sent_of a) is.0 is.1
 below_at d n Putting r a is = below_put d n r (done_of a)
-below_at d n Clearing r a is = below_cleared d n r is.1
+below_at d n Clearing r a is = below_cleared d n r is
 below_at d n Sweeping r a is = below_swept d n r (received_of a)
 below_at d n Releasing r a is = below_ended d n 1 (record r { stage = Finished; lease = None; ending = None }) r.ending
 below_at d n Finished r a is = tt
 
+pub less_ready : (d n : ℕ) (r m : Recovery) (a : Answer) → ReadyAt r.stage r → recovery_next r a ≡ Goes m → KnowsAtMost d n m → calls_left d n m < calls_left d n r
+less_ready d n r m a is goes = subst (Below d n (calls_left d n r)) goes (below_at d n r.stage r a is)
+
+sends_item : (r : Recovery) (o : Option AtomicItem) → SendsRecord r o → (x : AtomicItem) × (o ≡ Some x)
+sends_item r (Some x) is = (x, refl)
+sends_item r None is = absurd is
+
+sound_ready : (stage : Stage) (r : Recovery) → IsSoundAt stage r → ReadyAt stage r
+sound_ready ReleasingOld r is = tt
+sound_ready Taking r is = tt
+sound_ready Getting r is = tt
+sound_ready Receiving r is = tt
+sound_ready Deleting r is = is.1
+sound_ready Sending r is = sends_item r (slice_get r.gathered.kept r.sent) is.1
+sound_ready Putting r is = tt
+sound_ready Clearing r is = is.1
+sound_ready Sweeping r is = tt
+sound_ready Releasing r is = tt
+sound_ready Finished r is = tt
+
 pub less : (d n : ℕ) (r m : Recovery) (a : Answer) → IsSound r → recovery_next r a ≡ Goes m → KnowsAtMost d n m → calls_left d n m < calls_left d n r
-less d n r m a is goes = subst (Below d n (calls_left d n r)) goes (below_at d n r.stage r a is)
+less d n r m a is goes = less_ready d n r m a (sound_ready r.stage r is) goes
 
 -- the same of the code's step
 pub took_less : (d n : ℕ) (old new : Recovery) (a : Answer) (turn : Turn RecoverAnswer) → IsSound old → KnowsAtMost d n new

@@ -1,5 +1,5 @@
 -- A recovery stops wherever a trouble is shown.
-use Rattle.std.proofs.Common.{◌≡◌, ◌≢◌, ◌<◌, ◌≤◌, ◌+◌, ◌-◌, ◌^◌, ℕ, List, [], ◌∷◌, ◌++◌, length, Bool, true, false, cond, Option, Some, None, Result, Ok, Err, inl, inr, refl, ap, sym, subst, ◌∙◌, arith}
+use Rattle.std.proofs.Common.{◌≡◌, ◌≢◌, ◌<◌, ◌-◌, ◌^◌, ℕ, List, [], ◌∷◌, length, Bool, true, false, cond, Option, Some, None, Result, Ok, Err, inl, inr, refl, ap, sym, subst, ◌∙◌, arith}
 use Rattle.std.specs.Prelude.{◌==◌, ◌⊎◌, slice_get}
 use Rattle.std.proofs.lemmas.Bool.Decides.{nat_tests}
 use Rattle.db_base.specs.declared.names.Lock.{Lock}
@@ -13,33 +13,31 @@ use Rattle.db_base.specs.declared.trouble.Counter.{Counter}
 use Rattle.db_base.specs.declared.trouble.Counter.TheVariants as counter
 use Rattle.head_codec.specs.declared.head.Head.{Head}
 use Rattle.head_codec.specs.Head.{empty_head}
-use Rattle.head_codec.specs.Spelling.{head_of, head_offset}
-use Rattle.log_codec.specs.Atomic.{atomic_offset}
+use Rattle.head_codec.specs.Spelling.{head_offset}
 use Rattle.cloud_trait.specs.declared.answer.Answer.{Answer}
 use Rattle.cloud_trait.specs.declared.answer.Answer.TheVariants as call
 use Rattle.cloud_trait.specs.declared.message.Message.{Message}
 use Rattle.cloud_trait.specs.declared.turn.Turn.{Turn}
 use Rattle.cloud_trait.specs.declared.turn.Turn.TheVariants.{More, Ended, Stopped}
-use Rattle.cloud_trait.specs.Ask.{Ask, GetHeld, PutHeld, Take, Release}
+use Rattle.cloud_trait.specs.Ask.{Ask, Release}
 use Rattle.cloud_trait.specs.Claim.{Claim}
-use Rattle.cloud_trait.specs.Machine.{Next, Goes, Ends, Stops, LeadsBy, Took, Deed, calls_of}
+use Rattle.cloud_trait.specs.Machine.{Goes, Ends, Stops, LeadsBy, Took, Deed, calls_of}
 use Rattle.cloud_trait.specs.Weather.{Fits}
 use Rattle.recover_run.specs.declared.items.AtomicItem.{AtomicItem}
 use Rattle.recover_run.specs.declared.stage.Aim.{Aim}
-use Rattle.recover_run.specs.declared.stage.Aim.TheVariants.{Opening, Settling}
 use Rattle.recover_run.specs.declared.stage.Stage.{Stage}
 use Rattle.recover_run.specs.declared.stage.Stage.TheVariants.{ReleasingOld, Taking, Getting, Receiving, Deleting, Sending, Putting, Clearing, Sweeping, Releasing, Finished}
 use Rattle.recover_run.specs.declared.stage.RecoverAnswer.{RecoverAnswer}
-use Rattle.recover_run.specs.declared.stage.RecoverAnswer.TheVariants.{Opened, Nothing}
+use Rattle.recover_run.specs.declared.stage.RecoverAnswer.TheVariants.{Nothing}
 use Rattle.recover_run.specs.Calls.{Calls, head_in}
-use Rattle.recover_run.specs.Causing.{known_ids, ids_in, NothingNew, Counts, BreaksHead, BreaksMessage, IsLastEpoch, HasGathered, IsWaiting, Shows, Keeps, Answers, IsAbsent}
+use Rattle.recover_run.specs.Causing.{known_ids, NothingNew, Counts, BreaksHead, BreaksMessage, HasGathered, IsWaiting, Shows, Keeps, Answers, IsAbsent}
 use Rattle.recover_run.specs.Gathering.{Gathered, gathered_with, lost_now}
 use Rattle.recover_run.specs.Ids.{new_ids, has_some, rest_of}
 use Rattle.recover_run.specs.Items.{items_of, ids_of}
-use Rattle.recover_run.specs.Recovery.{Recovery, Step, new_recovery, recovery_ask, recovery_next, ask_at, next_at, under, take_lease, delete_next, send_next, atomic_queue, damaged_message, none_read, bytes_read, head_read, phase_read, behind, stopping, gathered_by, deleting, decided, send_at, swept_with, ended, KeepsLeases}
+use Rattle.recover_run.specs.Recovery.{Recovery, Step, recovery_ask, recovery_next, ask_at, next_at, under, delete_next, send_next, atomic_queue, damaged_message, none_read, bytes_read, head_read, phase_read, behind, stopping, gathered_by, deleting, decided, send_at, swept_with, ended, KeepsLeases}
 use Rattle.recover_run.specs.Standing.{Went}
 use Rattle.recover_run.proofs.Seeing.{SeenAt, FreshIs, received_new, went_seen}
-use Rattle.recover_run.proofs.Standing.{StandsAt, Stands, went_stands}
+use Rattle.recover_run.proofs.Standing.{StandsAt, went_stands}
 
 -- the step keeps this ending, or stops so
 abbrev pub NextKeeps : Result RecoverAnswer Trouble → Step → Type 0

@@ -92,7 +92,7 @@ placed_all P x first rest further Less here one all more = (here, (one, all))
 placed_all P x first rest further Equal here one all more = (one, all)
 placed_all P x first rest further Greater here one all more = (one, more)
 
-with_item_all : (P : AtomicItem → Type 0) (kept : List AtomicItem) (x : AtomicItem) → AllByRecursion P kept → P x → AllByRecursion P (with_item kept x)
+pub with_item_all : (P : AtomicItem → Type 0) (kept : List AtomicItem) (x : AtomicItem) → AllByRecursion P kept → P x → AllByRecursion P (with_item kept x)
 with_item_all P [] x all here = (here, tt)
 with_item_all P (first ∷ rest) x all here = placed_all P x first rest (with_item rest x) _ here all.0 all.1 (with_item_all P rest x all.1 here)
 

@@ -18,3 +18,4 @@ pub mod Spelled
 pub mod Standing
 pub mod Sifting
 pub mod Sweeping
+pub mod Within

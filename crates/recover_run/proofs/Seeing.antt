@@ -1,5 +1,5 @@
 -- Which ids a recovery has seen, by its calls so far.
-use Rattle.std.proofs.Common.{◌≡◌, ◌≢◌, ◌≤◌, ◌+◌, ◌-◌, ◌^◌, ℕ, List, [], ◌∷◌, ◌++◌, length, Bool, true, false, cond, Option, Some, None, Result, Ok, Err, inl, inr, refl, ap, sym, subst, ◌∙◌, arith}
+use Rattle.std.proofs.Common.{◌≡◌, ◌+◌, ◌-◌, ◌^◌, ℕ, List, [], ◌∷◌, ◌++◌, length, Bool, true, false, cond, Option, Some, None, Result, Ok, Err, refl, ap, sym, subst, ◌∙◌}
 use Rattle.std.specs.Prelude.{◌==◌, map, slice_get}
 use Rattle.std.proofs.lemmas.List.{append-nil}
 use Rattle.db_base.specs.declared.names.Lock.TheVariants as lock
@@ -19,7 +19,7 @@ use Rattle.cloud_trait.specs.declared.answer.Answer.TheVariants as call
 use Rattle.cloud_trait.specs.declared.message.Message.{Message}
 use Rattle.cloud_trait.specs.Ask.{Ask, Get, GetHeld, PutHeld, Send, Receive, Delete, Take, Renew, Release}
 use Rattle.cloud_trait.specs.Claim.{Claim}
-use Rattle.cloud_trait.specs.Machine.{Next, Goes, Ends, Stops, Deed, calls_of}
+use Rattle.cloud_trait.specs.Machine.{Goes, Ends, Stops, Deed, calls_of}
 use Rattle.cloud_trait.specs.Views.{given_of, got_of, sent_of, received_of, done_of}
 use Rattle.cloud_trait.specs.Weather.{Fits}
 use Rattle.recover_run.specs.declared.items.AtomicItem.{AtomicItem}
@@ -33,7 +33,7 @@ use Rattle.recover_run.specs.Causing.{ids_in, known_ids, NothingNew}
 use Rattle.recover_run.specs.Gathering.{gathered_with, lost_now, past_ids}
 use Rattle.recover_run.specs.Ids.{new_ids, has_some, rest_of}
 use Rattle.recover_run.specs.Items.{items_of, with_first, item_with, ids_of}
-use Rattle.recover_run.specs.Recovery.{Recovery, Step, new_recovery, recovery_ask, recovery_next, ask_at, next_at, under, take_lease, delete_next, taken_by, got_by, none_read, bytes_read, head_read, phase_read, behind, stopping, received_by, gathered_by, deleting, decided, deleted_by, send_at, send_or_put, sent_by, with_pending, put_by, kept_ids, clearing, cleared, swept_by, swept_with, sweeping, opened, ended}
+use Rattle.recover_run.specs.Recovery.{Recovery, Step, new_recovery, recovery_ask, ask_at, next_at, under, delete_next, taken_by, got_by, none_read, bytes_read, head_read, phase_read, behind, stopping, received_by, gathered_by, deleting, decided, deleted_by, send_at, send_or_put, sent_by, with_pending, put_by, kept_ids, clearing, swept_by, swept_with, sweeping, opened, ended}
 use Rattle.recover_run.specs.Standing.{Went}
 
 -- ---- what a call received

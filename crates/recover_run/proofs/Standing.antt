@@ -1,5 +1,5 @@
 -- How a recovery stands after each of its calls: the leases that it holds.
-use Rattle.std.proofs.Common.{◌≡◌, ◌≢◌, ◌≤◌, ◌+◌, ◌-◌, ◌^◌, ℕ, List, [], ◌∷◌, ◌++◌, length, Bool, true, false, cond, Option, Some, None, Result, Ok, Err, inl, inr, refl, ap, sym, subst, ◌∙◌, arith}
+use Rattle.std.proofs.Common.{◌≡◌, ◌≤◌, ◌+◌, ◌-◌, ◌^◌, ℕ, List, [], ◌∷◌, ◌++◌, length, Bool, true, false, cond, Option, Some, None, Result, Ok, Err, inl, inr, refl, ap, sym, subst, ◌∙◌, arith}
 use Rattle.std.specs.Prelude.{◌==◌, slice_get}
 use Rattle.db_base.specs.declared.names.Lock.TheVariants as lock
 use Rattle.db_base.specs.declared.names.ObjName.TheVariants as object
@@ -19,8 +19,9 @@ use Rattle.cloud_trait.specs.declared.turn.Turn.{Turn}
 use Rattle.cloud_trait.specs.declared.turn.Turn.TheVariants.{More, Ended, Stopped}
 use Rattle.cloud_trait.specs.Ask.{Ask, GetHeld, PutHeld, Take, Release}
 use Rattle.cloud_trait.specs.Claim.{Claim}
-use Rattle.cloud_trait.specs.Machine.{Next, Goes, Ends, Stops, LeadsBy, Took, Came, Deed, calls_of}
+use Rattle.cloud_trait.specs.Machine.{Goes, Ends, Stops, LeadsBy, Took, Deed, calls_of}
 use Rattle.cloud_trait.specs.Views.{given_of, got_of, sent_of, received_of, done_of}
+use Rattle.cloud_trait.specs.Seen.{Seen}
 use Rattle.cloud_trait.specs.Weather.{Fits}
 use Rattle.recover_run.specs.declared.items.AtomicItem.{AtomicItem}
 use Rattle.recover_run.specs.declared.stage.Aim.{Aim}
@@ -32,8 +33,8 @@ use Rattle.recover_run.specs.declared.stage.RecoverAnswer.TheVariants.{Opened, N
 use Rattle.recover_run.specs.Items.{items_of}
 use Rattle.recover_run.specs.Ids.{new_ids, rest_of}
 use Rattle.recover_run.specs.Gathering.{gathered_with, lost_now, past_ids}
-use Rattle.recover_run.specs.Recovery.{Recovery, Step, new_recovery, recovery_ask, recovery_next, ask_at, next_at, under, take_lease, delete_next, send_next, taken_by, got_by, none_read, bytes_read, head_read, phase_read, behind, stopping, received_by, gathered_by, deleting, decided, deleted_by, send_at, send_or_put, sent_by, with_pending, put_by, kept_ids, clearing, cleared, swept_by, swept_with, sweeping, opened, released, ended, KeepsLeases}
-use Rattle.recover_run.specs.Standing.{Went, leases_of, outstanding_after, outstanding, IsTaken, IsClients, Names, HoldsClients, Leaves, GivesBack}
+use Rattle.recover_run.specs.Recovery.{Recovery, Step, new_recovery, recovery_ask, recovery_next, ask_at, next_at, under, delete_next, send_next, taken_by, got_by, none_read, bytes_read, head_read, phase_read, behind, stopping, received_by, gathered_by, deleting, decided, deleted_by, send_at, send_or_put, sent_by, with_pending, put_by, kept_ids, clearing, swept_by, swept_with, sweeping, opened, ended, KeepsLeases}
+use Rattle.recover_run.specs.Standing.{Went, leases_of, outstanding_after, outstanding, IsClients, Names, HoldsClients, Leaves, GivesBack}
 use Rattle.recover_run.proofs.Knowing.{KnowsAt}
 use Rattle.recover_run.proofs.Meaning.{Knows, came_known}
 
@@ -263,15 +264,17 @@ taking_stands : (client : ℕ) (aim : Aim) (old : Option Claim) (d : Deed) (h : 
     → NextStands client aim old d h (taken_by (new_recovery client aim None) (given_of (lock.Client client) a))
 taking_stands client aim old d h (call.Given l) e none asks fits =
     let one : outstanding old (d ∷ h) ≡ l ∷ outstanding old h =
-    ap (λ (p : Ask). outstanding_after p d.answer (outstanding old h)) asks ∙ ap (λ (b : Answer). outstanding_after (Take (lock.Client client) 600) b (outstanding old h)) e in
-    (record {
-      client_is = refl;
-      aim_is = refl;
-      former_is = refl;
-      lease = l;
-      lease_is = refl;
-      clients = record { own = fits; taken = inl (asks, e); alone = one ∙ ap (λ (cs : List Claim). l ∷ cs) none };
-    }, refl)
+    ap (λ (p : Ask). outstanding_after p d.answer (outstanding old h)) asks ∙ ap (λ (b : Answer). outstanding_after (Take (lock.Client client) 600) b (outstanding old h)) e in (
+      record {
+        client_is = refl;
+        aim_is = refl;
+        former_is = refl;
+        lease = l;
+        lease_is = refl;
+        clients = record { own = fits; taken = inl (asks, e); alone = one ∙ ap (λ (cs : List Claim). l ∷ cs) none };
+      },
+      refl,
+    )
 taking_stands client aim old d h (call.Held until) e none asks fits = refl
 taking_stands client aim old d h a e none asks fits = refl
 
@@ -406,12 +409,22 @@ stands_names client aim old h r went =
 
 -- ---- what an end leaves
 
-pub stands_gives : (client : ℕ) (aim : Aim) (old : Option Claim) (d : Deed) (h : List Deed) (r n : Recovery) (turn : Turn RecoverAnswer) → Went client aim old h r
-    → d.ask ≡ recovery_ask r → Fits (recovery_ask r) d.answer → Took (LeadsBy recovery_next) KeepsLeases r d.answer n turn → GivesBack client aim h n turn
-stands_gives client aim old d h r n More went asks fits took = tt
-stands_gives client aim old d h r n (Ended x) went asks fits took =
-    subst (NextStands client aim old d h) took
-    (stands_at r.stage client aim old d h r (came_known client aim old h r went).at (went_stands client aim old h r went) asks fits)
-stands_gives client aim old d h r n (Stopped t) went asks fits took = λ k.
-    subst (NextStands client aim old d h) (took.0 k)
-    (stands_at r.stage client aim old d h r (came_known client aim old h r went).at (went_stands client aim old h r went) asks fits)
+-- a deed that asked and answered this
+abbrev deed_of : Ask → Answer → Deed
+deed_of q a =
+    let none : Seen = record { counts = record { faults = 0; withheld = 0; stale = 0; dark = 0 }; state = None; heard = None } in
+    record { who = record { session = 0; event = 0 }; ask = q; answer = a; before = none; after = none }
+
+pub stands_gives : (client : ℕ) (aim : Aim) (old : Option Claim) (h : List Deed) (r n : Recovery) (a : Answer) (turn : Turn RecoverAnswer) → Went client aim old h r
+    → Fits (recovery_ask r) a → Took (LeadsBy recovery_next) KeepsLeases r a n turn → GivesBack client aim h n turn
+stands_gives client aim old h r n a turn went fits took = on turn took where
+  d : Deed
+  d = deed_of (recovery_ask r) a
+
+  there : NextStands client aim old d h (recovery_next r a)
+  there = stands_at r.stage client aim old d h r (came_known client aim old h r went).at (went_stands client aim old h r went) refl fits
+
+  on : (turn : Turn RecoverAnswer) → Took (LeadsBy recovery_next) KeepsLeases r a n turn → GivesBack client aim h n turn
+  on More took = tt
+  on (Ended x) took = subst (NextStands client aim old d h) took there
+  on (Stopped t) took = λ k. subst (NextStands client aim old d h) (took.0 k) there

@@ -13,3 +13,4 @@ pub mod Sending
 pub mod Causing
 pub mod Standing
 pub mod Well
+pub mod Within

@@ -1,4 +1,4 @@
-ghost use Rattle.std.specs.Prelude.{ℕ, ◌≡◌, ◌≤◌, ◌<◌, ◌+◌, ◌^◌, Ok, List, Option, None, IfSome, IfNone, slice_get};
+ghost use Rattle.std.specs.Prelude.{ℕ, ◌≡◌, ◌≤◌, ◌<◌, ◌+◌, ◌^◌, Ok, List, Option, None, IfSome, IfNone, length, slice_get};
 ghost use Rattle.std.specs.List.{AllByRecursion};
 ghost use Rattle.head_codec.specs.declared.lists.Pending.{Pending};
 ghost use Rattle.head_codec.specs.Counters.{AreCounters};
@@ -6,7 +6,7 @@ ghost use Rattle.head_codec.specs.Spelling.{HasSpelling, head_of};
 ghost use Rattle.cloud_trait.specs.Ask.{Release};
 ghost use Rattle.cloud_trait.specs.Call.{ask_of, Lends};
 ghost use Rattle.cloud_trait.specs.Claim.{Claim};
-ghost use Rattle.cloud_trait.specs.Machine.{LeadsBy, Took, Steps, Deed};
+ghost use Rattle.cloud_trait.specs.Machine.{LeadsBy, Took, Steps, Deed, calls_of};
 ghost use Rattle.cloud_trait.specs.Weather.{Makes};
 ghost use Rattle.recover_run.specs.Kept.{AllPlaced};
 
@@ -104,6 +104,7 @@ impl RecoverRun {
     ghost use Rattle.recover_run.specs.Emptying.{Emptied};
     ghost use Rattle.recover_run.specs.Meaning.{Meant};
     ghost use Rattle.recover_run.specs.Causing.{Causes};
+    ghost use Rattle.recover_run.specs.Within.{AreFew};
     ghost use Rattle.recover_run.specs.Standing.{Went, leases_of, outstanding, Names, GivesBack};
     ghost use Rattle.recover_run.specs.Missing.{MissesNone};
     ghost use Rattle.recover_run.specs.Well.{GoneWell};
@@ -636,6 +637,8 @@ impl RecoverRun {
         ensures gives_back { (client : ℕ) (aim : Aim) (former : Option Claim) (h : List Deed) → Went client aim former h self.old → GivesBack client aim h self.new result }
         // A trouble comes exactly where the answer of a step shows it, and it is to answer Nothing wherever a settling reads no head.
         ensures causes { (client : ℕ) (aim : Aim) (former : Option Claim) (h : List Deed) → Went client aim former h self.old → Causes who (C.seen cloud.old) (C.seen cloud.new) h self.old self.new result }
+        // Seven calls, four for each id that is received, and one for each record that the open head counts, are all.
+        ensures within { (client : ℕ) (aim : Aim) (former : Option Claim) (h : List Deed) → Went client aim former h self.old → AreFew (calls_of h) (length h + 1) }
     {
         // Read for the clause `sound`.
         let _ = &self.stage;

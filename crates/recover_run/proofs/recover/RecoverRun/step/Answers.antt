@@ -1,5 +1,5 @@
-use Rattle.std.proofs.Common.{◌^◌, refl, subst}
-use Rattle.recover_run.specs.Recovery.{IsSound, recovery_ask}
+use Rattle.std.proofs.Common.{◌^◌, subst}
+use Rattle.recover_run.specs.Recovery.{IsSound}
 use Rattle.recover_run.proofs.Ending.{took_less}
 use Rattle.recover_run.proofs.Exact.{took_exact, took_nothing, took_answers}
 use Rattle.recover_run.proofs.Handing.{handed_keeps, took_handed}
@@ -9,6 +9,7 @@ use Rattle.recover_run.proofs.Standing.{stands_leases, stands_names, stands_give
 use Rattle.recover_run.proofs.Emptying.{came_empties}
 use Rattle.recover_run.proofs.GoingWell.{came_well}
 use Rattle.recover_run.proofs.Missing.{came_waits}
+use Rattle.recover_run.proofs.Within.{went_few}
 use Rattle.recover_run.proofs.recover.RecoverRun.step.Goals as goal
 
 pub absorb-turn-requires : goal.absorb-turn-requires
@@ -38,9 +39,7 @@ returns-clause-names g c = λ client aim former h went. stands_names client aim 
 
 pub returns-clause-gives_back : goal.returns-clause-gives_back
 returns-clause-gives_back g c = λ client aim former h went.
-    stands_gives client aim former
-    (record { who = c.args.who; ask = recovery_ask c.args.self.now; answer = c.call-answer.result; before = g.C.Cloud.seen c.args.cloud.now; after = g.C.Cloud.seen c.call-answer.new.cloud })
-    h c.args.self.now _ _ went refl c.call-answer.ensures.made.fits
+    stands_gives client aim former h c.args.self.now _ c.call-answer.result _ went c.call-answer.ensures.made.fits
     (took_handed c.args.self.now _ _ _ _ c.call-answer.ensures.left c.absorb-turn.ensures)
 
 pub returns-clause-causes : goal.returns-clause-causes
@@ -80,3 +79,6 @@ returns-clause-complete g c = record {
       came_waits _ _ _ c.args.self.now _ c.call-answer.result _ c.call-answer.ensures.made
       (took_handed c.args.self.now _ _ _ _ c.call-answer.ensures.left c.absorb-turn.ensures);
 }
+
+pub returns-clause-within : goal.returns-clause-within
+returns-clause-within g c = λ client aim former h went. went_few client aim former h c.args.self.now went

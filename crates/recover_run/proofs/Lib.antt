@@ -1,3 +1,4 @@
+pub mod Apart
 pub mod Calmly
 pub mod Emptying
 pub mod Ending

@@ -1,17 +1,15 @@
 -- How a calm recovery goes from call to call where nobody else acts, and what its calls do to its client's ATOMIC queue.
-use Rattle.std.proofs.Common.{◌≡◌, ◌≢◌, ◌≤◌, ◌⊎◌, ℕ, List, [], ◌∷◌, length, Bool, true, false, cond, Option, Some, None, inl, inr, refl, ap, sym, subst, ◌∙◌, arith}
+use Rattle.std.proofs.Common.{◌≡◌, ◌⊎◌, ℕ, List, [], ◌∷◌, Bool, true, false, cond, Option, Some, None, inl, inr, refl, ap, sym, subst, ◌∙◌}
 use Rattle.std.specs.Prelude.{◌==◌, slice_get}
 use Rattle.std.specs.List.{AllByRecursion}
 use Rattle.std.specs.Ordering.{is_eq}
 use Rattle.db_base.specs.declared.names.QueueName.{QueueName}
 use Rattle.db_base.specs.declared.names.QueueName.TheVariants as queue
 use Rattle.db_base.specs.declared.names.QueueName.TheVariants.{TreePu, PagePu}
-use Rattle.route_plan.specs.Queue.{queue_name}
 use Rattle.cloud_trait.specs.declared.answer.Answer.{Answer}
-use Rattle.cloud_trait.specs.declared.answer.Answer.TheVariants.{Got, Sent, Received, Done, Given, Held, Renewed, Late, Failed, Memory}
 use Rattle.cloud_trait.specs.declared.message.Message.{Message}
 use Rattle.cloud_trait.specs.declared.state.Posted.{Posted}
-use Rattle.cloud_trait.specs.Ask.{Ask, Get, GetHeld, PutHeld, Send, Receive, Delete, Take, Renew, Release, effect}
+use Rattle.cloud_trait.specs.Ask.{Ask, Send, Delete, Release, effect}
 use Rattle.cloud_trait.specs.Caller.{Caller}
 use Rattle.cloud_trait.specs.Claim.{Claim}
 use Rattle.cloud_trait.specs.Delivery.{unmarked}
@@ -31,7 +29,6 @@ use Rattle.recover_run.specs.declared.stage.Stage.TheVariants.{ReleasingOld, Tak
 use Rattle.recover_run.specs.Calls.{Calls}
 use Rattle.recover_run.specs.Emptying.{IsBeginning}
 use Rattle.recover_run.specs.Recovery.{Recovery, new_recovery, recovery_ask, recovery_next, ask_at, under, delete_next, send_next}
-use Rattle.recover_run.proofs.Knowing.{KnowsAt}
 use Rattle.recover_run.proofs.Marks.{marked_all}
 use Rattle.recover_run.proofs.Meaning.{Knows, came_known}
 

@@ -1,21 +1,18 @@
 -- A calm recovery with which nobody else acts leaves no message of past epochs in its queue.
-use Rattle.std.proofs.Common.{◌≡◌, ◌≢◌, ◌≤◌, ◌⊎◌, ◌+◌, ℕ, List, [], ◌∷◌, length, Option, Some, None, Result, Ok, Err, inl, inr, refl, ap, sym, subst, ◌∙◌, arith}
-use Rattle.std.specs.List.{AllByRecursion}
+use Rattle.std.proofs.Common.{◌≡◌, ◌≢◌, ◌≤◌, ◌+◌, ℕ, List, [], ◌∷◌, length, Option, Some, None, refl, ap, sym, subst, ◌∙◌, arith}
 use Rattle.db_base.specs.declared.names.QueueName.{QueueName}
 use Rattle.db_base.specs.declared.names.QueueName.TheVariants as queue
-use Rattle.db_base.specs.declared.trouble.Trouble.{Trouble}
 use Rattle.head_codec.specs.declared.head.Head.{Head}
 use Rattle.cloud_trait.specs.declared.answer.Answer.{Answer}
-use Rattle.cloud_trait.specs.declared.answer.Answer.TheVariants.{Got, Sent, Received, Done, Given, Held, Renewed, Late, Failed, Memory}
-use Rattle.cloud_trait.specs.declared.message.Message.{Message}
+use Rattle.cloud_trait.specs.declared.answer.Answer.TheVariants.{Received, Done, Failed, Memory}
 use Rattle.cloud_trait.specs.declared.state.Posted.{Posted}
 use Rattle.cloud_trait.specs.declared.turn.Turn.{Turn}
 use Rattle.cloud_trait.specs.declared.turn.Turn.TheVariants.{More, Ended, Stopped}
-use Rattle.cloud_trait.specs.Ask.{Ask, Receive, Delete, Take, Release, TouchesNoMessage}
+use Rattle.cloud_trait.specs.Ask.{Receive, Delete, Release, TouchesNoMessage}
 use Rattle.cloud_trait.specs.Caller.{Caller}
 use Rattle.cloud_trait.specs.Claim.{Claim}
 use Rattle.cloud_trait.specs.Delivery.{unmarked}
-use Rattle.cloud_trait.specs.Machine.{Goes, Ends, LeadsBy, Came, Deed, Took, calls_of}
+use Rattle.cloud_trait.specs.Machine.{Ends, LeadsBy, Came, Deed, Took, calls_of}
 use Rattle.cloud_trait.specs.Names.{queue_cmp}
 use Rattle.cloud_trait.specs.Seen.{Seen}
 use Rattle.cloud_trait.specs.State.{CloudState, Counts, called, marked}
@@ -27,19 +24,18 @@ use Rattle.calm_calls.specs.Calm.{GoesWell, IsCalm, AreCalm, AreAlone}
 use Rattle.calm_calls.proofs.CalmLemmas.{goes_well, delivers}
 use Rattle.recover_run.specs.declared.stage.Aim.{Aim}
 use Rattle.recover_run.specs.declared.stage.Stage.{Stage}
-use Rattle.recover_run.specs.declared.stage.Stage.TheVariants.{ReleasingOld, Taking, Getting, Receiving, Deleting, Sending, Putting, Clearing, Sweeping, Releasing, Finished}
+use Rattle.recover_run.specs.declared.stage.Stage.TheVariants.{Clearing, Sweeping, Releasing}
 use Rattle.recover_run.specs.declared.stage.RecoverAnswer.{RecoverAnswer}
 use Rattle.recover_run.specs.declared.stage.RecoverAnswer.TheVariants.{Opened, Nothing}
 use Rattle.recover_run.specs.declared.wanted.Wanted.{Wanted}
 use Rattle.recover_run.specs.Calls.{Calls}
 use Rattle.recover_run.specs.Emptying.{IsBeginning, HadMemory, HasNoLater, IsUptoEpoch, LeavesNone, deed_of}
 use Rattle.recover_run.specs.Ids.{rest_of}
-use Rattle.recover_run.specs.Recovery.{Recovery, Step, new_recovery, recovery_ask, recovery_next, ask_at, next_at, under, delete_next, clearing, KeepsLeases}
+use Rattle.recover_run.specs.Recovery.{Recovery, new_recovery, recovery_ask, recovery_next, ask_at, next_at, under, delete_next, clearing, KeepsLeases}
 use Rattle.recover_run.proofs.Calmly.{Moves, Shrunk, along, row_of_move, move_shrinks, shrunk_all, unmarked_since}
 use Rattle.recover_run.proofs.Knowing.{KnowsAt, Put}
-use Rattle.recover_run.proofs.Marks.{IsGone}
 use Rattle.recover_run.proofs.Meaning.{Knows, came_known}
-use Rattle.recover_run.proofs.Sweeping.{IsEmptied, SweptAt, SweptNext, Delivers, Deletes, HeardAt, swept_at}
+use Rattle.recover_run.proofs.Sweeping.{SweptAt, SweptNext, Delivers, Deletes, HeardAt, swept_at}
 
 -- ---- what a calm call did to the queue
 
@@ -82,7 +78,7 @@ heard_at Clearing from d b t old cs at m k other =
     (goes_well d m.made m.calm) (other refl)
 heard_at Sweeping from d b t old cs at m k other = (
   ap (λ (f : QueueName → List Posted). f (queue.Atomic from.client))
-  (row_messages d.who (ask_at Sweeping from) d.answer d.before.counts d.after.counts (called d.who t.now b) t (row_at Sweeping from d b t at m) tt),
+      (row_messages d.who (ask_at Sweeping from) d.answer d.before.counts d.after.counts (called d.who t.now b) t (row_at Sweeping from d b t at m) tt),
   receive_delivers from d b t m (ap (λ s. ask_at s from) at) d.answer refl,
   put_epoch old cs from k,
 )

@@ -1,5 +1,5 @@
 -- What is found among messages and among the records that are kept of them.
-use Rattle.std.proofs.Common.{◌≡◌, ◌≢◌, ◌<◌, ◌≤◌, ◌⊎◌, ◌+◌, ◌-◌, ◌++◌, ℕ, zero, suc, List, [], ◌∷◌, length, take, Bool, true, false, cond, not, ◌||◌, ◌&&◌, Option, Some, None, Result, Ok, Err, inl, inr, refl, ap, sym, subst, ◌∙◌, arith}
+use Rattle.std.proofs.Common.{◌≡◌, ◌≢◌, ◌<◌, ◌≤◌, ◌⊎◌, ◌+◌, ◌-◌, ℕ, zero, suc, List, [], ◌∷◌, length, take, Bool, true, false, cond, not, ◌||◌, ◌&&◌, Option, Some, None, Result, Ok, Err, inl, inr, refl, ap, sym, subst, ◌∙◌, arith}
 use Rattle.std.specs.Prelude.{◌==◌, nat_le, nat_lt, filter, slice_get}
 use Rattle.std.specs.List.{AllByRecursion, list_any}
 use Rattle.std.specs.Option.{option_map}
@@ -14,10 +14,10 @@ use Rattle.cloud_trait.specs.Delivery.{WasSent, unmarked, unmarked_from}
 use Rattle.cloud_trait.specs.State.{mark_at, marked, message_at}
 use Rattle.recover_run.specs.declared.items.AtomicItem.{AtomicItem}
 use Rattle.recover_run.specs.declared.wanted.Wanted.{Wanted}
-use Rattle.recover_run.specs.Gathering.{is_of, is_past, is_counted, is_lost, kept_with}
+use Rattle.recover_run.specs.Gathering.{is_of, is_counted, kept_with}
 use Rattle.recover_run.specs.Items.{items_of, item_with, with_first}
 use Rattle.recover_run.specs.Kept.{with_item, placed}
-use Rattle.recover_run.specs.Missing.{is_of_head, is_of_some, is_indexed, is_indexed_some}
+use Rattle.recover_run.specs.Missing.{is_indexed, is_indexed_some}
 use Rattle.recover_run.proofs.Knowing.{IsRising}
 use Rattle.recover_run.proofs.Marks.{others}
 

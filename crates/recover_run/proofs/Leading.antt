@@ -1,5 +1,5 @@
 -- What holds of every step up to the put, where it holds of each stage that a step goes to and of each stop.
-use Rattle.std.proofs.Common.{◌≡◌, ◌≢◌, ◌+◌, ◌-◌, ◌^◌, ℕ, List, [], ◌∷◌, length, Bool, true, false, cond, Option, Some, None, Result, Ok, Err, refl, ap, sym, ◌∙◌, arith}
+use Rattle.std.proofs.Common.{◌≡◌, ◌≢◌, ◌+◌, ◌-◌, ◌^◌, ℕ, List, [], ◌∷◌, length, Bool, true, false, cond, Option, Some, None, Result, Ok, Err, refl, arith}
 use Rattle.std.specs.Prelude.{◌==◌, slice_get}
 use Rattle.std.proofs.lemmas.Bool.Decides.{nat_tests}
 use Rattle.db_base.specs.declared.names.Place.{Place}
@@ -23,7 +23,7 @@ use Rattle.recover_run.specs.Calls.{head_in}
 use Rattle.recover_run.specs.Gathering.{gathered_with, lost_now}
 use Rattle.recover_run.specs.Ids.{rest_of}
 use Rattle.recover_run.specs.Items.{items_of}
-use Rattle.recover_run.specs.Recovery.{Recovery, Step, goes_to, releasing, stopping, putting, send_or_put, send_at, phase_read, behind, head_read, bytes_read, none_read, got_by, decided, next_deletion, deleting, gathered_by, received_by, deleted_by, with_pending, sent_by}
+use Rattle.recover_run.specs.Recovery.{Recovery, Step, goes_to, releasing, stopping, putting, send_or_put, send_at, phase_read, behind, head_read, bytes_read, none_read, got_by, decided, deleting, gathered_by, received_by, deleted_by, with_pending, sent_by}
 use Rattle.recover_run.specs.Well.{MayStop}
 
 -- ---- what a step leads to, by cases

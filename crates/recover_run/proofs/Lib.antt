@@ -1,6 +1,7 @@
 pub mod Causing
 pub mod Ending
 pub mod Exact
+pub mod Apart
 pub mod Calmly
 pub mod Emptying
 pub mod Finding

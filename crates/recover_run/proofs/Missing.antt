@@ -1,5 +1,5 @@
 -- A calm recovery with which nobody else acts waits for no record where none is missing.
-use Rattle.std.proofs.Common.{◌≡◌, ◌≢◌, ◌≤◌, ◌+◌, ◌++◌, ℕ, List, [], ◌∷◌, length, drop, Bool, true, false, Option, Some, None, Result, Ok, Err, refl, ap, sym, subst, ◌∙◌, arith}
+use Rattle.std.proofs.Common.{◌≡◌, ◌≤◌, ◌+◌, ◌++◌, ℕ, List, [], ◌∷◌, length, drop, false, Option, Some, None, Result, Ok, Err, refl, ap, sym, subst, ◌∙◌, arith}
 use Rattle.std.specs.Prelude.{slice_get}
 use Rattle.std.specs.List.{AllByRecursion}
 use Rattle.db_base.specs.declared.names.Lock.{Lock}
@@ -9,16 +9,15 @@ use Rattle.db_base.specs.declared.names.ObjName.TheVariants as object
 use Rattle.db_base.specs.declared.names.QueueName.{QueueName}
 use Rattle.db_base.specs.declared.names.QueueName.TheVariants as queue
 use Rattle.db_base.specs.declared.trouble.Trouble.{Trouble}
-use Rattle.db_base.specs.declared.trouble.Trouble.TheVariants as trouble
 use Rattle.head_codec.specs.declared.head.Head.{Head}
 use Rattle.cloud_trait.specs.declared.answer.Answer.{Answer}
-use Rattle.cloud_trait.specs.declared.answer.Answer.TheVariants.{Got, Sent, Received, Done, Given, Held, Renewed, Late, Failed, Memory}
+use Rattle.cloud_trait.specs.declared.answer.Answer.TheVariants.{Got, Sent, Received, Done, Given, Held, Late, Memory}
 use Rattle.cloud_trait.specs.declared.message.Message.{Message}
 use Rattle.cloud_trait.specs.declared.state.Posted.{Posted}
 use Rattle.cloud_trait.specs.declared.state.Version.{Version}
 use Rattle.cloud_trait.specs.declared.turn.Turn.{Turn}
 use Rattle.cloud_trait.specs.declared.turn.Turn.TheVariants.{More, Ended, Stopped}
-use Rattle.cloud_trait.specs.Ask.{Ask, GetHeld, Receive, Release, PutsNothing, TouchesNoMessage}
+use Rattle.cloud_trait.specs.Ask.{Ask, GetHeld, Release, PutsNothing, TouchesNoMessage}
 use Rattle.cloud_trait.specs.Caller.{Caller}
 use Rattle.cloud_trait.specs.Claim.{Claim}
 use Rattle.cloud_trait.specs.Delivery.{IsDelivering}
@@ -30,7 +29,6 @@ use Rattle.cloud_trait.specs.Weather.{Weather, Makes}
 use Rattle.cloud_trait.proofs.RowLemmas.{row_messages, row_versions}
 use Rattle.calm_calls.specs.Calm.{IsCalm, AreCalm, AreAlone}
 use Rattle.recover_run.specs.declared.items.AtomicItem.{AtomicItem}
-use Rattle.recover_run.specs.declared.wanted.Wanted.{Wanted}
 use Rattle.recover_run.specs.declared.stage.Aim.{Aim}
 use Rattle.recover_run.specs.declared.stage.Aim.TheVariants.{Opening, Settling}
 use Rattle.recover_run.specs.declared.stage.Stage.{Stage}
@@ -38,13 +36,13 @@ use Rattle.recover_run.specs.declared.stage.Stage.TheVariants.{ReleasingOld, Tak
 use Rattle.recover_run.specs.declared.stage.RecoverAnswer.{RecoverAnswer}
 use Rattle.recover_run.specs.Calls.{Calls, head_in}
 use Rattle.recover_run.specs.Emptying.{IsBeginning, deed_of}
-use Rattle.recover_run.specs.Gathering.{nothing_gathered, gathered_with, kept_with, lost_now, past_ids, wanted_of}
+use Rattle.recover_run.specs.Gathering.{nothing_gathered, gathered_with, lost_now, past_ids, wanted_of}
 use Rattle.recover_run.specs.Ids.{new_ids, has_some, rest_of}
-use Rattle.recover_run.specs.Items.{items_of, ids_of}
+use Rattle.recover_run.specs.Items.{items_of}
 use Rattle.recover_run.specs.Meaning.{IsKept}
 use Rattle.recover_run.specs.Missing.{IsComplete, NoneMissing, IsNoWaiting, WaitsForNone}
-use Rattle.recover_run.specs.Recovery.{Recovery, Step, new_recovery, recovery_ask, recovery_next, ask_at, next_at, under, delete_next, receive_next, behind, taken_by, got_by, deleting, gathered_by, received_by, deleted_by, with_pending, send_or_put, sent_by, put_by, kept_ids, clearing, opened, sweeping, swept_with, swept_by, ended, KeepsLeases}
-use Rattle.recover_run.proofs.Calmly.{Moves, along, row_of_move}
+use Rattle.recover_run.specs.Recovery.{Recovery, Step, new_recovery, recovery_ask, recovery_next, ask_at, next_at, under, delete_next, receive_next, taken_by, got_by, deleting, gathered_by, received_by, deleted_by, with_pending, send_or_put, sent_by, put_by, kept_ids, clearing, opened, sweeping, swept_with, swept_by, ended, KeepsLeases}
+use Rattle.recover_run.proofs.Calmly.{Moves, along}
 use Rattle.recover_run.proofs.Emptying.{delete_marks, row_at, receive_delivers}
 use Rattle.recover_run.proofs.GoingWell.{memory_or}
 use Rattle.recover_run.proofs.Knowing.{KnowsAt, IsRising}
@@ -140,9 +138,10 @@ got_misses h v w ms r a reads is =
     got_cases (MissNext h w ms) r (got_of a) (got_other a) (λ p n. tt) tt tt (λ u k e at. tt)
     (λ u k e at.
     let heard : u ≡ v = subst (λ b. Reads b v) (got_is a u e) reads in
-    let same : h ≡ k = same_head v u h k heard is.0 at in
-    (subst (λ k. IsComplete (wanted_of k) ms) same is.1,
-    subst (λ g. HasSeen (wanted_of k) ms [] g) (sym is.2) (record { handled = tt; seen = tt; named = tt })))
+    let same : h ≡ k = same_head v u h k heard is.0 at in (
+      subst (λ k. IsComplete (wanted_of k) ms) same is.1,
+      subst (λ g. HasSeen (wanted_of k) ms [] g) (sym is.2) (record { handled = tt; seen = tt; named = tt }),
+    ))
 
 -- ---- gathering
 
@@ -285,8 +284,7 @@ heard_at Taking from d b t old cs at m k =
     (same_newest from (ask_at Taking from) d b t row tt, same_messages from (ask_at Taking from) d b t row tt)
 heard_at Getting from d b t old cs at m k =
     let row : Weather d.who (GetHeld (object.Head from.client) k.lease) d.answer d.before.counts d.after.counts (called d.who t.now b) t =
-    subst (λ ask. Weather d.who ask d.answer d.before.counts d.after.counts (called d.who t.now b) t) (ap (λ n. ask_at Getting n) k.is) (row_at Getting from d b t at m) in
-    (
+    subst (λ ask. Weather d.who ask d.answer d.before.counts d.after.counts (called d.who t.now b) t) (ap (λ n. ask_at Getting n) k.is) (row_at Getting from d b t at m) in (
       same_messages from (GetHeld (object.Head from.client) k.lease) d b t row tt,
       held_newest d.who (object.Head from.client) k.lease d.answer d.before.counts d.after.counts (called d.who t.now b) t row,
     )

@@ -1,5 +1,5 @@
 -- What a recovery knows of its queue while it gathers: every lost record that it saw is deleted, and nothing that it wants.
-use Rattle.std.proofs.Common.{◌≡◌, ◌≢◌, ◌<◌, ◌≤◌, ◌⊎◌, ◌+◌, ◌++◌, ℕ, List, [], ◌∷◌, length, take, Bool, true, false, cond, not, ◌||◌, ◌&&◌, Option, Some, None, Result, Ok, Err, inl, inr, refl, ap, sym, subst, ◌∙◌, arith}
+use Rattle.std.proofs.Common.{◌≡◌, ◌≤◌, ◌+◌, ◌++◌, ℕ, List, [], ◌∷◌, length, take, Bool, true, false, cond, not, ◌||◌, ◌&&◌, Some, Ok, inl, inr, refl, ap, sym, subst, ◌∙◌, arith}
 use Rattle.std.specs.Prelude.{◌==◌, nat_le, filter, IsPermutation}
 use Rattle.std.specs.List.{AllByRecursion, list_any}
 use Rattle.std.proofs.lemmas.Bool.Decides.{nat_tests}
@@ -9,7 +9,6 @@ use Rattle.std.proofs.lemmas.List.Sorted.{All-permutation, IsPermutation-sym, li
 use Rattle.head_codec.proofs.Keeping.{AllByRecursion-append}
 use Rattle.log_codec.specs.declared.record.AtomicRec.{AtomicRec}
 use Rattle.log_codec.specs.Atomic.{atomic_of}
-use Rattle.cloud_trait.specs.declared.answer.Answer.{Answer}
 use Rattle.cloud_trait.specs.declared.answer.Answer.TheVariants.{Received}
 use Rattle.cloud_trait.specs.declared.message.Message.{Message}
 use Rattle.cloud_trait.specs.declared.state.Posted.{Posted}
@@ -25,11 +24,11 @@ use Rattle.recover_run.specs.Ids.{has_id, new_ids}
 use Rattle.recover_run.specs.Items.{items_of, item_with, ids_of}
 use Rattle.recover_run.specs.Meaning.{IsKept}
 use Rattle.recover_run.specs.Missing.{IsComplete, is_of_head, is_of_some, is_indexed, is_indexed_some}
-use Rattle.recover_run.proofs.Finding.{HasKept, marked_message, unmarked_sent, items_all, messages_all, indexed_items, kept_with_has, rising_full, many_pass, others_any, others_fewer}
+use Rattle.recover_run.proofs.Finding.{marked_message, unmarked_sent, items_all, messages_all, indexed_items, kept_with_has, rising_full, many_pass, others_any, others_fewer}
 use Rattle.recover_run.proofs.Keeping.{all_so, all_new, all_held, kept_more, kept_all, kept_rising, rising_room}
 use Rattle.recover_run.proofs.Knowing.{IsRising}
-use Rattle.recover_run.proofs.Marks.{IsGone, others, marked_leaves, marked_all, none_gone, brought_all}
-use Rattle.recover_run.proofs.Sweeping.{IsHandled, all_has, none_new, each_has, deletes_first, handled_ids, handled_gone}
+use Rattle.recover_run.proofs.Marks.{IsGone, marked_leaves, marked_all, none_gone, brought_all}
+use Rattle.recover_run.proofs.Sweeping.{IsHandled, all_has, none_new, each_has, deletes_first, handled_ids}
 
 -- under an id a lost record was sent
 abbrev pub IsLostAt : Wanted → List Posted → ℕ → Type 0

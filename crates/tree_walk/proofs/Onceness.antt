@@ -46,7 +46,7 @@ once_push (q ∷ ps) p h apart =
     (all_apart ps q p h.0 two.0, once_push ps p h.1 two.1)
 
 -- what is among pages with one more at their end is that page, or was among them
-among_push : (ps : List ℕ) (p q : ℕ) → is_among (ps ++ p ∷ []) q ≡ (is_among ps q || ((p == q) || false))
+pub among_push : (ps : List ℕ) (p q : ℕ) → is_among (ps ++ p ∷ []) q ≡ (is_among ps q || ((p == q) || false))
 among_push ps p q = list_any-append (λ (x : ℕ). x == q) ps (p ∷ [])
 
 -- ---- one object

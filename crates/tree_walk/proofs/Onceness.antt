@@ -126,7 +126,7 @@ if_map : {X : Type 0} (P : Next Walk ℕ → Type 0) (f : X → Next Walk ℕ) (
 if_map P f None h = tt
 if_map P f (Some x) h = h x
 
-at_spot : (w : Walk) (s : Spot) → w.spot ≡ Some s → w.spot ≡ Some (spot_of w)
+pub at_spot : (w : Walk) (s : Spot) → w.spot ≡ Some s → w.spot ≡ Some (spot_of w)
 at_spot w s e = subst (λ (x : Spot). w.spot ≡ Some x) (spot_is w s e) e
 
 read_once : (w : Walk) (c : Cache) → IsOnce w → IfSome (read_from w c) OnceIn
@@ -234,10 +234,10 @@ StillIn old (Ends w page) = HasStill old w
 StillIn old (Stops w t) = HasStill old w
 
 -- .. and has passed them but for the page in hand
-abbrev PassedStill : Walk → Walk → Type 0
+abbrev pub PassedStill : Walk → Walk → Type 0
 PassedStill old w = (page : ℕ) → came_to old page ≡ true → (is_among w.nodes page || is_among w.leaves page) ≡ true
 
-or_right : (a b : Bool) → b ≡ true → (a || b) ≡ true
+pub or_right : (a b : Bool) → b ≡ true → (a || b) ≡ true
 or_right true b h = refl
 or_right false b h = h
 
@@ -260,12 +260,12 @@ or_push_behind a true false false e h = e
 or_push_behind a false false true e h = e
 or_push_behind a false false false e h = absurd (cc (h))
 
-node_still : (w : Walk) → w.spot ≡ Some (spot_of w) → PassedStill w (node_passed w)
+pub node_still : (w : Walk) → w.spot ≡ Some (spot_of w) → PassedStill w (node_passed w)
 node_still w at page came =
     or_push (is_among (w.nodes ++ (spot_of w).page ∷ []) page) ((spot_of w).page == page) (is_among w.nodes page) (is_among w.leaves page)
     (among_push w.nodes (spot_of w).page page) (subst (λ (o : Option Spot). (is_page page o || (is_among w.nodes page || is_among w.leaves page)) ≡ true) at came)
 
-leaf_still : (w : Walk) → w.spot ≡ Some (spot_of w) → PassedStill w (leaf_passed (use_of w))
+pub leaf_still : (w : Walk) → w.spot ≡ Some (spot_of w) → PassedStill w (leaf_passed (use_of w))
 leaf_still w at page came =
     or_push_behind (is_among (w.leaves ++ (spot_of w).page ∷ []) page) ((spot_of w).page == page) (is_among w.nodes page) (is_among w.leaves page)
     (among_push w.leaves (spot_of w).page page) (subst (λ (o : Option Spot). (is_page page o || (is_among w.nodes page || is_among w.leaves page)) ≡ true) at came)

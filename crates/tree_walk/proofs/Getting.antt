@@ -24,7 +24,7 @@ use Rattle.page_cache.specs.Names.{same_name}
 use Rattle.page_cache.proofs.CacheLemmas.{accept_first}
 use Rattle.page_cache.proofs.NameLemmas.{same_name-is}
 use Rattle.tree_walk.specs.Moves.{Moves}
-use Rattle.tree_walk.specs.Walk.{Spot, Walk, new_walk, sought, spot_of, is_leaf, is_got, is_got_at, is_among, is_page, object_of, came_to, use_of, entry_for, right_of, linked, bad_fence, bad_level, node_left, node_passed, leaf_left, leaf_passed, root_read, node_read, leaf_read, read_at, read_from, read_kept, follow, onward, goes_through, goes_on, got_read, accepted_by, got_by, beside, rested, walk_ready, walk_next}
+use Rattle.tree_walk.specs.Walk.{Spot, Walk, new_walk, sought, spot_of, is_leaf, is_got_at, is_among, is_page, object_of, came_to, use_of, entry_for, right_of, linked, bad_fence, bad_level, node_left, node_passed, leaf_left, leaf_passed, root_read, node_read, leaf_read, read_at, read_from, read_kept, follow, onward, goes_through, goes_on, got_read, accepted_by, got_by, beside, rested, walk_ready, walk_next}
 use Rattle.tree_walk.specs.Causing.{below, aside}
 use Rattle.tree_walk.specs.Serving.{IsMissing, MustGet}
 use Rattle.tree_walk.proofs.Causing.{among_last, spot_is}
@@ -156,7 +156,7 @@ some_left : (c : Cache) (w : Walk) (name : ObjName) (v : Option (List ℕ)) → 
 unfolding left_in nothing
 some_left c w name v waits kept =
     let less : count nothing c.objects < count (unpassed w.spot w.nodes) c.objects =
-        count_less nothing (unpassed w.spot w.nodes) (λ x e. absurd (cc (e))) name waits refl c.objects v kept in
+    count_less nothing (unpassed w.spot w.nodes) (λ x e. absurd (cc (e))) name waits refl c.objects v kept in
     omega (arith, less)
 
 -- down from the tree object
@@ -209,9 +209,10 @@ node_less : (c : Cache) (w : Walk) (n : Inner) → is_among w.nodes (spot_of w).
 unfolding left_in LessIn
 node_less c w n free h =
     let p = (spot_of w).page in
-    let kept = inner_kept (kept_at c (object.Page w.tree p)) n h in
-    (some_left c w (object.Page w.tree p) kept.0 (node_waits w.spot w.nodes w.tree p free) kept.1,
-    on kept.0 kept.1 (n.level == (spot_of w).level) (bytes_same n.low (spot_of w).low) (right_of (sought w) n.high (node_at n.right)))
+    let kept = inner_kept (kept_at c (object.Page w.tree p)) n h in (
+      some_left c w (object.Page w.tree p) kept.0 (node_waits w.spot w.nodes w.tree p free) kept.1,
+      on kept.0 kept.1 (n.level == (spot_of w).level) (bytes_same n.low (spot_of w).low) (right_of (sought w) n.high (node_at n.right)),
+    )
   where
     less : (v : Option (List ℕ)) → kept_at c (object.Page w.tree (spot_of w).page) ≡ Some v → (s : Spot) → count (unpassed (Some s) (w.nodes ++ (spot_of w).page ∷ [])) c.objects < left_in c w
     less v is s =

@@ -2,7 +2,7 @@
 use Rattle.std.proofs.Common.{◌≡◌, ◌≢◌, ℕ, zero, suc, ◌+◌, ◌≤◌, ◌<◌, Bool, true, false, List, [], ◌∷◌, ◌++◌, length, Option, Some, None, Result, Ok, Err, unwrap_or, refl, ap, sym, subst, ◌∙◌, arith}
 use Rattle.std.specs.Prelude.{if◌then◌else◌, IfSome, ◌==◌, ◌||◌}
 use Rattle.std.specs.Option.{option_map}
-use Rattle.std.specs.List.{AllByRecursion, IsDistinct, list_any}
+use Rattle.std.specs.List.{AllByRecursion, IsDistinct}
 use Rattle.std.proofs.lemmas.Bool.{eqb-true}
 use Rattle.std.proofs.lemmas.List.Folds.{list_any-append}
 use Rattle.byte_format.specs.Order.{bytes_same}
@@ -22,7 +22,7 @@ use Rattle.cloud_trait.specs.Views.{got_of}
 use Rattle.page_cache.specs.Cache.{Cache, accepts}
 use Rattle.page_cache.specs.Held.{leaf_at, inner_at, root_at}
 use Rattle.tree_walk.specs.Moves.{Moves}
-use Rattle.tree_walk.specs.Walk.{Spot, Walk, new_walk, sought, spot_of, is_leaf, is_got, is_among, is_page, object_of, came_to, use_of, entry_for, right_of, linked, bad_fence, bad_level, node_left, node_passed, leaf_left, leaf_passed, root_read, node_read, leaf_read, read_at, read_from, read_kept, follow, onward, goes_through, goes_on, got_read, accepted_by, got_by, beside, rested, walk_ready, walk_next, asks, pages}
+use Rattle.tree_walk.specs.Walk.{Spot, Walk, new_walk, sought, spot_of, is_leaf, is_got, is_among, is_page, object_of, came_to, use_of, entry_for, right_of, linked, bad_fence, bad_level, node_left, node_passed, leaf_left, leaf_passed, root_read, node_read, leaf_read, read_at, read_from, read_kept, follow, onward, goes_through, goes_on, got_read, accepted_by, got_by, beside, rested, walk_next, asks, pages}
 use Rattle.tree_walk.specs.Causing.{below, aside}
 use Rattle.tree_walk.specs.Within.{IsBegun, Went, AreOnce, IsPassedOnce, IsOnce, IsWithin}
 use Rattle.tree_walk.proofs.Ending.{more_pages}

@@ -1,5 +1,5 @@
 -- What a walk is served, and when it stops for certain.
-use Rattle.std.proofs.Common.{◌≡◌, ◌≢◌, ℕ, zero, suc, ◌<◌, Bool, true, false, List, Option, Some, None, Result, Ok, Err, unwrap_or, refl, ap, sym, subst, ◌∙◌, inl, inr, ◌⊎◌, arith}
+use Rattle.std.proofs.Common.{◌≡◌, ◌≢◌, ℕ, Bool, true, false, List, Option, Some, None, Result, Ok, Err, unwrap_or, refl, ap, sym, subst, ◌∙◌, inl, inr, ◌⊎◌, arith}
 use Rattle.std.specs.Prelude.{if◌then◌else◌, IfSome, ◌==◌, ◌||◌}
 use Rattle.std.specs.Option.{option_map}
 use Rattle.byte_format.specs.Order.{bytes_same}
@@ -22,7 +22,6 @@ use Rattle.cloud_trait.specs.Caller.{Caller}
 use Rattle.cloud_trait.specs.Machine.{Next, Goes, Ends, Stops}
 use Rattle.cloud_trait.specs.Seen.{Seen}
 use Rattle.cloud_trait.specs.State.{CloudState, newest, version_at}
-use Rattle.cloud_trait.specs.Views.{got_of}
 use Rattle.cloud_trait.specs.Weather.{Makes, Rose}
 use Rattle.calm_calls.specs.Calm.{IsCalm}
 use Rattle.page_cache.specs.Cache.{Cache, accepts, kept_at}
@@ -30,8 +29,8 @@ use Rattle.page_cache.specs.Held.{leaf_at, inner_at, root_at}
 use Rattle.page_cache.specs.Refused.{IsDamaged}
 use Rattle.page_cache.proofs.CacheLemmas.{accept_kept}
 use Rattle.tree_walk.specs.Moves.{Moves}
-use Rattle.tree_walk.specs.Walk.{Spot, Walk, IsWalk, sought, spot_of, is_leaf, is_among, is_page, came_to, entry_for, linked, object_of, use_of, right_of, bad_fence, bad_level, node_left, node_passed, leaf_left, leaf_passed, root_read, node_read, leaf_read, read_at, read_from, follow, goes_on, got_read, accepted_by, got_by, left_by, beside, rested, walk_ask, walk_next}
-use Rattle.tree_walk.specs.Causing.{below, aside, node_link, node_link_by, LeadsTo, BreaksLevel, BreaksFence, IsOld, FailsSo, RefusesSo, AnswerShows, LinkShows, BreaksPromise, Brings, Shows, IsStopped, Exact}
+use Rattle.tree_walk.specs.Walk.{Spot, Walk, IsWalk, sought, spot_of, is_leaf, is_among, is_page, came_to, entry_for, linked, object_of, use_of, right_of, bad_fence, bad_level, node_left, node_passed, leaf_left, leaf_passed, root_read, node_read, leaf_read, read_at, read_from, follow, goes_on, got_read, accepted_by, left_by, beside, rested, walk_ask, walk_next}
+use Rattle.tree_walk.specs.Causing.{below, aside, node_link, node_link_by, LeadsTo, BreaksLevel, BreaksFence, IsOld, AnswerShows, LinkShows, Brings, Shows, IsStopped, Exact}
 use Rattle.tree_walk.specs.Serving.{IsServed, Serves, deed_of, GoesCalmly}
 use Rattle.tree_walk.proofs.Causing.{spot_is, asked, moved_shows}
 use Rattle.tree_walk.proofs.Leaves.{Unended, AtLeaf, linked_unended, node_unended, root_unended, through_unended, got_ends, kept_stays}
@@ -184,7 +183,7 @@ leaf_loops : (w : Walk) (l : Leaf) (next : ℕ × List ℕ) (to : Spot) → w.sp
 leaf_loops w l next to at same r led came =
     let v = leaf_passed (use_of w) in
     let goes : leaf_read w l ≡ leaf_left (use_of w) (Some next) =
-        ap (λ (b : Bool). if b then leaf_left (use_of w) (right_of (sought w) l.high (page_at l.right)) else Stops w (bad_fence w l.low)) same ∙ ap (leaf_left (use_of w)) r in
+    ap (λ (b : Bool). if b then leaf_left (use_of w) (right_of (sought w) l.high (page_at l.right)) else Stops w (bad_fence w l.low)) same ∙ ap (leaf_left (use_of w)) r in
     loops_at (leaf_read w l) (record v { turned = true }) (aside (spot_of w).level next) to goes (sym (ap (λ (s : Spot). s.page) led))
     (or_right (is_page to.page w.spot) (is_among v.nodes to.page || is_among v.leaves to.page) (leaf_still w at to.page came))
 
@@ -219,10 +218,11 @@ pub looped_stops : (w : Walk) (c : Cache) (a : Answer) (d : Cache) (to : Spot) �
     → (k : Walk × Cache) × (walk_next (w, c) a ≡ Stops k (trouble.Loop to.page))
 unfolding ReadLoops
 looped_stops w c a d to brings leads came =
-    let loops : ReadLoops (rested w) d to.page = leads_loops (rested w) d to leads came in
-    ((loops.0, left_by loops.0 d),
-    ap (walk_next (w, c)) brings.2 ∙ ap (λ (r : Result (ℕ × Cache) Trouble). beside (accepted_by (rested w) c r)) brings.3
-    ∙ ap (λ (o : Option (Next Walk ℕ)). beside (follow (goes_on d) (unwrap_or o (Stops (rested w) trouble.Failed)), d)) loops.1)
+    let loops : ReadLoops (rested w) d to.page = leads_loops (rested w) d to leads came in (
+      (loops.0, left_by loops.0 d),
+      ap (walk_next (w, c)) brings.2 ∙ ap (λ (r : Result (ℕ × Cache) Trouble). beside (accepted_by (rested w) c r)) brings.3
+          ∙ ap (λ (o : Option (Next Walk ℕ)). beside (follow (goes_on d) (unwrap_or o (Stops (rested w) trouble.Failed)), d)) loops.1,
+    )
 
 pub moved_exact : (who : Caller) (k : Ask) (w : Walk) (c : Cache) (n : Walk × Cache) (a : Answer) (turn : Turn ℕ) (before after : Seen) → k ≡ walk_ask w
     → Makes who k a before after → Moves (walk_next (w, c) a) n turn → Exact who before after (w, c) turn

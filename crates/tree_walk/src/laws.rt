@@ -15,5 +15,4 @@ pub fn ready_laws()
     ensures causes { (w : State) (c : Cache) (n : State × Cache) (t : TurnOf ℕ) → Moves (walk_ready (w, c)) n t → CausesReady (w, c) n.0 t }
     // What a new walk gets first is a leaf, the tree object of a fresh walk, or what the cache does not keep.
     ensures gets { (tree : ℕ) (key : Option (List ℕ)) (fresh : Bool) (c : Cache) (n : State × Cache) (t : TurnOf ℕ) → IsCache c → Moves (walk_ready (new_walk tree key fresh, c)) n t → t ≡ turn.More → MustGet n.0 n.1 }
-{
-}
+{}

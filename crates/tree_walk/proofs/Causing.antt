@@ -1,5 +1,5 @@
 -- Why a walk stops: by its pure step.
-use Rattle.std.proofs.Common.{◌≡◌, ◌≢◌, ℕ, zero, suc, ◌<◌, Bool, true, false, List, [], ◌∷◌, ◌++◌, Option, Some, None, Result, Ok, Err, unwrap_or, refl, ap, sym, subst, ◌∙◌, inl, inr, ◌⊎◌, arith}
+use Rattle.std.proofs.Common.{◌≡◌, ◌≢◌, ℕ, zero, suc, Bool, true, false, List, [], ◌∷◌, ◌++◌, Option, Some, None, Result, Ok, Err, unwrap_or, refl, ap, sym, subst, ◌∙◌, inl, inr, ◌⊎◌}
 use Rattle.std.specs.Prelude.{if◌then◌else◌, IfSome, ◌==◌, ◌||◌}
 use Rattle.std.specs.Option.{option_map}
 use Rattle.std.proofs.lemmas.Bool.{eqb-true, eq-eqb}
@@ -15,7 +15,7 @@ use Rattle.node_codec.specs.Tree.{Tree}
 use Rattle.cloud_trait.specs.declared.answer.Answer.{Answer}
 use Rattle.cloud_trait.specs.declared.answer.Answer.TheVariants as answer
 use Rattle.cloud_trait.specs.declared.turn.Turn.{Turn}
-use Rattle.cloud_trait.specs.declared.turn.Turn.TheVariants.{More, Ended, Stopped}
+use Rattle.cloud_trait.specs.declared.turn.Turn.TheVariants.{Stopped}
 use Rattle.cloud_trait.specs.Ask.{Ask, Get}
 use Rattle.cloud_trait.specs.Caller.{Caller}
 use Rattle.cloud_trait.specs.Machine.{Next, Goes, Ends, Stops}
@@ -27,7 +27,7 @@ use Rattle.page_cache.specs.Held.{leaf_at, inner_at, root_at}
 use Rattle.page_cache.proofs.ViewLemmas.{accept_leaf, accept_inner, accept_root}
 use Rattle.tree_walk.specs.Moves.{Moves}
 use Rattle.tree_walk.specs.Walk.{Spot, Walk, sought, spot_of, is_leaf, is_leaf_at, is_got_at, is_among, object_at, object_of, came_to, use_of, entry_for, right_of, linked, bad_fence, bad_level, node_left, node_passed, leaf_left, leaf_passed, root_read, node_read, leaf_read, read_at, read_from, read_kept, follow, onward, goes_through, goes_on, got_read, accepted_by, got_by, beside, rested, walk_ask, walk_ready, walk_next}
-use Rattle.tree_walk.specs.Causing.{below, aside, node_link, node_link_by, IsLinked, WasLed, LinkShows, AnswerShows, RefusesSo, Brings, Shows, Causes, CausesReady}
+use Rattle.tree_walk.specs.Causing.{below, aside, node_link, node_link_by, IsLinked, WasLed, LinkShows, Brings, Shows, Causes, CausesReady}
 use Rattle.tree_walk.proofs.Refusing.{refused_shows}
 
 -- ---- through kept objects

@@ -5,3 +5,4 @@ pub mod Refusing
 pub mod Causing
 pub mod Onceness
 pub mod Serving
+pub mod Getting

@@ -2,7 +2,7 @@
 use Rattle.std.proofs.Common.{◌≡◌, ◌≢◌, ℕ, zero, suc, ◌+◌, ◌≤◌, ◌<◌, Bool, true, false, List, [], ◌∷◌, ◌++◌, length, Option, Some, None, Result, Ok, Err, unwrap_or, refl, ap, sym, subst, ◌∙◌, arith}
 use Rattle.std.specs.Prelude.{if◌then◌else◌, IfSome, ◌==◌, ◌||◌}
 use Rattle.std.specs.Option.{option_map}
-use Rattle.std.specs.List.{AllByRecursion, IsDistinct, list_any}
+use Rattle.std.specs.List.{AllByRecursion, IsDistinct}
 use Rattle.std.proofs.lemmas.Bool.{eqb-true}
 use Rattle.std.proofs.lemmas.List.Folds.{list_any-append}
 use Rattle.byte_format.specs.Order.{bytes_same}
@@ -22,7 +22,7 @@ use Rattle.cloud_trait.specs.Views.{got_of}
 use Rattle.page_cache.specs.Cache.{Cache, accepts}
 use Rattle.page_cache.specs.Held.{leaf_at, inner_at, root_at}
 use Rattle.tree_walk.specs.Moves.{Moves}
-use Rattle.tree_walk.specs.Walk.{Spot, Walk, new_walk, sought, spot_of, is_leaf, is_got, is_among, is_page, object_of, came_to, use_of, entry_for, right_of, linked, bad_fence, bad_level, node_left, node_passed, leaf_left, leaf_passed, root_read, node_read, leaf_read, read_at, read_from, read_kept, follow, onward, goes_through, goes_on, got_read, accepted_by, got_by, beside, rested, walk_ready, walk_next, asks, pages}
+use Rattle.tree_walk.specs.Walk.{Spot, Walk, new_walk, sought, spot_of, is_leaf, is_got, is_among, is_page, object_of, came_to, use_of, entry_for, right_of, linked, bad_fence, bad_level, node_left, node_passed, leaf_left, leaf_passed, root_read, node_read, leaf_read, read_at, read_from, read_kept, follow, onward, goes_through, goes_on, got_read, accepted_by, got_by, beside, rested, walk_next, asks, pages}
 use Rattle.tree_walk.specs.Causing.{below, aside}
 use Rattle.tree_walk.specs.Within.{IsBegun, Went, AreOnce, IsPassedOnce, IsOnce, IsWithin}
 use Rattle.tree_walk.proofs.Ending.{more_pages}
@@ -46,7 +46,7 @@ once_push (q ∷ ps) p h apart =
     (all_apart ps q p h.0 two.0, once_push ps p h.1 two.1)
 
 -- what is among pages with one more at their end is that page, or was among them
-among_push : (ps : List ℕ) (p q : ℕ) → is_among (ps ++ p ∷ []) q ≡ (is_among ps q || ((p == q) || false))
+pub among_push : (ps : List ℕ) (p q : ℕ) → is_among (ps ++ p ∷ []) q ≡ (is_among ps q || ((p == q) || false))
 among_push ps p q = list_any-append (λ (x : ℕ). x == q) ps (p ∷ [])
 
 -- ---- one object
@@ -126,7 +126,7 @@ if_map : {X : Type 0} (P : Next Walk ℕ → Type 0) (f : X → Next Walk ℕ) (
 if_map P f None h = tt
 if_map P f (Some x) h = h x
 
-at_spot : (w : Walk) (s : Spot) → w.spot ≡ Some s → w.spot ≡ Some (spot_of w)
+pub at_spot : (w : Walk) (s : Spot) → w.spot ≡ Some s → w.spot ≡ Some (spot_of w)
 at_spot w s e = subst (λ (x : Spot). w.spot ≡ Some x) (spot_is w s e) e
 
 read_once : (w : Walk) (c : Cache) → IsOnce w → IfSome (read_from w c) OnceIn
@@ -234,10 +234,10 @@ StillIn old (Ends w page) = HasStill old w
 StillIn old (Stops w t) = HasStill old w
 
 -- .. and has passed them but for the page in hand
-abbrev PassedStill : Walk → Walk → Type 0
+abbrev pub PassedStill : Walk → Walk → Type 0
 PassedStill old w = (page : ℕ) → came_to old page ≡ true → (is_among w.nodes page || is_among w.leaves page) ≡ true
 
-or_right : (a b : Bool) → b ≡ true → (a || b) ≡ true
+pub or_right : (a b : Bool) → b ≡ true → (a || b) ≡ true
 or_right true b h = refl
 or_right false b h = h
 
@@ -260,12 +260,12 @@ or_push_behind a true false false e h = e
 or_push_behind a false false true e h = e
 or_push_behind a false false false e h = absurd (cc (h))
 
-node_still : (w : Walk) → w.spot ≡ Some (spot_of w) → PassedStill w (node_passed w)
+pub node_still : (w : Walk) → w.spot ≡ Some (spot_of w) → PassedStill w (node_passed w)
 node_still w at page came =
     or_push (is_among (w.nodes ++ (spot_of w).page ∷ []) page) ((spot_of w).page == page) (is_among w.nodes page) (is_among w.leaves page)
     (among_push w.nodes (spot_of w).page page) (subst (λ (o : Option Spot). (is_page page o || (is_among w.nodes page || is_among w.leaves page)) ≡ true) at came)
 
-leaf_still : (w : Walk) → w.spot ≡ Some (spot_of w) → PassedStill w (leaf_passed (use_of w))
+pub leaf_still : (w : Walk) → w.spot ≡ Some (spot_of w) → PassedStill w (leaf_passed (use_of w))
 leaf_still w at page came =
     or_push_behind (is_among (w.leaves ++ (spot_of w).page ∷ []) page) ((spot_of w).page == page) (is_among w.nodes page) (is_among w.leaves page)
     (among_push w.leaves (spot_of w).page page) (subst (λ (o : Option Spot). (is_page page o || (is_among w.nodes page || is_among w.leaves page)) ≡ true) at came)

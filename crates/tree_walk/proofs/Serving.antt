@@ -1,6 +1,6 @@
 -- What a walk is served, and when it stops for certain.
-use Rattle.std.proofs.Common.{◌≡◌, ◌≢◌, ℕ, zero, suc, ◌<◌, Bool, true, false, List, Option, Some, None, Result, Ok, Err, unwrap_or, refl, ap, sym, subst, ◌∙◌, inl, inr, ◌⊎◌, arith}
-use Rattle.std.specs.Prelude.{if◌then◌else◌, IfSome, ◌==◌}
+use Rattle.std.proofs.Common.{◌≡◌, ◌≢◌, ℕ, Bool, true, false, List, Option, Some, None, Result, Ok, Err, unwrap_or, refl, ap, sym, subst, ◌∙◌, inl, inr, ◌⊎◌, arith}
+use Rattle.std.specs.Prelude.{if◌then◌else◌, IfSome, ◌==◌, ◌||◌}
 use Rattle.std.specs.Option.{option_map}
 use Rattle.byte_format.specs.Order.{bytes_same}
 use Rattle.db_base.specs.declared.names.ObjName.{ObjName}
@@ -12,6 +12,7 @@ use Rattle.leaf_view.specs.Leaf.{Leaf}
 use Rattle.leaf_view.specs.Lookup.{page_at}
 use Rattle.node_codec.specs.Node.{page_at as node_at}
 use Rattle.node_codec.specs.Inner.{Inner}
+use Rattle.node_codec.specs.Tree.{Tree}
 use Rattle.cloud_trait.specs.declared.answer.Answer.{Answer}
 use Rattle.cloud_trait.specs.declared.answer.Answer.TheVariants as answer
 use Rattle.cloud_trait.specs.declared.turn.Turn.{Turn}
@@ -21,7 +22,6 @@ use Rattle.cloud_trait.specs.Caller.{Caller}
 use Rattle.cloud_trait.specs.Machine.{Next, Goes, Ends, Stops}
 use Rattle.cloud_trait.specs.Seen.{Seen}
 use Rattle.cloud_trait.specs.State.{CloudState, newest, version_at}
-use Rattle.cloud_trait.specs.Views.{got_of}
 use Rattle.cloud_trait.specs.Weather.{Makes, Rose}
 use Rattle.calm_calls.specs.Calm.{IsCalm}
 use Rattle.page_cache.specs.Cache.{Cache, accepts, kept_at}
@@ -29,11 +29,12 @@ use Rattle.page_cache.specs.Held.{leaf_at, inner_at, root_at}
 use Rattle.page_cache.specs.Refused.{IsDamaged}
 use Rattle.page_cache.proofs.CacheLemmas.{accept_kept}
 use Rattle.tree_walk.specs.Moves.{Moves}
-use Rattle.tree_walk.specs.Walk.{Spot, Walk, IsWalk, sought, spot_of, is_leaf, object_of, use_of, right_of, bad_fence, bad_level, node_left, node_passed, leaf_left, leaf_passed, root_read, node_read, leaf_read, read_at, read_from, follow, goes_on, got_read, accepted_by, got_by, left_by, beside, rested, walk_ask, walk_next}
-use Rattle.tree_walk.specs.Causing.{below, aside, BreaksLevel, BreaksFence, IsOld, FailsSo, RefusesSo, AnswerShows, LinkShows, BreaksPromise, Brings, Shows, IsStopped, Exact}
+use Rattle.tree_walk.specs.Walk.{Spot, Walk, IsWalk, sought, spot_of, is_leaf, is_among, is_page, came_to, entry_for, linked, object_of, use_of, right_of, bad_fence, bad_level, node_left, node_passed, leaf_left, leaf_passed, root_read, node_read, leaf_read, read_at, read_from, follow, goes_on, got_read, accepted_by, left_by, beside, rested, walk_ask, walk_next}
+use Rattle.tree_walk.specs.Causing.{below, aside, node_link, node_link_by, LeadsTo, BreaksLevel, BreaksFence, IsOld, AnswerShows, LinkShows, Brings, Shows, IsStopped, Exact}
 use Rattle.tree_walk.specs.Serving.{IsServed, Serves, deed_of, GoesCalmly}
 use Rattle.tree_walk.proofs.Causing.{spot_is, asked, moved_shows}
 use Rattle.tree_walk.proofs.Leaves.{Unended, AtLeaf, linked_unended, node_unended, root_unended, through_unended, got_ends, kept_stays}
+use Rattle.tree_walk.proofs.Onceness.{or_right, node_still, leaf_still, at_spot}
 use Rattle.tree_walk.proofs.Refusing.{damaged_refused, old_refused}
 
 -- ---- where the walk stops for certain
@@ -143,6 +144,86 @@ brought_stops w c a d s t brings at h =
     ap (walk_next (w, c)) brings.2 ∙ ap (λ (r : Result (ℕ × Cache) Trouble). beside (accepted_by (rested w) c r)) brings.3
     ∙ ap (λ (o : Option (Next Walk ℕ)). beside (follow (goes_on d) (unwrap_or o (Stops (rested w) trouble.Failed)), d)) (broken (rested w) d s t at h)
 
+-- where a link leads back
+Loops : Next Walk ℕ → ℕ → Type 0
+Loops x page = (v : Walk) × (x ≡ Stops v (trouble.Loop page))
+
+linked_loops : (w : Walk) (s : Spot) → came_to w s.page ≡ true → linked w s ≡ Stops w (trouble.Loop s.page)
+linked_loops w s came = ap (λ (b : Bool). if b then Stops w (trouble.Loop s.page) else Goes (record w { spot = Some s })) came
+
+loops_at : (x : Next Walk ℕ) (w : Walk) (s : Spot) (to : Spot) → x ≡ linked w s → s.page ≡ to.page → came_to w to.page ≡ true → Loops x to.page
+unfolding Loops
+loops_at x w s to is page came =
+    (w, is ∙ linked_loops w s (ap (came_to w) page ∙ came) ∙ ap (λ (p : ℕ). Stops w (trouble.Loop p)) page)
+
+node_goes : (w : Walk) (n : Inner) (o : Option (ℕ × List ℕ)) → (n.level == (spot_of w).level) ≡ true → bytes_same n.low (spot_of w).low ≡ true → right_of (sought w) n.high (node_at n.right) ≡ o
+    → node_read w n ≡ node_left (node_passed w) n o
+node_goes w n o level same r =
+    ap (λ (b : Bool). if b then (if bytes_same n.low (spot_of w).low then node_left (node_passed w) n (right_of (sought w) n.high (node_at n.right)) else Stops w (bad_fence w n.low)) else Stops w (bad_level w)) level
+    ∙ ap (λ (b : Bool). if b then node_left (node_passed w) n (right_of (sought w) n.high (node_at n.right)) else Stops w (bad_fence w n.low)) same
+    ∙ ap (node_left (node_passed w) n) r
+
+node_loops : (w : Walk) (n : Inner) (to : Spot) → w.spot ≡ Some (spot_of w) → (n.level == (spot_of w).level) ≡ true → bytes_same n.low (spot_of w).low ≡ true
+    → to ≡ node_link (sought w) n → came_to w to.page ≡ true → Loops (node_read w n) to.page
+node_loops w n to at level same is came = on (right_of (sought w) n.high (node_at n.right)) refl where
+  passed : came_to (node_passed w) to.page ≡ true
+  passed = or_right (is_page to.page w.spot) (is_among (node_passed w).nodes to.page || is_among (node_passed w).leaves to.page) (node_still w at to.page came)
+
+  on : (o : Option (ℕ × List ℕ)) → right_of (sought w) n.high (node_at n.right) ≡ o → Loops (node_read w n) to.page
+  on (Some next) r =
+      let led : to ≡ aside n.level next = is ∙ ap (node_link_by (sought w) n) r in
+      loops_at (node_read w n) (record (node_passed w) { turned = true }) (aside (spot_of w).level next) to (node_goes w n (Some next) level same r) (sym (ap (λ (s : Spot). s.page) led)) passed
+  on None r =
+      let entry = entry_for (sought w) n.entries in
+      let led : to ≡ below n.level entry = is ∙ ap (node_link_by (sought w) n) r in
+      loops_at (node_read w n) (node_passed w) (below (spot_of w).level entry) to (node_goes w n None level same r) (sym (ap (λ (s : Spot). s.page) led)) passed
+
+leaf_loops : (w : Walk) (l : Leaf) (next : ℕ × List ℕ) (to : Spot) → w.spot ≡ Some (spot_of w) → bytes_same l.low (spot_of w).low ≡ true
+    → right_of (sought w) l.high (page_at l.right) ≡ Some next → to ≡ aside 0 next → came_to w to.page ≡ true → Loops (leaf_read w l) to.page
+leaf_loops w l next to at same r led came =
+    let v = leaf_passed (use_of w) in
+    let goes : leaf_read w l ≡ leaf_left (use_of w) (Some next) =
+    ap (λ (b : Bool). if b then leaf_left (use_of w) (right_of (sought w) l.high (page_at l.right)) else Stops w (bad_fence w l.low)) same ∙ ap (leaf_left (use_of w)) r in
+    loops_at (leaf_read w l) (record v { turned = true }) (aside (spot_of w).level next) to goes (sym (ap (λ (s : Spot). s.page) led))
+    (or_right (is_page to.page w.spot) (is_among v.nodes to.page || is_among v.leaves to.page) (leaf_still w at to.page came))
+
+ReadLoops : Walk → Cache → ℕ → Type 0
+ReadLoops w d page = (v : Walk) × (read_from w d ≡ Some (Stops v (trouble.Loop page)))
+
+some_loops : (w : Walk) (d : Cache) (x : Next Walk ℕ) (page : ℕ) → read_from w d ≡ Some x → Loops x page → ReadLoops w d page
+unfolding Loops ReadLoops
+some_loops w d x page is h = (h.0, is ∙ ap (λ (y : Next Walk ℕ). Some y) h.1)
+
+leads_loops : (w : Walk) (d : Cache) (to : Spot) → LeadsTo d w w.spot to → came_to w to.page ≡ true → ReadLoops w d to.page
+leads_loops w d to h came = on w.spot refl h where
+  root : w.spot ≡ None → (t : Tree) → root_at d (object.Tree w.tree) ≡ Some t → to ≡ below t.level (entry_for (sought w) t.entries) → ReadLoops w d to.page
+  root none t kept is =
+      some_loops w d (root_read w t) to.page (ap (read_at w d) none ∙ ap (option_map (root_read w)) kept)
+      (loops_at (root_read w t) (use_of w) (below t.level (entry_for (sought w) t.entries)) to refl (sym (ap (λ (s : Spot). s.page) is)) came)
+
+  on : (o : Option Spot) → w.spot ≡ o → LeadsTo d w o to → ReadLoops w d to.page
+  on None e k = root e k.0 k.1 k.2
+  on (Some s) e (inl k) =
+      let is = spot_is w s e in
+      let n = k.0 in
+      some_loops w d (node_read w n) to.page (read_node_at w d s n e k.1 k.2)
+      (node_loops w n to (at_spot w s e) (subst (λ (x : Spot). (n.level == x.level) ≡ true) is k.3) (subst (λ (x : Spot). bytes_same n.low x.low ≡ true) is k.4) k.5 came)
+  on (Some s) e (inr k) =
+      let is = spot_is w s e in
+      let l = k.0 in
+      some_loops w d (leaf_read w l) to.page (read_leaf_at w d s l e k.2 k.3)
+      (leaf_loops w l k.1 to (at_spot w s e) (subst (λ (x : Spot). bytes_same l.low x.low ≡ true) is k.4) k.5 k.6 came)
+
+pub looped_stops : (w : Walk) (c : Cache) (a : Answer) (d : Cache) (to : Spot) → Brings (w, c) a d → LeadsTo d w w.spot to → came_to w to.page ≡ true
+    → (k : Walk × Cache) × (walk_next (w, c) a ≡ Stops k (trouble.Loop to.page))
+unfolding ReadLoops
+looped_stops w c a d to brings leads came =
+    let loops : ReadLoops (rested w) d to.page = leads_loops (rested w) d to leads came in (
+      (loops.0, left_by loops.0 d),
+      ap (walk_next (w, c)) brings.2 ∙ ap (λ (r : Result (ℕ × Cache) Trouble). beside (accepted_by (rested w) c r)) brings.3
+          ∙ ap (λ (o : Option (Next Walk ℕ)). beside (follow (goes_on d) (unwrap_or o (Stops (rested w) trouble.Failed)), d)) loops.1,
+    )
+
 pub moved_exact : (who : Caller) (k : Ask) (w : Walk) (c : Cache) (n : Walk × Cache) (a : Answer) (turn : Turn ℕ) (before after : Seen) → k ≡ walk_ask w
     → Makes who k a before after → Moves (walk_next (w, c) a) n turn → Exact who before after (w, c) turn
 moved_exact who k w c n a turn before after is made moved = record {
@@ -150,6 +231,9 @@ moved_exact who k w c n a turn before after is made moved = record {
   made = asked who k w a before after is made;
   answered = λ t shows. moved_stopped (walk_next (w, c) a) (rested w, left_by (rested w) c) n t turn (answer_stops w c a t shows) moved;
   brought = λ d s t brings at h. moved_stopped (walk_next (w, c) a) (rested w, left_by (rested w) d) n t turn (brought_stops w c a d s t brings at h) moved;
+  looped = λ d to brings leads came.
+      let stops = looped_stops w c a d to brings leads came in
+      moved_stopped (walk_next (w, c) a) stops.0 n (trouble.Loop to.page) turn stops.1 moved;
 }
 
 -- ---- the leaf at which it ends

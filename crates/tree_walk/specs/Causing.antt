@@ -1,5 +1,5 @@
 -- Why a walk stops: the answer to its get shows it, or the objects that the cache keeps and the links between them do.
-use Rattle.std.specs.Prelude.{ℕ, ◌≡◌, ◌≢◌, ◌<◌, ◌==◌, ◌-◌, ◌⊎◌, Bool, true, false, List, Option, Some, None, Result, Ok}
+use Rattle.std.specs.Prelude.{ℕ, ◌≡◌, ◌≢◌, ◌<◌, ◌==◌, ◌-◌, ◌⊎◌, Bool, true, false, List, Option, Some, None, Ok}
 use Rattle.byte_format.specs.Order.{bytes_same}
 use Rattle.db_base.specs.declared.names.ObjName.{ObjName}
 use Rattle.db_base.specs.declared.names.ObjName.TheVariants as object
@@ -156,10 +156,21 @@ CausesReady m w turn = (t : Trouble) → turn ≡ Stopped t → t ≢ trouble.Me
 abbrev pub IsStopped : Turn ℕ → Trouble → Type 0
 IsStopped turn t = (turn ≡ Stopped t) ⊎ (turn ≡ Stopped trouble.Memory)
 
--- where the answer, or the page that was in hand and is kept now, shows a trouble, the step stops with it
+-- the object in hand, which the cache keeps and which is as its link promised, leads the walk's key to a page
+abbrev pub LeadsTo : Cache → Walk → Option Spot → Spot → Type 0
+LeadsTo c w None to = (t : Tree) × (root_at c (object.Tree w.tree) ≡ Some t) × (to ≡ below t.level (entry_for (sought w) t.entries))
+LeadsTo c w (Some s) to =
+    ((n : Inner) × ((s.level == 0) ≡ false) × (inner_at c (object.Page w.tree s.page) ≡ Some n) × ((n.level == s.level) ≡ true)
+    × (bytes_same n.low s.low ≡ true) × (to ≡ node_link (sought w) n))
+    ⊎ ((l : Leaf) × (next : ℕ × List ℕ) × ((s.level == 0) ≡ true) × (leaf_at c (object.Page w.tree s.page) ≡ Some l) × (bytes_same l.low s.low ≡ true)
+    × (right_of (sought w) l.high (page_at l.right) ≡ Some next) × (to ≡ aside 0 next))
+
+-- where the answer, or the object that was in hand and is kept now, shows a trouble, the step stops with it
 pub record Exact (who : Caller) (before after : Seen) (old : Walk × Cache) (turn : Turn ℕ) : Type 0 where
   pub answer : Answer
   pub made : Makes who (asks old) answer before after
   pub answered : (t : Trouble) → AnswerShows old answer t → IsStopped turn t
   pub brought : (c : Cache) (s : Spot) (t : Trouble) → Brings old answer c → old.0.spot ≡ Some s
       → BreaksLevel c old.0.tree s t ⊎ BreaksFence c old.0.tree s t → IsStopped turn t
+  pub looped : (c : Cache) (to : Spot) → Brings old answer c → LeadsTo c old.0 old.0.spot to → came_to old.0 to.page ≡ true
+      → IsStopped turn (trouble.Loop to.page)

@@ -1,5 +1,5 @@
 -- How many calls a walk makes: one more at most than the pages that it comes to, each of them once.
-use Rattle.std.specs.Prelude.{ℕ, suc, ◌≡◌, ◌≢◌, ◌+◌, ◌≤◌, ◌==◌, ◌||◌, Bool, true, false, List, length, Option, Some}
+use Rattle.std.specs.Prelude.{ℕ, ◌≡◌, ◌≢◌, ◌+◌, ◌≤◌, ◌==◌, ◌||◌, Bool, true, false, List, Option, Some}
 use Rattle.std.specs.List.{IsDistinct}
 use Rattle.db_base.specs.declared.trouble.Trouble.TheVariants as trouble
 use Rattle.cloud_trait.specs.declared.turn.Turn.{Turn}

@@ -7,7 +7,7 @@ ghost use Rattle.node_codec.specs.Node.{page_at as node_at};
 ghost use Rattle.page_cache.specs.Cache.{Cache, dropped};
 ghost use Rattle.tree_walk.specs.Causing.{Causes, Exact};
 ghost use Rattle.tree_walk.specs.Moves.{is_more, Moves, MovesIf, MovesBeside};
-ghost use Rattle.tree_walk.specs.Serving.{Serves, GoesCalmly};
+ghost use Rattle.tree_walk.specs.Serving.{MustGet, Serves, GoesCalmly};
 ghost use Rattle.tree_walk.specs.Walk.{right_of};
 ghost use Rattle.tree_walk.specs.Within.{Went, IsWithin};
 
@@ -473,6 +473,8 @@ impl Walk {
         ensures within { (h : List Deed) → Went h (self.old, cache.old) → IsWithin (length h + 1) self.old self.new result }
         // Where the answer, or the page that it brought, shows a trouble, it stops with that.
         ensures exact { Exact who (C.seen cloud.old) (C.seen cloud.new) (self.old, cache.old) result }
+        // What it gets next is a leaf, the tree object of a fresh walk, or what the cache does not keep.
+        ensures gets { result ≡ Turn.More → MustGet self.new cache.new }
         // At its end the leaf is what this call got: a version that landed, and the newest where `stale` did not rise.
         ensures serves { Serves who (C.seen cloud.old) (C.seen cloud.new) (self.old, cache.old) (self.new, cache.new) result }
         // A calm call does not fail, and what is stale then is so in its newest version.

@@ -2,6 +2,7 @@ use Rattle.std.proofs.Common.{◌+◌, ◌<◌, ◌^◌, length, subst, arith}
 use Rattle.tree_walk.specs.Walk.{Walk, IsWalk, pages, spots}
 use Rattle.tree_walk.proofs.Causing.{moved_causes}
 use Rattle.tree_walk.proofs.Ending.{moved_less, spots_most}
+use Rattle.tree_walk.proofs.Getting.{moved_gets}
 use Rattle.tree_walk.proofs.Leaves.{moved_ends}
 use Rattle.tree_walk.proofs.Onceness.{moved_within}
 use Rattle.tree_walk.proofs.Serving.{moved_exact, moved_serves, moved_calmly}
@@ -40,3 +41,6 @@ returns-clause-serves g c =
 pub returns-clause-well : goal.returns-clause-well
 returns-clause-well g c =
     moved_calmly c.args.who _ c.args.self.now c.args.cache.now (c.absorb.new.self, c.absorb.new.cache) c.perform-answer.result c.absorb.result _ _ c.in_hand.ensures c.perform-answer.ensures c.absorb.ensures
+
+pub returns-clause-gets : goal.returns-clause-gets
+returns-clause-gets g c = moved_gets (c.args.self.now, c.args.cache.now) (c.absorb.new.self, c.absorb.new.cache) c.perform-answer.result c.absorb.result c.absorb.ensures

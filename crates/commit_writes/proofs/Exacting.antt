@@ -33,6 +33,7 @@ use Rattle.commit_writes.specs.Well.{IsWell, EndsWell, Well}
 use Rattle.commit_writes.specs.Within.{Went}
 use Rattle.commit_writes.proofs.Knowing.{KnowsLogging, KnowsOpening, KnowsSending, KnowsSettling, KnowsDeleting, KnowsAt, Knows}
 use Rattle.commit_writes.proofs.Meaning.{post_asked, went_knows, only_memory, came_means}
+use Rattle.commit_writes.proofs.Marking.{went_marked}
 use Rattle.commit_writes.proofs.Counting.{none_logged, opened_put, opened_all, opened_posted, opened_settled, opened_more, deleted_before}
 
 -- a step that ends shows what demands its answer
@@ -313,4 +314,8 @@ went_well who before after old new a turn made stops took = record {
       (means_memory home records (told h ++ (writing_ask old, a) ∷ []) new.home turn
       (came_means old new a turn made.fits stops took home went.1 records went.2 h went.3 went.4))
       (went_exactly old new a turn made.fits stops took home records h went);
+  marked = λ home records h went calm alone x ended s left.
+      went_marked home records h old (record { who = who; ask = writing_ask old; answer = a; before = before; after = after }) x s went calm alone refl made
+      (λ memory. stopped_not trouble.Memory (Committed x) (sym (stops memory) ∙ ended))
+      ((went_exactly old new a turn made.fits stops took home records h went (Committed x)).only ended) left;
 }

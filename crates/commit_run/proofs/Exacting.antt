@@ -53,7 +53,7 @@ use Rattle.commit_run.specs.Causing.{IsOfLink, ShowsWalk, TellsOf}
 use Rattle.commit_run.specs.Exact.{IsOfCalls, StopsIn, IsRouted, FitsIn, Exact, ExactReady}
 use Rattle.commit_run.specs.Names.{Names}
 use Rattle.commit_run.specs.Well.{IsMet, IsWell, EndsWell, Well}
-use Rattle.commit_run.specs.Within.{Went}
+use Rattle.commit_run.specs.Within.{Went, GetsNothing}
 use Rattle.commit_run.proofs.Causing.{Shown, WalkCause, walked_shown}
 use Rattle.commit_run.proofs.Knowing.{KnowsWrites, KnowsAt}
 use Rattle.commit_run.proofs.Meaning.{came_knows, told_append, walk_meant, ready_means}
@@ -234,6 +234,10 @@ walk_asks_get : (first : Bool) (d : Draft) (w : Walk) (c : Cache) → walk_ask w
 walk_asks_get true d w c = refl
 walk_asks_get false d w c = refl
 
+walk_gets : (first : Bool) (d : Draft) (w : Walk) (c : Cache) → GetsNothing (asks (record { draft = d; hand = held first w }, c)) → ⊥
+walk_gets true d w c gets = gets
+walk_gets false d w c gets = gets
+
 pub walk_exact : (first : Bool) (d : Draft) (w : Walk) (c : Cache) (who : Caller) (before after : Seen) (n : Run × Cache) (turn : Turn CommitAnswer)
     → Steps asks (LeadsBy run_next) KeepsHome who before after (record { draft = d; hand = held first w }, c) n turn → Exact who before after (record { draft = d; hand = held first w }, c) turn
 walk_exact first d w c who before after n turn steps = record {
@@ -248,6 +252,7 @@ walk_exact first d w c who before after n turn steps = record {
       let stop : (e : Walk × Cache) × (walk_next (w, c) steps.answer ≡ Stops e t) × (is_stale t ≡ false) = stops_in first w c steps.answer t s in
       took_by first d w c steps.answer n turn t (walk_took first d w c steps.answer n turn steps.took) (stops_by first d w c steps.answer stop.0 t stop.1 stop.2);
   fits = λ home changes h went. walk_fits_in home changes first w d.writes;
+  ample = λ gets none refusal. absurd (walk_gets first d w c gets);
 } where
   knows : (b : Bool) (home : Home) (changes : List Noted) (h : List Deed) → Went home changes h (record { draft = d; hand = held b w }, c) → KnowsAt home changes h d (held b w)
   knows b home changes h (some, cache, start, begins, came) = came_knows home changes cache start begins h (record { draft = d; hand = held b w }, c) came
@@ -341,6 +346,7 @@ write_exact d c who before after turn e = record {
       (e.exact (walked_home home k.begun_so.uses) (routed_of (walked_home home k.begun_so.uses) changes k.begun_so.pages) k.later (writes_went home changes h d.writes went.0 k) x);
   refused = λ t s. absurd s;
   fits = λ home changes h went. write_routed home changes h d.writes went.0 (write_knows_so d c home changes h went);
+  ample = λ gets none refusal. e.ample none refusal;
 }
 
 -- ---- what calls name

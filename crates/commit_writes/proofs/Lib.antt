@@ -5,4 +5,5 @@ pub mod Keeping
 pub mod Knowing
 pub mod Marking
 pub mod Meaning
+pub mod Refusing
 pub mod RoutedLaws

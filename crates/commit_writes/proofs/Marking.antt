@@ -1,10 +1,9 @@
 -- Where its calls are calm and nobody else acts, a commit leaves its ATOMIC messages marked as deleted.
-use Rattle.std.proofs.Common.{◌≡◌, ◌≢◌, ◌≤◌, ◌<◌, ◌+◌, ◌-◌, ℕ, zero, suc, Bool, true, false, cond, List, [], ◌∷◌, ◌++◌, length, Option, Some, None, Result, Ok, Err, refl, ap, sym, subst, ◌∙◌, inl, inr, arith}
+use Rattle.std.proofs.Common.{◌≡◌, ◌≢◌, ◌≤◌, ◌+◌, ◌-◌, ℕ, zero, suc, Bool, true, false, cond, List, [], ◌∷◌, ◌++◌, length, Option, Some, None, Result, Ok, Err, refl, ap, sym, subst, ◌∙◌, arith}
 use Rattle.std.specs.Prelude.{slice_get, take, ◌==◌}
 use Rattle.std.specs.List.{AllByRecursion}
 use Rattle.std.proofs.lemmas.Bool.{eqb-true}
 use Rattle.std.proofs.lemmas.List.{append_assoc, take_all}
-use Rattle.std.proofs.lemmas.Option.{slice_get_within}
 use Rattle.db_base.specs.declared.names.QueueName.{QueueName}
 use Rattle.db_base.specs.declared.names.QueueName.TheVariants as queue
 use Rattle.db_base.specs.declared.trouble.Trouble.{Trouble}
@@ -14,18 +13,14 @@ use Rattle.db_base.specs.declared.trouble.CommitAnswer.TheVariants.{Committed}
 use Rattle.log_codec.specs.declared.record.AtomicRec.{AtomicRec}
 use Rattle.txn_buffer.specs.Noted.{Noted}
 use Rattle.cloud_trait.specs.declared.answer.Answer.{Answer}
-use Rattle.cloud_trait.specs.declared.answer.Answer.TheVariants.{Sent, Done, Late, Failed, Memory}
+use Rattle.cloud_trait.specs.declared.answer.Answer.TheVariants.{Done, Failed, Memory}
 use Rattle.cloud_trait.specs.declared.state.Posted.{Posted}
-use Rattle.cloud_trait.specs.declared.turn.Turn.{Turn}
-use Rattle.cloud_trait.specs.declared.turn.Turn.TheVariants.{Ended, Stopped}
-use Rattle.cloud_trait.specs.Ask.{Ask, Delete, Lands}
-use Rattle.cloud_trait.specs.Caller.{Caller}
-use Rattle.cloud_trait.specs.Seen.{Seen}
-use Rattle.cloud_trait.specs.State.{CloudState, called, put_at, mark_at, marked}
+use Rattle.cloud_trait.specs.Ask.{Ask, Delete}
+use Rattle.cloud_trait.specs.State.{CloudState, called, mark_at, marked}
 use Rattle.cloud_trait.specs.Names.{queue_cmp}
-use Rattle.cloud_trait.specs.Machine.{Next, Goes, Ends, Stops, LeadsBy, Took, Came, Deed, IsMade}
+use Rattle.cloud_trait.specs.Machine.{Next, Goes, Ends, Stops, LeadsBy, Came, Deed, IsMade}
 use Rattle.cloud_trait.specs.Views.{sent_of, done_of}
-use Rattle.cloud_trait.specs.Weather.{Fits, Leaves, Makes, Weather}
+use Rattle.cloud_trait.specs.Weather.{Fits, Leaves, Weather}
 use Rattle.cloud_trait.proofs.StateLemmas.{put_at_same}
 use Rattle.cloud_trait.proofs.NameLemmas.{queue_cmp-total}
 use Rattle.calm_calls.specs.Calm.{GoesWell, IsCalm, AreCalm, ComesNext, AreAlone}
@@ -33,8 +28,8 @@ use Rattle.calm_calls.proofs.CalmLemmas.{goes_well}
 use Rattle.recover_run.specs.declared.home.Home.{Home}
 use Rattle.commit_writes.specs.declared.stage.Stage.{Stage}
 use Rattle.commit_writes.specs.declared.stage.Stage.TheVariants.{Waiting, Logging, Opening, Sending, Settling, Deleting, Finished}
-use Rattle.commit_writes.specs.Writing.{Writing, waiting, begun, writing_ask, writing_next, ask_at, next_at, send_ask, delete_ask, logged_by, opened_by, not_opened, sent_by, settled_by, deleted_by, log_or_open, send_or_settle, delete_or_end, KeepsHome}
-use Rattle.commit_writes.specs.Calls.{Calls, told, post_of, posted_calls, deleted_calls, put_of, opened_of, settled_of, all_logged, all_opened, all_posted, all_settled}
+use Rattle.commit_writes.specs.Writing.{Writing, waiting, begun, writing_ask, writing_next, ask_at, next_at, delete_ask, logged_by, opened_by, not_opened, sent_by, settled_by, deleted_by, log_or_open, send_or_settle, delete_or_end}
+use Rattle.commit_writes.specs.Calls.{Calls, told, posted_calls, deleted_calls, put_of, opened_of, settled_of, all_logged, all_opened, all_posted, all_settled}
 use Rattle.commit_writes.specs.Exact.{IsDeletion, deletions, Demands}
 use Rattle.commit_writes.specs.Well.{IsMarked, AreMarked}
 use Rattle.commit_writes.specs.Within.{Went}

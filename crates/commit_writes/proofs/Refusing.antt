@@ -1,5 +1,5 @@
 -- Want of memory never takes the place of what a refused send or put says.
-use Rattle.std.proofs.Common.{◌≡◌, ◌≢◌, ℕ, Option, Some, None, Result, Ok, Err, refl, subst, sym}
+use Rattle.std.proofs.Common.{◌≡◌, ◌≢◌, ℕ, Option, Some, None, Result, subst}
 use Rattle.std.specs.Prelude.{slice_get, IfErr}
 use Rattle.db_base.specs.declared.trouble.Trouble.{Trouble}
 use Rattle.cloud_trait.specs.declared.answer.Answer.{Answer}

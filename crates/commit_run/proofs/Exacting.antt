@@ -2,6 +2,7 @@
 use Rattle.std.proofs.Common.{◌≡◌, ◌≢◌, ◌≤◌, ◌+◌, ℕ, Bool, true, false, List, [], ◌∷◌, ◌++◌, length, Option, Some, None, refl, ap, sym, subst, ◌∙◌, inl, inr, ◌⊎◌, arith}
 use Rattle.std.specs.Prelude.{slice_get, if◌then◌else◌}
 use Rattle.std.specs.List.{AllByRecursion}
+use Rattle.std.proofs.lemmas.List.{append_assoc}
 use Rattle.db_base.specs.declared.names.ObjName.TheVariants as object
 use Rattle.db_base.specs.declared.names.QueueName.TheVariants as queue
 use Rattle.db_base.specs.declared.trouble.Trouble.{Trouble}
@@ -21,7 +22,7 @@ use Rattle.cloud_trait.specs.Seen.{Seen}
 use Rattle.cloud_trait.specs.Claim.{Claim}
 use Rattle.cloud_trait.specs.Machine.{Next, Goes, Ends, Stops, LeadsBy, Took, Steps, Deed}
 use Rattle.cloud_trait.specs.Weather.{Fits}
-use Rattle.calm_calls.specs.Calm.{GoesWell, IsCalm}
+use Rattle.calm_calls.specs.Calm.{GoesWell, IsCalm, AreCalm, ComesNext, AreAlone}
 use Rattle.calm_calls.proofs.CalmLemmas.{goes_well}
 use Rattle.recover_run.specs.declared.home.Home.{Home}
 use Rattle.page_cache.specs.Cache.{Cache}
@@ -30,7 +31,7 @@ use Rattle.commit_writes.specs.declared.stage.Stage.{Stage}
 use Rattle.commit_writes.specs.declared.stage.Stage.TheVariants.{Waiting, Logging, Opening, Sending, Settling, Deleting, Finished}
 use Rattle.commit_writes.specs.Writing.{Writing, waiting, numbered, is_spent, routing, passes, routed_of, begun, log_or_open, not_committed, writing_ask}
 use Rattle.commit_writes.specs.Calls.{Calls, told}
-use Rattle.commit_writes.specs.Exact.{IsPut, NonePut, WasOpened, deletions_in, deletions, DemandsNot, Demands, Exactly}
+use Rattle.commit_writes.specs.Exact.{IsPut, IsDeletion, NonePut, WasOpened, deletions_in, deletions, DemandsNot, Demands, Exactly}
 use Rattle.commit_writes.specs.Exact.{Exact as WritesExact}
 use Rattle.commit_writes.specs.Names.{IsSentTo, IsOwnCall}
 use Rattle.commit_writes.specs.Well.{Well as WritesWell}
@@ -52,7 +53,7 @@ use Rattle.commit_run.specs.Causing.{IsOfLink, ShowsWalk, TellsOf}
 use Rattle.commit_run.specs.Exact.{IsOfCalls, StopsIn, IsRouted, FitsIn, Exact, ExactReady}
 use Rattle.commit_run.specs.Names.{Names}
 use Rattle.commit_run.specs.Well.{IsMet, IsWell, EndsWell, Well}
-use Rattle.commit_run.specs.Within.{Went}
+use Rattle.commit_run.specs.Within.{Went, GetsNothing}
 use Rattle.commit_run.proofs.Causing.{Shown, WalkCause, walked_shown}
 use Rattle.commit_run.proofs.Knowing.{KnowsWrites, KnowsAt}
 use Rattle.commit_run.proofs.Meaning.{came_knows, told_append, walk_meant, ready_means}
@@ -233,6 +234,10 @@ walk_asks_get : (first : Bool) (d : Draft) (w : Walk) (c : Cache) → walk_ask w
 walk_asks_get true d w c = refl
 walk_asks_get false d w c = refl
 
+walk_gets : (first : Bool) (d : Draft) (w : Walk) (c : Cache) → GetsNothing (asks (record { draft = d; hand = held first w }, c)) → ⊥
+walk_gets true d w c gets = gets
+walk_gets false d w c gets = gets
+
 pub walk_exact : (first : Bool) (d : Draft) (w : Walk) (c : Cache) (who : Caller) (before after : Seen) (n : Run × Cache) (turn : Turn CommitAnswer)
     → Steps asks (LeadsBy run_next) KeepsHome who before after (record { draft = d; hand = held first w }, c) n turn → Exact who before after (record { draft = d; hand = held first w }, c) turn
 walk_exact first d w c who before after n turn steps = record {
@@ -247,6 +252,7 @@ walk_exact first d w c who before after n turn steps = record {
       let stop : (e : Walk × Cache) × (walk_next (w, c) steps.answer ≡ Stops e t) × (is_stale t ≡ false) = stops_in first w c steps.answer t s in
       took_by first d w c steps.answer n turn t (walk_took first d w c steps.answer n turn steps.took) (stops_by first d w c steps.answer stop.0 t stop.1 stop.2);
   fits = λ home changes h went. walk_fits_in home changes first w d.writes;
+  ample = λ gets none refusal. absurd (walk_gets first d w c gets);
 } where
   knows : (b : Bool) (home : Home) (changes : List Noted) (h : List Deed) → Went home changes h (record { draft = d; hand = held b w }, c) → KnowsAt home changes h d (held b w)
   knows b home changes h (some, cache, start, begins, came) = came_knows home changes cache start begins h (record { draft = d; hand = held b w }, c) came
@@ -340,6 +346,7 @@ write_exact d c who before after turn e = record {
       (e.exact (walked_home home k.begun_so.uses) (routed_of (walked_home home k.begun_so.uses) changes k.begun_so.pages) k.later (writes_went home changes h d.writes went.0 k) x);
   refused = λ t s. absurd s;
   fits = λ home changes h went. write_routed home changes h d.writes went.0 (write_knows_so d c home changes h went);
+  ample = λ gets none refusal. e.ample none refusal;
 }
 
 -- ---- what calls name
@@ -403,6 +410,10 @@ walk_ends_well first d w c a m (Stopped t) goes fits took stops = stops t refl
 turn_memory : (home : Home) (changes : List Noted) (cs : Calls) (left : Home) (turn : Turn CommitAnswer) → MeansTurn home changes cs left turn → (t : Trouble) → turn ≡ Stopped t → t ≡ trouble.Memory
 turn_memory home changes cs left turn means t e = subst (MeansTurn home changes cs left) e means
 
+no_deletion : (first : Bool) (d : Draft) (w : Walk) (c : Cache) → IsDeletion (asks (record { draft = d; hand = held first w }, c)) → ⊥
+no_deletion true d w c deletion = deletion
+no_deletion false d w c deletion = deletion
+
 pub walk_well : (first : Bool) (d : Draft) (w : Walk) (c : Cache) (who : Caller) (before after : Seen) (n : Run × Cache) (turn : Turn CommitAnswer)
     → Steps asks (LeadsBy run_next) KeepsHome who before after (record { draft = d; hand = held first w }, c) n turn → Well who before after (record { draft = d; hand = held first w }, c) turn
 walk_well first d w c who before after n turn steps = record {
@@ -413,7 +424,22 @@ walk_well first d w c who before after n turn steps = record {
       (goes_well (record { who = who; ask = asks (record { draft = d; hand = held first w }, c); answer = steps.answer; before = before; after = after }) steps.made calm)
       (subst (λ (q : Ask). Fits q steps.answer) (sym (walk_asks_get first d w c)) steps.made.fits) (walk_took first d w c steps.answer n turn steps.took)
       (turn_memory home changes _ (home_of n.0) turn ((walk_meant first d w c who before after n turn steps).means home changes went.1 went.2 h went.3 went.4));
+  marked = λ home changes h went calm alone x ended s left.
+      absurd (no_deletion first d w c (((walk_exact first d w c who before after n turn steps).exact home changes h went (Committed x) tt).only ended).1);
 }
+
+-- .. and of a commit that writes, behind the walks
+calm_front : (later first : List Deed) → AreCalm (later ++ first) → AreCalm later
+calm_front [] first calm = tt
+calm_front (x ∷ later) first calm = (calm.0, calm_front later first calm.1)
+
+next_front : (later first : List Deed) (x : Deed) → ComesNext (later ++ first) x → ComesNext later x
+next_front [] first x next = tt
+next_front (y ∷ later) first x next = next
+
+alone_front : (later first : List Deed) → AreAlone (later ++ first) → AreAlone later
+alone_front [] first alone = tt
+alone_front (x ∷ later) first alone = (next_front later first x alone.0, alone_front later first alone.1)
 
 ends_more : (turn : Turn CommitAnswer) → WritesEndWell turn → EndsWell turn
 ends_more More well = tt
@@ -432,6 +458,25 @@ write_well d c who before after turn e = record {
       let k : KnowsWrites home changes h d.writes = write_knows_so d c home changes h went in
       ends_more turn
       (e.well (walked_home home k.begun_so.uses) (routed_of (walked_home home k.begun_so.uses) changes k.begun_so.pages) k.later (writes_went home changes h d.writes went.0 k) calm);
+  marked = λ home changes h went calm alone x ended s left.
+      let k : KnowsWrites home changes h d.writes = write_knows_so d c home changes h went in
+      let call : Deed = record { who = who; ask = writing_ask d.writes; answer = e.answer; before = before; after = after } in
+      let calm_all : AreCalm (call ∷ k.later) = (calm.0, calm_front k.later k.first (subst AreCalm k.are calm.1)) in
+      let alone_all : AreAlone (call ∷ k.later) =
+      (next_front k.later k.first call (subst (λ (l : List Deed). ComesNext l call) k.are alone.0), alone_front k.later k.first (subst AreAlone k.are alone.1)) in
+      record {
+        uses = k.begun_so.uses;
+        pages = k.begun_so.pages;
+        gets = told k.first;
+        writes = told k.later ++ (writing_ask d.writes, e.answer) ∷ [];
+        are =
+            ap (λ (l : Calls). l ++ (writing_ask d.writes, e.answer) ∷ []) (ap told k.are ∙ told_append k.later k.first)
+            ∙ append_assoc (told k.first) (told k.later) ((writing_ask d.writes, e.answer) ∷ []);
+        got = k.begun_so.gets;
+        marked =
+            e.marked (walked_home home k.begun_so.uses) (routed_of (walked_home home k.begun_so.uses) changes k.begun_so.pages) k.later (writes_went home changes h d.writes went.0 k)
+            calm_all alone_all x ended s left;
+      };
 }
 
 -- ---- where the code's draft is another name of it

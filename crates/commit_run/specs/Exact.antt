@@ -1,5 +1,5 @@
 -- Which answer a whole commit ends with, exactly, by its calls so far and the answer of the call in hand.
-use Rattle.std.specs.Prelude.{◌≡◌, ◌⊎◌, ℕ, ◌+◌, true, false, List, length}
+use Rattle.std.specs.Prelude.{◌≡◌, ◌≢◌, ◌⊎◌, ℕ, ◌+◌, true, false, List, length}
 use Rattle.db_base.specs.declared.trouble.Trouble.{Trouble}
 use Rattle.db_base.specs.declared.trouble.Trouble.TheVariants as trouble
 use Rattle.db_base.specs.declared.trouble.Counter.TheVariants as counter
@@ -18,12 +18,12 @@ use Rattle.page_cache.specs.Cache.{Cache}
 use Rattle.tree_walk.specs.Walk.{Walk, walk_next}
 use Rattle.commit_writes.specs.Writing.{Writing, routed_of, passes, is_spent}
 use Rattle.commit_writes.specs.Calls.{told}
-use Rattle.commit_writes.specs.Exact.{Demands, Exactly}
+use Rattle.commit_writes.specs.Exact.{IsDeletion, IsRefusal, Demands, Exactly}
 use Rattle.commit_run.specs.declared.hand.Hand.{Hand}
 use Rattle.commit_run.specs.declared.hand.Hand.TheVariants.{Writes, First, Change}
 use Rattle.commit_run.specs.Meaning.{Use, walked_home}
 use Rattle.commit_run.specs.Run.{Run, asks, is_stale}
-use Rattle.commit_run.specs.Within.{Went}
+use Rattle.commit_run.specs.Within.{Went, GetsNothing}
 
 -- the answers that calls demand by themselves; with any other trouble a commit ends at what a walk read, or at a number
 abbrev pub IsOfCalls : CommitAnswer → Type 0
@@ -53,7 +53,7 @@ FitsIn home changes (First walk) w = Unit {0}
 FitsIn home changes (Change walk) w = Unit {0}
 
 -- what a step's answer says: the calls so far and this one demand it; a walk that stops, and at no stale page, ends the commit with that trouble; and
--- nothing is written of which a number would pass the greatest one
+-- nothing is written of which a number would pass the greatest one; want of memory never takes the place of what a refused send or put demands
 pub record Exact (who : Caller) (before after : Seen) (old : Run × Cache) (turn : Turn CommitAnswer) : Type 0 where
   pub answer : Answer
   pub made : Makes who (asks old) answer before after
@@ -61,6 +61,7 @@ pub record Exact (who : Caller) (before after : Seen) (old : Run × Cache) (turn
       → Exactly (Demands (length changes) (home.attempt + 1) (told h) (asks old) answer x) x turn
   pub refused : (t : Trouble) → StopsIn old.0.hand old.1 answer t → (turn ≡ Ended (NotCommitted t)) ⊎ (turn ≡ Stopped trouble.Memory)
   pub fits : (home : Home) (changes : List Noted) (h : List Deed) → Went home changes h old → FitsIn home changes old.0.hand old.0.draft.writes
+  pub ample : GetsNothing (asks old) → (IsDeletion (asks old) → ⊥) → IsRefusal answer → turn ≢ Stopped trouble.Memory
 
 -- at its beginning: the greatest attempt number refuses it, and nothing else does so
 abbrev pub ExactReady : Home → Turn CommitAnswer → Type 0

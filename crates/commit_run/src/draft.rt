@@ -128,9 +128,7 @@ impl Draft {
     ghost use Rattle.commit_run.specs.Meaning.{Meant};
     ghost use Rattle.commit_run.specs.Causing.{Causes};
     ghost use Rattle.commit_run.specs.Exact.{Exact};
-    ghost use Rattle.commit_run.specs.Names.{Names};
     ghost use Rattle.commit_run.specs.Well.{Well};
-    ghost use Rattle.commit_run.specs.Within.{Within};
     ghost use Rattle.commit_run.specs.Ending.{left_at};
     ghost use Rattle.commit_writes.specs.Sound.{IsSound};
 
@@ -408,8 +406,6 @@ impl Draft {
         ensures causes { (c : Cache) → Causes who (C.seen cloud.old) (C.seen cloud.new) (record { draft = self.old; hand = Hand.Writes }, c) result }
         ensures sound { IsSound self.old.writes }
         ensures less { result ≡ Turn.More → left_at Hand.Writes self.new < left_at Hand.Writes self.old }
-        ensures within { (c : Cache) → Within (record { draft = self.old; hand = Hand.Writes }, c) }
-        ensures names { (c : Cache) → Names (record { draft = self.old; hand = Hand.Writes }, c) }
         ensures exact { (c : Cache) → Exact who (C.seen cloud.old) (C.seen cloud.new) (record { draft = self.old; hand = Hand.Writes }, c) result }
         ensures well { (c : Cache) → Well who (C.seen cloud.old) (C.seen cloud.new) (record { draft = self.old; hand = Hand.Writes }, c) result }
     {
@@ -432,8 +428,6 @@ impl Draft {
         ensures causes { Causes who (C.seen cloud.old) (C.seen cloud.new) (record { draft = self.old; hand = held first walk }, cache.old) result.1 }
         ensures held { IsHeld self.new result.0 }
         ensures less { result.1 ≡ Turn.More → left_at result.0 self.new < left_at (held first walk) self.old }
-        ensures within { Within (record { draft = self.old; hand = held first walk }, cache.old) }
-        ensures names { Names (record { draft = self.old; hand = held first walk }, cache.old) }
         ensures exact { Exact who (C.seen cloud.old) (C.seen cloud.new) (record { draft = self.old; hand = held first walk }, cache.old) result.1 }
         ensures well { Well who (C.seen cloud.old) (C.seen cloud.new) (record { draft = self.old; hand = held first walk }, cache.old) result.1 }
     {

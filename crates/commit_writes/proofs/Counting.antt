@@ -1,7 +1,6 @@
 -- How many calls a commit has made at each stage of what it writes, which of them were puts, and which were deletions.
 use Rattle.std.proofs.Common.{◌≡◌, ◌≤◌, ◌<◌, ◌+◌, ◌*◌, ℕ, List, [], ◌∷◌, ◌++◌, length, refl, ap, sym, subst, ◌∙◌, inl, inr, arith, length-append}
 use Rattle.std.specs.Prelude.{take}
-use Rattle.std.specs.List.{AllByRecursion}
 use Rattle.std.proofs.lemmas.List.{length-take-le}
 use Rattle.std.proofs.lemmas.Option.{slice_get_within}
 use Rattle.log_codec.specs.declared.record.AtomicRec.{AtomicRec}
@@ -14,7 +13,7 @@ use Rattle.commit_writes.specs.declared.stage.Stage.{Stage}
 use Rattle.commit_writes.specs.declared.stage.Stage.TheVariants.{Waiting, Logging, Opening, Sending, Settling, Deleting, Finished}
 use Rattle.commit_writes.specs.Writing.{Writing}
 use Rattle.commit_writes.specs.Calls.{Calls, told, logged_calls, posted_calls, deleted_calls, put_of, opened_of, settled_of, all_logged, all_opened, all_posted, all_settled}
-use Rattle.commit_writes.specs.Exact.{IsPut, HasPutNothing, NonePut, WasOpened, deletions_in, deletions}
+use Rattle.commit_writes.specs.Exact.{IsPut, NonePut, WasOpened, deletions}
 use Rattle.commit_writes.specs.Within.{Went, IsWithin}
 use Rattle.commit_writes.proofs.Knowing.{KnowsAt, KnowsDeleting, Knows}
 use Rattle.commit_writes.proofs.Meaning.{went_knows}
@@ -64,8 +63,15 @@ few_at Settling h cs w k = subst (λ (l : Calls). length l + 1 ≤ 3 * length w.
 few_at Deleting h cs w k =
     let within : w.place < length w.ids = slice_get_within w.ids w.place k.id k.here in
     subst (λ (l : Calls). length l + 1 ≤ 3 * length w.records + 2) (sym k.calls)
-    (omega (arith, within, k.logged, length_settled h w.records w.ids k.posts, length_deleted h.client (take w.place w.ids) k.answers, length-take-le w.place w.ids (omega (arith, within)),
-    length-append (all_settled h w.records w.ids k.posts) (deleted_calls h.client (take w.place w.ids) k.answers)))
+    (omega (
+      arith,
+      within,
+      k.logged,
+      length_settled h w.records w.ids k.posts,
+      length_deleted h.client (take w.place w.ids) k.answers,
+      length-take-le w.place w.ids (omega (arith, within)),
+      length-append (all_settled h w.records w.ids k.posts) (deleted_calls h.client (take w.place w.ids) k.answers),
+    ))
 few_at Finished h cs w k = absurd k
 
 -- the next call is one of three for each record and of two more
@@ -133,8 +139,14 @@ deletions_deleted client (id ∷ ids) (a ∷ answers) same = omega (arith, delet
 
 deletions_settled : (h : Home) (rs : List AtomicRec) (ids posts : List ℕ) → deletions (all_settled h rs ids posts) ≡ 0
 deletions_settled h rs ids posts =
-    omega (arith, deletions_append (all_posted h rs ids rs posts) ((put_of h (settled_of h rs), Done) ∷ []), deletions_append (all_opened h rs ids) (posted_calls rs posts),
-    deletions_append (all_logged h rs ids) ((put_of h (opened_of h rs), Done) ∷ []), deletions_logged h.client rs ids, deletions_posted rs posts)
+    omega (
+      arith,
+      deletions_append (all_posted h rs ids rs posts) ((put_of h (settled_of h rs), Done) ∷ []),
+      deletions_append (all_opened h rs ids) (posted_calls rs posts),
+      deletions_append (all_logged h rs ids) ((put_of h (opened_of h rs), Done) ∷ []),
+      deletions_logged h.client rs ids,
+      deletions_posted rs posts,
+    )
 
 -- as many as messages before the next one
 pub deleted_before : (h : Home) (cs : Calls) (w : Writing) → KnowsDeleting h cs w → deletions cs ≡ w.place
@@ -142,5 +154,10 @@ deleted_before h cs w k =
     let within : w.place < length w.ids = slice_get_within w.ids w.place k.id k.here in
     let front : length (take w.place w.ids) ≡ w.place = length-take-le w.place w.ids (omega (arith, within)) in
     ap deletions k.calls
-    ∙ omega (arith, front, deletions_append (all_settled h w.records w.ids k.posts) (deleted_calls h.client (take w.place w.ids) k.answers), deletions_settled h w.records w.ids k.posts,
-    deletions_deleted h.client (take w.place w.ids) k.answers (k.deleted ∙ sym front))
+    ∙ omega (
+      arith,
+      front,
+      deletions_append (all_settled h w.records w.ids k.posts) (deleted_calls h.client (take w.place w.ids) k.answers),
+      deletions_settled h w.records w.ids k.posts,
+      deletions_deleted h.client (take w.place w.ids) k.answers (k.deleted ∙ sym front),
+    )

@@ -13,27 +13,28 @@ use Rattle.cloud_trait.specs.declared.answer.Answer.{Answer}
 use Rattle.cloud_trait.specs.declared.answer.Answer.TheVariants.{Sent, Done, Late, Failed, Memory}
 use Rattle.cloud_trait.specs.declared.turn.Turn.{Turn}
 use Rattle.cloud_trait.specs.declared.turn.Turn.TheVariants.{More, Ended, Stopped}
-use Rattle.cloud_trait.specs.Ask.{Ask, PutHeld, Send, Delete}
+use Rattle.cloud_trait.specs.Ask.{Ask, Delete}
 use Rattle.cloud_trait.specs.Caller.{Caller}
 use Rattle.cloud_trait.specs.Seen.{Seen}
 use Rattle.cloud_trait.specs.Machine.{Next, Goes, Ends, Stops, LeadsBy, Took, Deed}
 use Rattle.cloud_trait.specs.Views.{sent_of, done_of}
 use Rattle.cloud_trait.specs.Weather.{Fits, Makes}
-use Rattle.calm_calls.specs.Calm.{GoesWell, IsCalm}
+use Rattle.calm_calls.specs.Calm.{GoesWell}
 use Rattle.calm_calls.proofs.CalmLemmas.{goes_well}
 use Rattle.recover_run.specs.declared.home.Home.{Home}
 use Rattle.commit_writes.specs.declared.stage.Stage.{Stage}
 use Rattle.commit_writes.specs.declared.stage.Stage.TheVariants.{Waiting, Logging, Opening, Sending, Settling, Deleting, Finished}
 use Rattle.commit_writes.specs.Writing.{Writing, writing_ask, writing_next, ask_at, next_at, head_ask, log_ask, send_ask, delete_ask, logged_by, opened_by, sent_by, settled_by, deleted_by, log_or_open, send_or_settle, delete_or_end, KeepsHome}
-use Rattle.commit_writes.specs.Calls.{Calls, told, logged_calls, post_of, all_logged, all_opened, all_posted, all_settled, deleted_calls}
+use Rattle.commit_writes.specs.Calls.{Calls, told, post_of}
 use Rattle.commit_writes.specs.Meaning.{Refuses, MeansTurn}
 use Rattle.commit_writes.specs.Exact.{NonePut, WasOpened, deletions, DemandsNot, Demands, Exactly}
-use Rattle.commit_writes.specs.Names.{IsSentTo, IsOwnCall}
+use Rattle.commit_writes.specs.Names.{IsOwnCall}
 use Rattle.commit_writes.specs.Well.{IsWell, EndsWell, Well}
 use Rattle.commit_writes.specs.Within.{Went}
-use Rattle.commit_writes.proofs.Knowing.{KnowsLogging, KnowsOpening, KnowsSending, KnowsSettling, KnowsDeleting, KnowsAt, Knows}
+use Rattle.commit_writes.proofs.Knowing.{KnowsAt, Knows}
 use Rattle.commit_writes.proofs.Meaning.{post_asked, went_knows, only_memory, came_means}
-use Rattle.commit_writes.proofs.Counting.{none_logged, opened_put, opened_all, opened_posted, opened_settled, opened_more, deleted_before}
+use Rattle.commit_writes.proofs.Marking.{went_marked}
+use Rattle.commit_writes.proofs.Counting.{none_logged, opened_put, opened_posted, opened_settled, opened_more, deleted_before}
 
 -- a step that ends shows what demands its answer
 abbrev pub Shown : (CommitAnswer → Type 0) → Next Writing CommitAnswer → Type 0
@@ -198,8 +199,7 @@ decides_at Sending h cs w a k some fits ample =
     subst (λ (q : Ask). Decides (Demands (length w.records) h.attempt cs q a) (sent_by w (sent_of a))) (sym same)
     (send_shown (length w.records) h.attempt cs w k.r a opened sends ample, send_demands (length w.records) h.attempt cs w k.r a opened sends)
 decides_at Settling h cs w a k some fits ample =
-    let opened : WasOpened cs = subst WasOpened (sym k.calls) (opened_posted h w.records w.ids w.records k.posts) in
-    (
+    let opened : WasOpened cs = subst WasOpened (sym k.calls) (opened_posted h w.records w.ids w.records k.posts) in (
       settle_shown (length w.records) h.attempt cs w a opened (omega (arith, k.logged, some)) fits ample,
       settle_demands (length w.records) h.attempt cs w a opened,
     )
@@ -210,8 +210,7 @@ decides_at Deleting h cs w a k some fits ample =
     let within : w.place < length w.ids = slice_get_within w.ids w.place k.id k.here in
     let before : deletions cs ≡ w.place = deleted_before h cs w k in
     subst (λ (t : ℕ). Decides (Demands (length w.records) t cs (delete_ask w (slice_get w.ids w.place)) a) (deleted_by w (done_of a))) (ap (λ (x : Home). x.attempt) k.home)
-    (subst (λ (q : Ask). Decides (Demands (length w.records) w.home.attempt cs q a) (deleted_by w (done_of a))) (sym same)
-    (
+    (subst (λ (q : Ask). Decides (Demands (length w.records) w.home.attempt cs q a) (deleted_by w (done_of a))) (sym same) (
       delete_shown (length w.records) cs w.home.client k.id w a within k.logged before deletes ample,
       delete_demands (length w.records) cs w.home.client k.id w a opened k.logged before deletes ample,
     ))
@@ -313,4 +312,8 @@ went_well who before after old new a turn made stops took = record {
       (means_memory home records (told h ++ (writing_ask old, a) ∷ []) new.home turn
       (came_means old new a turn made.fits stops took home went.1 records went.2 h went.3 went.4))
       (went_exactly old new a turn made.fits stops took home records h went);
+  marked = λ home records h went calm alone x ended s left.
+      went_marked home records h old (record { who = who; ask = writing_ask old; answer = a; before = before; after = after }) x s went calm alone refl made
+      (λ memory. stopped_not trouble.Memory (Committed x) (sym (stops memory) ∙ ended))
+      ((went_exactly old new a turn made.fits stops took home records h went (Committed x)).only ended) left;
 }

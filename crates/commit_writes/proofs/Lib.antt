@@ -3,5 +3,7 @@ pub mod Ending
 pub mod Exacting
 pub mod Keeping
 pub mod Knowing
+pub mod Marking
 pub mod Meaning
+pub mod Refusing
 pub mod RoutedLaws

@@ -43,7 +43,7 @@ take_next [] k x e = absurd (cc)
 take_next (y ∷ ys) zero x e = let same : y ≡ x = cc in ap (λ z. z ∷ []) same
 take_next (y ∷ ys) (suc k) x e = ap (λ zs. y ∷ zs) (take_next ys k x e)
 
-take_more : {X : Type 0} (xs : List X) (k : ℕ) (x : X) → slice_get xs k ≡ Some x → take (k + 1) xs ≡ take k xs ++ x ∷ []
+pub take_more : {X : Type 0} (xs : List X) (k : ℕ) (x : X) → slice_get xs k ≡ Some x → take (k + 1) xs ≡ take k xs ++ x ∷ []
 take_more xs k x e = let n : k + 1 ≡ suc k = omega arith in ap (λ m. take m xs) n ∙ take_next xs k x e
 
 logged_push : (client : ℕ) (rs : List AtomicRec) (ids : List ℕ) (r : AtomicRec) (id : ℕ) → length ids ≡ length rs
@@ -322,7 +322,7 @@ knows_more h rs cs from m ask a k asked fits goes =
     subst (λ q. Knows h rs (cs ++ (q, a) ∷ []) m) (sym asked)
     (subst (KnowsNext h rs (cs ++ (writing_ask from, a) ∷ [])) goes (knows_next h rs cs from a k (subst (λ q. Fits q a) asked fits) ample))
 
-came_knows : (h : Home) (changes : List Noted) (rs : List AtomicRec) (start : Writing) → begun (waiting h changes) rs ≡ Goes start → (ds : List Deed) (m : Writing)
+pub came_knows : (h : Home) (changes : List Noted) (rs : List AtomicRec) (start : Writing) → begun (waiting h changes) rs ≡ Goes start → (ds : List Deed) (m : Writing)
     → Came writing_ask (LeadsBy writing_next) start ds m → Knows h rs (told ds) m
 came_knows h changes rs start goes [] m came = subst (Knows h rs []) (sym came) (knows_begun h changes rs start goes)
 came_knows h changes rs start goes (d ∷ ds) m (from, came, asked, made, leads, follows) =

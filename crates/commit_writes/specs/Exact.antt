@@ -1,5 +1,5 @@
 -- Which answer a commit ends with, exactly, by its calls so far and the answer of the call in hand.
-use Rattle.std.specs.Prelude.{ℕ, ◌≡◌, ◌⊎◌, ◌+◌, List, [], ◌∷◌, length}
+use Rattle.std.specs.Prelude.{ℕ, ◌≡◌, ◌≢◌, ◌⊎◌, ◌+◌, List, [], ◌∷◌, length}
 use Rattle.std.specs.List.{AllByRecursion}
 use Rattle.db_base.specs.declared.trouble.Trouble.{Trouble}
 use Rattle.db_base.specs.declared.trouble.Trouble.TheVariants as trouble
@@ -65,14 +65,21 @@ Demands records attempt calls ask a (NotCommitted t) = DemandsNot calls ask a t
 Demands records attempt calls ask a InDoubt = NonePut calls × IsPut ask × (a ≡ Failed)
 Demands records attempt calls ask a (CommittedOpen t) = WasOpened calls × (IsDeletion ask → ⊥) × Refuses t a
 
+-- the answer of a call that was refused
+abbrev pub IsRefusal : Answer → Type 0
+IsRefusal Failed = Unit {0}
+IsRefusal (Late end now) = Unit {0}
+IsRefusal a = ⊥
+
 -- the turn ends with the answer exactly there; want of memory is free
 pub record Exactly (why : Type 0) (answer : CommitAnswer) (turn : Turn CommitAnswer) : Type 0 where
   pub only : turn ≡ Ended answer → why
   pub always : why → (turn ≡ Ended answer) ⊎ (turn ≡ Stopped trouble.Memory)
 
--- what a step's answer says, by the calls so far and this one
+-- what a step's answer says, by the calls so far and this one; want of memory never takes the place of what a refused send or put demands
 pub record Exact (who : Caller) (before after : Seen) (old : Writing) (turn : Turn CommitAnswer) : Type 0 where
   pub answer : Answer
   pub made : Makes who (writing_ask old) answer before after
   pub exact : (home : Home) (records : List AtomicRec) (h : List Deed) → Went home records h old → (x : CommitAnswer)
       → Exactly (Demands (length records) home.attempt (told h) (writing_ask old) answer x) x turn
+  pub ample : (IsDeletion (writing_ask old) → ⊥) → IsRefusal answer → turn ≢ Stopped trouble.Memory

@@ -1,5 +1,5 @@
 -- How many calls a commit makes at most with what it writes.
-use Rattle.std.specs.Prelude.{ℕ, ◌≡◌, ◌≤◌, ◌+◌, ◌*◌, List, length}
+use Rattle.std.specs.Prelude.{◌≡◌, ◌≤◌, ◌+◌, ◌*◌, List, length}
 use Rattle.log_codec.specs.declared.record.AtomicRec.{AtomicRec}
 use Rattle.cloud_trait.specs.Machine.{Goes, LeadsBy, Came, Deed}
 use Rattle.txn_buffer.specs.Noted.{Noted}

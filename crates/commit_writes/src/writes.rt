@@ -1,4 +1,4 @@
-ghost use Rattle.std.specs.Prelude.{◌≡◌, ◌≤◌, ◌<◌, ◌+◌, ◌*◌, List, length, not};
+ghost use Rattle.std.specs.Prelude.{◌≡◌, ◌≢◌, ◌≤◌, ◌<◌, ◌+◌, ◌*◌, List, length, not, IfErr};
 ghost use Rattle.std.specs.Option.{option_copied};
 ghost use Rattle.std.specs.List.{AllByRecursion};
 ghost use Rattle.log_codec.specs.Atomic.{HasPlace};
@@ -64,7 +64,7 @@ impl CommitWrites {
     ghost use Rattle.commit_writes.specs.Ending.{calls_left};
     ghost use Rattle.commit_writes.specs.Sound.{IsSound};
     ghost use Rattle.commit_writes.specs.Within.{Went, IsWithin};
-    ghost use Rattle.commit_writes.specs.Exact.{Exact};
+    ghost use Rattle.commit_writes.specs.Exact.{Exact, IsRefusal};
     ghost use Rattle.commit_writes.specs.Names.{IsOwnCall};
     ghost use Rattle.commit_writes.specs.Well.{Well};
     ghost use Rattle.recover_run.specs.declared.home.Home.{Home as AnyHome};
@@ -338,7 +338,8 @@ impl CommitWrites {
     /// After a send to the ATOMIC queue.
     fn logged(&mut self, alloc: Global, sent: Result<MsgId, Trouble>) -> Turn<CommitAnswer>
         requires { 1 ≤ length self.old.records }
-        ensures { Took (λ w _ n. logged_by w sent ≡ n) KeepsHome self.old Answer.Failed self.new result }
+        ensures took { Took (λ w _ n. logged_by w sent ≡ n) KeepsHome self.old Answer.Failed self.new result }
+        ensures refused { IfErr sent (λ t. result ≢ Turn.Stopped Trouble.Memory) }
     {
         match sent {
             Ok(id) => {
@@ -356,7 +357,8 @@ impl CommitWrites {
 
     /// After the put that commits: a late one did not land, and a failed one may have.
     fn opened(&mut self, alloc: Global, done: Result<(), Trouble>) -> Turn<CommitAnswer>
-        ensures { Took (λ w _ n. opened_by w done ≡ n) KeepsHome self.old Answer.Failed self.new result }
+        ensures took { Took (λ w _ n. opened_by w done ≡ n) KeepsHome self.old Answer.Failed self.new result }
+        ensures refused { IfErr done (λ t. result ≢ Turn.Stopped Trouble.Memory) }
     {
         match done {
             Ok(()) => self.send_at(alloc, 0),
@@ -385,7 +387,8 @@ impl CommitWrites {
 
     /// After a send to a pending update queue.
     fn sent(&mut self, alloc: Global, sent: Result<MsgId, Trouble>) -> Turn<CommitAnswer>
-        ensures { Took (λ w _ n. sent_by w sent ≡ n) KeepsHome self.old Answer.Failed self.new result }
+        ensures took { Took (λ w _ n. sent_by w sent ≡ n) KeepsHome self.old Answer.Failed self.new result }
+        ensures refused { IfErr sent (λ t. result ≢ Turn.Stopped Trouble.Memory) }
     {
         match sent {
             Ok(_) => match self.place.checked_add(1) {
@@ -398,7 +401,8 @@ impl CommitWrites {
 
     /// After the put that settles.
     fn settled(&mut self, done: Result<(), Trouble>) -> Turn<CommitAnswer>
-        ensures { Took (λ w _ n. settled_by w done ≡ n) KeepsHome self.old Answer.Failed self.new result }
+        ensures took { Took (λ w _ n. settled_by w done ≡ n) KeepsHome self.old Answer.Failed self.new result }
+        ensures refused { IfErr done (λ t. result ≢ Turn.Stopped Trouble.Memory) }
     {
         match done {
             Ok(()) => self.delete_at(0),
@@ -448,6 +452,7 @@ impl CommitWrites {
     fn absorb(&mut self, alloc: Global, answer: Answer) -> Turn<CommitAnswer>
         ensures took { Took (LeadsBy writing_next) KeepsHome self.old answer self.new result }
         ensures memory { answer ≡ Answer.Memory → result ≡ Turn.Stopped Trouble.Memory }
+        ensures refused { self.old.stage ≢ Stage.Deleting → IsRefusal answer → result ≢ Turn.Stopped Trouble.Memory }
     {
         match (self.stage, answer) {
             (_, Answer::Memory) => Turn::Stopped(Trouble::Memory),

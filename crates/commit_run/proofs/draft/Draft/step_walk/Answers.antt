@@ -2,9 +2,7 @@ use Rattle.commit_run.proofs.Holding.{steps_held}
 use Rattle.commit_run.proofs.Leading.{walk_steps, keeps_head}
 use Rattle.commit_run.proofs.Meaning.{walk_meant}
 use Rattle.commit_run.proofs.Causing.{walk_causes}
-use Rattle.commit_run.proofs.Exacting.{run_names, walk_exact, walk_well}
-use Rattle.commit_run.proofs.Grouping.{run_within}
-use Rattle.commit_run.specs.Run.{held}
+use Rattle.commit_run.proofs.Exacting.{walk_exact, walk_well}
 use Rattle.commit_run.proofs.Ending.{walk_less}
 use Rattle.commit_run.proofs.draft.Draft.step_walk.Goals as goal
 
@@ -27,12 +25,6 @@ returns-clause-less g c =
 
 pub returns-clause-causes : goal.returns-clause-causes
 returns-clause-causes g c = walk_causes c.args.first c.args.self.now c.args.walk c.args.cache.now c.args.who _ _ _ _ (returns-clause-steps g c)
-
-pub returns-clause-within : goal.returns-clause-within
-returns-clause-within g c = run_within (record { draft = c.args.self.now; hand = held c.args.first c.args.walk }, c.args.cache.now)
-
-pub returns-clause-names : goal.returns-clause-names
-returns-clause-names g c = run_names (record { draft = c.args.self.now; hand = held c.args.first c.args.walk }, c.args.cache.now)
 
 pub returns-clause-exact : goal.returns-clause-exact
 returns-clause-exact g c = walk_exact c.args.first c.args.self.now c.args.walk c.args.cache.now c.args.who _ _ _ _ (returns-clause-steps g c)

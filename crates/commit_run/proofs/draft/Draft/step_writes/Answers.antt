@@ -1,9 +1,7 @@
 use Rattle.commit_run.proofs.Leading.{write_steps_at}
 use Rattle.commit_run.proofs.Meaning.{write_meant_at}
 use Rattle.commit_run.proofs.Causing.{write_causes}
-use Rattle.commit_run.proofs.Exacting.{run_names, write_exact_at, write_well_at}
-use Rattle.commit_run.proofs.Grouping.{run_within}
-use Rattle.commit_run.specs.declared.hand.Hand.TheVariants.{Writes}
+use Rattle.commit_run.proofs.Exacting.{write_exact_at, write_well_at}
 use Rattle.commit_run.proofs.draft.Draft.step_writes.Goals as goal
 
 pub returns-clause-steps : goal.returns-clause-steps
@@ -16,12 +14,6 @@ returns-clause-means g c =
 
 pub returns-clause-causes : goal.returns-clause-causes
 returns-clause-causes g c = λ k. write_causes c.args.self.now k c.args.who _ _ _ _ (returns-clause-steps g c k)
-
-pub returns-clause-within : goal.returns-clause-within
-returns-clause-within g c = λ k. run_within (record { draft = c.args.self.now; hand = Writes }, k)
-
-pub returns-clause-names : goal.returns-clause-names
-returns-clause-names g c = λ k. run_names (record { draft = c.args.self.now; hand = Writes }, k)
 
 pub returns-clause-exact : goal.returns-clause-exact
 returns-clause-exact g c =

@@ -2,6 +2,7 @@ use Rattle.commit_writes.proofs.Counting.{went_within}
 use Rattle.commit_writes.proofs.Ending.{took_less}
 use Rattle.commit_writes.proofs.Exacting.{went_exactly, names_at, went_well}
 use Rattle.commit_writes.proofs.Meaning.{came_means}
+use Rattle.commit_writes.proofs.Refusing.{not_deleting}
 use Rattle.commit_writes.proofs.writes.CommitWrites.step.Goals as goal
 
 pub returns-clause-less : goal.returns-clause-less
@@ -22,6 +23,7 @@ returns-clause-exact g c = record {
   answer = c.call-answer.result;
   made = c.call-answer.ensures.made;
   exact = went_exactly c.args.self.now _ c.call-answer.result _ c.call-answer.ensures.made.fits c.absorb.ensures.memory c.absorb.ensures.took;
+  ample = λ none refusal. c.absorb.ensures.refused (not_deleting c.args.self.now.stage c.args.self.now c.call-answer.ensures.sound none) refusal;
 }
 
 pub returns-clause-names : goal.returns-clause-names

@@ -15,3 +15,5 @@ pub mod Rises
 pub mod Causing
 pub mod Lasts
 pub mod Doing
+pub mod Exactly
+pub mod Wellness

@@ -3,3 +3,5 @@ pub mod Standing
 pub mod Ending
 pub mod Causing
 pub mod Meaning
+pub mod Exact
+pub mod Well

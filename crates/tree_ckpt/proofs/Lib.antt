@@ -17,3 +17,4 @@ pub mod Lasts
 pub mod Doing
 pub mod Exactly
 pub mod Wellness
+pub mod Failing

@@ -116,11 +116,18 @@ Owes n More t = kept_trouble n.work ≡ Some t
 Owes n (Ended answer) t = ⊥
 Owes n (Stopped u) t = u ≢ trouble.Memory → u ≡ t
 
+-- it comes to keep or to answer that a call failed
+abbrev pub ComesToFail : Making → Making → Turn CkptAnswer → Type 0
+ComesToFail m n More = (kept_trouble m.work ≡ None) × (kept_trouble n.work ≡ Some trouble.Failed)
+ComesToFail m n (Ended answer) = ⊥
+ComesToFail m n (Stopped t) = (kept_trouble m.work ≡ None) × (t ≡ trouble.Failed)
+
 -- By the answer that the cloud gave, each trouble that is kept or answered was kept before or is shown, and each that was kept or that the answer
--- demands is kept or answered. Where the answer is want of memory, the step stops for it.
+-- demands is kept or answered. No failed deletion or release brings one. Where the answer is want of memory, the step stops for it.
 pub record Exact (who : Caller) (before after : Seen) (h : List Deed) (old new : Making) (turn : Turn CkptAnswer) : Type 0 where
   pub answer : Answer
   pub made : Makes who (making_ask old) answer before after
   pub tells : Tells old h answer new turn
   pub owes : (t : Trouble) → (kept_trouble old.work ≡ Some t) ⊎ Demands old answer t → Owes new turn t
+  pub fails : ComesToFail old new turn → Matters (making_ask old)
   pub memory : answer ≡ call.Memory → turn ≡ Stopped trouble.Memory

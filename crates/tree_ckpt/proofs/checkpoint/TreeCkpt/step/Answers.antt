@@ -2,6 +2,7 @@ use Rattle.tree_ckpt.proofs.Doing.{went_done, took_done}
 use Rattle.tree_ckpt.proofs.Causing.{went_brought, took_tells}
 use Rattle.tree_ckpt.proofs.Ending.{took_less}
 use Rattle.tree_ckpt.proofs.Exactly.{took_owes}
+use Rattle.tree_ckpt.proofs.Failing.{took_fails}
 use Rattle.tree_ckpt.proofs.Wellness.{took_well}
 use Rattle.calm_calls.proofs.CalmLemmas.{goes_well}
 use Rattle.tree_ckpt.proofs.Leading.{took_handed}
@@ -52,6 +53,8 @@ returns-clause-exact g c = λ h went. record {
       (took_handed c.args.self.now _ _ c.call-answer.result _ c.call-answer.ensures.left c.absorb.ensures.took);
   owes = λ t k. took_owes c.args.self.now _ h c.call-answer.result _ t (went_stands c.args.self.now h went) (went_brought c.args.self.now h went)
       c.call-answer.ensures.made.fits (took_handed c.args.self.now _ _ c.call-answer.result _ c.call-answer.ensures.left c.absorb.ensures.took) k;
+  fails = λ k. took_fails c.args.self.now c.absorb.new.self h c.call-answer.result _ (went_stands c.args.self.now h went) (went_brought c.args.self.now h went)
+      (took_handed c.args.self.now _ _ c.call-answer.result _ c.call-answer.ensures.left c.absorb.ensures.took) k;
   memory = c.absorb.ensures.memory;
 }
 

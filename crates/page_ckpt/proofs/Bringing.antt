@@ -43,6 +43,7 @@ released_brought p (Some l) None cs k = absurd k
 released_brought p None second cs k = absurd k
 
 pub knows_brought : (p : Paging) (cs : Calls) → Knows p cs → WasBrought p cs
-knows_brought p cs k =
-    (λ e. received_brought p p.held.first p.held.second cs (subst (λ (s : Stage). KnowsAt s p p.held.first p.held.second cs) e k),
-    λ e. released_brought p p.held.first p.held.second cs (subst (λ (s : Stage). KnowsAt s p p.held.first p.held.second cs) e k))
+knows_brought p cs k = (
+  λ e. received_brought p p.held.first p.held.second cs (subst (λ (s : Stage). KnowsAt s p p.held.first p.held.second cs) e k),
+  λ e. released_brought p p.held.first p.held.second cs (subst (λ (s : Stage). KnowsAt s p p.held.first p.held.second cs) e k),
+)

@@ -120,7 +120,7 @@ abbrev AtReleasing : Option Trouble → Paging → Calls → Option Claim → Op
 AtReleasing (Some t) p cs first second = Unit {0}
 AtReleasing None p cs first second = WithHome (λ l. LateOf p cs l × (p.deletions.ids ≡ [])) first second
 
-abbrev KnowsAt : Stage → Paging → Option Claim → Option Claim → Calls → Type 0
+abbrev pub KnowsAt : Stage → Paging → Option Claim → Option Claim → Calls → Type 0
 KnowsAt TakingHome p first second cs = (cs ≡ []) × (p.applied ≡ 0) × Quiet p
 KnowsAt GettingHome p first second cs = WithHome (AtGettingHome p cs) first second
 KnowsAt Receiving p first second cs = WithHome (AtReceiving p cs) first second

@@ -6,3 +6,4 @@ pub mod Causing
 pub mod Resting
 pub mod Exactly
 pub mod Wellness
+pub mod Bringing

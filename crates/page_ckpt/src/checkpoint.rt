@@ -640,7 +640,7 @@ impl PageCkpt {
         // A trouble that it keeps or answers was shown by the answer of a step.
         ensures causes { (h : List Deed) → Went h self.old → Causes who (C.seen cloud.old) (C.seen cloud.new) self.old self.new result }
         // It keeps or answers a trouble exactly where the answer of a step shows it.
-        ensures exact { (h : List Deed) → Went h self.old → Exact who (C.seen cloud.old) (C.seen cloud.new) self.old self.new result }
+        ensures exact { (h : List Deed) → Went h self.old → Exact who (C.seen cloud.old) (C.seen cloud.new) h self.old self.new result }
         // At Done the calls were these, in this order.
         ensures done { (h : List Deed) → Went h self.old → MeansDone (paging_ask self.old) self.new h result }
         // Where all calls went well, an end leaves no message, and no stop is for a call that failed, a lease that was over or a lock that was held.

@@ -54,7 +54,7 @@ leaf_more : (tree page : ℕ) (l : Leaf) (c : Ask × Answer) (cs : Calls) → Wa
 leaf_more tree page l c cs (inl h) = inl (h.0, h.1, inr h.2)
 leaf_more tree page l c cs (inr h) = inr (h.0, h.1, inr h.2)
 
-link_more : (tree level : ℕ) (low : List ℕ) (page : ℕ) (c : Ask × Answer) (cs : Calls) → IsLink tree level low page cs → IsLink tree level low page (c ∷ cs)
+pub link_more : (tree level : ℕ) (low : List ℕ) (page : ℕ) (c : Ask × Answer) (cs : Calls) → IsLink tree level low page cs → IsLink tree level low page (c ∷ cs)
 link_more tree level low page c cs (inl h) = inl (h.0, root_more tree h.0 c cs h.1, h.2, h.3)
 link_more tree level low page c cs (inr (inl h)) = inr (inl (h.0, h.1, node_more tree h.0 h.1 c cs h.2, h.3))
 link_more tree level low page c cs (inr (inr h)) = inr (inr (h.0, h.1, leaf_more tree h.0 h.1 c cs h.2, h.3, h.4))

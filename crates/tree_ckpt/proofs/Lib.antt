@@ -21,3 +21,6 @@ pub mod Tours
 pub mod Climbs
 pub mod Telling
 pub mod Doing
+pub mod Exactly
+pub mod Wellness
+pub mod Failing

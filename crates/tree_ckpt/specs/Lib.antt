@@ -4,3 +4,5 @@ pub mod Ending
 pub mod Causing
 pub mod Working
 pub mod Meaning
+pub mod Exact
+pub mod Well

@@ -57,7 +57,9 @@ impl TreeCkpt {
     ghost use Rattle.tree_ckpt.specs.Ending.{calls_in, IsShort};
     ghost use Rattle.tree_ckpt.specs.Standing.{Went, Names, GivesBack};
     ghost use Rattle.tree_ckpt.specs.Causing.{Causes};
+    ghost use Rattle.tree_ckpt.specs.Exact.{Exact};
     ghost use Rattle.tree_ckpt.specs.Meaning.{MeansDone};
+    ghost use Rattle.tree_ckpt.specs.Well.{EndsWell};
     ghost use Rattle.tree_ckpt.specs.Making.{new_making, making_ask, with_received, with_work, handed_over, AbsorbsBy, WentBy, SameLeases, MakingLeads, KeepsLeases};
 
     /// The checkpoint of a tree. Takes no memory.
@@ -157,7 +159,11 @@ impl TreeCkpt {
     fn absorb(&mut self, alloc: Global, answer: Answer) -> Turn<CkptAnswer>
         ensures took { Took AbsorbsBy SameLeases self.old answer self.new result }
         ensures short { result ≡ Turn.More → IsShort self.new.work }
+        ensures memory { answer ≡ Answer.Memory → result ≡ Turn.Stopped Trouble.Memory }
     {
+        if let Answer::Memory = answer {
+            return Turn::Stopped(Trouble::Memory);
+        }
         match self.note(alloc, &answer) {
             Ok(()) => self.go(alloc, answer),
             Err(_) => Turn::Stopped(Trouble::Memory),
@@ -177,8 +183,12 @@ impl TreeCkpt {
         ensures gives_back { (h : List Deed) → Went h self.old → GivesBack self.new result }
         // A trouble that it keeps or answers was shown by the answer of a step, and by what its calls brought before.
         ensures causes { (h : List Deed) → Went h self.old → Causes who (C.seen cloud.old) (C.seen cloud.new) h self.old self.new result }
+        // It keeps and answers each trouble that the answer of a step demands.
+        ensures exact { (h : List Deed) → Went h self.old → Exact who (C.seen cloud.old) (C.seen cloud.new) h self.old self.new result }
         // At Done the calls were these, in this order.
         ensures done { (h : List Deed) → Went h self.old → MeansDone (making_ask self.old) self.old h result }
+        // Where all calls went well, an end leaves no message, and no stop is for a call that failed, a lease that was over or a lock that was held.
+        ensures well { (h : List Deed) → Went h self.old → EndsWell who (C.seen cloud.old) (C.seen cloud.new) h self.old self.new result }
     {
         let answer = self.call(cloud, who);
         self.absorb(alloc, answer)

@@ -1,3 +1,4 @@
+use Rattle.page_ckpt.proofs.Bringing.{knows_brought}
 use Rattle.page_ckpt.proofs.Causing.{took_tells}
 use Rattle.page_ckpt.proofs.Ending.{took_less}
 use Rattle.page_ckpt.proofs.Exactly.{took_owes}
@@ -56,6 +57,7 @@ returns-clause-exact g c = λ h went. record {
       (took_handed c.args.self.now _ _ c.call-answer.result _ c.call-answer.ensures.left c.absorb-turn.ensures.took);
   owes = λ t other shown. took_owes c.args.self.now _ h c.call-answer.result _ t (went_stands c.args.self.now h went) (went_quiet c.args.self.now h went)
       c.call-answer.ensures.made.fits (took_handed c.args.self.now _ _ c.call-answer.result _ c.call-answer.ensures.left c.absorb-turn.ensures.took) other shown;
+  brought = knows_brought c.args.self.now _ (went_knows c.args.self.now h went);
   memory = c.absorb-turn.ensures.memory;
 }
 

@@ -28,11 +28,12 @@ use Rattle.tree_moves.specs.Moves.{next_key}
 use Rattle.tree_moves.specs.Work.{take_tree}
 use Rattle.tree_ckpt.specs.Causing.{Calls, WasGot}
 use Rattle.tree_ckpt.specs.Meaning.{Opening, opening_calls}
-use Rattle.tree_ckpt.specs.Working.{done_over, puts_of, Visit, visits_over, root_behind, AreVisits, lacked_on, Climb, climbs_over, root_above, links_above, AreClimbs, IsLast, Worked, worked_calls, IsWorked}
+use Rattle.tree_ckpt.specs.Working.{done_over, puts_of, Visit, visits_over, root_behind, AreVisits, lacked_on, Climb, climbs_over, root_above, links_above, AreClimbs, PutsNode, IsLast, Worked, worked_calls, IsWorked}
 use Rattle.tree_ckpt.proofs.Answers.{done_is}
 use Rattle.tree_ckpt.proofs.Brought.{IsKept, AreKept}
 use Rattle.tree_ckpt.proofs.Covers.{AreHandled, all_handled}
 use Rattle.tree_ckpt.proofs.Folds.{not_empty}
+use Rattle.tree_ckpt.proofs.Pieces.{node_puts}
 use Rattle.tree_ckpt.proofs.Rises.{IsRising, kept_at}
 use Rattle.tree_ckpt.proofs.Tours.{RestsAt, put_in_turn, none_left}
 
@@ -118,8 +119,9 @@ module _ (lease : Claim) (r : Rising) (o : Opening) (work : Calls) (none : r.las
           climbs = record { node = n; plan = p } ∷ k.ups.climbs;
           climbed = (
             kept.0,
-            subst (λ (ls : List Link). node_plan (tree_held stood) r.chart.tree n ls ≡ Ok p) k.ups.linked
-            (subst (λ (root : Option (List ℕ)). node_plan (tree_held root) r.chart.tree n r.chart.links ≡ Ok p) k.root e),
+            subst (λ (ls : List Link). PutsNode (tree_held stood) n ls p) k.ups.linked
+            (subst (λ (root : Option (List ℕ)). PutsNode (tree_held root) n r.chart.links p) k.root
+            (node_puts (tree_held r.chart.root) r.chart.tree n r.chart.links p e)),
             k.ups.climbed,
           );
           linked = ap (λ (ls : List Link). ls ++ links_at (n.level + 1) p.entries) k.ups.linked;

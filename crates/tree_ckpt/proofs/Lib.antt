@@ -17,6 +17,7 @@ pub mod Lasts
 pub mod Answers
 pub mod Lows
 pub mod Covers
+pub mod Pieces
 pub mod Tours
 pub mod Climbs
 pub mod Telling

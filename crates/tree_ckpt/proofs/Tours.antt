@@ -36,11 +36,12 @@ use Rattle.leaf_fold.specs.Plan.{leaf_plan}
 use Rattle.leaf_fold.specs.Folding as fold
 use Rattle.tree_ckpt.specs.Causing.{Calls}
 use Rattle.tree_ckpt.specs.Meaning.{Opening}
-use Rattle.tree_ckpt.specs.Working.{done_over, page_puts, puts_of, Visit, placing_of, held_over, visits_over, AreLooks, HoldsLeaf, PutsLacked, IsVisit, root_behind, AreVisits, lacked_where, lacked_on, IsSettled}
+use Rattle.tree_ckpt.specs.Working.{done_over, page_puts, puts_of, Visit, placing_of, held_over, visits_over, AreLooks, HoldsLeaf, PutsLacked, IsVisit, root_behind, AreVisits, lacked_where, lacked_on, IsSettled, PutsLeaf}
 use Rattle.tree_ckpt.proofs.Answers.{got_is, done_is}
 use Rattle.tree_ckpt.proofs.Charts.{IsFurther, GoesFurther, descent_further}
 use Rattle.tree_ckpt.proofs.Covers.{IsLeast, AreHandledTo, none_handled, handled_more, handled_here, low_upto}
 use Rattle.tree_ckpt.proofs.Folds.{not_empty, plan_some}
+use Rattle.tree_ckpt.proofs.Pieces.{leaf_puts}
 use Rattle.tree_ckpt.proofs.Lows.{IsUpto, ComesUpto, WayUpto, descent_upto}
 
 -- ---- between leaves
@@ -296,7 +297,8 @@ module _ (lease : Claim) (f : Folding) (got : Option (List ℕ)) (l : Leaf) (o :
       holds = k.holds;
       puts = (
         ap has_items same ∙ some,
-        subst (λ (r : Option (List ℕ)). leaf_plan (tree_held r) f.page l f.chart.run.items ≡ Ok p) k.tours.rests.root e,
+        subst (λ (r : Option (List ℕ)). PutsLeaf (tree_held r) f.page l f.chart.run.items p) k.tours.rests.root
+            (leaf_puts (tree_held f.chart.root) f.page l f.chart.run.items p e),
       );
     };
     own = refl;

@@ -1,5 +1,5 @@
 -- The work of a tree checkpoint, as its calls tell it: from leaf to leaf, and then up.
-use Rattle.std.specs.Prelude.{ℕ, ◌≡◌, ◌+◌, true, false, List, [], ◌∷◌, ◌++◌, map, length, Option, Some, None, Ok, ◌⊎◌}
+use Rattle.std.specs.Prelude.{ℕ, ◌≡◌, ◌≤◌, ◌+◌, ◌-◌, true, false, List, [], ◌∷◌, ◌++◌, map, reverse, drop, length, Option, Some, None, Ok, ◌⊎◌}
 use Rattle.std.specs.List.{AllByRecursion}
 use Rattle.db_base.specs.Change.{key_of}
 use Rattle.db_base.specs.declared.names.Lock.TheVariants as lock
@@ -7,10 +7,17 @@ use Rattle.db_base.specs.declared.names.ObjName.TheVariants as object
 use Rattle.byte_format.specs.Whole.{whole}
 use Rattle.leaf_view.specs.Leaf.{Leaf, leaf}
 use Rattle.leaf_view.specs.Lookup.{empty_leaf, page_at, holds}
-use Rattle.node_codec.specs.Tree.{Tree}
+use Rattle.node_codec.specs.Inner.{Inner, inner_of}
+use Rattle.node_codec.specs.Tree.{Tree, tree_bytes}
+use Rattle.log_codec.specs.declared.record.PuItem.{PuItem}
+use Rattle.leaf_edit.specs.Applied.{applied}
 use Rattle.leaf_edit.specs.Lacked.{lacked}
 use Rattle.run_cursor.specs.Run.{Taken}
+use Rattle.split_plan.specs.declared.entry_list.NewEntry.{NewEntry}
 use Rattle.split_plan.specs.declared.put_list.PagePut.{PagePut}
+use Rattle.split_plan.specs.Cut.{IsCut}
+use Rattle.split_plan.specs.Part.{Part, record_key, entry_key, part_of_leaf, part_of_node}
+use Rattle.split_plan.specs.Plan.{put_of, entry_of, on_pages, leaf_bytes, node_bytes}
 use Rattle.cloud_trait.specs.declared.answer.Answer.{Answer}
 use Rattle.cloud_trait.specs.declared.answer.Answer.TheVariants.{Got, Done, Given}
 use Rattle.cloud_trait.specs.Ask.{Ask, GetHeld, PutHeld, Take, Release}
@@ -24,10 +31,9 @@ use Rattle.tree_parts.specs.Placing.{landed_root}
 use Rattle.tree_parts.specs.Read.{tree_held}
 use Rattle.leaf_fold.specs.declared.plan.LeafPlan.{LeafPlan}
 use Rattle.leaf_fold.specs.Folding.{no_placing}
-use Rattle.leaf_fold.specs.Plan.{leaf_plan}
 use Rattle.tree_rising.specs.declared.node.NodePlan.{NodePlan}
 use Rattle.tree_rising.specs.declared.root.RootPlan.{RootPlan}
-use Rattle.tree_rising.specs.Nodes.{node_plan}
+use Rattle.tree_rising.specs.Nodes.{with_links}
 use Rattle.tree_rising.specs.Rising.{plan_of}
 use Rattle.tree_rising.specs.Root.{raised_root}
 use Rattle.tree_ckpt.specs.Causing.{Calls, WasGot}
@@ -51,6 +57,40 @@ reserved_before tree one None asks = asks
 
 abbrev pub puts_of : ℕ → Claim → Option Claim → Placing → List Ask
 puts_of tree one two p = reserved_before tree one p.reserved (page_puts tree one two p.puts)
+
+-- ---- pieces
+
+-- So many numbers of new pages are those from the tree object's next number on. Its next version, with that number raised by so many and nothing else
+-- changed, is put before them.
+abbrev pub Reserves : Tree → ℕ → ℕ → Option (List ℕ) → Type 0
+Reserves root first count None = count ≡ 0
+Reserves root first count (Some bytes) =
+    (first ≡ root.next) × (bytes ≡ tree_bytes (record root { version = root.version + 1; next = root.next + count }))
+
+-- What is put for a page, and named above it: the pieces that it is cut into, of at most 64 items each, the rightmost first and that on its own page
+-- last, the new ones on the numbers that are reserved for them.
+pub record PutsPieces {A X : Type 0} (key : A → List ℕ) (bytes : Part A X → List ℕ) (root : Tree) (page : ℕ) (whole : Part A X)
+    (placing : Placing) (named : List NewEntry) : Type 0 where
+  pub first : ℕ
+  pub pieces : List (Part A X)
+  pub cut : IsCut key first whole pieces
+  pub small : AllByRecursion (λ q. length q.items ≤ 64) pieces
+  pub numbers : Reserves root first (length pieces - 1) placing.reserved
+  pub puts : placing.puts ≡ reverse (map (put_of bytes) (on_pages page first pieces))
+  pub entries : named ≡ drop 1 (map entry_of (on_pages page first pieces))
+
+-- the leaf with the run applied is put
+abbrev pub PutsLeaf : Tree → ℕ → Leaf → List PuItem → LeafPlan → Type 0
+PutsLeaf root page l run p = PutsPieces record_key leaf_bytes root page (part_of_leaf (applied l 0 run)) p.placing p.entries
+
+-- the next version of an inner node, with the links that go to it
+abbrev pub linked_node : Inner → List Link → Inner
+linked_node n ls = record n { version = n.version + 1; entries = with_links n ls n.entries }
+
+-- it is put
+abbrev pub PutsNode : Tree → KeptNode → List Link → NodePlan → Type 0
+PutsNode root k ls p =
+    (n : Inner) × (inner_of k.bytes ≡ Some n) × PutsPieces entry_key node_bytes root k.page (part_of_node (linked_node n ls)) p.placing p.entries
 
 -- ---- a leaf
 
@@ -93,10 +133,10 @@ abbrev pub HoldsLeaf : ℕ → Leaf → Option (List ℕ) → Type 0
 HoldsLeaf page l (Some bytes) = whole leaf bytes ≡ Ok l
 HoldsLeaf page l None = (page ≡ 1) × (l ≡ empty_leaf)
 
--- What is planned is the leaf with the run applied, in its pieces, with their numbers from the tree object that stands. Nothing is where the leaf
--- lacks no item of the run, or is left for the page on its right.
+-- What is planned is the leaf with the run applied, with the tree object that stands. Nothing is where the leaf lacks no item of the run, or is left
+-- for the page on its right.
 abbrev pub PutsLacked : Taken → Option (List ℕ) → ℕ → Leaf → Option LeafPlan → Type 0
-PutsLacked run root page l (Some plan) = (has_items (lacked l 0 run.items) ≡ true) × (leaf_plan (tree_held root) page l run.items ≡ Ok plan)
+PutsLacked run root page l (Some plan) = (has_items (lacked l 0 run.items) ≡ true) × PutsLeaf (tree_held root) page l run.items plan
 PutsLacked run root page l None = (has_items (lacked l 0 run.items) ≡ false) ⊎ ((right : ℕ) × (page_at l.right ≡ Some right))
 
 pub record IsVisit (tree : ℕ) (one : Claim) (run : Taken) (root : Option (List ℕ)) (v : Visit) : Type 0 where
@@ -155,12 +195,11 @@ abbrev pub links_above : List Link → List Climb → List Link
 links_above links [] = links
 links_above links (u ∷ us) = links_above links us ++ links_at (u.node.level + 1) u.plan.entries
 
--- What is planned is a node that was got among these calls, with the links that go to it, in its pieces, with their numbers from the tree object that
--- stands.
+-- what is planned is a node that was got among these calls, with the links that go to it, with the tree object that stands
 abbrev pub AreClimbs : ℕ → Calls → Option (List ℕ) → List Link → List Climb → Type 0
 AreClimbs tree cs root links [] = Unit {0}
 AreClimbs tree cs root links (u ∷ us) =
-    WasGot (object.Page tree u.node.page) (Some u.node.bytes) cs × (node_plan (tree_held (root_above root us)) tree u.node (links_above links us) ≡ Ok u.plan)
+    WasGot (object.Page tree u.node.page) (Some u.node.bytes) cs × PutsNode (tree_held (root_above root us)) u.node (links_above links us) u.plan
     × AreClimbs tree cs root links us
 
 -- what is put last: the tree object with its links and its cursor raised, behind its pieces where it is cut

@@ -28,12 +28,12 @@ use Rattle.tree_moves.specs.Moves.{next_key}
 use Rattle.tree_moves.specs.Work.{take_tree}
 use Rattle.tree_ckpt.specs.Causing.{Calls, WasGot}
 use Rattle.tree_ckpt.specs.Meaning.{Opening, opening_calls}
-use Rattle.tree_ckpt.specs.Working.{done_over, puts_of, Visit, visits_over, root_behind, AreVisits, lacked_on, Climb, climbs_over, root_above, links_above, AreClimbs, PutsNode, IsLast, Worked, worked_calls, IsWorked}
+use Rattle.tree_ckpt.specs.Working.{done_over, puts_of, Visit, visits_over, root_behind, AreVisits, lacked_on, Climb, climbs_over, root_above, links_above, AreClimbs, PutsNode, raised_root, PutsRoot, Worked, worked_calls, IsWorked}
 use Rattle.tree_ckpt.proofs.Answers.{done_is}
 use Rattle.tree_ckpt.proofs.Brought.{IsKept, AreKept}
 use Rattle.tree_ckpt.proofs.Covers.{AreHandled, all_handled}
 use Rattle.tree_ckpt.proofs.Folds.{not_empty}
-use Rattle.tree_ckpt.proofs.Pieces.{node_puts}
+use Rattle.tree_ckpt.proofs.Pieces.{node_puts, root_puts}
 use Rattle.tree_ckpt.proofs.Rises.{IsRising, kept_at}
 use Rattle.tree_ckpt.proofs.Tours.{RestsAt, put_in_turn, none_left}
 
@@ -79,7 +79,7 @@ UpsAt lease c o = Ups lease c.tree c.run c.applied c.nodes c.links o
 abbrev UpTo : ℕ → Claim → List (ℕ × ℕ) → Placing → Option (List ℕ) → Option (List ℕ) → List Link → Calls → Calls → Option (List ℕ) → Type 0
 UpTo tree lease top p root stood links below work None = (landed_root p root ≡ stood) × (done_over (puts_of tree lease None p) work ≡ below)
 UpTo tree lease top p root stood links below work (Some bytes) =
-    (last : RootPlan) × (bytes ≡ last.last) × IsLast (tree_held stood) links top last
+    (last : RootPlan) × (bytes ≡ last.last) × PutsRoot (tree_held stood) (raised_root (tree_held stood) links top) last
     × (done_over (puts_of tree lease None p) work ≡ done_over (puts_of tree lease None last.placing) below)
 
 pub record Climbs (lease : Claim) (r : Rising) (o : Opening) (work : Calls) : Type 0 where
@@ -151,8 +151,9 @@ module _ (lease : Claim) (r : Rising) (o : Opening) (work : Calls) (none : r.las
         upto = (
           p,
           refl,
-          subst (λ (ls : List Link). IsLast (tree_held stood) ls r.chart.run.top p) k.ups.linked
-          (subst (λ (root : Option (List ℕ)). IsLast (tree_held root) r.chart.links r.chart.run.top p) k.root e),
+          subst (λ (ls : List Link). PutsRoot (tree_held stood) (raised_root (tree_held stood) ls r.chart.run.top) p) k.ups.linked
+          (subst (λ (root : Option (List ℕ)). PutsRoot (tree_held root) (raised_root (tree_held root) r.chart.links r.chart.run.top) p) k.root
+          (root_puts (tree_held r.chart.root) r.chart.links r.chart.run.top p e)),
           ap (done_over (puts_of r.chart.tree lease None p.placing)) k.calls,
         );
       }

@@ -1,6 +1,6 @@
 -- What is put for a page are the pieces that it is cut into, none of them long.
-use Rattle.std.proofs.Common.{◌≡◌, ℕ, zero, suc, ◌+◌, ◌-◌, ◌*◌, ◌/◌, ◌%◌, ◌<◌, ◌≤◌, Bool, true, false, cond, List, [], ◌∷◌, ◌++◌, length, Option, Some, None, Result, Ok, Err, refl, sym, ap, subst, ◌∙◌, arith}
-use Rattle.std.specs.Prelude.{◌==◌, nat_lt, map, reverse, drop, replicate}
+use Rattle.std.proofs.Common.{◌≡◌, ℕ, zero, suc, ◌+◌, ◌-◌, ◌*◌, ◌/◌, ◌%◌, ◌<◌, ◌≤◌, Bool, true, false, cond, List, [], ◌∷◌, ◌++◌, length, Option, Some, None, Result, Ok, Err, refl, sym, ap, subst, ◌∙◌, inl, inr, arith}
+use Rattle.std.specs.Prelude.{◌==◌, ◌&&◌, nat_lt, map, reverse, drop, replicate}
 use Rattle.std.specs.List.{AllByRecursion}
 use Rattle.std.proofs.Math.Nat.{div-add-mod}
 use Rattle.std.proofs.lemmas.Bool.{eqb-true, ltb-true, ltb-false}
@@ -10,11 +10,12 @@ use Rattle.byte_format.specs.Whole.{offset}
 use Rattle.leaf_view.specs.Leaf.{Leaf}
 use Rattle.leaf_edit.specs.Applied.{applied}
 use Rattle.log_codec.specs.declared.record.PuItem.{PuItem}
-use Rattle.node_codec.specs.Inner.{Inner, inner_of, inner_format}
+use Rattle.node_codec.specs.Inner.{Inner, inner_of, inner_format, node_of_root}
+use Rattle.node_codec.specs.Node.{raised}
 use Rattle.node_codec.specs.Tree.{Tree, tree_bytes}
 use Rattle.split_plan.specs.Cut.{back_part, cut_by, pieces_of}
 use Rattle.split_plan.specs.Part.{Part, LeafPart, NodePart, record_key, entry_key, part_of_leaf, part_of_node}
-use Rattle.split_plan.specs.Plan.{put_of, entry_of, on_pages, leaf_bytes, node_bytes}
+use Rattle.split_plan.specs.Plan.{put_of, entry_of, on_pages, leaf_bytes, node_bytes, root_above}
 use Rattle.split_plan.specs.Sizes.{count_of, sizes_of, cuts_of}
 use Rattle.split_plan.proofs.Counting.{least-count, length-cuts}
 use Rattle.split_plan.proofs.Cutting.{pieces-are-a-cut}
@@ -27,7 +28,11 @@ use Rattle.leaf_fold.specs.declared.plan.LeafPlan.{LeafPlan}
 use Rattle.leaf_fold.specs.Plan as fold
 use Rattle.tree_rising.specs.declared.node.NodePlan.{NodePlan}
 use Rattle.tree_rising.specs.Nodes as nodes
-use Rattle.tree_ckpt.specs.Working.{Reserves, PutsPieces, PutsLeaf, PutsNode, linked_node}
+use Rattle.tree_rising.specs.declared.root.RootPlan.{RootPlan}
+use Rattle.tree_rising.specs.Rising.{plan_of}
+use Rattle.tree_rising.specs.Root.{raised_root as planned_root, risen_by, lowered, cut_behind, cut_by as cut_by_count, root_cut, root_plan, uncut}
+use Rattle.tree_ckpt.specs.Working.{Reserves, PutsPieces, PutsLeaf, PutsNode, linked_node, raised_root, PutsWhole, PutsBelow, PutsRoot}
+use Rattle.tree_ckpt.proofs.Rises.{named_numbered}
 
 -- ---- no piece is long
 
@@ -169,3 +174,65 @@ node_puts root tree k ls p e = on (inner_of k.bytes) refl e where
       → PutsNode root k ls p
   on (Some n) spelt f = linked n spelt (n.version == 18446744073709551615) f
   on None spelt f = absurd (cc (f))
+
+-- ---- the tree object
+
+reserves_at : (root : Tree) (first other count : ℕ) (put : Option (List ℕ)) → other ≡ root.next → Reserves root first count put → Reserves root other count put
+reserves_at root first other count None e h = h
+reserves_at root first other count (Some bytes) e h = (e, h.1)
+
+module _ (root t : Tree) (same : t.next ≡ root.next) where
+  below_put : (put : Option (List ℕ)) → Reserves root t.next (count_of (length t.entries)) put
+      → PutsBelow root t (lowered put (record t { version = t.version + 1; next = t.next + count_of (length t.entries) }) t.next)
+  below_put put numbers =
+      let pieces : List NodePart = pieces_of entry_key (t.next + 1) (part_of_node (node_of_root t)) in
+      let count : length pieces ≡ count_of (length t.entries) =
+      length_cut entry_key (cuts_of (length t.entries)) (t.next + 1) (part_of_node (node_of_root t)) ∙ length-cuts (length t.entries) in
+      record {
+        pieces = pieces;
+        cut = pieces-are-a-cut entry_key (t.next + 1) (part_of_node (node_of_root t));
+        small = small_pieces pieces (sizes_of (length t.entries)) (pieces-are-a-cut entry_key (t.next + 1) (part_of_node (node_of_root t))).sizes (small_sizes (length t.entries));
+        numbers = subst (λ (n : ℕ). Reserves root t.next n put) (sym count) numbers;
+        puts = refl;
+        last = ap (λ (n : ℕ). tree_bytes (root_above (map entry_of (on_pages t.next (t.next + 1) pieces)) (record t { version = t.version + 1; next = t.next + n }))) (sym count);
+      }
+
+  cut_put : (p : RootPlan) (r : Result Reserved Trouble) → reservation root 1 (count_of (length t.entries)) ≡ r → cut_behind t r ≡ Ok p → PutsBelow root t p
+  cut_put p (Err f) is e = absurd (cc (e))
+  cut_put p (Ok r) is e = next (t.version == 18446744073709551615) e where
+    made : RootPlan
+    made = lowered r.put (record t { version = t.version + 1; next = t.next + count_of (length t.entries) }) t.next
+
+    at : (b : Bool) → cond b (Err pages_spent) (Ok made) ≡ Ok p → PutsBelow root t p
+    at true f = absurd (cc (f))
+    at false f =
+        let is_made : made ≡ p = cc (f) in
+        subst (PutsBelow root t) is_made
+        (below_put r.put (reserves_at root r.first t.next (count_of (length t.entries)) r.put same (reserves_of root 1 (count_of (length t.entries)) r is)))
+
+    next : (b : Bool) → cut_by_count r.put (count_of (length t.entries)) (cond b (Err version_spent) (Ok (record t { version = t.version + 1 }))) ≡ Ok p → PutsBelow root t p
+    next true f = absurd (cc (f))
+    next false f = at (nat_lt 18446744073709551615 (t.next + count_of (length t.entries))) f
+
+  whole_put : (p : RootPlan) → uncut t ≡ p → PutsWhole t p
+  whole_put p e = (sym (ap (λ (q : RootPlan). q.placing) e), sym (ap (λ (q : RootPlan). q.last) e))
+
+  plan_put : (p : RootPlan) → root_plan root t ≡ Ok p → PutsRoot root t p
+  plan_put p e = on (nat_lt 64 (length t.entries)) refl (nat_lt root.level 255) refl e where
+    on : (long : Bool) → nat_lt 64 (length t.entries) ≡ long → (low : Bool) → nat_lt root.level 255 ≡ low → cond (long && low) (root_cut root t) (Ok (uncut t)) ≡ Ok p
+        → PutsRoot root t p
+    on true l true h f =
+        inr (ltb-true 64 (length t.entries) l, ltb-true root.level 255 h, cut_put p (reservation root 1 (count_of (length t.entries))) refl f)
+    on true l false h f = inl (inr (ltb-false root.level 255 h), whole_put p (cc (f)))
+    on false l low h f = inl (inl (ltb-false 64 (length t.entries) l), whole_put p (cc (f)))
+
+pub root_puts : (root : Tree) (ls : List Link) (top : List (ℕ × ℕ)) (p : RootPlan) → plan_of root (planned_root root ls top) ≡ Ok p
+    → PutsRoot root (raised_root root ls top) p
+root_puts root ls top p e = on (root.version == 18446744073709551615) e where
+  same : (raised_root root ls top).next ≡ root.next
+  same = (named_numbered root.level ls (record (record root { version = root.version + 1 }) { cursor = raised root.cursor top })).1
+
+  on : (b : Bool) → plan_of root (risen_by root.level ls top (cond b (Err version_spent) (Ok (record root { version = root.version + 1 })))) ≡ Ok p
+      → PutsRoot root (raised_root root ls top) p
+  on true f = absurd (cc (f))
+  on false f = plan_put root (raised_root root ls top) same p f

@@ -1,5 +1,5 @@
 -- The work of a tree checkpoint, as its calls tell it: from leaf to leaf, and then up.
-use Rattle.std.specs.Prelude.{ℕ, ◌≡◌, ◌≤◌, ◌+◌, ◌-◌, true, false, List, [], ◌∷◌, ◌++◌, map, reverse, drop, length, Option, Some, None, Ok, ◌⊎◌}
+use Rattle.std.specs.Prelude.{ℕ, ◌≡◌, ◌<◌, ◌≤◌, ◌+◌, ◌-◌, true, false, List, [], ◌∷◌, ◌++◌, map, reverse, drop, length, Option, Some, None, Ok, ◌⊎◌}
 use Rattle.std.specs.List.{AllByRecursion}
 use Rattle.db_base.specs.Change.{key_of}
 use Rattle.db_base.specs.declared.names.Lock.TheVariants as lock
@@ -7,7 +7,7 @@ use Rattle.db_base.specs.declared.names.ObjName.TheVariants as object
 use Rattle.byte_format.specs.Whole.{whole}
 use Rattle.leaf_view.specs.Leaf.{Leaf, leaf}
 use Rattle.leaf_view.specs.Lookup.{empty_leaf, page_at, holds}
-use Rattle.node_codec.specs.Inner.{Inner, inner_of}
+use Rattle.node_codec.specs.Inner.{Inner, inner_of, node_of_root}
 use Rattle.node_codec.specs.Tree.{Tree, tree_bytes}
 use Rattle.log_codec.specs.declared.record.PuItem.{PuItem}
 use Rattle.leaf_edit.specs.Applied.{applied}
@@ -16,8 +16,9 @@ use Rattle.run_cursor.specs.Run.{Taken}
 use Rattle.split_plan.specs.declared.entry_list.NewEntry.{NewEntry}
 use Rattle.split_plan.specs.declared.put_list.PagePut.{PagePut}
 use Rattle.split_plan.specs.Cut.{IsCut}
-use Rattle.split_plan.specs.Part.{Part, record_key, entry_key, part_of_leaf, part_of_node}
+use Rattle.split_plan.specs.Part.{Part, NodePart, record_key, entry_key, part_of_leaf, part_of_node}
 use Rattle.split_plan.specs.Plan.{put_of, entry_of, on_pages, leaf_bytes, node_bytes}
+use Rattle.split_plan.specs.Plan.{root_above as root_with}
 use Rattle.cloud_trait.specs.declared.answer.Answer.{Answer}
 use Rattle.cloud_trait.specs.declared.answer.Answer.TheVariants.{Got, Done, Given}
 use Rattle.cloud_trait.specs.Ask.{Ask, GetHeld, PutHeld, Take, Release}
@@ -34,8 +35,7 @@ use Rattle.leaf_fold.specs.Folding.{no_placing}
 use Rattle.tree_rising.specs.declared.node.NodePlan.{NodePlan}
 use Rattle.tree_rising.specs.declared.root.RootPlan.{RootPlan}
 use Rattle.tree_rising.specs.Nodes.{with_links}
-use Rattle.tree_rising.specs.Rising.{plan_of}
-use Rattle.tree_rising.specs.Root.{raised_root}
+use Rattle.tree_rising.specs.Root.{risen}
 use Rattle.tree_ckpt.specs.Causing.{Calls, WasGot}
 
 -- ---- puts
@@ -202,9 +202,29 @@ AreClimbs tree cs root links (u ∷ us) =
     WasGot (object.Page tree u.node.page) (Some u.node.bytes) cs × PutsNode (tree_held (root_above root us)) u.node (links_above links us) u.plan
     × AreClimbs tree cs root links us
 
--- what is put last: the tree object with its links and its cursor raised, behind its pieces where it is cut
-abbrev pub IsLast : Tree → List Link → List (ℕ × ℕ) → RootPlan → Type 0
-IsLast root links top last = plan_of root (raised_root root links top) ≡ Ok last
+-- the tree object's next version, with its cursor raised to the run's top and with the links of its level
+abbrev pub raised_root : Tree → List Link → List (ℕ × ℕ) → Tree
+raised_root root links top = risen root.level links top (record root { version = root.version + 1 })
+
+-- it is put as it is
+abbrev pub PutsWhole : Tree → RootPlan → Type 0
+PutsWhole t last = (last.placing ≡ no_placing) × (last.last ≡ tree_bytes t)
+
+-- It is cut into inner nodes of its level, of at most 64 entries each and all of them new. These are put, the rightmost first, and then its next version,
+-- which names them, one level higher.
+pub record PutsBelow (root t : Tree) (p : RootPlan) : Type 0 where
+  pub pieces : List NodePart
+  pub cut : IsCut entry_key (t.next + 1) (part_of_node (node_of_root t)) pieces
+  pub small : AllByRecursion (λ q. length q.items ≤ 64) pieces
+  pub numbers : Reserves root t.next (length pieces) p.placing.reserved
+  pub puts : p.placing.puts ≡ reverse (map (put_of node_bytes) (on_pages t.next (t.next + 1) pieces))
+  pub last : p.last
+      ≡ tree_bytes (root_with (map entry_of (on_pages t.next (t.next + 1) pieces)) (record t { version = t.version + 1; next = t.next + length pieces }))
+
+-- one of more than 64 entries is cut, unless its level is the greatest
+abbrev pub PutsRoot : Tree → Tree → RootPlan → Type 0
+PutsRoot root t last =
+    (((length t.entries ≤ 64) ⊎ (255 ≤ root.level)) × PutsWhole t last) ⊎ ((64 < length t.entries) × (root.level < 255) × PutsBelow root t last)
 
 -- ---- the whole work
 
@@ -232,7 +252,8 @@ pub record IsWorked (tree : ℕ) (one : Claim) (run : Taken) (got : Option (List
   pub visits : AreVisits tree one run got w.visits
   pub covers : AllByRecursion (λ x. IsHandled run (key_of x.rec.change) w.visits) run.items
   pub climbs : AreClimbs tree (fold_calls tree one w) (folded_root got w) w.links w.climbs
-  pub last : IsLast (tree_held (root_above (folded_root got w) w.climbs)) (links_above w.links w.climbs) run.top w.last
+  pub last : PutsRoot (tree_held (root_above (folded_root got w) w.climbs))
+      (raised_root (tree_held (root_above (folded_root got w) w.climbs)) (links_above w.links w.climbs) run.top) w.last
 
 -- the work is such where the run has an item, and there is none where it is empty
 abbrev pub WorksBy : ℕ → Claim → Taken → Option (List ℕ) → Calls → Option Worked → Type 0

@@ -28,7 +28,7 @@ use Rattle.tree_moves.specs.Moves.{next_key}
 use Rattle.tree_moves.specs.Work.{take_tree}
 use Rattle.tree_ckpt.specs.Causing.{Calls, WasGot}
 use Rattle.tree_ckpt.specs.Meaning.{Opening, opening_calls}
-use Rattle.tree_ckpt.specs.Working.{done_over, puts_of, Visit, visits_over, root_behind, AreVisits, lacked_on, Climb, climbs_over, root_above, links_above, AreClimbs, PutsNode, raised_root, PutsRoot, Worked, worked_calls, IsWorked}
+use Rattle.tree_ckpt.specs.Working.{done_over, puts_of, Visit, visits_over, root_behind, links_behind, AreVisits, lacked_on, Climb, climbs_over, root_above, links_above, AreClimbs, PutsNode, raised_root, PutsRoot, Worked, worked_calls, IsWorked}
 use Rattle.tree_ckpt.proofs.Answers.{done_is}
 use Rattle.tree_ckpt.proofs.Brought.{IsKept, AreKept}
 use Rattle.tree_ckpt.proofs.Covers.{AreHandled, all_handled}
@@ -65,12 +65,11 @@ pub record Ups (lease : Claim) (tree : ℕ) (run : Taken) (count : ℕ) (nodes :
   pub visits : List Visit
   pub are : AreVisits tree lease run o.got visits
   pub applied : count ≡ lacked_on run visits
-  pub covers : AreHandled run run.items visits
+  pub covers : AreHandled run.items visits
   pub kept : AreKept tree nodes (visits_over tree lease visits [])
-  pub links : List Link
   pub climbs : List Climb
-  pub climbed : AreClimbs tree (visits_over tree lease visits []) (root_behind o.got visits) links climbs
-  pub linked : found ≡ links_above links climbs
+  pub climbed : AreClimbs tree (visits_over tree lease visits []) (root_behind o.got visits) (links_behind visits) climbs
+  pub linked : found ≡ links_above (links_behind visits) climbs
 
 abbrev pub UpsAt : Claim → Chart → Opening → Type 0
 UpsAt lease c o = Ups lease c.tree c.run c.applied c.nodes c.links o
@@ -84,7 +83,7 @@ UpTo tree lease top p root stood links below work (Some bytes) =
 
 pub record Climbs (lease : Claim) (r : Rising) (o : Opening) (work : Calls) : Type 0 where
   pub ups : UpsAt lease r.chart o
-  pub upto : UpTo r.chart.tree lease r.chart.run.top r.placing r.chart.root (root_above (root_behind o.got ups.visits) ups.climbs) (links_above ups.links ups.climbs)
+  pub upto : UpTo r.chart.tree lease r.chart.run.top r.placing r.chart.root (root_above (root_behind o.got ups.visits) ups.climbs) (links_above (links_behind ups.visits) ups.climbs)
       (climbs_over r.chart.tree lease ups.climbs (visits_over r.chart.tree lease ups.visits [])) work r.last
 
 -- all was put that was planned
@@ -106,7 +105,7 @@ module _ (lease : Claim) (r : Rising) (o : Opening) (work : Calls) (none : r.las
       → node_plan (tree_held r.chart.root) r.chart.tree n r.chart.links ≡ p → UpClimbs lease (rise.put_node r next (n.level + 1) p) o work
   node_climbs n next kept (Ok p) e =
       let stood : Option (List ℕ) = root_above (root_behind o.got k.ups.visits) k.ups.climbs in
-      let links : List Link = links_above k.ups.links k.ups.climbs in
+      let links : List Link = links_above (links_behind k.ups.visits) k.ups.climbs in
       let below : Calls = climbs_over r.chart.tree lease k.ups.climbs (visits_over r.chart.tree lease k.ups.visits []) in
       record {
         ups = record {
@@ -115,7 +114,6 @@ module _ (lease : Claim) (r : Rising) (o : Opening) (work : Calls) (none : r.las
           applied = k.ups.applied;
           covers = k.ups.covers;
           kept = k.ups.kept;
-          links = k.ups.links;
           climbs = record { node = n; plan = p } ∷ k.ups.climbs;
           climbed = (
             kept.0,
@@ -143,7 +141,6 @@ module _ (lease : Claim) (r : Rising) (o : Opening) (work : Calls) (none : r.las
           applied = k.ups.applied;
           covers = k.ups.covers;
           kept = k.ups.kept;
-          links = k.ups.links;
           climbs = k.ups.climbs;
           climbed = k.ups.climbed;
           linked = k.ups.linked;
@@ -175,12 +172,11 @@ begun_climbs lease c o work all kept k = rise_climbs lease (rise.begun c) o work
     visits = k.visits;
     are = k.are;
     applied = k.applied;
-    covers = all_handled c.run c.from c.run.items k.visits all k.handled;
+    covers = all_handled c.from c.run.items k.visits all k.handled;
     kept = subst (λ (cs : Calls). AreKept c.tree c.nodes cs) k.calls kept;
-    links = c.links;
     climbs = [];
     climbed = tt;
-    linked = refl;
+    linked = k.linked;
   };
   root = k.root;
   calls = k.calls;
@@ -230,14 +226,14 @@ some_last false b e h = absurd (cc (e))
 module _ (lease : Claim) (r : Rising) (o : Opening) (work : Calls) (k : Climbs lease r o work) where
   abbrev UpBy : Placing → Option (List ℕ) → Calls → Option (List ℕ) → Type 0
   UpBy p root calls last =
-      UpTo r.chart.tree lease r.chart.run.top p root (root_above (root_behind o.got k.ups.visits) k.ups.climbs) (links_above k.ups.links k.ups.climbs)
+      UpTo r.chart.tree lease r.chart.run.top p root (root_above (root_behind o.got k.ups.visits) k.ups.climbs) (links_above (links_behind k.ups.visits) k.ups.climbs)
       (climbs_over r.chart.tree lease k.ups.climbs (visits_over r.chart.tree lease k.ups.visits [])) calls last
 
   -- the put of the tree object
   last_climbs : has_nothing r.placing ≡ true → (last : Option (List ℕ)) → is_some last ≡ true → UpBy r.placing r.chart.root work last
       → Risen lease r.chart.tree r.chart.run r.chart.applied o ((rise.last_ask r lease last, call.Done) ∷ work)
   last_climbs nothing (Some bytes) some up = record {
-    worked = record { visits = k.ups.visits; links = k.ups.links; climbs = k.ups.climbs; last = up.0 };
+    worked = record { visits = k.ups.visits; climbs = k.ups.climbs; last = up.0 };
     is = record { visits = k.ups.are; covers = k.ups.covers; climbs = k.ups.climbed; last = up.2 };
     calls =
         ap (λ (bs : List ℕ). (PutHeld (object.Tree r.chart.tree) bs lease None, call.Done) ∷ work) up.1
@@ -268,7 +264,6 @@ module _ (lease : Claim) (r : Rising) (o : Opening) (work : Calls) (k : Climbs l
       applied = k.ups.applied;
       covers = k.ups.covers;
       kept = k.ups.kept;
-      links = k.ups.links;
       climbs = k.ups.climbs;
       climbed = k.ups.climbed;
       linked = k.ups.linked;
@@ -286,7 +281,6 @@ module _ (lease : Claim) (r : Rising) (o : Opening) (work : Calls) (k : Climbs l
       applied = k.ups.applied;
       covers = k.ups.covers;
       kept = k.ups.kept;
-      links = k.ups.links;
       climbs = k.ups.climbs;
       climbed = k.ups.climbed;
       linked = k.ups.linked;

@@ -18,6 +18,7 @@ pub mod Answers
 pub mod Lows
 pub mod Covers
 pub mod Pieces
+pub mod Turns
 pub mod Tours
 pub mod Climbs
 pub mod Telling

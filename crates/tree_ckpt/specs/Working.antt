@@ -8,6 +8,7 @@ use Rattle.byte_format.specs.Whole.{whole}
 use Rattle.leaf_view.specs.Leaf.{Leaf, leaf}
 use Rattle.leaf_view.specs.Lookup.{empty_leaf, page_at, holds}
 use Rattle.node_codec.specs.Inner.{Inner, inner_of, node_of_root}
+use Rattle.node_codec.specs.Node as node
 use Rattle.node_codec.specs.Tree.{Tree, tree_bytes}
 use Rattle.log_codec.specs.declared.record.PuItem.{PuItem}
 use Rattle.leaf_edit.specs.Applied.{applied}
@@ -36,7 +37,7 @@ use Rattle.tree_rising.specs.declared.node.NodePlan.{NodePlan}
 use Rattle.tree_rising.specs.declared.root.RootPlan.{RootPlan}
 use Rattle.tree_rising.specs.Nodes.{with_links}
 use Rattle.tree_rising.specs.Root.{risen}
-use Rattle.tree_ckpt.specs.Causing.{Calls, WasGot}
+use Rattle.tree_ckpt.specs.Causing.{Calls, WasGot, WasNode, GoesRight}
 
 -- ---- puts
 
@@ -94,25 +95,33 @@ PutsNode root k ls p =
 
 -- ---- a leaf
 
--- A leaf that was come to: what was got on the way down to it, its page and lease, what its get brought, the leaf that this is, what was
--- planned for it, where something was, and what its release answered.
+-- how a leaf was left: put as planned, as it was since it lacks nothing, or for the page on its right
+pub data Outcome : Type 0 where
+  Planned : (plan : LeafPlan) → Outcome
+  Spared : Outcome
+  Passed : (link : Link) → Outcome
+
+-- A leaf that was come to: what was got on the way down to it, the right links that were followed there, its page and lease, what its get brought, the
+-- leaf that this is, how it was left, and what its release answered.
 pub record Visit : Type 0 where
   pub looks : Calls
+  pub turns : List Link
   pub page : ℕ
   pub lease : Claim
   pub got : Option (List ℕ)
   pub leaf : Leaf
-  pub plan : Option LeafPlan
+  pub outcome : Outcome
   pub freed : Answer
 
-abbrev pub placing_of : Option LeafPlan → Placing
-placing_of (Some p) = p.placing
-placing_of None = no_placing
+abbrev pub placing_of : Outcome → Placing
+placing_of (Planned p) = p.placing
+placing_of Spared = no_placing
+placing_of (Passed link) = no_placing
 
 -- the leaf is taken and got under its lease, and what was planned is put under the tree's lease and its own
 abbrev pub held_over : ℕ → Claim → Visit → Calls → Calls
 held_over tree one v rest =
-    done_over (puts_of tree one (Some v.lease) (placing_of v.plan))
+    done_over (puts_of tree one (Some v.lease) (placing_of v.outcome))
     ((GetHeld (object.Page tree v.page) v.lease, Got v.got) ∷ (Take (lock.Page tree v.page) 30, Given v.lease) ∷ v.looks ++ rest)
 
 -- and then it is given back
@@ -133,46 +142,69 @@ abbrev pub HoldsLeaf : ℕ → Leaf → Option (List ℕ) → Type 0
 HoldsLeaf page l (Some bytes) = whole leaf bytes ≡ Ok l
 HoldsLeaf page l None = (page ≡ 1) × (l ≡ empty_leaf)
 
--- What is planned is the leaf with the run applied, with the tree object that stands. Nothing is where the leaf lacks no item of the run, or is left
--- for the page on its right.
-abbrev pub PutsLacked : Taken → Option (List ℕ) → ℕ → Leaf → Option LeafPlan → Type 0
-PutsLacked run root page l (Some plan) = (has_items (lacked l 0 run.items) ≡ true) × PutsLeaf (tree_held root) page l run.items plan
-PutsLacked run root page l None = (has_items (lacked l 0 run.items) ≡ false) ⊎ ((right : ℕ) × (page_at l.right ≡ Some right))
+-- a right link of an inner node that was got among these calls
+abbrev pub IsTurn : ℕ → Calls → Link → Type 0
+IsTurn tree cs l =
+    (page : ℕ) × (n : Inner) × WasNode tree page n cs × (l.level ≡ n.level + 1) × GoesRight n.high (node.page_at n.right) l.low l.page
 
-pub record IsVisit (tree : ℕ) (one : Claim) (run : Taken) (root : Option (List ℕ)) (v : Visit) : Type 0 where
+abbrev pub AreTurns : ℕ → Calls → List Link → Type 0
+AreTurns tree cs links = AllByRecursion (IsTurn tree cs) links
+
+-- What is planned is the leaf with the run applied, with the tree object that stands. A leaf that lacks no item of the run stays as it is. One is left by
+-- its right link.
+abbrev pub IsLeft : Taken → Option (List ℕ) → ℕ → Leaf → Outcome → Type 0
+IsLeft run root page l (Planned plan) = (has_items (lacked l 0 run.items) ≡ true) × PutsLeaf (tree_held root) page l run.items plan
+IsLeft run root page l Spared = has_items (lacked l 0 run.items) ≡ false
+IsLeft run root page l (Passed link) = (link.level ≡ 1) × GoesRight l.high (page_at l.right) link.low link.page
+
+-- a visit behind these calls
+pub record IsVisit (tree : ℕ) (one : Claim) (run : Taken) (root : Option (List ℕ)) (before : Calls) (v : Visit) : Type 0 where
   pub looks : AreLooks tree one v.looks
+  pub turns : AreTurns tree (v.looks ++ before) v.turns
   pub holds : HoldsLeaf v.page v.leaf v.got
-  pub puts : PutsLacked run root v.page v.leaf v.plan
+  pub left : IsLeft run root v.page v.leaf v.outcome
 
 -- ---- leaf by leaf
 
 -- the tree object that stands behind visits, the newest first: the newest reservation, or that which was got
 abbrev pub root_behind : Option (List ℕ) → List Visit → Option (List ℕ)
 root_behind got [] = got
-root_behind got (v ∷ vs) = landed_root (placing_of v.plan) (root_behind got vs)
+root_behind got (v ∷ vs) = landed_root (placing_of v.outcome) (root_behind got vs)
 
 abbrev pub AreVisits : ℕ → Claim → Taken → Option (List ℕ) → List Visit → Type 0
 AreVisits tree one run got [] = Unit {0}
-AreVisits tree one run got (v ∷ vs) = IsVisit tree one run (root_behind got vs) v × AreVisits tree one run got vs
+AreVisits tree one run got (v ∷ vs) = IsVisit tree one run (root_behind got vs) (visits_over tree one vs []) v × AreVisits tree one run got vs
+
+-- the links that are known then, for the levels above: right links that were followed, and new pieces
+abbrev pub links_from : Outcome → List Link → List Link
+links_from (Planned p) links = links ++ links_at 1 p.entries
+links_from Spared links = links
+links_from (Passed link) links = links ++ link ∷ []
+
+abbrev pub links_behind : List Visit → List Link
+links_behind [] = []
+links_behind (v ∷ vs) = links_from v.outcome (links_behind vs ++ v.turns)
 
 -- how many items the leaf lacked, where it was put
-abbrev pub lacked_where : Taken → Leaf → Option LeafPlan → ℕ
-lacked_where run l (Some plan) = length (lacked l 0 run.items)
-lacked_where run l None = 0
+abbrev pub lacked_where : Taken → Leaf → Outcome → ℕ
+lacked_where run l (Planned plan) = length (lacked l 0 run.items)
+lacked_where run l Spared = 0
+lacked_where run l (Passed link) = 0
 
 abbrev pub lacked_on : Taken → List Visit → ℕ
 lacked_on run [] = 0
-lacked_on run (v ∷ vs) = lacked_on run vs + lacked_where run v.leaf v.plan
+lacked_on run (v ∷ vs) = lacked_on run vs + lacked_where run v.leaf v.outcome
 
 -- a leaf was put, or it lacked nothing
-abbrev pub IsSettled : Taken → Leaf → Option LeafPlan → Type 0
-IsSettled run l (Some plan) = Unit {0}
-IsSettled run l None = has_items (lacked l 0 run.items) ≡ false
+abbrev pub IsSettled : Outcome → Type 0
+IsSettled (Planned plan) = Unit {0}
+IsSettled Spared = Unit {0}
+IsSettled (Passed link) = ⊥
 
 -- a key lies in the range of such a leaf
-abbrev pub IsHandled : Taken → List ℕ → List Visit → Type 0
-IsHandled run key [] = ⊥
-IsHandled run key (v ∷ vs) = ((holds v.leaf key ≡ true) × IsSettled run v.leaf v.plan) ⊎ IsHandled run key vs
+abbrev pub IsHandled : List ℕ → List Visit → Type 0
+IsHandled key [] = ⊥
+IsHandled key (v ∷ vs) = ((holds v.leaf key ≡ true) × IsSettled v.outcome) ⊎ IsHandled key vs
 
 -- ---- up
 
@@ -228,10 +260,9 @@ PutsRoot root t last =
 
 -- ---- the whole work
 
--- the visits, the links that they found, the nodes that were put on the way up, and the tree object that was put last; the newest first
+-- the visits, the nodes that were put on the way up, and the tree object that was put last; the newest first
 pub record Worked : Type 0 where
   pub visits : List Visit
-  pub links : List Link
   pub climbs : List Climb
   pub last : RootPlan
 
@@ -242,18 +273,20 @@ abbrev pub worked_calls : ℕ → Claim → Worked → Calls
 worked_calls tree one w =
     (PutHeld (object.Tree tree) w.last.last one None, Done) ∷ done_over (puts_of tree one None w.last.placing) (climbs_over tree one w.climbs (fold_calls tree one w))
 
--- the tree object that stands when the way up begins
-abbrev pub folded_root : Option (List ℕ) → Worked → Option (List ℕ)
-folded_root got w = root_behind got w.visits
+-- the tree object that stands before the last put, and the links that are known then
+abbrev pub last_root : Option (List ℕ) → Worked → Tree
+last_root got w = tree_held (root_above (root_behind got w.visits) w.climbs)
+
+abbrev pub last_links : Worked → List Link
+last_links w = links_above (links_behind w.visits) w.climbs
 
 -- Each put is as planned from what was got before it; the first tree object is what the get brought. Each item of the run lies in the range of a leaf
 -- that was put, or lacked nothing.
 pub record IsWorked (tree : ℕ) (one : Claim) (run : Taken) (got : Option (List ℕ)) (w : Worked) : Type 0 where
   pub visits : AreVisits tree one run got w.visits
-  pub covers : AllByRecursion (λ x. IsHandled run (key_of x.rec.change) w.visits) run.items
-  pub climbs : AreClimbs tree (fold_calls tree one w) (folded_root got w) w.links w.climbs
-  pub last : PutsRoot (tree_held (root_above (folded_root got w) w.climbs))
-      (raised_root (tree_held (root_above (folded_root got w) w.climbs)) (links_above w.links w.climbs) run.top) w.last
+  pub covers : AllByRecursion (λ x. IsHandled (key_of x.rec.change) w.visits) run.items
+  pub climbs : AreClimbs tree (fold_calls tree one w) (root_behind got w.visits) (links_behind w.visits) w.climbs
+  pub last : PutsRoot (last_root got w) (raised_root (last_root got w) (last_links w) run.top) w.last
 
 -- the work is such where the run has an item, and there is none where it is empty
 abbrev pub WorksBy : ℕ → Claim → Taken → Option (List ℕ) → Calls → Option Worked → Type 0

@@ -19,6 +19,7 @@ pub mod Lows
 pub mod Covers
 pub mod Pieces
 pub mod Turns
+pub mod Whole
 pub mod Tours
 pub mod Climbs
 pub mod Telling

@@ -24,9 +24,10 @@ use Rattle.run_cursor.specs.Run.{Taken}
 use Rattle.split_plan.specs.declared.put_list.PagePut.{PagePut}
 use Rattle.ckpt_parts.specs.Intakes.{has_items}
 use Rattle.tree_parts.specs.declared.chart.Chart.{Chart}
+use Rattle.tree_parts.specs.declared.kept.KeptNode.{KeptNode}
 use Rattle.tree_parts.specs.declared.link.Link.{Link}
 use Rattle.tree_parts.specs.declared.placing.Placing.{Placing}
-use Rattle.tree_parts.specs.Kept.{links_at}
+use Rattle.tree_parts.specs.Kept.{links_at, with_kept}
 use Rattle.tree_parts.specs.Placing.{put_in_hand, landed_root, landed_placing, has_nothing, has_one_page}
 use Rattle.tree_parts.specs.Read.{leaf_or, tree_held}
 use Rattle.tree_descent.specs.declared.descent.Descent.{Descent}
@@ -39,10 +40,11 @@ use Rattle.leaf_fold.specs.Plan.{leaf_plan}
 use Rattle.leaf_fold.specs.Folding as fold
 use Rattle.tree_ckpt.specs.Causing.{Calls, WasGot, GoesRight}
 use Rattle.tree_ckpt.specs.Meaning.{Opening}
-use Rattle.tree_ckpt.specs.Working.{done_over, page_puts, puts_of, Visit, placing_of, held_over, visits_over, AreLooks, HoldsLeaf, IsLeft, IsVisit, root_behind, links_behind, AreVisits, lacked_where, lacked_on, IsSettled, PutsLeaf, AreTurns, Outcome, Planned, Spared, Passed}
+use Rattle.tree_ckpt.specs.Working.{done_over, page_puts, puts_of, Visit, placing_of, held_over, visits_over, AreLooks, HoldsLeaf, IsLeft, IsVisit, root_behind, links_behind, looks_of, AreVisits, lacked_where, lacked_on, IsSettled, PutsLeaf, AreTurns, Outcome, Planned, Spared, Passed}
 use Rattle.tree_ckpt.proofs.Answers.{got_is, done_is}
 use Rattle.tree_ckpt.proofs.Brought.{AreKept, kept_more}
-use Rattle.tree_ckpt.proofs.Turns.{Turned, WayTurned, turns_more, turns_both, descent_turned}
+use Rattle.tree_ckpt.proofs.Turns.{Turned, WayTurned, turns_more, turns_both, node_got, descent_turned}
+use Rattle.tree_ckpt.proofs.Whole.{IsNoted, noted_new, noted_with}
 use Rattle.tree_ckpt.proofs.Charts.{IsFurther, GoesFurther, descent_further}
 use Rattle.tree_ckpt.proofs.Covers.{IsLeast, AreHandledTo, none_handled, handled_more, handled_here, low_upto}
 use Rattle.tree_ckpt.proofs.Folds.{not_empty, plan_some}
@@ -51,39 +53,47 @@ use Rattle.tree_ckpt.proofs.Lows.{IsUpto, ComesUpto, WayUpto, descent_upto}
 
 -- ---- between leaves
 
+-- what was got is kept
+abbrev pub AreNoted : ℕ → Calls → List KeptNode → Type 0
+AreNoted tree looks nodes = (page : ℕ) (bytes : List ℕ) → WasGot (object.Page tree page) (Some bytes) looks → IsNoted page bytes nodes
+
 -- behind visits
-pub record Rests (lease : Claim) (tree : ℕ) (run : Taken) (stood : Option (List ℕ)) (count : ℕ) (from : Option (List ℕ)) (found : List Link) (o : Opening) (work : Calls) : Type 0 where
+pub record Rests (lease : Claim) (tree : ℕ) (run : Taken) (stood : Option (List ℕ)) (count : ℕ) (from : Option (List ℕ)) (found : List Link) (nodes : List KeptNode) (o : Opening) (work : Calls) : Type 0 where
   pub visits : List Visit
   pub are : AreVisits tree lease run o.got visits
   pub linked : found ≡ links_behind visits
+  pub noted : AreNoted tree (looks_of visits) nodes
   pub root : stood ≡ root_behind o.got visits
   pub applied : count ≡ lacked_on run visits
   pub handled : AreHandledTo run.items from visits
   pub calls : work ≡ visits_over tree lease visits []
 
 -- behind visits, and on the way down to the leaf of the least key that is not handled
-pub record Tours (lease : Claim) (tree : ℕ) (run : Taken) (stood : Option (List ℕ)) (count : ℕ) (from : Option (List ℕ)) (key : List ℕ) (found : List Link) (o : Opening) (work : Calls) : Type 0 where
+pub record Tours (lease : Claim) (tree : ℕ) (run : Taken) (stood : Option (List ℕ)) (count : ℕ) (from : Option (List ℕ)) (key : List ℕ) (found : List Link) (nodes : List KeptNode) (o : Opening) (work : Calls) : Type 0 where
   pub before : Calls
   pub known : List Link
-  pub rests : Rests lease tree run stood count from known o before
+  pub olds : List KeptNode
+  pub rests : Rests lease tree run stood count from known olds o before
   pub turns : List Link
   pub turned : AreTurns tree work turns
   pub linked : found ≡ known ++ turns
   pub least : IsLeast run.items from key
   pub looks : Calls
   pub looked : AreLooks tree lease looks
+  pub noted : AreNoted tree (looks ++ looks_of rests.visits) nodes
   pub calls : work ≡ looks ++ before
 
 abbrev pub RestsAt : Claim → Chart → Opening → Calls → Type 0
-RestsAt lease c o work = Rests lease c.tree c.run c.root c.applied c.from c.links o work
+RestsAt lease c o work = Rests lease c.tree c.run c.root c.applied c.from c.links c.nodes o work
 
 abbrev pub ToursAt : Claim → Chart → Opening → Calls → Type 0
-ToursAt lease c o work = Tours lease c.tree c.run c.root c.applied c.from c.key c.links o work
+ToursAt lease c o work = Tours lease c.tree c.run c.root c.applied c.from c.key c.links c.nodes o work
 
 pub rests_tours : (lease : Claim) (c : Chart) (o : Opening) (work : Calls) → IsLeast c.run.items c.from c.key → RestsAt lease c o work → ToursAt lease c o work
 rests_tours lease c o work least k = record {
   before = work;
   known = c.links;
+  olds = c.nodes;
   rests = k;
   turns = [];
   turned = tt;
@@ -91,6 +101,7 @@ rests_tours lease c o work least k = record {
   least = least;
   looks = [];
   looked = tt;
+  noted = k.noted;
   calls = refl;
 }
 
@@ -100,19 +111,22 @@ first_rests lease c o root applied from links = record {
   visits = [];
   are = tt;
   linked = links;
+  noted = λ page bytes h. absurd h;
   root = root;
   applied = applied;
   handled = subst (λ (b : Option (List ℕ)). AreHandledTo c.run.items b []) (sym from) (none_handled c.run.items);
   calls = refl;
 }
 
-further_tours : (lease : Claim) (n : ℕ) (c : Chart) (d : Descent) (o : Opening) (work : Calls) → IsFurther n c d.chart → Turned c.tree work c.links d → ToursAt lease c o work
+further_tours : (lease : Claim) (n : ℕ) (c : Chart) (nodes : List KeptNode) (d : Descent) (o : Opening) (work : Calls) → IsFurther n c d.chart → Turned c.tree work c.links nodes d
+    → Tours lease c.tree c.run c.root c.applied c.from c.key c.links nodes o work
     → ToursAt lease d.chart o work
-further_tours lease n c d o work f t k =
+further_tours lease n c nodes d o work f t k =
     let e : Chart = d.chart in
-    let turned : Tours lease c.tree c.run c.root c.applied c.from c.key e.links o work = record {
+    let turned : Tours lease c.tree c.run c.root c.applied c.from c.key e.links e.nodes o work = record {
       before = k.before;
       known = k.known;
+      olds = k.olds;
       rests = k.rests;
       turns = k.turns ++ t.rest;
       turned = turns_both c.tree k.turns t.rest work k.turned t.are;
@@ -120,14 +134,15 @@ further_tours lease n c d o work f t k =
       least = k.least;
       looks = k.looks;
       looked = k.looked;
+      noted = λ page bytes h. subst (IsNoted page bytes) (sym t.same) (k.noted page bytes h);
       calls = k.calls;
     } in
-    subst (λ (key : List ℕ). Tours lease e.tree e.run e.root e.applied e.from key e.links o work) (sym f.key)
-    (subst (λ (b : Option (List ℕ)). Tours lease e.tree e.run e.root e.applied b c.key e.links o work) (sym f.from)
-    (subst (λ (m : ℕ). Tours lease e.tree e.run e.root m c.from c.key e.links o work) (sym f.applied)
-    (subst (λ (r : Option (List ℕ)). Tours lease e.tree e.run r c.applied c.from c.key e.links o work) (sym f.root)
-    (subst (λ (r : Taken). Tours lease e.tree r c.root c.applied c.from c.key e.links o work) (sym f.run)
-    (subst (λ (t : ℕ). Tours lease t c.run c.root c.applied c.from c.key e.links o work) (sym f.tree) turned)))))
+    subst (λ (key : List ℕ). Tours lease e.tree e.run e.root e.applied e.from key e.links e.nodes o work) (sym f.key)
+    (subst (λ (b : Option (List ℕ)). Tours lease e.tree e.run e.root e.applied b c.key e.links e.nodes o work) (sym f.from)
+    (subst (λ (m : ℕ). Tours lease e.tree e.run e.root m c.from c.key e.links e.nodes o work) (sym f.applied)
+    (subst (λ (r : Option (List ℕ)). Tours lease e.tree e.run r c.applied c.from c.key e.links e.nodes o work) (sym f.root)
+    (subst (λ (r : Taken). Tours lease e.tree r c.root c.applied c.from c.key e.links e.nodes o work) (sym f.run)
+    (subst (λ (t : ℕ). Tours lease t c.run c.root c.applied c.from c.key e.links e.nodes o work) (sym f.tree) turned)))))
 
 -- where the way down goes on or ends
 abbrev pub WayTours : {A : Type 0} → Claim → Next Descent A → Opening → Calls → Type 0
@@ -135,42 +150,51 @@ WayTours lease (Goes d) o work = ToursAt lease d.chart o work × ComesUpto d
 WayTours lease (Ends d x) o work = ToursAt lease d.chart o work × ComesUpto d
 WayTours lease (Stops d t) o work = Unit {0}
 
-pub way_tours : {A : Type 0} (lease : Claim) (n : ℕ) (c : Chart) (next : Next Descent A) (o : Opening) (work : Calls) → GoesFurther n c next → WayUpto next
-    → WayTurned c.tree work c.links next → ToursAt lease c o work → WayTours lease next o work
-way_tours lease n c (Goes d) o work f upto t k = (further_tours lease n c d o work f t k, upto)
-way_tours lease n c (Ends d x) o work f upto t k = (further_tours lease n c d o work f t k, upto)
-way_tours lease n c (Stops d t) o work f upto turned k = tt
+pub way_tours : {A : Type 0} (lease : Claim) (n : ℕ) (c : Chart) (nodes : List KeptNode) (next : Next Descent A) (o : Opening) (work : Calls) → GoesFurther n c next
+    → WayUpto next → WayTurned c.tree work c.links nodes next → Tours lease c.tree c.run c.root c.applied c.from c.key c.links nodes o work → WayTours lease next o work
+way_tours lease n c nodes (Goes d) o work f upto t k = (further_tours lease n c nodes d o work f t k, upto)
+way_tours lease n c nodes (Ends d x) o work f upto t k = (further_tours lease n c nodes d o work f t k, upto)
+way_tours lease n c nodes (Stops d t) o work f upto turned k = tt
+
+-- a node more is got, and kept
+noted_got : (tree : ℕ) (d : Descent) (got : List ℕ) (l : Claim) (a : Answer) (looks : Calls) → d.chart.tree ≡ tree → a ≡ call.Got (Some got) → AreNoted tree looks d.chart.nodes
+    → AreNoted tree ((descent_ask d l, a) ∷ looks) (with_kept (node_got d got) d.chart.nodes)
+noted_got tree d got l a looks same e h page bytes (inr g) = noted_with page bytes (node_got d got) d.chart.nodes (h page bytes g)
+noted_got tree d got l a looks same e h page bytes (inl b) =
+    let ask : GetHeld (object.Page d.chart.tree d.page) l ≡ GetHeld (object.Page tree page) b.0 = ap (λ (c : Ask × Answer). c.0) b.1 in
+    let answer : call.Got (Some got) ≡ call.Got (Some bytes) = sym e ∙ ap (λ (c : Ask × Answer). c.1) b.1 in
+    let at : d.page ≡ page = cc (ask) in
+    let is : got ≡ bytes = cc (answer) in
+    subst (λ (p : ℕ). IsNoted p bytes (with_kept (node_got d got) d.chart.nodes)) at
+    (subst (λ (bs : List ℕ). IsNoted d.page bs (with_kept (node_got d got) d.chart.nodes)) is (noted_new (node_got d got) d.chart.nodes))
 
 pub descent_tours : (lease : Claim) (d : Descent) (a : Answer) (o : Opening) (work : Calls) → AreKept d.chart.tree d.chart.nodes work → ToursAt lease d.chart o work
     → WayTours lease (descent_next d a) o ((descent_ask d lease, a) ∷ work)
-descent_tours lease d a o work kept k = on (got_of a) refl (descent_further d a) (descent_upto d a) (descent_turned d.chart.tree ((ask, a) ∷ work) d) where
+descent_tours lease d a o work kept k = on (got_of a) refl (descent_further d a) (descent_upto d a) where
   ask : Ask
   ask = descent_ask d lease
 
-  got : (g : Result (Option (List ℕ)) Trouble) → got_of a ≡ g → (bytes : List ℕ) → g ≡ Ok (Some bytes) → WasGot (object.Page d.chart.tree d.page) (Some bytes) ((descent_ask d lease, a) ∷ work)
-  got g e bytes f = inl (lease, ap (λ (x : Answer). (descent_ask d lease, x)) (got_is a (Some bytes) (e ∙ f)))
-
   on : (g : Result (Option (List ℕ)) Trouble) → got_of a ≡ g → GoesFurther 1 d.chart (descent_got d g) → WayUpto (descent_got d g)
-      → ((h : Result (Option (List ℕ)) Trouble) → AreKept d.chart.tree d.chart.nodes ((ask, a) ∷ work)
-          → ((bytes : List ℕ) → h ≡ Ok (Some bytes) → WasGot (object.Page d.chart.tree d.page) (Some bytes) ((ask, a) ∷ work))
-          → WayTurned d.chart.tree ((ask, a) ∷ work) d.chart.links (descent_got d h))
       → WayTours lease (descent_got d g) o ((ask, a) ∷ work)
-  on (Ok (Some bytes)) e f upto turned =
-      way_tours lease 1 d.chart (got_node d bytes (fork_of d bytes)) o ((ask, a) ∷ work) f upto
-      (turned (Ok (Some bytes)) (kept_more d.chart.tree d.chart.nodes (ask, a) work kept) (got (Ok (Some bytes)) e)) (record {
+  on (Ok (Some bytes)) e f upto =
+      let is : a ≡ call.Got (Some bytes) = got_is a (Some bytes) e in
+      way_tours lease 1 d.chart (with_kept (node_got d bytes) d.chart.nodes) (got_node d bytes (fork_of d bytes)) o ((ask, a) ∷ work) f upto
+      (descent_turned d.chart.tree ((ask, a) ∷ work) d bytes (kept_more d.chart.tree d.chart.nodes (ask, a) work kept) (inl (lease, ap (λ (x : Answer). (ask, x)) is))) (record {
         before = k.before;
         known = k.known;
+        olds = k.olds;
         rests = k.rests;
         turns = k.turns;
         turned = turns_more d.chart.tree k.turns (ask, a) work k.turned;
         linked = k.linked;
         least = k.least;
         looks = (ask, a) ∷ k.looks;
-        looked = ((d.page, bytes, ap (λ (x : Answer). (ask, x)) (got_is a (Some bytes) e)), k.looked);
+        looked = ((d.page, bytes, ap (λ (x : Answer). (ask, x)) is), k.looked);
+        noted = noted_got d.chart.tree d bytes lease a (k.looks ++ looks_of k.rests.visits) refl is k.noted;
         calls = ap (λ (cs : Calls). (ask, a) ∷ cs) k.calls;
       })
-  on (Ok None) e f upto turned = tt
-  on (Err t) e f upto turned = tt
+  on (Ok None) e f upto = tt
+  on (Err t) e f upto = tt
 
 -- ---- puts
 
@@ -246,6 +270,7 @@ pub record Puts (lease : Claim) (f : Folding) (o : Opening) (work : Calls) : Typ
   pub visit : Visit
   pub is : IsVisit f.chart.tree lease f.chart.run (root_behind o.got visits) (visits_over f.chart.tree lease visits []) visit
   pub linked : f.chart.links ≡ links_behind (visit ∷ visits)
+  pub noted : AreNoted f.chart.tree (looks_of (visit ∷ visits)) f.chart.nodes
   pub own : visit.lease ≡ f.lease
   pub root : landed_root f.placing f.chart.root ≡ root_behind o.got (visit ∷ visits)
   pub applied : f.chart.applied + length f.lacked ≡ lacked_on f.chart.run (visit ∷ visits)
@@ -257,12 +282,13 @@ abbrev pub AtLeaf : Claim → Folding → Opening → Calls → Type 0
 AtLeaf lease f o work = Begins lease f o work ⊎ Puts lease f o work
 
 -- it is done, and was not given back yet
-pub record Visits (lease l : Claim) (tree : ℕ) (run : Taken) (stood : Option (List ℕ)) (count : ℕ) (from : Option (List ℕ)) (found : List Link) (o : Opening) (work : Calls) : Type 0 where
+pub record Visits (lease l : Claim) (tree : ℕ) (run : Taken) (stood : Option (List ℕ)) (count : ℕ) (from : Option (List ℕ)) (found : List Link) (nodes : List KeptNode) (o : Opening) (work : Calls) : Type 0 where
   pub visits : List Visit
   pub are : AreVisits tree lease run o.got visits
   pub visit : Visit
   pub is : IsVisit tree lease run (root_behind o.got visits) (visits_over tree lease visits []) visit
   pub linked : found ≡ links_behind (visit ∷ visits)
+  pub noted : AreNoted tree (looks_of (visit ∷ visits)) nodes
   pub own : visit.lease ≡ l
   pub root : stood ≡ root_behind o.got (visit ∷ visits)
   pub applied : count ≡ lacked_on run (visit ∷ visits)
@@ -270,7 +296,7 @@ pub record Visits (lease l : Claim) (tree : ℕ) (run : Taken) (stood : Option (
   pub calls : work ≡ held_over tree lease visit (visits_over tree lease visits [])
 
 abbrev pub VisitsAt : Claim → Claim → Chart → Opening → Calls → Type 0
-VisitsAt lease own c o work = Visits lease own c.tree c.run c.root c.applied c.from c.links o work
+VisitsAt lease own c o work = Visits lease own c.tree c.run c.root c.applied c.from c.links c.nodes o work
 
 -- a leaf that is left for its right page, which has a low key not above the key at hand
 abbrev pub LeavesUpto : Chart → Left → Type 0
@@ -337,7 +363,7 @@ module _ (lease : Claim) (f : Folding) (got : Option (List ℕ)) (l : Leaf) (o :
 
   -- it lacks nothing
   spared : IsUpto l.low f.chart.key → has_items (lacked l 0 f.chart.run.items) ≡ false
-      → Visits lease f.lease f.chart.tree f.chart.run f.chart.root f.chart.applied l.high f.chart.links o work
+      → Visits lease f.lease f.chart.tree f.chart.run f.chart.root f.chart.applied l.high f.chart.links f.chart.nodes o work
   unfolding visit_with visit_calls
   spared low none = record {
     visits = k.tours.rests.visits;
@@ -345,6 +371,7 @@ module _ (lease : Claim) (f : Folding) (got : Option (List ℕ)) (l : Leaf) (o :
     visit = visit_with Spared;
     is = seen Spared none;
     linked = links_seen;
+    noted = k.tours.noted;
     own = refl;
     root = k.tours.rests.root;
     applied = omega (arith, k.tours.rests.applied);
@@ -354,7 +381,7 @@ module _ (lease : Claim) (f : Folding) (got : Option (List ℕ)) (l : Leaf) (o :
 
   -- it is left by its right link
   passed : (link : Link) → link.level ≡ 1 → GoesRight l.high (page_at l.right) link.low link.page
-      → Visits lease f.lease f.chart.tree f.chart.run f.chart.root f.chart.applied f.chart.from (f.chart.links ++ link ∷ []) o work
+      → Visits lease f.lease f.chart.tree f.chart.run f.chart.root f.chart.applied f.chart.from (f.chart.links ++ link ∷ []) f.chart.nodes o work
   unfolding visit_with visit_calls
   passed link level goes = record {
     visits = k.tours.rests.visits;
@@ -362,6 +389,7 @@ module _ (lease : Claim) (f : Folding) (got : Option (List ℕ)) (l : Leaf) (o :
     visit = visit_with (Passed link);
     is = seen (Passed link) (level, goes);
     linked = ap (λ (ls : List Link). ls ++ link ∷ []) links_seen;
+    noted = k.tours.noted;
     own = refl;
     root = k.tours.rests.root;
     applied = omega (arith, k.tours.rests.applied);
@@ -382,6 +410,7 @@ module _ (lease : Claim) (f : Folding) (got : Option (List ℕ)) (l : Leaf) (o :
           (leaf_puts (tree_held f.chart.root) f.page l f.chart.run.items p e),
     );
     linked = ap (λ (ls : List Link). ls ++ links_at 1 p.entries) links_seen;
+    noted = k.tours.noted;
     own = refl;
     root = ap (landed_root p.placing) k.tours.rests.root;
     applied = omega (arith, k.tours.rests.applied, ap (λ (xs : List PuItem). length xs) same);
@@ -464,6 +493,7 @@ placed_tours lease f o work k = on (has_one_page f.placing) refl where
       visit = k.visit;
       is = k.is;
       linked = k.linked;
+      noted = k.noted;
       own = k.own;
       root = k.root;
       applied = k.applied;
@@ -478,6 +508,7 @@ placed_tours lease f o work k = on (has_one_page f.placing) refl where
     visit = k.visit;
     is = k.is;
     linked = k.linked;
+    noted = k.noted;
     own = k.own;
     root = k.root;
     applied = k.applied;
@@ -526,6 +557,7 @@ left_rests lease own c a o work k =
       visits = freed ∷ k.visits;
       are = (record { looks = k.is.looks; turns = k.is.turns; holds = k.is.holds; left = k.is.left }, k.are);
       linked = k.linked;
+      noted = k.noted;
       root = k.root;
       applied = k.applied;
       handled = freed_handled c.run.items c.from k.visit a k.visits k.handled;

@@ -18,6 +18,7 @@ use Rattle.run_cursor.specs.Covered.{is_seen}
 use Rattle.tree_parts.specs.declared.chart.Chart.{Chart}
 use Rattle.tree_parts.specs.declared.kept.KeptNode.{KeptNode}
 use Rattle.tree_parts.specs.declared.link.Link.{Link}
+use Rattle.tree_parts.specs.Kept.{with_kept}
 use Rattle.tree_parts.specs.Read.{damaged, inner_or}
 use Rattle.tree_descent.specs.declared.descent.Descent.{Descent}
 use Rattle.tree_descent.specs.declared.descent.Reach.{Reach}
@@ -26,7 +27,7 @@ use Rattle.tree_descent.specs.declared.fork.Fork.{Fork}
 use Rattle.tree_descent.specs.declared.fork.Fork.TheVariants.{Right, Down}
 use Rattle.tree_descent.specs.Fork.{bad_fence, down_to, fork_at, forked_on}
 use Rattle.tree_descent.specs.Fork as fork
-use Rattle.tree_descent.specs.Descent.{begun, forked, forked_by, passed, fork_of, go_on, stride_at, kept_at, stride, follow, walk, arrived, arrive, with_node, got_node, absent_node, descent_got}
+use Rattle.tree_descent.specs.Descent.{begun, forked, forked_by, passed, fork_of, go_on, stride_at, kept_at, stride, follow, walk, arrived, arrive, with_node, got_node, absent_node}
 use Rattle.tree_moves.specs.Moves.{root_entry}
 use Rattle.tree_ckpt.specs.Causing.{Calls, WasGot, WasNode}
 use Rattle.tree_ckpt.specs.Working.{IsTurn, AreTurns}
@@ -42,10 +43,11 @@ pub turns_both : (tree : ℕ) (xs ys : List Link) (cs : Calls) → AreTurns tree
 turns_both tree [] ys cs h k = k
 turns_both tree (x ∷ xs) ys cs h k = (h.0, turns_both tree xs ys cs h.1 k)
 
-module _ (tree : ℕ) (cs : Calls) (links : List Link) where
+module _ (tree : ℕ) (cs : Calls) (links : List Link) (nodes : List KeptNode) where
   -- on the way down from such links, with nodes that were got
   pub record Turned (d : Descent) : Type 0 where
     pub kept : AreKept tree d.chart.nodes cs
+    pub same : d.chart.nodes ≡ nodes
     pub rest : List Link
     pub linked : d.chart.links ≡ links ++ rest
     pub are : AreTurns tree cs rest
@@ -107,11 +109,12 @@ module _ (tree : ℕ) (cs : Calls) (links : List Link) where
   unfolding turn_of
   passed_turned d (Right low page) k h = record {
     kept = k.kept;
+    same = k.same;
     rest = k.rest ++ turn_of d low page ∷ [];
     linked = ap (λ (ls : List Link). ls ++ turn_of d low page ∷ []) k.linked ∙ append_assoc links k.rest (turn_of d low page ∷ []);
     are = turns_both tree k.rest (turn_of d low page ∷ []) cs k.are (h, tt);
   }
-  passed_turned d (Down low page) k h = record { kept = k.kept; rest = k.rest; linked = k.linked; are = k.are }
+  passed_turned d (Down low page) k h = record { kept = k.kept; same = k.same; rest = k.rest; linked = k.linked; are = k.are }
 
   go_on_turned : (d : Descent) (f : Result Fork Trouble) → Turned d → FoundTurns d f → WayTurned (go_on d f)
   go_on_turned d (Ok f) k h = passed_turned d f k h
@@ -152,37 +155,46 @@ module _ (tree : ℕ) (cs : Calls) (links : List Link) where
   arrive_turned : (d : Descent) → Turned d → WayTurned (arrive d)
   arrive_turned d h = arrived_turned (walk (length d.chart.nodes) d) (walk_turned (length d.chart.nodes) d h)
 
-  got_turned : (d : Descent) (bytes : List ℕ) → WasGot (object.Page tree d.page) (Some bytes) cs → Turned d → WayTurned (got_node d bytes (fork_of d bytes))
-  unfolding turn_of
-  got_turned d bytes got k = on (inner_of bytes) refl where
-    found : (n : Inner) → inner_of bytes ≡ Some n → (f : Result Fork Trouble) → FoundTurns d f → WayTurned (got_node d bytes f)
-    found n e (Ok f) h =
-        arrive_turned (passed (with_node d bytes) f)
-        (passed_turned (with_node d bytes) f (record {
-          kept = kept_with tree (record { page = d.page; level = d.level; low = d.low; bytes = bytes }) d.chart.nodes cs (got, (n, e)) k.kept;
-          rest = k.rest;
-          linked = k.linked;
-          are = k.are;
-        }) (same_fork f h)) where
-          same_fork : (g : Fork) → ForkTurns d g → ForkTurns (with_node d bytes) g
-          same_fork (Right low page) t = t
-          same_fork (Down low page) t = tt
-    found n e (Err t) h = tt
+-- the node that is got
+abbrev pub node_got : Descent → List ℕ → KeptNode
+node_got d bytes = record { page = d.page; level = d.level; low = d.low; bytes = bytes }
 
-    on : (o : Option Inner) → inner_of bytes ≡ o → WayTurned (got_node d bytes (forked_by d (inner_or d.chart.tree d.page (offset inner_format bytes) o)))
-    on (Some n) e = found n e (forked d n) (forked_turns d n (bytes, e, got))
-    on None e = tt
+got_turned : (tree : ℕ) (cs : Calls) (d : Descent) (bytes : List ℕ) → AreKept tree d.chart.nodes cs → WasGot (object.Page tree d.page) (Some bytes) cs
+    → WayTurned tree cs d.chart.links (with_kept (node_got d bytes) d.chart.nodes) (got_node d bytes (fork_of d bytes))
+unfolding turn_of
+got_turned tree cs d bytes kept got = on (inner_of bytes) refl where
+  nodes : List KeptNode
+  nodes = with_kept (node_got d bytes) d.chart.nodes
+
+  same_fork : (g : Fork) → ForkTurns tree cs d.chart.links nodes d g → ForkTurns tree cs d.chart.links nodes (with_node d bytes) g
+  same_fork (Right low page) t = t
+  same_fork (Down low page) t = t
+
+  found : (n : Inner) → inner_of bytes ≡ Some n → (f : Result Fork Trouble) → FoundTurns tree cs d.chart.links nodes d f
+      → WayTurned tree cs d.chart.links nodes (got_node d bytes f)
+  found n e (Ok f) h =
+      arrive_turned tree cs d.chart.links nodes (passed (with_node d bytes) f)
+      (passed_turned tree cs d.chart.links nodes (with_node d bytes) f (record {
+        kept = kept_with tree (node_got d bytes) d.chart.nodes cs (got, (n, e)) kept;
+        same = refl;
+        rest = [];
+        linked = sym (append-nil d.chart.links);
+        are = tt;
+      }) (same_fork f h))
+  found n e (Err t) h = tt
+
+  on : (o : Option Inner) → inner_of bytes ≡ o
+      → WayTurned tree cs d.chart.links nodes (got_node d bytes (forked_by d (inner_or d.chart.tree d.page (offset inner_format bytes) o)))
+  on (Some n) e = found n e (forked d n) (forked_turns tree cs d.chart.links nodes d n (bytes, e, got))
+  on None e = tt
 
 -- from the tree object
-pub begun_turned : (tree : ℕ) (cs : Calls) (c : Chart) → AreKept tree c.nodes cs → WayTurned tree cs c.links (arrive (begun c (root_entry c).0 (root_entry c).1))
+pub begun_turned : (tree : ℕ) (cs : Calls) (c : Chart) → AreKept tree c.nodes cs → WayTurned tree cs c.links c.nodes (arrive (begun c (root_entry c).0 (root_entry c).1))
 begun_turned tree cs c kept =
-    arrive_turned tree cs c.links (begun c (root_entry c).0 (root_entry c).1)
-    (record { kept = kept; rest = []; linked = sym (append-nil c.links); are = tt })
+    arrive_turned tree cs c.links c.nodes (begun c (root_entry c).0 (root_entry c).1)
+    (record { kept = kept; same = refl; rest = []; linked = sym (append-nil c.links); are = tt })
 
 -- behind the get of a node
-pub descent_turned : (tree : ℕ) (cs : Calls) (d : Descent) (g : Result (Option (List ℕ)) Trouble) → AreKept tree d.chart.nodes cs
-    → ((bytes : List ℕ) → g ≡ Ok (Some bytes) → WasGot (object.Page tree d.page) (Some bytes) cs) → WayTurned tree cs d.chart.links (descent_got d g)
-descent_turned tree cs d (Ok (Some bytes)) kept got =
-    got_turned tree cs d.chart.links d bytes (got bytes refl) (record { kept = kept; rest = []; linked = sym (append-nil d.chart.links); are = tt })
-descent_turned tree cs d (Ok None) kept got = tt
-descent_turned tree cs d (Err t) kept got = tt
+pub descent_turned : (tree : ℕ) (cs : Calls) (d : Descent) (bytes : List ℕ) → AreKept tree d.chart.nodes cs → WasGot (object.Page tree d.page) (Some bytes) cs
+    → WayTurned tree cs d.chart.links (with_kept (node_got d bytes) d.chart.nodes) (got_node d bytes (fork_of d bytes))
+descent_turned tree cs d bytes kept got = got_turned tree cs d bytes kept got

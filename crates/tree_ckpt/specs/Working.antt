@@ -35,7 +35,7 @@ use Rattle.leaf_fold.specs.declared.plan.LeafPlan.{LeafPlan}
 use Rattle.leaf_fold.specs.Folding.{no_placing}
 use Rattle.tree_rising.specs.declared.node.NodePlan.{NodePlan}
 use Rattle.tree_rising.specs.declared.root.RootPlan.{RootPlan}
-use Rattle.tree_rising.specs.Nodes.{with_links}
+use Rattle.tree_rising.specs.Nodes.{with_links, is_touched}
 use Rattle.tree_rising.specs.Root.{risen}
 use Rattle.tree_ckpt.specs.Causing.{Calls, WasGot, WasNode, GoesRight}
 
@@ -166,6 +166,11 @@ pub record IsVisit (tree : ℕ) (one : Claim) (run : Taken) (root : Option (List
 
 -- ---- leaf by leaf
 
+-- what was got on all ways down
+abbrev pub looks_of : List Visit → Calls
+looks_of [] = []
+looks_of (v ∷ vs) = v.looks ++ looks_of vs
+
 -- the tree object that stands behind visits, the newest first: the newest reservation, or that which was got
 abbrev pub root_behind : Option (List ℕ) → List Visit → Option (List ℕ)
 root_behind got [] = got
@@ -258,6 +263,11 @@ abbrev pub PutsRoot : Tree → Tree → RootPlan → Type 0
 PutsRoot root t last =
     (((length t.entries ≤ 64) ⊎ (255 ≤ root.level)) × PutsWhole t last) ⊎ ((64 < length t.entries) × (root.level < 255) × PutsBelow root t last)
 
+-- such a node is among those that are put
+abbrev pub IsPut : ℕ → List ℕ → List Climb → Type 0
+IsPut page bytes [] = ⊥
+IsPut page bytes (u ∷ us) = ((u.node.page ≡ page) × (u.node.bytes ≡ bytes)) ⊎ IsPut page bytes us
+
 -- ---- the whole work
 
 -- the visits, the nodes that were put on the way up, and the tree object that was put last; the newest first
@@ -281,11 +291,13 @@ abbrev pub last_links : Worked → List Link
 last_links w = links_above (links_behind w.visits) w.climbs
 
 -- Each put is as planned from what was got before it; the first tree object is what the get brought. Each item of the run lies in the range of a leaf
--- that was put, or lacked nothing.
+-- that was put, or lacked nothing. An inner node that was got is put where a link that the visits found goes to it.
 pub record IsWorked (tree : ℕ) (one : Claim) (run : Taken) (got : Option (List ℕ)) (w : Worked) : Type 0 where
   pub visits : AreVisits tree one run got w.visits
   pub covers : AllByRecursion (λ x. IsHandled (key_of x.rec.change) w.visits) run.items
   pub climbs : AreClimbs tree (fold_calls tree one w) (root_behind got w.visits) (links_behind w.visits) w.climbs
+  pub raises : (page : ℕ) (bytes : List ℕ) (n : Inner) → WasGot (object.Page tree page) (Some bytes) (looks_of w.visits) → inner_of bytes ≡ Some n
+      → is_touched n (links_behind w.visits) ≡ true → IsPut page bytes w.climbs
   pub last : PutsRoot (last_root got w) (raised_root (last_root got w) (last_links w) run.top) w.last
 
 -- the work is such where the run has an item, and there is none where it is empty

@@ -134,8 +134,8 @@ module _ (lease : Claim) (r : Rising) (o : Opening) (work : Calls) (none : r.las
           climbed = (
             kept.0,
             subst (λ (ls : List Link). PutsNode (tree_held stood) n ls p) k.ups.linked
-            (subst (λ (root : Option (List ℕ)). PutsNode (tree_held root) n r.chart.links p) k.root
-            (node_puts (tree_held r.chart.root) r.chart.tree n r.chart.links p e)),
+                (subst (λ (root : Option (List ℕ)). PutsNode (tree_held root) n r.chart.links p) k.root
+                (node_puts (tree_held r.chart.root) r.chart.tree n r.chart.links p e)),
             k.ups.climbed,
           );
           linked = ap (λ (ls : List Link). ls ++ links_at (n.level + 1) p.entries) k.ups.linked;
@@ -170,8 +170,8 @@ module _ (lease : Claim) (r : Rising) (o : Opening) (work : Calls) (none : r.las
           p,
           refl,
           subst (λ (ls : List Link). PutsRoot (tree_held stood) (raised_root (tree_held stood) ls r.chart.run.top) p) k.ups.linked
-          (subst (λ (root : Option (List ℕ)). PutsRoot (tree_held root) (raised_root (tree_held root) r.chart.links r.chart.run.top) p) k.root
-          (root_puts (tree_held r.chart.root) r.chart.links r.chart.run.top p e)),
+              (subst (λ (root : Option (List ℕ)). PutsRoot (tree_held root) (raised_root (tree_held root) r.chart.links r.chart.run.top) p) k.root
+              (root_puts (tree_held r.chart.root) r.chart.links r.chart.run.top p e)),
           ap (done_over (puts_of r.chart.tree lease None p.placing)) k.calls,
         );
       }

@@ -59,7 +59,7 @@ link_more tree level low page c cs (inl h) = inl (h.0, root_more tree h.0 c cs h
 link_more tree level low page c cs (inr (inl h)) = inr (inl (h.0, h.1, node_more tree h.0 h.1 c cs h.2, h.3))
 link_more tree level low page c cs (inr (inr h)) = inr (inr (h.0, h.1, leaf_more tree h.0 h.1 c cs h.2, h.3, h.4))
 
-kept_more : (tree : ℕ) (ks : List KeptNode) (c : Ask × Answer) (cs : Calls) → AreKept tree ks cs → AreKept tree ks (c ∷ cs)
+pub kept_more : (tree : ℕ) (ks : List KeptNode) (c : Ask × Answer) (cs : Calls) → AreKept tree ks cs → AreKept tree ks (c ∷ cs)
 kept_more tree [] c cs h = tt
 kept_more tree (k ∷ ks) c cs h = ((inr h.0.0, h.0.1), kept_more tree ks c cs h.1)
 

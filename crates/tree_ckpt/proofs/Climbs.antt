@@ -1,6 +1,7 @@
 -- How the work of a tree checkpoint goes up.
 use Rattle.std.proofs.Common.{◌≡◌, ◌+◌, ℕ, Bool, true, false, cond, List, [], ◌∷◌, ◌++◌, length, Option, Some, None, Result, Ok, Err, refl, sym, ap, subst, ◌∙◌, inl, inr, arith}
-use Rattle.std.specs.Prelude.{◌==◌, ◌||◌, not, is_some, unwrap_or}
+use Rattle.std.specs.Prelude.{◌==◌, ◌||◌, drop, not, is_some, unwrap_or}
+use Rattle.std.specs.List.{AllByRecursion}
 use Rattle.db_base.specs.declared.names.ObjName.TheVariants as object
 use Rattle.db_base.specs.declared.names.QueueName.TheVariants as queue
 use Rattle.db_base.specs.declared.trouble.Trouble.{Trouble}
@@ -22,19 +23,21 @@ use Rattle.tree_parts.specs.Read.{tree_held}
 use Rattle.tree_rising.specs.declared.node.NodePlan.{NodePlan}
 use Rattle.tree_rising.specs.declared.rising.Rising.{Rising}
 use Rattle.tree_rising.specs.declared.root.RootPlan.{RootPlan}
-use Rattle.tree_rising.specs.Nodes.{node_plan}
+use Rattle.tree_rising.specs.Nodes.{node_plan, touched_at}
 use Rattle.tree_rising.specs.Rising as rise
 use Rattle.tree_moves.specs.Moves.{next_key}
 use Rattle.tree_moves.specs.Work.{take_tree}
 use Rattle.tree_ckpt.specs.Causing.{Calls, WasGot}
 use Rattle.tree_ckpt.specs.Meaning.{Opening, opening_calls}
-use Rattle.tree_ckpt.specs.Working.{done_over, puts_of, Visit, visits_over, root_behind, AreVisits, lacked_on, Climb, climbs_over, root_above, links_above, AreClimbs, IsLast, Worked, worked_calls, IsWorked}
+use Rattle.tree_ckpt.specs.Working.{done_over, puts_of, Visit, visits_over, root_behind, links_behind, looks_of, AreVisits, lacked_on, Climb, climbs_over, root_above, links_above, AreClimbs, PutsNode, raised_root, PutsRoot, Worked, worked_calls, IsWorked}
 use Rattle.tree_ckpt.proofs.Answers.{done_is}
 use Rattle.tree_ckpt.proofs.Brought.{IsKept, AreKept}
 use Rattle.tree_ckpt.proofs.Covers.{AreHandled, all_handled}
 use Rattle.tree_ckpt.proofs.Folds.{not_empty}
+use Rattle.tree_ckpt.proofs.Pieces.{node_puts, root_puts}
 use Rattle.tree_ckpt.proofs.Rises.{IsRising, kept_at}
-use Rattle.tree_ckpt.proofs.Tours.{RestsAt, put_in_turn, none_left}
+use Rattle.tree_ckpt.proofs.Tours.{AreNoted, RestsAt, put_in_turn, none_left}
+use Rattle.tree_ckpt.proofs.Whole.{IsPlacedIn, PlacedTo, none_placed, placed_next, placed_there, all_placed, noted_put}
 
 -- ---- what was got was got by the work
 
@@ -64,12 +67,17 @@ pub record Ups (lease : Claim) (tree : ℕ) (run : Taken) (count : ℕ) (nodes :
   pub visits : List Visit
   pub are : AreVisits tree lease run o.got visits
   pub applied : count ≡ lacked_on run visits
-  pub covers : AreHandled run run.items visits
+  pub covers : AreHandled run.items visits
   pub kept : AreKept tree nodes (visits_over tree lease visits [])
-  pub links : List Link
+  pub noted : AreNoted tree (looks_of visits) nodes
   pub climbs : List Climb
-  pub climbed : AreClimbs tree (visits_over tree lease visits []) (root_behind o.got visits) links climbs
-  pub linked : found ≡ links_above links climbs
+  pub climbed : AreClimbs tree (visits_over tree lease visits []) (root_behind o.got visits) (links_behind visits) climbs
+  pub linked : found ≡ links_above (links_behind visits) climbs
+
+-- which nodes were put: those up to a place before the last plan, and all behind it
+abbrev Placed : ℕ → List Visit → List Climb → List KeptNode → ℕ → Option (List ℕ) → Type 0
+Placed tree visits climbs nodes at None = PlacedTo tree (links_behind visits) climbs nodes at
+Placed tree visits climbs nodes at (Some bytes) = AllByRecursion (IsPlacedIn tree (links_behind visits) climbs) nodes
 
 abbrev pub UpsAt : Claim → Chart → Opening → Type 0
 UpsAt lease c o = Ups lease c.tree c.run c.applied c.nodes c.links o
@@ -78,17 +86,19 @@ UpsAt lease c o = Ups lease c.tree c.run c.applied c.nodes c.links o
 abbrev UpTo : ℕ → Claim → List (ℕ × ℕ) → Placing → Option (List ℕ) → Option (List ℕ) → List Link → Calls → Calls → Option (List ℕ) → Type 0
 UpTo tree lease top p root stood links below work None = (landed_root p root ≡ stood) × (done_over (puts_of tree lease None p) work ≡ below)
 UpTo tree lease top p root stood links below work (Some bytes) =
-    (last : RootPlan) × (bytes ≡ last.last) × IsLast (tree_held stood) links top last
+    (last : RootPlan) × (bytes ≡ last.last) × PutsRoot (tree_held stood) (raised_root (tree_held stood) links top) last
     × (done_over (puts_of tree lease None p) work ≡ done_over (puts_of tree lease None last.placing) below)
 
 pub record Climbs (lease : Claim) (r : Rising) (o : Opening) (work : Calls) : Type 0 where
   pub ups : UpsAt lease r.chart o
-  pub upto : UpTo r.chart.tree lease r.chart.run.top r.placing r.chart.root (root_above (root_behind o.got ups.visits) ups.climbs) (links_above ups.links ups.climbs)
+  pub placed : Placed r.chart.tree ups.visits ups.climbs r.chart.nodes r.at r.last
+  pub upto : UpTo r.chart.tree lease r.chart.run.top r.placing r.chart.root (root_above (root_behind o.got ups.visits) ups.climbs) (links_above (links_behind ups.visits) ups.climbs)
       (climbs_over r.chart.tree lease ups.climbs (visits_over r.chart.tree lease ups.visits [])) work r.last
 
 -- all was put that was planned
 pub record Ready (lease : Claim) (r : Rising) (o : Opening) (work : Calls) : Type 0 where
   pub ups : UpsAt lease r.chart o
+  pub placed : PlacedTo r.chart.tree (links_behind ups.visits) ups.climbs r.chart.nodes r.at
   pub root : r.chart.root ≡ root_above (root_behind o.got ups.visits) ups.climbs
   pub calls : work ≡ climbs_over r.chart.tree lease ups.climbs (visits_over r.chart.tree lease ups.visits [])
 
@@ -101,11 +111,16 @@ UpClimbs lease (Ends r x) o work = ⊥
 UpClimbs lease (Stops r t) o work = Unit {0}
 
 module _ (lease : Claim) (r : Rising) (o : Opening) (work : Calls) (none : r.last ≡ None) (k : Ready lease r o work) where
-  node_climbs : (n : KeptNode) (next : ℕ) → IsKept r.chart.tree n (visits_over r.chart.tree lease k.ups.visits []) → (p : Result NodePlan Trouble)
-      → node_plan (tree_held r.chart.root) r.chart.tree n r.chart.links ≡ p → UpClimbs lease (rise.put_node r next (n.level + 1) p) o work
-  node_climbs n next kept (Ok p) e =
+  placed_now : PlacedTo r.chart.tree (links_behind k.ups.visits) k.ups.climbs r.chart.nodes (rise.next_touched r)
+  placed_now =
+      subst (λ (ls : List Link). PlacedTo r.chart.tree (links_behind k.ups.visits) k.ups.climbs r.chart.nodes (r.at + touched_at r.chart.tree ls (drop r.at r.chart.nodes)))
+      (sym k.ups.linked) (placed_next r.chart.tree (links_behind k.ups.visits) k.ups.climbs r.chart.nodes r.at k.placed)
+
+  node_climbs : (n : KeptNode) → rise.touched_node r ≡ Some n → IsKept r.chart.tree n (visits_over r.chart.tree lease k.ups.visits []) → (p : Result NodePlan Trouble)
+      → node_plan (tree_held r.chart.root) r.chart.tree n r.chart.links ≡ p → UpClimbs lease (rise.put_node r (rise.next_touched r + 1) (n.level + 1) p) o work
+  node_climbs n there kept (Ok p) e =
       let stood : Option (List ℕ) = root_above (root_behind o.got k.ups.visits) k.ups.climbs in
-      let links : List Link = links_above k.ups.links k.ups.climbs in
+      let links : List Link = links_above (links_behind k.ups.visits) k.ups.climbs in
       let below : Calls = climbs_over r.chart.tree lease k.ups.climbs (visits_over r.chart.tree lease k.ups.visits []) in
       record {
         ups = record {
@@ -114,25 +129,29 @@ module _ (lease : Claim) (r : Rising) (o : Opening) (work : Calls) (none : r.las
           applied = k.ups.applied;
           covers = k.ups.covers;
           kept = k.ups.kept;
-          links = k.ups.links;
+          noted = k.ups.noted;
           climbs = record { node = n; plan = p } ∷ k.ups.climbs;
           climbed = (
             kept.0,
-            subst (λ (ls : List Link). node_plan (tree_held stood) r.chart.tree n ls ≡ Ok p) k.ups.linked
-            (subst (λ (root : Option (List ℕ)). node_plan (tree_held root) r.chart.tree n r.chart.links ≡ Ok p) k.root e),
+            subst (λ (ls : List Link). PutsNode (tree_held stood) n ls p) k.ups.linked
+                (subst (λ (root : Option (List ℕ)). PutsNode (tree_held root) n r.chart.links p) k.root
+                (node_puts (tree_held r.chart.root) r.chart.tree n r.chart.links p e)),
             k.ups.climbed,
           );
           linked = ap (λ (ls : List Link). ls ++ links_at (n.level + 1) p.entries) k.ups.linked;
         };
+        placed = subst (λ (last : Option (List ℕ)).
+            Placed r.chart.tree k.ups.visits (record { node = n; plan = p } ∷ k.ups.climbs) r.chart.nodes (rise.next_touched r + 1) last) (sym none)
+            (placed_there r.chart.tree (links_behind k.ups.visits) (record { node = n; plan = p }) k.ups.climbs r.chart.nodes (rise.next_touched r) placed_now there);
         upto = subst (λ (last : Option (List ℕ)).
             UpTo r.chart.tree lease r.chart.run.top p.placing r.chart.root (landed_root p.placing stood) (links ++ links_at (n.level + 1) p.entries)
             (done_over (puts_of r.chart.tree lease None p.placing) below) work last) (sym none)
             (ap (landed_root p.placing) k.root, ap (done_over (puts_of r.chart.tree lease None p.placing)) k.calls);
       }
-  node_climbs n next kept (Err t) e = tt
+  node_climbs n there kept (Err t) e = tt
 
-  root_climbs : (p : Result RootPlan Trouble) → rise.last_plan r ≡ p → UpClimbs lease (rise.put_root r p) o work
-  root_climbs (Ok p) e =
+  root_climbs : rise.touched_node r ≡ None → (p : Result RootPlan Trouble) → rise.last_plan r ≡ p → UpClimbs lease (rise.put_root r p) o work
+  root_climbs gone (Ok p) e =
       let stood : Option (List ℕ) = root_above (root_behind o.got k.ups.visits) k.ups.climbs in
       record {
         ups = record {
@@ -141,28 +160,30 @@ module _ (lease : Claim) (r : Rising) (o : Opening) (work : Calls) (none : r.las
           applied = k.ups.applied;
           covers = k.ups.covers;
           kept = k.ups.kept;
-          links = k.ups.links;
+          noted = k.ups.noted;
           climbs = k.ups.climbs;
           climbed = k.ups.climbed;
           linked = k.ups.linked;
         };
+        placed = all_placed r.chart.tree (links_behind k.ups.visits) k.ups.climbs r.chart.nodes (rise.next_touched r) placed_now gone;
         upto = (
           p,
           refl,
-          subst (λ (ls : List Link). IsLast (tree_held stood) ls r.chart.run.top p) k.ups.linked
-          (subst (λ (root : Option (List ℕ)). IsLast (tree_held root) r.chart.links r.chart.run.top p) k.root e),
+          subst (λ (ls : List Link). PutsRoot (tree_held stood) (raised_root (tree_held stood) ls r.chart.run.top) p) k.ups.linked
+              (subst (λ (root : Option (List ℕ)). PutsRoot (tree_held root) (raised_root (tree_held root) r.chart.links r.chart.run.top) p) k.root
+              (root_puts (tree_held r.chart.root) r.chart.links r.chart.run.top p e)),
           ap (done_over (puts_of r.chart.tree lease None p.placing)) k.calls,
         );
       }
-  root_climbs (Err t) e = tt
+  root_climbs gone (Err t) e = tt
 
   pub rise_climbs : UpClimbs lease (rise.rise r) o work
   rise_climbs = on (rise.touched_node r) refl where
     on : (n : Option KeptNode) → rise.touched_node r ≡ n → UpClimbs lease (rise.rise_at r (rise.next_touched r) n) o work
     on (Some n) e =
-        node_climbs n (rise.next_touched r + 1) (kept_at r.chart.tree r.chart.nodes (rise.next_touched r) n (visits_over r.chart.tree lease k.ups.visits []) k.ups.kept e)
+        node_climbs n e (kept_at r.chart.tree r.chart.nodes (rise.next_touched r) n (visits_over r.chart.tree lease k.ups.visits []) k.ups.kept e)
         (node_plan (tree_held r.chart.root) r.chart.tree n r.chart.links) refl
-    on None e = root_climbs (rise.last_plan r) refl
+    on None e = root_climbs e (rise.last_plan r) refl
 
 -- behind the last leaf
 pub begun_climbs : (lease : Claim) (c : Chart) (o : Opening) (work : Calls) → next_key c ≡ None → AreKept c.tree c.nodes work → RestsAt lease c o work
@@ -172,13 +193,14 @@ begun_climbs lease c o work all kept k = rise_climbs lease (rise.begun c) o work
     visits = k.visits;
     are = k.are;
     applied = k.applied;
-    covers = all_handled c.run c.from c.run.items k.visits all k.handled;
+    covers = all_handled c.from c.run.items k.visits all k.handled;
     kept = subst (λ (cs : Calls). AreKept c.tree c.nodes cs) k.calls kept;
-    links = c.links;
+    noted = k.noted;
     climbs = [];
     climbed = tt;
-    linked = refl;
+    linked = k.linked;
   };
+  placed = none_placed c.tree (links_behind k.visits) [] c.nodes;
   root = k.root;
   calls = k.calls;
 })
@@ -227,22 +249,30 @@ some_last false b e h = absurd (cc (e))
 module _ (lease : Claim) (r : Rising) (o : Opening) (work : Calls) (k : Climbs lease r o work) where
   abbrev UpBy : Placing → Option (List ℕ) → Calls → Option (List ℕ) → Type 0
   UpBy p root calls last =
-      UpTo r.chart.tree lease r.chart.run.top p root (root_above (root_behind o.got k.ups.visits) k.ups.climbs) (links_above k.ups.links k.ups.climbs)
+      UpTo r.chart.tree lease r.chart.run.top p root (root_above (root_behind o.got k.ups.visits) k.ups.climbs) (links_above (links_behind k.ups.visits) k.ups.climbs)
       (climbs_over r.chart.tree lease k.ups.climbs (visits_over r.chart.tree lease k.ups.visits [])) calls last
 
   -- the put of the tree object
-  last_climbs : has_nothing r.placing ≡ true → (last : Option (List ℕ)) → is_some last ≡ true → UpBy r.placing r.chart.root work last
+  last_climbs : has_nothing r.placing ≡ true → (last : Option (List ℕ)) → is_some last ≡ true
+      → Placed r.chart.tree k.ups.visits k.ups.climbs r.chart.nodes r.at last → UpBy r.placing r.chart.root work last
       → Risen lease r.chart.tree r.chart.run r.chart.applied o ((rise.last_ask r lease last, call.Done) ∷ work)
-  last_climbs nothing (Some bytes) some up = record {
-    worked = record { visits = k.ups.visits; links = k.ups.links; climbs = k.ups.climbs; last = up.0 };
-    is = record { visits = k.ups.are; covers = k.ups.covers; climbs = k.ups.climbed; last = up.2 };
+  last_climbs nothing (Some bytes) some placed up = record {
+    worked = record { visits = k.ups.visits; climbs = k.ups.climbs; last = up.0 };
+    is = record {
+      visits = k.ups.are;
+      covers = k.ups.covers;
+      climbs = k.ups.climbed;
+      raises = λ page bytes n got e touched.
+          noted_put r.chart.tree (links_behind k.ups.visits) k.ups.climbs r.chart.nodes page bytes n placed (k.ups.noted page bytes got) e touched;
+      last = up.2;
+    };
     calls =
         ap (λ (bs : List ℕ). (PutHeld (object.Tree r.chart.tree) bs lease None, call.Done) ∷ work) up.1
         ∙ ap (λ (cs : Calls). (PutHeld (object.Tree r.chart.tree) up.0.last lease None, call.Done) ∷ cs)
         (sym (none_left r.placing r.chart.tree lease None work nothing) ∙ up.3);
     applied = k.ups.applied;
   }
-  last_climbs nothing None some up = absurd (cc (some))
+  last_climbs nothing None some placed up = absurd (cc (some))
 
   put_call : Ask × Answer
   put_call = (rise.rising_ask r lease, call.Done)
@@ -265,29 +295,31 @@ module _ (lease : Claim) (r : Rising) (o : Opening) (work : Calls) (k : Climbs l
       applied = k.ups.applied;
       covers = k.ups.covers;
       kept = k.ups.kept;
-      links = k.ups.links;
+      noted = k.ups.noted;
       climbs = k.ups.climbs;
       climbed = k.ups.climbed;
       linked = k.ups.linked;
     };
+    placed = k.placed;
     upto = landed_up some r.last k.upto;
   }
 
   ready_by : has_nothing r.placing ≡ false → has_nothing (landed_placing r.placing) ≡ true → (last : Option (List ℕ)) → is_some last ≡ false
-      → UpBy r.placing r.chart.root work last → Ready lease (rise.landed r) o (put_call ∷ work)
-  ready_by some nothing (Some bytes) none up = absurd (cc (none))
-  ready_by some nothing None none up = record {
+      → Placed r.chart.tree k.ups.visits k.ups.climbs r.chart.nodes r.at last → UpBy r.placing r.chart.root work last → Ready lease (rise.landed r) o (put_call ∷ work)
+  ready_by some nothing (Some bytes) none placed up = absurd (cc (none))
+  ready_by some nothing None none placed up = record {
     ups = record {
       visits = k.ups.visits;
       are = k.ups.are;
       applied = k.ups.applied;
       covers = k.ups.covers;
       kept = k.ups.kept;
-      links = k.ups.links;
+      noted = k.ups.noted;
       climbs = k.ups.climbs;
       climbed = k.ups.climbed;
       linked = k.ups.linked;
     };
+    placed = placed;
     root = up.0;
     calls = sym (none_left (landed_placing r.placing) r.chart.tree lease None (put_call ∷ work) nothing) ∙ turn some ∙ up.1;
   }
@@ -300,7 +332,7 @@ module _ (lease : Claim) (r : Rising) (o : Opening) (work : Calls) (k : Climbs l
     on false e =
         let both = neither (has_nothing (landed_placing r.placing)) (is_some r.last) e in
         goes_up lease r (rise.rise (rise.landed r)) o (put_call ∷ work)
-        (rise_climbs lease (rise.landed r) o (put_call ∷ work) (none_of r.last both.1) (ready_by some both.0 r.last both.1 k.upto))
+        (rise_climbs lease (rise.landed r) o (put_call ∷ work) (none_of r.last both.1) (ready_by some both.0 r.last both.1 k.placed k.upto))
 
   landed_rises : IsRising r → RiseClimbs lease r (rise.put_landed r) o ((rise.rising_ask r lease, call.Done) ∷ work)
   unfolding put_call
@@ -310,7 +342,7 @@ module _ (lease : Claim) (r : Rising) (o : Opening) (work : Calls) (k : Climbs l
     on true e =
         subst (λ (ask : Ask). Risen lease r.chart.tree r.chart.run r.chart.applied o ((ask, call.Done) ∷ work))
         (sym (none_in_hand r.placing r.chart.tree lease None (rise.last_ask r lease r.last) e))
-        (last_climbs e r.last (some_last (has_nothing r.placing) (is_some r.last) e rising) k.upto)
+        (last_climbs e r.last (some_last (has_nothing r.placing) (is_some r.last) e rising) k.placed k.upto)
     on false e = after_climbs e
 
   risen_climbs : (a : Answer) → IsRising r → (done : Result (Unit {0}) Trouble) → done_of a ≡ done

@@ -10,7 +10,6 @@ use Rattle.leaf_view.specs.Lookup.{holds}
 use Rattle.leaf_edit.specs.Merging.{Rises}
 use Rattle.leaf_edit.proofs.InOrder.{below_upto}
 use Rattle.log_codec.specs.declared.record.PuItem.{PuItem}
-use Rattle.run_cursor.specs.Run.{Taken}
 use Rattle.tree_moves.specs.Moves.{key_from, key_from_or_none}
 use Rattle.tree_ckpt.specs.Working.{Visit, IsSettled, IsHandled}
 use Rattle.tree_ckpt.proofs.Keys.{not_itself}
@@ -52,26 +51,26 @@ least_is None least xs rises e = absurd (cc (e))
 
 -- ---- handled up to a bound
 
-abbrev IsHandledTo : Taken → Option (List ℕ) → List Visit → PuItem → Type 0
-IsHandledTo run from visits x = below_bound (key x) from ≡ true → IsHandled run (key x) visits
+abbrev IsHandledTo : Option (List ℕ) → List Visit → PuItem → Type 0
+IsHandledTo from visits x = below_bound (key x) from ≡ true → IsHandled (key x) visits
 
 -- the items with keys below a bound are, all where there is none
-abbrev pub AreHandledTo : Taken → List PuItem → Option (List ℕ) → List Visit → Type 0
-AreHandledTo run xs from visits = AllByRecursion (IsHandledTo run from visits) xs
+abbrev pub AreHandledTo : List PuItem → Option (List ℕ) → List Visit → Type 0
+AreHandledTo xs from visits = AllByRecursion (IsHandledTo from visits) xs
 
 no_key_below : (k : List ℕ) → bytes_below k [] ≡ false
 no_key_below [] = refl
 no_key_below (n ∷ ns) = refl
 
-pub none_handled : (run : Taken) (xs : List PuItem) → AreHandledTo run xs (Some []) []
-none_handled run [] = tt
-none_handled run (x ∷ xs) = (λ below. absurd (let none : bytes_below (key x) [] ≡ false = no_key_below (key x) in cc), none_handled run xs)
+pub none_handled : (xs : List PuItem) → AreHandledTo xs (Some []) []
+none_handled [] = tt
+none_handled (x ∷ xs) = (λ below. absurd (let none : bytes_below (key x) [] ≡ false = no_key_below (key x) in cc), none_handled xs)
 
 -- one visit more
-pub handled_more : (run : Taken) (xs : List PuItem) (from : Option (List ℕ)) (v : Visit) (visits : List Visit) → AreHandledTo run xs from visits
-    → AreHandledTo run xs from (v ∷ visits)
-handled_more run [] from v visits h = tt
-handled_more run (x ∷ xs) from v visits h = (λ below. inr (h.0 below), handled_more run xs from v visits h.1)
+pub handled_more : (xs : List PuItem) (from : Option (List ℕ)) (v : Visit) (visits : List Visit) → AreHandledTo xs from visits
+    → AreHandledTo xs from (v ∷ visits)
+handled_more [] from v visits h = tt
+handled_more (x ∷ xs) from v visits h = (λ below. inr (h.0 below), handled_more xs from v visits h.1)
 
 not_under : (k least low : List ℕ) → bytes_below k least ≡ false → IsUpto low least → IsUpto low k
 not_under k least low from upto = on (bytes_below k low) refl where
@@ -83,36 +82,36 @@ holds_it : (l : Leaf) (k : List ℕ) → IsUpto l.low k → below_bound k l.high
 holds_it l k low high = ap (λ (b : Bool). not b && below_bound k l.high) low ∙ high
 
 -- a leaf whose low key is not above the least key handles the keys below its high key
-pub handled_here : (run : Taken) (xs : List PuItem) (from : Option (List ℕ)) (least : List ℕ) (v : Visit) (visits : List Visit) → IsSettled run v.leaf v.plan
-    → IsUpto v.leaf.low least → IsLeast xs from least → AreHandledTo run xs from visits → AreHandledTo run xs v.leaf.high (v ∷ visits)
-handled_here run [] from least v visits settled upto leasts h = tt
-handled_here run (x ∷ xs) from least v visits settled upto leasts h =
-    (λ below. on (below_bound (key x) from) refl below, handled_here run xs from least v visits settled upto leasts.1 h.1) where
-      on : (b : Bool) → below_bound (key x) from ≡ b → below_bound (key x) v.leaf.high ≡ true → IsHandled run (key x) (v ∷ visits)
+pub handled_here : (xs : List PuItem) (from : Option (List ℕ)) (least : List ℕ) (v : Visit) (visits : List Visit) → IsSettled v.outcome
+    → IsUpto v.leaf.low least → IsLeast xs from least → AreHandledTo xs from visits → AreHandledTo xs v.leaf.high (v ∷ visits)
+handled_here [] from least v visits settled upto leasts h = tt
+handled_here (x ∷ xs) from least v visits settled upto leasts h =
+    (λ below. on (below_bound (key x) from) refl below, handled_here xs from least v visits settled upto leasts.1 h.1) where
+      on : (b : Bool) → below_bound (key x) from ≡ b → below_bound (key x) v.leaf.high ≡ true → IsHandled (key x) (v ∷ visits)
       on true e below = inr (h.0 e)
       on false e below = inl (holds_it v.leaf (key x) (not_under (key x) least v.leaf.low (leasts.0 e) upto) below, settled)
 
 -- ---- all are
 
-abbrev pub AreHandled : Taken → List PuItem → List Visit → Type 0
-AreHandled run xs visits = AllByRecursion (λ x. IsHandled run (key_of x.rec.change) visits) xs
+abbrev pub AreHandled : List PuItem → List Visit → Type 0
+AreHandled xs visits = AllByRecursion (λ x. IsHandled (key_of x.rec.change) visits) xs
 
-all_from : (run : Taken) (from : List ℕ) (xs : List PuItem) (visits : List Visit) → key_from from xs ≡ None → AreHandledTo run xs (Some from) visits → AreHandled run xs visits
-all_from run from [] visits e h = tt
-all_from run from (x ∷ xs) visits e h = on (bytes_below (key x) from) refl e (λ g. all_from run from xs visits g h.1) where
-  on : (b : Bool) → bytes_below (key x) from ≡ b → cond b (key_from from xs) (Some (key x)) ≡ None → (key_from from xs ≡ None → AreHandled run xs visits)
-      → AreHandled run (x ∷ xs) visits
+all_from : (from : List ℕ) (xs : List PuItem) (visits : List Visit) → key_from from xs ≡ None → AreHandledTo xs (Some from) visits → AreHandled xs visits
+all_from from [] visits e h = tt
+all_from from (x ∷ xs) visits e h = on (bytes_below (key x) from) refl e (λ g. all_from from xs visits g h.1) where
+  on : (b : Bool) → bytes_below (key x) from ≡ b → cond b (key_from from xs) (Some (key x)) ≡ None → (key_from from xs ≡ None → AreHandled xs visits)
+      → AreHandled (x ∷ xs) visits
   on true f g rest = (h.0 f, rest g)
   on false f g rest = absurd (cc (g))
 
-all_none : (run : Taken) (xs : List PuItem) (visits : List Visit) → AreHandledTo run xs None visits → AreHandled run xs visits
-all_none run [] visits h = tt
-all_none run (x ∷ xs) visits h = (h.0 refl, all_none run xs visits h.1)
+all_none : (xs : List PuItem) (visits : List Visit) → AreHandledTo xs None visits → AreHandled xs visits
+all_none [] visits h = tt
+all_none (x ∷ xs) visits h = (h.0 refl, all_none xs visits h.1)
 
-pub all_handled : (run : Taken) (from : Option (List ℕ)) (xs : List PuItem) (visits : List Visit) → key_from_or_none from xs ≡ None → AreHandledTo run xs from visits
-    → AreHandled run xs visits
-all_handled run (Some from) xs visits e h = all_from run from xs visits e h
-all_handled run None xs visits e h = all_none run xs visits h
+pub all_handled : (from : Option (List ℕ)) (xs : List PuItem) (visits : List Visit) → key_from_or_none from xs ≡ None → AreHandledTo xs from visits
+    → AreHandled xs visits
+all_handled (Some from) xs visits e h = all_from from xs visits e h
+all_handled None xs visits e h = all_none xs visits h
 
 -- the low key that led to a leaf is its own
 pub low_upto : (l : Leaf) (low least : List ℕ) → bytes_same l.low low ≡ true → IsUpto low least → IsUpto l.low least

@@ -67,6 +67,7 @@ use Rattle.tree_ckpt.proofs.Climbs.{kept_at_work, Climbs, UpClimbs, RiseClimbs, 
 use Rattle.tree_ckpt.proofs.Covers.{IsLeast, least_is}
 use Rattle.tree_ckpt.proofs.Lows.{IsUpto, ComesUpto, begun_upto}
 use Rattle.tree_ckpt.proofs.Telling.{went_told}
+use Rattle.tree_ckpt.proofs.Turns.{begun_turned}
 use Rattle.tree_ckpt.proofs.Tours.{RestsAt, ToursAt, WayTours, AtLeaf, VisitsAt, LeavesUpto, LeafTours, rests_tours, first_rests, way_tours, descent_tours, leaf_tours, taken_tours, left_rests}
 use Rattle.tree_ckpt.proofs.Folds.{not_empty}
 use Rattle.tree_ckpt.proofs.Rises.{IsRising}
@@ -217,7 +218,7 @@ tried_done tree l (id ∷ ids) deleted left applied a cs has k = deleted_done tr
 
 -- one call more
 amid_more : (tree : ℕ) (h : Held) (run : Taken) (Is Js : Opening → Calls → Type 0) (ask : Ask) (a : Answer) (cs : Calls) → IsAtWork ask
-    → ((o : Opening) (w : Calls) → Is o w → Js o ((ask, a) ∷ w)) → Amid tree h run Is cs → Amid tree h run Js ((ask, a) ∷ cs)
+    → ((o : Opening) (w : Calls) → cs ≡ w ++ opening_calls tree h.lease o → Is o w → Js o ((ask, a) ∷ w)) → Amid tree h run Is cs → Amid tree h run Js ((ask, a) ∷ cs)
 amid_more tree h run Is Js ask a cs at step k = record {
   opening = k.opening;
   same = k.same;
@@ -226,7 +227,7 @@ amid_more tree h run Is Js ask a cs at step k = record {
   ids = k.ids;
   work = (ask, a) ∷ k.work;
   works = (at, k.works);
-  is = step k.opening k.work k.is;
+  is = step k.opening k.work k.calls k.is;
   calls = ap (λ (xs : Calls). (ask, a) ∷ xs) k.calls;
 }
 
@@ -292,7 +293,8 @@ going_by_done tree h c cs (Some key) e got k =
     let further : GoesFurther 0 keyed next = arrive_further (begun keyed (root_entry keyed).0 (root_entry keyed).1) in
     descending_done tree h keyed 0 cs next further
     (amid_as tree h c.run c.run (λ o w. RestsAt h.lease c o w) (λ o w. WayTours h.lease next o w) cs refl
-    (λ o w same rises is. way_tours h.lease 0 keyed next o w further (begun_upto keyed) (rests_tours h.lease keyed o w (least_is c.from key c.run.items rises e) is)) k)
+    (λ o w same rises is. way_tours h.lease 0 keyed keyed.nodes next o w further (begun_upto keyed)
+    (begun_turned c.tree w keyed (kept_at_work c.tree c.nodes tree h.lease o w (subst (HasGot c) same got))) (rests_tours h.lease keyed o w (least_is c.from key c.run.items rises e) is)) k)
 going_by_done tree h c cs None e got k =
     let next : Next Rising (Unit {0}) = rise.rise (rise.begun c) in
     rising_begun tree h (rise.begun c) cs next (rise_up (rise.begun c)) (rise_keeps (rise.begun c) (none_last (rise.begun c) refl))
@@ -431,7 +433,7 @@ root_put_is tree l r a bytes e last known same =
 
 rising_done : (tree : ℕ) (h : Held) (a : Answer) (cs : Calls) (r : Rising) (next : Next Rising (Unit {0})) → Amid tree h r.chart.run (λ o w. Climbs h.lease r o w) cs → LastIs r
     → IsAtWork (rise.rising_ask r h.lease) → r.chart.tree ≡ tree → UpKeeps r next → UpEnds r h.lease a next
-    → ((o : Opening) (w : Calls) → Climbs h.lease r o w → RiseClimbs h.lease r next o ((rise.rising_ask r h.lease, a) ∷ w))
+    → ((o : Opening) (w : Calls) → cs ≡ w ++ opening_calls tree h.lease o → Climbs h.lease r o w → RiseClimbs h.lease r next o ((rise.rising_ask r h.lease, a) ∷ w))
     → GoesDone tree ((rise.rising_ask r h.lease, a) ∷ cs) (rising_on h next)
 rising_done tree h a cs r (Goes e) k last at same keeps up step = (
   amid_same tree h r.chart.run e.chart.run (λ o w. Climbs h.lease e o w) ((rise.rising_ask r h.lease, a) ∷ cs) keeps.0
@@ -441,7 +443,7 @@ rising_done tree h a cs r (Goes e) k last at same keeps up step = (
 rising_done tree h a cs r (Ends e x) k last at same keeps up step =
     deleting_done tree h.lease h.deletions.ids h.deletions.deleted h.deletions.left e.chart.applied ((rise.rising_ask r h.lease, a) ∷ cs)
     (amid_late tree h r.chart.run (λ o w. Climbs h.lease r o w) (rise.rising_ask r h.lease, a) cs e.chart.applied k (root_put_is tree h.lease r a up.0 up.1 up.2 last same)
-    (subst (λ (t : ℕ). Risen h.lease t r.chart.run e.chart.applied k.opening ((rise.rising_ask r h.lease, a) ∷ k.work)) same (step k.opening k.work k.is)))
+    (subst (λ (t : ℕ). Risen h.lease t r.chart.run e.chart.applied k.opening ((rise.rising_ask r h.lease, a) ∷ k.work)) same (step k.opening k.work k.calls k.is)))
 rising_done tree h a cs r (Stops e t) k last at same keeps up step = tt
 
 put_at_work : (reserved : Option (List ℕ)) (puts : List PagePut) (tree : ℕ) (l : Claim) (second : Option Claim) (ask : Ask) → IsAtWork ask
@@ -516,7 +518,7 @@ items_done tree l root ms i (Ok items) e h =
     let is : i ≡ intake_of items run = cc (h.2) in
     let o : Opening = record { got = root; messages = ms; items = items; run = run } in
     started_done tree l o i (chart_of tree root i.run) (has_items i.run.items) refl refl (record { read = e; run = h.1 })
-    (sym (ap (λ (j : Intake). j.run) is)) (ap (λ (j : Intake). j.deletions) is) tt (first_rests l (chart_of tree root i.run) o refl refl refl)
+    (sym (ap (λ (j : Intake). j.run) is)) (ap (λ (j : Intake). j.deletions) is) tt (first_rests l (chart_of tree root i.run) o refl refl refl refl)
 
 received_done : (tree : ℕ) (l : Claim) (root : Option (List ℕ)) (a : Answer) (g : Result (List Message) Trouble) (next : Step) → received_of a ≡ g
     → ReceivedBy tree l root g next → GoesDone tree (received_calls tree l root a) next
@@ -563,29 +565,29 @@ done_by tree (work.Descending h w) cs a next k d e =
     by_made tree cs (descent_ask w h.lease) a next _ e
     (descending_done tree h w.chart 1 ((descent_ask w h.lease, a) ∷ cs) (descent_next w a) (descent_further w a)
     (amid_more tree h w.chart.run (λ o x. ToursAt h.lease w.chart o x × ComesUpto w) (λ o x. WayTours h.lease (descent_next w a) o x) (descent_ask w h.lease) a cs tt
-    (λ o x is. descent_tours h.lease w a o x is.0) d))
+    (λ o x same is. descent_tours h.lease w a o x (kept_at_work w.chart.tree w.chart.nodes tree h.lease o x (subst (HasGot w.chart) same (chart_got tree w.chart cs k.chart))) is.0) d))
 done_by tree (work.TakingPage h c) cs a next k d e =
     by_made tree cs (work_ask tree (work.TakingPage h c)) a next _ e
     (taken_done tree h c ((work_ask tree (work.TakingPage h c), a) ∷ cs) (given_of (lock.Page c.chart.tree c.page) a)
     (amid_more tree h c.chart.run (λ o x. ToursAt h.lease c.chart o x × IsUpto c.low c.chart.key) (λ o x. TakenTours h.lease c (given_of (lock.Page c.chart.tree c.page) a) o x)
-    (work_ask tree (work.TakingPage h c)) a cs tt (given_tours tree h c a (given_of (lock.Page c.chart.tree c.page) a) refl) d))
+    (work_ask tree (work.TakingPage h c)) a cs tt (λ o w same is. given_tours tree h c a (given_of (lock.Page c.chart.tree c.page) a) refl o w is) d))
 done_by tree (work.Folding h f) cs a next k d e =
     by_made tree cs (folding_ask f h.lease) a next _ e
     (folding_done tree h f ((folding_ask f h.lease, a) ∷ cs) (folding_next f a) (next_leaves f a)
     (amid_more tree h f.chart.run (λ o x. AtLeaf h.lease f o x) (λ o x. LeafTours h.lease (folding_next f a) o x) (folding_ask f h.lease) a cs
     (put_at_work f.placing.reserved f.placing.puts f.chart.tree h.lease (Some f.lease) (GetHeld (object.Page f.chart.tree f.page) f.lease) tt)
-    (leaf_tours h.lease f a) d))
+    (λ o w same is. leaf_tours h.lease f a o w is) d))
 done_by tree (work.ReleasingPage h l x) cs a next k d e =
     by_made tree cs (Release l) a next _ e
     (left_done tree h x ((Release l, a) ∷ cs) (onward_more tree x (Release l, a) cs k)
     (amid_more tree h (chart_onward x).run (λ o w. VisitsAt h.lease l (chart_onward x) o w × GoesUpto x) (λ o w. RestsAt h.lease (chart_onward x) o w × GoesUpto x) (Release l) a cs tt
-    (λ o w is. (left_rests h.lease l (chart_onward x) a o w is.0, is.1)) d))
+    (λ o w same is. (left_rests h.lease l (chart_onward x) a o w is.0, is.1)) d))
 done_by tree (work.LeftPage h x) cs a next k d e = absurd k
 done_by tree (work.Rising h r) cs a next k d e =
     by_made tree cs (rise.rising_ask r h.lease) a next _ e
     (rising_done tree h a cs r (rise.rising_next r a) d.0 d.1
     (put_at_work r.placing.reserved r.placing.puts r.chart.tree h.lease None (rise.last_ask r h.lease r.last) (last_at_work r h.lease r.last)) k.0.same
-    (risen_keeps r (done_of a) d.1) (up_ends h.lease r a k.1) (λ o w is. rising_climbs h.lease r a o w k.1 is))
+    (risen_keeps r (done_of a) d.1) (up_ends h.lease r a k.1) (λ o w same is. rising_climbs h.lease r a o w k.1 is))
 done_by tree (work.Deleting h applied) cs a next k d e =
     by_made tree cs (delete_ask tree (next_id h.deletions.ids)) a next _ e
     (tried_done tree h.lease h.deletions.ids h.deletions.deleted h.deletions.left applied a cs d.1 d.0)

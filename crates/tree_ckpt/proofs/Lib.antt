@@ -17,6 +17,9 @@ pub mod Lasts
 pub mod Answers
 pub mod Lows
 pub mod Covers
+pub mod Pieces
+pub mod Turns
+pub mod Whole
 pub mod Tours
 pub mod Climbs
 pub mod Telling

@@ -40,7 +40,7 @@ kept_at tree (x ∷ xs) zero k cs h e = let same : x ≡ k = cc (e) in subst (λ
 kept_at tree (x ∷ xs) (suc at) k cs h e = kept_at tree xs at k cs h.1 e
 
 -- names of pages change neither the version nor the next page
-abbrev Numbered : Tree → Tree → Type 0
+abbrev pub Numbered : Tree → Tree → Type 0
 Numbered t u = (u.version ≡ t.version) × (u.next ≡ t.next)
 
 child_numbered : (low : List ℕ) (page : ℕ) (t : Tree) → Numbered t (with_child low page t)
@@ -49,7 +49,7 @@ child_numbered low page t = on (nat_lt page t.next) where
   on true = (refl, refl)
   on false = (refl, refl)
 
-named_numbered : (level : ℕ) (ls : List Link) (t : Tree) → Numbered t (with_named level ls t)
+pub named_numbered : (level : ℕ) (ls : List Link) (t : Tree) → Numbered t (with_named level ls t)
 named_numbered level [] t = (refl, refl)
 named_numbered level (l ∷ ls) t = on (is_named level l) (λ u. named_numbered level ls u) where
   on : (b : Bool) → ((u : Tree) → Numbered u (with_named level ls u)) → Numbered t (with_named level ls (cond b (with_child l.low l.page t) t))

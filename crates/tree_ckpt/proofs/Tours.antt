@@ -1,7 +1,8 @@
 -- How the work of a tree checkpoint goes from leaf to leaf.
-use Rattle.std.proofs.Common.{◌≡◌, ◌<◌, ◌+◌, ℕ, Bool, true, false, cond, List, [], ◌∷◌, ◌++◌, length, Option, Some, None, Result, Ok, Err, refl, sym, ap, subst, ◌∙◌, inl, inr, ◌⊎◌, arith}
-use Rattle.std.specs.Prelude.{◌==◌, ◌||◌, ◌&&◌, is_none, drop, unwrap_or}
+use Rattle.std.proofs.Common.{◌≡◌, ◌<◌, ◌+◌, ℕ, Bool, true, false, cond, List, [], ◌∷◌, ◌++◌, length, Option, Some, None, Result, Ok, Err, refl, sym, ap, subst, ◌∙◌, inl, inr, ◌⊎◌, arith, append_assoc}
+use Rattle.std.specs.Prelude.{◌==◌, ◌||◌, ◌&&◌, is_none, unwrap_or}
 use Rattle.std.proofs.lemmas.Bool.{eqb-true}
+use Rattle.std.proofs.lemmas.List.{append-nil}
 use Rattle.byte_format.specs.Order.{bytes_below, bytes_same}
 use Rattle.byte_format.specs.Whole.{whole, offset}
 use Rattle.db_base.specs.declared.names.Lock.TheVariants as lock
@@ -14,7 +15,7 @@ use Rattle.leaf_edit.specs.Lacked.{lacked}
 use Rattle.log_codec.specs.declared.record.PuItem.{PuItem}
 use Rattle.cloud_trait.specs.declared.answer.Answer.{Answer}
 use Rattle.cloud_trait.specs.declared.answer.Answer.TheVariants as call
-use Rattle.cloud_trait.specs.Ask.{Ask, GetHeld, PutHeld, Take, Release}
+use Rattle.cloud_trait.specs.Ask.{Ask, GetHeld, Take, Release}
 use Rattle.cloud_trait.specs.Claim.{Claim}
 use Rattle.cloud_trait.specs.Machine.{Next, Goes, Ends, Stops}
 use Rattle.cloud_trait.specs.Views.{got_of, done_of}
@@ -23,7 +24,10 @@ use Rattle.run_cursor.specs.Run.{Taken}
 use Rattle.split_plan.specs.declared.put_list.PagePut.{PagePut}
 use Rattle.ckpt_parts.specs.Intakes.{has_items}
 use Rattle.tree_parts.specs.declared.chart.Chart.{Chart}
+use Rattle.tree_parts.specs.declared.kept.KeptNode.{KeptNode}
+use Rattle.tree_parts.specs.declared.link.Link.{Link}
 use Rattle.tree_parts.specs.declared.placing.Placing.{Placing}
+use Rattle.tree_parts.specs.Kept.{links_at, with_kept}
 use Rattle.tree_parts.specs.Placing.{put_in_hand, landed_root, landed_placing, has_nothing, has_one_page}
 use Rattle.tree_parts.specs.Read.{leaf_or, tree_held}
 use Rattle.tree_descent.specs.declared.descent.Descent.{Descent}
@@ -34,63 +38,111 @@ use Rattle.leaf_fold.specs.declared.folding.Left.TheVariants.{Right, Handled}
 use Rattle.leaf_fold.specs.declared.plan.LeafPlan.{LeafPlan}
 use Rattle.leaf_fold.specs.Plan.{leaf_plan}
 use Rattle.leaf_fold.specs.Folding as fold
-use Rattle.tree_ckpt.specs.Causing.{Calls}
+use Rattle.tree_ckpt.specs.Causing.{Calls, WasGot, GoesRight}
 use Rattle.tree_ckpt.specs.Meaning.{Opening}
-use Rattle.tree_ckpt.specs.Working.{done_over, page_puts, puts_of, Visit, placing_of, held_over, visits_over, AreLooks, HoldsLeaf, PutsLacked, IsVisit, root_behind, AreVisits, lacked_where, lacked_on, IsSettled}
+use Rattle.tree_ckpt.specs.Working.{done_over, puts_of, Visit, held_over, visits_over, AreLooks, HoldsLeaf, IsLeft, IsVisit, root_behind, links_behind, looks_of, AreVisits, lacked_on, IsSettled, PutsLeaf, AreTurns, Outcome, Planned, Spared, Passed}
 use Rattle.tree_ckpt.proofs.Answers.{got_is, done_is}
+use Rattle.tree_ckpt.proofs.Brought.{AreKept, kept_more}
+use Rattle.tree_ckpt.proofs.Turns.{Turned, WayTurned, turns_more, turns_both, node_got, descent_turned}
+use Rattle.tree_ckpt.proofs.Whole.{IsNoted, noted_new, noted_with}
 use Rattle.tree_ckpt.proofs.Charts.{IsFurther, GoesFurther, descent_further}
 use Rattle.tree_ckpt.proofs.Covers.{IsLeast, AreHandledTo, none_handled, handled_more, handled_here, low_upto}
 use Rattle.tree_ckpt.proofs.Folds.{not_empty, plan_some}
+use Rattle.tree_ckpt.proofs.Pieces.{leaf_puts}
 use Rattle.tree_ckpt.proofs.Lows.{IsUpto, ComesUpto, WayUpto, descent_upto}
 
 -- ---- between leaves
 
+-- what was got is kept
+abbrev pub AreNoted : ℕ → Calls → List KeptNode → Type 0
+AreNoted tree looks nodes = (page : ℕ) (bytes : List ℕ) → WasGot (object.Page tree page) (Some bytes) looks → IsNoted page bytes nodes
+
 -- behind visits
-pub record Rests (lease : Claim) (tree : ℕ) (run : Taken) (stood : Option (List ℕ)) (count : ℕ) (from : Option (List ℕ)) (o : Opening) (work : Calls) : Type 0 where
+pub record Rests (lease : Claim) (tree : ℕ) (run : Taken) (stood : Option (List ℕ)) (count : ℕ) (from : Option (List ℕ)) (found : List Link) (nodes : List KeptNode) (o : Opening) (work : Calls) : Type 0 where
   pub visits : List Visit
   pub are : AreVisits tree lease run o.got visits
+  pub linked : found ≡ links_behind visits
+  pub noted : AreNoted tree (looks_of visits) nodes
   pub root : stood ≡ root_behind o.got visits
   pub applied : count ≡ lacked_on run visits
-  pub handled : AreHandledTo run run.items from visits
+  pub handled : AreHandledTo run.items from visits
   pub calls : work ≡ visits_over tree lease visits []
 
 -- behind visits, and on the way down to the leaf of the least key that is not handled
-pub record Tours (lease : Claim) (tree : ℕ) (run : Taken) (stood : Option (List ℕ)) (count : ℕ) (from : Option (List ℕ)) (key : List ℕ) (o : Opening) (work : Calls) : Type 0 where
+pub record Tours (lease : Claim) (tree : ℕ) (run : Taken) (stood : Option (List ℕ)) (count : ℕ) (from : Option (List ℕ)) (key : List ℕ) (found : List Link) (nodes : List KeptNode) (o : Opening) (work : Calls) : Type 0 where
   pub before : Calls
-  pub rests : Rests lease tree run stood count from o before
+  pub known : List Link
+  pub olds : List KeptNode
+  pub rests : Rests lease tree run stood count from known olds o before
+  pub turns : List Link
+  pub turned : AreTurns tree work turns
+  pub linked : found ≡ known ++ turns
   pub least : IsLeast run.items from key
   pub looks : Calls
   pub looked : AreLooks tree lease looks
+  pub noted : AreNoted tree (looks ++ looks_of rests.visits) nodes
   pub calls : work ≡ looks ++ before
 
 abbrev pub RestsAt : Claim → Chart → Opening → Calls → Type 0
-RestsAt lease c o work = Rests lease c.tree c.run c.root c.applied c.from o work
+RestsAt lease c o work = Rests lease c.tree c.run c.root c.applied c.from c.links c.nodes o work
 
 abbrev pub ToursAt : Claim → Chart → Opening → Calls → Type 0
-ToursAt lease c o work = Tours lease c.tree c.run c.root c.applied c.from c.key o work
+ToursAt lease c o work = Tours lease c.tree c.run c.root c.applied c.from c.key c.links c.nodes o work
 
 pub rests_tours : (lease : Claim) (c : Chart) (o : Opening) (work : Calls) → IsLeast c.run.items c.from c.key → RestsAt lease c o work → ToursAt lease c o work
-rests_tours lease c o work least k = record { before = work; rests = k; least = least; looks = []; looked = tt; calls = refl }
-
--- before the first leaf
-pub first_rests : (lease : Claim) (c : Chart) (o : Opening) → c.root ≡ o.got → c.applied ≡ 0 → c.from ≡ Some [] → RestsAt lease c o []
-first_rests lease c o root applied from = record {
-  visits = [];
-  are = tt;
-  root = root;
-  applied = applied;
-  handled = subst (λ (b : Option (List ℕ)). AreHandledTo c.run c.run.items b []) (sym from) (none_handled c.run c.run.items);
+rests_tours lease c o work least k = record {
+  before = work;
+  known = c.links;
+  olds = c.nodes;
+  rests = k;
+  turns = [];
+  turned = tt;
+  linked = sym (append-nil c.links);
+  least = least;
+  looks = [];
+  looked = tt;
+  noted = k.noted;
   calls = refl;
 }
 
-further_tours : (lease : Claim) (n : ℕ) (c e : Chart) (o : Opening) (work : Calls) → IsFurther n c e → ToursAt lease c o work → ToursAt lease e o work
-further_tours lease n c e o work f k =
-    subst (λ (key : List ℕ). Tours lease e.tree e.run e.root e.applied e.from key o work) (sym f.key)
-    (subst (λ (b : Option (List ℕ)). Tours lease e.tree e.run e.root e.applied b c.key o work) (sym f.from)
-    (subst (λ (m : ℕ). Tours lease e.tree e.run e.root m c.from c.key o work) (sym f.applied)
-    (subst (λ (r : Option (List ℕ)). Tours lease e.tree e.run r c.applied c.from c.key o work) (sym f.root)
-    (subst (λ (r : Taken). Tours lease e.tree r c.root c.applied c.from c.key o work) (sym f.run)
-    (subst (λ (t : ℕ). Tours lease t c.run c.root c.applied c.from c.key o work) (sym f.tree) k)))))
+-- before the first leaf
+pub first_rests : (lease : Claim) (c : Chart) (o : Opening) → c.root ≡ o.got → c.applied ≡ 0 → c.from ≡ Some [] → c.links ≡ [] → RestsAt lease c o []
+first_rests lease c o root applied from links = record {
+  visits = [];
+  are = tt;
+  linked = links;
+  noted = λ page bytes h. absurd h;
+  root = root;
+  applied = applied;
+  handled = subst (λ (b : Option (List ℕ)). AreHandledTo c.run.items b []) (sym from) (none_handled c.run.items);
+  calls = refl;
+}
+
+further_tours : (lease : Claim) (n : ℕ) (c : Chart) (nodes : List KeptNode) (d : Descent) (o : Opening) (work : Calls) → IsFurther n c d.chart → Turned c.tree work c.links nodes d
+    → Tours lease c.tree c.run c.root c.applied c.from c.key c.links nodes o work
+    → ToursAt lease d.chart o work
+further_tours lease n c nodes d o work f t k =
+    let e : Chart = d.chart in
+    let turned : Tours lease c.tree c.run c.root c.applied c.from c.key e.links e.nodes o work = record {
+      before = k.before;
+      known = k.known;
+      olds = k.olds;
+      rests = k.rests;
+      turns = k.turns ++ t.rest;
+      turned = turns_both c.tree k.turns t.rest work k.turned t.are;
+      linked = t.linked ∙ ap (λ (ls : List Link). ls ++ t.rest) k.linked ∙ append_assoc k.known k.turns t.rest;
+      least = k.least;
+      looks = k.looks;
+      looked = k.looked;
+      noted = λ page bytes h. subst (IsNoted page bytes) (sym t.same) (k.noted page bytes h);
+      calls = k.calls;
+    } in
+    subst (λ (key : List ℕ). Tours lease e.tree e.run e.root e.applied e.from key e.links e.nodes o work) (sym f.key)
+    (subst (λ (b : Option (List ℕ)). Tours lease e.tree e.run e.root e.applied b c.key e.links e.nodes o work) (sym f.from)
+    (subst (λ (m : ℕ). Tours lease e.tree e.run e.root m c.from c.key e.links e.nodes o work) (sym f.applied)
+    (subst (λ (r : Option (List ℕ)). Tours lease e.tree e.run r c.applied c.from c.key e.links e.nodes o work) (sym f.root)
+    (subst (λ (r : Taken). Tours lease e.tree r c.root c.applied c.from c.key e.links e.nodes o work) (sym f.run)
+    (subst (λ (t : ℕ). Tours lease t c.run c.root c.applied c.from c.key e.links e.nodes o work) (sym f.tree) turned)))))
 
 -- where the way down goes on or ends
 abbrev pub WayTours : {A : Type 0} → Claim → Next Descent A → Opening → Calls → Type 0
@@ -98,27 +150,47 @@ WayTours lease (Goes d) o work = ToursAt lease d.chart o work × ComesUpto d
 WayTours lease (Ends d x) o work = ToursAt lease d.chart o work × ComesUpto d
 WayTours lease (Stops d t) o work = Unit {0}
 
-pub way_tours : {A : Type 0} (lease : Claim) (n : ℕ) (c : Chart) (next : Next Descent A) (o : Opening) (work : Calls) → GoesFurther n c next → WayUpto next → ToursAt lease c o work
-    → WayTours lease next o work
-way_tours lease n c (Goes d) o work f upto k = (further_tours lease n c d.chart o work f k, upto)
-way_tours lease n c (Ends d x) o work f upto k = (further_tours lease n c d.chart o work f k, upto)
-way_tours lease n c (Stops d t) o work f upto k = tt
+pub way_tours : {A : Type 0} (lease : Claim) (n : ℕ) (c : Chart) (nodes : List KeptNode) (next : Next Descent A) (o : Opening) (work : Calls) → GoesFurther n c next
+    → WayUpto next → WayTurned c.tree work c.links nodes next → Tours lease c.tree c.run c.root c.applied c.from c.key c.links nodes o work → WayTours lease next o work
+way_tours lease n c nodes (Goes d) o work f upto t k = (further_tours lease n c nodes d o work f t k, upto)
+way_tours lease n c nodes (Ends d x) o work f upto t k = (further_tours lease n c nodes d o work f t k, upto)
+way_tours lease n c nodes (Stops d t) o work f upto turned k = tt
 
-pub descent_tours : (lease : Claim) (d : Descent) (a : Answer) (o : Opening) (work : Calls) → ToursAt lease d.chart o work
+-- a node more is got, and kept
+noted_got : (tree : ℕ) (d : Descent) (got : List ℕ) (l : Claim) (a : Answer) (looks : Calls) → d.chart.tree ≡ tree → a ≡ call.Got (Some got) → AreNoted tree looks d.chart.nodes
+    → AreNoted tree ((descent_ask d l, a) ∷ looks) (with_kept (node_got d got) d.chart.nodes)
+noted_got tree d got l a looks same e h page bytes (inr g) = noted_with page bytes (node_got d got) d.chart.nodes (h page bytes g)
+noted_got tree d got l a looks same e h page bytes (inl b) =
+    let ask : GetHeld (object.Page d.chart.tree d.page) l ≡ GetHeld (object.Page tree page) b.0 = ap (λ (c : Ask × Answer). c.0) b.1 in
+    let answer : call.Got (Some got) ≡ call.Got (Some bytes) = sym e ∙ ap (λ (c : Ask × Answer). c.1) b.1 in
+    let at : d.page ≡ page = cc (ask) in
+    let is : got ≡ bytes = cc (answer) in
+    subst (λ (p : ℕ). IsNoted p bytes (with_kept (node_got d got) d.chart.nodes)) at
+    (subst (λ (bs : List ℕ). IsNoted d.page bs (with_kept (node_got d got) d.chart.nodes)) is (noted_new (node_got d got) d.chart.nodes))
+
+pub descent_tours : (lease : Claim) (d : Descent) (a : Answer) (o : Opening) (work : Calls) → AreKept d.chart.tree d.chart.nodes work → ToursAt lease d.chart o work
     → WayTours lease (descent_next d a) o ((descent_ask d lease, a) ∷ work)
-descent_tours lease d a o work k = on (got_of a) refl (descent_further d a) (descent_upto d a) where
+descent_tours lease d a o work kept k = on (got_of a) refl (descent_further d a) (descent_upto d a) where
   ask : Ask
   ask = descent_ask d lease
 
   on : (g : Result (Option (List ℕ)) Trouble) → got_of a ≡ g → GoesFurther 1 d.chart (descent_got d g) → WayUpto (descent_got d g)
       → WayTours lease (descent_got d g) o ((ask, a) ∷ work)
   on (Ok (Some bytes)) e f upto =
-      way_tours lease 1 d.chart (got_node d bytes (fork_of d bytes)) o ((ask, a) ∷ work) f upto (record {
+      let is : a ≡ call.Got (Some bytes) = got_is a (Some bytes) e in
+      way_tours lease 1 d.chart (with_kept (node_got d bytes) d.chart.nodes) (got_node d bytes (fork_of d bytes)) o ((ask, a) ∷ work) f upto
+      (descent_turned d.chart.tree ((ask, a) ∷ work) d bytes (kept_more d.chart.tree d.chart.nodes (ask, a) work kept) (inl (lease, ap (λ (x : Answer). (ask, x)) is))) (record {
         before = k.before;
+        known = k.known;
+        olds = k.olds;
         rests = k.rests;
+        turns = k.turns;
+        turned = turns_more d.chart.tree k.turns (ask, a) work k.turned;
+        linked = k.linked;
         least = k.least;
         looks = (ask, a) ∷ k.looks;
-        looked = ((d.page, bytes, ap (λ (x : Answer). (ask, x)) (got_is a (Some bytes) e)), k.looked);
+        looked = ((d.page, bytes, ap (λ (x : Answer). (ask, x)) is), k.looked);
+        noted = noted_got d.chart.tree d bytes lease a (k.looks ++ looks_of k.rests.visits) refl is k.noted;
         calls = ap (λ (cs : Calls). (ask, a) ∷ cs) k.calls;
       })
   on (Ok None) e f upto = tt
@@ -196,11 +268,13 @@ pub record Puts (lease : Claim) (f : Folding) (o : Opening) (work : Calls) : Typ
   pub visits : List Visit
   pub are : AreVisits f.chart.tree lease f.chart.run o.got visits
   pub visit : Visit
-  pub is : IsVisit f.chart.tree lease f.chart.run (root_behind o.got visits) visit
+  pub is : IsVisit f.chart.tree lease f.chart.run (root_behind o.got visits) (visits_over f.chart.tree lease visits []) visit
+  pub linked : f.chart.links ≡ links_behind (visit ∷ visits)
+  pub noted : AreNoted f.chart.tree (looks_of (visit ∷ visits)) f.chart.nodes
   pub own : visit.lease ≡ f.lease
   pub root : landed_root f.placing f.chart.root ≡ root_behind o.got (visit ∷ visits)
   pub applied : f.chart.applied + length f.lacked ≡ lacked_on f.chart.run (visit ∷ visits)
-  pub handled : AreHandledTo f.chart.run f.chart.run.items f.chart.from (visit ∷ visits)
+  pub handled : AreHandledTo f.chart.run.items f.chart.from (visit ∷ visits)
   pub calls : done_over (puts_of f.chart.tree lease (Some f.lease) f.placing) work ≡ held_over f.chart.tree lease visit (visits_over f.chart.tree lease visits [])
   pub some : 0 < length f.placing.puts
 
@@ -208,19 +282,21 @@ abbrev pub AtLeaf : Claim → Folding → Opening → Calls → Type 0
 AtLeaf lease f o work = Begins lease f o work ⊎ Puts lease f o work
 
 -- it is done, and was not given back yet
-pub record Visits (lease l : Claim) (tree : ℕ) (run : Taken) (stood : Option (List ℕ)) (count : ℕ) (from : Option (List ℕ)) (o : Opening) (work : Calls) : Type 0 where
+pub record Visits (lease l : Claim) (tree : ℕ) (run : Taken) (stood : Option (List ℕ)) (count : ℕ) (from : Option (List ℕ)) (found : List Link) (nodes : List KeptNode) (o : Opening) (work : Calls) : Type 0 where
   pub visits : List Visit
   pub are : AreVisits tree lease run o.got visits
   pub visit : Visit
-  pub is : IsVisit tree lease run (root_behind o.got visits) visit
+  pub is : IsVisit tree lease run (root_behind o.got visits) (visits_over tree lease visits []) visit
+  pub linked : found ≡ links_behind (visit ∷ visits)
+  pub noted : AreNoted tree (looks_of (visit ∷ visits)) nodes
   pub own : visit.lease ≡ l
   pub root : stood ≡ root_behind o.got (visit ∷ visits)
   pub applied : count ≡ lacked_on run (visit ∷ visits)
-  pub handled : AreHandledTo run run.items from (visit ∷ visits)
+  pub handled : AreHandledTo run.items from (visit ∷ visits)
   pub calls : work ≡ held_over tree lease visit (visits_over tree lease visits [])
 
 abbrev pub VisitsAt : Claim → Claim → Chart → Opening → Calls → Type 0
-VisitsAt lease own c o work = Visits lease own c.tree c.run c.root c.applied c.from o work
+VisitsAt lease own c o work = Visits lease own c.tree c.run c.root c.applied c.from c.links c.nodes o work
 
 -- a leaf that is left for its right page, which has a low key not above the key at hand
 abbrev pub LeavesUpto : Chart → Left → Type 0
@@ -245,8 +321,9 @@ record IsGot (lease : Claim) (f : Folding) (got : Option (List ℕ)) (l : Leaf) 
 
 module _ (lease : Claim) (f : Folding) (got : Option (List ℕ)) (l : Leaf) (o : Opening) (work : Calls) (k : IsGot lease f got l o work) where
   -- the visit that it is, with what was planned
-  visit_with : Option LeafPlan → Visit
-  visit_with plan = record { looks = k.tours.looks; page = f.page; lease = f.lease; got = got; leaf = l; plan = plan; freed = call.Done }
+  visit_with : Outcome → Visit
+  visit_with outcome =
+      record { looks = k.tours.looks; turns = k.tours.turns; page = f.page; lease = f.lease; got = got; leaf = l; outcome = outcome; freed = call.Done }
 
   visit_calls : Calls
   visit_calls =
@@ -260,29 +337,65 @@ module _ (lease : Claim) (f : Folding) (got : Option (List ℕ)) (l : Leaf) (o :
       ∙ ap (λ (cs : Calls). (GetHeld (object.Page f.chart.tree f.page) f.lease, call.Got got) ∷ (Take (lock.Page f.chart.tree f.page) 30, call.Given f.lease) ∷ cs)
       (k.tours.calls ∙ ap (λ (cs : Calls). k.tours.looks ++ cs) k.tours.rests.calls)
 
-  -- nothing is put
-  passed : (from : Option (List ℕ)) → AreHandledTo f.chart.run f.chart.run.items from (visit_with None ∷ k.tours.rests.visits)
-      → PutsLacked f.chart.run (root_behind o.got k.tours.rests.visits) f.page l None
-      → Visits lease f.lease f.chart.tree f.chart.run f.chart.root f.chart.applied from o work
+  tour_calls : k.before ≡ k.tours.looks ++ visits_over f.chart.tree lease k.tours.rests.visits []
+  tour_calls = k.tours.calls ∙ ap (λ (cs : Calls). k.tours.looks ++ cs) k.tours.rests.calls
+
+  -- it is the visit that it is
+  seen : (outcome : Outcome) → IsLeft f.chart.run (root_behind o.got k.tours.rests.visits) f.page l outcome
+      → IsVisit f.chart.tree lease f.chart.run (root_behind o.got k.tours.rests.visits) (visits_over f.chart.tree lease k.tours.rests.visits []) (visit_with outcome)
+  unfolding visit_with
+  seen outcome left = record {
+    looks = k.tours.looked;
+    turns = subst (λ (cs : Calls). AreTurns f.chart.tree cs k.tours.turns) tour_calls k.tours.turned;
+    holds = k.holds;
+    left = left;
+  }
+
+  links_seen : f.chart.links ≡ links_behind k.tours.rests.visits ++ k.tours.turns
+  links_seen = k.tours.linked ∙ ap (λ (ls : List Link). ls ++ k.tours.turns) k.tours.rests.linked
+
+  -- where it is settled the keys below its high key are handled
+  handles : IsUpto l.low f.chart.key → (outcome : Outcome) → IsSettled outcome
+      → AreHandledTo f.chart.run.items l.high (visit_with outcome ∷ k.tours.rests.visits)
+  unfolding visit_with
+  handles low outcome settled =
+      handled_here f.chart.run.items f.chart.from f.chart.key (visit_with outcome) k.tours.rests.visits settled low k.tours.least k.tours.rests.handled
+
+  -- it lacks nothing
+  spared : IsUpto l.low f.chart.key → has_items (lacked l 0 f.chart.run.items) ≡ false
+      → Visits lease f.lease f.chart.tree f.chart.run f.chart.root f.chart.applied l.high f.chart.links f.chart.nodes o work
   unfolding visit_with visit_calls
-  passed from handled puts = record {
+  spared low none = record {
     visits = k.tours.rests.visits;
     are = k.tours.rests.are;
-    visit = visit_with None;
-    is = record { looks = k.tours.looked; holds = k.holds; puts = puts };
+    visit = visit_with Spared;
+    is = seen Spared none;
+    linked = links_seen;
+    noted = k.tours.noted;
     own = refl;
     root = k.tours.rests.root;
     applied = omega (arith, k.tours.rests.applied);
-    handled = handled;
+    handled = handles low Spared tt;
     calls = got_calls;
   }
 
-  -- where it is settled the keys below its high key are handled
-  handles : IsUpto l.low f.chart.key → (plan : Option LeafPlan) → IsSettled f.chart.run l plan
-      → AreHandledTo f.chart.run f.chart.run.items l.high (visit_with plan ∷ k.tours.rests.visits)
-  unfolding visit_with
-  handles low plan settled =
-      handled_here f.chart.run f.chart.run.items f.chart.from f.chart.key (visit_with plan) k.tours.rests.visits settled low k.tours.least k.tours.rests.handled
+  -- it is left by its right link
+  passed : (link : Link) → link.level ≡ 1 → GoesRight l.high (page_at l.right) link.low link.page
+      → Visits lease f.lease f.chart.tree f.chart.run f.chart.root f.chart.applied f.chart.from (f.chart.links ++ link ∷ []) f.chart.nodes o work
+  unfolding visit_with visit_calls
+  passed link level goes = record {
+    visits = k.tours.rests.visits;
+    are = k.tours.rests.are;
+    visit = visit_with (Passed link);
+    is = seen (Passed link) (level, goes);
+    linked = ap (λ (ls : List Link). ls ++ link ∷ []) links_seen;
+    noted = k.tours.noted;
+    own = refl;
+    root = k.tours.rests.root;
+    applied = omega (arith, k.tours.rests.applied);
+    handled = handled_more f.chart.run.items f.chart.from (visit_with (Passed link)) k.tours.rests.visits k.tours.rests.handled;
+    calls = got_calls;
+  }
 
   planned_tours : IsUpto l.low f.chart.key → (items : List PuItem) → lacked l 0 f.chart.run.items ≡ items → has_items items ≡ true → (p : Result LeafPlan Trouble)
       → leaf_plan (tree_held f.chart.root) f.page l f.chart.run.items ≡ p → LeafTours lease (fold.planned f l.high items p) o work
@@ -290,49 +403,45 @@ module _ (lease : Claim) (f : Folding) (got : Option (List ℕ)) (l : Leaf) (o :
   planned_tours low items same some (Ok p) e = inr (record {
     visits = k.tours.rests.visits;
     are = k.tours.rests.are;
-    visit = visit_with (Some p);
-    is = record {
-      looks = k.tours.looked;
-      holds = k.holds;
-      puts = (
-        ap has_items same ∙ some,
-        subst (λ (r : Option (List ℕ)). leaf_plan (tree_held r) f.page l f.chart.run.items ≡ Ok p) k.tours.rests.root e,
-      );
-    };
+    visit = visit_with (Planned p);
+    is = seen (Planned p) (
+      ap has_items same ∙ some,
+      subst (λ (r : Option (List ℕ)). PutsLeaf (tree_held r) f.page l f.chart.run.items p) k.tours.rests.root
+          (leaf_puts (tree_held f.chart.root) f.page l f.chart.run.items p e),
+    );
+    linked = ap (λ (ls : List Link). ls ++ links_at 1 p.entries) links_seen;
+    noted = k.tours.noted;
     own = refl;
     root = ap (landed_root p.placing) k.tours.rests.root;
     applied = omega (arith, k.tours.rests.applied, ap (λ (xs : List PuItem). length xs) same);
-    handled = handles low (Some p) tt;
+    handled = handles low (Planned p) tt;
     calls = ap (done_over (puts_of f.chart.tree lease (Some f.lease) p.placing)) got_calls;
     some = plan_some (tree_held f.chart.root) f.page l f.chart.run.items p e;
   })
   planned_tours low items same some (Err t) e = tt
 
   handled_tours : IsUpto l.low f.chart.key → (items : List PuItem) → lacked l 0 f.chart.run.items ≡ items → LeafTours lease (fold.handled_by f l items) o work
-  handled_tours low [] same = (passed l.high (handles low None (ap has_items same)) (inl (ap has_items same)), tt)
+  handled_tours low [] same = (spared low (ap has_items same), tt)
   handled_tours low (x ∷ xs) same = planned_tours low (x ∷ xs) same refl (leaf_plan (tree_held f.chart.root) f.page l f.chart.run.items) refl
 
-  right_tours : (high : List ℕ) (right : ℕ) → page_at l.right ≡ Some right → IsUpto high f.chart.key → LeafTours lease (fold.to_right f high right) o work
-  right_tours high right e upto = on ((right == f.page) || is_seen f.visited right) where
+  right_tours : (high : List ℕ) (right : ℕ) → GoesRight l.high (page_at l.right) high right → IsUpto high f.chart.key → LeafTours lease (fold.to_right f high right) o work
+  right_tours high right goes upto = on ((right == f.page) || is_seen f.visited right) where
     on : (b : Bool) → LeafTours lease (cond b (Stops f (trouble.Loop right)) (Ends (fold.turned f high right) (Right high right))) o work
     on true = tt
-    on false = (
-      passed f.chart.from (handled_more f.chart.run f.chart.run.items f.chart.from (visit_with None) k.tours.rests.visits k.tours.rests.handled) (inr (right, e)),
-      (k.tours.least, upto),
-    )
+    on false = (passed (record { level = 1; low = high; page = right }) refl goes, (k.tours.least, upto))
 
-  side_tours : IsUpto l.low f.chart.key → (high : Option (List ℕ)) (right : Option ℕ) → page_at l.right ≡ right → LeafTours lease (fold.leaf_side f l high right) o work
-  side_tours low None right e = handled_tours low (lacked l 0 f.chart.run.items) refl
-  side_tours low (Some high) None e = handled_tours low (lacked l 0 f.chart.run.items) refl
-  side_tours low (Some high) (Some right) e = on (bytes_below f.chart.key high) refl where
+  side_tours : IsUpto l.low f.chart.key → (high : Option (List ℕ)) → l.high ≡ high → (right : Option ℕ) → page_at l.right ≡ right → LeafTours lease (fold.leaf_side f l high right) o work
+  side_tours low None h right e = handled_tours low (lacked l 0 f.chart.run.items) refl
+  side_tours low (Some high) h None e = handled_tours low (lacked l 0 f.chart.run.items) refl
+  side_tours low (Some high) h (Some right) e = on (bytes_below f.chart.key high) refl where
     on : (b : Bool) → bytes_below f.chart.key high ≡ b → LeafTours lease (cond b (fold.handle f l) (fold.to_right f high right)) o work
     on true under = handled_tours low (lacked l 0 f.chart.run.items) refl
-    on false under = right_tours high right e under
+    on false under = right_tours high right (h, e) under
 
   at_tours : LeafTours lease (fold.leaf_at f l) o work
   at_tours = on (bytes_same l.low f.low) refl where
     on : (b : Bool) → bytes_same l.low f.low ≡ b → LeafTours lease (cond b (fold.leaf_side f l l.high (page_at l.right)) (Stops f (fold.bad_low f l.low))) o work
-    on true same = side_tours (low_upto l f.low f.chart.key same k.upto) l.high (page_at l.right) refl
+    on true same = side_tours (low_upto l f.low f.chart.key same k.upto) l.high refl (page_at l.right) refl
     on false same = tt
 
 -- the get of a leaf that is taken
@@ -383,6 +492,8 @@ placed_tours lease f o work k = on (has_one_page f.placing) refl where
       are = k.are;
       visit = k.visit;
       is = k.is;
+      linked = k.linked;
+      noted = k.noted;
       own = k.own;
       root = k.root;
       applied = k.applied;
@@ -396,6 +507,8 @@ placed_tours lease f o work k = on (has_one_page f.placing) refl where
     are = k.are;
     visit = k.visit;
     is = k.is;
+    linked = k.linked;
+    noted = k.noted;
     own = k.own;
     root = k.root;
     applied = k.applied;
@@ -432,19 +545,21 @@ pub taken_tours : (lease : Claim) (c : Chart) (l : Claim) (page : ℕ) (low visi
     → AtLeaf lease (fold.begun c l page low visited) o ((Take (lock.Page c.tree page) 30, call.Given l) ∷ work)
 taken_tours lease c l page low visited o work upto k = inl (record { before = work; tours = k; empty = refl; upto = upto; calls = refl })
 
-freed_handled : (run : Taken) (xs : List PuItem) (from : Option (List ℕ)) (v : Visit) (a : Answer) (visits : List Visit) → AreHandledTo run xs from (v ∷ visits)
-    → AreHandledTo run xs from (record v { freed = a } ∷ visits)
-freed_handled run [] from v a visits h = tt
-freed_handled run (x ∷ xs) from v a visits h = (h.0, freed_handled run xs from v a visits h.1)
+freed_handled : (xs : List PuItem) (from : Option (List ℕ)) (v : Visit) (a : Answer) (visits : List Visit) → AreHandledTo xs from (v ∷ visits)
+    → AreHandledTo xs from (record v { freed = a } ∷ visits)
+freed_handled [] from v a visits h = tt
+freed_handled (x ∷ xs) from v a visits h = (h.0, freed_handled xs from v a visits h.1)
 
 pub left_rests : (lease own : Claim) (c : Chart) (a : Answer) (o : Opening) (work : Calls) → VisitsAt lease own c o work → RestsAt lease c o ((Release own, a) ∷ work)
 left_rests lease own c a o work k =
     let freed : Visit = record k.visit { freed = a } in
     record {
       visits = freed ∷ k.visits;
-      are = (record { looks = k.is.looks; holds = k.is.holds; puts = k.is.puts }, k.are);
+      are = (record { looks = k.is.looks; turns = k.is.turns; holds = k.is.holds; left = k.is.left }, k.are);
+      linked = k.linked;
+      noted = k.noted;
       root = k.root;
       applied = k.applied;
-      handled = freed_handled c.run c.run.items c.from k.visit a k.visits k.handled;
+      handled = freed_handled c.run.items c.from k.visit a k.visits k.handled;
       calls = ap (λ (cs : Calls). (Release own, a) ∷ cs) k.calls ∙ ap (λ (l : Claim). (Release l, a) ∷ held_over c.tree lease k.visit (visits_over c.tree lease k.visits [])) (sym k.own);
     }

@@ -1,5 +1,5 @@
 -- The work of a tree checkpoint, as its calls tell it: from leaf to leaf, and then up.
-use Rattle.std.specs.Prelude.{ℕ, ◌≡◌, ◌+◌, true, false, List, [], ◌∷◌, ◌++◌, map, length, Option, Some, None, Ok, ◌⊎◌}
+use Rattle.std.specs.Prelude.{ℕ, ◌≡◌, ◌<◌, ◌≤◌, ◌+◌, ◌-◌, true, false, List, [], ◌∷◌, ◌++◌, map, reverse, drop, length, Option, Some, None, Ok, ◌⊎◌}
 use Rattle.std.specs.List.{AllByRecursion}
 use Rattle.db_base.specs.Change.{key_of}
 use Rattle.db_base.specs.declared.names.Lock.TheVariants as lock
@@ -7,10 +7,19 @@ use Rattle.db_base.specs.declared.names.ObjName.TheVariants as object
 use Rattle.byte_format.specs.Whole.{whole}
 use Rattle.leaf_view.specs.Leaf.{Leaf, leaf}
 use Rattle.leaf_view.specs.Lookup.{empty_leaf, page_at, holds}
-use Rattle.node_codec.specs.Tree.{Tree}
+use Rattle.node_codec.specs.Inner.{Inner, inner_of, node_of_root}
+use Rattle.node_codec.specs.Node as node
+use Rattle.node_codec.specs.Tree.{Tree, tree_bytes}
+use Rattle.log_codec.specs.declared.record.PuItem.{PuItem}
+use Rattle.leaf_edit.specs.Applied.{applied}
 use Rattle.leaf_edit.specs.Lacked.{lacked}
 use Rattle.run_cursor.specs.Run.{Taken}
+use Rattle.split_plan.specs.declared.entry_list.NewEntry.{NewEntry}
 use Rattle.split_plan.specs.declared.put_list.PagePut.{PagePut}
+use Rattle.split_plan.specs.Cut.{IsCut}
+use Rattle.split_plan.specs.Part.{Part, NodePart, record_key, entry_key, part_of_leaf, part_of_node}
+use Rattle.split_plan.specs.Plan.{put_of, entry_of, on_pages, leaf_bytes, node_bytes}
+use Rattle.split_plan.specs.Plan.{root_above as root_with}
 use Rattle.cloud_trait.specs.declared.answer.Answer.{Answer}
 use Rattle.cloud_trait.specs.declared.answer.Answer.TheVariants.{Got, Done, Given}
 use Rattle.cloud_trait.specs.Ask.{Ask, GetHeld, PutHeld, Take, Release}
@@ -24,13 +33,11 @@ use Rattle.tree_parts.specs.Placing.{landed_root}
 use Rattle.tree_parts.specs.Read.{tree_held}
 use Rattle.leaf_fold.specs.declared.plan.LeafPlan.{LeafPlan}
 use Rattle.leaf_fold.specs.Folding.{no_placing}
-use Rattle.leaf_fold.specs.Plan.{leaf_plan}
 use Rattle.tree_rising.specs.declared.node.NodePlan.{NodePlan}
 use Rattle.tree_rising.specs.declared.root.RootPlan.{RootPlan}
-use Rattle.tree_rising.specs.Nodes.{node_plan}
-use Rattle.tree_rising.specs.Rising.{plan_of}
-use Rattle.tree_rising.specs.Root.{raised_root}
-use Rattle.tree_ckpt.specs.Causing.{Calls, WasGot}
+use Rattle.tree_rising.specs.Nodes.{with_links, is_touched}
+use Rattle.tree_rising.specs.Root.{risen}
+use Rattle.tree_ckpt.specs.Causing.{Calls, WasGot, WasNode, GoesRight}
 
 -- ---- puts
 
@@ -52,27 +59,69 @@ reserved_before tree one None asks = asks
 abbrev pub puts_of : ℕ → Claim → Option Claim → Placing → List Ask
 puts_of tree one two p = reserved_before tree one p.reserved (page_puts tree one two p.puts)
 
+-- ---- pieces
+
+-- So many numbers of new pages are those from the tree object's next number on. Its next version, with that number raised by so many and nothing else
+-- changed, is put before them.
+abbrev pub Reserves : Tree → ℕ → ℕ → Option (List ℕ) → Type 0
+Reserves root first count None = count ≡ 0
+Reserves root first count (Some bytes) =
+    (first ≡ root.next) × (bytes ≡ tree_bytes (record root { version = root.version + 1; next = root.next + count }))
+
+-- What is put for a page, and named above it: the pieces that it is cut into, of at most 64 items each, the rightmost first and that on its own page
+-- last, the new ones on the numbers that are reserved for them.
+pub record PutsPieces {A X : Type 0} (key : A → List ℕ) (bytes : Part A X → List ℕ) (root : Tree) (page : ℕ) (whole : Part A X)
+    (placing : Placing) (named : List NewEntry) : Type 0 where
+  pub first : ℕ
+  pub pieces : List (Part A X)
+  pub cut : IsCut key first whole pieces
+  pub small : AllByRecursion (λ q. length q.items ≤ 64) pieces
+  pub numbers : Reserves root first (length pieces - 1) placing.reserved
+  pub puts : placing.puts ≡ reverse (map (put_of bytes) (on_pages page first pieces))
+  pub entries : named ≡ drop 1 (map entry_of (on_pages page first pieces))
+
+-- the leaf with the run applied is put
+abbrev pub PutsLeaf : Tree → ℕ → Leaf → List PuItem → LeafPlan → Type 0
+PutsLeaf root page l run p = PutsPieces record_key leaf_bytes root page (part_of_leaf (applied l 0 run)) p.placing p.entries
+
+-- the next version of an inner node, with the links that go to it
+abbrev pub linked_node : Inner → List Link → Inner
+linked_node n ls = record n { version = n.version + 1; entries = with_links n ls n.entries }
+
+-- it is put
+abbrev pub PutsNode : Tree → KeptNode → List Link → NodePlan → Type 0
+PutsNode root k ls p =
+    (n : Inner) × (inner_of k.bytes ≡ Some n) × PutsPieces entry_key node_bytes root k.page (part_of_node (linked_node n ls)) p.placing p.entries
+
 -- ---- a leaf
 
--- A leaf that was come to: what was got on the way down to it, its page and lease, what its get brought, the leaf that this is, what was
--- planned for it, where something was, and what its release answered.
+-- how a leaf was left: put as planned, as it was since it lacks nothing, or for the page on its right
+pub data Outcome : Type 0 where
+  Planned : (plan : LeafPlan) → Outcome
+  Spared : Outcome
+  Passed : (link : Link) → Outcome
+
+-- A leaf that was come to: what was got on the way down to it, the right links that were followed there, its page and lease, what its get brought, the
+-- leaf that this is, how it was left, and what its release answered.
 pub record Visit : Type 0 where
   pub looks : Calls
+  pub turns : List Link
   pub page : ℕ
   pub lease : Claim
   pub got : Option (List ℕ)
   pub leaf : Leaf
-  pub plan : Option LeafPlan
+  pub outcome : Outcome
   pub freed : Answer
 
-abbrev pub placing_of : Option LeafPlan → Placing
-placing_of (Some p) = p.placing
-placing_of None = no_placing
+abbrev pub placing_of : Outcome → Placing
+placing_of (Planned p) = p.placing
+placing_of Spared = no_placing
+placing_of (Passed link) = no_placing
 
 -- the leaf is taken and got under its lease, and what was planned is put under the tree's lease and its own
 abbrev pub held_over : ℕ → Claim → Visit → Calls → Calls
 held_over tree one v rest =
-    done_over (puts_of tree one (Some v.lease) (placing_of v.plan))
+    done_over (puts_of tree one (Some v.lease) (placing_of v.outcome))
     ((GetHeld (object.Page tree v.page) v.lease, Got v.got) ∷ (Take (lock.Page tree v.page) 30, Given v.lease) ∷ v.looks ++ rest)
 
 -- and then it is given back
@@ -93,46 +142,74 @@ abbrev pub HoldsLeaf : ℕ → Leaf → Option (List ℕ) → Type 0
 HoldsLeaf page l (Some bytes) = whole leaf bytes ≡ Ok l
 HoldsLeaf page l None = (page ≡ 1) × (l ≡ empty_leaf)
 
--- What is planned is the leaf with the run applied, in its pieces, with their numbers from the tree object that stands. Nothing is where the leaf
--- lacks no item of the run, or is left for the page on its right.
-abbrev pub PutsLacked : Taken → Option (List ℕ) → ℕ → Leaf → Option LeafPlan → Type 0
-PutsLacked run root page l (Some plan) = (has_items (lacked l 0 run.items) ≡ true) × (leaf_plan (tree_held root) page l run.items ≡ Ok plan)
-PutsLacked run root page l None = (has_items (lacked l 0 run.items) ≡ false) ⊎ ((right : ℕ) × (page_at l.right ≡ Some right))
+-- a right link of an inner node that was got among these calls
+abbrev pub IsTurn : ℕ → Calls → Link → Type 0
+IsTurn tree cs l =
+    (page : ℕ) × (n : Inner) × WasNode tree page n cs × (l.level ≡ n.level + 1) × GoesRight n.high (node.page_at n.right) l.low l.page
 
-pub record IsVisit (tree : ℕ) (one : Claim) (run : Taken) (root : Option (List ℕ)) (v : Visit) : Type 0 where
+abbrev pub AreTurns : ℕ → Calls → List Link → Type 0
+AreTurns tree cs links = AllByRecursion (IsTurn tree cs) links
+
+-- What is planned is the leaf with the run applied, with the tree object that stands. A leaf that lacks no item of the run stays as it is. One is left by
+-- its right link.
+abbrev pub IsLeft : Taken → Option (List ℕ) → ℕ → Leaf → Outcome → Type 0
+IsLeft run root page l (Planned plan) = (has_items (lacked l 0 run.items) ≡ true) × PutsLeaf (tree_held root) page l run.items plan
+IsLeft run root page l Spared = has_items (lacked l 0 run.items) ≡ false
+IsLeft run root page l (Passed link) = (link.level ≡ 1) × GoesRight l.high (page_at l.right) link.low link.page
+
+-- a visit behind these calls
+pub record IsVisit (tree : ℕ) (one : Claim) (run : Taken) (root : Option (List ℕ)) (before : Calls) (v : Visit) : Type 0 where
   pub looks : AreLooks tree one v.looks
+  pub turns : AreTurns tree (v.looks ++ before) v.turns
   pub holds : HoldsLeaf v.page v.leaf v.got
-  pub puts : PutsLacked run root v.page v.leaf v.plan
+  pub left : IsLeft run root v.page v.leaf v.outcome
 
 -- ---- leaf by leaf
+
+-- what was got on all ways down
+abbrev pub looks_of : List Visit → Calls
+looks_of [] = []
+looks_of (v ∷ vs) = v.looks ++ looks_of vs
 
 -- the tree object that stands behind visits, the newest first: the newest reservation, or that which was got
 abbrev pub root_behind : Option (List ℕ) → List Visit → Option (List ℕ)
 root_behind got [] = got
-root_behind got (v ∷ vs) = landed_root (placing_of v.plan) (root_behind got vs)
+root_behind got (v ∷ vs) = landed_root (placing_of v.outcome) (root_behind got vs)
 
 abbrev pub AreVisits : ℕ → Claim → Taken → Option (List ℕ) → List Visit → Type 0
 AreVisits tree one run got [] = Unit {0}
-AreVisits tree one run got (v ∷ vs) = IsVisit tree one run (root_behind got vs) v × AreVisits tree one run got vs
+AreVisits tree one run got (v ∷ vs) = IsVisit tree one run (root_behind got vs) (visits_over tree one vs []) v × AreVisits tree one run got vs
+
+-- the links that are known then, for the levels above: right links that were followed, and new pieces
+abbrev pub links_from : Outcome → List Link → List Link
+links_from (Planned p) links = links ++ links_at 1 p.entries
+links_from Spared links = links
+links_from (Passed link) links = links ++ link ∷ []
+
+abbrev pub links_behind : List Visit → List Link
+links_behind [] = []
+links_behind (v ∷ vs) = links_from v.outcome (links_behind vs ++ v.turns)
 
 -- how many items the leaf lacked, where it was put
-abbrev pub lacked_where : Taken → Leaf → Option LeafPlan → ℕ
-lacked_where run l (Some plan) = length (lacked l 0 run.items)
-lacked_where run l None = 0
+abbrev pub lacked_where : Taken → Leaf → Outcome → ℕ
+lacked_where run l (Planned plan) = length (lacked l 0 run.items)
+lacked_where run l Spared = 0
+lacked_where run l (Passed link) = 0
 
 abbrev pub lacked_on : Taken → List Visit → ℕ
 lacked_on run [] = 0
-lacked_on run (v ∷ vs) = lacked_on run vs + lacked_where run v.leaf v.plan
+lacked_on run (v ∷ vs) = lacked_on run vs + lacked_where run v.leaf v.outcome
 
 -- a leaf was put, or it lacked nothing
-abbrev pub IsSettled : Taken → Leaf → Option LeafPlan → Type 0
-IsSettled run l (Some plan) = Unit {0}
-IsSettled run l None = has_items (lacked l 0 run.items) ≡ false
+abbrev pub IsSettled : Outcome → Type 0
+IsSettled (Planned plan) = Unit {0}
+IsSettled Spared = Unit {0}
+IsSettled (Passed link) = ⊥
 
 -- a key lies in the range of such a leaf
-abbrev pub IsHandled : Taken → List ℕ → List Visit → Type 0
-IsHandled run key [] = ⊥
-IsHandled run key (v ∷ vs) = ((holds v.leaf key ≡ true) × IsSettled run v.leaf v.plan) ⊎ IsHandled run key vs
+abbrev pub IsHandled : List ℕ → List Visit → Type 0
+IsHandled key [] = ⊥
+IsHandled key (v ∷ vs) = ((holds v.leaf key ≡ true) × IsSettled v.outcome) ⊎ IsHandled key vs
 
 -- ---- up
 
@@ -155,24 +232,47 @@ abbrev pub links_above : List Link → List Climb → List Link
 links_above links [] = links
 links_above links (u ∷ us) = links_above links us ++ links_at (u.node.level + 1) u.plan.entries
 
--- What is planned is a node that was got among these calls, with the links that go to it, in its pieces, with their numbers from the tree object that
--- stands.
+-- what is planned is a node that was got among these calls, with the links that go to it, with the tree object that stands
 abbrev pub AreClimbs : ℕ → Calls → Option (List ℕ) → List Link → List Climb → Type 0
 AreClimbs tree cs root links [] = Unit {0}
 AreClimbs tree cs root links (u ∷ us) =
-    WasGot (object.Page tree u.node.page) (Some u.node.bytes) cs × (node_plan (tree_held (root_above root us)) tree u.node (links_above links us) ≡ Ok u.plan)
+    WasGot (object.Page tree u.node.page) (Some u.node.bytes) cs × PutsNode (tree_held (root_above root us)) u.node (links_above links us) u.plan
     × AreClimbs tree cs root links us
 
--- what is put last: the tree object with its links and its cursor raised, behind its pieces where it is cut
-abbrev pub IsLast : Tree → List Link → List (ℕ × ℕ) → RootPlan → Type 0
-IsLast root links top last = plan_of root (raised_root root links top) ≡ Ok last
+-- the tree object's next version, with its cursor raised to the run's top and with the links of its level
+abbrev pub raised_root : Tree → List Link → List (ℕ × ℕ) → Tree
+raised_root root links top = risen root.level links top (record root { version = root.version + 1 })
+
+-- it is put as it is
+abbrev pub PutsWhole : Tree → RootPlan → Type 0
+PutsWhole t last = (last.placing ≡ no_placing) × (last.last ≡ tree_bytes t)
+
+-- It is cut into inner nodes of its level, of at most 64 entries each and all of them new. These are put, the rightmost first, and then its next version,
+-- which names them, one level higher.
+pub record PutsBelow (root t : Tree) (p : RootPlan) : Type 0 where
+  pub pieces : List NodePart
+  pub cut : IsCut entry_key (t.next + 1) (part_of_node (node_of_root t)) pieces
+  pub small : AllByRecursion (λ q. length q.items ≤ 64) pieces
+  pub numbers : Reserves root t.next (length pieces) p.placing.reserved
+  pub puts : p.placing.puts ≡ reverse (map (put_of node_bytes) (on_pages t.next (t.next + 1) pieces))
+  pub last : p.last
+      ≡ tree_bytes (root_with (map entry_of (on_pages t.next (t.next + 1) pieces)) (record t { version = t.version + 1; next = t.next + length pieces }))
+
+-- one of more than 64 entries is cut, unless its level is the greatest
+abbrev pub PutsRoot : Tree → Tree → RootPlan → Type 0
+PutsRoot root t last =
+    (((length t.entries ≤ 64) ⊎ (255 ≤ root.level)) × PutsWhole t last) ⊎ ((64 < length t.entries) × (root.level < 255) × PutsBelow root t last)
+
+-- such a node is among those that are put
+abbrev pub IsPut : ℕ → List ℕ → List Climb → Type 0
+IsPut page bytes [] = ⊥
+IsPut page bytes (u ∷ us) = ((u.node.page ≡ page) × (u.node.bytes ≡ bytes)) ⊎ IsPut page bytes us
 
 -- ---- the whole work
 
--- the visits, the links that they found, the nodes that were put on the way up, and the tree object that was put last; the newest first
+-- the visits, the nodes that were put on the way up, and the tree object that was put last; the newest first
 pub record Worked : Type 0 where
   pub visits : List Visit
-  pub links : List Link
   pub climbs : List Climb
   pub last : RootPlan
 
@@ -183,17 +283,22 @@ abbrev pub worked_calls : ℕ → Claim → Worked → Calls
 worked_calls tree one w =
     (PutHeld (object.Tree tree) w.last.last one None, Done) ∷ done_over (puts_of tree one None w.last.placing) (climbs_over tree one w.climbs (fold_calls tree one w))
 
--- the tree object that stands when the way up begins
-abbrev pub folded_root : Option (List ℕ) → Worked → Option (List ℕ)
-folded_root got w = root_behind got w.visits
+-- the tree object that stands before the last put, and the links that are known then
+abbrev pub last_root : Option (List ℕ) → Worked → Tree
+last_root got w = tree_held (root_above (root_behind got w.visits) w.climbs)
+
+abbrev pub last_links : Worked → List Link
+last_links w = links_above (links_behind w.visits) w.climbs
 
 -- Each put is as planned from what was got before it; the first tree object is what the get brought. Each item of the run lies in the range of a leaf
--- that was put, or lacked nothing.
+-- that was put, or lacked nothing. An inner node that was got is put where a link that the visits found goes to it.
 pub record IsWorked (tree : ℕ) (one : Claim) (run : Taken) (got : Option (List ℕ)) (w : Worked) : Type 0 where
   pub visits : AreVisits tree one run got w.visits
-  pub covers : AllByRecursion (λ x. IsHandled run (key_of x.rec.change) w.visits) run.items
-  pub climbs : AreClimbs tree (fold_calls tree one w) (folded_root got w) w.links w.climbs
-  pub last : IsLast (tree_held (root_above (folded_root got w) w.climbs)) (links_above w.links w.climbs) run.top w.last
+  pub covers : AllByRecursion (λ x. IsHandled (key_of x.rec.change) w.visits) run.items
+  pub climbs : AreClimbs tree (fold_calls tree one w) (root_behind got w.visits) (links_behind w.visits) w.climbs
+  pub raises : (page : ℕ) (bytes : List ℕ) (n : Inner) → WasGot (object.Page tree page) (Some bytes) (looks_of w.visits) → inner_of bytes ≡ Some n
+      → is_touched n (links_behind w.visits) ≡ true → IsPut page bytes w.climbs
+  pub last : PutsRoot (last_root got w) (raised_root (last_root got w) (last_links w) run.top) w.last
 
 -- the work is such where the run has an item, and there is none where it is empty
 abbrev pub WorksBy : ℕ → Claim → Taken → Option (List ℕ) → Calls → Option Worked → Type 0

@@ -4,7 +4,7 @@ ghost use Rattle.commit_run.specs.Sound.{IsSoundRun};
 ghost use Rattle.client_session.specs.Session.{CommitsNoted, CommitsOf, IsOfClient, StepsAt, StepsCommit, committed_work};
 
 use crate::answer::{Answer, Begun};
-use crate::work::Work;
+use crate::work::{Work, lease_of};
 use cloud_trait::cloud::Cloud;
 use cloud_trait::turn::Turn;
 use cloud_trait::who::Who;
@@ -103,5 +103,5 @@ fn committed(answer: &CommitAnswer, machine: CommitRun) -> Work
 fn broken(machine: CommitRun) -> Work
     ensures { result ≡ Work.Broken (home_of_run machine).lease }
 {
-    Work::Broken(machine.finish().lease)
+    Work::Broken(lease_of(machine.finish()))
 }

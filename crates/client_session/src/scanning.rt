@@ -4,7 +4,7 @@ ghost use Rattle.client_session.specs.Session.{Follows, IsListed, IsOfClient, Li
 use crate::answer::{Answer, Begun};
 use crate::listing::{Listing, list_items};
 use crate::shown::Shown;
-use crate::work::{Work, stopped};
+use crate::work::{Work, lease_of, stopped};
 use cloud_trait::cloud::Cloud;
 use cloud_trait::turn::Turn;
 use cloud_trait::who::Who;
@@ -102,7 +102,7 @@ fn list_leaf(
     let Listing { mut scan, pairs } = listing;
     let Some(pairs) = with_leaf(alloc, &home, &scan, pairs, cache, buffer) else {
         return (
-            Work::Broken(home.lease),
+            Work::Broken(lease_of(home)),
             Shown::Nothing,
             Turn::Ended(Answer::Trouble(Trouble::Memory)),
         );

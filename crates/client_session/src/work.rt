@@ -1,4 +1,4 @@
-ghost use Rattle.std.specs.Prelude.{◌≡◌, true, false};
+ghost use Rattle.std.specs.Prelude.{◌≡◌, true, false, None};
 ghost use Rattle.std.specs.Option.{option_map, option_copied};
 ghost use Rattle.cloud_trait.specs.Call.{ask_of};
 ghost use Rattle.client_session.specs.Session.{GivesHome, IsOfClient, ShowsAt, StepsAt, old_lease, stopped_work};
@@ -241,37 +241,20 @@ impl Work {
         ensures gives { GivesHome self result.0 result.1 }
         ensures client { IsOfClient result.0 }
     {
+        match self.rule() {
+            Some(rule) => (self, Err(Refused::Rule(rule))),
+            None => (Work::Closed, Ok(self.idle_home())),
+        }
+    }
+
+    /// The home of an open client with nothing at work.
+    fn idle_home(self) -> Home
+        requires { rule_of self ≡ None }
+        ensures { self ≡ Work.Idle result }
+    {
         match self {
-            Work::Idle(home) => (Work::Closed, Ok(home)),
-            Work::Closed => (Work::Closed, Err(Refused::Rule(Refusal::NotOpen))),
-            Work::Opening(machine) => (Work::Opening(machine), Err(Refused::Rule(Refusal::AtWork))),
-            Work::Committing(machine) => (
-                Work::Committing(machine),
-                Err(Refused::Rule(Refusal::AtWork)),
-            ),
-            Work::Reading(home, machine) => (
-                Work::Reading(home, machine),
-                Err(Refused::Rule(Refusal::AtWork)),
-            ),
-            Work::Scanning(home, listing) => (
-                Work::Scanning(home, listing),
-                Err(Refused::Rule(Refusal::AtWork)),
-            ),
-            Work::Paging(home, machine) => (
-                Work::Paging(home, machine),
-                Err(Refused::Rule(Refusal::AtWork)),
-            ),
-            Work::Folding(home, machine) => (
-                Work::Folding(home, machine),
-                Err(Refused::Rule(Refusal::AtWork)),
-            ),
-            Work::Closing(lease) => (Work::Closing(lease), Err(Refused::Rule(Refusal::AtWork))),
-            Work::Renewing(home) => (Work::Renewing(home), Err(Refused::Rule(Refusal::AtWork))),
-            Work::Settling(machine) => (
-                Work::Settling(machine),
-                Err(Refused::Rule(Refusal::AtWork)),
-            ),
-            Work::Broken(lease) => (Work::Broken(lease), Err(Refused::Rule(Refusal::Broken))),
+            Work::Idle(home) => home,
+            _ => unreachable!(),
         }
     }
 
@@ -348,7 +331,14 @@ pub(crate) fn stopped(trouble: &Trouble, home: Home) -> Work
     ensures client { IsOfClient result }
 {
     match trouble {
-        Trouble::Memory => Work::Broken(home.lease),
+        Trouble::Memory => Work::Broken(lease_of(home)),
         _ => Work::Idle(home),
     }
+}
+
+/// The lease of a home; the rest of it is let go.
+pub(crate) fn lease_of(home: Home) -> Lease
+    ensures { result ≡ home.lease }
+{
+    home.lease
 }

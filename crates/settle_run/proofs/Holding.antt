@@ -8,11 +8,14 @@ use Rattle.cloud_trait.specs.declared.answer.Answer.TheVariants.{Failed}
 use Rattle.cloud_trait.specs.declared.turn.CkptAnswer.{CkptAnswer}
 use Rattle.cloud_trait.specs.declared.turn.Turn.{Turn}
 use Rattle.cloud_trait.specs.declared.turn.Turn.TheVariants.{More, Ended, Stopped}
-use Rattle.cloud_trait.specs.Machine.{Next, Goes, Ends, Stops, Took, Deed}
+use Rattle.cloud_trait.specs.Machine.{Next, Goes, Ends, Stops, LeadsBy, Took, Deed}
 use Rattle.cloud_trait.specs.Weather.{Fits}
+use Rattle.recover_run.specs.declared.stage.Aim.TheVariants as aim
 use Rattle.recover_run.specs.declared.stage.RecoverAnswer.{RecoverAnswer}
+use Rattle.recover_run.specs.declared.stage.RecoverAnswer.TheVariants.{Opened, Nothing}
 use Rattle.recover_run.specs.Ids.{new_ids}
-use Rattle.recover_run.specs.Recovery.{Recovery}
+use Rattle.recover_run.specs.Recovery.{Recovery, recovery_next}
+use Rattle.recover_run.proofs.Standing.{stands_leases as recovery_leases, stands_names as recovery_names, stands_gives as recovery_gives}
 use Rattle.page_ckpt.specs.Paging.{Paging, PagingLeads}
 use Rattle.page_ckpt.specs.Standing.{Stands as PageStands}
 use Rattle.page_ckpt.proofs.Standing.{came_stands as page_stands, stands_names as page_names, stands_gives as page_gives}
@@ -29,7 +32,7 @@ use Rattle.settle_run.specs.Meaning.{Went, deeds_of}
 use Rattle.settle_run.proofs.Ranging.{Stands, went_stands}
 
 part_holds : (p : Part) (h : List Deed) → PartWent h p → PartHolds p h
-part_holds (Client client m) h went = tt
+part_holds (Client client m) h went = (recovery_leases client aim.Settling None h m went, recovery_names client aim.Settling None h m went)
 part_holds (Tree tree m) h went =
     let st : TreeStands m h = tree_stands tree h m went in
     (st.held, tree_names m h st)
@@ -50,11 +53,12 @@ Frees (Ends q left) = IsFree q
 Frees (Stops q t) = t ≢ trouble.Memory → IsFree q
 
 part_frees : (p : Part) (own : List Deed) (a : Answer) (next : Next Part ℕ) → PartWent own p → Fits (part_ask p) a → PartLeads p a next → Frees next
-part_frees (Client client m) own a next went fits leads = subst Frees (sym leads.2) (on leads.0) where
-  on : (n : Next Recovery RecoverAnswer) → Frees (recovers client n)
-  on (Goes n) = tt
-  on (Ends n x) = tt
-  on (Stops n t) = λ k. tt
+part_frees (Client client m) own a next went fits leads = subst Frees (sym leads.2) (on leads.0 leads.1) where
+  on : (n : Next Recovery RecoverAnswer) → LeadsBy recovery_next m a n → Frees (recovers client n)
+  on (Goes n) l = tt
+  on (Ends n (Opened epoch)) l = recovery_gives client aim.Settling None own m n a (Ended (Opened epoch)) went fits l
+  on (Ends n Nothing) l = recovery_gives client aim.Settling None own m n a (Ended Nothing) went fits l
+  on (Stops n t) l = λ k. recovery_gives client aim.Settling None own m n a (Stopped t) went fits (λ other. l, λ e. absurd (k e)) k
 part_frees (Tree tree m) own a next went fits leads = subst Frees (sym leads.2) (on leads.0 leads.1) where
   on : (n : Next Making CkptAnswer) → MakingLeads m a n → Frees (makes tree n)
   on (Goes n) l = tt

@@ -1,9 +1,11 @@
--- The leases of a settling's part at work, as far as the parts tell: a checkpoint holds what it took and did not give back.
-use Rattle.std.specs.Prelude.{◌≡◌, ◌≢◌, List, [], ◌++◌}
+-- The leases of a settling's part at work: it holds what it took and did not give back.
+use Rattle.std.specs.Prelude.{◌≡◌, ◌≢◌, List, [], ◌++◌, None}
 use Rattle.db_base.specs.declared.trouble.Trouble.TheVariants as trouble
 use Rattle.cloud_trait.specs.declared.turn.Turn.{Turn}
 use Rattle.cloud_trait.specs.declared.turn.Turn.TheVariants.{More, Ended, Stopped}
 use Rattle.cloud_trait.specs.Machine.{Deed}
+use Rattle.recover_run.specs.Recovery.{recovery_ask}
+use Rattle.recover_run.specs.Standing.{leases_of, outstanding as recovery_outstanding, Names as RecoveryNames}
 use Rattle.ckpt_parts.specs.Leasing.{claims_of, outstanding}
 use Rattle.page_ckpt.specs.Paging.{paging_ask}
 use Rattle.page_ckpt.specs.Standing.{Names as PageNames}
@@ -16,10 +18,10 @@ use Rattle.settle_run.specs.declared.settled.Settled.{Settled}
 use Rattle.settle_run.specs.Parts.{PartWent}
 use Rattle.settle_run.specs.Settling.{Settling}
 
--- behind its calls a checkpoint holds the leases that it took and has not given back; its call names leases that it holds, and takes no
--- lock that it holds
+-- behind its calls a part holds the leases that it took and has not given back; its call names leases that it holds, and takes no lock
+-- that it holds
 abbrev pub PartHolds : Part → List Deed → Type 0
-PartHolds (Client client m) h = Unit {0}
+PartHolds (Client client m) h = (leases_of m ≡ recovery_outstanding None h) × RecoveryNames client None h (recovery_ask m)
 PartHolds (Tree tree m) h = (claims_in m.work ≡ outstanding h) × TreeNames (making_ask m) (outstanding h)
 PartHolds (Page tree page m) h = (claims_of m.held ≡ outstanding h) × PageNames (paging_ask m) (outstanding h)
 
@@ -31,9 +33,9 @@ pub record Holds (h : List Deed) (s : Settling) : Type 0 where
   pub went : PartWent own s.part
   pub holds : PartHolds s.part own
 
--- a checkpoint holds no lease
+-- a part holds no lease
 abbrev pub IsFree : Part → Type 0
-IsFree (Client client m) = Unit {0}
+IsFree (Client client m) = leases_of m ≡ []
 IsFree (Tree tree m) = claims_in m.work ≡ []
 IsFree (Page tree page m) = claims_of m.held ≡ []
 

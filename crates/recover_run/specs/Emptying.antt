@@ -41,7 +41,8 @@ IsUptoEpoch epoch m = (rec : AtomicRec) → atomic_of m.bytes ≡ Some rec → r
 abbrev pub HasNoLater : ℕ → List Posted → Type 0
 HasNoLater epoch ms = AllByRecursion (IsUptoEpoch epoch) (unmarked ms)
 
--- where a client was opened in the epoch behind the one that no record was above at the beginning, no unmarked message is left in its queue
+-- where a client was opened in an epoch, and no unmarked record in its queue was of that epoch or a later one at the beginning, no unmarked
+-- message is left in it
 abbrev pub LeavesNone : ℕ → CloudState → Seen → Turn RecoverAnswer → Type 0
 LeavesNone client first after (Ended (Opened epoch)) =
     (past : ℕ) → epoch ≡ past + 1 → HasNoLater past (first.messages (queue.Atomic client))

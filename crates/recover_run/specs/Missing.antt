@@ -45,14 +45,15 @@ is_indexed_some w n None = false
 abbrev pub is_indexed : Wanted → ℕ → Message → Bool
 is_indexed w n m = is_indexed_some w n (atomic_of m.bytes)
 
--- of the records that a head counts none is missing in a queue: one of each index is not deleted; and of the others that are not, none is of a later
--- epoch, and no more than a receive brings are of the head's transaction
+-- of the records that a head counts none is missing in a queue: of each index one is there, not deleted; and of all messages that are not
+-- deleted none is a record of a later epoch, and fewer than a receive brings are of the head's transaction (so where no two of these have one
+-- index)
 pub record IsComplete (w : Wanted) (ms : List Posted) : Type 0 where
   pub each : (n : ℕ) → 1 ≤ n → n ≤ w.count → list_any (is_indexed w n) (unmarked ms) ≡ true
   pub past : HasNoLater w.epoch ms
   pub few : length (filter (is_of_head w) (unmarked ms)) ≤ 255
 
--- .. of the newest head of a client
+-- .. for the newest head of a client, which has a spelling or is absent
 pub record NoneMissing (client : ℕ) (s : CloudState) : Type 0 where
   pub head : Head
   pub reads : head_in (newest s (object.Head client)) ≡ Some head

@@ -225,10 +225,11 @@ looped_stops w c a d to brings leads came =
     )
 
 pub moved_exact : (who : Caller) (k : Ask) (w : Walk) (c : Cache) (n : Walk × Cache) (a : Answer) (turn : Turn ℕ) (before after : Seen) → k ≡ walk_ask w
-    → Makes who k a before after → Moves (walk_next (w, c) a) n turn → Exact who before after (w, c) turn
-moved_exact who k w c n a turn before after is made moved = record {
+    → Makes who k a before after → Moves (walk_next (w, c) a) n turn → (a ≡ answer.Failed → turn ≡ Stopped trouble.Failed) → Exact who before after (w, c) turn
+moved_exact who k w c n a turn before after is made moved failed = record {
   answer = a;
   made = asked who k w a before after is made;
+  failed = failed;
   answered = λ t shows. moved_stopped (walk_next (w, c) a) (rested w, left_by (rested w) c) n t turn (answer_stops w c a t shows) moved;
   brought = λ d s t brings at h. moved_stopped (walk_next (w, c) a) (rested w, left_by (rested w) d) n t turn (brought_stops w c a d s t brings at h) moved;
   looped = λ d to brings leads came.

@@ -13,7 +13,7 @@ use Rattle.node_codec.specs.Node.{page_at as node_at}
 use Rattle.node_codec.specs.Inner.{Inner}
 use Rattle.node_codec.specs.Tree.{Tree}
 use Rattle.cloud_trait.specs.declared.answer.Answer.{Answer}
-use Rattle.cloud_trait.specs.declared.answer.Answer.TheVariants as answer
+use Rattle.cloud_trait.specs.declared.answer.Answer.TheVariants as call
 use Rattle.cloud_trait.specs.declared.turn.Turn.{Turn}
 use Rattle.cloud_trait.specs.declared.turn.Turn.TheVariants.{Stopped}
 use Rattle.cloud_trait.specs.Caller.{Caller}
@@ -123,18 +123,18 @@ pub record IsOld (c : Cache) (name : ObjName) (as_leaf : Bool) (got : Option (Li
 
 -- the get failed
 abbrev pub FailsSo : Answer → Trouble → Type 0
-FailsSo a t = (t ≡ trouble.Failed) × (a ≡ answer.Failed)
+FailsSo a t = (t ≡ trouble.Failed) × (a ≡ call.Failed)
 
 -- what it answered is too old, or in no spelling of its kind
 abbrev pub RefusesSo : Walk × Cache → Answer → Trouble → Type 0
-RefusesSo m a t = (got : Option (List ℕ)) × (a ≡ answer.Got got) × (IsOld m.1 (object_of m.0) (is_leaf m.0) got t ⊎ IsDamaged (object_of m.0) (is_leaf m.0) got t)
+RefusesSo m a t = (got : Option (List ℕ)) × (a ≡ call.Got got) × (IsOld m.1 (object_of m.0) (is_leaf m.0) got t ⊎ IsDamaged (object_of m.0) (is_leaf m.0) got t)
 
 abbrev pub AnswerShows : Walk × Cache → Answer → Trouble → Type 0
 AnswerShows m a t = FailsSo a t ⊎ RefusesSo m a t
 
 -- the cache with what the get answered, where it accepts that
 abbrev pub Brings : Walk × Cache → Answer → Cache → Type 0
-Brings m a c = (got : Option (List ℕ)) × (version : ℕ) × (a ≡ answer.Got got) × (accepts m.1 (object_of m.0) (is_leaf m.0) got ≡ Ok (version, c))
+Brings m a c = (got : Option (List ℕ)) × (version : ℕ) × (a ≡ call.Got got) × (accepts m.1 (object_of m.0) (is_leaf m.0) got ≡ Ok (version, c))
 
 -- what a step shows of the trouble with which it stops
 abbrev pub Shows : Walk × Cache → Answer → Walk → Trouble → Type 0
@@ -169,6 +169,7 @@ LeadsTo c w (Some s) to =
 pub record Exact (who : Caller) (before after : Seen) (old : Walk × Cache) (turn : Turn ℕ) : Type 0 where
   pub answer : Answer
   pub made : Makes who (asks old) answer before after
+  pub failed : answer ≡ call.Failed → turn ≡ Stopped trouble.Failed
   pub answered : (t : Trouble) → AnswerShows old answer t → IsStopped turn t
   pub brought : (c : Cache) (s : Spot) (t : Trouble) → Brings old answer c → old.0.spot ≡ Some s
       → BreaksLevel c old.0.tree s t ⊎ BreaksFence c old.0.tree s t → IsStopped turn t

@@ -1,4 +1,5 @@
-ghost use Rattle.std.specs.Prelude.{◌≡◌, ◌≢◌, ◌<◌, ◌+◌, ℕ, if◌then◌else◌, false, fold, List, length, Option, Some, IfSome};
+ghost use Rattle.std.specs.Prelude.{◌≡◌, ◌≢◌, ◌<◌, ◌+◌, ℕ, if◌then◌else◌, false, fold, List, length, Option, Some, IfSome, Err};
+ghost use Rattle.db_base.specs.declared.trouble.Trouble.{Trouble as Failure};
 ghost use Rattle.std.specs.Option.{option_copied, option_map};
 ghost use Rattle.byte_format.specs.Order.{bytes_below, bytes_same};
 ghost use Rattle.cloud_trait.specs.Call.{ask_of};
@@ -398,7 +399,8 @@ impl Walk {
         cache: &mut PageCache,
         got: Result<Option<Blob>, Trouble>,
     ) -> Turn<PageId>
-        ensures { MovesBeside (got_by self.old cache.old got) self.new cache.new result }
+        ensures moves { MovesBeside (got_by self.old cache.old got) self.new cache.new result }
+        ensures failed { (t : Failure) → got ≡ Err t → result ≡ Turn.Stopped t }
     {
         match got {
             Ok(bytes) => match cache.accept(self.object(), bytes, self.is_leaf()) {
@@ -447,7 +449,8 @@ impl Walk {
 
     /// Takes the answer of the call in hand.
     fn absorb(&mut self, alloc: Global, cache: &mut PageCache, answer: Answer) -> Turn<PageId>
-        ensures { Moves (walk_next (self.old, cache.old) answer) (self.new, cache.new) result }
+        ensures moves { Moves (walk_next (self.old, cache.old) answer) (self.new, cache.new) result }
+        ensures failed { answer ≡ Answer.Failed → result ≡ Turn.Stopped Trouble.Failed }
     {
         self.used = None;
         let turn = self.take(alloc, cache, answer.got());

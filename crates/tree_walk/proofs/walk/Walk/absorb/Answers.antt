@@ -7,9 +7,9 @@ use Rattle.tree_walk.specs.Walk.{Walk, rested, got_by}
 use Rattle.tree_walk.proofs.WalkLemmas.{beside_took}
 use Rattle.tree_walk.proofs.walk.Walk.absorb.Goals as goal
 
-pub returns : goal.returns
-returns c =
+pub returns-clause-moves : goal.returns-clause-moves
+returns-clause-moves c =
     beside_took (got_by (rested c.args.self.now) c.args.cache.now (got_of c.args.answer)) c.take-turn.new.self c.take-turn.new.cache c.leave.new.cache c.take-turn.result
     (subst (λ (g : Result (Option (List ℕ)) Trouble). MovesBeside (got_by (rested c.args.self.now) c.args.cache.now g) c.take-turn.new.self c.take-turn.new.cache c.take-turn.result) c.got.ensures
-    (subst (λ (w : Walk). MovesBeside (got_by w c.args.cache.now c.got.result) c.take-turn.new.self c.take-turn.new.cache c.take-turn.result) (ap rested c.self.view_is) c.take-turn.ensures))
+    (subst (λ (w : Walk). MovesBeside (got_by w c.args.cache.now c.got.result) c.take-turn.new.self c.take-turn.new.cache c.take-turn.result) (ap rested c.self.view_is) c.take-turn.ensures.moves))
     c.leave.ensures

@@ -14,33 +14,33 @@ returns-clause-less g c =
     let leaves : length c.self.inside.leaves.items < 2 ^ 63 = omega (arith, c.self.inside.leaves.ok.0, c.self.inside.leaves.ok.1, c.self.inside.leaves.small) in
     let few : (length c.self.inside.nodes.items + length c.self.inside.leaves.items) + spots c.self.inside.spot < 2 ^ 66 = omega (arith, nodes, leaves, spots_most c.self.inside.spot) in
     moved_less (c.args.self.now, c.args.cache.now) (c.absorb.new.self, c.absorb.new.cache) c.perform-answer.result c.absorb.result
-    (subst (λ (w : Walk). pages w < 2 ^ 66) c.self.view_is few) c.absorb.ensures
+    (subst (λ (w : Walk). pages w < 2 ^ 66) c.self.view_is few) c.absorb.ensures.moves
 
 pub returns-clause-ends : goal.returns-clause-ends
 returns-clause-ends g c =
     let ok : IsWalk c.args.self.now = subst IsWalk c.self.view_is c.self.invariant in
-    λ page ended. moved_ends (c.args.self.now, c.args.cache.now) (c.absorb.new.self, c.absorb.new.cache) c.perform-answer.result c.absorb.result page ok c.absorb.ensures ended
+    λ page ended. moved_ends (c.args.self.now, c.args.cache.now) (c.absorb.new.self, c.absorb.new.cache) c.perform-answer.result c.absorb.result page ok c.absorb.ensures.moves ended
 
 pub returns-clause-causes : goal.returns-clause-causes
 returns-clause-causes g c =
-    moved_causes c.args.who _ c.args.self.now c.args.cache.now (c.absorb.new.self, c.absorb.new.cache) c.perform-answer.result c.absorb.result _ _ c.in_hand.ensures c.perform-answer.ensures c.absorb.ensures
+    moved_causes c.args.who _ c.args.self.now c.args.cache.now (c.absorb.new.self, c.absorb.new.cache) c.perform-answer.result c.absorb.result _ _ c.in_hand.ensures c.perform-answer.ensures c.absorb.ensures.moves
 
 pub returns-clause-within : goal.returns-clause-within
 returns-clause-within g c = λ h went.
-    moved_within h c.args.self.now c.args.cache.now (c.absorb.new.self, c.absorb.new.cache) c.perform-answer.result c.absorb.result went c.absorb.ensures
+    moved_within h c.args.self.now c.args.cache.now (c.absorb.new.self, c.absorb.new.cache) c.perform-answer.result c.absorb.result went c.absorb.ensures.moves
 
 pub returns-clause-exact : goal.returns-clause-exact
 returns-clause-exact g c =
-    moved_exact c.args.who _ c.args.self.now c.args.cache.now (c.absorb.new.self, c.absorb.new.cache) c.perform-answer.result c.absorb.result _ _ c.in_hand.ensures c.perform-answer.ensures c.absorb.ensures
+    moved_exact c.args.who _ c.args.self.now c.args.cache.now (c.absorb.new.self, c.absorb.new.cache) c.perform-answer.result c.absorb.result _ _ c.in_hand.ensures c.perform-answer.ensures c.absorb.ensures.moves c.absorb.ensures.failed
 
 pub returns-clause-serves : goal.returns-clause-serves
 returns-clause-serves g c =
     moved_serves c.args.who _ c.args.self.now c.args.cache.now (c.absorb.new.self, c.absorb.new.cache) c.perform-answer.result c.absorb.result _ _ (subst IsWalk c.self.view_is c.self.invariant)
-    c.in_hand.ensures c.perform-answer.ensures c.absorb.ensures
+    c.in_hand.ensures c.perform-answer.ensures c.absorb.ensures.moves
 
 pub returns-clause-well : goal.returns-clause-well
 returns-clause-well g c =
-    moved_calmly c.args.who _ c.args.self.now c.args.cache.now (c.absorb.new.self, c.absorb.new.cache) c.perform-answer.result c.absorb.result _ _ c.in_hand.ensures c.perform-answer.ensures c.absorb.ensures
+    moved_calmly c.args.who _ c.args.self.now c.args.cache.now (c.absorb.new.self, c.absorb.new.cache) c.perform-answer.result c.absorb.result _ _ c.in_hand.ensures c.perform-answer.ensures c.absorb.ensures.moves
 
 pub returns-clause-gets : goal.returns-clause-gets
-returns-clause-gets g c = moved_gets (c.args.self.now, c.args.cache.now) (c.absorb.new.self, c.absorb.new.cache) c.perform-answer.result c.absorb.result c.absorb.ensures
+returns-clause-gets g c = moved_gets (c.args.self.now, c.args.cache.now) (c.absorb.new.self, c.absorb.new.cache) c.perform-answer.result c.absorb.result c.absorb.ensures.moves

@@ -1,5 +1,5 @@
 -- Which answer each call of a whole commit demands, what it names, and that it ends well where it is calm.
-use Rattle.std.proofs.Common.{◌≡◌, ◌≢◌, ◌≤◌, ◌+◌, ℕ, Bool, true, false, List, [], ◌∷◌, ◌++◌, length, Option, Some, None, refl, ap, sym, subst, ◌∙◌, inl, inr, ◌⊎◌, arith}
+use Rattle.std.proofs.Common.{◌≡◌, ◌≤◌, ◌+◌, ℕ, Bool, true, false, List, [], ◌∷◌, ◌++◌, length, Option, Some, None, refl, ap, sym, subst, ◌∙◌, inl, inr, ◌⊎◌, arith}
 use Rattle.std.specs.Prelude.{slice_get, if◌then◌else◌}
 use Rattle.std.specs.List.{AllByRecursion}
 use Rattle.std.proofs.lemmas.List.{append_assoc}
@@ -16,17 +16,16 @@ use Rattle.cloud_trait.specs.declared.answer.Answer.{Answer}
 use Rattle.cloud_trait.specs.declared.answer.Answer.TheVariants as answer
 use Rattle.cloud_trait.specs.declared.turn.Turn.{Turn}
 use Rattle.cloud_trait.specs.declared.turn.Turn.TheVariants.{More, Ended, Stopped}
-use Rattle.cloud_trait.specs.Ask.{Ask, Get, GetHeld, PutHeld, Send, Receive, Delete, Take, Renew, Release, PutsNothing}
+use Rattle.cloud_trait.specs.Ask.{Ask, Get, PutHeld, Send, Delete, PutsNothing}
 use Rattle.cloud_trait.specs.Caller.{Caller}
 use Rattle.cloud_trait.specs.Seen.{Seen}
-use Rattle.cloud_trait.specs.Claim.{Claim}
 use Rattle.cloud_trait.specs.Machine.{Next, Goes, Ends, Stops, LeadsBy, Took, Steps, Deed}
 use Rattle.cloud_trait.specs.Weather.{Fits}
-use Rattle.calm_calls.specs.Calm.{GoesWell, IsCalm, AreCalm, ComesNext, AreAlone}
+use Rattle.calm_calls.specs.Calm.{GoesWell, AreCalm, ComesNext, AreAlone}
 use Rattle.calm_calls.proofs.CalmLemmas.{goes_well}
 use Rattle.recover_run.specs.declared.home.Home.{Home}
 use Rattle.page_cache.specs.Cache.{Cache}
-use Rattle.tree_walk.specs.Walk.{Walk, object_of, new_walk, walk_ask, walk_ready, walk_next}
+use Rattle.tree_walk.specs.Walk.{Walk, new_walk, walk_ask, walk_ready, walk_next}
 use Rattle.commit_writes.specs.declared.stage.Stage.{Stage}
 use Rattle.commit_writes.specs.declared.stage.Stage.TheVariants.{Waiting, Logging, Opening, Sending, Settling, Deleting, Finished}
 use Rattle.commit_writes.specs.Writing.{Writing, waiting, numbered, is_spent, routing, passes, routed_of, begun, log_or_open, not_committed, writing_ask}
@@ -46,10 +45,10 @@ use Rattle.commit_writes.proofs.RoutedLaws.{routed_some, routed_length}
 use Rattle.commit_run.specs.declared.hand.Hand.{Hand}
 use Rattle.commit_run.specs.declared.hand.Hand.TheVariants.{Writes, First, Change}
 use Rattle.commit_run.specs.Draft.{Draft, new_draft, planned, pruned_behind, leaf_noted, paged}
-use Rattle.commit_run.specs.Run.{Run, held, new_run, home_of, asks, ask_at, next_target, written, wrote, refused, troubled, by_turn, begun_turn, walk_to, seek, plan_on, is_stale, stale_at, walk_stopped, walk_turned, walked, begin_walks, run_ready, run_next, Led, KeepsHome}
+use Rattle.commit_run.specs.Run.{Run, held, new_run, home_of, asks, ask_at, next_target, wrote, refused, troubled, by_turn, begun_turn, walk_to, seek, plan_on, is_stale, stale_at, walk_turned, walked, begin_walks, run_ready, run_next, Led, KeepsHome}
 use Rattle.commit_run.specs.Meaning.{Use, walked_home, IsGet, WhyNot, MeansRun, MeansTurn, MeansReady}
 use Rattle.commit_writes.specs.Meaning.{WhyNot as WritesWhyNot}
-use Rattle.commit_run.specs.Causing.{IsOfLink, ShowsWalk, TellsOf}
+use Rattle.commit_run.specs.Causing.{IsOfLink, TellsOf}
 use Rattle.commit_run.specs.Exact.{IsOfCalls, StopsIn, IsRouted, FitsIn, Exact, ExactReady}
 use Rattle.commit_run.specs.Names.{Names}
 use Rattle.commit_run.specs.Well.{IsMet, IsWell, EndsWell, Well}
@@ -58,7 +57,6 @@ use Rattle.commit_run.proofs.Causing.{Shown, WalkCause, walked_shown}
 use Rattle.commit_run.proofs.Knowing.{KnowsWrites, KnowsAt}
 use Rattle.commit_run.proofs.Meaning.{came_knows, told_append, walk_meant, ready_means}
 use Rattle.commit_run.proofs.Stopping.{LinkBeside, ready_link}
-use Rattle.commit_run.proofs.Walked.{draft_of}
 
 -- ---- behind a walk a commit ends with nothing committed, or not yet
 

@@ -1,5 +1,5 @@
 -- The calls of a commit in groups: those of each of its walks, and those behind them.
-use Rattle.std.proofs.Common.{◌≡◌, ◌≤◌, ◌<◌, ◌+◌, ◌*◌, ℕ, Bool, true, false, List, [], ◌∷◌, ◌++◌, length, drop, Option, Some, None, refl, ap, sym, subst, ◌∙◌, arith, length-append}
+use Rattle.std.proofs.Common.{◌≡◌, ◌≤◌, ◌<◌, ◌+◌, ℕ, Bool, true, false, List, [], ◌∷◌, ◌++◌, length, drop, Option, Some, None, refl, ap, sym, subst, ◌∙◌, arith, length-append}
 use Rattle.std.specs.Prelude.{slice_get, if◌then◌else◌}
 use Rattle.std.specs.List.{AllByRecursion}
 use Rattle.db_base.specs.declared.trouble.Trouble.{Trouble}
@@ -8,13 +8,11 @@ use Rattle.db_base.specs.declared.trouble.Counter.TheVariants as counter
 use Rattle.db_base.specs.declared.trouble.CommitAnswer.{CommitAnswer}
 use Rattle.log_codec.specs.declared.record.AtomicRec.{AtomicRec}
 use Rattle.txn_buffer.specs.Noted.{Noted}
-use Rattle.cloud_trait.specs.declared.answer.Answer.{Answer}
-use Rattle.cloud_trait.specs.Ask.{Ask}
 use Rattle.cloud_trait.specs.Machine.{Next, Goes, Ends, Stops, LeadsBy, Came, Deed, IsMade, Follows}
 use Rattle.recover_run.specs.declared.home.Home.{Home}
 use Rattle.page_cache.specs.Cache.{Cache}
 use Rattle.page_cache.specs.Held.{leaf_at}
-use Rattle.tree_walk.specs.Walk.{Walk, IsWalk, IsAtLeaf, sought, object_of, new_walk, walk_ask, walk_ready, walk_next}
+use Rattle.tree_walk.specs.Walk.{Walk, IsAtLeaf, sought, object_of, new_walk, walk_ask, walk_ready, walk_next}
 use Rattle.tree_walk.specs.Walk.{asks as walk_asks}
 use Rattle.tree_walk.proofs.Leaves.{ends_at}
 use Rattle.commit_plan.specs.Plan.{pages_of}
@@ -30,7 +28,7 @@ use Rattle.commit_run.specs.declared.hand.Hand.TheVariants.{Writes, First, Chang
 use Rattle.commit_run.specs.Draft.{Draft, IsWithin as KnowsNoMore, new_draft, pruned_behind, planned, leaf_noted, paged}
 use Rattle.commit_run.specs.Run.{Run, held, new_run, next_target, asks, ask_at, written, wrote, refused, troubled, by_turn, begun_turn, walk_to, seek, plan_on, is_stale, stale_at, walk_turned, walked, long_walk, long_target, begin_walks, run_ready, next_at, run_next}
 use Rattle.commit_run.specs.Meaning.{walked_home}
-use Rattle.commit_run.specs.Within.{Went, IsCalledBy, AreOfWalk, joined, GetsNothing, IsNoGet, IsWithin, Within}
+use Rattle.commit_run.specs.Within.{AreOfWalk, joined, GetsNothing, IsNoGet, IsWithin, Within}
 use Rattle.commit_run.proofs.Knowing.{KnowsDraft, KnowsHand, KnowsAt}
 use Rattle.commit_run.proofs.Holding.{all_known, one_left}
 use Rattle.commit_run.proofs.Planning.{planned_within}

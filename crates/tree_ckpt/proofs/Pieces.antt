@@ -4,7 +4,6 @@ use Rattle.std.specs.Prelude.{◌==◌, ◌&&◌, nat_lt, map, reverse, drop, re
 use Rattle.std.specs.List.{AllByRecursion}
 use Rattle.std.proofs.Math.Nat.{div-add-mod}
 use Rattle.std.proofs.lemmas.Bool.{eqb-true, ltb-true, ltb-false}
-use Rattle.std.proofs.lemmas.List.{length-map}
 use Rattle.db_base.specs.declared.trouble.Trouble.{Trouble}
 use Rattle.byte_format.specs.Whole.{offset}
 use Rattle.leaf_view.specs.Leaf.{Leaf}
@@ -14,7 +13,7 @@ use Rattle.node_codec.specs.Inner.{Inner, inner_of, inner_format, node_of_root}
 use Rattle.node_codec.specs.Node.{raised}
 use Rattle.node_codec.specs.Tree.{Tree, tree_bytes}
 use Rattle.split_plan.specs.Cut.{back_part, cut_by, pieces_of}
-use Rattle.split_plan.specs.Part.{Part, LeafPart, NodePart, record_key, entry_key, part_of_leaf, part_of_node}
+use Rattle.split_plan.specs.Part.{Part, NodePart, record_key, entry_key, part_of_leaf, part_of_node}
 use Rattle.split_plan.specs.Plan.{put_of, entry_of, on_pages, leaf_bytes, node_bytes, root_above}
 use Rattle.split_plan.specs.Sizes.{count_of, sizes_of, cuts_of}
 use Rattle.split_plan.proofs.Counting.{least-count, length-cuts}
@@ -22,8 +21,8 @@ use Rattle.split_plan.proofs.Cutting.{pieces-are-a-cut}
 use Rattle.tree_parts.specs.declared.kept.KeptNode.{KeptNode}
 use Rattle.tree_parts.specs.declared.link.Link.{Link}
 use Rattle.tree_parts.specs.declared.reserve.Reserved.{Reserved}
-use Rattle.tree_parts.specs.Read.{inner_or, inner_read}
-use Rattle.tree_parts.specs.Reserve.{reservation, reserved, reserved_by, next_tree, version_spent, pages_spent}
+use Rattle.tree_parts.specs.Read.{inner_or}
+use Rattle.tree_parts.specs.Reserve.{reservation, reserved_by, next_tree, version_spent, pages_spent}
 use Rattle.leaf_fold.specs.declared.plan.LeafPlan.{LeafPlan}
 use Rattle.leaf_fold.specs.Plan as fold
 use Rattle.tree_rising.specs.declared.node.NodePlan.{NodePlan}

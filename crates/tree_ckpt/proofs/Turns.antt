@@ -1,7 +1,6 @@
 -- What is noted on the way down are right links of nodes that were got.
 use Rattle.std.proofs.Common.{◌≡◌, ℕ, zero, suc, ◌+◌, Bool, true, false, cond, List, [], ◌∷◌, ◌++◌, length, Option, Some, None, Result, Ok, Err, refl, sym, ap, subst, ◌∙◌, inr, append_assoc}
-use Rattle.std.specs.Prelude.{◌==◌, ◌&&◌, not, find}
-use Rattle.std.specs.List.{AllByRecursion}
+use Rattle.std.specs.Prelude.{◌==◌, ◌&&◌, not}
 use Rattle.std.proofs.lemmas.Bool.{eqb-true}
 use Rattle.std.proofs.lemmas.List.{append-nil}
 use Rattle.byte_format.specs.Order.{bytes_below, bytes_same}
@@ -27,7 +26,7 @@ use Rattle.tree_descent.specs.declared.fork.Fork.{Fork}
 use Rattle.tree_descent.specs.declared.fork.Fork.TheVariants.{Right, Down}
 use Rattle.tree_descent.specs.Fork.{bad_fence, down_to, fork_at, forked_on}
 use Rattle.tree_descent.specs.Fork as fork
-use Rattle.tree_descent.specs.Descent.{begun, forked, forked_by, passed, fork_of, go_on, stride_at, kept_at, stride, follow, walk, arrived, arrive, with_node, got_node, absent_node}
+use Rattle.tree_descent.specs.Descent.{begun, forked, forked_by, passed, fork_of, go_on, stride_at, kept_at, stride, follow, walk, arrived, arrive, with_node, got_node}
 use Rattle.tree_moves.specs.Moves.{root_entry}
 use Rattle.tree_ckpt.specs.Causing.{Calls, WasGot, WasNode}
 use Rattle.tree_ckpt.specs.Working.{IsTurn, AreTurns}

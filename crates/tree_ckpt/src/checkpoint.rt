@@ -177,7 +177,7 @@ impl TreeCkpt {
         ensures gives_back { (h : List Deed) → Went h self.old → GivesBack self.new result }
         // A trouble that it keeps or answers was shown by the answer of a step, and by what its calls brought before.
         ensures causes { (h : List Deed) → Went h self.old → Causes who (C.seen cloud.old) (C.seen cloud.new) h self.old self.new result }
-        // At Done the calls were these, in this order.
+        // At Done the calls were these, in this order: each put is right by what was got before it.
         ensures done { (h : List Deed) → Went h self.old → MeansDone (making_ask self.old) self.old h result }
     {
         let answer = self.call(cloud, who);

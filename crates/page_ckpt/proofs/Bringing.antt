@@ -1,14 +1,10 @@
 -- The leaves that a page checkpoint has in hand were brought by its gets.
-use Rattle.std.proofs.Common.{◌≡◌, ℕ, List, [], ◌∷◌, Option, Some, None, Ok, refl, sym, subst, inl, inr}
-use Rattle.leaf_view.specs.Leaf.{Leaf}
-use Rattle.cloud_trait.specs.declared.answer.Answer.TheVariants as call
+use Rattle.std.proofs.Common.{ℕ, List, [], ◌∷◌, Option, Some, None, refl, sym, subst, inl, inr}
 use Rattle.cloud_trait.specs.Claim.{Claim}
-use Rattle.cloud_trait.specs.Machine.{Deed, calls_of}
-use Rattle.ckpt_parts.specs.Leaves.{HoldsLinked}
 use Rattle.page_ckpt.specs.declared.stage.Stage.{Stage}
 use Rattle.page_ckpt.specs.declared.stage.Stage.TheVariants.{Receiving, ReleasingRight}
-use Rattle.page_ckpt.specs.Paging.{Paging, HoldsNamed, link_of}
-use Rattle.page_ckpt.specs.Meaning.{Calls, Scene, Opening, Visit, scene, put_over, right_put, visit_over, visits_over, opening_calls}
+use Rattle.page_ckpt.specs.Paging.{Paging}
+use Rattle.page_ckpt.specs.Meaning.{Calls, Scene, Visit, scene, put_over, right_put, visits_over}
 use Rattle.page_ckpt.specs.Exact.{WasGot, HomeWasGot, OnwardWasGot, WasBrought}
 use Rattle.page_ckpt.proofs.Knowing.{KnowsAt, Knows}
 

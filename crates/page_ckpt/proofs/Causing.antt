@@ -19,20 +19,19 @@ use Rattle.cloud_trait.specs.declared.message.Message.{Message}
 use Rattle.cloud_trait.specs.declared.turn.CkptAnswer.{CkptAnswer}
 use Rattle.cloud_trait.specs.declared.turn.Turn.{Turn}
 use Rattle.cloud_trait.specs.declared.turn.Turn.TheVariants.{More, Ended, Stopped}
-use Rattle.cloud_trait.specs.Ask.{Take}
 use Rattle.cloud_trait.specs.Claim.{Claim}
 use Rattle.cloud_trait.specs.Machine.{Goes, Ends, Stops, Took, Deed}
-use Rattle.cloud_trait.specs.Views.{given_of, got_of, done_of, received_of}
+use Rattle.cloud_trait.specs.Views.{done_of}
 use Rattle.cloud_trait.specs.Weather.{Fits}
 use Rattle.ckpt_parts.specs.declared.intake.Intake.{Intake}
 use Rattle.ckpt_parts.specs.Deleting.{next_id, tried}
 use Rattle.ckpt_parts.specs.Intakes.{items_of, message_damage, has_items, ids_of, TakesItems}
-use Rattle.ckpt_parts.specs.Leaves.{page_damage, absent_leaf, ReadsLeaf, HoldsLeaf, HoldsLinked, bad_fence, fenced}
+use Rattle.ckpt_parts.specs.Leaves.{page_damage, absent_leaf, HoldsLeaf, HoldsLinked, bad_fence, fenced}
 use Rattle.ckpt_parts.specs.Leasing.{newest_lease}
 use Rattle.page_ckpt.specs.declared.link.Link.{Link}
 use Rattle.page_ckpt.specs.declared.stage.Stage.{Stage}
 use Rattle.page_ckpt.specs.declared.stage.Stage.TheVariants.{TakingHome, GettingHome, Receiving, TakingRight, GettingRight, PuttingRight, ReleasingRight, PuttingHome, Deleting as DeletingNext, Releasing, Finished}
-use Rattle.page_ckpt.specs.Paging.{Paging, Step, paging_ask, ask_at, own_queue, handed, stopping, deleting, deleting_by, home_taken_by, HoldsNamed, HomeGot, home_read, link_of, is_visited, LeafPut, to_right, GoesOn, RunStarted, with_intake, IntakeTaken, ReceivedBy, right_taken_by, RightLacks, RightRead, RightGot, right_put_by, home_put_by, with_applied, without_applying, without_onward, went, finished_by, released_by, AbsorbsAt, PagingLeads, KeepsLeases}
+use Rattle.page_ckpt.specs.Paging.{Paging, Step, paging_ask, ask_at, own_queue, handed, stopping, deleting_by, HoldsNamed, home_read, link_of, is_visited, LeafPut, to_right, GoesOn, RunStarted, with_intake, IntakeTaken, RightLacks, RightRead, with_applied, without_applying, without_onward, went, finished_by, released_by, AbsorbsAt, PagingLeads, KeepsLeases}
 use Rattle.page_ckpt.specs.Standing.{HoldsAt, Stands}
 use Rattle.page_ckpt.specs.Causing.{Shows, IsShown, Tells, LeadsOn, IsHomeSpent, IsRightSpent, greatest_number}
 

@@ -7,15 +7,13 @@ use Rattle.db_base.specs.declared.names.Lock.TheVariants as lock
 use Rattle.db_base.specs.declared.names.ObjName.TheVariants as object
 use Rattle.db_base.specs.declared.names.Place.{Place}
 use Rattle.db_base.specs.declared.names.Place.TheVariants as place
-use Rattle.db_base.specs.declared.names.QueueName.{QueueName}
 use Rattle.db_base.specs.declared.trouble.Trouble.{Trouble}
 use Rattle.db_base.specs.declared.trouble.Trouble.TheVariants as trouble
-use Rattle.db_base.specs.declared.trouble.Counter.{Counter}
 use Rattle.db_base.specs.declared.trouble.Counter.TheVariants as counter
 use Rattle.byte_format.specs.Order.{bytes_same}
 use Rattle.byte_format.specs.Whole.{offset}
 use Rattle.byte_format.proofs.Wholes.{one_value}
-use Rattle.leaf_view.specs.Leaf.{Leaf, IsLeaf, leaf}
+use Rattle.leaf_view.specs.Leaf.{Leaf, leaf}
 use Rattle.leaf_view.specs.Lookup.{empty_leaf}
 use Rattle.leaf_view.proofs.Exactness.{leaf_exact}
 use Rattle.leaf_edit.specs.Lacked.{lacked}
@@ -27,10 +25,10 @@ use Rattle.cloud_trait.specs.declared.message.Message.{Message}
 use Rattle.cloud_trait.specs.declared.turn.CkptAnswer.{CkptAnswer}
 use Rattle.cloud_trait.specs.declared.turn.Turn.{Turn}
 use Rattle.cloud_trait.specs.declared.turn.Turn.TheVariants.{More, Ended, Stopped}
-use Rattle.cloud_trait.specs.Ask.{Ask, Take}
+use Rattle.cloud_trait.specs.Ask.{Take}
 use Rattle.cloud_trait.specs.Claim.{Claim}
 use Rattle.cloud_trait.specs.Machine.{Goes, Ends, Stops, Took, Deed}
-use Rattle.cloud_trait.specs.Views.{got_of, received_of, done_of}
+use Rattle.cloud_trait.specs.Views.{got_of, received_of}
 use Rattle.cloud_trait.specs.Weather.{Fits}
 use Rattle.ckpt_parts.specs.declared.intake.Intake.{Intake}
 use Rattle.ckpt_parts.specs.Deleting.{next_id}
@@ -40,11 +38,11 @@ use Rattle.ckpt_parts.specs.Leasing.{newest_lease}
 use Rattle.page_ckpt.specs.declared.link.Link.{Link}
 use Rattle.page_ckpt.specs.declared.stage.Stage.{Stage}
 use Rattle.page_ckpt.specs.declared.stage.Stage.TheVariants.{TakingHome, GettingHome, Receiving, TakingRight, GettingRight, PuttingRight, ReleasingRight, PuttingHome, Deleting as DeletingNext, Releasing, Finished}
-use Rattle.page_ckpt.specs.Paging.{Paging, Step, paging_ask, ask_at, own_queue, handed, stopping, deleting_by, delete_next, HoldsNamed, HomeGot, home_read, link_of, is_visited, LeafPut, to_right, GoesOn, RunStarted, with_intake, IntakeTaken, MessagesRead, ReceivedBy, RightLacks, RightRead, RightGot, without_onward, finished_by, released_by, AbsorbsAt, PagingLeads, KeepsLeases}
+use Rattle.page_ckpt.specs.Paging.{Paging, Step, paging_ask, ask_at, own_queue, handed, deleting_by, delete_next, HoldsNamed, HomeGot, home_read, link_of, is_visited, LeafPut, to_right, GoesOn, RunStarted, with_intake, IntakeTaken, MessagesRead, ReceivedBy, RightLacks, RightRead, RightGot, without_onward, finished_by, released_by, AbsorbsAt, PagingLeads, KeepsLeases}
 use Rattle.page_ckpt.specs.Standing.{HoldsAt, HasIds, Stands}
-use Rattle.page_ckpt.specs.Causing.{Matters, Reads, BringsRun, LeadsOn, Shows, IsShown, IsHomeSpent, IsRightSpent, greatest_number}
+use Rattle.page_ckpt.specs.Causing.{Matters, Reads, LeadsOn, Shows, IsShown, IsHomeSpent, IsRightSpent, greatest_number}
 use Rattle.page_ckpt.specs.Exact.{Owes}
-use Rattle.page_ckpt.proofs.Resting.{staged, IsQuiet, has_none}
+use Rattle.page_ckpt.proofs.Resting.{staged, IsQuiet}
 
 -- ---- steps
 

@@ -1,5 +1,5 @@
 -- A page checkpoint whose calls go well.
-use Rattle.std.proofs.Common.{◌≡◌, ◌≢◌, ◌⊎◌, ℕ, List, [], ◌∷◌, Option, Some, None, refl, sym, subst, inl, inr, ◌∙◌}
+use Rattle.std.proofs.Common.{◌≡◌, ◌≢◌, ◌⊎◌, ℕ, List, [], ◌∷◌, Some, None, refl, sym, subst, inl, inr, ◌∙◌}
 use Rattle.db_base.specs.declared.names.QueueName.{QueueName}
 use Rattle.db_base.specs.declared.trouble.Trouble.{Trouble}
 use Rattle.db_base.specs.declared.trouble.Trouble.TheVariants as trouble
@@ -9,15 +9,15 @@ use Rattle.cloud_trait.specs.declared.turn.CkptAnswer.{CkptAnswer}
 use Rattle.cloud_trait.specs.declared.turn.Turn.{Turn}
 use Rattle.cloud_trait.specs.declared.turn.Turn.TheVariants.{More, Ended, Stopped}
 use Rattle.cloud_trait.specs.Ask.{Ask, Delete}
-use Rattle.cloud_trait.specs.Machine.{Goes, Ends, Stops, Took, Deed, Came, IsMade, calls_of}
+use Rattle.cloud_trait.specs.Machine.{Goes, Stops, Took, Deed, Came, calls_of}
 use Rattle.cloud_trait.specs.Views.{done_of}
 use Rattle.cloud_trait.specs.Weather.{Fits}
-use Rattle.calm_calls.specs.Calm.{GoesWell, IsCalm, AreCalm}
+use Rattle.calm_calls.specs.Calm.{GoesWell, AreCalm}
 use Rattle.calm_calls.specs.Plenty.{HadMemory}
 use Rattle.calm_calls.proofs.CalmLemmas.{goes_well}
 use Rattle.page_ckpt.specs.declared.link.Link.{Link}
 use Rattle.page_ckpt.specs.Paging.{Paging, new_paging, paging_ask, went, PagingLeads, KeepsLeases}
-use Rattle.page_ckpt.specs.Standing.{Went, Stands}
+use Rattle.page_ckpt.specs.Standing.{Went}
 use Rattle.page_ckpt.specs.Meaning.{Calls, Scene, Tried, scene, scene_queue, deletes_over, one_less, failed_count, main_calls, IsDone, MeansDone}
 use Rattle.page_ckpt.specs.Causing.{Reads, Shows, IsShown, Tells}
 use Rattle.page_ckpt.specs.Well.{IsLeft, IsWell}

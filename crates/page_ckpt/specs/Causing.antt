@@ -1,11 +1,10 @@
 -- Why a page checkpoint stops: each trouble is shown by the answer of the step that brings it.
-use Rattle.std.specs.Prelude.{ℕ, ◌≡◌, ◌≢◌, Bool, true, false, List, Option, Some, None, Result, Ok, Err, ◌⊎◌}
+use Rattle.std.specs.Prelude.{ℕ, ◌≡◌, ◌≢◌, true, false, List, Option, Some, None, Ok, Err, ◌⊎◌}
 use Rattle.db_base.specs.declared.names.Place.{Place}
 use Rattle.db_base.specs.declared.names.Place.TheVariants as place
 use Rattle.db_base.specs.declared.names.ObjName.TheVariants as object
 use Rattle.db_base.specs.declared.trouble.Trouble.{Trouble}
 use Rattle.db_base.specs.declared.trouble.Trouble.TheVariants as trouble
-use Rattle.db_base.specs.declared.trouble.Counter.{Counter}
 use Rattle.db_base.specs.declared.trouble.Counter.TheVariants as counter
 use Rattle.byte_format.specs.Order.{bytes_same}
 use Rattle.byte_format.specs.Whole.{offset}
@@ -27,7 +26,6 @@ use Rattle.cloud_trait.specs.Weather.{Makes}
 use Rattle.ckpt_parts.specs.Intakes.{items_of, has_items}
 use Rattle.ckpt_parts.specs.Leaves.{IsNoLeaf, HoldsLeaf, HoldsLinked}
 use Rattle.page_ckpt.specs.declared.link.Link.{Link}
-use Rattle.page_ckpt.specs.declared.stage.Stage.{Stage}
 use Rattle.page_ckpt.specs.declared.stage.Stage.TheVariants.{GettingHome, Receiving, GettingRight, ReleasingRight}
 use Rattle.page_ckpt.specs.Paging.{Paging, paging_ask, own_queue, IsNoInner, is_visited, link_of}
 

@@ -9,7 +9,7 @@ use Rattle.cloud_trait.specs.declared.turn.CkptAnswer.{CkptAnswer}
 use Rattle.cloud_trait.specs.declared.turn.Turn.{Turn}
 use Rattle.cloud_trait.specs.declared.turn.Turn.TheVariants.{More, Ended, Stopped}
 use Rattle.leaf_view.specs.Leaf.{Leaf}
-use Rattle.cloud_trait.specs.Ask.{Ask, GetHeld}
+use Rattle.cloud_trait.specs.Ask.{GetHeld}
 use Rattle.cloud_trait.specs.Caller.{Caller}
 use Rattle.cloud_trait.specs.Claim.{Claim}
 use Rattle.cloud_trait.specs.Machine.{Deed, calls_of}

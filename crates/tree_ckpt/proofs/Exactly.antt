@@ -1,7 +1,7 @@
 -- A tree checkpoint stops for what the answer of its call demands.
-use Rattle.std.proofs.Common.{◌≡◌, ◌≢◌, ◌⊎◌, ℕ, Bool, true, false, cond, List, [], ◌∷◌, length, Option, Some, None, Result, Ok, Err, refl, sym, ap, subst, inl, inr, ◌∙◌}
-use Rattle.std.specs.Prelude.{◌==◌, ◌&&◌, not}
-use Rattle.std.proofs.lemmas.Bool.{eqb-true, eq-eqb, ne_eqb}
+use Rattle.std.proofs.Common.{◌≡◌, ◌≢◌, ◌⊎◌, ℕ, Bool, true, false, cond, List, [], ◌∷◌, Option, Some, None, Result, Ok, Err, refl, sym, ap, subst, inl, inr, ◌∙◌}
+use Rattle.std.specs.Prelude.{◌&&◌, not}
+use Rattle.std.proofs.lemmas.Bool.{eq-eqb, ne_eqb}
 use Rattle.db_base.specs.declared.names.Lock.{Lock}
 use Rattle.db_base.specs.declared.names.Lock.TheVariants as lock
 use Rattle.db_base.specs.declared.names.ObjName.TheVariants as object
@@ -23,7 +23,7 @@ use Rattle.cloud_trait.specs.declared.message.Message.{Message}
 use Rattle.cloud_trait.specs.declared.turn.CkptAnswer.{CkptAnswer}
 use Rattle.cloud_trait.specs.declared.turn.Turn.{Turn}
 use Rattle.cloud_trait.specs.declared.turn.Turn.TheVariants.{More, Ended, Stopped}
-use Rattle.cloud_trait.specs.Ask.{Ask, Take}
+use Rattle.cloud_trait.specs.Ask.{Take}
 use Rattle.cloud_trait.specs.Claim.{Claim}
 use Rattle.cloud_trait.specs.Machine.{Next, Goes, Ends, Stops, Took, Deed, calls_of}
 use Rattle.cloud_trait.specs.Views.{got_of, done_of}
@@ -32,28 +32,28 @@ use Rattle.split_plan.specs.declared.put_list.PagePut.{PagePut}
 use Rattle.ckpt_parts.specs.declared.intake.Intake.{Intake}
 use Rattle.ckpt_parts.specs.declared.leases.Leases.{Leases}
 use Rattle.ckpt_parts.specs.Deleting.{next_id}
-use Rattle.ckpt_parts.specs.Intakes.{items_of, message_damage, TakesItems}
+use Rattle.ckpt_parts.specs.Intakes.{message_damage, TakesItems}
 use Rattle.ckpt_parts.specs.Leasing.{newest_lease, without_newest}
 use Rattle.tree_parts.specs.Placing.{has_nothing}
 use Rattle.tree_parts.specs.Read.{damaged, inner_or, leaf_or, tree_held}
 use Rattle.tree_descent.specs.declared.descent.Descent.{Descent}
 use Rattle.tree_descent.specs.declared.fork.Fork.{Fork}
 use Rattle.tree_descent.specs.Fork.{bad_fence, forked_on}
-use Rattle.tree_descent.specs.Descent.{forked, forked_by, fork_of, absent_node, got_node, descent_got, descent_next}
+use Rattle.tree_descent.specs.Descent.{forked, forked_by, fork_of, absent_node, got_node, descent_got}
 use Rattle.leaf_fold.specs.declared.folding.Folding.{Folding}
 use Rattle.leaf_fold.specs.declared.folding.Left.{Left}
-use Rattle.leaf_fold.specs.Folding.{folding_ask, folding_next, leaf_got, leaf_put, leaf_at, leaf_side, leaf_found, bad_low}
+use Rattle.leaf_fold.specs.Folding.{folding_ask, leaf_got, leaf_put, leaf_at, leaf_side, leaf_found, bad_low}
 use Rattle.tree_rising.specs.declared.rising.Rising.{Rising}
 use Rattle.tree_rising.specs.Rising.{rising_ask}
 use Rattle.tree_moves.specs.declared.work.Held.{Held}
 use Rattle.tree_moves.specs.declared.work.Work.{Work}
 use Rattle.tree_moves.specs.declared.work.Work.TheVariants as work
-use Rattle.tree_moves.specs.Work.{work_ask, take_tree, delete_ask, release_ask, one_lease, handed}
-use Rattle.tree_moves.specs.Moves.{Step, stopping, finished, released_by, descending_on, folding_on, tree_damage, tree_read, tree_got, intake_taken, ReceivedBy, Absorbs, Leads}
+use Rattle.tree_moves.specs.Work.{work_ask, delete_ask, release_ask}
+use Rattle.tree_moves.specs.Moves.{Step, released_by, descending_on, folding_on, tree_damage, tree_read, tree_got, intake_taken, Leads}
 use Rattle.tree_ckpt.specs.Making.{Making, making_ask, MakingLeads, KeepsLeases}
 use Rattle.tree_ckpt.specs.Standing.{HasIds, HoldsOne, HoldsAt, Stands}
 use Rattle.tree_ckpt.specs.Causing.{Calls, ticks_of, kept_trouble}
-use Rattle.tree_ckpt.specs.Exact.{Matters, Refuses, BreaksRoot, BreaksRecord, IsNoNode, GetsNode, IsOfLevel, BreaksNode, GetsLeaf, BreaksLeaf, Demands, Owes}
+use Rattle.tree_ckpt.specs.Exact.{Matters, Refuses, BreaksRoot, BreaksRecord, BreaksNode, GetsLeaf, BreaksLeaf, Demands, Owes}
 use Rattle.tree_ckpt.proofs.Causing.{KnowsAt}
 
 -- the trouble is kept or answered

@@ -20,11 +20,10 @@ use Rattle.leaf_fold.specs.Folding.{folding_ask}
 use Rattle.tree_rising.specs.declared.rising.Rising.{Rising}
 use Rattle.tree_rising.specs.Rising.{rising_ask}
 use Rattle.tree_moves.specs.declared.work.Held.{Held}
-use Rattle.tree_moves.specs.declared.work.Onward.{Onward}
 use Rattle.tree_moves.specs.declared.work.Work.{Work}
 use Rattle.tree_moves.specs.declared.work.Work.TheVariants as work
 use Rattle.tree_moves.specs.Work.{work_ask}
-use Rattle.tree_moves.specs.Moves.{Step, released_by, deleting_by, went, page_left, Leads}
+use Rattle.tree_moves.specs.Moves.{Step, released_by, deleting_by, went, Leads}
 use Rattle.tree_ckpt.specs.Making.{Making, making_ask, MakingLeads, KeepsLeases}
 use Rattle.tree_ckpt.specs.Standing.{HoldsAt, Stands}
 use Rattle.tree_ckpt.specs.Causing.{Calls, Shows, kept_trouble}

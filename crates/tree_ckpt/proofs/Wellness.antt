@@ -1,6 +1,5 @@
 -- A tree checkpoint whose calls go well.
-use Rattle.std.proofs.Common.{◌≡◌, ◌≢◌, ◌⊎◌, ℕ, List, [], ◌∷◌, ◌++◌, Option, Some, None, refl, sym, subst, inl, inr, ◌∙◌}
-use Rattle.db_base.specs.declared.names.ObjName.TheVariants as object
+use Rattle.std.proofs.Common.{◌≡◌, ◌≢◌, ◌⊎◌, ℕ, List, [], ◌∷◌, Some, None, refl, sym, subst, inl, inr, ◌∙◌}
 use Rattle.db_base.specs.declared.names.QueueName.{QueueName}
 use Rattle.db_base.specs.declared.names.QueueName.TheVariants as queue
 use Rattle.db_base.specs.declared.trouble.Trouble.{Trouble}
@@ -11,20 +10,18 @@ use Rattle.cloud_trait.specs.declared.answer.Answer.TheVariants as call
 use Rattle.cloud_trait.specs.declared.turn.CkptAnswer.{CkptAnswer}
 use Rattle.cloud_trait.specs.declared.turn.Turn.{Turn}
 use Rattle.cloud_trait.specs.declared.turn.Turn.TheVariants.{More, Ended, Stopped}
-use Rattle.cloud_trait.specs.Ask.{Ask, GetHeld, Delete}
-use Rattle.cloud_trait.specs.Claim.{Claim}
-use Rattle.cloud_trait.specs.Machine.{Goes, Took, Deed, Came, calls_of}
+use Rattle.cloud_trait.specs.Ask.{Ask, Delete}
+use Rattle.cloud_trait.specs.Machine.{Deed, Came, calls_of}
 use Rattle.cloud_trait.specs.Views.{done_of}
 use Rattle.cloud_trait.specs.Weather.{Fits}
-use Rattle.calm_calls.specs.Calm.{GoesWell, IsCalm, AreCalm}
+use Rattle.calm_calls.specs.Calm.{GoesWell, AreCalm}
 use Rattle.calm_calls.specs.Plenty.{HadMemory}
 use Rattle.calm_calls.proofs.CalmLemmas.{goes_well}
 use Rattle.tree_moves.specs.Moves.{went}
-use Rattle.tree_moves.specs.declared.work.Work.{Work}
-use Rattle.tree_ckpt.specs.Making.{Making, new_making, making_ask, MakingLeads, KeepsLeases}
+use Rattle.tree_ckpt.specs.Making.{Making, new_making, making_ask, MakingLeads}
 use Rattle.tree_ckpt.specs.Standing.{Went}
-use Rattle.tree_ckpt.specs.Causing.{Calls, Brings, WasGot, IsLink, Shows, kept_trouble, IsShown, Tells}
-use Rattle.tree_ckpt.specs.Meaning.{Tried, deletes_over, one_less, failed_count, opening_calls, IsDone, MeansDone}
+use Rattle.tree_ckpt.specs.Causing.{Calls, Shows, kept_trouble, IsShown, Tells}
+use Rattle.tree_ckpt.specs.Meaning.{Tried, deletes_over, one_less, failed_count, IsDone, MeansDone}
 use Rattle.tree_ckpt.specs.Well.{IsLeft, IsWell}
 use Rattle.tree_ckpt.proofs.Brought.{link_more}
 use Rattle.tree_ckpt.proofs.Causing.{came_brought, took_tells}

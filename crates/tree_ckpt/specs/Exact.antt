@@ -1,7 +1,6 @@
 -- A tree checkpoint stops for a trouble where the answer of the call in hand demands it.
-use Rattle.std.specs.Prelude.{ℕ, ◌≡◌, ◌≢◌, Bool, true, false, List, Option, Some, None, Ok, Err, ◌⊎◌}
+use Rattle.std.specs.Prelude.{ℕ, ◌≡◌, ◌≢◌, true, false, List, Option, Some, None, Ok, Err, ◌⊎◌}
 use Rattle.db_base.specs.declared.names.ObjName.TheVariants as object
-use Rattle.db_base.specs.declared.names.Place.{Place}
 use Rattle.db_base.specs.declared.names.Place.TheVariants as place
 use Rattle.db_base.specs.declared.trouble.Trouble.{Trouble}
 use Rattle.db_base.specs.declared.trouble.Trouble.TheVariants as trouble
@@ -26,7 +25,6 @@ use Rattle.tree_parts.specs.Placing.{has_nothing}
 use Rattle.tree_descent.specs.declared.descent.Descent.{Descent}
 use Rattle.leaf_fold.specs.declared.folding.Folding.{Folding}
 use Rattle.tree_moves.specs.declared.work.Held.{Held}
-use Rattle.tree_moves.specs.declared.work.Work.{Work}
 use Rattle.tree_moves.specs.declared.work.Work.TheVariants as work
 use Rattle.tree_ckpt.specs.Making.{Making, making_ask}
 use Rattle.tree_ckpt.specs.Causing.{BreaksMessage, ticks_of, kept_trouble, Tells}

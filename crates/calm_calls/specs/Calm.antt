@@ -1,9 +1,9 @@
 -- Calls that go well, by what the cloud is: no count rises, the locks that they take are free, and the leases that they name last.
-use Rattle.std.specs.Prelude.{ℕ, ◌≡◌, ◌≤◌, List, [], ◌∷◌, Option, Some, None}
+use Rattle.std.specs.Prelude.{ℕ, ◌≡◌, ◌≤◌, List, [], ◌∷◌, Some, None}
 use Rattle.cloud_trait.specs.declared.answer.Answer.{Answer}
 use Rattle.cloud_trait.specs.declared.answer.Answer.TheVariants.{Held, Late, Failed}
 use Rattle.cloud_trait.specs.Ask.{Ask, GetHeld, PutHeld, Take, Renew}
-use Rattle.cloud_trait.specs.Claim.{Claim, Lasts}
+use Rattle.cloud_trait.specs.Claim.{Lasts}
 use Rattle.cloud_trait.specs.Machine.{Deed}
 use Rattle.cloud_trait.specs.State.{CloudState}
 

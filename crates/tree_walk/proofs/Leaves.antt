@@ -193,13 +193,16 @@ others_dropped (p ∷ ps) c tree page h = on (p == page) refl (others_dropped ps
   on true is more h = absurd (cc (h))
   on false ne more h = more h ∙ drop_others c (object.Page tree p) (object.Page tree page) (other ne)
 
-pub leaf_stays : (w : Walk) (c : Cache) (page : ℕ) → is_among w.nodes page ≡ false → leaf_at (left_by w c) (object.Page w.tree page) ≡ leaf_at c (object.Page w.tree page)
-leaf_stays w c page apart = on w.turned where
-  on : (b : Bool) → leaf_at (if b then fold dropped c (passed w) else c) (object.Page w.tree page) ≡ leaf_at c (object.Page w.tree page)
+pub kept_stays : (w : Walk) (c : Cache) (page : ℕ) → is_among w.nodes page ≡ false → kept_at (left_by w c) (object.Page w.tree page) ≡ kept_at c (object.Page w.tree page)
+kept_stays w c page apart = on w.turned where
+  on : (b : Bool) → kept_at (if b then fold dropped c (passed w) else c) (object.Page w.tree page) ≡ kept_at c (object.Page w.tree page)
   on false = refl
   on true =
-      ap as_leaf (others_dropped w.nodes (dropped c (object.Tree w.tree)) w.tree page apart
-      ∙ drop_others c (object.Tree w.tree) (object.Page w.tree page) (never_tree w.tree w.tree page))
+      others_dropped w.nodes (dropped c (object.Tree w.tree)) w.tree page apart
+      ∙ drop_others c (object.Tree w.tree) (object.Page w.tree page) (never_tree w.tree w.tree page)
+
+pub leaf_stays : (w : Walk) (c : Cache) (page : ℕ) → is_among w.nodes page ≡ false → leaf_at (left_by w c) (object.Page w.tree page) ≡ leaf_at c (object.Page w.tree page)
+leaf_stays w c page apart = ap as_leaf (kept_stays w c page apart)
 
 pub stays_at : (w : Walk) (c : Cache) (page : ℕ) → IsAtLeaf w c page → is_among w.nodes page ≡ false → IsAtLeaf w (left_by w c) page
 stays_at w c page h apart = record { leaf = h.leaf; in_hand = h.in_hand; kept = leaf_stays w c page apart ∙ h.kept; holds = h.holds; leftmost = h.leftmost }

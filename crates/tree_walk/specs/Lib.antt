@@ -1,2 +1,5 @@
 pub mod Moves
 pub mod Walk
+pub mod Causing
+pub mod Within
+pub mod Serving

@@ -1,12 +1,15 @@
-ghost use Rattle.std.specs.Prelude.{◌≡◌, ◌≢◌, ◌<◌, ℕ, if◌then◌else◌, false, fold, Option, Some, IfSome};
+ghost use Rattle.std.specs.Prelude.{◌≡◌, ◌≢◌, ◌<◌, ◌+◌, ℕ, if◌then◌else◌, false, fold, List, length, Option, Some, IfSome};
 ghost use Rattle.std.specs.Option.{option_copied, option_map};
 ghost use Rattle.byte_format.specs.Order.{bytes_below, bytes_same};
 ghost use Rattle.cloud_trait.specs.Call.{ask_of};
-ghost use Rattle.cloud_trait.specs.Machine.{LeadsBy, Steps};
+ghost use Rattle.cloud_trait.specs.Machine.{LeadsBy, Steps, Deed};
 ghost use Rattle.node_codec.specs.Node.{page_at as node_at};
 ghost use Rattle.page_cache.specs.Cache.{Cache, dropped};
+ghost use Rattle.tree_walk.specs.Causing.{Causes, Exact};
 ghost use Rattle.tree_walk.specs.Moves.{is_more, Moves, MovesIf, MovesBeside};
+ghost use Rattle.tree_walk.specs.Serving.{Serves, GoesCalmly};
 ghost use Rattle.tree_walk.specs.Walk.{right_of};
+ghost use Rattle.tree_walk.specs.Within.{Went, IsWithin};
 
 use crate::spot::Spot;
 use byte_format::{is_below, is_same};
@@ -464,6 +467,16 @@ impl Walk {
         // It comes to one more page with each call that it goes on from.
         ensures less { result ≡ Turn.More → calls_left self.new < calls_left self.old }
         ensures ends { (page : ℕ) → result ≡ Turn.Ended page → IsAtLeaf self.new cache.new page }
+        // A trouble is shown by the answer to the call, or by the objects that the cache keeps then and the links between them.
+        ensures causes { Causes who (C.seen cloud.old) (C.seen cloud.new) (self.old, cache.old) (self.new, cache.new) result }
+        // It comes to each page once, and one call more than these is all.
+        ensures within { (h : List Deed) → Went h (self.old, cache.old) → IsWithin (length h + 1) self.old self.new result }
+        // Where the answer, or the page that it brought, shows a trouble, it stops with that.
+        ensures exact { Exact who (C.seen cloud.old) (C.seen cloud.new) (self.old, cache.old) result }
+        // At its end the leaf is what this call got: a version that landed, and the newest where `stale` did not rise.
+        ensures serves { Serves who (C.seen cloud.old) (C.seen cloud.new) (self.old, cache.old) (self.new, cache.new) result }
+        // A calm call does not fail, and what is stale then is so in its newest version.
+        ensures well { GoesCalmly who (C.seen cloud.old) (C.seen cloud.new) (self.old, cache.old) result }
     {
         // Read for the clauses `less` and `ends`.
         let _ = &self.nodes;

@@ -1,7 +1,10 @@
 use Rattle.std.proofs.Common.{◌+◌, ◌<◌, ◌^◌, length, subst, arith}
 use Rattle.tree_walk.specs.Walk.{Walk, IsWalk, pages, spots}
+use Rattle.tree_walk.proofs.Causing.{moved_causes}
 use Rattle.tree_walk.proofs.Ending.{moved_less, spots_most}
 use Rattle.tree_walk.proofs.Leaves.{moved_ends}
+use Rattle.tree_walk.proofs.Onceness.{moved_within}
+use Rattle.tree_walk.proofs.Serving.{moved_exact, moved_serves, moved_calmly}
 use Rattle.tree_walk.proofs.walk.Walk.step.Goals as goal
 
 pub returns-clause-less : goal.returns-clause-less
@@ -16,3 +19,24 @@ pub returns-clause-ends : goal.returns-clause-ends
 returns-clause-ends g c =
     let ok : IsWalk c.args.self.now = subst IsWalk c.self.view_is c.self.invariant in
     λ page ended. moved_ends (c.args.self.now, c.args.cache.now) (c.absorb.new.self, c.absorb.new.cache) c.perform-answer.result c.absorb.result page ok c.absorb.ensures ended
+
+pub returns-clause-causes : goal.returns-clause-causes
+returns-clause-causes g c =
+    moved_causes c.args.who _ c.args.self.now c.args.cache.now (c.absorb.new.self, c.absorb.new.cache) c.perform-answer.result c.absorb.result _ _ c.in_hand.ensures c.perform-answer.ensures c.absorb.ensures
+
+pub returns-clause-within : goal.returns-clause-within
+returns-clause-within g c = λ h went.
+    moved_within h c.args.self.now c.args.cache.now (c.absorb.new.self, c.absorb.new.cache) c.perform-answer.result c.absorb.result went c.absorb.ensures
+
+pub returns-clause-exact : goal.returns-clause-exact
+returns-clause-exact g c =
+    moved_exact c.args.who _ c.args.self.now c.args.cache.now (c.absorb.new.self, c.absorb.new.cache) c.perform-answer.result c.absorb.result _ _ c.in_hand.ensures c.perform-answer.ensures c.absorb.ensures
+
+pub returns-clause-serves : goal.returns-clause-serves
+returns-clause-serves g c =
+    moved_serves c.args.who _ c.args.self.now c.args.cache.now (c.absorb.new.self, c.absorb.new.cache) c.perform-answer.result c.absorb.result _ _ (subst IsWalk c.self.view_is c.self.invariant)
+    c.in_hand.ensures c.perform-answer.ensures c.absorb.ensures
+
+pub returns-clause-well : goal.returns-clause-well
+returns-clause-well g c =
+    moved_calmly c.args.who _ c.args.self.now c.args.cache.now (c.absorb.new.self, c.absorb.new.cache) c.perform-answer.result c.absorb.result _ _ c.in_hand.ensures c.perform-answer.ensures c.absorb.ensures

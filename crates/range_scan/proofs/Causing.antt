@@ -1,7 +1,6 @@
 -- A scan that stops shows why.
-use Rattle.std.proofs.Common.{◌≡◌, ◌≢◌, ◌<◌, ◌⊎◌, ℕ, Bool, true, false, List, [], ◌∷◌, ◌++◌, Option, Some, None, Result, Ok, Err, inl, inr, unwrap_or, refl, ap, sym, subst, ◌∙◌}
+use Rattle.std.proofs.Common.{◌≡◌, ◌≢◌, ◌<◌, ◌⊎◌, ℕ, Bool, true, false, List, [], ◌∷◌, ◌++◌, Option, Some, None, Result, Ok, Err, inl, inr, unwrap_or, refl, ap, sym, subst, arith, ◌∙◌}
 use Rattle.std.specs.Prelude.{◌&&◌, if◌then◌else◌}
-use Rattle.std.proofs.Order.{lt_irrefl}
 use Rattle.byte_format.specs.Order.{bytes_same, below_bound}
 use Rattle.db_base.specs.declared.names.ObjName.{ObjName}
 use Rattle.db_base.specs.declared.names.ObjName.TheVariants as object
@@ -12,25 +11,24 @@ use Rattle.leaf_view.specs.Lookup.{page_at}
 use Rattle.cloud_trait.specs.declared.answer.Answer.{Answer}
 use Rattle.cloud_trait.specs.declared.answer.Answer.TheVariants as answer
 use Rattle.cloud_trait.specs.declared.turn.Turn.{Turn}
-use Rattle.cloud_trait.specs.declared.turn.Turn.TheVariants.{More, Ended, Stopped}
+use Rattle.cloud_trait.specs.declared.turn.Turn.TheVariants.{Stopped}
 use Rattle.cloud_trait.specs.Ask.{Get}
 use Rattle.cloud_trait.specs.Caller.{Caller}
 use Rattle.cloud_trait.specs.Machine.{Next, Goes, Ends, Stops, LeadsBy, Took}
 use Rattle.cloud_trait.specs.Seen.{Seen}
+use Rattle.cloud_trait.specs.State.{Counts}
 use Rattle.cloud_trait.specs.Views.{got_of}
-use Rattle.cloud_trait.specs.Weather.{Makes, Fits, Rose}
-use Rattle.calm_calls.specs.Calm.{IsCalm}
+use Rattle.cloud_trait.specs.Weather.{Makes, Fits}
 use Rattle.page_cache.specs.Cache.{Cache, accepts}
 use Rattle.page_cache.specs.Held.{leaf_at}
 use Rattle.page_cache.proofs.ViewLemmas.{accept_leaf}
 use Rattle.tree_walk.specs.Walk.{Spot, Walk, IsWalk, object_of, walk_next}
-use Rattle.tree_walk.specs.Causing.{FailsSo}
 use Rattle.tree_walk.specs.Causing.{Shows as WalkShows}
 use Rattle.tree_walk.proofs.Causing.{StopsBeside, next_stops}
 use Rattle.tree_walk.proofs.Refusing.{refused_shows}
 use Rattle.range_scan.specs.Scan.{Scan, scan_object_at, scan_object, scan_asks, right_in, scan_came_to, right_behind, ended_at, leaf_ended, first_in, scan_beside, walked_by, right_read_in, right_accepted, right_got, next_at, scan_next, KeepsNothing}
 use Rattle.range_scan.specs.Listing.{Range, Move, Scanned}
-use Rattle.range_scan.specs.Causing.{RefusesSo, BreaksFence, ClosesLoop, ShowsAt, Shows, deed_of, Causes}
+use Rattle.range_scan.specs.Causing.{BreaksFence, ClosesLoop, ShowsAt, Shows, Causes}
 use Rattle.range_scan.proofs.Served.{IsServed, end_served}
 use Rattle.range_scan.proofs.Listing.{InHand, scanned_stands}
 
@@ -178,5 +176,6 @@ next_causes r h who before after m n a turn came made took =
       well = λ calm stopped.
           let failed : a ≡ answer.Failed = shows_failed m.0.spot m n a (took_shows m n a turn stops took trouble.Failed stopped failed_is) in
           let rose : before.counts.faults < after.counts.faults = made.failed failed in
-          lt_irrefl before.counts.faults (subst (λ k. before.counts.faults < k) (ap (λ k. k.faults) calm.counts) rose);
+          let same : after.counts.faults ≡ before.counts.faults = ap (λ (k : Counts). k.faults) calm.counts in
+          omega (arith, same, rose);
     }

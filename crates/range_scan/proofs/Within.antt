@@ -1,8 +1,9 @@
 -- A scan comes to each of its pages once, and to one more at least with each call that it goes on from.
 use Rattle.std.proofs.Common.{◌≡◌, ℕ, ◌+◌, ◌≤◌, ◌<◌, Bool, true, false, List, [], ◌∷◌, ◌++◌, length, Option, Some, None, Result, Ok, Err, unwrap_or, refl, ap, sym, subst, arith, length-append, ◌∙◌}
 use Rattle.std.specs.Prelude.{◌&&◌, ◌||◌, ◌==◌, if◌then◌else◌}
-use Rattle.std.specs.List.{IsDistinct}
+use Rattle.std.specs.List.{AllByRecursion, IsDistinct}
 use Rattle.std.proofs.lemmas.Bool.{eqb-true}
+use Rattle.std.proofs.lemmas.List.Folds.{list_any-append}
 use Rattle.byte_format.specs.Order.{bytes_same, below_bound}
 use Rattle.db_base.specs.declared.trouble.Trouble.{Trouble}
 use Rattle.db_base.specs.declared.trouble.Trouble.TheVariants as trouble
@@ -13,14 +14,35 @@ use Rattle.cloud_trait.specs.Machine.{Next, Goes, Ends, Stops}
 use Rattle.cloud_trait.specs.Views.{got_of}
 use Rattle.page_cache.specs.Cache.{Cache, accepts}
 use Rattle.page_cache.specs.Held.{leaf_at}
-use Rattle.tree_walk.specs.Walk.{Spot, Walk, IsWalk, object_of, is_page, is_among, came_to, use_of, rested, walk_ready, walk_next, pages, spots}
+use Rattle.tree_walk.specs.Walk.{Spot, Walk, object_of, is_page, is_among, came_to, use_of, rested, walk_ready, walk_next, pages, spots}
 use Rattle.tree_walk.specs.Within.{AreOnce, IsOnce}
 use Rattle.tree_walk.proofs.Ending.{more_pages}
-use Rattle.tree_walk.proofs.Onceness.{once_push, among_push, once_goes, once_begun}
+use Rattle.tree_walk.proofs.Onceness.{once_goes, once_begun}
 use Rattle.range_scan.specs.Scan.{Scan, scan_object, right_in, scan_came_to, right_behind, is_wanted, ended_at, leaf_ended, goes_on, moved_on, first_in, scan_beside, walked_by, right_read_in, right_accepted, right_got, scan_ready, next_at, scan_next}
 use Rattle.range_scan.specs.Listing.{Range, scan_of, Move, LedTo, Scanned}
 use Rattle.range_scan.specs.Within.{scan_pages, IsScannedOnce, IsWithin}
 use Rattle.range_scan.proofs.Served.{ended_as}
+
+-- ---- lists of pages
+
+or_false : (a b : Bool) → (a || b) ≡ false → (a ≡ false) × (b ≡ false)
+or_false true b h = absurd (cc (h))
+or_false false b h = (refl, h)
+
+all_apart : (ps : List ℕ) (q p : ℕ) → AllByRecursion (λ y. (q == y) ≡ false) ps → (q == p) ≡ false → AllByRecursion (λ y. (q == y) ≡ false) (ps ++ p ∷ [])
+all_apart [] q p h apart = (apart, tt)
+all_apart (x ∷ ps) q p h apart = (h.0, all_apart ps q p h.1 apart)
+
+once_push : (ps : List ℕ) (p : ℕ) → AreOnce ps → is_among ps p ≡ false → AreOnce (ps ++ p ∷ [])
+unfolding IsDistinct
+once_push [] p h apart = (tt, tt)
+once_push (q ∷ ps) p h apart =
+    let two = or_false (q == p) (is_among ps p) apart in
+    (all_apart ps q p h.0 two.0, once_push ps p h.1 two.1)
+
+-- what is among pages with one more at their end is that page, or was among them
+among_push : (ps : List ℕ) (p q : ℕ) → is_among (ps ++ p ∷ []) q ≡ (is_among ps q || ((p == q) || false))
+among_push ps p q = list_any-append (λ (x : ℕ). x == q) ps (p ∷ [])
 
 -- ---- what holds where a step leads
 
@@ -60,10 +82,6 @@ not_second : (a b : Bool) → a ≡ true → (a && b) ≡ false → b ≡ false
 not_second true b e h = h
 not_second false b e h = absurd (cc (e))
 
-or_false : (a b : Bool) → (a || b) ≡ false → (a ≡ false) × (b ≡ false)
-or_false true b h = absurd (cc (h))
-or_false false b h = (refl, h)
-
 leaf_leads : (n : ℕ) (s : Scan) (l : Leaf) (page : ℕ) (c : Cache) → IsPassed s.walk s.passed → n ≤ pages s.walk + length s.passed + 1 → Leads n (scan_beside (leaf_ended s l page, c))
 leaf_leads n s l page c once few = on (right_behind l.high (page_at l.right)) where
   if_came : (next : Spot) (b : Bool) → (below_bound next.low s.to && scan_came_to s next.page) ≡ b
@@ -94,8 +112,8 @@ first_leads n m a none h = on (walk_next (m.0.walk, m.1) a) refl where
   no_right : (w : Walk) (page : ℕ) → is_among m.0.passed page ≡ true → came_to w page ≡ false
   no_right w page among = let never : is_among [] page ≡ true = ap (λ (ps : List ℕ). is_among ps page) (sym empty) ∙ among in absurd (cc (never))
 
-  no_hand : {P : Spot → Type 0} (spot : Spot) → m.0.spot ≡ Some spot → P spot
-  no_hand spot e = let never : ◌≡◌ {A = Option Spot} None (Some spot) = sym none ∙ e in absurd (cc (never))
+  no_hand : (v : Walk) (spot : Spot) → m.0.spot ≡ Some spot → (came_to v spot.page || is_among m.0.passed spot.page) ≡ false
+  no_hand v spot e = let never : ◌≡◌ {A = Option Spot} None (Some spot) = sym none ∙ e in absurd (cc (never))
 
   none_there : spots m.0.spot ≡ 0
   none_there = ap spots none
@@ -111,7 +129,7 @@ first_leads n m a none h = on (walk_next (m.0.walk, m.1) a) refl where
   on (Goes w) e =
       let more : pages m.0.walk < pages w.0 = more_pages (m.0.walk, m.1) w a e in
       record {
-        once = record { walk = once_goes (m.0.walk, m.1) w a h.once.walk e; passed = h.once.passed; apart = no_right w.0; in_hand = λ spot some. no_hand spot some };
+        once = record { walk = once_goes (m.0.walk, m.1) w a h.once.walk e; passed = h.once.passed; apart = no_right w.0; in_hand = no_hand w.0 };
         few = omega (arith, more, h.few);
         first = h.first;
       }

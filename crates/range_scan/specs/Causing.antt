@@ -1,5 +1,5 @@
 -- Why a scan stops: the answer to its get shows it, or the leaves that the cache keeps and the links between them do.
-use Rattle.std.specs.Prelude.{ℕ, ◌≡◌, ◌≢◌, ◌⊎◌, Bool, true, false, List, Option, Some, None, Result, Ok}
+use Rattle.std.specs.Prelude.{ℕ, ◌≡◌, ◌≢◌, ◌⊎◌, true, false, List, Option, Some, None, Ok}
 use Rattle.byte_format.specs.Order.{bytes_same, below_bound}
 use Rattle.db_base.specs.declared.trouble.Trouble.{Trouble}
 use Rattle.db_base.specs.declared.trouble.Trouble.TheVariants as trouble
@@ -24,7 +24,7 @@ use Rattle.range_scan.specs.Scan.{Scan, scan_object, scan_asks, scan_came_to, ri
 
 -- the answer to the get of a right page is too old, or in no spelling of a leaf
 abbrev pub RefusesSo : Scan × Cache → Answer → Trouble → Type 0
-RefusesSo m a t = (got : Option (List ℕ)) × ((a ≡ answer.Got got) × (IsOld m.1 (scan_object m.0) true got t ⊎ IsDamaged (scan_object m.0) true got t))
+RefusesSo m a t = (got : Option (List ℕ)) × (a ≡ answer.Got got) × (IsOld m.1 (scan_object m.0) true got t ⊎ IsDamaged (scan_object m.0) true got t)
 
 -- the leaf that the answer brings has another low key than the high key that led to it
 pub record BreaksFence (m : Scan × Cache) (a : Answer) (spot : Spot) (t : Trouble) : Type 0 where

@@ -4,3 +4,5 @@ pub mod Pairs
 pub mod Walking
 pub mod Served
 pub mod Listing
+pub mod Causing
+pub mod Within

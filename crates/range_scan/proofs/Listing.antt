@@ -1,9 +1,8 @@
 -- A scan ends at leaves whose ranges meet from the first one on, each as its call got it.
-use Rattle.std.proofs.Common.{◌≡◌, ℕ, Bool, true, false, List, [], ◌∷◌, ◌++◌, map, Option, Some, None, Result, Ok, Err, unwrap_or, refl, ap, sym, subst, ◌∙◌}
+use Rattle.std.proofs.Common.{◌≡◌, ℕ, Bool, true, false, List, [], ◌∷◌, ◌++◌, Option, Some, None, Result, Ok, Err, unwrap_or, refl, ap, sym, subst, ◌∙◌}
 use Rattle.std.specs.Prelude.{◌&&◌, if◌then◌else◌}
 use Rattle.byte_format.specs.Order.{bytes_same, below_bound}
 use Rattle.byte_format.proofs.OrderLemmas.{same_is}
-use Rattle.db_base.specs.declared.names.ObjName.{ObjName}
 use Rattle.db_base.specs.declared.names.ObjName.TheVariants as object
 use Rattle.db_base.specs.declared.trouble.Trouble.{Trouble}
 use Rattle.db_base.specs.declared.trouble.Trouble.TheVariants as trouble
@@ -22,10 +21,10 @@ use Rattle.cloud_trait.specs.Weather.{Makes}
 use Rattle.page_cache.specs.Cache.{Cache, accepts, kept_at}
 use Rattle.page_cache.specs.Held.{leaf_at, as_leaf}
 use Rattle.page_cache.proofs.CacheLemmas.{accept_kept}
-use Rattle.tree_walk.specs.Walk.{Spot, Walk, IsWalk, IsAtLeaf, object_of, sought, walk_ready, walk_next}
+use Rattle.tree_walk.specs.Walk.{Spot, Walk, IsWalk, IsAtLeaf, object_of, walk_ready, walk_next}
 use Rattle.tree_walk.proofs.Leaves.{ends_at}
-use Rattle.range_scan.specs.Scan.{Scan, scan_object_at, scan_object, scan_asks, right_in, scan_came_to, right_behind, is_wanted, ended_at, leaf_ended, goes_on, moved_on, first_in, first_read, scan_beside, walked_by, right_read_in, right_read, right_accepted, right_got, scan_ready, next_at, scan_next, KeepsNothing}
-use Rattle.range_scan.specs.Listing.{Range, scan_of, Move, LedTo, Scanned, IsGot, joined, leaves_of, IsGotBy, AreGot, BeginsAt, Continues, AreMeeting, IsPast, IsAt, Means}
+use Rattle.range_scan.specs.Scan.{Scan, scan_object_at, scan_object, scan_asks, right_in, scan_came_to, right_behind, is_wanted, ended_at, leaf_ended, goes_on, moved_on, first_in, scan_beside, walked_by, right_read_in, right_accepted, right_got, scan_ready, next_at, scan_next, KeepsNothing}
+use Rattle.range_scan.specs.Listing.{Range, scan_of, Move, LedTo, Scanned, IsGot, leaves_of, AreGot, BeginsAt, Continues, AreMeeting, IsPast, Means}
 use Rattle.range_scan.proofs.Walking.{IsTo, WalksBeside, next_walks, ready_walks}
 use Rattle.range_scan.proofs.Served.{IsServed, end_served}
 

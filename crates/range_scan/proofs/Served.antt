@@ -12,10 +12,11 @@ use Rattle.cloud_trait.specs.declared.answer.Answer.{Answer}
 use Rattle.cloud_trait.specs.declared.answer.Answer.TheVariants.{Got}
 use Rattle.cloud_trait.specs.Ask.{Get}
 use Rattle.cloud_trait.specs.Machine.{Next, Goes, Ends, Stops}
+use Rattle.cloud_trait.specs.Views.{got_of}
 use Rattle.page_cache.specs.Cache.{Cache, accepts, kept_at}
 use Rattle.page_cache.specs.Held.{leaf_at, inner_at, root_at, as_leaf}
 use Rattle.page_cache.proofs.CacheLemmas.{accept_kept}
-use Rattle.tree_walk.specs.Walk.{Spot, Walk, IsWalk, IsAtLeaf, sought, spot_of, is_leaf, object_of, use_of, right_of, bad_fence, leaf_left, leaf_passed, root_read, node_read, leaf_read, read_at, read_from, follow, goes_on, got_read, accepted_by, left_by, beside, rested, walk_ask, walk_next}
+use Rattle.tree_walk.specs.Walk.{Spot, Walk, IsWalk, IsAtLeaf, sought, spot_of, is_leaf, object_of, use_of, right_of, bad_fence, leaf_left, leaf_passed, root_read, node_read, leaf_read, read_at, read_from, follow, goes_on, got_read, accepted_by, got_by, left_by, beside, rested, walk_ask, walk_next}
 use Rattle.tree_walk.proofs.Leaves.{Unended, AtLeaf, linked_unended, root_unended, node_unended, through_unended, by_ends, leaf_stays}
 
 -- a walk that ends has the object in hand that it had, and used it
@@ -107,3 +108,24 @@ end_served m n (Got bytes) page ok h = on (accepts m.1 (object_of m.0) (is_leaf 
   on (Err t) acc leaf e = absurd (cc (e))
   on (Ok served) acc leaf e = at (got_read (rested m.0) served.1) served.0 served.1 acc (got_ends_as (rested m.0) served.1) leaf e
 end_served m n a page ok h = absurd (cc (h))
+
+-- a walk that ended has the pages that it had
+abbrev EndsBeside : Walk → Next (Walk × Cache) ℕ → Type 0
+EndsBeside w (Goes n) = Unit {0}
+EndsBeside w (Ends n page) = n.0 ≡ use_of w
+EndsBeside w (Stops n t) = Unit {0}
+
+beside_as : (w : Walk) (x : Next Walk ℕ) (c : Cache) → EndsAs w x → EndsBeside w (beside (x, c))
+beside_as w (Goes v) c h = tt
+beside_as w (Ends v page) c h = h
+beside_as w (Stops v t) c h = tt
+
+pub ended_as : (m n : Walk × Cache) (a : Answer) (page : ℕ) → walk_next m a ≡ Ends n page → n.0 ≡ use_of (rested m.0)
+ended_as m n a page e = subst (EndsBeside (rested m.0)) e (on (got_of a)) where
+  by : (r : Result (ℕ × Cache) Trouble) → EndsBeside (rested m.0) (beside (accepted_by (rested m.0) m.1 r))
+  by (Err t) = tt
+  by (Ok served) = beside_as (rested m.0) (got_read (rested m.0) served.1) served.1 (got_ends_as (rested m.0) served.1)
+
+  on : (g : Result (Option (List ℕ)) Trouble) → EndsBeside (rested m.0) (beside (got_by (rested m.0) m.1 g))
+  on (Err t) = tt
+  on (Ok got) = by (accepts m.1 (object_of (rested m.0)) (is_leaf (rested m.0)) got)

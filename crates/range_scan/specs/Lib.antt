@@ -2,3 +2,5 @@ pub mod Scan
 pub mod Ending
 pub mod Pairs
 pub mod Listing
+pub mod Causing
+pub mod Within

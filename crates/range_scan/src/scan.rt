@@ -1,4 +1,4 @@
-ghost use Rattle.std.specs.Prelude.{◌≡◌, ◌≢◌, ◌<◌, ℕ, true, false, List, Some, is_some, IfOk};
+ghost use Rattle.std.specs.Prelude.{◌≡◌, ◌≢◌, ◌<◌, ◌+◌, ℕ, true, false, List, length, Some, is_some, IfOk};
 ghost use Rattle.page_cache.specs.Held.{leaf_at};
 ghost use Rattle.std.specs.Option.{option_copied, option_map};
 ghost use Rattle.byte_format.specs.Order.{below_bound};
@@ -67,6 +67,8 @@ impl RangeScan {
     ghost use Rattle.range_scan.specs.Ending.{calls_left};
     ghost use Rattle.range_scan.specs.Pairs.{AreItemsIn};
     ghost use Rattle.range_scan.specs.Listing.{Range, Move, Scanned, Means};
+    ghost use Rattle.range_scan.specs.Causing.{Causes};
+    ghost use Rattle.range_scan.specs.Within.{IsWithin};
 
     /// The scan of a tree from a key on, or from its left end, and below a key, or to its right end. Takes no memory.
     pub fn new(alloc: Global, tree: TreeId, from: Option<Key>, to: Option<Key>) -> RangeScan
@@ -295,6 +297,10 @@ impl RangeScan {
         ensures further { (page : ℕ) → result ≡ Turn.Ended page → goes_on self.new ≡ true → calls_left (moved_on self.new) < calls_left self.old }
         // Where it ends, it is at a leaf that its call got; the ranges of its leaves meet, from the first key on.
         ensures means { (r : Range) (h : List Move) → Scanned r h (self.old, cache.old) → Means r who (C.seen cloud.old) (C.seen cloud.new) (self.old, cache.old) (self.new, cache.new) h result }
+        // A trouble is shown by the answer to the call, or by the leaves that the cache keeps then and the links between them.
+        ensures causes { (r : Range) (h : List Move) → Scanned r h (self.old, cache.old) → Causes who (C.seen cloud.old) (C.seen cloud.new) (self.old, cache.old) (self.new, cache.new) result }
+        // It comes to each page once, and one call more than these is all.
+        ensures within { (r : Range) (h : List Move) → Scanned r h (self.old, cache.old) → IsWithin (length h + 1) self.old }
     {
         if self.spot.is_some() {
             self.step_right(alloc, cloud, who, cache)

@@ -288,7 +288,11 @@ const GROWN: &[Step<'static>] = &[
     Step::Leads(&[0x08, 0x41], 67),
     Step::Node(66, 33),
     Step::Node(67, 32),
-    Step::Page(66, &[], "take page:1:66\nget_held page:1:66\nrelease page:1:66\nnot-leaf 66\n"),
+    Step::Page(
+        66,
+        &[],
+        "take page:1:66\nget_held page:1:66\nrelease page:1:66\nnot-leaf 66\n",
+    ),
 ];
 
 #[test]

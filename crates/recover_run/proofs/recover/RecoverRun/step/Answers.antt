@@ -53,6 +53,7 @@ returns-clause-causes g c = λ client aim former h went.
       nothing = took_nothing c.args.self.now _ c.call-answer.result _ took;
       answers = took_answers client aim former h c.args.self.now _ c.call-answer.result _ went took;
     }
+
 pub returns-clause-empties : goal.returns-clause-empties
 returns-clause-empties g c = record {
   answer = c.call-answer.result;

@@ -118,8 +118,8 @@ none_failed tree (t ∷ ts) rest gone =
     subst (λ (a : Answer). one_less (went (done_of a)) (failed_count ts) ≡ 0) (sym (deletion_done (queue.TreePu tree) t.0 t.1 gone.0))
     (none_failed tree ts rest gone.1)
 
-done_leaves_none : (release : Ask) (tree : ℕ) (h : List Deed) (x : CkptAnswer) → HaveGone (calls_of h) → IsDone release tree h x → x.left ≡ 0
-done_leaves_none release tree h x gone done = done.left ∙ none_failed tree done.tried _ (subst HaveGone done.calls gone)
+done_leaves_none : (release : Ask) (tree : ℕ) (received : List ℕ) (h : List Deed) (x : CkptAnswer) → HaveGone (calls_of h) → IsDone release tree received h x → x.left ≡ 0
+done_leaves_none release tree received h x gone done = done.left ∙ none_failed tree done.tried _ (subst HaveGone done.calls gone)
 
 -- ---- all
 
@@ -146,5 +146,5 @@ pub took_well : (old new : Making) (h : List Deed) (a : Answer) (turn : Turn Ckp
     → Tells old h a new turn → MeansDone (making_ask old) old h turn → IsWell old.tree ((making_ask old, a) ∷ calls_of h) turn
 took_well old new h a More came calm had well tells done = tt
 took_well old new h a (Ended x) came calm had well tells done =
-    done_leaves_none (making_ask old) old.tree h x (came_gone old.tree h old came calm had) done
+    done_leaves_none (making_ask old) old.tree old.received h x (came_gone old.tree h old came calm had) done
 took_well old new h a (Stopped t) came calm had well tells done = stop_well old new h a t came calm well tells (is_memory t)

@@ -185,7 +185,6 @@ impl TreeCkpt {
         ensures causes { (h : List Deed) → Went h self.old → Causes who (C.seen cloud.old) (C.seen cloud.new) h self.old self.new result }
         // It keeps and answers each trouble that the answer of a step demands.
         ensures exact { (h : List Deed) → Went h self.old → Exact who (C.seen cloud.old) (C.seen cloud.new) h self.old self.new result }
-        // At Done the calls were these, in this order.
         // At Done the calls were these, in this order: each put is right by what was got before it.
         ensures done { (h : List Deed) → Went h self.old → MeansDone (making_ask self.old) self.old h result }
         // Where all calls went well, an end leaves no message, and no stop is for a call that failed, a lease that was over or a lock that was held.

@@ -65,6 +65,6 @@ returns-clause-well g c = λ h went. record {
   well = λ calm had. took_well c.args.self.now c.absorb.new.self h c.call-answer.result _ went calm.1 had (goes_well _ c.call-answer.ensures.made calm.0)
       (took_tells c.args.self.now _ h c.call-answer.result _ (went_brought c.args.self.now h went) c.call-answer.ensures.made.fits
       (took_handed c.args.self.now _ _ c.call-answer.result _ c.call-answer.ensures.left c.absorb.ensures.took))
-      (took_done c.args.self.now _ h c.call-answer.result _ (went_brought c.args.self.now h went) (went_done c.args.self.now h went)
+      (took_done c.args.self.now _ h c.call-answer.result _ went (went_brought c.args.self.now h went) (went_done c.args.self.now h went)
       (took_handed c.args.self.now _ _ c.call-answer.result _ c.call-answer.ensures.left c.absorb.ensures.took));
 }

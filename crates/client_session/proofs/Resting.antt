@@ -1,5 +1,5 @@
 -- What no rule keeps from beginning is an open client with nothing at work.
-use Rattle.std.proofs.Common.{◌≡◌, ◌≢◌, Option, Some, None, refl}
+use Rattle.std.proofs.Common.{◌≡◌, ◌≢◌, Some, None, refl}
 use Rattle.db_base.specs.declared.refusal.Refusal.{Refusal}
 use Rattle.db_base.specs.declared.refusal.Refusal.TheVariants as rule
 use Rattle.recover_run.specs.declared.home.Home.{Home}

@@ -33,6 +33,7 @@ use Rattle.commit_writes.specs.Well.{IsWell, EndsWell, Well}
 use Rattle.commit_writes.specs.Within.{Went}
 use Rattle.commit_writes.proofs.Knowing.{KnowsAt, Knows}
 use Rattle.commit_writes.proofs.Meaning.{post_asked, went_knows, only_memory, came_means}
+use Rattle.commit_writes.proofs.Going.{went_gone}
 use Rattle.commit_writes.proofs.Marking.{went_marked}
 use Rattle.commit_writes.proofs.Counting.{none_logged, opened_put, opened_posted, opened_settled, opened_more, deleted_before}
 
@@ -316,4 +317,8 @@ went_well who before after old new a turn made stops took = record {
       went_marked home records h old (record { who = who; ask = writing_ask old; answer = a; before = before; after = after }) x s went calm alone refl made
       (λ memory. stopped_not trouble.Memory (Committed x) (sym (stops memory) ∙ ended))
       ((went_exactly old new a turn made.fits stops took home records h went (Committed x)).only ended) left;
+  gone = λ home records h went none x ended.
+      went_gone home records h old (record { who = who; ask = writing_ask old; answer = a; before = before; after = after }) x went none refl made
+      (λ memory. stopped_not trouble.Memory (Committed x) (sym (stops memory) ∙ ended))
+      ((went_exactly old new a turn made.fits stops took home records h went (Committed x)).only ended);
 }

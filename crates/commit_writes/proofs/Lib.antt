@@ -1,6 +1,7 @@
 pub mod Counting
 pub mod Ending
 pub mod Exacting
+pub mod Going
 pub mod Keeping
 pub mod Knowing
 pub mod Marking

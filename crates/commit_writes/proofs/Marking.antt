@@ -52,7 +52,7 @@ mark_keeps (x ∷ ms) (suc i) zero h m e = h m e
 mark_keeps (x ∷ ms) (suc i) (suc j) h m e = mark_keeps ms i j h m e
 
 -- what is marked now
-marked_sets : (ms : List Posted) (id : ℕ) → IsMarked (marked ms id) id
+pub marked_sets : (ms : List Posted) (id : ℕ) → IsMarked (marked ms id) id
 marked_sets ms id some = on (id == 0) refl where
   on : (b : Bool) → (id == 0) ≡ b → (m : Posted) → slice_get (cond b ms (mark_at ms (id - 1))) (id - 1) ≡ Some m → m.deleted ≡ true
   on true none m e = absurd (no (eqb-true id 0 none)) where
@@ -83,7 +83,7 @@ the_state : (s t : CloudState) → ◌≡◌ {A = Option CloudState} (Some s) (S
 the_state s t e = cc (e)
 
 -- the message is marked in the state behind it
-deletes : (x : Deed) (q : QueueName) (id : ℕ) (s t : CloudState) → IsMade x → x.ask ≡ Delete q id → x.answer ≡ Done → x.before.state ≡ Some s → x.after.state ≡ Some t → t.messages q ≡ marked (s.messages q) id
+pub deletes : (x : Deed) (q : QueueName) (id : ℕ) (s t : CloudState) → IsMade x → x.ask ≡ Delete q id → x.answer ≡ Done → x.before.state ≡ Some s → x.after.state ≡ Some t → t.messages q ≡ marked (s.messages q) id
 deletes x q id s t made asks answers told left =
     let l : Leaves x.who x.ask x.answer x.before.counts x.after.counts s x.after.state = made.state s told in
     let row : Weather x.who (Delete q id) Done x.before.counts x.after.counts (called x.who l.after.now s) l.after =
@@ -166,7 +166,7 @@ delete_marks h w x id Memory before here asks answers fits goes made calm next =
 delete_marks h w x id a before here asks answers fits goes made calm next = absurd fits
 
 -- the deletion in hand
-asks_deletion : (h : Home) (cs : Calls) (w : Writing) (x : Deed) (k : KnowsDeleting h cs w) → x.ask ≡ delete_ask w (slice_get w.ids w.place) → x.ask ≡ Delete (queue.Atomic w.home.client) k.id
+pub asks_deletion : (h : Home) (cs : Calls) (w : Writing) (x : Deed) (k : KnowsDeleting h cs w) → x.ask ≡ delete_ask w (slice_get w.ids w.place) → x.ask ≡ Delete (queue.Atomic w.home.client) k.id
 asks_deletion h cs w x k asked = asked ∙ ap (λ (o : Option ℕ). delete_ask w o) k.here
 
 marks_next : (stage : Stage) (home : Home) (cs : Calls) (w : Writing) (x : Deed) (h : List Deed) → KnowsAt stage home cs w → MarkedAt stage w h → x.ask ≡ ask_at stage w → IsMade x → IsCalm x → ComesNext h x
@@ -192,13 +192,13 @@ came_marks home changes rs start goes (x ∷ h) m (from, came, asked, made, lead
 
 -- ---- at the end
 
-abbrev Begins : Calls → Calls → Type 0
+abbrev pub Begins : Calls → Calls → Type 0
 Begins front cs = (later : Calls) × (cs ≡ front ++ later)
 
-begins_more : (front cs more : Calls) → Begins front cs → Begins front (cs ++ more)
+pub begins_more : (front cs more : Calls) → Begins front cs → Begins front (cs ++ more)
 begins_more front cs more (later, are) = (later ++ more, ap (λ (l : Calls). l ++ more) are ∙ append_assoc front later more)
 
-begins_settled : (h : Home) (rs : List AtomicRec) (ids posts : List ℕ) (more : Calls) → Begins (all_logged h rs ids) (all_settled h rs ids posts ++ more)
+pub begins_settled : (h : Home) (rs : List AtomicRec) (ids posts : List ℕ) (more : Calls) → Begins (all_logged h rs ids) (all_settled h rs ids posts ++ more)
 begins_settled h rs ids posts more =
     begins_more (all_logged h rs ids) (all_settled h rs ids posts) more
     (begins_more (all_logged h rs ids) (all_posted h rs ids rs posts) ((put_of h (settled_of h rs), Done) ∷ [])

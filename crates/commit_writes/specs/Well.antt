@@ -7,9 +7,11 @@ use Rattle.db_base.specs.declared.trouble.CommitAnswer.{CommitAnswer}
 use Rattle.db_base.specs.declared.trouble.CommitAnswer.TheVariants.{Committed, NotCommitted, InDoubt, CommittedOpen}
 use Rattle.log_codec.specs.declared.record.AtomicRec.{AtomicRec}
 use Rattle.cloud_trait.specs.declared.answer.Answer.{Answer}
+use Rattle.cloud_trait.specs.declared.answer.Answer.TheVariants.{Done}
 use Rattle.cloud_trait.specs.declared.state.Posted.{Posted}
 use Rattle.cloud_trait.specs.declared.turn.Turn.{Turn}
 use Rattle.cloud_trait.specs.declared.turn.Turn.TheVariants.{More, Ended, Stopped}
+use Rattle.cloud_trait.specs.Ask.{Delete}
 use Rattle.cloud_trait.specs.Caller.{Caller}
 use Rattle.cloud_trait.specs.Seen.{Seen}
 use Rattle.cloud_trait.specs.State.{CloudState}
@@ -46,8 +48,29 @@ pub record AreMarked (home : Home) (records : List AtomicRec) (calls : Calls) (s
   pub are : calls ≡ all_logged home records ids ++ later
   pub marked : AllByRecursion (IsMarked (s.messages (queue.Atomic home.client))) ids
 
+-- the call did not raise the count of faults
+abbrev pub RaisesNoFault : Deed → Type 0
+RaisesNoFault d = d.after.counts.faults ≡ d.before.counts.faults
+
+-- one of the calls deleted this message of the client's ATOMIC queue: it was done, and the message is marked in the state that it left
+pub record IsGone (client : ℕ) (h : List Deed) (id : ℕ) : Type 0 where
+  pub place : ℕ
+  pub deletion : Deed
+  pub among : slice_get h place ≡ Some deletion
+  pub asks : deletion.ask ≡ Delete (queue.Atomic client) id
+  pub done : deletion.answer ≡ Done
+  pub marks : (s t : CloudState) → deletion.before.state ≡ Some s → deletion.after.state ≡ Some t → IsMarked (t.messages (queue.Atomic client)) id
+
+-- the calls began with the sends of all records to the client's ATOMIC queue, and each message that they sent there was marked by its own deletion
+pub record AreGone (home : Home) (records : List AtomicRec) (h : List Deed) : Type 0 where
+  pub ids : List ℕ
+  pub later : Calls
+  pub logged : length ids ≡ length records
+  pub are : told h ≡ all_logged home records ids ++ later
+  pub gone : AllByRecursion (IsGone home.client h) ids
+
 -- where the call of the step is calm it ends no other way; where all calls were and nobody else acted between them, the ATOMIC messages of a commit
--- are marked in the state that its last call left
+-- are marked in the state that its last call left; where no call raised the count of faults, each was marked by its own deletion, whoever else acted
 pub record Well (who : Caller) (before after : Seen) (old : Writing) (turn : Turn CommitAnswer) : Type 0 where
   pub answer : Answer
   pub made : Makes who (writing_ask old) answer before after
@@ -57,3 +80,6 @@ pub record Well (who : Caller) (before after : Seen) (old : Writing) (turn : Tur
       → AreCalm (record { who = who; ask = writing_ask old; answer = answer; before = before; after = after } ∷ h)
       → AreAlone (record { who = who; ask = writing_ask old; answer = answer; before = before; after = after } ∷ h)
       → (x : ℕ) → turn ≡ Ended (Committed x) → (s : CloudState) → after.state ≡ Some s → AreMarked home records (told h ++ (writing_ask old, answer) ∷ []) s
+  pub gone : (home : Home) (records : List AtomicRec) (h : List Deed) → Went home records h old
+      → AllByRecursion RaisesNoFault (record { who = who; ask = writing_ask old; answer = answer; before = before; after = after } ∷ h)
+      → (x : ℕ) → turn ≡ Ended (Committed x) → AreGone home records (record { who = who; ask = writing_ask old; answer = answer; before = before; after = after } ∷ h)

@@ -33,6 +33,7 @@ use Rattle.commit_writes.specs.Calls.{Calls, told}
 use Rattle.commit_writes.specs.Exact.{IsPut, IsDeletion, NonePut, WasOpened, deletions_in, deletions, DemandsNot, Demands, Exactly}
 use Rattle.commit_writes.specs.Exact.{Exact as WritesExact}
 use Rattle.commit_writes.specs.Names.{IsSentTo, IsOwnCall}
+use Rattle.commit_writes.specs.Well.{RaisesNoFault}
 use Rattle.commit_writes.specs.Well.{Well as WritesWell}
 use Rattle.commit_writes.specs.Well.{EndsWell as WritesEndWell}
 use Rattle.commit_writes.specs.Within.{Went as WritesWent}
@@ -424,12 +425,18 @@ walk_well first d w c who before after n turn steps = record {
       (turn_memory home changes _ (home_of n.0) turn ((walk_meant first d w c who before after n turn steps).means home changes went.1 went.2 h went.3 went.4));
   marked = λ home changes h went calm alone x ended s left.
       absurd (no_deletion first d w c (((walk_exact first d w c who before after n turn steps).exact home changes h went (Committed x) tt).only ended).1);
+  gone = λ home changes h went none x ended.
+      absurd (no_deletion first d w c (((walk_exact first d w c who before after n turn steps).exact home changes h went (Committed x) tt).only ended).1);
 }
 
 -- .. and of a commit that writes, behind the walks
 calm_front : (later first : List Deed) → AreCalm (later ++ first) → AreCalm later
 calm_front [] first calm = tt
 calm_front (x ∷ later) first calm = (calm.0, calm_front later first calm.1)
+
+faultless_front : (later first : List Deed) → AllByRecursion RaisesNoFault (later ++ first) → AllByRecursion RaisesNoFault later
+faultless_front [] first none = tt
+faultless_front (x ∷ later) first none = (none.0, faultless_front later first none.1)
 
 next_front : (later first : List Deed) (x : Deed) → ComesNext (later ++ first) x → ComesNext later x
 next_front [] first x next = tt
@@ -474,6 +481,20 @@ write_well d c who before after turn e = record {
         marked =
             e.marked (walked_home home k.begun_so.uses) (routed_of (walked_home home k.begun_so.uses) changes k.begun_so.pages) k.later (writes_went home changes h d.writes went.0 k)
             calm_all alone_all x ended s left;
+      };
+  gone = λ home changes h went none x ended.
+      let k : KnowsWrites home changes h d.writes = write_knows_so d c home changes h went in
+      let call : Deed = record { who = who; ask = writing_ask d.writes; answer = e.answer; before = before; after = after } in
+      record {
+        uses = k.begun_so.uses;
+        pages = k.begun_so.pages;
+        gets = k.first;
+        writes = call ∷ k.later;
+        are = ap (λ (l : List Deed). call ∷ l) k.are;
+        got = k.begun_so.gets;
+        gone =
+            e.gone (walked_home home k.begun_so.uses) (routed_of (walked_home home k.begun_so.uses) changes k.begun_so.pages) k.later (writes_went home changes h d.writes went.0 k)
+            (none.0, faultless_front k.later k.first (subst (AllByRecursion RaisesNoFault) k.are none.1)) x ended;
       };
 }
 

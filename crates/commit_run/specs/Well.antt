@@ -19,7 +19,7 @@ use Rattle.recover_run.specs.declared.home.Home.{Home}
 use Rattle.page_cache.specs.Cache.{Cache}
 use Rattle.commit_writes.specs.Writing.{routed_of}
 use Rattle.commit_writes.specs.Calls.{Calls, told}
-use Rattle.commit_writes.specs.Well.{AreMarked}
+use Rattle.commit_writes.specs.Well.{AreMarked, RaisesNoFault, AreGone}
 use Rattle.commit_run.specs.Meaning.{Use, walked_home, IsGet}
 use Rattle.commit_run.specs.Run.{Run, asks}
 use Rattle.commit_run.specs.Within.{Went}
@@ -55,8 +55,18 @@ pub record IsCleared (home : Home) (changes : List Noted) (calls : Calls) (s : C
   pub got : AllByRecursion IsGet gets
   pub marked : AreMarked (walked_home home uses) (routed_of (walked_home home uses) changes pages) writes s
 
+-- behind the gets of the walks the ATOMIC messages of the records were sent, and each was marked by its own deletion
+pub record IsEmptied (home : Home) (changes : List Noted) (h : List Deed) : Type 0 where
+  pub uses : List Use
+  pub pages : List ℕ
+  pub gets : List Deed
+  pub writes : List Deed
+  pub are : h ≡ writes ++ gets
+  pub got : AllByRecursion IsGet (told gets)
+  pub gone : AreGone (walked_home home uses) (routed_of (walked_home home uses) changes pages) writes
+
 -- where the call of the step is calm it ends no other way; where all calls were and nobody else acted between them, the ATOMIC messages of a commit
--- are marked in the state that its last call left
+-- are marked in the state that its last call left; where no call raised the count of faults, each was marked by its own deletion, whoever else acted
 pub record Well (who : Caller) (before after : Seen) (old : Run × Cache) (turn : Turn CommitAnswer) : Type 0 where
   pub answer : Answer
   pub made : Makes who (asks old) answer before after
@@ -66,3 +76,6 @@ pub record Well (who : Caller) (before after : Seen) (old : Run × Cache) (turn 
       → AreCalm (record { who = who; ask = asks old; answer = answer; before = before; after = after } ∷ h)
       → AreAlone (record { who = who; ask = asks old; answer = answer; before = before; after = after } ∷ h)
       → (x : ℕ) → turn ≡ Ended (Committed x) → (s : CloudState) → after.state ≡ Some s → IsCleared home changes (told h ++ (asks old, answer) ∷ []) s
+  pub gone : (home : Home) (changes : List Noted) (h : List Deed) → Went home changes h old
+      → AllByRecursion RaisesNoFault (record { who = who; ask = asks old; answer = answer; before = before; after = after } ∷ h)
+      → (x : ℕ) → turn ≡ Ended (Committed x) → IsEmptied home changes (record { who = who; ask = asks old; answer = answer; before = before; after = after } ∷ h)

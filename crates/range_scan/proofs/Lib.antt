@@ -6,3 +6,4 @@ pub mod Served
 pub mod Listing
 pub mod Causing
 pub mod Within
+pub mod Exactness

@@ -7,3 +7,4 @@ pub mod Listing
 pub mod Causing
 pub mod Within
 pub mod Exactness
+pub mod Whole

@@ -7,5 +7,5 @@ mod scan;
 mod sight;
 
 pub use items::Items;
-pub use laws::ready_laws;
+pub use laws::{listing_laws, ready_laws};
 pub use scan::RangeScan;

@@ -8,3 +8,4 @@ pub mod Causing
 pub mod Within
 pub mod Exactness
 pub mod Whole
+pub mod Fences

@@ -6,3 +6,6 @@ pub mod Served
 pub mod Listing
 pub mod Causing
 pub mod Within
+pub mod Exactness
+pub mod Whole
+pub mod Fences

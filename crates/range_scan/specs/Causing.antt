@@ -1,6 +1,7 @@
 -- Why a scan stops: the answer to its get shows it, or the leaves that the cache keeps and the links between them do.
-use Rattle.std.specs.Prelude.{ℕ, ◌≡◌, ◌≢◌, ◌⊎◌, true, false, List, Option, Some, None, Ok}
+use Rattle.std.specs.Prelude.{ℕ, ◌≡◌, ◌≢◌, ◌==◌, ◌⊎◌, true, false, List, Option, Some, None, Ok}
 use Rattle.byte_format.specs.Order.{bytes_same, below_bound}
+use Rattle.db_base.specs.declared.names.ObjName.TheVariants as object
 use Rattle.db_base.specs.declared.trouble.Trouble.{Trouble}
 use Rattle.db_base.specs.declared.trouble.Trouble.TheVariants as trouble
 use Rattle.leaf_view.specs.Leaf.{Leaf}
@@ -17,9 +18,9 @@ use Rattle.calm_calls.specs.Calm.{IsCalm}
 use Rattle.page_cache.specs.Cache.{Cache, accepts}
 use Rattle.page_cache.specs.Held.{leaf_at}
 use Rattle.page_cache.specs.Refused.{IsDamaged}
-use Rattle.tree_walk.specs.Walk.{Spot}
-use Rattle.tree_walk.specs.Causing.{FailsSo, IsOld}
-use Rattle.tree_walk.specs.Causing.{Shows as WalkShows}
+use Rattle.tree_walk.specs.Walk.{Spot, sought, right_of, came_to}
+use Rattle.tree_walk.specs.Causing.{FailsSo, IsOld, AnswerShows, Brings, BreaksLevel, LeadsTo, LinkShows, IsStopped}
+use Rattle.tree_walk.specs.Causing.{Shows as WalkShows, BreaksFence as BreaksWalkFence}
 use Rattle.range_scan.specs.Scan.{Scan, scan_object, scan_asks, scan_came_to, right_behind}
 
 -- the answer to the get of a right page is too old, or in no spelling of a leaf
@@ -68,3 +69,66 @@ pub record Causes (who : Caller) (before after : Seen) (old new : Scan × Cache)
   pub made : Makes who (scan_asks old) answer before after
   pub tells : (t : Trouble) → turn ≡ Stopped t → t ≢ trouble.Memory → Shows old answer new t
   pub well : IsCalm (deed_of who old answer before after) → turn ≢ Stopped trouble.Failed
+
+-- the local work before the first call, but for want of memory, shows its trouble by the objects that the cache keeps and their links
+abbrev pub CausesReady : Scan × Cache → Scan × Cache → Turn ℕ → Type 0
+CausesReady m n turn = (t : Trouble) → turn ≡ Stopped t → t ≢ trouble.Memory → LinkShows m.1 m.0.walk n.0.walk t
+
+-- ---- and the converse
+
+-- the leaf that the answer brings to its walk is the one at which the walk ends, and leads on, below the key at which the scan stops, to a
+-- page that the scan had come to
+pub record FirstLeadsBack (m : Scan × Cache) (a : Answer) (t : Trouble) : Type 0 where
+  pub cache : Cache
+  pub spot : Spot
+  pub leaf : Leaf
+  pub next : Spot
+  pub brings : Brings (m.0.walk, m.1) a cache
+  pub in_hand : m.0.walk.spot ≡ Some spot
+  pub bottom : (spot.level == 0) ≡ true
+  pub kept : leaf_at cache (object.Page m.0.walk.tree spot.page) ≡ Some leaf
+  pub same : bytes_same leaf.low spot.low ≡ true
+  pub ends : right_of (sought m.0.walk) leaf.high (page_at leaf.right) ≡ None
+  pub linked : right_behind leaf.high (page_at leaf.right) ≡ Some next
+  pub wanted : below_bound next.low m.0.to ≡ true
+  pub came : scan_came_to m.0 next.page ≡ true
+  pub is : t ≡ trouble.Loop next.page
+
+-- .. and so does the leaf that it brings of a right page, which begins as promised
+pub record LeadsBack (m : Scan × Cache) (a : Answer) (spot : Spot) (t : Trouble) : Type 0 where
+  pub got : Option (List ℕ)
+  pub version : ℕ
+  pub cache : Cache
+  pub leaf : Leaf
+  pub next : Spot
+  pub answered : a ≡ answer.Got got
+  pub accepted : accepts m.1 (scan_object m.0) true got ≡ Ok (version, cache)
+  pub kept : leaf_at cache (scan_object m.0) ≡ Some leaf
+  pub same : bytes_same leaf.low spot.low ≡ true
+  pub linked : right_behind leaf.high (page_at leaf.right) ≡ Some next
+  pub wanted : below_bound next.low m.0.to ≡ true
+  pub came : scan_came_to m.0 next.page ≡ true
+  pub is : t ≡ trouble.Loop next.page
+
+-- while the walk is in hand: where the answer shows a trouble, or the object that it brings does, or the link of the first leaf
+pub record IsExactWalk (m : Scan × Cache) (a : Answer) (turn : Turn ℕ) : Type 0 where
+  pub answered : (t : Trouble) → AnswerShows (m.0.walk, m.1) a t → IsStopped turn t
+  pub brought : (c : Cache) (s : Spot) (t : Trouble) → Brings (m.0.walk, m.1) a c → m.0.walk.spot ≡ Some s
+      → BreaksLevel c m.0.walk.tree s t ⊎ BreaksWalkFence c m.0.walk.tree s t → IsStopped turn t
+  pub looped : (c : Cache) (to : Spot) → Brings (m.0.walk, m.1) a c → LeadsTo c m.0.walk m.0.walk.spot to → came_to m.0.walk to.page ≡ true
+      → IsStopped turn (trouble.Loop to.page)
+  pub led_back : (t : Trouble) → FirstLeadsBack m a t → IsStopped turn t
+
+-- at a right page: where the answer shows a trouble, or the low key of the leaf that it brings, or that leaf's link
+pub record IsExactRight (m : Scan × Cache) (a : Answer) (spot : Spot) (turn : Turn ℕ) : Type 0 where
+  pub failed : (t : Trouble) → FailsSo a t → IsStopped turn t
+  pub refused : (t : Trouble) → RefusesSo m a t → IsStopped turn t
+  pub broken : (t : Trouble) → BreaksFence m a spot t → IsStopped turn t
+  pub led_back : (t : Trouble) → LeadsBack m a spot t → IsStopped turn t
+
+-- where the answer, or the object that was in hand and is kept now, shows a trouble, the step stops with it, if not for want of memory
+pub record Exact (who : Caller) (before after : Seen) (old : Scan × Cache) (turn : Turn ℕ) : Type 0 where
+  pub answer : Answer
+  pub made : Makes who (scan_asks old) answer before after
+  pub walked : old.0.spot ≡ None → IsExactWalk old answer turn
+  pub right : (spot : Spot) → old.0.spot ≡ Some spot → IsExactRight old answer spot turn

@@ -4,3 +4,4 @@ pub mod Pairs
 pub mod Listing
 pub mod Causing
 pub mod Within
+pub mod Whole

@@ -2,8 +2,10 @@
 #![tactic(auto)]
 
 mod items;
+mod laws;
 mod scan;
 mod sight;
 
 pub use items::Items;
+pub use laws::{listing_laws, ready_laws};
 pub use scan::RangeScan;

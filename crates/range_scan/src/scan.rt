@@ -67,7 +67,7 @@ impl RangeScan {
     ghost use Rattle.range_scan.specs.Ending.{calls_left};
     ghost use Rattle.range_scan.specs.Pairs.{AreItemsIn};
     ghost use Rattle.range_scan.specs.Listing.{Range, Move, Scanned, Means};
-    ghost use Rattle.range_scan.specs.Causing.{Causes};
+    ghost use Rattle.range_scan.specs.Causing.{Causes, Exact};
     ghost use Rattle.range_scan.specs.Within.{IsWithin};
 
     /// The scan of a tree from a key on, or from its left end, and below a key, or to its right end. Takes no memory.
@@ -299,6 +299,8 @@ impl RangeScan {
         ensures means { (r : Range) (h : List Move) → Scanned r h (self.old, cache.old) → Means r who (C.seen cloud.old) (C.seen cloud.new) (self.old, cache.old) (self.new, cache.new) h result }
         // A trouble is shown by the answer to the call, or by the leaves that the cache keeps then and the links between them.
         ensures causes { (r : Range) (h : List Move) → Scanned r h (self.old, cache.old) → Causes who (C.seen cloud.old) (C.seen cloud.new) (self.old, cache.old) (self.new, cache.new) result }
+        // Where the answer, or the object that it brought, shows a trouble, it stops with that.
+        ensures exact { (r : Range) (h : List Move) → Scanned r h (self.old, cache.old) → Exact who (C.seen cloud.old) (C.seen cloud.new) (self.old, cache.old) result }
         // It comes to each page once, and one call more than these is all.
         ensures within { (r : Range) (h : List Move) → Scanned r h (self.old, cache.old) → IsWithin (length h + 1) self.old }
     {

@@ -1,0 +1,29 @@
+//! Laws of a scan.
+
+ghost use Rattle.std.specs.Prelude.{◌≡◌, ℕ, List, Option, Some};
+ghost use Rattle.std.specs.List.{AllByRecursion};
+ghost use Rattle.cloud_trait.specs.declared.turn.Turn.{Turn as TurnOf};
+ghost use Rattle.leaf_view.specs.Leaf.{Leaf, IsLeaf};
+ghost use Rattle.page_cache.specs.Cache.{Cache};
+ghost use Rattle.page_cache.specs.Held.{as_leaf};
+ghost use Rattle.tree_walk.specs.Moves.{Moves};
+ghost use Rattle.range_scan.specs.Causing.{CausesReady};
+ghost use Rattle.range_scan.specs.Listing.{Range, AreMeeting};
+ghost use Rattle.range_scan.specs.Scan.{Scan, scan_ready};
+ghost use Rattle.range_scan.specs.Whole.{Listed, leaves_in, IsFenced, IsListed, IsWhole};
+
+/// What the local work before the first call comes to.
+pub fn ready_laws()
+    // A trouble is shown by the objects that the cache keeps and the links between them.
+    ensures { (s : Scan) (c : Cache) (n : Scan × Cache) (t : TurnOf ℕ) → Moves (scan_ready (s, c)) n t → CausesReady (s, c) n t }
+{}
+
+/// What the lists of a scan's leaves come to over the whole scan.
+pub fn listing_laws()
+    // The lists of leaves that meet are, one behind the other, the list of their whole range.
+    ensures whole { (r : Range) (xs : List Listed) → AreMeeting r (leaves_in xs) → AllByRecursion IsListed xs → IsWhole xs }
+    // A leaf that is spelled begins below its high key.
+    ensures spelled { (bytes : List ℕ) (l : Leaf) → IsLeaf bytes l → IsFenced l }
+    // .. and so does one that a get answered.
+    ensures fenced { (got : Option (List ℕ)) (l : Leaf) → as_leaf (Some got) ≡ Some l → IsFenced l }
+{}

@@ -47,18 +47,37 @@ fn scan_of(alloc: Global, from: &[u8], to: &[u8]) -> Result<RangeScan, Fail> {
     Ok(RangeScan::new(alloc, tree()?, from, to))
 }
 
+// Each part is made in a function of its own, since each place at which one may fail lets go what was made before it.
+
+fn with_store(alloc: Global, store: Store) -> Result<Scanner, Fail> {
+    match PageCache::new(alloc) {
+        Ok(cache) => with_cache(alloc, store, cache),
+        Err(_) => Err(Fail::from("no cache")),
+    }
+}
+
+fn with_cache(alloc: Global, store: Store, cache: PageCache) -> Result<Scanner, Fail> {
+    match TxnBuffer::new(alloc) {
+        Ok(buffer) => Ok(joined(alloc, store, cache, buffer)),
+        Err(_) => Err(Fail::from("no buffer")),
+    }
+}
+
+fn joined(alloc: Global, store: Store, cache: PageCache, buffer: TxnBuffer) -> Scanner {
+    let head = Head::empty(alloc);
+    Scanner {
+        alloc,
+        store,
+        cache,
+        own: Own { head, buffer },
+        story: Story::new(alloc),
+    }
+}
+
 impl Scanner {
     /// Over the tree of four leaves.
     pub(crate) fn new(alloc: Global) -> Result<Scanner, Fail> {
-        let head = Head::empty(alloc);
-        let buffer = TxnBuffer::new(alloc)?;
-        Ok(Scanner {
-            alloc,
-            store: Store::new(alloc)?,
-            cache: PageCache::new(alloc)?,
-            own: Own { head, buffer },
-            story: Story::new(alloc),
-        })
+        with_store(alloc, Store::new(alloc)?)
     }
 
     /// The client's head from now on.

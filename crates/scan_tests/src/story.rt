@@ -1,0 +1,74 @@
+//! What a scan did, as a text: a line for each call, for each leaf, and for each pair of a leaf.
+
+use call_text::call_text;
+use cloud_trait::call::Call;
+use db_base::ids::PageId;
+use db_base::trouble::Trouble;
+use range_scan::Items;
+use reply_text::write::trouble_text;
+use std::alloc::Global;
+use std::test::Fail;
+use words::bytes::hexadecimal;
+
+#[derive(Drop)]
+pub(crate) struct Story {
+    alloc: Global,
+    text: String,
+}
+
+impl Story {
+    pub(crate) fn new(alloc: Global) -> Story {
+        Story {
+            alloc,
+            text: String::new(alloc),
+        }
+    }
+
+    pub(crate) fn as_str(&self) -> &str {
+        self.text.as_str()
+    }
+
+    /// Adds a line.
+    fn line(&mut self, text: &str) -> Result<(), Fail> {
+        self.text.push_str(text)?;
+        self.text.push_str("\n")?;
+        Ok(())
+    }
+
+    /// Adds a call.
+    pub(crate) fn call(&mut self, call: &Call<'_>) -> Result<(), Fail> {
+        let text = call_text(self.alloc, call)?;
+        self.line(text.as_str())
+    }
+
+    /// Adds a leaf.
+    pub(crate) fn leaf(&mut self, page: PageId) -> Result<(), Fail> {
+        let number = page.get();
+        let text = format!(in self.alloc; "leaf {number}")?;
+        self.line(text.as_str())
+    }
+
+    /// Adds a trouble.
+    pub(crate) fn trouble(&mut self, trouble: &Trouble) -> Result<(), Fail> {
+        let text = trouble_text(self.alloc, trouble).ok().ok_or("no text")?;
+        self.line(text.as_str())
+    }
+
+    /// Adds a pair.
+    fn pair(&mut self, key: &[u8], payload: &[u8]) -> Result<(), Fail> {
+        let key = hexadecimal(self.alloc, key)?;
+        self.text.push_str(key.as_str())?;
+        self.text.push_str("=")?;
+        let payload = hexadecimal(self.alloc, payload)?;
+        self.line(payload.as_str())
+    }
+
+    /// Adds the pairs of a leaf.
+    pub(crate) fn pairs(&mut self, items: Items<'_>) -> Result<(), Fail> {
+        let mut items = items;
+        while let Some((key, payload)) = items.take_first() {
+            self.pair(key, payload)?;
+        }
+        Ok(())
+    }
+}

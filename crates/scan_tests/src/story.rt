@@ -66,9 +66,12 @@ impl Story {
     /// Adds the pairs of a leaf.
     pub(crate) fn pairs(&mut self, items: Items<'_>) -> Result<(), Fail> {
         let mut items = items;
-        while let Some((key, payload)) = items.take_first() {
+        for _ in 0..1000u64 {
+            let Some((key, payload)) = items.take_first() else {
+                return Ok(());
+            };
             self.pair(key, payload)?;
         }
-        Ok(())
+        Err(Fail::from("more pairs than any tree of these tests has"))
     }
 }

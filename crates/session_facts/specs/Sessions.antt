@@ -3,3 +3,4 @@ pub mod Noting
 pub mod Sessions
 pub mod Puts
 pub mod Answering
+pub mod Explaining

@@ -189,9 +189,9 @@ left_told new (Ended (answer.Done n)) = n.left
 left_told new (Ended a) = 0
 left_told new (Stopped q) = 0
 
--- what a step of an operation brings: a trouble that it meets is shown by its call, want of memory apart, and a trouble that it met before is
--- its answer; and no more deletions failed than before, unless a call failed
+-- what a step of an operation brings: a trouble that it meets is shown by its call, want of memory and deletions that failed before apart; a
+-- trouble that it met before is its answer; and no more deletions failed than before, unless a call failed
 pub record Explains (ask : Ask) (c d : Counts) (s t : CloudState) (old new : Work) (turn : Turn Answer) : Type 0 where
-  pub shown : trouble_in old ≡ None → (k : Trouble) → k ≢ trouble.Memory → Meets new turn k → IsShown ask (leases_of old) c d s t k
+  pub shown : trouble_in old ≡ None → left_in old ≡ 0 → (k : Trouble) → k ≢ trouble.Memory → Meets new turn k → IsShown ask (leases_of old) c d s t k
   pub kept : (k : Trouble) → trouble_in old ≡ Some k → KeepsTrouble new turn k
   pub left : (left_told new turn ≤ left_in old) ⊎ Rose c.faults d.faults

@@ -9,7 +9,7 @@ use Rattle.cloud_facts.specs.Book.Records.{IsIn}
 use Rattle.cloud_trait.specs.declared.turn.CkptAnswer.{CkptAnswer}
 use Rattle.cloud_trait.specs.declared.turn.Turn.{Turn}
 use Rattle.cloud_trait.specs.declared.turn.Turn.TheVariants.{More, Ended, Stopped}
-use Rattle.cloud_trait.specs.Ask.{Ask, Delete}
+use Rattle.cloud_trait.specs.Ask.{Ask}
 use Rattle.cloud_trait.specs.Claim.{Claim, IsOver}
 use Rattle.cloud_trait.specs.Machine.{Next, Goes, Ends, Stops}
 use Rattle.cloud_trait.specs.State.{CloudState, Counts}
@@ -189,14 +189,9 @@ left_told new (Ended (answer.Done n)) = n.left
 left_told new (Ended a) = 0
 left_told new (Stopped q) = 0
 
--- a deletion that did nothing, as one does for which there was no memory: no count rose, and the queues hold what they held
-abbrev pub DeletesNothing : Ask → Counts → Counts → CloudState → CloudState → Type 0
-DeletesNothing (Delete queue id) c d s t = (d ≡ c) × (t.messages ≡ s.messages)
-DeletesNothing ask c d s t = ⊥
-
 -- what a step of an operation brings: a trouble that it meets is shown by its call, want of memory and deletions that failed before apart; a
--- trouble that it met before is its answer; and no more deletions failed than before, unless a call failed or deleted nothing
+-- trouble that it met before is its answer; and no more deletions failed than before, unless a call failed
 pub record Explains (ask : Ask) (c d : Counts) (s t : CloudState) (old new : Work) (turn : Turn Answer) : Type 0 where
   pub shown : trouble_in old ≡ None → left_in old ≡ 0 → (k : Trouble) → k ≢ trouble.Memory → Meets new turn k → IsShown ask (leases_of old) c d s t k
   pub kept : (k : Trouble) → trouble_in old ≡ Some k → KeepsTrouble new turn k
-  pub left : (left_told new turn ≤ left_in old) ⊎ (Rose c.faults d.faults ⊎ DeletesNothing ask c d s t)
+  pub left : (left_told new turn ≤ left_in old) ⊎ Rose c.faults d.faults

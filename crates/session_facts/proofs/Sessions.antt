@@ -18,3 +18,5 @@ pub mod HeadPuts
 pub mod SettlingStops
 pub mod Stopping
 pub mod BeginStops
+pub mod Explaining
+pub mod Untroubled

@@ -9,6 +9,5 @@ pub mod RunOthers
 pub mod RunOutcomes
 pub mod RunHands
 pub mod HeadPuts
-pub mod AtOnce
 pub mod Stopping
 pub mod Telling

@@ -20,3 +20,4 @@ pub mod Stopping
 pub mod BeginStops
 pub mod Explaining
 pub mod Untroubled
+pub mod AtOnce

@@ -8,11 +8,11 @@ use Rattle.cloud_trait.specs.Machine.{Next, Goes, Ends, Stops}
 use Rattle.cloud_trait.specs.Views.{trouble_of, sent_of, done_of}
 use Rattle.commit_run.specs.declared.hand.Hand.{Hand}
 use Rattle.commit_run.specs.declared.hand.Hand.TheVariants.{Writes, First, Change}
-use Rattle.commit_run.specs.Draft.{Draft, planned, pruned_behind, leaf_noted, paged}
-use Rattle.commit_run.specs.Run.{Run, target_of, next_target, wrote, refused, troubled, by_turn, begun_turn, walk_to, seek, plan_on, stale_at, is_stale, walk_stopped, walk_turned, walked, next_at, run_next}
+use Rattle.commit_run.specs.Draft.{Draft, new_draft, planned, pruned_behind, leaf_noted, paged}
+use Rattle.commit_run.specs.Run.{Run, target_of, next_target, wrote, refused, troubled, by_turn, begun_turn, walk_to, seek, plan_on, stale_at, is_stale, walk_stopped, walk_turned, walked, long_walk, long_target, begin_walks, run_ready, next_at, run_next}
 use Rattle.commit_writes.specs.declared.stage.Stage.{Stage}
 use Rattle.commit_writes.specs.declared.stage.Stage.TheVariants.{Waiting, Logging, Opening, Sending, Settling, Deleting, Finished}
-use Rattle.commit_writes.specs.Writing.{Writing, routed_of, passes, not_committed, log_or_open, begun, routing, send_or_settle, send_at, delete_or_end, delete_at, logged_by, not_opened, opened_by, sent_by, settled_by, deleted_by, next_at as writes_at, writing_next}
+use Rattle.commit_writes.specs.Writing.{Writing, with_attempt, with_home, is_spent, routed_of, passes, not_committed, log_or_open, begun, routing, send_or_settle, send_at, delete_or_end, delete_at, logged_by, not_opened, opened_by, sent_by, settled_by, deleted_by, next_at as writes_at, writing_next}
 use Rattle.db_base.specs.declared.trouble.CommitAnswer.{CommitAnswer}
 use Rattle.db_base.specs.declared.trouble.CommitAnswer.TheVariants.{Committed, NotCommitted, InDoubt, CommittedOpen}
 use Rattle.db_base.specs.declared.trouble.Counter.TheVariants as counter
@@ -160,11 +160,14 @@ begun_told first d (Goes m) = tt
 begun_told first d (Ends m page) = tt
 begun_told first d (Stops m t) = troubled_told (pruned_behind d m.0 m.1) m.1 t
 
+walk_to_told : (first : Bool) (d : Draft) (c : Cache) (to : ℕ × List ℕ) → EndsTold (walk_to first d c to)
+walk_to_told first d c to = begun_told first d (walk_ready (new_walk to.0 (Some to.1) first, c))
+
 plan_on_told : (d : Draft) (c : Cache) → EndsTold (plan_on d c)
 plan_on_told d c = on (slice_get d.writes.changes (length (planned d).plan.pages))
   where
     on : (o : Option Noted) → EndsTold (seek (planned d) c (option_map target_of o))
-    on (Some n) = begun_told false (planned d) (walk_ready (new_walk (target_of n).0 (Some (target_of n).1) false, c))
+    on (Some n) = walk_to_told false (planned d) c (target_of n)
     on None = wrote_told (planned d) c (routing d.writes (planned d).plan.pages) (routes d.writes (planned d).plan.pages)
 
 stopped_told : (first : Bool) (d : Draft) (c : Cache) (t : Trouble) → EndsTold (walk_stopped first d c t)
@@ -191,3 +194,18 @@ run_tells m reply found = on m.0.hand
     on Writes = wrote_told m.0.draft m.1 (writing_next m.0.draft.writes reply) (writes m.0.draft.writes reply found)
     on (First w) = turned_told true m.0.draft (walk_next (w, m.1) reply)
     on (Change w) = turned_told false m.0.draft (walk_next (w, m.1) reply)
+
+-- a commit as it begins
+long_told : (d : Draft) (c : Cache) (o : Option (ℕ × List ℕ)) → EndsTold (long_walk d c o)
+long_told d c (Some to) = walk_to_told true d c to
+long_told d c None = plan_on_told d c
+
+pub ready_tells : (m : Run × Cache) → EndsTold (run_ready m)
+ready_tells m = on (is_spent m.0.draft.writes.home)
+  where
+    on : (b : Bool) → EndsTold (cond b (refused (new_draft m.0.draft.writes) m.1 (trouble.Exhausted counter.Txn))
+        (begin_walks (new_draft (cond b m.0.draft.writes (with_home m.0.draft.writes (with_attempt m.0.draft.writes.home)))) m.1))
+    on true = λ e. cc
+    on false =
+        let d = new_draft (with_home m.0.draft.writes (with_attempt m.0.draft.writes.home)) in
+        long_told d m.1 (long_target d.writes.home.head.pending)

@@ -147,19 +147,19 @@ answer_untroubled who before after old new a p calm explained well =
 
 -- ---- behind an answer
 
-at_rest : (w : Work) → trouble_in w ≡ None → left_in w ≡ 0 → IsUntroubled w
+pub at_rest : (w : Work) → trouble_in w ≡ None → left_in w ≡ 0 → IsUntroubled w
 at_rest w none left = record { trouble = λ k is. absurd (no_trouble k (sym none ∙ is)); left = left }
 
-rests_as : (w v : Work) → w ≡ v → IsUntroubled v → IsUntroubled w
+pub rests_as : (w v : Work) → w ≡ v → IsUntroubled v → IsUntroubled w
 rests_as w v e well = subst IsUntroubled (sym e) well
 
-idle_rests : (home : Home) → IsUntroubled (Idle home)
+pub idle_rests : (home : Home) → IsUntroubled (Idle home)
 idle_rests home = at_rest (Idle home) refl refl
 
 pub closed_rests : IsUntroubled Closed
 closed_rests = at_rest Closed refl refl
 
-stopped_rests : (k : Trouble) (home : Home) → IsUntroubled (stopped_work k home)
+pub stopped_rests : (k : Trouble) (home : Home) → IsUntroubled (stopped_work k home)
 stopped_rests trouble.Memory home = at_rest (Broken home.lease) refl refl
 stopped_rests k home = idle_rests home
 

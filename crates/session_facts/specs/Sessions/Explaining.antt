@@ -9,7 +9,7 @@ use Rattle.cloud_facts.specs.Book.Records.{IsIn}
 use Rattle.cloud_trait.specs.declared.turn.CkptAnswer.{CkptAnswer}
 use Rattle.cloud_trait.specs.declared.turn.Turn.{Turn}
 use Rattle.cloud_trait.specs.declared.turn.Turn.TheVariants.{More, Ended, Stopped}
-use Rattle.cloud_trait.specs.Ask.{Ask}
+use Rattle.cloud_trait.specs.Ask.{Ask, Receive}
 use Rattle.cloud_trait.specs.Claim.{Claim, IsOver}
 use Rattle.cloud_trait.specs.Machine.{Next, Goes, Ends, Stops}
 use Rattle.cloud_trait.specs.State.{CloudState, Counts}
@@ -158,15 +158,20 @@ Meets new turn t = (trouble_in new ≡ Some t) ⊎ (trouble_of_turn turn ≡ Som
 abbrev pub HasOver : List Claim → ℕ → Type 0
 HasOver held now = (l : Claim) × IsIn held l × IsOver now l
 
+-- the call receives when one of these leases is over
+abbrev pub ReceivesLate : Ask → List Claim → ℕ → Type 0
+ReceivesLate (Receive queue most) held now = HasOver held now
+ReceivesLate ask held now = ⊥
+
 -- A call shows a trouble, by the counts and the states before and behind it: a failure by the count of faults; a late call by a lease that
 -- it names and that is over; a held lock by the lock, or by the count of what was withheld; records that were not received by that count, or by
--- a lease in hand that is over; a stale read by the count of stale reads. The last number of a counter, and a page that a line named, are not
+-- a receive when a lease in hand is over; a stale read by the count of stale reads. The last number of a counter, and a page that a line named, are not
 -- the call's.
 abbrev pub IsShown : Ask → List Claim → Counts → Counts → CloudState → CloudState → Trouble → Type 0
 IsShown ask held c d s t trouble.Failed = Rose c.faults d.faults
 IsShown ask held c d s t (trouble.Late end now) = NamesLasting ask t.now → ⊥
 IsShown ask held c d s t (trouble.Busy lock until) = (TakesFree ask s t.now → ⊥) ⊎ Rose c.withheld d.withheld
-IsShown ask held c d s t (trouble.Waiting have need) = Rose c.withheld d.withheld ⊎ HasOver held t.now
+IsShown ask held c d s t (trouble.Waiting have need) = Rose c.withheld d.withheld ⊎ ReceivesLate ask held t.now
 IsShown ask held c d s t (trouble.Stale page least got) = Rose c.stale d.stale
 IsShown ask held c d s t trouble.Memory = Unit {0}
 IsShown ask held c d s t (trouble.Exhausted what) = Unit {0}

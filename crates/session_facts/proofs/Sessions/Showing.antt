@@ -1,5 +1,6 @@
--- A call that brought no value shows why.
-use Rattle.std.proofs.Common.{◌≡◌, ◌≢◌, ◌≤◌, ◌<◌, ◌⊎◌, inl, inr, ℕ, List, Option, Some, None, Err, refl, sym, subst, ◌∙◌, arith}
+-- A call that brought no value shows why: by the counts and the states before and behind it.
+use Rattle.std.proofs.Common.{◌≡◌, ◌≢◌, ◌<◌, ◌⊎◌, inl, inr, ℕ, List, Option, Some, None, Err, refl, sym, subst, ◌∙◌, arith}
+use Rattle.calm_calls.specs.Calm.{NamesLasting}
 use Rattle.cloud_trait.specs.declared.answer.Answer.{Answer}
 use Rattle.cloud_trait.specs.declared.answer.Answer.TheVariants.{Got, Sent, Received, Done, Given, Held, Renewed, Late, Failed, Memory}
 use Rattle.cloud_trait.specs.Ask.{Ask, Get, GetHeld, PutHeld, Send, Receive, Delete, Take, Renew, Release}
@@ -7,9 +8,8 @@ use Rattle.cloud_trait.specs.Caller.{Caller}
 use Rattle.cloud_trait.specs.Claim.{Claim, Lasts, IsOver}
 use Rattle.cloud_trait.specs.Seen.{Seen}
 use Rattle.cloud_trait.specs.State.{CloudState, Counts, called}
-use Rattle.cloud_trait.specs.Views.{got_of, sent_of, received_of, done_of, given_of, renewed_of}
-use Rattle.cloud_trait.specs.Weather.{Weather, FirstOver, Leaves, Makes, Rose}
-use Rattle.calm_calls.specs.Calm.{NamesLasting}
+use Rattle.cloud_trait.specs.Views.{trouble_of, given_of, got_of, sent_of, received_of, done_of, renewed_of}
+use Rattle.cloud_trait.specs.Weather.{FirstOver, Leaves, Makes, Rose, Weather}
 use Rattle.db_base.specs.declared.names.Lock.{Lock}
 use Rattle.db_base.specs.declared.names.ObjName.{ObjName}
 use Rattle.db_base.specs.declared.names.QueueName.{QueueName}
@@ -17,166 +17,199 @@ use Rattle.db_base.specs.declared.trouble.Trouble.{Trouble}
 use Rattle.db_base.specs.declared.trouble.Trouble.TheVariants as trouble
 use Rattle.session_facts.specs.Sessions.Explaining.{IsShown}
 
--- a call between two told states, by the counts before and behind it: its row of the table, and a failure is counted
-pub record Refuses (who : Caller) (ask : Ask) (a : Answer) (c d : Counts) (s t : CloudState) : Type 0 where
-  pub row : Weather who ask a c d (called who t.now s) t
-  pub failed : a ≡ Failed → Rose c.faults d.faults
-
 state_is : (s t : CloudState) → Some s ≡ Some t → s ≡ t
 state_is s t e = cc
 
-pub refuses : (who : Caller) (ask : Ask) (a : Answer) (before after : Seen) (s t : CloudState) → Makes who ask a before after → before.state ≡ Some s → after.state ≡ Some t
-    → Refuses who ask a before.counts after.counts s t
-refuses who ask a before after s t made told told_after = record { row = on (made.state s told); failed = made.failed }
-  where
-    on : Leaves who ask a before.counts after.counts s after.state → Weather who ask a before.counts after.counts (called who t.now s) t
-    on l = subst (λ (u : CloudState). Weather who ask a before.counts after.counts (called who u.now s) u) (state_is l.after t (sym l.told ∙ told_after)) l.row
+-- a lease that is over does not last
+over_ends : (l : Claim) (now : ℕ) → IsOver now l → Lasts now l → ⊥
+over_ends l now over lasts = absurd (omega (arith, over, lasts))
 
-module _ (c d : Counts) (s t : CloudState) (held : List Claim) where
-  -- the call shows the trouble, want of memory apart
-  abbrev pub Shows : Ask → Trouble → Type 0
-  Shows ask k = k ≢ trouble.Memory → IsShown ask held c d s t k
+first_ends : (name : ObjName) (bytes : List ℕ) (one : Claim) (two : Option Claim) (now end : ℕ) → FirstOver now one two end → NamesLasting (PutHeld name bytes one two) now → ⊥
+first_ends name bytes one None now end (inl over) lasts = over_ends one now over.0 lasts
+first_ends name bytes one None now end (inr never) lasts = absurd never.1
+first_ends name bytes one (Some two) now end (inl over) lasts = over_ends one now over.0 lasts.0
+first_ends name bytes one (Some two) now end (inr over) lasts = over_ends two now over.1.0 lasts.1
 
-  -- by the trouble that the answer is
-  abbrev pub ShowsAs : Ask → Trouble → Trouble → Type 0
-  ShowsAs ask is k = is ≡ k → Shows ask k
+module _ (who : Caller) (before after : Seen) (s t : CloudState) (told : before.state ≡ Some s) (told_after : after.state ≡ Some t) (held : List Claim) where
+  abbrev pub Shown : Ask → Trouble → Type 0
+  Shown ask k = IsShown ask held before.counts after.counts s t k
 
-  failed_as : (ask : Ask) (k : Trouble) → Rose c.faults d.faults → ShowsAs ask trouble.Failed k
-  failed_as ask k rose same = subst (Shows ask) same (λ ne. rose)
+  abbrev Call : Ask → Answer → Type 0
+  Call ask a = Makes who ask a before after
 
-  memory_as : (ask : Ask) (k : Trouble) → ShowsAs ask trouble.Memory k
-  memory_as ask k same = λ ne. absurd (ne (sym same))
+  pub row_of : (ask : Ask) (a : Answer) → Call ask a → Weather who ask a before.counts after.counts (called who t.now s) t
+  row_of ask a made = on (made.state s told)
+    where
+      on : Leaves who ask a before.counts after.counts s after.state → Weather who ask a before.counts after.counts (called who t.now s) t
+      on l = subst (λ (u : CloudState). Weather who ask a before.counts after.counts (called who u.now s) u) (state_is l.after t (sym l.told ∙ told_after)) l.row
 
-  late_as : (ask : Ask) (e n : ℕ) (k : Trouble) → (NamesLasting ask t.now → ⊥) → ShowsAs ask (trouble.Late e n) k
-  late_as ask e n k over same = subst (Shows ask) same (λ ne. over)
+  -- the trouble of an answer that the view takes for it
+  by_trouble : (ask : Ask) (a b : Trouble) → a ≡ b → Shown ask a → Shown ask b
+  by_trouble ask a b same shown = subst (Shown ask) same shown
 
-  -- a lease that lasts is not over
-  not_over : (now : ℕ) (l : Claim) → IsOver now l → Lasts now l → ⊥
-  not_over now l over lasts = omega (arith, lasts, over)
+  failed_shown : (ask : Ask) → Call ask Failed → Shown ask trouble.Failed
+  failed_shown ask made = made.failed refl
 
-  first_over : (now : ℕ) (one : Claim) (two : Option Claim) (name : ObjName) (bytes : List ℕ) (e : ℕ) → FirstOver now one two e → NamesLasting (PutHeld name bytes one two) now → ⊥
-  first_over now one None name bytes e (inl over) lasts = not_over now one over.0 lasts
-  first_over now one None name bytes e (inr over) lasts = over.1
-  first_over now one (Some two) name bytes e (inl over) lasts = not_over now one over.0 lasts.0
-  first_over now one (Some two) name bytes e (inr over) lasts = not_over now two over.1.0 lasts.1
+  -- ---- a get
 
-  held_shows : (lock : Lock) (ticks until end : ℕ) → (((until ≡ end) × (t.now < until)) ⊎ Rose c.withheld d.withheld) → (end ≤ t.now → ⊥) ⊎ Rose c.withheld d.withheld
-  held_shows lock ticks until end (inl busy) = inl (λ free. omega (arith, free, busy.0, busy.1))
-  held_shows lock ticks until end (inr rose) = inr rose
+  pub get_shown : (name : ObjName) (a : Answer) → Call (Get name) a → (k : Trouble) → got_of a ≡ Err k → Shown (Get name) k
+  get_shown name Failed made k e = by_trouble (Get name) trouble.Failed k (cc) (failed_shown (Get name) made)
+  get_shown name Memory made k e = by_trouble (Get name) trouble.Memory k (cc) tt
+  get_shown name (Got v) made k e = absurd (cc)
+  get_shown name (Late end now) made k e = absurd made.fits
+  get_shown name (Given l) made k e = absurd made.fits
+  get_shown name (Held until) made k e = absurd made.fits
+  get_shown name (Sent id) made k e = absurd made.fits
+  get_shown name (Received ms) made k e = absurd made.fits
+  get_shown name Done made k e = absurd made.fits
+  get_shown name (Renewed end) made k e = absurd made.fits
 
-  -- ---- by what was asked
+  pub got_shown : (name : ObjName) (l : Claim) (a : Answer) → Call (GetHeld name l) a → (k : Trouble) → got_of a ≡ Err k → Shown (GetHeld name l) k
+  got_shown name l Failed made k e = by_trouble (GetHeld name l) trouble.Failed k (cc) (failed_shown (GetHeld name l) made)
+  got_shown name l Memory made k e = by_trouble (GetHeld name l) trouble.Memory k (cc) tt
+  got_shown name l (Late end now) made k e =
+      by_trouble (GetHeld name l) (trouble.Late end now) k (cc) (λ lasts. over_ends l t.now (row_of (GetHeld name l) (Late end now) made).1 lasts)
+  got_shown name l (Got v) made k e = absurd (cc)
+  got_shown name l (Given m) made k e = absurd made.fits
+  got_shown name l (Held until) made k e = absurd made.fits
+  got_shown name l (Sent id) made k e = absurd made.fits
+  got_shown name l (Received ms) made k e = absurd made.fits
+  got_shown name l Done made k e = absurd made.fits
+  got_shown name l (Renewed end) made k e = absurd made.fits
 
-  pub get_shows : (who : Caller) (name : ObjName) (a : Answer) → Refuses who (Get name) a c d s t → (k : Trouble) → got_of a ≡ Err k → Shows (Get name) k
-  get_shows who name (Got v) told k e = absurd (cc)
-  get_shows who name Failed told k e = failed_as (Get name) k (told.failed refl) (cc)
-  get_shows who name Memory told k e = memory_as (Get name) k (cc)
-  get_shows who name (Late end now) told k e = absurd told.row
-  get_shows who name (Sent id) told k e = absurd told.row
-  get_shows who name (Received ms) told k e = absurd told.row
-  get_shows who name Done told k e = absurd told.row
-  get_shows who name (Given l) told k e = absurd told.row
-  get_shows who name (Held until) told k e = absurd told.row
-  get_shows who name (Renewed end) told k e = absurd told.row
+  -- ---- a put, a deletion or a release
 
-  pub got_shows : (who : Caller) (name : ObjName) (l : Claim) (a : Answer) → Refuses who (GetHeld name l) a c d s t → (k : Trouble) → got_of a ≡ Err k → Shows (GetHeld name l) k
-  got_shows who name l (Got v) told k e = absurd (cc)
-  got_shows who name l Failed told k e = failed_as (GetHeld name l) k (told.failed refl) (cc)
-  got_shows who name l Memory told k e = memory_as (GetHeld name l) k (cc)
-  got_shows who name l (Late end now) told k e = late_as (GetHeld name l) end now k (not_over t.now l (told.row).1) (cc)
-  got_shows who name l (Sent id) told k e = absurd told.row
-  got_shows who name l (Received ms) told k e = absurd told.row
-  got_shows who name l Done told k e = absurd told.row
-  got_shows who name l (Given m) told k e = absurd told.row
-  got_shows who name l (Held until) told k e = absurd told.row
-  got_shows who name l (Renewed end) told k e = absurd told.row
+  pub put_shown : (name : ObjName) (bytes : List ℕ) (one : Claim) (two : Option Claim) (a : Answer) → Call (PutHeld name bytes one two) a → (k : Trouble) → done_of a ≡ Err k
+      → Shown (PutHeld name bytes one two) k
+  put_shown name bytes one two Failed made k e = by_trouble (PutHeld name bytes one two) trouble.Failed k (cc) (failed_shown (PutHeld name bytes one two) made)
+  put_shown name bytes one two Memory made k e = by_trouble (PutHeld name bytes one two) trouble.Memory k (cc) tt
+  put_shown name bytes one two (Late end now) made k e =
+      by_trouble (PutHeld name bytes one two) (trouble.Late end now) k (cc)
+      (λ lasts. first_ends name bytes one two t.now end (row_of (PutHeld name bytes one two) (Late end now) made).1 lasts)
+  put_shown name bytes one two Done made k e = absurd (cc)
+  put_shown name bytes one two (Got v) made k e = absurd made.fits
+  put_shown name bytes one two (Given m) made k e = absurd made.fits
+  put_shown name bytes one two (Held until) made k e = absurd made.fits
+  put_shown name bytes one two (Sent id) made k e = absurd made.fits
+  put_shown name bytes one two (Received ms) made k e = absurd made.fits
+  put_shown name bytes one two (Renewed end) made k e = absurd made.fits
 
-  pub put_shows : (who : Caller) (name : ObjName) (bytes : List ℕ) (one : Claim) (two : Option Claim) (a : Answer) → Refuses who (PutHeld name bytes one two) a c d s t → (k : Trouble)
-      → done_of a ≡ Err k → Shows (PutHeld name bytes one two) k
-  put_shows who name bytes one two Done told k e = absurd (cc)
-  put_shows who name bytes one two Failed told k e = failed_as (PutHeld name bytes one two) k (told.failed refl) (cc)
-  put_shows who name bytes one two Memory told k e = memory_as (PutHeld name bytes one two) k (cc)
-  put_shows who name bytes one two (Late end now) told k e =
-      late_as (PutHeld name bytes one two) end now k (first_over t.now one two name bytes end (told.row).1) (cc)
-  put_shows who name bytes one two (Got v) told k e = absurd told.row
-  put_shows who name bytes one two (Sent id) told k e = absurd told.row
-  put_shows who name bytes one two (Received ms) told k e = absurd told.row
-  put_shows who name bytes one two (Given l) told k e = absurd told.row
-  put_shows who name bytes one two (Held until) told k e = absurd told.row
-  put_shows who name bytes one two (Renewed end) told k e = absurd told.row
+  pub delete_shown : (queue : QueueName) (id : ℕ) (a : Answer) → Call (Delete queue id) a → (k : Trouble) → done_of a ≡ Err k → Shown (Delete queue id) k
+  delete_shown queue id Failed made k e = by_trouble (Delete queue id) trouble.Failed k (cc) (failed_shown (Delete queue id) made)
+  delete_shown queue id Memory made k e = by_trouble (Delete queue id) trouble.Memory k (cc) tt
+  delete_shown queue id Done made k e = absurd (cc)
+  delete_shown queue id (Late end now) made k e = absurd made.fits
+  delete_shown queue id (Got v) made k e = absurd made.fits
+  delete_shown queue id (Given m) made k e = absurd made.fits
+  delete_shown queue id (Held until) made k e = absurd made.fits
+  delete_shown queue id (Sent other) made k e = absurd made.fits
+  delete_shown queue id (Received ms) made k e = absurd made.fits
+  delete_shown queue id (Renewed end) made k e = absurd made.fits
 
-  pub send_shows : (who : Caller) (queue : QueueName) (bytes : List ℕ) (a : Answer) → Refuses who (Send queue bytes) a c d s t → (k : Trouble) → sent_of a ≡ Err k
-      → Shows (Send queue bytes) k
-  send_shows who queue bytes (Sent id) told k e = absurd (cc)
-  send_shows who queue bytes Failed told k e = failed_as (Send queue bytes) k (told.failed refl) (cc)
-  send_shows who queue bytes Memory told k e = memory_as (Send queue bytes) k (cc)
-  send_shows who queue bytes (Late end now) told k e = absurd told.row
-  send_shows who queue bytes (Got v) told k e = absurd told.row
-  send_shows who queue bytes (Received ms) told k e = absurd told.row
-  send_shows who queue bytes Done told k e = absurd told.row
-  send_shows who queue bytes (Given l) told k e = absurd told.row
-  send_shows who queue bytes (Held until) told k e = absurd told.row
-  send_shows who queue bytes (Renewed end) told k e = absurd told.row
+  -- a deletion that was not done failed, where there was memory for it
+  pub delete_fails : (queue : QueueName) (id : ℕ) (a : Answer) → Call (Delete queue id) a → (k : Trouble) → done_of a ≡ Err k → a ≢ Memory → Rose before.counts.faults after.counts.faults
+  delete_fails queue id Failed made k e other = made.failed refl
+  delete_fails queue id Memory made k e other = absurd (other refl)
+  delete_fails queue id Done made k e other = absurd (cc)
+  delete_fails queue id (Late end now) made k e other = absurd made.fits
+  delete_fails queue id (Got v) made k e other = absurd made.fits
+  delete_fails queue id (Given m) made k e other = absurd made.fits
+  delete_fails queue id (Held until) made k e other = absurd made.fits
+  delete_fails queue id (Sent other_id) made k e other = absurd made.fits
+  delete_fails queue id (Received ms) made k e other = absurd made.fits
+  delete_fails queue id (Renewed end) made k e other = absurd made.fits
 
-  pub receive_shows : (who : Caller) (queue : QueueName) (most : ℕ) (a : Answer) → Refuses who (Receive queue most) a c d s t → (k : Trouble) → received_of a ≡ Err k
-      → Shows (Receive queue most) k
-  receive_shows who queue most (Received ms) told k e = absurd (cc)
-  receive_shows who queue most Failed told k e = failed_as (Receive queue most) k (told.failed refl) (cc)
-  receive_shows who queue most Memory told k e = memory_as (Receive queue most) k (cc)
-  receive_shows who queue most (Late end now) told k e = absurd told.row
-  receive_shows who queue most (Got v) told k e = absurd told.row
-  receive_shows who queue most (Sent id) told k e = absurd told.row
-  receive_shows who queue most Done told k e = absurd told.row
-  receive_shows who queue most (Given l) told k e = absurd told.row
-  receive_shows who queue most (Held until) told k e = absurd told.row
-  receive_shows who queue most (Renewed end) told k e = absurd told.row
+  pub release_shown : (l : Claim) (a : Answer) → Call (Release l) a → (k : Trouble) → done_of a ≡ Err k → Shown (Release l) k
+  release_shown l Failed made k e = by_trouble (Release l) trouble.Failed k (cc) (failed_shown (Release l) made)
+  release_shown l Memory made k e = by_trouble (Release l) trouble.Memory k (cc) tt
+  release_shown l Done made k e = absurd (cc)
+  release_shown l (Late end now) made k e = absurd made.fits
+  release_shown l (Got v) made k e = absurd made.fits
+  release_shown l (Given m) made k e = absurd made.fits
+  release_shown l (Held until) made k e = absurd made.fits
+  release_shown l (Sent id) made k e = absurd made.fits
+  release_shown l (Received ms) made k e = absurd made.fits
+  release_shown l (Renewed end) made k e = absurd made.fits
 
-  pub delete_shows : (who : Caller) (queue : QueueName) (id : ℕ) (a : Answer) → Refuses who (Delete queue id) a c d s t → (k : Trouble) → done_of a ≡ Err k
-      → Shows (Delete queue id) k
-  delete_shows who queue id Done told k e = absurd (cc)
-  delete_shows who queue id Failed told k e = failed_as (Delete queue id) k (told.failed refl) (cc)
-  delete_shows who queue id Memory told k e = memory_as (Delete queue id) k (cc)
-  delete_shows who queue id (Late end now) told k e = absurd told.row
-  delete_shows who queue id (Got v) told k e = absurd told.row
-  delete_shows who queue id (Sent n) told k e = absurd told.row
-  delete_shows who queue id (Received ms) told k e = absurd told.row
-  delete_shows who queue id (Given l) told k e = absurd told.row
-  delete_shows who queue id (Held until) told k e = absurd told.row
-  delete_shows who queue id (Renewed end) told k e = absurd told.row
+  -- ---- messages
 
-  pub take_shows : (who : Caller) (lock : Lock) (ticks : ℕ) (a : Answer) → Refuses who (Take lock ticks) a c d s t → (k : Trouble) → given_of lock a ≡ Err k → Shows (Take lock ticks) k
-  take_shows who lock ticks (Given l) told k e = absurd (cc)
-  take_shows who lock ticks (Held until) told k e =
-      let same : trouble.Busy lock until ≡ k = cc in
-      subst (Shows (Take lock ticks)) same (λ ne. held_shows lock ticks until (s.locks lock).until (told.row).1)
-  take_shows who lock ticks Failed told k e = failed_as (Take lock ticks) k (told.failed refl) (cc)
-  take_shows who lock ticks Memory told k e = memory_as (Take lock ticks) k (cc)
-  take_shows who lock ticks (Late end now) told k e = absurd told.row
-  take_shows who lock ticks (Got v) told k e = absurd told.row
-  take_shows who lock ticks (Sent id) told k e = absurd told.row
-  take_shows who lock ticks (Received ms) told k e = absurd told.row
-  take_shows who lock ticks Done told k e = absurd told.row
-  take_shows who lock ticks (Renewed end) told k e = absurd told.row
+  pub received_shown : (queue : QueueName) (most : ℕ) (a : Answer) → Call (Receive queue most) a → (k : Trouble) → received_of a ≡ Err k → Shown (Receive queue most) k
+  received_shown queue most Failed made k e = by_trouble (Receive queue most) trouble.Failed k (cc) (failed_shown (Receive queue most) made)
+  received_shown queue most Memory made k e = by_trouble (Receive queue most) trouble.Memory k (cc) tt
+  received_shown queue most (Received ms) made k e = absurd (cc)
+  received_shown queue most (Late end now) made k e = absurd made.fits
+  received_shown queue most (Got v) made k e = absurd made.fits
+  received_shown queue most (Given m) made k e = absurd made.fits
+  received_shown queue most (Held until) made k e = absurd made.fits
+  received_shown queue most (Sent id) made k e = absurd made.fits
+  received_shown queue most Done made k e = absurd made.fits
+  received_shown queue most (Renewed end) made k e = absurd made.fits
 
-  pub renew_shows : (who : Caller) (l : Claim) (ticks : ℕ) (a : Answer) → Refuses who (Renew l ticks) a c d s t → (k : Trouble) → renewed_of a ≡ Err k → Shows (Renew l ticks) k
-  renew_shows who l ticks (Renewed end) told k e = absurd (cc)
-  renew_shows who l ticks Failed told k e = failed_as (Renew l ticks) k (told.failed refl) (cc)
-  renew_shows who l ticks Memory told k e = memory_as (Renew l ticks) k (cc)
-  renew_shows who l ticks (Late end now) told k e = late_as (Renew l ticks) end now k (not_over t.now l (told.row).1) (cc)
-  renew_shows who l ticks (Got v) told k e = absurd told.row
-  renew_shows who l ticks (Sent id) told k e = absurd told.row
-  renew_shows who l ticks (Received ms) told k e = absurd told.row
-  renew_shows who l ticks Done told k e = absurd told.row
-  renew_shows who l ticks (Given m) told k e = absurd told.row
-  renew_shows who l ticks (Held until) told k e = absurd told.row
+  pub sent_shown : (queue : QueueName) (bytes : List ℕ) (a : Answer) → Call (Send queue bytes) a → (k : Trouble) → sent_of a ≡ Err k → Shown (Send queue bytes) k
+  sent_shown queue bytes Failed made k e = by_trouble (Send queue bytes) trouble.Failed k (cc) (failed_shown (Send queue bytes) made)
+  sent_shown queue bytes Memory made k e = by_trouble (Send queue bytes) trouble.Memory k (cc) tt
+  sent_shown queue bytes (Sent id) made k e = absurd (cc)
+  sent_shown queue bytes (Late end now) made k e = absurd made.fits
+  sent_shown queue bytes (Got v) made k e = absurd made.fits
+  sent_shown queue bytes (Given m) made k e = absurd made.fits
+  sent_shown queue bytes (Held until) made k e = absurd made.fits
+  sent_shown queue bytes (Received ms) made k e = absurd made.fits
+  sent_shown queue bytes Done made k e = absurd made.fits
+  sent_shown queue bytes (Renewed end) made k e = absurd made.fits
 
-  pub release_shows : (who : Caller) (l : Claim) (a : Answer) → Refuses who (Release l) a c d s t → (k : Trouble) → done_of a ≡ Err k → Shows (Release l) k
-  release_shows who l Done told k e = absurd (cc)
-  release_shows who l Failed told k e = failed_as (Release l) k (told.failed refl) (cc)
-  release_shows who l Memory told k e = memory_as (Release l) k (cc)
-  release_shows who l (Late end now) told k e = absurd told.row
-  release_shows who l (Got v) told k e = absurd told.row
-  release_shows who l (Sent id) told k e = absurd told.row
-  release_shows who l (Received ms) told k e = absurd told.row
-  release_shows who l (Given m) told k e = absurd told.row
-  release_shows who l (Held until) told k e = absurd told.row
-  release_shows who l (Renewed end) told k e = absurd told.row
+  -- ---- locks
+
+  -- a lock that is held is not free
+  held_so : (lock : Lock) (ticks until : ℕ) → ((until ≡ (s.locks lock).until) × (t.now < until)) ⊎ Rose before.counts.withheld after.counts.withheld
+      → Shown (Take lock ticks) (trouble.Busy lock until)
+  held_so lock ticks until (inl held) = inl (λ free. absurd (omega (arith, held.0, held.1, free)))
+  held_so lock ticks until (inr rose) = inr rose
+
+  pub given_shown : (lock : Lock) (ticks : ℕ) (a : Answer) → Call (Take lock ticks) a → (k : Trouble) → given_of lock a ≡ Err k → Shown (Take lock ticks) k
+  given_shown lock ticks Failed made k e = by_trouble (Take lock ticks) trouble.Failed k (cc) (failed_shown (Take lock ticks) made)
+  given_shown lock ticks Memory made k e = by_trouble (Take lock ticks) trouble.Memory k (cc) tt
+  given_shown lock ticks (Held until) made k e =
+      by_trouble (Take lock ticks) (trouble.Busy lock until) k (cc) (held_so lock ticks until (row_of (Take lock ticks) (Held until) made).1)
+  given_shown lock ticks (Given l) made k e = absurd (cc)
+  given_shown lock ticks (Late end now) made k e = absurd made.fits
+  given_shown lock ticks (Got v) made k e = absurd made.fits
+  given_shown lock ticks (Sent id) made k e = absurd made.fits
+  given_shown lock ticks (Received ms) made k e = absurd made.fits
+  given_shown lock ticks Done made k e = absurd made.fits
+  given_shown lock ticks (Renewed end) made k e = absurd made.fits
+
+  pub renewed_shown : (l : Claim) (ticks : ℕ) (a : Answer) → Call (Renew l ticks) a → (k : Trouble) → renewed_of a ≡ Err k → Shown (Renew l ticks) k
+  renewed_shown l ticks Failed made k e = by_trouble (Renew l ticks) trouble.Failed k (cc) (failed_shown (Renew l ticks) made)
+  renewed_shown l ticks Memory made k e = by_trouble (Renew l ticks) trouble.Memory k (cc) tt
+  renewed_shown l ticks (Late end now) made k e =
+      by_trouble (Renew l ticks) (trouble.Late end now) k (cc) (λ lasts. over_ends l t.now (row_of (Renew l ticks) (Late end now) made).1 lasts)
+  renewed_shown l ticks (Renewed end) made k e = absurd (cc)
+  renewed_shown l ticks (Got v) made k e = absurd made.fits
+  renewed_shown l ticks (Given m) made k e = absurd made.fits
+  renewed_shown l ticks (Held until) made k e = absurd made.fits
+  renewed_shown l ticks (Sent id) made k e = absurd made.fits
+  renewed_shown l ticks (Received ms) made k e = absurd made.fits
+  renewed_shown l ticks Done made k e = absurd made.fits
+
+-- ---- troubles that no call shows
+
+-- of what was read, of a number at its last value, or of memory
+abbrev pub IsFree : Trouble → Type 0
+IsFree trouble.Memory = Unit {0}
+IsFree (trouble.Exhausted what) = Unit {0}
+IsFree (trouble.Absent page) = Unit {0}
+IsFree (trouble.NotALeaf page) = Unit {0}
+IsFree (trouble.Damaged place offset) = Unit {0}
+IsFree (trouble.BadFence page expected found) = Unit {0}
+IsFree (trouble.Loop page) = Unit {0}
+IsFree t = ⊥
+
+pub free_shown : (ask : Ask) (held : List Claim) (c d : Counts) (s t : CloudState) (k : Trouble) → IsFree k → IsShown ask held c d s t k
+free_shown ask held c d s t trouble.Memory is = tt
+free_shown ask held c d s t (trouble.Exhausted what) is = tt
+free_shown ask held c d s t (trouble.Absent page) is = tt
+free_shown ask held c d s t (trouble.NotALeaf page) is = tt
+free_shown ask held c d s t (trouble.Damaged place offset) is = tt
+free_shown ask held c d s t (trouble.BadFence page expected found) is = tt
+free_shown ask held c d s t (trouble.Loop page) is = tt
+free_shown ask held c d s t k is = absurd is

@@ -18,6 +18,7 @@ pub mod HeadPuts
 pub mod SettlingStops
 pub mod Stopping
 pub mod BeginStops
+pub mod Showing
 pub mod Explaining
 pub mod Untroubled
 pub mod AtOnce

@@ -12,14 +12,13 @@ use Rattle.client_session.specs.declared.shown.Shown.{Shown}
 use Rattle.client_session.specs.declared.work.Work.{Work}
 use Rattle.client_session.specs.declared.work.Work.TheVariants.{Idle, Committing, Reading, Scanning, Closing, Renewing, Broken}
 use Rattle.cloud_facts.specs.Book.Book.{Book}
-use Rattle.cloud_facts.specs.Book.Tally.{Store}
-use Rattle.cloud_facts.specs.Tellings.Told.{store_of}
 use Rattle.cloud_trait.specs.declared.turn.Turn.{Turn}
 use Rattle.cloud_trait.specs.declared.turn.Turn.TheVariants.{More, Ended, Stopped}
 use Rattle.cloud_trait.specs.Claim.{Claim}
-use Rattle.cloud_trait.specs.Machine.{Next, Goes, Ends, Stops}
+use Rattle.cloud_trait.specs.Machine.{Ends}
 use Rattle.cloud_trait.specs.State.{CloudState}
-use Rattle.commit_run.specs.Run.{Run, new_run, home_of, run_ready}
+use Rattle.commit_run.specs.Run.{new_run, home_of}
+use Rattle.db_base.specs.Ids.{IsTree}
 use Rattle.db_base.specs.declared.refusal.Refused.{Refused}
 use Rattle.db_base.specs.declared.refusal.Refused.TheVariants as refused
 use Rattle.db_base.specs.declared.trouble.CommitAnswer.{CommitAnswer}
@@ -30,13 +29,11 @@ use Rattle.page_cache.specs.Cache.{Cache}
 use Rattle.range_scan.specs.Scan.{moved_on}
 use Rattle.recover_run.specs.declared.home.Home.{Home}
 use Rattle.report_types.specs.declared.entry.Entry.{Entry}
-use Rattle.session_facts.specs.CommitRuns.Stopping.{MayStopAtOnce}
-use Rattle.session_facts.specs.Sessions.Sessions.{IsHome, KnowsWork, KnowsKept, Sessions, SessionsStand, IsRightOp}
+use Rattle.session_facts.specs.CommitRuns.Stopping.{MayStopAtOnce, EndsBy}
+use Rattle.session_facts.specs.Sessions.Sessions.{Sessions, SessionsStand, IsRightOp}
 use Rattle.session_facts.specs.Sessions.Untroubled.{IsUntroubled, CommitsWell}
-use Rattle.session_facts.specs.Walks.Caches.{KnowsCache}
-use Rattle.session_facts.proofs.CommitRuns.Stopping.{EndsWell, ready_ends_by}
 use Rattle.session_facts.proofs.CommitRuns.Telling.{EndsTold, IsTold, ready_tells}
-use Rattle.session_facts.proofs.Sessions.BeginStops.{begin_stops}
+use Rattle.session_facts.proofs.Sessions.BeginStops.{begin_stops, begin_spent}
 use Rattle.session_facts.proofs.Sessions.Untroubled.{at_rest, rests_as, idle_rests, stopped_rests}
 use Rattle.txn_buffer.specs.Noted.{Noted}
 
@@ -129,5 +126,77 @@ answer_is : (a b : Answer) → (let x : Begun = Answered a in let y : Begun = An
 answer_is a b e = cc
 
 -- a commit that is refused at once
-at_once_well : (c : CommitAnswer) → IsTold c → EndsWell MayStopAtOnce (Ends (_, _) c) → CommitsWell c
-at_once_well c told may = ?
+spent_well : (c : CommitAnswer) → IsTold c → EndsBy MayStopAtOnce c → CommitsWell c
+spent_well (Committed txn) told may = tt
+spent_well InDoubt told may = may
+spent_well (NotCommitted (trouble.Exhausted what)) told may = tt
+spent_well (NotCommitted trouble.Memory) told may = absurd (told refl)
+spent_well (NotCommitted t) told may = may
+spent_well (CommittedOpen (trouble.Exhausted what)) told may = told tt
+spent_well (CommittedOpen trouble.Memory) told may = told tt
+spent_well (CommittedOpen t) told may = may
+
+module _ (book : Book) (order : List Entry) (s : CloudState) (sessions : Sessions) (session : ℕ) (new : Acting) (stand : SessionsStand book order s sessions) where
+  abbrev old : Acting
+  old = sessions session
+
+  -- a commit
+  tells : (home : Home) (c : CommitAnswer) → CommitsNoted home old.buffer old.cache new.cache new.work (Answered (answer.Commit c)) → IsTold c
+  tells home c (inl nothing) = on (answer_is (answer.Commit c) (answer.Commit (Committed 0)) nothing.answer)
+    where
+      on : answer.Commit c ≡ answer.Commit (Committed 0) → IsTold c
+      on e = let is : c ≡ Committed 0 = cc in subst IsTold (sym is) tt
+  tells home c (inr (some, (m, leads, left))) = subst EndsTold leads (ready_tells (new_run home old.buffer, old.cache))
+
+  commits_at_once : (home : Home) (a : Answer) → old.work ≡ Idle home → CommitsIn old home new (Answered a) → IsAtOnce op.Commit a
+  commits_at_once home (answer.Commit c) idle does = spent_well c (tells home c does.1) (begin_spent book order s sessions session new stand op.Commit c (home, idle, does))
+  commits_at_once home (answer.Trouble t) idle does = begin_stops book order s sessions session new stand op.Commit t tt (home, idle, does)
+  commits_at_once home a idle (noted, inl nothing, shown) = absurd (cc (nothing.answer))
+  commits_at_once home a idle (noted, inr (some, never), shown) = absurd never
+
+  -- a read
+  reads_at_once : (tree : ℕ) (key : List ℕ) (home : Home) (a : Answer) → IsTree tree → old.work ≡ Idle home → ReadsIn tree key old home new (Answered a) → IsAtOnce (op.Read tree key) a
+  reads_at_once tree key home answer.Value is idle does = tt
+  reads_at_once tree key home (answer.Trouble t) is idle does = begin_stops book order s sessions session new stand (op.Read tree key) t is (home, idle, does)
+  reads_at_once tree key home a is idle (same, never) = absurd never
+
+  -- a scan
+  scans_at_once : (tree : ℕ) (from to : Option (List ℕ)) (home : Home) (a : Answer) → IsTree tree → old.work ≡ Idle home → ScansIn tree from to old home new (Answered a)
+      → IsAtOnce (op.Scan tree from to) a
+  scans_at_once tree from to home a is idle does = on a does does.1.moved does.1.turn does.1.follows does.1.begins
+    where
+      abbrev Leads : Turn ℕ → Turn Answer → Type 0
+      Leads moved turn = Follows home old.buffer (record { scan = does.1.scan; pairs = [] }) new.cache moved new.work new.shown turn
+
+      same : (b c : Answer) → c ≡ b → IsAtOnce (op.Scan tree from to) b → IsAtOnce (op.Scan tree from to) c
+      same b c e at = subst (IsAtOnce (op.Scan tree from to)) (sym e) at
+
+      stopped : (c : Answer) (t : Trouble) → ScansIn tree from to old home new (Answered c) → c ≡ answer.Trouble t → IsAtOnce (op.Scan tree from to) c
+      stopped c t does e =
+          same (answer.Trouble t) c e
+          (begin_stops book order s sessions session new stand (op.Scan tree from to) t is (home, idle, subst (λ x. ScansIn tree from to old home new (Answered x)) e does))
+
+      lists : (c : Answer) → ScansIn tree from to old home new (Answered c) → (turn : Turn Answer) → ListsLeaf home old.buffer (record { scan = does.1.scan; pairs = [] }) new.cache new.work new.shown turn
+          → begins_by turn (Answered c) → IsAtOnce (op.Scan tree from to) c
+      lists c does More listed begun = absurd (cc)
+      lists c does (Ended answer.Scan) listed begun = same answer.Scan c (answer_is c answer.Scan begun) tt
+      lists c does (Ended (answer.Trouble t)) listed begun = stopped c t does (answer_is c (answer.Trouble t) begun)
+      lists c does turn never begun = absurd never
+
+      on : (c : Answer) → ScansIn tree from to old home new (Answered c) → (moved : Turn ℕ) (turn : Turn Answer) → Leads moved turn → begins_by turn (Answered c) → IsAtOnce (op.Scan tree from to) c
+      on c does More turn (work_is, none, more) begun = absurd (working (subst (λ x. begins_by x (Answered c)) more begun))
+        where
+          working : (let x : Begun = Answered c in x ≡ Working) → ⊥
+          working e = cc
+      on c does (Ended page) turn listed begun = lists c does turn listed begun
+      on c does (Stopped t) turn (work_is, none, ended) begun = stopped c t does (answer_is c (answer.Trouble t) (subst (λ x. begins_by x (Answered c)) ended begun))
+
+  pub begins_at_once : (o : Op) (a : Answer) → IsRightOp o → Begins o old new (Ok (Answered a)) → IsAtOnce o a
+  begins_at_once (op.Open client) a is never = absurd never
+  begins_at_once op.Close a is (home, idle, does) = absurd (no_work old new (Closing home.lease) a does)
+  begins_at_once op.Renew a is (home, idle, does) = absurd (no_work old new (Renewing home) a does)
+  begins_at_once op.Commit a is (home, idle, does) = commits_at_once home a idle does
+  begins_at_once (op.Read tree key) a is (home, idle, does) = reads_at_once tree key home a is idle does
+  begins_at_once (op.Scan tree from to) a is (home, idle, does) = scans_at_once tree from to home a is idle does
+  begins_at_once (op.Page tree page) a is (home, idle, does) = absurd (no_work old new (paging_begun_by tree page home) a does)
+  begins_at_once (op.Tree tree) a is (home, idle, does) = absurd (no_work old new (folding_begun_by tree home) a does)

@@ -1,13 +1,14 @@
 -- A calm step leaves a session untroubled, and brings no answer that a call brought about.
 use Rattle.std.proofs.Common.{◌≡◌, ◌≢◌, ◌≤◌, ◌⊎◌, inl, inr, ℕ, List, Option, Some, None, Ok, refl, sym, ap, subst, ◌∙◌, arith}
 use Rattle.calm_calls.specs.Calm.{NamesLasting, TakesFree}
-use Rattle.client_session.specs.Session.{Acting, StepsSession, StepsAt, Follows, ListsLeaf, ask_of_work, opened_work, committed_work, stopped_work}
+use Rattle.client_session.specs.Session.{Acting, StepsSession, StepsAt, ShowsAt, Follows, ListsLeaf, ask_of_work, opened_work, committed_work, stopped_work}
 use Rattle.client_session.specs.declared.answer.Answer.{Answer}
 use Rattle.client_session.specs.declared.answer.Answer.TheVariants as answer
 use Rattle.client_session.specs.declared.listing.Listing.{Listing}
 use Rattle.client_session.specs.declared.shown.Shown.{Shown}
 use Rattle.client_session.specs.declared.work.Work.{Work}
 use Rattle.client_session.specs.declared.work.Work.TheVariants.{Closed, Idle, Opening, Committing, Reading, Scanning, Folding, Paging, Closing, Renewing, Settling, Broken}
+use Rattle.cloud_trait.specs.declared.answer.Answer.TheVariants.{Memory}
 use Rattle.cloud_trait.specs.declared.turn.Turn.{Turn}
 use Rattle.cloud_trait.specs.declared.turn.Turn.TheVariants.{More, Ended, Stopped}
 use Rattle.cloud_trait.specs.Ask.{Ask}
@@ -24,10 +25,12 @@ use Rattle.page_cache.specs.Cache.{Cache}
 use Rattle.recover_run.specs.declared.home.Home.{Home}
 use Rattle.recover_run.specs.Recovery.{home_of}
 use Rattle.txn_buffer.specs.Noted.{Noted}
-use Rattle.session_facts.specs.Sessions.Calls.{IsExplained}
-use Rattle.session_facts.specs.Sessions.Explaining.{Explains, IsShown, KeepsTrouble, Meets, ReceivesLate, left_in, left_told, trouble_in, trouble_of_answer}
+use Rattle.session_facts.specs.CommitRuns.Stopping.{MayStop as MayStopCommit, MayEnd}
+use Rattle.session_facts.specs.Sessions.Calls.{IsExplained, reply_at, reply_of}
+use Rattle.session_facts.specs.Sessions.Explaining.{Explains, IsShown, KeepsTrouble, Meets, ReceivesLate, left_in, left_told, trouble_in, trouble_of_answer, trouble_of_commit}
 use Rattle.session_facts.specs.Sessions.Sessions.{leases_of}
-use Rattle.session_facts.specs.Sessions.Untroubled.{StepsCalmly, IsOfNoCall, IsUntroubled}
+use Rattle.session_facts.specs.Sessions.Untroubled.{StepsCalmly, IsOfNoCall, IsUntroubled, IsSpent, CommitsWell}
+use Rattle.session_facts.proofs.CommitRuns.Telling.{EndsTold, IsTold, run_tells}
 use Rattle.session_facts.proofs.Sessions.Troubles.{memory_or}
 
 -- one trouble is told
@@ -218,3 +221,50 @@ answered_rests who before after (Settling m) new a p = absurd p.1
 answered_rests who before after Closed new a p = absurd p
 answered_rests who before after (Idle home) new a p = absurd p
 answered_rests who before after (Broken lease) new a p = absurd p
+
+-- ---- the end of a commit
+
+scan_no_commit : (home : Home) (buffer : List Noted) (m : Listing) (c : Cache) (moved : Turn ℕ) (new : Work) (shown : Shown) (a : CommitAnswer)
+    → Follows home buffer m c moved new shown (Ended (answer.Commit a)) → ⊥
+scan_no_commit home buffer m c More new shown a f = cc (f.2)
+scan_no_commit home buffer m c (Ended page) new shown a never = never
+scan_no_commit home buffer m c (Stopped t) new shown a f = cc (f.2)
+
+tells_at : (who : Caller) (before after : Seen) (buffer : List Noted) (w : Work) (c d : Cache) (new : Work) (shown : Shown) (a : CommitAnswer)
+    → (p : StepsAt who before after w new (Ended (answer.Commit a))) → (q : ShowsAt who before after buffer w c d new shown (Ended (answer.Commit a)))
+    → reply_at who before after buffer w c d new shown (Ended (answer.Commit a)) p q ≢ Memory → IsTold a
+tells_at who before after buffer (Committing m) c d new shown a p q found = subst EndsTold q.0.1.took (run_tells (m, c) q.0.1.answer found)
+tells_at who before after buffer (Opening m) c d new shown a p q found = absurd p.1
+tells_at who before after buffer (Reading home m) c d new shown a p q found = absurd p
+tells_at who before after buffer (Scanning home m) c d new shown a p q found =
+    absurd (scan_no_commit home buffer (record { scan = q.scan; pairs = m.pairs }) d q.moved new shown a q.follows)
+tells_at who before after buffer (Paging home m) c d new shown a p q found = absurd p
+tells_at who before after buffer (Folding home m) c d new shown a p q found = absurd p
+tells_at who before after buffer (Closing lease) c d new shown a p q found = absurd p
+tells_at who before after buffer (Renewing home) c d new shown a p q found = absurd p
+tells_at who before after buffer (Settling m) c d new shown a p q found = absurd p.1
+tells_at who before after buffer Closed c d new shown a p q found = absurd p
+tells_at who before after buffer (Idle home) c d new shown a p q found = absurd p
+tells_at who before after buffer (Broken lease) c d new shown a p q found = absurd p
+
+-- that of a step whose call found memory
+pub commit_tells : (who : Caller) (before after : Seen) (old new : Acting) (a : CommitAnswer) → (p : StepsSession who before after old new (Ok (Ended (answer.Commit a))))
+    → reply_of who before after old new (Ended (answer.Commit a)) p ≢ Memory → IsTold a
+commit_tells who before after old new a p found = tells_at who before after new.buffer old.work old.cache p.shown.0 new.work new.shown a p.work p.shown.1 found
+
+-- a commit that is refused for no call, or stays open for none
+abbrev pub IsOfNone : CommitAnswer → Type 0
+IsOfNone c = (k : Trouble) → trouble_of_commit c ≡ Some k → IsOfNoCall k
+
+pub commit_well : (c : CommitAnswer) → IsTold c → IsOfNone c → MayEnd c → CommitsWell c
+commit_well (Committed txn) told none may = tt
+commit_well InDoubt told none may = none trouble.Failed refl
+commit_well (CommittedOpen t) told none may = told (none t refl)
+commit_well (NotCommitted t) told none may = on t told (none t refl) may
+  where
+    on : (k : Trouble) → (k ≢ trouble.Memory) → IsOfNoCall k → MayStopCommit k → IsSpent k
+    on (trouble.Exhausted what) told none may = tt
+    on trouble.Memory told none may = absurd (told refl)
+    on trouble.Failed told none may = none
+    on (trouble.Late end now) told none may = none
+    on k told none may = absurd may

@@ -18,3 +18,5 @@ pub mod Hands
 pub mod Stopping
 pub mod Unmarked
 pub mod Completing
+pub mod Showing
+pub mod Explaining

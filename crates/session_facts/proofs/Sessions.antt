@@ -4,10 +4,12 @@ pub mod Keeping
 pub mod Laws
 pub mod Begins
 pub mod Troubles
+pub mod Showing
 pub mod LeaseSteps
 pub mod OpeningSteps
 pub mod CommitSteps
 pub mod FoldingSteps
+pub mod FoldingExplained
 pub mod PagingSteps
 pub mod GettingSteps
 pub mod ReadingSteps
@@ -18,4 +20,4 @@ pub mod HeadPuts
 pub mod SettlingStops
 pub mod Stopping
 pub mod BeginStops
-pub mod Showing
+pub mod Answered

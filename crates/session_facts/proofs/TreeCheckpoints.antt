@@ -14,4 +14,5 @@ pub mod Guards
 pub mod UpGuards
 pub mod Hands
 pub mod Meeting
+pub mod Explaining
 pub mod Steps

@@ -9,7 +9,7 @@ pub mod LeaseSteps
 pub mod OpeningSteps
 pub mod CommitSteps
 pub mod FoldingSteps
-pub mod FoldingExplained
+pub mod FoldingExplaining
 pub mod PagingSteps
 pub mod GettingSteps
 pub mod ReadingSteps

@@ -15,6 +15,7 @@ pub mod GettingSteps
 pub mod ReadingSteps
 pub mod ScanningSteps
 pub mod SettlingSteps
+pub mod SettlingExplaining
 pub mod Calling
 pub mod HeadPuts
 pub mod SettlingStops

@@ -79,6 +79,12 @@ rising_put st now lease r ids k = on r.last k.puts
     on None p = node_put st now lease r p
     on (Some bytes) p = last_put bytes r.placing.reserved r.placing.puts
 
+-- how many failed deletions a step tells
+abbrev pub left_next : Next Making CkptAnswer → ℕ
+left_next (Goes n) = left_in_tree n.work
+left_next (Ends n a) = a.left
+left_next (Stops n q) = 0
+
 -- ---- one call
 
 module _ (who : Caller) (before after : Seen) (s t : CloudState) (told : before.state ≡ Some s) (told_after : after.state ≡ Some t) (held : List Claim) (reply : Answer) where
@@ -220,12 +226,6 @@ module _ (who : Caller) (before after : Seen) (s t : CloudState) (told : before.
   work_meets st now tree work.Finished k call next leads = absurd k
 
   -- ---- a call of a checkpoint
-
-  -- how many failed deletions a step tells
-  abbrev pub left_next : Next Making CkptAnswer → ℕ
-  left_next (Goes n) = left_in_tree n.work
-  left_next (Ends n a) = a.left
-  left_next (Stops n q) = 0
 
   module _ (st : Store) (now : ℕ) (m : Making) (knows : KnowsMaking st now m) (call : Call (making_ask m)) where
     met : (next : Step) → Leads m.tree m.work reply next → WorkMeets m.tree m.work next

@@ -1,5 +1,5 @@
 -- Why a commit ends in trouble: its call failed or came too late. A stale walk is passed over.
-use Rattle.std.proofs.Common.{◌≡◌, ◌≢◌, ℕ, false, List, Option, Some, None, Result, Ok, Err, refl}
+use Rattle.std.proofs.Common.{◌≡◌, ◌≢◌, List, Option, Some, None, Result, Ok, Err, refl}
 use Rattle.std.specs.Prelude.{slice_get}
 use Rattle.cloud_facts.specs.Calls.Standing.{StandsUnder}
 use Rattle.cloud_facts.proofs.Calls.Calls.{call_of}

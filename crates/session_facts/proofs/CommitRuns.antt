@@ -10,3 +10,4 @@ pub mod RunOutcomes
 pub mod RunHands
 pub mod HeadPuts
 pub mod Stopping
+pub mod Telling

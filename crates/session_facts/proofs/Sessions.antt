@@ -22,3 +22,6 @@ pub mod SettlingStops
 pub mod Stopping
 pub mod BeginStops
 pub mod Answered
+pub mod Explaining
+pub mod Untroubled
+pub mod AtOnce

@@ -1,5 +1,5 @@
 -- What a call of an opening or a recovery shows of the trouble that it meets, and that a trouble which waits is its answer.
-use Rattle.std.proofs.Common.{◌≡◌, ◌+◌, ◌-◌, ◌^◌, ◌<◌, ◌≤◌, ◌==◌, ◌&&◌, ◌⊎◌, inl, inr, ℕ, Bool, true, false, cond, List, [], ◌∷◌, ◌++◌, length, Option, Some, None, Result, Ok, Err, refl, sym, ap, subst, ◌∙◌, arith}
+use Rattle.std.proofs.Common.{◌≡◌, ◌+◌, ◌-◌, ◌^◌, ◌<◌, ◌≤◌, ◌==◌, ◌⊎◌, inl, inr, ℕ, Bool, true, false, cond, List, [], ◌∷◌, ◌++◌, length, Option, Some, None, Result, Ok, Err, refl, sym, ap, subst, ◌∙◌, arith}
 use Rattle.std.specs.Prelude.{slice_get, nat_le}
 use Rattle.std.specs.List.{AllByRecursion}
 use Rattle.std.proofs.lemmas.Bool.{cases_lt, and_from, eq-eqb}
@@ -53,12 +53,12 @@ use Rattle.recover_run.specs.declared.stage.Stage.{Stage}
 use Rattle.recover_run.specs.declared.stage.Stage.TheVariants.{ReleasingOld, Taking, Getting, Receiving, Deleting, Sending, Putting, Clearing, Sweeping, Releasing, Finished}
 use Rattle.recover_run.specs.declared.wanted.Wanted.{Wanted}
 use Rattle.recover_run.specs.Calls.{Calls, HoldsItem, Brought}
-use Rattle.recover_run.specs.Gathering.{Gathered, gathered_with, is_of, is_counted, is_lost, kept_with, lost_now, past_ids, wanted_of}
+use Rattle.recover_run.specs.Gathering.{Gathered, gathered_with, is_of, is_counted, is_lost, kept_with, lost_now, past_ids}
 use Rattle.recover_run.specs.Ids.{has_id, new_ids, rest_of}
 use Rattle.recover_run.specs.Items.{items_of, ids_of}
 use Rattle.recover_run.specs.Meaning.{IsKept}
 use Rattle.recover_run.specs.Missing.{IsComplete}
-use Rattle.recover_run.specs.Recovery.{Recovery, Step, recovery_ask, recovery_next, ask_at, next_at, under, delete_next, send_next, receive_next, stopping, goes_to, taken_by, phase_read, behind, head_read, bytes_read, none_read, got_by, send_or_put, decided, deleting, gathered_by, received_by, deleted_by, with_pending, send_at, sent_by, clearing, kept_ids, put_by, opened, sweeping, swept_with, swept_by, ended, SendsRecord, IsSoundAt, IsSound}
+use Rattle.recover_run.specs.Recovery.{Recovery, Step, recovery_ask, recovery_next, ask_at, next_at, under, delete_next, send_next, stopping, goes_to, taken_by, phase_read, behind, head_read, bytes_read, none_read, got_by, send_or_put, decided, deleting, gathered_by, received_by, deleted_by, with_pending, send_at, sent_by, clearing, kept_ids, put_by, opened, sweeping, swept_with, swept_by, ended, SendsRecord, IsSoundAt, IsSound}
 use Rattle.recover_run.proofs.Keeping.{all_so}
 use Rattle.recover_run.proofs.Sifting.{HasSeen, IsLostAt, seen_whole}
 use Rattle.recover_run.proofs.Sweeping.{IsHandled, each_has}

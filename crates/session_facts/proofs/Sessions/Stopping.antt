@@ -129,7 +129,7 @@ module _ (who : Caller) (before after : Seen) (s t : CloudState) (book : Book) (
   commit_may r is c work k (m, steps, broken) =
       let call = called (run_ask r) steps.answer steps.made in
       or_memory MayStopCommit k tt
-      (λ other. subst EndsWell (steps.took.0 other)
+      (λ other. subst (EndsWell MayStopCommit) (steps.took.0 other)
       (run_ends book order s stand.cloud who t (r, kept) (stand.parts who.session) steps.answer (known_in (Committing r) is call.later) call))
 
   reading_may : (home : Home) (w : Walk) → old ≡ Reading home w → (d : Cache) (work : Work) (shown : Shown) (k : Trouble) → ReadsBy home who before after w kept d work shown (Ended (answer.Trouble k))
@@ -209,7 +209,7 @@ module _ (who : Caller) (before after : Seen) (s t : CloudState) (book : Book) (
   commit_ends : (r : Run) → old ≡ Committing r → (c : Cache) (work : Work) (a : CommitAnswer) → StepsCommit who before after r kept c work (Ended (answer.Commit a)) → MayEnd a
   commit_ends r is c work a (m, steps, left) =
       let call = called (run_ask r) steps.answer steps.made in
-      subst EndsWell steps.took
+      subst (EndsWell MayStopCommit) steps.took
       (run_ends book order s stand.cloud who t (r, kept) (stand.parts who.session) steps.answer (known_in (Committing r) is call.later) call)
 
   by_commit : (buffer : List Noted) (work new : Work) (c : Cache) (shown : Shown) (a : CommitAnswer) → old ≡ work → StepsAt who before after work new (Ended (answer.Commit a))

@@ -22,19 +22,13 @@ use Rattle.db_base.specs.declared.trouble.Trouble.{Trouble}
 use Rattle.db_base.specs.declared.trouble.Trouble.TheVariants as trouble
 use Rattle.recover_run.specs.declared.home.Home.{Home}
 use Rattle.report_types.specs.declared.entry.Entry.{Entry}
+use Rattle.session_facts.specs.Sessions.Calls.{folding_reply}
 use Rattle.session_facts.specs.Sessions.Explaining.{trouble_of_making, Meets, IsShown, Explains}
 use Rattle.session_facts.specs.Sessions.Sessions.{leases_of, KnowsWork, Sessions, SessionsStand}
 use Rattle.session_facts.specs.TreeCheckpoints.Checkpoint.{KnowsMaking}
 use Rattle.session_facts.proofs.Sessions.Answered.{stopped_none, answered_is, waited_is}
 use Rattle.session_facts.proofs.TreeCheckpoints.Explaining.{making_shows, making_left, making_keeps}
 use Rattle.tree_ckpt.specs.Making.{Making, making_ask, MakingLeads}
-
--- what the call of a step was answered
-abbrev pub folding_reply : (home : Home) (who : Caller) (before after : Seen) (m : Making) (work : Work) (turn : Turn Answer) → StepsFolding home who before after m work turn → Reply
-folding_reply home who before after m work More p = p.1.answer
-folding_reply home who before after m work (Ended (answer.Done n)) p = p.1.answer
-folding_reply home who before after m work (Ended (answer.Trouble k)) p = p.1.answer
-folding_reply home who before after m work turn p = absurd p
 
 module _ (who : Caller) (before after : Seen) (s t : CloudState) (told : before.state ≡ Some s) (told_after : after.state ≡ Some t) (st : Store) (now : ℕ) (home : Home) (m : Making)
     (knows : KnowsMaking st now m) where

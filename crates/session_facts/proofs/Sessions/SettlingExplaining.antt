@@ -22,6 +22,7 @@ use Rattle.cloud_trait.specs.Weather.{Makes}
 use Rattle.db_base.specs.declared.trouble.Trouble.{Trouble}
 use Rattle.db_base.specs.declared.trouble.Trouble.TheVariants as trouble
 use Rattle.report_types.specs.declared.entry.Entry.{Entry}
+use Rattle.session_facts.specs.Sessions.Calls.{settling_reply}
 use Rattle.session_facts.specs.Sessions.Explaining.{trouble_of_part, left_of_part, Meets, IsShown, Explains}
 use Rattle.session_facts.specs.Sessions.Sessions.{leases_of, KnowsWork, Sessions, SessionsStand}
 use Rattle.session_facts.specs.Settlings.Settling.{KnowsSettling}
@@ -31,13 +32,6 @@ use Rattle.session_facts.proofs.Settlings.Explaining.{settle_shows, settle_keeps
 use Rattle.settle_run.specs.declared.settled.Settled.{Settled}
 use Rattle.settle_run.specs.Parts.{IsSoundPart}
 use Rattle.settle_run.specs.Settling.{Settling as SettlingState, settle_ask, SettleLeads}
-
--- what the call of a step was answered
-abbrev pub settling_reply : (who : Caller) (before after : Seen) (m : SettlingState) (work : Work) (turn : Turn Answer) → StepsSettling who before after m work turn → Reply
-settling_reply who before after m work More p = p.1.answer
-settling_reply who before after m work (Ended (answer.Settled n)) p = p.1.answer
-settling_reply who before after m work (Ended (answer.Trouble k)) p = p.1.answer
-settling_reply who before after m work turn p = absurd p
 
 module _ (who : Caller) (before after : Seen) (s t : CloudState) (book : Book) (order : List Entry) (sessions : Sessions) (told : before.state ≡ Some s) (told_after : after.state ≡ Some t)
     (stand : SessionsStand book order s sessions) where

@@ -30,16 +30,18 @@ use Rattle.report_types.specs.declared.entry.Entry.{Entry}
 use Rattle.cloud_facts.specs.Book.Book.{Book}
 use Rattle.cloud_facts.specs.Book.Tally.{Store}
 use Rattle.cloud_facts.specs.Tellings.Told.{store_of}
-use Rattle.cloud_facts.proofs.Calls.Calls.{call_of}
+use Rattle.cloud_facts.specs.Calls.Standing.{StandsUnder}
+use Rattle.cloud_facts.specs.Homes.Homes.{Part}
 use Rattle.session_facts.specs.CommitRuns.Stopping.{EndsBy}
-use Rattle.session_facts.specs.Scans.Scans.{ScanLeads}
+use Rattle.session_facts.specs.CommitRuns.Running.{KnowsRun}
+use Rattle.session_facts.specs.Scans.Scans.{KnowsScanning, ScanLeads}
 use Rattle.session_facts.specs.Sessions.Explaining.{trouble_in, left_in, trouble_of_commit, trouble_of_answer, trouble_of_turn, Meets, IsShown, left_told, Explains}
-use Rattle.session_facts.specs.Sessions.Sessions.{leases_of, KnowsWork, KnowsKept, Sessions, SessionsStand}
-use Rattle.session_facts.specs.Walks.Walks.{WalkLeads}
+use Rattle.session_facts.specs.Sessions.Calls.{commit_reply}
+use Rattle.session_facts.specs.Sessions.Sessions.{leases_of}
+use Rattle.session_facts.specs.Walks.Walks.{KnowsWalking, WalkLeads}
 use Rattle.session_facts.proofs.CommitRuns.Explaining.{run_shown}
 use Rattle.session_facts.proofs.CommitRuns.Stopping.{EndsWell}
 use Rattle.session_facts.proofs.Scans.Explaining.{scan_shown}
-use Rattle.session_facts.proofs.Sessions.Laws.{known_at}
 use Rattle.session_facts.proofs.Walks.Explaining.{walk_shown}
 use Rattle.tree_walk.specs.Walk.{Walk, walk_ask, walk_next}
 use Rattle.txn_buffer.specs.Noted.{Noted}
@@ -88,37 +90,14 @@ module _ (ask : Ask) (c d : Counts) (s t : CloudState) (old new : Work) (before 
       on k other (inl e) = absurd (no_trouble (trouble_in new) k behind e)
       on k other (inr e) = shows k e other
 
--- what the call of a commit's step answered
-abbrev pub commit_reply : (who : Caller) (before after : Seen) (r : Run) (kept c : Cache) (work : Work) (turn : Turn Answer) → StepsCommit who before after r kept c work turn → Reply
-commit_reply who before after r kept c work More steps = steps.1.answer
-commit_reply who before after r kept c work (Ended (answer.Commit a)) steps = steps.1.answer
-commit_reply who before after r kept c work (Ended (answer.Trouble k)) steps = steps.1.answer
-commit_reply who before after r kept c work (Stopped k) steps = Memory
-commit_reply who before after r kept c work (Ended a) steps = Memory
-
-module _ (who : Caller) (before after : Seen) (s t : CloudState) (book : Book) (order : List Entry) (sessions : Sessions) (told : before.state ≡ Some s) (told_after : after.state ≡ Some t)
-    (stand : SessionsStand book order s sessions) where
-  abbrev old : Work
-  old = (sessions who.session).work
-
-  abbrev kept : Cache
-  kept = (sessions who.session).cache
-
-  abbrev st : Store
+module _ (who : Caller) (before after : Seen) (s t : CloudState) (book : Book) (order : List Entry) (told : before.state ≡ Some s) (told_after : after.state ≡ Some t)
+    (stands : StandsUnder book order s) where
+  abbrev pub st : Store
   st = store_of book order s
-
-  known_now : (work : Work) → old ≡ work → KnowsWork st s.now kept work (stand.parts who.session)
-  known_now work is = subst (λ w. KnowsWork st s.now kept w (stand.parts who.session)) is (stand.each who.session).work
-
-  known_in : (work : Work) → old ≡ work → s.now ≤ t.now → KnowsWork st t.now kept work (stand.parts who.session)
-  known_in work is later = subst (λ w. KnowsWork st t.now kept w (stand.parts who.session)) is (known_at book order s sessions stand t.now who.session later)
-
-  cache_now : (work : Work) → old ≡ work → KnowsKept st kept work
-  cache_now work is = subst (λ w. KnowsKept st kept w) is (stand.each who.session).kept
 
   -- ---- a read
 
-  module _ (home : Home) (w : Walk) (is : old ≡ Reading home w) where
+  module _ (home : Home) (w : Walk) (kept : Cache) (known : KnowsWalking st w kept) where
     abbrev Explained : Work → Turn Answer → Type 0
     Explained work turn = Explains (walk_ask w) before.counts after.counts s t (Reading home w) work turn
 
@@ -137,8 +116,7 @@ module _ (who : Caller) (before after : Seen) (s t : CloudState) (book : Book) (
         stops : q ≢ trouble.Memory → Shows q
         stops other =
             (subst (WalkLeads st Shows) (steps.took.0 other)
-            (walk_shown book order s stand.cloud who before after t told told_after (leases_of (Reading home w)) w kept
-            (record { walk = (known_now (Reading home w) is).1; cache = cache_now (Reading home w) is }) steps.answer steps.made)).1
+            (walk_shown book order s stands who before after t told told_after (leases_of (Reading home w)) w kept known steps.answer steps.made)).1
     reading_explains d work shown (Stopped q) never = absurd never
     reading_explains d work shown (Ended (answer.Opened epoch)) never = absurd never
     reading_explains d work shown (Ended answer.Closed) never = absurd never
@@ -150,7 +128,7 @@ module _ (who : Caller) (before after : Seen) (s t : CloudState) (book : Book) (
 
   -- ---- a scan
 
-  module _ (home : Home) (l : Listing) (is : old ≡ Scanning home l) where
+  module _ (home : Home) (l : Listing) (kept : Cache) (known : KnowsScanning st l.scan kept) where
     abbrev ScanExplained : Work → Turn Answer → Type 0
     ScanExplained work turn = Explains (scan_ask l.scan) before.counts after.counts s t (Scanning home l) work turn
 
@@ -180,9 +158,7 @@ module _ (who : Caller) (before after : Seen) (s t : CloudState) (book : Book) (
     scanning_explains buffer d work shown turn p = on p.moved p.steps.took p.follows
       where
         leads : ScanLeads st ShowsScan (scan_next (l.scan, kept) p.steps.answer)
-        leads =
-            scan_shown book order s stand.cloud who before after t told told_after (leases_of (Scanning home l)) l.scan kept
-            (record { scan = (known_now (Scanning home l) is).1; cache = cache_now (Scanning home l) is }) p.steps.answer p.steps.made
+        leads = scan_shown book order s stands who before after t told told_after (leases_of (Scanning home l)) l.scan kept known p.steps.answer p.steps.made
 
         stops : (q : Trouble) → Took (LeadsBy scan_next) KeepsNothing (l.scan, kept) p.steps.answer (p.scan, d) (Stopped q) → q ≢ trouble.Memory → ShowsScan q
         stops q took other = (subst (ScanLeads st ShowsScan) (took.0 other) leads).1
@@ -200,7 +176,7 @@ module _ (who : Caller) (before after : Seen) (s t : CloudState) (book : Book) (
 
   -- ---- a commit
 
-  module _ (r : Run) (is : old ≡ Committing r) (sound : IsSoundRun r) where
+  module _ (r : Run) (kept : Cache) (part : Part) (known : KnowsRun st t.now (r, kept) part) (sound : IsSoundRun r) where
     abbrev CommitExplained : Work → Turn Answer → Type 0
     CommitExplained work turn = Explains (run_ask r) before.counts after.counts s t (Committing r) work turn
 
@@ -210,8 +186,7 @@ module _ (who : Caller) (before after : Seen) (s t : CloudState) (book : Book) (
     -- where its call leads
     leads : (reply : Reply) → Makes who (run_ask r) reply before after → reply ≢ Memory → EndsWell ShowsCommit (run_next (r, kept) reply)
     leads reply made some =
-        run_shown book order s stand.cloud who before after t told told_after (leases_of (Committing r)) (r, kept) (stand.parts who.session) reply
-        (known_in (Committing r) is (call_of who (run_ask r) reply before after s t made told told_after).later) sound made some
+        run_shown book order s stands who before after t told told_after (leases_of (Committing r)) (r, kept) part reply known sound made some
 
     -- the trouble of the end of a commit
     end_shown : (a : CommitAnswer) (k : Trouble) → trouble_of_commit a ≡ Some k → EndsBy ShowsCommit a → ShowsCommit k

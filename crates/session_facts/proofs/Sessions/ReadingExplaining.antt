@@ -1,6 +1,6 @@
 -- Why a read, a scan or a commit is answered with a trouble: its call shows it.
-use Rattle.std.proofs.Common.{◌≡◌, ◌≢◌, ◌≤◌, ◌⊎◌, inl, inr, ℕ, List, Option, Some, None, refl, sym, ap, subst, ◌∙◌, arith}
-use Rattle.client_session.specs.Session.{Acting, StepsCommit, ReadsBy, ListsLeaf, Follows, StepsScanning, stopped_work, committed_work}
+use Rattle.std.proofs.Common.{◌≡◌, ◌≢◌, inl, inr, ℕ, List, Option, Some, None, refl, sym, ap, subst, ◌∙◌, arith}
+use Rattle.client_session.specs.Session.{StepsCommit, ReadsBy, ListsLeaf, Follows, StepsScanning, stopped_work, committed_work}
 use Rattle.client_session.specs.declared.answer.Answer.{Answer}
 use Rattle.client_session.specs.declared.answer.Answer.TheVariants as answer
 use Rattle.client_session.specs.declared.listing.Listing.{Listing}
@@ -24,7 +24,7 @@ use Rattle.db_base.specs.declared.trouble.CommitAnswer.TheVariants.{Committed, N
 use Rattle.db_base.specs.declared.trouble.Trouble.{Trouble}
 use Rattle.db_base.specs.declared.trouble.Trouble.TheVariants as trouble
 use Rattle.page_cache.specs.Cache.{Cache}
-use Rattle.range_scan.specs.Scan.{Scan, scan_ask, scan_next, KeepsNothing}
+use Rattle.range_scan.specs.Scan.{scan_ask, scan_next, KeepsNothing}
 use Rattle.recover_run.specs.declared.home.Home.{Home}
 use Rattle.report_types.specs.declared.entry.Entry.{Entry}
 use Rattle.cloud_facts.specs.Book.Book.{Book}
@@ -35,7 +35,7 @@ use Rattle.cloud_facts.specs.Homes.Homes.{Part}
 use Rattle.session_facts.specs.CommitRuns.Stopping.{EndsBy}
 use Rattle.session_facts.specs.CommitRuns.Running.{KnowsRun}
 use Rattle.session_facts.specs.Scans.Scans.{KnowsScanning, ScanLeads}
-use Rattle.session_facts.specs.Sessions.Explaining.{trouble_in, left_in, trouble_of_commit, trouble_of_answer, trouble_of_turn, Meets, IsShown, left_told, Explains}
+use Rattle.session_facts.specs.Sessions.Explaining.{trouble_in, left_in, trouble_of_commit, trouble_of_answer, Meets, IsShown, left_told, Explains}
 use Rattle.session_facts.specs.Sessions.Calls.{commit_reply}
 use Rattle.session_facts.specs.Sessions.Sessions.{leases_of}
 use Rattle.session_facts.specs.Walks.Walks.{KnowsWalking, WalkLeads}
@@ -43,7 +43,7 @@ use Rattle.session_facts.proofs.CommitRuns.Explaining.{run_shown}
 use Rattle.session_facts.proofs.CommitRuns.Stopping.{EndsWell}
 use Rattle.session_facts.proofs.Scans.Explaining.{scan_shown}
 use Rattle.session_facts.proofs.Walks.Explaining.{walk_shown}
-use Rattle.tree_walk.specs.Walk.{Walk, walk_ask, walk_next}
+use Rattle.tree_walk.specs.Walk.{Walk, walk_ask}
 use Rattle.txn_buffer.specs.Noted.{Noted}
 
 no_trouble : (o : Option Trouble) (k : Trouble) → o ≡ None → o ≡ Some k → ⊥
@@ -101,6 +101,9 @@ module _ (who : Caller) (before after : Seen) (s t : CloudState) (book : Book) (
     abbrev Explained : Work → Turn Answer → Type 0
     Explained work turn = Explains (walk_ask w) before.counts after.counts s t (Reading home w) work turn
 
+    abbrev ShowsRead : Trouble → Type 0
+    ShowsRead k = IsShown (walk_ask w) (leases_of (Reading home w)) before.counts after.counts s t k
+
     pub reading_explains : (d : Cache) (work : Work) (shown : Shown) (turn : Turn Answer) → ReadsBy home who before after w kept d work shown turn → Explained work turn
     reading_explains d work shown More (m, steps, work_is, none) =
         goes_explains (walk_ask w) before.counts after.counts s t (Reading home w) work refl (ap trouble_in work_is) (ap left_in work_is)
@@ -108,14 +111,11 @@ module _ (who : Caller) (before after : Seen) (s t : CloudState) (book : Book) (
         ends_explains (walk_ask w) before.counts after.counts s t (Reading home w) work refl (ap trouble_in work_is) answer.Value refl (λ k e other. absurd (no_trouble None k refl e))
     reading_explains d work shown (Ended (answer.Trouble q)) (m, steps, work_is, none) =
         ends_explains (walk_ask w) before.counts after.counts s t (Reading home w) work refl (ap trouble_in work_is ∙ stopped_plain q home) (answer.Trouble q) refl
-        (λ k e other. subst Shows (one_trouble q k e) (stops (λ memory. other (sym (one_trouble q k e) ∙ memory))))
+        (λ k e other. subst ShowsRead (one_trouble q k e) (stops (λ memory. other (sym (one_trouble q k e) ∙ memory))))
       where
-        abbrev Shows : Trouble → Type 0
-        Shows k = IsShown (walk_ask w) (leases_of (Reading home w)) before.counts after.counts s t k
-
-        stops : q ≢ trouble.Memory → Shows q
+        stops : q ≢ trouble.Memory → ShowsRead q
         stops other =
-            (subst (WalkLeads st Shows) (steps.took.0 other)
+            (subst (WalkLeads st ShowsRead) (steps.took.0 other)
             (walk_shown book order s stands who before after t told told_after (leases_of (Reading home w)) w kept known steps.answer steps.made)).1
     reading_explains d work shown (Stopped q) never = absurd never
     reading_explains d work shown (Ended (answer.Opened epoch)) never = absurd never

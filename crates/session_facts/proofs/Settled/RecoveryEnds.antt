@@ -3,9 +3,10 @@ use Rattle.std.proofs.Common.{◌≡◌, ◌≢◌, ◌+◌, ◌-◌, ◌^◌, �
 use Rattle.std.specs.List.{AllByRecursion}
 use Rattle.calm_calls.specs.Calm.{IsCalm, AreCalm, AreAlone}
 use Rattle.calm_calls.specs.Plenty.{HadMemory}
+use Rattle.cloud_facts.proofs.Calls.Calls.{put_lasts}
 use Rattle.cloud_facts.proofs.Calls.Heads.{head_at, newest_head}
 use Rattle.cloud_facts.specs.Book.Book.{Book}
-use Rattle.cloud_facts.specs.Book.Telling.{last_or, head_in as head_of_version}
+use Rattle.cloud_facts.specs.Book.Tally.{Store}
 use Rattle.cloud_facts.specs.Calls.Acting.{IsPruned}
 use Rattle.cloud_facts.specs.Homes.Homes.{Part}
 use Rattle.cloud_facts.specs.Tellings.Told.{store_of}
@@ -48,24 +49,28 @@ use Rattle.recover_run.specs.Gathering.{past_ids}
 use Rattle.recover_run.specs.Ids.{new_ids, rest_of}
 use Rattle.recover_run.specs.Items.{items_of}
 use Rattle.recover_run.specs.Meaning.{IsOpened, IsNothing}
-use Rattle.recover_run.specs.Recovery.{Recovery, Step, recovery_ask, recovery_next, ask_at, next_at, under, delete_next, stopping, taken_by, phase_read, behind, head_read, bytes_read, none_read, got_by, put_by, clearing, clearing_kept, kept_ids, opened, sweeping, swept_with, swept_by, ended}
+use Rattle.recover_run.specs.Recovery.{Recovery, Step, recovery_ask, recovery_next, ask_at, next_at, take_lease, under, delete_next, stopping, taken_by, phase_read, behind, head_read, bytes_read, none_read, got_by, put_by, clearing, clearing_kept, kept_ids, opened, sweeping, swept_with, swept_by, ended}
 use Rattle.recover_run.specs.Standing.{Went}
 use Rattle.recover_run.proofs.Calmly.{Moves, Shrunk, move_shrinks, shrunk_all, unmarked_since}
 use Rattle.recover_run.proofs.Emptying.{came_empties}
 use Rattle.recover_run.proofs.Leading.{Bears, bears_received, bears_deleted, bears_sent}
 use Rattle.recover_run.proofs.Meaning.{Knows, came_known, came_means}
-use Rattle.session_facts.specs.Openings.Opening.{KnowsOpeningAt, KnowsOpening, KnowsPut}
+use Rattle.session_facts.specs.Openings.Opening.{HasPut, KnowsOpening}
 use Rattle.session_facts.proofs.Settled.RecoveryCalls.{LeadsOver, deed_row, calls_read, opened_reads, nothing_reads}
 
 -- ---- no message is left
 
-nothing_left : (ms : List Message) → AllByRecursion (λ (m : Message). ⊥) ms → ms ≡ []
+pub nothing_left : (ms : List Message) → AllByRecursion (λ (m : Message). ⊥) ms → ms ≡ []
 nothing_left [] all = refl
 nothing_left (m ∷ ms) all = absurd all.0
 
 memory_of : (h : List Deed) → HadMemory h → HadMemoryOf h
 memory_of [] memory = tt
 memory_of (d ∷ h) memory = (memory.0, memory_of h memory.1)
+
+-- the same of the newest call, by what it asked
+abbrev AlikeAt : Deed → List Deed → CloudState → Ask → Type 0
+AlikeAt d h first ask = AreCalm (record d { ask = ask } ∷ h) × AreAlone (record d { ask = ask } ∷ h) × IsBeginning (record d { ask = ask } ∷ h) first
 
 -- where all went well: at the beginning no record may be of a later epoch than the head, and where there is none no message may be left
 pub leaves_none : (client : ℕ) (first last : CloudState) (h : List Deed) (d : Deed) (r new : Recovery) (answer : RecoverAnswer) → Went client Settling None h r → d.ask ≡ recovery_ask r
@@ -83,11 +88,8 @@ leaves_none client first last h d r new (Opened epoch) went asks ends told memor
     read : opens.reading.bytes ≡ newest first (object.Head client)
     read = opened_reads client (newest first (object.Head client)) ((recovery_ask r, d.answer) ∷ calls_of h) new epoch opens (calls_read client first h d r last went asks told)
 
-    abbrev Same : Ask → Type 0
-    Same ask = AreCalm (record d { ask = ask } ∷ h) × AreAlone (record d { ask = ask } ∷ h) × IsBeginning (record d { ask = ask } ∷ h) first
-
-    same : Same (recovery_ask r)
-    same = subst Same asks (calm, alone, begins)
+    same : AlikeAt d h first (recovery_ask r)
+    same = subst (AlikeAt d h first) asks (calm, alone, begins)
 leaves_none client first last h d r new Nothing went asks ends told memory calm alone begins upto none =
     nothing_left (unmarked (last.messages (queue.Atomic client)))
     (shrunk_all (λ (m : Message). ⊥) (c.before.messages (queue.Atomic client)) (last.messages (queue.Atomic client)) shrunk
@@ -207,3 +209,126 @@ module _ (P : Type 0) where
   next_settled Sweeping r a settles p none put = swept_next r (received_of a) p
   next_settled Releasing r a settles p none put = ended_next (record r { stage = Finished; lease = None; ending = None }) r.ending p
   next_settled Finished r a settles p none put = tt
+
+-- ---- each call
+
+-- a deletion behind the put ends nothing
+clearing_goes : (r n : Recovery) (ids : List ℕ) (a : RecoverAnswer) → clearing r ids ≡ Ends n a → ⊥
+clearing_goes r n [] a e = cc
+clearing_goes r n (id ∷ ids) a e = cc
+
+-- what is known behind a landed put
+put_known : (st : Store) (now : ℕ) (part : Part) (m n : Recovery) (ids : List ℕ) → clearing m ids ≡ Goes n → KnowsOpening st now n part
+    → HasPut st now m.client m.former m.lease m.wanted m.head part
+put_known st now part m n [] e k = here (subst (λ x. KnowsOpening st now x part) (sym same) k)
+  where
+    same : record m { ids = []; stage = Sweeping } ≡ n
+    same = cc
+
+    here : KnowsOpening st now (record m { ids = []; stage = Sweeping }) part → HasPut st now m.client m.former m.lease m.wanted m.head part
+    here o = o.at
+put_known st now part m n (id ∷ ids) e k = here (subst (λ x. KnowsOpening st now x part) (sym same) k)
+  where
+    same : record m { ids = id ∷ ids; stage = Clearing } ≡ n
+    same = cc
+
+    here : KnowsOpening st now (record m { ids = id ∷ ids; stage = Clearing }) part → HasPut st now m.client m.former m.lease m.wanted m.head part
+    here o = o.at.0
+
+puts_release : (r : Recovery) (o : Option Claim) → PutsNothing (under r o Release)
+puts_release r (Some l) = tt
+puts_release r None = tt
+
+puts_delete : (r : Recovery) (ids : List ℕ) → PutsNothing (delete_next r ids)
+puts_delete r [] = tt
+puts_delete r (id ∷ ids) = tt
+
+module _ (client : ℕ) (d : Deed) (r : Recovery) (b t : CloudState) (asks : d.ask ≡ recovery_ask r) (made : IsMade d) (before : d.before.state ≡ Some b) (after : d.after.state ≡ Some t)
+    (own : r.client ≡ client) where
+  abbrev name : ObjName
+  name = object.Head client
+
+  abbrev Row : Ask → Answer → Type 0
+  Row ask a = Weather d.who ask a d.before.counts d.after.counts (called d.who t.now b) t
+
+  row_at : (ask : Ask) (a : Answer) → recovery_ask r ≡ ask → d.answer ≡ a → Row ask a
+  row_at ask a e f = subst (Row ask) f (subst (λ x. Row x d.answer) (asks ∙ e) (deed_row d b t made before after))
+
+  -- a call that puts nothing leaves the head
+  head_stays : (ask : Ask) → recovery_ask r ≡ ask → PutsNothing ask → newest t name ≡ newest b name
+  head_stays ask e puts =
+      ap (λ (f : ObjName → List Version). newest_of (f name)) (row_versions d.who ask d.answer d.before.counts d.after.counts (called d.who t.now b) t (row_at ask d.answer e refl) puts)
+
+  settled_stays : (ask : Ask) → recovery_ask r ≡ ask → PutsNothing ask → IsSettled client b → IsSettled client t
+  settled_stays ask e puts p = subst (λ (v : Option (List ℕ)). (head_at v).phase ≡ Settled) (sym (head_stays ask e puts)) p
+
+  asks_at : (stage : Stage) → r.stage ≡ stage → recovery_ask r ≡ ask_at stage r
+  asks_at stage e = ap (λ (g : Stage). ask_at g r) e
+
+  stage_stays : (stage : Stage) → r.stage ≡ stage → SettledAt stage r.ending (IsSettled client b) → SettledAt stage r.ending (IsSettled client t)
+  stage_stays Clearing e p = settled_stays (ask_at Clearing r) (asks_at Clearing e) (puts_delete r r.ids) p
+  stage_stays Sweeping e p = settled_stays (ask_at Sweeping r) (asks_at Sweeping e) tt p
+  stage_stays Releasing e p = on r.ending p
+    where
+      on : (ending : Option (Result RecoverAnswer Trouble)) → EndsSettled ending (IsSettled client b) → EndsSettled ending (IsSettled client t)
+      on (Some (Ok a)) q = settled_stays (ask_at Releasing r) (asks_at Releasing e) (puts_release r r.lease) q
+      on (Some (Err x)) q = tt
+      on None q = tt
+  stage_stays stage e p = tt
+
+  -- an absent head
+  none_settled : r.stage ≡ Getting → got_of d.answer ≡ Ok None → IsSettled client t
+  none_settled e got = on r.lease (asks_at Getting e) d.answer refl got
+    where
+      absent : (l : Claim) (v : Option (List ℕ)) → recovery_ask r ≡ GetHeld (object.Head r.client) l → Row (GetHeld (object.Head r.client) l) (Got v) → v ≡ None → newest t name ≡ None
+      absent l v asked row none = head_stays (GetHeld (object.Head r.client) l) asked tt ∙ (ap (λ k. newest b (object.Head k)) (sym own) ∙ (sym row.2 ∙ none))
+
+      on : (o : Option Claim) → recovery_ask r ≡ under r o (λ l. GetHeld (object.Head r.client) l) → (a : Answer) → d.answer ≡ a → got_of a ≡ Ok None → IsSettled client t
+      on (Some l) asked (Got v) f g =
+          let none : v ≡ None = cc in
+          subst (λ (w : Option (List ℕ)). (head_at w).phase ≡ Settled) (sym (absent l v asked (row_at (GetHeld (object.Head r.client) l) (Got v) asked f) none)) refl
+      on None asked (Got v) f g = absurd (row_at (take_lease r) (Got v) asked f)
+      on o asked a f g = absurd (cc)
+
+  -- a head that landed
+  put_settled : (book : Book) (order : List Entry) (part : Part) (n : Recovery) → r.stage ≡ Putting → done_of d.answer ≡ Ok tt → recovery_next r d.answer ≡ Goes n
+      → KnowsOpening (store_of book order t) t.now n part → IsSettled client t
+  put_settled book order part n e done goes k = subst (λ c. IsSettled c t) own phase
+    where
+      st : Store
+      st = store_of book order t
+
+      stepped : clearing_kept r ≡ Goes n
+      stepped = ap (put_by r) (sym done) ∙ (ap (λ (g : Stage). next_at g r d.answer) (sym e) ∙ goes)
+
+      p : HasPut st t.now r.client r.former r.lease r.wanted r.head part
+      p = put_known st t.now part (record r { swept = kept_ids r }) n (kept_ids r) stepped k
+
+      asked : recovery_ask r ≡ PutHeld (object.Head r.client) r.out p.held.now None
+      asked = asks_at Putting e ∙ ap (λ (o : Option Claim). under r o (λ l. PutHeld (object.Head r.client) r.out l None)) p.held.is
+
+      done_so : (a : Answer) → done_of a ≡ Ok tt → a ≡ Done
+      done_so Done f = refl
+      done_so a f = absurd (cc)
+
+      lasts : Lasts t.now p.held.now
+      lasts = put_lasts d.who (object.Head r.client) r.out p.held.now None (called d.who t.now b) t (row_at (PutHeld (object.Head r.client) r.out p.held.now None) Done asked (done_so d.answer done))
+
+      pruned : IsPruned st.tally r.client (st.tally.head r.client) r.head
+      pruned = p.home.at.newest lasts
+
+      phase : IsSettled r.client t
+      phase = ap (λ (h : Head). h.phase) (sym (newest_head (t.versions (object.Head r.client)))) ∙ (sym pruned.phase ∙ p.home.at.settled)
+
+  -- what a step leaves, and the last one
+  pub step_settles : (book : Book) (order : List Entry) (part : Part) (n : Recovery) → recovery_next r d.answer ≡ Goes n → r.aim ≡ Settling
+      → SettledAt r.stage r.ending (IsSettled client b) → KnowsOpening (store_of book order t) t.now n part → SettledAt n.stage n.ending (IsSettled client t)
+  step_settles book order part n goes settles p k =
+      subst (SettledNext (IsSettled client t)) goes
+      (next_settled (IsSettled client t) r.stage r d.answer settles (stage_stays r.stage refl p) none_settled (λ e done. put_settled book order part n e done goes k))
+
+  pub end_settles : (n : Recovery) (a : RecoverAnswer) → recovery_next r d.answer ≡ Ends n a → r.aim ≡ Settling → SettledAt r.stage r.ending (IsSettled client b) → IsSettled client t
+  end_settles n a ends settles p =
+      subst (SettledNext (IsSettled client t)) ends
+      (next_settled (IsSettled client t) r.stage r d.answer settles (stage_stays r.stage refl p) none_settled
+      (λ e done. absurd (clearing_goes (record r { swept = kept_ids r }) n (kept_ids r) a (ap (put_by r) (sym done) ∙ (ap (λ (g : Stage). next_at g r d.answer) (sym e) ∙ ends)))))

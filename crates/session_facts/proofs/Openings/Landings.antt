@@ -23,6 +23,7 @@ use Rattle.db_base.specs.declared.names.QueueName.TheVariants as queue
 use Rattle.db_base.specs.declared.trouble.Trouble.{Trouble}
 use Rattle.head_codec.specs.Spelling.{head_of}
 use Rattle.head_codec.specs.declared.head.Head.{Head}
+use Rattle.cloud_facts.specs.Copies.Copies.{SendsInTurn}
 use Rattle.cloud_facts.specs.Homes.Homes.{Home, Part, Parts, AtHome, PartHolds, HomesHold, HomeHolds, OpeningHolds, IsSpared}
 use Rattle.cloud_facts.proofs.Homes.HomeLemmas.{keeps_part, opened_keeps, marked_keeps, aside_keeps, spared_read, spared_early}
 use Rattle.cloud_facts.specs.Landings.Landing.{Landing, settles, posts, marks_log, sent_by}
@@ -39,7 +40,7 @@ use Rattle.session_facts.proofs.Openings.Marks.{past_low, marks_past, lost_low, 
 use Rattle.session_facts.proofs.Openings.Refusing.{done_may, sent_may}
 use Rattle.session_facts.proofs.Openings.Others.{lease_in_hand, gathers_passes, sifted_passes, sends_pass, messages_pass, put_passes}
 use Rattle.session_facts.proofs.Openings.Sifting.{deleted_sifted}
-use Rattle.session_facts.proofs.Openings.Sends.{posts_record, posted_sent, settles_read}
+use Rattle.session_facts.proofs.Openings.Sends.{posts_record, posted_sent, sent_in_turn, settles_read}
 use Rattle.recover_run.specs.declared.items.AtomicItem.{AtomicItem}
 use Rattle.recover_run.specs.declared.wanted.Wanted.{Wanted}
 use Rattle.recover_run.specs.Gathering.{is_lost, is_past}
@@ -171,8 +172,15 @@ module _ (who : Caller) (book : Book) (order : List Entry) (s t : CloudState) (p
     logged : IsIn book.log x.rec
     logged = (each_in (IsWanted st r.client r.wanted) r.gathered.kept k.read.kept_are x (r.sent, there)).logged
 
+    opening : OpeningHolds st.tally t.now (opening_with r.client k.read.before k.read.held.now)
+    opening = subst (λ (p : Part). PartHolds st.tally t.now p) k.read.part_is part_holds
+
+    turn : SendsInTurn st x.rec
+    turn =
+        sent_in_turn st r.client r.former r.lease r.wanted r.head r.gathered.kept part r.sent setting.cloud.holds.leaves is k opening.later x there
+
     abbrev sending : Landing who st send sent_store
-    sending = posts x.rec.tree x.rec.page r.out x.rec (posts_record st who x.rec r.out logged reads)
+    sending = posts x.rec.tree x.rec.page r.out x.rec (posts_record st who x.rec r.out logged reads turn)
 
     sends : (u : Store) → Passes st u → HomesHold u.tally t.now (at who.session part parts) → ((id : ℕ) → sent_of reply ≡ Ok id → WasSentOn u.tally x.rec × IsCopied u.tally x.rec)
         → Leads who.session parts u t.now (sent_next r (sent_of reply))

@@ -34,6 +34,8 @@ use Rattle.session_facts.proofs.Sessions.LeaseExplaining.{closing_explains, rene
 use Rattle.session_facts.proofs.Sessions.PagingExplaining.{paging_explains}
 use Rattle.session_facts.proofs.Sessions.ReadingExplaining.{reading_explains, scanning_explains, committing_explains}
 use Rattle.session_facts.proofs.Sessions.SettlingExplaining.{settling_explains}
+use Rattle.session_facts.specs.Scans.Scans.{KnowsScanning}
+use Rattle.session_facts.specs.Walks.Walks.{KnowsWalking}
 use Rattle.settle_run.specs.Settling.{settle_ask}
 use Rattle.tree_ckpt.specs.Making.{making_ask}
 use Rattle.tree_walk.specs.Walk.{walk_ask}
@@ -80,10 +82,10 @@ module _ (who : Caller) (before after : Seen) (s t : CloudState) (book : Book) (
       committing_explains who before after s t book order told told_after stand.cloud r kept (stand.parts who.session) (known_in (Committing r) is (later r c new turn shows.0)) steps.0 c new turn
       shows.0)
   by_work buffer (Reading home w) new c shown turn is steps shows =
-      let knows = record { walk = (known_now (Reading home w) is).1; cache = cache_now (Reading home w) is } in
+      let knows : KnowsWalking st w kept = record { walk = (known_now (Reading home w) is).1; cache = cache_now (Reading home w) is } in
       (walk_ask w, refl, λ found. reading_explains who before after s t book order told told_after stand.cloud home w kept knows c new shown turn shows)
   by_work buffer (Scanning home l) new c shown turn is steps shows =
-      let knows = record { scan = (known_now (Scanning home l) is).1; cache = cache_now (Scanning home l) is } in
+      let knows : KnowsScanning st l.scan kept = record { scan = (known_now (Scanning home l) is).1; cache = cache_now (Scanning home l) is } in
       (scan_ask l.scan, refl, λ found. scanning_explains who before after s t book order told told_after stand.cloud home l kept knows buffer c new shown turn shows)
   by_work buffer (Folding home m) new c shown turn is steps shows =
       (making_ask m, refl, folding_explains who before after s t book order sessions told told_after stand home m is new turn steps)

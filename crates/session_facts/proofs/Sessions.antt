@@ -19,3 +19,6 @@ pub mod SettlingStops
 pub mod Stopping
 pub mod BeginStops
 pub mod Showing
+pub mod Answered
+pub mod PagingExplaining
+pub mod LeaseExplaining

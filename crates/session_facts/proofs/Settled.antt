@@ -8,3 +8,6 @@ pub mod LeftHands
 pub mod Sums
 pub mod Costs
 pub mod CostHands
+pub mod RecoveryCalls
+pub mod RecoveryEnds
+pub mod RecoveryRuns

@@ -244,7 +244,7 @@ module _ (client : ℕ) (m : Recovery) (h : List Deed) (first last : Moment) (ra
     where
       few : AreCalm (ran.end ∷ ran.earlier) → length h ≤ 8 + (4 * length (waiting first.state (queue.Atomic client)) + count_of ((store_at first).tally.head client).phase)
       few calm =
-          let calls = few_calls client first.state ran.before.state ran.earlier ran.end l.of went leads.1 calm.1 alone.1 begins in
+          let calls = few_calls client first.state leads.0 ran.earlier ran.end l.of went leads.1 calm.1 alone.1 begins in
           let same = ap (λ (x : List Deed). length x) ran.is in
           let told = count_told (newest first.state (object.Head client)) in
           let head = ap (λ (g : Head). count_of g.phase) (head_told first) in

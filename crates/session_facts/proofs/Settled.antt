@@ -8,3 +8,5 @@ pub mod LeftHands
 pub mod Sums
 pub mod Costs
 pub mod CostHands
+pub mod Turns
+pub mod Begins

@@ -11,3 +11,5 @@ pub mod CostHands
 pub mod RecoveryCalls
 pub mod RecoveryEnds
 pub mod RecoveryRuns
+pub mod Turns
+pub mod Begins

@@ -10,3 +10,8 @@ pub mod Costs
 pub mod CostHands
 pub mod Turns
 pub mod Begins
+pub mod Locks
+pub mod TreeLeases
+pub mod PageLeases
+pub mod ClientLeases
+pub mod Free

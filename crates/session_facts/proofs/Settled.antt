@@ -3,3 +3,7 @@ pub mod TreeCalls
 pub mod TreeLists
 pub mod TreeRoots
 pub mod TreeVisits
+pub mod TreeRoom
+pub mod Draining
+pub mod TreeSteps
+pub mod TreeReceives

@@ -66,8 +66,11 @@ newest_top vs = on (last_cases vs)
     on (inl e) = subst (λ (ws : List Version). tree_held (newest_of ws) ≡ top_of (map root_in ws)) (sym e) refl
     on (inr (v, last)) = ap (λ (o : Option Version). tree_held (option_map (λ (w : Version). w.bytes) o)) last ∙ sym (last_map root_in empty_tree vs v last)
 
+pub held_tree : (s : CloudState) (tree : ℕ) (got : Option (List ℕ)) → got ≡ newest s (object.Tree tree) → tree_held got ≡ top_at s tree
+held_tree s tree got e = ap tree_held e ∙ newest_top (s.versions (object.Tree tree))
+
 pub held_top : (s : CloudState) (tree : ℕ) (got : Option (List ℕ)) → got ≡ newest s (object.Tree tree) → (tree_held got).next ≡ (top_at s tree).next
-held_top s tree got e = ap (λ (v : Option (List ℕ)). (tree_held v).next) e ∙ ap (λ (t : Tree). t.next) (newest_top (s.versions (object.Tree tree)))
+held_top s tree got e = ap (λ (t : Tree). t.next) (held_tree s tree got e)
 
 -- ---- reservations
 
@@ -160,22 +163,22 @@ root_reserves st now lease tree c t first middle behind placing many reserves by
     let next = reserved_next (tree_held c.root) (length middle) first bytes r.1 in
     omega (arith, many, next)
 
-leaf_put_some : (st : Store) (now : ℕ) (lease : Claim) (f : Folding) (ids : List ℕ) → IsPutting st now lease f ids → 0 < length f.placing.puts
+pub leaf_put_some : (st : Store) (now : ℕ) (lease : Claim) (f : Folding) (ids : List ℕ) → IsPutting st now lease f ids → 0 < length f.placing.puts
 leaf_put_some st now lease f ids k =
     let puts = k.puts in
     let many = ap length puts.placing.puts_are ∙ puts_as_many leaf_bytes f.page puts.first (puts.placing.front ∷ puts.placing.middle) in
     omega (arith, many)
 
-leaf_put_fits : (st : Store) (now p : ℕ) (lease : Claim) (f : Folding) (ids : List ℕ) → IsPutting st now lease f ids → FitsLeaf p f
-leaf_put_fits st now p lease f ids k =
+pub leaf_put_reserves : (st : Store) (now : ℕ) (lease : Claim) (f : Folding) (ids : List ℕ) → IsPutting st now lease f ids → Reserving 1 f.chart f.placing
+leaf_put_reserves st now lease f ids k =
     let puts = k.puts in
-    let many = ap length puts.placing.puts_are ∙ puts_as_many leaf_bytes f.page puts.first (puts.placing.front ∷ puts.placing.middle) in
-    inr (
-      leaf_put_some st now lease f ids k,
-      leaf_reserves st now lease f.chart.tree f.chart f.page puts.first puts.placing.front puts.placing.middle puts.placing.behind f.placing many puts.reserves,
-    )
+    leaf_reserves st now lease f.chart.tree f.chart f.page puts.first puts.placing.front puts.placing.middle puts.placing.behind f.placing
+    (ap length puts.placing.puts_are ∙ puts_as_many leaf_bytes f.page puts.first (puts.placing.front ∷ puts.placing.middle)) puts.reserves
 
-up_fits : (st : Store) (now : ℕ) (lease : Claim) (r : Rising) (last : Option (List ℕ)) → PutsOf st now lease r last → Reserving (own_of last) r.chart r.placing
+leaf_put_fits : (st : Store) (now p : ℕ) (lease : Claim) (f : Folding) (ids : List ℕ) → IsPutting st now lease f ids → FitsLeaf p f
+leaf_put_fits st now p lease f ids k = inr (leaf_put_some st now lease f ids k, leaf_put_reserves st now lease f ids k)
+
+pub up_fits : (st : Store) (now : ℕ) (lease : Claim) (r : Rising) (last : Option (List ℕ)) → PutsOf st now lease r last → Reserving (own_of last) r.chart r.placing
 up_fits st now lease r None k =
     node_reserves st now lease r.chart.tree r.chart k.first k.placing.front k.placing.middle k.placing.behind r.placing
     (ap length k.placing.puts_are ∙ puts_as_many node_bytes k.kept.page k.first (k.placing.front ∷ k.placing.middle)) k.reserves

@@ -18,3 +18,4 @@ pub mod HeadPuts
 pub mod SettlingStops
 pub mod Stopping
 pub mod BeginStops
+pub mod Showing

@@ -9,7 +9,7 @@ use Rattle.cloud_facts.specs.Book.Records.{IsIn}
 use Rattle.cloud_trait.specs.declared.turn.CkptAnswer.{CkptAnswer}
 use Rattle.cloud_trait.specs.declared.turn.Turn.{Turn}
 use Rattle.cloud_trait.specs.declared.turn.Turn.TheVariants.{More, Ended, Stopped}
-use Rattle.cloud_trait.specs.Ask.{Ask}
+use Rattle.cloud_trait.specs.Ask.{Ask, Receive}
 use Rattle.cloud_trait.specs.Claim.{Claim, IsOver}
 use Rattle.cloud_trait.specs.Machine.{Next, Goes, Ends, Stops}
 use Rattle.cloud_trait.specs.State.{CloudState, Counts}
@@ -21,6 +21,8 @@ use Rattle.db_base.specs.declared.trouble.Trouble.TheVariants as trouble
 use Rattle.page_ckpt.specs.Paging.{Paging as PagingState}
 use Rattle.recover_run.specs.Recovery.{Recovery}
 use Rattle.recover_run.specs.declared.stage.RecoverAnswer.{RecoverAnswer}
+use Rattle.recover_run.specs.declared.stage.Stage.{Stage}
+use Rattle.recover_run.specs.declared.stage.Stage.TheVariants as stage
 use Rattle.session_facts.specs.Sessions.Sessions.{leases_of}
 use Rattle.settle_run.specs.declared.part.Part.{Part}
 use Rattle.settle_run.specs.declared.part.Part.TheVariants.{Client, Tree, Page}
@@ -36,8 +38,13 @@ trouble_of_ending None = None
 trouble_of_ending (Some (Ok a)) = None
 trouble_of_ending (Some (Err t)) = Some t
 
+-- a recovery has one while its lease is given back
+abbrev pub trouble_at : Stage → Option (Result RecoverAnswer Trouble) → Option Trouble
+trouble_at stage.Releasing ending = trouble_of_ending ending
+trouble_at st ending = None
+
 abbrev pub trouble_of_recovery : Recovery → Option Trouble
-trouble_of_recovery r = trouble_of_ending r.ending
+trouble_of_recovery r = trouble_at r.stage r.ending
 
 abbrev pub ending_of : TreeWork → Option (Result CkptAnswer Trouble)
 ending_of TakingTree = None
@@ -158,15 +165,20 @@ Meets new turn t = (trouble_in new ≡ Some t) ⊎ (trouble_of_turn turn ≡ Som
 abbrev pub HasOver : List Claim → ℕ → Type 0
 HasOver held now = (l : Claim) × IsIn held l × IsOver now l
 
+-- the call receives when one of these leases is over
+abbrev pub ReceivesLate : Ask → List Claim → ℕ → Type 0
+ReceivesLate (Receive queue most) held now = HasOver held now
+ReceivesLate ask held now = ⊥
+
 -- A call shows a trouble, by the counts and the states before and behind it: a failure by the count of faults; a late call by a lease that
 -- it names and that is over; a held lock by the lock, or by the count of what was withheld; records that were not received by that count, or by
--- a lease in hand that is over; a stale read by the count of stale reads. The last number of a counter, and a page that a line named, are not
+-- a receive when a lease in hand is over; a stale read by the count of stale reads. The last number of a counter, and a page that a line named, are not
 -- the call's.
 abbrev pub IsShown : Ask → List Claim → Counts → Counts → CloudState → CloudState → Trouble → Type 0
 IsShown ask held c d s t trouble.Failed = Rose c.faults d.faults
 IsShown ask held c d s t (trouble.Late end now) = NamesLasting ask t.now → ⊥
 IsShown ask held c d s t (trouble.Busy lock until) = (TakesFree ask s t.now → ⊥) ⊎ Rose c.withheld d.withheld
-IsShown ask held c d s t (trouble.Waiting have need) = Rose c.withheld d.withheld ⊎ HasOver held t.now
+IsShown ask held c d s t (trouble.Waiting have need) = Rose c.withheld d.withheld ⊎ ReceivesLate ask held t.now
 IsShown ask held c d s t (trouble.Stale page least got) = Rose c.stale d.stale
 IsShown ask held c d s t trouble.Memory = Unit {0}
 IsShown ask held c d s t (trouble.Exhausted what) = Unit {0}
@@ -189,9 +201,9 @@ left_told new (Ended (answer.Done n)) = n.left
 left_told new (Ended a) = 0
 left_told new (Stopped q) = 0
 
--- what a step of an operation brings: a trouble that it meets is shown by its call, want of memory apart, and a trouble that it met before is
--- its answer; and no more deletions failed than before, unless a call failed
+-- what a step of an operation brings: a trouble that it meets is shown by its call, want of memory and deletions that failed before apart; a
+-- trouble that it met before is its answer; and no more deletions failed than before, unless a call failed
 pub record Explains (ask : Ask) (c d : Counts) (s t : CloudState) (old new : Work) (turn : Turn Answer) : Type 0 where
-  pub shown : trouble_in old ≡ None → (k : Trouble) → k ≢ trouble.Memory → Meets new turn k → IsShown ask (leases_of old) c d s t k
+  pub shown : trouble_in old ≡ None → left_in old ≡ 0 → (k : Trouble) → k ≢ trouble.Memory → Meets new turn k → IsShown ask (leases_of old) c d s t k
   pub kept : (k : Trouble) → trouble_in old ≡ Some k → KeepsTrouble new turn k
   pub left : (left_told new turn ≤ left_in old) ⊎ Rose c.faults d.faults

@@ -1,3 +1,15 @@
+-- Why a settling settles.
+pub mod Stories
+pub mod Frames
+pub mod Along
+pub mod Queues
+pub mod Lefts
+pub mod LeftHands
+pub mod Sums
+pub mod Costs
+pub mod CostHands
+pub mod Turns
+pub mod Begins
 pub mod TreePieces
 pub mod TreeCalls
 pub mod TreeLists
@@ -7,3 +19,5 @@ pub mod TreeRoom
 pub mod Draining
 pub mod TreeSteps
 pub mod TreeReceives
+pub mod TreeTurns
+pub mod TreeDrains

@@ -4,3 +4,5 @@ pub mod Sessions
 pub mod Puts
 pub mod Answering
 pub mod Explaining
+pub mod Calls
+pub mod Untroubled

@@ -21,3 +21,4 @@ pub mod TreeSteps
 pub mod TreeReceives
 pub mod TreeTurns
 pub mod TreeDrains
+pub mod TreeRuns

@@ -22,6 +22,9 @@ pub mod SettlingStops
 pub mod Stopping
 pub mod BeginStops
 pub mod Answered
+pub mod PagingExplaining
+pub mod LeaseExplaining
+pub mod ReadingExplaining
 pub mod Explaining
 pub mod Untroubled
 pub mod AtOnce

@@ -43,8 +43,8 @@ step_explains : (n : ℕ) (lines : List Line) (who : Caller) (wish : Wish) (befo
     → CloudHolds n lines (session_at old.sessions) old.audit old.blind x → (p : StepsLooked who wish before after old new turn) → p.under.state ≡ Some (record x { wish = wish })
     → StepExplains who wish before after old new turn p
 step_explains n lines who wish before after old new turn x holds p under s t told left =
-    session_explains who p.under p.to s t held.book held.order (session_at old.sessions) told left stand p.session.before (changed_was who.session _ old.sessions new.sessions p.session)
-    p.session.after turn p.session.does
+    session_explains who p.under p.to s t held.book held.order (session_at old.sessions) told left stand p.session.before p.session.after turn
+    (changed_was who.session _ old.sessions new.sessions p.session) p.session.does
   where
     held : CloudHolds n lines (session_at old.sessions) old.audit old.blind (record x { wish = wish })
     held = wish_holds n lines (session_at old.sessions) old.audit old.blind x wish holds

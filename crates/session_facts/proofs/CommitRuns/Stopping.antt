@@ -1,5 +1,5 @@
 -- Why a commit ends with nothing committed, or stays open: while its lease lasts its walks know their way, and no object is damaged.
-use Rattle.std.proofs.Common.{◌≡◌, ◌+◌, ℕ, Bool, true, false, cond, List, [], ◌∷◌, ◌++◌, length, Option, Some, None, Result, Ok, Err, refl, sym, ap, subst, ◌∙◌}
+use Rattle.std.proofs.Common.{◌≡◌, ◌+◌, ℕ, Bool, true, false, cond, List, [], ◌∷◌, ◌++◌, length, Option, Some, None, Result, Ok, Err, refl, sym, subst}
 use Rattle.std.specs.Prelude.{nat_lt, slice_get}
 use Rattle.std.specs.Option.{option_map}
 use Rattle.cloud_facts.specs.Calls.Call.{IsCall}
@@ -7,7 +7,6 @@ use Rattle.cloud_facts.specs.Calls.Standing.{StandsUnder}
 use Rattle.cloud_trait.specs.declared.answer.Answer.{Answer}
 use Rattle.cloud_trait.specs.declared.answer.Answer.TheVariants.{Got, Sent, Received, Done, Given, Held, Renewed, Late, Failed, Memory}
 use Rattle.cloud_trait.specs.Caller.{Caller}
-use Rattle.cloud_trait.specs.Claim.{Lasts}
 use Rattle.cloud_trait.specs.Machine.{Next, Goes, Ends, Stops}
 use Rattle.cloud_trait.specs.State.{CloudState}
 use Rattle.cloud_trait.specs.Views.{trouble_of, sent_of, done_of}
@@ -16,13 +15,13 @@ use Rattle.session_facts.proofs.Commits.Begins.{KnowsHeld}
 use Rattle.commit_run.specs.declared.hand.Hand.{Hand}
 use Rattle.commit_run.specs.declared.hand.Hand.TheVariants.{Writes, First, Change}
 use Rattle.commit_run.specs.Draft.{Draft, new_draft, pruned_by_root, pruned_by_kept, pruned_with, pruned_behind, planned, leaf_noted, paged}
-use Rattle.commit_run.specs.Run.{Run, new_run, home_of, target_of, next_target, asks, ask_at, wrote, refused, troubled, by_turn, begun_turn, walk_to, seek, plan_on, stale_at, is_stale, walk_stopped, walk_turned, walked, long_walk, pending_target, begin_walks, run_ready, next_at, run_next}
+use Rattle.commit_run.specs.Run.{Run, new_run, target_of, asks, ask_at, wrote, refused, troubled, by_turn, begun_turn, walk_to, seek, plan_on, stale_at, is_stale, walk_stopped, walk_turned, walked, long_walk, pending_target, begin_walks, run_ready, next_at, run_next}
 use Rattle.session_facts.specs.CommitRuns.Running.{KnowsSeeking, KnowsHand, KnowsRun}
 use Rattle.session_facts.specs.CommitRuns.Stopping.{MayStop, EndsBy}
 use Rattle.session_facts.proofs.CommitRuns.Steps.{Step}
 use Rattle.commit_writes.specs.declared.stage.Stage.{Stage}
 use Rattle.commit_writes.specs.declared.stage.Stage.TheVariants.{Waiting, Logging, Opening, Sending, Settling, Deleting, Finished}
-use Rattle.commit_writes.specs.Writing.{Writing, waiting, with_attempt, with_home, is_spent, routed_of, passes, not_committed, log_or_open, log_at, begun, routing, send_or_settle, send_at, delete_or_end, delete_at, logged_by, not_opened, opened_by, sent_by, settled_by, deleted_by, next_at as writes_at, writing_next}
+use Rattle.commit_writes.specs.Writing.{Writing, waiting, with_attempt, with_home, is_spent, routed_of, passes, not_committed, log_or_open, begun, routing, send_or_settle, send_at, delete_or_end, delete_at, logged_by, not_opened, opened_by, sent_by, settled_by, deleted_by, next_at as writes_at, writing_next}
 use Rattle.db_base.specs.Ids.{IsTree}
 use Rattle.db_base.specs.declared.names.ObjName.{ObjName}
 use Rattle.db_base.specs.declared.names.ObjName.TheVariants as object

@@ -34,7 +34,7 @@ use Rattle.leaf_edit.specs.Lacked.{lacked}
 use Rattle.leaf_view.specs.Leaf.{Leaf}
 use Rattle.leaf_view.specs.Lookup.{empty_leaf}
 use Rattle.log_codec.specs.declared.record.PuItem.{PuItem}
-use Rattle.page_ckpt.specs.Paging.{Paging, Step, ask_at, paging_ask, under, take_home, take_right, home_name, right_name, delete_next, held_after, handed, stopping, deleting_by, home_taken_by, HoldsNamed, HomeGot, home_read, link_of, is_visited, LeafPut, to_right, GoesOn, RunStarted, with_intake, IntakeTaken, ReceivedBy, right_taken_by, RightLacks, RightRead, RightGot, right_put_by, home_put_by, with_applied, without_applying, without_onward, went, deleted_by, finished_by, released_by, AbsorbsAt, PagingLeads, own_queue}
+use Rattle.page_ckpt.specs.Paging.{Paging, Step, ask_at, paging_ask, under, take_home, take_right, home_name, right_name, delete_next, held_after, handed, stopping, deleting_by, home_taken_by, HoldsNamed, HomeGot, home_read, link_of, is_visited, LeafPut, to_right, GoesOn, RunStarted, with_intake, IntakeTaken, ReceivedBy, right_taken_by, RightLacks, RightRead, RightGot, right_put_by, home_put_by, with_applied, without_applying, without_onward, went, finished_by, released_by, AbsorbsAt, PagingLeads, own_queue}
 use Rattle.page_ckpt.specs.declared.link.Link.{Link}
 use Rattle.page_ckpt.specs.declared.stage.Stage.{Stage}
 use Rattle.page_ckpt.specs.declared.stage.Stage.TheVariants.{TakingHome, GettingHome, Receiving, TakingRight, GettingRight, PuttingRight, ReleasingRight, PuttingHome, Deleting as DeletingNext, Releasing, Finished}

@@ -62,7 +62,7 @@ use Rattle.cloud_facts.specs.Book.Telling.{leaf_in, queue_of, nodes_of, roots_of
 use Rattle.cloud_facts.specs.Tellings.Taking.{IsLinked}
 use Rattle.cloud_facts.specs.Tellings.Told.{store_of}
 use Rattle.cloud_facts.proofs.Tellings.Names.{at2_beside}
-use Rattle.session_facts.specs.PageCheckpoints.Checkpoint.{HasPage, HasRight, HasLeases, MayStop, ReadHome, ComesOn, HasIds, TroubleWaits, KnowsPagingAt, KnowsPaging, KnowsNext, KnowsAfter, paging_note}
+use Rattle.session_facts.specs.PageCheckpoints.Checkpoint.{HasPage, HasRight, HasLeases, MayStop, ReadHome, ComesOn, HasIds, TroubleWaits, KnowsPagingAt, KnowsPaging, KnowsAfter, paging_note}
 use Rattle.session_facts.specs.PageCheckpoints.Rights.{IsNewestLeaf, IsDone, AreDone, PutsRight, LeavesRight, PutsHome}
 use Rattle.session_facts.proofs.PageCheckpoints.Nexts as nexts
 use Rattle.session_facts.proofs.PageCheckpoints.PagingOthers.{paging_later, read_stays, leads_stays, comes_stays}

@@ -1,6 +1,5 @@
 -- Why a scan stops: a get failed or was stale, in its walk and at each right page.
-use Rattle.std.proofs.Common.{◌≡◌, ◌⊎◌, inl, inr, ℕ, true, List, Option, Some, None, Result, Ok, Err, refl}
-use Rattle.cloud_facts.specs.Calls.Call.{IsCall}
+use Rattle.std.proofs.Common.{◌≡◌, true, List, Option, Some, None, refl}
 use Rattle.cloud_facts.specs.Calls.Standing.{StandsUnder}
 use Rattle.cloud_facts.proofs.Calls.Calls.{call_of}
 use Rattle.cloud_trait.specs.declared.answer.Answer.{Answer}

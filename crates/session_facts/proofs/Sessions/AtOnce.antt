@@ -165,9 +165,6 @@ module _ (book : Book) (order : List Entry) (s : CloudState) (sessions : Session
       → IsAtOnce (op.Scan tree from to) a
   scans_at_once tree from to home a is idle does = on a does does.1.moved does.1.turn does.1.follows does.1.begins
     where
-      abbrev Leads : Turn ℕ → Turn Answer → Type 0
-      Leads moved turn = Follows home old.buffer (record { scan = does.1.scan; pairs = [] }) new.cache moved new.work new.shown turn
-
       same : (b c : Answer) → c ≡ b → IsAtOnce (op.Scan tree from to) b → IsAtOnce (op.Scan tree from to) c
       same b c e at = subst (IsAtOnce (op.Scan tree from to)) (sym e) at
 
@@ -183,7 +180,8 @@ module _ (book : Book) (order : List Entry) (s : CloudState) (sessions : Session
       lists c does (Ended (answer.Trouble t)) listed begun = stopped c t does (answer_is c (answer.Trouble t) begun)
       lists c does turn never begun = absurd never
 
-      on : (c : Answer) → ScansIn tree from to old home new (Answered c) → (moved : Turn ℕ) (turn : Turn Answer) → Leads moved turn → begins_by turn (Answered c) → IsAtOnce (op.Scan tree from to) c
+      on : (c : Answer) → ScansIn tree from to old home new (Answered c) → (moved : Turn ℕ) (turn : Turn Answer)
+          → Follows home old.buffer (record { scan = does.1.scan; pairs = [] }) new.cache moved new.work new.shown turn → begins_by turn (Answered c) → IsAtOnce (op.Scan tree from to) c
       on c does More turn (work_is, none, more) begun = absurd (working (subst (λ x. begins_by x (Answered c)) more begun))
         where
           working : (let x : Begun = Answered c in x ≡ Working) → ⊥

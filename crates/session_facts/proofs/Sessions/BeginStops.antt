@@ -1,6 +1,6 @@
 -- The begin of an operation that is answered at once stops for want of memory alone, and a commit ends so with no damage.
-use Rattle.std.proofs.Common.{◌≡◌, ◌≢◌, ◌⊎◌, inl, inr, ℕ, false, List, [], Option, Some, None, Result, Ok, Err, refl, sym, ap, subst, ◌∙◌}
-use Rattle.client_session.specs.Session.{Acting, Begins, BeginsWith, HasInHand, CommitsIn, CommitsOf, CommitsNoted, ReadsIn, ReadsOf, ScansIn, ScansOf, ListsLeaf, Follows, begins_by, paging_begun_by, folding_begun_by}
+use Rattle.std.proofs.Common.{◌≡◌, ◌≢◌, ◌⊎◌, inl, inr, ℕ, false, List, [], Option, Some, Ok, sym, subst, ◌∙◌}
+use Rattle.client_session.specs.Session.{Acting, Begins, HasInHand, CommitsNoted, ReadsIn, ScansIn, ListsLeaf, Follows, begins_by, paging_begun_by, folding_begun_by}
 use Rattle.client_session.specs.declared.answer.Answer.{Answer}
 use Rattle.client_session.specs.declared.answer.Answer.TheVariants as answer
 use Rattle.client_session.specs.declared.answer.Begun.{Begun}
@@ -11,9 +11,8 @@ use Rattle.client_session.specs.declared.work.Work.{Work}
 use Rattle.client_session.specs.declared.work.Work.TheVariants.{Idle, Closing, Renewing}
 use Rattle.cloud_trait.specs.declared.turn.Turn.{Turn}
 use Rattle.cloud_trait.specs.declared.turn.Turn.TheVariants.{More, Ended, Stopped}
-use Rattle.cloud_trait.specs.Machine.{Next, Goes, Ends, Stops}
+use Rattle.cloud_trait.specs.Machine.{Next, Goes, Stops}
 use Rattle.cloud_trait.specs.State.{CloudState}
-use Rattle.commit_run.specs.Run.{Run, new_run, home_of, run_ready}
 use Rattle.session_facts.specs.CommitRuns.Stopping.{MayStop, MayStopAtOnce, EndsBy, MayEnd}
 use Rattle.session_facts.proofs.CommitRuns.Stopping.{EndsWell, ready_ends_by}
 use Rattle.db_base.specs.Ids.{IsTree}
@@ -28,13 +27,12 @@ use Rattle.report_types.specs.declared.entry.Entry.{Entry}
 use Rattle.session_facts.proofs.Scans.Scans.{scan_begins}
 use Rattle.session_facts.specs.Sessions.Explaining.{trouble_of_commit, trouble_of_answer}
 use Rattle.session_facts.specs.Sessions.Sessions.{IsHome, KnowsWork, KnowsKept, Sessions, SessionsStand, IsRightOp}
-use Rattle.session_facts.proofs.Sessions.Stopping.{or_memory}
 use Rattle.session_facts.proofs.Sessions.Troubles.{memory_or}
 use Rattle.cloud_facts.specs.Book.Book.{Book}
 use Rattle.cloud_facts.specs.Book.Tally.{Store}
 use Rattle.cloud_facts.specs.Tellings.Told.{store_of}
 use Rattle.tree_walk.specs.Moves.{Moves}
-use Rattle.tree_walk.specs.Walk.{Walk, new_walk, walk_ready}
+use Rattle.tree_walk.specs.Walk.{new_walk, walk_ready}
 use Rattle.session_facts.specs.Walks.Caches.{KnowsCache}
 use Rattle.session_facts.proofs.Walks.Walks.{walk_begins}
 

@@ -1,5 +1,5 @@
 -- Why a walk stops: a get failed or was stale. The newest version of a page that a link led to is there, and no older than any that was served.
-use Rattle.std.proofs.Common.{◌≡◌, ◌≤◌, ◌<◌, ◌+◌, ◌==◌, ◌⊎◌, inl, inr, ℕ, Bool, true, List, [], length, map, Option, Some, None, Result, Ok, Err, unwrap_or, refl, sym, ap, subst, ◌∙◌, arith}
+use Rattle.std.proofs.Common.{◌≡◌, ◌≤◌, ◌<◌, ◌+◌, ◌==◌, ◌⊎◌, inl, inr, ℕ, Bool, true, List, [], length, map, Option, Some, None, unwrap_or, refl, sym, ap, subst, ◌∙◌, arith}
 use Rattle.std.specs.Map.{lookup}
 use Rattle.std.proofs.lemmas.Bool.{eq-eqb}
 use Rattle.cloud_facts.specs.Calls.Call.{IsCall}
@@ -18,9 +18,8 @@ use Rattle.cloud_trait.specs.Caller.{Caller}
 use Rattle.cloud_trait.specs.Claim.{Claim}
 use Rattle.cloud_trait.specs.Machine.{Next, Goes, Ends, Stops}
 use Rattle.cloud_trait.specs.Seen.{Seen}
-use Rattle.cloud_trait.specs.State.{CloudState, newest, newest_of, version_at, called}
-use Rattle.cloud_trait.specs.Weather.{Rose, Weather, Leaves, Makes}
-use Rattle.db_base.specs.declared.names.ObjName.{ObjName}
+use Rattle.cloud_trait.specs.State.{CloudState, newest, newest_of, called}
+use Rattle.cloud_trait.specs.Weather.{Rose, Weather, Makes}
 use Rattle.db_base.specs.declared.names.ObjName.TheVariants as object
 use Rattle.db_base.specs.declared.trouble.Trouble.{Trouble}
 use Rattle.page_cache.specs.Cache.{Cache, served_at}
@@ -35,6 +34,7 @@ use Rattle.cloud_facts.specs.Tellings.Told.{store_of}
 use Rattle.session_facts.specs.Sessions.Explaining.{IsShown}
 use Rattle.session_facts.specs.Walks.Caches.{KnowsCache}
 use Rattle.session_facts.specs.Walks.Walks.{KnowsWalk, KnowsWalking, MayStop, WalkLeads}
+use Rattle.session_facts.proofs.Sessions.Showing.{row_of}
 use Rattle.session_facts.proofs.Walks.Caches.{leaf_version_is, served_known}
 use Rattle.session_facts.proofs.Walks.Walks.{walk_goes}
 use Rattle.tree_walk.specs.Causing.{IsOld, IsVersionOf, FailsSo, Shows}
@@ -109,9 +109,9 @@ module _ (book : Book) (order : List Entry) (s : CloudState) (stands : StandsUnd
           let first = (stands.holds.chains w.tree k.tree).newest.absent sp.level link k.stands.at.linked (ap (map node_in) empty) in
           let same : sp.page ≡ old.page = cc (old.of) in
           let some = old.missed (eq-eqb sp.level 0 first.0) (sym same ∙ first.1) none in
-          let no_length = no_length landed empty in
+          let none_there = no_length landed empty in
           let upto = within in
-          omega (arith, some, no_length, upto)
+          omega (arith, some, none_there, upto)
 
       not_older : (sp.level == 0) ≡ true → old.found < served_at c (object.Page w.tree sp.page) → ⊥
       not_older leaf less =
@@ -142,18 +142,16 @@ module _ (book : Book) (order : List Entry) (s : CloudState) (stands : StandsUnd
     abbrev pub Shown : Trouble → Type 0
     Shown trouble = IsShown (walk_ask w) held before.counts after.counts s t trouble
 
-    by_row : (got : Option (List ℕ)) (trouble : Trouble) (u : CloudState) → Weather who (walk_ask w) (Got got) before.counts after.counts (called who u.now s) u
+    by_row : (got : Option (List ℕ)) (trouble : Trouble) → Weather who (walk_ask w) (Got got) before.counts after.counts (called who t.now s) t
         → IsOld c (object_of w) (is_leaf w) got trouble → Rose before.counts.stale after.counts.stale
-    by_row got trouble u (same, version, inl new) old = absurd (fresh w c k.cache got trouble k.walk new old)
-    by_row got trouble u (same, version, inr rose) old = rose
+    by_row got trouble (same, version, inl new) old = absurd (fresh w c k.cache got trouble k.walk new old)
+    by_row got trouble (same, version, inr rose) old = rose
 
     stale_rose : (got : Option (List ℕ)) (trouble : Trouble) → a ≡ Got got → IsOld c (object_of w) (is_leaf w) got trouble → Rose before.counts.stale after.counts.stale
-    stale_rose got trouble e old = on (made.state s told)
-      where
-        on : Leaves who (walk_ask w) a before.counts after.counts s after.state → Rose before.counts.stale after.counts.stale
-        on l =
-            by_row got trouble l.after
-            (subst (λ (x : Answer). Weather who (walk_ask w) x before.counts after.counts (called who l.after.now s) l.after) e l.row) old
+    stale_rose got trouble e old =
+        by_row got trouble
+        (subst (λ (x : Answer). Weather who (walk_ask w) x before.counts after.counts (called who t.now s) t) e
+        (row_of who before after s t told told_after held (walk_ask w) a made)) old
 
     -- what fails, and what is refused
     pub failed_shown : (trouble : Trouble) → FailsSo a trouble → Shown trouble
@@ -171,7 +169,7 @@ module _ (book : Book) (order : List Entry) (s : CloudState) (stands : StandsUnd
     shown_by v trouble (inr (d, brings, inl (sp, at, led, inr fence))) = subst Shown (sym fence.is) tt
     shown_by v trouble (inr (d, brings, inr loop)) = subst Shown (sym loop.is) tt
 
-    pub called_so : IsCall who (walk_ask w) a s t
+    called_so : IsCall who (walk_ask w) a s t
     called_so = call_of who (walk_ask w) a before after s t made told told_after
 
     -- a walk stops for nothing that its get does not show

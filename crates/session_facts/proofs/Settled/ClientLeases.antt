@@ -231,7 +231,8 @@ module _ (st : Store) (now : ℕ) (r : Recovery) (part : Part) (a : Answer) (set
 pub recovery_uses : (st : Store) (now : ℕ) (r : Recovery) (part : Part) → r.aim ≡ aim.Settling → KnowsOpening st now r part → IsSound r → UsesOwn (recovery_ask r) (leases_of_recovery r)
 recovery_uses st now r part settles k sound = uses_at st now r part Done settles r.stage k.at sound
 
-pub recovery_holds : (st : Store) (now : ℕ) (r : Recovery) (part : Part) → r.aim ≡ aim.Settling → KnowsOpening st now r part → IsSound r → (a : Answer) (next : Step) → recovery_next r a ≡ next
+pub recovery_holds : (st : Store) (now : ℕ) (r : Recovery) (part : Part) → r.aim ≡ aim.Settling → KnowsOpening st now r part → IsSound r
+    → (a : Answer) (next : Step) → recovery_next r a ≡ next
     → HoldsNext leases_of_recovery (outstanding_after (recovery_ask r) a (leases_of_recovery r)) next
 recovery_holds st now r part settles k sound a next e =
     subst (HoldsNext leases_of_recovery (outstanding_after (recovery_ask r) a (leases_of_recovery r))) e (holds_at st now r part a settles r.stage k.at sound)

@@ -1,6 +1,5 @@
 -- Where nobody else has a lease, no call of a settling finds a lock held.
 use Rattle.std.proofs.Common.{◌≡◌, ◌≢◌, ◌≤◌, ◌+◌, ◌==◌, inl, inr, ℕ, Bool, true, false, cond, List, [], ◌∷◌, Option, Some, None, refl, sym, subst}
-use Rattle.std.specs.Prelude.{nat_lt}
 use Rattle.calm_calls.specs.Calm.{TakesFree}
 use Rattle.ckpt_parts.specs.Leasing.{outstanding_after}
 use Rattle.cloud_facts.specs.Book.Tally.{Store}
@@ -15,10 +14,8 @@ use Rattle.cloud_trait.specs.State.{CloudState, Counts, called}
 use Rattle.cloud_trait.specs.Weather.{Weather}
 use Rattle.db_base.specs.declared.names.Lock.{Lock}
 use Rattle.db_base.specs.declared.trouble.Trouble.TheVariants as trouble
-use Rattle.leaf_view.specs.Lookup.{page_at}
 use Rattle.page_ckpt.specs.Paging.{Paging, PagingLeads}
 use Rattle.recover_run.specs.declared.stage.RecoverAnswer.{RecoverAnswer}
-use Rattle.recover_run.specs.Ids.{new_ids}
 use Rattle.recover_run.specs.Recovery.{Recovery, recovery_next}
 use Rattle.session_facts.specs.Openings.Opening.{leases_of_recovery}
 use Rattle.session_facts.specs.PageCheckpoints.Checkpoint.{leases_of_paging}
@@ -29,10 +26,11 @@ use Rattle.session_facts.proofs.Settled.ClientLeases.{recovery_uses, recovery_ho
 use Rattle.session_facts.proofs.Settled.Locks.{HoldsNext, takes_free, call_alone}
 use Rattle.session_facts.proofs.Settled.PageLeases.{paging_uses, paging_holds}
 use Rattle.session_facts.proofs.Settled.TreeLeases.{making_uses, making_holds}
+use Rattle.session_facts.proofs.Settlings.Explaining.{BeginsAnew, passed_anew}
 use Rattle.settle_run.specs.declared.part.Part.{Part as AtWork}
 use Rattle.settle_run.specs.declared.part.Part.TheVariants.{Client, Tree, Page}
-use Rattle.settle_run.specs.Parts.{part_of_client, part_of_tree, part_of_page, part_again, part_ask, part_received, recovers, makes, pages, PartLeads, IsSoundPart}
-use Rattle.settle_run.specs.Settling.{Settling, Step, new_settling, settle_ask, begins, behind_client, to_page, behind_tree, is_visited, goes_right, goes_on, passed_with, passed, ended_by, counted, with_part, moved, SettleLeads}
+use Rattle.settle_run.specs.Parts.{part_again, part_ask, recovers, makes, pages, PartLeads, IsSoundPart}
+use Rattle.settle_run.specs.Settling.{Settling, Step, new_settling, settle_ask, passed, ended_by, counted, with_part, moved, SettleLeads}
 use Rattle.tree_ckpt.specs.Making.{Making, MakingLeads}
 
 -- ---- the part at work
@@ -71,59 +69,27 @@ part_holds st now (Page tree page m) part k sound a next (step, leads, to) =
 
 -- ---- what comes next has no lease
 
-abbrev Anew : Step → Type 0
-Anew next = HoldsNext leases_of_settling [] next
+again_none : (w : AtWork) → leases_at_work (part_again w) ≡ []
+again_none (Client client m) = refl
+again_none (Tree tree m) = refl
+again_none (Page tree page m) = refl
 
-again_anew : (w : AtWork) → leases_at_work (part_again w) ≡ []
-again_anew (Client client m) = refl
-again_anew (Tree tree m) = refl
-again_anew (Page tree page m) = refl
+anew_none : (next : Step) → BeginsAnew next → HoldsNext leases_of_settling [] next
+anew_none (Goes n) anew = subst (λ (w : AtWork). leases_at_work w ≡ []) anew (again_none n.part)
+anew_none (Ends n x) anew = refl
+anew_none (Stops n t) anew = tt
 
-client_anew : (s : Settling) (client : ℕ) → Anew (begins s (behind_client client))
-client_anew s client = on (nat_lt client 64)
+ended_none : (s : Settling) (left : ℕ) → HoldsNext leases_of_settling [] (ended_by s left)
+ended_none s left = on (left == 0)
   where
-    on : (b : Bool) → Anew (begins s (cond b (part_of_client (client + 1)) (part_of_tree 1)))
-    on true = refl
-    on false = refl
-
-tree_anew : (s : Settling) (tree : ℕ) → Anew (behind_tree s tree)
-tree_anew s tree = on (nat_lt tree 16)
-  where
-    on : (b : Bool) → Anew (cond b (begins (record s { visited = [] }) (part_of_tree (tree + 1))) (Ends s (record { calls = s.calls })))
-    on true = refl
-    on false = refl
-
-right_anew : (s : Settling) (tree : ℕ) (o : Option ℕ) → Anew (goes_right s tree o)
-right_anew s tree None = tree_anew s tree
-right_anew s tree (Some page) = on (is_visited s page)
-  where
-    on : (b : Bool) → Anew (cond b (Stops s (trouble.Loop page)) (to_page s tree page))
-    on true = tt
-    on false = refl
-
-on_anew : (s : Settling) (w : AtWork) → Anew (goes_on s w)
-on_anew s (Client client m) = client_anew s client
-on_anew s (Tree tree m) = refl
-on_anew s (Page tree page m) = right_anew s tree (page_at m.home.right)
-
-passed_anew : (s : Settling) → Anew (passed s)
-passed_anew s = on (new_ids s.known (part_received s.part))
-  where
-    on : (ids : List ℕ) → Anew (passed_with s ids)
-    on [] = on_anew s s.part
-    on (id ∷ ids) = again_anew s.part
-
-ended_anew : (s : Settling) (left : ℕ) → Anew (ended_by s left)
-ended_anew s left = on (left == 0)
-  where
-    on : (b : Bool) → Anew (cond b (passed s) (Stops s trouble.Failed))
-    on true = passed_anew s
+    on : (b : Bool) → HoldsNext leases_of_settling [] (cond b (passed s) (Stops s trouble.Failed))
+    on true = anew_none (passed s) (passed_anew s)
     on false = tt
 
 moved_holds : (s : Settling) (held : List Claim) (x : Next AtWork ℕ) → HoldsNext leases_at_work held x → HoldsNext leases_of_settling held (moved s x)
 moved_holds s held (Goes w) same = same
 moved_holds s held (Ends w left) none =
-    subst (λ (cs : List Claim). HoldsNext leases_of_settling cs (ended_by (counted (with_part s w)) left)) (sym none) (ended_anew (counted (with_part s w)) left)
+    subst (λ (cs : List Claim). HoldsNext leases_of_settling cs (ended_by (counted (with_part s w)) left)) (sym none) (ended_none (counted (with_part s w)) left)
 moved_holds s held (Stops w t) any = tt
 
 -- ---- a settling
@@ -132,7 +98,8 @@ moved_holds s held (Stops w t) any = tt
 pub begins_alone : (s : CloudState) → ((l : Lock) → (s.locks l).until ≤ s.now) → HoldsAlone (leases_of_settling new_settling) s
 begins_alone s free l = inl (free l)
 
-module _ (st : Store) (now : ℕ) (m : Settling) (part : Part) (knows : KnowsAtWork st now m.part part) (sound : IsSoundPart m.part) (s : CloudState) (alone : HoldsAlone (leases_of_settling m) s) where
+module _ (st : Store) (now : ℕ) (m : Settling) (part : Part) (knows : KnowsAtWork st now m.part part) (sound : IsSoundPart m.part) (s : CloudState)
+    (alone : HoldsAlone (leases_of_settling m) s) where
   -- the lock that its call takes is free
   pub settling_takes_free : (later : ℕ) → s.now ≤ later → TakesFree (settle_ask m) s later
   settling_takes_free later after = takes_free (settle_ask m) (leases_of_settling m) s later alone (part_uses st now m.part part knows sound) after

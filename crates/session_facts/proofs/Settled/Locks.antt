@@ -135,7 +135,9 @@ module _ (c : Claim) (cs : List Claim) (b : CloudState) (alone : HoldsAlone (c �
         where
           never : 0 < c.generation → c.generation ≡ (b.locks c.lock).generation → ⊥
           never given current =
-              let holds : is_current c b ≡ true = and_from (nat_lt 0 c.generation) ((b.locks c.lock).generation == c.generation) (lt-ltb 0 c.generation given) (eq-eqb (b.locks c.lock).generation c.generation (sym current)) in
+              let holds : is_current c b ≡ true =
+              and_from (nat_lt 0 c.generation) ((b.locks c.lock).generation == c.generation) (lt-ltb 0 c.generation given)
+              (eq-eqb (b.locks c.lock).generation c.generation (sym current)) in
               let other : true ≡ false = sym holds ∙ past in
               cc (other)
 

@@ -99,7 +99,8 @@ deleted_on p g = deletes_on (record p { deletions = tried p.deletions (went g) }
 
 -- ---- leases that are taken or given back
 
-home_taken_on : (p : Paging) (a : Answer) (g : Result Claim Trouble) → given_of (lock.Page p.tree p.page) a ≡ g → HoldsNext leases_of_paging (outstanding_after (take_home p) a []) (home_taken_by p g)
+home_taken_on : (p : Paging) (a : Answer) (g : Result Claim Trouble) → given_of (lock.Page p.tree p.page) a ≡ g
+    → HoldsNext leases_of_paging (outstanding_after (take_home p) a []) (home_taken_by p g)
 home_taken_on p a (Ok l) e =
     subst (λ (x : Answer). HoldsNext leases_of_paging (outstanding_after (take_home p) x []) (home_taken_by p (Ok l))) (sym (given_of-ok (lock.Page p.tree p.page) a l e)) refl
 home_taken_on p a (Err k) e = tt

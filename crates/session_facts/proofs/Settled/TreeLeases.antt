@@ -187,7 +187,8 @@ last_on tree a (Some l) (Some leaf) end own = refl
 last_on tree a (Some l) None end own = finished_on end
 last_on tree a None second end never = absurd never
 
-work_on : (st : Store) (now tree : ℕ) (w : Work) → KnowsWork st now tree w → (a : Answer) (next : Step) → Leads tree w a next → On (outstanding_after (work_ask tree w) a (claims_in w)) next
+work_on : (st : Store) (now tree : ℕ) (w : Work) → KnowsWork st now tree w → (a : Answer) (next : Step) → Leads tree w a next
+    → On (outstanding_after (work_ask tree w) a (claims_in w)) next
 work_on st now tree work.TakingTree k a next leads =
     subst (On (outstanding_after (take_tree tree) a [])) (sym leads) (taken_on tree a (given_of (lock.Tree tree) a) refl)
 work_on st now tree (work.GettingTree l) k a next leads = quiet_on (GetHeld (object.Tree tree) l) a (l ∷ []) next (tree_got tree l (got_of a)) tt leads (got_on tree l (got_of a))

@@ -1,5 +1,5 @@
 -- What the recovery of a client in a settling leaves, and how many calls it makes.
-use Rattle.std.proofs.Common.{◌≡◌, ◌+◌, ◌*◌, ◌≤◌, ℕ, List, [], ◌∷◌, length, Option, Some, None, refl, sym, ap, subst, ◌∙◌, arith}
+use Rattle.std.proofs.Common.{◌≡◌, ◌+◌, ◌*◌, ◌≤◌, ℕ, List, [], ◌∷◌, length, Option, Some, None, refl, ap, subst, ◌∙◌, arith}
 use Rattle.std.specs.Prelude.{unwrap_or}
 use Rattle.std.specs.List.{AllByRecursion}
 use Rattle.calm_calls.specs.Calm.{AreCalm, AreAlone}
@@ -7,10 +7,8 @@ use Rattle.calm_calls.specs.Plenty.{HadMemory}
 use Rattle.cloud_facts.proofs.Calls.Heads.{head_at, newest_head}
 use Rattle.cloud_facts.proofs.Decoding.Values.{message_decodes}
 use Rattle.cloud_facts.specs.Decoding.Decodes.{Decodes}
-use Rattle.cloud_facts.specs.Lefts.Left.{AreLogged}
 use Rattle.cloud_trait.specs.declared.answer.Answer.{Answer}
 use Rattle.cloud_trait.specs.declared.message.Message.{Message}
-use Rattle.cloud_trait.specs.declared.state.Posted.{Posted}
 use Rattle.cloud_trait.specs.declared.turn.CkptAnswer.{CkptAnswer}
 use Rattle.cloud_trait.specs.Delivery.{WasSent, unmarked}
 use Rattle.cloud_trait.specs.Machine.{Next, Goes, Ends, Stops, LeadsBy, Deed}
@@ -18,15 +16,13 @@ use Rattle.cloud_trait.specs.State.{CloudState, newest}
 use Rattle.db_base.specs.Ids.{IsClient}
 use Rattle.db_base.specs.declared.names.ObjName.TheVariants as object
 use Rattle.db_base.specs.declared.names.QueueName.TheVariants as queue
-use Rattle.db_base.specs.declared.trouble.Trouble.{Trouble}
 use Rattle.head_codec.specs.Head.{empty_head}
 use Rattle.head_codec.specs.Spelling.{head_of}
 use Rattle.head_codec.specs.declared.head.Head.{Head}
-use Rattle.head_codec.specs.declared.head.Phase.TheVariants.{Settled}
 use Rattle.log_codec.proofs.AtomicLaws.{atomic_of-some}
 use Rattle.log_codec.specs.Atomic.{atomic_of}
 use Rattle.log_codec.specs.declared.record.AtomicRec.{AtomicRec}
-use Rattle.page_ckpt.specs.Paging.{Paging, PagingLeads}
+use Rattle.page_ckpt.specs.Paging.{Paging}
 use Rattle.recover_run.specs.declared.stage.Aim.TheVariants.{Settling}
 use Rattle.recover_run.specs.declared.stage.RecoverAnswer.{RecoverAnswer}
 use Rattle.recover_run.specs.Calls.{head_in}
@@ -37,17 +33,17 @@ use Rattle.recover_run.specs.Standing.{Went}
 use Rattle.recover_run.specs.Within.{count_in}
 use Rattle.recover_run.proofs.Finding.{unmarked_sent}
 use Rattle.session_facts.specs.Settled.Runs.{waiting, RecoveryRun, RecoveriesRun}
-use Rattle.session_facts.specs.Settled.Story.{Moment, store_at, IsAtWork, IsTurn, PartStory, PartRan}
+use Rattle.session_facts.specs.Settled.Story.{Moment, store_at, IsAtWork, PartStory, PartRan}
 use Rattle.session_facts.specs.Settlings.Settling.{Recovers, KnowsAtWork}
 use Rattle.session_facts.proofs.Openings.Completing.{no_later}
 use Rattle.session_facts.proofs.Openings.Messages.{sent_message}
 use Rattle.session_facts.proofs.Settled.RecoveryCalls.{LeadsOver, few_calls}
 use Rattle.session_facts.proofs.Settled.RecoveryEnds.{IsSettled, SettledAt, nothing_left, leaves_none, step_settles, end_settles}
-use Rattle.session_facts.proofs.Settled.Stories.{part_known, story_went, story_alone, ran_alone}
+use Rattle.session_facts.proofs.Settled.Stories.{part_known, story_went, ran_alone}
 use Rattle.settle_run.specs.declared.part.Part.{Part}
 use Rattle.settle_run.specs.declared.part.Part.TheVariants.{Client, Tree, Page}
-use Rattle.settle_run.specs.Parts.{part_again, part_ask, recovers, makes, pages, PartLeads, PartWent}
-use Rattle.tree_ckpt.specs.Making.{Making, MakingLeads}
+use Rattle.settle_run.specs.Parts.{part_ask, recovers, makes, pages, PartLeads}
+use Rattle.tree_ckpt.specs.Making.{Making}
 
 -- ---- a part that recovers a client
 

@@ -156,7 +156,7 @@ module _ (client : ℕ) (first : CloudState) where
       reads n l v e f =
           let at = asks_get r.stage r n l (sym asks ∙ e) in
           let row = subst (λ a. Weather d.who (GetHeld n l) a d.before.counts d.after.counts (called d.who t.now b) t) f
-              (subst (λ ask. Weather d.who ask d.answer d.before.counts d.after.counts (called d.who t.now b) t) e (deed_row d b t made before after)) in
+          (subst (λ ask. Weather d.who ask d.answer d.before.counts d.after.counts (called d.who t.now b) t) e (deed_row d b t made before after)) in
           row.2 ∙ (ap (newest b) (named n l at (sym asks ∙ e)) ∙ taken at)
 
   all_read : (h : List Deed) (r : Recovery) (now : CloudState) → Went client Settling None h r → LeadsOver first h now → AllByRecursion (ReadsAs (newest first name)) (calls_of h)
@@ -297,9 +297,9 @@ pub few_calls : (client : ℕ) (first now : CloudState) (h : List Deed) (d : Dee
 few_calls client first now h d r went told calm alone begins =
     let few : length h + 1 ≤ 7 + 4 * length (known_ids (calls_of h)) + counted (calls_of h) = went_few client Settling None h r went in
     let ids : length (known_ids (calls_of h)) ≤ length (ids_first client first) =
-        few_of (ids_first client first) (known_ids (calls_of h)) (known_apart (calls_of h)) (known_had client first h r went calm alone (earlier_begin client first d h begins)) in
+    few_of (ids_first client first) (known_ids (calls_of h)) (known_apart (calls_of h)) (known_had client first h r went calm alone (earlier_begin client first d h begins)) in
     let records : counted (calls_of h) ≤ count_in (head_in (newest first (object.Head client))) =
-        counted_first (newest first (object.Head client)) (calls_of h) (all_read client first h r now went told) in
+    counted_first (newest first (object.Head client)) (calls_of h) (all_read client first h r now went told) in
     let same = length-map (unmarked (first.messages (queue.Atomic client))) (λ (m : Message). m.id) in
     omega (arith, few, ids, records, same)
 

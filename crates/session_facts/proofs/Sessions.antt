@@ -19,3 +19,4 @@ pub mod SettlingStops
 pub mod Stopping
 pub mod BeginStops
 pub mod Showing
+pub mod ReadingExplaining

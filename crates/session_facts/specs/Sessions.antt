@@ -4,3 +4,4 @@ pub mod Sessions
 pub mod Puts
 pub mod Answering
 pub mod Explaining
+pub mod Calls

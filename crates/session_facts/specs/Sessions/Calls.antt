@@ -1,0 +1,104 @@
+-- The one service call of a step of a session, and what the step explains of it.
+use Rattle.std.specs.Prelude.{◌≡◌, ◌≢◌, List, Some, Ok}
+use Rattle.client_session.specs.Session.{Acting, StepsSession, StepsAt, ShowsAt, StepsOpening, StepsCommit, ReadsBy, StepsPaging, StepsFolding, StepsClosing, StepsRenewing, StepsSettling, ask_of_work}
+use Rattle.client_session.specs.declared.answer.Answer.{Answer}
+use Rattle.client_session.specs.declared.answer.Answer.TheVariants as answer
+use Rattle.client_session.specs.declared.shown.Shown.{Shown}
+use Rattle.client_session.specs.declared.work.Work.{Work}
+use Rattle.client_session.specs.declared.work.Work.TheVariants.{Closed, Idle, Opening, Committing, Reading, Scanning, Folding, Paging, Closing, Renewing, Settling, Broken}
+use Rattle.cloud_trait.specs.declared.answer.Answer.{Answer as Reply}
+use Rattle.cloud_trait.specs.declared.answer.Answer.TheVariants.{Memory}
+use Rattle.cloud_trait.specs.declared.turn.Turn.{Turn}
+use Rattle.cloud_trait.specs.declared.turn.Turn.TheVariants.{More, Ended, Stopped}
+use Rattle.cloud_trait.specs.Ask.{Ask}
+use Rattle.cloud_trait.specs.Caller.{Caller}
+use Rattle.cloud_trait.specs.Claim.{Claim}
+use Rattle.cloud_trait.specs.Seen.{Seen}
+use Rattle.cloud_trait.specs.State.{CloudState}
+use Rattle.commit_run.specs.Run.{Run}
+use Rattle.page_cache.specs.Cache.{Cache}
+use Rattle.page_ckpt.specs.Paging.{Paging as Page}
+use Rattle.recover_run.specs.declared.home.Home.{Home}
+use Rattle.recover_run.specs.Recovery.{Recovery}
+use Rattle.session_facts.specs.Sessions.Explaining.{Explains}
+use Rattle.settle_run.specs.Settling.{Settling as SettlingState}
+use Rattle.tree_ckpt.specs.Making.{Making}
+use Rattle.tree_walk.specs.Walk.{Walk}
+use Rattle.txn_buffer.specs.Noted.{Noted}
+
+-- ---- what the call of a step answered, by what was at work
+
+abbrev pub opening_reply : (who : Caller) (before after : Seen) (m : Recovery) (work : Work) (turn : Turn Answer) → StepsOpening who before after m work turn → Reply
+opening_reply who before after m work More p = p.1.answer
+opening_reply who before after m work (Ended (answer.Opened epoch)) p = p.1.answer
+opening_reply who before after m work (Ended (answer.Trouble k)) p = p.1.answer
+opening_reply who before after m work turn p = absurd p
+
+abbrev pub commit_reply : (who : Caller) (before after : Seen) (r : Run) (kept c : Cache) (work : Work) (turn : Turn Answer) → StepsCommit who before after r kept c work turn → Reply
+commit_reply who before after r kept c work More p = p.1.answer
+commit_reply who before after r kept c work (Ended (answer.Commit a)) p = p.1.answer
+commit_reply who before after r kept c work (Ended (answer.Trouble k)) p = p.1.answer
+commit_reply who before after r kept c work turn p = absurd p
+
+abbrev pub reading_reply : (home : Home) (who : Caller) (before after : Seen) (w : Walk) (kept c : Cache) (work : Work) (shown : Shown) (turn : Turn Answer)
+    → ReadsBy home who before after w kept c work shown turn → Reply
+reading_reply home who before after w kept c work shown More p = p.1.answer
+reading_reply home who before after w kept c work shown (Ended answer.Value) p = p.2.answer
+reading_reply home who before after w kept c work shown (Ended (answer.Trouble k)) p = p.1.answer
+reading_reply home who before after w kept c work shown turn p = absurd p
+
+abbrev pub paging_reply : (home : Home) (who : Caller) (before after : Seen) (p : Page) (work : Work) (turn : Turn Answer) → StepsPaging home who before after p work turn → Reply
+paging_reply home who before after p work More steps = steps.1.answer
+paging_reply home who before after p work (Ended (answer.Done n)) steps = steps.1.answer
+paging_reply home who before after p work (Ended (answer.Trouble k)) steps = steps.1.answer
+paging_reply home who before after p work turn steps = absurd steps
+
+abbrev pub folding_reply : (home : Home) (who : Caller) (before after : Seen) (m : Making) (work : Work) (turn : Turn Answer) → StepsFolding home who before after m work turn → Reply
+folding_reply home who before after m work More p = p.1.answer
+folding_reply home who before after m work (Ended (answer.Done n)) p = p.1.answer
+folding_reply home who before after m work (Ended (answer.Trouble k)) p = p.1.answer
+folding_reply home who before after m work turn p = absurd p
+
+abbrev pub closing_reply : (lease : Claim) (who : Caller) (before after : Seen) (work : Work) (turn : Turn Answer) → StepsClosing lease who before after work turn → Reply
+closing_reply lease who before after work (Ended answer.Closed) p = p.0.answer
+closing_reply lease who before after work (Ended (answer.Trouble k)) p = p.0.answer
+closing_reply lease who before after work turn p = absurd p
+
+abbrev pub renewing_reply : (home : Home) (who : Caller) (before after : Seen) (work : Work) (turn : Turn Answer) → StepsRenewing home who before after work turn → Reply
+renewing_reply home who before after work (Ended (answer.Renewed end)) p = p.1.answer
+renewing_reply home who before after work (Ended (answer.Trouble k)) p = p.1.answer
+renewing_reply home who before after work turn p = absurd p
+
+abbrev pub settling_reply : (who : Caller) (before after : Seen) (m : SettlingState) (work : Work) (turn : Turn Answer) → StepsSettling who before after m work turn → Reply
+settling_reply who before after m work More p = p.1.answer
+settling_reply who before after m work (Ended (answer.Settled n)) p = p.1.answer
+settling_reply who before after m work (Ended (answer.Trouble k)) p = p.1.answer
+settling_reply who before after m work turn p = absurd p
+
+-- whatever was at work
+abbrev pub reply_at : (who : Caller) (before after : Seen) (buffer : List Noted) (old : Work) (c d : Cache) (new : Work) (shown : Shown) (turn : Turn Answer) → StepsAt who before after old new turn
+    → ShowsAt who before after buffer old c d new shown turn → Reply
+reply_at who before after buffer (Opening m) c d new shown turn p q = opening_reply who before after m new turn p.1
+reply_at who before after buffer (Committing m) c d new shown turn p q = commit_reply who before after m c d new turn q.0
+reply_at who before after buffer (Reading home m) c d new shown turn p q = reading_reply home who before after m c d new shown turn q
+reply_at who before after buffer (Scanning home m) c d new shown turn p q = q.steps.answer
+reply_at who before after buffer (Paging home m) c d new shown turn p q = paging_reply home who before after m new turn p
+reply_at who before after buffer (Folding home m) c d new shown turn p q = folding_reply home who before after m new turn p
+reply_at who before after buffer (Closing lease) c d new shown turn p q = closing_reply lease who before after new turn p
+reply_at who before after buffer (Renewing home) c d new shown turn p q = renewing_reply home who before after new turn p
+reply_at who before after buffer (Settling m) c d new shown turn p q = settling_reply who before after m new turn p.1
+reply_at who before after buffer Closed c d new shown turn p q = absurd p
+reply_at who before after buffer (Idle home) c d new shown turn p q = absurd p
+reply_at who before after buffer (Broken lease) c d new shown turn p q = absurd p
+
+-- ---- a step of a session
+
+-- what the call of a step answered
+abbrev pub reply_of : (who : Caller) (before after : Seen) (old new : Acting) (turn : Turn Answer) → StepsSession who before after old new (Ok turn) → Reply
+reply_of who before after old new turn p = reply_at who before after new.buffer old.work old.cache p.shown.0 new.work new.shown turn p.work p.shown.1
+
+-- a step explains what it brought by the call that was in hand, where that found memory
+pub record IsExplained (who : Caller) (before after : Seen) (old new : Acting) (turn : Turn Answer) (s t : CloudState) (p : StepsSession who before after old new (Ok turn)) : Type 0 where
+  pub ask : Ask
+  pub hand : ask_of_work old.work ≡ Some ask
+  pub explains : reply_of who before after old new turn p ≢ Memory → Explains ask before.counts after.counts s t old.work new.work turn

@@ -1,8 +1,8 @@
 -- What deletions of all that a delivering receive brought leave of a queue.
-use Rattle.std.proofs.Common.{◌≡◌, ◌≢◌, ◌+◌, ◌<◌, ◌≤◌, ◌⊎◌, inl, inr, ℕ, zero, suc, Bool, true, false, cond, not, List, [], ◌∷◌, ◌++◌, length, length-append, map, take, drop, Option, Some, None, Result, Ok, Err, refl, sym, ap, subst, ◌∙◌, arith}
-use Rattle.std.specs.Prelude.{◌==◌, filter, slice_get, All}
+use Rattle.std.proofs.Common.{◌≡◌, ◌≢◌, ◌+◌, ◌≤◌, ◌⊎◌, inl, inr, ℕ, zero, suc, Bool, true, false, cond, not, List, [], ◌∷◌, ◌++◌, length, length-append, map, take, drop, Option, Some, None, Result, Ok, Err, refl, sym, ap, subst, ◌∙◌, arith}
+use Rattle.std.specs.Prelude.{◌==◌, filter}
 use Rattle.std.specs.List.{AllByRecursion}
-use Rattle.std.proofs.lemmas.Bool.{eq-eqb, eqb-true, ne_eqb, le-leb}
+use Rattle.std.proofs.lemmas.Bool.{eq-eqb, ne_eqb, le-leb}
 use Rattle.std.proofs.lemmas.List.{take-append-drop, length-map}
 use Rattle.std.proofs.lemmas.List.Elements.{All-from_recursion, filter-append}
 use Rattle.std.proofs.lemmas.List.Sorted.{All-permutation, IsPermutation-sym, length_permutation}
@@ -15,12 +15,11 @@ use Rattle.cloud_facts.specs.Book.Records.{IsIn}
 use Rattle.cloud_facts.specs.Book.Tally.{Store}
 use Rattle.cloud_facts.specs.Copies.Copies.{Copies, AreItems}
 use Rattle.cloud_trait.specs.Delivery.{unmarked, unmarked_from, WasSent, IsDelivering}
-use Rattle.cloud_trait.specs.State.{CloudState, marked}
+use Rattle.cloud_trait.specs.State.{marked}
 use Rattle.cloud_trait.specs.declared.message.Message.{Message}
 use Rattle.cloud_trait.specs.declared.state.Posted.{Posted}
 use Rattle.db_base.specs.Cursor.{number_of}
 use Rattle.db_base.specs.Ids.{IsClient}
-use Rattle.db_base.specs.declared.names.QueueName.{QueueName}
 use Rattle.log_codec.specs.Pu.{pu_of}
 use Rattle.log_codec.specs.declared.record.PuItem.{PuItem}
 use Rattle.log_codec.specs.declared.record.PuRec.{PuRec}
@@ -60,13 +59,16 @@ id_of (x ∷ ms) id is = on (id_of ms id) (in_cases x.id (ids_of ms) id is)
     on again (inr there) = let r = again there in (r.0, in_rest x ms r.0 r.1, r.2)
 
 -- a delivering receive brings the same messages, in an order
-delivered_in : (posts : List Posted) (most : ℕ) (messages : List Message) → IsDelivering posts most messages → (m : Message) → IsIn messages m → IsIn (take most (unmarked posts)) m
+delivered_in : (posts : List Posted) (most : ℕ) (messages : List Message) → IsDelivering posts most messages → (m : Message) → IsIn messages m
+    → IsIn (take most (unmarked posts)) m
 delivered_in posts most messages is m there =
     all_in (IsIn (take most (unmarked posts))) messages
     (All-permutation (IsIn (take most (unmarked posts))) (take most (unmarked posts)) messages is
-    (All-from_recursion (IsIn (take most (unmarked posts))) (take most (unmarked posts)) (each_of (IsIn (take most (unmarked posts))) (take most (unmarked posts)) (λ x k. k)))) m there
+    (All-from_recursion (IsIn (take most (unmarked posts))) (take most (unmarked posts)) (each_of (IsIn (take most (unmarked posts)))
+        (take most (unmarked posts)) (λ x k. k)))) m there
 
-in_delivered : (posts : List Posted) (most : ℕ) (messages : List Message) → IsDelivering posts most messages → (m : Message) → IsIn (take most (unmarked posts)) m → IsIn messages m
+in_delivered : (posts : List Posted) (most : ℕ) (messages : List Message) → IsDelivering posts most messages → (m : Message)
+    → IsIn (take most (unmarked posts)) m → IsIn messages m
 in_delivered posts most messages is m there =
     all_in (IsIn messages) (take most (unmarked posts))
     (All-permutation (IsIn messages) messages (take most (unmarked posts)) (IsPermutation-sym (take most (unmarked posts)) messages is)
@@ -252,7 +254,8 @@ new_all : (seen ns : List ℕ) (n : ℕ) → IsIn ns n → IsIn seen n ⊎ IsIn 
 new_all seen [] n is = absurd (none_in n is)
 new_all seen (x ∷ ns) n is = on (is_seen seen x) refl (new_all seen ns n) (new_all (seen ++ x ∷ []) ns n) (in_cases x ns n is)
   where
-    more : (x ≡ n) ⊎ IsIn ns n → (IsIn ns n → IsIn (seen ++ x ∷ []) n ⊎ IsIn (new_ones (seen ++ x ∷ []) ns) n) → IsIn seen n ⊎ IsIn (x ∷ new_ones (seen ++ x ∷ []) ns) n
+    more : (x ≡ n) ⊎ IsIn ns n → (IsIn ns n → IsIn (seen ++ x ∷ []) n ⊎ IsIn (new_ones (seen ++ x ∷ []) ns) n)
+        → IsIn seen n ⊎ IsIn (x ∷ new_ones (seen ++ x ∷ []) ns) n
     more (inl same) again = inr (subst (λ (k : ℕ). IsIn (x ∷ new_ones (seen ++ x ∷ []) ns) k) same (in_first x (new_ones (seen ++ x ∷ []) ns)))
     more (inr there) again = far (again there)
       where
@@ -265,7 +268,8 @@ new_all seen (x ∷ ns) n is = on (is_seen seen x) refl (new_all seen ns n) (new
         far (inl old) = near (in_both seen (x ∷ []) n old)
         far (inr new) = inr (in_rest x (new_ones (seen ++ x ∷ []) ns) n new)
 
-    on : (b : Bool) → is_seen seen x ≡ b → (IsIn ns n → IsIn seen n ⊎ IsIn (new_ones seen ns) n) → (IsIn ns n → IsIn (seen ++ x ∷ []) n ⊎ IsIn (new_ones (seen ++ x ∷ []) ns) n)
+    on : (b : Bool) → is_seen seen x ≡ b → (IsIn ns n → IsIn seen n ⊎ IsIn (new_ones seen ns) n)
+        → (IsIn ns n → IsIn (seen ++ x ∷ []) n ⊎ IsIn (new_ones (seen ++ x ∷ []) ns) n)
         → (x ≡ n) ⊎ IsIn ns n → IsIn seen n ⊎ IsIn (cond b (new_ones seen ns) (x ∷ new_ones (seen ++ x ∷ []) ns)) n
     on true e again further (inl same) = inl (subst (IsIn seen) same (seen_in seen x e))
     on true e again further (inr there) = again there

@@ -129,7 +129,7 @@ module _ (st : Store) (client : ℕ) (h : Head) (leaves : Leaves st) (is : IsCli
               (and_from (way.0.epoch == h.epoch) (way.0.txn == h.txn) (eq-eqb way.0.epoch h.epoch (way_epoch h way.0 under)) (eq-eqb way.0.txn h.txn (way_txn h way.0 under)))
               (eq-eqb way.0.index n (omega (arith, at, some)))
 
-  no_later : HasNoLater h.epoch (st.tally.logged client)
+  pub no_later : HasNoLater h.epoch (st.tally.logged client)
   no_later =
       all_so (WasSent (st.tally.logged client)) (IsUptoEpoch h.epoch)
       (λ m was rec e. subst (λ (k : Head). rec.epoch ≤ k.epoch) newest ((leaves.logged client is).early m.id rec (sent_message (st.tally.logged client) m rec was e)))

@@ -1,8 +1,8 @@
 -- What deletions of all that a delivering receive brought leave of a queue.
-use Rattle.std.proofs.Common.{◌≡◌, ◌≢◌, ◌+◌, ◌<◌, ◌≤◌, ◌⊎◌, inl, inr, ℕ, zero, suc, Bool, true, false, cond, not, List, [], ◌∷◌, ◌++◌, length, length-append, map, take, drop, Option, Some, None, Result, Ok, Err, refl, sym, ap, subst, ◌∙◌, arith}
-use Rattle.std.specs.Prelude.{◌==◌, filter, slice_get, All}
+use Rattle.std.proofs.Common.{◌≡◌, ◌≢◌, ◌+◌, ◌≤◌, ◌⊎◌, inl, inr, ℕ, zero, suc, Bool, true, false, cond, not, List, [], ◌∷◌, ◌++◌, length, length-append, map, take, drop, Option, Some, None, Result, Ok, Err, refl, sym, ap, subst, ◌∙◌, arith}
+use Rattle.std.specs.Prelude.{◌==◌, filter, IsPermutation}
 use Rattle.std.specs.List.{AllByRecursion}
-use Rattle.std.proofs.lemmas.Bool.{eq-eqb, eqb-true, ne_eqb, le-leb}
+use Rattle.std.proofs.lemmas.Bool.{eq-eqb, ne_eqb, le-leb}
 use Rattle.std.proofs.lemmas.List.{take-append-drop, length-map}
 use Rattle.std.proofs.lemmas.List.Elements.{All-from_recursion, filter-append}
 use Rattle.std.proofs.lemmas.List.Sorted.{All-permutation, IsPermutation-sym, length_permutation}
@@ -15,12 +15,11 @@ use Rattle.cloud_facts.specs.Book.Records.{IsIn}
 use Rattle.cloud_facts.specs.Book.Tally.{Store}
 use Rattle.cloud_facts.specs.Copies.Copies.{Copies, AreItems}
 use Rattle.cloud_trait.specs.Delivery.{unmarked, unmarked_from, WasSent, IsDelivering}
-use Rattle.cloud_trait.specs.State.{CloudState, marked}
+use Rattle.cloud_trait.specs.State.{marked}
 use Rattle.cloud_trait.specs.declared.message.Message.{Message}
 use Rattle.cloud_trait.specs.declared.state.Posted.{Posted}
 use Rattle.db_base.specs.Cursor.{number_of}
 use Rattle.db_base.specs.Ids.{IsClient}
-use Rattle.db_base.specs.declared.names.QueueName.{QueueName}
 use Rattle.log_codec.specs.Pu.{pu_of}
 use Rattle.log_codec.specs.declared.record.PuItem.{PuItem}
 use Rattle.log_codec.specs.declared.record.PuRec.{PuRec}
@@ -28,6 +27,7 @@ use Rattle.recover_run.proofs.Marks.{others, marked_leaves}
 use Rattle.run_cursor.specs.Covered.{is_covered, is_seen, new_ones, covered_ids}
 use Rattle.run_cursor.specs.Run.{IsRun}
 use Rattle.session_facts.proofs.Runs.Received.{each_in, all_in, items_sent, item_client, new_in, covered_in}
+use Rattle.session_facts.proofs.Settled.Queues.{empty_of}
 use Rattle.session_facts.proofs.Settled.TreeLists.{Apart}
 use Rattle.session_facts.proofs.Trees.RisingGrounds.{in_dropped}
 use Rattle.session_facts.proofs.Trees.Unseen.{seen_in}
@@ -38,10 +38,6 @@ use Rattle.session_facts.specs.Runs.Runs.{IsSentItem}
 each_of : {X : Type 0} (P : X → Type 0) (xs : List X) → ((x : X) → IsIn xs x → P x) → AllByRecursion P xs
 each_of P [] each = tt
 each_of P (x ∷ xs) each = (each x (in_first x xs), each_of P xs (λ y is. each y (in_rest x xs y is)))
-
-nothing_in : {X : Type 0} (xs : List X) → ((x : X) → IsIn xs x → ⊥) → xs ≡ []
-nothing_in [] none = refl
-nothing_in (x ∷ xs) none = absurd (none x (in_first x xs))
 
 id_in : (ms : List Message) (m : Message) → IsIn ms m → IsIn (ids_of ms) m.id
 id_in [] m is = absurd (none_in m is)
@@ -59,18 +55,20 @@ id_of (x ∷ ms) id is = on (id_of ms id) (in_cases x.id (ids_of ms) id is)
     on again (inl same) = (x, in_first x ms, same)
     on again (inr there) = let r = again there in (r.0, in_rest x ms r.0 r.1, r.2)
 
--- a delivering receive brings the same messages, in an order
-delivered_in : (posts : List Posted) (most : ℕ) (messages : List Message) → IsDelivering posts most messages → (m : Message) → IsIn messages m → IsIn (take most (unmarked posts)) m
-delivered_in posts most messages is m there =
-    all_in (IsIn (take most (unmarked posts))) messages
-    (All-permutation (IsIn (take most (unmarked posts))) (take most (unmarked posts)) messages is
-    (All-from_recursion (IsIn (take most (unmarked posts))) (take most (unmarked posts)) (each_of (IsIn (take most (unmarked posts))) (take most (unmarked posts)) (λ x k. k)))) m there
+-- what is in a list is in another one that has the same, in an order
+moved_in : (xs ys : List Message) → IsPermutation xs ys → (m : Message) → IsIn ys m → IsIn xs m
+moved_in xs ys moves m there =
+    all_in (IsIn xs) ys (All-permutation (IsIn xs) xs ys moves (All-from_recursion (IsIn xs) xs (each_of (IsIn xs) xs (λ x k. k)))) m there
 
-in_delivered : (posts : List Posted) (most : ℕ) (messages : List Message) → IsDelivering posts most messages → (m : Message) → IsIn (take most (unmarked posts)) m → IsIn messages m
+-- a delivering receive brings the same messages
+delivered_in : (posts : List Posted) (most : ℕ) (messages : List Message) → IsDelivering posts most messages → (m : Message) → IsIn messages m
+    → IsIn (take most (unmarked posts)) m
+delivered_in posts most messages is m there = moved_in (take most (unmarked posts)) messages is m there
+
+in_delivered : (posts : List Posted) (most : ℕ) (messages : List Message) → IsDelivering posts most messages → (m : Message)
+    → IsIn (take most (unmarked posts)) m → IsIn messages m
 in_delivered posts most messages is m there =
-    all_in (IsIn messages) (take most (unmarked posts))
-    (All-permutation (IsIn messages) messages (take most (unmarked posts)) (IsPermutation-sym (take most (unmarked posts)) messages is)
-    (All-from_recursion (IsIn messages) messages (each_of (IsIn messages) messages (λ x k. k)))) m there
+    moved_in messages (take most (unmarked posts)) (IsPermutation-sym (take most (unmarked posts)) messages is) m there
 
 -- ---- messages without some ids
 
@@ -178,7 +176,7 @@ parts_apart (suc k) (x ∷ ms) apart a b one other = on (parts_apart k ms apart.
 module _ (posts : List Posted) (most : ℕ) (messages : List Message) (ids : List ℕ) (delivers : IsDelivering posts most messages)
     (all : (id : ℕ) → IsIn (ids_of messages) id → IsIn ids id) (only : (id : ℕ) → IsIn ids id → IsIn (ids_of messages) id) where
   gone : left_by ids (take most (unmarked posts)) ≡ []
-  gone = nothing_in (left_by ids (take most (unmarked posts)))
+  gone = empty_of (left_by ids (take most (unmarked posts)))
       (λ m is. let l = left_in ids (take most (unmarked posts)) m is in l.1 (all m.id (id_in messages m (in_delivered posts most messages delivers m l.0))))
 
   stay : left_by ids (drop most (unmarked posts)) ≡ drop most (unmarked posts)
@@ -252,7 +250,8 @@ new_all : (seen ns : List ℕ) (n : ℕ) → IsIn ns n → IsIn seen n ⊎ IsIn 
 new_all seen [] n is = absurd (none_in n is)
 new_all seen (x ∷ ns) n is = on (is_seen seen x) refl (new_all seen ns n) (new_all (seen ++ x ∷ []) ns n) (in_cases x ns n is)
   where
-    more : (x ≡ n) ⊎ IsIn ns n → (IsIn ns n → IsIn (seen ++ x ∷ []) n ⊎ IsIn (new_ones (seen ++ x ∷ []) ns) n) → IsIn seen n ⊎ IsIn (x ∷ new_ones (seen ++ x ∷ []) ns) n
+    more : (x ≡ n) ⊎ IsIn ns n → (IsIn ns n → IsIn (seen ++ x ∷ []) n ⊎ IsIn (new_ones (seen ++ x ∷ []) ns) n)
+        → IsIn seen n ⊎ IsIn (x ∷ new_ones (seen ++ x ∷ []) ns) n
     more (inl same) again = inr (subst (λ (k : ℕ). IsIn (x ∷ new_ones (seen ++ x ∷ []) ns) k) same (in_first x (new_ones (seen ++ x ∷ []) ns)))
     more (inr there) again = far (again there)
       where
@@ -265,7 +264,8 @@ new_all seen (x ∷ ns) n is = on (is_seen seen x) refl (new_all seen ns n) (new
         far (inl old) = near (in_both seen (x ∷ []) n old)
         far (inr new) = inr (in_rest x (new_ones (seen ++ x ∷ []) ns) n new)
 
-    on : (b : Bool) → is_seen seen x ≡ b → (IsIn ns n → IsIn seen n ⊎ IsIn (new_ones seen ns) n) → (IsIn ns n → IsIn (seen ++ x ∷ []) n ⊎ IsIn (new_ones (seen ++ x ∷ []) ns) n)
+    on : (b : Bool) → is_seen seen x ≡ b → (IsIn ns n → IsIn seen n ⊎ IsIn (new_ones seen ns) n)
+        → (IsIn ns n → IsIn (seen ++ x ∷ []) n ⊎ IsIn (new_ones (seen ++ x ∷ []) ns) n)
         → (x ≡ n) ⊎ IsIn ns n → IsIn seen n ⊎ IsIn (cond b (new_ones seen ns) (x ∷ new_ones (seen ++ x ∷ []) ns)) n
     on true e again further (inl same) = inl (subst (IsIn seen) same (seen_in seen x e))
     on true e again further (inr there) = again there

@@ -1,6 +1,6 @@
 -- How many calls of a tree checkpoint are left, where its tree has so many pages: each step that goes on leaves fewer.
 use Rattle.std.proofs.Common.{◌≡◌, ◌<◌, ◌≤◌, ◌+◌, ◌-◌, ◌*◌, ◌⊎◌, inl, inr, ℕ, Bool, true, false, cond, List, [], ◌∷◌, ◌++◌, length, length-append, Option, Some, None, Result, Ok, Err, refl, sym, ap, subst, ◌∙◌, arith, add-mul, mul-add, mul-le-mul_right}
-use Rattle.std.specs.Prelude.{◌==◌, ◌||◌, not, is_some, is_none, if◌then◌else◌, drop}
+use Rattle.std.specs.Prelude.{◌==◌, ◌||◌, not, is_some, if◌then◌else◌}
 use Rattle.std.proofs.lemmas.Option.{slice_get_within}
 use Rattle.byte_format.specs.Order.{bytes_below}
 use Rattle.ckpt_parts.specs.declared.intake.Intake.{Intake}
@@ -46,14 +46,14 @@ use Rattle.tree_parts.specs.declared.chart.Chart.{Chart}
 use Rattle.tree_parts.specs.declared.kept.KeptNode.{KeptNode}
 use Rattle.tree_parts.specs.declared.placing.Placing.{Placing}
 use Rattle.tree_parts.specs.Kept.{links_at}
-use Rattle.tree_parts.specs.Placing.{has_nothing, has_one_page, landed_placing, landed_root, puts_after}
+use Rattle.tree_parts.specs.Placing.{has_nothing, has_one_page, landed_placing, landed_root}
 use Rattle.tree_parts.specs.Read.{tree_held}
 use Rattle.tree_rising.specs.declared.node.NodePlan.{NodePlan}
 use Rattle.tree_rising.specs.declared.rising.Rising.{Rising}
 use Rattle.tree_rising.specs.declared.root.RootPlan.{RootPlan}
 use Rattle.tree_rising.specs.Nodes.{node_plan}
 use Rattle.tree_rising.specs.Rising as rise
-use Rattle.session_facts.proofs.Settled.TreePieces.{pieces_by, piece_calls, node_few, last_few, GotLeaf, got_leaf}
+use Rattle.session_facts.proofs.Settled.TreePieces.{piece_calls, node_few, last_few, GotLeaf, got_leaf}
 
 -- ---- what is left
 
@@ -255,7 +255,8 @@ landed_fewer p own next root placing some is reserves room = on placing.reserved
     on : (reserved : Option (List ℕ)) (puts : List PagePut) → has_nothing (record { reserved = reserved; puts = puts }) ≡ false
         → ((bytes : List ℕ) → reserved ≡ Some bytes → (tree_held (Some bytes)).next + own ≡ next + length puts)
         → (tree_held (landed_root (record { reserved = reserved; puts = puts }) root)).next ≤ p + 1
-        → piece_calls (own + 1) (landed_placing (record { reserved = reserved; puts = puts })) + (p + 1 - (tree_held (landed_root (record { reserved = reserved; puts = puts }) root)).next) + 1
+        → piece_calls (own + 1) (landed_placing (record { reserved = reserved; puts = puts }))
+        + (p + 1 - (tree_held (landed_root (record { reserved = reserved; puts = puts }) root)).next) + 1
         ≤ piece_calls (own + 1) (record { reserved = reserved; puts = puts }) + (p + 1 - next)
     on (Some bytes) puts some reserves room = let is_next = reserves bytes refl in omega (arith, is_next, room)
     on None [] some reserves room = absurd (cc (some))
@@ -290,7 +291,8 @@ landed_up : (p : ℕ) (r : Rising) → Reserving (own_of r.last) r.chart r.placi
     → BelowUp p (up_left p r.last r) (rise.after_put (rise.landed r))
 unfolding BelowUp
 landed_up p r reserves e = on (not (has_nothing (landed_placing r.placing)) || is_some r.last) refl where
-  goes : (last : Option (List ℕ)) → Reserving (own_of last) r.chart r.placing → next_of (rise.landed r).chart ≤ p + 1 → up_left p last (rise.landed r) < up_left p last r
+  goes : (last : Option (List ℕ)) → Reserving (own_of last) r.chart r.placing → next_of (rise.landed r).chart ≤ p + 1
+      → up_left p last (rise.landed r) < up_left p last r
   goes None reserves room = let fewer = landed_fewer p 1 (next_of r.chart) r.chart.root r.placing e refl reserves room in omega (arith, fewer)
   goes (Some bytes) reserves room = let fewer = landed_fewer p 0 (next_of r.chart) r.chart.root r.placing e refl reserves room in omega (arith, fewer)
 
@@ -310,7 +312,8 @@ landed_up p r reserves e = on (not (has_nothing (landed_placing r.placing)) || i
       let both = no_more (has_nothing (landed_placing r.placing)) (is_some r.last) f in
       rises (none_of r.last both.1) both.0
 
-risen_up : (p : ℕ) (r : Rising) (done : Result (Unit {0}) Trouble) → Reserving (own_of r.last) r.chart r.placing → BelowUp p (up_left p r.last r) (rise.risen_by r done)
+risen_up : (p : ℕ) (r : Rising) (done : Result (Unit {0}) Trouble) → Reserving (own_of r.last) r.chart r.placing
+    → BelowUp p (up_left p r.last r) (rise.risen_by r done)
 unfolding BelowUp
 risen_up p r (Ok x) reserves = on (has_nothing r.placing) refl where
   on : (b : Bool) → has_nothing r.placing ≡ b → BelowUp p (up_left p r.last r) (cond b (Ends r tt) (rise.after_put (rise.landed r)))
@@ -374,7 +377,8 @@ below_start p d tree h root run ids items some = on (next_key (chart_of tree roo
       (arrive_further (way.begun with_key (root_entry with_key).0 (root_entry with_key).1)) (λ nodes. omega (arith, within, ids)) (omega arith)
   on None e =
       let within = all_within p d 0 (omega (arith, some)) in
-      below_rising p (14 + d * (8 * p + 16)) (2 * (length {A = KeptNode} [] - 0) + (p + 1 - next_of (chart_of tree root run)) + 4) h (rise.rise (rise.begun (chart_of tree root run)))
+      below_rising p (14 + d * (8 * p + 16)) (2 * (length {A = KeptNode} [] - 0) + (p + 1 - next_of (chart_of tree root run)) + 4) h
+          (rise.rise (rise.begun (chart_of tree root run)))
       (rise_up p (rise.begun (chart_of tree root run)) refl)
       (omega (arith, within, ids)) (omega (arith, within, ids))
 
@@ -395,7 +399,9 @@ below_started p d tree h root run ids items = on (has_items run.items) refl wher
 calls_at : (p : ℕ) (h : Held) (f : Folding) → 0 < length f.placing.puts
     → calls_left p (work.Folding h f) ≡ around p h f.chart + for_keys p (unhandled f.chart) + piece_calls 2 f.placing + 2
 calls_at p h f some =
-    ap (λ (none : Bool). cond none (at_leaves p h f.chart (length f.visited) + 5) (around p h f.chart + for_keys p (unhandled f.chart) + piece_calls 2 f.placing + 2))
+    ap
+    (λ (none : Bool). cond none (at_leaves p h f.chart (length f.visited) + 5)
+    (around p h f.chart + for_keys p (unhandled f.chart) + piece_calls 2 f.placing + 2))
     (not_empty f.placing.puts some)
 
 below_page_taken : (p : ℕ) (h : Held) (c : Coming) (g : Result Claim Trouble) → Below p (at_leaves p h c.chart (length c.visited) + 6) (page_taken h c g)
@@ -450,7 +456,8 @@ below_put p h f (Err t) some reserves = λ room. omega arith
 
 below_folded : (p : ℕ) (h : Held) (f : Folding) (a : Answer) → FitsLeaf p f → Below p (calls_left p (work.Folding h f)) (folding_on h (fold.folding_next f a))
 below_folded p h f a (inl reading) =
-    subst (λ (placing : Placing). Below p (calls_left p (work.Folding h (record f { placing = placing }))) (folding_on h (fold.folding_next (record f { placing = placing }) a)))
+    subst (λ (placing : Placing). Below p (calls_left p (work.Folding h (record f { placing = placing })))
+        (folding_on h (fold.folding_next (record f { placing = placing }) a)))
     (sym reading.0)
     (below_got p h (record f { placing = no_placing }) (fold.leaf_got (record f { placing = no_placing }) (got_of a))
     (got_leaves (record f { placing = no_placing }) (got_of a)) (got_leaf (record f { placing = no_placing }) (got_of a)))

@@ -1,5 +1,5 @@
 -- The checkpoint of a tree that ended without a failed deletion deleted all that it received.
-use Rattle.std.proofs.Common.{◌≡◌, ◌+◌, ◌≤◌, ◌⊎◌, inl, inr, ℕ, Bool, true, false, List, [], ◌∷◌, ◌++◌, length, Option, Some, None, Result, Ok, Err, refl, sym, ap, subst, ◌∙◌, arith}
+use Rattle.std.proofs.Common.{◌≡◌, ◌+◌, ◌≤◌, ◌⊎◌, inl, inr, ℕ, Bool, true, false, List, [], ◌∷◌, ◌++◌, length, Result, Ok, Err, refl, sym, ap, subst, ◌∙◌, arith}
 use Rattle.ckpt_parts.specs.Intakes.{ids_of}
 use Rattle.cloud_facts.proofs.Calls.Heads.{held_seen}
 use Rattle.cloud_facts.proofs.Chains.Pieces.{none_in, in_first, in_rest, in_cases}
@@ -13,20 +13,19 @@ use Rattle.cloud_facts.specs.Tellings.Told.{store_of}
 use Rattle.cloud_trait.proofs.NameLemmas.{queue_cmp-total}
 use Rattle.cloud_trait.proofs.RowLemmas.{row_messages}
 use Rattle.cloud_trait.proofs.StateLemmas.{put_at_same}
-use Rattle.cloud_trait.specs.Ask.{Ask, Get, GetHeld, PutHeld, Send, Receive, Delete, Take, Renew, Release, Lands, TouchesNoMessage}
+use Rattle.cloud_trait.specs.Ask.{Ask, Get, GetHeld, PutHeld, Send, Receive, Delete, Take, Renew, Release, TouchesNoMessage}
 use Rattle.cloud_trait.specs.Caller.{Caller}
 use Rattle.cloud_trait.specs.Claim.{Claim}
 use Rattle.cloud_trait.specs.Delivery.{unmarked, WasSent, IsDelivering}
 use Rattle.cloud_trait.specs.Names.{queue_cmp}
 use Rattle.cloud_trait.specs.State.{CloudState, called, newest, marked}
-use Rattle.cloud_trait.specs.Views.{got_of, done_of}
+use Rattle.cloud_trait.specs.Views.{done_of}
 use Rattle.cloud_trait.specs.declared.answer.Answer.{Answer}
 use Rattle.cloud_trait.specs.declared.answer.Answer.TheVariants as call
 use Rattle.cloud_trait.specs.declared.message.Message.{Message}
 use Rattle.cloud_trait.specs.declared.state.Posted.{Posted}
 use Rattle.db_base.specs.Cursor.{number_of}
 use Rattle.db_base.specs.Ids.{IsClient}
-use Rattle.db_base.specs.declared.names.Lock.TheVariants as lock
 use Rattle.db_base.specs.declared.names.ObjName.TheVariants as object
 use Rattle.db_base.specs.declared.names.QueueName.{QueueName}
 use Rattle.db_base.specs.declared.names.QueueName.TheVariants as queue
@@ -99,7 +98,8 @@ work_same s t (c ∷ cs) rest at (mid, led, one) =
     let b = work_same s mid cs rest at.1 led in
     record { mid = b.mid; led = b.led; same = led_same c mid t (touches_none c.0 at.0 one.sends) one ∙ b.same }
 
-works_same : (tree : ℕ) (lease : Claim) (run : Taken) (s t : CloudState) (work rest : Calls) → Works tree lease run work → LedBy s (work ++ rest) t → Between s rest t.messages
+works_same : (tree : ℕ) (lease : Claim) (run : Taken) (s t : CloudState) (work rest : Calls) → Works tree lease run work → LedBy s (work ++ rest) t
+    → Between s rest t.messages
 works_same tree lease run s t [] rest works led = record { mid = t; led = led; same = refl }
 works_same tree lease run s t (c ∷ cs) rest works led =
     work_same s t (c ∷ cs) rest (subst (λ (d : Ask × Answer). IsAtWork d.0) (sym works.1.2) tt, works.2) led
@@ -139,7 +139,8 @@ all_deleted tree s t (x ∷ xs) rest none (mid, led, one) = on (went (done_of x.
     on false e none again = absurd (omega (arith, none))
     on true e none again =
         let d = again none led in
-        let done : Led (Delete (queue.TreePu tree) x.0, call.Done) mid t = subst (λ (a : Answer). Led (Delete (queue.TreePu tree) x.0, a) mid t) (done_went x.1 e) one in
+        let done : Led (Delete (queue.TreePu tree) x.0, call.Done) mid t =
+        subst (λ (a : Answer). Led (Delete (queue.TreePu tree) x.0, a) mid t) (done_went x.1 e) one in
         record { mid = d.mid; led = d.led; marks = deleted_marks (queue.TreePu tree) x.0 mid t done ∙ ap (λ (l : List Posted). marked l x.0) d.marks }
 
 -- those that were tried are these
@@ -216,7 +217,8 @@ module _ (book : Book) (order : List Entry) (first now last : CloudState) (copie
             delivered = op.delivered;
             told = told;
             kept = λ m is.
-                let k = left_kept (first.messages (queue.TreePu tree)) 256 o.messages (tried_ids tries) op.delivered all only m (subst (λ (l : List Message). IsIn l m) left is) in
+                let k = left_kept (first.messages (queue.TreePu tree)) 256 o.messages (tried_ids tries) op.delivered all only m
+                    (subst (λ (l : List Message). IsIn l m) left is) in
                 (k.0, λ there. k.1 (subst (λ (l : List ℕ). IsIn l m.id) told there));
             count =
                 let count = left_count (first.messages (queue.TreePu tree)) 256 o.messages (tried_ids tries) op.delivered all only in
@@ -240,7 +242,8 @@ module _ (book : Book) (order : List Entry) (first now last : CloudState) (copie
             all id is =
                 tried_all tries id
                 (subst (λ (l : List ℕ). IsIn l id) (sym covered)
-                (all_covered (store_of book order first) copies tree 0 256 o.messages o.items o.run.items (tree_held o.got).cursor o.run.top op.sent op.delivered opened.read opened.run
+                (all_covered (store_of book order first) copies tree 0 256 o.messages o.items o.run.items
+                    (tree_held o.got).cursor o.run.top op.sent op.delivered opened.read opened.run
                 behind id is))
 
             only : (id : ℕ) → IsIn (tried_ids tries) id → IsIn (ids_of o.messages) id
@@ -248,5 +251,6 @@ module _ (book : Book) (order : List Entry) (first now last : CloudState) (copie
                 covered_received o.messages o.items o.run.top opened.read id
                 (subst (λ (l : List ℕ). IsIn l id) covered (in_tried tries [] id (inl is)))
 
-      on : Deletes first (work ++ opening_calls tree lease o) (queue.TreePu tree) (tried_ids tries) (now.messages (queue.TreePu tree)) → Drains (queue.TreePu tree) received first last
+      on : Deletes first (work ++ opening_calls tree lease o) (queue.TreePu tree) (tried_ids tries) (now.messages (queue.TreePu tree))
+          → Drains (queue.TreePu tree) received first last
       on d = by d.mid d.marks (works_same tree lease o.run first d.mid work (opening_calls tree lease o) works d.led)

@@ -1,9 +1,8 @@
 -- How many pages the plans of a tree checkpoint put, beside those for which they reserve a number.
-use Rattle.std.proofs.Common.{◌≡◌, ◌+◌, ◌-◌, ◌<◌, ◌≤◌, ◌⊎◌, inl, inr, ℕ, Bool, true, false, cond, List, [], ◌∷◌, ◌++◌, length, map, reverse, Option, Some, None, Result, Ok, Err, refl, sym, ap, subst, ◌∙◌, arith}
+use Rattle.std.proofs.Common.{◌≡◌, ◌+◌, ◌-◌, ◌≤◌, inl, inr, ℕ, Bool, true, false, cond, List, [], ◌∷◌, ◌++◌, length, map, reverse, Option, Some, None, Result, Ok, Err, refl, sym, ap, subst, ◌∙◌, arith}
 use Rattle.std.specs.Prelude.{◌==◌, ◌||◌}
 use Rattle.std.proofs.lemmas.List.{length-map, length-reverse}
 use Rattle.byte_format.specs.Order.{bytes_below, bytes_same}
-use Rattle.cloud_trait.specs.declared.answer.Answer.{Answer}
 use Rattle.cloud_trait.specs.Machine.{Goes, Ends, Stops}
 use Rattle.db_base.specs.declared.trouble.Trouble.{Trouble}
 use Rattle.db_base.specs.declared.trouble.Trouble.TheVariants as trouble
@@ -22,7 +21,7 @@ use Rattle.split_plan.specs.declared.entry_list.NewEntry.{NewEntry}
 use Rattle.split_plan.specs.Part.{Part}
 use Rattle.split_plan.specs.Plan.{put_of, on_pages}
 use Rattle.tree_ckpt.proofs.Pieces.{leaf_puts, node_puts, root_puts}
-use Rattle.tree_ckpt.specs.Working.{Reserves, PutsPieces, PutsWhole, PutsBelow, PutsRoot, raised_root}
+use Rattle.tree_ckpt.specs.Working.{Reserves, PutsPieces, PutsRoot, raised_root}
 use Rattle.tree_parts.specs.declared.kept.KeptNode.{KeptNode}
 use Rattle.tree_parts.specs.declared.link.Link.{Link}
 use Rattle.tree_parts.specs.declared.placing.Placing.{Placing}
@@ -47,7 +46,8 @@ on_as_many : {A X : Type 0} (page free : ℕ) (ps : List (Part A X)) → length 
 on_as_many page free [] = refl
 on_as_many page free (p ∷ ps) = omega (arith, on_as_many free (free + 1) ps)
 
-pub puts_as_many : {A X : Type 0} (bytes : Part A X → List ℕ) (page free : ℕ) (ps : List (Part A X)) → length (reverse (map (put_of bytes) (on_pages page free ps))) ≡ length ps
+pub puts_as_many : {A X : Type 0} (bytes : Part A X → List ℕ) (page free : ℕ) (ps : List (Part A X))
+    → length (reverse (map (put_of bytes) (on_pages page free ps))) ≡ length ps
 puts_as_many bytes page free ps =
     length-reverse (map (put_of bytes) (on_pages page free ps)) ∙ length-map (on_pages page free ps) (put_of bytes) ∙ on_as_many page free ps
 

@@ -1,22 +1,20 @@
 -- What a tree checkpoint received, and how long the run is that it took of it.
-use Rattle.std.proofs.Common.{◌≡◌, ◌≢◌, ◌+◌, ◌≤◌, ◌<◌, ◌⊎◌, inl, inr, ℕ, zero, suc, Bool, true, false, cond, ◌==◌, ◌&&◌, List, [], ◌∷◌, length, Option, Some, None, Result, Ok, Err, refl, sym, ap, subst, ◌∙◌, arith}
-use Rattle.std.specs.Prelude.{find, count_by, slice_get, All}
+use Rattle.std.proofs.Common.{◌≡◌, ◌≢◌, ◌+◌, ◌≤◌, ◌⊎◌, inl, inr, ℕ, Bool, true, cond, ◌==◌, List, [], ◌∷◌, length, Option, Some, None, Result, Ok, Err, refl, sym, ap, subst, ◌∙◌, arith}
+use Rattle.std.specs.Prelude.{count_by}
 use Rattle.std.proofs.lemmas.Bool.{and_from, eq-eqb}
 use Rattle.std.proofs.lemmas.List.Sums.{sum_by-cons}
 use Rattle.ckpt_parts.specs.Deleting.{next_id}
 use Rattle.ckpt_parts.specs.declared.intake.Intake.{Intake}
-use Rattle.ckpt_parts.specs.Intakes.{ids_of, items_of, intake_of, TakesItems, TakesIn}
+use Rattle.ckpt_parts.specs.Intakes.{items_of, intake_of, TakesItems, TakesIn}
 use Rattle.cloud_facts.proofs.Chains.Pieces.{none_in, in_first, in_rest, in_cases}
 use Rattle.cloud_facts.specs.Book.Records.{IsIn}
 use Rattle.cloud_trait.specs.Ask.{Ask, Get, GetHeld, PutHeld, Send, Receive, Delete, Take, Renew, Release}
-use Rattle.cloud_trait.specs.Views.{received_of}
 use Rattle.cloud_trait.specs.Weather.{Fits}
 use Rattle.cloud_trait.specs.declared.answer.Answer.{Answer}
 use Rattle.cloud_trait.specs.declared.answer.Answer.TheVariants as call
 use Rattle.cloud_trait.specs.declared.message.Message.{Message}
 use Rattle.db_base.specs.declared.names.QueueName.{QueueName}
 use Rattle.db_base.specs.declared.names.QueueName.TheVariants as queue
-use Rattle.db_base.specs.declared.trouble.Trouble.{Trouble}
 use Rattle.log_codec.specs.declared.record.PuItem.{PuItem}
 use Rattle.run_cursor.specs.Run.{Taken, is_at, IsRun, IsWithin}
 use Rattle.session_facts.proofs.Runs.Received.{all_in}
@@ -68,10 +66,13 @@ apart_items (x ∷ xs) once = (other, apart_items xs (λ y is. less y is))
         absurd (omega (arith, one, first, some))
 
 run_length : (cursor : List (ℕ × ℕ)) (items run : List PuItem) (top : List (ℕ × ℕ)) → IsRun cursor items run top → length run ≤ length items
-run_length cursor items run top is_run =
-    apart_fits run items
-    (apart_items run (λ x is. let one = is_run.once x.rec.client x.rec.number (all_in (λ (y : PuItem). IsWithin cursor top y.rec.client y.rec.number) run is_run.within x is) in omega (arith, one)))
-    (run_in cursor items run top is_run)
+run_length cursor items run top is_run = apart_fits run items (apart_items run one) (run_in cursor items run top is_run)
+  where
+    one : (x : PuItem) → IsIn run x → count_by (is_at x.rec.client x.rec.number) run ≤ 1
+    one x is =
+        let within = all_in (λ (y : PuItem). IsWithin cursor top y.rec.client y.rec.number) run is_run.within x is in
+        let once = is_run.once x.rec.client x.rec.number within in
+        omega (arith, once)
 
 items_run : (q : QueueName) (cursor : List (ℕ × ℕ)) (read : Result (List PuItem) Message) (n : ℕ) (i : Intake)
     → ((items : List PuItem) → read ≡ Ok items → length items ≤ n) → TakesItems q cursor read (Ok i) → length i.run.items ≤ n
@@ -139,5 +140,6 @@ received_stays tree (work.Folding h f) a ids fits = inr (quiet_by tree (work.Fol
 received_stays tree (work.ReleasingPage h l o) a ids fits = inr (quiet_kept (Release l) a ids tt fits)
 received_stays tree (work.LeftPage h o) a ids fits = inr (quiet_kept (work_ask tree (work.LeftPage h o)) a ids tt fits)
 received_stays tree (work.Rising h r) a ids fits = inr (quiet_by tree (work.Rising h r) a ids fits (work_quiet tree (work.Rising h r)) (λ t. t))
-received_stays tree (work.Releasing held end) a ids fits = inr (quiet_by tree (work.Releasing held end) a ids fits (work_quiet tree (work.Releasing held end)) (λ t. t))
+received_stays tree (work.Releasing held end) a ids fits =
+    inr (quiet_by tree (work.Releasing held end) a ids fits (work_quiet tree (work.Releasing held end)) (λ t. t))
 received_stays tree work.Finished a ids fits = inr (quiet_kept (work_ask tree work.Finished) a ids tt fits)

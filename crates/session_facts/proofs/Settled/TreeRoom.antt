@@ -1,19 +1,17 @@
 -- What a checkpoint of a tree knows leaves room for its calls: it got no node and visited no page twice, and no page is at or above the next free one.
-use Rattle.std.proofs.Common.{◌≡◌, ◌≢◌, ◌+◌, ◌<◌, ◌≤◌, ◌⊎◌, inl, inr, ℕ, zero, suc, Bool, true, false, List, [], ◌∷◌, ◌++◌, length, map, Option, Some, None, refl, sym, ap, subst, ◌∙◌, arith}
-use Rattle.std.specs.Prelude.{reverse}
+use Rattle.std.proofs.Common.{◌≡◌, ◌+◌, ◌<◌, ◌≤◌, ◌⊎◌, inl, inr, ℕ, Bool, true, false, List, [], ◌∷◌, length, map, Option, Some, None, refl, sym, ap, subst, ◌∙◌, arith}
 use Rattle.std.specs.Option.{option_map}
 use Rattle.std.proofs.lemmas.List.{length-map}
 use Rattle.cloud_facts.proofs.Chains.Pieces.{none_in, in_first, in_rest, in_cases}
 use Rattle.cloud_facts.proofs.Decoding.Newest.{IsLast, last_cases, last_map}
 use Rattle.cloud_facts.proofs.Meanings.Steps.{not_passed}
-use Rattle.cloud_facts.specs.Book.Book.{Book, Link}
+use Rattle.cloud_facts.specs.Book.Book.{Book}
 use Rattle.cloud_facts.specs.Book.Records.{IsIn}
 use Rattle.cloud_facts.specs.Book.Tally.{Store}
 use Rattle.cloud_facts.specs.Book.Telling.{root_in, nodes_of, roots_of}
 use Rattle.cloud_facts.specs.Calls.Standing.{StandsUnder}
 use Rattle.cloud_facts.specs.Chains.Chain.{IsChained}
 use Rattle.cloud_facts.specs.Chains.Links.{top_of}
-use Rattle.cloud_facts.specs.Meanings.Meets.{IsPassed}
 use Rattle.cloud_facts.specs.Tellings.Told.{store_of}
 use Rattle.cloud_trait.specs.Claim.{Claim}
 use Rattle.cloud_trait.specs.State.{CloudState, newest, newest_of}
@@ -21,8 +19,7 @@ use Rattle.cloud_trait.specs.declared.state.Version.{Version}
 use Rattle.db_base.specs.Ids.{IsTree}
 use Rattle.db_base.specs.declared.names.ObjName.TheVariants as object
 use Rattle.leaf_fold.specs.declared.folding.Folding.{Folding}
-use Rattle.leaf_fold.specs.Folding.{no_placing}
-use Rattle.node_codec.specs.Tree.{Tree, empty_tree, tree_bytes, HasTreeSpelling}
+use Rattle.node_codec.specs.Tree.{Tree, empty_tree}
 use Rattle.report_types.specs.declared.entry.Entry.{Entry}
 use Rattle.run_cursor.specs.Covered.{is_seen}
 use Rattle.session_facts.proofs.Settled.TreeCalls.{next_of, HasRoom, Reserving, own_of, FitsLeaf, FitsWork}
@@ -32,18 +29,17 @@ use Rattle.session_facts.proofs.Settled.TreeRoots.{HasRoot}
 use Rattle.session_facts.proofs.Settled.TreeVisits.{Once, IsNew}
 use Rattle.session_facts.proofs.Trees.Reservations.{held_root}
 use Rattle.session_facts.proofs.Trees.Unseen.{seen_in}
-use Rattle.session_facts.specs.TreeCheckpoints.Checkpoint.{IsUnder, KnowsOnward, KnowsWork}
-use Rattle.session_facts.specs.Trees.Charts.{KnowsNodes, KnowsChart}
-use Rattle.session_facts.specs.Trees.Folds.{Reserves, PutsPieces}
+use Rattle.session_facts.specs.TreeCheckpoints.Checkpoint.{IsUnder, KnowsWork}
+use Rattle.session_facts.specs.Trees.Charts.{KnowsNodes}
+use Rattle.session_facts.specs.Trees.Folds.{Reserves}
 use Rattle.session_facts.specs.Trees.Leaves.{KnowsRest, IsCome, IsPutting, KnowsLeaf}
 use Rattle.session_facts.specs.Trees.Placings.{reserving, IsReservation}
-use Rattle.session_facts.specs.Trees.Risings.{AreApart, ReservesNodes, ReservesRoot, PutsNode, PutsWhole, PutsCut, PutsRoot, whole, cut, PutsOf, KnowsRising}
+use Rattle.session_facts.specs.Trees.Risings.{AreApart, ReservesNodes, ReservesRoot, whole, cut, PutsOf}
 use Rattle.session_facts.specs.Trees.Ways.{IsOnWay}
 use Rattle.split_plan.specs.Part.{LeafPart, NodePart}
 use Rattle.split_plan.specs.Plan.{leaf_bytes, node_bytes}
 use Rattle.tree_ckpt.proofs.Tours.{page_left as has_page}
 use Rattle.tree_moves.specs.declared.work.Held.{Held}
-use Rattle.tree_moves.specs.declared.work.Onward.{Onward}
 use Rattle.tree_moves.specs.declared.work.Onward.TheVariants as onward
 use Rattle.tree_moves.specs.declared.work.Work.{Work}
 use Rattle.tree_moves.specs.declared.work.Work.TheVariants as work
@@ -86,7 +82,8 @@ page_in : (ks : List KeptNode) (page : ℕ) → IsIn (map (λ (k : KeptNode). k.
 page_in [] page is = absurd (none_in page is)
 page_in (k ∷ ks) page is = on (page_in ks page) (in_cases k.page (map (λ (m : KeptNode). m.page) ks) page is)
   where
-    on : (IsIn (map (λ (m : KeptNode). m.page) ks) page → (m : KeptNode) × IsIn ks m × (m.page ≡ page)) → (k.page ≡ page) ⊎ IsIn (map (λ (m : KeptNode). m.page) ks) page
+    on : (IsIn (map (λ (m : KeptNode). m.page) ks) page → (m : KeptNode) × IsIn ks m × (m.page ≡ page))
+        → (k.page ≡ page) ⊎ IsIn (map (λ (m : KeptNode). m.page) ks) page
         → (m : KeptNode) × IsIn (k ∷ ks) m × (m.page ≡ page)
     on again (inl same) = (k, in_first k ks, same)
     on again (inr there) = let m = again there in (m.0, in_rest k ks m.0 m.1, m.2)
@@ -201,9 +198,11 @@ module _ (book : Book) (order : List Entry) (s : CloudState) (stands : StandsUnd
     room_at : (known : ℕ) → known ≡ tree → (top_of (roots_of s known)).next ≤ p + 1
     room_at known same = subst (λ (n : ℕ). (top_of (roots_of s n)).next ≤ p + 1) (sym same) room
 
-    rest_fits : (lease : Claim) (c : Chart) (ids : List ℕ) → IsUnder tree lease c.tree → c.root ≡ newest s (object.Tree tree) → KnowsRest at now lease c ids → HasRoom p c
+    rest_fits : (lease : Claim) (c : Chart) (ids : List ℕ) → IsUnder tree lease c.tree → c.root ≡ newest s (object.Tree tree)
+        → KnowsRest at now lease c ids → HasRoom p c
     rest_fits lease c ids under root k =
-        chart_fits book order s stands now p c.tree k.chart.tree (room_at c.tree under.tree_is) lease c (root_at c.tree c.root under.tree_is root) k.chart.nodes k.apart
+        chart_fits book order s stands now p c.tree k.chart.tree (room_at c.tree under.tree_is) lease c
+            (root_at c.tree c.root under.tree_is root) k.chart.nodes k.apart
 
     come_fits : (lease : Claim) (c : Chart) (page : ℕ) (low visited ids : List ℕ) → IsUnder tree lease c.tree → c.root ≡ newest s (object.Tree tree) → Apart visited
         → IsCome at now lease c page low visited ids → HasRoom p c × (length visited ≤ p)

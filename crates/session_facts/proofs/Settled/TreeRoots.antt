@@ -1,11 +1,10 @@
 -- The tree object that a tree checkpoint has in hand, from step to step.
-use Rattle.std.proofs.Common.{◌≡◌, ◌+◌, ℕ, Bool, true, false, cond, List, [], ◌∷◌, Option, Some, None, Result, Ok, Err, refl, sym, ap, subst, ◌∙◌}
+use Rattle.std.proofs.Common.{◌≡◌, ◌+◌, ℕ, Bool, true, false, cond, List, Option, Some, None, Result, Ok, Err, refl, sym, ap, subst, ◌∙◌}
 use Rattle.std.specs.Prelude.{◌||◌, not, is_some}
 use Rattle.ckpt_parts.specs.declared.intake.Intake.{Intake}
 use Rattle.ckpt_parts.specs.declared.leases.Leases.{Leases}
 use Rattle.ckpt_parts.specs.Deleting.{next_id, tried}
-use Rattle.ckpt_parts.specs.Intakes.{has_items, TakesIn}
-use Rattle.ckpt_parts.specs.Leasing.{newest_lease}
+use Rattle.ckpt_parts.specs.Intakes.{has_items}
 use Rattle.cloud_trait.specs.declared.answer.Answer.{Answer}
 use Rattle.cloud_trait.specs.declared.message.Message.{Message}
 use Rattle.cloud_trait.specs.declared.turn.CkptAnswer.{CkptAnswer}
@@ -13,7 +12,6 @@ use Rattle.cloud_trait.specs.Claim.{Claim}
 use Rattle.cloud_trait.specs.Machine.{Next, Goes, Ends, Stops}
 use Rattle.cloud_trait.specs.Views.{given_of, got_of, done_of, received_of}
 use Rattle.db_base.specs.declared.names.Lock.TheVariants as lock
-use Rattle.db_base.specs.declared.names.QueueName.TheVariants as queue
 use Rattle.db_base.specs.declared.trouble.Trouble.{Trouble}
 use Rattle.leaf_fold.specs.declared.folding.Folding.{Folding}
 use Rattle.leaf_fold.specs.declared.folding.Left.{Left}
@@ -31,7 +29,7 @@ use Rattle.tree_moves.specs.declared.work.Onward.{Onward}
 use Rattle.tree_moves.specs.declared.work.Onward.TheVariants as onward
 use Rattle.tree_moves.specs.declared.work.Work.{Work}
 use Rattle.tree_moves.specs.declared.work.Work.TheVariants as work
-use Rattle.tree_moves.specs.Moves.{Step, finished, released_by, deleting, deleting_by, deleted_by, went, rising_on, descending_on, root_entry, down_from, next_key, going, going_by, page_taken, folding_on, page_left, tree_taken, tree_read, tree_got, chart_of, started, intake_taken, ReceivedBy, Leads}
+use Rattle.tree_moves.specs.Moves.{Step, released_by, deleting, deleting_by, went, rising_on, descending_on, root_entry, down_from, next_key, going, going_by, page_taken, folding_on, page_left, tree_taken, tree_read, tree_got, chart_of, started, intake_taken, ReceivedBy, Leads}
 use Rattle.tree_parts.specs.declared.chart.Chart.{Chart}
 use Rattle.tree_parts.specs.declared.kept.KeptNode.{KeptNode}
 use Rattle.tree_parts.specs.Placing.{has_nothing, has_one_page, landed_placing, landed_root}
@@ -125,7 +123,8 @@ up_risen got new r (Err t) is lands = tt
 
 -- ---- down
 
-root_descending : (got : Option (List ℕ)) (n : ℕ) (h : Held) (c : Chart) (next : Next Descent (Unit {0})) → c.root ≡ got → GoesFurther n c next → RootNext got (descending_on h next)
+root_descending : (got : Option (List ℕ)) (n : ℕ) (h : Held) (c : Chart) (next : Next Descent (Unit {0})) → c.root ≡ got → GoesFurther n c next
+    → RootNext got (descending_on h next)
 root_descending got n h c (Goes d) is f = f.root ∙ is
 root_descending got n h c (Ends d x) is f = f.root ∙ is
 root_descending got n h c (Stops d t) is f = tt
@@ -152,20 +151,24 @@ root_read : (new : Option (List ℕ)) (tree : ℕ) (l : Claim) (bytes : List ℕ
 root_read new tree l bytes (Some t) is = is
 root_read new tree l bytes None is = tt
 
-root_got : (new : Option (List ℕ)) (tree : ℕ) (l : Claim) (g : Result (Option (List ℕ)) Trouble) → ((v : Option (List ℕ)) → g ≡ Ok v → v ≡ new) → RootNext new (tree_got tree l g)
+root_got : (new : Option (List ℕ)) (tree : ℕ) (l : Claim) (g : Result (Option (List ℕ)) Trouble) → ((v : Option (List ℕ)) → g ≡ Ok v → v ≡ new)
+    → RootNext new (tree_got tree l g)
 root_got new tree l (Ok (Some bytes)) is = root_read new tree l bytes (tree_of bytes) (is (Some bytes) refl)
 root_got new tree l (Ok None) is = is None refl
 root_got new tree l (Err t) is = tt
 
-root_started : (got : Option (List ℕ)) (h : Held) (tree : ℕ) (root : Option (List ℕ)) (run : Taken) (b : Bool) → root ≡ got → RootNext got (started h (chart_of tree root run) b)
+root_started : (got : Option (List ℕ)) (h : Held) (tree : ℕ) (root : Option (List ℕ)) (run : Taken) (b : Bool) → root ≡ got
+    → RootNext got (started h (chart_of tree root run) b)
 root_started got h tree root run true is = root_going got h (chart_of tree root run) is
 root_started got h tree root run false is = root_deleting got h 0
 
-root_intake : (got : Option (List ℕ)) (tree : ℕ) (l : Claim) (root : Option (List ℕ)) (taken : Result Intake Trouble) → root ≡ got → RootNext got (intake_taken tree l root taken)
+root_intake : (got : Option (List ℕ)) (tree : ℕ) (l : Claim) (root : Option (List ℕ)) (taken : Result Intake Trouble) → root ≡ got
+    → RootNext got (intake_taken tree l root taken)
 root_intake got tree l root (Ok i) is = root_started got (record { lease = l; deletions = i.deletions }) tree root i.run (has_items i.run.items) is
 root_intake got tree l root (Err t) is = tt
 
-root_received : (got : Option (List ℕ)) (tree : ℕ) (l : Claim) (root : Option (List ℕ)) (g : Result (List Message) Trouble) (next : Step) → root ≡ got → ReceivedBy tree l root g next → RootNext got next
+root_received : (got : Option (List ℕ)) (tree : ℕ) (l : Claim) (root : Option (List ℕ)) (g : Result (List Message) Trouble) (next : Step)
+    → root ≡ got → ReceivedBy tree l root g next → RootNext got next
 root_received got tree l root (Ok ms) next is r = subst (RootNext got) (sym r.2) (root_intake got tree l root r.0 is)
 root_received got tree l root (Err t) next is r = subst (RootNext got) (sym r) tt
 
@@ -181,7 +184,8 @@ root_of_leaf got h f (Ends g (Right low page)) is leaf = leaf.0 ∙ is
 root_of_leaf got h f (Ends g Handled) is leaf = leaf ∙ is
 root_of_leaf got h f (Stops g t) is leaf = tt
 
-root_put : (got new : Option (List ℕ)) (h : Held) (f : Folding) (done : Result (Unit {0}) Trouble) → f.chart.root ≡ got → (done ≡ Ok tt → new ≡ landed_root f.placing got)
+root_put : (got new : Option (List ℕ)) (h : Held) (f : Folding) (done : Result (Unit {0}) Trouble) → f.chart.root ≡ got
+    → (done ≡ Ok tt → new ≡ landed_root f.placing got)
     → RootNext new (folding_on h (fold.leaf_put f done))
 root_put got new h f (Ok x) is lands = on (has_one_page f.placing) where
   here : landed_root f.placing f.chart.root ≡ new
@@ -192,7 +196,8 @@ root_put got new h f (Ok x) is lands = on (has_one_page f.placing) where
   on false = here
 root_put got new h f (Err t) is lands = tt
 
-root_folded : (got new : Option (List ℕ)) (h : Held) (f : Folding) (a : Answer) → f.chart.root ≡ got → NewestBy (work.Folding h f) a got new → RootNext new (folding_on h (fold.folding_next f a))
+root_folded : (got new : Option (List ℕ)) (h : Held) (f : Folding) (a : Answer) → f.chart.root ≡ got → NewestBy (work.Folding h f) a got new
+    → RootNext new (folding_on h (fold.folding_next f a))
 root_folded got new h f a is by = on (has_nothing f.placing) refl where
   on : (b : Bool) → has_nothing f.placing ≡ b → RootNext new (folding_on h (cond b (fold.leaf_got f (got_of a)) (fold.leaf_put f (done_of a))))
   on true e = root_of_leaf new h f (fold.leaf_got f (got_of a)) (is ∙ sym (by.0 e)) (got_leaf f (got_of a))
@@ -200,13 +205,15 @@ root_folded got new h f a is by = on (has_nothing f.placing) refl where
 
 -- ---- wherever it stands
 
-pub root_goes : (tree : ℕ) (w : Work) (a : Answer) (next : Step) (got new : Option (List ℕ)) → HasRoot got w → NewestBy w a got new → Leads tree w a next → RootNext new next
+pub root_goes : (tree : ℕ) (w : Work) (a : Answer) (next : Step) (got new : Option (List ℕ)) → HasRoot got w → NewestBy w a got new
+    → Leads tree w a next → RootNext new next
 root_goes tree work.TakingTree a next got new is by e = subst (RootNext new) (sym e) (root_taken new (given_of (lock.Tree tree) a))
 root_goes tree (work.GettingTree l) a next got new is by e = subst (RootNext new) (sym e) (root_got new tree l (got_of a) by)
 root_goes tree (work.Receiving l root) a next got new is by e = root_received new tree l root (received_of a) next (is ∙ sym by) e
 root_goes tree (work.Descending h d) a next got new is by e =
     subst (RootNext new) (sym e) (root_descending new 1 h d.chart (way.descent_next d a) (is ∙ sym by) (descent_further d a))
-root_goes tree (work.TakingPage h c) a next got new is by e = subst (RootNext new) (sym e) (root_page new h c (given_of (lock.Page c.chart.tree c.page) a) (is ∙ sym by))
+root_goes tree (work.TakingPage h c) a next got new is by e =
+    subst (RootNext new) (sym e) (root_page new h c (given_of (lock.Page c.chart.tree c.page) a) (is ∙ sym by))
 root_goes tree (work.Folding h f) a next got new is by e = subst (RootNext new) (sym e) (root_folded got new h f a is by)
 root_goes tree (work.ReleasingPage h l (onward.Right c)) a next got new is by e = subst (RootNext new) (sym e) (root_left new h l (onward.Right c) (is ∙ sym by))
 root_goes tree (work.ReleasingPage h l (onward.Handled c)) a next got new is by e = subst (RootNext new) (sym e) (root_left new h l (onward.Handled c) (is ∙ sym by))

@@ -1,5 +1,5 @@
 -- The checkpoint of a tree runs whole within a settling: it marks what it received, and makes few calls.
-use Rattle.std.proofs.Common.{◌≡◌, ◌+◌, ◌*◌, ◌<◌, ◌≤◌, ◌⊎◌, inl, inr, ℕ, List, [], ◌∷◌, ◌++◌, length, Option, Some, None, refl, sym, ap, subst, ◌∙◌, arith}
+use Rattle.std.proofs.Common.{◌≡◌, ◌+◌, ◌*◌, ◌≤◌, ◌⊎◌, inl, inr, ℕ, List, [], ◌∷◌, length, Option, Some, None, sym, ap, subst, ◌∙◌, arith}
 use Rattle.std.proofs.lemmas.List.{length-map}
 use Rattle.ckpt_parts.specs.Deleting.{next_id}
 use Rattle.cloud_facts.specs.Book.Telling.{roots_of}
@@ -8,17 +8,14 @@ use Rattle.cloud_facts.specs.Chains.Links.{top_of}
 use Rattle.cloud_trait.proofs.RowLemmas.{row_messages}
 use Rattle.cloud_trait.specs.Ask.{Ask, Get, GetHeld, PutHeld, Send, Receive, Delete, Take, Renew, Release}
 use Rattle.cloud_trait.specs.Caller.{Caller}
-use Rattle.cloud_trait.specs.Claim.{Claim}
 use Rattle.cloud_trait.specs.Delivery.{IsDelivering}
 use Rattle.cloud_trait.specs.Machine.{Next, Goes, Ends, Stops, Deed, Came, calls_of}
 use Rattle.cloud_trait.specs.State.{CloudState, Counts, called}
 use Rattle.cloud_trait.specs.Weather.{Fits, Leaves, Rose}
 use Rattle.cloud_trait.specs.declared.answer.Answer.{Answer}
 use Rattle.cloud_trait.specs.declared.answer.Answer.TheVariants.{Received}
-use Rattle.cloud_trait.specs.declared.state.Posted.{Posted}
 use Rattle.cloud_trait.specs.declared.turn.CkptAnswer.{CkptAnswer}
 use Rattle.cloud_trait.specs.declared.turn.Turn.TheVariants.{Ended}
-use Rattle.db_base.specs.declared.names.QueueName.{QueueName}
 use Rattle.db_base.specs.declared.names.QueueName.TheVariants as queue
 use Rattle.page_ckpt.specs.Paging.{Paging}
 use Rattle.recover_run.specs.declared.stage.RecoverAnswer.{RecoverAnswer}
@@ -30,16 +27,16 @@ use Rattle.session_facts.proofs.Settled.TreeReceives.{quiet_kept, IsReceiving}
 use Rattle.session_facts.proofs.Settled.TreeSteps.{IsQuiet, TouchesQueue, work_quiet}
 use Rattle.session_facts.proofs.Settled.TreeTurns.{Stays, stays_first, further, room_before, stays_on}
 use Rattle.session_facts.specs.Settled.Runs.{AreDelivered, Drains, IsFew, TreeRun, TreesRun}
-use Rattle.session_facts.specs.Settled.Story.{Moment, store_at, IsAtWork, IsTurn, PartStory, PartRan}
+use Rattle.session_facts.specs.Settled.Story.{Moment, store_at, IsAtWork, IsTurn, PartStory}
 use Rattle.session_facts.specs.Settlings.Settling.{MakesTree}
 use Rattle.session_facts.specs.TreeCheckpoints.Checkpoint.{KnowsWork}
-use Rattle.settle_run.specs.Parts.{part_again, part_ask, recovers, makes, pages, PartLeads}
+use Rattle.settle_run.specs.Parts.{recovers, makes, pages, PartLeads}
 use Rattle.settle_run.specs.declared.part.Part.{Part}
 use Rattle.settle_run.specs.declared.part.Part.TheVariants.{Client, Tree, Page}
 use Rattle.tree_ckpt.proofs.Causing.{went_brought}
 use Rattle.tree_ckpt.proofs.Doing.{DoneAt, went_done, took_done}
 use Rattle.tree_ckpt.specs.Causing.{Calls}
-use Rattle.tree_ckpt.specs.Making.{Making, new_making, making_ask, received_after, MakingLeads}
+use Rattle.tree_ckpt.specs.Making.{Making, new_making, making_ask, MakingLeads}
 use Rattle.tree_ckpt.specs.Meaning.{IsDone}
 use Rattle.tree_ckpt.specs.Standing.{Went}
 use Rattle.tree_moves.specs.Moves.{Leads}
@@ -142,7 +139,8 @@ went_of : (first : Moment) (h : List Deed) (tree : ℕ) (m : Making) (now : Mome
 went_of first h tree m now is story =
     subst (λ (k : ℕ). Came making_ask MakingLeads (new_making k) h m) (sym is) (story_went first h (Tree tree m) now story)
 
-turn_stays : (first : Moment) (d : Deed) (h : List Deed) (tree : ℕ) (was m : Making) (before now : Moment) → IsTurn d (Tree tree was) before now → IsAtWork now (Tree tree m)
+turn_stays : (first : Moment) (d : Deed) (h : List Deed) (tree : ℕ) (was m : Making) (before now : Moment) → IsTurn d (Tree tree was) before now
+    → IsAtWork now (Tree tree m)
     → MakingLeads was d.answer (Goes m) → PartStory first h (Tree tree was) before → Stays tree (length h) first.state before.state was.work was.received
     → Stays tree (length h + 1) first.state now.state m.work m.received
 turn_stays first d h tree was m before now turn at leads story k =
@@ -180,7 +178,8 @@ story_stays first (d ∷ h) tree m now (from, (before, (story, turn, leads))) at
 
 -- ---- its calls, as they led from state to state
 
-delivers_of : (who : Caller) (ask : Ask) (a : Answer) (c e : Counts) (s : CloudState) (new : Option CloudState) → Leaves who ask a c e s new → e.withheld ≡ c.withheld → Delivers ask a s
+delivers_of : (who : Caller) (ask : Ask) (a : Answer) (c e : Counts) (s : CloudState) (new : Option CloudState) → Leaves who ask a c e s new
+    → e.withheld ≡ c.withheld → Delivers ask a s
 delivers_of who (Receive q most) (Received ms) c e s new l same = on l.row.2
   where
     on : IsDelivering (s.messages q) most ms ⊎ Rose c.withheld e.withheld → IsDelivering (s.messages q) most ms
@@ -244,7 +243,10 @@ module _ (tree : ℕ) (m : Making) (first last : Moment) (end : Deed) (earlier :
   done = took_done was m earlier end.answer (Ended answer) went (went_brought was earlier went) (went_done was earlier went) leads
 
   same_received : m.received ≡ was.received
-  same_received = leads.0.1 ∙ quiet_kept (Release done.lease) end.answer was.received tt (subst (λ (ask : Ask). Fits ask end.answer) done.last (asks_fit end tree was before last turn))
+  same_received =
+      leads.0.1
+      ∙ quiet_kept (Release done.lease) end.answer was.received tt
+      (subst (λ (ask : Ask). Fits ask end.answer) done.last (asks_fit end tree was before last turn))
 
   same_messages : last.state.messages ≡ before.state.messages
   same_messages =

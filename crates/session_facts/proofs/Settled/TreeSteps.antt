@@ -1,5 +1,5 @@
 -- What each call of a checkpoint of a tree leaves of the tree object and of the queues.
-use Rattle.std.proofs.Common.{◌≡◌, ◌+◌, ◌<◌, ◌≤◌, ◌⊎◌, inl, inr, ℕ, Bool, true, false, List, [], ◌∷◌, ◌++◌, length, Option, Some, None, Ok, refl, sym, ap, subst, ◌∙◌, arith}
+use Rattle.std.proofs.Common.{◌≡◌, ◌+◌, ◌≤◌, ◌⊎◌, inl, inr, ℕ, true, false, List, [], ◌∷◌, ◌++◌, length, Option, Some, None, Ok, refl, sym, ap, subst, ◌∙◌, arith}
 use Rattle.std.specs.Prelude.{unwrap_or}
 use Rattle.ckpt_parts.specs.Deleting.{next_id}
 use Rattle.ckpt_parts.specs.Leasing.{newest_lease}
@@ -16,8 +16,8 @@ use Rattle.cloud_trait.specs.Ask.{Ask, Get, GetHeld, PutHeld, Send, Receive, Del
 use Rattle.cloud_trait.specs.Caller.{Caller}
 use Rattle.cloud_trait.specs.Claim.{Claim}
 use Rattle.cloud_trait.specs.Names.{object_cmp}
-use Rattle.cloud_trait.specs.State.{CloudState, called, put_at, newest, newest_of}
-use Rattle.cloud_trait.specs.Views.{got_of, done_of}
+use Rattle.cloud_trait.specs.State.{CloudState, called, newest, newest_of}
+use Rattle.cloud_trait.specs.Views.{done_of}
 use Rattle.cloud_trait.specs.declared.answer.Answer.{Answer}
 use Rattle.cloud_trait.specs.declared.state.Version.{Version}
 use Rattle.db_base.specs.declared.names.ObjName.{ObjName}
@@ -25,13 +25,13 @@ use Rattle.db_base.specs.declared.names.ObjName.TheVariants as object
 use Rattle.leaf_fold.specs.Folding.{folding_ask}
 use Rattle.leaf_fold.specs.declared.folding.Folding.{Folding}
 use Rattle.node_codec.specs.Tree.{Tree}
-use Rattle.session_facts.proofs.Settled.TreeCalls.{next_of, Reserving, own_of}
+use Rattle.session_facts.proofs.Settled.TreeCalls.{next_of}
 use Rattle.session_facts.proofs.Settled.TreePieces.{puts_as_many}
 use Rattle.session_facts.proofs.Settled.TreeRoom.{held_top, up_fits, leaf_put_some, leaf_put_reserves}
 use Rattle.session_facts.proofs.Settled.TreeRoots.{HasRoot, NewestBy}
 use Rattle.session_facts.proofs.Trees.Reservations.{held_root}
 use Rattle.session_facts.specs.TreeCheckpoints.Checkpoint.{KnowsWork}
-use Rattle.session_facts.specs.Trees.Leaves.{IsPutting, KnowsLeaf}
+use Rattle.session_facts.specs.Trees.Leaves.{KnowsLeaf}
 use Rattle.session_facts.specs.Trees.Risings.{ReservesRoot, PutsRoot, whole, cut, PutsOf, KnowsRising}
 use Rattle.split_plan.specs.declared.put_list.PagePut.{PagePut}
 use Rattle.split_plan.specs.Plan.{node_bytes, root_above}
@@ -55,18 +55,25 @@ abbrev pub Puts : Ask → ObjName → List ℕ → Type 0
 Puts (PutHeld other bytes one two) name new = (other ≡ name) × (bytes ≡ new)
 Puts ask name new = ⊥
 
-pub newest_same : (who : Caller) (ask : Ask) (a : Answer) (s t : CloudState) (name : ObjName) → IsCall who ask a s t → PutsNothing ask → newest t name ≡ newest s name
+-- an object's newest version is as it was, or the call put it
+abbrev pub IsAfter : CloudState → CloudState → ObjName → Ask → Type 0
+IsAfter s t name ask = (newest t name ≡ newest s name) ⊎ ((bytes : List ℕ) × Puts ask name bytes × (newest t name ≡ Some bytes))
+
+pub newest_same : (who : Caller) (ask : Ask) (a : Answer) (s t : CloudState) (name : ObjName) → IsCall who ask a s t → PutsNothing ask
+    → newest t name ≡ newest s name
 newest_same who ask a s t name call nothing =
     ap (λ (versions : ObjName → List Version). newest_of (versions name)) (row_versions who ask a call.before call.after (called who t.now s) t call.row nothing)
 
 -- a put of an object leaves the others as they were
-put_leaves : (who : Caller) (other : ObjName) (bytes : List ℕ) (one : Claim) (two : Option Claim) (b t : CloudState) (name : ObjName) → t ≡ effect who (PutHeld other bytes one two) b
-    → (newest t name ≡ newest b name) ⊎ ((other ≡ name) × (newest t name ≡ Some bytes))
+put_leaves : (who : Caller) (other : ObjName) (bytes : List ℕ) (one : Claim) (two : Option Claim) (b t : CloudState) (name : ObjName)
+    → t ≡ effect who (PutHeld other bytes one two) b → (newest t name ≡ newest b name) ⊎ ((other ≡ name) × (newest t name ≡ Some bytes))
 put_leaves who other bytes one two b t name e =
     subst (λ (u : CloudState). (newest u name ≡ newest b name) ⊎ ((other ≡ name) × (newest u name ≡ Some bytes))) (sym e)
-    (put_at_by (λ (q : ObjName) (vs : List Version). (newest_of vs ≡ newest b q) ⊎ ((other ≡ q) × (newest_of vs ≡ Some bytes))) object_cmp object_cmp-equal b.versions other
-    (b.versions other ++ record { who = who; bytes = bytes } ∷ [])
-    (inr (refl, newest_of-push (b.versions other) (record { who = who; bytes = bytes }))) (λ q. inl refl) name)
+    (put_at_by (λ (q : ObjName) (vs : List Version). (newest_of vs ≡ newest b q) ⊎ ((other ≡ q) × (newest_of vs ≡ Some bytes)))
+    object_cmp object_cmp-equal b.versions other (b.versions other ++ new ∷ []) (inr (refl, newest_of-push (b.versions other) new)) (λ q. inl refl) name)
+  where
+    new : Version
+    new = record { who = who; bytes = bytes }
 
 -- and lands itself
 put_lands : (who : Caller) (name : ObjName) (bytes : List ℕ) (one : Claim) (two : Option Claim) (b t : CloudState) → t ≡ effect who (PutHeld name bytes one two) b
@@ -76,18 +83,14 @@ put_lands who name bytes one two b t e =
     ∙ ap newest_of (put_at_same object_cmp object_cmp-total b.versions name (b.versions name ++ record { who = who; bytes = bytes } ∷ []))
     ∙ newest_of-push (b.versions name) (record { who = who; bytes = bytes })
 
--- either it is as it was, or the call put it
-pub newest_after : (who : Caller) (ask : Ask) (a : Answer) (s t : CloudState) (name : ObjName) → IsCall who ask a s t
-    → (newest t name ≡ newest s name) ⊎ ((bytes : List ℕ) × Puts ask name bytes × (newest t name ≡ Some bytes))
+pub newest_after : (who : Caller) (ask : Ask) (a : Answer) (s t : CloudState) (name : ObjName) → IsCall who ask a s t → IsAfter s t name ask
 newest_after who (PutHeld other bytes one two) a s t name call = on (landed_or_not who (PutHeld other bytes one two) a s t call)
   where
-    put : (newest t name ≡ newest s name) ⊎ ((other ≡ name) × (newest t name ≡ Some bytes))
-        → (newest t name ≡ newest s name) ⊎ ((new : List ℕ) × Puts (PutHeld other bytes one two) name new × (newest t name ≡ Some new))
+    put : (newest t name ≡ newest s name) ⊎ ((other ≡ name) × (newest t name ≡ Some bytes)) → IsAfter s t name (PutHeld other bytes one two)
     put (inl same) = inl same
     put (inr new) = inr (bytes, (new.0, refl), new.1)
 
-    on : (t ≡ called who t.now s) ⊎ Lands who (PutHeld other bytes one two) (called who t.now s) t
-        → (newest t name ≡ newest s name) ⊎ ((new : List ℕ) × Puts (PutHeld other bytes one two) name new × (newest t name ≡ Some new))
+    on : (t ≡ called who t.now s) ⊎ Lands who (PutHeld other bytes one two) (called who t.now s) t → IsAfter s t name (PutHeld other bytes one two)
     on (inl same) = inl (ap (λ (u : CloudState). newest u name) same)
     on (inr lands) = put (put_leaves who other bytes one two (called who t.now s) t name lands.0)
 newest_after who (Get other) a s t name call = inl (newest_same who (Get other) a s t name call tt)
@@ -128,7 +131,9 @@ module _ (tree : ℕ) (l : Claim) (second : Option Claim) (other : Ask) where
       on : (reserved : Option (List ℕ)) (puts : List PagePut) → has_nothing (record { reserved = reserved; puts = puts }) ≡ true
           → unwrap_or (put_first tree l (put_next tree l second puts) reserved) other ≡ other
       on (Some bytes) puts e = absurd (cc (e))
-      on None (x ∷ puts) e = absurd (let more : has_nothing (record { reserved = None; puts = x ∷ puts }) ≡ false = has_page (record { reserved = None; puts = x ∷ puts }) (omega arith) in cc (e, more))
+      on None (x ∷ puts) e =
+          let more : has_nothing (record { reserved = None; puts = x ∷ puts }) ≡ false = has_page (record { reserved = None; puts = x ∷ puts }) (omega arith) in
+          absurd (cc (e, more))
       on None [] e = refl
 
   -- of tree objects it puts the reservation, or what is behind it
@@ -136,7 +141,8 @@ module _ (tree : ℕ) (l : Claim) (second : Option Claim) (other : Ask) where
       → (p.reserved ≡ Some bytes) ⊎ ((has_nothing p ≡ true) × Puts other (object.Tree k) bytes)
   in_hand_puts p k bytes puts = on p.reserved p.puts puts
     where
-      on : (reserved : Option (List ℕ)) (puts : List PagePut) → Puts (unwrap_or (put_first tree l (put_next tree l second puts) reserved) other) (object.Tree k) bytes
+      on : (reserved : Option (List ℕ)) (puts : List PagePut)
+          → Puts (unwrap_or (put_first tree l (put_next tree l second puts) reserved) other) (object.Tree k) bytes
           → (reserved ≡ Some bytes) ⊎ ((has_nothing (record { reserved = reserved; puts = puts }) ≡ true) × Puts other (object.Tree k) bytes)
       on (Some b) puts h = inl (ap (λ (x : List ℕ). Some x) h.1)
       on None (x ∷ puts) h = absurd (let e : object.Page tree x.page ≡ object.Tree k = h.0 in cc (e))
@@ -147,8 +153,7 @@ module _ (tree : ℕ) (l : Claim) (second : Option Claim) (other : Ask) where
       → newest t (object.Tree tree) ≡ landed_root p (newest s (object.Tree tree))
   in_hand_lands p who a s t some done call = on p.reserved p.puts some call
     where
-      page : (x : PagePut)
-          → (newest t (object.Tree tree) ≡ newest s (object.Tree tree)) ⊎ ((bytes : List ℕ) × Puts (PutHeld (object.Page tree x.page) x.bytes l second) (object.Tree tree) bytes × (newest t (object.Tree tree) ≡ Some bytes))
+      page : (x : PagePut) → IsAfter s t (object.Tree tree) (PutHeld (object.Page tree x.page) x.bytes l second)
           → newest t (object.Tree tree) ≡ newest s (object.Tree tree)
       page x (inl same) = same
       page x (inr new) = absurd (let e : object.Page tree x.page ≡ object.Tree tree = new.1.0 in cc (e))
@@ -219,7 +224,8 @@ module _ (who : Caller) (a : Answer) (s t : CloudState) (tree : ℕ) where
   lands_for known l second other p same some done call =
       subst (λ (k : ℕ). newest t (object.Tree k) ≡ landed_root p (newest s (object.Tree k))) same (in_hand_lands known l second other p who a s t some done call)
 
-  pub newest_by : (st : Store) (w : Work) → KnowsWork st s.now tree w → IsCall who (work_ask tree w) a s t → NewestBy w a (newest s (object.Tree tree)) (newest t (object.Tree tree))
+  pub newest_by : (st : Store) (w : Work) → KnowsWork st s.now tree w → IsCall who (work_ask tree w) a s t
+      → NewestBy w a (newest s (object.Tree tree)) (newest t (object.Tree tree))
   newest_by st work.TakingTree k call = same_for (work_ask tree work.TakingTree) call tt
   newest_by st (work.GettingTree l) k call = λ v e.
       held_seen who (object.Tree tree) l a s t call v e ∙ sym (same_for (GetHeld (object.Tree tree) l) call tt)
@@ -250,7 +256,8 @@ module _ (who : Caller) (a : Answer) (s t : CloudState) (tree : ℕ) where
       let other = held_top t tree (newest s (object.Tree tree)) (sym same) in
       omega (arith, one, other)
 
-  grown_put : (c : Chart) (bytes : List ℕ) → c.root ≡ newest s (object.Tree tree) → newest t (object.Tree tree) ≡ Some bytes → next_of c ≤ (tree_held (Some bytes)).next → Grown
+  grown_put : (c : Chart) (bytes : List ℕ) → c.root ≡ newest s (object.Tree tree) → newest t (object.Tree tree) ≡ Some bytes
+      → next_of c ≤ (tree_held (Some bytes)).next → Grown
   grown_put c bytes root new more =
       let one = held_top s tree c.root root in
       let other = held_top t tree (Some bytes) (sym new) in
@@ -265,7 +272,8 @@ module _ (who : Caller) (a : Answer) (s t : CloudState) (tree : ℕ) where
   grown_leaf st h f root k call =
       on (newest_after who (folding_ask f h.lease) a s t (object.Tree tree) call)
     where
-      none_reserved : (bytes : List ℕ) → KnowsLeaf st s.now h.lease f h.deletions.ids → f.placing.reserved ≡ Some bytes → next_of f.chart ≤ (tree_held (Some bytes)).next
+      none_reserved : (bytes : List ℕ) → KnowsLeaf st s.now h.lease f h.deletions.ids → f.placing.reserved ≡ Some bytes
+          → next_of f.chart ≤ (tree_held (Some bytes)).next
       none_reserved bytes (inl r) e = absurd (let none : Some bytes ≡ None = sym e ∙ ap (λ (p : Placing). p.reserved) r.placing_is in cc (none))
       none_reserved bytes (inr r) e =
           let some = leaf_put_some st s.now h.lease f h.deletions.ids r in
@@ -273,12 +281,12 @@ module _ (who : Caller) (a : Answer) (s t : CloudState) (tree : ℕ) where
           omega (arith, some, next)
 
       put : (bytes : List ℕ) → newest t (object.Tree tree) ≡ Some bytes
-          → (f.placing.reserved ≡ Some bytes) ⊎ ((has_nothing f.placing ≡ true) × Puts (GetHeld (object.Page f.chart.tree f.page) f.lease) (object.Tree tree) bytes) → Grown
+          → (f.placing.reserved ≡ Some bytes) ⊎ ((has_nothing f.placing ≡ true) × Puts (GetHeld (object.Page f.chart.tree f.page) f.lease)
+              (object.Tree tree) bytes) → Grown
       put bytes new (inl e) = grown_put f.chart bytes root new (none_reserved bytes k e)
       put bytes new (inr never) = absurd never.1
 
-      on : (newest t (object.Tree tree) ≡ newest s (object.Tree tree))
-          ⊎ ((bytes : List ℕ) × Puts (folding_ask f h.lease) (object.Tree tree) bytes × (newest t (object.Tree tree) ≡ Some bytes)) → Grown
+      on : IsAfter s t (object.Tree tree) (folding_ask f h.lease) → Grown
       on (inl same) = grown_same same
       on (inr new) =
           put new.0 new.2 (in_hand_puts f.chart.tree h.lease (Some f.lease) (GetHeld (object.Page f.chart.tree f.page) f.lease) f.placing tree new.0 new.1)
@@ -299,8 +307,10 @@ module _ (who : Caller) (a : Answer) (s t : CloudState) (tree : ℕ) where
       let same = k.next in
       omega (arith, held, same)
   last_more st l r bytes (cut k) none =
-      let held = ap (λ (b : List ℕ). (tree_held (Some b)).next) k.bytes_are ∙ ap (λ (x : Tree). x.next) (held_root (root_above (new_pages k.first k.root) k.root) k.fits) in
-      let reserves = subst (ReservesRoot st s.now l r.chart.tree (tree_held r.chart.root) k.root k.first k.middle k.behind) (nothing_reserved r.placing none) k.reserves in
+      let held = ap (λ (b : List ℕ). (tree_held (Some b)).next) k.bytes_are ∙ ap (λ (x : Tree). x.next)
+          (held_root (root_above (new_pages k.first k.root) k.root) k.fits) in
+      let reserves = subst (ReservesRoot st s.now l r.chart.tree (tree_held r.chart.root) k.root k.first k.middle k.behind)
+          (nothing_reserved r.placing none) k.reserves in
       let same = reserves.1 in
       omega (arith, held, same)
 
@@ -308,7 +318,8 @@ module _ (who : Caller) (a : Answer) (s t : CloudState) (tree : ℕ) where
       → IsCall who (rising_ask r h.lease) a s t → Grown
   grown_up st h r root k call = on (newest_after who (rising_ask r h.lease) a s t (object.Tree tree) call)
     where
-      last : (bytes : List ℕ) (o : Option (List ℕ)) → PutsOf st s.now h.lease r o → has_nothing r.placing ≡ true → Puts (last_ask r h.lease o) (object.Tree tree) bytes
+      last : (bytes : List ℕ) (o : Option (List ℕ)) → PutsOf st s.now h.lease r o → has_nothing r.placing ≡ true
+          → Puts (last_ask r h.lease o) (object.Tree tree) bytes
           → next_of r.chart ≤ (tree_held (Some bytes)).next
       last bytes (Some b) puts none is =
           subst (λ (x : List ℕ). next_of r.chart ≤ (tree_held (Some x)).next) is.1 (last_more st h.lease r b puts none)
@@ -319,8 +330,7 @@ module _ (who : Caller) (a : Answer) (s t : CloudState) (tree : ℕ) where
       put bytes new (inl e) = grown_put r.chart bytes root new (node_more st h.lease r r.last bytes k.puts e)
       put bytes new (inr e) = grown_put r.chart bytes root new (last bytes r.last k.puts e.0 e.1)
 
-      on : (newest t (object.Tree tree) ≡ newest s (object.Tree tree))
-          ⊎ ((bytes : List ℕ) × Puts (rising_ask r h.lease) (object.Tree tree) bytes × (newest t (object.Tree tree) ≡ Some bytes)) → Grown
+      on : IsAfter s t (object.Tree tree) (rising_ask r h.lease) → Grown
       on (inl same) = grown_same same
       on (inr new) = put new.0 new.2 (in_hand_puts r.chart.tree h.lease None (last_ask r h.lease r.last) r.placing tree new.0 new.1)
 

@@ -1,8 +1,6 @@
 -- A tree checkpoint from call to call: the tree object in hand is the newest, no page was visited twice, and few calls were made.
-use Rattle.std.proofs.Common.{◌≡◌, ◌+◌, ◌*◌, ◌<◌, ◌≤◌, ◌⊎◌, inl, inr, ℕ, List, [], ◌∷◌, length, Ok, refl, sym, ap, subst, ◌∙◌, arith}
+use Rattle.std.proofs.Common.{◌≡◌, ◌+◌, ◌*◌, ◌<◌, ◌≤◌, ◌⊎◌, inl, inr, ℕ, List, [], length, Ok, refl, sym, ap, subst, ◌∙◌, arith}
 use Rattle.std.proofs.lemmas.List.{length-map}
-use Rattle.ckpt_parts.specs.declared.intake.Intake.{Intake}
-use Rattle.ckpt_parts.specs.Intakes.{ids_of, TakesIn}
 use Rattle.cloud_facts.specs.Book.Book.{Book}
 use Rattle.cloud_facts.specs.Book.Telling.{roots_of}
 use Rattle.cloud_facts.specs.Calls.Call.{IsCall}
@@ -15,12 +13,11 @@ use Rattle.cloud_trait.specs.State.{CloudState, newest}
 use Rattle.cloud_trait.specs.Views.{received_of}
 use Rattle.cloud_trait.specs.Weather.{Fits}
 use Rattle.cloud_trait.specs.declared.answer.Answer.{Answer}
-use Rattle.cloud_trait.specs.declared.answer.Answer.TheVariants.{Received}
 use Rattle.cloud_trait.specs.declared.message.Message.{Message}
 use Rattle.db_base.specs.declared.names.ObjName.TheVariants as object
 use Rattle.db_base.specs.declared.names.QueueName.TheVariants as queue
 use Rattle.report_types.specs.declared.entry.Entry.{Entry}
-use Rattle.session_facts.proofs.Settled.TreeCalls.{calls_left, FitsWork, before_step, goes_fewer}
+use Rattle.session_facts.proofs.Settled.TreeCalls.{calls_left, before_step, goes_fewer}
 use Rattle.session_facts.proofs.Settled.TreeReceives.{intake_fits, IsReceiving, received_stays}
 use Rattle.session_facts.proofs.Settled.TreeRoom.{work_fits, work_new}
 use Rattle.session_facts.proofs.Settled.TreeRoots.{HasRoot, root_goes}

@@ -1,5 +1,5 @@
 -- A tree checkpoint comes to no page twice on its way to the leaf of a key.
-use Rattle.std.proofs.Common.{◌≡◌, ◌≢◌, ◌≤◌, ◌⊎◌, inl, inr, ℕ, zero, suc, Bool, true, false, cond, List, [], ◌∷◌, ◌++◌, length, Option, Some, None, Result, Ok, Err, refl, sym, ap, subst, ◌∙◌}
+use Rattle.std.proofs.Common.{◌≡◌, ◌≢◌, ℕ, zero, suc, Bool, true, false, cond, List, [], ◌∷◌, ◌++◌, length, Option, Some, None, Result, Ok, Err, refl, sym, subst, ◌∙◌}
 use Rattle.std.specs.Prelude.{◌==◌}
 use Rattle.std.proofs.lemmas.Bool.{eq-eqb}
 use Rattle.ckpt_parts.specs.declared.intake.Intake.{Intake}
@@ -23,7 +23,6 @@ use Rattle.leaf_fold.specs.declared.folding.Left.TheVariants.{Right, Handled}
 use Rattle.leaf_fold.specs.Folding as fold
 use Rattle.node_codec.specs.Tree.{Tree, tree_of}
 use Rattle.run_cursor.specs.Covered.{is_seen}
-use Rattle.run_cursor.specs.Run.{Taken}
 use Rattle.session_facts.proofs.Settled.TreeLists.{Apart, apart_more}
 use Rattle.session_facts.proofs.Settled.TreePieces.{GotLeaf, got_leaf}
 use Rattle.tree_descent.specs.declared.descent.Descent.{Descent}
@@ -38,7 +37,7 @@ use Rattle.tree_moves.specs.declared.work.Onward.{Onward}
 use Rattle.tree_moves.specs.declared.work.Onward.TheVariants as onward
 use Rattle.tree_moves.specs.declared.work.Work.{Work}
 use Rattle.tree_moves.specs.declared.work.Work.TheVariants as work
-use Rattle.tree_moves.specs.Moves.{Step, released_by, deleting, deleting_by, deleted_by, went, rising_on, descending_on, root_entry, next_key, going, going_by, page_taken, folding_on, page_left, tree_taken, tree_read, tree_got, chart_of, started, intake_taken, ReceivedBy, Leads}
+use Rattle.tree_moves.specs.Moves.{Step, released_by, deleting, deleting_by, went, rising_on, descending_on, root_entry, next_key, going, going_by, page_taken, folding_on, page_left, tree_taken, tree_read, tree_got, chart_of, started, intake_taken, ReceivedBy, Leads}
 use Rattle.tree_parts.specs.declared.chart.Chart.{Chart}
 use Rattle.tree_parts.specs.declared.kept.KeptNode.{KeptNode}
 use Rattle.tree_parts.specs.Placing.{has_nothing, has_one_page}
@@ -105,7 +104,8 @@ stride_once d apart = on (d.level == 0) (is_seen d.visited d.page) refl
     on true seen e = apart
     on false seen e = further seen e
 
-follow_once : (next : Descent → Next Descent Reach) → ((e : Descent) → Apart e.visited → WayOnce (next e)) → (s : Next Descent Reach) → WayOnce s → WayOnce (follow next s)
+follow_once : (next : Descent → Next Descent Reach) → ((e : Descent) → Apart e.visited → WayOnce (next e)) → (s : Next Descent Reach) → WayOnce s
+    → WayOnce (follow next s)
 follow_once next each (Goes e) apart = each e apart
 follow_once next each (Ends e reach) apart = apart
 follow_once next each (Stops e t) apart = tt
@@ -233,6 +233,7 @@ once_goes tree (work.ReleasingPage h l o) a next is new e = subst OnceNext (sym 
 once_goes tree (work.LeftPage h (onward.Right c)) a next is new e = subst OnceNext (sym e) is
 once_goes tree (work.LeftPage h (onward.Handled c)) a next is new e = subst OnceNext (sym e) (once_going h c)
 once_goes tree (work.Rising h r) a next is new e = subst OnceNext (sym e) (once_rising h (rise.rising_next r a))
-once_goes tree (work.Deleting h applied) a next is new e = subst OnceNext (sym e) (once_deleting (record h { deletions = tried h.deletions (went (done_of a)) }) applied)
+once_goes tree (work.Deleting h applied) a next is new e =
+    subst OnceNext (sym e) (once_deleting (record h { deletions = tried h.deletions (went (done_of a)) }) applied)
 once_goes tree (work.Releasing held end) a next is new e = subst OnceNext (sym e) (once_released _ end _)
 once_goes tree work.Finished a next is new e = subst OnceNext (sym e) tt

@@ -1,9 +1,7 @@
 -- The leases of a page checkpoint.
-use Rattle.std.proofs.Common.{◌≡◌, ◌⊎◌, inl, inr, ℕ, zero, suc, Bool, true, false, List, [], ◌∷◌, Option, Some, None, Result, Ok, Err, refl, sym, ap, subst, ◌∙◌}
-use Rattle.ckpt_parts.specs.Deleting.{next_id, tried}
-use Rattle.ckpt_parts.specs.Intakes.{ids_of, has_items}
+use Rattle.std.proofs.Common.{◌≡◌, ◌⊎◌, inl, inr, ℕ, zero, suc, List, [], ◌∷◌, Option, Some, None, Result, Ok, Err, refl, sym, ap, subst, ◌∙◌}
+use Rattle.ckpt_parts.specs.Deleting.{next_id}
 use Rattle.ckpt_parts.specs.Leasing.{newest_lease, without_newest, claims_of}
-use Rattle.ckpt_parts.specs.declared.intake.Intake.{Intake}
 use Rattle.ckpt_parts.specs.declared.leases.Leases.{Leases}
 use Rattle.cloud_facts.specs.Calls.Acting.{Setting, Handles}
 use Rattle.cloud_facts.specs.Calls.Call.{IsCall}
@@ -18,18 +16,14 @@ use Rattle.cloud_trait.specs.Claim.{Claim}
 use Rattle.cloud_trait.specs.State.{CloudState}
 use Rattle.cloud_trait.specs.Views.{given_of, got_of, received_of, done_of}
 use Rattle.cloud_trait.specs.declared.answer.Answer.{Answer}
-use Rattle.cloud_trait.specs.declared.message.Message.{Message}
 use Rattle.db_base.specs.Ids.{IsTree}
 use Rattle.db_base.specs.declared.names.Lock.TheVariants as lock
 use Rattle.db_base.specs.declared.names.ObjName.TheVariants as object
 use Rattle.db_base.specs.declared.trouble.Trouble.{Trouble}
-use Rattle.leaf_edit.specs.Lacked.{lacked}
-use Rattle.leaf_view.specs.Leaf.{Leaf}
 use Rattle.cloud_facts.specs.Leases.Guards.{guard}
 use Rattle.cloud_facts.specs.Leases.Leases.{AreOne, KeptBy, GainedBy}
 use Rattle.cloud_facts.specs.Homes.Homes.{Parts}
-use Rattle.page_ckpt.specs.Paging.{Paging, Step, ask_at, paging_ask, under, delete_next, take_home, home_name, own_queue, held_after, deleting_by, home_taken_by, HomeGot, home_read, LeafPut, link_of, is_visited, to_right, GoesOn, RunStarted, with_intake, IntakeTaken, ReceivedBy, take_right, right_name, right_taken_by, RightLacks, RightRead, RightGot, without_right, without_onward, right_put_by, with_applied, home_put_by, went, deleted_by, finished_by, released_by, AbsorbsAt, PagingLeads}
-use Rattle.page_ckpt.specs.declared.link.Link.{Link as Found}
+use Rattle.page_ckpt.specs.Paging.{Paging, Step, ask_at, paging_ask, under, delete_next, take_home, home_name, own_queue, held_after, home_taken_by, GoesOn, take_right, right_name, right_taken_by, without_right, without_onward, right_put_by, home_put_by, deleted_by, finished_by, released_by, AbsorbsAt, PagingLeads}
 use Rattle.page_ckpt.specs.declared.stage.Stage.{Stage}
 use Rattle.page_ckpt.specs.declared.stage.Stage.TheVariants.{TakingHome, GettingHome, Receiving, TakingRight, GettingRight, PuttingRight, ReleasingRight, PuttingHome, Deleting as DeletingNext, Releasing, Finished}
 use Rattle.report_types.specs.declared.entry.Entry.{Entry}

@@ -1,12 +1,9 @@
 -- The leases of a tree checkpoint: those that it took and did not give back; it takes no lock of one of them.
-use Rattle.std.proofs.Common.{◌≡◌, ◌≢◌, ℕ, Bool, true, false, List, [], ◌∷◌, Option, Some, None, Result, Ok, Err, refl, sym, ap, subst, ◌∙◌}
-use Rattle.ckpt_parts.specs.declared.intake.Intake.{Intake}
-use Rattle.ckpt_parts.specs.Deleting.{next_id, tried}
-use Rattle.ckpt_parts.specs.Intakes.{has_items}
+use Rattle.std.proofs.Common.{◌≡◌, ◌≢◌, ℕ, List, [], ◌∷◌, Option, Some, None, Result, Ok, Err, refl, sym, subst, ◌∙◌}
+use Rattle.ckpt_parts.specs.Deleting.{next_id}
 use Rattle.ckpt_parts.specs.Leasing.{claims_of, newest_lease, without_newest, outstanding_after}
 use Rattle.cloud_facts.specs.Book.Tally.{Store}
 use Rattle.cloud_trait.specs.declared.answer.Answer.{Answer}
-use Rattle.cloud_trait.specs.declared.message.Message.{Message}
 use Rattle.cloud_trait.specs.declared.turn.CkptAnswer.{CkptAnswer}
 use Rattle.cloud_trait.specs.Ask.{Ask, GetHeld, Take, Receive, MovesNoLock}
 use Rattle.cloud_trait.specs.Claim.{Claim}
@@ -18,9 +15,7 @@ use Rattle.db_base.specs.declared.names.ObjName.TheVariants as object
 use Rattle.db_base.specs.declared.names.QueueName.TheVariants as queue
 use Rattle.db_base.specs.declared.trouble.Trouble.{Trouble}
 use Rattle.leaf_fold.specs.declared.folding.Folding.{Folding}
-use Rattle.leaf_fold.specs.declared.folding.Left.{Left}
 use Rattle.leaf_fold.specs.Folding.{folding_ask, folding_next}
-use Rattle.node_codec.specs.Tree.{Tree, tree_of}
 use Rattle.session_facts.specs.Settled.Locks.{UsesOwn}
 use Rattle.session_facts.specs.TreeCheckpoints.Checkpoint.{HoldsLast, KnowsWork, KnowsMaking, leases_of_making}
 use Rattle.session_facts.proofs.Settled.Locks.{HoldsNext, quiet_holds, quiet_uses, not_given, none_of, one_of}
@@ -28,21 +23,16 @@ use Rattle.session_facts.proofs.TreeCheckpoints.Held.{On, deleted_goes, rising_g
 use Rattle.split_plan.specs.declared.put_list.PagePut.{PagePut}
 use Rattle.tree_ckpt.specs.Making.{Making, making_ask, MakingLeads}
 use Rattle.tree_ckpt.specs.Standing.{OfTree, HasIds}
-use Rattle.tree_ckpt.proofs.Leaving.{LeavesLeaf, next_leaves}
-use Rattle.tree_descent.specs.declared.descent.Descent.{Descent}
+use Rattle.tree_ckpt.proofs.Leaving.{next_leaves}
 use Rattle.tree_descent.specs.Descent.{descent_next}
 use Rattle.tree_moves.specs.declared.work.Coming.{Coming}
 use Rattle.tree_moves.specs.declared.work.Held.{Held}
-use Rattle.tree_moves.specs.declared.work.Onward.{Onward}
-use Rattle.tree_moves.specs.declared.work.Onward.TheVariants as onward
 use Rattle.tree_moves.specs.declared.work.Work.{Work}
 use Rattle.tree_moves.specs.declared.work.Work.TheVariants as work
-use Rattle.tree_moves.specs.Moves.{Step, deleting, deleting_by, deleted_by, went, rising_on, descending_on, down_from, root_entry, going_by, going, next_key, page_taken, folding_on, page_left, tree_taken, tree_read, tree_got, chart_of, started, intake_taken, ReceivedBy, finished, released_by, Leads}
+use Rattle.tree_moves.specs.Moves.{Step, deleted_by, rising_on, descending_on, page_taken, folding_on, tree_taken, tree_got, finished, released_by, Leads}
 use Rattle.tree_moves.specs.Work.{take_tree, delete_ask, release_ask, work_ask, claims_in}
-use Rattle.tree_parts.specs.declared.chart.Chart.{Chart}
 use Rattle.tree_rising.specs.declared.rising.Rising.{Rising}
 use Rattle.tree_rising.specs.Rising.{rising_ask, rising_next}
-use Rattle.tree_rising.specs.Rising as up
 
 -- ---- leases that are taken or given back
 

@@ -1,5 +1,5 @@
 -- The leases of a checkpoint: each call names the session's own, which guard what it puts.
-use Rattle.std.proofs.Common.{◌≡◌, ◌⊎◌, inl, inr, ℕ, zero, suc, List, [], ◌∷◌, Option, Some, None, Result, Ok, Err, refl, sym, ap, subst, ◌∙◌}
+use Rattle.std.proofs.Common.{◌≡◌, ◌⊎◌, inl, inr, ℕ, zero, suc, List, [], ◌∷◌, Option, Some, None, Result, refl, sym, ap, subst, ◌∙◌}
 use Rattle.std.specs.Prelude.{unwrap_or}
 use Rattle.ckpt_parts.specs.Deleting.{next_id}
 use Rattle.ckpt_parts.specs.Leasing.{newest_lease}
@@ -8,7 +8,7 @@ use Rattle.cloud_facts.specs.Calls.Call.{IsCall}
 use Rattle.cloud_facts.specs.Calls.Standing.{StandsUnder}
 use Rattle.cloud_trait.specs.declared.answer.Answer.{Answer}
 use Rattle.cloud_trait.specs.declared.turn.CkptAnswer.{CkptAnswer}
-use Rattle.cloud_trait.specs.Ask.{Ask, GetHeld, PutHeld, Receive, Delete, Take, Release}
+use Rattle.cloud_trait.specs.Ask.{Ask, GetHeld, Receive, Delete, Take, Release}
 use Rattle.cloud_trait.specs.Caller.{Caller}
 use Rattle.cloud_trait.specs.Claim.{Claim}
 use Rattle.cloud_trait.specs.Machine.{Next, Goes, Ends, Stops}
@@ -34,20 +34,20 @@ use Rattle.cloud_facts.specs.Tellings.Told.{store_of}
 use Rattle.tree_ckpt.specs.Making.{Making, making_ask, MakingLeads}
 use Rattle.tree_ckpt.specs.Standing.{OfTree, HasIds}
 use Rattle.tree_ckpt.proofs.Leaving.{next_leaves}
-use Rattle.session_facts.specs.TreeCheckpoints.Checkpoint.{IsUnder, OfPage, HoldsLast, KnowsOnward, KnowsWork, KnowsMaking, leases_of_making, leases_next}
+use Rattle.session_facts.specs.TreeCheckpoints.Checkpoint.{OfPage, HoldsLast, KnowsOnward, KnowsWork, KnowsMaking, leases_of_making, leases_next}
 use Rattle.session_facts.proofs.TreeCheckpoints.Guards.{leaf_guarded}
 use Rattle.session_facts.proofs.TreeCheckpoints.Held.{claims_next, Within, within, deleted_goes, rising_goes, descending_goes, left_on, got_on, received_on, folding_goes, tree_given, page_given, second_within, none_within}
 use Rattle.session_facts.proofs.TreeCheckpoints.MakingOthers.{lock_of, making_later}
 use Rattle.session_facts.proofs.TreeCheckpoints.UpGuards.{rising_guarded}
 use Rattle.tree_descent.specs.Descent.{descent_next}
-use Rattle.session_facts.specs.Trees.Leaves.{IsReading, IsPutting, KnowsLeaf}
+use Rattle.session_facts.specs.Trees.Leaves.{IsReading, KnowsLeaf}
 use Rattle.tree_moves.specs.declared.work.Held.{Held}
 use Rattle.tree_moves.specs.declared.work.Onward.{Onward}
 use Rattle.tree_moves.specs.declared.work.Onward.TheVariants as onward
 use Rattle.tree_moves.specs.declared.work.Work.{Work}
 use Rattle.tree_moves.specs.declared.work.Work.TheVariants as work
 use Rattle.tree_moves.specs.Moves.{Step, deleted_by, rising_on, descending_on, folding_on, page_left, tree_got, Leads}
-use Rattle.tree_moves.specs.Work.{take_tree, delete_ask, release_ask, work_ask, claims_in}
+use Rattle.tree_moves.specs.Work.{delete_ask, release_ask, work_ask, claims_in}
 use Rattle.tree_parts.specs.declared.placing.Placing.{Placing}
 use Rattle.tree_parts.specs.Placing.{put_in_hand, put_first, put_next}
 use Rattle.tree_rising.specs.declared.rising.Rising.{Rising}

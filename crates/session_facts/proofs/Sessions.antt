@@ -22,3 +22,4 @@ pub mod Showing
 pub mod Answered
 pub mod PagingExplaining
 pub mod LeaseExplaining
+pub mod ReadingExplaining

@@ -8,5 +8,6 @@ pub mod Trees
 pub mod TreeCheckpoints
 pub mod PageCheckpoints
 pub mod Settlings
+pub mod Settled
 pub mod Sessions
 pub mod RowKinds

@@ -5,3 +5,4 @@ pub mod Puts
 pub mod Answering
 pub mod Explaining
 pub mod Calls
+pub mod Untroubled

@@ -48,6 +48,8 @@ use Rattle.session_facts.proofs.Sessions.PagingSteps.{paging_step, paging_noted}
 use Rattle.session_facts.specs.Settlings.Settling.{settling_note}
 use Rattle.settle_run.specs.Settling.{settle_ask}
 use Rattle.cloud_facts.specs.Book.Book.{Book}
+use Rattle.cloud_facts.specs.Book.Growth.{Grows}
+use Rattle.cloud_facts.proofs.Book.GrowthLemmas.{grows_itself}
 use Rattle.cloud_facts.specs.Book.Tally.{Store, at}
 use Rattle.cloud_facts.proofs.Book.Names.{at_same, at_other}
 use Rattle.cloud_facts.specs.Tellings.Told.{store_of}
@@ -101,6 +103,7 @@ idle_goes s t book order sessions session new same as_was stand = record {
   stand = subst (λ (x : CloudState). SessionsStand book order x (at session new sessions)) (sym same) (same_sessions book order s sessions (at session new sessions) alike stand);
   log_goes_on = begins_itself book.log;
   order_goes_on = begins_itself order;
+  grows = subst (λ (x : CloudState). Grows (store_of book order s) (store_of book order x)) (sym same) (grows_itself (store_of book order s));
   noted =
       ap (λ (x : CloudState). audited (newest s) (newest x) (sessions session).work (audit_of book order)) same
       ∙ ap (λ b. cond b (noted_in_hand (sessions session).work (ask_of_work (sessions session).work) (audit_of book order)) (audit_of book order))

@@ -176,6 +176,7 @@ call_goes who s t book order sessions new ask reply stand may call asks h o = re
   };
   log_goes_on = o.passes.grows.log;
   order_goes_on = o.passes.grows.order;
+  grows = o.passes.grows;
   noted = ap (λ (q : Option Ask). cond (has_landed (newest s) (newest t) q) (noted_in_hand (sessions who.session).work q (audit_of book order)) (audit_of book order)) asks ∙ o.noted;
 }
   where

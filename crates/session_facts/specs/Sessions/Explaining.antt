@@ -21,6 +21,8 @@ use Rattle.db_base.specs.declared.trouble.Trouble.TheVariants as trouble
 use Rattle.page_ckpt.specs.Paging.{Paging as PagingState}
 use Rattle.recover_run.specs.Recovery.{Recovery}
 use Rattle.recover_run.specs.declared.stage.RecoverAnswer.{RecoverAnswer}
+use Rattle.recover_run.specs.declared.stage.Stage.{Stage}
+use Rattle.recover_run.specs.declared.stage.Stage.TheVariants as stage
 use Rattle.session_facts.specs.Sessions.Sessions.{leases_of}
 use Rattle.settle_run.specs.declared.part.Part.{Part}
 use Rattle.settle_run.specs.declared.part.Part.TheVariants.{Client, Tree, Page}
@@ -36,8 +38,13 @@ trouble_of_ending None = None
 trouble_of_ending (Some (Ok a)) = None
 trouble_of_ending (Some (Err t)) = Some t
 
+-- a recovery has one while its lease is given back
+abbrev pub trouble_at : Stage → Option (Result RecoverAnswer Trouble) → Option Trouble
+trouble_at stage.Releasing ending = trouble_of_ending ending
+trouble_at st ending = None
+
 abbrev pub trouble_of_recovery : Recovery → Option Trouble
-trouble_of_recovery r = trouble_of_ending r.ending
+trouble_of_recovery r = trouble_at r.stage r.ending
 
 abbrev pub ending_of : TreeWork → Option (Result CkptAnswer Trouble)
 ending_of TakingTree = None

@@ -26,6 +26,7 @@ use Rattle.session_facts.specs.Scans.Scans.{KnowsScan}
 use Rattle.session_facts.specs.Sessions.Noting.{audited}
 use Rattle.session_facts.specs.Settlings.Settling.{KnowsSettling, leases_of_settling}
 use Rattle.cloud_facts.specs.Book.Book.{Book}
+use Rattle.cloud_facts.specs.Book.Growth.{Grows}
 use Rattle.cloud_facts.specs.Book.Tally.{Store, at}
 use Rattle.cloud_facts.specs.Tellings.Told.{store_of}
 use Rattle.session_facts.specs.TreeCheckpoints.Checkpoint.{KnowsMaking, leases_of_making}
@@ -112,4 +113,5 @@ pub record Goes (book : Book) (order : List Entry) (s t : CloudState) (sessions 
   pub stand : SessionsStand book_after order_after t (at session new sessions)
   pub log_goes_on : BeginsWith book.log book_after.log
   pub order_goes_on : BeginsWith order order_after
+  pub grows : Grows (store_of book order s) (store_of book_after order_after t)
   pub noted : audited (newest s) (newest t) (sessions session).work (audit_of book order) ≡ audit_of book_after order_after

@@ -1,0 +1,27 @@
+-- Why a settling settles.
+pub mod Stories
+pub mod Frames
+pub mod Along
+pub mod Queues
+pub mod Lefts
+pub mod LeftHands
+pub mod Sums
+pub mod Costs
+pub mod CostHands
+pub mod Turns
+pub mod Begins
+pub mod TreePieces
+pub mod TreeCalls
+pub mod TreeLists
+pub mod TreeRoots
+pub mod TreeVisits
+pub mod TreeRoom
+pub mod Draining
+pub mod TreeSteps
+pub mod TreeReceives
+pub mod TreeTurns
+pub mod TreeDrains
+pub mod TreeRuns
+pub mod Trails
+pub mod PageRights
+pub mod PageCalls

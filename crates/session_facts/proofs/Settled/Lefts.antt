@@ -1,0 +1,185 @@
+-- What a settling leaves behind each of its parts: settled heads, and queues of which no message waits.
+use Rattle.std.proofs.Common.{◌≡◌, ◌≢◌, ◌+◌, ◌-◌, ◌<◌, ◌≤◌, ◌⊎◌, inl, inr, ℕ, zero, suc, Bool, true, false, cond, List, [], ◌∷◌, ◌++◌, length, Option, Some, None, refl, sym, ap, subst, ◌∙◌, arith}
+use Rattle.std.specs.Prelude.{slice_get, nat_lt, ◌==◌}
+use Rattle.std.proofs.lemmas.Bool.{cases_eq}
+use Rattle.std.proofs.lemmas.Bool.Decides.{nat_tests}
+use Rattle.cloud_facts.proofs.Book.Places.{in_front, in_behind, in_either, in_none, get_single, get_within}
+use Rattle.cloud_facts.proofs.Copies.Receives.{IsLeft, left_of}
+use Rattle.cloud_facts.specs.Book.Book.{Link}
+use Rattle.cloud_facts.specs.Book.Records.{IsIn, StandsAt}
+use Rattle.cloud_facts.specs.Book.Telling.{queue_of, head_in, last_or}
+use Rattle.cloud_facts.specs.Chains.Chain.{IsChained}
+use Rattle.cloud_facts.specs.Chains.Links.{first_link, page_after}
+use Rattle.cloud_facts.specs.Numbers.Numbers.{IsOfRecord}
+use Rattle.cloud_facts.specs.Book.Premises.{IsRouted}
+use Rattle.cloud_trait.specs.Delivery.{unmarked}
+use Rattle.cloud_trait.specs.Machine.{Goes, Ends, Stops, Deed}
+use Rattle.cloud_trait.specs.State.{CloudState}
+use Rattle.cloud_trait.specs.declared.message.Message.{Message}
+use Rattle.cloud_trait.specs.declared.state.Posted.{Posted}
+use Rattle.cloud_trait.specs.declared.state.Version.{Version}
+use Rattle.db_base.specs.Ids.{IsClient, IsTree}
+use Rattle.db_base.specs.declared.names.ObjName.TheVariants as object
+use Rattle.db_base.specs.declared.names.QueueName.{QueueName}
+use Rattle.db_base.specs.declared.names.QueueName.TheVariants as queue
+use Rattle.db_base.specs.declared.trouble.Trouble.TheVariants as trouble
+use Rattle.head_codec.specs.Head.{empty_head}
+use Rattle.head_codec.specs.declared.head.Head.{Head}
+use Rattle.head_codec.specs.declared.head.Phase.TheVariants.{Settled}
+use Rattle.leaf_view.specs.Lookup.{page_at}
+use Rattle.page_ckpt.specs.Paging.{Paging}
+use Rattle.recover_run.specs.Ids.{new_ids}
+use Rattle.recover_run.specs.Recovery.{Recovery}
+use Rattle.session_facts.proofs.Settled.Along.{Each, Handed, Hands, behind_part}
+use Rattle.session_facts.proofs.Settled.Frames.{QueueKeeps, PartKeeps, ran_keeps}
+use Rattle.session_facts.proofs.Settled.Queues.{in_rest, AreNews, none_received, none_left, news_left, empty_of}
+use Rattle.session_facts.proofs.Settled.Stories.{part_known}
+use Rattle.session_facts.specs.Settled.Bound.{LeadsTo}
+use Rattle.session_facts.specs.Settled.Runs.{AreDelivered, waiting, right_at, Drains, TreesRun, PagesRun, RecoveriesRun}
+use Rattle.session_facts.specs.Settled.Story.{Moment, store_at, IsAtWork, PartRan}
+use Rattle.session_facts.specs.Settlings.Settling.{KnowsAtWork}
+use Rattle.settle_run.specs.Parts.{part_again, part_of_client, part_of_tree, part_of_page, part_received}
+use Rattle.settle_run.specs.Settling.{Settling, Step, begins, to_page, behind_client, behind_tree, is_visited, goes_right, goes_on, passed_with, passed}
+use Rattle.settle_run.specs.declared.part.Part.{Part}
+use Rattle.settle_run.specs.declared.part.Part.TheVariants.{Client, Tree, Page}
+use Rattle.settle_run.specs.declared.settled.Settled.{Settled as Answered}
+use Rattle.tree_ckpt.specs.Making.{Making}
+
+-- ---- what is left
+
+-- the heads of the clients below a number are settled
+abbrev pub HeadsRest : ℕ → Moment → Type 0
+HeadsRest upto m = (k : ℕ) → IsClient k → k < upto → ((store_at m).tally.head k).phase ≡ Settled
+
+-- no message of a tree's queues waits
+abbrev pub NoneWaits : ℕ → CloudState → Type 0
+NoneWaits tree s = (page : ℕ) → waiting s (queue_of tree page) ≡ []
+
+-- .. of the trees below a number
+abbrev pub TreesRest : ℕ → CloudState → Type 0
+TreesRest upto s = (t : ℕ) → IsTree t → t < upto → NoneWaits t s
+
+-- of a tree whose page is at work: its own queue and those of the pages before it are empty, and the pages lead to it from page 1
+pub record PagesRest (tree page : ℕ) (visited : List ℕ) (s : CloudState) : Type 0 where
+  pub own : waiting s (queue.TreePu tree) ≡ []
+  pub leads : LeadsTo (right_at s tree) 1 page visited
+  pub behind : (p : ℕ) → IsIn visited p → (page ≡ p → ⊥) → waiting s (queue.PagePu tree p) ≡ []
+
+-- where a part begins
+abbrev pub LeftAt : Part → List ℕ → List ℕ → Moment → Type 0
+LeftAt (Client client r) known visited m = HeadsRest client m
+LeftAt (Tree tree r) known visited m = HeadsRest 65 m × (TreesRest tree m.state × AreNews known (queue.TreePu tree) m.state)
+LeftAt (Page tree page r) known visited m = HeadsRest 65 m × (TreesRest tree m.state × (AreNews known (queue.PagePu tree page) m.state × PagesRest tree page visited m.state))
+
+abbrev pub Left : Settling → Moment → Type 0
+Left s m = LeftAt s.part s.known s.visited m
+
+-- at the end
+abbrev pub NothingWaits : Settling → Answered → Moment → Type 0
+NothingWaits s x m = HeadsRest 65 m × TreesRest 17 m.state
+
+pub again_left : (w : Part) (known visited : List ℕ) (m : Moment) → LeftAt w known visited m → LeftAt (part_again w) known visited m
+again_left (Client client r) known visited m k = k
+again_left (Tree tree r) known visited m k = k
+again_left (Page tree page r) known visited m k = k
+
+pub left_again : (w : Part) (known visited : List ℕ) (m : Moment) → LeftAt (part_again w) known visited m → LeftAt w known visited m
+left_again (Client client r) known visited m k = k
+left_again (Tree tree r) known visited m k = k
+left_again (Page tree page r) known visited m k = k
+
+-- ---- the way along the pages
+
+leads_in : (right : ℕ → ℕ) (first last : ℕ) (ps : List ℕ) → LeadsTo right first last ps → IsIn ps first
+leads_in right first last [] leads = absurd leads
+leads_in right first last (p ∷ []) leads = (zero, ap (λ (n : ℕ). Some n) leads.0)
+leads_in right first last (p ∷ q ∷ ps) leads = (zero, ap (λ (n : ℕ). Some n) leads.0)
+
+-- each page but the last leads to one of them
+leads_on : (right : ℕ → ℕ) (first last : ℕ) (ps : List ℕ) (p : ℕ) → LeadsTo right first last ps → IsIn ps p → (p ≡ last) ⊎ IsIn ps (right p)
+leads_on right first last [] p leads is = absurd leads
+leads_on right first last (x ∷ []) p leads is = inl (sym (get_single x is.0 p is.1) ∙ leads.1)
+leads_on right first last (x ∷ y ∷ ps) p leads (zero, e) =
+    let same : x ≡ p = cc (e) in
+    inr (in_rest x (y ∷ ps) (right p) (subst (λ (n : ℕ). IsIn (y ∷ ps) (right n)) same (leads_in right (right x) last (y ∷ ps) leads.1)))
+leads_on right first last (x ∷ y ∷ ps) p leads (suc place, e) = on (leads_on right (right x) last (y ∷ ps) p leads.1 (place, e))
+  where
+    on : (p ≡ last) ⊎ IsIn (y ∷ ps) (right p) → (p ≡ last) ⊎ IsIn (x ∷ y ∷ ps) (right p)
+    on (inl same) = inl same
+    on (inr is) = inr (in_rest x (y ∷ ps) (right p) is)
+
+pub leads_more : (right : ℕ → ℕ) (first last next : ℕ) (ps : List ℕ) → LeadsTo right first last ps → right last ≡ next → LeadsTo right first next (ps ++ next ∷ [])
+leads_more right first last next [] leads e = absurd leads
+leads_more right first last next (p ∷ []) leads e = (leads.0, (sym (ap right leads.1 ∙ e), refl))
+leads_more right first last next (p ∷ q ∷ ps) leads e = (leads.0, leads_more right (right p) last next (q ∷ ps) leads.1 e)
+
+-- ---- a tree whose pages are all behind
+
+module _ (m : Moment) (tree page : ℕ) (visited : List ℕ) (is_tree : IsTree tree) (rest : PagesRest tree page visited m.state)
+    (ends : right_at m.state tree page ≡ 0) (drained : waiting m.state (queue.PagePu tree page) ≡ []) where
+  abbrev s : CloudState
+  s = m.state
+
+  chained : IsChained (m.book.chain tree) ((store_at m).tally.nodes tree) ((store_at m).tally.roots tree) ((store_at m).tally.done tree) ((store_at m).tally.cursor tree 0)
+  chained = m.stand.cloud.holds.chains tree is_tree
+
+  -- each link of the leaf chain is of a page that was come to
+  link_in : (place : ℕ) (link : Link) → StandsAt (m.book.chain tree 0) place link → IsIn visited link.page
+  link_in zero link there =
+      let first : slice_get (m.book.chain tree 0) 0 ≡ Some first_link = ap (λ (ls : List Link). slice_get ls 0) chained.levels.leaves.1 in
+      let same : first_link ≡ link = cc (first, there) in
+      subst (λ (x : Link). IsIn visited x.page) same (leads_in (right_at s tree) 1 page visited rest.leads)
+  link_in (suc place) link there = before (slice_get (m.book.chain tree 0) place) refl (λ last e. link_in place last e)
+    where
+      before : (o : Option Link) → slice_get (m.book.chain tree 0) place ≡ o → ((last : Link) → StandsAt (m.book.chain tree 0) place last → IsIn visited last.page) → IsIn visited link.page
+      before None e again =
+          let within = get_within (m.book.chain tree 0) (suc place) link there in
+          absurd (none_before (m.book.chain tree 0) place (omega (arith, within)) e)
+        where
+          none_before : (ls : List Link) (k : ℕ) → k < length ls → slice_get ls k ≡ None → ⊥
+          none_before [] k less f = absurd (omega (arith, less))
+          none_before (l ∷ ls) zero less f = absurd (cc (f))
+          none_before (l ∷ ls) (suc k) less f = none_before ls k (omega (arith, less)) f
+      before (Some last) e again =
+          let next : place + 1 ≡ suc place = omega arith in
+          let there_next : slice_get (m.book.chain tree 0) (place + 1) ≡ Some link = ap (slice_get (m.book.chain tree 0)) next ∙ there in
+          let right : right_at s tree last.page ≡ link.page =
+          (chained.newest.ends 0 place last e).right ∙ ap page_after there_next in
+          on right (leads_on (right_at s tree) 1 page visited last.page rest.leads (again last e))
+        where
+          on : right_at s tree last.page ≡ link.page → (last.page ≡ page) ⊎ IsIn visited (right_at s tree last.page) → IsIn visited link.page
+          on right (inl same) =
+              let some = (chained.pages.linked 0 link (suc place, there)).0 in
+              let zero_is : link.page ≡ 0 = sym right ∙ (ap (right_at s tree) same ∙ ends) in
+              absurd (omega (arith, some, zero_is))
+          on right (inr is) = subst (IsIn visited) right is
+
+  empty_page : (p : ℕ) → IsIn visited p → waiting s (queue.PagePu tree p) ≡ []
+  empty_page p is = on (cases_eq page p)
+    where
+      on : (page ≡ p) ⊎ (page ≢ p) → waiting s (queue.PagePu tree p) ≡ []
+      on (inl e) = subst (λ (n : ℕ). waiting s (queue.PagePu tree n) ≡ []) e drained
+      on (inr other) = rest.behind p is (λ e. absurd (other e))
+
+  -- what waits is a record that goes to its queue, which is the tree's or that of a leaf of the chain
+  pub tree_rests : NoneWaits tree s
+  tree_rests zero = rest.own
+  tree_rests (suc n) = empty_of (waiting s (queue.PagePu tree (suc n))) (λ x is. none x is)
+    where
+      none : (x : Message) → IsIn (waiting s (queue.PagePu tree (suc n))) x → ⊥
+      none x is = by (m.stand.cloud.holds.numbers.placed r.of r.logged).routed
+        where
+          left : IsLeft (s.messages (queue.PagePu tree (suc n))) (unmarked (s.messages (queue.PagePu tree (suc n)))) is.0 x
+          left = left_of (s.messages (queue.PagePu tree (suc n))) 1 is.0 x is.1
+
+          r : IsOfRecord m.book.log tree (suc n) left.message.bytes
+          r = m.stand.cloud.holds.numbers.sent tree (suc n) left.place left.message left.there
+
+          linked : (place : ℕ) (link : Link) → StandsAt (m.book.chain r.of.tree 0) place link → link.page ≡ r.of.page → ⊥
+          linked place link there e =
+              let here : IsIn visited link.page = link_in place link (subst (λ (t : ℕ). StandsAt (m.book.chain t 0) place link) r.tree_is there) in
+              in_none (waiting s (queue.PagePu tree (suc n))) x (empty_page (suc n) (subst (IsIn visited) (e ∙ r.page_is) here)) is
+
+          by : IsRouted m.book r.of → ⊥
+          by (inl e) = let never : suc n ≡ 0 = sym r.page_is ∙ e in absurd (omega (arith, never))
+          by (inr at) = linked at.linked.0 at.link at.linked.1 at.page_is

@@ -1,0 +1,202 @@
+-- The steps of session 0, which settles: each leads along its parts, and the last one to the end.
+use Rattle.std.proofs.Common.{◌≡◌, ◌≤◌, ◌<◌, ℕ, List, [], Option, Some, None, Result, Ok, refl, sym, ap, subst, ◌∙◌, arith}
+use Rattle.client_session.specs.Session.{Acting, closed_session, settling_session, StepsSession, StepsAt, StepsSettling, ShowsAt}
+use Rattle.client_session.specs.declared.answer.Answer.{Answer}
+use Rattle.client_session.specs.declared.answer.Answer.TheVariants as answer
+use Rattle.client_session.specs.declared.shown.Shown.{Shown}
+use Rattle.client_session.specs.declared.work.Work.{Work}
+use Rattle.client_session.specs.declared.work.Work.TheVariants as work
+use Rattle.cloud_facts.specs.Book.Book.{Book}
+use Rattle.cloud_facts.specs.Book.Tally.{at}
+use Rattle.cloud_trait.proofs.RowLemmas.{row_rest}
+use Rattle.cloud_trait.specs.Caller.{Caller}
+use Rattle.cloud_trait.specs.Machine.{Goes, Ends, Stops, Deed}
+use Rattle.cloud_trait.specs.Seen.{Seen}
+use Rattle.cloud_trait.specs.State.{CloudState, called}
+use Rattle.cloud_trait.specs.Weather.{Makes, Leaves}
+use Rattle.cloud_trait.specs.declared.answer.Answer.{Answer as Reply}
+use Rattle.cloud_trait.specs.declared.turn.Turn.{Turn}
+use Rattle.cloud_trait.specs.declared.turn.Turn.TheVariants.{More, Ended, Stopped}
+use Rattle.db_base.specs.declared.wish.Wish.TheVariants.{Plain}
+use Rattle.page_cache.specs.Cache.{Cache}
+use Rattle.report_types.specs.declared.entry.Entry.{Entry}
+use Rattle.session_facts.proofs.Sessions.Begins.{settling_begins_session}
+use Rattle.session_facts.proofs.Sessions.Calling.{session_keeps}
+use Rattle.session_facts.proofs.Sessions.Laws.{rest_keeps}
+use Rattle.session_facts.proofs.Settled.Along.{Hands, Along, AlongNext, along_step, along_begins}
+use Rattle.session_facts.specs.Sessions.Calls.{reply_at, reply_of}
+use Rattle.session_facts.specs.Sessions.Sessions.{Sessions, SessionsStand, Goes as SessionGoes}
+use Rattle.session_facts.specs.Settled.Story.{Moment, IsAtWork, IsTurn}
+use Rattle.settle_run.specs.Settling.{Settling, new_settling, settle_ask, SettleLeads}
+use Rattle.settle_run.specs.declared.settled.Settled.{Settled}
+use Rattle.txn_buffer.specs.Noted.{Noted}
+
+-- session 0 at an event
+abbrev pub settler : ℕ → Caller
+settler n = record { session = 0; event = n }
+
+-- ---- a step, as its settling tells it
+
+-- where the answer of its call leads
+abbrev Led : Settling → Reply → Work → Turn Answer → Type 0
+Led m reply new More = (n : Settling) × (SettleLeads m reply (Goes n) × (new ≡ work.Settling n))
+Led m reply new (Ended (answer.Settled x)) = (n : Settling) × SettleLeads m reply (Ends n x)
+Led m reply new turn = Unit {0}
+
+abbrev IsStep : Caller → Seen → Seen → Settling → Reply → Work → Turn Answer → Type 0
+IsStep who before after m reply new turn = Makes who (settle_ask m) reply before after × Led m reply new turn
+
+same_settling : (k m : Settling) → work.Settling k ≡ work.Settling m → k ≡ m
+same_settling k m e = cc (e)
+
+stepped : (who : Caller) (before after : Seen) (buffer : List Noted) (old : Work) (c d : Cache) (new : Work) (shown : Shown) (turn : Turn Answer)
+    → (p : StepsAt who before after old new turn) → (q : ShowsAt who before after buffer old c d new shown turn) → (m : Settling) → old ≡ work.Settling m
+    → IsStep who before after m (reply_at who before after buffer old c d new shown turn p q) new turn
+stepped who before after buffer (work.Settling k) c d new shown More p q m e =
+    subst (λ (x : Settling). IsStep who before after x p.1.1.answer new More) (same_settling k m e) (p.1.1.made, (p.1.0, (p.1.1.took, p.1.2)))
+stepped who before after buffer (work.Settling k) c d new shown (Ended (answer.Settled x)) p q m e =
+    subst (λ (y : Settling). IsStep who before after y p.1.1.answer new (Ended (answer.Settled x))) (same_settling k m e) (p.1.1.made, (p.1.0, p.1.1.took))
+stepped who before after buffer (work.Settling k) c d new shown (Ended (answer.Trouble t)) p q m e =
+    subst (λ (y : Settling). IsStep who before after y p.1.1.answer new (Ended (answer.Trouble t))) (same_settling k m e) (p.1.1.made, tt)
+stepped who before after buffer (work.Settling k) c d new shown turn p q m e = absurd p.1
+stepped who before after buffer (work.Opening r) c d new shown turn p q m e = absurd (cc (e))
+stepped who before after buffer (work.Committing r) c d new shown turn p q m e = absurd (cc (e))
+stepped who before after buffer (work.Reading home r) c d new shown turn p q m e = absurd (cc (e))
+stepped who before after buffer (work.Scanning home r) c d new shown turn p q m e = absurd (cc (e))
+stepped who before after buffer (work.Paging home r) c d new shown turn p q m e = absurd (cc (e))
+stepped who before after buffer (work.Folding home r) c d new shown turn p q m e = absurd (cc (e))
+stepped who before after buffer (work.Closing l) c d new shown turn p q m e = absurd (cc (e))
+stepped who before after buffer (work.Renewing home) c d new shown turn p q m e = absurd (cc (e))
+stepped who before after buffer work.Closed c d new shown turn p q m e = absurd (cc (e))
+stepped who before after buffer (work.Idle home) c d new shown turn p q m e = absurd (cc (e))
+stepped who before after buffer (work.Broken l) c d new shown turn p q m e = absurd (cc (e))
+
+-- ---- from one moment to the next
+
+-- a settling that is under way behind some calls, over a cloud that stands so but for the wish for the next call
+pub record OnWay (B : Settling → Moment → Type 0) (P : Deed → Type 0) (session : Acting) (s : CloudState) : Type 0 where
+  pub settling : Settling
+  pub now : Moment
+  pub now_is : now.state ≡ record s { wish = Plain }
+  pub session_is : now.sessions 0 ≡ session
+  pub works : session.work ≡ work.Settling settling
+  pub along : Along B P settling now
+
+-- and where a step leaves it so
+pub record GoesOnWay (B : Settling → Moment → Type 0) (P : Deed → Type 0) (session : Acting) (after : Seen) : Type 0 where
+  pub state : CloudState
+  pub told : after.state ≡ Some state
+  pub way : OnWay B P session state
+
+-- one that is over
+pub record AtEnd (E : Settling → Settled → Moment → Type 0) (x : Settled) (after : Seen) : Type 0 where
+  pub settling : Settling
+  pub now : Moment
+  pub told : after.state ≡ Some now.state
+  pub holds : E settling x now
+
+module _ (B : Settling → Moment → Type 0) (E : Settling → Settled → Moment → Type 0) (P : Deed → Type 0) (hands : Hands B E P) (n : ℕ) (before after : Seen) (old new : Acting)
+    (s : CloudState) (way : OnWay B P old s) (told_as : before.state ≡ Some (record s { wish = Plain })) where
+  abbrev m : Settling
+  m = way.settling
+
+  abbrev from : Moment
+  from = way.now
+
+  told : before.state ≡ Some from.state
+  told = told_as ∙ ap (λ (x : CloudState). Some x) (sym way.now_is)
+
+  -- the call of a step that was answered so
+  abbrev call_with : Reply → Deed
+  call_with reply = record { who = settler n; ask = settle_ask m; answer = reply; before = before; after = after }
+
+  module _ (turn : Turn Answer) (p : StepsSession (settler n) before after old new (Ok turn)) where
+    abbrev reply : Reply
+    reply = reply_of (settler n) before after old new turn p
+
+    abbrev deed : Deed
+    deed = call_with reply
+
+    step : IsStep (settler n) before after m reply new.work turn
+    step = stepped (settler n) before after new.buffer old.work old.cache p.shown.0 new.work new.shown turn p.work p.shown.1 m way.works
+
+    left : Leaves (settler n) (settle_ask m) reply before.counts after.counts from.state after.state
+    left = step.0.state from.state told
+
+    goes : SessionGoes from.book from.order from.state left.after from.sessions 0 new
+    goes =
+        session_keeps (settler n) before after from.state left.after from.book from.order from.sessions new (Ok turn) told left.told from.stand
+        (subst (λ (a : Acting). StepsSession (settler n) before after a new (Ok turn)) (sym way.session_is) p)
+
+    abbrev next : Moment
+    next = record { state = left.after; book = goes.book_after; order = goes.order_after; sessions = at 0 new from.sessions; stand = goes.stand }
+
+    turn_is : IsTurn deed m.part from next
+    turn_is = record {
+      at_work = record { settling = m; works = ap (λ (a : Acting). a.work) way.session_is ∙ way.works; part_is = refl };
+      settler = refl;
+      asked = refl;
+      made = step.0;
+      told = told;
+      left = left.told;
+      grows = goes.grows;
+    }
+
+    plain_after : left.after ≡ record left.after { wish = Plain }
+    plain_after = λ i. record left.after { wish = plain i }
+      where
+        plain : left.after.wish ≡ Plain
+        plain = (row_rest (settler n) (settle_ask m) reply before.counts after.counts (called (settler n) left.after.now from.state) left.after left.row).wish
+
+  -- a step that goes on
+  pub step_on : (p : StepsSession (settler n) before after old new (Ok More)) → P (call_with (reply_of (settler n) before after old new More p)) → GoesOnWay B P new after
+  step_on p is =
+      let led = (step More p).1 in
+      record {
+        state = (left More p).after;
+        told = (left More p).told;
+        way = record {
+          settling = led.0;
+          now = next More p;
+          now_is = plain_after More p;
+          session_is = refl;
+          works = led.1.1;
+          along = along_step B E P hands m from (next More p) way.along (deed More p) (turn_is More p) is (Goes led.0) led.1.0 (record { settling = led.0; works = led.1.1; part_is = refl });
+        };
+      }
+
+  -- a step that ends
+  pub step_ends : (x : Settled) (p : StepsSession (settler n) before after old new (Ok (Ended (answer.Settled x))))
+      → P (call_with (reply_of (settler n) before after old new (Ended (answer.Settled x)) p)) → AtEnd E x after
+  step_ends x p is =
+      let led = (step (Ended (answer.Settled x)) p).1 in
+      record {
+        settling = led.0;
+        now = next (Ended (answer.Settled x)) p;
+        told = (left (Ended (answer.Settled x)) p).told;
+        holds = along_step B E P hands m from (next (Ended (answer.Settled x)) p) way.along (deed (Ended (answer.Settled x)) p) (turn_is (Ended (answer.Settled x)) p) is (Ends led.0 x) led.1;
+      }
+
+-- ---- the beginning
+
+-- the moment at which session 0 begins to settle, once the wish for its first call is set
+abbrev pub first_moment : (book : Book) (order : List Entry) (t : CloudState) (sessions : Sessions) → sessions 0 ≡ closed_session → SessionsStand book order t sessions → Moment
+first_moment book order t sessions closed stand = record {
+  state = record t { wish = Plain };
+  book = book;
+  order = order;
+  sessions = at 0 settling_session sessions;
+  stand = rest_keeps book order t (record t { wish = Plain }) (at 0 settling_session sessions) refl refl refl (omega arith) (settling_begins_session book order t sessions 0 closed stand);
+}
+
+pub begins_on : (B : Settling → Moment → Type 0) (E : Settling → Settled → Moment → Type 0) (P : Deed → Type 0) (hands : Hands B E P) (book : Book) (order : List Entry) (t : CloudState)
+    (sessions : Sessions) (closed : sessions 0 ≡ closed_session) (stand : SessionsStand book order t sessions) → B new_settling (first_moment book order t sessions closed stand)
+    → OnWay B P settling_session t
+begins_on B E P hands book order t sessions closed stand holds = record {
+  settling = new_settling;
+  now = first_moment book order t sessions closed stand;
+  now_is = refl;
+  session_is = refl;
+  works = refl;
+  along = along_begins B E P hands new_settling (first_moment book order t sessions closed stand) holds refl (record { settling = new_settling; works = refl; part_is = refl });
+}

@@ -1,0 +1,59 @@
+-- When a session goes on and is answered well: where its calls are calm.
+use Rattle.std.specs.Prelude.{ℕ, ◌≡◌, ◌≢◌, Some, Ok}
+use Rattle.calm_calls.specs.Calm.{IsCalm}
+use Rattle.client_session.specs.Session.{Acting, StepsSession, ask_of_work}
+use Rattle.client_session.specs.declared.answer.Answer.{Answer}
+use Rattle.client_session.specs.declared.work.Work.{Work}
+use Rattle.cloud_trait.specs.declared.answer.Answer.TheVariants.{Memory}
+use Rattle.cloud_trait.specs.declared.turn.Turn.{Turn}
+use Rattle.cloud_trait.specs.Ask.{Ask}
+use Rattle.cloud_trait.specs.Caller.{Caller}
+use Rattle.cloud_trait.specs.Seen.{Seen}
+use Rattle.db_base.specs.declared.trouble.CommitAnswer.{CommitAnswer}
+use Rattle.db_base.specs.declared.trouble.CommitAnswer.TheVariants.{Committed, NotCommitted}
+use Rattle.db_base.specs.declared.trouble.Trouble.{Trouble}
+use Rattle.db_base.specs.declared.trouble.Trouble.TheVariants as trouble
+use Rattle.session_facts.specs.Sessions.Calls.{reply_of}
+use Rattle.session_facts.specs.Sessions.Explaining.{ReceivesLate, left_in, trouble_in}
+use Rattle.session_facts.specs.Sessions.Sessions.{leases_of}
+
+-- A step was calm: its call found memory and no count rose in it, the lock that it takes was free, the leases that it names lasted, and where it
+-- receives so did those in hand.
+pub record StepsCalmly (who : Caller) (before after : Seen) (old new : Acting) (turn : Turn Answer) (p : StepsSession who before after old new (Ok turn)) : Type 0 where
+  pub ask : Ask
+  pub hand : ask_of_work old.work ≡ Some ask
+  pub calm : IsCalm (record { who = who; ask = ask; answer = reply_of who before after old new turn p; before = before; after = after })
+  pub received : ReceivesLate ask (leases_of old.work) calm.after.now → ⊥
+  pub memory : reply_of who before after old new turn p ≢ Memory
+
+-- no call of the cloud brings such a trouble
+abbrev pub IsOfNoCall : Trouble → Type 0
+IsOfNoCall trouble.Failed = ⊥
+IsOfNoCall (trouble.Late end now) = ⊥
+IsOfNoCall (trouble.Busy lock until) = ⊥
+IsOfNoCall (trouble.Waiting have need) = ⊥
+IsOfNoCall (trouble.Stale page least got) = ⊥
+IsOfNoCall t = Unit {0}
+
+-- what is at work goes well so far: no call brought it a trouble, and no deletion failed
+pub record IsUntroubled (w : Work) : Type 0 where
+  pub trouble : (t : Trouble) → trouble_in w ≡ Some t → IsOfNoCall t
+  pub left : left_in w ≡ 0
+
+-- a counter stands at its last value
+abbrev pub IsSpent : Trouble → Type 0
+IsSpent (trouble.Exhausted what) = Unit {0}
+IsSpent t = ⊥
+
+-- or the page that was named is absent or no leaf
+abbrev pub IsSpentOrOf : ℕ → Trouble → Type 0
+IsSpentOrOf page (trouble.Exhausted what) = Unit {0}
+IsSpentOrOf page (trouble.Absent named) = named ≡ page
+IsSpentOrOf page (trouble.NotALeaf named) = named ≡ page
+IsSpentOrOf page t = ⊥
+
+-- it is committed, unless a counter stands at its last value
+abbrev pub CommitsWell : CommitAnswer → Type 0
+CommitsWell (Committed txn) = Unit {0}
+CommitsWell (NotCommitted t) = IsSpent t
+CommitsWell answer = ⊥

@@ -11,4 +11,5 @@ pub mod RunOutcomes
 pub mod RunHands
 pub mod HeadPuts
 pub mod Stopping
+pub mod Telling
 pub mod Explaining

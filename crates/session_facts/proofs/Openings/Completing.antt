@@ -98,8 +98,8 @@ module _ (st : Store) (client : ℕ) (w : Wanted) (logged : AreLogged st client)
   few_of_head : length (filter (is_of_head w) (unmarked ms)) ≤ 255
   few_of_head =
       let short : length (map index_in (filter (is_of_head w) (unmarked ms))) ≤ 201 =
-          length-le_from_distinct_below (map index_in (filter (is_of_head w) (unmarked ms))) 201 (indices_apart 1 (unmarked ms) (unmarked_sent ms) (unmarked_ascend 1 ms))
-          (indices_low (filter (is_of_head w) (unmarked ms))) in
+      length-le_from_distinct_below (map index_in (filter (is_of_head w) (unmarked ms))) 201 (indices_apart 1 (unmarked ms) (unmarked_sent ms) (unmarked_ascend 1 ms))
+      (indices_low (filter (is_of_head w) (unmarked ms))) in
       omega (arith, short, length-map (filter (is_of_head w) (unmarked ms)) index_in)
 
 -- ---- each record is there
@@ -129,7 +129,7 @@ module _ (st : Store) (client : ℕ) (h : Head) (leaves : Leaves st) (is : IsCli
               (and_from (way.0.epoch == h.epoch) (way.0.txn == h.txn) (eq-eqb way.0.epoch h.epoch (way_epoch h way.0 under)) (eq-eqb way.0.txn h.txn (way_txn h way.0 under)))
               (eq-eqb way.0.index n (omega (arith, at, some)))
 
-  no_later : HasNoLater h.epoch (st.tally.logged client)
+  pub no_later : HasNoLater h.epoch (st.tally.logged client)
   no_later =
       all_so (WasSent (st.tally.logged client)) (IsUptoEpoch h.epoch)
       (λ m was rec e. subst (λ (k : Head). rec.epoch ≤ k.epoch) newest ((leaves.logged client is).early m.id rec (sent_message (st.tally.logged client) m rec was e)))

@@ -1,6 +1,6 @@
 -- What deletions of all that a delivering receive brought leave of a queue.
 use Rattle.std.proofs.Common.{◌≡◌, ◌≢◌, ◌+◌, ◌≤◌, ◌⊎◌, inl, inr, ℕ, zero, suc, Bool, true, false, cond, not, List, [], ◌∷◌, ◌++◌, length, length-append, map, take, drop, Option, Some, None, Result, Ok, Err, refl, sym, ap, subst, ◌∙◌, arith}
-use Rattle.std.specs.Prelude.{◌==◌, filter}
+use Rattle.std.specs.Prelude.{◌==◌, filter, IsPermutation}
 use Rattle.std.specs.List.{AllByRecursion}
 use Rattle.std.proofs.lemmas.Bool.{eq-eqb, ne_eqb, le-leb}
 use Rattle.std.proofs.lemmas.List.{take-append-drop, length-map}
@@ -27,6 +27,7 @@ use Rattle.recover_run.proofs.Marks.{others, marked_leaves}
 use Rattle.run_cursor.specs.Covered.{is_covered, is_seen, new_ones, covered_ids}
 use Rattle.run_cursor.specs.Run.{IsRun}
 use Rattle.session_facts.proofs.Runs.Received.{each_in, all_in, items_sent, item_client, new_in, covered_in}
+use Rattle.session_facts.proofs.Settled.Queues.{empty_of}
 use Rattle.session_facts.proofs.Settled.TreeLists.{Apart}
 use Rattle.session_facts.proofs.Trees.RisingGrounds.{in_dropped}
 use Rattle.session_facts.proofs.Trees.Unseen.{seen_in}
@@ -37,10 +38,6 @@ use Rattle.session_facts.specs.Runs.Runs.{IsSentItem}
 each_of : {X : Type 0} (P : X → Type 0) (xs : List X) → ((x : X) → IsIn xs x → P x) → AllByRecursion P xs
 each_of P [] each = tt
 each_of P (x ∷ xs) each = (each x (in_first x xs), each_of P xs (λ y is. each y (in_rest x xs y is)))
-
-nothing_in : {X : Type 0} (xs : List X) → ((x : X) → IsIn xs x → ⊥) → xs ≡ []
-nothing_in [] none = refl
-nothing_in (x ∷ xs) none = absurd (none x (in_first x xs))
 
 id_in : (ms : List Message) (m : Message) → IsIn ms m → IsIn (ids_of ms) m.id
 id_in [] m is = absurd (none_in m is)
@@ -58,21 +55,20 @@ id_of (x ∷ ms) id is = on (id_of ms id) (in_cases x.id (ids_of ms) id is)
     on again (inl same) = (x, in_first x ms, same)
     on again (inr there) = let r = again there in (r.0, in_rest x ms r.0 r.1, r.2)
 
--- a delivering receive brings the same messages, in an order
+-- what is in a list is in another one that has the same, in an order
+moved_in : (xs ys : List Message) → IsPermutation xs ys → (m : Message) → IsIn ys m → IsIn xs m
+moved_in xs ys moves m there =
+    all_in (IsIn xs) ys (All-permutation (IsIn xs) xs ys moves (All-from_recursion (IsIn xs) xs (each_of (IsIn xs) xs (λ x k. k)))) m there
+
+-- a delivering receive brings the same messages
 delivered_in : (posts : List Posted) (most : ℕ) (messages : List Message) → IsDelivering posts most messages → (m : Message) → IsIn messages m
     → IsIn (take most (unmarked posts)) m
-delivered_in posts most messages is m there =
-    all_in (IsIn (take most (unmarked posts))) messages
-    (All-permutation (IsIn (take most (unmarked posts))) (take most (unmarked posts)) messages is
-    (All-from_recursion (IsIn (take most (unmarked posts))) (take most (unmarked posts)) (each_of (IsIn (take most (unmarked posts)))
-        (take most (unmarked posts)) (λ x k. k)))) m there
+delivered_in posts most messages is m there = moved_in (take most (unmarked posts)) messages is m there
 
 in_delivered : (posts : List Posted) (most : ℕ) (messages : List Message) → IsDelivering posts most messages → (m : Message)
     → IsIn (take most (unmarked posts)) m → IsIn messages m
 in_delivered posts most messages is m there =
-    all_in (IsIn messages) (take most (unmarked posts))
-    (All-permutation (IsIn messages) messages (take most (unmarked posts)) (IsPermutation-sym (take most (unmarked posts)) messages is)
-    (All-from_recursion (IsIn messages) messages (each_of (IsIn messages) messages (λ x k. k)))) m there
+    moved_in messages (take most (unmarked posts)) (IsPermutation-sym (take most (unmarked posts)) messages is) m there
 
 -- ---- messages without some ids
 
@@ -180,7 +176,7 @@ parts_apart (suc k) (x ∷ ms) apart a b one other = on (parts_apart k ms apart.
 module _ (posts : List Posted) (most : ℕ) (messages : List Message) (ids : List ℕ) (delivers : IsDelivering posts most messages)
     (all : (id : ℕ) → IsIn (ids_of messages) id → IsIn ids id) (only : (id : ℕ) → IsIn ids id → IsIn (ids_of messages) id) where
   gone : left_by ids (take most (unmarked posts)) ≡ []
-  gone = nothing_in (left_by ids (take most (unmarked posts)))
+  gone = empty_of (left_by ids (take most (unmarked posts)))
       (λ m is. let l = left_in ids (take most (unmarked posts)) m is in l.1 (all m.id (id_in messages m (in_delivered posts most messages delivers m l.0))))
 
   stay : left_by ids (drop most (unmarked posts)) ≡ drop most (unmarked posts)

@@ -255,8 +255,8 @@ landed_fewer p own next root placing some is reserves room = on placing.reserved
     on : (reserved : Option (List ℕ)) (puts : List PagePut) → has_nothing (record { reserved = reserved; puts = puts }) ≡ false
         → ((bytes : List ℕ) → reserved ≡ Some bytes → (tree_held (Some bytes)).next + own ≡ next + length puts)
         → (tree_held (landed_root (record { reserved = reserved; puts = puts }) root)).next ≤ p + 1
-        → piece_calls (own + 1) (landed_placing (record { reserved = reserved; puts = puts })) +
-            (p + 1 - (tree_held (landed_root (record { reserved = reserved; puts = puts }) root)).next) + 1
+        → piece_calls (own + 1) (landed_placing (record { reserved = reserved; puts = puts }))
+        + (p + 1 - (tree_held (landed_root (record { reserved = reserved; puts = puts }) root)).next) + 1
         ≤ piece_calls (own + 1) (record { reserved = reserved; puts = puts }) + (p + 1 - next)
     on (Some bytes) puts some reserves room = let is_next = reserves bytes refl in omega (arith, is_next, room)
     on None [] some reserves room = absurd (cc (some))
@@ -399,8 +399,9 @@ below_started p d tree h root run ids items = on (has_items run.items) refl wher
 calls_at : (p : ℕ) (h : Held) (f : Folding) → 0 < length f.placing.puts
     → calls_left p (work.Folding h f) ≡ around p h f.chart + for_keys p (unhandled f.chart) + piece_calls 2 f.placing + 2
 calls_at p h f some =
-    ap (λ (none : Bool). cond none (at_leaves p h f.chart (length f.visited) + 5) (around p h f.chart + for_keys p
-        (unhandled f.chart) + piece_calls 2 f.placing + 2))
+    ap
+    (λ (none : Bool). cond none (at_leaves p h f.chart (length f.visited) + 5)
+    (around p h f.chart + for_keys p (unhandled f.chart) + piece_calls 2 f.placing + 2))
     (not_empty f.placing.puts some)
 
 below_page_taken : (p : ℕ) (h : Held) (c : Coming) (g : Result Claim Trouble) → Below p (at_leaves p h c.chart (length c.visited) + 6) (page_taken h c g)

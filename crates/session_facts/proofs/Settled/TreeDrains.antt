@@ -139,8 +139,8 @@ all_deleted tree s t (x ∷ xs) rest none (mid, led, one) = on (went (done_of x.
     on false e none again = absurd (omega (arith, none))
     on true e none again =
         let d = again none led in
-        let done : Led (Delete (queue.TreePu tree) x.0, call.Done) mid t = subst (λ (a : Answer). Led (Delete (queue.TreePu tree) x.0, a) mid t)
-            (done_went x.1 e) one in
+        let done : Led (Delete (queue.TreePu tree) x.0, call.Done) mid t =
+        subst (λ (a : Answer). Led (Delete (queue.TreePu tree) x.0, a) mid t) (done_went x.1 e) one in
         record { mid = d.mid; led = d.led; marks = deleted_marks (queue.TreePu tree) x.0 mid t done ∙ ap (λ (l : List Posted). marked l x.0) d.marks }
 
 -- those that were tried are these

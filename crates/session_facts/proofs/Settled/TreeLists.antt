@@ -77,10 +77,12 @@ there_up_to (suc n) m some most = on (m == suc n) refl (λ low. there_up_to n m 
 -- so many pages are no more than there are numbers for them
 pub pages_fit : (pages : List ℕ) (p next : ℕ) → Apart pages → ((page : ℕ) → IsIn pages page → (1 ≤ page) × (page < next)) → next ≤ p + 1 → length pages ≤ p
 pages_fit pages p next apart within room =
-    let few = apart_fits pages (up_to p) apart (λ page is. let w = within page is in let low = w.0 in let high = w.1 in there_up_to p page low
-        (omega (arith, high, room))) in
+    let few = apart_fits pages (up_to p) apart there in
     let many = as_many p in
     omega (arith, few, many)
+  where
+    there : (page : ℕ) → IsIn pages page → IsIn (up_to p) page
+    there page is = let w = within page is in let low = w.0 in let high = w.1 in there_up_to p page low (omega (arith, high, room))
 
 -- ---- one more
 

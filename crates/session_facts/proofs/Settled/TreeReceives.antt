@@ -66,11 +66,13 @@ apart_items (x ∷ xs) once = (other, apart_items xs (λ y is. less y is))
         absurd (omega (arith, one, first, some))
 
 run_length : (cursor : List (ℕ × ℕ)) (items run : List PuItem) (top : List (ℕ × ℕ)) → IsRun cursor items run top → length run ≤ length items
-run_length cursor items run top is_run =
-    apart_fits run items
-    (apart_items run (λ x is. let one = is_run.once x.rec.client x.rec.number (all_in (λ
-        (y : PuItem). IsWithin cursor top y.rec.client y.rec.number) run is_run.within x is) in omega (arith, one)))
-    (run_in cursor items run top is_run)
+run_length cursor items run top is_run = apart_fits run items (apart_items run one) (run_in cursor items run top is_run)
+  where
+    one : (x : PuItem) → IsIn run x → count_by (is_at x.rec.client x.rec.number) run ≤ 1
+    one x is =
+        let within = all_in (λ (y : PuItem). IsWithin cursor top y.rec.client y.rec.number) run is_run.within x is in
+        let once = is_run.once x.rec.client x.rec.number within in
+        omega (arith, once)
 
 items_run : (q : QueueName) (cursor : List (ℕ × ℕ)) (read : Result (List PuItem) Message) (n : ℕ) (i : Intake)
     → ((items : List PuItem) → read ≡ Ok items → length items ≤ n) → TakesItems q cursor read (Ok i) → length i.run.items ≤ n
@@ -138,6 +140,6 @@ received_stays tree (work.Folding h f) a ids fits = inr (quiet_by tree (work.Fol
 received_stays tree (work.ReleasingPage h l o) a ids fits = inr (quiet_kept (Release l) a ids tt fits)
 received_stays tree (work.LeftPage h o) a ids fits = inr (quiet_kept (work_ask tree (work.LeftPage h o)) a ids tt fits)
 received_stays tree (work.Rising h r) a ids fits = inr (quiet_by tree (work.Rising h r) a ids fits (work_quiet tree (work.Rising h r)) (λ t. t))
-received_stays tree (work.Releasing held end) a ids fits = inr (quiet_by tree (work.Releasing held end) a ids fits
-    (work_quiet tree (work.Releasing held end)) (λ t. t))
+received_stays tree (work.Releasing held end) a ids fits =
+    inr (quiet_by tree (work.Releasing held end) a ids fits (work_quiet tree (work.Releasing held end)) (λ t. t))
 received_stays tree work.Finished a ids fits = inr (quiet_kept (work_ask tree work.Finished) a ids tt fits)

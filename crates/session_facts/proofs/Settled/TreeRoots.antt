@@ -212,8 +212,8 @@ root_goes tree (work.GettingTree l) a next got new is by e = subst (RootNext new
 root_goes tree (work.Receiving l root) a next got new is by e = root_received new tree l root (received_of a) next (is ∙ sym by) e
 root_goes tree (work.Descending h d) a next got new is by e =
     subst (RootNext new) (sym e) (root_descending new 1 h d.chart (way.descent_next d a) (is ∙ sym by) (descent_further d a))
-root_goes tree (work.TakingPage h c) a next got new is by e = subst (RootNext new) (sym e)
-    (root_page new h c (given_of (lock.Page c.chart.tree c.page) a) (is ∙ sym by))
+root_goes tree (work.TakingPage h c) a next got new is by e =
+    subst (RootNext new) (sym e) (root_page new h c (given_of (lock.Page c.chart.tree c.page) a) (is ∙ sym by))
 root_goes tree (work.Folding h f) a next got new is by e = subst (RootNext new) (sym e) (root_folded got new h f a is by)
 root_goes tree (work.ReleasingPage h l (onward.Right c)) a next got new is by e = subst (RootNext new) (sym e) (root_left new h l (onward.Right c) (is ∙ sym by))
 root_goes tree (work.ReleasingPage h l (onward.Handled c)) a next got new is by e = subst (RootNext new) (sym e) (root_left new h l (onward.Handled c) (is ∙ sym by))

@@ -243,8 +243,10 @@ module _ (tree : ℕ) (m : Making) (first last : Moment) (end : Deed) (earlier :
   done = took_done was m earlier end.answer (Ended answer) went (went_brought was earlier went) (went_done was earlier went) leads
 
   same_received : m.received ≡ was.received
-  same_received = leads.0.1 ∙ quiet_kept (Release done.lease) end.answer was.received tt (subst (λ (ask : Ask). Fits ask end.answer) done.last
-      (asks_fit end tree was before last turn))
+  same_received =
+      leads.0.1
+      ∙ quiet_kept (Release done.lease) end.answer was.received tt
+      (subst (λ (ask : Ask). Fits ask end.answer) done.last (asks_fit end tree was before last turn))
 
   same_messages : last.state.messages ≡ before.state.messages
   same_messages =

@@ -28,3 +28,4 @@ pub mod TreeRuns
 pub mod Trails
 pub mod PageRights
 pub mod PageCalls
+pub mod PageStories

@@ -29,3 +29,4 @@ pub mod Trails
 pub mod PageRights
 pub mod PageCalls
 pub mod PageStories
+pub mod PageDrains

@@ -30,3 +30,4 @@ pub mod PageRights
 pub mod PageCalls
 pub mod PageStories
 pub mod PageDrains
+pub mod PageVisits

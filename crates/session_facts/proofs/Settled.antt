@@ -31,3 +31,4 @@ pub mod PageCalls
 pub mod PageStories
 pub mod PageDrains
 pub mod PageVisits
+pub mod PageRuns

@@ -1,7 +1,6 @@
 -- The calls of a page checkpoint that ended, and what they tell of the state before the first one.
-use Rattle.std.proofs.Common.{◌≡◌, ◌≤◌, ◌⊎◌, inl, inr, ℕ, suc, Bool, true, false, List, [], ◌∷◌, ◌++◌, map, Option, Some, None, Result, Ok, Err, refl, sym, ap, subst, ◌∙◌, append_assoc, arith}
+use Rattle.std.proofs.Common.{◌≡◌, ◌⊎◌, inl, inr, ℕ, Bool, true, false, List, [], ◌∷◌, ◌++◌, Option, Some, None, refl, sym, ap, subst, ◌∙◌, append_assoc, arith}
 use Rattle.std.specs.List.{AllByRecursion}
-use Rattle.std.specs.Prelude.{All}
 use Rattle.std.proofs.lemmas.List.Elements.{recursion_from_All}
 use Rattle.cloud_facts.proofs.Chains.Pieces.{in_cases, in_first, in_rest, none_in}
 use Rattle.cloud_facts.specs.Book.Records.{IsIn}
@@ -25,7 +24,7 @@ use Rattle.db_base.specs.declared.names.ObjName.{ObjName}
 use Rattle.db_base.specs.declared.names.QueueName.{QueueName}
 use Rattle.page_ckpt.specs.Meaning.{Scene, Opening, Visit, Tried, scene_queue, opening_calls, put_over, right_put, home_put, visit_over, visits_over, deletes_over, tried_before, one_less, failed_count, main_calls, page_name, take_page}
 use Rattle.page_ckpt.specs.Paging.{went}
-use Rattle.session_facts.proofs.Settled.Trails.{IsBetween, Trail, between_call, Calls, AreQuiet, deletions_of, ask_is, answer_is, first_is, rest_is}
+use Rattle.session_facts.proofs.Settled.Trails.{IsBetween, Trail, between_call, Calls, AreQuiet, deletions_of, ask_is, answer_is}
 use Rattle.session_facts.specs.Settled.Runs.{AreDelivered}
 
 -- ---- calls over others

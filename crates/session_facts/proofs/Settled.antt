@@ -32,3 +32,8 @@ pub mod PageStories
 pub mod PageDrains
 pub mod PageVisits
 pub mod PageRuns
+pub mod Locks
+pub mod TreeLeases
+pub mod PageLeases
+pub mod ClientLeases
+pub mod Free

@@ -2,4 +2,3 @@
 pub mod Holding
 pub mod Landing
 pub mod Reporting
-pub mod Turns

@@ -1,4 +1,5 @@
 -- A commit run: what it knows of a cloud at each of its calls beside its cache, from its first walk to its last deletion, what others leave of that, and
+-- why it ends.
 pub mod Plans
 pub mod Prunes
 pub mod RunLeases
@@ -10,3 +11,5 @@ pub mod RunOutcomes
 pub mod RunHands
 pub mod HeadPuts
 pub mod Stopping
+pub mod Telling
+pub mod Explaining

@@ -7,6 +7,7 @@ pub mod Begins
 pub mod Entries
 pub mod Others
 pub mod Leading
+pub mod Sifting
 pub mod Gathering
 pub mod Clears
 pub mod Refusing
@@ -15,3 +16,7 @@ pub mod Outcomes
 pub mod HeadPuts
 pub mod Hands
 pub mod Stopping
+pub mod Unmarked
+pub mod Completing
+pub mod Showing
+pub mod Explaining

@@ -9,3 +9,4 @@ pub mod HeadPuts
 pub mod Hands
 pub mod Steps
 pub mod Unlinked
+pub mod Explaining

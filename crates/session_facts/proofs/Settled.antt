@@ -8,5 +8,8 @@ pub mod LeftHands
 pub mod Sums
 pub mod Costs
 pub mod CostHands
+pub mod RecoveryCalls
+pub mod RecoveryEnds
+pub mod RecoveryRuns
 pub mod Turns
 pub mod Begins

@@ -13,4 +13,6 @@ pub mod Held
 pub mod Guards
 pub mod UpGuards
 pub mod Hands
+pub mod Meeting
+pub mod Explaining
 pub mod Steps

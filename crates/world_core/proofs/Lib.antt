@@ -10,6 +10,8 @@ pub mod StandsLemmas
 pub mod BeginLemmas
 pub mod EveryLine
 pub mod Sound
+pub mod Explained
+pub mod Calm
 pub mod AddedSteps
 pub mod AddedLines
 pub mod OpenedLines

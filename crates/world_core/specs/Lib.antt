@@ -5,5 +5,8 @@ pub mod Replying
 pub mod Handled
 pub mod Stands
 pub mod Sound
+pub mod EachStep
+pub mod Explained
+pub mod Calm
 pub mod Added
 pub mod Opened

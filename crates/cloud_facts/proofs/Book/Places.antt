@@ -1,5 +1,5 @@
 -- Places of lists that grow, and of messages that are marked.
-use Rattle.std.proofs.Common.{◌≡◌, ◌+◌, ◌-◌, ◌<◌, ℕ, zero, suc, List, [], ◌∷◌, ◌++◌, length, map, Some, refl, sym, ap, subst, ◌⊎◌, inl, inr, Bool, true, false, cond, arith}
+use Rattle.std.proofs.Common.{◌≡◌, ◌+◌, ◌-◌, ◌<◌, ℕ, zero, suc, List, [], ◌∷◌, ◌++◌, length, map, Some, refl, sym, ap, subst, ◌⊎◌, inl, inr, Bool, true, false, cond, eqb-true, arith}
 use Rattle.std.specs.Prelude.{slice_get, ◌==◌}
 use Rattle.cloud_trait.specs.declared.state.Posted.{Posted}
 use Rattle.cloud_trait.specs.State.{mark_at, marked}
@@ -111,3 +111,18 @@ marked_front ms id k m e = on (id == 0)
 
 pub in_behind : {X : Type 0} (xs ys : List X) (x : X) → IsIn ys x → IsIn (xs ++ ys) x
 in_behind xs ys x is = (length xs + is.0, get_behind xs ys is.0 x is.1)
+
+-- the message that is marked is deleted then
+mark_here : (ms : List Posted) (k : ℕ) (m : Posted) → slice_get ms k ≡ Some m → (n : Posted) × (slice_get (mark_at ms k) k ≡ Some n) × (n.deleted ≡ true)
+mark_here [] k m e = absurd (cc)
+mark_here (n ∷ ms) zero m e = (record { who = n.who; bytes = n.bytes; deleted = true }, refl, refl)
+mark_here (n ∷ ms) (suc k) m e = mark_here ms k m e
+
+pub marked_here : (ms : List Posted) (id k : ℕ) (m : Posted) → slice_get ms k ≡ Some m → id ≡ k + 1 → (n : Posted) × (slice_get (marked ms id) k ≡ Some n) × (n.deleted ≡ true)
+marked_here ms id k m e is = on (id == 0) refl
+  where
+    on : (b : Bool) → (id == 0) ≡ b → (n : Posted) × (slice_get (cond b ms (mark_at ms (id - 1))) k ≡ Some n) × (n.deleted ≡ true)
+    on true h = let none : id ≡ 0 = eqb-true id 0 h in absurd (omega (arith, none, is))
+    on false h =
+        let at : k ≡ id - 1 = omega (arith, is) in
+        subst (λ i. (n : Posted) × (slice_get (mark_at ms i) k ≡ Some n) × (n.deleted ≡ true)) at (mark_here ms k m e)

@@ -8,18 +8,18 @@ use Rattle.cloud_facts.specs.Landings.Holding.{Holds}
 use Rattle.cloud_facts.specs.Landings.Landing.{Landing, opens, settles, logs, posts, marks_log, marks_post, puts_leaf, puts_page, puts_inner, puts_root, raises_root, stays, sent_by}
 use Rattle.cloud_facts.proofs.Landings.LandingLemmas.{landing_grows}
 use Rattle.cloud_facts.specs.Lefts.Left.{IsWaiting}
-use Rattle.cloud_facts.proofs.Lefts.MessageLemmas.{waits_more, waits_marked}
+use Rattle.cloud_facts.proofs.Lefts.MessageLemmas.{waits_more, waits_marked, deleted_more, deleted_marked}
 use Rattle.log_codec.specs.declared.record.AtomicRec.{AtomicRec}
 use Rattle.cloud_facts.specs.Numbers.Numbers.{Numbers}
 use Rattle.route_plan.specs.Record.{pu_record_of}
 use Rattle.cloud_facts.specs.Book.Effects.{after_post_mark}
 use Rattle.cloud_facts.specs.Book.Growth.{Grows}
-use Rattle.cloud_facts.specs.Book.Messages.{Waits, IsMessage}
+use Rattle.cloud_facts.specs.Book.Messages.{Waits, IsMessage, IsDeleted}
 use Rattle.cloud_facts.specs.Book.Premises.{Opens, MarksPost}
 use Rattle.cloud_facts.specs.Book.Records.{IsIn, IsApplied}
 use Rattle.cloud_facts.specs.Book.Tally.{Store}
 use Rattle.cloud_facts.proofs.Book.GrowthLemmas.{applied_stays, grows_itself}
-use Rattle.cloud_facts.proofs.Book.Names.{at2_by}
+use Rattle.cloud_facts.proofs.Book.Names.{at_by, at2_by}
 use Rattle.cloud_facts.proofs.Book.Places.{in_either, in_none}
 use Rattle.cloud_facts.specs.Calls.Others.{WasSentOn, IsNewer, Passes, IsOfPart}
 use Rattle.cloud_facts.specs.Calls.Standing.{Commits}
@@ -57,6 +57,25 @@ waiting_stays who st ask su h (puts_inner tree page node pieces bytes one two is
 waiting_stays who st ask su h (puts_root tree t bytes one two is e covers lands) r logged w = inr w
 waiting_stays who st ask su h (raises_root tree t level links bytes one two is e covers lands) r logged w = inr w
 waiting_stays who st ask su h (stays asked puts touches) r logged w = inr w
+
+-- ---- what is deleted stays so
+
+deleted_stays : (who : Caller) (st : Store) (ask : Ask) (su : Store) → Landing who st ask su → (client id : ℕ) → IsDeleted (st.tally.logged client) id
+    → IsDeleted (su.tally.logged client) id
+deleted_stays who st ask su (opens client head records bytes one two e o) c i d = d
+deleted_stays who st ask su (settles client head bytes one two e o) c i d = d
+deleted_stays who st ask su (logs client bytes q o) c i d =
+    at_by (λ n ps. IsDeleted (st.tally.logged n) i → IsDeleted ps i) client _ st.tally.logged (deleted_more (st.tally.logged client) (sent_by who bytes ∷ []) i) (λ n is. is) c d
+deleted_stays who st ask su (posts tree page bytes q o) c i d = d
+deleted_stays who st ask su (marks_log client id o) c i d =
+    at_by (λ n ps. IsDeleted (st.tally.logged n) i → IsDeleted ps i) client _ st.tally.logged (deleted_marked (st.tally.logged client) id i) (λ n is. is) c d
+deleted_stays who st ask su (marks_post tree page id o) c i d = d
+deleted_stays who st ask su (puts_leaf p bytes one two e takes lands) c i d = d
+deleted_stays who st ask su (puts_page tree page node bytes one two is e first lands) c i d = d
+deleted_stays who st ask su (puts_inner tree page node pieces bytes one two is e lands) c i d = d
+deleted_stays who st ask su (puts_root tree t bytes one two is e covers lands) c i d = d
+deleted_stays who st ask su (raises_root tree t level links bytes one two is e covers lands) c i d = d
+deleted_stays who st ask su (stays asked puts touches) c i d = d
 
 -- ---- what joins the log
 
@@ -122,7 +141,12 @@ commits_join who st part ask su (stays asked puts touches) c r is = inl is
 -- ---- the whole
 
 pub landing_passes : (who : Caller) (st : Store) (ask : Ask) (su : Store) → Holds st → Landing who st ask su → Passes st su
-landing_passes who st ask su h l = record { grows = grows; sent_on = λ r logged sent. on r logged sent; joined = joins who st ask su l }
+landing_passes who st ask su h l = record {
+  grows = grows;
+  sent_on = λ r logged sent. on r logged sent;
+  deleted = deleted_stays who st ask su l;
+  joined = joins who st ask su l;
+}
   where
     grows : Grows st su
     grows = landing_grows who st ask su h l
@@ -133,4 +157,4 @@ landing_passes who st ask su h l = record { grows = grows; sent_on = λ r logged
 
 -- nothing changes
 pub passes_itself : (st : Store) → Passes st st
-passes_itself st = record { grows = grows_itself st; sent_on = λ r logged sent. sent; joined = λ r is. inl is }
+passes_itself st = record { grows = grows_itself st; sent_on = λ r logged sent. sent; deleted = λ client id is. is; joined = λ r is. inl is }

@@ -5,7 +5,7 @@ use Rattle.std.specs.Prelude.{slice_get}
 use Rattle.db_base.specs.Ids.{IsClient}
 use Rattle.cloud_trait.specs.State.{marked}
 use Rattle.cloud_trait.specs.declared.state.Posted.{Posted}
-use Rattle.cloud_facts.specs.Copies.Copies.{IsCopy, IsFirst, HasBefore, IsSentOn, WayBefore, Copies, SendsInTurn, PastIsSent}
+use Rattle.cloud_facts.specs.Copies.Copies.{IsCopy, IsFirst, HasBefore, IsSentOn, WayBefore, Copies, PastIsSent}
 use Rattle.cloud_facts.proofs.Copies.CopyLemmas.{copy_of_sent, copy_front, before_front, IsNew, new_cases, before_marked, copy_marked, copy_unmarked, sent_unmarked, sent_more, sent_marked}
 use Rattle.cloud_facts.proofs.Copies.Order.{Ordered, order_of_filter}
 use Rattle.log_codec.specs.Pu.{pu_of}
@@ -75,11 +75,10 @@ copy_of_record st tree page client number q is e copy =
     (subst (λ p. HasCopy (st.tally.posts tree p) (pu_record_of q)) is.page_is (subst (λ t. HasCopy (st.tally.posts t q.page) (pu_record_of q)) is.tree_is copy))
 
 -- the number before that of the record that is sent was sent
-number_before : (st : Store) (tree page : ℕ) (post : Posted) (r : AtomicRec) → Posts st tree page post r → SendsInTurn st r → PastIsSent st
-    → Numbers st → Copies st
+number_before : (st : Store) (tree page : ℕ) (post : Posted) (r : AtomicRec) → Posts st tree page post r → PastIsSent st → Numbers st → Copies st
     → (client number : ℕ) → 1 ≤ number → r.client ≡ client → r.number ≡ number + 1
     → HasBefore (st.tally.posts tree page) client number (length (st.tally.posts tree page))
-number_before st tree page post r posts turn past_is_sent numbers h client number some own e = on (way_or_past st.tally q.of) (way_or_past st.tally r)
+number_before st tree page post r posts past_is_sent numbers h client number some own e = on (way_or_past st.tally q.of) (way_or_past st.tally r)
   where
     of_r : IsOfQueue tree page client r
     of_r = record { client_is = own; tree_is = posts.tree_is; page_is = posts.page_is }
@@ -106,7 +105,7 @@ number_before st tree page post r posts turn past_is_sent numbers h client numbe
     on (inl way) (inr past) = again (past_is_sent r posts.logged past)
     on (inl way) (inl way_r) =
         copy_of_record st tree page client number q.of q.is q.number_is
-        (turn q.of (ways_order st numbers tree page client q.of r q.logged posts.logged q.is of_r less way way_r))
+        (posts.turn q.of (ways_order st numbers tree page client q.of r q.logged posts.logged q.is of_r less way way_r))
 
 -- what has a copy in a queue with one more had one before, or is the record that is sent
 sent_cases : (posts : List Posted) (post : Posted) (r : AtomicRec) (rec : PuRec) → pu_of post.bytes ≡ Some (pu_record_of r) → HasCopy (posts ++ post ∷ []) rec
@@ -126,10 +125,9 @@ record IsSentOne (tree page : ℕ) (r x : AtomicRec) : Type 0 where
   pub page_is : x.page ≡ page
   pub rec_is : pu_record_of x ≡ pu_record_of r
 
-pub posted_keeps : (st : Store) (tree page : ℕ) (post : Posted) (r : AtomicRec) → Posts st tree page post r → SendsInTurn st r → PastIsSent st
-    → Numbers st → Copies st
+pub posted_keeps : (st : Store) (tree page : ℕ) (post : Posted) (r : AtomicRec) → Posts st tree page post r → PastIsSent st → Numbers st → Copies st
     → Copies (after_posted tree page post st)
-posted_keeps st tree page post r posts turn past_is_sent numbers h = record {
+posted_keeps st tree page post r posts past_is_sent numbers h = record {
   in_turn = λ t p client number place some copy. in_turn client number place some t p copy;
   unmarked = λ t p client number place is above first. unmarked client number place is t p above first;
   ways = λ q x b copy. ways q x b (cases x copy);
@@ -158,7 +156,7 @@ posted_keeps st tree page post r posts turn past_is_sent numbers h = record {
             let number_is : r.number ≡ number + 1 = sym (ap (λ (p : PuRec). p.number) rec_is) ∙ c.number_is in
             before_front (st.tally.posts tree page) (post ∷ []) client number place
             (subst (λ k. HasBefore (st.tally.posts tree page) client number k) (sym new.place_is)
-            (number_before st tree page post r posts turn past_is_sent numbers h client number some own number_is))
+            (number_before st tree page post r posts past_is_sent numbers h client number some own number_is))
 
     unmarked : (client number place : ℕ) → IsClient client → (t p : ℕ) → st.tally.cursor t p client < number
         → (first : IsFirst ((after_posted tree page post st).tally.posts t p) client number place) → first.copy.message.deleted ≡ false
@@ -205,7 +203,7 @@ posted_keeps st tree page post r posts turn past_is_sent numbers h = record {
         let client_is : x.client ≡ r.client = ap (λ (p : PuRec). p.client) is.rec_is in
         let number_is : x.number ≡ r.number = ap (λ (p : PuRec). p.number) is.rec_is in
         let same : x ≡ r = record_is st numbers x r (b.j, b.other) posts.logged (is.tree_is ∙ sym posts.tree_is) (is.page_is ∙ sym posts.page_is) client_is number_is in
-        more q (turn q (subst (λ y. WayBefore st.tally.head st.book.log q y) same b))
+        more q (posts.turn q (subst (λ y. WayBefore st.tally.head st.book.log q y) same b))
 
 -- ---- a pending update message is marked: it is none above the cursor
 

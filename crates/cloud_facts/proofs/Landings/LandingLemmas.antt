@@ -9,6 +9,9 @@ use Rattle.cloud_facts.proofs.Chains.Grown.{after_leaf_grows, after_inner_grows,
 use Rattle.cloud_facts.proofs.Chains.Laws as chain
 use Rattle.cloud_facts.proofs.Chains.EmptyChains.{empty_chains}
 use Rattle.cloud_facts.specs.Chains.Landing.{Raises}
+use Rattle.cloud_facts.proofs.Copies.Heads as copy_heads
+use Rattle.cloud_facts.proofs.Copies.Queues as copy_queues
+use Rattle.cloud_facts.proofs.Copies.Stays as copies
 use Rattle.cloud_trait.specs.State.{CloudState, IsEmptyCloud}
 use Rattle.db_base.specs.Ids.{IsTree}
 use Rattle.node_codec.specs.Tree.{Tree}
@@ -108,6 +111,7 @@ landing_keeps who st ask su h (opens client head records bytes one two e o) = re
   order = order.after_open_keeps st client head records h.order h.numbers o;
   pends = pending_opens.opens_keeps st client head records o h.numbers h.pends;
   leaves = left_opens.opens_keeps st client head records o h.numbers h.leaves;
+  copies = copy_heads.opens_keeps st client head records o h.numbers h.copies;
   chains = chain.after_head_keeps st client head records h.chains;
 }
 landing_keeps who st ask su h (settles client head bytes one two e o) = record {
@@ -115,6 +119,7 @@ landing_keeps who st ask su h (settles client head bytes one two e o) = record {
   order = order.after_settle_keeps st client head h.order;
   pends = pending_settles.settles_keeps st client head o h.numbers h.pends;
   leaves = left_settles.settles_keeps st client head o h.leaves;
+  copies = copy_heads.settles_keeps st client head o h.copies;
   chains = chain.after_head_keeps st client head [] h.chains;
 }
 landing_keeps who st ask su h (logs client bytes r o) = record {
@@ -122,6 +127,7 @@ landing_keeps who st ask su h (logs client bytes r o) = record {
   order = order.after_logged_keeps st client _ h.order;
   pends = pending.logged_keeps st client _ h.pends;
   leaves = left_queues.logged_keeps st client _ r o h.leaves;
+  copies = copy_queues.logged_keeps st client _ h.copies;
   chains = chain.after_logged_keeps st client (sent_by who bytes) h.chains;
 }
 landing_keeps who st ask su h (posts tree page bytes r o) = record {
@@ -129,6 +135,7 @@ landing_keeps who st ask su h (posts tree page bytes r o) = record {
   order = order.after_posted_keeps st tree page _ h.order;
   pends = pending.posted_keeps st tree page _ h.pends;
   leaves = left_queues.posted_keeps st tree page _ h.leaves;
+  copies = copy_queues.posted_keeps st tree page _ r o (λ q logged past. h.leaves.copied q logged (inr past)) h.numbers h.copies;
   chains = chain.after_posted_keeps st tree page (sent_by who bytes) h.chains;
 }
 landing_keeps who st ask su h (marks_log client id o) = record {
@@ -136,6 +143,7 @@ landing_keeps who st ask su h (marks_log client id o) = record {
   order = order.after_log_mark_keeps st client id h.order;
   pends = pending.log_mark_keeps st client id h.pends;
   leaves = left_queues.log_mark_keeps st client id o h.leaves;
+  copies = copy_queues.log_mark_keeps st client id h.copies;
   chains = chain.after_log_mark_keeps st client id h.chains;
 }
 landing_keeps who st ask su h (marks_post tree page id o) = record {
@@ -143,6 +151,7 @@ landing_keeps who st ask su h (marks_post tree page id o) = record {
   order = order.after_post_mark_keeps st tree page id h.order;
   pends = pending.post_mark_keeps st tree page id h.pends;
   leaves = left_queues.post_mark_keeps st tree page id o h.numbers h.leaves;
+  copies = copy_queues.post_mark_keeps st tree page id o h.copies;
   chains = chain.after_post_mark_keeps st tree page id h.chains;
 }
 landing_keeps who st ask su h (puts_leaf p bytes one two e takes lands) = record {
@@ -150,6 +159,7 @@ landing_keeps who st ask su h (puts_leaf p bytes one two e takes lands) = record
   order = order.after_leaf_keeps st p h.order h.numbers (one_queue st h.pends) takes;
   pends = pending.leaf_keeps st p takes h.numbers h.pends;
   leaves = left.leaf_keeps st p takes h.numbers h.leaves;
+  copies = copies.leaf_keeps st p takes h.copies;
   chains = chain.after_leaf_keeps st p h.chains takes lands;
 }
 landing_keeps who st ask su h (puts_page tree page node bytes one two is e first lands) = record {
@@ -157,6 +167,7 @@ landing_keeps who st ask su h (puts_page tree page node bytes one two is e first
   order = order.after_page_keeps st tree page node (own_of page node) h.order;
   pends = pending.page_keeps st tree page node (own_of page node) h.pends;
   leaves = left.page_keeps st tree page node (own_of page node) h.leaves;
+  copies = copies.page_keeps st tree page node (own_of page node) first h.numbers h.copies;
   chains = chain.after_page_keeps st tree page node (own_of page node) h.chains first lands;
 }
 landing_keeps who st ask su h (puts_inner tree page node pieces bytes one two is e lands) = record {
@@ -164,6 +175,7 @@ landing_keeps who st ask su h (puts_inner tree page node pieces bytes one two is
   order = order.after_inner_keeps st tree page node pieces h.order;
   pends = pending.inner_keeps st tree page node pieces h.pends;
   leaves = left.inner_keeps st tree page node pieces h.leaves;
+  copies = copies.inner_keeps st tree page node pieces h.copies;
   chains = chain.after_inner_keeps st tree page node pieces h.chains lands;
 }
 landing_keeps who st ask su h (puts_root tree t bytes one two is e covers lands) = record {
@@ -171,6 +183,7 @@ landing_keeps who st ask su h (puts_root tree t bytes one two is e covers lands)
   order = order.after_root_keeps st tree t h.order;
   pends = pending.root_keeps st tree t h.pends;
   leaves = left.root_keeps st tree t h.leaves;
+  copies = copies.root_keeps st tree t covers h.copies;
   chains = chain.after_root_keeps st tree t h.chains covers lands;
 }
 landing_keeps who st ask su h (raises_root tree t level links bytes one two is e covers lands) = record {
@@ -178,6 +191,7 @@ landing_keeps who st ask su h (raises_root tree t level links bytes one two is e
   order = order.after_raise_keeps st tree t level links h.order;
   pends = pending.raise_keeps st tree t level links h.pends;
   leaves = left.raise_keeps st tree t level links h.leaves;
+  copies = copies.raise_keeps st tree t level links covers h.copies;
   chains = chain.after_raise_keeps st tree t level links h.chains covers lands;
 }
 landing_keeps who st ask su h (stays asked puts touches) = h
@@ -190,5 +204,6 @@ empty_holds s empty = record {
   order = order.empty_order s empty;
   pends = pending.empty_pends s empty;
   leaves = left.empty_leaves s empty;
+  copies = copies.empty_copies s empty;
   chains = empty_chains s empty;
 }

@@ -8,8 +8,8 @@ use Rattle.log_codec.specs.Atomic.{atomic_of}
 use Rattle.log_codec.specs.Pu.{pu_of}
 use Rattle.log_codec.specs.declared.record.AtomicRec.{AtomicRec}
 use Rattle.log_codec.specs.declared.record.PuRec.{PuRec}
-use Rattle.cloud_facts.specs.Book.Messages.{HasCopy, Waits, WaitsLogged, IsMessage, IsLogMessage}
-use Rattle.cloud_facts.proofs.Book.Places.{get_front, get_cases, get_single, marked_other, marked_bytes, marked_front}
+use Rattle.cloud_facts.specs.Book.Messages.{HasCopy, Waits, WaitsLogged, IsMessage, IsLogMessage, IsDeleted}
+use Rattle.cloud_facts.proofs.Book.Places.{get_front, get_cases, get_single, marked_other, marked_bytes, marked_front, marked_here}
 
 -- ---- more messages
 
@@ -91,3 +91,21 @@ pub log_message_marked : (posts : List Posted) (marks id : ℕ) (r : AtomicRec) 
 log_message_marked posts marks id r h =
     let n = marked_front posts marks h.place h.message h.there in
     record { place = h.place; message = n.0; id_is = h.id_is; there = n.1; reads = ap atomic_of n.2 ∙ h.reads }
+
+-- ---- a deleted message stays so
+
+pub deleted_more : (posts more : List Posted) (id : ℕ) → IsDeleted posts id → IsDeleted (posts ++ more) id
+deleted_more posts more id h =
+    record { place = h.place; message = h.message; id_is = h.id_is; there = get_front posts more h.place h.message h.there; marked = h.marked }
+
+pub deleted_marked : (posts : List Posted) (marks id : ℕ) → IsDeleted posts id → IsDeleted (marked posts marks) id
+deleted_marked posts marks id h = on (cases_eq marks (h.place + 1))
+  where
+    on : (marks ≡ h.place + 1) ⊎ (marks ≡ h.place + 1 → ⊥) → IsDeleted (marked posts marks) id
+    on (inl e) = let n = marked_here posts marks h.place h.message h.there e in record { place = h.place; message = n.0; id_is = h.id_is; there = n.1; marked = n.2 }
+    on (inr ne) = record { place = h.place; message = h.message; id_is = h.id_is; there = marked_other posts marks h.place h.message h.there ne; marked = h.marked }
+
+-- the one that is marked is deleted
+pub marked_deleted : (posts : List Posted) (id : ℕ) (r : AtomicRec) → IsLogMessage posts id r → IsDeleted (marked posts id) id
+marked_deleted posts id r m =
+    let n = marked_here posts id m.place m.message m.there m.id_is in record { place = m.place; message = n.0; id_is = m.id_is; there = n.1; marked = n.2 }

@@ -1,5 +1,5 @@
 -- The messages of the queues: which record a message is, and whether it is marked as deleted.
-use Rattle.std.specs.Prelude.{ℕ, ◌≡◌, ◌+◌, false, List, Some}
+use Rattle.std.specs.Prelude.{ℕ, ◌≡◌, ◌+◌, true, false, List, Some}
 use Rattle.cloud_trait.specs.declared.state.Posted.{Posted}
 use Rattle.log_codec.specs.Atomic.{atomic_of}
 use Rattle.log_codec.specs.Pu.{pu_of}
@@ -44,3 +44,11 @@ pub record IsLogMessage (logged : List Posted) (id : ℕ) (r : AtomicRec) : Type
   pub id_is : id ≡ place + 1
   pub there : StandsAt logged place message
   pub reads : atomic_of message.bytes ≡ Some r
+
+-- the message of this number is deleted
+pub record IsDeleted (posts : List Posted) (id : ℕ) : Type 0 where
+  pub place : ℕ
+  pub message : Posted
+  pub id_is : id ≡ place + 1
+  pub there : StandsAt posts place message
+  pub marked : message.deleted ≡ true

@@ -26,6 +26,7 @@ use Rattle.cloud_facts.specs.Book.Tally.{Tally, Store}
 use Rattle.cloud_facts.specs.Book.Records.{StandsAt, IsIn, key_in, count_of, IsApplied, is_open, IsUnderWay}
 use Rattle.cloud_facts.specs.Book.Messages.{HasCopy, Waits, WaitsLogged, IsMessage, IsLogMessage}
 use Rattle.cloud_facts.specs.Book.Effects.{Taking, done_after}
+use Rattle.cloud_facts.specs.Copies.Copies.{SendsInTurn}
 
 -- ---- routing
 
@@ -110,13 +111,14 @@ pub record Logs (st : Store) (client : ℕ) (post : Posted) (r : AtomicRec) : Ty
   pub first : (id : ℕ) (q : AtomicRec) → IsLogMessage (st.tally.logged client) id q → q.epoch ≡ r.epoch → q.txn ≡ r.txn → q.index ≡ r.index → ⊥
   pub uncommitted : (q : AtomicRec) → IsIn st.book.log q → q.client ≡ client → q.epoch ≡ r.epoch → q.txn ≡ r.txn → ⊥
 
--- a committed record is sent to its pending update queue
+-- a committed record is sent to its pending update queue, behind those under way of its client before it in the log
 pub record Posts (st : Store) (tree page : ℕ) (post : Posted) (r : AtomicRec) : Type 0 where
   pub logged : IsIn st.book.log r
   pub tree_is : r.tree ≡ tree
   pub page_is : r.page ≡ page
   pub reads : pu_of post.bytes ≡ Some (pu_record_of r)
   pub unmarked : post.deleted ≡ false
+  pub turn : SendsInTurn st r
 
 -- a pending update message is marked: its queue's cursor covers it
 pub record MarksPost (st : Store) (tree page id : ℕ) : Type 0 where

@@ -9,6 +9,7 @@ use Rattle.cloud_facts.specs.Homes.Homes.{Part, Away, AtHome, Opens}
 use Rattle.cloud_facts.specs.Lefts.Left.{IsWaiting}
 use Rattle.log_codec.specs.declared.record.AtomicRec.{AtomicRec}
 use Rattle.cloud_facts.specs.Book.Growth.{Grows}
+use Rattle.cloud_facts.specs.Book.Messages.{IsDeleted}
 use Rattle.cloud_facts.specs.Book.Records.{IsIn, IsApplied}
 use Rattle.cloud_facts.specs.Book.Tally.{Tally, Store}
 
@@ -20,10 +21,12 @@ WasSentOn t r = IsApplied t r ⊎ IsWaiting t r
 abbrev pub IsNewer : Head → AtomicRec → Type 0
 IsNewer head r = (r.epoch ≡ head.epoch) × (head.txn < r.txn)
 
--- what any call leaves: what is told only grows, what was sent on stays so, and what joins the log is newer than its client's head
+-- what any call leaves: what is told only grows, what was sent on stays so, as does an ATOMIC message that is deleted, and what joins the log is
+-- newer than its client's head
 pub record Passes (st su : Store) : Type 0 where
   pub grows : Grows st su
   pub sent_on : (r : AtomicRec) → IsIn st.book.log r → WasSentOn st.tally r → WasSentOn su.tally r
+  pub deleted : (client id : ℕ) → IsDeleted (st.tally.logged client) id → IsDeleted (su.tally.logged client) id
   pub joined : (r : AtomicRec) → IsIn su.book.log r → IsIn st.book.log r ⊎ IsNewer (st.tally.head r.client) r
 
 -- a record of a home

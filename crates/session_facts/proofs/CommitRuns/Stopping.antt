@@ -1,5 +1,5 @@
 -- Why a commit ends with nothing committed, or stays open: while its lease lasts its walks know their way, and no object is damaged.
-use Rattle.std.proofs.Common.{◌≡◌, ◌+◌, ℕ, Bool, true, false, cond, List, [], ◌∷◌, ◌++◌, length, Option, Some, None, Result, Ok, Err, refl, sym, ap, subst, ◌∙◌}
+use Rattle.std.proofs.Common.{◌≡◌, ◌+◌, ℕ, Bool, true, false, cond, List, [], ◌∷◌, ◌++◌, length, Option, Some, None, Result, Ok, Err, refl, sym, subst}
 use Rattle.std.specs.Prelude.{nat_lt, slice_get}
 use Rattle.std.specs.Option.{option_map}
 use Rattle.cloud_facts.specs.Calls.Call.{IsCall}
@@ -7,7 +7,6 @@ use Rattle.cloud_facts.specs.Calls.Standing.{StandsUnder}
 use Rattle.cloud_trait.specs.declared.answer.Answer.{Answer}
 use Rattle.cloud_trait.specs.declared.answer.Answer.TheVariants.{Got, Sent, Received, Done, Given, Held, Renewed, Late, Failed, Memory}
 use Rattle.cloud_trait.specs.Caller.{Caller}
-use Rattle.cloud_trait.specs.Claim.{Lasts}
 use Rattle.cloud_trait.specs.Machine.{Next, Goes, Ends, Stops}
 use Rattle.cloud_trait.specs.State.{CloudState}
 use Rattle.cloud_trait.specs.Views.{trouble_of, sent_of, done_of}
@@ -16,17 +15,18 @@ use Rattle.session_facts.proofs.Commits.Begins.{KnowsHeld}
 use Rattle.commit_run.specs.declared.hand.Hand.{Hand}
 use Rattle.commit_run.specs.declared.hand.Hand.TheVariants.{Writes, First, Change}
 use Rattle.commit_run.specs.Draft.{Draft, new_draft, pruned_by_root, pruned_by_kept, pruned_with, pruned_behind, planned, leaf_noted, paged}
-use Rattle.commit_run.specs.Run.{Run, new_run, home_of, target_of, next_target, asks, ask_at, wrote, refused, troubled, by_turn, begun_turn, walk_to, seek, plan_on, stale_at, is_stale, walk_stopped, walk_turned, walked, long_walk, pending_target, begin_walks, run_ready, next_at, run_next}
+use Rattle.commit_run.specs.Run.{Run, new_run, target_of, asks, ask_at, wrote, refused, troubled, by_turn, begun_turn, walk_to, seek, plan_on, stale_at, is_stale, walk_stopped, walk_turned, walked, long_walk, pending_target, begin_walks, run_ready, next_at, run_next}
 use Rattle.session_facts.specs.CommitRuns.Running.{KnowsSeeking, KnowsHand, KnowsRun}
-use Rattle.session_facts.specs.CommitRuns.Stopping.{MayStop, MayEnd}
+use Rattle.session_facts.specs.CommitRuns.Stopping.{MayStop, EndsBy}
 use Rattle.session_facts.proofs.CommitRuns.Steps.{Step}
 use Rattle.commit_writes.specs.declared.stage.Stage.{Stage}
 use Rattle.commit_writes.specs.declared.stage.Stage.TheVariants.{Waiting, Logging, Opening, Sending, Settling, Deleting, Finished}
-use Rattle.commit_writes.specs.Writing.{Writing, waiting, with_attempt, with_home, is_spent, routed_of, passes, not_committed, log_or_open, log_at, begun, routing, send_or_settle, send_at, delete_or_end, delete_at, logged_by, not_opened, opened_by, sent_by, settled_by, deleted_by, next_at as writes_at, writing_next}
+use Rattle.commit_writes.specs.Writing.{Writing, waiting, with_attempt, with_home, is_spent, routed_of, passes, not_committed, log_or_open, begun, routing, send_or_settle, send_at, delete_or_end, delete_at, logged_by, not_opened, opened_by, sent_by, settled_by, deleted_by, next_at as writes_at, writing_next}
 use Rattle.db_base.specs.Ids.{IsTree}
 use Rattle.db_base.specs.declared.names.ObjName.{ObjName}
 use Rattle.db_base.specs.declared.names.ObjName.TheVariants as object
 use Rattle.db_base.specs.declared.trouble.CommitAnswer.{CommitAnswer}
+use Rattle.db_base.specs.declared.trouble.Counter.{Counter}
 use Rattle.db_base.specs.declared.trouble.Counter.TheVariants as counter
 use Rattle.db_base.specs.declared.trouble.Trouble.{Trouble}
 use Rattle.db_base.specs.declared.trouble.Trouble.TheVariants as trouble
@@ -50,6 +50,229 @@ use Rattle.session_facts.specs.Walks.Walks.{WalkLeads, MayStop as MayStopWalk}
 use Rattle.session_facts.proofs.Walks.Beside.{LeavesKnown, turn_leaves}
 use Rattle.session_facts.proofs.Walks.Walks.{walk_begins, call_answers, walk_goes}
 
+-- ---- what may be answered
+
+-- what brings no value has a trouble that may come
+abbrev pub IsFair : {X : Type 0} → (Trouble → Type 0) → Result X Trouble → Type 0
+IsFair May (Ok x) = Unit {0}
+IsFair May (Err t) = May t
+
+-- a put that commits and was not late is in doubt: it failed
+abbrev pub MayDoubt : (Trouble → Type 0) → Trouble → Type 0
+MayDoubt May (trouble.Late end now) = May (trouble.Late end now)
+MayDoubt May t = May trouble.Failed
+
+abbrev pub IsOpeningFair : {X : Type 0} → (Trouble → Type 0) → Result X Trouble → Type 0
+IsOpeningFair May (Ok x) = Unit {0}
+IsOpeningFair May (Err t) = MayDoubt May t
+
+-- of the call in hand of each stage; a deletion may fail
+abbrev pub MayAnswerAt : (Trouble → Type 0) → Stage → Answer → Type 0
+MayAnswerAt May Waiting a = May trouble.Failed
+MayAnswerAt May Logging a = IsFair May (sent_of a)
+MayAnswerAt May Opening a = IsOpeningFair May (done_of a)
+MayAnswerAt May Sending a = IsFair May (sent_of a)
+MayAnswerAt May Settling a = IsFair May (done_of a)
+MayAnswerAt May Deleting a = May trouble.Memory
+MayAnswerAt May Finished a = May trouble.Failed
+
+-- and of a run: its walk leads where its get may
+abbrev pub MayAnswerIn : (Trouble → Type 0) → (Trouble → Type 0) → Store → Hand → Draft → Cache → Answer → Type 0
+MayAnswerIn May MayWalk st Writes d c a = MayAnswerAt May d.writes.stage a
+MayAnswerIn May MayWalk st (First w) d c a = WalkLeads st MayWalk (walk_next (w, c) a)
+MayAnswerIn May MayWalk st (Change w) d c a = WalkLeads st MayWalk (walk_next (w, c) a)
+
+-- ---- what is written
+
+abbrev WritesWell : (Trouble → Type 0) → Next Writing CommitAnswer → Type 0
+WritesWell May (Goes w) = Unit {0}
+WritesWell May (Ends w a) = EndsBy May a
+WritesWell May (Stops w t) = May t
+
+-- where a step leads
+abbrev pub EndsWell : (Trouble → Type 0) → Step → Type 0
+EndsWell May (Goes m) = Unit {0}
+EndsWell May (Ends m a) = EndsBy May a
+EndsWell May (Stops m t) = May t
+
+module _ (May : Trouble → Type 0) (spent : (what : Counter) → May (trouble.Exhausted what)) where
+  logs : (w : Writing) (o : Option AtomicRec) → WritesWell May (log_or_open w o)
+  logs w (Some r) = tt
+  logs w None = tt
+
+  logged : (w : Writing) (g : Result ℕ Trouble) → IsFair May g → WritesWell May (logged_by w g)
+  logged w (Ok id) may = logs (record w { ids = w.ids ++ id ∷ []; place = w.place + 1 }) (slice_get w.records (w.place + 1))
+  logged w (Err t) may = may
+
+  sends : (w : Writing) (n : ℕ) → WritesWell May (send_at w n)
+  sends w n = on (slice_get w.records n)
+    where
+      on : (o : Option AtomicRec) → WritesWell May (send_or_settle (record w { place = n }) o)
+      on (Some r) = tt
+      on None = tt
+
+  not_open : (w : Writing) (t : Trouble) → MayDoubt May t → WritesWell May (not_opened w t)
+  not_open w (trouble.Late end now) may = may
+  not_open w t may = may
+
+  opened : (w : Writing) (g : Result (Unit {0}) Trouble) → IsOpeningFair May g → WritesWell May (opened_by w g)
+  opened w (Ok x) may = sends w 0
+  opened w (Err t) may = not_open w t may
+
+  sent : (w : Writing) (g : Result ℕ Trouble) → IsFair May g → WritesWell May (sent_by w g)
+  sent w (Ok id) may = sends w (w.place + 1)
+  sent w (Err t) may = may
+
+  deletes : (w : Writing) (n : ℕ) → WritesWell May (delete_at w n)
+  deletes w n = on (slice_get w.ids n)
+    where
+      on : (o : Option ℕ) → WritesWell May (delete_or_end (record w { place = n }) o)
+      on (Some id) = tt
+      on None = tt
+
+  settled : (w : Writing) (g : Result (Unit {0}) Trouble) → IsFair May g → WritesWell May (settled_by w g)
+  settled w (Ok x) may = deletes w 0
+  settled w (Err t) may = may
+
+  deleted : (w : Writing) (g : Result (Unit {0}) Trouble) → May trouble.Memory → WritesWell May (deleted_by w g)
+  deleted w (Err trouble.Memory) may = may
+  deleted w done may = deletes w (w.place + 1)
+
+  writes : (w : Writing) (a : Answer) → MayAnswerAt May w.stage a → WritesWell May (writing_next w a)
+  writes w a may = on w.stage may
+    where
+      on : (stage : Stage) → MayAnswerAt May stage a → WritesWell May (writes_at stage w a)
+      on Waiting may = may
+      on Logging may = logged w (sent_of a) may
+      on Opening may = opened w (done_of a) may
+      on Sending may = sent w (sent_of a) may
+      on Settling may = settled w (done_of a) may
+      on Deleting may = deleted w (done_of a) may
+      on Finished may = may
+
+  routes : (w : Writing) (pages : List ℕ) → WritesWell May (routing w pages)
+  routes w pages = on (passes (routed_of w.home w.changes pages))
+    where
+      on : (b : Bool) → WritesWell May (cond b (not_committed w (trouble.Exhausted counter.Number)) (begun w (routed_of w.home w.changes pages)))
+      on true = spent counter.Number
+      on false = logs (record w { records = routed_of w.home w.changes pages; place = 0 }) (slice_get (routed_of w.home w.changes pages) 0)
+
+  -- ---- where a step leads
+
+  wrote_well : (d : Draft) (c : Cache) (n : Next Writing CommitAnswer) → WritesWell May n → EndsWell May (wrote d c n)
+  wrote_well d c (Goes w) may = tt
+  wrote_well d c (Ends w a) may = may
+  wrote_well d c (Stops w t) may = may
+
+  troubled_well : (d : Draft) (c : Cache) (t : Trouble) → May t → EndsWell May (troubled d c t)
+  troubled_well d c trouble.Memory may = may
+  troubled_well d c t may = may
+
+  -- ---- walks
+
+  -- a walk begins with a call
+  abbrev Begins : Next (Walk × Cache) ℕ → Type 0
+  Begins (Goes m) = Unit {0}
+  Begins (Ends m page) = Unit {0}
+  Begins (Stops m t) = ⊥
+
+  begun_well : (first : Bool) (d : Draft) (n : Next (Walk × Cache) ℕ) → Begins n → EndsWell May (by_turn (begun_turn first d) n)
+  begun_well first d (Goes m) may = tt
+  begun_well first d (Ends m page) may = tt
+  begun_well first d (Stops m t) may = troubled_well (pruned_behind d m.0 m.1) m.1 t (absurd may)
+
+  module _ (st : Store) (h : Holds st) where
+    begins : (tree : ℕ) (key : List ℕ) (fresh : Bool) (c : Cache) → IsTree tree → KnowsCache st c → Begins (walk_ready (new_walk tree (Some key) fresh, c))
+    begins tree key fresh c is cache = subst Begins (sym (walk_begins st h.chains tree (Some key) fresh c is cache).1) tt
+
+    walk_to_well : (first : Bool) (d : Draft) (c : Cache) (to : ℕ × List ℕ) → KnowsCache st c → IsTree to.0 → EndsWell May (walk_to first d c to)
+    walk_to_well first d c to cache tree = begun_well first d (walk_ready (new_walk to.0 (Some to.1) first, c)) (begins to.0 to.1 first c tree cache)
+
+    plan_on_well : (d : Draft) (c : Cache) → MayCommit d.writes.changes → KnowsCache st c → EndsWell May (plan_on d c)
+    plan_on_well d c may cache = on (slice_get d.writes.changes (length (planned d).plan.pages)) refl
+      where
+        on : (o : Option Noted) → slice_get d.writes.changes (length (planned d).plan.pages) ≡ o → EndsWell May (seek (planned d) c (option_map target_of o))
+        on (Some n) e = walk_to_well false (planned d) c (target_of n) cache (may.each n (length (planned d).plan.pages, e)).0
+        on None e = wrote_well (planned d) c (routing d.writes (planned d).plan.pages) (routes d.writes (planned d).plan.pages)
+
+    -- pruning leaves the changes
+    same_changes : (w : Writing) (c : Cache) (used : Option ObjName) → MayCommit w.changes → MayCommit (pruned_with w c used).changes
+    same_changes w c None may = may
+    same_changes w c (Some (object.Head client)) may = may
+    same_changes w c (Some (object.Tree tree)) may = on (root_at c (object.Tree tree))
+      where
+        on : (o : Option Tree) → MayCommit (pruned_by_root w tree o).changes
+        on (Some root) = may
+        on None = may
+    same_changes w c (Some (object.Page tree page)) may = on (leaf_at c (object.Page tree page))
+      where
+        on : (o : Option Leaf) → MayCommit (pruned_by_kept w tree o).changes
+        on (Some leaf) = may
+        on None = may
+
+    long_well : (d : Draft) (c : Cache) → MayCommit d.writes.changes → KnowsCache st c → (o : Option Pending) → ((e : Pending) → o ≡ Some e → IsTree e.tree)
+        → EndsWell May (long_walk d c (option_map pending_target o))
+    long_well d c may cache (Some e) tree = walk_to_well true d c (pending_target e) cache (tree e refl)
+    long_well d c may cache None tree = plan_on_well d c may cache
+
+    -- a turn of a walk, whose stale pages are passed over
+    module _ (MayWalk : Trouble → Type 0) (fair : (t : Trouble) → MayWalk t → is_stale t ≡ false → May t) where
+      stopped_well : (first : Bool) (d : Draft) (c : Cache) (t : Trouble) → MayCommit d.writes.changes → KnowsCache st c → MayWalk t → EndsWell May (walk_stopped first d c t)
+      stopped_well first d c t may cache stops = on (is_stale t) refl
+        where
+          passed_over : (b : Bool) → EndsWell May (stale_at b d c)
+          passed_over true = plan_on_well d c may cache
+          passed_over false = plan_on_well (paged d 1) c may cache
+
+          on : (b : Bool) → is_stale t ≡ b → EndsWell May (cond b (stale_at first d c) (troubled d c t))
+          on true e = passed_over first
+          on false e = troubled_well d c t (fair t stops e)
+
+      turned_well : (first : Bool) (d : Draft) (n : Next (Walk × Cache) ℕ) → MayCommit d.writes.changes → LeavesKnown st n → WalkLeads st MayWalk n
+          → EndsWell May (by_turn (walk_turned first d) n)
+      turned_well first d (Goes m) may cache leads = tt
+      turned_well first d (Ends m page) may cache leads =
+          plan_on_well (leaf_noted (pruned_behind d m.0 m.1) m.0 m.1 page) m.1 (same_changes d.writes m.1 m.0.used may) cache
+      turned_well first d (Stops m t) may cache leads =
+          stopped_well first (pruned_behind d m.0 m.1) m.1 t (same_changes d.writes m.1 m.0.used may) cache leads.1
+
+  -- ---- a call, by what it may have answered
+
+  module _ (book : Book) (order : List Entry) (s : CloudState) (stands : StandsUnder book order s) where
+    pub run_ends_by : (MayWalk : Trouble → Type 0) (fair : (t : Trouble) → MayWalk t → is_stale t ≡ false → May t) (who : Caller) (t : CloudState) (m : Run × Cache) (part : Part) (reply : Answer) → KnowsRun (store_of book order s) t.now m part
+        → IsCall who (asks m) reply s t → MayAnswerIn May MayWalk (store_of book order s) m.0.hand m.0.draft m.1 reply → EndsWell May (run_next m reply)
+    run_ends_by MayWalk fair who t m part reply k call may = on m.0.hand k.hand call may
+      where
+        walks : (first : Bool) (w : Walk) → KnowsSeeking (store_of book order s) t.now m.0.draft w part → IsCall who (ask_at (Change w) m.0.draft.writes) reply s t
+            → WalkLeads (store_of book order s) MayWalk (walk_next (w, m.1) reply) → EndsWell May (walked first m.0.draft w m.1 reply)
+        walks first w seeks call leads =
+            turned_well (store_of book order s) stands.holds MayWalk fair first m.0.draft (walk_next (w, m.1) reply) seeks.draft.may
+            (turn_leaves (store_of book order s) w m.1 reply k.cache (call_answers book order s stands who (object_of w) reply t call)) leads
+
+        on : (hand : Hand) → KnowsHand hand (store_of book order s) t.now m.0.draft part → IsCall who (ask_at hand m.0.draft.writes) reply s t
+            → MayAnswerIn May MayWalk (store_of book order s) hand m.0.draft m.1 reply → EndsWell May (next_at hand m.0.draft m.1 reply)
+        on Writes a call may = wrote_well m.0.draft m.1 (writing_next m.0.draft.writes reply) (writes m.0.draft.writes reply may)
+        on (First w) a call leads = walks true w a call leads
+        on (Change w) a call leads = walks false w a call leads
+
+    -- and one that is answered at once
+    module _ (now : ℕ) (part : Part) (home : Owner) (changes : List Noted) (c : Cache) (k : KnowsHeld (store_of book order s) now home part) (may : MayCommit changes)
+        (cache : KnowsCache (store_of book order s) c) where
+      abbrev numbered : Draft
+      numbered = new_draft (with_home (waiting home changes) (with_attempt home))
+
+      long : (b : Bool) → EndsWell May (long_walk numbered c (cond b (option_map pending_target (slice_get home.head.pending 0)) None))
+      long true = long_well (store_of book order s) stands.holds numbered c may cache (slice_get home.head.pending 0) (λ e is. k.trees e (0, is))
+      long false = plan_on_well (store_of book order s) stands.holds numbered c may cache
+
+      pub ready_ends_by : EndsWell May (run_ready (new_run home changes, c))
+      ready_ends_by = on (is_spent home)
+        where
+          on : (b : Bool) → EndsWell May (cond b (refused (new_draft (waiting home changes)) c (trouble.Exhausted counter.Txn))
+              (begin_walks (new_draft (cond b (waiting home changes) (with_home (waiting home changes) (with_attempt home)))) c))
+          on true = spent counter.Txn
+          on false = long (nat_lt 256 (length home.head.pending))
+
 -- ---- answers that bring no value
 
 refused_may : (a : Answer) → MayStop (trouble_of a)
@@ -64,18 +287,30 @@ refused_may (Late e n) = tt
 refused_may Failed = tt
 refused_may Memory = tt
 
--- it is no other trouble
-abbrev IsFair : {X : Type 0} → Result X Trouble → Type 0
-IsFair (Ok x) = Unit {0}
-IsFair (Err t) = MayStop t
-
-sent_fair : (a : Answer) → IsFair (sent_of a)
+sent_fair : (a : Answer) → IsFair MayStop (sent_of a)
 sent_fair (Sent id) = tt
 sent_fair a = refused_may a
 
-done_fair : (a : Answer) → IsFair (done_of a)
+done_fair : (a : Answer) → IsFair MayStop (done_of a)
 done_fair Done = tt
 done_fair a = refused_may a
+
+doubt_may : (t : Trouble) → MayDoubt MayStop t
+doubt_may (trouble.Late end now) = tt
+doubt_may t = tt
+
+opening_fair : (g : Result (Unit {0}) Trouble) → IsOpeningFair MayStop g
+opening_fair (Ok x) = tt
+opening_fair (Err t) = doubt_may t
+
+answers_may : (stage : Stage) (a : Answer) → MayAnswerAt MayStop stage a
+answers_may Waiting a = tt
+answers_may Logging a = sent_fair a
+answers_may Opening a = opening_fair (done_of a)
+answers_may Sending a = sent_fair a
+answers_may Settling a = done_fair a
+answers_may Deleting a = tt
+answers_may Finished a = tt
 
 -- a trouble of a walk that is not passed over
 walk_fair : (t : Trouble) → MayStopWalk t → is_stale t ≡ false → MayStop t
@@ -84,193 +319,21 @@ walk_fair trouble.Failed may stale = tt
 walk_fair trouble.Memory may stale = tt
 walk_fair t may stale = absurd may
 
--- ---- what is written
-
-abbrev WritesWell : Next Writing CommitAnswer → Type 0
-WritesWell (Goes w) = Unit {0}
-WritesWell (Ends w a) = MayEnd a
-WritesWell (Stops w t) = MayStop t
-
-logs : (w : Writing) (o : Option AtomicRec) → WritesWell (log_or_open w o)
-logs w (Some r) = tt
-logs w None = tt
-
-logged : (w : Writing) (g : Result ℕ Trouble) → IsFair g → WritesWell (logged_by w g)
-logged w (Ok id) may = logs (record w { ids = w.ids ++ id ∷ []; place = w.place + 1 }) (slice_get w.records (w.place + 1))
-logged w (Err t) may = may
-
-sends : (w : Writing) (n : ℕ) → WritesWell (send_at w n)
-sends w n = on (slice_get w.records n)
-  where
-    on : (o : Option AtomicRec) → WritesWell (send_or_settle (record w { place = n }) o)
-    on (Some r) = tt
-    on None = tt
-
-not_open : (w : Writing) (t : Trouble) → WritesWell (not_opened w t)
-not_open w (trouble.Late end now) = tt
-not_open w t = tt
-
-opened : (w : Writing) (g : Result (Unit {0}) Trouble) → WritesWell (opened_by w g)
-opened w (Ok x) = sends w 0
-opened w (Err t) = not_open w t
-
-sent : (w : Writing) (g : Result ℕ Trouble) → IsFair g → WritesWell (sent_by w g)
-sent w (Ok id) may = sends w (w.place + 1)
-sent w (Err t) may = may
-
-deletes : (w : Writing) (n : ℕ) → WritesWell (delete_at w n)
-deletes w n = on (slice_get w.ids n)
-  where
-    on : (o : Option ℕ) → WritesWell (delete_or_end (record w { place = n }) o)
-    on (Some id) = tt
-    on None = tt
-
-settled : (w : Writing) (g : Result (Unit {0}) Trouble) → IsFair g → WritesWell (settled_by w g)
-settled w (Ok x) may = deletes w 0
-settled w (Err t) may = may
-
-deleted : (w : Writing) (g : Result (Unit {0}) Trouble) → WritesWell (deleted_by w g)
-deleted w (Err trouble.Memory) = tt
-deleted w done = deletes w (w.place + 1)
-
-writes : (w : Writing) (a : Answer) → WritesWell (writing_next w a)
-writes w a = on w.stage
-  where
-    on : (stage : Stage) → WritesWell (writes_at stage w a)
-    on Waiting = tt
-    on Logging = logged w (sent_of a) (sent_fair a)
-    on Opening = opened w (done_of a)
-    on Sending = sent w (sent_of a) (sent_fair a)
-    on Settling = settled w (done_of a) (done_fair a)
-    on Deleting = deleted w (done_of a)
-    on Finished = tt
-
-routes : (w : Writing) (pages : List ℕ) → WritesWell (routing w pages)
-routes w pages = on (passes (routed_of w.home w.changes pages))
-  where
-    on : (b : Bool) → WritesWell (cond b (not_committed w (trouble.Exhausted counter.Number)) (begun w (routed_of w.home w.changes pages)))
-    on true = tt
-    on false = logs (record w { records = routed_of w.home w.changes pages; place = 0 }) (slice_get (routed_of w.home w.changes pages) 0)
-
--- ---- where a step leads
-
-abbrev pub EndsWell : Step → Type 0
-EndsWell (Goes m) = Unit {0}
-EndsWell (Ends m a) = MayEnd a
-EndsWell (Stops m t) = MayStop t
-
-wrote_well : (d : Draft) (c : Cache) (n : Next Writing CommitAnswer) → WritesWell n → EndsWell (wrote d c n)
-wrote_well d c (Goes w) may = tt
-wrote_well d c (Ends w a) may = may
-wrote_well d c (Stops w t) may = may
-
-troubled_well : (d : Draft) (c : Cache) (t : Trouble) → MayStop t → EndsWell (troubled d c t)
-troubled_well d c trouble.Memory may = tt
-troubled_well d c t may = may
-
--- ---- walks
-
--- a walk begins with a call
-abbrev Begins : Next (Walk × Cache) ℕ → Type 0
-Begins (Goes m) = Unit {0}
-Begins (Ends m page) = Unit {0}
-Begins (Stops m t) = ⊥
-
-begun_well : (first : Bool) (d : Draft) (n : Next (Walk × Cache) ℕ) → Begins n → EndsWell (by_turn (begun_turn first d) n)
-begun_well first d (Goes m) may = tt
-begun_well first d (Ends m page) may = tt
-begun_well first d (Stops m t) may = troubled_well (pruned_behind d m.0 m.1) m.1 t (absurd may)
-
-module _ (st : Store) (h : Holds st) where
-  begins : (tree : ℕ) (key : List ℕ) (fresh : Bool) (c : Cache) → IsTree tree → KnowsCache st c → Begins (walk_ready (new_walk tree (Some key) fresh, c))
-  begins tree key fresh c is cache = subst Begins (sym (walk_begins st h.chains tree (Some key) fresh c is cache).1) tt
-
-  walk_to_well : (first : Bool) (d : Draft) (c : Cache) (to : ℕ × List ℕ) → KnowsCache st c → IsTree to.0 → EndsWell (walk_to first d c to)
-  walk_to_well first d c to cache tree = begun_well first d (walk_ready (new_walk to.0 (Some to.1) first, c)) (begins to.0 to.1 first c tree cache)
-
-  plan_on_well : (d : Draft) (c : Cache) → MayCommit d.writes.changes → KnowsCache st c → EndsWell (plan_on d c)
-  plan_on_well d c may cache = on (slice_get d.writes.changes (length (planned d).plan.pages)) refl
-    where
-      on : (o : Option Noted) → slice_get d.writes.changes (length (planned d).plan.pages) ≡ o → EndsWell (seek (planned d) c (option_map target_of o))
-      on (Some n) e = walk_to_well false (planned d) c (target_of n) cache (may.each n (length (planned d).plan.pages, e)).0
-      on None e = wrote_well (planned d) c (routing d.writes (planned d).plan.pages) (routes d.writes (planned d).plan.pages)
-
-  -- pruning leaves the changes
-  same_changes : (w : Writing) (c : Cache) (used : Option ObjName) → MayCommit w.changes → MayCommit (pruned_with w c used).changes
-  same_changes w c None may = may
-  same_changes w c (Some (object.Head client)) may = may
-  same_changes w c (Some (object.Tree tree)) may = on (root_at c (object.Tree tree))
-    where
-      on : (o : Option Tree) → MayCommit (pruned_by_root w tree o).changes
-      on (Some root) = may
-      on None = may
-  same_changes w c (Some (object.Page tree page)) may = on (leaf_at c (object.Page tree page))
-    where
-      on : (o : Option Leaf) → MayCommit (pruned_by_kept w tree o).changes
-      on (Some leaf) = may
-      on None = may
-
-  stopped_well : (first : Bool) (d : Draft) (c : Cache) (t : Trouble) → MayCommit d.writes.changes → KnowsCache st c → MayStopWalk t → EndsWell (walk_stopped first d c t)
-  stopped_well first d c t may cache stops = on (is_stale t) refl
-    where
-      passed_over : (b : Bool) → EndsWell (stale_at b d c)
-      passed_over true = plan_on_well d c may cache
-      passed_over false = plan_on_well (paged d 1) c may cache
-
-      on : (b : Bool) → is_stale t ≡ b → EndsWell (cond b (stale_at first d c) (troubled d c t))
-      on true e = passed_over first
-      on false e = troubled_well d c t (walk_fair t stops e)
-
-  turned_well : (first : Bool) (d : Draft) (n : Next (Walk × Cache) ℕ) → MayCommit d.writes.changes → LeavesKnown st n → WalkLeads st MayStopWalk n
-      → EndsWell (by_turn (walk_turned first d) n)
-  turned_well first d (Goes m) may cache leads = tt
-  turned_well first d (Ends m page) may cache leads =
-      plan_on_well (leaf_noted (pruned_behind d m.0 m.1) m.0 m.1 page) m.1 (same_changes d.writes m.1 m.0.used may) cache
-  turned_well first d (Stops m t) may cache leads =
-      stopped_well first (pruned_behind d m.0 m.1) m.1 t (same_changes d.writes m.1 m.0.used may) cache leads.1
-
-  long_well : (d : Draft) (c : Cache) → MayCommit d.writes.changes → KnowsCache st c → (o : Option Pending) → ((e : Pending) → o ≡ Some e → IsTree e.tree)
-      → EndsWell (long_walk d c (option_map pending_target o))
-  long_well d c may cache (Some e) tree = walk_to_well true d c (pending_target e) cache (tree e refl)
-  long_well d c may cache None tree = plan_on_well d c may cache
-
 -- ---- the whole
 
 module _ (book : Book) (order : List Entry) (s : CloudState) (stands : StandsUnder book order s) where
-  abbrev st : Store
-  st = store_of book order s
-
   -- how a call of a commit ends
-  pub run_ends : (who : Caller) (t : CloudState) (m : Run × Cache) (part : Part) (reply : Answer) → KnowsRun st t.now m part → IsCall who (asks m) reply s t
-      → EndsWell (run_next m reply)
-  run_ends who t m part reply k call = on m.0.hand k.hand call
+  pub run_ends : (who : Caller) (t : CloudState) (m : Run × Cache) (part : Part) (reply : Answer) → KnowsRun (store_of book order s) t.now m part
+      → IsCall who (asks m) reply s t → EndsWell MayStop (run_next m reply)
+  run_ends who t m part reply k call =
+      run_ends_by MayStop (λ what. tt) book order s stands MayStopWalk walk_fair who t m part reply k call (on m.0.hand k.hand call)
     where
-      walks : (first : Bool) (w : Walk) → KnowsSeeking st t.now m.0.draft w part → IsCall who (ask_at (Change w) m.0.draft.writes) reply s t
-          → EndsWell (walked first m.0.draft w m.1 reply)
-      walks first w seeks call =
-          turned_well st stands.holds first m.0.draft (walk_next (w, m.1) reply) seeks.draft.may (turn_leaves st w m.1 reply k.cache (call_answers book order s stands who (object_of w) reply t call))
-          (walk_goes book order s stands who w m.1 reply t call (record { walk = seeks.walk; cache = k.cache }))
+      walks : (w : Walk) → KnowsSeeking (store_of book order s) t.now m.0.draft w part → IsCall who (ask_at (Change w) m.0.draft.writes) reply s t
+          → WalkLeads (store_of book order s) MayStopWalk (walk_next (w, m.1) reply)
+      walks w seeks call = walk_goes book order s stands who w m.1 reply t call (record { walk = seeks.walk; cache = k.cache })
 
-      on : (hand : Hand) → KnowsHand hand st t.now m.0.draft part → IsCall who (ask_at hand m.0.draft.writes) reply s t
-          → EndsWell (next_at hand m.0.draft m.1 reply)
-      on Writes a call =
-          wrote_well m.0.draft m.1 (writing_next m.0.draft.writes reply) (writes m.0.draft.writes reply)
-      on (First w) a call = walks true w a call
-      on (Change w) a call = walks false w a call
-
-  module _ (now : ℕ) (part : Part) (home : Owner) (changes : List Noted) (c : Cache) (k : KnowsHeld st now home part) (may : MayCommit changes) (cache : KnowsCache st c) where
-    abbrev numbered : Draft
-    numbered = new_draft (with_home (waiting home changes) (with_attempt home))
-
-    long : (b : Bool) → EndsWell (long_walk numbered c (cond b (option_map pending_target (slice_get home.head.pending 0)) None))
-    long true = long_well st stands.holds numbered c may cache (slice_get home.head.pending 0) (λ e is. k.trees e (0, is))
-    long false = plan_on_well st stands.holds numbered c may cache
-
-    -- and one that is answered at once
-    pub ready_ends : EndsWell (run_ready (new_run home changes, c))
-    ready_ends = on (is_spent home)
-      where
-        on : (b : Bool) → EndsWell (cond b (refused (new_draft (waiting home changes)) c (trouble.Exhausted counter.Txn))
-            (begin_walks (new_draft (cond b (waiting home changes) (with_home (waiting home changes) (with_attempt home)))) c))
-        on true = tt
-        on false = long (nat_lt 256 (length home.head.pending))
+      on : (hand : Hand) → KnowsHand hand (store_of book order s) t.now m.0.draft part → IsCall who (ask_at hand m.0.draft.writes) reply s t
+          → MayAnswerIn MayStop MayStopWalk (store_of book order s) hand m.0.draft m.1 reply
+      on Writes a call = answers_may m.0.draft.writes.stage reply
+      on (First w) a call = walks w a call
+      on (Change w) a call = walks w a call

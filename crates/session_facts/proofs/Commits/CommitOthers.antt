@@ -112,6 +112,7 @@ module _ (st su : Store) (now later : ℕ) (x : Attempt) (after : now ≤ later)
     epoch_is = k.epoch_is;
     txn_is = k.txn_is;
     logged = λ r is. (stays r (k.logged r is).0, (k.logged r is).1);
+    indexed = k.indexed;
     newest = λ lasts. still lasts ∙ k.newest (earlier lasts);
     all = λ r is of. k.all r (none r is of) of;
   }

@@ -126,6 +126,7 @@ module _ (who : Caller) (book : Book) (order : List Entry) (s t : CloudState) (p
         in_behind book.log recs r (subst (λ rs. IsIn rs r) records_are there),
         (record_of st t.now (attempt_of w) w.changes w.records a.base a.routes there.0 r there.1).is,
       );
+      indexed = λ place r there. (record_of st t.now (attempt_of w) w.changes w.records a.base a.routes place r there).index_is;
       newest = λ still. at_same client w.home.head st.tally.head client refl;
       all = λ r there of. all r of (in_either book.log recs r there);
     }

@@ -13,7 +13,7 @@ use Rattle.cloud_trait.specs.Ask.{Ask, Send, Lands}
 use Rattle.cloud_trait.specs.Caller.{Caller}
 use Rattle.cloud_trait.specs.State.{CloudState, called}
 use Rattle.cloud_trait.specs.Views.{sent_of}
-use Rattle.session_facts.specs.Commits.Committing.{attempt_of, SendsNext, AreSentOn, KnowsNext}
+use Rattle.session_facts.specs.Commits.Committing.{attempt_of, IsOfAttempt, SendsNext, AreSentOn, KnowsNext}
 use Rattle.session_facts.specs.Commits.Noting.{noted_at}
 use Rattle.session_facts.proofs.Commits.Attempts.{messages_stay}
 use Rattle.session_facts.proofs.Commits.CommitOthers.{sent_others, opened_others}
@@ -22,7 +22,12 @@ use Rattle.session_facts.proofs.Commits.Ready.{Ready, homes}
 use Rattle.session_facts.proofs.Commits.Settled.{queue_is, posts_record, posted_waits, posted_copied}
 use Rattle.commit_writes.specs.declared.stage.Stage.TheVariants.{Sending}
 use Rattle.commit_writes.specs.Writing.{Writing, next_at}
+use Rattle.cloud_facts.specs.Copies.Copies.{IsSentOn, SendsInTurn}
+use Rattle.cloud_facts.proofs.Copies.Turns.{sends_in_turn}
+use Rattle.cloud_facts.proofs.Numbers.Ways.{way_epoch, way_txn}
 use Rattle.cloud_facts.specs.Homes.Homes.{Home, Part, Parts}
+use Rattle.db_base.specs.Ids.{IsClient}
+use Rattle.head_codec.specs.declared.head.Head.{Head}
 use Rattle.cloud_facts.proofs.Homes.HomeLemmas.{aside_keeps}
 use Rattle.cloud_facts.specs.Landings.Landing.{Landing, sent_by}
 use Rattle.cloud_facts.specs.Landings.Landing as landing
@@ -34,7 +39,7 @@ use Rattle.route_plan.specs.Queue.{queue_name}
 use Rattle.route_plan.specs.Record.{pu_record_of}
 use Rattle.cloud_facts.specs.Book.Book.{Book}
 use Rattle.cloud_facts.specs.Book.Effects.{after_posted}
-use Rattle.cloud_facts.specs.Book.Records.{IsIn}
+use Rattle.cloud_facts.specs.Book.Records.{IsIn, IsUnderWay}
 use Rattle.cloud_facts.specs.Book.Tally.{Store, at}
 use Rattle.cloud_facts.specs.Book.Telling.{queue_of}
 use Rattle.cloud_facts.proofs.Book.GrowthLemmas.{posted_grows}
@@ -61,8 +66,36 @@ module _ (who : Caller) (book : Book) (order : List Entry) (s t : CloudState) (p
   abbrev su : Store
   su = after_posted r.tree r.page (sent_by who w.out) st
 
+  -- those before it in the transaction were sent on
+  turn : SendsInTurn st r
+  turn = sends_in_turn st r ((ready.setting).cloud).holds.leaves (subst IsClient (sym of_r.client_is) (ready.stands).client) known
+    where
+      of_r : IsOfAttempt (attempt_of w) r
+      of_r = ((a.has).logged r (w.place, there)).1
+
+      known : IsUnderWay st.tally r → (q : AtomicRec) → IsIn book.log q → q.client ≡ r.client → IsUnderWay st.tally q → q.index < r.index → IsSentOn st.tally q
+      known way q logged own way_q less = (a.sent in_q.0 q before in_q.1).1
+        where
+          same : st.tally.head q.client ≡ st.tally.head r.client
+          same = ap st.tally.head own
+
+          of_q : IsOfAttempt (attempt_of w) q
+          of_q = record {
+            client_is = own ∙ of_r.client_is;
+            epoch_is =
+                way_epoch (st.tally.head q.client) q way_q
+                ∙ (ap (λ (h : Head). h.epoch) same ∙ (sym (way_epoch (st.tally.head r.client) r way) ∙ of_r.epoch_is));
+            txn_is = way_txn (st.tally.head q.client) q way_q ∙ (ap (λ (h : Head). h.txn) same ∙ (sym (way_txn (st.tally.head r.client) r way) ∙ of_r.txn_is));
+          }
+
+          in_q : IsIn w.records q
+          in_q = (a.has).all q logged of_q
+
+          before : in_q.0 < w.place
+          before = let one = (a.has).indexed in_q.0 q in_q.1 in let other = (a.has).indexed w.place r there in omega (arith, one, other, less)
+
   abbrev lands_there : Landing who st send su
-  lands_there = landing.posts r.tree r.page w.out r (posts_record st who r w.out (is_logged r (w.place, there)) reads)
+  lands_there = landing.posts r.tree r.page w.out r (posts_record st who r w.out (is_logged r (w.place, there)) reads turn)
 
   passes : Passes st su
   passes = landing_passes who st send su ((ready.setting).cloud).holds lands_there

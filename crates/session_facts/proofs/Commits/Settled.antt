@@ -3,6 +3,7 @@ use Rattle.std.proofs.Common.{◌≡◌, ◌+◌, ◌⊎◌, inl, inr, ℕ, zero
 use Rattle.std.specs.Prelude.{◌==◌, cond}
 use Rattle.std.proofs.lemmas.Bool.{and_from, eq-eqb, ne_eqb}
 use Rattle.cloud_facts.specs.Calls.Others.{WasSentOn}
+use Rattle.cloud_facts.specs.Copies.Copies.{SendsInTurn}
 use Rattle.cloud_trait.specs.Caller.{Caller}
 use Rattle.cloud_trait.specs.Claim.{Lasts}
 use Rattle.cloud_trait.specs.declared.state.Posted.{Posted}
@@ -102,8 +103,9 @@ pub queue_is : (tree page : ℕ) → queue_name tree page ≡ queue_of tree page
 queue_is tree zero = ap (λ b. cond b (TreePu tree) (PagePu tree 0)) (eq-eqb 0 0 refl)
 queue_is tree (suc page) = ap (λ b. cond b (TreePu tree) (PagePu tree (suc page))) (ne_eqb (suc page) 0 (λ e. absurd (omega (arith, e))))
 
-pub posts_record : (st : Store) (who : Caller) (r : AtomicRec) (bytes : List ℕ) → IsIn st.book.log r → pu_of bytes ≡ Some (pu_record_of r) → Posts st r.tree r.page (sent_by who bytes) r
-posts_record st who r bytes logged reads = record { logged = logged; tree_is = refl; page_is = refl; reads = reads; unmarked = refl }
+pub posts_record : (st : Store) (who : Caller) (r : AtomicRec) (bytes : List ℕ) → IsIn st.book.log r → pu_of bytes ≡ Some (pu_record_of r) → SendsInTurn st r
+    → Posts st r.tree r.page (sent_by who bytes) r
+posts_record st who r bytes logged reads turn = record { logged = logged; tree_is = refl; page_is = refl; reads = reads; unmarked = refl; turn = turn }
 
 pub at2_same : {V : Type 0} (a b : ℕ) (v : V) (f : ℕ → ℕ → V) → at2 a b v f a b ≡ v
 at2_same a b v f = ap (λ t. cond t v (f a b)) (and_from (a == a) (b == b) (eq-eqb a a refl) (eq-eqb b b refl))

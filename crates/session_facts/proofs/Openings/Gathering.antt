@@ -15,10 +15,11 @@ use Rattle.db_base.specs.declared.trouble.Trouble.{Trouble}
 use Rattle.db_base.specs.declared.trouble.Trouble.TheVariants as trouble
 use Rattle.cloud_facts.specs.Homes.Homes.{Part, Parts, HomesHold}
 use Rattle.cloud_facts.specs.Lefts.Left.{IsCopied, AreLogged}
-use Rattle.session_facts.specs.Openings.Opening.{IsWanted, IsMessageThat, HasRead, MayStop, KnowsGathering, KnowsSending}
+use Rattle.session_facts.specs.Openings.Opening.{IsWanted, IsMessageThat, HasRead, MayStop, KnowsGathering, KnowsSifted, KnowsLost, KnowsSending}
 use Rattle.session_facts.proofs.Openings.Kept.{kept_with_all}
 use Rattle.session_facts.proofs.Openings.Leading.{Leads, away_from, stops_lead}
 use Rattle.session_facts.proofs.Openings.Messages.{IsSent, items_sent, sent_wanted, that_ids}
+use Rattle.session_facts.proofs.Openings.Sifting.{received_sifted, stale_none}
 use Rattle.recover_run.specs.declared.items.AtomicItem.{AtomicItem}
 use Rattle.recover_run.specs.declared.stage.Stage.TheVariants.{Receiving}
 use Rattle.recover_run.specs.Calls.{HoldsItem, Brought}
@@ -106,11 +107,11 @@ module _ (session : ℕ) (parts : Parts) (u : Store) (now : ℕ) (part : Part) (
 
   -- ---- decisions
 
-  decided_leads : (r : Recovery) → IsClient r.client → KnowsGathering u r part → Leads session parts u now (decided r)
-  decided_leads r is k = on (length r.gathered.kept == r.wanted.count) refl
+  decided_leads : (r : Recovery) → IsClient r.client → KnowsGathering u r part → KnowsSifted u r [] → Leads session parts u now (decided r)
+  decided_leads r is k sifted = on (length r.gathered.kept == r.wanted.count) refl
     where
       fewer : (b : Bool) → Leads session parts u now (cond b (goes_to Receiving r) (stopping r (trouble.Waiting (length r.gathered.kept) r.wanted.count)))
-      fewer true = record { part = part; homes = homes; knows = record { client = is; at = k } }
+      fewer true = record { part = part; homes = homes; knows = record { client = is; at = (k, sifted) } }
       fewer false = stops r _ tt is k.read
 
       on : (b : Bool) → (length r.gathered.kept == r.wanted.count) ≡ b
@@ -123,23 +124,31 @@ module _ (session : ℕ) (parts : Parts) (u : Store) (now : ℕ) (part : Part) (
       })
       on false e = fewer r.gathered.fresh
 
-  deleting_leads : (r : Recovery) → IsClient r.client → (ids : List ℕ) → KnowsGathering u r part → AllByRecursion (IsMessageThat u r.client (is_lost r.wanted)) ids
-      → Leads session parts u now (deleting r ids)
-  deleting_leads r is [] k all = decided_leads (record r { ids = [] }) is k
-  deleting_leads r is (id ∷ ids) k all = record { part = part; homes = homes; knows = record { client = is; at = (k, all) } }
+  deleting_leads : (r : Recovery) → IsClient r.client → (ids : List ℕ) → KnowsGathering u r part → KnowsSifted u r ids
+      → AllByRecursion (IsMessageThat u r.client (is_lost r.wanted)) ids → (r.gathered.fresh ≡ false → ids ≡ []) → Leads session parts u now (deleting r ids)
+  deleting_leads r is [] k sifted all stale = decided_leads (record r { ids = [] }) is k sifted
+  deleting_leads r is (id ∷ ids) k sifted all stale = record { part = part; homes = homes; knows = record { client = is; at = (k, sifted, (all, new r.gathered.fresh refl)) } }
+    where
+      new : (b : Bool) → r.gathered.fresh ≡ b → r.gathered.fresh ≡ true
+      new true e = e
+      new false e = let none : id ∷ ids ≡ [] = stale e in absurd (cc)
 
   -- a lost record was deleted
-  pub deleted_leads : {A : Type 0} → (r : Recovery) → IsClient r.client → KnowsGathering u r part → AllByRecursion (IsMessageThat u r.client (is_lost r.wanted)) r.ids → (g : Result A Trouble)
-      → ((t : Trouble) → g ≡ Err t → MayStop t) → Leads session parts u now (deleted_by r g)
-  deleted_leads r is k all (Ok a) refused = deleting_leads r is (rest_of r.ids) k (rest_all _ r.ids all)
-  deleted_leads r is k all (Err t) refused = stops r t (refused t refl) is k.read
+  pub deleted_leads : {A : Type 0} → (r : Recovery) → IsClient r.client → KnowsGathering u r part → KnowsLost u r → (g : Result A Trouble)
+      → ((a : A) → g ≡ Ok a → KnowsSifted u r (rest_of r.ids)) → ((t : Trouble) → g ≡ Err t → MayStop t) → Leads session parts u now (deleted_by r g)
+  deleted_leads r is k lost (Ok a) sifted refused =
+      deleting_leads r is (rest_of r.ids) k (sifted a refl) (rest_all _ r.ids lost.0) (λ stale. absurd (clash r.gathered.fresh lost.1 stale))
+    where
+      clash : (b : Bool) → b ≡ true → b ≡ false → ⊥
+      clash b e f = cc
+  deleted_leads r is k lost (Err t) sifted refused = stops r t (refused t refl) is k.read
 
   -- ---- a receive
 
-  gathered_leads : (r : Recovery) → IsClient r.client → AreLogged u r.client → KnowsGathering u r part → (ms : List Message) → AllByRecursion (WasSent (u.tally.logged r.client)) ms
-      → AllRead ms → (o : Result (List AtomicItem) Message) → items_of ms ≡ o → Leads session parts u now (gathered_by r o)
-  gathered_leads r is logged k ms was read (Err m) e = absurd (read m e)
-  gathered_leads r is logged k ms was read (Ok items) e =
+  gathered_leads : (r : Recovery) → IsClient r.client → AreLogged u r.client → KnowsGathering u r part → KnowsSifted u r [] → (ms : List Message)
+      → AllByRecursion (WasSent (u.tally.logged r.client)) ms → AllRead ms → (o : Result (List AtomicItem) Message) → items_of ms ≡ o → Leads session parts u now (gathered_by r o)
+  gathered_leads r is logged k sifted ms was read (Err m) e = absurd (read m e)
+  gathered_leads r is logged k sifted ms was read (Ok items) e =
       deleting_leads (record r { gathered = gathered_with r.wanted r.gathered items }) is (lost_now r.wanted r.gathered items)
       (record {
         read = record {
@@ -153,7 +162,9 @@ module _ (session : ℕ) (parts : Parts) (u : Store) (now : ℕ) (part : Part) (
         };
         head_is = k.head_is;
       })
+      (received_sifted u r.client r.wanted r.gathered items sent sifted)
       (all_new (IsMessageThat u r.client (is_lost r.wanted)) r.gathered.lost (lost_ids r.wanted items) (that_ids u r.client (is_lost r.wanted) items sent))
+      (stale_none u r.client r.wanted r.gathered items sent sifted)
     where
       sent : AllByRecursion (IsSent (u.tally.logged r.client)) items
       sent = items_sent (u.tally.logged r.client) ms items was e
@@ -163,8 +174,8 @@ module _ (session : ℕ) (parts : Parts) (u : Store) (now : ℕ) (part : Part) (
           all_so (IsSent (u.tally.logged r.client)) (λ (x : AtomicItem). is_counted r.wanted x.rec ≡ true → IsWanted u r.client r.wanted x)
           (λ x m. sent_wanted u r.client r.wanted x logged k.read.committed m) items sent
 
-  pub received_leads : (r : Recovery) → IsClient r.client → AreLogged u r.client → KnowsGathering u r part → (g : Result (List Message) Trouble)
+  pub received_leads : (r : Recovery) → IsClient r.client → AreLogged u r.client → KnowsGathering u r part → KnowsSifted u r [] → (g : Result (List Message) Trouble)
       → ((ms : List Message) → g ≡ Ok ms → AllByRecursion (WasSent (u.tally.logged r.client)) ms × AllRead ms) → ((t : Trouble) → g ≡ Err t → MayStop t)
       → Leads session parts u now (received_by r g)
-  received_leads r is logged k (Ok ms) was refused = let w = was ms refl in gathered_leads r is logged k ms w.0 w.1 (items_of ms) refl
-  received_leads r is logged k (Err t) was refused = stops r t (refused t refl) is k.read
+  received_leads r is logged k sifted (Ok ms) was refused = let w = was ms refl in gathered_leads r is logged k sifted ms w.0 w.1 (items_of ms) refl
+  received_leads r is logged k sifted (Err t) was refused = stops r t (refused t refl) is k.read

@@ -23,30 +23,34 @@ use Rattle.db_base.specs.declared.names.QueueName.TheVariants as queue
 use Rattle.db_base.specs.declared.trouble.Trouble.{Trouble}
 use Rattle.head_codec.specs.Spelling.{head_of}
 use Rattle.head_codec.specs.declared.head.Head.{Head}
+use Rattle.cloud_facts.specs.Copies.Copies.{SendsInTurn}
 use Rattle.cloud_facts.specs.Homes.Homes.{Home, Part, Parts, AtHome, PartHolds, HomesHold, HomeHolds, OpeningHolds, IsSpared}
 use Rattle.cloud_facts.proofs.Homes.HomeLemmas.{keeps_part, opened_keeps, marked_keeps, aside_keeps, spared_read, spared_early}
 use Rattle.cloud_facts.specs.Landings.Landing.{Landing, settles, posts, marks_log, sent_by}
 use Rattle.cloud_facts.specs.Lefts.Left.{IsCopied}
+use Rattle.cloud_facts.proofs.Lefts.MessageLemmas.{marked_deleted}
 use Rattle.log_codec.specs.Pu.{pu_of}
 use Rattle.log_codec.specs.declared.record.AtomicRec.{AtomicRec}
-use Rattle.session_facts.specs.Openings.Opening.{leases_of_recovery, IsWanted, IsMessageThat, MayStop, KnowsGathering, KnowsSending, KnowsPut, KnowsNext, opening_with}
+use Rattle.session_facts.specs.Openings.Opening.{leases_of_recovery, IsWanted, IsMessageThat, MayStop, KnowsGathering, KnowsSifted, KnowsLost, KnowsSending, KnowsPut, KnowsNext, opening_with}
 use Rattle.session_facts.proofs.Openings.Clears.{kept_leads, cleared_leads}
 use Rattle.session_facts.proofs.Openings.Gathering.{sent_leads, deleted_leads}
 use Rattle.session_facts.proofs.Openings.Kept.{each_in, wanted_ids}
 use Rattle.session_facts.proofs.Openings.Leading.{Leads, away_from, stops_lead}
 use Rattle.session_facts.proofs.Openings.Marks.{past_low, marks_past, lost_low, marks_lost}
 use Rattle.session_facts.proofs.Openings.Refusing.{done_may, sent_may}
-use Rattle.session_facts.proofs.Openings.Others.{lease_in_hand, gathers_passes, sends_pass, messages_pass, put_passes}
-use Rattle.session_facts.proofs.Openings.Sends.{posts_record, posted_sent, settles_read}
+use Rattle.session_facts.proofs.Openings.Others.{lease_in_hand, gathers_passes, sifted_passes, sends_pass, messages_pass, put_passes}
+use Rattle.session_facts.proofs.Openings.Sifting.{deleted_sifted}
+use Rattle.session_facts.proofs.Openings.Sends.{posts_record, posted_sent, sent_in_turn, settles_read}
 use Rattle.recover_run.specs.declared.items.AtomicItem.{AtomicItem}
 use Rattle.recover_run.specs.declared.wanted.Wanted.{Wanted}
 use Rattle.recover_run.specs.Gathering.{is_lost, is_past}
+use Rattle.recover_run.specs.Ids.{rest_of}
 use Rattle.recover_run.specs.Recovery.{Recovery, Step, deleted_by, cleared, sent_by as sent_next, put_by}
 use Rattle.report_types.specs.declared.entry.Entry.{Entry}
 use Rattle.route_plan.specs.Record.{pu_record_of}
 use Rattle.cloud_facts.specs.Book.Book.{Book}
 use Rattle.cloud_facts.specs.Book.Effects.{after_head, after_log_mark, after_posted}
-use Rattle.cloud_facts.specs.Book.Messages.{IsLogMessage}
+use Rattle.cloud_facts.specs.Book.Messages.{IsLogMessage, IsDeleted}
 use Rattle.cloud_facts.specs.Book.Premises.{MarksLog, Settles}
 use Rattle.session_facts.proofs.Openings.Entries.{settled_trees}
 use Rattle.cloud_facts.specs.Book.Records.{IsIn}
@@ -72,12 +76,13 @@ module _ (who : Caller) (book : Book) (order : List Entry) (s t : CloudState) (p
 
   -- ---- deletions
 
-  module _ (id : ℕ) (call : IsCall who (Delete (queue.Atomic r.client) id) reply s t) (marks : MarksLog st r.client id) (spared : IsSpared st.tally t.now parts r.client id) where
+  module _ (id : ℕ) (call : IsCall who (Delete (queue.Atomic r.client) id) reply s t) (of : AtomicRec) (message : IsLogMessage (st.tally.logged r.client) id of)
+      (marks : MarksLog st r.client id) (spared : IsSpared st.tally t.now parts r.client id) where
     abbrev marked_store : Store
     marked_store = after_log_mark r.client id st
 
-    deletes : (step : Step) → ((u : Store) → Passes st u → u.tally.head ≡ st.tally.head → HomesHold u.tally t.now (at who.session part parts) → Leads who.session parts u t.now step)
-        → Leaves (Delete (queue.Atomic r.client) id) step
+    deletes : (step : Step) → ((u : Store) → Passes st u → u.tally.head ≡ st.tally.head → (done_of reply ≡ Ok tt → IsDeleted (u.tally.logged r.client) id)
+        → HomesHold u.tally t.now (at who.session part parts) → Leads who.session parts u t.now step) → Leaves (Delete (queue.Atomic r.client) id) step
     deletes step leads = on (delete_cases who (queue.Atomic r.client) id reply s t call)
       where
         landing : Landing who st (Delete (queue.Atomic r.client) id) marked_store
@@ -91,23 +96,28 @@ module _ (who : Caller) (book : Book) (order : List Entry) (s t : CloudState) (p
             other_landed who book order s t parts (leases_of_recovery r) (Delete (queue.Atomic r.client) id) (λ a. a) (KnowsNext step) marked_store lands setting.cloud (marks_log r.client id marks) tt tt tt l.part l.homes l.knows (λ look new. refl) refl
 
         on : ((t ≡ called who t.now s) × (done_of reply ≡ Ok tt → ⊥)) ⊎ Lands who (Delete (queue.Atomic r.client) id) (called who t.now s) t → Leaves (Delete (queue.Atomic r.client) id) step
-        on (inl p) = stayed p.0 (leads st (passes_itself st) refl here)
+        on (inl p) = stayed p.0 (leads st (passes_itself st) refl (λ done. absurd (p.1 done)) here)
         on (inr lands) =
             landed lands
             (leads marked_store (landing_passes who st (Delete (queue.Atomic r.client) id) marked_store setting.cloud.holds landing) refl
+            (λ done. subst (λ ps. IsDeleted ps id) (sym (at_same r.client _ st.tally.logged r.client refl)) (marked_deleted (st.tally.logged r.client) id of message))
             (keeps_part marked_store.tally t.now parts who.session part mine (marked_keeps st t.now parts r.client id spared setting.homes)))
 
   -- of a lost record
   pub lost_deleted : (id : ℕ) (ids : List ℕ) → r.ids ≡ id ∷ ids → IsCall who (Delete (queue.Atomic r.client) id) reply s t → KnowsGathering st r part
-      → AllByRecursion (IsMessageThat st r.client (is_lost r.wanted)) r.ids → Leaves (Delete (queue.Atomic r.client) id) (deleted_by r (done_of reply))
-  lost_deleted id ids ids_are call k all =
-      deletes id call (marks_lost st r.client r.wanted k.read.before id k.read.wanted_is holds.later that) spared (deleted_by r (done_of reply))
-      (λ u passes heads homes.
+      → KnowsSifted st r r.ids → KnowsLost st r → Leaves (Delete (queue.Atomic r.client) id) (deleted_by r (done_of reply))
+  lost_deleted id ids ids_are call k sifted lost =
+      deletes id call that.of that.message (marks_lost st r.client r.wanted k.read.before id k.read.wanted_is holds.later that) spared (deleted_by r (done_of reply))
+      (λ u passes heads gone homes.
       deleted_leads who.session parts u t.now part homes r is (gathers_passes st u r.client passes r.former r.lease r.wanted r.head r.gathered.kept part k)
-      (messages_pass st u r.client passes (is_lost r.wanted) r.ids all) (done_of reply) (done_may reply))
+      (messages_pass st u r.client passes (is_lost r.wanted) r.ids lost.0, lost.1) (done_of reply)
+      (λ a done. subst (λ l. KnowsSifted u r (rest_of l)) (sym ids_are) (
+        deleted_sifted u r.client r.wanted id ids r.gathered (subst (KnowsSifted u r) ids_are (sifted_passes st u r.client passes r.wanted r.ids r.gathered sifted)) (gone done)
+      ))
+      (done_may reply))
     where
       that : IsMessageThat st r.client (is_lost r.wanted) id
-      that = (subst (AllByRecursion (IsMessageThat st r.client (is_lost r.wanted))) ids_are all).0
+      that = (subst (AllByRecursion (IsMessageThat st r.client (is_lost r.wanted))) ids_are lost.0).0
 
       holds : OpeningHolds st.tally t.now (opening_with r.client k.read.before k.read.held.now)
       holds = subst (λ (p : Part). PartHolds st.tally t.now p) k.read.part_is part_holds
@@ -122,8 +132,8 @@ module _ (who : Caller) (book : Book) (order : List Entry) (s t : CloudState) (p
   pub past_deleted : (id : ℕ) (ids : List ℕ) → r.ids ≡ id ∷ ids → IsCall who (Delete (queue.Atomic r.client) id) reply s t → KnowsPut st t.now r part
       → AllByRecursion (IsMessageThat st r.client (is_past r.wanted)) r.ids → Leaves (Delete (queue.Atomic r.client) id) (cleared r)
   past_deleted id ids ids_are call k all =
-      deletes id call (marks_past st r.client r.wanted id later that) spared (cleared r)
-      (λ u passes heads homes.
+      deletes id call that.of that.message (marks_past st r.client r.wanted id later that) spared (cleared r)
+      (λ u passes heads gone homes.
       cleared_leads who.session parts u t.now part homes r is
       (put_passes st u t.now t.now r.client r.former r.lease r.wanted r.head part (omega arith) passes.grows (λ l e lock_is lasts. ap (λ (f : ℕ → Head). f r.client) heads) k)
       (messages_pass st u r.client passes (is_past r.wanted) r.ids all))
@@ -162,8 +172,15 @@ module _ (who : Caller) (book : Book) (order : List Entry) (s t : CloudState) (p
     logged : IsIn book.log x.rec
     logged = (each_in (IsWanted st r.client r.wanted) r.gathered.kept k.read.kept_are x (r.sent, there)).logged
 
+    opening : OpeningHolds st.tally t.now (opening_with r.client k.read.before k.read.held.now)
+    opening = subst (λ (p : Part). PartHolds st.tally t.now p) k.read.part_is part_holds
+
+    turn : SendsInTurn st x.rec
+    turn =
+        sent_in_turn st r.client r.former r.lease r.wanted r.head r.gathered.kept part r.sent setting.cloud.holds.leaves is k opening.later x there
+
     abbrev sending : Landing who st send sent_store
-    sending = posts x.rec.tree x.rec.page r.out x.rec (posts_record st who x.rec r.out logged reads)
+    sending = posts x.rec.tree x.rec.page r.out x.rec (posts_record st who x.rec r.out logged reads turn)
 
     sends : (u : Store) → Passes st u → HomesHold u.tally t.now (at who.session part parts) → ((id : ℕ) → sent_of reply ≡ Ok id → WasSentOn u.tally x.rec × IsCopied u.tally x.rec)
         → Leads who.session parts u t.now (sent_next r (sent_of reply))

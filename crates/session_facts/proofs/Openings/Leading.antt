@@ -21,14 +21,16 @@ use Rattle.cloud_facts.proofs.Lefts.Ways.{of_ways}
 use Rattle.log_codec.specs.declared.record.AtomicRec.{AtomicRec}
 use Rattle.cloud_facts.proofs.Numbers.Lists.{filter_there}
 use Rattle.cloud_facts.proofs.Numbers.Ways.{is_way, way_epoch, way_txn}
-use Rattle.session_facts.specs.Openings.Opening.{HasFormer, HasLease, IsCommitted, IsWanted, HasRead, opening_with, MayStop, EndsWell, KnowsNext}
+use Rattle.session_facts.specs.Openings.Opening.{HasFormer, HasLease, IsCommitted, IsWanted, HasRead, HasSifted, opening_with, MayStop, EndsWell, KnowsNext}
 use Rattle.session_facts.proofs.Openings.Sends.{there_at}
 use Rattle.recover_run.specs.declared.items.AtomicItem.{AtomicItem}
 use Rattle.recover_run.specs.declared.stage.Aim.{Aim}
 use Rattle.recover_run.specs.declared.stage.Aim.TheVariants.{Opening, Settling}
 use Rattle.recover_run.specs.declared.stage.RecoverAnswer.{RecoverAnswer}
 use Rattle.recover_run.specs.declared.stage.Stage.TheVariants.{Finished}
-use Rattle.recover_run.specs.Gathering.{count_of, wanted_of}
+use Rattle.recover_run.specs.declared.wanted.Wanted.{Wanted}
+use Rattle.recover_run.specs.Gathering.{Gathered, nothing_gathered, count_of, wanted_of}
+use Rattle.recover_run.specs.Ids.{has_id}
 use Rattle.recover_run.specs.Meaning.{head_behind}
 use Rattle.recover_run.specs.Recovery.{Recovery, Step, releasing, old_released, taken_by, ended, behind, phase_read, head_read, bytes_read, none_read, got_by}
 use Rattle.recover_run.proofs.Keeping.{pending_none}
@@ -80,10 +82,10 @@ module _ (session : ℕ) (parts : Parts) (u : Store) (now : ℕ) (away : HomesHo
   pub stops_lead : (ending : Result RecoverAnswer Trouble) → EndsWell ending → HasLease r.client r.former r.lease → Leads session parts u now (releasing r ending)
   stops_lead ending may held = record { part = Away; homes = away; knows = record { client = is; at = (held, refl, may) } }
 
-  pub old_leads : HasFormer r.former r.lease → r.gathered.kept ≡ [] → Leads session parts u now (old_released r)
+  pub old_leads : HasFormer r.former r.lease → r.gathered ≡ nothing_gathered → Leads session parts u now (old_released r)
   old_leads former new = record { part = Away; homes = away; knows = record { client = is; at = (refl, former.none, (new, refl)) } }
 
-  pub taken_leads : (g : Result Claim Trouble) → ((l : Claim) → g ≡ Ok l → l.lock ≡ lock.Client r.client) → r.former ≡ None → r.gathered.kept ≡ []
+  pub taken_leads : (g : Result Claim Trouble) → ((l : Claim) → g ≡ Ok l → l.lock ≡ lock.Client r.client) → r.former ≡ None → r.gathered ≡ nothing_gathered
       → Leads session parts u now (taken_by r g)
   taken_leads (Ok l) its none new =
       record { part = Away; homes = away; knows = record { client = is; at = (record { now = l; is = refl; lock = its l refl; none = none }, (new, refl)) } }
@@ -96,7 +98,17 @@ module _ (session : ℕ) (parts : Parts) (u : Store) (now : ℕ) (away : HomesHo
 
   -- ---- the head
 
-  module _ (held : HasLease r.client r.former r.lease) (new : r.gathered.kept ≡ []) (leaves : Leaves u) (homes : HomesHold u.tally now parts) where
+  module _ (held : HasLease r.client r.former r.lease) (nothing : r.gathered ≡ nothing_gathered) (leaves : Leaves u) (homes : HomesHold u.tally now parts) where
+    new : r.gathered.kept ≡ []
+    new = ap (λ (g : Gathered). g.kept) nothing
+
+    -- nothing was received
+    sifted : (w : Wanted) → HasSifted u r.client w [] r.gathered
+    sifted w = subst (HasSifted u r.client w []) (sym nothing) (record { seen = λ id has. absurd (none_has id has); deleted = λ id has. absurd (none_has id has) })
+      where
+        none_has : (id : ℕ) → has_id [] id ≡ true → ⊥
+        none_has id has = cc
+
     abbrev read_with : (h : Head) → u.tally.head r.client ≡ h → HasRead u r.client r.former r.lease (wanted_of h) r.gathered.kept (Opens (opening_with r.client h held.now))
     read_with h newest = record {
       held = record { now = held.now; is = held.is; lock = held.lock; none = held.none };
@@ -128,7 +140,7 @@ module _ (session : ℕ) (parts : Parts) (u : Store) (now : ℕ) (away : HomesHo
     phase_leads h (Open count) e newest alone = record {
       part = Opens (opening_with r.client h held.now);
       homes = opens h newest alone;
-      knows = record { client = is; at = record { read = read_with h newest; head_is = refl } };
+      knows = record { client = is; at = (record { read = read_with h newest; head_is = refl }, sifted (wanted_of h)) };
     }
 
     head_leads : (h : Head) → u.tally.head r.client ≡ h → IsAlone now parts session r.client → Leads session parts u now (head_read r h)

@@ -65,6 +65,9 @@ sent_at posts m was = on m.id refl was
         at false None h g = absurd (cc)
         at false (Some p) h g = (suc place - 1, p, omega (arith, e), h, cc)
 
+pub sent_message : (posts : List Posted) (m : Message) (r : AtomicRec) → WasSent posts m → atomic_of m.bytes ≡ Some r → IsLogMessage posts m.id r
+sent_message posts m r was e = let at = sent_at posts m was in record { place = at.0; message = at.1; id_is = at.2; there = at.3; reads = ap atomic_of at.4 ∙ e }
+
 -- the items of messages are their records
 pub items_sent : (posts : List Posted) (ms : List Message) (items : List AtomicItem) → AllByRecursion (WasSent posts) ms → items_of ms ≡ Ok items → AllByRecursion (IsSent posts) items
 items_sent posts [] items was e = let same : [] ≡ items = cc in subst (AllByRecursion (IsSent posts)) same tt
@@ -74,10 +77,8 @@ items_sent posts (m ∷ ms) items was e = on (λ rest q. items_sent posts ms res
         → items_of ms ≡ g → with_first m o g ≡ Ok items → AllByRecursion (IsSent posts) items
     on again None g p q h = absurd (cc)
     on again (Some rec) (Ok rest) p q h =
-        let at = sent_at posts m was.0 in
         let is : item_with m.id rec ∷ rest ≡ items = cc in
-        subst (AllByRecursion (IsSent posts)) is
-        (record { place = at.0; message = at.1; id_is = at.2; there = at.3; reads = ap atomic_of at.4 ∙ p }, again rest q)
+        subst (AllByRecursion (IsSent posts)) is (sent_message posts m rec was.0 p, again rest q)
     on again (Some rec) (Err bad) p q h = absurd (cc)
 
 -- an index is from 1 on

@@ -1,5 +1,5 @@
 -- What an opening knows survives the calls of others.
-use Rattle.std.proofs.Common.{◌≡◌, ◌≤◌, ℕ, List, ◌++◌, Bool, Option, Some, sym, ap, subst, ◌∙◌, arith}
+use Rattle.std.proofs.Common.{◌≡◌, ◌≤◌, ◌⊎◌, inl, inr, ℕ, List, [], ◌++◌, Bool, true, Option, Some, sym, ap, subst, ◌∙◌, arith}
 use Rattle.std.specs.List.{AllByRecursion}
 use Rattle.cloud_facts.specs.Calls.Acting.{KnowsHome, HasLeaseOf, of_option}
 use Rattle.cloud_facts.specs.Calls.Others.{Others, Passes, WasSentOn}
@@ -12,16 +12,19 @@ use Rattle.cloud_facts.specs.Homes.Homes.{Part, Away}
 use Rattle.cloud_facts.specs.Lefts.Left.{IsCopied}
 use Rattle.log_codec.specs.declared.record.AtomicRec.{AtomicRec}
 use Rattle.session_facts.specs.Openings.Client.{KnowsClient}
-use Rattle.session_facts.specs.Openings.Opening.{leases_of_recovery, IsCommitted, IsWanted, IsMessageThat, HasRead, Gathers, SendsOn, HasPut, KnowsOpeningAt, KnowsOpening}
+use Rattle.session_facts.specs.Openings.Opening.{leases_of_recovery, IsCommitted, IsWanted, IsMessageThat, HasRead, Gathers, SendsOn, HasSifted, HasPut, KnowsOpeningAt, KnowsOpening}
 use Rattle.session_facts.proofs.Openings.Kept.{each_in}
 use Rattle.session_facts.proofs.Openings.Messages.{log_message_stays}
 use Rattle.recover_run.specs.declared.items.AtomicItem.{AtomicItem}
 use Rattle.recover_run.specs.declared.stage.Stage.{Stage}
 use Rattle.recover_run.specs.declared.stage.Stage.TheVariants.{ReleasingOld, Taking, Getting, Receiving, Deleting, Sending, Putting, Clearing, Sweeping, Releasing, Finished}
 use Rattle.recover_run.specs.declared.wanted.Wanted.{Wanted}
+use Rattle.recover_run.specs.Gathering.{Gathered}
+use Rattle.recover_run.specs.Ids.{has_id}
 use Rattle.recover_run.specs.Recovery.{Recovery}
 use Rattle.recover_run.proofs.Keeping.{all_so}
 use Rattle.cloud_facts.specs.Book.Growth.{Grows}
+use Rattle.cloud_facts.specs.Book.Messages.{IsDeleted}
 use Rattle.cloud_facts.specs.Book.Records.{IsIn}
 use Rattle.cloud_facts.specs.Book.Tally.{Store}
 use Rattle.cloud_facts.proofs.Book.Places.{in_front, in_behind}
@@ -74,6 +77,20 @@ module _ (st su : Store) (client : ℕ) (passes : Passes st su) where
   pub gathers_passes : (former lease : Option Claim) (w : Wanted) (head : Head) (kept : List AtomicItem) (part : Part) → Gathers st client former lease w head kept part
       → Gathers su client former lease w head kept part
   gathers_passes former lease w head kept part g = record { read = read_passes former lease w kept part g.read; head_is = g.head_is }
+
+  pub sifted_passes : (w : Wanted) (ids : List ℕ) (g : Gathered) → HasSifted st client w ids g → HasSifted su client w ids g
+  sifted_passes w ids g h = record {
+    seen = λ id has. let s = h.seen id has in record {
+      of = s.of;
+      message = log_message_stays (st.tally.logged client) (su.tally.logged client) id s.of (passes.grows.logged client) s.message;
+      noted = s.noted;
+    };
+    deleted = λ id has. still id (h.deleted id has);
+  }
+    where
+      still : (id : ℕ) → (has_id ids id ≡ true) ⊎ IsDeleted (st.tally.logged client) id → (has_id ids id ≡ true) ⊎ IsDeleted (su.tally.logged client) id
+      still id (inl has) = inl has
+      still id (inr gone) = inr (passes.deleted client id gone)
 
   pub sends_pass : (former lease : Option Claim) (w : Wanted) (head : Head) (kept : List AtomicItem) (part : Part) (sent : ℕ) → SendsOn st client former lease w head kept part sent
       → SendsOn su client former lease w head kept part sent
@@ -135,8 +152,15 @@ opening_others st su now later r part after o k = record { client = k.client; at
     on ReleasingOld a = a
     on Taking a = a
     on Getting a = a
-    on Receiving a = gathers_passes st su r.client o.passes r.former r.lease r.wanted r.head r.gathered.kept part a
-    on Deleting a = (gathers_passes st su r.client o.passes r.former r.lease r.wanted r.head r.gathered.kept part a.0, messages_pass st su r.client o.passes _ r.ids a.1)
+    on Receiving a = (
+      gathers_passes st su r.client o.passes r.former r.lease r.wanted r.head r.gathered.kept part a.0,
+      sifted_passes st su r.client o.passes r.wanted [] r.gathered a.1,
+    )
+    on Deleting a = (
+      gathers_passes st su r.client o.passes r.former r.lease r.wanted r.head r.gathered.kept part a.0,
+      sifted_passes st su r.client o.passes r.wanted r.ids r.gathered a.1,
+      (messages_pass st su r.client o.passes _ r.ids a.2.0, a.2.1),
+    )
     on Sending a = sends_pass st su r.client o.passes r.former r.lease r.wanted r.head r.gathered.kept part r.sent a
     on Putting a = sends_pass st su r.client o.passes r.former r.lease r.wanted r.head r.gathered.kept part _ a
     on Clearing a = (put_passes st su now later r.client r.former r.lease r.wanted r.head part after o.passes.grows same a.0, messages_pass st su r.client o.passes _ r.ids a.1)
@@ -167,7 +191,7 @@ opening_lease st now r part k = on r.stage k.at
     on ReleasingOld a = away a.1.1
     on Taking a = away a.2.1
     on Getting a = away a.1.1
-    on Receiving a = read a.read
+    on Receiving a = read a.0.read
     on Deleting a = read a.0.read
     on Sending a = read a.read
     on Putting a = read a.read

@@ -26,7 +26,7 @@ use Rattle.db_base.specs.declared.names.QueueName.{QueueName}
 use Rattle.db_base.specs.declared.names.QueueName.TheVariants as queue
 use Rattle.cloud_facts.specs.Homes.Homes.{Part, Parts, Away, IsAlone, HomesHold}
 use Rattle.cloud_facts.proofs.Homes.HomeLemmas.{keeps_part, away_keeps}
-use Rattle.session_facts.specs.Openings.Opening.{leases_of_recovery, HasFormer, HasLease, IsMessageThat, KnowsGathering, KnowsSending, KnowsPut, KnowsOpeningAt, KnowsOpening, KnowsNext}
+use Rattle.session_facts.specs.Openings.Opening.{leases_of_recovery, HasFormer, HasLease, IsMessageThat, KnowsGathering, KnowsSifted, KnowsLost, KnowsSending, KnowsPut, KnowsOpeningAt, KnowsOpening, KnowsNext}
 use Rattle.session_facts.proofs.Openings.Clears.{swept_leads}
 use Rattle.session_facts.proofs.Openings.Gathering.{AllRead, received_leads}
 use Rattle.session_facts.proofs.Openings.Landings.{lost_deleted, past_deleted, record_sent, head_put}
@@ -37,7 +37,7 @@ use Rattle.session_facts.proofs.Openings.Sends.{queue_is}
 use Rattle.recover_run.specs.declared.items.AtomicItem.{AtomicItem}
 use Rattle.recover_run.specs.declared.stage.Stage.{Stage}
 use Rattle.recover_run.specs.declared.stage.Stage.TheVariants.{ReleasingOld, Taking, Getting, Receiving, Deleting, Sending, Putting, Clearing, Sweeping, Releasing, Finished}
-use Rattle.recover_run.specs.Gathering.{is_lost, is_past}
+use Rattle.recover_run.specs.Gathering.{nothing_gathered, is_past}
 use Rattle.recover_run.specs.Recovery.{Recovery, recovery_ask, ask_at, under, delete_next, send_next, recovery_next, next_at, SendsRecord, IsSoundAt, IsSound}
 use Rattle.report_types.specs.declared.entry.Entry.{Entry}
 use Rattle.cloud_facts.specs.Book.Book.{Book}
@@ -102,18 +102,18 @@ module _ (who : Caller) (book : Book) (order : List Entry) (s t : CloudState) (p
 
   -- ---- without a part
 
-  at_old : r.stage ≡ ReleasingOld → HasFormer r.former r.lease → r.gathered.kept ≡ [] → Out
+  at_old : r.stage ≡ ReleasingOld → HasFormer r.former r.lease → r.gathered ≡ nothing_gathered → Out
   at_old e f new =
       quiet_at ReleasingOld e (Release f.old) (under_lease ReleasingOld e r.former f.old Release refl f.is) tt tt
       (old_leads who.session parts st t.now away r is f new)
 
-  at_taking : r.stage ≡ Taking → r.former ≡ None → r.gathered.kept ≡ [] → Out
+  at_taking : r.stage ≡ Taking → r.former ≡ None → r.gathered ≡ nothing_gathered → Out
   at_taking e none new =
       quiet_at Taking e (Take (lock.Client r.client) 600) (asks Taking e) tt tt
       (taken_leads who.session parts st t.now away r is (given_of (lock.Client r.client) reply)
       (given_lock (lock.Client r.client) reply (subst (λ (a : Ask). Fits a reply) (asks Taking e) fits)) none new)
 
-  at_getting : r.stage ≡ Getting → HasLease r.client r.former r.lease → r.gathered.kept ≡ [] → Out
+  at_getting : r.stage ≡ Getting → HasLease r.client r.former r.lease → r.gathered ≡ nothing_gathered → Out
   at_getting e held new =
       quiet_at Getting e get asked tt tt (got_leads who.session parts st t.now away r is held new setting.cloud.holds.leaves setting.homes (got_of reply) seen (got_may reply))
     where
@@ -146,10 +146,10 @@ module _ (who : Caller) (book : Book) (order : List Entry) (s t : CloudState) (p
       let was = received_sent who (queue.Atomic r.client) reply s t (call_at (Receive (queue.Atomic r.client) 256) (asks stage e ∙ receives)) ms got in
       (was, all_read s r.client setting.cloud.decodes ms was)
 
-  at_receiving : r.stage ≡ Receiving → KnowsGathering st r part → Out
-  at_receiving e k =
+  at_receiving : r.stage ≡ Receiving → KnowsGathering st r part → KnowsSifted st r [] → Out
+  at_receiving e k sifted =
       quiet_at Receiving e (Receive (queue.Atomic r.client) 256) (asks Receiving e) tt tt
-      (received_leads who.session parts st t.now part here r is (setting.cloud.holds.leaves.logged r.client is) k (received_of reply) (sent_there Receiving e refl) (received_may reply))
+      (received_leads who.session parts st t.now part here r is (setting.cloud.holds.leaves.logged r.client is) k sifted (received_of reply) (sent_there Receiving e refl) (received_may reply))
 
   at_sweeping : r.stage ≡ Sweeping → KnowsPut st t.now r part → Out
   at_sweeping e k =
@@ -158,15 +158,15 @@ module _ (who : Caller) (book : Book) (order : List Entry) (s t : CloudState) (p
 
   -- ---- deletions
 
-  at_deleting : r.stage ≡ Deleting → KnowsGathering st r part → AllByRecursion (IsMessageThat st r.client (is_lost r.wanted)) r.ids → 1 ≤ length r.ids → Out
-  at_deleting e k all some = on r.ids refl
+  at_deleting : r.stage ≡ Deleting → KnowsGathering st r part → KnowsSifted st r r.ids → KnowsLost st r → 1 ≤ length r.ids → Out
+  at_deleting e k sifted lost some = on r.ids refl
     where
       on : (ids : List ℕ) → r.ids ≡ ids → Out
       on [] ids_are = let none : length r.ids ≡ 0 = ap (λ (ids : List ℕ). length ids) ids_are in absurd (omega (arith, some, none))
       on (id ∷ ids) ids_are =
           let asked : recovery_ask r ≡ Delete (queue.Atomic r.client) id = asks Deleting e ∙ ap (delete_next r) ids_are in
           out_at Deleting e (Delete (queue.Atomic r.client) id) asked
-          (lost_deleted who book order s t parts r part reply setting mine is id ids ids_are (call_at (Delete (queue.Atomic r.client) id) asked) k all)
+          (lost_deleted who book order s t parts r part reply setting mine is id ids ids_are (call_at (Delete (queue.Atomic r.client) id) asked) k sifted lost)
 
   at_clearing : r.stage ≡ Clearing → KnowsPut st t.now r part → AllByRecursion (IsMessageThat st r.client (is_past r.wanted)) r.ids → 1 ≤ length r.ids → Out
   at_clearing e k all some = on r.ids refl
@@ -203,8 +203,8 @@ module _ (who : Caller) (book : Book) (order : List Entry) (s t : CloudState) (p
       on ReleasingOld e a w = at_old e a.0 a.1.0
       on Taking e a w = at_taking e a.0 a.2.0
       on Getting e a w = at_getting e a.0 a.1.0
-      on Receiving e a w = at_receiving e a
-      on Deleting e a w = at_deleting e a.0 a.1 w.1
+      on Receiving e a w = at_receiving e a.0 a.1
+      on Deleting e a w = at_deleting e a.0 a.1 a.2 w.1
       on Sending e a w = at_sending e a w.1
       on Putting e a w = at_putting e a w
       on Clearing e a w = at_clearing e a.0 a.1 w.1

@@ -5,6 +5,8 @@ use Rattle.std.specs.List.{AllByRecursion}
 use Rattle.std.proofs.lemmas.Bool.{and_from, eq-eqb, ne_eqb}
 use Rattle.std.proofs.lemmas.List.{take_all}
 use Rattle.cloud_facts.specs.Calls.Others.{WasSentOn}
+use Rattle.cloud_facts.specs.Copies.Copies.{IsSentOn, SendsInTurn}
+use Rattle.cloud_facts.proofs.Copies.Turns.{sends_in_turn}
 use Rattle.cloud_trait.specs.Caller.{Caller}
 use Rattle.cloud_trait.specs.Claim.{Claim}
 use Rattle.db_base.specs.Ids.{IsClient}
@@ -20,7 +22,7 @@ use Rattle.cloud_facts.proofs.Lefts.MessageLemmas.{copy_of_waits}
 use Rattle.log_codec.specs.Pu.{pu_of}
 use Rattle.log_codec.specs.declared.record.AtomicRec.{AtomicRec}
 use Rattle.cloud_facts.proofs.Numbers.Lists.{filter_at, map_there, map_at, get_same}
-use Rattle.cloud_facts.proofs.Numbers.Ways.{is_way, settled_way, open_way}
+use Rattle.cloud_facts.proofs.Numbers.Ways.{is_way, settled_way, open_way, way_epoch}
 use Rattle.session_facts.specs.Openings.Opening.{IsWanted, SendsOn}
 use Rattle.session_facts.proofs.Openings.Kept.{each_in, index_at}
 use Rattle.recover_run.specs.declared.items.AtomicItem.{AtomicItem}
@@ -45,8 +47,9 @@ pub queue_is : (tree page : ℕ) → queue_name tree page ≡ queue_of tree page
 queue_is tree zero = ap (λ b. cond b (TreePu tree) (PagePu tree 0)) (eq-eqb 0 0 refl)
 queue_is tree (suc page) = ap (λ b. cond b (TreePu tree) (PagePu tree (suc page))) (ne_eqb (suc page) 0 (λ e. absurd (omega (arith, e))))
 
-pub posts_record : (st : Store) (who : Caller) (r : AtomicRec) (bytes : List ℕ) → IsIn st.book.log r → pu_of bytes ≡ Some (pu_record_of r) → Posts st r.tree r.page (sent_by who bytes) r
-posts_record st who r bytes logged reads = record { logged = logged; tree_is = refl; page_is = refl; reads = reads; unmarked = refl }
+pub posts_record : (st : Store) (who : Caller) (r : AtomicRec) (bytes : List ℕ) → IsIn st.book.log r → pu_of bytes ≡ Some (pu_record_of r) → SendsInTurn st r
+    → Posts st r.tree r.page (sent_by who bytes) r
+posts_record st who r bytes logged reads turn = record { logged = logged; tree_is = refl; page_is = refl; reads = reads; unmarked = refl; turn = turn }
 
 at2_same : {V : Type 0} (a b : ℕ) (v : V) (f : ℕ → ℕ → V) → at2 a b v f a b ≡ v
 at2_same a b v f = ap (λ t. cond t v (f a b)) (and_from (a == a) (b == b) (eq-eqb a a refl) (eq-eqb b b refl))
@@ -137,6 +140,40 @@ module _ (st : Store) (client : ℕ) (before : Head) (w : Wanted) (kept : List A
       on : (p : Phase) → before.phase ≡ p → (place : ℕ) × (x : AtomicItem) × StandsAt kept place x × (x.rec ≡ r)
       on Settled e = absurd (settled_way before r e here)
       on (Open count) e = open_kept count e
+
+-- ---- the turn
+
+-- a kept record is sent behind those of its transaction before it, whatever head is the newest
+pub sent_in_turn : (st : Store) (client : ℕ) (former lease : Option Claim) (w : Wanted) (head : Head) (kept : List AtomicItem) (part : Part) (sent : ℕ) → Leaves st → IsClient client
+    → (k : SendsOn st client former lease w head kept part sent) → (st.tally.head client ≡ k.read.before) ⊎ (k.read.before.epoch < (st.tally.head client).epoch)
+    → (x : AtomicItem) → StandsAt kept sent x → SendsInTurn st x.rec
+sent_in_turn st client former lease w head kept part sent leaves is k later x there =
+    sends_in_turn st x.rec leaves (subst IsClient (sym of_x.client_is) is) (λ way. known (newest way later))
+  where
+    of_x : IsWanted st client w x
+    of_x = each_in (IsWanted st client w) kept k.read.kept_are x (sent, there)
+
+    newest : IsUnderWay st.tally x.rec → (st.tally.head client ≡ k.read.before) ⊎ (k.read.before.epoch < (st.tally.head client).epoch) → st.tally.head client ≡ k.read.before
+    newest way (inl same) = same
+    newest way (inr above) =
+        let one = way_epoch (st.tally.head x.rec.client) x.rec way in
+        let other = ap (λ c. (st.tally.head c).epoch) of_x.client_is in
+        let read = of_x.epoch_is ∙ ap (λ (v : Wanted). v.epoch) k.read.wanted_is in absurd (omega (arith, one, other, read, above))
+
+    known : st.tally.head client ≡ k.read.before → (q : AtomicRec) → IsIn st.book.log q → q.client ≡ x.rec.client → IsUnderWay st.tally q → q.index < x.rec.index → IsSentOn st.tally q
+    known same q logged own way less =
+        subst (λ (y : AtomicRec). IsSentOn st.tally y) of.3 (k.was_sent of.0 of.1 before of.2).1
+      where
+        of : (place : ℕ) × (y : AtomicItem) × StandsAt kept place y × (y.rec ≡ q)
+        of = way_kept st client k.read.before w kept leaves is same k.read.wanted_is k.read.rising k.read.kept_are k.whole q logged (own ∙ of_x.client_is) way
+
+        at : (place : ℕ) (y : AtomicItem) → StandsAt kept place y → y.rec.index ≡ 1 + place
+        at place y there = index_at st client w 1 kept k.read.rising k.read.kept_are (let n = k.whole in omega (arith, n)) place y there
+
+        before : of.0 < sent
+        before =
+            let one = at of.0 of.1 of.2 in let other = at sent x there in let same_index = ap (λ (y : AtomicRec). y.index) of.3 in
+            omega (arith, one, other, same_index, less)
 
 -- ---- the put
 

@@ -129,7 +129,7 @@ taken_may r (Err t) refused = refused t refl
 ended_may : (r : Recovery) (ending : Option (Result RecoverAnswer Trouble)) → MayEnd ending → MayNext (ended r ending)
 ended_may r (Some (Ok a)) may = tt
 ended_may r (Some (Err t)) may = may
-ended_may r None may = tt
+ended_may r None may = absurd may
 
 -- ---- the whole
 

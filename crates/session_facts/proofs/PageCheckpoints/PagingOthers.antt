@@ -167,7 +167,7 @@ module _ (st su : Store) (now later : ℕ) (p : Paging) (after : now ≤ later) 
   at_stays Finished never = never
 
 pub paging_others : (st su : Store) (now later : ℕ) (p : Paging) → now ≤ later → Others (leases_of_paging p) later st su → KnowsPaging st now p → KnowsPaging su later p
-paging_others st su now later p after o k = record { tree = k.tree; page = k.page; may = k.may; at = at_stays st su now later p after o p.stage k.at }
+paging_others st su now later p after o k = record { tree = k.tree; page = k.page; may = k.may; waits = k.waits; at = at_stays st su now later p after o p.stage k.at }
 
 -- time goes on
 pub paging_later : (st : Store) (now later : ℕ) (p : Paging) → now ≤ later → KnowsPaging st now p → KnowsPaging st later p

@@ -62,7 +62,7 @@ use Rattle.cloud_facts.specs.Book.Telling.{leaf_in, queue_of, nodes_of, roots_of
 use Rattle.cloud_facts.specs.Tellings.Taking.{IsLinked}
 use Rattle.cloud_facts.specs.Tellings.Told.{store_of}
 use Rattle.cloud_facts.proofs.Tellings.Names.{at2_beside}
-use Rattle.session_facts.specs.PageCheckpoints.Checkpoint.{HasPage, HasRight, HasLeases, MayStop, ReadHome, ComesOn, HasIds, KnowsPagingAt, KnowsPaging, KnowsNext, KnowsAfter, paging_note}
+use Rattle.session_facts.specs.PageCheckpoints.Checkpoint.{HasPage, HasRight, HasLeases, MayStop, ReadHome, ComesOn, HasIds, TroubleWaits, KnowsPagingAt, KnowsPaging, KnowsAfter, paging_note}
 use Rattle.session_facts.specs.PageCheckpoints.Rights.{IsNewestLeaf, IsDone, AreDone, PutsRight, LeavesRight, PutsHome}
 use Rattle.session_facts.proofs.PageCheckpoints.Nexts as nexts
 use Rattle.session_facts.proofs.PageCheckpoints.PagingOthers.{paging_later, read_stays, leads_stays, comes_stays}
@@ -121,7 +121,7 @@ given_may page k a t e = refusal page (trouble_of a) t (given_of k a) (refused_m
 
 module _ (who : Caller) (s t : CloudState) (book : Book) (order : List Entry) (parts : Parts) (leases : List Claim) (p : Paging) (reply : Answer)
     (setting : Setting book order s t.now parts who.session leases) (of_tree : IsTree p.tree) (of_page : IsPage p.page)
-    (may : nexts.MayAnswer p.page p.trouble) (call : IsCall who (paging_ask p) reply s t) where
+    (may : nexts.MayAnswer p.page p.trouble) (waits : TroubleWaits p) (call : IsCall who (paging_ask p) reply s t) where
   abbrev st : Store
   st = store_of book order s
 
@@ -152,8 +152,8 @@ module _ (who : Caller) (s t : CloudState) (book : Book) (order : List Entry) (p
 
   -- where the answer may lead by the stage
   leads_at : (stage : Stage) → p.stage ≡ stage → (u : Store)
-      → ((next : Step) → AbsorbsAt stage (record p { held = held_after stage p.held }) reply next → KnowsNext u t.now p.page next) → KnowsAfter p reply u t.now
-  leads_at stage e u k next leads = k next (subst (λ (g : Stage). AbsorbsAt g (record p { held = held_after g p.held }) reply next) e leads)
+      → ((next : Step) → AbsorbsAt stage (record p { held = held_after stage p.held }) reply next → nexts.Led u t.now p.page next) → KnowsAfter p reply u t.now
+  leads_at stage e u k next leads = nexts.led_knows u t.now p reply next waits leads (k next (subst (λ (g : Stage). AbsorbsAt g (record p { held = held_after g p.held }) reply next) e leads))
 
   -- the session's part stays
   homes_at : (u : Store) → HomesHold u.tally t.now parts → HomesHold u.tally t.now (at who.session own parts)
@@ -181,7 +181,7 @@ module _ (who : Caller) (s t : CloudState) (book : Book) (order : List Entry) (p
   at_taking_home : p.stage ≡ TakingHome → p.visited ≡ [] → Out
   at_taking_home e fresh =
       quiet_at (take_home p) (asks TakingHome e) tt tt
-      (leads_at TakingHome e st (λ next is. subst (KnowsNext st t.now p.page) (sym is)
+      (leads_at TakingHome e st (λ next is. subst (nexts.Led st t.now p.page) (sym is)
       (nexts.home_taken st t.now p of_tree of_page may fresh (given_of (lock.Page p.tree p.page) reply)
       (given who (lock.Page p.tree p.page) 30 reply s t (call_at (take_home p) (asks TakingHome e))) (given_may p.page (lock.Page p.tree p.page) reply))))
 
@@ -220,7 +220,7 @@ module _ (who : Caller) (s t : CloudState) (book : Book) (order : List Entry) (p
   at_taking_right : p.stage ≡ TakingRight → (has : HasPage p) → ComesOn st t.now p has.lease → Out
   at_taking_right e has comes =
       quiet_at (take_right p) (asks TakingRight e) tt tt
-      (leads_at TakingRight e st (λ next is. subst (KnowsNext st t.now p.page) (sym is)
+      (leads_at TakingRight e st (λ next is. subst (nexts.Led st t.now p.page) (sym is)
       (nexts.right_taken st t.now p of_tree of_page may has comes (given_of (lock.Page p.tree p.at.page) reply)
       (given who (lock.Page p.tree p.at.page) 30 reply s t (call_at (take_right p) (asks TakingRight e))) (given_may p.page (lock.Page p.tree p.at.page) reply))))
 
@@ -264,7 +264,7 @@ module _ (who : Caller) (s t : CloudState) (book : Book) (order : List Entry) (p
   at_releasing e has = on has
     where
       leads : KnowsAfter p reply st t.now
-      leads = leads_at Releasing e st (λ next to. subst (KnowsNext st t.now p.page) (sym to) (nexts.released st t.now p of_tree of_page may e has))
+      leads = leads_at Releasing e st (λ next to. subst (nexts.Led st t.now p.page) (sym to) (nexts.released st t.now p of_tree of_page may e has))
 
       on : HasLeases p → Out
       on (inl h) = quiet_at (Release h.lease) (asks Releasing e ∙ ap (λ (l : Leases). under p (newest_lease l) Release) h.is) tt tt leads
@@ -283,7 +283,7 @@ module _ (who : Caller) (s t : CloudState) (book : Book) (order : List Entry) (p
     right_put_leads : (u : Store) → (done_of reply ≡ Ok tt → ComesOn u t.now p has.lease × LeavesRight u p.tree p.page p.home p.run p.at p.onward) → KnowsAfter p reply u t.now
     right_put_leads u knows =
         leads_at PuttingRight e u
-        (λ next is. subst (KnowsNext u t.now p.page) (sym is) (nexts.right_put u t.now p of_tree of_page may has (done_of reply) knows (done_may p.page reply)))
+        (λ next is. subst (nexts.Led u t.now p.page) (sym is) (nexts.right_put u t.now p of_tree of_page may has (done_of reply) knows (done_may p.page reply)))
 
     module _ (lands : Lands who right_put (called who t.now s) t) where
       second_lasts : Lasts t.now has.second
@@ -377,7 +377,7 @@ module _ (who : Caller) (s t : CloudState) (book : Book) (order : List Entry) (p
 
     put_leads : (u : Store) → (done_of reply ≡ Ok tt → MayDelete u p.tree p.page p.deletions.ids) → KnowsAfter p reply u t.now
     put_leads u each =
-        leads_at PuttingHome e u (λ next is. subst (KnowsNext u t.now p.page) (sym is) (nexts.home_put u t.now p of_tree of_page may (done_of reply) has each (done_may p.page reply)))
+        leads_at PuttingHome e u (λ next is. subst (nexts.Led u t.now p.page) (sym is) (nexts.home_put u t.now p of_tree of_page may (done_of reply) has each (done_may p.page reply)))
 
     module _ (lands : Lands who put (called who t.now s) t) where
       abbrev old : Leaf
@@ -467,7 +467,7 @@ module _ (who : Caller) (s t : CloudState) (book : Book) (order : List Entry) (p
           ∙ (ap (λ (ids : List ℕ). delete_next p (next_id ids)) ids_are ∙ ap (λ (q : QueueName). Delete q id) (sym (own_queue p.tree p.page of_page)))
 
       leads : (u : Store) → MayDelete u p.tree p.page p.deletions.ids → KnowsAfter p reply u t.now
-      leads u m = leads_at DeletingNext e u (λ next to. subst (KnowsNext u t.now p.page) (sym to) (nexts.deleted u t.now p of_tree of_page may (done_of reply) has m))
+      leads u m = leads_at DeletingNext e u (λ next to. subst (nexts.Led u t.now p.page) (sym to) (nexts.deleted u t.now p of_tree of_page may (done_of reply) has m))
 
       landing : Landing who st delete (after_post_mark p.tree p.page id st)
       landing = marks_post p.tree p.page id (may_mark st p.tree p.page id (each id (subst (λ ids. IsIn ids id) (sym ids_are) (zero, refl))))
@@ -508,7 +508,7 @@ pub paging_outcome : (who : Caller) (s t : CloudState) (book : Book) (order : Li
     → Setting book order s t.now parts who.session leases → KnowsPaging (store_of book order s) s.now p → IsCall who (paging_ask p) reply s t
     → Outcome who book order s t parts leases (paging_ask p) (paging_note p (paging_ask p)) (Aside (store_of book order s) (parts who.session) (KnowsAfter p reply))
 paging_outcome who s t book order parts leases p reply setting k call =
-    outcome_at who s t book order parts leases p reply setting k.tree k.page k.may call (paging_later (store_of book order s) s.now t.now p call.later k).at
+    outcome_at who s t book order parts leases p reply setting k.tree k.page k.may k.waits call (paging_later (store_of book order s) s.now t.now p call.later k).at
 
 -- why it stops: for no message, page, fence or way that is broken, nor for a page that a link named
 pub paging_stops : (who : Caller) (s t : CloudState) (book : Book) (order : List Entry) (parts : Parts) (leases : List Claim) (p : Paging) (reply : Answer)

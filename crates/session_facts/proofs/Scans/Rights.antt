@@ -12,6 +12,7 @@ use Rattle.cloud_facts.proofs.Meanings.Steps.{not_passed, passed_right}
 use Rattle.cloud_trait.specs.Machine.{Next, Ends, Stops}
 use Rattle.db_base.specs.Ids.{IsTree}
 use Rattle.db_base.specs.declared.names.ObjName.TheVariants as object
+use Rattle.db_base.specs.declared.trouble.Trouble.{Trouble}
 use Rattle.db_base.specs.declared.trouble.Trouble.TheVariants as trouble
 use Rattle.leaf_view.specs.Leaf.{Leaf}
 use Rattle.leaf_view.specs.Lookup.{page_at}
@@ -24,7 +25,6 @@ use Rattle.cloud_facts.specs.Book.Records.{IsIn}
 use Rattle.cloud_facts.specs.Book.Tally.{Node, Leafy, Store}
 use Rattle.tree_walk.specs.Walk.{Spot, is_among}
 use Rattle.session_facts.specs.Walks.Caches.{KnowsCache, IsSeenLeaf}
-use Rattle.session_facts.specs.Walks.Walks.{MayStop}
 
 -- ---- lists of pages
 
@@ -147,10 +147,10 @@ module _ (st : Store) (h : ChainHolds st) (s : Scan) (is : IsTree s.walk.tree) w
     right_again next (Some spot) k = record { linked = k.linked; behind = k.behind }
 
     -- it is at a leaf as it landed then
-    pub leaf_leads : (c : Cache) → KnowsScan st s → KnowsCache st c → scan_object s ≡ object.Page s.walk.tree p.page
-        → leaf_at c (object.Page s.walk.tree p.page) ≡ Some l → ScanLeads st MayStop (scan_beside (leaf_ended s l p.page, c))
-    leaf_leads c k cache in_hand kept =
-        subst (λ (x : Next Scan ℕ). ScanLeads st MayStop (scan_beside (x, c))) (sym ends.1) (
+    pub leaf_leads : (May : Trouble → Type 0) (c : Cache) → KnowsScan st s → KnowsCache st c → scan_object s ≡ object.Page s.walk.tree p.page
+        → leaf_at c (object.Page s.walk.tree p.page) ≡ Some l → ScanLeads st May (scan_beside (leaf_ended s l p.page, c))
+    leaf_leads May c k cache in_hand kept =
+        subst (λ (x : Next Scan ℕ). ScanLeads st May (scan_beside (x, c))) (sym ends.1) (
           record { scan = record { walk = k.walk; right = right_again ends.0 s.spot k.right }; cache = cache },
           record {
             leaf = l;

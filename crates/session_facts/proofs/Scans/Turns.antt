@@ -34,6 +34,11 @@ use Rattle.session_facts.proofs.Walks.Steps.{leaf_of_level}
 use Rattle.session_facts.proofs.Walks.Turns.{MayAnswer, BesideLeads, by_leads}
 use Rattle.session_facts.proofs.Walks.Walks.{walk_turns}
 
+-- what a get may have answered of an object: a version of it that landed, which is accepted, or refused for what may stop; or a trouble that may
+abbrev pub MayCome : Store → (Trouble → Type 0) → Cache → ObjName → Result (Option (List ℕ)) Trouble → Type 0
+MayCome st May c name (Ok got) = MayServe st name got × ((t : Trouble) → accepts c name true got ≡ Err t → May t)
+MayCome st May c name (Err t) = May t
+
 module _ (st : Store) (h : ChainHolds st) where
   -- ---- the walk
 
@@ -88,18 +93,18 @@ module _ (st : Store) (h : ChainHolds st) where
         on (inl never) = absurd (true≢false (sym never ∙ ap (is_page other) none))
         on (inr came) = walked (or_cases (came_to w other) (is_among s.passed other) came)
 
-    first_leads : (w : Walk) (c : Cache) (page : ℕ) → KnowsWalk st w → KnowsCache st c → (a : IsAtSeenLeaf st w c page)
-        → ScanLeads st MayStop (scan_beside (first_in (record s { walk = w }) page (leaf_at c (object_of w)), c))
-    first_leads w c page k cache a =
-        subst (λ (o : Option Leaf). ScanLeads st MayStop (scan_beside (first_in (record s { walk = w }) page o, c))) (sym (ap (leaf_at c) a.in_hand ∙ a.kept))
-        (leaf_leads st h (record s { walk = w }) k.tree (record { page = page; level = 0; low = a.leaf.low }) a.leaf a.linked a.seen (first_came w c page k a) c
+    first_leads : (May : Trouble → Type 0) (w : Walk) (c : Cache) (page : ℕ) → KnowsWalk st w → KnowsCache st c → (a : IsAtSeenLeaf st w c page)
+        → ScanLeads st May (scan_beside (first_in (record s { walk = w }) page (leaf_at c (object_of w)), c))
+    first_leads May w c page k cache a =
+        subst (λ (o : Option Leaf). ScanLeads st May (scan_beside (first_in (record s { walk = w }) page o, c))) (sym (ap (leaf_at c) a.in_hand ∙ a.kept))
+        (leaf_leads st h (record s { walk = w }) k.tree (record { page = page; level = 0; low = a.leaf.low }) a.leaf a.linked a.seen (first_came w c page k a) May c
         (record { walk = k; right = right_none w }) cache (ap (scan_object_at (record s { walk = w })) none ∙ a.in_hand) a.kept)
 
     -- a turn of the walk
-    pub walk_leads : (x : Next (Walk × Cache) ℕ) → WalkLeads st MayStop x → ScanLeads st MayStop (walked_by s x)
-    walk_leads (Goes m) k = record { scan = record { walk = k.walk; right = right_none m.0 }; cache = k.cache }
-    walk_leads (Ends m page) k = first_leads m.0 m.1 page k.0.walk k.0.cache k.1
-    walk_leads (Stops m t) k = (k.0.cache, k.1)
+    pub walk_leads : (May : Trouble → Type 0) (x : Next (Walk × Cache) ℕ) → WalkLeads st May x → ScanLeads st May (walked_by s x)
+    walk_leads May (Goes m) k = record { scan = record { walk = k.walk; right = right_none m.0 }; cache = k.cache }
+    walk_leads May (Ends m page) k = first_leads May m.0 m.1 page k.0.walk k.0.cache k.1
+    walk_leads May (Stops m t) k = (k.0.cache, k.1)
 
   -- ---- a right page
 
@@ -108,10 +113,10 @@ module _ (st : Store) (h : ChainHolds st) where
     name = object.Page tree p.page
 
     -- a walk that is there
-    abbrev there : Walk
+    abbrev pub there : Walk
     there = record { tree = tree; key = Some p.low; fresh = true; spot = Some (record p { level = 0 }); nodes = []; leaves = []; turned = false; used = None }
 
-    there_known : KnowsWalk st there
+    pub there_known : KnowsWalk st there
     there_known = record {
       tree = is;
       stands = record {
@@ -176,32 +181,39 @@ module _ (st : Store) (h : ChainHolds st) where
         on (inl same) = inr (eqb-true p.page page same)
         on (inr before) = gone_behind page before
 
-    read_leads : (d : Cache) → KnowsCache st d → (l : Leaf) → leaf_at d (object.Page s.walk.tree p.page) ≡ Some l
-        → IsSeenLeaf (st.tally.nodes s.walk.tree p.page) p.page l → ScanLeads st MayStop (scan_beside (right_read_in here (leaf_at d (object.Page s.walk.tree p.page)), d))
-    read_leads d known l kept seen =
-        subst (λ (o : Option Leaf). ScanLeads st MayStop (scan_beside (right_read_in here o, d))) (sym kept)
-        (subst (λ (b : Bool). ScanLeads st MayStop (scan_beside (cond b (leaf_ended gone l p.page) (Stops here (trouble.BadFence p.page p.low l.low)), d))) (sym low)
-        (leaf_leads st h gone walk.tree p l right.linked seen gone_came d (record { walk = walk; right = record { linked = right.linked; behind = gone_behind } }) known refl kept))
+    read_leads : (May : Trouble → Type 0) (d : Cache) → KnowsCache st d → (l : Leaf) → leaf_at d (object.Page s.walk.tree p.page) ≡ Some l
+        → IsSeenLeaf (st.tally.nodes s.walk.tree p.page) p.page l → ScanLeads st May (scan_beside (right_read_in here (leaf_at d (object.Page s.walk.tree p.page)), d))
+    read_leads May d known l kept seen =
+        subst (λ (o : Option Leaf). ScanLeads st May (scan_beside (right_read_in here o, d))) (sym kept)
+        (subst (λ (b : Bool). ScanLeads st May (scan_beside (cond b (leaf_ended gone l p.page) (Stops here (trouble.BadFence p.page p.low l.low)), d))) (sym low)
+        (leaf_leads st h gone walk.tree p l right.linked seen gone_came May d (record { walk = walk; right = record { linked = right.linked; behind = gone_behind } }) known refl kept))
       where
         low : bytes_same l.low p.low ≡ true
         low = ap (bytes_same l.low) (sym (seen_low st h s.walk.tree walk.tree p l right.linked seen)) ∙ same_itself l.low
 
-    accepted_leads : (got : Option (List ℕ)) → MayServe st (object.Page s.walk.tree p.page) got
-        → ScanLeads st MayStop (scan_beside (right_accepted here c (accepts c (object.Page s.walk.tree p.page) true got)))
-    accepted_leads got may = on (accepts c (object.Page s.walk.tree p.page) true got) refl
+    accepted_leads : (May : Trouble → Type 0) (got : Option (List ℕ)) → MayServe st (object.Page s.walk.tree p.page) got
+        → ((t : Trouble) → accepts c (object.Page s.walk.tree p.page) true got ≡ Err t → May t)
+        → ScanLeads st May (scan_beside (right_accepted here c (accepts c (object.Page s.walk.tree p.page) true got)))
+    accepted_leads May got may stops = on (accepts c (object.Page s.walk.tree p.page) true got) refl
       where
-        on : (r : Result (ℕ × Cache) Trouble) → accepts c (object.Page s.walk.tree p.page) true got ≡ r → ScanLeads st MayStop (scan_beside (right_accepted here c r))
-        on (Err t) e = (cache, refused s.walk.tree walk.tree p right.linked c cache got may t e)
+        on : (r : Result (ℕ × Cache) Trouble) → accepts c (object.Page s.walk.tree p.page) true got ≡ r → ScanLeads st May (scan_beside (right_accepted here c r))
+        on (Err t) e = (cache, stops t e)
         on (Ok (v, d)) e =
             let known = cache_accepts st c (object.Page s.walk.tree p.page) true got v d cache may e in
             let kept = accept_kept c (object.Page s.walk.tree p.page) true got v d e in
             let l = kept_leaf s.walk.tree walk.tree p right.linked d got (kept_known st d (object.Page s.walk.tree p.page) got known kept) kept in
-            read_leads d known l.0 l.1 l.2
+            read_leads May d known l.0 l.1 l.2
 
     -- a get of a right page
-    pub right_leads : (g : Result (Option (List ℕ)) Trouble) → MayAnswer st (object.Page s.walk.tree p.page) g → ScanLeads st MayStop (scan_beside (right_got here c g))
-    right_leads (Err t) may = (cache, may)
-    right_leads (Ok got) may = accepted_leads got may
+    pub right_leads : (May : Trouble → Type 0) (g : Result (Option (List ℕ)) Trouble) → MayCome st May c (object.Page s.walk.tree p.page) g
+        → ScanLeads st May (scan_beside (right_got here c g))
+    right_leads May (Err t) may = (cache, may)
+    right_leads May (Ok got) may = accepted_leads May got may.0 may.1
+
+    -- what was answered stops it as stale or failed, if at all
+    right_comes : (g : Result (Option (List ℕ)) Trouble) → MayAnswer st (object.Page s.walk.tree p.page) g → MayCome st MayStop c (object.Page s.walk.tree p.page) g
+    right_comes (Err t) may = may
+    right_comes (Ok got) may = (may, refused s.walk.tree walk.tree p right.linked c cache got may)
 
   -- ---- every turn
 
@@ -212,5 +224,5 @@ module _ (st : Store) (h : ChainHolds st) where
       on : (o : Option Spot) → StandsRight (st.book.chain s.walk.tree) (record s { spot = o }) o → MayAnswer st (scan_object_at s o) (got_of a)
           → ScanLeads st MayStop (next_at o (record s { spot = o }, c) a)
       on None right may =
-          walk_leads (record s { spot = None }) refl right (walk_next (s.walk, c) a) (walk_turns st h s.walk c a (record { walk = k.scan.walk; cache = k.cache }) may)
-      on (Some p) right may = right_leads s p c k.scan.walk right k.cache (got_of a) may
+          walk_leads (record s { spot = None }) refl right MayStop (walk_next (s.walk, c) a) (walk_turns st h s.walk c a (record { walk = k.scan.walk; cache = k.cache }) may)
+      on (Some p) right may = right_leads s p c k.scan.walk right k.cache MayStop (got_of a) (right_comes s p c k.scan.walk right k.cache (got_of a) may)

@@ -1,6 +1,6 @@
 -- The begin of an operation that is answered at once stops for want of memory alone, and a commit ends so with no damage.
-use Rattle.std.proofs.Common.{◌≡◌, ◌≢◌, ◌⊎◌, inl, inr, ℕ, false, List, [], Option, Some, None, Result, Ok, Err, refl, sym, ap, subst, ◌∙◌}
-use Rattle.client_session.specs.Session.{Acting, Begins, BeginsWith, HasInHand, CommitsIn, CommitsOf, CommitsNoted, ReadsIn, ReadsOf, ScansIn, ScansOf, ListsLeaf, Follows, begins_by, paging_begun_by, folding_begun_by}
+use Rattle.std.proofs.Common.{◌≡◌, ◌≢◌, ◌⊎◌, inl, inr, ℕ, false, List, [], Option, Some, Ok, sym, subst, ◌∙◌}
+use Rattle.client_session.specs.Session.{Acting, Begins, HasInHand, CommitsNoted, ReadsIn, ScansIn, ListsLeaf, Follows, begins_by, paging_begun_by, folding_begun_by}
 use Rattle.client_session.specs.declared.answer.Answer.{Answer}
 use Rattle.client_session.specs.declared.answer.Answer.TheVariants as answer
 use Rattle.client_session.specs.declared.answer.Begun.{Begun}
@@ -11,11 +11,10 @@ use Rattle.client_session.specs.declared.work.Work.{Work}
 use Rattle.client_session.specs.declared.work.Work.TheVariants.{Idle, Closing, Renewing}
 use Rattle.cloud_trait.specs.declared.turn.Turn.{Turn}
 use Rattle.cloud_trait.specs.declared.turn.Turn.TheVariants.{More, Ended, Stopped}
-use Rattle.cloud_trait.specs.Machine.{Next, Goes, Ends, Stops}
+use Rattle.cloud_trait.specs.Machine.{Next, Goes, Stops}
 use Rattle.cloud_trait.specs.State.{CloudState}
-use Rattle.commit_run.specs.Run.{Run, new_run, home_of, run_ready}
-use Rattle.session_facts.specs.CommitRuns.Stopping.{MayEnd}
-use Rattle.session_facts.proofs.CommitRuns.Stopping.{EndsWell, ready_ends}
+use Rattle.session_facts.specs.CommitRuns.Stopping.{MayStop, MayStopAtOnce, EndsBy, MayEnd}
+use Rattle.session_facts.proofs.CommitRuns.Stopping.{EndsWell, ready_ends_by}
 use Rattle.db_base.specs.Ids.{IsTree}
 use Rattle.db_base.specs.declared.trouble.CommitAnswer.{CommitAnswer}
 use Rattle.db_base.specs.declared.trouble.CommitAnswer.TheVariants.{Committed, NotCommitted, InDoubt, CommittedOpen}
@@ -26,14 +25,14 @@ use Rattle.range_scan.specs.Scan.{Scan, new_scan, scan_ready}
 use Rattle.recover_run.specs.declared.home.Home.{Home}
 use Rattle.report_types.specs.declared.entry.Entry.{Entry}
 use Rattle.session_facts.proofs.Scans.Scans.{scan_begins}
+use Rattle.session_facts.specs.Sessions.Explaining.{trouble_of_commit, trouble_of_answer}
 use Rattle.session_facts.specs.Sessions.Sessions.{IsHome, KnowsWork, KnowsKept, Sessions, SessionsStand, IsRightOp}
-use Rattle.session_facts.proofs.Sessions.Stopping.{or_memory}
 use Rattle.session_facts.proofs.Sessions.Troubles.{memory_or}
 use Rattle.cloud_facts.specs.Book.Book.{Book}
 use Rattle.cloud_facts.specs.Book.Tally.{Store}
 use Rattle.cloud_facts.specs.Tellings.Told.{store_of}
 use Rattle.tree_walk.specs.Moves.{Moves}
-use Rattle.tree_walk.specs.Walk.{Walk, new_walk, walk_ready}
+use Rattle.tree_walk.specs.Walk.{new_walk, walk_ready}
 use Rattle.session_facts.specs.Walks.Caches.{KnowsCache}
 use Rattle.session_facts.proofs.Walks.Walks.{walk_begins}
 
@@ -59,6 +58,24 @@ trouble_is a b e = cc
 
 end_is : (a b : CommitAnswer) → (let x : Begun = Answered (answer.Commit a) in let y : Begun = Answered (answer.Commit b) in x ≡ y) → a ≡ b
 end_is a b e = cc
+
+-- what may come without a call may come, and is the trouble of the end of a commit
+may_then : (t : Trouble) → MayStopAtOnce t → MayStop t
+may_then (trouble.Exhausted what) may = tt
+may_then trouble.Memory may = tt
+may_then t may = absurd may
+
+at_once_may : (a : CommitAnswer) → EndsBy MayStopAtOnce a → MayEnd a
+at_once_may (Committed txn) may = tt
+at_once_may (NotCommitted t) may = may_then t may
+at_once_may InDoubt may = tt
+at_once_may (CommittedOpen t) may = may_then t may
+
+at_once : (a : CommitAnswer) (k : Trouble) → trouble_of_commit a ≡ Some k → EndsBy MayStopAtOnce a → MayStopAtOnce k
+at_once (Committed txn) k e may = absurd (cc (e))
+at_once (NotCommitted t) k e may = let same : t ≡ k = cc in subst MayStopAtOnce same may
+at_once InDoubt k e may = absurd may
+at_once (CommittedOpen t) k e may = let same : t ≡ k = cc in subst MayStopAtOnce same may
 
 module _ (book : Book) (order : List Entry) (s : CloudState) (sessions : Sessions) (session : ℕ) (new : Acting) (stand : SessionsStand book order s sessions) where
   abbrev old : Acting
@@ -131,11 +148,11 @@ module _ (book : Book) (order : List Entry) (s : CloudState) (sessions : Session
 
   -- ---- the end of a commit
 
-  commit_ends : (home : Home) (a : CommitAnswer) → old.work ≡ Idle home → CommitsNoted home old.buffer old.cache new.cache new.work (Answered (answer.Commit a)) → MayEnd a
-  commit_ends home a idle (inl nothing) = subst MayEnd (sym (end_is a (Committed 0) nothing.answer)) tt
+  commit_ends : (home : Home) (a : CommitAnswer) → old.work ≡ Idle home → CommitsNoted home old.buffer old.cache new.cache new.work (Answered (answer.Commit a)) → EndsBy MayStopAtOnce a
+  commit_ends home a idle (inl nothing) = subst (EndsBy MayStopAtOnce) (sym (end_is a (Committed 0) nothing.answer)) tt
   commit_ends home a idle (inr (some, (m, leads, left))) =
-      subst EndsWell leads
-      (ready_ends book order s stand.cloud s.now (stand.parts session) home old.buffer old.cache (home_known home idle) (stand.each session).buffer (cache_known home idle))
+      subst (EndsWell MayStopAtOnce) leads
+      (ready_ends_by MayStopAtOnce (λ what. tt) book order s stand.cloud s.now (stand.parts session) home old.buffer old.cache (home_known home idle) (stand.each session).buffer (cache_known home idle))
 
   scan_no_end : (tree : ℕ) (from to : Option (List ℕ)) (home : Home) (a : CommitAnswer) → ScansIn tree from to old home new (Answered (answer.Commit a)) → ⊥
   scan_no_end tree from to home a (same, p) = on p.moved p.turn p.follows p.begins
@@ -167,12 +184,32 @@ module _ (book : Book) (order : List Entry) (s : CloudState) (sessions : Session
       on (Ended page) turn listed begun = lists turn listed begun
       on (Stopped q) turn (work_is, none, stopped) begun = troubled q (at turn (Ended (answer.Trouble q)) stopped begun)
 
+  -- that of one that is answered at once: a counter stands at its last value
+  pub begin_spent : (o : Op) (a : CommitAnswer) → Begins o old new (Ok (Answered (answer.Commit a))) → EndsBy MayStopAtOnce a
+  begin_spent (op.Open client) a never = absurd never
+  begin_spent op.Close a (home, idle, does) = absurd (no_work home old new (Closing home.lease) (answer.Commit a) does)
+  begin_spent op.Renew a (home, idle, does) = absurd (no_work home old new (Renewing home) (answer.Commit a) does)
+  begin_spent op.Commit a (home, idle, does) = commit_ends home a idle does.1
+  begin_spent (op.Read tree key) a (home, idle, does) = absurd does.1
+  begin_spent (op.Scan tree from to) a (home, idle, does) = absurd (scan_no_end tree from to home a does)
+  begin_spent (op.Page tree page) a (home, idle, does) = absurd (no_work home old new (paging_begun_by tree page home) (answer.Commit a) does)
+  begin_spent (op.Tree tree) a (home, idle, does) = absurd (no_work home old new (folding_begun_by tree home) (answer.Commit a) does)
+
   pub begin_ends : (o : Op) (a : CommitAnswer) → Begins o old new (Ok (Answered (answer.Commit a))) → MayEnd a
-  begin_ends (op.Open client) a never = absurd never
-  begin_ends op.Close a (home, idle, does) = absurd (no_work home old new (Closing home.lease) (answer.Commit a) does)
-  begin_ends op.Renew a (home, idle, does) = absurd (no_work home old new (Renewing home) (answer.Commit a) does)
-  begin_ends op.Commit a (home, idle, does) = commit_ends home a idle does.1
-  begin_ends (op.Read tree key) a (home, idle, does) = absurd does.1
-  begin_ends (op.Scan tree from to) a (home, idle, does) = absurd (scan_no_end tree from to home a does)
-  begin_ends (op.Page tree page) a (home, idle, does) = absurd (no_work home old new (paging_begun_by tree page home) (answer.Commit a) does)
-  begin_ends (op.Tree tree) a (home, idle, does) = absurd (no_work home old new (folding_begun_by tree home) (answer.Commit a) does)
+  begin_ends o a begins = at_once_may a (begin_spent o a begins)
+
+  -- ---- the whole
+
+  -- an operation that is answered at once is answered with no trouble but a counter at its last value or want of memory
+  pub begin_explains : (o : Op) (a : Answer) (k : Trouble) → IsRightOp o → Begins o old new (Ok (Answered a)) → trouble_of_answer a ≡ Some k → MayStopAtOnce k
+  begin_explains o (answer.Trouble t) k is begins e =
+      let same : t ≡ k = cc in
+      subst MayStopAtOnce same (subst MayStopAtOnce (sym (begin_stops o t is begins)) tt)
+  begin_explains o (answer.Commit a) k is begins e = at_once a k e (begin_spent o a begins)
+  begin_explains o (answer.Opened epoch) k is begins e = absurd (cc (e))
+  begin_explains o answer.Closed k is begins e = absurd (cc (e))
+  begin_explains o (answer.Renewed end) k is begins e = absurd (cc (e))
+  begin_explains o (answer.Done n) k is begins e = absurd (cc (e))
+  begin_explains o answer.Value k is begins e = absurd (cc (e))
+  begin_explains o answer.Scan k is begins e = absurd (cc (e))
+  begin_explains o (answer.Settled n) k is begins e = absurd (cc (e))

@@ -1,6 +1,6 @@
 -- A session is answered with no trouble that only damage could cause, and a commit ends with none.
-use Rattle.std.proofs.Common.{◌≡◌, ◌≢◌, ◌≤◌, ◌⊎◌, inl, inr, ℕ, List, [], ◌∷◌, Option, Some, None, Result, Ok, Err, refl, sym, ap, subst, ◌∙◌}
-use Rattle.client_session.specs.Session.{Acting, StepsSession, StepsAt, ShowsAt, StepsOpening, StepsCommit, ReadsBy, ListsLeaf, Follows, StepsScanning, StepsPaging, StepsFolding, StepsSettling, StepsClosing, StepsRenewing, committed_work}
+use Rattle.std.proofs.Common.{◌≡◌, ◌≢◌, ◌≤◌, ◌⊎◌, inl, inr, ℕ, List, [], ◌∷◌, Some, Result, Ok, Err, refl, sym, subst}
+use Rattle.client_session.specs.Session.{Acting, StepsSession, StepsAt, ShowsAt, StepsOpening, StepsCommit, ReadsBy, Follows, StepsScanning, StepsPaging, StepsFolding, StepsSettling}
 use Rattle.client_session.specs.declared.answer.Answer.{Answer}
 use Rattle.client_session.specs.declared.answer.Answer.TheVariants as answer
 use Rattle.client_session.specs.declared.listing.Listing.{Listing}
@@ -16,16 +16,15 @@ use Rattle.cloud_trait.specs.declared.turn.Turn.{Turn}
 use Rattle.cloud_trait.specs.declared.turn.Turn.TheVariants.{More, Ended, Stopped}
 use Rattle.cloud_trait.specs.Ask.{Ask}
 use Rattle.cloud_trait.specs.Caller.{Caller}
-use Rattle.cloud_trait.specs.Machine.{Next, Goes, Ends, Stops, LeadsBy, Took}
+use Rattle.cloud_trait.specs.Machine.{LeadsBy, Took}
 use Rattle.cloud_trait.specs.Seen.{Seen}
 use Rattle.cloud_trait.specs.State.{CloudState}
 use Rattle.cloud_trait.specs.Views.{trouble_of, done_of, renewed_of}
 use Rattle.cloud_trait.specs.Weather.{Makes}
-use Rattle.commit_run.specs.Run.{Run, home_of, run_ask, run_next}
+use Rattle.commit_run.specs.Run.{Run, run_ask}
 use Rattle.session_facts.specs.CommitRuns.Stopping.{MayStop as MayStopCommit, MayEnd}
 use Rattle.session_facts.proofs.CommitRuns.Stopping.{EndsWell, run_ends}
 use Rattle.db_base.specs.declared.trouble.CommitAnswer.{CommitAnswer}
-use Rattle.db_base.specs.declared.trouble.CommitAnswer.TheVariants.{Committed, NotCommitted, InDoubt, CommittedOpen}
 use Rattle.db_base.specs.declared.trouble.Trouble.{Trouble}
 use Rattle.db_base.specs.declared.trouble.Trouble.TheVariants as trouble
 use Rattle.session_facts.specs.Openings.Opening.{MayStop as MayStopOpening}
@@ -34,7 +33,7 @@ use Rattle.page_cache.specs.Cache.{Cache}
 use Rattle.page_ckpt.specs.Paging.{paging_ask, Paging as Page}
 use Rattle.session_facts.specs.PageCheckpoints.Checkpoint.{MayStop as MayStopPage}
 use Rattle.session_facts.proofs.PageCheckpoints.Steps.{paging_stops}
-use Rattle.range_scan.specs.Scan.{Scan, scan_ask, scan_next, KeepsNothing}
+use Rattle.range_scan.specs.Scan.{scan_ask, scan_next, KeepsNothing}
 use Rattle.recover_run.specs.declared.home.Home.{Home}
 use Rattle.recover_run.specs.Recovery.{Recovery, recovery_ask}
 use Rattle.report_types.specs.declared.entry.Entry.{Entry}
@@ -46,7 +45,6 @@ use Rattle.session_facts.proofs.Sessions.SettlingStops.{settling_stops}
 use Rattle.session_facts.proofs.Sessions.Troubles.{memory_or}
 use Rattle.settle_run.specs.Settling.{Settling as SettlingState, settle_ask}
 use Rattle.cloud_facts.specs.Book.Book.{Book}
-use Rattle.cloud_facts.specs.Book.Records.{IsIn}
 use Rattle.cloud_facts.specs.Book.Tally.{Store}
 use Rattle.cloud_facts.proofs.Book.Places.{in_behind}
 use Rattle.cloud_facts.specs.Tellings.Told.{store_of}
@@ -129,7 +127,7 @@ module _ (who : Caller) (before after : Seen) (s t : CloudState) (book : Book) (
   commit_may r is c work k (m, steps, broken) =
       let call = called (run_ask r) steps.answer steps.made in
       or_memory MayStopCommit k tt
-      (λ other. subst EndsWell (steps.took.0 other)
+      (λ other. subst (EndsWell MayStopCommit) (steps.took.0 other)
       (run_ends book order s stand.cloud who t (r, kept) (stand.parts who.session) steps.answer (known_in (Committing r) is call.later) call))
 
   reading_may : (home : Home) (w : Walk) → old ≡ Reading home w → (d : Cache) (work : Work) (shown : Shown) (k : Trouble) → ReadsBy home who before after w kept d work shown (Ended (answer.Trouble k))
@@ -209,7 +207,7 @@ module _ (who : Caller) (before after : Seen) (s t : CloudState) (book : Book) (
   commit_ends : (r : Run) → old ≡ Committing r → (c : Cache) (work : Work) (a : CommitAnswer) → StepsCommit who before after r kept c work (Ended (answer.Commit a)) → MayEnd a
   commit_ends r is c work a (m, steps, left) =
       let call = called (run_ask r) steps.answer steps.made in
-      subst EndsWell steps.took
+      subst (EndsWell MayStopCommit) steps.took
       (run_ends book order s stand.cloud who t (r, kept) (stand.parts who.session) steps.answer (known_in (Committing r) is call.later) call)
 
   by_commit : (buffer : List Noted) (work new : Work) (c : Cache) (shown : Shown) (a : CommitAnswer) → old ≡ work → StepsAt who before after work new (Ended (answer.Commit a))

@@ -36,7 +36,7 @@ use Rattle.cloud_facts.specs.Book.Tally.{Store}
 use Rattle.cloud_facts.specs.Book.Telling.{nodes_of, newest_leaf}
 use Rattle.cloud_facts.specs.Tellings.Told.{store_of}
 use Rattle.session_facts.specs.TreeCheckpoints.Checkpoint.{MayStop}
-use Rattle.session_facts.proofs.TreeCheckpoints.Refusing.{StopsWell, IsFair, done_may, reservation_fair}
+use Rattle.session_facts.proofs.TreeCheckpoints.Refusing.{StopsWell, IsFair, spent_may, done_may, reservation_fair}
 use Rattle.session_facts.specs.Trees.Leaves.{IsReading, IsPutting}
 use Rattle.session_facts.specs.Trees.Ways.{IsOnWay}
 use Rattle.session_facts.proofs.Trees.LeafReads.{leaf_low, absent_is, spelled_is, leaf_right, right_fresh}
@@ -51,7 +51,7 @@ by_fair : (page : ℕ) (l : Leaf) (r : Result Reserved Trouble) → IsFair r →
 by_fair page l (Ok r) may = tt
 by_fair page l (Err t) may = may
 
-plan_fair : (root : Tree) (page : ℕ) (l : Leaf) (run : List PuItem) → IsFair (leaf_plan root page l run)
+pub plan_fair : (root : Tree) (page : ℕ) (l : Leaf) (run : List PuItem) → IsFair (leaf_plan root page l run)
 plan_fair root page l run = on (l.version == 18446744073709551615)
   where
     on : (b : Bool) → IsFair (cond b (Err version_spent) (plan.planned root page (applied l 0 run)))
@@ -70,7 +70,7 @@ module _ (book : Book) (order : List Entry) (s : CloudState) (stands : StandsUnd
 
   planned_may : (high : Option (List ℕ)) (missing : List PuItem) (p : Result LeafPlan Trouble) → IsFair p → StopsWell (planned f high missing p)
   planned_may high missing (Ok p) may = tt
-  planned_may high missing (Err t) may = may
+  planned_may high missing (Err t) may = spent_may t may
 
   handle_may : StopsWell (handle f leaf)
   handle_may = on (lacked leaf 0 f.chart.run.items)

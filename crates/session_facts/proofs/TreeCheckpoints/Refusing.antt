@@ -23,10 +23,19 @@ StopsWell (Goes m) = Unit {0}
 StopsWell (Ends m x) = Unit {0}
 StopsWell (Stops m t) = MayStop t
 
+-- a counter stands at its last value
+abbrev pub IsSpent : Trouble → Type 0
+IsSpent (trouble.Exhausted what) = Unit {0}
+IsSpent t = ⊥
+
+pub spent_may : (t : Trouble) → IsSpent t → MayStop t
+spent_may (trouble.Exhausted what) is = tt
+spent_may t is = absurd is
+
 -- what it comes to is no other trouble
 abbrev pub IsFair : {X : Type 0} → Result X Trouble → Type 0
 IsFair (Ok x) = Unit {0}
-IsFair (Err t) = MayStop t
+IsFair (Err t) = IsSpent t
 
 -- ---- answers that bring no value
 

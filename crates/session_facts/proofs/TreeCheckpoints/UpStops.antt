@@ -11,7 +11,7 @@ use Rattle.node_codec.specs.Tree.{Tree}
 use Rattle.split_plan.specs.Sizes.{count_of}
 use Rattle.cloud_facts.specs.Book.Tally.{Store}
 use Rattle.session_facts.specs.TreeCheckpoints.Checkpoint.{MayStop}
-use Rattle.session_facts.proofs.TreeCheckpoints.Refusing.{StopsWell, IsFair, done_may, next_fair, reservation_fair}
+use Rattle.session_facts.proofs.TreeCheckpoints.Refusing.{StopsWell, IsFair, spent_may, done_may, next_fair, reservation_fair}
 use Rattle.session_facts.specs.Trees.Charts.{KnowsNode, KnowsNodes}
 use Rattle.session_facts.specs.Trees.Risings.{PutsOf, KnowsRising}
 use Rattle.session_facts.proofs.Trees.RisingGrounds.{get_dropped}
@@ -35,7 +35,7 @@ by_fair : (page : ℕ) (n : Inner) (r : Result Reserved Trouble) → IsFair r �
 by_fair page n (Ok r) may = tt
 by_fair page n (Err t) may = may
 
-linked_fair : (root : Tree) (page : ℕ) (n : Inner) (links : List Found) → IsFair (planned_of root page (linked_by links (Ok n)))
+pub linked_fair : (root : Tree) (page : ℕ) (n : Inner) (links : List Found) → IsFair (planned_of root page (linked_by links (Ok n)))
 linked_fair root page n links = on (n.version == 18446744073709551615)
   where
     on : (b : Bool)
@@ -71,7 +71,7 @@ root_fair root t = on (nat_lt 64 (length t.entries) && nat_lt root.level 255)
     on true = behind_fair t (reservation root 1 (count_of (length t.entries))) (reservation_fair root 1 (count_of (length t.entries)))
     on false = tt
 
-last_fair : (r : Rising) → IsFair (last_plan r)
+pub last_fair : (r : Rising) → IsFair (last_plan r)
 last_fair r = on (next_tree (tree_held r.chart.root)) (next_fair (tree_held r.chart.root))
   where
     on : (t : Result Tree Trouble) → IsFair t → IsFair (plan_of (tree_held r.chart.root) (root_risen (tree_held r.chart.root).level r.chart.links r.chart.run.top t))
@@ -82,11 +82,11 @@ last_fair r = on (next_tree (tree_held r.chart.root)) (next_fair (tree_held r.ch
 
 node_may : (r : Rising) (next level : ℕ) (p : Result NodePlan Trouble) → IsFair p → StopsWell (put_node r next level p)
 node_may r next level (Ok p) may = tt
-node_may r next level (Err t) may = may
+node_may r next level (Err t) may = spent_may t may
 
 root_may : (r : Rising) (p : Result RootPlan Trouble) → IsFair p → StopsWell (put_root r p)
 root_may r (Ok p) may = tt
-root_may r (Err t) may = may
+root_may r (Err t) may = spent_may t may
 
 -- the nodes from here on were got
 pub rise_may : (st : Store) (now : ℕ) (lease : Claim) (r : Rising) → KnowsNodes st now lease r.chart.tree (drop r.at r.chart.nodes) → StopsWell (rise r)

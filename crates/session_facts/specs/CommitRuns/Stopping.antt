@@ -1,6 +1,6 @@
 -- How a commit may end in trouble.
 use Rattle.db_base.specs.declared.trouble.CommitAnswer.{CommitAnswer}
-use Rattle.db_base.specs.declared.trouble.CommitAnswer.TheVariants.{NotCommitted, CommittedOpen}
+use Rattle.db_base.specs.declared.trouble.CommitAnswer.TheVariants.{Committed, NotCommitted, InDoubt, CommittedOpen}
 use Rattle.db_base.specs.declared.trouble.Trouble.{Trouble}
 use Rattle.db_base.specs.declared.trouble.Trouble.TheVariants as trouble
 
@@ -12,8 +12,18 @@ MayStop (trouble.Exhausted what) = Unit {0}
 MayStop trouble.Memory = Unit {0}
 MayStop t = ⊥
 
--- a commit that is refused has such a trouble, and so has one that stays open
+-- without a call a counter stands at its last value, or memory ran out
+abbrev pub MayStopAtOnce : Trouble → Type 0
+MayStopAtOnce (trouble.Exhausted what) = Unit {0}
+MayStopAtOnce trouble.Memory = Unit {0}
+MayStopAtOnce t = ⊥
+
+-- by the troubles that may come: a commit that is refused has such a trouble, and so has one that stays open; for one in doubt a call failed
+abbrev pub EndsBy : (Trouble → Type 0) → CommitAnswer → Type 0
+EndsBy May (NotCommitted t) = May t
+EndsBy May (CommittedOpen t) = May t
+EndsBy May InDoubt = May trouble.Failed
+EndsBy May (Committed txn) = Unit {0}
+
 abbrev pub MayEnd : CommitAnswer → Type 0
-MayEnd (NotCommitted t) = MayStop t
-MayEnd (CommittedOpen t) = MayStop t
-MayEnd answer = Unit {0}
+MayEnd a = EndsBy MayStop a

@@ -118,12 +118,14 @@ pub record OpensBehind (st : Store) (now : ℕ) (w : Writing) (g : Home) : Type 
 
 -- ---- behind it
 
--- the head that opened landed: its records are committed and are all of its transaction, and while the lease lasts it is the newest
+-- the head that opened landed: its records are committed, with their places as indices, and are all of its transaction, and while the lease lasts
+-- it is the newest
 pub record HasOpened (st : Store) (now : ℕ) (x : Attempt) (records : List AtomicRec) (opened : Head) : Type 0 where
   pub phase : opened.phase ≡ Open (length records)
   pub epoch_is : opened.epoch ≡ x.epoch
   pub txn_is : opened.txn ≡ x.txn
   pub logged : (r : AtomicRec) → IsIn records r → IsIn st.book.log r × IsOfAttempt x r
+  pub indexed : (place : ℕ) (r : AtomicRec) → StandsAt records place r → r.index ≡ place + 1
   pub newest : Lasts now x.lease → st.tally.head x.client ≡ opened
   pub all : (r : AtomicRec) → IsIn st.book.log r → IsOfAttempt x r → IsIn records r
 

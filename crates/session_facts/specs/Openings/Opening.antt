@@ -1,5 +1,5 @@
 -- What an opening or a recovery knows of a cloud at each of its calls.
-use Rattle.std.specs.Prelude.{ℕ, ◌≡◌, ◌<◌, ◌≤◌, Bool, true, List, [], ◌∷◌, ◌++◌, length, take, Option, Some, None, Result, Ok, Err}
+use Rattle.std.specs.Prelude.{ℕ, ◌≡◌, ◌⊎◌, ◌<◌, ◌≤◌, Bool, true, List, [], ◌∷◌, ◌++◌, length, take, Option, Some, None, Result, Ok, Err}
 use Rattle.std.specs.List.{AllByRecursion}
 use Rattle.cloud_facts.specs.Calls.Acting.{of_option}
 use Rattle.cloud_facts.specs.Calls.Others.{WasSentOn}
@@ -20,12 +20,13 @@ use Rattle.recover_run.specs.declared.stage.RecoverAnswer.{RecoverAnswer}
 use Rattle.recover_run.specs.declared.stage.Stage.{Stage}
 use Rattle.recover_run.specs.declared.stage.Stage.TheVariants.{ReleasingOld, Taking, Getting, Receiving, Deleting, Sending, Putting, Clearing, Sweeping, Releasing, Finished}
 use Rattle.recover_run.specs.declared.wanted.Wanted.{Wanted}
-use Rattle.recover_run.specs.Gathering.{wanted_of, is_lost, is_past}
+use Rattle.recover_run.specs.Gathering.{Gathered, nothing_gathered, wanted_of, is_lost, is_past}
+use Rattle.recover_run.specs.Ids.{has_id}
 use Rattle.recover_run.specs.Meaning.{head_behind}
 use Rattle.recover_run.specs.Recovery.{Recovery, Step, home_of}
 use Rattle.recover_run.proofs.Knowing.{IsRising}
 use Rattle.session_facts.specs.Openings.Client.{KnowsClient}
-use Rattle.cloud_facts.specs.Book.Messages.{IsLogMessage}
+use Rattle.cloud_facts.specs.Book.Messages.{IsLogMessage, IsDeleted}
 use Rattle.cloud_facts.specs.Book.Records.{IsIn, StandsAt}
 use Rattle.cloud_facts.specs.Book.Tally.{Store}
 
@@ -91,6 +92,17 @@ pub record Gathers (st : Store) (client : ℕ) (former lease : Option Claim) (w 
   pub read : HasRead st client former lease w kept part
   pub head_is : head ≡ next_head read.before
 
+-- an ATOMIC message that was received; where its record is lost its number is noted
+pub record WasSifted (st : Store) (client : ℕ) (w : Wanted) (lost : List ℕ) (id : ℕ) : Type 0 where
+  pub of : AtomicRec
+  pub message : IsLogMessage (st.tally.logged client) id of
+  pub noted : is_lost w of ≡ true → has_id lost id ≡ true
+
+-- of the lost records that were received these are still to be deleted, and the others are
+pub record HasSifted (st : Store) (client : ℕ) (w : Wanted) (ids : List ℕ) (g : Gathered) : Type 0 where
+  pub seen : (id : ℕ) → has_id g.seen id ≡ true → WasSifted st client w g.lost id
+  pub deleted : (id : ℕ) → has_id g.lost id ≡ true → (has_id ids id ≡ true) ⊎ IsDeleted (st.tally.logged client) id
+
 -- all records are kept that the head counts, and the first so many were sent on: they are pending in the head that is to be put
 pub record SendsOn (st : Store) (client : ℕ) (former lease : Option Claim) (w : Wanted) (head : Head) (kept : List AtomicItem) (part : Part) (sent : ℕ) : Type 0 where
   pub read : HasRead st client former lease w kept part
@@ -126,12 +138,19 @@ EndsWell (Err t) = MayStop t
 
 abbrev pub MayEnd : Option (Result RecoverAnswer Trouble) → Type 0
 MayEnd (Some ending) = EndsWell ending
-MayEnd None = Unit {0}
+MayEnd None = ⊥
 
 -- ---- by the stage
 
 abbrev pub KnowsGathering : Store → Recovery → Part → Type 0
 KnowsGathering st r part = Gathers st r.client r.former r.lease r.wanted r.head r.gathered.kept part
+
+abbrev pub KnowsSifted : Store → Recovery → List ℕ → Type 0
+KnowsSifted st r ids = HasSifted st r.client r.wanted ids r.gathered
+
+-- the newest receive brought lost records: they are new
+abbrev pub KnowsLost : Store → Recovery → Type 0
+KnowsLost st r = AllByRecursion (IsMessageThat st r.client (is_lost r.wanted)) r.ids × (r.gathered.fresh ≡ true)
 
 abbrev pub KnowsSending : Store → Recovery → Part → ℕ → Type 0
 KnowsSending st r part sent = SendsOn st r.client r.former r.lease r.wanted r.head r.gathered.kept part sent
@@ -141,14 +160,14 @@ KnowsPut st now r part = HasPut st now r.client r.former r.lease r.wanted r.head
 
 -- nothing was read yet
 abbrev pub IsNew : Recovery → Part → Type 0
-IsNew r part = (r.gathered.kept ≡ []) × (part ≡ Away)
+IsNew r part = (r.gathered ≡ nothing_gathered) × (part ≡ Away)
 
 abbrev pub KnowsOpeningAt : Stage → Store → ℕ → Recovery → Part → Type 0
 KnowsOpeningAt ReleasingOld st now r part = HasFormer r.former r.lease × IsNew r part
 KnowsOpeningAt Taking st now r part = (r.former ≡ None) × (r.lease ≡ None) × IsNew r part
 KnowsOpeningAt Getting st now r part = HasLease r.client r.former r.lease × IsNew r part
-KnowsOpeningAt Receiving st now r part = KnowsGathering st r part
-KnowsOpeningAt Deleting st now r part = KnowsGathering st r part × AllByRecursion (IsMessageThat st r.client (is_lost r.wanted)) r.ids
+KnowsOpeningAt Receiving st now r part = KnowsGathering st r part × KnowsSifted st r []
+KnowsOpeningAt Deleting st now r part = KnowsGathering st r part × KnowsSifted st r r.ids × KnowsLost st r
 KnowsOpeningAt Sending st now r part = KnowsSending st r part r.sent
 KnowsOpeningAt Putting st now r part = KnowsSending st r part (length r.gathered.kept)
 KnowsOpeningAt Clearing st now r part = KnowsPut st now r part × AllByRecursion (IsMessageThat st r.client (is_past r.wanted)) r.ids

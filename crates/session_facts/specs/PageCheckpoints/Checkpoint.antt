@@ -96,10 +96,15 @@ KnowsPagingAt DeletingNext st now p = HasPage p × MayDelete st p.tree p.page p.
 KnowsPagingAt Releasing st now p = HasLeases p
 KnowsPagingAt Finished st now p = ⊥
 
+-- a trouble waits only while leases are given back
+abbrev pub TroubleWaits : Paging → Type 0
+TroubleWaits p = (p.stage ≡ Releasing) ⊎ (p.trouble ≡ None)
+
 pub record KnowsPaging (st : Store) (now : ℕ) (p : Paging) : Type 0 where
   pub tree : IsTree p.tree
   pub page : IsPage p.page
   pub may : (t : Trouble) → p.trouble ≡ Some t → MayStop p.page t
+  pub waits : TroubleWaits p
   pub at : KnowsPagingAt p.stage st now p
 
 -- what the checkpoint of a page knows where an answer leads, and why it stops where it does

@@ -1,4 +1,6 @@
 use Rattle.world_core.proofs.EveryLine.{stands_after}
+use Rattle.world_core.proofs.Calm.{well_after}
+use Rattle.world_core.proofs.Explained.{explained}
 use Rattle.world_core.proofs.Sound.{sound_after}
 use Rattle.world_core.proofs.world.World.event.Goals as goal
 
@@ -7,3 +9,9 @@ returns-clause-stands g c = stands_after _ _ _ _ _ _ _ c.handle.ensures.handled
 
 pub returns-clause-sound : goal.returns-clause-sound
 returns-clause-sound g c = sound_after _ _ _ _ _ _ _ c.handle.ensures.handled
+
+pub returns-clause-explained : goal.returns-clause-explained
+returns-clause-explained g c = explained _ _ _ _ _ _ _
+
+pub returns-clause-calm : goal.returns-clause-calm
+returns-clause-calm g c = well_after _ _ _ _ _ _ _

@@ -1,0 +1,112 @@
+-- A step of a session explains what it brought.
+use Rattle.std.proofs.Common.{◌≡◌, ◌≢◌, ◌≤◌, ℕ, List, Option, Some, None, Ok, refl, subst}
+use Rattle.client_session.specs.Session.{Acting, StepsSession, StepsAt, StepsCommit, ShowsAt, ask_of_work}
+use Rattle.client_session.specs.declared.answer.Answer.{Answer}
+use Rattle.client_session.specs.declared.answer.Answer.TheVariants as answer
+use Rattle.client_session.specs.declared.shown.Shown.{Shown}
+use Rattle.client_session.specs.declared.work.Work.{Work}
+use Rattle.client_session.specs.declared.work.Work.TheVariants.{Closed, Idle, Opening, Committing, Reading, Scanning, Folding, Paging, Closing, Renewing, Settling, Broken}
+use Rattle.cloud_trait.specs.declared.answer.Answer.{Answer as Reply}
+use Rattle.cloud_trait.specs.declared.answer.Answer.TheVariants.{Memory}
+use Rattle.cloud_trait.specs.declared.turn.Turn.{Turn}
+use Rattle.cloud_trait.specs.declared.turn.Turn.TheVariants.{More, Ended}
+use Rattle.cloud_trait.specs.Ask.{Ask, Renew, Release}
+use Rattle.cloud_trait.specs.Caller.{Caller}
+use Rattle.cloud_trait.specs.Seen.{Seen}
+use Rattle.cloud_trait.specs.State.{CloudState}
+use Rattle.cloud_facts.specs.Book.Book.{Book}
+use Rattle.cloud_facts.specs.Book.Tally.{Store}
+use Rattle.cloud_facts.specs.Tellings.Told.{store_of}
+use Rattle.cloud_facts.proofs.Calls.Calls.{call_of}
+use Rattle.commit_run.specs.Run.{Run, run_ask}
+use Rattle.page_cache.specs.Cache.{Cache}
+use Rattle.page_ckpt.specs.Paging.{paging_ask}
+use Rattle.range_scan.specs.Scan.{scan_ask}
+use Rattle.recover_run.specs.Recovery.{recovery_ask}
+use Rattle.report_types.specs.declared.entry.Entry.{Entry}
+use Rattle.session_facts.specs.Sessions.Calls.{IsExplained, reply_at}
+use Rattle.session_facts.specs.Sessions.Explaining.{Explains}
+use Rattle.session_facts.specs.Sessions.Sessions.{KnowsKept, KnowsWork, Sessions, SessionsStand}
+use Rattle.session_facts.proofs.Openings.Explaining.{opening_explains}
+use Rattle.session_facts.proofs.Sessions.Laws.{known_at}
+use Rattle.session_facts.proofs.Sessions.FoldingExplaining.{folding_explains}
+use Rattle.session_facts.proofs.Sessions.LeaseExplaining.{closing_explains, renewing_explains}
+use Rattle.session_facts.proofs.Sessions.PagingExplaining.{paging_explains}
+use Rattle.session_facts.proofs.Sessions.ReadingExplaining.{reading_explains, scanning_explains, committing_explains}
+use Rattle.session_facts.proofs.Sessions.SettlingExplaining.{settling_explains}
+use Rattle.session_facts.specs.Scans.Scans.{KnowsScanning}
+use Rattle.session_facts.specs.Walks.Walks.{KnowsWalking}
+use Rattle.settle_run.specs.Settling.{settle_ask}
+use Rattle.tree_ckpt.specs.Making.{making_ask}
+use Rattle.tree_walk.specs.Walk.{walk_ask}
+use Rattle.txn_buffer.specs.Noted.{Noted}
+
+module _ (who : Caller) (before after : Seen) (s t : CloudState) (book : Book) (order : List Entry) (sessions : Sessions) (told : before.state ≡ Some s) (told_after : after.state ≡ Some t)
+    (stand : SessionsStand book order s sessions) where
+  abbrev old : Work
+  old = (sessions who.session).work
+
+  abbrev kept : Cache
+  kept = (sessions who.session).cache
+
+  abbrev st : Store
+  st = store_of book order s
+
+  -- what the session knows
+  known_now : (work : Work) → old ≡ work → KnowsWork st s.now kept work (stand.parts who.session)
+  known_now work is = subst (λ w. KnowsWork st s.now kept w (stand.parts who.session)) is (stand.each who.session).work
+
+  known_in : (work : Work) → old ≡ work → s.now ≤ t.now → KnowsWork st t.now kept work (stand.parts who.session)
+  known_in work is later = subst (λ w. KnowsWork st t.now kept w (stand.parts who.session)) is (known_at book order s sessions stand t.now who.session later)
+
+  cache_now : (work : Work) → old ≡ work → KnowsKept st kept work
+  cache_now work is = subst (λ w. KnowsKept st kept w) is (stand.each who.session).kept
+
+  -- time does not run back in a commit's call
+  later : (r : Run) (c : Cache) (work : Work) (turn : Turn Answer) → StepsCommit who before after r kept c work turn → s.now ≤ t.now
+  later r c work More p = (call_of who (run_ask r) p.1.answer before after s t p.1.made told told_after).later
+  later r c work (Ended (answer.Commit a)) p = (call_of who (run_ask r) p.1.answer before after s t p.1.made told told_after).later
+  later r c work (Ended (answer.Trouble k)) p = (call_of who (run_ask r) p.1.answer before after s t p.1.made told told_after).later
+  later r c work turn p = absurd p
+
+  -- by what was at work
+  abbrev Explained : Work → Work → Turn Answer → Reply → Type 0
+  Explained work new turn reply = (ask : Ask) × (ask_of_work work ≡ Some ask) × (reply ≢ Memory → Explains ask before.counts after.counts s t work new turn)
+
+  by_work : (buffer : List Noted) (work new : Work) (c : Cache) (shown : Shown) (turn : Turn Answer) → old ≡ work → (steps : StepsAt who before after work new turn)
+      → (shows : ShowsAt who before after buffer work kept c new shown turn) → Explained work new turn (reply_at who before after buffer work kept c new shown turn steps shows)
+  by_work buffer (Opening r) new c shown turn is steps shows =
+      (recovery_ask r, refl, λ found. opening_explains who before after s t book order sessions told told_after stand r is steps.0 new turn steps.1)
+  by_work buffer (Committing r) new c shown turn is steps shows =
+      (run_ask r, refl,
+      committing_explains who before after s t book order told told_after stand.cloud r kept (stand.parts who.session) (known_in (Committing r) is (later r c new turn shows.0)) steps.0 c new turn
+      shows.0)
+  by_work buffer (Reading home w) new c shown turn is steps shows =
+      let knows : KnowsWalking st w kept = record { walk = (known_now (Reading home w) is).1; cache = cache_now (Reading home w) is } in
+      (walk_ask w, refl, λ found. reading_explains who before after s t book order told told_after stand.cloud home w kept knows c new shown turn shows)
+  by_work buffer (Scanning home l) new c shown turn is steps shows =
+      let knows : KnowsScanning st l.scan kept = record { scan = (known_now (Scanning home l) is).1; cache = cache_now (Scanning home l) is } in
+      (scan_ask l.scan, refl, λ found. scanning_explains who before after s t book order told told_after stand.cloud home l kept knows buffer c new shown turn shows)
+  by_work buffer (Folding home m) new c shown turn is steps shows =
+      (making_ask m, refl, folding_explains who before after s t book order sessions told told_after stand home m is new turn steps)
+  by_work buffer (Paging home p) new c shown turn is steps shows =
+      (paging_ask p, refl, paging_explains who before after s t told told_after st s.now home p (known_now (Paging home p) is).1 new turn steps)
+  by_work buffer (Closing l) new c shown turn is steps shows = (Release l, refl, λ found. closing_explains who before after s t told told_after l new turn steps)
+  by_work buffer (Renewing home) new c shown turn is steps shows = (Renew home.lease 600, refl, λ found. renewing_explains who before after s t told told_after home new turn steps)
+  by_work buffer (Settling m) new c shown turn is steps shows =
+      (settle_ask m, refl, settling_explains who before after s t book order sessions told told_after stand m is steps.0 new turn steps.1)
+  by_work buffer Closed new c shown turn is never shows = absurd never
+  by_work buffer (Idle home) new c shown turn is never shows = absurd never
+  by_work buffer (Broken l) new c shown turn is never shows = absurd never
+
+  own_explains : (new : Acting) (turn : Turn Answer) → (steps : StepsSession who before after (sessions who.session) new (Ok turn))
+      → IsExplained who before after (sessions who.session) new turn s t steps
+  own_explains new turn steps =
+      let e = by_work new.buffer old new.work steps.shown.0 new.shown turn refl steps.work steps.shown.1 in
+      record { ask = e.0; hand = e.1; explains = e.2 }
+
+  -- a step of a session
+  pub session_explains : (a new : Acting) (turn : Turn Answer) → sessions who.session ≡ a → (steps : StepsSession who before after a new (Ok turn))
+      → IsExplained who before after a new turn s t steps
+  session_explains a new turn is =
+      subst (λ (b : Acting). (steps : StepsSession who before after b new (Ok turn)) → IsExplained who before after b new turn s t steps) is (own_explains new turn)

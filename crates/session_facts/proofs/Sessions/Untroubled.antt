@@ -1,0 +1,270 @@
+-- A calm step leaves a session untroubled, and brings no answer that a call brought about.
+use Rattle.std.proofs.Common.{◌≡◌, ◌≢◌, ◌≤◌, ◌⊎◌, inl, inr, ℕ, List, Option, Some, None, Ok, refl, sym, ap, subst, ◌∙◌, arith}
+use Rattle.calm_calls.specs.Calm.{NamesLasting, TakesFree}
+use Rattle.client_session.specs.Session.{Acting, StepsSession, StepsAt, ShowsAt, Follows, ListsLeaf, ask_of_work, opened_work, committed_work, stopped_work}
+use Rattle.client_session.specs.declared.answer.Answer.{Answer}
+use Rattle.client_session.specs.declared.answer.Answer.TheVariants as answer
+use Rattle.client_session.specs.declared.listing.Listing.{Listing}
+use Rattle.client_session.specs.declared.shown.Shown.{Shown}
+use Rattle.client_session.specs.declared.work.Work.{Work}
+use Rattle.client_session.specs.declared.work.Work.TheVariants.{Closed, Idle, Opening, Committing, Reading, Scanning, Folding, Paging, Closing, Renewing, Settling, Broken}
+use Rattle.cloud_trait.specs.declared.answer.Answer.TheVariants.{Memory}
+use Rattle.cloud_trait.specs.declared.turn.Turn.{Turn}
+use Rattle.cloud_trait.specs.declared.turn.Turn.TheVariants.{More, Ended, Stopped}
+use Rattle.cloud_trait.specs.Ask.{Ask}
+use Rattle.cloud_trait.specs.Caller.{Caller}
+use Rattle.cloud_trait.specs.Seen.{Seen}
+use Rattle.cloud_trait.specs.State.{CloudState, Counts}
+use Rattle.cloud_trait.specs.Weather.{Rose}
+use Rattle.db_base.specs.declared.trouble.CommitAnswer.{CommitAnswer}
+use Rattle.db_base.specs.declared.trouble.CommitAnswer.TheVariants.{Committed, NotCommitted, InDoubt, CommittedOpen}
+use Rattle.db_base.specs.declared.trouble.Trouble.{Trouble}
+use Rattle.db_base.specs.declared.trouble.Trouble.TheVariants as trouble
+use Rattle.commit_run.specs.Run.{home_of as home_of_run}
+use Rattle.page_cache.specs.Cache.{Cache}
+use Rattle.recover_run.specs.declared.home.Home.{Home}
+use Rattle.recover_run.specs.Recovery.{home_of}
+use Rattle.txn_buffer.specs.Noted.{Noted}
+use Rattle.session_facts.specs.CommitRuns.Stopping.{MayStop as MayStopCommit, MayEnd}
+use Rattle.session_facts.specs.Sessions.Calls.{IsExplained, reply_at, reply_of}
+use Rattle.session_facts.specs.Sessions.Explaining.{Explains, IsShown, KeepsTrouble, Meets, ReceivesLate, left_in, left_told, trouble_in, trouble_of_answer, trouble_of_commit}
+use Rattle.session_facts.specs.Sessions.Sessions.{leases_of}
+use Rattle.session_facts.specs.Sessions.Untroubled.{StepsCalmly, IsOfNoCall, IsUntroubled, IsSpent, CommitsWell}
+use Rattle.session_facts.proofs.CommitRuns.Telling.{EndsTold, IsTold, run_tells}
+use Rattle.session_facts.proofs.Sessions.Troubles.{memory_or}
+
+-- one trouble is told
+same_trouble : (a b : Trouble) → Some a ≡ Some b → a ≡ b
+same_trouble a b e = cc
+
+no_trouble : (a : Trouble) → (let none : Option Trouble = None in none ≡ Some a) → ⊥
+no_trouble a e = cc
+
+module _ (ask : Ask) (c d : Counts) (s t : CloudState) (old new : Work) (same : d ≡ c) (free : TakesFree ask s t.now) (lasting : NamesLasting ask t.now)
+    (received : ReceivesLate ask (leases_of old) t.now → ⊥) (well : IsUntroubled old) where
+  steady : (count : Counts → ℕ) → Rose (count c) (count d) → ⊥
+  steady count rose = omega (arith, rose, ap count same)
+
+  -- what a calm call shows is of no call
+  shown_none : (k : Trouble) → IsShown ask (leases_of old) c d s t k → IsOfNoCall k
+  shown_none trouble.Failed rose = steady (λ (x : Counts). x.faults) rose
+  shown_none (trouble.Late end now) late = late lasting
+  shown_none (trouble.Busy lock until) (inl held) = held free
+  shown_none (trouble.Busy lock until) (inr rose) = steady (λ (x : Counts). x.withheld) rose
+  shown_none (trouble.Waiting have need) (inl rose) = steady (λ (x : Counts). x.withheld) rose
+  shown_none (trouble.Waiting have need) (inr late) = received late
+  shown_none (trouble.Stale page least got) rose = steady (λ (x : Counts). x.stale) rose
+  shown_none trouble.Memory shown = tt
+  shown_none (trouble.Exhausted what) shown = tt
+  shown_none (trouble.Absent page) shown = tt
+  shown_none (trouble.NotALeaf page) shown = tt
+  shown_none (trouble.Damaged place offset) shown = tt
+  shown_none (trouble.BadFence page expected found) shown = tt
+  shown_none (trouble.Loop page) shown = tt
+
+  -- a trouble that is met where none waited
+  met_none : (turn : Turn Answer) → Explains ask c d s t old new turn → trouble_in old ≡ None → (k : Trouble) → Meets new turn k → IsOfNoCall k
+  met_none turn x none k meets = on (memory_or k)
+    where
+      on : (k ≡ trouble.Memory) ⊎ (k ≢ trouble.Memory) → IsOfNoCall k
+      on (inl e) = subst IsOfNoCall (sym e) tt
+      on (inr other) = shown_none k (x.shown none well.left k other meets)
+
+  no_left : (turn : Turn Answer) → Explains ask c d s t old new turn → left_told new turn ≡ 0
+  no_left turn x = on x.left
+    where
+      on : (left_told new turn ≤ left_in old) ⊎ Rose c.faults d.faults → left_told new turn ≡ 0
+      on (inl less) = omega (arith, less, well.left)
+      on (inr rose) = absurd (steady (λ (y : Counts). y.faults) rose)
+
+  goes_untroubled : Explains ask c d s t old new More → IsUntroubled new
+  goes_untroubled x = record { trouble = λ k is. on k is (trouble_in old) refl; left = no_left More x }
+    where
+      on : (k : Trouble) → trouble_in new ≡ Some k → (was : Option Trouble) → trouble_in old ≡ was → IsOfNoCall k
+      on k is None none = met_none More x none k (inl is)
+      on k is (Some j) was = subst IsOfNoCall (same_trouble j k (sym (x.kept j was) ∙ is)) (well.trouble j was)
+
+  answers_untroubled : (a : Answer) → Explains ask c d s t old new (Ended a) → (k : Trouble) → trouble_of_answer a ≡ Some k → IsOfNoCall k
+  answers_untroubled a x k is = on (trouble_in old) refl
+    where
+      kept : (j : Trouble) → trouble_in old ≡ Some j → KeepsTrouble new (Ended a) j → IsOfNoCall k
+      kept j was (inl same) = subst IsOfNoCall (same_trouble j k (sym same ∙ is)) (well.trouble j was)
+      kept j was (inr memory) = subst IsOfNoCall (same_trouble trouble.Memory k (sym memory ∙ is)) tt
+
+      on : (was : Option Trouble) → trouble_in old ≡ was → IsOfNoCall k
+      on None none = met_none (Ended a) x none k (inr is)
+      on (Some j) was = kept j was (x.kept j was)
+
+-- ---- a session
+
+-- the call of a calm step, as it was explained
+pub record IsCalmly (ask : Ask) (c d : Counts) (s t : CloudState) (old new : Work) (turn : Turn Answer) : Type 0 where
+  pub same : d ≡ c
+  pub free : TakesFree ask s t.now
+  pub lasting : NamesLasting ask t.now
+  pub received : ReceivesLate ask (leases_of old) t.now → ⊥
+  pub explains : Explains ask c d s t old new turn
+
+same_ask : (a b : Ask) → Some a ≡ Some b → a ≡ b
+same_ask a b e = cc
+
+module _ (who : Caller) (before after : Seen) (old new : Acting) (turn : Turn Answer) (p : StepsSession who before after old new (Ok turn)) (calm : StepsCalmly who before after old new turn p)
+    (explained : (s t : CloudState) → before.state ≡ Some s → after.state ≡ Some t → IsExplained who before after old new turn s t p) where
+  abbrev s : CloudState
+  s = calm.calm.before
+
+  abbrev t : CloudState
+  t = calm.calm.after
+
+  abbrev x : IsExplained who before after old new turn s t p
+  x = explained s t calm.calm.told calm.calm.left
+
+  one : x.ask ≡ calm.ask
+  one = same_ask x.ask calm.ask (sym x.hand ∙ calm.hand)
+
+  pub calmly : IsCalmly calm.ask before.counts after.counts s t old.work new.work turn
+  calmly = record {
+    same = calm.calm.counts;
+    free = calm.calm.free;
+    lasting = calm.calm.lasting;
+    received = calm.received;
+    explains = subst (λ a. Explains a before.counts after.counts s t old.work new.work turn) one (x.explains calm.memory);
+  }
+
+-- a calm step that goes on leaves what is at work untroubled
+pub step_untroubled : (who : Caller) (before after : Seen) (old new : Acting) (p : StepsSession who before after old new (Ok More)) → StepsCalmly who before after old new More p
+    → ((s t : CloudState) → before.state ≡ Some s → after.state ≡ Some t → IsExplained who before after old new More s t p) → IsUntroubled old.work → IsUntroubled new.work
+step_untroubled who before after old new p calm explained well =
+    let c = calmly who before after old new More p calm explained in
+    goes_untroubled calm.ask before.counts after.counts calm.calm.before calm.calm.after old.work new.work c.same c.free c.lasting c.received well c.explains
+
+-- an answer of a calm step has no trouble that a call brought, and no failed deletions
+pub answer_untroubled : (who : Caller) (before after : Seen) (old new : Acting) (a : Answer) (p : StepsSession who before after old new (Ok (Ended a)))
+    → StepsCalmly who before after old new (Ended a) p
+    → ((s t : CloudState) → before.state ≡ Some s → after.state ≡ Some t → IsExplained who before after old new (Ended a) s t p) → IsUntroubled old.work
+    → ((k : Trouble) → trouble_of_answer a ≡ Some k → IsOfNoCall k) × (left_told new.work (Ended a) ≡ 0)
+answer_untroubled who before after old new a p calm explained well =
+    let c = calmly who before after old new (Ended a) p calm explained in
+    (answers_untroubled calm.ask before.counts after.counts calm.calm.before calm.calm.after old.work new.work c.same c.free c.lasting c.received well a c.explains,
+    no_left calm.ask before.counts after.counts calm.calm.before calm.calm.after old.work new.work c.same c.free c.lasting c.received well (Ended a) c.explains)
+
+-- ---- behind an answer
+
+pub at_rest : (w : Work) → trouble_in w ≡ None → left_in w ≡ 0 → IsUntroubled w
+at_rest w none left = record { trouble = λ k is. absurd (no_trouble k (sym none ∙ is)); left = left }
+
+pub rests_as : (w v : Work) → w ≡ v → IsUntroubled v → IsUntroubled w
+rests_as w v e well = subst IsUntroubled (sym e) well
+
+pub idle_rests : (home : Home) → IsUntroubled (Idle home)
+idle_rests home = at_rest (Idle home) refl refl
+
+pub closed_rests : IsUntroubled Closed
+closed_rests = at_rest Closed refl refl
+
+pub stopped_rests : (k : Trouble) (home : Home) → IsUntroubled (stopped_work k home)
+stopped_rests trouble.Memory home = at_rest (Broken home.lease) refl refl
+stopped_rests k home = idle_rests home
+
+opened_rests : (home : Option Home) → IsUntroubled (opened_work home)
+opened_rests (Some home) = idle_rests home
+opened_rests None = closed_rests
+
+committed_rests : (a : CommitAnswer) (home : Home) → IsUntroubled (committed_work a home)
+committed_rests InDoubt home = at_rest (Broken home.lease) refl refl
+committed_rests (CommittedOpen t) home = at_rest (Broken home.lease) refl refl
+committed_rests (Committed txn) home = idle_rests home
+committed_rests (NotCommitted t) home = idle_rests home
+
+-- a scan that is answered
+follows_rests : (home : Home) (buffer : List Noted) (m : Listing) (c : Cache) (moved : Turn ℕ) (new : Work) (shown : Shown) (a : Answer) → Follows home buffer m c moved new shown (Ended a)
+    → IsUntroubled new
+follows_rests home buffer m c More new shown a f = absurd (goes_on a f.2)
+  where
+    goes_on : (a : Answer) → (let x : Turn Answer = Ended a in let y : Turn Answer = More in x ≡ y) → ⊥
+    goes_on a e = cc
+follows_rests home buffer m c (Ended page) new shown a f = lists a f
+  where
+    lists : (a : Answer) → ListsLeaf home buffer m c new shown (Ended a) → IsUntroubled new
+    lists answer.Scan l = rests_as new (Idle home) l.3 (idle_rests home)
+    lists (answer.Trouble t) l = rests_as new (Broken home.lease) l.1 (at_rest (Broken home.lease) refl refl)
+    lists a never = absurd never
+follows_rests home buffer m c (Stopped t) new shown a f = rests_as new (stopped_work t home) f.0 (stopped_rests t home)
+
+-- what an answer leaves in hand is at rest
+pub answered_rests : (who : Caller) (before after : Seen) (w new : Work) (a : Answer) → StepsAt who before after w new (Ended a) → IsUntroubled new
+answered_rests who before after (Opening m) new (answer.Opened epoch) p = rests_as new (opened_work (home_of p.1.0)) p.1.2 (opened_rests (home_of p.1.0))
+answered_rests who before after (Opening m) new (answer.Trouble k) p = rests_as new Closed p.1.2 closed_rests
+answered_rests who before after (Opening m) new a p = absurd p.1
+answered_rests who before after (Committing m) new (answer.Commit a) p = rests_as new (committed_work a (home_of_run p.3.0)) p.3.2 (committed_rests a (home_of_run p.3.0))
+answered_rests who before after (Committing m) new (answer.Trouble k) p = rests_as new (Broken (home_of_run p.3.0).lease) p.3.2 (at_rest (Broken (home_of_run p.3.0).lease) refl refl)
+answered_rests who before after (Committing m) new a p = absurd p.3
+answered_rests who before after (Reading home m) new answer.Value p = rests_as new (Idle home) p.1 (idle_rests home)
+answered_rests who before after (Reading home m) new (answer.Trouble k) p = rests_as new (stopped_work k home) p.1 (stopped_rests k home)
+answered_rests who before after (Reading home m) new a p = absurd p
+answered_rests who before after (Scanning home m) new a (buffer, c, d, shown, p) = follows_rests home buffer (record { scan = p.scan; pairs = m.pairs }) d p.moved new shown a p.follows
+answered_rests who before after (Paging home m) new (answer.Done n) p = rests_as new (Idle home) p.2 (idle_rests home)
+answered_rests who before after (Paging home m) new (answer.Trouble k) p = rests_as new (stopped_work k home) p.2 (stopped_rests k home)
+answered_rests who before after (Paging home m) new a p = absurd p
+answered_rests who before after (Folding home m) new (answer.Done n) p = rests_as new (Idle home) p.2 (idle_rests home)
+answered_rests who before after (Folding home m) new (answer.Trouble k) p = rests_as new (stopped_work k home) p.2 (stopped_rests k home)
+answered_rests who before after (Folding home m) new a p = absurd p
+answered_rests who before after (Closing lease) new answer.Closed p = rests_as new Closed p.1 closed_rests
+answered_rests who before after (Closing lease) new (answer.Trouble k) p = rests_as new Closed p.1 closed_rests
+answered_rests who before after (Closing lease) new a p = absurd p
+answered_rests who before after (Renewing home) new (answer.Renewed end) p = rests_as new (Idle p.0) p.2 (idle_rests p.0)
+answered_rests who before after (Renewing home) new (answer.Trouble k) p = rests_as new (stopped_work k p.0) p.2 (stopped_rests k p.0)
+answered_rests who before after (Renewing home) new a p = absurd p
+answered_rests who before after (Settling m) new (answer.Settled n) p = rests_as new Closed p.1.3 closed_rests
+answered_rests who before after (Settling m) new (answer.Trouble k) p = rests_as new Closed p.1.2 closed_rests
+answered_rests who before after (Settling m) new a p = absurd p.1
+answered_rests who before after Closed new a p = absurd p
+answered_rests who before after (Idle home) new a p = absurd p
+answered_rests who before after (Broken lease) new a p = absurd p
+
+-- ---- the end of a commit
+
+scan_no_commit : (home : Home) (buffer : List Noted) (m : Listing) (c : Cache) (moved : Turn ℕ) (new : Work) (shown : Shown) (a : CommitAnswer)
+    → Follows home buffer m c moved new shown (Ended (answer.Commit a)) → ⊥
+scan_no_commit home buffer m c More new shown a f = cc (f.2)
+scan_no_commit home buffer m c (Ended page) new shown a never = never
+scan_no_commit home buffer m c (Stopped t) new shown a f = cc (f.2)
+
+tells_at : (who : Caller) (before after : Seen) (buffer : List Noted) (w : Work) (c d : Cache) (new : Work) (shown : Shown) (a : CommitAnswer)
+    → (p : StepsAt who before after w new (Ended (answer.Commit a))) → (q : ShowsAt who before after buffer w c d new shown (Ended (answer.Commit a)))
+    → reply_at who before after buffer w c d new shown (Ended (answer.Commit a)) p q ≢ Memory → IsTold a
+tells_at who before after buffer (Committing m) c d new shown a p q found = subst EndsTold q.0.1.took (run_tells (m, c) q.0.1.answer found)
+tells_at who before after buffer (Opening m) c d new shown a p q found = absurd p.1
+tells_at who before after buffer (Reading home m) c d new shown a p q found = absurd p
+tells_at who before after buffer (Scanning home m) c d new shown a p q found =
+    absurd (scan_no_commit home buffer (record { scan = q.scan; pairs = m.pairs }) d q.moved new shown a q.follows)
+tells_at who before after buffer (Paging home m) c d new shown a p q found = absurd p
+tells_at who before after buffer (Folding home m) c d new shown a p q found = absurd p
+tells_at who before after buffer (Closing lease) c d new shown a p q found = absurd p
+tells_at who before after buffer (Renewing home) c d new shown a p q found = absurd p
+tells_at who before after buffer (Settling m) c d new shown a p q found = absurd p.1
+tells_at who before after buffer Closed c d new shown a p q found = absurd p
+tells_at who before after buffer (Idle home) c d new shown a p q found = absurd p
+tells_at who before after buffer (Broken lease) c d new shown a p q found = absurd p
+
+-- that of a step whose call found memory
+pub commit_tells : (who : Caller) (before after : Seen) (old new : Acting) (a : CommitAnswer) → (p : StepsSession who before after old new (Ok (Ended (answer.Commit a))))
+    → reply_of who before after old new (Ended (answer.Commit a)) p ≢ Memory → IsTold a
+commit_tells who before after old new a p found = tells_at who before after new.buffer old.work old.cache p.shown.0 new.work new.shown a p.work p.shown.1 found
+
+-- a commit that is refused for no call, or stays open for none
+abbrev pub IsOfNone : CommitAnswer → Type 0
+IsOfNone c = (k : Trouble) → trouble_of_commit c ≡ Some k → IsOfNoCall k
+
+pub commit_well : (c : CommitAnswer) → IsTold c → IsOfNone c → MayEnd c → CommitsWell c
+commit_well (Committed txn) told none may = tt
+commit_well InDoubt told none may = none trouble.Failed refl
+commit_well (CommittedOpen t) told none may = told (none t refl)
+commit_well (NotCommitted t) told none may = on t told (none t refl) may
+  where
+    on : (k : Trouble) → (k ≢ trouble.Memory) → IsOfNoCall k → MayStopCommit k → IsSpent k
+    on (trouble.Exhausted what) told none may = tt
+    on trouble.Memory told none may = absurd (told refl)
+    on trouble.Failed told none may = none
+    on (trouble.Late end now) told none may = none
+    on k told none may = absurd may

@@ -1,0 +1,612 @@
+-- A line whose calls are all calm is answered well.
+use Rattle.std.proofs.Common.{◌≡◌, ◌≢◌, ◌+◌, inl, inr, ℕ, List, [], ◌∷◌, ◌++◌, length, Bool, true, false, Option, Some, None, Result, Ok, Err, refl, sym, ap, subst, ◌∙◌}
+use Rattle.client_session.specs.Session.{Acting, StepsSession, StepsAt, Follows, ListsLeaf, Begins, closed_session, settling_session, items_of, value_of}
+use Rattle.client_session.specs.declared.answer.Answer.{Answer}
+use Rattle.client_session.specs.declared.answer.Answer.TheVariants as answer
+use Rattle.client_session.specs.declared.answer.Begun.{Begun}
+use Rattle.client_session.specs.declared.answer.Begun.TheVariants.{Working as BegunWorking, Answered}
+use Rattle.client_session.specs.declared.listing.Listing.{Listing}
+use Rattle.client_session.specs.declared.op.Op.{Op}
+use Rattle.client_session.specs.declared.op.Op.TheVariants as op
+use Rattle.client_session.specs.declared.shown.Shown.{Shown}
+use Rattle.client_session.specs.declared.work.Work.{Work}
+use Rattle.client_session.specs.declared.work.Work.TheVariants as work
+use Rattle.cloud_facts.specs.Book.Tally.{at}
+use Rattle.cloud_facts.proofs.Book.Names.{at_same}
+use Rattle.cloud_trait.specs.Caller.{Caller}
+use Rattle.cloud_trait.specs.Seen.{Seen}
+use Rattle.cloud_trait.specs.State.{CloudState}
+use Rattle.cloud_trait.specs.declared.turn.Turn.{Turn}
+use Rattle.cloud_trait.specs.declared.turn.Turn.TheVariants.{More, Ended, Stopped}
+use Rattle.db_base.specs.declared.change.Change.{Change}
+use Rattle.db_base.specs.declared.refusal.Refusal.{Refusal}
+use Rattle.db_base.specs.declared.refusal.Refused.{Refused}
+use Rattle.db_base.specs.declared.refusal.Refused.TheVariants as refused
+use Rattle.db_base.specs.declared.trouble.CommitAnswer.{CommitAnswer}
+use Rattle.db_base.specs.declared.trouble.CommitAnswer.TheVariants as ending
+use Rattle.db_base.specs.declared.trouble.Trouble.{Trouble}
+use Rattle.db_base.specs.declared.trouble.Trouble.TheVariants as trouble
+use Rattle.db_base.specs.declared.wish.Wish.{Wish}
+use Rattle.db_base.specs.declared.wish.Wish.TheVariants.{Plain}
+use Rattle.event_text.specs.declared.event.Event.{Event}
+use Rattle.event_text.specs.declared.event.Event.TheVariants as event
+use Rattle.page_cache.specs.Cache.{Cache}
+use Rattle.recover_run.specs.declared.home.Home.{Home}
+use Rattle.replay_meaning.specs.Standing.{Line, Task, Opening, Closing, Renewing, Committing, Reading, Scanning, Paging, Folding, Posture, Closed, Idle, Broken, Working, Standing, session_of, standing}
+use Rattle.replay_model.specs.Answers.{IsSoundReply}
+use Rattle.replay_model.specs.Facts.{session_at, WorksAs}
+use Rattle.reply_text.specs.declared.reply.Reply.{Reply}
+use Rattle.reply_text.specs.declared.reply.Reply.TheVariants as reply
+use Rattle.session_facts.specs.CommitRuns.Stopping.{MayStop as MayStopCommit}
+use Rattle.session_facts.specs.Openings.Opening.{MayStop as MayStopOpening}
+use Rattle.session_facts.specs.PageCheckpoints.Checkpoint.{MayStop as MayStopPage}
+use Rattle.session_facts.specs.Sessions.Answering.{MayRefuse, MaySettle}
+use Rattle.session_facts.specs.Sessions.Explaining.{left_told, trouble_of_answer}
+use Rattle.session_facts.specs.Sessions.Sessions.{Sessions, IsRightOp}
+use Rattle.session_facts.specs.Sessions.Untroubled.{StepsCalmly, IsOfNoCall, IsUntroubled, IsSpent, IsSpentOrOf, CommitsWell}
+use Rattle.session_facts.specs.TreeCheckpoints.Checkpoint.{MayStop as MayStopTree}
+use Rattle.session_facts.specs.Walks.Walks.{MayStop as MayStopWalk}
+use Rattle.session_facts.proofs.CommitRuns.Telling.{IsTold}
+use Rattle.session_facts.proofs.Sessions.AtOnce.{IsAtOnce, begins_at_once, begins_untroubled}
+use Rattle.session_facts.proofs.Sessions.Untroubled.{step_untroubled, answer_untroubled, answered_rests, closed_rests, at_rest, commit_tells, commit_well}
+use Rattle.txn_buffer.specs.Noted.{Noted}
+use Rattle.world_core.specs.declared.asked.Asked.{Asked}
+use Rattle.world_core.specs.declared.asked.Asked.TheVariants.{Session, Wait, Report, Settle}
+use Rattle.world_core.specs.declared.asked.Request.{Request}
+use Rattle.world_core.specs.declared.asked.Request.TheVariants.{Begin, Note, Abort, Step, Run, Crash}
+use Rattle.world_core.specs.declared.world.World.{World}
+use Rattle.world_core.specs.declared.world.WorldFault.{WorldFault}
+use Rattle.world_core.specs.Asked.{Asks, OfSession, IsOpening, IsReading, IsScanning, IsPaging, IsFolding, IsInsert, IsUpdate, IsDelete, IsNoted, IsStep, bound_of}
+use Rattle.world_core.specs.Calm.{StepIsCalm, work_at, DoesWell, BeginsWell, RunsWell, StepsWell, SettlesWell, RepliesWell, AnswersWell}
+use Rattle.world_core.specs.EachStep.{EachWent, EachCome, EachMade, EachRun, EachCrashed, EachSettlingOn, EachSettling, EachDone, EachServed, EachAsked}
+use Rattle.world_core.specs.Explained.{StepExplains}
+use Rattle.world_core.specs.Handled.{Declines, Has, BeginsOp, NotesChange, DropsChanges, MakesNoCall, StepsLooked, MakesStep, Went, start, further, ComesTo, Runs, SettlesTo, SettlesOn, Settles, Crashes, Does, Serves, Answers, Handled}
+use Rattle.world_core.specs.Replying.{RepliesTo, RepliesBegun, RepliesSettled, RepliesTurn, declined, value_reply}
+use Rattle.world_core.specs.Sessions.{Changes, NotesIn, AbortsIn}
+use Rattle.world_core.specs.Sound.{IsSoundFor}
+use Rattle.world_core.specs.Stands.{WorldStands}
+use Rattle.world_core.proofs.Explained.{explained}
+use Rattle.world_core.proofs.Sound.{sound_after}
+use Rattle.world_core.proofs.StandsLemmas.{IsUnderWay, changed_at, changed_was, has_at, way_begins, steps_own, went_on, no_stop, no_memory, replies_to, settler}
+
+-- ---- troubles that no call brought
+
+opening_spent : (k : Trouble) → MayStopOpening k → IsOfNoCall k → (k ≡ trouble.Memory → ⊥) → IsSpent k
+opening_spent (trouble.Exhausted what) may none other = tt
+opening_spent trouble.Memory may none other = other refl
+opening_spent trouble.Failed may none other = none
+opening_spent (trouble.Late end now) may none other = none
+opening_spent (trouble.Busy lock until) may none other = none
+opening_spent (trouble.Waiting have need) may none other = none
+opening_spent k may none other = may
+
+commit_spent : (k : Trouble) → MayStopCommit k → IsOfNoCall k → (k ≡ trouble.Memory → ⊥) → IsSpent k
+commit_spent (trouble.Exhausted what) may none other = tt
+commit_spent trouble.Memory may none other = other refl
+commit_spent trouble.Failed may none other = none
+commit_spent (trouble.Late end now) may none other = none
+commit_spent k may none other = may
+
+tree_spent : (k : Trouble) → MayStopTree k → IsOfNoCall k → (k ≡ trouble.Memory → ⊥) → IsSpent k
+tree_spent (trouble.Exhausted what) may none other = tt
+tree_spent trouble.Memory may none other = other refl
+tree_spent trouble.Failed may none other = none
+tree_spent (trouble.Late end now) may none other = none
+tree_spent (trouble.Busy lock until) may none other = none
+tree_spent k may none other = may
+
+settled_spent : (k : Trouble) → MaySettle k → IsOfNoCall k → (k ≡ trouble.Memory → ⊥) → IsSpent k
+settled_spent (trouble.Exhausted what) may none other = tt
+settled_spent trouble.Memory may none other = other refl
+settled_spent trouble.Failed may none other = none
+settled_spent (trouble.Late end now) may none other = none
+settled_spent (trouble.Busy lock until) may none other = none
+settled_spent (trouble.Waiting have need) may none other = none
+settled_spent k may none other = may
+
+page_spent : (page : ℕ) (k : Trouble) → MayStopPage page k → IsOfNoCall k → (k ≡ trouble.Memory → ⊥) → IsSpentOrOf page k
+page_spent page (trouble.Exhausted what) may none other = tt
+page_spent page (trouble.Absent named) may none other = may
+page_spent page (trouble.NotALeaf named) may none other = may
+page_spent page trouble.Memory may none other = other refl
+page_spent page trouble.Failed may none other = none
+page_spent page (trouble.Late end now) may none other = none
+page_spent page (trouble.Busy lock until) may none other = none
+page_spent page k may none other = may
+
+refuse_never : (k : Trouble) → MayRefuse k → IsOfNoCall k → (k ≡ trouble.Memory → ⊥) → ⊥
+refuse_never trouble.Memory may none other = other refl
+refuse_never trouble.Failed may none other = none
+refuse_never (trouble.Late end now) may none other = none
+refuse_never k may none other = may
+
+walk_never : (k : Trouble) → MayStopWalk k → IsOfNoCall k → (k ≡ trouble.Memory → ⊥) → ⊥
+walk_never trouble.Memory may none other = other refl
+walk_never trouble.Failed may none other = none
+walk_never (trouble.Stale page least got) may none other = none
+walk_never k may none other = may
+
+-- ---- the answer of an operation
+
+-- which answers an operation has beside a trouble
+abbrev IsAnswerOf : Task → Answer → Type 0
+IsAnswerOf Opening (answer.Opened epoch) = Unit {0}
+IsAnswerOf Closing answer.Closed = Unit {0}
+IsAnswerOf Renewing (answer.Renewed end) = Unit {0}
+IsAnswerOf (Committing changes) (answer.Commit c) = Unit {0}
+IsAnswerOf (Reading tree key) answer.Value = Unit {0}
+IsAnswerOf (Scanning tree from to) answer.Scan = Unit {0}
+IsAnswerOf (Paging tree page) (answer.Done n) = Unit {0}
+IsAnswerOf (Folding tree) (answer.Done n) = Unit {0}
+IsAnswerOf task (answer.Trouble k) = Unit {0}
+IsAnswerOf task a = ⊥
+
+-- what a session at work has is answered so
+record AnswersAs (s : Standing) (a : Answer) : Type 0 where
+  task : Task
+  posture : s.posture ≡ Working task
+  of : IsAnswerOf task a
+
+scan_answers : (home : Home) (buffer : List Noted) (m : Listing) (c : Cache) (moved : Turn ℕ) (new : Work) (shown : Shown) (a : Answer) (tree : ℕ) (from to : List ℕ)
+    → Follows home buffer m c moved new shown (Ended a) → IsAnswerOf (Scanning tree from to) a
+scan_answers home buffer m c moved new shown answer.Scan tree from to f = tt
+scan_answers home buffer m c moved new shown (answer.Trouble k) tree from to f = tt
+scan_answers home buffer m c More new shown a tree from to f = absurd (cc (f.2))
+scan_answers home buffer m c (Ended page) new shown a tree from to never = absurd never
+scan_answers home buffer m c (Stopped t) new shown a tree from to f = absurd (cc (f.2))
+
+answers_as : (who : Caller) (before after : Seen) (w new : Work) (s : Standing) (a : Answer) → StepsAt who before after w new (Ended a) → WorksAs w s → AnswersAs s a
+answers_as who before after (work.Opening m) new s (answer.Opened epoch) p acts = record { task = Opening; posture = acts.0; of = tt }
+answers_as who before after (work.Opening m) new s (answer.Trouble k) p acts = record { task = Opening; posture = acts.0; of = tt }
+answers_as who before after (work.Opening m) new s a p acts = absurd p.1
+answers_as who before after (work.Committing m) new s (answer.Commit c) p acts = record { task = Committing m.draft.writes.changes; posture = acts.0; of = tt }
+answers_as who before after (work.Committing m) new s (answer.Trouble k) p acts = record { task = Committing m.draft.writes.changes; posture = acts.0; of = tt }
+answers_as who before after (work.Committing m) new s a p acts = absurd p.3
+answers_as who before after (work.Reading home m) new s answer.Value p acts = record { task = _; posture = acts.0; of = tt }
+answers_as who before after (work.Reading home m) new s (answer.Trouble k) p acts = record { task = _; posture = acts.0; of = tt }
+answers_as who before after (work.Reading home m) new s a p acts = absurd p
+answers_as who before after (work.Scanning home m) new s a (buffer, c, d, shown, p) acts =
+    record { task = _; posture = acts.0; of = scan_answers home buffer (record { scan = p.scan; pairs = m.pairs }) d p.moved new shown a _ _ _ p.follows }
+answers_as who before after (work.Paging home m) new s (answer.Done n) p acts = record { task = Paging m.tree m.page; posture = acts.0; of = tt }
+answers_as who before after (work.Paging home m) new s (answer.Trouble k) p acts = record { task = Paging m.tree m.page; posture = acts.0; of = tt }
+answers_as who before after (work.Paging home m) new s a p acts = absurd p
+answers_as who before after (work.Folding home m) new s (answer.Done n) p acts = record { task = Folding m.tree; posture = acts.0; of = tt }
+answers_as who before after (work.Folding home m) new s (answer.Trouble k) p acts = record { task = Folding m.tree; posture = acts.0; of = tt }
+answers_as who before after (work.Folding home m) new s a p acts = absurd p
+answers_as who before after (work.Closing lease) new s answer.Closed p acts = record { task = Closing; posture = acts; of = tt }
+answers_as who before after (work.Closing lease) new s (answer.Trouble k) p acts = record { task = Closing; posture = acts; of = tt }
+answers_as who before after (work.Closing lease) new s a p acts = absurd p
+answers_as who before after (work.Renewing home) new s (answer.Renewed end) p acts = record { task = Renewing; posture = acts.0; of = tt }
+answers_as who before after (work.Renewing home) new s (answer.Trouble k) p acts = record { task = Renewing; posture = acts.0; of = tt }
+answers_as who before after (work.Renewing home) new s a p acts = absurd p
+answers_as who before after (work.Settling m) new s a p acts = absurd acts
+answers_as who before after work.Closed new s a p acts = absurd p
+answers_as who before after (work.Idle home) new s a p acts = absurd p
+answers_as who before after (work.Broken lease) new s a p acts = absurd p
+
+-- what is known of an answer: no call brought its trouble, no deletion failed, and what a commit tells
+record IsOfNone (w : Work) (a : Answer) : Type 0 where
+  trouble : (k : Trouble) → trouble_of_answer a ≡ Some k → IsOfNoCall k
+  left : left_told w (Ended a) ≡ 0
+  told : (c : CommitAnswer) → a ≡ answer.Commit c → IsTold c
+
+-- a sound reply to it is one that the operation did well
+trouble_well : (task : Task) (k : Trouble) → IsSoundReply (Working task) (reply.Trouble k) → IsOfNoCall k → (k ≡ trouble.Memory → ⊥) → DoesWell task (reply.Trouble k)
+trouble_well Opening k may none other = opening_spent k may none other
+trouble_well Closing k may none other = refuse_never k may none other
+trouble_well Renewing k may none other = refuse_never k may none other
+trouble_well (Committing changes) k may none other = commit_spent k may none other
+trouble_well (Reading tree key) k may none other = walk_never k may none other
+trouble_well (Scanning tree from to) k may none other = walk_never k may none other
+trouble_well (Paging tree page) k may none other = page_spent page k may none other
+trouble_well (Folding tree) k may none other = tree_spent k may none other
+
+value_well : (tree : ℕ) (key : List ℕ) (value : Option (List ℕ)) (r : Reply) → r ≡ value_reply value → DoesWell (Reading tree key) r
+value_well tree key None r e = subst (DoesWell (Reading tree key)) (sym e) tt
+value_well tree key (Some payload) r e = subst (DoesWell (Reading tree key)) (sym e) tt
+
+troubled : (task : Task) (k : Trouble) (left : Acting) (r : Reply) → IsSoundReply (Working task) r → RepliesTo (answer.Trouble k) left (Ok r) → IsOfNoCall k → DoesWell task r
+troubled task k left r sound e none =
+    let is = replies_to (answer.Trouble k) left r e in
+    subst (DoesWell task) (sym is.0.0) (trouble_well task k (subst (IsSoundReply (Working task)) is.0.0 sound) none is.0.1)
+
+answer_well : (task : Task) (a : Answer) (left : Acting) (r : Reply) → IsAnswerOf task a → IsSoundReply (Working task) r → RepliesTo a left (Ok r) → IsOfNone left.work a → DoesWell task r
+answer_well task (answer.Trouble k) left r of sound e none = troubled task k left r sound e (none.trouble k refl)
+answer_well Opening (answer.Opened epoch) left r of sound e none = let is : r ≡ reply.Opened epoch = cc in subst (DoesWell Opening) (sym is) tt
+answer_well Closing answer.Closed left r of sound e none = let is : r ≡ reply.Closed = cc in subst (DoesWell Closing) (sym is) tt
+answer_well Renewing (answer.Renewed end) left r of sound e none = let is : r ≡ reply.Renewed end = cc in subst (DoesWell Renewing) (sym is) tt
+answer_well (Committing changes) (answer.Commit c) left r of sound e none =
+    let is : r ≡ reply.Commit c = cc in
+    subst (DoesWell (Committing changes)) (sym is) (commit_well c (none.told c refl) none.trouble (subst (IsSoundReply (Working (Committing changes))) is sound))
+answer_well (Reading tree key) answer.Value left r of sound e none = value_well tree key (value_of left) r e
+answer_well (Scanning tree from to) answer.Scan left r of sound e none = subst (DoesWell (Scanning tree from to)) (sym e) tt
+answer_well (Paging tree page) (answer.Done n) left r of sound e none =
+    let is : r ≡ reply.Done n = cc in
+    subst (DoesWell (Paging tree page)) (sym is) none.left
+answer_well (Folding tree) (answer.Done n) left r of sound e none =
+    let is : r ≡ reply.Done n = cc in
+    subst (DoesWell (Folding tree)) (sym is) none.left
+answer_well task a left r of sound e none = absurd of
+
+-- ---- steps
+
+-- the session of a world in which it changed
+session_is : (who : Caller) (wish : Wish) (before after : Seen) (old new : World) (turn : Turn Answer) → (p : StepsLooked who wish before after old new turn)
+    → session_at new.sessions who.session ≡ p.session.after
+session_is who wish before after old new turn p =
+    changed_at who.session _ old.sessions new.sessions p.session who.session ∙ at_same who.session p.session.after (session_at old.sessions) who.session refl
+
+module _ (who : Caller) (wish : Wish) (before after : Seen) (old new : World) (turn : Turn Answer) (p : StepsLooked who wish before after old new turn) where
+  untroubled_before : IsUntroubled (work_at old who.session) → IsUntroubled p.session.before.work
+  untroubled_before well = subst (λ (a : Acting). IsUntroubled a.work) (changed_was who.session _ old.sessions new.sessions p.session) well
+
+  untroubled_after : IsUntroubled p.session.after.work → IsUntroubled (work_at new who.session)
+  untroubled_after well = subst (λ (a : Acting). IsUntroubled a.work) (sym (session_is who wish before after old new turn p)) well
+
+goes_calmly : (who : Caller) (wish : Wish) (before after : Seen) (old new : World) (p : StepsLooked who wish before after old new More) → StepIsCalm who wish before after old new More p
+    → StepExplains who wish before after old new More p → IsUntroubled (work_at old who.session) → IsUntroubled (work_at new who.session)
+goes_calmly who wish before after old new p calm explains well =
+    untroubled_after who wish before after old new More p
+    (step_untroubled who p.under p.to p.session.before p.session.after p.session.does calm explains (untroubled_before who wish before after old new More p well))
+
+went_calmly : (who : Caller) (before : Seen) (old : World) (after : Seen) (new : World) (went : Went who before old after new) → EachWent StepIsCalm who before old after new went
+    → EachWent StepExplains who before old after new went → IsUntroubled (work_at old who.session) → IsUntroubled (work_at new who.session)
+went_calmly who before old after new start calm explains well = well
+went_calmly who before old after new (further mid _ world _ went step) calm explains well =
+    goes_calmly who Plain mid after world new step calm.1 explains.1 (went_calmly who before old mid world went calm.0 explains.0 well)
+
+tells_any : (who : Caller) (before after : Seen) (old new : Acting) (a : Answer) (p : StepsSession who before after old new (Ok (Ended a))) → StepsCalmly who before after old new (Ended a) p
+    → (c : CommitAnswer) → a ≡ answer.Commit c → IsTold c
+tells_any who before after old new (answer.Commit b) p calm c e = let same : b ≡ c = cc in subst IsTold same (commit_tells who before after old new b p calm.memory)
+tells_any who before after old new a p calm c e = absurd (cc (e))
+
+-- the answer of a calm step
+answers_calmly : (who : Caller) (wish : Wish) (before after : Seen) (old new : World) (a : Answer) (p : StepsLooked who wish before after old new (Ended a))
+    → StepIsCalm who wish before after old new (Ended a) p → StepExplains who wish before after old new (Ended a) p → IsUntroubled (work_at old who.session)
+    → IsOfNone p.session.after.work a
+answers_calmly who wish before after old new a p calm explains well =
+    let is = answer_untroubled who p.under p.to p.session.before p.session.after a p.session.does calm explains (untroubled_before who wish before after old new (Ended a) p well) in
+    record { trouble = is.0; left = is.1; told = tells_any who p.under p.to p.session.before p.session.after a p.session.does calm }
+
+answers_rest : (who : Caller) (wish : Wish) (before after : Seen) (old new : World) (a : Answer) (p : StepsLooked who wish before after old new (Ended a)) → IsUntroubled (work_at new who.session)
+answers_rest who wish before after old new a p =
+    untroubled_after who wish before after old new (Ended a) p (answered_rests who p.under p.to p.session.before.work p.session.after.work a p.session.does.work)
+
+-- ---- replies
+
+refused_runs : (posture : Posture) (r : Reply) (rule : Refusal) → r ≡ reply.Refused rule → RunsWell posture r
+refused_runs posture r rule e = subst (RunsWell posture) (sym e) tt
+
+runs_of : (posture : Posture) (task : Task) (r : Reply) → posture ≡ Working task → DoesWell task r → RunsWell posture r
+runs_of posture task r is does = subst (λ (q : Posture). RunsWell q r) (sym is) (on r does)
+  where
+    on : (q : Reply) → DoesWell task q → RunsWell (Working task) q
+    on (reply.Refused rule) does = tt
+    on q does = does
+
+steps_of : (posture : Posture) (r : Reply) → RunsWell posture r → StepsWell posture r
+steps_of posture reply.Called runs = tt
+steps_of posture r runs = runs
+
+-- ---- what a line asks of a session
+
+unchanged : (k : ℕ) (old new : World) → new ≡ old → IsUntroubled (work_at old k) → IsUntroubled (work_at new k)
+unchanged k old new same well = subst (λ (w : World). IsUntroubled (work_at w k)) (sym same) well
+
+-- where one session changes
+changes_to : (k : ℕ) (Does : Acting → Acting → Type 0) (old new : World) (c : Changes k Does old.sessions new.sessions) → session_at new.sessions k ≡ c.after
+changes_to k Does old new c = changed_at k Does old.sessions new.sessions c k ∙ at_same k c.after (session_at old.sessions) k refl
+
+rests_after : (k : ℕ) (Does : Acting → Acting → Type 0) (old new : World) (c : Changes k Does old.sessions new.sessions) → (IsUntroubled c.before.work → IsUntroubled c.after.work)
+    → IsUntroubled (work_at old k) → IsUntroubled (work_at new k)
+rests_after k Does old new c leaves well =
+    subst (λ (a : Acting). IsUntroubled a.work) (sym (changes_to k Does old new c))
+    (leaves (subst (λ (a : Acting). IsUntroubled a.work) (changed_was k Does old.sessions new.sessions c) well))
+
+has_closed : (k : ℕ) (old new : World) → Has k closed_session old new → IsUntroubled (work_at new k)
+has_closed k old new has =
+    subst (λ (a : Acting). IsUntroubled a.work) (sym (has_at k closed_session old new has k ∙ at_same k closed_session (session_at old.sessions) k refl)) closed_rests
+
+module _ (lines : List Line) (n k : ℕ) (before after : Seen) (old new : World) (r : Reply) (t : CloudState) (number : length lines + 1 ≡ n) (told : before.state ≡ Some t)
+    (stands : WorldStands lines old t) (well : IsUntroubled (work_at old k)) where
+  abbrev who : Caller
+  who = record { session = k; event = n }
+
+  abbrev posture : Posture
+  posture = (standing lines k).posture
+
+  way : IsUnderWay lines old before
+  way = way_begins lines before old t told stands
+
+  -- a step that is answered, behind some that went on
+  ended_well : (wish : Wish) (mid : Seen) (world : World) (a : Answer) → IsUnderWay lines world mid → (p : StepsLooked who wish mid after world new (Ended a))
+      → StepIsCalm who wish mid after world new (Ended a) p → StepExplains who wish mid after world new (Ended a) p → IsUntroubled (work_at world k)
+      → IsSoundReply posture r → RepliesTo a p.session.after (Ok r) → RunsWell posture r
+  ended_well wish mid world a on p calm explains still sound replies =
+      let own = steps_own lines who wish mid after world new (Ended a) (sym number) on p in
+      let as = answers_as who p.under p.to (session_at world.sessions k).work p.session.after.work (standing lines k) a own.work (on.goes.acts k).work in
+      runs_of posture as.task r as.posture
+      (answer_well as.task a p.session.after r as.of (subst (λ (q : Posture). IsSoundReply q r) as.posture sound) replies
+      (answers_calmly who wish mid after world new a p calm explains still))
+
+  not_done : (why : Refused) → Declines why before after old new (Ok r) → IsUntroubled (work_at new k) × ((rule : Refusal) × (r ≡ reply.Refused rule))
+  not_done (refused.Rule rule) h = let is : r ≡ reply.Refused rule = cc (h.reply) in (unchanged k old new h.world well, (rule, is))
+  not_done refused.Memory h = absurd (cc (h.reply))
+
+  makes_well : (wish : Wish) (h : MakesStep n k wish before after old new (Ok r)) → EachMade StepIsCalm n k wish before after old new (Ok r) h
+      → EachMade StepExplains n k wish before after old new (Ok r) h → IsSoundReply posture r → IsUntroubled (work_at new k) × StepsWell posture r
+  makes_well wish (inl refuses) calm explains sound =
+      let is = not_done _ refuses.declines in
+      (is.0, steps_of posture r (refused_runs posture r is.1.0 is.1.1))
+  makes_well wish (inr (inl step)) calm explains sound = on step.turn step.steps step.replies calm explains
+    where
+      on : (turn : Turn Answer) (p : StepsLooked who wish before after old new turn) → RepliesTurn turn p.session.after (Ok r) → StepIsCalm who wish before after old new turn p
+          → StepExplains who wish before after old new turn p → IsUntroubled (work_at new k) × StepsWell posture r
+      on More p e calm explains = (goes_calmly who wish before after old new p calm explains well, let is : r ≡ reply.Called = cc in subst (StepsWell posture) (sym is) tt)
+      on (Ended a) p e calm explains =
+          (answers_rest who wish before after old new a p, steps_of posture r (ended_well wish before old a way p calm explains well sound e))
+      on (Stopped q) p e calm explains = absurd (no_stop _ p.under p.to p.session.before p.session.after q p.session.does)
+  makes_well wish (inr (inr memory)) calm explains sound = absurd (no_memory r memory)
+
+  runs_well : (h : Runs n k before after old new (Ok r)) → EachRun StepIsCalm n k before after old new (Ok r) h → EachRun StepExplains n k before after old new (Ok r) h
+      → IsSoundReply posture r → IsUntroubled (work_at new k) × RunsWell posture r
+  runs_well (inl refuses) calm explains sound = let is = not_done _ refuses.declines in (is.0, refused_runs posture r is.1.0 is.1.1)
+  runs_well (inr (inl run)) calm explains sound =
+      let c = run.comes in
+      (answers_rest who Plain c.mid after c.world new run.answer c.steps,
+      ended_well Plain c.mid c.world run.answer (went_on lines who before old c.mid c.world (sym number) way c.went) c.steps calm.1 explains.1
+      (went_calmly who before old c.mid c.world c.went calm.0 explains.0 well) sound run.replies)
+  runs_well (inr (inr memory)) calm explains sound = absurd (no_memory r memory)
+
+  dies_well : (Changes k (λ a b. b ≡ closed_session) old.sessions new.sessions) → IsUntroubled (work_at new k)
+  dies_well c = rests_after k _ old new c (λ w. subst (λ (a : Acting). IsUntroubled a.work) (sym c.does) closed_rests) well
+
+  crash_well : (done : Bool) → Crashes n k done before after old new (Ok r) → IsUntroubled (work_at new k)
+  crash_well false h = dies_well h.closed
+  crash_well true (inl idle) = dies_well idle.dies.closed
+  crash_well true (inr (inl h)) = has_closed k h.world new h.closes
+  crash_well true (inr (inr memory)) = absurd (no_memory r memory)
+
+  notes_well : (tree : ℕ) (change : Change) → Changes k (NotesChange tree change (Ok r)) old.sessions new.sessions → IsUntroubled (work_at new k)
+  notes_well tree change c = rests_after k _ old new c (λ was. on was c.does.noted c.does.notes) well
+    where
+      on : IsUntroubled c.before.work → (done : Result (Unit {0}) Refused) → NotesIn tree change c.before c.after done → IsUntroubled c.after.work
+      on was (Ok x) notes = subst (λ (a : Acting). IsUntroubled a.work) (sym notes.0) was
+      on was (Err why) notes = subst (λ (a : Acting). IsUntroubled a.work) (sym notes.0) was
+
+  aborts_well : Changes k (DropsChanges (Ok r)) old.sessions new.sessions → IsUntroubled (work_at new k)
+  aborts_well c = rests_after k _ old new c (λ was. on was c.does.dropped c.does.drops) well
+    where
+      on : IsUntroubled c.before.work → (done : Result (Unit {0}) Refused) → AbortsIn c.before c.after done → IsUntroubled c.after.work
+      on was (Ok x) drops = subst (λ (a : Acting). IsUntroubled a.work) (sym drops.0) was
+      on was (Err why) drops = subst (λ (a : Acting). IsUntroubled a.work) (sym drops.0) was
+
+  -- ---- begins
+
+  abbrev OpWell : Op → Reply → Type 0
+  OpWell (op.Open client) q = BeginsWell Opening q
+  OpWell op.Close q = BeginsWell Closing q
+  OpWell op.Renew q = BeginsWell Renewing q
+  OpWell op.Commit q = BeginsWell (Committing []) q
+  OpWell (op.Read tree key) q = BeginsWell (Reading tree key) q
+  OpWell (op.Scan tree from to) q = (first last : List ℕ) → BeginsWell (Scanning tree first last) q
+  OpWell (op.Page tree page) q = BeginsWell (Paging tree page) q
+  OpWell (op.Tree tree) q = BeginsWell (Folding tree) q
+
+  op_begun : (o : Op) → OpWell o reply.Begun
+  op_begun (op.Open client) = tt
+  op_begun op.Close = tt
+  op_begun op.Renew = tt
+  op_begun op.Commit = tt
+  op_begun (op.Read tree key) = tt
+  op_begun (op.Scan tree from to) = λ first last. tt
+  op_begun (op.Page tree page) = tt
+  op_begun (op.Tree tree) = tt
+
+  op_refused : (o : Op) (rule : Refusal) → OpWell o (reply.Refused rule)
+  op_refused (op.Open client) rule = tt
+  op_refused op.Close rule = tt
+  op_refused op.Renew rule = tt
+  op_refused op.Commit rule = tt
+  op_refused (op.Read tree key) rule = tt
+  op_refused (op.Scan tree from to) rule = λ first last. tt
+  op_refused (op.Page tree page) rule = tt
+  op_refused (op.Tree tree) rule = tt
+
+  memory_at_once : (o : Op) (q : Trouble) → IsAtOnce o (answer.Trouble q) → q ≡ trouble.Memory
+  memory_at_once (op.Open client) q e = e
+  memory_at_once op.Close q e = e
+  memory_at_once op.Renew q e = e
+  memory_at_once op.Commit q e = e
+  memory_at_once (op.Read tree key) q e = e
+  memory_at_once (op.Scan tree from to) q e = e
+  memory_at_once (op.Page tree page) q e = e
+  memory_at_once (op.Tree tree) q e = e
+
+  value_begins : (tree : ℕ) (key : List ℕ) (value : Option (List ℕ)) → r ≡ value_reply value → BeginsWell (Reading tree key) r
+  value_begins tree key None e = subst (BeginsWell (Reading tree key)) (sym e) tt
+  value_begins tree key (Some payload) e = subst (BeginsWell (Reading tree key)) (sym e) tt
+
+  op_answered : (o : Op) (a : Answer) (left : Acting) → IsAtOnce o a → RepliesTo a left (Ok r) → OpWell o r
+  op_answered o (answer.Trouble q) left is e = absurd ((replies_to (answer.Trouble q) left r e).0.1 (memory_at_once o q is))
+  op_answered op.Commit (answer.Commit c) left is e = let same : r ≡ reply.Commit c = cc (e) in subst (BeginsWell (Committing [])) (sym same) is
+  op_answered (op.Read tree key) answer.Value left is e = value_begins tree key (value_of left) e
+  op_answered (op.Scan tree from to) answer.Scan left is e = λ first last. subst (BeginsWell (Scanning tree first last)) (sym e) tt
+  op_answered o a left is e = absurd is
+
+  begins_well : (o : Op) → IsRightOp o → Changes k (BeginsOp o (Ok r)) old.sessions new.sessions → IsUntroubled (work_at new k) × OpWell o r
+  begins_well o right c = (rests_after k _ old new c (begins_untroubled o c.before c.after c.does.begun c.does.begins) well, on c.does.begun begins c.does.replies)
+    where
+      f : Sessions
+      f = session_at old.sessions
+
+      begins : Begins o (f k) c.after c.does.begun
+      begins = subst (λ a. Begins o a c.after c.does.begun) (sym (changed_was k _ old.sessions new.sessions c)) c.does.begins
+
+      on : (begun : Result Begun Refused) → Begins o (f k) c.after begun → RepliesBegun begun c.after (Ok r) → OpWell o r
+      on (Ok BegunWorking) does e = let is : r ≡ reply.Begun = cc (e) in subst (OpWell o) (sym is) (op_begun o)
+      on (Ok (Answered a)) does e = op_answered o a c.after (begins_at_once stands.holds.book stands.holds.order t f k c.after stands.holds.stand o a right does) e
+      on (Err (refused.Rule rule)) does e = let is : r ≡ reply.Refused rule = cc (e) in subst (OpWell o) (sym is) (op_refused o rule)
+      on (Err refused.Memory) does e = absurd (cc (e))
+
+  -- ---- what is asked
+
+  -- what a request does, each step of it calm and explained
+  abbrev DoesCalmly : ℕ → Request → Type 0
+  DoesCalmly j request =
+      (h : Does n j request before after old new (Ok r)) × EachDone StepIsCalm n j request before after old new (Ok r) h × EachDone StepExplains n j request before after old new (Ok r) h
+
+  request_well : (Well : Reply → Type 0) → ((rule : Refusal) → Well (reply.Refused rule)) → (Is : Result Request Refused → Type 0) (asked : Asked) → OfSession k Is asked
+      → (h : Answers n asked before after old new (Ok r)) → EachAsked StepIsCalm n asked before after old new (Ok r) h → EachAsked StepExplains n asked before after old new (Ok r) h
+      → ((request : Request) → Is (Ok request) → DoesCalmly k request → IsUntroubled (work_at new k) × Well r) → IsUntroubled (work_at new k) × Well r
+  request_well Well rules Is (Session j (Ok request)) belongs (inl p) calm explains served =
+      served request belongs.1 (subst (λ i. DoesCalmly i request) belongs.0 (p.1, calm, explains))
+  request_well Well rules Is (Session j (Err why)) belongs (inl p) calm explains served = let is = not_done why p.1 in (is.0, subst Well (sym is.1.1) (rules is.1.0))
+  request_well Well rules Is (Session j request) belongs (inr none) calm explains served = let is = not_done _ none.declines in (is.0, subst Well (sym is.1.1) (rules is.1.0))
+  request_well Well rules Is (Wait ticks) belongs h calm explains served = absurd belongs
+  request_well Well rules Is (Report tree) belongs h calm explains served = absurd belongs
+  request_well Well rules Is Settle belongs h calm explains served = absurd belongs
+
+  -- the one that was asked
+  as_asked : (request own : Request) → (let a : Result Request Refused = Ok request in let b : Result Request Refused = Ok own in a ≡ b) → DoesCalmly k request → DoesCalmly k own
+  as_asked request own e does = let is : request ≡ own = cc (e) in subst (DoesCalmly k) is does
+
+  -- a change is noted
+  noted_well : (tree : ℕ) (Is : Result Change Refused → Type 0) (request : Request) → IsNoted tree Is (Ok request) → DoesCalmly k request → IsUntroubled (work_at new k) × Unit {0}
+  noted_well tree Is (Note j change) is does = (notes_well j change does.0.1, tt)
+  noted_well tree Is (Begin o) is does = absurd is
+  noted_well tree Is Abort is does = absurd is
+  noted_well tree Is (Step wish) is does = absurd is
+  noted_well tree Is Run is does = absurd is
+  noted_well tree Is (Crash done) is does = absurd is
+
+-- ---- a settling
+
+module _ (lines : List Line) (n : ℕ) (before after : Seen) (old new : World) (r : Reply) (sound : IsSoundReply (standing lines 0).posture r) where
+  abbrev first : Caller
+  first = settler n
+
+  unsettled_is : (q : Trouble) → RepliesSettled (answer.Trouble q) (Ok r) → (r ≡ reply.NotSettled q) × (q ≡ trouble.Memory → ⊥)
+  unsettled_is trouble.Memory e = absurd (cc (e))
+  unsettled_is trouble.Failed e = (cc (e), λ m. absurd (cc (m)))
+  unsettled_is (trouble.Late end now) e = (cc (e), λ m. absurd (cc (m)))
+  unsettled_is (trouble.Busy lock until) e = (cc (e), λ m. absurd (cc (m)))
+  unsettled_is (trouble.Waiting have need) e = (cc (e), λ m. absurd (cc (m)))
+  unsettled_is (trouble.Stale page least got) e = (cc (e), λ m. absurd (cc (m)))
+  unsettled_is (trouble.Absent page) e = (cc (e), λ m. absurd (cc (m)))
+  unsettled_is (trouble.NotALeaf page) e = (cc (e), λ m. absurd (cc (m)))
+  unsettled_is (trouble.Damaged place offset) e = (cc (e), λ m. absurd (cc (m)))
+  unsettled_is (trouble.BadFence page expected found) e = (cc (e), λ m. absurd (cc (m)))
+  unsettled_is (trouble.Loop page) e = (cc (e), λ m. absurd (cc (m)))
+  unsettled_is (trouble.Exhausted what) e = (cc (e), λ m. absurd (cc (m)))
+
+  settled_as : (w : Work) (a : Answer) → IsOfNone w a → RepliesSettled a (Ok r) → SettlesWell r
+  settled_as w (answer.Settled x) none e = let is : r ≡ reply.Settled x.calls = cc (e) in subst SettlesWell (sym is) tt
+  settled_as w (answer.Trouble q) none e =
+      let is = unsettled_is q e in
+      subst SettlesWell (sym is.0) (settled_spent q (subst (IsSoundReply (standing lines 0).posture) is.0 sound) (none.trouble q refl) is.1)
+  settled_as w a none e = absurd e
+
+  begun_untroubled : (begun : World) → Has 0 settling_session old begun → IsUntroubled (work_at begun 0)
+  begun_untroubled begun has =
+      subst (λ (a : Acting). IsUntroubled a.work) (sym (has_at 0 settling_session old begun has 0 ∙ at_same 0 settling_session (session_at old.sessions) 0 refl))
+      (at_rest settling_session.work refl refl)
+
+  settles_well : (h : Settles n before after old new (Ok r)) → EachSettling StepIsCalm n before after old new (Ok r) h → EachSettling StepExplains n before after old new (Ok r) h
+      → IsUntroubled (work_at new 0) × SettlesWell r
+  settles_well (inr memory) calm explains = absurd (no_memory r memory)
+  settles_well (inl h) calm explains = on h.settles calm explains
+    where
+      on : (s : SettlesOn first before after h.begun new (Ok r)) → EachSettlingOn StepIsCalm first before after h.begun new (Ok r) s
+          → EachSettlingOn StepExplains first before after h.begun new (Ok r) s → IsUntroubled (work_at new 0) × SettlesWell r
+      on (inr memory) calm explains = absurd (no_memory r memory)
+      on (inl s) calm explains =
+          let c = s.comes in
+          (has_closed 0 s.left new s.closes,
+          settled_as c.steps.session.after.work s.answer
+          (answers_calmly first Plain c.mid after c.world s.left s.answer c.steps calm.1 explains.1
+          (went_calmly first before h.begun c.mid c.world c.went calm.0 explains.0 (begun_untroubled h.begun h.begins)))
+          s.replies)
+
+-- ---- every line
+
+module _ (lines : List Line) (n : ℕ) (before after : Seen) (old new : World) (r : Reply) (t : CloudState) (number : length lines + 1 ≡ n) (told : before.state ≡ Some t)
+    (stands : WorldStands lines old t) where
+  abbrev Well : Event → Type 0
+  Well e = IsUntroubled (work_at new (session_of e)) × RepliesWell e (standing lines (session_of e)).posture r
+
+  asked_well : (e : Event) (asked : Asked) → Asks e asked → (h : Answers n asked before after old new (Ok r)) → EachAsked StepIsCalm n asked before after old new (Ok r) h
+      → EachAsked StepExplains n asked before after old new (Ok r) h → IsSoundFor e (standing lines (session_of e)).posture r → IsUntroubled (work_at old (session_of e)) → Well e
+  asked_well (event.Open k client) asked asks h calm explains sound well =
+      request_well lines n k before after old new r t number told stands well (BeginsWell Opening) (λ rule. tt) (IsOpening client) asked asks h calm explains
+      (λ request is does. begins_well lines n k before after old new r t number told stands well (op.Open client) is.0 (as_asked lines n k before after old new r t number told stands well request (Begin (op.Open client)) (ap (λ q. Ok q) is.1) does).0.1)
+  asked_well (event.Close k) asked asks h calm explains sound well =
+      request_well lines n k before after old new r t number told stands well (BeginsWell Closing) (λ rule. tt) (λ request. request ≡ Ok (Begin op.Close)) asked asks h calm explains
+      (λ request is does. begins_well lines n k before after old new r t number told stands well op.Close tt (as_asked lines n k before after old new r t number told stands well request (Begin op.Close) is does).0.1)
+  asked_well (event.Renew k) asked asks h calm explains sound well =
+      request_well lines n k before after old new r t number told stands well (BeginsWell Renewing) (λ rule. tt) (λ request. request ≡ Ok (Begin op.Renew)) asked asks h calm explains
+      (λ request is does. begins_well lines n k before after old new r t number told stands well op.Renew tt (as_asked lines n k before after old new r t number told stands well request (Begin op.Renew) is does).0.1)
+  asked_well (event.Commit k) asked asks h calm explains sound well =
+      request_well lines n k before after old new r t number told stands well (BeginsWell (Committing [])) (λ rule. tt) (λ request. request ≡ Ok (Begin op.Commit)) asked asks h calm explains
+      (λ request is does. begins_well lines n k before after old new r t number told stands well op.Commit tt (as_asked lines n k before after old new r t number told stands well request (Begin op.Commit) is does).0.1)
+  asked_well (event.Read k tree key) asked asks h calm explains sound well =
+      request_well lines n k before after old new r t number told stands well (BeginsWell (Reading tree key)) (λ rule. tt) (IsReading tree key) asked asks h calm explains
+      (λ request is does. begins_well lines n k before after old new r t number told stands well (op.Read tree key) is.0 (as_asked lines n k before after old new r t number told stands well request (Begin (op.Read tree key)) (ap (λ q. Ok q) is.2) does).0.1)
+  asked_well (event.Scan k tree from to) asked asks h calm explains sound well =
+      request_well lines n k before after old new r t number told stands well (BeginsWell (Scanning tree from to)) (λ rule. tt) (IsScanning tree from to) asked asks h calm explains
+      (λ request is does. 
+      let w = begins_well lines n k before after old new r t number told stands well (op.Scan tree (bound_of from) (bound_of to)) is.0 (as_asked lines n k before after old new r t number told stands well request (Begin (op.Scan tree (bound_of from) (bound_of to))) (ap (λ q. Ok q) is.3) does).0.1 in
+      (w.0, w.1 from to))
+  asked_well (event.Page k tree page) asked asks h calm explains sound well =
+      request_well lines n k before after old new r t number told stands well (BeginsWell (Paging tree page)) (λ rule. tt) (IsPaging tree page) asked asks h calm explains
+      (λ request is does. begins_well lines n k before after old new r t number told stands well (op.Page tree page) (is.0, is.1) (as_asked lines n k before after old new r t number told stands well request (Begin (op.Page tree page)) (ap (λ q. Ok q) is.2) does).0.1)
+  asked_well (event.Tree k tree) asked asks h calm explains sound well =
+      request_well lines n k before after old new r t number told stands well (BeginsWell (Folding tree)) (λ rule. tt) (IsFolding tree) asked asks h calm explains
+      (λ request is does. begins_well lines n k before after old new r t number told stands well (op.Tree tree) is.0 (as_asked lines n k before after old new r t number told stands well request (Begin (op.Tree tree)) (ap (λ q. Ok q) is.1) does).0.1)
+  asked_well (event.Insert k tree key payload) asked asks h calm explains sound well =
+      request_well lines n k before after old new r t number told stands well (λ q. Unit {0}) (λ rule. tt) (IsNoted tree (IsInsert key payload)) asked asks h calm explains
+      (λ request is does. noted_well lines n k before after old new r t number told stands well tree (IsInsert key payload) request is does)
+  asked_well (event.Update k tree key payload) asked asks h calm explains sound well =
+      request_well lines n k before after old new r t number told stands well (λ q. Unit {0}) (λ rule. tt) (IsNoted tree (IsUpdate key payload)) asked asks h calm explains
+      (λ request is does. noted_well lines n k before after old new r t number told stands well tree (IsUpdate key payload) request is does)
+  asked_well (event.Delete k tree key) asked asks h calm explains sound well =
+      request_well lines n k before after old new r t number told stands well (λ q. Unit {0}) (λ rule. tt) (IsNoted tree (IsDelete key)) asked asks h calm explains
+      (λ request is does. noted_well lines n k before after old new r t number told stands well tree (IsDelete key) request is does)
+  asked_well (event.Abort k) asked asks h calm explains sound well =
+      request_well lines n k before after old new r t number told stands well (λ q. Unit {0}) (λ rule. tt) (λ request. request ≡ Ok Abort) asked asks h calm explains
+      (λ request is does. (aborts_well lines n k before after old new r t number told stands well (as_asked lines n k before after old new r t number told stands well request Abort is does).0.1, tt))
+  asked_well (event.Step k wish) asked asks h calm explains sound well =
+      request_well lines n k before after old new r t number told stands well (StepsWell (standing lines k).posture) (λ rule. tt) (IsStep wish) asked asks h calm explains
+      (λ request is does. 
+      let d = as_asked lines n k before after old new r t number told stands well request (Step wish) (ap (λ q. Ok q) is) does in
+      makes_well lines n k before after old new r t number told stands well wish d.0 d.1 d.2 sound)
+  asked_well (event.Run k) asked asks h calm explains sound well =
+      request_well lines n k before after old new r t number told stands well (RunsWell (standing lines k).posture) (λ rule. tt) (λ request. request ≡ Ok Run) asked asks h calm explains
+      (λ request is does. 
+      let d = as_asked lines n k before after old new r t number told stands well request Run is does in
+      runs_well lines n k before after old new r t number told stands well d.0 d.1 d.2 sound)
+  asked_well (event.Crash k done) asked asks h calm explains sound well =
+      request_well lines n k before after old new r t number told stands well (λ q. Unit {0}) (λ rule. tt) (λ request. request ≡ Ok (Crash done)) asked asks h calm explains
+      (λ request is does. (crash_well lines n k before after old new r t number told stands well done (as_asked lines n k before after old new r t number told stands well request (Crash done) is does).0, tt))
+  asked_well (event.Wait ticks) asked asks h calm explains sound well = on (subst (λ z. Answers n z before after old new (Ok r)) asks h)
+    where
+      on : Answers n (Wait ticks) before after old new (Ok r) → Well (event.Wait ticks)
+      on (inl waits) = (unchanged 0 old new waits.1 well, tt)
+      on (inr long) = (unchanged 0 old new long.declines.world well, tt)
+  asked_well (event.Report tree) asked asks h calm explains sound well =
+      let reports = subst (λ z. Answers n z before after old new (Ok r)) asks h in
+      (unchanged 0 old new reports.world well, tt)
+  asked_well event.Settle asked asks h calm explains sound well =
+      let d = subst Settled asks (h, calm, explains) in
+      settles_well lines n before after old new r sound d.0 d.1 d.2
+    where
+      abbrev Settled : Asked → Type 0
+      Settled z =
+          (h : Answers n z before after old new (Ok r)) × EachAsked StepIsCalm n z before after old new (Ok r) h × EachAsked StepExplains n z before after old new (Ok r) h
+
+pub well_after : (n : ℕ) (e : Event) (before after : Seen) (old new : World) (result : Result Reply WorldFault) → AnswersWell n e before after old new result
+well_after n e before after old new (Ok r) = λ lines t number told stands handled calm well.
+    asked_well lines n before after old new r t number told stands e handled.asked handled.asks handled.answers calm
+    (explained n e before after old new (Ok r) lines t number told stands handled)
+    (sound_after n e before after old new (Ok r) handled lines t number told stands) well
+well_after n e before after old new (Err fault) = tt

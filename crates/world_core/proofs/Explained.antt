@@ -1,0 +1,160 @@
+-- Each step of a line explains what it brought.
+use Rattle.std.proofs.Common.{◌≡◌, ◌+◌, inl, inr, ℕ, List, [], ◌∷◌, ◌++◌, length, Bool, true, false, Some, Result, Ok, Err, refl, sym, subst, ◌∙◌}
+use Rattle.client_session.specs.declared.answer.Answer.{Answer}
+use Rattle.cloud_trait.specs.Caller.{Caller}
+use Rattle.cloud_trait.specs.Seen.{Seen}
+use Rattle.cloud_trait.specs.State.{CloudState}
+use Rattle.cloud_trait.specs.declared.turn.Turn.{Turn}
+use Rattle.cloud_trait.specs.declared.turn.Turn.TheVariants.{More, Ended}
+use Rattle.db_base.specs.declared.refusal.Refused.{Refused}
+use Rattle.db_base.specs.declared.wish.Wish.{Wish}
+use Rattle.db_base.specs.declared.wish.Wish.TheVariants.{Plain}
+use Rattle.event_text.specs.declared.event.Event.{Event}
+use Rattle.event_text.specs.declared.event.Event.TheVariants as event
+use Rattle.replay_meaning.specs.Standing.{Line}
+use Rattle.replay_model.specs.Facts.{session_at, CloudHolds}
+use Rattle.replay_model.proofs.CallKinds.{IsSettlersRow}
+use Rattle.replay_model.proofs.LineLemmas.{line_of}
+use Rattle.replay_model.proofs.SettlerLemmas.{settler_row}
+use Rattle.replay_model.proofs.Steps.{wish_holds}
+use Rattle.reply_text.specs.declared.reply.Reply.{Reply}
+use Rattle.reply_text.specs.declared.reply.Reply.TheVariants as reply
+use Rattle.session_facts.specs.Sessions.Sessions.{Sessions, SessionsStand}
+use Rattle.session_facts.proofs.Sessions.Explaining.{session_explains}
+use Rattle.world_core.specs.declared.asked.Asked.{Asked}
+use Rattle.world_core.specs.declared.asked.Asked.TheVariants.{Session, Wait, Report, Settle}
+use Rattle.world_core.specs.declared.asked.Request.{Request}
+use Rattle.world_core.specs.declared.asked.Request.TheVariants.{Begin, Note, Abort, Step, Run, Crash}
+use Rattle.world_core.specs.declared.world.World.{World}
+use Rattle.world_core.specs.declared.world.WorldFault.{WorldFault}
+use Rattle.world_core.specs.EachStep.{EachWent, EachCome, EachMade, EachRun, EachCrashed, EachSettlingOn, EachSettling, EachDone, EachServed, EachAsked}
+use Rattle.world_core.specs.Explained.{StepExplains, ExplainsSteps}
+use Rattle.world_core.specs.Handled.{StepsLooked, MakesStep, Went, start, further, ComesTo, Runs, SettlesOn, Settles, Crashes, Does, Serves, Answers}
+use Rattle.world_core.specs.Stands.{WorldStands}
+use Rattle.world_core.proofs.StandsLemmas.{IsUnderWay, changed_was, way_begins, told_under, went_on, SettlerGoes, settler, settler_went, settler_begins}
+
+-- ---- one step
+
+state_is : (x y : CloudState) → Some x ≡ Some y → x ≡ y
+state_is x y e = cc
+
+-- what holds of the cloud when the step's call is made, where the sessions stand under a told state
+step_explains : (n : ℕ) (lines : List Line) (who : Caller) (wish : Wish) (before after : Seen) (old new : World) (turn : Turn Answer) (x : CloudState)
+    → CloudHolds n lines (session_at old.sessions) old.audit old.blind x → (p : StepsLooked who wish before after old new turn) → p.under.state ≡ Some (record x { wish = wish })
+    → StepExplains who wish before after old new turn p
+step_explains n lines who wish before after old new turn x holds p under s t told left =
+    session_explains who p.under p.to s t held.book held.order (session_at old.sessions) told left stand p.session.before p.session.after turn
+    (changed_was who.session _ old.sessions new.sessions p.session) p.session.does
+  where
+    held : CloudHolds n lines (session_at old.sessions) old.audit old.blind (record x { wish = wish })
+    held = wish_holds n lines (session_at old.sessions) old.audit old.blind x wish holds
+
+    stand : SessionsStand held.book held.order s (session_at old.sessions)
+    stand = subst (λ y. SessionsStand held.book held.order y (session_at old.sessions)) (state_is (record x { wish = wish }) s (sym under ∙ told)) held.stand
+
+-- ---- a session's steps
+
+module _ (lines : List Line) where
+  own_explains : (who : Caller) (wish : Wish) (before after : Seen) (old new : World) (turn : Turn Answer) → who.event ≡ length lines + 1 → IsUnderWay lines old before
+      → (p : StepsLooked who wish before after old new turn) → StepExplains who wish before after old new turn p
+  own_explains who wish before after old new turn number way p =
+      step_explains (length lines + 1) lines who wish before after old new turn way.after way.goes.holds p (told_under lines who wish before after old new turn number way p)
+
+  went_explains : (who : Caller) (before : Seen) (old : World) (after : Seen) (new : World) → who.event ≡ length lines + 1 → IsUnderWay lines old before
+      → (went : Went who before old after new) → EachWent StepExplains who before old after new went
+  went_explains who before old after new number way start = tt
+  went_explains who before old after new number way (further mid _ world _ went step) =
+      (went_explains who before old mid world number way went,
+      own_explains who Plain mid after world new More number (went_on lines who before old mid world number way went) step)
+
+  module _ (n : ℕ) (before after : Seen) (old new : World) (result : Result Reply WorldFault) (t : CloudState) (number : length lines + 1 ≡ n) (told : before.state ≡ Some t)
+      (stands : WorldStands lines old t) where
+    way : IsUnderWay lines old before
+    way = way_begins lines before old t told stands
+
+    abbrev who : ℕ → Caller
+    who k = record { session = k; event = n }
+
+    made_explains : (k : ℕ) (wish : Wish) (h : MakesStep n k wish before after old new result) → EachMade StepExplains n k wish before after old new result h
+    made_explains k wish (inl refused) = tt
+    made_explains k wish (inr (inl made)) = own_explains (who k) wish before after old new made.turn (sym number) way made.steps
+    made_explains k wish (inr (inr memory)) = tt
+
+    run_explains : (k : ℕ) (h : Runs n k before after old new result) → EachRun StepExplains n k before after old new result h
+    run_explains k (inl refused) = tt
+    run_explains k (inr (inl run)) =
+        (went_explains (who k) before old run.comes.mid run.comes.world (sym number) way run.comes.went,
+        own_explains (who k) Plain run.comes.mid after run.comes.world new (Ended run.answer) (sym number)
+        (went_on lines (who k) before old run.comes.mid run.comes.world (sym number) way run.comes.went) run.comes.steps)
+    run_explains k (inr (inr memory)) = tt
+
+    crash_explains : (k : ℕ) (done : Bool) (h : Crashes n k done before after old new result) → EachCrashed StepExplains n k done before after old new result h
+    crash_explains k false dies = tt
+    crash_explains k true (inl idle) = tt
+    crash_explains k true (inr (inl dies)) = own_explains (who k) Plain before after old dies.world dies.turn (sym number) way dies.steps
+    crash_explains k true (inr (inr memory)) = tt
+
+    does_explains : (k : ℕ) (request : Request) (h : Does n k request before after old new result) → EachDone StepExplains n k request before after old new result h
+    does_explains k (Step wish) h = made_explains k wish h
+    does_explains k Run h = run_explains k h
+    does_explains k (Crash done) h = crash_explains k done h
+    does_explains k (Begin o) h = tt
+    does_explains k (Note tree change) h = tt
+    does_explains k Abort h = tt
+
+    serves_explains : (k : ℕ) (request : Result Request Refused) (h : Serves n k request before after old new result) → EachServed StepExplains n k request before after old new result h
+    serves_explains k (Ok request) h = does_explains k request h
+    serves_explains k (Err why) h = tt
+
+-- ---- a settling
+
+-- each step of the settler, within its own line
+module _ (n : ℕ) (lines : List Line) (first : Sessions) (row : IsSettlersRow lines (settler n)) where
+  settler_explains : (before after : Seen) (old new : World) (turn : Turn Answer) → SettlerGoes n lines first old before → (p : StepsLooked (settler n) Plain before after old new turn)
+      → StepExplains (settler n) Plain before after old new turn p
+  settler_explains before after old new turn way p =
+      step_explains n lines (settler n) Plain before after old new turn way.state way.holds p (p.wishes.set way.state (p.look_before.stays way.state way.told))
+
+  settled_explains : (before : Seen) (old : World) (after : Seen) (new : World) → SettlerGoes n lines first old before → (went : Went (settler n) before old after new)
+      → EachWent StepExplains (settler n) before old after new went
+  settled_explains before old after new way start = tt
+  settled_explains before old after new way (further mid _ world _ went step) =
+      (settled_explains before old mid world way went,
+      settler_explains mid after world new More (settler_went n lines first row before old mid world way went) step)
+
+  comes_explains : (before after : Seen) (old new : World) (answer : Answer) → SettlerGoes n lines first old before → (comes : ComesTo (settler n) before after old new answer)
+      → EachCome StepExplains (settler n) before after old new answer comes
+  comes_explains before after old new answer way comes =
+      (settled_explains before old comes.mid comes.world way comes.went,
+      settler_explains comes.mid after comes.world new (Ended answer) (settler_went n lines first row before old comes.mid comes.world way comes.went) comes.steps)
+
+module _ (lines : List Line) (n : ℕ) (before after : Seen) (old new : World) (result : Result Reply WorldFault) (t : CloudState) (number : length lines + 1 ≡ n) (told : before.state ≡ Some t)
+    (stands : WorldStands lines old t) where
+  -- the lines with its own behind them, whatever is replied to that
+  abbrev r : Reply
+  r = reply.Settled 0
+
+  settles_explains : (h : Settles n before after old new result) → EachSettling StepExplains n before after old new result h
+  settles_explains (inr memory) = tt
+  settles_explains (inl h) = on h.settles
+    where
+      on : (s : SettlesOn (settler n) before after h.begun new result) → EachSettlingOn StepExplains (settler n) before after h.begun new result s
+      on (inr memory) = tt
+      on (inl s) =
+          comes_explains n (lines ++ line_of event.Settle r ∷ []) (session_at old.sessions) (settler_row lines r (settler n) refl (sym number)) before after h.begun s.left s.answer
+          (settler_begins lines n before old h.begun t (sym number) told stands h.begins r tt) s.comes
+
+-- ---- every line
+
+asked_explains : (lines : List Line) (n : ℕ) (asked : Asked) (before after : Seen) (old new : World) (result : Result Reply WorldFault) (t : CloudState) → length lines + 1 ≡ n
+    → before.state ≡ Some t → WorldStands lines old t → (h : Answers n asked before after old new result) → EachAsked StepExplains n asked before after old new result h
+asked_explains lines n (Session k request) before after old new result t number told stands (inl served) =
+    serves_explains lines n before after old new result t number told stands k request served.1
+asked_explains lines n (Session k request) before after old new result t number told stands (inr none) = tt
+asked_explains lines n (Wait ticks) before after old new result t number told stands waits = tt
+asked_explains lines n (Report tree) before after old new result t number told stands reports = tt
+asked_explains lines n Settle before after old new result t number told stands settles = settles_explains lines n before after old new result t number told stands settles
+
+pub explained : (n : ℕ) (event : Event) (before after : Seen) (old new : World) (result : Result Reply WorldFault) → ExplainsSteps n event before after old new result
+explained n event before after old new result lines t number told stands handled =
+    asked_explains lines n handled.asked before after old new result t number told stands handled.answers

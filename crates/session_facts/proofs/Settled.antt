@@ -13,3 +13,15 @@ pub mod RecoveryEnds
 pub mod RecoveryRuns
 pub mod Turns
 pub mod Begins
+pub mod TreePieces
+pub mod TreeCalls
+pub mod TreeLists
+pub mod TreeRoots
+pub mod TreeVisits
+pub mod TreeRoom
+pub mod Draining
+pub mod TreeSteps
+pub mod TreeReceives
+pub mod TreeTurns
+pub mod TreeDrains
+pub mod TreeRuns

@@ -110,7 +110,7 @@ message_client posts id rec m = (pu_of-some m.message.bytes rec m.reads).0.clien
 
 -- ---- the ids of covered items
 
-new_in : (seen ns : List ℕ) (id : ℕ) → IsIn (new_ones seen ns) id → IsIn ns id
+pub new_in : (seen ns : List ℕ) (id : ℕ) → IsIn (new_ones seen ns) id → IsIn ns id
 new_in seen [] id is = is
 new_in seen (n ∷ ns) id is = on (is_seen seen n) (new_in seen ns id) (new_in (seen ++ n ∷ []) ns id) is
   where
@@ -120,7 +120,7 @@ new_in seen (n ∷ ns) id is = on (is_seen seen n) (new_in seen ns id) (new_in (
     on false again further (zero, there) = (zero, there)
     on false again further (suc place, there) = let r = further (place, there) in (suc r.0, r.1)
 
-covered_in : (top : List (ℕ × ℕ)) (items : List PuItem) (id : ℕ) → IsIn (map (λ (x : PuItem). x.id) (filter (is_covered top) items)) id
+pub covered_in : (top : List (ℕ × ℕ)) (items : List PuItem) (id : ℕ) → IsIn (map (λ (x : PuItem). x.id) (filter (is_covered top) items)) id
     → (x : PuItem) × IsIn items x × (x.id ≡ id) × (is_covered top x ≡ true)
 covered_in top [] id (place, there) = absurd (cc)
 covered_in top (x ∷ items) id is = on (is_covered top x) refl (covered_in top items id) is

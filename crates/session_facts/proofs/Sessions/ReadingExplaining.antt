@@ -1,5 +1,5 @@
 -- Why a read, a scan or a commit is answered with a trouble: its call shows it.
-use Rattle.std.proofs.Common.{◌≡◌, ◌≢◌, inl, inr, ℕ, List, Option, Some, None, refl, sym, ap, subst, ◌∙◌, arith}
+use Rattle.std.proofs.Common.{◌≡◌, ◌≢◌, ◌≤◌, inl, inr, ℕ, List, Option, Some, None, refl, sym, ap, subst, ◌∙◌, arith}
 use Rattle.client_session.specs.Session.{StepsCommit, ReadsBy, ListsLeaf, Follows, StepsScanning, stopped_work, committed_work}
 use Rattle.client_session.specs.declared.answer.Answer.{Answer}
 use Rattle.client_session.specs.declared.answer.Answer.TheVariants as answer
@@ -31,6 +31,7 @@ use Rattle.cloud_facts.specs.Book.Book.{Book}
 use Rattle.cloud_facts.specs.Book.Tally.{Store}
 use Rattle.cloud_facts.specs.Tellings.Told.{store_of}
 use Rattle.cloud_facts.specs.Calls.Standing.{StandsUnder}
+use Rattle.cloud_facts.proofs.Calls.Calls.{call_of}
 use Rattle.cloud_facts.specs.Homes.Homes.{Part}
 use Rattle.session_facts.specs.CommitRuns.Stopping.{EndsBy}
 use Rattle.session_facts.specs.CommitRuns.Running.{KnowsRun}
@@ -176,7 +177,7 @@ module _ (who : Caller) (before after : Seen) (s t : CloudState) (book : Book) (
 
   -- ---- a commit
 
-  module _ (r : Run) (kept : Cache) (part : Part) (known : KnowsRun st t.now (r, kept) part) (sound : IsSoundRun r) where
+  module _ (r : Run) (kept : Cache) (part : Part) (known : s.now ≤ t.now → KnowsRun st t.now (r, kept) part) (sound : IsSoundRun r) where
     abbrev CommitExplained : Work → Turn Answer → Type 0
     CommitExplained work turn = Explains (run_ask r) before.counts after.counts s t (Committing r) work turn
 
@@ -186,7 +187,8 @@ module _ (who : Caller) (before after : Seen) (s t : CloudState) (book : Book) (
     -- where its call leads
     leads : (reply : Reply) → Makes who (run_ask r) reply before after → reply ≢ Memory → EndsWell ShowsCommit (run_next (r, kept) reply)
     leads reply made some =
-        run_shown book order s stands who before after t told told_after (leases_of (Committing r)) (r, kept) part reply known sound made some
+        run_shown book order s stands who before after t told told_after (leases_of (Committing r)) (r, kept) part reply
+        (known (call_of who (run_ask r) reply before after s t made told told_after).later) sound made some
 
     -- the trouble of the end of a commit
     end_shown : (a : CommitAnswer) (k : Trouble) → trouble_of_commit a ≡ Some k → EndsBy ShowsCommit a → ShowsCommit k

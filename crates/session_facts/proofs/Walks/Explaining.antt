@@ -109,9 +109,9 @@ module _ (book : Book) (order : List Entry) (s : CloudState) (stands : StandsUnd
           let first = (stands.holds.chains w.tree k.tree).newest.absent sp.level link k.stands.at.linked (ap (map node_in) empty) in
           let same : sp.page ≡ old.page = cc (old.of) in
           let some = old.missed (eq-eqb sp.level 0 first.0) (sym same ∙ first.1) none in
-          let no_length = no_length landed empty in
+          let none_there = no_length landed empty in
           let upto = within in
-          omega (arith, some, no_length, upto)
+          omega (arith, some, none_there, upto)
 
       not_older : (sp.level == 0) ≡ true → old.found < served_at c (object.Page w.tree sp.page) → ⊥
       not_older leaf less =

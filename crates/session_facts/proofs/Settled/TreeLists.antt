@@ -1,0 +1,95 @@
+-- Lists in which nothing comes twice are no longer than those that hold what they hold.
+use Rattle.std.proofs.Common.{◌≡◌, ◌≢◌, ◌+◌, ◌<◌, ◌≤◌, ◌⊎◌, inl, inr, ℕ, zero, suc, Bool, true, false, ◌==◌, List, [], ◌∷◌, ◌++◌, length, Some, refl, sym, subst, ◌∙◌, arith}
+use Rattle.std.specs.Prelude.{slice_get}
+use Rattle.std.proofs.lemmas.Bool.{eqb-true, eqb-false}
+use Rattle.cloud_facts.proofs.Chains.Pieces.{none_in, in_first, in_rest, in_cases, in_both}
+use Rattle.cloud_facts.proofs.Chains.Names.{in_single}
+use Rattle.cloud_facts.specs.Book.Records.{IsIn}
+
+-- nothing comes twice
+abbrev pub Apart : {X : Type 0} → List X → Type 0
+Apart [] = Unit {0}
+Apart {X} (x ∷ xs) = ((y : X) → IsIn xs y → y ≢ x) × Apart xs
+
+-- ---- one element less
+
+record Without {X : Type 0} (x : X) (ys : List X) : Type 0 where
+  rest : List X
+  one : length rest + 1 ≡ length ys
+  others : (z : X) → IsIn ys z → (x ≡ z) ⊎ IsIn rest z
+
+without : {X : Type 0} (x : X) (ys : List X) (place : ℕ) → slice_get ys place ≡ Some x → Without x ys
+without x [] place e = absurd (cc)
+without {X} x (y ∷ ys) zero e =
+    let same : y ≡ x = cc in
+    record { rest = ys; one = omega arith; others = λ z is. subst (λ (w : X). (w ≡ z) ⊎ IsIn ys z) same (in_cases y ys z is) }
+without {X} x (y ∷ ys) (suc place) e = behind (without x ys place e)
+  where
+    behind : Without x ys → Without x (y ∷ ys)
+    behind r = record { rest = y ∷ r.rest; one = let n = r.one in omega (arith, n); others = λ z is. on z (in_cases y ys z is) }
+      where
+        later : (z : X) → (x ≡ z) ⊎ IsIn r.rest z → (x ≡ z) ⊎ IsIn (y ∷ r.rest) z
+        later z (inl same) = inl same
+        later z (inr there) = inr (in_rest y r.rest z there)
+
+        on : (z : X) → (y ≡ z) ⊎ IsIn ys z → (x ≡ z) ⊎ IsIn (y ∷ r.rest) z
+        on z (inl same) = inr (subst (IsIn (y ∷ r.rest)) same (in_first y r.rest))
+        on z (inr is) = later z (r.others z is)
+
+pub apart_fits : {X : Type 0} (xs ys : List X) → Apart xs → ((x : X) → IsIn xs x → IsIn ys x) → length xs ≤ length ys
+apart_fits [] ys apart within = omega arith
+apart_fits {X} (x ∷ xs) ys apart within = fits (apart_fits xs w.rest apart.1 left) w.one
+  where
+    w : Without x ys
+    w = let is = within x (in_first x xs) in without x ys is.0 is.1
+
+    left : (z : X) → IsIn xs z → IsIn w.rest z
+    left z is = on (w.others z (within z (in_rest x xs z is)))
+      where
+        on : (x ≡ z) ⊎ IsIn w.rest z → IsIn w.rest z
+        on (inl same) = absurd (apart.0 z is (sym same))
+        on (inr there) = there
+
+    fits : length xs ≤ length w.rest → length w.rest + 1 ≡ length ys → length (x ∷ xs) ≤ length ys
+    fits few one = omega (arith, few, one)
+
+-- ---- numbers
+
+-- the numbers from 1 on
+up_to : ℕ → List ℕ
+up_to zero = []
+up_to (suc n) = suc n ∷ up_to n
+
+as_many : (n : ℕ) → length (up_to n) ≡ n
+unfolding up_to
+as_many zero = refl
+as_many (suc n) = let rest = as_many n in omega (arith, rest)
+
+there_up_to : (n m : ℕ) → 1 ≤ m → m ≤ n → IsIn (up_to n) m
+unfolding up_to
+there_up_to zero m some most = absurd (omega (arith, some, most))
+there_up_to (suc n) m some most = on (m == suc n) refl (λ low. there_up_to n m some low)
+  where
+    on : (b : Bool) → (m == suc n) ≡ b → (m ≤ n → IsIn (up_to n) m) → IsIn (suc n ∷ up_to n) m
+    on true e again = subst (IsIn (suc n ∷ up_to n)) (sym (eqb-true m (suc n) e)) (in_first (suc n) (up_to n))
+    on false e again = let other = eqb-false m (suc n) e in in_rest (suc n) (up_to n) m (again (omega (arith, most, other)))
+
+-- so many pages are no more than there are numbers for them
+pub pages_fit : (pages : List ℕ) (p next : ℕ) → Apart pages → ((page : ℕ) → IsIn pages page → (1 ≤ page) × (page < next)) → next ≤ p + 1 → length pages ≤ p
+pages_fit pages p next apart within room =
+    let few = apart_fits pages (up_to p) apart there in
+    let many = as_many p in
+    omega (arith, few, many)
+  where
+    there : (page : ℕ) → IsIn pages page → IsIn (up_to p) page
+    there page is = let w = within page is in let low = w.0 in let high = w.1 in there_up_to p page low (omega (arith, high, room))
+
+-- ---- one more
+
+pub apart_more : {X : Type 0} (xs : List X) (x : X) → Apart xs → ((y : X) → IsIn xs y → y ≢ x) → Apart (xs ++ x ∷ [])
+apart_more [] x apart new = (λ y is same. none_in y is, tt)
+apart_more {X} (z ∷ xs) x apart new = (λ y is. on y (in_both xs (x ∷ []) y is), apart_more xs x apart.1 (λ y is. new y (in_rest z xs y is)))
+  where
+    on : (y : X) → IsIn xs y ⊎ IsIn (x ∷ []) y → y ≢ z
+    on y (inl is) same = apart.0 y is same
+    on y (inr is) same = new z (in_first z xs) (sym same ∙ sym (in_single x y is))

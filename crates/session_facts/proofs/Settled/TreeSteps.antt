@@ -1,0 +1,350 @@
+-- What each call of a checkpoint of a tree leaves of the tree object and of the queues.
+use Rattle.std.proofs.Common.{◌≡◌, ◌+◌, ◌≤◌, ◌⊎◌, inl, inr, ℕ, true, false, List, [], ◌∷◌, ◌++◌, length, Option, Some, None, Ok, refl, sym, ap, subst, ◌∙◌, arith}
+use Rattle.std.specs.Prelude.{unwrap_or}
+use Rattle.ckpt_parts.specs.Deleting.{next_id}
+use Rattle.ckpt_parts.specs.Leasing.{newest_lease}
+use Rattle.cloud_facts.proofs.Calls.Calls.{landed_or_not, put_cases}
+use Rattle.cloud_facts.proofs.Calls.Heads.{held_seen}
+use Rattle.cloud_facts.specs.Book.Tally.{Store}
+use Rattle.cloud_facts.specs.Book.Telling.{roots_of}
+use Rattle.cloud_facts.specs.Calls.Call.{IsCall}
+use Rattle.cloud_facts.specs.Chains.Links.{top_of}
+use Rattle.cloud_trait.proofs.NameLemmas.{object_cmp-equal, object_cmp-total}
+use Rattle.cloud_trait.proofs.RowLemmas.{row_versions}
+use Rattle.cloud_trait.proofs.StateLemmas.{put_at_by, put_at_same, newest_of-push}
+use Rattle.cloud_trait.specs.Ask.{Ask, Get, GetHeld, PutHeld, Send, Receive, Delete, Take, Renew, Release, Lands, PutsNothing, effect}
+use Rattle.cloud_trait.specs.Caller.{Caller}
+use Rattle.cloud_trait.specs.Claim.{Claim}
+use Rattle.cloud_trait.specs.Names.{object_cmp}
+use Rattle.cloud_trait.specs.State.{CloudState, called, newest, newest_of}
+use Rattle.cloud_trait.specs.Views.{done_of}
+use Rattle.cloud_trait.specs.declared.answer.Answer.{Answer}
+use Rattle.cloud_trait.specs.declared.state.Version.{Version}
+use Rattle.db_base.specs.declared.names.ObjName.{ObjName}
+use Rattle.db_base.specs.declared.names.ObjName.TheVariants as object
+use Rattle.leaf_fold.specs.Folding.{folding_ask}
+use Rattle.leaf_fold.specs.declared.folding.Folding.{Folding}
+use Rattle.node_codec.specs.Tree.{Tree}
+use Rattle.session_facts.proofs.Settled.TreeCalls.{next_of}
+use Rattle.session_facts.proofs.Settled.TreePieces.{puts_as_many}
+use Rattle.session_facts.proofs.Settled.TreeRoom.{held_top, up_fits, leaf_put_some, leaf_put_reserves}
+use Rattle.session_facts.proofs.Settled.TreeRoots.{HasRoot, NewestBy}
+use Rattle.session_facts.proofs.Trees.Reservations.{held_root}
+use Rattle.session_facts.specs.TreeCheckpoints.Checkpoint.{KnowsWork}
+use Rattle.session_facts.specs.Trees.Leaves.{KnowsLeaf}
+use Rattle.session_facts.specs.Trees.Risings.{ReservesRoot, PutsRoot, whole, cut, PutsOf, KnowsRising}
+use Rattle.split_plan.specs.declared.put_list.PagePut.{PagePut}
+use Rattle.split_plan.specs.Plan.{node_bytes, root_above}
+use Rattle.tree_ckpt.proofs.Tours.{page_left as has_page}
+use Rattle.tree_moves.specs.Work.{delete_ask, release_ask, work_ask}
+use Rattle.tree_moves.specs.declared.work.Held.{Held}
+use Rattle.tree_moves.specs.declared.work.Work.{Work}
+use Rattle.tree_moves.specs.declared.work.Work.TheVariants as work
+use Rattle.tree_parts.specs.Placing.{put_first, put_next, put_in_hand, has_nothing, landed_root}
+use Rattle.tree_parts.specs.Read.{tree_held}
+use Rattle.tree_parts.specs.declared.chart.Chart.{Chart}
+use Rattle.tree_parts.specs.declared.placing.Placing.{Placing}
+use Rattle.tree_rising.specs.Rising.{last_ask, rising_ask}
+use Rattle.tree_rising.specs.Root.{new_pages}
+use Rattle.tree_rising.specs.declared.rising.Rising.{Rising}
+
+-- ---- the newest version behind a call
+
+-- the call puts these bytes of an object
+abbrev pub Puts : Ask → ObjName → List ℕ → Type 0
+Puts (PutHeld other bytes one two) name new = (other ≡ name) × (bytes ≡ new)
+Puts ask name new = ⊥
+
+-- an object's newest version is as it was, or the call put it
+abbrev pub IsAfter : CloudState → CloudState → ObjName → Ask → Type 0
+IsAfter s t name ask = (newest t name ≡ newest s name) ⊎ ((bytes : List ℕ) × Puts ask name bytes × (newest t name ≡ Some bytes))
+
+pub newest_same : (who : Caller) (ask : Ask) (a : Answer) (s t : CloudState) (name : ObjName) → IsCall who ask a s t → PutsNothing ask
+    → newest t name ≡ newest s name
+newest_same who ask a s t name call nothing =
+    ap (λ (versions : ObjName → List Version). newest_of (versions name)) (row_versions who ask a call.before call.after (called who t.now s) t call.row nothing)
+
+-- a put of an object leaves the others as they were
+put_leaves : (who : Caller) (other : ObjName) (bytes : List ℕ) (one : Claim) (two : Option Claim) (b t : CloudState) (name : ObjName)
+    → t ≡ effect who (PutHeld other bytes one two) b → (newest t name ≡ newest b name) ⊎ ((other ≡ name) × (newest t name ≡ Some bytes))
+put_leaves who other bytes one two b t name e =
+    subst (λ (u : CloudState). (newest u name ≡ newest b name) ⊎ ((other ≡ name) × (newest u name ≡ Some bytes))) (sym e)
+    (put_at_by (λ (q : ObjName) (vs : List Version). (newest_of vs ≡ newest b q) ⊎ ((other ≡ q) × (newest_of vs ≡ Some bytes)))
+    object_cmp object_cmp-equal b.versions other (b.versions other ++ new ∷ []) (inr (refl, newest_of-push (b.versions other) new)) (λ q. inl refl) name)
+  where
+    new : Version
+    new = record { who = who; bytes = bytes }
+
+-- and lands itself
+put_lands : (who : Caller) (name : ObjName) (bytes : List ℕ) (one : Claim) (two : Option Claim) (b t : CloudState) → t ≡ effect who (PutHeld name bytes one two) b
+    → newest t name ≡ Some bytes
+put_lands who name bytes one two b t e =
+    ap (λ (u : CloudState). newest u name) e
+    ∙ ap newest_of (put_at_same object_cmp object_cmp-total b.versions name (b.versions name ++ record { who = who; bytes = bytes } ∷ []))
+    ∙ newest_of-push (b.versions name) (record { who = who; bytes = bytes })
+
+pub newest_after : (who : Caller) (ask : Ask) (a : Answer) (s t : CloudState) (name : ObjName) → IsCall who ask a s t → IsAfter s t name ask
+newest_after who (PutHeld other bytes one two) a s t name call = on (landed_or_not who (PutHeld other bytes one two) a s t call)
+  where
+    put : (newest t name ≡ newest s name) ⊎ ((other ≡ name) × (newest t name ≡ Some bytes)) → IsAfter s t name (PutHeld other bytes one two)
+    put (inl same) = inl same
+    put (inr new) = inr (bytes, (new.0, refl), new.1)
+
+    on : (t ≡ called who t.now s) ⊎ Lands who (PutHeld other bytes one two) (called who t.now s) t → IsAfter s t name (PutHeld other bytes one two)
+    on (inl same) = inl (ap (λ (u : CloudState). newest u name) same)
+    on (inr lands) = put (put_leaves who other bytes one two (called who t.now s) t name lands.0)
+newest_after who (Get other) a s t name call = inl (newest_same who (Get other) a s t name call tt)
+newest_after who (GetHeld other l) a s t name call = inl (newest_same who (GetHeld other l) a s t name call tt)
+newest_after who (Send q bytes) a s t name call = inl (newest_same who (Send q bytes) a s t name call tt)
+newest_after who (Receive q most) a s t name call = inl (newest_same who (Receive q most) a s t name call tt)
+newest_after who (Delete q id) a s t name call = inl (newest_same who (Delete q id) a s t name call tt)
+newest_after who (Take l ticks) a s t name call = inl (newest_same who (Take l ticks) a s t name call tt)
+newest_after who (Renew l ticks) a s t name call = inl (newest_same who (Renew l ticks) a s t name call tt)
+newest_after who (Release l) a s t name call = inl (newest_same who (Release l) a s t name call tt)
+
+-- ---- what is put in turn
+
+-- a call is one that neither sends nor receives nor deletes
+abbrev pub IsQuiet : Ask → Type 0
+IsQuiet (Send q bytes) = ⊥
+IsQuiet (Receive q most) = ⊥
+IsQuiet (Delete q id) = ⊥
+IsQuiet ask = Unit {0}
+
+module _ (tree : ℕ) (l : Claim) (second : Option Claim) (other : Ask) where
+  -- the put in hand of a placing, or another call behind it
+  abbrev in_hand : Placing → Ask
+  in_hand p = unwrap_or (put_in_hand p tree l second) other
+
+  in_hand_quiet : (p : Placing) → IsQuiet other → IsQuiet (in_hand p)
+  in_hand_quiet p quiet = on p.reserved p.puts
+    where
+      on : (reserved : Option (List ℕ)) (puts : List PagePut) → IsQuiet (unwrap_or (put_first tree l (put_next tree l second puts) reserved) other)
+      on (Some bytes) puts = tt
+      on None (x ∷ puts) = tt
+      on None [] = quiet
+
+  -- where nothing is to be put it is the other one
+  in_hand_none : (p : Placing) → has_nothing p ≡ true → in_hand p ≡ other
+  in_hand_none p none = on p.reserved p.puts none
+    where
+      on : (reserved : Option (List ℕ)) (puts : List PagePut) → has_nothing (record { reserved = reserved; puts = puts }) ≡ true
+          → unwrap_or (put_first tree l (put_next tree l second puts) reserved) other ≡ other
+      on (Some bytes) puts e = absurd (cc (e))
+      on None (x ∷ puts) e =
+          let more : has_nothing (record { reserved = None; puts = x ∷ puts }) ≡ false = has_page (record { reserved = None; puts = x ∷ puts }) (omega arith) in
+          absurd (cc (e, more))
+      on None [] e = refl
+
+  -- of tree objects it puts the reservation, or what is behind it
+  in_hand_puts : (p : Placing) (k : ℕ) (bytes : List ℕ) → Puts (in_hand p) (object.Tree k) bytes
+      → (p.reserved ≡ Some bytes) ⊎ ((has_nothing p ≡ true) × Puts other (object.Tree k) bytes)
+  in_hand_puts p k bytes puts = on p.reserved p.puts puts
+    where
+      on : (reserved : Option (List ℕ)) (puts : List PagePut)
+          → Puts (unwrap_or (put_first tree l (put_next tree l second puts) reserved) other) (object.Tree k) bytes
+          → (reserved ≡ Some bytes) ⊎ ((has_nothing (record { reserved = reserved; puts = puts }) ≡ true) × Puts other (object.Tree k) bytes)
+      on (Some b) puts h = inl (ap (λ (x : List ℕ). Some x) h.1)
+      on None (x ∷ puts) h = absurd (let e : object.Page tree x.page ≡ object.Tree k = h.0 in cc (e))
+      on None [] h = inr (refl, h)
+
+  -- where the put was done, the newest tree object is the one that is in hand then
+  in_hand_lands : (p : Placing) (who : Caller) (a : Answer) (s t : CloudState) → has_nothing p ≡ false → done_of a ≡ Ok tt → IsCall who (in_hand p) a s t
+      → newest t (object.Tree tree) ≡ landed_root p (newest s (object.Tree tree))
+  in_hand_lands p who a s t some done call = on p.reserved p.puts some call
+    where
+      page : (x : PagePut) → IsAfter s t (object.Tree tree) (PutHeld (object.Page tree x.page) x.bytes l second)
+          → newest t (object.Tree tree) ≡ newest s (object.Tree tree)
+      page x (inl same) = same
+      page x (inr new) = absurd (let e : object.Page tree x.page ≡ object.Tree tree = new.1.0 in cc (e))
+
+      root : (bytes : List ℕ) → ((t ≡ called who t.now s) × (done_of a ≡ Ok tt → ⊥)) ⊎ Lands who (PutHeld (object.Tree tree) bytes l None) (called who t.now s) t
+          → newest t (object.Tree tree) ≡ Some bytes
+      root bytes (inl never) = absurd (never.1 done)
+      root bytes (inr lands) = put_lands who (object.Tree tree) bytes l None (called who t.now s) t lands.0
+
+      on : (reserved : Option (List ℕ)) (puts : List PagePut) → has_nothing (record { reserved = reserved; puts = puts }) ≡ false
+          → IsCall who (unwrap_or (put_first tree l (put_next tree l second puts) reserved) other) a s t
+          → newest t (object.Tree tree) ≡ landed_root (record { reserved = reserved; puts = puts }) (newest s (object.Tree tree))
+      on (Some bytes) puts e c = root bytes (put_cases who (object.Tree tree) bytes l None a s t c)
+      on None (x ∷ puts) e c = page x (newest_after who (PutHeld (object.Page tree x.page) x.bytes l second) a s t (object.Tree tree) c)
+      on None [] e c = absurd (cc (e))
+
+-- ---- wherever it stands
+
+-- a call that is none of the queue's, but where messages are received or deleted
+abbrev pub TouchesQueue : Work → Type 0
+TouchesQueue (work.Receiving l root) = Unit {0}
+TouchesQueue (work.Deleting h applied) = Unit {0}
+TouchesQueue w = ⊥
+
+last_quiet : (r : Rising) (l : Claim) (last : Option (List ℕ)) → IsQuiet (last_ask r l last)
+last_quiet r l (Some bytes) = tt
+last_quiet r l None = tt
+
+release_quiet : (tree : ℕ) (l : Option Claim) → IsQuiet (release_ask tree l)
+release_quiet tree (Some l) = tt
+release_quiet tree None = tt
+
+pub work_quiet : (tree : ℕ) (w : Work) → TouchesQueue w ⊎ IsQuiet (work_ask tree w)
+work_quiet tree work.TakingTree = inr tt
+work_quiet tree (work.GettingTree l) = inr tt
+work_quiet tree (work.Receiving l root) = inl tt
+work_quiet tree (work.Descending h d) = inr tt
+work_quiet tree (work.TakingPage h c) = inr tt
+work_quiet tree (work.Folding h f) = inr (in_hand_quiet f.chart.tree h.lease (Some f.lease) (GetHeld (object.Page f.chart.tree f.page) f.lease) f.placing tt)
+work_quiet tree (work.ReleasingPage h l o) = inr tt
+work_quiet tree (work.LeftPage h o) = inr tt
+work_quiet tree (work.Rising h r) = inr (in_hand_quiet r.chart.tree h.lease None (last_ask r h.lease r.last) r.placing (last_quiet r h.lease r.last))
+work_quiet tree (work.Deleting h applied) = inl tt
+work_quiet tree (work.Releasing held end) = inr (release_quiet tree (newest_lease held))
+work_quiet tree work.Finished = inr tt
+
+nothing_reserved : (p : Placing) → has_nothing p ≡ true → p.reserved ≡ None
+nothing_reserved p none = on p.reserved p.puts none
+  where
+    on : (reserved : Option (List ℕ)) (puts : List PagePut) → has_nothing (record { reserved = reserved; puts = puts }) ≡ true → reserved ≡ None
+    on (Some bytes) puts e = absurd (cc (e))
+    on None puts e = refl
+
+module _ (who : Caller) (a : Answer) (s t : CloudState) (tree : ℕ) where
+  same_for : (ask : Ask) → IsCall who ask a s t → PutsNothing ask → newest t (object.Tree tree) ≡ newest s (object.Tree tree)
+  same_for ask call nothing = newest_same who ask a s t (object.Tree tree) call nothing
+
+  delete_same : (id : Option ℕ) → IsCall who (delete_ask tree id) a s t → newest t (object.Tree tree) ≡ newest s (object.Tree tree)
+  delete_same (Some id) call = same_for (delete_ask tree (Some id)) call tt
+  delete_same None call = same_for (delete_ask tree None) call tt
+
+  release_same : (l : Option Claim) → IsCall who (release_ask tree l) a s t → newest t (object.Tree tree) ≡ newest s (object.Tree tree)
+  release_same (Some l) call = same_for (Release l) call tt
+  release_same None call = same_for (release_ask tree None) call tt
+
+  lands_for : (known : ℕ) (l : Claim) (second : Option Claim) (other : Ask) (p : Placing) → known ≡ tree → has_nothing p ≡ false → done_of a ≡ Ok tt
+      → IsCall who (unwrap_or (put_in_hand p known l second) other) a s t → newest t (object.Tree tree) ≡ landed_root p (newest s (object.Tree tree))
+  lands_for known l second other p same some done call =
+      subst (λ (k : ℕ). newest t (object.Tree k) ≡ landed_root p (newest s (object.Tree k))) same (in_hand_lands known l second other p who a s t some done call)
+
+  pub newest_by : (st : Store) (w : Work) → KnowsWork st s.now tree w → IsCall who (work_ask tree w) a s t
+      → NewestBy w a (newest s (object.Tree tree)) (newest t (object.Tree tree))
+  newest_by st work.TakingTree k call = same_for (work_ask tree work.TakingTree) call tt
+  newest_by st (work.GettingTree l) k call = λ v e.
+      held_seen who (object.Tree tree) l a s t call v e ∙ sym (same_for (GetHeld (object.Tree tree) l) call tt)
+  newest_by st (work.Receiving l root) k call = same_for (work_ask tree (work.Receiving l root)) call tt
+  newest_by st (work.Descending h d) k call = same_for (work_ask tree (work.Descending h d)) call tt
+  newest_by st (work.TakingPage h c) k call = same_for (work_ask tree (work.TakingPage h c)) call tt
+  newest_by st (work.Folding h f) k call = (
+      (λ none.
+        let other : Ask = GetHeld (object.Page f.chart.tree f.page) f.lease in
+        same_for other (subst (λ (q : Ask). IsCall who q a s t) (in_hand_none f.chart.tree h.lease (Some f.lease) other f.placing none) call) tt),
+      (λ some done. lands_for f.chart.tree h.lease (Some f.lease) (GetHeld (object.Page f.chart.tree f.page) f.lease) f.placing k.0.tree_is some done call),
+    )
+  newest_by st (work.ReleasingPage h l o) k call = same_for (Release l) call tt
+  newest_by st (work.LeftPage h o) k call = absurd k
+  newest_by st (work.Rising h r) k call = λ some done. lands_for r.chart.tree h.lease None (last_ask r h.lease r.last) r.placing k.0.tree_is some done call
+  newest_by st (work.Deleting h applied) k call = delete_same (next_id h.deletions.ids) call
+  newest_by st (work.Releasing held end) k call = release_same (newest_lease held) call
+  newest_by st work.Finished k call = absurd k
+
+  -- ---- the next free page never falls
+
+  abbrev Grown : Type 0
+  Grown = (top_of (roots_of s tree)).next ≤ (top_of (roots_of t tree)).next
+
+  grown_same : newest t (object.Tree tree) ≡ newest s (object.Tree tree) → Grown
+  grown_same same =
+      let one = held_top s tree (newest s (object.Tree tree)) refl in
+      let other = held_top t tree (newest s (object.Tree tree)) (sym same) in
+      omega (arith, one, other)
+
+  grown_put : (c : Chart) (bytes : List ℕ) → c.root ≡ newest s (object.Tree tree) → newest t (object.Tree tree) ≡ Some bytes
+      → next_of c ≤ (tree_held (Some bytes)).next → Grown
+  grown_put c bytes root new more =
+      let one = held_top s tree c.root root in
+      let other = held_top t tree (Some bytes) (sym new) in
+      omega (arith, one, other, more)
+
+  grown_quiet : (ask : Ask) → IsCall who ask a s t → PutsNothing ask → Grown
+  grown_quiet ask call nothing = grown_same (same_for ask call nothing)
+
+  -- a leaf's put
+  grown_leaf : (st : Store) (h : Held) (f : Folding) → f.chart.root ≡ newest s (object.Tree tree) → KnowsLeaf st s.now h.lease f h.deletions.ids
+      → IsCall who (folding_ask f h.lease) a s t → Grown
+  grown_leaf st h f root k call =
+      on (newest_after who (folding_ask f h.lease) a s t (object.Tree tree) call)
+    where
+      none_reserved : (bytes : List ℕ) → KnowsLeaf st s.now h.lease f h.deletions.ids → f.placing.reserved ≡ Some bytes
+          → next_of f.chart ≤ (tree_held (Some bytes)).next
+      none_reserved bytes (inl r) e = absurd (let none : Some bytes ≡ None = sym e ∙ ap (λ (p : Placing). p.reserved) r.placing_is in cc (none))
+      none_reserved bytes (inr r) e =
+          let some = leaf_put_some st s.now h.lease f h.deletions.ids r in
+          let next = leaf_put_reserves st s.now h.lease f h.deletions.ids r bytes e in
+          omega (arith, some, next)
+
+      put : (bytes : List ℕ) → newest t (object.Tree tree) ≡ Some bytes
+          → (f.placing.reserved ≡ Some bytes) ⊎ ((has_nothing f.placing ≡ true) × Puts (GetHeld (object.Page f.chart.tree f.page) f.lease)
+              (object.Tree tree) bytes) → Grown
+      put bytes new (inl e) = grown_put f.chart bytes root new (none_reserved bytes k e)
+      put bytes new (inr never) = absurd never.1
+
+      on : IsAfter s t (object.Tree tree) (folding_ask f h.lease) → Grown
+      on (inl same) = grown_same same
+      on (inr new) =
+          put new.0 new.2 (in_hand_puts f.chart.tree h.lease (Some f.lease) (GetHeld (object.Page f.chart.tree f.page) f.lease) f.placing tree new.0 new.1)
+
+  -- a put of the way up
+  node_more : (st : Store) (l : Claim) (r : Rising) (last : Option (List ℕ)) (bytes : List ℕ) → PutsOf st s.now l r last → r.placing.reserved ≡ Some bytes
+      → next_of r.chart ≤ (tree_held (Some bytes)).next
+  node_more st l r None bytes k e =
+      let many = ap length k.placing.puts_are ∙ puts_as_many node_bytes k.kept.page k.first (k.placing.front ∷ k.placing.middle) in
+      let next = up_fits st s.now l r None k bytes e in
+      omega (arith, many, next)
+  node_more st l r (Some last) bytes k e = let next = up_fits st s.now l r (Some last) k bytes e in omega (arith, next)
+
+  last_more : (st : Store) (l : Claim) (r : Rising) (bytes : List ℕ) → PutsRoot st s.now l r bytes → has_nothing r.placing ≡ true
+      → next_of r.chart ≤ (tree_held (Some bytes)).next
+  last_more st l r bytes (whole k) none =
+      let held = ap (λ (b : List ℕ). (tree_held (Some b)).next) k.bytes_are ∙ ap (λ (x : Tree). x.next) (held_root k.root k.fits) in
+      let same = k.next in
+      omega (arith, held, same)
+  last_more st l r bytes (cut k) none =
+      let held = ap (λ (b : List ℕ). (tree_held (Some b)).next) k.bytes_are ∙ ap (λ (x : Tree). x.next)
+          (held_root (root_above (new_pages k.first k.root) k.root) k.fits) in
+      let reserves = subst (ReservesRoot st s.now l r.chart.tree (tree_held r.chart.root) k.root k.first k.middle k.behind)
+          (nothing_reserved r.placing none) k.reserves in
+      let same = reserves.1 in
+      omega (arith, held, same)
+
+  grown_up : (st : Store) (h : Held) (r : Rising) → r.chart.root ≡ newest s (object.Tree tree) → KnowsRising st s.now h.lease r h.deletions.ids
+      → IsCall who (rising_ask r h.lease) a s t → Grown
+  grown_up st h r root k call = on (newest_after who (rising_ask r h.lease) a s t (object.Tree tree) call)
+    where
+      last : (bytes : List ℕ) (o : Option (List ℕ)) → PutsOf st s.now h.lease r o → has_nothing r.placing ≡ true
+          → Puts (last_ask r h.lease o) (object.Tree tree) bytes
+          → next_of r.chart ≤ (tree_held (Some bytes)).next
+      last bytes (Some b) puts none is =
+          subst (λ (x : List ℕ). next_of r.chart ≤ (tree_held (Some x)).next) is.1 (last_more st h.lease r b puts none)
+      last bytes None puts none is = absurd is
+
+      put : (bytes : List ℕ) → newest t (object.Tree tree) ≡ Some bytes
+          → (r.placing.reserved ≡ Some bytes) ⊎ ((has_nothing r.placing ≡ true) × Puts (last_ask r h.lease r.last) (object.Tree tree) bytes) → Grown
+      put bytes new (inl e) = grown_put r.chart bytes root new (node_more st h.lease r r.last bytes k.puts e)
+      put bytes new (inr e) = grown_put r.chart bytes root new (last bytes r.last k.puts e.0 e.1)
+
+      on : IsAfter s t (object.Tree tree) (rising_ask r h.lease) → Grown
+      on (inl same) = grown_same same
+      on (inr new) = put new.0 new.2 (in_hand_puts r.chart.tree h.lease None (last_ask r h.lease r.last) r.placing tree new.0 new.1)
+
+  pub next_grows : (st : Store) (w : Work) → HasRoot (newest s (object.Tree tree)) w → KnowsWork st s.now tree w → IsCall who (work_ask tree w) a s t
+      → (top_of (roots_of s tree)).next ≤ (top_of (roots_of t tree)).next
+  next_grows st work.TakingTree root k call = grown_quiet (work_ask tree work.TakingTree) call tt
+  next_grows st (work.GettingTree l) root k call = grown_quiet (work_ask tree (work.GettingTree l)) call tt
+  next_grows st (work.Receiving l o) root k call = grown_quiet (work_ask tree (work.Receiving l o)) call tt
+  next_grows st (work.Descending h d) root k call = grown_quiet (work_ask tree (work.Descending h d)) call tt
+  next_grows st (work.TakingPage h c) root k call = grown_quiet (work_ask tree (work.TakingPage h c)) call tt
+  next_grows st (work.Folding h f) root k call = grown_leaf st h f root k.1 call
+  next_grows st (work.ReleasingPage h l o) root k call = grown_quiet (Release l) call tt
+  next_grows st (work.LeftPage h o) root k call = absurd k
+  next_grows st (work.Rising h r) root k call = grown_up st h r root k.1 call
+  next_grows st (work.Deleting h applied) root k call = grown_same (delete_same (next_id h.deletions.ids) call)
+  next_grows st (work.Releasing held end) root k call = grown_same (release_same (newest_lease held) call)
+  next_grows st work.Finished root k call = absurd k

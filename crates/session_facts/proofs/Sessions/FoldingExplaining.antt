@@ -87,7 +87,8 @@ module _ (who : Caller) (before after : Seen) (s t : CloudState) (told : before.
 
 -- ---- of a session
 
-module _ (who : Caller) (before after : Seen) (s t : CloudState) (book : Book) (order : List Entry) (sessions : Sessions) (told : before.state ≡ Some s) (told_after : after.state ≡ Some t)
+module _ (who : Caller) (before after : Seen) (s t : CloudState) (book : Book) (order : List Entry) (sessions : Sessions) (told : before.state ≡ Some s)
+    (told_after : after.state ≡ Some t)
     (stand : SessionsStand book order s sessions) where
   abbrev old : Work
   old = (sessions who.session).work

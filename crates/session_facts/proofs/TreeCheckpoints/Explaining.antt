@@ -264,7 +264,8 @@ released_keeps : (held : Leases) (q k : Trouble) (lease : Option Claim) → q �
 released_keeps held q k (Some l) e = ap (λ (x : Trouble). Some x) e
 released_keeps held q k None e = e
 
-end_keeps : (held : Leases) (end : Result CkptAnswer Trouble) (k : Trouble) (lease : Option Claim) → trouble_of_ending (Some end) ≡ Some k → MeetsNext trouble_at (released_by held end lease) k
+end_keeps : (held : Leases) (end : Result CkptAnswer Trouble) (k : Trouble) (lease : Option Claim) → trouble_of_ending (Some end) ≡ Some k
+    → MeetsNext trouble_at (released_by held end lease) k
 end_keeps held (Ok a) k lease e = absurd (cc)
 end_keeps held (Err q) k lease e = released_keeps held q k lease (cc)
 

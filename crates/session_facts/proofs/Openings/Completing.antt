@@ -98,8 +98,8 @@ module _ (st : Store) (client : ℕ) (w : Wanted) (logged : AreLogged st client)
   few_of_head : length (filter (is_of_head w) (unmarked ms)) ≤ 255
   few_of_head =
       let short : length (map index_in (filter (is_of_head w) (unmarked ms))) ≤ 201 =
-          length-le_from_distinct_below (map index_in (filter (is_of_head w) (unmarked ms))) 201 (indices_apart 1 (unmarked ms) (unmarked_sent ms) (unmarked_ascend 1 ms))
-          (indices_low (filter (is_of_head w) (unmarked ms))) in
+      length-le_from_distinct_below (map index_in (filter (is_of_head w) (unmarked ms))) 201 (indices_apart 1 (unmarked ms) (unmarked_sent ms) (unmarked_ascend 1 ms))
+      (indices_low (filter (is_of_head w) (unmarked ms))) in
       omega (arith, short, length-map (filter (is_of_head w) (unmarked ms)) index_in)
 
 -- ---- each record is there

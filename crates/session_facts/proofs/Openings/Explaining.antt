@@ -1,10 +1,10 @@
 -- Why an opening meets a trouble: its call shows it.
-use Rattle.std.proofs.Common.{◌≡◌, ◌≢◌, ◌≤◌, ◌⊎◌, inl, inr, ℕ, List, Option, Some, None, Ok, Err, refl, sym, ap, subst, ◌∙◌, arith}
+use Rattle.std.proofs.Common.{◌≡◌, ◌≢◌, ◌≤◌, ◌⊎◌, inl, inr, List, Option, Some, None, refl, sym, ap, subst, ◌∙◌, arith}
 use Rattle.client_session.specs.Session.{StepsOpening, opened_work}
 use Rattle.client_session.specs.declared.answer.Answer.{Answer}
 use Rattle.client_session.specs.declared.answer.Answer.TheVariants as answer
 use Rattle.client_session.specs.declared.work.Work.{Work}
-use Rattle.client_session.specs.declared.work.Work.TheVariants.{Closed, Idle, Opening}
+use Rattle.client_session.specs.declared.work.Work.TheVariants.{Opening}
 use Rattle.cloud_facts.specs.Book.Book.{Book}
 use Rattle.cloud_facts.specs.Book.Tally.{Store}
 use Rattle.cloud_facts.specs.Calls.Acting.{Setting}
@@ -15,7 +15,7 @@ use Rattle.cloud_trait.specs.declared.answer.Answer.{Answer as Reply}
 use Rattle.cloud_trait.specs.declared.turn.Turn.{Turn}
 use Rattle.cloud_trait.specs.declared.turn.Turn.TheVariants.{More, Ended, Stopped}
 use Rattle.cloud_trait.specs.Caller.{Caller}
-use Rattle.cloud_trait.specs.Machine.{Goes, Ends, Stops}
+use Rattle.cloud_trait.specs.Machine.{Goes, Stops}
 use Rattle.cloud_trait.specs.Seen.{Seen}
 use Rattle.cloud_trait.specs.State.{CloudState}
 use Rattle.cloud_trait.specs.Weather.{Makes}
@@ -25,7 +25,7 @@ use Rattle.recover_run.specs.declared.home.Home.{Home}
 use Rattle.recover_run.specs.Recovery.{Recovery, Step, recovery_ask, recovery_next, home_of, IsSound}
 use Rattle.report_types.specs.declared.entry.Entry.{Entry}
 use Rattle.session_facts.specs.Openings.Opening.{KnowsOpening, leases_of_recovery}
-use Rattle.session_facts.specs.Sessions.Explaining.{trouble_in, trouble_of_recovery, trouble_of_turn, trouble_of_answer, MeetsNext, Meets, IsShown, KeepsTrouble, left_told, Explains}
+use Rattle.session_facts.specs.Sessions.Explaining.{trouble_in, trouble_of_recovery, MeetsNext, Meets, IsShown, KeepsTrouble, left_told, Explains}
 use Rattle.session_facts.specs.Sessions.Sessions.{KnowsWork, Sessions, SessionsStand, leases_of}
 use Rattle.session_facts.proofs.Openings.Showing.{recovery_shows, StopsWith, recovery_answers}
 use Rattle.session_facts.proofs.Sessions.Laws.{setting_of, known_at}

@@ -112,7 +112,7 @@ module _ (who : Caller) (book : Book) (order : List Entry) (s t : CloudState) (p
       deleted_leads who.session parts u t.now part homes r is (gathers_passes st u r.client passes r.former r.lease r.wanted r.head r.gathered.kept part k)
       (messages_pass st u r.client passes (is_lost r.wanted) r.ids lost.0, lost.1) (done_of reply)
       (λ a done. subst (λ l. KnowsSifted u r (rest_of l)) (sym ids_are) (
-        deleted_sifted u r.client r.wanted id ids r.gathered (subst (KnowsSifted u r) ids_are (sifted_passes st u r.client passes r.wanted r.ids r.gathered sifted)) (gone done)
+      deleted_sifted u r.client r.wanted id ids r.gathered (subst (KnowsSifted u r) ids_are (sifted_passes st u r.client passes r.wanted r.ids r.gathered sifted)) (gone done)
       ))
       (done_may reply))
     where

@@ -93,7 +93,10 @@ module _ (st : Store) (client : ℕ) (w : Wanted) where
   unfolding messages_from
   held_from [] all = tt
   held_from (x ∷ kept) all =
-      (inl (refl, all.0.message.reads), all_so (λ (y : AtomicItem). HoldsItem y (messages_from kept all.1)) (λ (y : AtomicItem). HoldsItem y (messages_from (x ∷ kept) all)) (λ y h. inr h) kept (held_from kept all.1))
+      let rest = held_from kept all.1 in (
+        inl (refl, all.0.message.reads),
+        all_so (λ (y : AtomicItem). HoldsItem y (messages_from kept all.1)) (λ (y : AtomicItem). HoldsItem y (messages_from (x ∷ kept) all)) (λ y h. inr h) kept rest,
+      )
 
   counted : (r : AtomicItem) → IsWanted st client w r → is_counted w r.rec ≡ true
   counted x k =
@@ -109,7 +112,8 @@ module _ (st : Store) (client : ℕ) (w : Wanted) where
   kept_so : (ask : Ask) (kept : List AtomicItem) → (all : AllByRecursion (IsWanted st client w) kept) → AllByRecursion (IsKept w (calls_from ask kept all)) kept
   kept_so ask kept all =
       both kept all
-      (all_so (λ (x : AtomicItem). HoldsItem x (messages_from kept all)) (λ (x : AtomicItem). Brought x (calls_from ask kept all)) (λ x h. inl (messages_from kept all, refl, h)) kept (held_from kept all))
+      (all_so (λ (x : AtomicItem). HoldsItem x (messages_from kept all)) (λ (x : AtomicItem). Brought x (calls_from ask kept all)) (λ x h. inl (messages_from kept all, refl, h)) kept
+      (held_from kept all))
     where
       both : (xs : List AtomicItem) → AllByRecursion (IsWanted st client w) xs → AllByRecursion (λ (x : AtomicItem). Brought x (calls_from ask kept all)) xs
           → AllByRecursion (IsKept w (calls_from ask kept all)) xs

@@ -126,7 +126,7 @@ module _ (st : Store) (client : ℕ) (w : Wanted) where
 
           on : (b : Bool) → is_lost w x.rec ≡ b → AllByRecursion (λ id. has_id g.lost id ≡ true) (lost_ids w xs)
               → AllByRecursion (λ id. has_id g.lost id ≡ true)
-                  (ids_of (cond b (x ∷ filter (λ (y : AtomicItem). is_lost w y.rec) xs) (filter (λ (y : AtomicItem). is_lost w y.rec) xs)))
+              (ids_of (cond b (x ∷ filter (λ (y : AtomicItem). is_lost w y.rec) xs) (filter (λ (y : AtomicItem). is_lost w y.rec) xs)))
           on true lost rest =
               let same : x.rec ≡ s.of = one_record (st.tally.logged client) x.id x.rec s.of sent.0 s.message in
               (s.noted (subst (λ (r : AtomicRec). is_lost w r ≡ true) same lost), rest)

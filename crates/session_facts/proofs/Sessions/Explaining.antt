@@ -1,15 +1,13 @@
 -- A step of a session explains what it brought.
 use Rattle.std.proofs.Common.{◌≡◌, ◌≢◌, ◌≤◌, ℕ, List, Option, Some, None, Ok, refl, subst}
-use Rattle.client_session.specs.Session.{Acting, StepsSession, StepsAt, StepsCommit, ShowsAt, ask_of_work}
+use Rattle.client_session.specs.Session.{Acting, StepsSession, StepsAt, ShowsAt, ask_of_work}
 use Rattle.client_session.specs.declared.answer.Answer.{Answer}
-use Rattle.client_session.specs.declared.answer.Answer.TheVariants as answer
 use Rattle.client_session.specs.declared.shown.Shown.{Shown}
 use Rattle.client_session.specs.declared.work.Work.{Work}
 use Rattle.client_session.specs.declared.work.Work.TheVariants.{Closed, Idle, Opening, Committing, Reading, Scanning, Folding, Paging, Closing, Renewing, Settling, Broken}
 use Rattle.cloud_trait.specs.declared.answer.Answer.{Answer as Reply}
 use Rattle.cloud_trait.specs.declared.answer.Answer.TheVariants.{Memory}
 use Rattle.cloud_trait.specs.declared.turn.Turn.{Turn}
-use Rattle.cloud_trait.specs.declared.turn.Turn.TheVariants.{More, Ended}
 use Rattle.cloud_trait.specs.Ask.{Ask, Renew, Release}
 use Rattle.cloud_trait.specs.Caller.{Caller}
 use Rattle.cloud_trait.specs.Seen.{Seen}
@@ -17,8 +15,7 @@ use Rattle.cloud_trait.specs.State.{CloudState}
 use Rattle.cloud_facts.specs.Book.Book.{Book}
 use Rattle.cloud_facts.specs.Book.Tally.{Store}
 use Rattle.cloud_facts.specs.Tellings.Told.{store_of}
-use Rattle.cloud_facts.proofs.Calls.Calls.{call_of}
-use Rattle.commit_run.specs.Run.{Run, run_ask}
+use Rattle.commit_run.specs.Run.{run_ask}
 use Rattle.page_cache.specs.Cache.{Cache}
 use Rattle.page_ckpt.specs.Paging.{paging_ask}
 use Rattle.range_scan.specs.Scan.{scan_ask}
@@ -62,13 +59,6 @@ module _ (who : Caller) (before after : Seen) (s t : CloudState) (book : Book) (
   cache_now : (work : Work) → old ≡ work → KnowsKept st kept work
   cache_now work is = subst (λ w. KnowsKept st kept w) is (stand.each who.session).kept
 
-  -- time does not run back in a commit's call
-  later : (r : Run) (c : Cache) (work : Work) (turn : Turn Answer) → StepsCommit who before after r kept c work turn → s.now ≤ t.now
-  later r c work More p = (call_of who (run_ask r) p.1.answer before after s t p.1.made told told_after).later
-  later r c work (Ended (answer.Commit a)) p = (call_of who (run_ask r) p.1.answer before after s t p.1.made told told_after).later
-  later r c work (Ended (answer.Trouble k)) p = (call_of who (run_ask r) p.1.answer before after s t p.1.made told told_after).later
-  later r c work turn p = absurd p
-
   -- by what was at work
   abbrev Explained : Work → Work → Turn Answer → Reply → Type 0
   Explained work new turn reply = (ask : Ask) × (ask_of_work work ≡ Some ask) × (reply ≢ Memory → Explains ask before.counts after.counts s t work new turn)
@@ -79,8 +69,8 @@ module _ (who : Caller) (before after : Seen) (s t : CloudState) (book : Book) (
       (recovery_ask r, refl, λ found. opening_explains who before after s t book order sessions told told_after stand r is steps.0 new turn steps.1)
   by_work buffer (Committing r) new c shown turn is steps shows =
       (run_ask r, refl,
-      committing_explains who before after s t book order told told_after stand.cloud r kept (stand.parts who.session) (known_in (Committing r) is (later r c new turn shows.0)) steps.0 c new turn
-      shows.0)
+      committing_explains who before after s t book order told told_after stand.cloud r kept (stand.parts who.session) (λ later. known_in (Committing r) is later)
+      steps.0 c new turn shows.0)
   by_work buffer (Reading home w) new c shown turn is steps shows =
       let knows : KnowsWalking st w kept = record { walk = (known_now (Reading home w) is).1; cache = cache_now (Reading home w) is } in
       (walk_ask w, refl, λ found. reading_explains who before after s t book order told told_after stand.cloud home w kept knows c new shown turn shows)

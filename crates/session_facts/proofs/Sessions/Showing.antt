@@ -8,7 +8,7 @@ use Rattle.cloud_trait.specs.Caller.{Caller}
 use Rattle.cloud_trait.specs.Claim.{Claim, Lasts, IsOver}
 use Rattle.cloud_trait.specs.Seen.{Seen}
 use Rattle.cloud_trait.specs.State.{CloudState, Counts, called}
-use Rattle.cloud_trait.specs.Views.{trouble_of, given_of, got_of, sent_of, received_of, done_of, renewed_of}
+use Rattle.cloud_trait.specs.Views.{given_of, got_of, sent_of, received_of, done_of, renewed_of}
 use Rattle.cloud_trait.specs.Weather.{FirstOver, Leaves, Makes, Rose, Weather}
 use Rattle.db_base.specs.declared.names.Lock.{Lock}
 use Rattle.db_base.specs.declared.names.ObjName.{ObjName}

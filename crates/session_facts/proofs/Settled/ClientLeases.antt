@@ -1,5 +1,5 @@
 -- The leases of a client's recovery: the one that it took and did not give back; it takes none while it has one.
-use Rattle.std.proofs.Common.{◌≡◌, ◌≢◌, ◌≤◌, ◌+◌, ◌-◌, ◌^◌, ◌==◌, ℕ, Bool, true, false, cond, List, [], ◌∷◌, ◌++◌, length, Option, Some, None, Result, Ok, Err, refl, sym, ap, subst, ◌∙◌, arith}
+use Rattle.std.proofs.Common.{◌≡◌, ◌≤◌, ◌+◌, ◌-◌, ◌^◌, ◌==◌, ℕ, Bool, true, false, cond, List, [], ◌∷◌, ◌++◌, length, Option, Some, None, Result, Ok, Err, refl, sym, ap, subst, ◌∙◌, arith}
 use Rattle.std.specs.Prelude.{slice_get}
 use Rattle.ckpt_parts.specs.Leasing.{outstanding_after}
 use Rattle.cloud_facts.specs.Book.Tally.{Store}
@@ -8,9 +8,9 @@ use Rattle.cloud_facts.specs.Homes.Homes.{Part}
 use Rattle.cloud_trait.specs.declared.answer.Answer.{Answer}
 use Rattle.cloud_trait.specs.declared.answer.Answer.TheVariants.{Done}
 use Rattle.cloud_trait.specs.declared.message.Message.{Message}
-use Rattle.cloud_trait.specs.Ask.{Ask, GetHeld, PutHeld, Take, Release, MovesNoLock}
+use Rattle.cloud_trait.specs.Ask.{Ask, GetHeld, PutHeld, Release, MovesNoLock}
 use Rattle.cloud_trait.specs.Claim.{Claim}
-use Rattle.cloud_trait.specs.Machine.{Next, Goes, Ends, Stops}
+use Rattle.cloud_trait.specs.Machine.{Goes, Ends, Stops}
 use Rattle.cloud_trait.specs.Views.{given_of, got_of, sent_of, received_of, done_of}
 use Rattle.cloud_trait.proofs.ViewLemmas.{given_of-ok}
 use Rattle.db_base.specs.declared.names.Lock.TheVariants as lock

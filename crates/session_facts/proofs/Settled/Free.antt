@@ -1,5 +1,5 @@
 -- Where nobody else has a lease, no call of a settling finds a lock held.
-use Rattle.std.proofs.Common.{◌≡◌, ◌≢◌, ◌≤◌, ◌+◌, ◌==◌, inl, inr, ℕ, Bool, true, false, cond, List, [], ◌∷◌, Option, Some, None, refl, sym, subst}
+use Rattle.std.proofs.Common.{◌≡◌, ◌≢◌, ◌≤◌, ◌==◌, inl, ℕ, Bool, true, false, cond, List, [], refl, sym, subst}
 use Rattle.calm_calls.specs.Calm.{TakesFree}
 use Rattle.ckpt_parts.specs.Leasing.{outstanding_after}
 use Rattle.cloud_facts.specs.Book.Tally.{Store}
@@ -14,9 +14,9 @@ use Rattle.cloud_trait.specs.State.{CloudState, Counts, called}
 use Rattle.cloud_trait.specs.Weather.{Weather}
 use Rattle.db_base.specs.declared.names.Lock.{Lock}
 use Rattle.db_base.specs.declared.trouble.Trouble.TheVariants as trouble
-use Rattle.page_ckpt.specs.Paging.{Paging, PagingLeads}
+use Rattle.page_ckpt.specs.Paging.{Paging}
 use Rattle.recover_run.specs.declared.stage.RecoverAnswer.{RecoverAnswer}
-use Rattle.recover_run.specs.Recovery.{Recovery, recovery_next}
+use Rattle.recover_run.specs.Recovery.{Recovery}
 use Rattle.session_facts.specs.Openings.Opening.{leases_of_recovery}
 use Rattle.session_facts.specs.PageCheckpoints.Checkpoint.{leases_of_paging}
 use Rattle.session_facts.specs.Settled.Locks.{HoldsAlone, UsesOwn}
@@ -31,7 +31,7 @@ use Rattle.settle_run.specs.declared.part.Part.{Part as AtWork}
 use Rattle.settle_run.specs.declared.part.Part.TheVariants.{Client, Tree, Page}
 use Rattle.settle_run.specs.Parts.{part_again, part_ask, recovers, makes, pages, PartLeads, IsSoundPart}
 use Rattle.settle_run.specs.Settling.{Settling, Step, new_settling, settle_ask, passed, ended_by, counted, with_part, moved, SettleLeads}
-use Rattle.tree_ckpt.specs.Making.{Making, MakingLeads}
+use Rattle.tree_ckpt.specs.Making.{Making}
 
 -- ---- the part at work
 

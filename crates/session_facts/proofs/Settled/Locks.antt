@@ -1,10 +1,9 @@
 -- Where nobody has a lease but one session, a call of that session that finds memory and does not fail leaves it so, and finds its lock free.
-use Rattle.std.proofs.Common.{◌≡◌, ◌≢◌, ◌+◌, ◌<◌, ◌≤◌, ◌⊎◌, ◌==◌, ◌&&◌, inl, inr, ℕ, zero, suc, Bool, true, false, cond, nat_lt, List, [], ◌∷◌, ◌++◌, Ok, Err, refl, sym, ap, subst, ◌∙◌, arith}
+use Rattle.std.proofs.Common.{◌≡◌, ◌≢◌, ◌+◌, ◌<◌, ◌≤◌, ◌==◌, inl, inr, ℕ, zero, suc, Bool, true, false, cond, nat_lt, List, [], ◌∷◌, Err, refl, sym, ap, subst, ◌∙◌, arith}
 use Rattle.std.proofs.lemmas.Bool.{and_from, eq-eqb, lt-ltb, ltb-false}
 use Rattle.std.specs.Ordering.{is_eq}
 use Rattle.calm_calls.specs.Calm.{TakesFree}
 use Rattle.ckpt_parts.specs.Leasing.{outstanding_after}
-use Rattle.cloud_facts.specs.Book.Records.{IsIn}
 use Rattle.cloud_facts.proofs.Book.Places.{get_single, in_behind, in_none}
 use Rattle.cloud_trait.specs.declared.answer.Answer.{Answer}
 use Rattle.cloud_trait.specs.declared.answer.Answer.TheVariants.{Got, Sent, Received, Done, Given, Held, Renewed, Late, Failed, Memory}
@@ -18,11 +17,11 @@ use Rattle.cloud_trait.specs.State.{CloudState, Counts, called, put_at, end_afte
 use Rattle.cloud_trait.specs.Views.{given_of}
 use Rattle.cloud_trait.specs.Weather.{Weather}
 use Rattle.cloud_trait.proofs.NameLemmas.{lock_cmp-equal, lock_cmp-total}
-use Rattle.cloud_trait.proofs.RowLemmas.{row_locks, row_rest}
+use Rattle.cloud_trait.proofs.RowLemmas.{row_locks}
 use Rattle.cloud_trait.proofs.StateLemmas.{put_at_by, put_at_same}
 use Rattle.db_base.specs.declared.names.Lock.{Lock}
 use Rattle.db_base.specs.declared.trouble.Trouble.{Trouble}
-use Rattle.session_facts.specs.Settled.Locks.{StandsAs, IsOwn, HoldsAlone, HasNone, UsesOwn}
+use Rattle.session_facts.specs.Settled.Locks.{IsOwn, HoldsAlone, HasNone, UsesOwn}
 
 -- ---- the lock that a call takes
 

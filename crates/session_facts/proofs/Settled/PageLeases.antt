@@ -1,5 +1,5 @@
 -- The leases of a page checkpoint: those that it took and did not give back; it takes no lock of one of them.
-use Rattle.std.proofs.Common.{◌≡◌, ◌≢◌, ◌⊎◌, inl, inr, ℕ, Bool, true, false, List, [], ◌∷◌, Option, Some, None, Result, Ok, Err, refl, sym, ap, subst, ◌∙◌}
+use Rattle.std.proofs.Common.{◌≡◌, ◌≢◌, inl, inr, ℕ, Bool, true, false, List, [], ◌∷◌, Option, Some, None, Result, Ok, Err, refl, sym, ap, subst, ◌∙◌}
 use Rattle.ckpt_parts.specs.declared.intake.Intake.{Intake}
 use Rattle.ckpt_parts.specs.declared.leases.Leases.{Leases}
 use Rattle.ckpt_parts.specs.Deleting.{next_id, tried}
@@ -9,10 +9,9 @@ use Rattle.cloud_facts.specs.Book.Tally.{Store}
 use Rattle.cloud_trait.specs.declared.answer.Answer.{Answer}
 use Rattle.cloud_trait.specs.declared.answer.Answer.TheVariants.{Done}
 use Rattle.cloud_trait.specs.declared.message.Message.{Message}
-use Rattle.cloud_trait.specs.declared.turn.CkptAnswer.{CkptAnswer}
-use Rattle.cloud_trait.specs.Ask.{Ask, GetHeld, PutHeld, Take, Release, Receive, MovesNoLock}
+use Rattle.cloud_trait.specs.Ask.{Ask, GetHeld, PutHeld, Release, MovesNoLock}
 use Rattle.cloud_trait.specs.Claim.{Claim}
-use Rattle.cloud_trait.specs.Machine.{Next, Goes, Ends, Stops}
+use Rattle.cloud_trait.specs.Machine.{Goes, Ends, Stops}
 use Rattle.cloud_trait.specs.Views.{given_of, got_of, received_of, done_of}
 use Rattle.cloud_trait.proofs.ViewLemmas.{given_of-ok}
 use Rattle.db_base.specs.declared.names.Lock.TheVariants as lock
@@ -22,8 +21,8 @@ use Rattle.leaf_view.specs.Leaf.{Leaf}
 use Rattle.page_ckpt.specs.declared.link.Link.{Link}
 use Rattle.page_ckpt.specs.declared.stage.Stage.{Stage}
 use Rattle.page_ckpt.specs.declared.stage.Stage.TheVariants.{TakingHome, GettingHome, Receiving, TakingRight, GettingRight, PuttingRight, ReleasingRight, PuttingHome, Deleting as DeletingNext, Releasing, Finished}
-use Rattle.page_ckpt.specs.Paging.{Paging, Step, ask_at, paging_ask, under, take_home, take_right, home_name, right_name, own_queue, delete_next, put_right, held_after, without_right, deleting_by, home_taken_by, HomeGot, home_read, link_of, is_visited, LeafPut, to_right, GoesOn, RunStarted, with_intake, IntakeTaken, ReceivedBy, right_taken_by, RightLacks, RightRead, RightGot, right_put_by, home_put_by, with_applied, without_onward, went, deleted_by, finished_by, released_by, AbsorbsAt, PagingLeads}
-use Rattle.session_facts.specs.PageCheckpoints.Checkpoint.{HoldsPage, HoldsRight, HasPage, HasRight, HasLeases, HasIds, KnowsPagingAt, KnowsPaging, leases_of_paging}
+use Rattle.page_ckpt.specs.Paging.{Paging, Step, ask_at, paging_ask, under, take_home, take_right, home_name, right_name, delete_next, put_right, held_after, without_right, deleting_by, home_taken_by, HomeGot, home_read, link_of, is_visited, LeafPut, to_right, GoesOn, RunStarted, with_intake, IntakeTaken, ReceivedBy, right_taken_by, RightLacks, RightRead, RightGot, right_put_by, home_put_by, with_applied, without_onward, went, deleted_by, finished_by, released_by, AbsorbsAt, PagingLeads}
+use Rattle.session_facts.specs.PageCheckpoints.Checkpoint.{HasPage, HasRight, HasLeases, HasIds, KnowsPagingAt, KnowsPaging, leases_of_paging}
 use Rattle.session_facts.specs.Settled.Locks.{HasNone, UsesOwn}
 use Rattle.session_facts.proofs.Settled.Locks.{HoldsNext, quiet_holds, quiet_uses, not_given, none_of, one_of}
 

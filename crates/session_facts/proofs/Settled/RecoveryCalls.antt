@@ -1,10 +1,8 @@
 -- The calls of a settling's recovery where nobody else acts: what its held get read, which messages it received, and so how many they are and
 -- that none is left.
-use Rattle.std.proofs.Common.{◌≡◌, ◌≢◌, ◌+◌, ◌*◌, ◌≤◌, ◌==◌, ◌||◌, ℕ, Bool, true, false, cond, eqb-true, List, [], ◌∷◌, ◌++◌, append-nil, append_assoc, length, map, Option, Some, None, refl, sym, ap, subst, ◌∙◌, arith}
+use Rattle.std.proofs.Common.{◌≡◌, ◌+◌, ◌*◌, ◌≤◌, ◌==◌, ◌||◌, ℕ, Bool, true, false, cond, List, [], ◌∷◌, ◌++◌, append-nil, append_assoc, length, map, Option, Some, None, refl, sym, ap, subst, ◌∙◌, arith}
 use Rattle.std.specs.Prelude.{nat_eq, slice_get}
 use Rattle.std.specs.List.{AllByRecursion, IsDistinct, list_any}
-use Rattle.std.specs.Set.{is_member}
-use Rattle.std.proofs.lemmas.Bool.{eq-eqb}
 use Rattle.std.proofs.lemmas.Bool.Decides.{nat_tests}
 use Rattle.std.proofs.lemmas.Cmp.{nat_eq_equiv}
 use Rattle.std.proofs.lemmas.List.{length-map}
@@ -15,12 +13,11 @@ use Rattle.calm_calls.proofs.CalmLemmas.{delivers}
 use Rattle.cloud_trait.specs.declared.answer.Answer.{Answer}
 use Rattle.cloud_trait.specs.declared.answer.Answer.TheVariants.{Got, Sent, Received, Done, Given, Held, Renewed, Late, Failed, Memory}
 use Rattle.cloud_trait.specs.declared.message.Message.{Message}
-use Rattle.cloud_trait.specs.declared.state.Posted.{Posted}
 use Rattle.cloud_trait.specs.declared.state.Version.{Version}
-use Rattle.cloud_trait.specs.Ask.{Ask, Get, GetHeld, PutHeld, Send, Receive, Delete, Take, Renew, Release, PutsNothing}
+use Rattle.cloud_trait.specs.Ask.{Ask, Get, GetHeld, PutHeld, Send, Receive, Delete, Take, Renew, Release}
 use Rattle.cloud_trait.specs.Claim.{Claim}
 use Rattle.cloud_trait.specs.Delivery.{unmarked}
-use Rattle.cloud_trait.specs.Machine.{Ends, Deed, IsMade, calls_of}
+use Rattle.cloud_trait.specs.Machine.{Deed, IsMade, calls_of}
 use Rattle.cloud_trait.specs.State.{CloudState, newest, newest_of, called}
 use Rattle.cloud_trait.specs.Weather.{Weather, Leaves, Fits}
 use Rattle.cloud_trait.proofs.RowLemmas.{row_versions}
@@ -28,27 +25,24 @@ use Rattle.db_base.specs.declared.names.Lock.TheVariants as lock
 use Rattle.db_base.specs.declared.names.ObjName.{ObjName}
 use Rattle.db_base.specs.declared.names.ObjName.TheVariants as object
 use Rattle.db_base.specs.declared.names.QueueName.TheVariants as queue
-use Rattle.head_codec.specs.declared.head.Head.{Head}
 use Rattle.head_codec.proofs.Keeping.{AllByRecursion-append}
 use Rattle.recover_run.specs.declared.items.AtomicItem.{AtomicItem}
 use Rattle.recover_run.specs.declared.stage.Aim.TheVariants.{Settling}
-use Rattle.recover_run.specs.declared.stage.RecoverAnswer.{RecoverAnswer}
-use Rattle.recover_run.specs.declared.stage.RecoverAnswer.TheVariants.{Opened, Nothing}
 use Rattle.recover_run.specs.declared.stage.Stage.{Stage}
 use Rattle.recover_run.specs.declared.stage.Stage.TheVariants.{ReleasingOld, Taking, Getting, Receiving, Deleting, Sending, Putting, Clearing, Sweeping, Releasing, Finished}
 use Rattle.recover_run.specs.Calls.{Calls, head_in, Reading}
 use Rattle.recover_run.specs.Causing.{ids_in, known_ids}
 use Rattle.recover_run.specs.Emptying.{IsBeginning}
 use Rattle.recover_run.specs.Ids.{has_id, new_ids}
-use Rattle.recover_run.specs.Meaning.{IsOpened, IsNothing, Means}
-use Rattle.recover_run.specs.Recovery.{Recovery, recovery_ask, recovery_next, ask_at, take_lease, under, delete_next, send_next}
+use Rattle.recover_run.specs.Meaning.{IsOpened, IsNothing}
+use Rattle.recover_run.specs.Recovery.{Recovery, recovery_ask, ask_at, under, delete_next, send_next}
 use Rattle.recover_run.specs.Standing.{Went, Names}
-use Rattle.recover_run.specs.Within.{counted, counted_after, count_in, AreFew}
+use Rattle.recover_run.specs.Within.{counted, counted_after, count_in}
 use Rattle.recover_run.proofs.Calmly.{unmarked_since}
-use Rattle.recover_run.proofs.Keeping.{all_so, all_new}
+use Rattle.recover_run.proofs.Keeping.{all_new}
 use Rattle.recover_run.proofs.Knowing.{KnowsAt, KnowsTaken}
 use Rattle.recover_run.proofs.Marks.{brought_all}
-use Rattle.recover_run.proofs.Meaning.{Knows, came_known, came_means}
+use Rattle.recover_run.proofs.Meaning.{Knows, came_known}
 use Rattle.recover_run.proofs.Standing.{stands_names}
 use Rattle.recover_run.proofs.Sweeping.{all_has, each_has}
 use Rattle.recover_run.proofs.Within.{went_few}
@@ -162,7 +156,7 @@ module _ (client : ℕ) (first : CloudState) where
       reads n l v e f =
           let at = asks_get r.stage r n l (sym asks ∙ e) in
           let row = subst (λ a. Weather d.who (GetHeld n l) a d.before.counts d.after.counts (called d.who t.now b) t) f
-              (subst (λ ask. Weather d.who ask d.answer d.before.counts d.after.counts (called d.who t.now b) t) e (deed_row d b t made before after)) in
+          (subst (λ ask. Weather d.who ask d.answer d.before.counts d.after.counts (called d.who t.now b) t) e (deed_row d b t made before after)) in
           row.2 ∙ (ap (newest b) (named n l at (sym asks ∙ e)) ∙ taken at)
 
   all_read : (h : List Deed) (r : Recovery) (now : CloudState) → Went client Settling None h r → LeadsOver first h now → AllByRecursion (ReadsAs (newest first name)) (calls_of h)
@@ -303,9 +297,9 @@ pub few_calls : (client : ℕ) (first now : CloudState) (h : List Deed) (d : Dee
 few_calls client first now h d r went told calm alone begins =
     let few : length h + 1 ≤ 7 + 4 * length (known_ids (calls_of h)) + counted (calls_of h) = went_few client Settling None h r went in
     let ids : length (known_ids (calls_of h)) ≤ length (ids_first client first) =
-        few_of (ids_first client first) (known_ids (calls_of h)) (known_apart (calls_of h)) (known_had client first h r went calm alone (earlier_begin client first d h begins)) in
+    few_of (ids_first client first) (known_ids (calls_of h)) (known_apart (calls_of h)) (known_had client first h r went calm alone (earlier_begin client first d h begins)) in
     let records : counted (calls_of h) ≤ count_in (head_in (newest first (object.Head client))) =
-        counted_first (newest first (object.Head client)) (calls_of h) (all_read client first h r now went told) in
+    counted_first (newest first (object.Head client)) (calls_of h) (all_read client first h r now went told) in
     let same = length-map (unmarked (first.messages (queue.Atomic client))) (λ (m : Message). m.id) in
     omega (arith, few, ids, records, same)
 

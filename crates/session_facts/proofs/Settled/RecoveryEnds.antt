@@ -1,5 +1,5 @@
 -- What a settling's recovery leaves where nobody else acts: no message of its client, and no open head.
-use Rattle.std.proofs.Common.{◌≡◌, ◌≢◌, ◌+◌, ◌-◌, ◌^◌, ◌<◌, ◌==◌, ◌⊎◌, inl, inr, ℕ, Bool, true, false, cond, List, [], ◌∷◌, ◌++◌, map, Option, Some, None, Result, Ok, Err, refl, sym, ap, subst, ◌∙◌, arith}
+use Rattle.std.proofs.Common.{◌≡◌, ◌-◌, ◌^◌, ◌==◌, ℕ, Bool, true, false, cond, List, [], ◌∷◌, ◌++◌, Option, Some, None, Result, Ok, Err, refl, sym, ap, subst, ◌∙◌}
 use Rattle.std.specs.List.{AllByRecursion}
 use Rattle.calm_calls.specs.Calm.{IsCalm, AreCalm, AreAlone}
 use Rattle.calm_calls.specs.Plenty.{HadMemory}
@@ -11,16 +11,15 @@ use Rattle.cloud_facts.specs.Calls.Acting.{IsPruned}
 use Rattle.cloud_facts.specs.Homes.Homes.{Part}
 use Rattle.cloud_facts.specs.Tellings.Told.{store_of}
 use Rattle.cloud_trait.specs.declared.answer.Answer.{Answer}
-use Rattle.cloud_trait.specs.declared.answer.Answer.TheVariants.{Got, Done, Memory}
+use Rattle.cloud_trait.specs.declared.answer.Answer.TheVariants.{Got, Done}
 use Rattle.cloud_trait.specs.declared.message.Message.{Message}
 use Rattle.cloud_trait.specs.declared.turn.Turn.TheVariants.{Ended}
 use Rattle.cloud_trait.specs.declared.state.Version.{Version}
-use Rattle.cloud_trait.specs.Ask.{Ask, GetHeld, PutHeld, Receive, Release, PutsNothing}
-use Rattle.cloud_trait.specs.Caller.{Caller}
+use Rattle.cloud_trait.specs.Ask.{Ask, GetHeld, PutHeld, Release, PutsNothing}
 use Rattle.cloud_trait.specs.Claim.{Claim, Lasts}
 use Rattle.cloud_trait.specs.Delivery.{unmarked}
 use Rattle.cloud_trait.specs.Machine.{Goes, Ends, Stops, Deed, IsMade, calls_of}
-use Rattle.cloud_trait.specs.State.{CloudState, Counts, newest, newest_of, called}
+use Rattle.cloud_trait.specs.State.{CloudState, newest, newest_of, called}
 use Rattle.cloud_trait.specs.Views.{given_of, got_of, sent_of, received_of, done_of}
 use Rattle.cloud_trait.specs.Weather.{Weather}
 use Rattle.cloud_trait.proofs.RowLemmas.{row_versions}
@@ -43,13 +42,13 @@ use Rattle.recover_run.specs.declared.stage.RecoverAnswer.{RecoverAnswer}
 use Rattle.recover_run.specs.declared.stage.RecoverAnswer.TheVariants.{Opened, Nothing}
 use Rattle.recover_run.specs.declared.stage.Stage.{Stage}
 use Rattle.recover_run.specs.declared.stage.Stage.TheVariants.{ReleasingOld, Taking, Getting, Receiving, Deleting, Sending, Putting, Clearing, Sweeping, Releasing, Finished}
-use Rattle.recover_run.specs.Calls.{Calls, head_in}
+use Rattle.recover_run.specs.Calls.{head_in}
 use Rattle.recover_run.specs.Emptying.{IsBeginning, HadMemory as HadMemoryOf, HasNoLater}
 use Rattle.recover_run.specs.Gathering.{past_ids}
 use Rattle.recover_run.specs.Ids.{new_ids, rest_of}
 use Rattle.recover_run.specs.Items.{items_of}
 use Rattle.recover_run.specs.Meaning.{IsOpened, IsNothing}
-use Rattle.recover_run.specs.Recovery.{Recovery, Step, recovery_ask, recovery_next, ask_at, next_at, take_lease, under, delete_next, stopping, taken_by, phase_read, behind, head_read, bytes_read, none_read, got_by, put_by, clearing, clearing_kept, kept_ids, opened, sweeping, swept_with, swept_by, ended}
+use Rattle.recover_run.specs.Recovery.{Recovery, Step, recovery_ask, recovery_next, ask_at, next_at, take_lease, under, delete_next, stopping, taken_by, phase_read, behind, bytes_read, none_read, got_by, put_by, clearing, clearing_kept, kept_ids, opened, sweeping, swept_with, swept_by, ended}
 use Rattle.recover_run.specs.Standing.{Went}
 use Rattle.recover_run.proofs.Calmly.{Moves, Shrunk, move_shrinks, shrunk_all, unmarked_since}
 use Rattle.recover_run.proofs.Emptying.{came_empties}

@@ -1,16 +1,14 @@
 -- What the recovery of a client in a settling leaves, and how many calls it makes.
-use Rattle.std.proofs.Common.{◌≡◌, ◌+◌, ◌*◌, ◌≤◌, ℕ, List, [], ◌∷◌, length, Option, Some, None, refl, sym, ap, subst, ◌∙◌, arith}
+use Rattle.std.proofs.Common.{◌≡◌, ◌+◌, ◌*◌, ◌≤◌, ℕ, List, [], ◌∷◌, length, Option, Some, None, refl, ap, subst, ◌∙◌, arith}
 use Rattle.std.specs.Prelude.{unwrap_or}
-use Rattle.std.specs.List.{AllByRecursion}
 use Rattle.calm_calls.specs.Calm.{AreCalm, AreAlone}
 use Rattle.calm_calls.specs.Plenty.{HadMemory}
 use Rattle.cloud_facts.proofs.Calls.Heads.{head_at, newest_head}
 use Rattle.cloud_facts.proofs.Decoding.Values.{message_decodes}
+use Rattle.cloud_facts.specs.Book.Messages.{IsLogMessage}
 use Rattle.cloud_facts.specs.Decoding.Decodes.{Decodes}
-use Rattle.cloud_facts.specs.Lefts.Left.{AreLogged}
 use Rattle.cloud_trait.specs.declared.answer.Answer.{Answer}
 use Rattle.cloud_trait.specs.declared.message.Message.{Message}
-use Rattle.cloud_trait.specs.declared.state.Posted.{Posted}
 use Rattle.cloud_trait.specs.declared.turn.CkptAnswer.{CkptAnswer}
 use Rattle.cloud_trait.specs.Delivery.{WasSent, unmarked}
 use Rattle.cloud_trait.specs.Machine.{Next, Goes, Ends, Stops, LeadsBy, Deed}
@@ -18,15 +16,12 @@ use Rattle.cloud_trait.specs.State.{CloudState, newest}
 use Rattle.db_base.specs.Ids.{IsClient}
 use Rattle.db_base.specs.declared.names.ObjName.TheVariants as object
 use Rattle.db_base.specs.declared.names.QueueName.TheVariants as queue
-use Rattle.db_base.specs.declared.trouble.Trouble.{Trouble}
 use Rattle.head_codec.specs.Head.{empty_head}
 use Rattle.head_codec.specs.Spelling.{head_of}
 use Rattle.head_codec.specs.declared.head.Head.{Head}
-use Rattle.head_codec.specs.declared.head.Phase.TheVariants.{Settled}
 use Rattle.log_codec.proofs.AtomicLaws.{atomic_of-some}
-use Rattle.log_codec.specs.Atomic.{atomic_of}
 use Rattle.log_codec.specs.declared.record.AtomicRec.{AtomicRec}
-use Rattle.page_ckpt.specs.Paging.{Paging, PagingLeads}
+use Rattle.page_ckpt.specs.Paging.{Paging}
 use Rattle.recover_run.specs.declared.stage.Aim.TheVariants.{Settling}
 use Rattle.recover_run.specs.declared.stage.RecoverAnswer.{RecoverAnswer}
 use Rattle.recover_run.specs.Calls.{head_in}
@@ -36,18 +31,19 @@ use Rattle.recover_run.specs.Recovery.{Recovery, new_recovery, recovery_next}
 use Rattle.recover_run.specs.Standing.{Went}
 use Rattle.recover_run.specs.Within.{count_in}
 use Rattle.recover_run.proofs.Finding.{unmarked_sent}
+use Rattle.recover_run.proofs.Keeping.{all_so}
 use Rattle.session_facts.specs.Settled.Runs.{waiting, RecoveryRun, RecoveriesRun}
-use Rattle.session_facts.specs.Settled.Story.{Moment, store_at, IsAtWork, IsTurn, PartStory, PartRan}
+use Rattle.session_facts.specs.Settled.Story.{Moment, store_at, IsAtWork, PartStory, PartRan}
 use Rattle.session_facts.specs.Settlings.Settling.{Recovers, KnowsAtWork}
 use Rattle.session_facts.proofs.Openings.Completing.{no_later}
 use Rattle.session_facts.proofs.Openings.Messages.{sent_message}
 use Rattle.session_facts.proofs.Settled.RecoveryCalls.{LeadsOver, few_calls}
 use Rattle.session_facts.proofs.Settled.RecoveryEnds.{IsSettled, SettledAt, nothing_left, leaves_none, step_settles, end_settles}
-use Rattle.session_facts.proofs.Settled.Stories.{part_known, story_went, story_alone, ran_alone}
+use Rattle.session_facts.proofs.Settled.Stories.{part_known, story_went, ran_alone}
 use Rattle.settle_run.specs.declared.part.Part.{Part}
 use Rattle.settle_run.specs.declared.part.Part.TheVariants.{Client, Tree, Page}
-use Rattle.settle_run.specs.Parts.{part_again, part_ask, recovers, makes, pages, PartLeads, PartWent}
-use Rattle.tree_ckpt.specs.Making.{Making, MakingLeads}
+use Rattle.settle_run.specs.Parts.{part_ask, recovers, makes, pages, PartLeads}
+use Rattle.tree_ckpt.specs.Making.{Making}
 
 -- ---- a part that recovers a client
 
@@ -140,8 +136,8 @@ story_settled client first (d ∷ h) m now (from, (before, (story, turn, leads))
         → ((r : Recovery) → from ≡ Client client r → SettledAt r.stage r.ending (IsSettled client before.state)) → SettledAt m.stage m.ending (IsSettled client now.state)
     on l again =
         let k = recovers_at client l.of from before l.is turn.at_work in
-        step_settles client d l.of before.state now.state (asks_of client l.of from d l.is turn.asked) turn.made turn.told turn.left k.client_is now.book now.order (now.stand.parts 0) m l.leads k.aim_is
-        (again l.of l.is) (recovers_at client m (Client client m) now refl at).knows
+        step_settles client d l.of before.state now.state (asks_of client l.of from d l.is turn.asked) turn.made turn.told turn.left k.client_is now.book now.order
+        (now.stand.parts 0) m l.leads k.aim_is (again l.of l.is) (recovers_at client m (Client client m) now refl at).knows
 
 -- ---- what it begins with
 
@@ -161,20 +157,19 @@ count_told (Some bytes) = on (head_of bytes)
     on (Some h) = omega arith
     on None = omega arith
 
--- where a client has no head it has no message
-none_sent : (s : CloudState) (client : ℕ) → Decodes s → ((id : ℕ) (r : AtomicRec) → (m : Message) → m.id ≡ id → WasSent (s.messages (queue.Atomic client)) m → atomic_of m.bytes ≡ Some r → r.epoch ≤ 0)
+-- where no message is a record of an epoch from 1 on, there is none
+none_sent : (s : CloudState) (client : ℕ) → Decodes s → ((id : ℕ) (r : AtomicRec) → IsLogMessage (s.messages (queue.Atomic client)) id r → r.epoch ≤ 0)
     → unmarked (s.messages (queue.Atomic client)) ≡ []
-none_sent s client decodes early = nothing_left (unmarked (s.messages (queue.Atomic client))) (on (unmarked (s.messages (queue.Atomic client))) (unmarked_sent (s.messages (queue.Atomic client))))
+none_sent s client decodes early =
+    nothing_left (unmarked (s.messages (queue.Atomic client)))
+    (all_so (WasSent (s.messages (queue.Atomic client))) (λ (m : Message). ⊥) never (unmarked (s.messages (queue.Atomic client))) (unmarked_sent (s.messages (queue.Atomic client))))
   where
     never : (m : Message) → WasSent (s.messages (queue.Atomic client)) m → ⊥
     never m was =
         let r = message_decodes s (queue.Atomic client) m.id m.bytes decodes was in
         let some = (atomic_of-some m.bytes r.0 r.1).0.epoch in
-        let none = early m.id r.0 m refl was r.1 in omega (arith, some, none)
-
-    on : (ms : List Message) → AllByRecursion (WasSent (s.messages (queue.Atomic client))) ms → AllByRecursion (λ (m : Message). ⊥) ms
-    on [] all = tt
-    on (m ∷ ms) all = absurd (never m all.0)
+        let none = early m.id r.0 (sent_message (s.messages (queue.Atomic client)) m r.0 was r.1) in
+        omega (arith, some, none)
 
 -- ---- the whole
 
@@ -226,10 +221,8 @@ module _ (client : ℕ) (m : Recovery) (h : List Deed) (first last : Moment) (ra
       head : (store_at first).tally.head client ≡ empty_head
       head = head_told first ∙ ap head_at absent
 
-      early : (id : ℕ) (r : AtomicRec) (x : Message) → x.id ≡ id → WasSent (first.state.messages (queue.Atomic client)) x → atomic_of x.bytes ≡ Some r → r.epoch ≤ 0
-      early id r x same was e =
-          subst (λ (g : Head). r.epoch ≤ g.epoch) head
-          ((first.stand.cloud.holds.leaves.logged client is_client).early x.id r (sent_message (first.state.messages (queue.Atomic client)) x r was e))
+      early : (id : ℕ) (r : AtomicRec) → IsLogMessage (first.state.messages (queue.Atomic client)) id r → r.epoch ≤ 0
+      early id r m = subst (λ (g : Head). r.epoch ≤ g.epoch) head ((first.stand.cloud.holds.leaves.logged client is_client).early id r m)
 
   calm_so : AreCalm h → AreCalm (ran.end ∷ ran.earlier)
   calm_so calm = subst AreCalm ran.is calm

@@ -6,10 +6,9 @@ use Rattle.ckpt_parts.specs.Intakes.{has_items}
 use Rattle.ckpt_parts.specs.Leasing.{claims_of, newest_lease, without_newest, outstanding_after}
 use Rattle.cloud_facts.specs.Book.Tally.{Store}
 use Rattle.cloud_trait.specs.declared.answer.Answer.{Answer}
-use Rattle.cloud_trait.specs.declared.answer.Answer.TheVariants.{Given}
 use Rattle.cloud_trait.specs.declared.message.Message.{Message}
 use Rattle.cloud_trait.specs.declared.turn.CkptAnswer.{CkptAnswer}
-use Rattle.cloud_trait.specs.Ask.{Ask, GetHeld, PutHeld, Take, Release, Receive, MovesNoLock}
+use Rattle.cloud_trait.specs.Ask.{Ask, GetHeld, Take, Receive, MovesNoLock}
 use Rattle.cloud_trait.specs.Claim.{Claim}
 use Rattle.cloud_trait.specs.Machine.{Next, Goes, Ends, Stops}
 use Rattle.cloud_trait.specs.Views.{given_of, got_of, received_of, done_of}
@@ -22,7 +21,7 @@ use Rattle.leaf_fold.specs.declared.folding.Folding.{Folding}
 use Rattle.leaf_fold.specs.declared.folding.Left.{Left}
 use Rattle.leaf_fold.specs.Folding.{folding_ask, folding_next}
 use Rattle.node_codec.specs.Tree.{Tree, tree_of}
-use Rattle.session_facts.specs.Settled.Locks.{HasNone, UsesOwn}
+use Rattle.session_facts.specs.Settled.Locks.{UsesOwn}
 use Rattle.session_facts.specs.TreeCheckpoints.Checkpoint.{HoldsLast, KnowsWork, KnowsMaking, leases_of_making}
 use Rattle.session_facts.proofs.Settled.Locks.{HoldsNext, quiet_holds, quiet_uses, not_given, none_of, one_of}
 use Rattle.split_plan.specs.declared.put_list.PagePut.{PagePut}

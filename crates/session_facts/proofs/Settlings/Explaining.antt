@@ -23,7 +23,7 @@ use Rattle.recover_run.specs.declared.stage.RecoverAnswer.{RecoverAnswer}
 use Rattle.recover_run.specs.Ids.{new_ids}
 use Rattle.recover_run.specs.Recovery.{Recovery, recovery_ask, recovery_next, IsSound}
 use Rattle.report_types.specs.declared.entry.Entry.{Entry}
-use Rattle.session_facts.specs.Openings.Opening.{KnowsOpening, leases_of_recovery}
+use Rattle.session_facts.specs.Openings.Opening.{KnowsOpening}
 use Rattle.session_facts.specs.PageCheckpoints.Checkpoint.{KnowsPaging, leases_of_paging}
 use Rattle.session_facts.specs.Sessions.Explaining.{trouble_of_recovery, trouble_of_making, trouble_of_part, left_in_tree, left_of_part, MeetsNext, IsShown}
 use Rattle.session_facts.specs.Settlings.Settling.{KnowsAtWork, leases_at_work}
@@ -34,7 +34,7 @@ use Rattle.session_facts.proofs.Sessions.Showing.{IsFree, free_shown}
 use Rattle.session_facts.proofs.TreeCheckpoints.Explaining.{left_next, making_shows, making_left, making_keeps}
 use Rattle.settle_run.specs.declared.part.Part.{Part as AtWork}
 use Rattle.settle_run.specs.declared.part.Part.TheVariants.{Client, Tree, Page}
-use Rattle.settle_run.specs.Parts.{part_of_client, part_of_tree, part_of_page, part_again, part_ask, part_received, recovers, makes, pages, PartLeads, IsSoundPart}
+use Rattle.settle_run.specs.Parts.{part_of_client, part_of_tree, part_again, part_ask, part_received, recovers, makes, pages, PartLeads, IsSoundPart}
 use Rattle.settle_run.specs.Settling.{Settling, Step, settle_ask, begins, behind_client, to_page, behind_tree, is_visited, goes_right, goes_on, passed_with, passed, ended_by, counted, with_part, moved, SettleLeads}
 use Rattle.tree_ckpt.specs.Making.{Making, making_ask, MakingLeads}
 

@@ -1,5 +1,5 @@
 -- The troubles that the local work of a checkpoint meets: that of the answer in hand, or one of what was read or planned, which no call shows.
-use Rattle.std.proofs.Common.{◌≡◌, ◌≤◌, ◌+◌, ◌-◌, ◌==◌, ◌&&◌, ◌||◌, ℕ, zero, suc, Bool, true, false, cond, List, [], ◌∷◌, length, Option, Some, None, Result, Ok, Err, refl, sym, subst, arith}
+use Rattle.std.proofs.Common.{◌≡◌, ◌≤◌, ◌+◌, ◌==◌, ◌&&◌, ◌||◌, ℕ, zero, suc, Bool, true, false, cond, List, [], ◌∷◌, length, Option, Some, None, Result, Ok, Err, refl, sym, subst, arith}
 use Rattle.std.specs.Prelude.{not, is_some}
 use Rattle.byte_format.specs.Order.{bytes_below, bytes_same}
 use Rattle.byte_format.specs.Whole.{whole, offset}

@@ -1,14 +1,11 @@
 -- The leases of a page checkpoint: those that it took and did not give back; it takes no lock of one of them.
-use Rattle.std.proofs.Common.{◌≡◌, ◌≢◌, inl, inr, ℕ, Bool, true, false, List, [], ◌∷◌, Option, Some, None, Result, Ok, Err, refl, sym, ap, subst, ◌∙◌}
-use Rattle.ckpt_parts.specs.declared.intake.Intake.{Intake}
+use Rattle.std.proofs.Common.{◌≡◌, ◌≢◌, inl, inr, ℕ, List, [], ◌∷◌, Option, Some, None, Result, Ok, Err, refl, sym, ap, subst, ◌∙◌}
 use Rattle.ckpt_parts.specs.declared.leases.Leases.{Leases}
-use Rattle.ckpt_parts.specs.Deleting.{next_id, tried}
-use Rattle.ckpt_parts.specs.Intakes.{has_items, ids_of}
+use Rattle.ckpt_parts.specs.Deleting.{next_id}
 use Rattle.ckpt_parts.specs.Leasing.{no_leases, claims_of, newest_lease, without_newest, outstanding_after}
 use Rattle.cloud_facts.specs.Book.Tally.{Store}
 use Rattle.cloud_trait.specs.declared.answer.Answer.{Answer}
 use Rattle.cloud_trait.specs.declared.answer.Answer.TheVariants.{Done}
-use Rattle.cloud_trait.specs.declared.message.Message.{Message}
 use Rattle.cloud_trait.specs.Ask.{Ask, GetHeld, PutHeld, Release, MovesNoLock}
 use Rattle.cloud_trait.specs.Claim.{Claim}
 use Rattle.cloud_trait.specs.Machine.{Goes, Ends, Stops}
@@ -16,85 +13,18 @@ use Rattle.cloud_trait.specs.Views.{given_of, got_of, received_of, done_of}
 use Rattle.cloud_trait.proofs.ViewLemmas.{given_of-ok}
 use Rattle.db_base.specs.declared.names.Lock.TheVariants as lock
 use Rattle.db_base.specs.declared.trouble.Trouble.{Trouble}
-use Rattle.leaf_edit.specs.Lacked.{lacked}
-use Rattle.leaf_view.specs.Leaf.{Leaf}
-use Rattle.page_ckpt.specs.declared.link.Link.{Link}
 use Rattle.page_ckpt.specs.declared.stage.Stage.{Stage}
 use Rattle.page_ckpt.specs.declared.stage.Stage.TheVariants.{TakingHome, GettingHome, Receiving, TakingRight, GettingRight, PuttingRight, ReleasingRight, PuttingHome, Deleting as DeletingNext, Releasing, Finished}
-use Rattle.page_ckpt.specs.Paging.{Paging, Step, ask_at, paging_ask, under, take_home, take_right, home_name, right_name, delete_next, put_right, held_after, without_right, deleting_by, home_taken_by, HomeGot, home_read, link_of, is_visited, LeafPut, to_right, GoesOn, RunStarted, with_intake, IntakeTaken, ReceivedBy, right_taken_by, RightLacks, RightRead, RightGot, right_put_by, home_put_by, with_applied, without_onward, went, deleted_by, finished_by, released_by, AbsorbsAt, PagingLeads}
+use Rattle.page_ckpt.specs.Paging.{Paging, Step, ask_at, paging_ask, under, take_home, take_right, home_name, right_name, delete_next, put_right, held_after, without_right, home_taken_by, right_taken_by, without_onward, finished_by, released_by, AbsorbsAt, PagingLeads}
 use Rattle.session_facts.specs.PageCheckpoints.Checkpoint.{HasPage, HasRight, HasLeases, HasIds, KnowsPagingAt, KnowsPaging, leases_of_paging}
 use Rattle.session_facts.specs.Settled.Locks.{HasNone, UsesOwn}
+use Rattle.session_facts.proofs.PageCheckpoints.Held.{On, got_on, goes_on, received_on, right_got_on, right_put_on, home_put_on, deleted_on}
 use Rattle.session_facts.proofs.Settled.Locks.{HoldsNext, quiet_holds, quiet_uses, not_given, none_of, one_of}
-
--- a step goes on with these leases
-abbrev On : Leases → Step → Type 0
-On held (Goes n) = n.held ≡ held
-On held (Ends n a) = ⊥
-On held (Stops n t) = Unit {0}
 
 on_next : (held : Leases) (next : Step) → On held next → HoldsNext leases_of_paging (claims_of held) next
 on_next held (Goes n) same = ap (λ (h : Leases). claims_of h) same
 on_next held (Ends n a) never = absurd never
 on_next held (Stops n t) any = tt
-
-deletes_on : (p : Paging) (o : Option ℕ) → On p.held (deleting_by p o)
-deletes_on p (Some id) = refl
-deletes_on p None = refl
-
-home_on : (p : Paging) (g : Result Leaf Trouble) → On p.held (home_read p g)
-home_on p (Ok l) = refl
-home_on p (Err t) = refl
-
-got_on : (p : Paging) (g : Result (Option (List ℕ)) Trouble) (next : Step) → HomeGot p g next → On p.held next
-got_on p (Ok got) next (found, holds, e) = subst (On p.held) (sym e) (home_on p found)
-got_on p (Err t) next e = subst (On p.held) (sym e) refl
-
-put_on : (p : Paging) (stage : Stage) (l : Leaf) (next : Step) → LeafPut p stage l next → On p.held next
-put_on p stage l next (inl spent) = subst (On p.held) (sym spent.1) refl
-put_on p stage l next (inr put) = subst (On p.held) (sym put.1.2) refl
-
-right_on : (p : Paging) (l : Link) (b : Bool) → On p.held (to_right p l b)
-right_on p l true = refl
-right_on p l false = refl
-
-goes_on : (p : Paging) (o : Option Link) (next : Step) → GoesOn p o next → On p.held next
-goes_on p (Some l) next e = subst (On p.held) (sym e) (right_on p l (is_visited p l.page))
-goes_on p None next put = put_on p PuttingHome p.home next put
-
-run_on : (p : Paging) (b : Bool) (next : Step) → RunStarted p b next → On p.held next
-run_on p true next goes = goes_on p (link_of p.home p.run.items) next goes
-run_on p false next e = subst (On p.held) (sym e) (deletes_on p (next_id p.deletions.ids))
-
-intake_on : (p : Paging) (g : Result Intake Trouble) (next : Step) → IntakeTaken p g next → On p.held next
-intake_on p (Ok i) next goes = run_on (with_intake p i) (has_items i.run.items) next goes
-intake_on p (Err t) next e = subst (On p.held) (sym e) refl
-
-received_on : (p : Paging) (g : Result (List Message) Trouble) (next : Step) → ReceivedBy p g next → On p.held next
-received_on p (Ok ms) next (cursor, own, (taken, takes, goes)) = intake_on (record p { received = ids_of ms }) taken next goes
-received_on p (Err t) next e = subst (On p.held) (sym e) refl
-
-lacks_on : (p : Paging) (l : Leaf) (b : Bool) (next : Step) → RightLacks p l b next → On p.held next
-lacks_on p l true next put = put_on p PuttingRight l next put
-lacks_on p l false next e = subst (On p.held) (sym e) refl
-
-right_read_on : (p : Paging) (g : Result Leaf Trouble) (next : Step) → RightRead p g next → On p.held next
-right_read_on p (Ok l) next goes = lacks_on (record p { onward = link_of l p.run.items }) l (has_items (lacked l p.page p.run.items)) next goes
-right_read_on p (Err t) next e = subst (On p.held) (sym e) refl
-
-right_got_on : (p : Paging) (g : Result (Option (List ℕ)) Trouble) (next : Step) → RightGot p g next → On p.held next
-right_got_on p (Ok got) next (found, holds, goes) = right_read_on p found next goes
-right_got_on p (Err t) next e = subst (On p.held) (sym e) refl
-
-right_put_on : (p : Paging) (g : Result (Unit {0}) Trouble) → On p.held (right_put_by p g)
-right_put_on p (Ok x) = refl
-right_put_on p (Err t) = refl
-
-home_put_on : (p : Paging) (g : Result (Unit {0}) Trouble) → On p.held (home_put_by p g)
-home_put_on p (Ok x) = deletes_on (with_applied p) (next_id p.deletions.ids)
-home_put_on p (Err t) = refl
-
-deleted_on : (p : Paging) (g : Result (Unit {0}) Trouble) → On p.held (deleted_by p g)
-deleted_on p g = deletes_on (record p { deletions = tried p.deletions (went g) }) (next_id (tried p.deletions (went g)).ids)
 
 -- ---- leases that are taken or given back
 

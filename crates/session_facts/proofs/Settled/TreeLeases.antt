@@ -1,12 +1,9 @@
 -- The leases of a tree checkpoint: those that it took and did not give back; it takes no lock of one of them.
-use Rattle.std.proofs.Common.{◌≡◌, ◌≢◌, ℕ, Bool, true, false, List, [], ◌∷◌, Option, Some, None, Result, Ok, Err, refl, sym, ap, subst, ◌∙◌}
-use Rattle.ckpt_parts.specs.declared.intake.Intake.{Intake}
-use Rattle.ckpt_parts.specs.Deleting.{next_id, tried}
-use Rattle.ckpt_parts.specs.Intakes.{has_items}
+use Rattle.std.proofs.Common.{◌≡◌, ◌≢◌, ℕ, List, [], ◌∷◌, Option, Some, None, Result, Ok, Err, refl, sym, subst, ◌∙◌}
+use Rattle.ckpt_parts.specs.Deleting.{next_id}
 use Rattle.ckpt_parts.specs.Leasing.{claims_of, newest_lease, without_newest, outstanding_after}
 use Rattle.cloud_facts.specs.Book.Tally.{Store}
 use Rattle.cloud_trait.specs.declared.answer.Answer.{Answer}
-use Rattle.cloud_trait.specs.declared.message.Message.{Message}
 use Rattle.cloud_trait.specs.declared.turn.CkptAnswer.{CkptAnswer}
 use Rattle.cloud_trait.specs.Ask.{Ask, GetHeld, Take, Receive, MovesNoLock}
 use Rattle.cloud_trait.specs.Claim.{Claim}
@@ -18,87 +15,24 @@ use Rattle.db_base.specs.declared.names.ObjName.TheVariants as object
 use Rattle.db_base.specs.declared.names.QueueName.TheVariants as queue
 use Rattle.db_base.specs.declared.trouble.Trouble.{Trouble}
 use Rattle.leaf_fold.specs.declared.folding.Folding.{Folding}
-use Rattle.leaf_fold.specs.declared.folding.Left.{Left}
 use Rattle.leaf_fold.specs.Folding.{folding_ask, folding_next}
-use Rattle.node_codec.specs.Tree.{Tree, tree_of}
 use Rattle.session_facts.specs.Settled.Locks.{UsesOwn}
 use Rattle.session_facts.specs.TreeCheckpoints.Checkpoint.{HoldsLast, KnowsWork, KnowsMaking, leases_of_making}
 use Rattle.session_facts.proofs.Settled.Locks.{HoldsNext, quiet_holds, quiet_uses, not_given, none_of, one_of}
+use Rattle.session_facts.proofs.TreeCheckpoints.Held.{On, deleted_goes, rising_goes, descending_goes, left_on, got_on, received_on, folding_goes}
 use Rattle.split_plan.specs.declared.put_list.PagePut.{PagePut}
 use Rattle.tree_ckpt.specs.Making.{Making, making_ask, MakingLeads}
 use Rattle.tree_ckpt.specs.Standing.{OfTree, HasIds}
-use Rattle.tree_ckpt.proofs.Leaving.{LeavesLeaf, next_leaves}
-use Rattle.tree_descent.specs.declared.descent.Descent.{Descent}
+use Rattle.tree_ckpt.proofs.Leaving.{next_leaves}
 use Rattle.tree_descent.specs.Descent.{descent_next}
 use Rattle.tree_moves.specs.declared.work.Coming.{Coming}
 use Rattle.tree_moves.specs.declared.work.Held.{Held}
-use Rattle.tree_moves.specs.declared.work.Onward.{Onward}
-use Rattle.tree_moves.specs.declared.work.Onward.TheVariants as onward
 use Rattle.tree_moves.specs.declared.work.Work.{Work}
 use Rattle.tree_moves.specs.declared.work.Work.TheVariants as work
-use Rattle.tree_moves.specs.Moves.{Step, deleting, deleting_by, deleted_by, went, rising_on, descending_on, down_from, root_entry, going_by, going, next_key, page_taken, folding_on, page_left, tree_taken, tree_read, tree_got, chart_of, started, intake_taken, ReceivedBy, finished, released_by, Leads}
+use Rattle.tree_moves.specs.Moves.{Step, deleted_by, rising_on, descending_on, page_taken, folding_on, tree_taken, tree_got, finished, released_by, Leads}
 use Rattle.tree_moves.specs.Work.{take_tree, delete_ask, release_ask, work_ask, claims_in}
-use Rattle.tree_parts.specs.declared.chart.Chart.{Chart}
 use Rattle.tree_rising.specs.declared.rising.Rising.{Rising}
 use Rattle.tree_rising.specs.Rising.{rising_ask, rising_next}
-use Rattle.tree_rising.specs.Rising as up
-
--- a step goes on with these leases
-abbrev On : List Claim → Step → Type 0
-On held step = HoldsNext claims_in held step
-
--- ---- the tree's lease alone
-
-deleting_on : (h : Held) (applied : ℕ) → On (h.lease ∷ []) (deleting h applied)
-deleting_on h applied = on (next_id h.deletions.ids)
-  where
-    on : (id : Option ℕ) → On (h.lease ∷ []) (deleting_by h applied id)
-    on (Some id) = refl
-    on None = refl
-
-rising_goes : (h : Held) (next : Next Rising (Unit {0})) → On (h.lease ∷ []) (rising_on h next)
-rising_goes h (Goes r) = refl
-rising_goes h (Ends r x) = deleting_on h r.chart.applied
-rising_goes h (Stops r t) = refl
-
-descending_goes : (h : Held) (next : Next Descent (Unit {0})) → On (h.lease ∷ []) (descending_on h next)
-descending_goes h (Goes d) = refl
-descending_goes h (Ends d x) = refl
-descending_goes h (Stops d t) = refl
-
-going_on : (h : Held) (c : Chart) → On (h.lease ∷ []) (going h c)
-going_on h c = on (next_key c)
-  where
-    on : (key : Option (List ℕ)) → On (h.lease ∷ []) (going_by h c key)
-    on (Some key) = descending_goes h (down_from (record c { key = key }) (root_entry (record c { key = key })))
-    on None = rising_goes h (up.rise (up.begun c))
-
-left_on : (h : Held) (o : Onward) → On (h.lease ∷ []) (page_left h o)
-left_on h (onward.Right c) = refl
-left_on h (onward.Handled c) = going_on h c
-
--- ---- opening
-
-read_on : (tree : ℕ) (l : Claim) (bytes : List ℕ) (t : Option Tree) → On (l ∷ []) (tree_read tree l bytes t)
-read_on tree l bytes (Some t) = refl
-read_on tree l bytes None = refl
-
-got_on : (tree : ℕ) (l : Claim) (g : Result (Option (List ℕ)) Trouble) → On (l ∷ []) (tree_got tree l g)
-got_on tree l (Ok (Some bytes)) = read_on tree l bytes (tree_of bytes)
-got_on tree l (Ok None) = refl
-got_on tree l (Err t) = refl
-
-started_on : (h : Held) (c : Chart) (b : Bool) → On (h.lease ∷ []) (started h c b)
-started_on h c true = going_on h c
-started_on h c false = deleting_on h 0
-
-intake_on : (tree : ℕ) (l : Claim) (root : Option (List ℕ)) (taken : Result Intake Trouble) → On (l ∷ []) (intake_taken tree l root taken)
-intake_on tree l root (Ok i) = started_on (record { lease = l; deletions = i.deletions }) (chart_of tree root i.run) (has_items i.run.items)
-intake_on tree l root (Err t) = refl
-
-received_on : (tree : ℕ) (l : Claim) (root : Option (List ℕ)) (g : Result (List Message) Trouble) (next : Step) → ReceivedBy tree l root g next → On (l ∷ []) next
-received_on tree l root (Ok ms) next p = subst (On (l ∷ [])) (sym p.2) (intake_on tree l root p.0)
-received_on tree l root (Err t) next p = subst (On (l ∷ [])) (sym p) refl
 
 -- ---- leases that are taken or given back
 
@@ -112,11 +46,6 @@ page_on h c a (Ok l) e =
     subst (λ (x : Answer). On (outstanding_after (Take (lock.Page c.chart.tree c.page) 30) x (h.lease ∷ [])) (page_taken h c (Ok l)))
     (sym (given_of-ok (lock.Page c.chart.tree c.page) a l e)) refl
 page_on h c a (Err k) e = sym (not_given (lock.Page c.chart.tree c.page) 30 a (h.lease ∷ []) k e)
-
-folding_goes : (h : Held) (f : Folding) (next : Next Folding Left) → LeavesLeaf f next → On (f.lease ∷ h.lease ∷ []) (folding_on h next)
-folding_goes h f (Goes g) same = ap (λ (l : Claim). l ∷ h.lease ∷ []) same.lease
-folding_goes h f (Ends g out) same = ap (λ (l : Claim). l ∷ h.lease ∷ []) same.lease
-folding_goes h f (Stops g t) same = ap (λ (l : Claim). l ∷ h.lease ∷ []) same.lease
 
 finished_on : (end : Result CkptAnswer Trouble) → On [] (finished end)
 finished_on (Ok a) = refl
@@ -206,7 +135,7 @@ work_on st now tree (work.Rising h r) k a next leads =
     quiet_on (rising_ask r h.lease) a (h.lease ∷ []) next (rising_on h (rising_next r a)) (up_quiet r h.lease) leads (rising_goes h (rising_next r a))
 work_on st now tree (work.Deleting h applied) k a next leads =
     quiet_on (delete_ask tree (next_id h.deletions.ids)) a (h.lease ∷ []) next (deleted_by h applied (done_of a)) (delete_quiet tree h.deletions.ids k.2) leads
-    (deleting_on (record h { deletions = tried h.deletions (went (done_of a)) }) applied)
+    (deleted_goes h applied (done_of a))
 work_on st now tree (work.Releasing held end) k a next leads =
     subst (On (outstanding_after (release_ask tree (newest_lease held)) a (claims_of held))) (sym leads) (last_on tree a held.first held.second end k.0)
 work_on st now tree work.Finished k a next leads = absurd k

@@ -31,6 +31,9 @@ use Rattle.session_facts.proofs.Settled.CostHands.{GoesCalmly, LeftAndCost, Sett
 use Rattle.session_facts.proofs.Settled.Free.{begins_alone}
 use Rattle.session_facts.proofs.Settled.LeftHands.{IsDelivered, left_hands}
 use Rattle.session_facts.proofs.Settled.Lefts.{Left, NothingWaits}
+use Rattle.session_facts.proofs.Settled.PageRuns.{pages_run}
+use Rattle.session_facts.proofs.Settled.RecoveryRuns.{recoveries_run}
+use Rattle.session_facts.proofs.Settled.TreeRuns.{trees_run}
 use Rattle.session_facts.proofs.Settled.Turns.{settler, OnWay, of_session, IsAlone, AtEnd, calm_with, step_on, step_ends, first_moment, begins_on}
 use Rattle.session_facts.specs.Sessions.Calls.{reply_of}
 use Rattle.session_facts.specs.Sessions.Explaining.{ReceivesLate}
@@ -47,7 +50,7 @@ use Rattle.world_core.specs.Handled.{Has, StepsLooked, Went, start, further, Set
 use Rattle.world_core.specs.Replying.{RepliesSettled, unsettled_reply}
 use Rattle.world_core.specs.Asked.{Asks}
 use Rattle.world_core.specs.Sessions.{Changes}
-use Rattle.world_core.specs.Settled.{StepDelivers, StepGoesWell, NoLockHeld, LeavesNothing, LeftNothing, SettledWithin, AnswersSettled, Leaves, Settles}
+use Rattle.world_core.specs.Settled.{StepDelivers, StepGoesWell, NoLockHeld, LeavesNothing, LeftNothing, SettledWithin, AnswersSettled, SettlingLeaves, SettlingEnds}
 use Rattle.world_core.specs.Stands.{WorldStands}
 use Rattle.world_core.specs.declared.asked.Asked.{Asked}
 use Rattle.world_core.specs.declared.asked.Asked.TheVariants.{Session, Wait, Report, Settle}
@@ -337,7 +340,7 @@ module _ (trees : TreesRun) (pages : PagesRun) (clients : RecoveriesRun) where
   asked_within lines n before after old new t calls told stands (Wait ticks) is answers each = absurd (cc (is))
   asked_within lines n before after old new t calls told stands (Report tree) is answers each = absurd (cc (is))
 
-  leaves_for : (n : ℕ) (e : Event) (before after : Seen) (old new : World) (result : Result Reply WorldFault) → Leaves n e before after old new result
+  leaves_for : (n : ℕ) (e : Event) (before after : Seen) (old new : World) (result : Result Reply WorldFault) → SettlingLeaves n e before after old new result
   leaves_for n event.Settle before after old new (Ok (reply.Settled calls)) = λ lines t number told stands handled each.
       asked_leaves lines n before after old new t calls told stands handled.asked handled.asks handled.answers each
   leaves_for n e before after old new result = tt
@@ -355,7 +358,7 @@ rests_untroubled : (lines : List Line) (old : World) (t : CloudState) → WorldS
 rests_untroubled lines old t stands = subst (λ (a : Acting). IsUntroubled a.work) (sym stands.rests) (record { trouble = λ k e. absurd (cc (e)); left = refl })
 
 module _ (trees : TreesRun) (pages : PagesRun) (clients : RecoveriesRun) where
-  settles_for : (n : ℕ) (e : Event) (before after : Seen) (old new : World) (result : Result Reply WorldFault) → Settles n e before after old new result
+  settles_for : (n : ℕ) (e : Event) (before after : Seen) (old new : World) (result : Result Reply WorldFault) → SettlingEnds n e before after old new result
   settles_for n event.Settle before after old new (Ok r) = λ lines t number told stands free handled each.
       let calm = asked_calm lines n before after old new t r told stands free handled.asked handled.asks handled.answers each in
       let well = (well_after n event.Settle before after old new (Ok r) lines t number told stands handled calm (rests_untroubled lines old t stands)).1 in
@@ -367,3 +370,9 @@ module _ (trees : TreesRun) (pages : PagesRun) (clients : RecoveriesRun) where
       on (reply.NotSettled k) lines t told stands handled calm well = well
       on q lines t told stands handled calm well = absurd well
   settles_for n e before after old new result = tt
+
+pub settling_leaves : (n : ℕ) (e : Event) (before after : Seen) (old new : World) (result : Result Reply WorldFault) → SettlingLeaves n e before after old new result
+settling_leaves n e before after old new result = leaves_for trees_run pages_run recoveries_run n e before after old new result
+
+pub settling_ends : (n : ℕ) (e : Event) (before after : Seen) (old new : World) (result : Result Reply WorldFault) → SettlingEnds n e before after old new result
+settling_ends n e before after old new result = settles_for trees_run pages_run recoveries_run n e before after old new result

@@ -95,14 +95,14 @@ AnswersSettled t after r = ⊥
 
 -- Whatever lines a world and a cloud stood for before a settling, however it was handled: where in no step a message was withheld a settling that
 -- came to its end left nothing; and where no lock was held and every step went well it came to its end so.
-abbrev pub Leaves : ℕ → Event → Seen → Seen → World → World → Result Reply WorldFault → Type 0
-Leaves n event.Settle before after old new (Ok (reply.Settled calls)) =
+abbrev pub SettlingLeaves : ℕ → Event → Seen → Seen → World → World → Result Reply WorldFault → Type 0
+SettlingLeaves n event.Settle before after old new (Ok (reply.Settled calls)) =
     (lines : List Line) (t : CloudState) → length lines + 1 ≡ n → before.state ≡ Some t → WorldStands lines old t
     → (handled : Handled n event.Settle before after old new (Ok (reply.Settled calls))) → SettledLeaves n calls before after old new handled
-Leaves n event before after old new result = Unit {0}
+SettlingLeaves n event before after old new result = Unit {0}
 
-abbrev pub Settles : ℕ → Event → Seen → Seen → World → World → Result Reply WorldFault → Type 0
-Settles n event.Settle before after old new (Ok r) =
+abbrev pub SettlingEnds : ℕ → Event → Seen → Seen → World → World → Result Reply WorldFault → Type 0
+SettlingEnds n event.Settle before after old new (Ok r) =
     (lines : List Line) (t : CloudState) → length lines + 1 ≡ n → before.state ≡ Some t → WorldStands lines old t → NoLockHeld t
     → (handled : Handled n event.Settle before after old new (Ok r)) → EachStep StepGoesWell n event.Settle before after old new (Ok r) handled → AnswersSettled t after r
-Settles n event before after old new result = Unit {0}
+SettlingEnds n event before after old new result = Unit {0}

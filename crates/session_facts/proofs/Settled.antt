@@ -25,6 +25,11 @@ pub mod TreeReceives
 pub mod TreeTurns
 pub mod TreeDrains
 pub mod TreeRuns
+pub mod Locks
+pub mod TreeLeases
+pub mod PageLeases
+pub mod ClientLeases
+pub mod Free
 pub mod Trails
 pub mod PageRights
 pub mod PageCalls
@@ -32,8 +37,3 @@ pub mod PageStories
 pub mod PageDrains
 pub mod PageVisits
 pub mod PageRuns
-pub mod Locks
-pub mod TreeLeases
-pub mod PageLeases
-pub mod ClientLeases
-pub mod Free

@@ -12,6 +12,7 @@ pub mod EveryLine
 pub mod Sound
 pub mod Explained
 pub mod Calm
+pub mod Settled
 pub mod AddedSteps
 pub mod AddedLines
 pub mod OpenedLines

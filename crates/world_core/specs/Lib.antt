@@ -8,5 +8,6 @@ pub mod Sound
 pub mod EachStep
 pub mod Explained
 pub mod Calm
+pub mod Settled
 pub mod Added
 pub mod Opened

@@ -1,6 +1,7 @@
 use Rattle.world_core.proofs.EveryLine.{stands_after}
 use Rattle.world_core.proofs.Calm.{well_after}
 use Rattle.world_core.proofs.Explained.{explained}
+use Rattle.world_core.proofs.Settled.{settling_ends, settling_leaves}
 use Rattle.world_core.proofs.Sound.{sound_after}
 use Rattle.world_core.proofs.world.World.event.Goals as goal
 
@@ -15,3 +16,9 @@ returns-clause-explained g c = explained _ _ _ _ _ _ _
 
 pub returns-clause-calm : goal.returns-clause-calm
 returns-clause-calm g c = well_after _ _ _ _ _ _ _
+
+pub returns-clause-settled : goal.returns-clause-settled
+returns-clause-settled g c = settling_leaves _ _ _ _ _ _ _
+
+pub returns-clause-settles : goal.returns-clause-settles
+returns-clause-settles g c = settling_ends _ _ _ _ _ _ _

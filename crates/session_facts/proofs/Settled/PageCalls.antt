@@ -1,7 +1,6 @@
 -- The calls of a page checkpoint that ended, and what they tell of the state before the first one.
-use Rattle.std.proofs.Common.{◌≡◌, ◌≤◌, ◌⊎◌, inl, inr, ℕ, suc, Bool, true, false, List, [], ◌∷◌, ◌++◌, map, Option, Some, None, Result, Ok, Err, refl, sym, ap, subst, ◌∙◌, append_assoc, arith}
+use Rattle.std.proofs.Common.{◌≡◌, ◌⊎◌, inl, inr, ℕ, Bool, true, false, List, [], ◌∷◌, ◌++◌, Option, Some, None, Result, Ok, Err, refl, sym, ap, subst, ◌∙◌, append_assoc, arith}
 use Rattle.std.specs.List.{AllByRecursion}
-use Rattle.std.specs.Prelude.{All}
 use Rattle.std.proofs.lemmas.List.Elements.{recursion_from_All}
 use Rattle.cloud_facts.proofs.Chains.Pieces.{in_cases, in_first, in_rest, none_in}
 use Rattle.cloud_facts.specs.Book.Records.{IsIn}
@@ -16,17 +15,19 @@ use Rattle.cloud_trait.specs.State.{CloudState, called, newest, newest_of}
 use Rattle.cloud_trait.specs.Views.{done_of}
 use Rattle.cloud_trait.specs.Weather.{Leaves, Rose, Weather}
 use Rattle.cloud_trait.specs.declared.answer.Answer.{Answer}
-use Rattle.cloud_trait.specs.declared.answer.Answer.TheVariants.{Got, Sent, Received, Done, Given, Held, Renewed, Late, Failed, Memory}
+use Rattle.cloud_trait.specs.declared.answer.Answer.TheVariants.{Got, Received, Done, Given}
 use Rattle.cloud_trait.specs.declared.message.Message.{Message}
 use Rattle.cloud_trait.specs.declared.state.Posted.{Posted}
 use Rattle.cloud_trait.specs.declared.state.Version.{Version}
 use Rattle.db_base.specs.declared.names.Lock.{Lock}
 use Rattle.db_base.specs.declared.names.ObjName.{ObjName}
 use Rattle.db_base.specs.declared.names.QueueName.{QueueName}
+use Rattle.db_base.specs.declared.trouble.Trouble.{Trouble}
 use Rattle.page_ckpt.specs.Meaning.{Scene, Opening, Visit, Tried, scene_queue, opening_calls, put_over, right_put, home_put, visit_over, visits_over, deletes_over, tried_before, one_less, failed_count, main_calls, page_name, take_page}
 use Rattle.page_ckpt.specs.Paging.{went}
-use Rattle.session_facts.proofs.Settled.Trails.{IsBetween, Trail, between_call, Calls, AreQuiet, deletions_of, ask_is, answer_is, first_is, rest_is}
+use Rattle.session_facts.proofs.Settled.Trails.{IsBetween, Trail, between_call, Calls, AreQuiet, deletions_of, ask_is, answer_is}
 use Rattle.session_facts.specs.Settled.Runs.{AreDelivered}
+use Rattle.tree_ckpt.proofs.Answers.{done_is}
 
 -- ---- calls over others
 
@@ -77,17 +78,12 @@ abbrev pub ids_tried : Tried → List ℕ
 ids_tried [] = []
 ids_tried (t ∷ ts) = t.0 ∷ ids_tried ts
 
-done_is : (a : Answer) → went (done_of a) ≡ true → a ≡ Done
-done_is Done e = refl
-done_is (Got v) e = absurd (cc (e))
-done_is (Sent id) e = absurd (cc (e))
-done_is (Received ms) e = absurd (cc (e))
-done_is (Given l) e = absurd (cc (e))
-done_is (Held until) e = absurd (cc (e))
-done_is (Renewed end) e = absurd (cc (e))
-done_is (Late end now) e = absurd (cc (e))
-done_is Failed e = absurd (cc (e))
-done_is Memory e = absurd (cc (e))
+done_went : (a : Answer) → went (done_of a) ≡ true → a ≡ Done
+done_went a e = on (done_of a) refl e
+  where
+    on : (g : Result (Unit {0}) Trouble) → done_of a ≡ g → went g ≡ true → a ≡ Done
+    on (Ok x) f h = done_is a x f
+    on (Err t) f h = absurd (cc (h))
 
 none_less : (b : Bool) (n : ℕ) → one_less b n ≡ 0 → (b ≡ true) × (n ≡ 0)
 none_less true n e = (refl, e)
@@ -99,7 +95,7 @@ deletes_done s [] rest none = refl
 deletes_done s (t ∷ ts) rest none =
     let b = none_less (went (done_of t.1)) (failed_count ts) none in
     let one : Ask = Delete (scene_queue s) t.0 in
-    ap (λ (a : Answer). (one, a) ∷ deletes_over s ts rest) (done_is t.1 b.0) ∙ ap (λ (l : Calls). (one, Done) ∷ l) (deletes_done s ts rest b.1)
+    ap (λ (a : Answer). (one, a) ∷ deletes_over s ts rest) (done_went t.1 b.0) ∙ ap (λ (l : Calls). (one, Done) ∷ l) (deletes_done s ts rest b.1)
 
 tried_to : (tried : Tried) (ids : List ℕ) (id : ℕ) → IsIn (ids_tried tried) id ⊎ IsIn ids id → IsIn (tried_before tried ids) id
 tried_to [] ids id (inl none) = absurd (none_in id none)

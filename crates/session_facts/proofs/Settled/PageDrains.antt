@@ -1,17 +1,16 @@
 -- The checkpoint of a page that ran whole marks just what it received, and its page's right page is the one that it read.
-use Rattle.std.proofs.Common.{◌≡◌, ◌+◌, ◌≤◌, ℕ, List, [], ◌∷◌, ◌++◌, length, Option, Some, Ok, refl, sym, ap, subst, ◌∙◌, arith}
+use Rattle.std.proofs.Common.{◌≡◌, ◌≤◌, ℕ, List, [], ◌∷◌, ◌++◌, length, Ok, sym, ap, subst, ◌∙◌, arith}
 use Rattle.std.specs.List.{AllByRecursion}
 use Rattle.ckpt_parts.specs.Intakes.{ids_of}
 use Rattle.cloud_facts.specs.Book.Records.{IsIn}
 use Rattle.cloud_facts.specs.Book.Tally.{Store, right_of}
 use Rattle.cloud_facts.specs.Book.Telling.{leaf_in, nodes_of, queue_of}
 use Rattle.cloud_facts.specs.Calls.Call.{IsCall}
-use Rattle.cloud_facts.specs.Copies.Copies.{Copies}
 use Rattle.cloud_trait.proofs.RowLemmas.{row_messages}
 use Rattle.cloud_trait.specs.Ask.{Ask, Release}
 use Rattle.cloud_trait.specs.Delivery.{unmarked, WasSent, IsDelivering}
-use Rattle.cloud_trait.specs.Machine.{Deed, calls_of}
-use Rattle.cloud_trait.specs.State.{CloudState, called}
+use Rattle.cloud_trait.specs.Machine.{Deed}
+use Rattle.cloud_trait.specs.State.{called}
 use Rattle.cloud_trait.specs.declared.message.Message.{Message}
 use Rattle.cloud_trait.specs.declared.state.Posted.{Posted}
 use Rattle.cloud_trait.specs.declared.turn.CkptAnswer.{CkptAnswer}
@@ -25,7 +24,7 @@ use Rattle.db_base.specs.declared.names.QueueName.TheVariants as queue
 use Rattle.leaf_view.specs.Leaf.{Leaf}
 use Rattle.leaf_view.specs.Lookup.{number_of as done_number}
 use Rattle.page_ckpt.proofs.Knowing.{went_knows, knows_done}
-use Rattle.page_ckpt.specs.Meaning.{Scene, scene, scene_queue, opening_calls, deletes_over, failed_count, main_calls, IsDone}
+use Rattle.page_ckpt.specs.Meaning.{scene, opening_calls, failed_count, main_calls, IsDone}
 use Rattle.page_ckpt.specs.Paging.{Paging, paging_ask}
 use Rattle.page_ckpt.specs.Standing.{Went}
 use Rattle.session_facts.proofs.PageCheckpoints.Explaining.{paging_ends}
@@ -35,13 +34,13 @@ use Rattle.session_facts.proofs.Settled.Draining.{left_by, marked_over, waiting_
 use Rattle.session_facts.proofs.Settled.PageCalls.{IsOver, main_quiet, ids_tried, deletes_done, ids_there, ids_only, Opens, opens}
 use Rattle.session_facts.proofs.Settled.PageStories.{EndsFrom, ends_from, turn_page, turn_rights, story_trail, story_rights, page_went}
 use Rattle.session_facts.proofs.Settled.Stories.{turn_asks}
-use Rattle.session_facts.proofs.Settled.Trails.{Trail, Calls, AreQuiet, deletions_of, Splits, splits, trail_messages, trail_deletes}
+use Rattle.session_facts.proofs.Settled.Trails.{Calls, AreQuiet, deletions_of, Splits, splits, trail_messages, trail_deletes}
 use Rattle.session_facts.specs.PageCheckpoints.Rights.{IsNewestLeaf}
 use Rattle.session_facts.specs.Settled.Runs.{AreDelivered, Drains, waiting, right_at}
 use Rattle.session_facts.specs.Settled.Story.{Moment, store_at, IsTurn, PartStory, PartRan}
 use Rattle.session_facts.specs.Settlings.Settling.{MakesPage}
 use Rattle.settle_run.specs.declared.part.Part.{Part}
-use Rattle.settle_run.specs.declared.part.Part.TheVariants.{Client, Tree, Page}
+use Rattle.settle_run.specs.declared.part.Part.TheVariants.{Page}
 
 delivered_part : (xs ys : List Deed) → AreDelivered (xs ++ ys) → AreDelivered ys
 delivered_part [] ys well = well

@@ -1,5 +1,5 @@
 -- No call of a page checkpoint changes what right page the newest version of a page has.
-use Rattle.std.proofs.Common.{◌≡◌, ◌⊎◌, inl, inr, ℕ, true, false, List, [], ◌∷◌, ◌++◌, map, Option, Some, None, Ok, refl, sym, ap, subst, ◌∙◌}
+use Rattle.std.proofs.Common.{◌≡◌, ◌⊎◌, inl, inr, ℕ, List, [], ◌∷◌, ◌++◌, map, Option, Some, None, Ok, refl, sym, ap, subst, ◌∙◌}
 use Rattle.std.proofs.lemmas.List.{map-append}
 use Rattle.cloud_facts.proofs.Calls.Calls.{put_cases, permitted, put_lasts}
 use Rattle.cloud_facts.proofs.Chains.Names.{last_added}
@@ -15,7 +15,7 @@ use Rattle.cloud_trait.proofs.RowLemmas.{row_versions}
 use Rattle.cloud_trait.proofs.StateLemmas.{put_at_by}
 use Rattle.cloud_trait.specs.Ask.{Ask, PutHeld, GetHeld, Receive, Delete, Release, Lands, PutsNothing}
 use Rattle.cloud_trait.specs.Caller.{Caller}
-use Rattle.cloud_trait.specs.Claim.{Claim, Lasts}
+use Rattle.cloud_trait.specs.Claim.{Claim}
 use Rattle.cloud_trait.specs.Names.{object_cmp}
 use Rattle.cloud_trait.specs.State.{CloudState, called}
 use Rattle.cloud_trait.specs.Views.{done_of}
@@ -35,7 +35,7 @@ use Rattle.page_ckpt.specs.declared.stage.Stage.{Stage}
 use Rattle.page_ckpt.specs.declared.stage.Stage.TheVariants.{TakingHome, GettingHome, Receiving, TakingRight, GettingRight, PuttingRight, ReleasingRight, PuttingHome, Deleting as DeletingNext, Releasing, Finished}
 use Rattle.report_types.specs.declared.entry.Entry.{Entry}
 use Rattle.session_facts.proofs.PageCheckpoints.PagingOthers.{paging_later}
-use Rattle.session_facts.specs.PageCheckpoints.Checkpoint.{HasPage, HasRight, KnowsPagingAt, KnowsPaging}
+use Rattle.session_facts.specs.PageCheckpoints.Checkpoint.{KnowsPagingAt, KnowsPaging}
 use Rattle.session_facts.specs.PageCheckpoints.Rights.{IsNewestLeaf}
 
 -- the right page of the newest of versions

@@ -1,43 +1,40 @@
 -- The checkpoint of a page runs whole within a settling: it marks what it received, makes few calls, and no right page changes.
-use Rattle.std.proofs.Common.{◌≡◌, ◌+◌, ◌*◌, ◌<◌, ◌≤◌, ◌⊎◌, inl, inr, ℕ, zero, suc, Bool, true, false, cond, List, [], ◌∷◌, ◌++◌, length, map, filter, Option, Some, None, Result, Ok, Err, refl, sym, ap, subst, ◌∙◌, arith, mul-add, mul-le-mul_right}
+use Rattle.std.proofs.Common.{◌≡◌, ◌+◌, ◌*◌, ◌<◌, ◌≤◌, ◌⊎◌, inl, inr, ℕ, Bool, true, false, cond, List, [], ◌∷◌, ◌++◌, length, map, filter, Option, Some, None, Ok, refl, sym, ap, subst, ◌∙◌, arith, mul-add, mul-le-mul_right}
 use Rattle.std.proofs.lemmas.Bool.{cases_lt}
 use Rattle.std.proofs.lemmas.List.{length-map}
 use Rattle.std.proofs.lemmas.List.Sums.{length-filter, count_by-le-length}
-use Rattle.calm_calls.specs.Calm.{AreCalm}
-use Rattle.calm_calls.specs.Plenty.{HadMemory}
-use Rattle.ckpt_parts.specs.Intakes.{has_items, ids_of, items_of, item_with, with_first}
-use Rattle.cloud_facts.proofs.Chains.Pieces.{none_in, in_both}
+use Rattle.ckpt_parts.specs.Intakes.{has_items, items_of}
+use Rattle.cloud_facts.proofs.Chains.Pieces.{none_in}
 use Rattle.cloud_facts.specs.Book.Book.{Link}
 use Rattle.cloud_facts.specs.Book.Growth.{Grows}
 use Rattle.cloud_facts.specs.Book.Records.{IsIn}
 use Rattle.cloud_facts.specs.Book.Tally.{Store}
 use Rattle.cloud_trait.specs.Ask.{Ask}
 use Rattle.cloud_trait.specs.Claim.{Claim}
-use Rattle.cloud_trait.specs.Machine.{Goes, Ends, Deed, Came, calls_of}
+use Rattle.cloud_trait.specs.Machine.{Goes, Ends, Deed, calls_of}
 use Rattle.cloud_trait.specs.Views.{done_of}
 use Rattle.cloud_trait.specs.declared.answer.Answer.{Answer}
 use Rattle.cloud_trait.specs.declared.message.Message.{Message}
 use Rattle.db_base.specs.Ids.{IsTree}
-use Rattle.log_codec.specs.Pu.{pu_of}
 use Rattle.log_codec.specs.declared.record.PuItem.{PuItem}
-use Rattle.log_codec.specs.declared.record.PuRec.{PuRec}
 use Rattle.page_ckpt.proofs.Knowing.{KnowsAt, Knows, went_knows}
 use Rattle.page_ckpt.proofs.Standing.{went_stands, stands_few}
-use Rattle.page_ckpt.specs.Meaning.{Calls, Scene, Opening, Visit, Works, Tried, scene, tried_before, one_more, one_less, went_count, failed_count, deletes_over, main_calls, opening_calls}
-use Rattle.page_ckpt.specs.Paging.{Paging, new_paging, paging_ask, went}
+use Rattle.page_ckpt.specs.Meaning.{Calls, Scene, Opening, Visit, Works, Tried, scene, tried_before, one_more, one_less, went_count, failed_count, deletes_over, main_calls}
+use Rattle.page_ckpt.specs.Paging.{Paging, new_paging, went}
 use Rattle.page_ckpt.specs.Standing.{tries}
 use Rattle.page_ckpt.specs.declared.stage.Stage.{Stage}
 use Rattle.page_ckpt.specs.declared.stage.Stage.TheVariants.{TakingRight, Releasing}
 use Rattle.run_cursor.specs.Covered.{is_covered, is_seen, new_ones, covered_ids}
 use Rattle.run_cursor.specs.Run.{IsRun}
 use Rattle.session_facts.proofs.Runs.Runs.{run_in}
-use Rattle.session_facts.proofs.Settled.PageDrains.{ending, story, turn, known, tree_is, went as went_there, done, page_drains, right_read, same_rights}
+use Rattle.session_facts.proofs.Settled.Draining.{item_ids}
+use Rattle.session_facts.proofs.Settled.PageDrains.{ending, story, turn, known, went as went_there, done, page_drains, right_read, same_rights}
 use Rattle.session_facts.proofs.Settled.PageStories.{GoesFrom, goes_from, turn_page}
-use Rattle.session_facts.proofs.Settled.PageVisits.{Comes, OneMore, step_comes, came_apart}
+use Rattle.session_facts.proofs.Settled.PageVisits.{Comes, step_comes, came_apart}
 use Rattle.session_facts.proofs.Settled.Queues.{empty_of}
-use Rattle.session_facts.proofs.Settled.TreeLists.{Apart, pages_fit}
+use Rattle.session_facts.proofs.Settled.TreeLists.{pages_fit}
 use Rattle.session_facts.specs.PageCheckpoints.Checkpoint.{KnowsPagingAt}
-use Rattle.session_facts.specs.Settled.Runs.{AreDelivered, IsFew, PageRun, PagesRun, next_page}
+use Rattle.session_facts.specs.Settled.Runs.{IsFew, PagesRun, next_page}
 use Rattle.session_facts.specs.Settled.Story.{Moment, store_at, IsTurn, PartStory, PartRan}
 use Rattle.session_facts.specs.Settlings.Settling.{MakesPage}
 use Rattle.settle_run.specs.declared.part.Part.{Part}
@@ -106,18 +103,7 @@ covered_few top items =
     omega (arith, new, ids, passed, few)
 
 items_long : (ms : List Message) (items : List PuItem) → items_of ms ≡ Ok items → length items ≡ length ms
-items_long [] items e = let same : [] ≡ items = cc (e) in ap length (sym same)
-items_long (m ∷ ms) items e = on (pu_of m.bytes) (items_of ms) (items_long ms) e
-  where
-    on : (o : Option PuRec) (g : Result (List PuItem) Message) → ((rest : List PuItem) → g ≡ Ok rest → length rest ≡ length ms) → with_first m o g ≡ Ok items
-        → length items ≡ length (m ∷ ms)
-    on None g again h = absurd (cc (h))
-    on (Some rec) (Ok rest) again h =
-        let same : item_with m.id rec ∷ rest ≡ items = cc (h) in
-        let long = ap length same in
-        let more = again rest refl in
-        omega (arith, long, more)
-    on (Some rec) (Err bad) again h = absurd (cc (h))
+items_long ms items e = sym (length-map items (λ (x : PuItem). x.id)) ∙ (ap length (item_ids ms items e) ∙ length-map ms (λ (m : Message). m.id))
 
 counted : (b : Bool) (n k : ℕ) → one_more b n + one_less b k ≡ n + k + 1
 counted true n k = omega arith

@@ -1,5 +1,5 @@
 -- The states that calls lead through, where nobody else acts: what stays over calls that do not touch it, and what deletions leave.
-use Rattle.std.proofs.Common.{◌≡◌, ℕ, List, [], ◌∷◌, ◌++◌, Some, refl, sym, ap, subst, ◌∙◌}
+use Rattle.std.proofs.Common.{◌≡◌, ℕ, List, [], ◌∷◌, ◌++◌, Some, refl, ap, subst, ◌∙◌}
 use Rattle.cloud_facts.proofs.Calls.Calls.{call_of}
 use Rattle.cloud_facts.specs.Calls.Call.{IsCall}
 use Rattle.cloud_trait.proofs.NameLemmas.{queue_cmp-total}

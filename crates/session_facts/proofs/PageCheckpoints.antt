@@ -6,6 +6,7 @@ pub mod PagingOthers
 pub mod Begins
 pub mod Nexts
 pub mod HeadPuts
+pub mod Held
 pub mod Hands
 pub mod Steps
 pub mod Unlinked

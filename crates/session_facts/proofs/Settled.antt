@@ -25,3 +25,8 @@ pub mod TreeReceives
 pub mod TreeTurns
 pub mod TreeDrains
 pub mod TreeRuns
+pub mod Locks
+pub mod TreeLeases
+pub mod PageLeases
+pub mod ClientLeases
+pub mod Free

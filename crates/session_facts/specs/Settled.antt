@@ -2,3 +2,4 @@
 pub mod Story
 pub mod Runs
 pub mod Bound
+pub mod Locks

@@ -1,5 +1,6 @@
 -- A line whose calls are all calm is answered well.
 use Rattle.std.proofs.Common.{◌≡◌, ◌≢◌, ◌+◌, inl, inr, ℕ, List, [], ◌∷◌, ◌++◌, length, Bool, true, false, Option, Some, None, Result, Ok, Err, refl, sym, ap, subst, ◌∙◌}
+use Rattle.std.specs.Prelude.{unwrap_or}
 use Rattle.client_session.specs.Session.{Acting, StepsSession, StepsAt, Follows, ListsLeaf, Begins, closed_session, settling_session, items_of, value_of}
 use Rattle.client_session.specs.declared.answer.Answer.{Answer}
 use Rattle.client_session.specs.declared.answer.Answer.TheVariants as answer
@@ -49,6 +50,7 @@ use Rattle.session_facts.specs.Walks.Walks.{MayStop as MayStopWalk}
 use Rattle.session_facts.proofs.CommitRuns.Telling.{IsTold}
 use Rattle.session_facts.proofs.Sessions.AtOnce.{IsAtOnce, begins_at_once, begins_untroubled}
 use Rattle.session_facts.proofs.Sessions.Untroubled.{step_untroubled, answer_untroubled, answered_rests, closed_rests, at_rest, commit_tells, commit_well}
+use Rattle.tree_walk.specs.Walk.{sought}
 use Rattle.txn_buffer.specs.Noted.{Noted}
 use Rattle.world_core.specs.declared.asked.Asked.{Asked}
 use Rattle.world_core.specs.declared.asked.Asked.TheVariants.{Session, Wait, Report, Settle}
@@ -165,8 +167,11 @@ answers_as who before after (work.Committing m) new s a p acts = absurd p.3
 answers_as who before after (work.Reading home m) new s answer.Value p acts = record { task = _; posture = acts.0; of = tt }
 answers_as who before after (work.Reading home m) new s (answer.Trouble k) p acts = record { task = _; posture = acts.0; of = tt }
 answers_as who before after (work.Reading home m) new s a p acts = absurd p
-answers_as who before after (work.Scanning home m) new s a (buffer, c, d, shown, p) acts =
-    record { task = _; posture = acts.0; of = scan_answers home buffer (record { scan = p.scan; pairs = m.pairs }) d p.moved new shown a _ _ _ p.follows }
+answers_as who before after (work.Scanning home m) new s a (buffer, c, d, shown, p) acts = record {
+  task = Scanning m.scan.walk.tree (sought m.scan.walk) (unwrap_or m.scan.to []);
+  posture = acts.0;
+  of = scan_answers home buffer (record { scan = p.scan; pairs = m.pairs }) d p.moved new shown a m.scan.walk.tree (sought m.scan.walk) (unwrap_or m.scan.to []) p.follows;
+}
 answers_as who before after (work.Paging home m) new s (answer.Done n) p acts = record { task = Paging m.tree m.page; posture = acts.0; of = tt }
 answers_as who before after (work.Paging home m) new s (answer.Trouble k) p acts = record { task = Paging m.tree m.page; posture = acts.0; of = tt }
 answers_as who before after (work.Paging home m) new s a p acts = absurd p
@@ -226,7 +231,14 @@ answer_well (Paging tree page) (answer.Done n) left r of sound e none =
 answer_well (Folding tree) (answer.Done n) left r of sound e none =
     let is : r ≡ reply.Done n = cc in
     subst (DoesWell (Folding tree)) (sym is) none.left
-answer_well task a left r of sound e none = absurd of
+answer_well Opening a left r of sound e none = absurd of
+answer_well Closing a left r of sound e none = absurd of
+answer_well Renewing a left r of sound e none = absurd of
+answer_well (Committing changes) a left r of sound e none = absurd of
+answer_well (Reading tree key) a left r of sound e none = absurd of
+answer_well (Scanning tree from to) a left r of sound e none = absurd of
+answer_well (Paging tree page) a left r of sound e none = absurd of
+answer_well (Folding tree) a left r of sound e none = absurd of
 
 -- ---- steps
 
@@ -324,9 +336,9 @@ module _ (lines : List Line) (n k : ℕ) (before after : Seen) (old new : World)
       → IsSoundReply posture r → RepliesTo a p.session.after (Ok r) → RunsWell posture r
   ended_well wish mid world a on p calm explains still sound replies =
       let own = steps_own lines who wish mid after world new (Ended a) (sym number) on p in
-      let as = answers_as who p.under p.to (session_at world.sessions k).work p.session.after.work (standing lines k) a own.work (on.goes.acts k).work in
-      runs_of posture as.task r as.posture
-      (answer_well as.task a p.session.after r as.of (subst (λ (q : Posture). IsSoundReply q r) as.posture sound) replies
+      let said = answers_as who p.under p.to (session_at world.sessions k).work p.session.after.work (standing lines k) a own.work (on.goes.acts k).work in
+      runs_of posture said.task r said.posture
+      (answer_well said.task a p.session.after r said.of (subst (λ (q : Posture). IsSoundReply q r) said.posture sound) replies
       (answers_calmly who wish mid after world new a p calm explains still))
 
   not_done : (why : Refused) → Declines why before after old new (Ok r) → IsUntroubled (work_at new k) × ((rule : Refusal) × (r ≡ reply.Refused rule))
@@ -432,7 +444,14 @@ module _ (lines : List Line) (n k : ℕ) (before after : Seen) (old new : World)
   op_answered op.Commit (answer.Commit c) left is e = let same : r ≡ reply.Commit c = cc (e) in subst (BeginsWell (Committing [])) (sym same) is
   op_answered (op.Read tree key) answer.Value left is e = value_begins tree key (value_of left) e
   op_answered (op.Scan tree from to) answer.Scan left is e = λ first last. subst (BeginsWell (Scanning tree first last)) (sym e) tt
-  op_answered o a left is e = absurd is
+  op_answered (op.Open client) a left is e = absurd is
+  op_answered op.Close a left is e = absurd is
+  op_answered op.Renew a left is e = absurd is
+  op_answered op.Commit a left is e = absurd is
+  op_answered (op.Read tree key) a left is e = absurd is
+  op_answered (op.Scan tree from to) a left is e = absurd is
+  op_answered (op.Page tree page) a left is e = absurd is
+  op_answered (op.Tree tree) a left is e = absurd is
 
   begins_well : (o : Op) → IsRightOp o → Changes k (BeginsOp o (Ok r)) old.sessions new.sessions → IsUntroubled (work_at new k) × OpWell o r
   begins_well o right c = (rests_after k _ old new c (begins_untroubled o c.before c.after c.does.begun c.does.begins) well, on c.does.begun begins c.does.replies)
@@ -535,6 +554,10 @@ module _ (lines : List Line) (n : ℕ) (before after : Seen) (old new : World) (
   abbrev Well : Event → Type 0
   Well e = IsUntroubled (work_at new (session_of e)) × RepliesWell e (standing lines (session_of e)).posture r
 
+  -- what is asked is answered, each step of it calm and explained
+  abbrev AnswersCalmly : Asked → Type 0
+  AnswersCalmly z = (h : Answers n z before after old new (Ok r)) × EachAsked StepIsCalm n z before after old new (Ok r) h × EachAsked StepExplains n z before after old new (Ok r) h
+
   asked_well : (e : Event) (asked : Asked) → Asks e asked → (h : Answers n asked before after old new (Ok r)) → EachAsked StepIsCalm n asked before after old new (Ok r) h
       → EachAsked StepExplains n asked before after old new (Ok r) h → IsSoundFor e (standing lines (session_of e)).posture r → IsUntroubled (work_at old (session_of e)) → Well e
   asked_well (event.Open k client) asked asks h calm explains sound well =
@@ -554,7 +577,7 @@ module _ (lines : List Line) (n : ℕ) (before after : Seen) (old new : World) (
       (λ request is does. begins_well lines n k before after old new r t number told stands well (op.Read tree key) is.0 (as_asked lines n k before after old new r t number told stands well request (Begin (op.Read tree key)) (ap (λ q. Ok q) is.2) does).0.1)
   asked_well (event.Scan k tree from to) asked asks h calm explains sound well =
       request_well lines n k before after old new r t number told stands well (BeginsWell (Scanning tree from to)) (λ rule. tt) (IsScanning tree from to) asked asks h calm explains
-      (λ request is does. 
+      (λ request is does.
       let w = begins_well lines n k before after old new r t number told stands well (op.Scan tree (bound_of from) (bound_of to)) is.0 (as_asked lines n k before after old new r t number told stands well request (Begin (op.Scan tree (bound_of from) (bound_of to))) (ap (λ q. Ok q) is.3) does).0.1 in
       (w.0, w.1 from to))
   asked_well (event.Page k tree page) asked asks h calm explains sound well =
@@ -577,12 +600,12 @@ module _ (lines : List Line) (n : ℕ) (before after : Seen) (old new : World) (
       (λ request is does. (aborts_well lines n k before after old new r t number told stands well (as_asked lines n k before after old new r t number told stands well request Abort is does).0.1, tt))
   asked_well (event.Step k wish) asked asks h calm explains sound well =
       request_well lines n k before after old new r t number told stands well (StepsWell (standing lines k).posture) (λ rule. tt) (IsStep wish) asked asks h calm explains
-      (λ request is does. 
+      (λ request is does.
       let d = as_asked lines n k before after old new r t number told stands well request (Step wish) (ap (λ q. Ok q) is) does in
       makes_well lines n k before after old new r t number told stands well wish d.0 d.1 d.2 sound)
   asked_well (event.Run k) asked asks h calm explains sound well =
       request_well lines n k before after old new r t number told stands well (RunsWell (standing lines k).posture) (λ rule. tt) (λ request. request ≡ Ok Run) asked asks h calm explains
-      (λ request is does. 
+      (λ request is does.
       let d = as_asked lines n k before after old new r t number told stands well request Run is does in
       runs_well lines n k before after old new r t number told stands well d.0 d.1 d.2 sound)
   asked_well (event.Crash k done) asked asks h calm explains sound well =
@@ -597,12 +620,8 @@ module _ (lines : List Line) (n : ℕ) (before after : Seen) (old new : World) (
       let reports = subst (λ z. Answers n z before after old new (Ok r)) asks h in
       (unchanged 0 old new reports.world well, tt)
   asked_well event.Settle asked asks h calm explains sound well =
-      let d = subst Settled asks (h, calm, explains) in
+      let d = subst AnswersCalmly asks (h, calm, explains) in
       settles_well lines n before after old new r sound d.0 d.1 d.2
-    where
-      abbrev Settled : Asked → Type 0
-      Settled z =
-          (h : Answers n z before after old new (Ok r)) × EachAsked StepIsCalm n z before after old new (Ok r) h × EachAsked StepExplains n z before after old new (Ok r) h
 
 pub well_after : (n : ℕ) (e : Event) (before after : Seen) (old new : World) (result : Result Reply WorldFault) → AnswersWell n e before after old new result
 well_after n e before after old new (Ok r) = λ lines t number told stands handled calm well.

@@ -112,21 +112,21 @@ module _ (lines : List Line) where
 module _ (n : ℕ) (lines : List Line) (first : Sessions) (row : IsSettlersRow lines (settler n)) where
   settler_explains : (before after : Seen) (old new : World) (turn : Turn Answer) → SettlerGoes n lines first old before → (p : StepsLooked (settler n) Plain before after old new turn)
       → StepExplains (settler n) Plain before after old new turn p
-  settler_explains before after old new turn way p =
-      step_explains n lines (settler n) Plain before after old new turn way.state way.holds p (p.wishes.set way.state (p.look_before.stays way.state way.told))
+  settler_explains before after old new turn goes p =
+      step_explains n lines (settler n) Plain before after old new turn goes.state goes.holds p (p.wishes.set goes.state (p.look_before.stays goes.state goes.told))
 
   settled_explains : (before : Seen) (old : World) (after : Seen) (new : World) → SettlerGoes n lines first old before → (went : Went (settler n) before old after new)
       → EachWent StepExplains (settler n) before old after new went
-  settled_explains before old after new way start = tt
-  settled_explains before old after new way (further mid _ world _ went step) =
-      (settled_explains before old mid world way went,
-      settler_explains mid after world new More (settler_went n lines first row before old mid world way went) step)
+  settled_explains before old after new goes start = tt
+  settled_explains before old after new goes (further mid _ world _ went step) =
+      (settled_explains before old mid world goes went,
+      settler_explains mid after world new More (settler_went n lines first row before old mid world goes went) step)
 
   comes_explains : (before after : Seen) (old new : World) (answer : Answer) → SettlerGoes n lines first old before → (comes : ComesTo (settler n) before after old new answer)
       → EachCome StepExplains (settler n) before after old new answer comes
-  comes_explains before after old new answer way comes =
-      (settled_explains before old comes.mid comes.world way comes.went,
-      settler_explains comes.mid after comes.world new (Ended answer) (settler_went n lines first row before old comes.mid comes.world way comes.went) comes.steps)
+  comes_explains before after old new answer goes comes =
+      (settled_explains before old comes.mid comes.world goes comes.went,
+      settler_explains comes.mid after comes.world new (Ended answer) (settler_went n lines first row before old comes.mid comes.world goes comes.went) comes.steps)
 
 module _ (lines : List Line) (n : ℕ) (before after : Seen) (old new : World) (result : Result Reply WorldFault) (t : CloudState) (number : length lines + 1 ≡ n) (told : before.state ≡ Some t)
     (stands : WorldStands lines old t) where

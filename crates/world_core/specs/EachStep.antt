@@ -1,5 +1,6 @@
 -- What holds of each step that a line made.
-use Rattle.std.specs.Prelude.{ℕ, Bool, true, false, ◌⊎◌, inl, inr, Result, Ok, Err}
+use Rattle.std.specs.Prelude.{ℕ, Bool, true, false, Result, Ok, Err}
+use Rattle.std.proofs.Common.{inl, inr}
 use Rattle.client_session.specs.declared.answer.Answer.{Answer}
 use Rattle.cloud_trait.specs.Caller.{Caller}
 use Rattle.cloud_trait.specs.Seen.{Seen}

@@ -1,9 +1,7 @@
 -- The leases of a page checkpoint.
-use Rattle.std.proofs.Common.{◌≡◌, ◌⊎◌, inl, inr, ℕ, zero, suc, Bool, true, false, List, [], ◌∷◌, Option, Some, None, Result, Ok, Err, refl, sym, ap, subst, ◌∙◌}
-use Rattle.ckpt_parts.specs.Deleting.{next_id, tried}
-use Rattle.ckpt_parts.specs.Intakes.{ids_of, has_items}
+use Rattle.std.proofs.Common.{◌≡◌, ◌⊎◌, inl, inr, ℕ, zero, suc, List, [], ◌∷◌, Option, Some, None, Result, Ok, Err, refl, sym, ap, subst, ◌∙◌}
+use Rattle.ckpt_parts.specs.Deleting.{next_id}
 use Rattle.ckpt_parts.specs.Leasing.{newest_lease, without_newest, claims_of}
-use Rattle.ckpt_parts.specs.declared.intake.Intake.{Intake}
 use Rattle.ckpt_parts.specs.declared.leases.Leases.{Leases}
 use Rattle.cloud_facts.specs.Calls.Acting.{Setting, Handles}
 use Rattle.cloud_facts.specs.Calls.Call.{IsCall}
@@ -18,18 +16,14 @@ use Rattle.cloud_trait.specs.Claim.{Claim}
 use Rattle.cloud_trait.specs.State.{CloudState}
 use Rattle.cloud_trait.specs.Views.{given_of, got_of, received_of, done_of}
 use Rattle.cloud_trait.specs.declared.answer.Answer.{Answer}
-use Rattle.cloud_trait.specs.declared.message.Message.{Message}
 use Rattle.db_base.specs.Ids.{IsTree}
 use Rattle.db_base.specs.declared.names.Lock.TheVariants as lock
 use Rattle.db_base.specs.declared.names.ObjName.TheVariants as object
 use Rattle.db_base.specs.declared.trouble.Trouble.{Trouble}
-use Rattle.leaf_edit.specs.Lacked.{lacked}
-use Rattle.leaf_view.specs.Leaf.{Leaf}
 use Rattle.cloud_facts.specs.Leases.Guards.{guard}
 use Rattle.cloud_facts.specs.Leases.Leases.{AreOne, KeptBy, GainedBy}
 use Rattle.cloud_facts.specs.Homes.Homes.{Parts}
-use Rattle.page_ckpt.specs.Paging.{Paging, Step, ask_at, paging_ask, under, delete_next, take_home, home_name, own_queue, held_after, deleting_by, home_taken_by, HomeGot, home_read, LeafPut, link_of, is_visited, to_right, GoesOn, RunStarted, with_intake, IntakeTaken, ReceivedBy, take_right, right_name, right_taken_by, RightLacks, RightRead, RightGot, without_right, without_onward, right_put_by, with_applied, home_put_by, went, deleted_by, finished_by, released_by, AbsorbsAt, PagingLeads}
-use Rattle.page_ckpt.specs.declared.link.Link.{Link as Found}
+use Rattle.page_ckpt.specs.Paging.{Paging, Step, ask_at, paging_ask, under, delete_next, take_home, home_name, own_queue, held_after, home_taken_by, GoesOn, take_right, right_name, right_taken_by, without_right, without_onward, right_put_by, home_put_by, deleted_by, finished_by, released_by, AbsorbsAt, PagingLeads}
 use Rattle.page_ckpt.specs.declared.stage.Stage.{Stage}
 use Rattle.page_ckpt.specs.declared.stage.Stage.TheVariants.{TakingHome, GettingHome, Receiving, TakingRight, GettingRight, PuttingRight, ReleasingRight, PuttingHome, Deleting as DeletingNext, Releasing, Finished}
 use Rattle.report_types.specs.declared.entry.Entry.{Entry}
@@ -40,71 +34,8 @@ use Rattle.cloud_facts.specs.Tellings.Taking.{IsLinked}
 use Rattle.cloud_facts.specs.Tellings.Told.{store_of}
 use Rattle.cloud_facts.proofs.Book.Places.{get_single, in_behind, in_none}
 use Rattle.session_facts.specs.PageCheckpoints.Checkpoint.{HoldsRight, HasPage, HasRight, HasLeases, HasIds, KnowsPagingAt, KnowsPaging, leases_of_paging, leases_next}
+use Rattle.session_facts.proofs.PageCheckpoints.Held.{Within, within, got_on, goes_on, received_on, right_got_on, right_put_on, home_put_on, deleted_on}
 use Rattle.session_facts.proofs.PageCheckpoints.PagingOthers.{in_held, in_both}
-
--- a step has no lease but these
-abbrev Within : List Claim → Step → Type 0
-Within ls step = (x : Claim) → IsIn (leases_next step) x → IsIn ls x
-
-deletes_within : (p : Paging) (o : Option ℕ) → Within (leases_of_paging p) (deleting_by p o)
-deletes_within p (Some id) x is = is
-deletes_within p None x is = is
-
-home_within : (p : Paging) (g : Result Leaf Trouble) → Within (leases_of_paging p) (home_read p g)
-home_within p (Ok l) x is = is
-home_within p (Err t) x is = is
-
-got_within : (p : Paging) (g : Result (Option (List ℕ)) Trouble) (next : Step) → HomeGot p g next → Within (leases_of_paging p) next
-got_within p (Ok got) next (found, holds, e) = subst (Within (leases_of_paging p)) (sym e) (home_within p found)
-got_within p (Err t) next e = subst (Within (leases_of_paging p)) (sym e) (λ x is. is)
-
-put_within : (p : Paging) (stage : Stage) (l : Leaf) (next : Step) → LeafPut p stage l next → Within (leases_of_paging p) next
-put_within p stage l next (inl spent) = subst (Within (leases_of_paging p)) (sym spent.1) (λ x is. is)
-put_within p stage l next (inr put) = subst (Within (leases_of_paging p)) (sym put.1.2) (λ x is. is)
-
-right_within : (p : Paging) (l : Found) (b : Bool) → Within (leases_of_paging p) (to_right p l b)
-right_within p l true x is = is
-right_within p l false x is = is
-
-on_within : (p : Paging) (o : Option Found) (next : Step) → GoesOn p o next → Within (leases_of_paging p) next
-on_within p (Some l) next e = subst (Within (leases_of_paging p)) (sym e) (right_within p l (is_visited p l.page))
-on_within p None next put = put_within p PuttingHome p.home next put
-
-run_within : (p : Paging) (b : Bool) (next : Step) → RunStarted p b next → Within (leases_of_paging p) next
-run_within p true next goes = on_within p (link_of p.home p.run.items) next goes
-run_within p false next e = subst (Within (leases_of_paging p)) (sym e) (deletes_within p (next_id p.deletions.ids))
-
-intake_within : (p : Paging) (g : Result Intake Trouble) (next : Step) → IntakeTaken p g next → Within (leases_of_paging p) next
-intake_within p (Ok i) next goes = run_within (with_intake p i) (has_items i.run.items) next goes
-intake_within p (Err t) next e = subst (Within (leases_of_paging p)) (sym e) (λ x is. is)
-
-received_within : (p : Paging) (g : Result (List Message) Trouble) (next : Step) → ReceivedBy p g next → Within (leases_of_paging p) next
-received_within p (Ok ms) next (cursor, own, (taken, takes, goes)) = intake_within (record p { received = ids_of ms }) taken next goes
-received_within p (Err t) next e = subst (Within (leases_of_paging p)) (sym e) (λ x is. is)
-
-right_lacks_within : (p : Paging) (l : Leaf) (b : Bool) (next : Step) → RightLacks p l b next → Within (leases_of_paging p) next
-right_lacks_within p l true next put = put_within p PuttingRight l next put
-right_lacks_within p l false next e = subst (Within (leases_of_paging p)) (sym e) (λ x is. is)
-
-right_read_within : (p : Paging) (g : Result Leaf Trouble) (next : Step) → RightRead p g next → Within (leases_of_paging p) next
-right_read_within p (Ok l) next goes =
-    right_lacks_within (record p { onward = link_of l p.run.items }) l (has_items (lacked l p.page p.run.items)) next goes
-right_read_within p (Err t) next e = subst (Within (leases_of_paging p)) (sym e) (λ x is. is)
-
-right_got_within : (p : Paging) (g : Result (Option (List ℕ)) Trouble) (next : Step) → RightGot p g next → Within (leases_of_paging p) next
-right_got_within p (Ok got) next (found, holds, goes) = right_read_within p found next goes
-right_got_within p (Err t) next e = subst (Within (leases_of_paging p)) (sym e) (λ x is. is)
-
-right_put_within : (p : Paging) (g : Result (Unit {0}) Trouble) → Within (leases_of_paging p) (right_put_by p g)
-right_put_within p (Ok tt) = λ x is. is
-right_put_within p (Err t) = λ x is. is
-
-home_put_within : (p : Paging) (g : Result (Unit {0}) Trouble) → Within (leases_of_paging p) (home_put_by p g)
-home_put_within p (Ok tt) = deletes_within (with_applied p) (next_id p.deletions.ids)
-home_put_within p (Err t) = λ x is. is
-
-deleted_within : (p : Paging) (g : Result (Unit {0}) Trouble) → Within (leases_of_paging p) (deleted_by p g)
-deleted_within p g = deletes_within (record p { deletions = tried p.deletions (went g) }) (next_id (tried p.deletions (went g)).ids)
 
 finished_none : (p : Paging) (t : Option Trouble) → leases_next (finished_by p t) ≡ []
 finished_none p (Some t) = refl
@@ -200,7 +131,7 @@ module _ (who : Caller) (s t : CloudState) (book : Book) (order : List Entry) (c
       guarded = tt;
       renewed = home;
       renews = tt;
-      own = simple GettingHome e (GetHeld (home_name p) has.lease) (λ x. tt) (λ next leads. got_within p (got_of reply) next leads);
+      own = simple GettingHome e (GetHeld (home_name p) has.lease) (λ x. tt) (λ next leads. within p next (got_on p (got_of reply) next leads));
     })
 
     at_receiving : p.stage ≡ Receiving → Does (paging_ask p)
@@ -209,7 +140,7 @@ module _ (who : Caller) (s t : CloudState) (book : Book) (order : List Entry) (c
       guarded = tt;
       renewed = home;
       renews = tt;
-      own = simple Receiving e (Receive (own_queue p) 256) (λ x. tt) (λ next leads. received_within p (received_of reply) next leads);
+      own = simple Receiving e (Receive (own_queue p) 256) (λ x. tt) (λ next leads. within p next (received_on p (received_of reply) next leads));
     })
 
     -- ---- right pages
@@ -237,7 +168,7 @@ module _ (who : Caller) (s t : CloudState) (book : Book) (order : List Entry) (c
           guarded = tt;
           renewed = home;
           renews = tt;
-          own = simple GettingRight e (GetHeld (right_name p) has.second) (λ x. tt) (λ next leads. right_got_within p (got_of reply) next leads);
+          own = simple GettingRight e (GetHeld (right_name p) has.second) (λ x. tt) (λ next leads. within p next (right_got_on p (got_of reply) next leads));
         })
 
     -- a page of the leaf chain is guarded by its own lock
@@ -255,7 +186,7 @@ module _ (who : Caller) (s t : CloudState) (book : Book) (order : List Entry) (c
           renewed = home;
           renews = tt;
           own = simple PuttingRight e (PutHeld (right_name p) p.out has.lease (Some has.second)) (λ x. tt)
-              (λ next leads. subst (Within (leases_of_paging p)) (sym leads) (right_put_within p (done_of reply)));
+              (λ next leads. subst (Within (leases_of_paging p)) (sym leads) (within p (right_put_by p (done_of reply)) (right_put_on p (done_of reply))));
         })
 
     -- the right page's lease is given back, and the page's stays
@@ -283,7 +214,7 @@ module _ (who : Caller) (s t : CloudState) (book : Book) (order : List Entry) (c
         left : (next : Step) (x : Claim) → GoesOn (without_onward (record p { held = without_right p.held })) p.onward next → IsIn (leases_next next) x → IsIn (has.lease ∷ []) x
         left next x goes is =
             subst (λ (l : Leases). IsIn (claims_of (without_right l)) x) has.is
-            (on_within (without_onward (record p { held = without_right p.held })) p.onward next goes x is)
+            (within (without_onward (record p { held = without_right p.held })) next (goes_on (without_onward (record p { held = without_right p.held })) p.onward next goes) x is)
 
     -- ---- the page itself
 
@@ -295,7 +226,7 @@ module _ (who : Caller) (s t : CloudState) (book : Book) (order : List Entry) (c
           renewed = home;
           renews = tt;
           own = simple PuttingHome e (PutHeld (home_name p) p.out has.lease None) (λ x. tt)
-              (λ next leads. subst (Within (leases_of_paging p)) (sym leads) (home_put_within p (done_of reply)));
+              (λ next leads. subst (Within (leases_of_paging p)) (sym leads) (within p (home_put_by p (done_of reply)) (home_put_on p (done_of reply))));
         })
 
     at_deleting : p.stage ≡ DeletingNext → HasIds p → Does (paging_ask p)
@@ -305,7 +236,7 @@ module _ (who : Caller) (s t : CloudState) (book : Book) (order : List Entry) (c
           guarded = tt;
           renewed = home;
           renews = tt;
-          own = simple DeletingNext e (Delete (own_queue p) id) (λ x. tt) (λ next leads. subst (Within (leases_of_paging p)) (sym leads) (deleted_within p (done_of reply)));
+          own = simple DeletingNext e (Delete (own_queue p) id) (λ x. tt) (λ next leads. subst (Within (leases_of_paging p)) (sym leads) (within p (deleted_by p (done_of reply)) (deleted_on p (done_of reply))));
         })
 
     -- ---- the end

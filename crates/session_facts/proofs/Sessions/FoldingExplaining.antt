@@ -1,5 +1,5 @@
 -- Why the tree checkpoint of a session meets a trouble.
-use Rattle.std.proofs.Common.{◌≡◌, ◌≢◌, ◌≤◌, ◌⊎◌, inl, inr, ℕ, List, Option, Some, None, refl, sym, ap, subst, ◌∙◌, arith}
+use Rattle.std.proofs.Common.{◌≡◌, ◌≢◌, inl, inr, ℕ, List, Some, None, sym, subst, ◌∙◌, arith}
 use Rattle.client_session.specs.Session.{StepsFolding, stopped_work}
 use Rattle.client_session.specs.declared.answer.Answer.{Answer}
 use Rattle.client_session.specs.declared.answer.Answer.TheVariants as answer
@@ -87,7 +87,8 @@ module _ (who : Caller) (before after : Seen) (s t : CloudState) (told : before.
 
 -- ---- of a session
 
-module _ (who : Caller) (before after : Seen) (s t : CloudState) (book : Book) (order : List Entry) (sessions : Sessions) (told : before.state ≡ Some s) (told_after : after.state ≡ Some t)
+module _ (who : Caller) (before after : Seen) (s t : CloudState) (book : Book) (order : List Entry) (sessions : Sessions) (told : before.state ≡ Some s)
+    (told_after : after.state ≡ Some t)
     (stand : SessionsStand book order s sessions) where
   abbrev old : Work
   old = (sessions who.session).work

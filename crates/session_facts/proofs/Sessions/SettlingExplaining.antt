@@ -1,5 +1,5 @@
 -- Why the settling of a session meets a trouble.
-use Rattle.std.proofs.Common.{◌≡◌, ◌≢◌, ◌≤◌, ◌⊎◌, inl, inr, ℕ, List, Option, Some, None, refl, sym, subst, ◌∙◌, arith}
+use Rattle.std.proofs.Common.{◌≡◌, ◌≢◌, ◌≤◌, inl, inr, List, Some, None, refl, sym, subst, ◌∙◌, arith}
 use Rattle.client_session.specs.Session.{StepsSettling}
 use Rattle.client_session.specs.declared.answer.Answer.{Answer}
 use Rattle.client_session.specs.declared.answer.Answer.TheVariants as answer
@@ -33,7 +33,8 @@ use Rattle.settle_run.specs.declared.settled.Settled.{Settled}
 use Rattle.settle_run.specs.Parts.{IsSoundPart}
 use Rattle.settle_run.specs.Settling.{Settling as SettlingState, settle_ask, SettleLeads}
 
-module _ (who : Caller) (before after : Seen) (s t : CloudState) (book : Book) (order : List Entry) (sessions : Sessions) (told : before.state ≡ Some s) (told_after : after.state ≡ Some t)
+module _ (who : Caller) (before after : Seen) (s t : CloudState) (book : Book) (order : List Entry) (sessions : Sessions) (told : before.state ≡ Some s)
+    (told_after : after.state ≡ Some t)
     (stand : SessionsStand book order s sessions) where
   abbrev old : Work
   old = (sessions who.session).work
@@ -58,7 +59,8 @@ module _ (who : Caller) (before after : Seen) (s t : CloudState) (book : Book) (
       goes_on : (n : SettlingState) → SettleLeads m reply (Goes n) → Explained (Settling n) More
       goes_on n leads = record {
         shown = shown;
-        kept = λ k waits. settle_keeps who before after s t book order told told_after stand.cloud (stand.parts who.session) holds reply found m knows.work sound made (Goes n) leads k waits;
+        kept = λ k waits.
+            settle_keeps who before after s t book order told told_after stand.cloud (stand.parts who.session) holds reply found m knows.work sound made (Goes n) leads k waits;
         left = settle_left who before after s t book order told told_after stand.cloud (stand.parts who.session) holds reply found m knows.work sound made (Goes n) leads;
       }
         where
@@ -85,7 +87,8 @@ module _ (who : Caller) (before after : Seen) (s t : CloudState) (book : Book) (
         shown = λ none clean k other meets. shown none clean k other (answered_is Closed q k refl meets);
         kept = λ k waits.
             waited_is Closed q k
-            (λ other. settle_keeps who before after s t book order told told_after stand.cloud (stand.parts who.session) holds reply found m knows.work sound made (Stops n q) (leads other) k waits);
+            (λ other.
+            settle_keeps who before after s t book order told told_after stand.cloud (stand.parts who.session) holds reply found m knows.work sound made (Stops n q) (leads other) k waits);
         left = inl (omega arith);
       }
         where

@@ -8,7 +8,7 @@ use Rattle.cloud_trait.specs.Caller.{Caller}
 use Rattle.cloud_trait.specs.Claim.{Claim, Lasts, IsOver}
 use Rattle.cloud_trait.specs.Seen.{Seen}
 use Rattle.cloud_trait.specs.State.{CloudState, Counts, called}
-use Rattle.cloud_trait.specs.Views.{trouble_of, given_of, got_of, sent_of, received_of, done_of, renewed_of}
+use Rattle.cloud_trait.specs.Views.{given_of, got_of, sent_of, received_of, done_of, renewed_of}
 use Rattle.cloud_trait.specs.Weather.{FirstOver, Leaves, Makes, Rose, Weather}
 use Rattle.db_base.specs.declared.names.Lock.{Lock}
 use Rattle.db_base.specs.declared.names.ObjName.{ObjName}
@@ -16,9 +16,6 @@ use Rattle.db_base.specs.declared.names.QueueName.{QueueName}
 use Rattle.db_base.specs.declared.trouble.Trouble.{Trouble}
 use Rattle.db_base.specs.declared.trouble.Trouble.TheVariants as trouble
 use Rattle.session_facts.specs.Sessions.Explaining.{IsShown}
-
-state_is : (s t : CloudState) → Some s ≡ Some t → s ≡ t
-state_is s t e = cc
 
 -- a lease that is over does not last
 over_ends : (l : Claim) (now : ℕ) → IsOver now l → Lasts now l → ⊥
@@ -41,7 +38,9 @@ module _ (who : Caller) (before after : Seen) (s t : CloudState) (told : before.
   row_of ask a made = on (made.state s told)
     where
       on : Leaves who ask a before.counts after.counts s after.state → Weather who ask a before.counts after.counts (called who t.now s) t
-      on l = subst (λ (u : CloudState). Weather who ask a before.counts after.counts (called who u.now s) u) (state_is l.after t (sym l.told ∙ told_after)) l.row
+      on l =
+          let same : l.after ≡ t = cc (sym l.told ∙ told_after) in
+          subst (λ (u : CloudState). Weather who ask a before.counts after.counts (called who u.now s) u) same l.row
 
   -- the trouble of an answer that the view takes for it
   by_trouble : (ask : Ask) (a b : Trouble) → a ≡ b → Shown ask a → Shown ask b
@@ -107,7 +106,8 @@ module _ (who : Caller) (before after : Seen) (s t : CloudState) (told : before.
   delete_shown queue id (Renewed end) made k e = absurd made.fits
 
   -- a deletion that was not done failed, where there was memory for it
-  pub delete_fails : (queue : QueueName) (id : ℕ) (a : Answer) → Call (Delete queue id) a → (k : Trouble) → done_of a ≡ Err k → a ≢ Memory → Rose before.counts.faults after.counts.faults
+  pub delete_fails : (queue : QueueName) (id : ℕ) (a : Answer) → Call (Delete queue id) a → (k : Trouble) → done_of a ≡ Err k → a ≢ Memory
+      → Rose before.counts.faults after.counts.faults
   delete_fails queue id Failed made k e other = made.failed refl
   delete_fails queue id Memory made k e other = absurd (other refl)
   delete_fails queue id Done made k e other = absurd (cc)

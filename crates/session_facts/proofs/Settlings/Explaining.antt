@@ -23,7 +23,7 @@ use Rattle.recover_run.specs.declared.stage.RecoverAnswer.{RecoverAnswer}
 use Rattle.recover_run.specs.Ids.{new_ids}
 use Rattle.recover_run.specs.Recovery.{Recovery, recovery_ask, recovery_next, IsSound}
 use Rattle.report_types.specs.declared.entry.Entry.{Entry}
-use Rattle.session_facts.specs.Openings.Opening.{KnowsOpening, leases_of_recovery}
+use Rattle.session_facts.specs.Openings.Opening.{KnowsOpening}
 use Rattle.session_facts.specs.PageCheckpoints.Checkpoint.{KnowsPaging, leases_of_paging}
 use Rattle.session_facts.specs.Sessions.Explaining.{trouble_of_recovery, trouble_of_making, trouble_of_part, left_in_tree, left_of_part, MeetsNext, IsShown}
 use Rattle.session_facts.specs.Settlings.Settling.{KnowsAtWork, leases_at_work}
@@ -34,38 +34,35 @@ use Rattle.session_facts.proofs.Sessions.Showing.{IsFree, free_shown}
 use Rattle.session_facts.proofs.TreeCheckpoints.Explaining.{left_next, making_shows, making_left, making_keeps}
 use Rattle.settle_run.specs.declared.part.Part.{Part as AtWork}
 use Rattle.settle_run.specs.declared.part.Part.TheVariants.{Client, Tree, Page}
-use Rattle.settle_run.specs.Parts.{part_of_client, part_of_tree, part_of_page, part_again, part_ask, part_received, recovers, makes, pages, PartLeads, IsSoundPart}
+use Rattle.settle_run.specs.Parts.{part_of_client, part_of_tree, part_again, part_ask, part_received, recovers, makes, pages, PartLeads, IsSoundPart}
 use Rattle.settle_run.specs.Settling.{Settling, Step, settle_ask, begins, behind_client, to_page, behind_tree, is_visited, goes_right, goes_on, passed_with, passed, ended_by, counted, with_part, moved, SettleLeads}
 use Rattle.tree_ckpt.specs.Making.{Making, making_ask, MakingLeads}
 
 -- ---- what comes next
 
-abbrev HasMetNothing : AtWork → Type 0
-HasMetNothing w = (trouble_of_part w ≡ None) × (left_of_part w ≡ 0)
-
--- a part that begins has met nothing, and what is read to the right is no call's
-abbrev BeginsAnew : Step → Type 0
-BeginsAnew (Goes n) = HasMetNothing n.part
+-- a part begins anew, or a page that is come to twice stops the settling, which no call shows
+abbrev pub BeginsAnew : Step → Type 0
+BeginsAnew (Goes n) = part_again n.part ≡ n.part
 BeginsAnew (Ends n x) = Unit {0}
 BeginsAnew (Stops n q) = IsFree q
 
-again_anew : (w : AtWork) → HasMetNothing (part_again w)
-again_anew (Client client m) = (refl, refl)
-again_anew (Tree tree m) = (refl, refl)
-again_anew (Page tree page m) = (refl, refl)
+again_anew : (w : AtWork) → part_again (part_again w) ≡ part_again w
+again_anew (Client client m) = refl
+again_anew (Tree tree m) = refl
+again_anew (Page tree page m) = refl
 
 client_anew : (s : Settling) (client : ℕ) → BeginsAnew (begins s (behind_client client))
 client_anew s client = on (nat_lt client 64)
   where
     on : (b : Bool) → BeginsAnew (begins s (cond b (part_of_client (client + 1)) (part_of_tree 1)))
-    on true = (refl, refl)
-    on false = (refl, refl)
+    on true = refl
+    on false = refl
 
 tree_anew : (s : Settling) (tree : ℕ) → BeginsAnew (behind_tree s tree)
 tree_anew s tree = on (nat_lt tree 16)
   where
     on : (b : Bool) → BeginsAnew (cond b (begins (record s { visited = [] }) (part_of_tree (tree + 1))) (Ends s (record { calls = s.calls })))
-    on true = (refl, refl)
+    on true = refl
     on false = tt
 
 right_anew : (s : Settling) (tree : ℕ) (o : Option ℕ) → BeginsAnew (goes_right s tree o)
@@ -74,19 +71,31 @@ right_anew s tree (Some page) = on (is_visited s page)
   where
     on : (b : Bool) → BeginsAnew (cond b (Stops s (trouble.Loop page)) (to_page s tree page))
     on true = tt
-    on false = (refl, refl)
+    on false = refl
 
 on_anew : (s : Settling) (w : AtWork) → BeginsAnew (goes_on s w)
 on_anew s (Client client m) = client_anew s client
-on_anew s (Tree tree m) = (refl, refl)
+on_anew s (Tree tree m) = refl
 on_anew s (Page tree page m) = right_anew s tree (page_at m.home.right)
 
-passed_anew : (s : Settling) → BeginsAnew (passed s)
+pub passed_anew : (s : Settling) → BeginsAnew (passed s)
 passed_anew s = on (new_ids s.known (part_received s.part))
   where
     on : (ids : List ℕ) → BeginsAnew (passed_with s ids)
     on [] = on_anew s s.part
     on (id ∷ ids) = again_anew s.part
+
+-- one that begins has met nothing
+abbrev HasMetNothing : AtWork → Type 0
+HasMetNothing w = (trouble_of_part w ≡ None) × (left_of_part w ≡ 0)
+
+again_clean : (w : AtWork) → HasMetNothing (part_again w)
+again_clean (Client client m) = (refl, refl)
+again_clean (Tree tree m) = (refl, refl)
+again_clean (Page tree page m) = (refl, refl)
+
+anew_clean : (w : AtWork) → part_again w ≡ w → HasMetNothing w
+anew_clean w anew = subst HasMetNothing anew (again_clean w)
 
 -- ---- the part at work
 
@@ -191,7 +200,8 @@ module _ (who : Caller) (before after : Seen) (s t : CloudState) (book : Book) (
       page_left (Ends n a) left = left
       page_left (Stops n q) left = left
 
-  part_explains : (w : AtWork) → KnowsAtWork st t.now w part → IsSoundPart w → Makes who (part_ask w) reply before after → (next : Next AtWork ℕ) → PartLeads w reply next → PartExplains w next
+  part_explains : (w : AtWork) → KnowsAtWork st t.now w part → IsSoundPart w → Makes who (part_ask w) reply before after → (next : Next AtWork ℕ)
+      → PartLeads w reply next → PartExplains w next
   part_explains (Client client m) k sound made next (step, leads, to) = subst (PartExplains (Client client m)) (sym to) (client_explains client m k.knows sound made step leads)
   part_explains (Tree tree m) k sound made next (step, leads, to) = subst (PartExplains (Tree tree m)) (sym to) (tree_explains tree m k.knows made step leads)
   part_explains (Page tree page m) k sound made next (step, leads, to) = subst (PartExplains (Page tree page m)) (sym to) (page_explains tree page m k.knows made step leads)
@@ -200,12 +210,12 @@ module _ (who : Caller) (before after : Seen) (s t : CloudState) (book : Book) (
 
   module _ (m : Settling) where
     anew_shows : (next : Step) → BeginsAnew next → (k : Trouble) → MeetsNext trouble_by next k → Shows m.part k
-    anew_shows (Goes n) anew k meets = absurd (let other : None ≡ Some k = sym anew.0 ∙ meets in cc (other))
+    anew_shows (Goes n) anew k meets = absurd (let other : None ≡ Some k = sym (anew_clean n.part anew).0 ∙ meets in cc (other))
     anew_shows (Ends n x) anew k never = absurd never
     anew_shows (Stops n q) anew k same = subst (Shows m.part) same (free_shown (part_ask m.part) (leases_at_work m.part) before.counts after.counts s t q anew)
 
     anew_left : (next : Step) → BeginsAnew next → left_by next ≤ left_of_part m.part
-    anew_left (Goes n) anew = omega (arith, anew.1)
+    anew_left (Goes n) anew = let none : left_of_part n.part ≡ 0 = (anew_clean n.part anew).1 in omega (arith, none)
     anew_left (Ends n x) anew = omega arith
     anew_left (Stops n q) anew = omega arith
 
@@ -229,7 +239,8 @@ module _ (who : Caller) (before after : Seen) (s t : CloudState) (book : Book) (
         on true = anew_left (passed (counted (with_part m w))) (passed_anew (counted (with_part m w)))
         on false = omega arith
 
-    moved_shows : (x : Next AtWork ℕ) → PartExplains m.part x → trouble_of_part m.part ≡ None → left_of_part m.part ≡ 0 → (k : Trouble) → MeetsNext trouble_by (moved m x) k → Shows m.part k
+    moved_shows : (x : Next AtWork ℕ) → PartExplains m.part x → trouble_of_part m.part ≡ None → left_of_part m.part ≡ 0 → (k : Trouble)
+        → MeetsNext trouble_by (moved m x) k → Shows m.part k
     moved_shows (Goes w) e none clean k meets = e.shown none k meets
     moved_shows (Ends w left) e none clean k meets = ended_shows w left e.left clean k meets
     moved_shows (Stops w q) e none clean k meets = e.shown none k meets

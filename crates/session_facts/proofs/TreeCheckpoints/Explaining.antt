@@ -1,15 +1,15 @@
 -- Why a checkpoint of a tree meets a trouble, that it keeps it, and which deletions it counts as failed.
-use Rattle.std.proofs.Common.{◌≡◌, ◌≢◌, ◌≤◌, ◌+◌, ◌==◌, ◌⊎◌, inl, inr, ℕ, Bool, true, false, List, [], ◌∷◌, length, map, reverse, Option, Some, None, Result, Ok, Err, refl, sym, ap, subst, ◌∙◌, arith}
+use Rattle.std.proofs.Common.{◌≡◌, ◌≢◌, ◌≤◌, ◌⊎◌, inl, inr, ℕ, true, false, List, [], ◌∷◌, length, map, Option, Some, None, Result, Ok, Err, refl, sym, ap, subst, ◌∙◌, arith}
 use Rattle.std.proofs.lemmas.Bool.{eqb-true}
 use Rattle.std.proofs.lemmas.List.{length-reverse, length-map}
 use Rattle.ckpt_parts.specs.declared.leases.Leases.{Leases}
-use Rattle.ckpt_parts.specs.Deleting.{Deleting, next_id, tried}
+use Rattle.ckpt_parts.specs.Deleting.{next_id, tried}
 use Rattle.ckpt_parts.specs.Leasing.{newest_lease, without_newest}
 use Rattle.cloud_facts.specs.Book.Tally.{Store}
 use Rattle.cloud_trait.specs.declared.answer.Answer.{Answer}
 use Rattle.cloud_trait.specs.declared.answer.Answer.TheVariants.{Memory}
 use Rattle.cloud_trait.specs.declared.turn.CkptAnswer.{CkptAnswer}
-use Rattle.cloud_trait.specs.Ask.{Ask, GetHeld, PutHeld, Delete, Take, Receive, Release}
+use Rattle.cloud_trait.specs.Ask.{Ask, GetHeld, Take, Receive, Release}
 use Rattle.cloud_trait.specs.Caller.{Caller}
 use Rattle.cloud_trait.specs.Claim.{Claim}
 use Rattle.cloud_trait.specs.Machine.{Next, Goes, Ends, Stops}
@@ -23,16 +23,15 @@ use Rattle.db_base.specs.declared.names.QueueName.TheVariants as queue
 use Rattle.db_base.specs.declared.trouble.Trouble.{Trouble}
 use Rattle.leaf_fold.specs.declared.folding.Folding.{Folding}
 use Rattle.leaf_fold.specs.Folding.{folding_ask, folding_next}
-use Rattle.session_facts.specs.Sessions.Explaining.{trouble_of_ending, ending_of, trouble_of_making, left_in_held, left_of_ending, left_in_tree, MeetsNext, IsShown}
+use Rattle.session_facts.specs.Sessions.Explaining.{trouble_of_ending, ending_of, trouble_of_making, left_in_tree, MeetsNext, IsShown}
 use Rattle.session_facts.specs.TreeCheckpoints.Checkpoint.{KnowsWork, KnowsMaking}
 use Rattle.session_facts.specs.Trees.Risings.{PutsNode, PutsOf, KnowsRising}
-use Rattle.session_facts.proofs.Sessions.Showing.{IsFree, Shown, free_shown, got_shown, put_shown, delete_fails, received_shown, given_shown}
+use Rattle.session_facts.proofs.Sessions.Showing.{IsFree, free_shown, got_shown, put_shown, delete_fails, received_shown, given_shown}
 use Rattle.session_facts.proofs.TreeCheckpoints.Meeting.{Meets, descent_for, folding_for, risen_for, deleting_meets, rising_meets, descending_meets, left_meets, folding_meets, page_meets, taken_meets, got_meets, received_meets, released_meets}
 use Rattle.split_plan.specs.declared.put_list.PagePut.{PagePut}
 use Rattle.split_plan.specs.Plan.{put_of, on_pages, node_bytes}
 use Rattle.tree_ckpt.specs.Making.{Making, making_ask, MakingLeads}
 use Rattle.tree_ckpt.specs.Standing.{HasIds}
-use Rattle.tree_descent.specs.declared.descent.Descent.{Descent}
 use Rattle.tree_descent.specs.Descent.{descent_next}
 use Rattle.tree_moves.specs.declared.work.Held.{Held}
 use Rattle.tree_moves.specs.declared.work.Work.{Work}
@@ -264,7 +263,8 @@ released_keeps : (held : Leases) (q k : Trouble) (lease : Option Claim) → q �
 released_keeps held q k (Some l) e = ap (λ (x : Trouble). Some x) e
 released_keeps held q k None e = e
 
-end_keeps : (held : Leases) (end : Result CkptAnswer Trouble) (k : Trouble) (lease : Option Claim) → trouble_of_ending (Some end) ≡ Some k → MeetsNext trouble_at (released_by held end lease) k
+end_keeps : (held : Leases) (end : Result CkptAnswer Trouble) (k : Trouble) (lease : Option Claim) → trouble_of_ending (Some end) ≡ Some k
+    → MeetsNext trouble_at (released_by held end lease) k
 end_keeps held (Ok a) k lease e = absurd (cc)
 end_keeps held (Err q) k lease e = released_keeps held q k lease (cc)
 

@@ -1,5 +1,5 @@
 -- The leases of a checkpoint: each call names the session's own, which guard what it puts.
-use Rattle.std.proofs.Common.{◌≡◌, ◌⊎◌, inl, inr, ℕ, zero, suc, List, [], ◌∷◌, Option, Some, None, Result, Ok, Err, refl, sym, ap, subst, ◌∙◌}
+use Rattle.std.proofs.Common.{◌≡◌, ◌⊎◌, inl, inr, ℕ, zero, suc, List, [], ◌∷◌, Option, Some, None, Result, refl, sym, ap, subst, ◌∙◌}
 use Rattle.std.specs.Prelude.{unwrap_or}
 use Rattle.ckpt_parts.specs.Deleting.{next_id}
 use Rattle.ckpt_parts.specs.Leasing.{newest_lease}
@@ -8,7 +8,7 @@ use Rattle.cloud_facts.specs.Calls.Call.{IsCall}
 use Rattle.cloud_facts.specs.Calls.Standing.{StandsUnder}
 use Rattle.cloud_trait.specs.declared.answer.Answer.{Answer}
 use Rattle.cloud_trait.specs.declared.turn.CkptAnswer.{CkptAnswer}
-use Rattle.cloud_trait.specs.Ask.{Ask, GetHeld, PutHeld, Receive, Delete, Take, Release}
+use Rattle.cloud_trait.specs.Ask.{Ask, GetHeld, Receive, Delete, Take, Release}
 use Rattle.cloud_trait.specs.Caller.{Caller}
 use Rattle.cloud_trait.specs.Claim.{Claim}
 use Rattle.cloud_trait.specs.Machine.{Next, Goes, Ends, Stops}
@@ -34,20 +34,20 @@ use Rattle.cloud_facts.specs.Tellings.Told.{store_of}
 use Rattle.tree_ckpt.specs.Making.{Making, making_ask, MakingLeads}
 use Rattle.tree_ckpt.specs.Standing.{OfTree, HasIds}
 use Rattle.tree_ckpt.proofs.Leaving.{next_leaves}
-use Rattle.session_facts.specs.TreeCheckpoints.Checkpoint.{IsUnder, OfPage, HoldsLast, KnowsOnward, KnowsWork, KnowsMaking, leases_of_making, leases_next}
+use Rattle.session_facts.specs.TreeCheckpoints.Checkpoint.{OfPage, HoldsLast, KnowsOnward, KnowsWork, KnowsMaking, leases_of_making, leases_next}
 use Rattle.session_facts.proofs.TreeCheckpoints.Guards.{leaf_guarded}
-use Rattle.session_facts.proofs.TreeCheckpoints.Held.{claims_next, Within, deleted_within, rising_within, descending_within, left_within, got_within, received_within, folding_within, tree_given, page_given, second_within, none_within}
+use Rattle.session_facts.proofs.TreeCheckpoints.Held.{claims_next, Within, within, deleted_goes, rising_goes, descending_goes, left_on, got_on, received_on, folding_goes, tree_given, page_given, second_within, none_within}
 use Rattle.session_facts.proofs.TreeCheckpoints.MakingOthers.{lock_of, making_later}
 use Rattle.session_facts.proofs.TreeCheckpoints.UpGuards.{rising_guarded}
 use Rattle.tree_descent.specs.Descent.{descent_next}
-use Rattle.session_facts.specs.Trees.Leaves.{IsReading, IsPutting, KnowsLeaf}
+use Rattle.session_facts.specs.Trees.Leaves.{IsReading, KnowsLeaf}
 use Rattle.tree_moves.specs.declared.work.Held.{Held}
 use Rattle.tree_moves.specs.declared.work.Onward.{Onward}
 use Rattle.tree_moves.specs.declared.work.Onward.TheVariants as onward
 use Rattle.tree_moves.specs.declared.work.Work.{Work}
 use Rattle.tree_moves.specs.declared.work.Work.TheVariants as work
-use Rattle.tree_moves.specs.Moves.{Step, Leads}
-use Rattle.tree_moves.specs.Work.{take_tree, delete_ask, release_ask, work_ask, claims_in}
+use Rattle.tree_moves.specs.Moves.{Step, deleted_by, rising_on, descending_on, folding_on, page_left, tree_got, Leads}
+use Rattle.tree_moves.specs.Work.{delete_ask, release_ask, work_ask, claims_in}
 use Rattle.tree_parts.specs.declared.placing.Placing.{Placing}
 use Rattle.tree_parts.specs.Placing.{put_in_hand, put_first, put_next}
 use Rattle.tree_rising.specs.declared.rising.Rising.{Rising}
@@ -214,7 +214,7 @@ module _ (who : Caller) (s t : CloudState) (home : Claim) (client : ℕ) (home_l
     renewed = home;
     renews = tt;
     own = keeps (work.Deleting h applied) (Delete (queue.TreePu tree) id) comes (λ x. tt)
-        (λ next leads. subst (Within (h.lease ∷ [])) (sym leads) (deleted_within h applied (done_of reply)));
+        (λ next leads. subst (Within (h.lease ∷ [])) (sym leads) (within (h.lease ∷ []) (deleted_by h applied (done_of reply)) (deleted_goes h applied (done_of reply))));
   }
 
   -- ---- where it stands
@@ -246,14 +246,14 @@ module _ (who : Caller) (s t : CloudState) (home : Claim) (client : ℕ) (home_l
       guarded = tt;
       renewed = home;
       renews = tt;
-      own = keeps (work.GettingTree l) (GetHeld (object.Tree tree) l) comes (λ x. tt) (λ next leads. subst (Within (l ∷ [])) (sym leads) (got_within tree l (got_of reply)));
+      own = keeps (work.GettingTree l) (GetHeld (object.Tree tree) l) comes (λ x. tt) (λ next leads. subst (Within (l ∷ [])) (sym leads) (within (l ∷ []) (tree_got tree l (got_of reply)) (got_on tree l (got_of reply))));
     }
     work_hands (work.Receiving l root) k comes = record {
       owns = tt;
       guarded = tt;
       renewed = home;
       renews = tt;
-      own = keeps (work.Receiving l root) (Receive (queue.TreePu tree) 256) comes (λ x. tt) (λ next leads. received_within tree l root (received_of reply) next leads);
+      own = keeps (work.Receiving l root) (Receive (queue.TreePu tree) 256) comes (λ x. tt) (λ next leads. within (l ∷ []) next (received_on tree l root (received_of reply) next leads));
     }
     work_hands (work.Descending h d) k comes = record {
       owns = (suc zero, refl);
@@ -261,7 +261,7 @@ module _ (who : Caller) (s t : CloudState) (home : Claim) (client : ℕ) (home_l
       renewed = home;
       renews = tt;
       own = keeps (work.Descending h d) (GetHeld (object.Page d.chart.tree d.page) h.lease) comes (λ x. tt)
-          (λ next leads. subst (Within (h.lease ∷ [])) (sym leads) (descending_within h (descent_next d reply)));
+          (λ next leads. subst (Within (h.lease ∷ [])) (sym leads) (within (h.lease ∷ []) (descending_on h (descent_next d reply)) (descending_goes h (descent_next d reply))));
     }
     work_hands (work.TakingPage h c) k comes = record {
       owns = tt;
@@ -278,7 +278,7 @@ module _ (who : Caller) (s t : CloudState) (home : Claim) (client : ℕ) (home_l
       renews = put_renews who f.placing f.chart.tree h.lease (Some f.lease) (GetHeld (object.Page f.chart.tree f.page) f.lease) home (called who t.now s) t tt;
       own = keeps (work.Folding h f) (folding_ask f h.lease) comes
           (put_keeps f.placing f.chart.tree h.lease (Some f.lease) (GetHeld (object.Page f.chart.tree f.page) f.lease) (λ x. tt))
-          (λ next leads. subst (Within (f.lease ∷ h.lease ∷ [])) (sym leads) (folding_within h f (folding_next f reply) (next_leaves f reply)));
+          (λ next leads. subst (Within (f.lease ∷ h.lease ∷ [])) (sym leads) (within (f.lease ∷ h.lease ∷ []) (folding_on h (folding_next f reply)) (folding_goes h f (folding_next f reply) (next_leaves f reply))));
     }
     work_hands (work.ReleasingPage h l o) k comes = record {
       owns = (suc zero, refl);
@@ -287,7 +287,7 @@ module _ (who : Caller) (s t : CloudState) (home : Claim) (client : ℕ) (home_l
       renews = tt;
       own = gives (work.ReleasingPage h l o) l comes (no_page l k.0)
           (λ next leads x there.
-          let here : IsIn (h.lease ∷ []) x = left_within h o x (subst (λ (q : Step). IsIn (claims_next q) x) leads there) in
+          let here : IsIn (h.lease ∷ []) x = within (h.lease ∷ []) (page_left h o) (left_on h o) x (subst (λ (q : Step). IsIn (claims_next q) x) leads there) in
           ((suc here.0, here.1), alone h.lease l (onward_lock h o k.1) k.0 x here));
     }
       where
@@ -301,7 +301,7 @@ module _ (who : Caller) (s t : CloudState) (home : Claim) (client : ℕ) (home_l
       renewed = home;
       renews = put_renews who r.placing r.chart.tree h.lease None (last_ask r h.lease r.last) home (called who t.now s) t (last_renews who r h.lease r.last home (called who t.now s) t);
       own = keeps (work.Rising h r) (rising_ask r h.lease) comes (put_keeps r.placing r.chart.tree h.lease None (last_ask r h.lease r.last) (last_keeps r h.lease r.last))
-          (λ next leads. subst (Within (h.lease ∷ [])) (sym leads) (rising_within h (rising_next r reply)));
+          (λ next leads. subst (Within (h.lease ∷ [])) (sym leads) (within (h.lease ∷ []) (rising_on h (rising_next r reply)) (rising_goes h (rising_next r reply))));
     }
     work_hands (work.Deleting h applied) k comes = deletes h applied h.deletions.ids k.2 comes
     work_hands (work.Releasing held end) k comes = releases held.first held.second end k.0 comes

@@ -1,9 +1,9 @@
 -- Where the leases in hand come from: a checkpoint goes on with those that it had, but for one that it was given or gave back.
-use Rattle.std.proofs.Common.{◌≡◌, ◌⊎◌, inl, inr, ℕ, zero, suc, Bool, true, false, List, [], ◌∷◌, Option, Some, None, Result, Ok, Err, refl, sym, ap, subst, ◌∙◌}
+use Rattle.std.proofs.Common.{◌≡◌, ◌⊎◌, inl, inr, ℕ, zero, suc, Bool, true, false, List, [], ◌∷◌, Option, Some, None, Result, Ok, Err, refl, sym, ap, subst}
 use Rattle.ckpt_parts.specs.declared.intake.Intake.{Intake}
 use Rattle.ckpt_parts.specs.Deleting.{next_id, tried}
 use Rattle.ckpt_parts.specs.Intakes.{has_items}
-use Rattle.ckpt_parts.specs.Leasing.{claims_of, newest_lease, without_newest}
+use Rattle.ckpt_parts.specs.Leasing.{newest_lease, without_newest}
 use Rattle.cloud_trait.specs.declared.answer.Answer.{Answer}
 use Rattle.cloud_trait.specs.declared.message.Message.{Message}
 use Rattle.cloud_trait.specs.declared.turn.CkptAnswer.{CkptAnswer}
@@ -12,7 +12,6 @@ use Rattle.cloud_trait.specs.Claim.{Claim}
 use Rattle.cloud_trait.specs.Machine.{Next, Goes, Ends, Stops}
 use Rattle.cloud_trait.specs.Views.{given_of}
 use Rattle.cloud_trait.proofs.ViewLemmas.{given_of-ok}
-use Rattle.db_base.specs.declared.names.Lock.{Lock}
 use Rattle.db_base.specs.declared.names.Lock.TheVariants as lock
 use Rattle.db_base.specs.declared.trouble.Trouble.{Trouble}
 use Rattle.leaf_fold.specs.declared.folding.Folding.{Folding}
@@ -21,6 +20,7 @@ use Rattle.cloud_facts.specs.Leases.Leases.{GainedBy}
 use Rattle.node_codec.specs.Tree.{Tree, tree_of}
 use Rattle.cloud_facts.specs.Book.Records.{IsIn}
 use Rattle.cloud_facts.proofs.Book.Places.{get_single, in_none}
+use Rattle.session_facts.proofs.Settled.Locks.{HoldsNext}
 use Rattle.tree_ckpt.proofs.Leaving.{LeavesLeaf}
 use Rattle.tree_descent.specs.declared.descent.Descent.{Descent}
 use Rattle.tree_moves.specs.declared.work.Coming.{Coming}
@@ -43,68 +43,78 @@ claims_next (Stops w t) = []
 abbrev pub Within : List Claim → Step → Type 0
 Within ls step = (x : Claim) → IsIn (claims_next step) x → IsIn ls x
 
+-- a step goes on with these leases
+abbrev pub On : List Claim → Step → Type 0
+On held step = HoldsNext claims_in held step
+
+-- so it has no others
+pub within : (held : List Claim) (step : Step) → On held step → Within held step
+within held (Goes w) same x is = subst (λ (l : List Claim). IsIn l x) same is
+within held (Ends w a) none x is = absurd (in_none [] x refl is)
+within held (Stops w t) any x is = absurd (in_none [] x refl is)
+
 -- ---- the tree's lease alone
 
-deleting_within : (h : Held) (applied : ℕ) → Within (h.lease ∷ []) (deleting h applied)
-deleting_within h applied = on (next_id h.deletions.ids)
+deleting_on : (h : Held) (applied : ℕ) → On (h.lease ∷ []) (deleting h applied)
+deleting_on h applied = on (next_id h.deletions.ids)
   where
-    on : (id : Option ℕ) → Within (h.lease ∷ []) (deleting_by h applied id)
-    on (Some id) = λ x is. is
-    on None = λ x is. is
+    on : (id : Option ℕ) → On (h.lease ∷ []) (deleting_by h applied id)
+    on (Some id) = refl
+    on None = refl
 
-pub deleted_within : (h : Held) (applied : ℕ) (done : Result (Unit {0}) Trouble) → Within (h.lease ∷ []) (deleted_by h applied done)
-deleted_within h applied done = deleting_within (record h { deletions = tried h.deletions (went done) }) applied
+pub deleted_goes : (h : Held) (applied : ℕ) (done : Result (Unit {0}) Trouble) → On (h.lease ∷ []) (deleted_by h applied done)
+deleted_goes h applied done = deleting_on (record h { deletions = tried h.deletions (went done) }) applied
 
-pub rising_within : (h : Held) (next : Next Rising (Unit {0})) → Within (h.lease ∷ []) (rising_on h next)
-rising_within h (Goes r) = λ x is. is
-rising_within h (Ends r x) = deleting_within h r.chart.applied
-rising_within h (Stops r t) = λ x is. is
+pub rising_goes : (h : Held) (next : Next Rising (Unit {0})) → On (h.lease ∷ []) (rising_on h next)
+rising_goes h (Goes r) = refl
+rising_goes h (Ends r x) = deleting_on h r.chart.applied
+rising_goes h (Stops r t) = refl
 
-pub descending_within : (h : Held) (next : Next Descent (Unit {0})) → Within (h.lease ∷ []) (descending_on h next)
-descending_within h (Goes d) = λ x is. is
-descending_within h (Ends d x) = λ x is. is
-descending_within h (Stops d t) = λ x is. is
+pub descending_goes : (h : Held) (next : Next Descent (Unit {0})) → On (h.lease ∷ []) (descending_on h next)
+descending_goes h (Goes d) = refl
+descending_goes h (Ends d x) = refl
+descending_goes h (Stops d t) = refl
 
-going_within : (h : Held) (c : Chart) → Within (h.lease ∷ []) (going h c)
-going_within h c = on (next_key c)
+going_on : (h : Held) (c : Chart) → On (h.lease ∷ []) (going h c)
+going_on h c = on (next_key c)
   where
-    on : (key : Option (List ℕ)) → Within (h.lease ∷ []) (going_by h c key)
-    on (Some key) = descending_within h (down_from (record c { key = key }) (root_entry (record c { key = key })))
-    on None = rising_within h (up.rise (up.begun c))
+    on : (key : Option (List ℕ)) → On (h.lease ∷ []) (going_by h c key)
+    on (Some key) = descending_goes h (down_from (record c { key = key }) (root_entry (record c { key = key })))
+    on None = rising_goes h (up.rise (up.begun c))
 
-pub left_within : (h : Held) (o : Onward) → Within (h.lease ∷ []) (page_left h o)
-left_within h (onward.Right c) = λ x is. is
-left_within h (onward.Handled c) = going_within h c
+pub left_on : (h : Held) (o : Onward) → On (h.lease ∷ []) (page_left h o)
+left_on h (onward.Right c) = refl
+left_on h (onward.Handled c) = going_on h c
 
 -- ---- opening
 
-read_within : (tree : ℕ) (l : Claim) (bytes : List ℕ) (t : Option Tree) → Within (l ∷ []) (tree_read tree l bytes t)
-read_within tree l bytes (Some t) = λ x is. is
-read_within tree l bytes None = λ x is. is
+read_on : (tree : ℕ) (l : Claim) (bytes : List ℕ) (t : Option Tree) → On (l ∷ []) (tree_read tree l bytes t)
+read_on tree l bytes (Some t) = refl
+read_on tree l bytes None = refl
 
-pub got_within : (tree : ℕ) (l : Claim) (g : Result (Option (List ℕ)) Trouble) → Within (l ∷ []) (tree_got tree l g)
-got_within tree l (Ok (Some bytes)) = read_within tree l bytes (tree_of bytes)
-got_within tree l (Ok None) = λ x is. is
-got_within tree l (Err t) = λ x is. is
+pub got_on : (tree : ℕ) (l : Claim) (g : Result (Option (List ℕ)) Trouble) → On (l ∷ []) (tree_got tree l g)
+got_on tree l (Ok (Some bytes)) = read_on tree l bytes (tree_of bytes)
+got_on tree l (Ok None) = refl
+got_on tree l (Err t) = refl
 
-started_within : (h : Held) (c : Chart) (b : Bool) → Within (h.lease ∷ []) (started h c b)
-started_within h c true = going_within h c
-started_within h c false = deleting_within h 0
+started_on : (h : Held) (c : Chart) (b : Bool) → On (h.lease ∷ []) (started h c b)
+started_on h c true = going_on h c
+started_on h c false = deleting_on h 0
 
-intake_within : (tree : ℕ) (l : Claim) (root : Option (List ℕ)) (taken : Result Intake Trouble) → Within (l ∷ []) (intake_taken tree l root taken)
-intake_within tree l root (Ok i) = started_within (record { lease = l; deletions = i.deletions }) (chart_of tree root i.run) (has_items i.run.items)
-intake_within tree l root (Err t) = λ x is. is
+intake_on : (tree : ℕ) (l : Claim) (root : Option (List ℕ)) (taken : Result Intake Trouble) → On (l ∷ []) (intake_taken tree l root taken)
+intake_on tree l root (Ok i) = started_on (record { lease = l; deletions = i.deletions }) (chart_of tree root i.run) (has_items i.run.items)
+intake_on tree l root (Err t) = refl
 
-pub received_within : (tree : ℕ) (l : Claim) (root : Option (List ℕ)) (g : Result (List Message) Trouble) (next : Step) → ReceivedBy tree l root g next → Within (l ∷ []) next
-received_within tree l root (Ok ms) next p = subst (Within (l ∷ [])) (sym p.2) (intake_within tree l root p.0)
-received_within tree l root (Err t) next p = subst (Within (l ∷ [])) (sym p) (λ x is. is)
+pub received_on : (tree : ℕ) (l : Claim) (root : Option (List ℕ)) (g : Result (List Message) Trouble) (next : Step) → ReceivedBy tree l root g next → On (l ∷ []) next
+received_on tree l root (Ok ms) next p = subst (On (l ∷ [])) (sym p.2) (intake_on tree l root p.0)
+received_on tree l root (Err t) next p = subst (On (l ∷ [])) (sym p) refl
 
 -- ---- a leaf
 
-pub folding_within : (h : Held) (f : Folding) (next : Next Folding Left) → LeavesLeaf f next → Within (f.lease ∷ h.lease ∷ []) (folding_on h next)
-folding_within h f (Goes g) same = λ x is. subst (λ (l : Claim). IsIn (l ∷ h.lease ∷ []) x) same.lease is
-folding_within h f (Ends g out) same = λ x is. subst (λ (l : Claim). IsIn (l ∷ h.lease ∷ []) x) same.lease is
-folding_within h f (Stops g t) same = λ x is. subst (λ (l : Claim). IsIn (l ∷ h.lease ∷ []) x) same.lease is
+pub folding_goes : (h : Held) (f : Folding) (next : Next Folding Left) → LeavesLeaf f next → On (f.lease ∷ h.lease ∷ []) (folding_on h next)
+folding_goes h f (Goes g) same = ap (λ (l : Claim). l ∷ h.lease ∷ []) same.lease
+folding_goes h f (Ends g out) same = ap (λ (l : Claim). l ∷ h.lease ∷ []) same.lease
+folding_goes h f (Stops g t) same = ap (λ (l : Claim). l ∷ h.lease ∷ []) same.lease
 
 -- ---- leases that were given
 

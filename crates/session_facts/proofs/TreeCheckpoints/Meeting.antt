@@ -1,5 +1,5 @@
 -- The troubles that the local work of a checkpoint meets: that of the answer in hand, or one of what was read or planned, which no call shows.
-use Rattle.std.proofs.Common.{◌≡◌, ◌≤◌, ◌+◌, ◌-◌, ◌==◌, ◌&&◌, ◌||◌, ℕ, zero, suc, Bool, true, false, cond, List, [], ◌∷◌, length, Option, Some, None, Result, Ok, Err, refl, sym, subst, arith}
+use Rattle.std.proofs.Common.{◌≡◌, ◌≤◌, ◌+◌, ◌==◌, ◌&&◌, ◌||◌, ℕ, zero, suc, Bool, true, false, cond, List, [], ◌∷◌, length, Option, Some, None, Result, Ok, Err, refl, sym, subst, arith}
 use Rattle.std.specs.Prelude.{not, is_some}
 use Rattle.byte_format.specs.Order.{bytes_below, bytes_same}
 use Rattle.byte_format.specs.Whole.{whole, offset}
@@ -350,12 +350,14 @@ module _ (Met : Trouble → Type 0) (free : (t : Trouble) → IsFree t → Met t
   items_meet : (tree : ℕ) (l : Claim) (root : Option (List ℕ)) (read : Result (List PuItem) Message) (taken : Result Intake Trouble)
       → TakesItems (queue.TreePu tree) (tree_held root).cursor read taken → Meets Met 0 (intake_taken tree l root taken)
   items_meet tree l root (Err m) taken is =
-      subst (λ (g : Result Intake Trouble). Meets Met 0 (intake_taken tree l root g)) (sym is) (stopping_meets 0 (one_lease l) (message_damage (queue.TreePu tree) m) (free (message_damage (queue.TreePu tree) m) tt))
+      subst (λ (g : Result Intake Trouble). Meets Met 0 (intake_taken tree l root g)) (sym is)
+      (stopping_meets 0 (one_lease l) (message_damage (queue.TreePu tree) m) (free (message_damage (queue.TreePu tree) m) tt))
   items_meet tree l root (Ok items) taken (run, is_run, is) =
       subst (λ (g : Result Intake Trouble). Meets Met 0 (intake_taken tree l root g)) (sym is)
       (started_meets (record { lease = l; deletions = (intake_of items run).deletions }) (chart_of tree root run) (has_items run.items))
 
-  pub received_meets : (tree : ℕ) (l : Claim) (root : Option (List ℕ)) (g : Result (List Message) Trouble) (next : Step) → ((t : Trouble) → g ≡ Err t → Met t) → ReceivedBy tree l root g next
+  pub received_meets : (tree : ℕ) (l : Claim) (root : Option (List ℕ)) (g : Result (List Message) Trouble) (next : Step) → ((t : Trouble) → g ≡ Err t → Met t)
+      → ReceivedBy tree l root g next
       → Meets Met 0 next
   received_meets tree l root (Ok ms) next refused (taken, takes, is) =
       subst (Meets Met 0) (sym is) (items_meet tree l root (items_of ms) taken takes)

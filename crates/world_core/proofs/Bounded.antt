@@ -76,10 +76,10 @@ module _ (lines : List Line) (who : Caller) (number : who.event ≡ length lines
     step_soon : IsSoonDone tree (calls + 1) p.session.before.work last
     step_soon = record {
       home = home;
-      making = so_far.making;
-      works = ap (λ (a : Acting). a.work) (sym (changed_was who.session _ old.sessions new.sessions p.session)) ∙ so_far.works;
-      tree_is = so_far.tree_is;
-      few = subst (λ (s : CloudState). IsFew (calls + 1) so_far.making.received s tree) last_is
+      making = under.making;
+      works = ap (λ (a : Acting). a.work) (sym (changed_was who.session _ old.sessions new.sessions p.session)) ∙ under.works;
+      tree_is = under.tree_is;
+      few = subst (λ (s : CloudState). IsFew (calls + 1) under.making.received s tree) last_is
           (making_few who p.under p.to wished left.state held.book held.order (session_at old.sessions) (told_under lines who Plain before after old new turn number way p) left.told
           held.stand tree calls first home under p.session.after turn (steps_own lines who Plain before after old new turn number way p));
     }

@@ -63,12 +63,14 @@ RunsSoon n number before after old new result (inl refused) = Unit {0}
 RunsSoon n number before after old new result (inr (inl run)) = ComesSoon (record { session = number; event = n }) before after old new run.answer run.comes
 RunsSoon n number before after old new result (inr (inr memory)) = Unit {0}
 
+-- what is asked of a session is done so where it is a run
 abbrev pub ServesSoon : (n number : ℕ) (request : Result Request Refused) (before after : Seen) (old new : World) (result : Result Reply WorldFault)
     → Serves n number request before after old new result → Type 0
 ServesSoon n number (Ok Run) before after old new result runs = RunsSoon n number before after old new result runs
 ServesSoon n number (Ok request) before after old new result does = Unit {0}
 ServesSoon n number (Err why) before after old new result declines = Unit {0}
 
+-- whichever session is asked
 abbrev pub AnswersSoon : (n : ℕ) (asked : Asked) (before after : Seen) (old new : World) (result : Result Reply WorldFault) → Answers n asked before after old new result → Type 0
 AnswersSoon n (Session number request) before after old new result (inl served) = ServesSoon n number request before after old new result served.1
 AnswersSoon n (Session number request) before after old new result (inr none) = Unit {0}

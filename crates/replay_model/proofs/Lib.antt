@@ -25,5 +25,6 @@ pub mod SettlerLemmas
 pub mod StartLemmas
 pub mod UptoRight
 pub mod LeftLemmas
+pub mod SettledLemmas
 pub mod ReportLemmas
 pub mod Answering

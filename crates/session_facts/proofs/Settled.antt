@@ -30,3 +30,10 @@ pub mod TreeLeases
 pub mod PageLeases
 pub mod ClientLeases
 pub mod Free
+pub mod Trails
+pub mod PageRights
+pub mod PageCalls
+pub mod PageStories
+pub mod PageDrains
+pub mod PageVisits
+pub mod PageRuns

@@ -13,6 +13,7 @@ pub mod Sound
 pub mod Explained
 pub mod Bounded
 pub mod Calm
+pub mod Settled
 pub mod AddedSteps
 pub mod AddedLines
 pub mod OpenedLines

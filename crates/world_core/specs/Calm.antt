@@ -12,12 +12,12 @@ use Rattle.reply_text.specs.declared.reply.Reply.TheVariants as reply
 use Rattle.session_facts.specs.Sessions.Untroubled.{StepsCalmly, IsUntroubled, IsSpent, IsSpentOrOf, CommitsWell}
 use Rattle.world_core.specs.declared.world.World.{World}
 use Rattle.world_core.specs.declared.world.WorldFault.{WorldFault}
-use Rattle.world_core.specs.EachStep.{Claim, EachStep}
+use Rattle.world_core.specs.EachStep.{StepFact, EachStep}
 use Rattle.world_core.specs.Handled.{Handled}
 use Rattle.world_core.specs.Stands.{WorldStands}
 
 -- a step of a session was calm
-abbrev pub StepIsCalm : Claim
+abbrev pub StepIsCalm : StepFact
 StepIsCalm who wish before after old new turn p = StepsCalmly who p.under p.to p.session.before p.session.after turn p.session.does
 
 -- what a session of a world has in hand

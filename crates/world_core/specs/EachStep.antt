@@ -20,49 +20,49 @@ use Rattle.world_core.specs.declared.world.WorldFault.{WorldFault}
 use Rattle.world_core.specs.Handled.{StepsLooked, MakesStep, Went, start, further, ComesTo, Runs, SettlesOn, Settles, Crashes, Does, Serves, Answers, Handled}
 
 -- what may be said of a step
-abbrev pub Claim : Type 1
-Claim = (who : Caller) (wish : Wish) (before after : Seen) (old new : World) (turn : Turn Answer) → StepsLooked who wish before after old new turn → Type 0
+abbrev pub StepFact : Type 1
+StepFact = (who : Caller) (wish : Wish) (before after : Seen) (old new : World) (turn : Turn Answer) → StepsLooked who wish before after old new turn → Type 0
 
 -- it holds of each step by which a world went on
-abbrev pub EachWent : Claim → (who : Caller) (before : Seen) (old : World) (after : Seen) (new : World) → Went who before old after new → Type 0
+abbrev pub EachWent : StepFact → (who : Caller) (before : Seen) (old : World) (after : Seen) (new : World) → Went who before old after new → Type 0
 EachWent Holds who before old after new start = Unit {0}
 EachWent Holds who before old after new (further mid _ world _ went step) = EachWent Holds who before old mid world went × Holds who Plain mid after world new More step
 
 -- of each up to an answer
-abbrev pub EachCome : Claim → (who : Caller) (before after : Seen) (old new : World) (answer : Answer) → ComesTo who before after old new answer → Type 0
+abbrev pub EachCome : StepFact → (who : Caller) (before after : Seen) (old new : World) (answer : Answer) → ComesTo who before after old new answer → Type 0
 EachCome Holds who before after old new answer comes =
     EachWent Holds who before old comes.mid comes.world comes.went × Holds who Plain comes.mid after comes.world new (Ended answer) comes.steps
 
 -- of the one step that was made, where one was
-abbrev pub EachMade : Claim → (n number : ℕ) (wish : Wish) (before after : Seen) (old new : World) (result : Result Reply WorldFault) → MakesStep n number wish before after old new result → Type 0
+abbrev pub EachMade : StepFact → (n number : ℕ) (wish : Wish) (before after : Seen) (old new : World) (result : Result Reply WorldFault) → MakesStep n number wish before after old new result → Type 0
 EachMade Holds n number wish before after old new result (inl refused) = Unit {0}
 EachMade Holds n number wish before after old new result (inr (inl made)) = Holds (record { session = number; event = n }) wish before after old new made.turn made.steps
 EachMade Holds n number wish before after old new result (inr (inr memory)) = Unit {0}
 
 -- of each step of a run
-abbrev pub EachRun : Claim → (n number : ℕ) (before after : Seen) (old new : World) (result : Result Reply WorldFault) → Runs n number before after old new result → Type 0
+abbrev pub EachRun : StepFact → (n number : ℕ) (before after : Seen) (old new : World) (result : Result Reply WorldFault) → Runs n number before after old new result → Type 0
 EachRun Holds n number before after old new result (inl refused) = Unit {0}
 EachRun Holds n number before after old new result (inr (inl run)) = EachCome Holds (record { session = number; event = n }) before after old new run.answer run.comes
 EachRun Holds n number before after old new result (inr (inr memory)) = Unit {0}
 
 -- of the call in hand that a dying session still made
-abbrev pub EachCrashed : Claim → (n number : ℕ) (done : Bool) (before after : Seen) (old new : World) (result : Result Reply WorldFault) → Crashes n number done before after old new result → Type 0
+abbrev pub EachCrashed : StepFact → (n number : ℕ) (done : Bool) (before after : Seen) (old new : World) (result : Result Reply WorldFault) → Crashes n number done before after old new result → Type 0
 EachCrashed Holds n number false before after old new result dies = Unit {0}
 EachCrashed Holds n number true before after old new result (inl idle) = Unit {0}
 EachCrashed Holds n number true before after old new result (inr (inl dies)) = Holds (record { session = number; event = n }) Plain before after old dies.world dies.turn dies.steps
 EachCrashed Holds n number true before after old new result (inr (inr memory)) = Unit {0}
 
 -- of each step of a settling
-abbrev pub EachSettlingOn : Claim → (who : Caller) (before after : Seen) (old new : World) (result : Result Reply WorldFault) → SettlesOn who before after old new result → Type 0
+abbrev pub EachSettlingOn : StepFact → (who : Caller) (before after : Seen) (old new : World) (result : Result Reply WorldFault) → SettlesOn who before after old new result → Type 0
 EachSettlingOn Holds who before after old new result (inl settles) = EachCome Holds who before after old settles.left settles.answer settles.comes
 EachSettlingOn Holds who before after old new result (inr memory) = Unit {0}
 
-abbrev pub EachSettling : Claim → (n : ℕ) (before after : Seen) (old new : World) (result : Result Reply WorldFault) → Settles n before after old new result → Type 0
+abbrev pub EachSettling : StepFact → (n : ℕ) (before after : Seen) (old new : World) (result : Result Reply WorldFault) → Settles n before after old new result → Type 0
 EachSettling Holds n before after old new result (inl settles) = EachSettlingOn Holds (record { session = 0; event = n }) before after settles.begun new result settles.settles
 EachSettling Holds n before after old new result (inr memory) = Unit {0}
 
 -- of each step that a request made
-abbrev pub EachDone : Claim → (n number : ℕ) (request : Request) (before after : Seen) (old new : World) (result : Result Reply WorldFault) → Does n number request before after old new result → Type 0
+abbrev pub EachDone : StepFact → (n number : ℕ) (request : Request) (before after : Seen) (old new : World) (result : Result Reply WorldFault) → Does n number request before after old new result → Type 0
 EachDone Holds n number (Step wish) before after old new result does = EachMade Holds n number wish before after old new result does
 EachDone Holds n number Run before after old new result does = EachRun Holds n number before after old new result does
 EachDone Holds n number (Crash done) before after old new result does = EachCrashed Holds n number done before after old new result does
@@ -70,12 +70,12 @@ EachDone Holds n number (Begin op) before after old new result does = Unit {0}
 EachDone Holds n number (Note tree change) before after old new result does = Unit {0}
 EachDone Holds n number Abort before after old new result does = Unit {0}
 
-abbrev pub EachServed : Claim → (n number : ℕ) (request : Result Request Refused) (before after : Seen) (old new : World) (result : Result Reply WorldFault) → Serves n number request before after old new result
+abbrev pub EachServed : StepFact → (n number : ℕ) (request : Result Request Refused) (before after : Seen) (old new : World) (result : Result Reply WorldFault) → Serves n number request before after old new result
     → Type 0
 EachServed Holds n number (Ok request) before after old new result does = EachDone Holds n number request before after old new result does
 EachServed Holds n number (Err why) before after old new result declines = Unit {0}
 
-abbrev pub EachAsked : Claim → (n : ℕ) (asked : Asked) (before after : Seen) (old new : World) (result : Result Reply WorldFault) → Answers n asked before after old new result → Type 0
+abbrev pub EachAsked : StepFact → (n : ℕ) (asked : Asked) (before after : Seen) (old new : World) (result : Result Reply WorldFault) → Answers n asked before after old new result → Type 0
 EachAsked Holds n (Session number request) before after old new result (inl served) = EachServed Holds n number request before after old new result served.1
 EachAsked Holds n (Session number request) before after old new result (inr none) = Unit {0}
 EachAsked Holds n Settle before after old new result settles = EachSettling Holds n before after old new result settles
@@ -83,5 +83,5 @@ EachAsked Holds n (Wait ticks) before after old new result waits = Unit {0}
 EachAsked Holds n (Report tree) before after old new result reports = Unit {0}
 
 -- it holds of each step that a line made, as it was handled
-abbrev pub EachStep : Claim → (n : ℕ) (event : Event) (before after : Seen) (old new : World) (result : Result Reply WorldFault) → Handled n event before after old new result → Type 0
+abbrev pub EachStep : StepFact → (n : ℕ) (event : Event) (before after : Seen) (old new : World) (result : Result Reply WorldFault) → Handled n event before after old new result → Type 0
 EachStep Holds n event before after old new result handled = EachAsked Holds n handled.asked before after old new result handled.answers

@@ -8,12 +8,12 @@ use Rattle.reply_text.specs.declared.reply.Reply.{Reply}
 use Rattle.session_facts.specs.Sessions.Calls.{IsExplained}
 use Rattle.world_core.specs.declared.world.World.{World}
 use Rattle.world_core.specs.declared.world.WorldFault.{WorldFault}
-use Rattle.world_core.specs.EachStep.{Claim, EachStep}
+use Rattle.world_core.specs.EachStep.{StepFact, EachStep}
 use Rattle.world_core.specs.Handled.{Handled}
 use Rattle.world_core.specs.Stands.{WorldStands}
 
 -- a step explains what it brought by its call, between the states that the cloud told before and behind that call
-abbrev pub StepExplains : Claim
+abbrev pub StepExplains : StepFact
 StepExplains who wish before after old new turn p =
     (s t : CloudState) → p.under.state ≡ Some s → p.to.state ≡ Some t → IsExplained who p.under p.to p.session.before p.session.after turn s t p.session.does
 

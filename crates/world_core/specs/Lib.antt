@@ -9,5 +9,6 @@ pub mod EachStep
 pub mod Explained
 pub mod Bounded
 pub mod Calm
+pub mod Settled
 pub mod Added
 pub mod Opened

@@ -22,6 +22,7 @@ use Rattle.session_facts.specs.PageCheckpoints.Checkpoint.{TroubleWaits, KnowsPa
 use Rattle.session_facts.specs.Sessions.Explaining.{IsShown, MeetsNext}
 use Rattle.session_facts.proofs.Sessions.Showing.{given_shown, got_shown, received_shown, put_shown, delete_fails}
 use Rattle.cloud_trait.specs.Machine.{Goes, Ends, Stops}
+use Rattle.cloud_trait.specs.declared.turn.CkptAnswer.{CkptAnswer}
 use Rattle.cloud_trait.specs.Views.{given_of, got_of, received_of, done_of}
 use Rattle.db_base.specs.declared.names.Lock.TheVariants as lock
 use Rattle.db_base.specs.declared.names.Place.{Place}
@@ -53,15 +54,16 @@ pub record Lets (Sh : Trouble → Type 0) : Type 0 where
   pub loop : (page : ℕ) → Sh (trouble.Loop page)
   pub spent : (what : Counter) → Sh (trouble.Exhausted what)
 
-module _ (Sh : Trouble → Type 0) (lets : Lets Sh) (most : ℕ) where
-  -- each trouble that a step keeps or stops with is so, and at most so many deletions failed
-  abbrev pub Brings : Step → Type 0
-  Brings (Goes n) = ((k : Trouble) → n.trouble ≡ Some k → Sh k) × (n.deletions.left ≤ most)
-  Brings (Ends n a) = a.left ≤ most
-  Brings (Stops n k) = Sh k
-
+module _ (Sh : Trouble → Type 0) (lets : Lets Sh) (most tree page : ℕ) where
+  -- each trouble that is kept is so, at most so many deletions failed, and the tree and the page are these
   abbrev pub Keeps : Paging → Type 0
-  Keeps p = ((k : Trouble) → p.trouble ≡ Some k → Sh k) × (p.deletions.left ≤ most)
+  Keeps p = ((k : Trouble) → p.trouble ≡ Some k → Sh k) × (p.deletions.left ≤ most) × (p.tree ≡ tree) × (p.page ≡ page)
+
+  -- wherever a step leads
+  abbrev pub Brings : Step → Type 0
+  Brings (Goes n) = Keeps n
+  Brings (Ends n a) = (a.left ≤ most) × (n.tree ≡ tree) × (n.page ≡ page)
+  Brings (Stops n k) = Sh k
 
   -- a view of the answer brings such a trouble alone
   abbrev pub Refused : {X : Type 0} → Result X Trouble → Type 0
@@ -79,8 +81,8 @@ module _ (Sh : Trouble → Type 0) (lets : Lets Sh) (most : ℕ) where
   never_ok : {X : Type 0} {Y : Type 0} (a : Trouble) (x : X) → ◌≡◌ {A = Result X Trouble} (Err a) (Ok x) → Y
   never_ok a x e = absurd (cc)
 
-  stops : (p : Paging) (k : Trouble) → p.deletions.left ≤ most → Sh k → Brings (stopping p k)
-  stops p k few sh = (λ j e. subst Sh (some_trouble k j e) sh, few)
+  stops : (p : Paging) (k : Trouble) → Keeps p → Sh k → Brings (stopping p k)
+  stops p k keeps sh = (λ j e. subst Sh (some_trouble k j e) sh, keeps.1, keeps.2, keeps.3)
 
   -- ---- what is read
 
@@ -119,11 +121,11 @@ module _ (Sh : Trouble → Type 0) (lets : Lets Sh) (most : ℕ) where
   -- ---- on to the next page
 
   put_brings : (p : Paging) (stage : Stage) (l : Leaf) (next : Step) → Keeps p → LeafPut p stage l next → Brings next
-  put_brings p stage l next keeps (inl h) = by_built next _ h.1 (stops p (trouble.Exhausted counter.Version) keeps.1 (lets.spent counter.Version))
+  put_brings p stage l next keeps (inl h) = by_built next _ h.1 (stops p (trouble.Exhausted counter.Version) keeps (lets.spent counter.Version))
   put_brings p stage l next keeps (inr h) = by_built next _ h.1.2 keeps
 
   right_brings : (p : Paging) (l : Link) (b : Bool) → Keeps p → Brings (to_right p l b)
-  right_brings p l true keeps = stops p (trouble.Loop l.page) keeps.1 (lets.loop l.page)
+  right_brings p l true keeps = stops p (trouble.Loop l.page) keeps (lets.loop l.page)
   right_brings p l false keeps = keeps
 
   on_brings : (p : Paging) (o : Option Link) (next : Step) → Keeps p → GoesOn p o next → Brings next
@@ -141,16 +143,16 @@ module _ (Sh : Trouble → Type 0) (lets : Lets Sh) (most : ℕ) where
   intake_brings : (p : Paging) (q : QueueName) (cursor : List (ℕ × ℕ)) (read : Result (List PuItem) Message) (taken : Result Intake Trouble) (next : Step) → Keeps p
       → TakesItems q cursor read taken → IntakeTaken p taken next → Brings next
   intake_brings p q cursor (Ok items) (Ok i) next keeps (run, is_run, is) goes =
-      run_brings (with_intake p i) (has_items i.run.items) next (keeps.0, subst (λ (j : Intake). j.deletions.left ≤ most) (sym (ok_is i (intake_of items run) is)) (omega arith)) goes
+      run_brings (with_intake p i) (has_items i.run.items) next (keeps.0, subst (λ (j : Intake). j.deletions.left ≤ most) (sym (ok_is i (intake_of items run) is)) (omega arith), keeps.2, keeps.3) goes
   intake_brings p q cursor (Ok items) (Err k) next keeps (run, is_run, is) goes = never_ok k _ is
   intake_brings p q cursor (Err m) (Ok i) next keeps is goes = absurd (cc (is))
   intake_brings p q cursor (Err m) (Err k) next keeps is goes =
-      by_built next _ goes (stops p k keeps.1 (subst Sh (sym (err_is k _ is)) (lets.damaged _ _)))
+      by_built next _ goes (stops p k keeps (subst Sh (sym (err_is k _ is)) (lets.damaged _ _)))
 
   received_brings : (p : Paging) (g : Result (List Message) Trouble) (next : Step) → Keeps p → Refused g → ReceivedBy p g next → Brings next
   received_brings p (Ok ms) next keeps refused (cursor, own, (taken, takes, goes)) =
       intake_brings (record p { received = ids_of ms }) (own_queue p) cursor (items_of ms) taken next keeps takes goes
-  received_brings p (Err k) next keeps refused is = by_built next _ is (stops p k keeps.1 (refused k refl))
+  received_brings p (Err k) next keeps refused is = by_built next _ is (stops p k keeps (refused k refl))
 
   lacks_brings : (p : Paging) (l : Leaf) (b : Bool) (next : Step) → Keeps p → RightLacks p l b next → Brings next
   lacks_brings p l true next keeps put = put_brings p PuttingRight l next keeps put
@@ -159,7 +161,7 @@ module _ (Sh : Trouble → Type 0) (lets : Lets Sh) (most : ℕ) where
   read_brings : (p : Paging) (found : Result Leaf Trouble) (next : Step) → Keeps p → Refused found → RightRead p found next → Brings next
   read_brings p (Ok l) next keeps refused read =
       lacks_brings (record p { onward = link_of l p.run.items }) l (has_items (lacked l p.page p.run.items)) next keeps read
-  read_brings p (Err k) next keeps refused is = by_built next _ is (stops p k keeps.1 (refused k refl))
+  read_brings p (Err k) next keeps refused is = by_built next _ is (stops p k keeps (refused k refl))
 
   -- ---- by the answer
 
@@ -169,33 +171,33 @@ module _ (Sh : Trouble → Type 0) (lets : Lets Sh) (most : ℕ) where
 
   home_read_brings : (p : Paging) (found : Result Leaf Trouble) → Keeps p → Refused found → Brings (home_read p found)
   home_read_brings p (Ok l) keeps refused = keeps
-  home_read_brings p (Err k) keeps refused = stops p k keeps.1 (refused k refl)
+  home_read_brings p (Err k) keeps refused = stops p k keeps (refused k refl)
 
   home_got_brings : (p : Paging) (g : Result (Option (List ℕ)) Trouble) (next : Step) → Keeps p → Refused g → HomeGot p g next → Brings next
   home_got_brings p (Ok got) next keeps refused (found, named, is) =
       by_built next _ is (home_read_brings p found keeps (λ k e. named_lets p.tree p.page got k (subst (HoldsNamed p.tree p.page got) e named)))
-  home_got_brings p (Err k) next keeps refused is = by_built next _ is (stops p k keeps.1 (refused k refl))
+  home_got_brings p (Err k) next keeps refused is = by_built next _ is (stops p k keeps (refused k refl))
 
   right_taken_brings : (p : Paging) (g : Result Claim Trouble) → Keeps p → Refused g → Brings (right_taken_by p g)
   right_taken_brings p (Ok l) keeps refused = keeps
-  right_taken_brings p (Err k) keeps refused = stops p k keeps.1 (refused k refl)
+  right_taken_brings p (Err k) keeps refused = stops p k keeps (refused k refl)
 
   right_got_brings : (p : Paging) (g : Result (Option (List ℕ)) Trouble) (next : Step) → Keeps p → Refused g → RightGot p g next → Brings next
   right_got_brings p (Ok got) next keeps refused (found, linked, read) =
       read_brings p found next keeps (λ k e. linked_lets p.tree p.at.page p.at.low got k (subst (HoldsLinked p.tree p.at.page p.at.low got) e linked)) read
-  right_got_brings p (Err k) next keeps refused is = by_built next _ is (stops p k keeps.1 (refused k refl))
+  right_got_brings p (Err k) next keeps refused is = by_built next _ is (stops p k keeps (refused k refl))
 
   right_put_brings : (p : Paging) (g : Result (Unit {0}) Trouble) → Keeps p → Refused g → Brings (right_put_by p g)
   right_put_brings p (Ok x) keeps refused = keeps
-  right_put_brings p (Err k) keeps refused = stops (without_applying p) k keeps.1 (refused k refl)
+  right_put_brings p (Err k) keeps refused = stops (without_applying p) k keeps (refused k refl)
 
   home_put_brings : (p : Paging) (g : Result (Unit {0}) Trouble) → Keeps p → Refused g → Brings (home_put_by p g)
   home_put_brings p (Ok x) keeps refused = deleting_brings (with_applied p) (next_id p.deletions.ids) keeps
-  home_put_brings p (Err k) keeps refused = stops (without_applying p) k keeps.1 (refused k refl)
+  home_put_brings p (Err k) keeps refused = stops (without_applying p) k keeps (refused k refl)
 
   finished_brings : (p : Paging) (o : Option Trouble) → p.trouble ≡ o → Keeps p → Brings (finished_by p o)
   finished_brings p (Some k) is keeps = keeps.0 k is
-  finished_brings p None is keeps = keeps.1
+  finished_brings p None is keeps = (keeps.1, keeps.2, keeps.3)
 
   released_brings : (p : Paging) (o : Option Claim) → Keeps p → Brings (released_by p o)
   released_brings p (Some l) keeps = keeps
@@ -226,7 +228,7 @@ module _ (Sh : Trouble → Type 0) (lets : Lets Sh) (most : ℕ) where
   brings PuttingHome p a next keeps refused is = by_built next _ is (home_put_brings p (done_of a) keeps refused)
   brings DeletingNext p a next keeps few is =
       by_built next _ is
-      (deleting_brings (record p { deletions = tried p.deletions (went (done_of a)) }) (next_id (tried p.deletions (went (done_of a))).ids) (keeps.0, few))
+      (deleting_brings (record p { deletions = tried p.deletions (went (done_of a)) }) (next_id (tried p.deletions (went (done_of a))).ids) (keeps.0, few, keeps.2, keeps.3))
   brings Releasing p a next keeps refused is = by_built next _ is (released_brings p (newest_lease p.held) keeps)
   brings Finished p a next keeps failed is = by_built next _ is failed
 
@@ -312,7 +314,7 @@ module _ (who : Caller) (before after : Seen) (s t : CloudState) (told : before.
   by_ask view ask is shown k e =
       subst (λ (q : Ask). IsShown q held before.counts after.counts s t k) (sym is) (shown (subst (λ (q : Ask). Makes who q reply before after) is made) k e)
 
-  answered : (stage : Stage) → p.stage ≡ stage → KnowsPagingAt stage st now p → Answered Sh lets (p.deletions.left + 1) stage p.tree p.page p.at.page p.deletions reply
+  answered : (stage : Stage) → p.stage ≡ stage → KnowsPagingAt stage st now p → Answered Sh lets (p.deletions.left + 1) p.tree p.page stage p.tree p.page p.at.page p.deletions reply
   answered TakingHome e a =
       by_ask (given_of (lock.Page p.tree p.page) reply) (take_home p) (asks TakingHome e) (given_shown who before after s t told told_after held (lock.Page p.tree p.page) 30 reply)
   answered GettingHome e a =
@@ -341,12 +343,12 @@ module _ (who : Caller) (before after : Seen) (s t : CloudState) (told : before.
 
   -- a trouble that it keeps or stops with is shown by the call, where none was kept before
   pub paging_shown : p.trouble ≡ None → (next : Step) → PagingLeads p reply next → (k : Trouble) → MeetsNext (λ (m : Paging). m.trouble) next k → Sh k
-  paging_shown none next leads k meets = on next (step_brings Sh lets (p.deletions.left + 1) p reply next (before_it, omega arith) (answered p.stage refl knows.at) leads) meets
+  paging_shown none next leads k meets = on next (step_brings Sh lets (p.deletions.left + 1) p.tree p.page p reply next (before_it, omega arith, refl, refl) (answered p.stage refl knows.at) leads) meets
     where
       before_it : (j : Trouble) → p.trouble ≡ Some j → Sh j
       before_it j e = absurd (cc (none, e))
 
-      on : (n : Step) → Brings Sh lets (p.deletions.left + 1) n → MeetsNext (λ (m : Paging). m.trouble) n k → Sh k
+      on : (n : Step) → Brings Sh lets (p.deletions.left + 1) p.tree p.page n → MeetsNext (λ (m : Paging). m.trouble) n k → Sh k
       on (Goes n) b is = b.0 k is
       on (Ends n a) b never = absurd never
       on (Stops n q) b is = subst Sh is b
@@ -364,7 +366,7 @@ module _ (who : Caller) (before after : Seen) (s t : CloudState) (told : before.
           inr (delete_fails who before after s t told told_after held (own_queue p) id reply (subst (λ (q : Ask). Makes who q reply before after) is made) k e other)
 
       tries : (stage : Stage) → p.stage ≡ stage → KnowsPagingAt stage st now p
-          → Answered (λ k. Unit {0}) all_let p.deletions.left stage p.tree p.page p.at.page p.deletions reply ⊎ Rose before.counts.faults after.counts.faults
+          → Answered (λ k. Unit {0}) all_let p.deletions.left p.tree p.page stage p.tree p.page p.at.page p.deletions reply ⊎ Rose before.counts.faults after.counts.faults
       tries TakingHome e a = inl (λ k is. tt)
       tries GettingHome e a = inl (λ k is. tt)
       tries Receiving e a = inl (λ k is. tt)
@@ -377,12 +379,33 @@ module _ (who : Caller) (before after : Seen) (s t : CloudState) (told : before.
       tries Releasing e a = inl tt
       tries Finished e a = inl tt
 
-      brought : (n : Step) → Brings (λ k. Unit {0}) all_let p.deletions.left n → left_behind n ≤ p.deletions.left
+      brought : (n : Step) → Brings (λ k. Unit {0}) all_let p.deletions.left p.tree p.page n → left_behind n ≤ p.deletions.left
       brought (Goes n) b = b.1
-      brought (Ends n a) b = b
+      brought (Ends n a) b = b.0
       brought (Stops n q) b = omega arith
 
-      on : Answered (λ k. Unit {0}) all_let p.deletions.left p.stage p.tree p.page p.at.page p.deletions reply ⊎ Rose before.counts.faults after.counts.faults
+      on : Answered (λ k. Unit {0}) all_let p.deletions.left p.tree p.page p.stage p.tree p.page p.at.page p.deletions reply ⊎ Rose before.counts.faults after.counts.faults
           → (left_behind next ≤ p.deletions.left) ⊎ Rose before.counts.faults after.counts.faults
-      on (inl ans) = inl (brought next (step_brings (λ k. Unit {0}) all_let p.deletions.left p reply next ((λ k e. tt), omega arith) ans leads))
+      on (inl ans) = inl (brought next (step_brings (λ k. Unit {0}) all_let p.deletions.left p.tree p.page p reply next ((λ k e. tt), omega arith, refl, refl) ans leads))
       on (inr rose) = inr rose
+
+-- ---- its tree and its page
+
+-- at its end a checkpoint is of the tree and the page that it was of before
+pub paging_ends : (p m : Paging) (reply : Answer) (x : CkptAnswer) → PagingLeads p reply (Ends m x) → (m.tree ≡ p.tree) × (m.page ≡ p.page)
+paging_ends p m reply x leads =
+    let b = step_brings (λ k. Unit {0}) all_let (p.deletions.left + 1) p.tree p.page p reply (Ends m x) ((λ k e. tt), omega arith, refl, refl) (any p.stage) leads in
+    (b.1, b.2)
+  where
+    any : (stage : Stage) → Answered (λ k. Unit {0}) all_let (p.deletions.left + 1) p.tree p.page stage p.tree p.page p.at.page p.deletions reply
+    any TakingHome = λ k e. tt
+    any GettingHome = λ k e. tt
+    any Receiving = λ k e. tt
+    any TakingRight = λ k e. tt
+    any GettingRight = λ k e. tt
+    any PuttingRight = λ k e. tt
+    any ReleasingRight = tt
+    any PuttingHome = λ k e. tt
+    any DeletingNext = tried_more p.deletions (went (done_of reply))
+    any Releasing = tt
+    any Finished = tt

@@ -206,7 +206,7 @@ module _ (posts : List Posted) (most : ℕ) (messages : List Message) (ids : Lis
 
 -- ---- what the run of a delivering receive covers
 
-item_ids : (ms : List Message) (items : List PuItem) → items_of ms ≡ Ok items → map (λ (x : PuItem). x.id) items ≡ ids_of ms
+pub item_ids : (ms : List Message) (items : List PuItem) → items_of ms ≡ Ok items → map (λ (x : PuItem). x.id) items ≡ ids_of ms
 item_ids [] items e = let same : [] ≡ items = cc (e) in subst (λ (l : List PuItem). map (λ (x : PuItem). x.id) l ≡ []) same refl
 item_ids (m ∷ ms) items e = on (pu_of m.bytes) (items_of ms) (item_ids ms) e
   where

@@ -1,5 +1,6 @@
 -- The steps of session 0, which settles: each leads along its parts, and the last one to the end.
-use Rattle.std.proofs.Common.{◌≡◌, ◌≤◌, ◌<◌, ℕ, List, [], Option, Some, None, Result, Ok, refl, sym, ap, subst, ◌∙◌, arith}
+use Rattle.std.proofs.Common.{◌≡◌, ◌≢◌, ◌≤◌, ◌<◌, ℕ, List, [], Option, Some, None, Result, Ok, refl, sym, ap, subst, ◌∙◌, arith}
+use Rattle.calm_calls.specs.Calm.{IsCalm, NamesLasting}
 use Rattle.client_session.specs.Session.{Acting, closed_session, settling_session, StepsSession, StepsAt, StepsSettling, ShowsAt}
 use Rattle.client_session.specs.declared.answer.Answer.{Answer}
 use Rattle.client_session.specs.declared.answer.Answer.TheVariants as answer
@@ -12,8 +13,9 @@ use Rattle.cloud_trait.proofs.RowLemmas.{row_rest}
 use Rattle.cloud_trait.specs.Caller.{Caller}
 use Rattle.cloud_trait.specs.Machine.{Goes, Ends, Stops, Deed}
 use Rattle.cloud_trait.specs.Seen.{Seen}
-use Rattle.cloud_trait.specs.State.{CloudState, called}
-use Rattle.cloud_trait.specs.Weather.{Makes, Leaves}
+use Rattle.cloud_trait.specs.State.{CloudState, Counts, called}
+use Rattle.cloud_trait.specs.Weather.{Makes, Leaves, Rose}
+use Rattle.cloud_trait.specs.declared.answer.Answer.TheVariants.{Memory}
 use Rattle.cloud_trait.specs.declared.answer.Answer.{Answer as Reply}
 use Rattle.cloud_trait.specs.declared.turn.Turn.{Turn}
 use Rattle.cloud_trait.specs.declared.turn.Turn.TheVariants.{More, Ended, Stopped}
@@ -24,9 +26,14 @@ use Rattle.session_facts.proofs.Sessions.Begins.{settling_begins_session}
 use Rattle.session_facts.proofs.Sessions.Calling.{session_keeps}
 use Rattle.session_facts.proofs.Sessions.Laws.{rest_keeps}
 use Rattle.session_facts.proofs.Settled.Along.{Hands, Along, AlongNext, along_step, along_begins}
+use Rattle.session_facts.proofs.Settled.Free.{settling_takes_free, settling_alone}
+use Rattle.session_facts.proofs.Settled.Stories.{settling_known}
 use Rattle.session_facts.specs.Sessions.Calls.{reply_at, reply_of}
 use Rattle.session_facts.specs.Sessions.Sessions.{Sessions, SessionsStand, Goes as SessionGoes}
-use Rattle.session_facts.specs.Settled.Story.{Moment, IsAtWork, IsTurn}
+use Rattle.session_facts.specs.Settled.Locks.{HoldsAlone}
+use Rattle.session_facts.specs.Settled.Story.{Moment, store_at, IsAtWork, IsTurn}
+use Rattle.session_facts.specs.Settlings.Settling.{leases_of_settling}
+use Rattle.settle_run.specs.Parts.{IsSoundPart}
 use Rattle.settle_run.specs.Settling.{Settling, new_settling, settle_ask, SettleLeads}
 use Rattle.settle_run.specs.declared.settled.Settled.{Settled}
 use Rattle.txn_buffer.specs.Noted.{Noted}
@@ -71,6 +78,9 @@ stepped who before after buffer work.Closed c d new shown turn p q m e = absurd 
 stepped who before after buffer (work.Idle home) c d new shown turn p q m e = absurd (cc (e))
 stepped who before after buffer (work.Broken l) c d new shown turn p q m e = absurd (cc (e))
 
+sound_step : (who : Caller) (before after : Seen) (old new : Work) (turn : Turn Answer) → StepsAt who before after old new turn → (m : Settling) → old ≡ work.Settling m → IsSoundPart m.part
+sound_step who before after old new turn p m e = (subst (λ (w : Work). StepsAt who before after w new turn) e p).0
+
 -- ---- from one moment to the next
 
 -- a settling that is under way behind some calls, over a cloud that stands so but for the wish for the next call
@@ -82,11 +92,27 @@ pub record OnWay (B : Settling → Moment → Type 0) (P : Deed → Type 0) (ses
   pub works : session.work ≡ work.Settling settling
   pub along : Along B P settling now
 
--- and where a step leaves it so
-pub record GoesOnWay (B : Settling → Moment → Type 0) (P : Deed → Type 0) (session : Acting) (after : Seen) : Type 0 where
+-- the session is the same by another name
+abbrev pub of_session : (B : Settling → Moment → Type 0) (P : Deed → Type 0) (a b : Acting) (s : CloudState) → a ≡ b → OnWay B P a s → OnWay B P b s
+of_session B P a b s e way = record {
+  settling = way.settling;
+  now = way.now;
+  now_is = way.now_is;
+  session_is = way.session_is ∙ e;
+  works = ap (λ (x : Acting). x.work) (sym e) ∙ way.works;
+  along = way.along;
+}
+
+-- nobody has a lease beside it
+abbrev pub IsAlone : Settling → CloudState → Type 0
+IsAlone m s = HoldsAlone (leases_of_settling m) s
+
+-- where a step leaves it so; nobody has a lease beside it behind a call that went well, where nobody had one before
+pub record GoesOnWay (B : Settling → Moment → Type 0) (P : Deed → Type 0) (session : Acting) (after : Seen) (WasWell : Type 0) : Type 0 where
   pub state : CloudState
   pub told : after.state ≡ Some state
   pub way : OnWay B P session state
+  pub alone : WasWell → IsAlone way.settling state
 
 -- one that is over
 pub record AtEnd (E : Settling → Settled → Moment → Type 0) (x : Settled) (after : Seen) : Type 0 where
@@ -105,6 +131,9 @@ module _ (B : Settling → Moment → Type 0) (E : Settling → Settled → Mome
 
   told : before.state ≡ Some from.state
   told = told_as ∙ ap (λ (x : CloudState). Some x) (sym way.now_is)
+
+  abbrev at_work : IsAtWork from m.part
+  at_work = record { settling = m; works = ap (λ (a : Acting). a.work) way.session_is ∙ way.works; part_is = refl }
 
   -- the call of a step that was answered so
   abbrev call_with : Reply → Deed
@@ -133,7 +162,7 @@ module _ (B : Settling → Moment → Type 0) (E : Settling → Settled → Mome
 
     turn_is : IsTurn deed m.part from next
     turn_is = record {
-      at_work = record { settling = m; works = ap (λ (a : Acting). a.work) way.session_is ∙ way.works; part_is = refl };
+      at_work = at_work;
       settler = refl;
       asked = refl;
       made = step.0;
@@ -148,8 +177,36 @@ module _ (B : Settling → Moment → Type 0) (E : Settling → Settled → Mome
         plain : left.after.wish ≡ Plain
         plain = (row_rest (settler n) (settle_ask m) reply before.counts after.counts (called (settler n) left.after.now from.state) left.after left.row).wish
 
+    -- its call is calm where no count rose in it, the leases that it names lasted, and nobody has a lease beside it
+    pub calm_with : IsAlone m s → after.counts ≡ before.counts → ((t : CloudState) → after.state ≡ Some t → NamesLasting (settle_ask m) t.now) → IsCalm deed
+    calm_with alone same lasting = record {
+      before = from.state;
+      after = left.after;
+      told = told;
+      left = left.told;
+      counts = same;
+      free = settling_takes_free (store_at from) from.state.now m (from.stand.parts 0) (settling_known from m.part at_work).work
+          (sound_step (settler n) before after old.work new.work turn p.work m way.works) from.state (subst (IsAlone m) (sym way.now_is) alone) left.after.now left.later;
+      lasting = lasting left.after left.told;
+    }
+
+  -- a call that went well: no count of failures rose, and it found memory
+  abbrev WasWell : (p : StepsSession (settler n) before after old new (Ok More)) → Type 0
+  WasWell p = IsAlone m s × (after.counts ≡ before.counts × (reply_of (settler n) before after old new More p ≢ Memory))
+
+  alone_on : (p : StepsSession (settler n) before after old new (Ok More)) → (k : Settling) → SettleLeads m (reply_of (settler n) before after old new More p) (Goes k)
+      → WasWell p → IsAlone k (left More p).after
+  alone_on p k leads (alone, (same, found)) =
+      settling_alone (store_at from) from.state.now m (from.stand.parts 0) (settling_known from m.part at_work).work
+      (sound_step (settler n) before after old.work new.work More p.work m way.works) from.state (subst (IsAlone m) (sym way.now_is) alone)
+      (settler n) (reply More p) before.counts after.counts (left More p).after (left More p).later (left More p).row
+      (λ e. never ((step More p).0.failed e)) found k leads
+    where
+      never : Rose before.counts.faults after.counts.faults → ⊥
+      never rose = let e : after.counts.faults ≡ before.counts.faults = ap (λ (c : Counts). c.faults) same in omega (arith, rose, e)
+
   -- a step that goes on
-  pub step_on : (p : StepsSession (settler n) before after old new (Ok More)) → P (call_with (reply_of (settler n) before after old new More p)) → GoesOnWay B P new after
+  pub step_on : (p : StepsSession (settler n) before after old new (Ok More)) → P (call_with (reply_of (settler n) before after old new More p)) → GoesOnWay B P new after (WasWell p)
   step_on p is =
       let led = (step More p).1 in
       record {
@@ -163,6 +220,7 @@ module _ (B : Settling → Moment → Type 0) (E : Settling → Settled → Mome
           works = led.1.1;
           along = along_step B E P hands m from (next More p) way.along (deed More p) (turn_is More p) is (Goes led.0) led.1.0 (record { settling = led.0; works = led.1.1; part_is = refl });
         };
+        alone = λ well. alone_on p led.0 led.1.0 well;
       }
 
   -- a step that ends
@@ -189,7 +247,7 @@ first_moment book order t sessions closed stand = record {
   stand = rest_keeps book order t (record t { wish = Plain }) (at 0 settling_session sessions) refl refl refl (omega arith) (settling_begins_session book order t sessions 0 closed stand);
 }
 
-pub begins_on : (B : Settling → Moment → Type 0) (E : Settling → Settled → Moment → Type 0) (P : Deed → Type 0) (hands : Hands B E P) (book : Book) (order : List Entry) (t : CloudState)
+abbrev pub begins_on : (B : Settling → Moment → Type 0) (E : Settling → Settled → Moment → Type 0) (P : Deed → Type 0) (hands : Hands B E P) (book : Book) (order : List Entry) (t : CloudState)
     (sessions : Sessions) (closed : sessions 0 ≡ closed_session) (stand : SessionsStand book order t sessions) → B new_settling (first_moment book order t sessions closed stand)
     → OnWay B P settling_session t
 begins_on B E P hands book order t sessions closed stand holds = record {

@@ -100,6 +100,7 @@ KnowsPagingAt Finished st now p = ⊥
 abbrev pub TroubleWaits : Paging → Type 0
 TroubleWaits p = (p.stage ≡ Releasing) ⊎ (p.trouble ≡ None)
 
+-- what it knows before a call
 pub record KnowsPaging (st : Store) (now : ℕ) (p : Paging) : Type 0 where
   pub tree : IsTree p.tree
   pub page : IsPage p.page

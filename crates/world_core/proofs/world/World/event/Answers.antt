@@ -2,6 +2,7 @@ use Rattle.world_core.proofs.EveryLine.{stands_after}
 use Rattle.world_core.proofs.Bounded.{few_calls}
 use Rattle.world_core.proofs.Calm.{well_after}
 use Rattle.world_core.proofs.Explained.{explained}
+use Rattle.world_core.proofs.Settled.{settling_ends, settling_leaves}
 use Rattle.world_core.proofs.Sound.{sound_after}
 use Rattle.world_core.proofs.world.World.event.Goals as goal
 
@@ -19,3 +20,9 @@ returns-clause-calm g c = well_after _ _ _ _ _ _ _
 
 pub returns-clause-bounded : goal.returns-clause-bounded
 returns-clause-bounded g c = few_calls _ _ _ _ _ _ _
+
+pub returns-clause-settled : goal.returns-clause-settled
+returns-clause-settled g c = settling_leaves _ _ _ _ _ _ _
+
+pub returns-clause-settles : goal.returns-clause-settles
+returns-clause-settles g c = settling_ends _ _ _ _ _ _ _

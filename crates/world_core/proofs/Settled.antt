@@ -1,0 +1,378 @@
+-- A settling that came to its end left nothing, and stayed within its bound.
+use Rattle.std.proofs.Common.{◌≡◌, ◌≢◌, ◌+◌, ◌<◌, ◌≤◌, ℕ, List, [], ◌∷◌, length, Option, Some, None, Result, Ok, Err, refl, sym, ap, subst, ◌∙◌, ◌⊎◌, inl, inr, arith}
+use Rattle.calm_calls.specs.Calm.{IsCalm, NamesLasting}
+use Rattle.client_session.specs.Session.{Acting, closed_session, settling_session, StepsSession, ask_of_work}
+use Rattle.client_session.specs.declared.answer.Answer.{Answer}
+use Rattle.client_session.specs.declared.answer.Answer.TheVariants as answer
+use Rattle.client_session.specs.declared.work.Work.{Work}
+use Rattle.client_session.specs.declared.work.Work.TheVariants as work
+use Rattle.cloud_facts.proofs.Book.Names.{at_same}
+use Rattle.cloud_facts.specs.Book.Tally.{at}
+use Rattle.cloud_trait.specs.Ask.{Ask}
+use Rattle.cloud_trait.specs.Machine.{Goes, Ends, Stops, Deed}
+use Rattle.cloud_trait.specs.Seen.{Seen}
+use Rattle.cloud_trait.specs.State.{CloudState}
+use Rattle.cloud_trait.specs.declared.turn.Turn.{Turn}
+use Rattle.cloud_trait.specs.declared.turn.Turn.TheVariants.{More, Ended}
+use Rattle.db_base.specs.Ids.{IsClient, IsTree}
+use Rattle.db_base.specs.declared.trouble.Trouble.{Trouble}
+use Rattle.db_base.specs.declared.trouble.Trouble.TheVariants as trouble
+use Rattle.db_base.specs.declared.wish.Wish.TheVariants.{Plain}
+use Rattle.event_text.specs.declared.event.Event.{Event}
+use Rattle.event_text.specs.declared.event.Event.TheVariants as event
+use Rattle.replay_meaning.specs.Standing.{Line}
+use Rattle.replay_model.proofs.SettledLemmas.{none_open, none_wait}
+use Rattle.replay_model.specs.Facts.{session_at}
+use Rattle.reply_text.specs.declared.reply.Reply.{Reply}
+use Rattle.reply_text.specs.declared.reply.Reply.TheVariants as reply
+use Rattle.session_facts.proofs.Settled.Along.{Handed, Hands, behind_part}
+use Rattle.session_facts.proofs.Settled.Begins.{left_begins, both_begin}
+use Rattle.session_facts.proofs.Settled.CostHands.{GoesCalmly, LeftAndCost, SettledWell, cost_hands}
+use Rattle.session_facts.proofs.Settled.Free.{begins_alone}
+use Rattle.session_facts.proofs.Settled.LeftHands.{IsDelivered, left_hands}
+use Rattle.session_facts.proofs.Settled.Lefts.{Left, NothingWaits}
+use Rattle.session_facts.proofs.Settled.PageRuns.{pages_run}
+use Rattle.session_facts.proofs.Settled.RecoveryRuns.{recoveries_run}
+use Rattle.session_facts.proofs.Settled.TreeRuns.{trees_run}
+use Rattle.session_facts.proofs.Settled.Turns.{settler, OnWay, of_session, IsAlone, AtEnd, calm_with, step_on, step_ends, first_moment, begins_on}
+use Rattle.session_facts.specs.Sessions.Calls.{reply_of}
+use Rattle.session_facts.specs.Sessions.Explaining.{ReceivesLate}
+use Rattle.session_facts.specs.Sessions.Sessions.{leases_of}
+use Rattle.session_facts.specs.Sessions.Untroubled.{IsUntroubled}
+use Rattle.session_facts.specs.Settled.Runs.{TreesRun, PagesRun, RecoveriesRun}
+use Rattle.session_facts.specs.Settled.Story.{Moment}
+use Rattle.settle_run.specs.Settling.{Settling, Step, passed, new_settling, settle_ask}
+use Rattle.settle_run.specs.declared.settled.Settled.{Settled as Answered}
+use Rattle.world_core.proofs.Calm.{well_after}
+use Rattle.world_core.specs.Calm.{StepIsCalm, SettlesWell, work_at}
+use Rattle.world_core.specs.EachStep.{Claim, EachWent, EachCome, EachSettlingOn, EachSettling, EachAsked, EachStep}
+use Rattle.world_core.specs.Handled.{Has, StepsLooked, Went, start, further, SettlesTo, SettlesOn, Settles as SettlesLine, Answers, Handled}
+use Rattle.world_core.specs.Replying.{RepliesSettled, unsettled_reply}
+use Rattle.world_core.specs.Asked.{Asks}
+use Rattle.world_core.specs.Sessions.{Changes}
+use Rattle.world_core.specs.Settled.{StepDelivers, StepGoesWell, NoLockHeld, LeavesNothing, LeftNothing, SettledWithin, AnswersSettled, SettlingLeaves, SettlingEnds}
+use Rattle.world_core.specs.Stands.{WorldStands}
+use Rattle.world_core.specs.declared.asked.Asked.{Asked}
+use Rattle.world_core.specs.declared.asked.Asked.TheVariants.{Session, Wait, Report, Settle}
+use Rattle.world_core.specs.declared.asked.Request.{Request}
+use Rattle.world_core.specs.declared.world.World.{World}
+use Rattle.world_core.specs.declared.world.WorldFault.{WorldFault}
+use Rattle.world_core.specs.declared.world.WorldFault.TheVariants as fault
+use Rattle.world_core.proofs.StandsLemmas.{changed_at, changed_was}
+
+-- ---- the steps of the line
+
+-- what is claimed of a step of the settler says so much of its call
+abbrev Gives : Claim → (Deed → Type 0) → ℕ → Type 1
+Gives Holds P n =
+    (before after : Seen) (old new : World) (turn : Turn Answer) (p : StepsLooked (settler n) Plain before after old new turn) (m : Settling)
+    → p.session.before.work ≡ work.Settling m → Holds (settler n) Plain before after old new turn p
+    → P (record { who = settler n; ask = settle_ask m; answer = reply_of (settler n) p.under p.to p.session.before p.session.after turn p.session.does; before = p.under; after = p.to })
+
+-- the settler is under way in a world, over a cloud that is told
+record WorldOnWay (B : Settling → Moment → Type 0) (P : Deed → Type 0) (world : World) (seen : Seen) : Type 0 where
+  state : CloudState
+  told : seen.state ≡ Some state
+  way : OnWay B P (session_at world.sessions 0) state
+
+record WorldAtEnd (E : Settling → Answered → Moment → Type 0) (x : Answered) (seen : Seen) : Type 0 where
+  settling : Settling
+  now : Moment
+  told : seen.state ≡ Some now.state
+  holds : E settling x now
+
+module _ (Holds : Claim) (B : Settling → Moment → Type 0) (E : Settling → Answered → Moment → Type 0) (P : Deed → Type 0) (hands : Hands B E P) (n : ℕ) (gives : Gives Holds P n) where
+  module _ (before after : Seen) (old new : World) (turn : Turn Answer) (at_way : WorldOnWay B P old before) (p : StepsLooked (settler n) Plain before after old new turn) where
+    abbrev own : OnWay B P p.session.before at_way.state
+    own = of_session B P (session_at old.sessions 0) p.session.before at_way.state (changed_was 0 _ old.sessions new.sessions p.session) at_way.way
+
+    under : p.under.state ≡ Some (record at_way.state { wish = Plain })
+    under = p.wishes.set at_way.state (p.look_before.stays at_way.state at_way.told)
+
+    session_after : session_at new.sessions 0 ≡ p.session.after
+    session_after = changed_at 0 _ old.sessions new.sessions p.session 0 ∙ at_same 0 p.session.after (session_at old.sessions) 0 refl
+
+  world_more : (before after : Seen) (old new : World) → WorldOnWay B P old before → (p : StepsLooked (settler n) Plain before after old new More)
+      → Holds (settler n) Plain before after old new More p → WorldOnWay B P new after
+  world_more before after old new at_way p holds =
+      let way = own before after old new More at_way p in
+      let on = step_on B E P hands n p.under p.to p.session.before p.session.after at_way.state way (under before after old new More at_way p) p.session.does
+          (gives before after old new More p way.settling way.works holds) in
+      record {
+        state = on.state;
+        told = p.look_after.stays on.state on.told;
+        way = of_session B P p.session.after (session_at new.sessions 0) on.state (sym (session_after before after old new More at_way p)) on.way;
+      }
+
+  world_ends : (x : Answered) (before after : Seen) (old new : World) → WorldOnWay B P old before → (p : StepsLooked (settler n) Plain before after old new (Ended (answer.Settled x)))
+      → Holds (settler n) Plain before after old new (Ended (answer.Settled x)) p → WorldAtEnd E x after
+  world_ends x before after old new at_way p holds =
+      let way = own before after old new (Ended (answer.Settled x)) at_way p in
+      let ends = step_ends B E P hands n p.under p.to p.session.before p.session.after at_way.state way (under before after old new (Ended (answer.Settled x)) at_way p) x p.session.does
+          (gives before after old new (Ended (answer.Settled x)) p way.settling way.works holds) in
+      record { settling = ends.settling; now = ends.now; told = p.look_after.stays ends.now.state ends.told; holds = ends.holds }
+
+  world_went : (before : Seen) (old : World) (after : Seen) (new : World) → WorldOnWay B P old before → (went : Went (settler n) before old after new)
+      → EachWent Holds (settler n) before old after new went → WorldOnWay B P new after
+  world_went before old after new at_way start each = at_way
+  world_went before old after new at_way (further mid _ world _ went step) each =
+      world_more mid after world new (world_went before old mid world at_way went each.0) step each.1
+
+  module _ (before : Seen) (old begun : World) (t : CloudState) (told : before.state ≡ Some t) (lines : List Line) (stands : WorldStands lines old t) (begins : Has 0 settling_session old begun)
+      (at_start : B new_settling (first_moment stands.holds.book stands.holds.order t (session_at old.sessions) stands.rests stands.holds.stand)) where
+    begun_session : session_at begun.sessions 0 ≡ settling_session
+    begun_session =
+        changed_at 0 _ old.sessions begun.sessions begins.session_is 0 ∙ (at_same 0 begins.session_is.after (session_at old.sessions) 0 refl ∙ begins.session_is.does)
+
+    abbrev world_begins : WorldOnWay B P begun before
+    world_begins = record {
+      state = t;
+      told = told;
+      way = of_session B P settling_session (session_at begun.sessions 0) t (sym begun_session)
+          (begins_on B E P hands stands.holds.book stands.holds.order t (session_at old.sessions) stands.rests stands.holds.stand at_start);
+    }
+
+    -- the answer counts the calls
+    same_calls : (calls : ℕ) (s : Answered) → (let r : Result Reply WorldFault = Ok (reply.Settled calls) in r ≡ Ok (reply.Settled s.calls)) → s.calls ≡ calls
+    same_calls calls s e = cc (e)
+
+    no_trouble : (calls : ℕ) (t : Trouble) → (let r : Result Reply WorldFault = Ok (reply.Settled calls) in r ≡ unsettled_reply t) → ⊥
+    no_trouble calls trouble.Memory e = absurd (cc (e))
+    no_trouble calls t e = absurd (cc (e))
+
+    world_settles : (after : Seen) (new : World) (calls : ℕ) (h : SettlesTo (settler n) before after begun new (Ok (reply.Settled calls)))
+        → EachCome Holds (settler n) before after begun h.left h.answer h.comes → (x : Answered) × ((x.calls ≡ calls) × WorldAtEnd E x after)
+    world_settles after new calls h each = on h.answer h.comes.steps h.replies each.1
+      where
+        way : WorldOnWay B P h.comes.world h.comes.mid
+        way = world_went before begun h.comes.mid h.comes.world world_begins h.comes.went each.0
+
+        on : (a : Answer) → (p : StepsLooked (settler n) Plain h.comes.mid after h.comes.world h.left (Ended a)) → RepliesSettled a (Ok (reply.Settled calls))
+            → Holds (settler n) Plain h.comes.mid after h.comes.world h.left (Ended a) p → (x : Answered) × ((x.calls ≡ calls) × WorldAtEnd E x after)
+        on (answer.Settled x) p e holds = (x, (same_calls calls x e, world_ends x h.comes.mid after h.comes.world h.left way p holds))
+        on (answer.Trouble q) p e holds = absurd (no_trouble calls q e)
+        on a p e holds = absurd e
+
+-- ---- what the claims give
+
+delivers_gives : (n : ℕ) → Gives StepDelivers IsDelivered n
+delivers_gives n before after old new turn p m is holds = holds
+
+same_ask : (a b : Ask) → Some a ≡ Some b → a ≡ b
+same_ask a b e = cc (e)
+
+calm_gives : (n : ℕ) → Gives StepIsCalm GoesCalmly n
+calm_gives n before after old new turn p m is holds =
+    let asked : holds.ask ≡ settle_ask m = same_ask holds.ask (settle_ask m) (sym holds.hand ∙ ap ask_of_work is) in
+    (subst
+    (λ (ask : Ask). IsCalm (record {
+      who = settler n;
+      ask = ask;
+      answer = reply_of (settler n) p.under p.to p.session.before p.session.after turn p.session.does;
+      before = p.under;
+      after = p.to;
+    })) asked holds.calm,
+    holds.memory)
+
+-- ---- where no lock is held, the locks that it takes are free
+
+-- nothing is asked of a settling
+abbrev Anything : Settling → Moment → Type 0
+Anything s m = Unit {0}
+
+abbrev AnyEnd : Settling → Answered → Moment → Type 0
+AnyEnd s x m = Unit {0}
+
+abbrev AnyCall : Deed → Type 0
+AnyCall d = Unit {0}
+
+any_hands : Hands Anything AnyEnd AnyCall
+any_hands s w h first last holds place ran each works = on (passed (behind_part s w h))
+  where
+    on : (next : Step) → Handed Anything AnyEnd next last
+    on (Goes m) = tt
+    on (Ends m x) = tt
+    on (Stops m t) = tt
+
+any_gives : (n : ℕ) → Gives StepGoesWell AnyCall n
+any_gives n before after old new turn p m is holds = tt
+
+-- the settler is under way, and nobody else has a lease
+record WorldAlone (world : World) (seen : Seen) : Type 0 where
+  at : WorldOnWay Anything AnyCall world seen
+  alone : IsAlone at.way.settling at.state
+
+module _ (n : ℕ) where
+  module _ (before after : Seen) (old new : World) (turn : Turn Answer) (here : WorldAlone old before) (p : StepsLooked (settler n) Plain before after old new turn)
+      (well : StepGoesWell (settler n) Plain before after old new turn p) where
+    abbrev way : OnWay Anything AnyCall p.session.before here.at.state
+    way = own StepGoesWell Anything AnyEnd AnyCall any_hands n (any_gives n) before after old new turn here.at p
+
+    wish_set : p.under.state ≡ Some (record here.at.state { wish = Plain })
+    wish_set = under StepGoesWell Anything AnyEnd AnyCall any_hands n (any_gives n) before after old new turn here.at p
+
+    asked : well.ask ≡ settle_ask way.settling
+    asked = same_ask well.ask (settle_ask way.settling) (sym well.hand ∙ ap ask_of_work way.works)
+
+    call_calm : IsCalm (record {
+      who = settler n;
+      ask = settle_ask way.settling;
+      answer = reply_of (settler n) p.under p.to p.session.before p.session.after turn p.session.does;
+      before = p.under;
+      after = p.to;
+    })
+    call_calm =
+        calm_with Anything AnyEnd AnyCall any_hands n p.under p.to p.session.before p.session.after here.at.state way wish_set turn p.session.does here.alone well.counts
+        (λ t told. subst (λ (ask : Ask). NamesLasting ask t.now) asked (well.lasting t told))
+
+    well_calm : StepIsCalm (settler n) Plain before after old new turn p
+    well_calm = record {
+      ask = settle_ask way.settling;
+      hand = ap ask_of_work way.works;
+      calm = call_calm;
+      received = λ late. well.received call_calm.after call_calm.left
+          (subst (λ (ask : Ask). ReceivesLate ask (leases_of p.session.before.work) call_calm.after.now) (sym asked) late);
+      memory = well.memory;
+    }
+
+  well_more : (before after : Seen) (old new : World) → WorldAlone old before → (p : StepsLooked (settler n) Plain before after old new More)
+      → StepGoesWell (settler n) Plain before after old new More p → WorldAlone new after
+  well_more before after old new here p well =
+      let on = step_on Anything AnyEnd AnyCall any_hands n p.under p.to p.session.before p.session.after here.at.state (way before after old new More here p well)
+          (wish_set before after old new More here p well) p.session.does tt in
+      record {
+        at = record {
+          state = on.state;
+          told = p.look_after.stays on.state on.told;
+          way = of_session Anything AnyCall p.session.after (session_at new.sessions 0) on.state
+              (sym (session_after StepGoesWell Anything AnyEnd AnyCall any_hands n (any_gives n) before after old new More here.at p)) on.way;
+        };
+        alone = on.alone (here.alone, (well.counts, well.memory));
+      }
+
+  went_calm : (before : Seen) (old : World) (after : Seen) (new : World) → WorldAlone old before → (went : Went (settler n) before old after new)
+      → EachWent StepGoesWell (settler n) before old after new went → EachWent StepIsCalm (settler n) before old after new went × WorldAlone new after
+  went_calm before old after new here start each = (tt, here)
+  went_calm before old after new here (further mid _ world _ went step) each =
+      let before_it = went_calm before old mid world here went each.0 in
+      ((before_it.0, well_calm mid after world new More before_it.1 step each.1), well_more mid after world new before_it.1 step each.1)
+
+  module _ (before after : Seen) (old new : World) (r : Reply) (t : CloudState) (told : before.state ≡ Some t) (lines : List Line) (stands : WorldStands lines old t) (free : NoLockHeld t) where
+    begins_free : (begun : World) → Has 0 settling_session old begun → WorldAlone begun before
+    begins_free begun begins = record {
+      at = world_begins StepGoesWell Anything AnyEnd AnyCall any_hands n (any_gives n) before old begun t told lines stands begins tt;
+      alone = begins_alone t free;
+    }
+
+    settling_calm : (h : SettlesLine n before after old new (Ok r)) → EachSettling StepGoesWell n before after old new (Ok r) h → EachSettling StepIsCalm n before after old new (Ok r) h
+    settling_calm (inr memory) each = tt
+    settling_calm (inl h) each = on h.settles each
+      where
+        on : (s : SettlesOn (settler n) before after h.begun new (Ok r)) → EachSettlingOn StepGoesWell (settler n) before after h.begun new (Ok r) s
+            → EachSettlingOn StepIsCalm (settler n) before after h.begun new (Ok r) s
+        on (inr memory) steps = tt
+        on (inl s) steps =
+            let went = went_calm before h.begun s.comes.mid s.comes.world (begins_free h.begun h.begins) s.comes.went steps.0 in
+            (went.0, well_calm s.comes.mid after s.comes.world s.left (Ended s.answer) went.1 s.comes.steps steps.1)
+
+-- ---- the line
+
+leaves_nothing : (m : Moment) (s : Settling) (x : Answered) → NothingWaits s x m → LeavesNothing m.state
+leaves_nothing m s x left tree is =
+    let most = is.most in
+    record {
+      heads = λ committed. none_open m.state tree committed (λ k client. let bound = client.most in left.0 k client (omega (arith, bound))) 64 (omega arith);
+      messages = none_wait m.state tree m.stand.cloud.decodes (left.1 tree is (omega (arith, most)));
+    }
+
+module _ (trees : TreesRun) (pages : PagesRun) (clients : RecoveriesRun) (lines : List Line) (n : ℕ) (before after : Seen) (old new : World) (t : CloudState) (calls : ℕ)
+    (told : before.state ≡ Some t) (stands : WorldStands lines old t) where
+  abbrev result : Result Reply WorldFault
+  result = Ok (reply.Settled calls)
+
+  no_memory : (let r : Result Reply WorldFault = Ok (reply.Settled calls) in r ≡ Err fault.Memory) → ⊥
+  no_memory e = absurd (cc (e))
+
+  line_leaves : (h : SettlesLine n before after old new result) → EachSettling StepDelivers n before after old new result h → LeftNothing after
+  line_leaves (inr memory) each = absurd (no_memory memory)
+  line_leaves (inl h) each = on h.settles each
+    where
+      on : (s : SettlesOn (settler n) before after h.begun new result) → EachSettlingOn StepDelivers (settler n) before after h.begun new result s → LeftNothing after
+      on (inr memory) steps = absurd (no_memory memory)
+      on (inl s) steps =
+          let end = (world_settles StepDelivers Left NothingWaits IsDelivered (left_hands trees pages clients) n (delivers_gives n) before old h.begun t told lines stands h.begins
+              (left_begins stands.holds.book stands.holds.order t (session_at old.sessions) stands.rests stands.holds.stand) after new calls s steps) in
+          record { state = end.1.1.now.state; told = end.1.1.told; nothing = leaves_nothing end.1.1.now end.1.1.settling end.0 end.1.1.holds }
+
+  line_within : (h : SettlesLine n before after old new result) → EachSettling StepIsCalm n before after old new result h → SettledWithin t after calls
+  line_within (inr memory) each = absurd (no_memory memory)
+  line_within (inl h) each = on h.settles each
+    where
+      on : (s : SettlesOn (settler n) before after h.begun new result) → EachSettlingOn StepIsCalm (settler n) before after h.begun new result s → SettledWithin t after calls
+      on (inr memory) steps = absurd (no_memory memory)
+      on (inl s) steps =
+          let end = (world_settles StepIsCalm (LeftAndCost t) (SettledWell t) GoesCalmly (cost_hands t trees pages clients) n (calm_gives n) before old h.begun t told lines stands h.begins
+              (both_begin stands.holds.book stands.holds.order t (session_at old.sessions) stands.rests stands.holds.stand) after new calls s steps) in
+          record {
+            state = end.1.1.now.state;
+            told = end.1.1.told;
+            nothing = leaves_nothing end.1.1.now end.1.1.settling end.0 end.1.1.holds.0;
+            no_log = λ client is. let most = is.most in end.1.1.holds.1.0 client is (omega (arith, most));
+            within = let w = end.1.1.holds.1.1 in record { leaves = w.leaves; are = w.are; within = subst (λ (c : ℕ). c ≤ _) end.1.0 w.within };
+          }
+
+-- ---- the clauses
+
+module _ (trees : TreesRun) (pages : PagesRun) (clients : RecoveriesRun) where
+  asked_leaves : (lines : List Line) (n : ℕ) (before after : Seen) (old new : World) (t : CloudState) (calls : ℕ) → before.state ≡ Some t → WorldStands lines old t
+      → (asked : Asked) → asked ≡ Settle → (answers : Answers n asked before after old new (Ok (reply.Settled calls)))
+      → EachAsked StepDelivers n asked before after old new (Ok (reply.Settled calls)) answers → LeftNothing after
+  asked_leaves lines n before after old new t calls told stands Settle is answers each = line_leaves trees pages clients lines n before after old new t calls told stands answers each
+  asked_leaves lines n before after old new t calls told stands (Session j request) is answers each = absurd (cc (is))
+  asked_leaves lines n before after old new t calls told stands (Wait ticks) is answers each = absurd (cc (is))
+  asked_leaves lines n before after old new t calls told stands (Report tree) is answers each = absurd (cc (is))
+
+  asked_within : (lines : List Line) (n : ℕ) (before after : Seen) (old new : World) (t : CloudState) (calls : ℕ) → before.state ≡ Some t → WorldStands lines old t
+      → (asked : Asked) → asked ≡ Settle → (answers : Answers n asked before after old new (Ok (reply.Settled calls)))
+      → EachAsked StepIsCalm n asked before after old new (Ok (reply.Settled calls)) answers → SettledWithin t after calls
+  asked_within lines n before after old new t calls told stands Settle is answers each = line_within trees pages clients lines n before after old new t calls told stands answers each
+  asked_within lines n before after old new t calls told stands (Session j request) is answers each = absurd (cc (is))
+  asked_within lines n before after old new t calls told stands (Wait ticks) is answers each = absurd (cc (is))
+  asked_within lines n before after old new t calls told stands (Report tree) is answers each = absurd (cc (is))
+
+  leaves_for : (n : ℕ) (e : Event) (before after : Seen) (old new : World) (result : Result Reply WorldFault) → SettlingLeaves n e before after old new result
+  leaves_for n event.Settle before after old new (Ok (reply.Settled calls)) = λ lines t number told stands handled each.
+      asked_leaves lines n before after old new t calls told stands handled.asked handled.asks handled.answers each
+  leaves_for n e before after old new result = tt
+
+asked_calm : (lines : List Line) (n : ℕ) (before after : Seen) (old new : World) (t : CloudState) (r : Reply) → before.state ≡ Some t → WorldStands lines old t → NoLockHeld t
+    → (asked : Asked) → asked ≡ Settle → (answers : Answers n asked before after old new (Ok r)) → EachAsked StepGoesWell n asked before after old new (Ok r) answers
+    → EachAsked StepIsCalm n asked before after old new (Ok r) answers
+asked_calm lines n before after old new t r told stands free Settle is answers each = settling_calm n before after old new r t told lines stands free answers each
+asked_calm lines n before after old new t r told stands free (Session j request) is answers each = absurd (cc (is))
+asked_calm lines n before after old new t r told stands free (Wait ticks) is answers each = absurd (cc (is))
+asked_calm lines n before after old new t r told stands free (Report tree) is answers each = absurd (cc (is))
+
+-- a settler at rest is untroubled
+rests_untroubled : (lines : List Line) (old : World) (t : CloudState) → WorldStands lines old t → IsUntroubled (work_at old 0)
+rests_untroubled lines old t stands = subst (λ (a : Acting). IsUntroubled a.work) (sym stands.rests) (record { trouble = λ k e. absurd (cc (e)); left = refl })
+
+module _ (trees : TreesRun) (pages : PagesRun) (clients : RecoveriesRun) where
+  settles_for : (n : ℕ) (e : Event) (before after : Seen) (old new : World) (result : Result Reply WorldFault) → SettlingEnds n e before after old new result
+  settles_for n event.Settle before after old new (Ok r) = λ lines t number told stands free handled each.
+      let calm = asked_calm lines n before after old new t r told stands free handled.asked handled.asks handled.answers each in
+      let well = (well_after n event.Settle before after old new (Ok r) lines t number told stands handled calm (rests_untroubled lines old t stands)).1 in
+      on r lines t told stands handled calm well
+    where
+      on : (q : Reply) (lines : List Line) (t : CloudState) → before.state ≡ Some t → WorldStands lines old t → (handled : Handled n event.Settle before after old new (Ok q))
+          → EachStep StepIsCalm n event.Settle before after old new (Ok q) handled → SettlesWell q → AnswersSettled t after q
+      on (reply.Settled calls) lines t told stands handled calm well = asked_within trees pages clients lines n before after old new t calls told stands handled.asked handled.asks handled.answers calm
+      on (reply.NotSettled k) lines t told stands handled calm well = well
+      on q lines t told stands handled calm well = absurd well
+  settles_for n e before after old new result = tt
+
+pub settling_leaves : (n : ℕ) (e : Event) (before after : Seen) (old new : World) (result : Result Reply WorldFault) → SettlingLeaves n e before after old new result
+settling_leaves n e before after old new result = leaves_for trees_run pages_run recoveries_run n e before after old new result
+
+pub settling_ends : (n : ℕ) (e : Event) (before after : Seen) (old new : World) (result : Result Reply WorldFault) → SettlingEnds n e before after old new result
+settling_ends n e before after old new result = settles_for trees_run pages_run recoveries_run n e before after old new result

@@ -1,0 +1,108 @@
+-- What a settling leaves where nobody else acts, which is so within its line, and how many calls it makes at most.
+use Rattle.std.specs.Prelude.{ℕ, ◌≡◌, ◌≢◌, ◌≤◌, ◌+◌, List, [], length, Some, Result, Ok, Err}
+use Rattle.calm_calls.specs.Calm.{NamesLasting}
+use Rattle.client_session.specs.Session.{Acting, StepsSession, ask_of_work}
+use Rattle.client_session.specs.declared.answer.Answer.{Answer}
+use Rattle.cloud_trait.specs.Ask.{Ask}
+use Rattle.cloud_trait.specs.Caller.{Caller}
+use Rattle.cloud_trait.specs.Delivery.{unmarked}
+use Rattle.cloud_trait.specs.Seen.{Seen}
+use Rattle.cloud_trait.specs.State.{CloudState}
+use Rattle.cloud_trait.specs.declared.answer.Answer.TheVariants.{Memory}
+use Rattle.cloud_trait.specs.declared.turn.Turn.{Turn}
+use Rattle.db_base.specs.Ids.{IsClient, IsTree}
+use Rattle.db_base.specs.declared.names.Lock.{Lock}
+use Rattle.db_base.specs.declared.names.QueueName.TheVariants as queue
+use Rattle.event_text.specs.declared.event.Event.{Event}
+use Rattle.event_text.specs.declared.event.Event.TheVariants as event
+use Rattle.replay_meaning.specs.Standing.{Line}
+use Rattle.reply_text.specs.declared.reply.Reply.{Reply}
+use Rattle.reply_text.specs.declared.reply.Reply.TheVariants as reply
+use Rattle.report_types.specs.declared.entry.Entry.{Entry}
+use Rattle.session_facts.specs.Sessions.Calls.{reply_of}
+use Rattle.session_facts.specs.Sessions.Explaining.{ReceivesLate}
+use Rattle.session_facts.specs.Sessions.Sessions.{leases_of}
+use Rattle.session_facts.specs.Sessions.Untroubled.{IsSpent}
+use Rattle.session_facts.specs.Settled.Bound.{IsWithin}
+use Rattle.world_audit.specs.Counts.{heads_upto, AreWaiting}
+use Rattle.world_core.specs.EachStep.{Claim, EachStep}
+use Rattle.world_core.specs.Handled.{Handled}
+use Rattle.world_core.specs.Stands.{WorldStands}
+use Rattle.world_core.specs.declared.world.World.{World}
+use Rattle.world_core.specs.declared.world.WorldFault.{WorldFault}
+
+-- in a step's call no message and no lock was withheld
+abbrev pub StepDelivers : Claim
+StepDelivers who wish before after old new turn p = p.to.counts.withheld ≡ p.under.counts.withheld
+
+-- A step went well but for the lock that it may take: its call found memory and no count rose in it, the leases that it names lasted, and where it
+-- receives so did those in hand.
+pub record GoesWell (who : Caller) (before after : Seen) (old new : Acting) (turn : Turn Answer) (p : StepsSession who before after old new (Ok turn)) : Type 0 where
+  pub ask : Ask
+  pub hand : ask_of_work old.work ≡ Some ask
+  pub memory : reply_of who before after old new turn p ≢ Memory
+  pub counts : after.counts ≡ before.counts
+  pub lasting : (t : CloudState) → after.state ≡ Some t → NamesLasting ask t.now
+  pub received : (t : CloudState) → after.state ≡ Some t → ReceivesLate ask (leases_of old.work) t.now → ⊥
+
+abbrev pub StepGoesWell : Claim
+StepGoesWell who wish before after old new turn p = GoesWell who p.under p.to p.session.before p.session.after turn p.session.does
+
+-- no lock is held
+abbrev pub NoLockHeld : CloudState → Type 0
+NoLockHeld s = (l : Lock) → (s.locks l).until ≤ s.now
+
+-- ---- what is left
+
+-- the two numbers that a report of a tree shows are 0: no head is open with an entry of it, whatever was committed, and no message waits for it
+pub record LeavesTree (s : CloudState) (tree : ℕ) : Type 0 where
+  pub heads : (committed : List Entry) → heads_upto s tree committed 64 ≡ 0
+  pub messages : AreWaiting s tree 0
+
+abbrev pub LeavesNothing : CloudState → Type 0
+LeavesNothing s = (tree : ℕ) → IsTree tree → LeavesTree s tree
+
+-- no ATOMIC queue has a message that is not deleted
+abbrev pub LeavesNoLog : CloudState → Type 0
+LeavesNoLog s = (client : ℕ) → IsClient client → unmarked (s.messages (queue.Atomic client)) ≡ []
+
+-- ---- the whole
+
+-- a settling that came to its end left nothing in the cloud that it left
+pub record LeftNothing (after : Seen) : Type 0 where
+  pub state : CloudState
+  pub told : after.state ≡ Some state
+  pub nothing : LeavesNothing state
+
+-- one whose calls went well left nothing in the ATOMIC queues either, and made so many calls, which are within the bound
+pub record SettledWithin (before : CloudState) (after : Seen) (calls : ℕ) : Type 0 where
+  pub state : CloudState
+  pub told : after.state ≡ Some state
+  pub nothing : LeavesNothing state
+  pub no_log : LeavesNoLog state
+  pub within : IsWithin before state calls
+
+-- where in no step a message was withheld it left nothing, whatever calls failed
+abbrev pub SettledLeaves : (n calls : ℕ) (before after : Seen) (old new : World) → Handled n event.Settle before after old new (Ok (reply.Settled calls)) → Type 0
+SettledLeaves n calls before after old new handled = EachStep StepDelivers n event.Settle before after old new (Ok (reply.Settled calls)) handled → LeftNothing after
+
+-- what it is answered where no lock was held at its begin and every step went well: that it settled, within the bound, unless a counter stands at
+-- its last value
+abbrev pub AnswersSettled : CloudState → Seen → Reply → Type 0
+AnswersSettled t after (reply.Settled calls) = SettledWithin t after calls
+AnswersSettled t after (reply.NotSettled k) = IsSpent k
+AnswersSettled t after r = ⊥
+
+-- Whatever lines a world and a cloud stood for before a settling, however it was handled: where in no step a message was withheld a settling that
+-- came to its end left nothing; and where no lock was held and every step went well it came to its end so.
+abbrev pub SettlingLeaves : ℕ → Event → Seen → Seen → World → World → Result Reply WorldFault → Type 0
+SettlingLeaves n event.Settle before after old new (Ok (reply.Settled calls)) =
+    (lines : List Line) (t : CloudState) → length lines + 1 ≡ n → before.state ≡ Some t → WorldStands lines old t
+    → (handled : Handled n event.Settle before after old new (Ok (reply.Settled calls))) → SettledLeaves n calls before after old new handled
+SettlingLeaves n event before after old new result = Unit {0}
+
+abbrev pub SettlingEnds : ℕ → Event → Seen → Seen → World → World → Result Reply WorldFault → Type 0
+SettlingEnds n event.Settle before after old new (Ok r) =
+    (lines : List Line) (t : CloudState) → length lines + 1 ≡ n → before.state ≡ Some t → WorldStands lines old t → NoLockHeld t
+    → (handled : Handled n event.Settle before after old new (Ok r)) → EachStep StepGoesWell n event.Settle before after old new (Ok r) handled → AnswersSettled t after r
+SettlingEnds n event before after old new result = Unit {0}

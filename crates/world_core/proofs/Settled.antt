@@ -39,13 +39,14 @@ use Rattle.session_facts.specs.Sessions.Calls.{reply_of}
 use Rattle.session_facts.specs.Sessions.Explaining.{ReceivesLate}
 use Rattle.session_facts.specs.Sessions.Sessions.{leases_of}
 use Rattle.session_facts.specs.Sessions.Untroubled.{IsUntroubled}
+use Rattle.session_facts.specs.Settled.Bound.{IsWithin}
 use Rattle.session_facts.specs.Settled.Runs.{TreesRun, PagesRun, RecoveriesRun}
 use Rattle.session_facts.specs.Settled.Story.{Moment}
 use Rattle.settle_run.specs.Settling.{Settling, Step, passed, new_settling, settle_ask}
 use Rattle.settle_run.specs.declared.settled.Settled.{Settled as Answered}
 use Rattle.world_core.proofs.Calm.{well_after}
 use Rattle.world_core.specs.Calm.{StepIsCalm, SettlesWell, work_at}
-use Rattle.world_core.specs.EachStep.{Claim, EachWent, EachCome, EachSettlingOn, EachSettling, EachAsked, EachStep}
+use Rattle.world_core.specs.EachStep.{StepFact, EachWent, EachCome, EachSettlingOn, EachSettling, EachAsked, EachStep}
 use Rattle.world_core.specs.Handled.{Has, StepsLooked, Went, start, further, SettlesTo, SettlesOn, Settles as SettlesLine, Answers, Handled}
 use Rattle.world_core.specs.Replying.{RepliesSettled, unsettled_reply}
 use Rattle.world_core.specs.Asked.{Asks}
@@ -63,7 +64,7 @@ use Rattle.world_core.proofs.StandsLemmas.{changed_at, changed_was}
 -- ---- the steps of the line
 
 -- what is claimed of a step of the settler says so much of its call
-abbrev Gives : Claim → (Deed → Type 0) → ℕ → Type 1
+abbrev Gives : StepFact → (Deed → Type 0) → ℕ → Type 0
 Gives Holds P n =
     (before after : Seen) (old new : World) (turn : Turn Answer) (p : StepsLooked (settler n) Plain before after old new turn) (m : Settling)
     → p.session.before.work ≡ work.Settling m → Holds (settler n) Plain before after old new turn p
@@ -81,7 +82,7 @@ record WorldAtEnd (E : Settling → Answered → Moment → Type 0) (x : Answere
   told : seen.state ≡ Some now.state
   holds : E settling x now
 
-module _ (Holds : Claim) (B : Settling → Moment → Type 0) (E : Settling → Answered → Moment → Type 0) (P : Deed → Type 0) (hands : Hands B E P) (n : ℕ) (gives : Gives Holds P n) where
+module _ (Holds : StepFact) (B : Settling → Moment → Type 0) (E : Settling → Answered → Moment → Type 0) (P : Deed → Type 0) (hands : Hands B E P) (n : ℕ) (gives : Gives Holds P n) where
   module _ (before after : Seen) (old new : World) (turn : Turn Answer) (at_way : WorldOnWay B P old before) (p : StepsLooked (settler n) Plain before after old new turn) where
     abbrev own : OnWay B P p.session.before at_way.state
     own = of_session B P (session_at old.sessions 0) p.session.before at_way.state (changed_was 0 _ old.sessions new.sessions p.session) at_way.way
@@ -287,28 +288,28 @@ leaves_nothing m s x left tree is =
 
 module _ (trees : TreesRun) (pages : PagesRun) (clients : RecoveriesRun) (lines : List Line) (n : ℕ) (before after : Seen) (old new : World) (t : CloudState) (calls : ℕ)
     (told : before.state ≡ Some t) (stands : WorldStands lines old t) where
-  abbrev result : Result Reply WorldFault
-  result = Ok (reply.Settled calls)
+  abbrev answered : Result Reply WorldFault
+  answered = Ok (reply.Settled calls)
 
   no_memory : (let r : Result Reply WorldFault = Ok (reply.Settled calls) in r ≡ Err fault.Memory) → ⊥
   no_memory e = absurd (cc (e))
 
-  line_leaves : (h : SettlesLine n before after old new result) → EachSettling StepDelivers n before after old new result h → LeftNothing after
+  line_leaves : (h : SettlesLine n before after old new answered) → EachSettling StepDelivers n before after old new answered h → LeftNothing after
   line_leaves (inr memory) each = absurd (no_memory memory)
   line_leaves (inl h) each = on h.settles each
     where
-      on : (s : SettlesOn (settler n) before after h.begun new result) → EachSettlingOn StepDelivers (settler n) before after h.begun new result s → LeftNothing after
+      on : (s : SettlesOn (settler n) before after h.begun new answered) → EachSettlingOn StepDelivers (settler n) before after h.begun new answered s → LeftNothing after
       on (inr memory) steps = absurd (no_memory memory)
       on (inl s) steps =
           let end = (world_settles StepDelivers Left NothingWaits IsDelivered (left_hands trees pages clients) n (delivers_gives n) before old h.begun t told lines stands h.begins
               (left_begins stands.holds.book stands.holds.order t (session_at old.sessions) stands.rests stands.holds.stand) after new calls s steps) in
           record { state = end.1.1.now.state; told = end.1.1.told; nothing = leaves_nothing end.1.1.now end.1.1.settling end.0 end.1.1.holds }
 
-  line_within : (h : SettlesLine n before after old new result) → EachSettling StepIsCalm n before after old new result h → SettledWithin t after calls
+  line_within : (h : SettlesLine n before after old new answered) → EachSettling StepIsCalm n before after old new answered h → SettledWithin t after calls
   line_within (inr memory) each = absurd (no_memory memory)
   line_within (inl h) each = on h.settles each
     where
-      on : (s : SettlesOn (settler n) before after h.begun new result) → EachSettlingOn StepIsCalm (settler n) before after h.begun new result s → SettledWithin t after calls
+      on : (s : SettlesOn (settler n) before after h.begun new answered) → EachSettlingOn StepIsCalm (settler n) before after h.begun new answered s → SettledWithin t after calls
       on (inr memory) steps = absurd (no_memory memory)
       on (inl s) steps =
           let end = (world_settles StepIsCalm (LeftAndCost t) (SettledWell t) GoesCalmly (cost_hands t trees pages clients) n (calm_gives n) before old h.begun t told lines stands h.begins
@@ -318,7 +319,7 @@ module _ (trees : TreesRun) (pages : PagesRun) (clients : RecoveriesRun) (lines 
             told = end.1.1.told;
             nothing = leaves_nothing end.1.1.now end.1.1.settling end.0 end.1.1.holds.0;
             no_log = λ client is. let most = is.most in end.1.1.holds.1.0 client is (omega (arith, most));
-            within = let w = end.1.1.holds.1.1 in record { leaves = w.leaves; are = w.are; within = subst (λ (c : ℕ). c ≤ _) end.1.0 w.within };
+            within = subst (IsWithin t end.1.1.now.state) end.1.0 end.1.1.holds.1.1;
           }
 
 -- ---- the clauses

@@ -25,14 +25,14 @@ use Rattle.session_facts.specs.Sessions.Sessions.{leases_of}
 use Rattle.session_facts.specs.Sessions.Untroubled.{IsSpent}
 use Rattle.session_facts.specs.Settled.Bound.{IsWithin}
 use Rattle.world_audit.specs.Counts.{heads_upto, AreWaiting}
-use Rattle.world_core.specs.EachStep.{Claim, EachStep}
+use Rattle.world_core.specs.EachStep.{StepFact, EachStep}
 use Rattle.world_core.specs.Handled.{Handled}
 use Rattle.world_core.specs.Stands.{WorldStands}
 use Rattle.world_core.specs.declared.world.World.{World}
 use Rattle.world_core.specs.declared.world.WorldFault.{WorldFault}
 
 -- in a step's call no message and no lock was withheld
-abbrev pub StepDelivers : Claim
+abbrev pub StepDelivers : StepFact
 StepDelivers who wish before after old new turn p = p.to.counts.withheld ≡ p.under.counts.withheld
 
 -- A step went well but for the lock that it may take: its call found memory and no count rose in it, the leases that it names lasted, and where it
@@ -45,7 +45,7 @@ pub record GoesWell (who : Caller) (before after : Seen) (old new : Acting) (tur
   pub lasting : (t : CloudState) → after.state ≡ Some t → NamesLasting ask t.now
   pub received : (t : CloudState) → after.state ≡ Some t → ReceivesLate ask (leases_of old.work) t.now → ⊥
 
-abbrev pub StepGoesWell : Claim
+abbrev pub StepGoesWell : StepFact
 StepGoesWell who wish before after old new turn p = GoesWell who p.under p.to p.session.before p.session.after turn p.session.does
 
 -- no lock is held

@@ -28,8 +28,8 @@ use Rattle.world_core.specs.Handled.{Handled}
 use Rattle.world_core.specs.Stands.{WorldStands, StandsOn, Grows}
 use Rattle.schedule_run.specs.declared.replay.LineFault.{LineFault}
 use Rattle.schedule_run.specs.declared.replay.LineFault.TheVariants.{BadLine, WriteFault, Memory}
-use Rattle.schedule_run.specs.Answered.{IsNew, WentOn, start, further, AreAnswered, ReportsAreRight, RepliesAreSound, KeepsTheTheorem}
-use Rattle.schedule_run.proofs.SoundLemmas.{get_before, take_whole, went_soundly}
+use Rattle.schedule_run.specs.Answered.{IsNew, WentOn, start, further, AreAnswered, AreExplained, ReportsAreRight, RepliesAreSound, KeepsTheTheorem}
+use Rattle.schedule_run.proofs.SoundLemmas.{get_before, take_whole, went_soundly, went_explained}
 use Rattle.schedule_run.specs.Written.{reply_line, replies_from, replies, bad_line}
 use Rattle.schedule_run.specs.Replayed.{AreSpelled, WroteFront, reply_cut, refusal_cut, EndedBy, between, writing, handling, Ended, WentThrough, Handles, IsAt, IsAnswered, LineWent, event_handled, refused, unread}
 
@@ -144,6 +144,11 @@ pub replies_sound : (lines : List Line) (s t : Seen) (first world : World) (x : 
     → RepliesAreSound lines
 replies_sound lines s t first world x went fresh told empty = (went_soundly s first x lines t world went told (fresh_stands first x fresh empty)).sound
 
+-- and each line explains itself
+pub lines_explained : (lines : List Line) (s t : Seen) (first world : World) (x : CloudState) → (went : WentOn s first lines t world) → IsNew first → s.state ≡ Some x → IsEmptyCloud x
+    → AreExplained s first lines t world went
+lines_explained lines s t first world x went fresh told empty = went_explained s first x lines t world went told (fresh_stands first x fresh empty)
+
 -- ---- the lines of a text
 
 pub at_start : (text : List ℕ) (w : Told) (s : Seen) (world : World) → IsNew world → IsAt text text 0 w w s s world world
@@ -181,7 +186,13 @@ at_more text rest behind line n m w v u s t z first old new is split next (unrea
 
 abbrev answered : (texts : List (List ℕ)) (w v : Told) (s t : Seen) (first world : World) → IsNew first
     → (h : Handles texts w v s t first world) → AreAnswered h.lines s t
-answered texts w v s t first world fresh h = record { first = first; fresh = fresh; last = world; went = h.went }
+answered texts w v s t first world fresh h = record {
+  first = first;
+  fresh = fresh;
+  last = world;
+  went = h.went;
+  explained = λ x told empty. lines_explained h.lines s t first world x h.went fresh told empty;
+}
 
 pub at_end : (text rest : List ℕ) (n : ℕ) (w v : Told) (s t : Seen) (first world : World) → IsNew first
     → IsAt text rest n w v s t first world → length rest ≡ 0 → WentThrough text (Ok tt) w v s t
@@ -265,8 +276,12 @@ with_answer {text} {rest} {behind} {line} {n} {m} {w} {v} {s} {t} {z} {first} {o
   first = first;
   fresh = met.fresh;
   last = new;
-  went = further met.is.handles.lines one t z old new met.is.handles.went (subst (λ j. Handled j one.event t z old new (Ok one.reply)) (met_count met) a.handled);
+  went = went;
+  explained = λ x told empty. lines_explained (met.is.handles.lines ++ one ∷ []) s z first new x went met.fresh told empty;
 }
+  where
+    went : WentOn s first (met.is.handles.lines ++ one ∷ []) z new
+    went = further met.is.handles.lines one t z old new met.is.handles.went (subst (λ j. Handled j one.event t z old new (Ok one.reply)) (met_count met) a.handled)
 
 -- the run ends behind a text that has a reply
 ends_behind : {text rest behind line : List ℕ} {n m : ℕ} {w v : Told} {s t z : Seen} {first old : World}

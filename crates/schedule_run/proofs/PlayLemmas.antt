@@ -24,7 +24,7 @@ use Rattle.world_core.specs.Stands.{Grows}
 use Rattle.schedule_run.specs.declared.play.Play.{Play}
 use Rattle.schedule_run.specs.Answered.{IsNew, start, further, KeepsTheTheorem}
 use Rattle.schedule_run.specs.Play.{IsFresh, IsNext, RanOut, uncounted, no_answer, Takes, answered_run, stops_run, RunsWhole, Played, StoppedAt, stopped_before, stopped_within}
-use Rattle.schedule_run.proofs.GoingLemmas.{stands_more, fresh_stands, replies_sound, report_same}
+use Rattle.schedule_run.proofs.GoingLemmas.{stands_more, fresh_stands, replies_sound, lines_explained, report_same}
 
 -- a new world added nothing to any cloud
 fresh_adds : (s : Seen) (world : World) (t : CloudState) → s.state ≡ Some t → IsNew world → WorldAdds [] t world s
@@ -95,7 +95,13 @@ stopped_at lines event s t z old new p (no_answer handled grows) =
     stopped_within
     (record {
       mid = t;
-      answered = record { first = p.first; fresh = p.fresh; last = old.world; went = p.went };
+      answered = record {
+        first = p.first;
+        fresh = p.fresh;
+        last = old.world;
+        went = p.went;
+        explained = λ x told empty. lines_explained lines s t p.first old.world x p.went p.fresh told empty;
+      };
       last = new.world;
       handled = subst (λ j. Handled j event t z old.world new.world (Err world.Memory)) at handled;
     })

@@ -11,8 +11,10 @@ use Rattle.replay_meaning.specs.Standing.{Line, session_of}
 use Rattle.world_core.specs.declared.world.World.{World}
 use Rattle.world_core.specs.Stands.{WorldStands}
 use Rattle.world_core.proofs.EveryLine.{stands_after}
+use Rattle.world_core.proofs.Calm.{well_after}
+use Rattle.world_core.proofs.Explained.{explained}
 use Rattle.world_core.proofs.Sound.{sound_after}
-use Rattle.schedule_run.specs.Answered.{WentOn, start, further, IsSoundLine, RepliesAreSound}
+use Rattle.schedule_run.specs.Answered.{WentOn, start, further, AreExplained, IsSoundLine, RepliesAreSound}
 
 -- ---- places of lines
 
@@ -64,3 +66,15 @@ went_soundly before old t lines after new (further earlier line mid _ world _ we
       stands = f.stands;
       sound = sound_more earlier line o.sound q;
     }
+
+-- and each of them explains itself
+pub went_explained : (before : Seen) (old : World) (t : CloudState) (lines : List Line) (after : Seen) (new : World) → (went : WentOn before old lines after new) → before.state ≡ Some t
+    → WorldStands [] old t → AreExplained before old lines after new went
+went_explained before old t lines after new start told stands = tt
+went_explained before old t lines after new (further earlier line mid _ world _ went handled) told stands =
+    let o = went_soundly before old t earlier mid world went told stands in
+    (went_explained before old t earlier mid world went told stands,
+    record {
+      explains = explained (length earlier + 1) line.event mid after world new (Ok line.reply) earlier o.state refl o.told o.stands handled;
+      calm = well_after (length earlier + 1) line.event mid after world new (Ok line.reply) earlier o.state refl o.told o.stands handled;
+    })

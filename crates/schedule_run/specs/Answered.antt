@@ -7,8 +7,12 @@ use Rattle.cloud_trait.specs.Upto.{upto}
 use Rattle.event_text.specs.declared.event.Event.{Event}
 use Rattle.replay_meaning.specs.Standing.{Line, session_of, standing}
 use Rattle.replay_meaning.specs.Right.{ReportIsRight}
+use Rattle.session_facts.specs.Sessions.Untroubled.{IsUntroubled}
 use Rattle.world_core.specs.declared.world.World.{World}
 use Rattle.world_core.specs.declared.world.WorldFault.{WorldFault}
+use Rattle.world_core.specs.Calm.{StepIsCalm, RepliesWell, work_at}
+use Rattle.world_core.specs.EachStep.{EachStep}
+use Rattle.world_core.specs.Explained.{StepExplains}
 use Rattle.world_core.specs.Handled.{Handled}
 use Rattle.world_core.specs.Sound.{IsSoundFor}
 
@@ -25,12 +29,26 @@ pub data WentOn (before : Seen) (old : World) : List Line → Seen → World →
       → WentOn before old lines mid world → Handled (length lines + 1) line.event mid after world new (Ok line.reply)
       → WentOn before old (lines ++ line ∷ []) after new
 
--- these lines were handled from a new world on
+-- a line that was handled explains the steps that it made; and where its session was untroubled and each of these was calm, the session is untroubled
+-- behind it, and the line is answered well
+pub record IsExplained (lines : List Line) (line : Line) (before after : Seen) (old new : World) (handled : Handled (length lines + 1) line.event before after old new (Ok line.reply))
+    : Type 0 where
+  pub explains : EachStep StepExplains (length lines + 1) line.event before after old new (Ok line.reply) handled
+  pub calm : EachStep StepIsCalm (length lines + 1) line.event before after old new (Ok line.reply) handled → IsUntroubled (work_at old (session_of line.event))
+      → IsUntroubled (work_at new (session_of line.event)) × RepliesWell line.event (standing lines (session_of line.event)).posture line.reply
+
+-- and so does each line
+abbrev pub AreExplained : (before : Seen) (old : World) (lines : List Line) (after : Seen) (new : World) → WentOn before old lines after new → Type 0
+AreExplained before old lines after new start = Unit {0}
+AreExplained before old _ after new (further lines line mid _ world _ went handled) = AreExplained before old lines mid world went × IsExplained lines line mid after world new handled
+
+-- these lines were handled from a new world on; over a cloud that was empty and told its state each of them explains itself
 pub record AreAnswered (lines : List Line) (before after : Seen) : Type 0 where
   pub first : World
   pub fresh : IsNew first
   pub last : World
   pub went : WentOn before first lines after last
+  pub explained : (t : CloudState) → before.state ≡ Some t → IsEmptyCloud t → AreExplained before first lines after last went
 
 -- behind these lines this event was handled, and has no reply, by this fault
 pub record IsUnanswered (lines : List Line) (event : Event) (fault : WorldFault) (before after : Seen) : Type 0 where

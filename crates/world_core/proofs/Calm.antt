@@ -1,7 +1,7 @@
 -- A line whose calls are all calm is answered well.
-use Rattle.std.proofs.Common.{◌≡◌, ◌≢◌, ◌+◌, inl, inr, ℕ, List, [], ◌∷◌, ◌++◌, length, Bool, true, false, Option, Some, None, Result, Ok, Err, refl, sym, ap, subst, ◌∙◌}
+use Rattle.std.proofs.Common.{◌≡◌, ◌+◌, inl, inr, ℕ, List, [], length, Bool, true, false, Option, Some, None, Result, Ok, Err, refl, sym, ap, subst, ◌∙◌}
 use Rattle.std.specs.Prelude.{unwrap_or}
-use Rattle.client_session.specs.Session.{Acting, StepsSession, StepsAt, Follows, ListsLeaf, Begins, closed_session, settling_session, items_of, value_of}
+use Rattle.client_session.specs.Session.{Acting, StepsSession, StepsAt, Follows, Begins, closed_session, settling_session, value_of}
 use Rattle.client_session.specs.declared.answer.Answer.{Answer}
 use Rattle.client_session.specs.declared.answer.Answer.TheVariants as answer
 use Rattle.client_session.specs.declared.answer.Begun.{Begun}
@@ -12,7 +12,6 @@ use Rattle.client_session.specs.declared.op.Op.TheVariants as op
 use Rattle.client_session.specs.declared.shown.Shown.{Shown}
 use Rattle.client_session.specs.declared.work.Work.{Work}
 use Rattle.client_session.specs.declared.work.Work.TheVariants as work
-use Rattle.cloud_facts.specs.Book.Tally.{at}
 use Rattle.cloud_facts.proofs.Book.Names.{at_same}
 use Rattle.cloud_trait.specs.Caller.{Caller}
 use Rattle.cloud_trait.specs.Seen.{Seen}
@@ -24,7 +23,6 @@ use Rattle.db_base.specs.declared.refusal.Refusal.{Refusal}
 use Rattle.db_base.specs.declared.refusal.Refused.{Refused}
 use Rattle.db_base.specs.declared.refusal.Refused.TheVariants as refused
 use Rattle.db_base.specs.declared.trouble.CommitAnswer.{CommitAnswer}
-use Rattle.db_base.specs.declared.trouble.CommitAnswer.TheVariants as ending
 use Rattle.db_base.specs.declared.trouble.Trouble.{Trouble}
 use Rattle.db_base.specs.declared.trouble.Trouble.TheVariants as trouble
 use Rattle.db_base.specs.declared.wish.Wish.{Wish}
@@ -33,7 +31,7 @@ use Rattle.event_text.specs.declared.event.Event.{Event}
 use Rattle.event_text.specs.declared.event.Event.TheVariants as event
 use Rattle.page_cache.specs.Cache.{Cache}
 use Rattle.recover_run.specs.declared.home.Home.{Home}
-use Rattle.replay_meaning.specs.Standing.{Line, Task, Opening, Closing, Renewing, Committing, Reading, Scanning, Paging, Folding, Posture, Closed, Idle, Broken, Working, Standing, session_of, standing}
+use Rattle.replay_meaning.specs.Standing.{Line, Task, Opening, Closing, Renewing, Committing, Reading, Scanning, Paging, Folding, Posture, Working, Standing, session_of, standing}
 use Rattle.replay_model.specs.Answers.{IsSoundReply}
 use Rattle.replay_model.specs.Facts.{session_at, WorksAs}
 use Rattle.reply_text.specs.declared.reply.Reply.{Reply}
@@ -44,7 +42,7 @@ use Rattle.session_facts.specs.PageCheckpoints.Checkpoint.{MayStop as MayStopPag
 use Rattle.session_facts.specs.Sessions.Answering.{MayRefuse, MaySettle}
 use Rattle.session_facts.specs.Sessions.Explaining.{left_told, trouble_of_answer}
 use Rattle.session_facts.specs.Sessions.Sessions.{Sessions, IsRightOp}
-use Rattle.session_facts.specs.Sessions.Untroubled.{StepsCalmly, IsOfNoCall, IsUntroubled, IsSpent, IsSpentOrOf, CommitsWell}
+use Rattle.session_facts.specs.Sessions.Untroubled.{StepsCalmly, IsOfNoCall, IsUntroubled, IsSpent, IsSpentOrOf}
 use Rattle.session_facts.specs.TreeCheckpoints.Checkpoint.{MayStop as MayStopTree}
 use Rattle.session_facts.specs.Walks.Walks.{MayStop as MayStopWalk}
 use Rattle.session_facts.proofs.CommitRuns.Telling.{IsTold}
@@ -60,10 +58,10 @@ use Rattle.world_core.specs.declared.world.World.{World}
 use Rattle.world_core.specs.declared.world.WorldFault.{WorldFault}
 use Rattle.world_core.specs.Asked.{Asks, OfSession, IsOpening, IsReading, IsScanning, IsPaging, IsFolding, IsInsert, IsUpdate, IsDelete, IsNoted, IsStep, bound_of}
 use Rattle.world_core.specs.Calm.{StepIsCalm, work_at, DoesWell, BeginsWell, RunsWell, StepsWell, SettlesWell, RepliesWell, AnswersWell}
-use Rattle.world_core.specs.EachStep.{EachWent, EachCome, EachMade, EachRun, EachCrashed, EachSettlingOn, EachSettling, EachDone, EachServed, EachAsked}
+use Rattle.world_core.specs.EachStep.{EachWent, EachMade, EachRun, EachSettlingOn, EachSettling, EachDone, EachAsked}
 use Rattle.world_core.specs.Explained.{StepExplains}
-use Rattle.world_core.specs.Handled.{Declines, Has, BeginsOp, NotesChange, DropsChanges, MakesNoCall, StepsLooked, MakesStep, Went, start, further, ComesTo, Runs, SettlesTo, SettlesOn, Settles, Crashes, Does, Serves, Answers, Handled}
-use Rattle.world_core.specs.Replying.{RepliesTo, RepliesBegun, RepliesSettled, RepliesTurn, declined, value_reply}
+use Rattle.world_core.specs.Handled.{Declines, Has, BeginsOp, NotesChange, DropsChanges, StepsLooked, MakesStep, Went, start, further, Runs, SettlesOn, Settles, Crashes, Does, Answers}
+use Rattle.world_core.specs.Replying.{RepliesTo, RepliesBegun, RepliesSettled, RepliesTurn, value_reply}
 use Rattle.world_core.specs.Sessions.{Changes, NotesIn, AbortsIn}
 use Rattle.world_core.specs.Sound.{IsSoundFor}
 use Rattle.world_core.specs.Stands.{WorldStands}

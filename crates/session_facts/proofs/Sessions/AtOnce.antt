@@ -1,6 +1,6 @@
 -- An operation that begins is untroubled, and one that is answered at once is answered well.
-use Rattle.std.proofs.Common.{◌≡◌, ◌⊎◌, inl, inr, ℕ, List, [], Option, Some, None, Result, Ok, Err, refl, sym, ap, subst, ◌∙◌}
-use Rattle.client_session.specs.Session.{Acting, Begins, BeginsOpening, BeginsWith, HasInHand, CommitsIn, CommitsNothing, CommitsOf, CommitsNoted, ReadsIn, ReadsOf, ScansIn, ScansOf, ListsLeaf, Follows, begins_by, closed_session, opening_of, old_lease, stopped_work, paging_begun_by, folding_begun_by}
+use Rattle.std.proofs.Common.{◌≡◌, ◌⊎◌, inl, inr, ℕ, List, [], Option, Some, None, Result, Ok, Err, refl, sym, ap, subst}
+use Rattle.client_session.specs.Session.{Acting, Begins, BeginsOpening, BeginsWith, HasInHand, CommitsIn, CommitsOf, CommitsNoted, ReadsIn, ScansIn, ListsLeaf, Follows, begins_by, opening_of, old_lease, stopped_work, paging_begun_by, folding_begun_by}
 use Rattle.client_session.specs.declared.answer.Answer.{Answer}
 use Rattle.client_session.specs.declared.answer.Answer.TheVariants as answer
 use Rattle.client_session.specs.declared.answer.Begun.{Begun}
@@ -15,7 +15,6 @@ use Rattle.cloud_facts.specs.Book.Book.{Book}
 use Rattle.cloud_trait.specs.declared.turn.Turn.{Turn}
 use Rattle.cloud_trait.specs.declared.turn.Turn.TheVariants.{More, Ended, Stopped}
 use Rattle.cloud_trait.specs.Claim.{Claim}
-use Rattle.cloud_trait.specs.Machine.{Ends}
 use Rattle.cloud_trait.specs.State.{CloudState}
 use Rattle.commit_run.specs.Run.{new_run, home_of}
 use Rattle.db_base.specs.Ids.{IsTree}

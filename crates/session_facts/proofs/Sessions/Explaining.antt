@@ -1,5 +1,5 @@
 -- A step of a session explains what it brought.
-use Rattle.std.proofs.Common.{◌≡◌, ◌≢◌, ◌≤◌, ℕ, List, Option, Some, None, Ok, refl, subst}
+use Rattle.std.proofs.Common.{◌≡◌, ◌≢◌, ◌≤◌, List, Some, Ok, refl, subst}
 use Rattle.client_session.specs.Session.{Acting, StepsSession, StepsAt, ShowsAt, ask_of_work}
 use Rattle.client_session.specs.declared.answer.Answer.{Answer}
 use Rattle.client_session.specs.declared.shown.Shown.{Shown}

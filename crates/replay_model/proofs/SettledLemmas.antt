@@ -1,5 +1,5 @@
 -- Where heads are settled and queues are empty, a report counts nothing.
-use Rattle.std.proofs.Common.{◌≡◌, ◌+◌, ◌-◌, ◌<◌, ◌≤◌, ℕ, zero, suc, List, [], length, min, Option, Some, None, refl, sym, ap, subst, ◌∙◌, ◌⊎◌, inl, inr, Bool, true, false, arith, cond}
+use Rattle.std.proofs.Common.{◌≡◌, ◌-◌, ◌≤◌, ℕ, zero, suc, List, [], length, min, Option, Some, None, refl, sym, ap, subst, ◌∙◌, arith, cond}
 use Rattle.std.specs.Prelude.{◌&&◌, unwrap_or}
 use Rattle.std.specs.List.{list_any}
 use Rattle.cloud_facts.proofs.Calls.Heads.{head_at, newest_head}
@@ -8,14 +8,13 @@ use Rattle.cloud_facts.specs.Decoding.Decodes.{Decodes}
 use Rattle.cloud_facts.specs.Book.Telling.{head_in as head_of_version, last_or, queue_of}
 use Rattle.cloud_trait.specs.Delivery.{unmarked}
 use Rattle.cloud_trait.specs.State.{CloudState, newest, greatest}
-use Rattle.cloud_trait.specs.declared.message.Message.{Message}
 use Rattle.db_base.specs.Ids.{IsClient}
 use Rattle.db_base.specs.declared.names.ObjName.TheVariants as object
 use Rattle.head_codec.specs.Head.{empty_head}
 use Rattle.head_codec.specs.declared.head.Head.{Head}
 use Rattle.head_codec.specs.declared.head.Phase.{Phase}
 use Rattle.head_codec.specs.declared.head.Phase.TheVariants.{Settled}
-use Rattle.node_codec.specs.Tree.{Tree, IsTree}
+use Rattle.node_codec.specs.Tree.{IsTree}
 use Rattle.report_types.specs.declared.entry.Entry.{Entry}
 use Rattle.std.specs.Prelude.{map}
 use Rattle.world_audit.specs.Counts.{is_of, is_under_way, open_count, open_at, head_in, heads_upto, queue_at, messages_below, IsNextPage, AreWaiting}

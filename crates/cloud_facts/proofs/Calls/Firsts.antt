@@ -1,5 +1,5 @@
 -- The first leaf of a tree, and the newest versions of the pages of its leaf chain.
-use Rattle.std.proofs.Common.{◌≡◌, ℕ, zero, List, refl, sym, ap, subst, ◌∙◌, arith}
+use Rattle.std.proofs.Common.{◌≡◌, ℕ, zero, List, refl, ap, arith}
 use Rattle.std.specs.Prelude.{slice_get}
 use Rattle.cloud_trait.specs.State.{CloudState}
 use Rattle.db_base.specs.Ids.{IsTree}

@@ -286,7 +286,7 @@ waiting_kept p reply waits k kept next leads = on waits
     on : TroubleWaits p → KeepsNext k next
     on (inl stage) =
         let left : AbsorbsAt Releasing (record p { held = held_after Releasing p.held }) reply next =
-            subst (λ (g : Stage). AbsorbsAt g (record p { held = held_after g p.held }) reply next) stage leads in
+        subst (λ (g : Stage). AbsorbsAt g (record p { held = held_after g p.held }) reply next) stage leads in
         subst (KeepsNext k) (sym left) (releases (record p { held = held_after Releasing p.held }) (newest_lease (held_after Releasing p.held)) kept)
     on (inr none) = absurd (cc (none, kept))
 

@@ -1,5 +1,5 @@
 -- An operation that begins is untroubled, and one that is answered at once is answered well.
-use Rattle.std.proofs.Common.{◌≡◌, ◌⊎◌, inl, inr, ℕ, List, [], Option, Some, None, Result, Ok, Err, refl, sym, ap, subst}
+use Rattle.std.proofs.Common.{◌≡◌, inl, inr, ℕ, List, [], Option, Some, None, Result, Ok, Err, refl, sym, ap, subst}
 use Rattle.client_session.specs.Session.{Acting, Begins, BeginsOpening, BeginsWith, HasInHand, CommitsIn, CommitsOf, CommitsNoted, ReadsIn, ScansIn, ListsLeaf, Follows, begins_by, opening_of, old_lease, stopped_work, paging_begun_by, folding_begun_by}
 use Rattle.client_session.specs.declared.answer.Answer.{Answer}
 use Rattle.client_session.specs.declared.answer.Answer.TheVariants as answer

@@ -67,10 +67,12 @@ module _ (who : Caller) (before after : Seen) (s t : CloudState) (book : Book) (
       → (shows : ShowsAt who before after buffer work kept c new shown turn) → Explained work new turn (reply_at who before after buffer work kept c new shown turn steps shows)
   by_work buffer (Opening r) new c shown turn is steps shows =
       (recovery_ask r, refl, λ found. opening_explains who before after s t book order sessions told told_after stand r is steps.0 new turn steps.1)
-  by_work buffer (Committing r) new c shown turn is steps shows =
-      (run_ask r, refl,
-      committing_explains who before after s t book order told told_after stand.cloud r kept (stand.parts who.session) (λ later. known_in (Committing r) is later)
-      steps.0 c new turn shows.0)
+  by_work buffer (Committing r) new c shown turn is steps shows = (
+    run_ask r,
+    refl,
+    committing_explains who before after s t book order told told_after stand.cloud r kept (stand.parts who.session) (λ later. known_in (Committing r) is later)
+        steps.0 c new turn shows.0,
+  )
   by_work buffer (Reading home w) new c shown turn is steps shows =
       let knows : KnowsWalking st w kept = record { walk = (known_now (Reading home w) is).1; cache = cache_now (Reading home w) is } in
       (walk_ask w, refl, λ found. reading_explains who before after s t book order told told_after stand.cloud home w kept knows c new shown turn shows)

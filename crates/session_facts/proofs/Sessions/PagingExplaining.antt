@@ -39,8 +39,8 @@ module _ (who : Caller) (before after : Seen) (s t : CloudState) (told : before.
     shown = λ none clean k other meets. on none k meets;
     kept = λ k e. ap trouble_in is ∙ waiting_kept p steps.answer knows.waits k e (Goes m) steps.took;
     left =
-      subst (λ (w : Work). (left_in w ≤ p.deletions.left) ⊎ Rose before.counts.faults after.counts.faults) (sym is)
-      (paging_left who before after s t told told_after (leases_of (PagingOn home p)) st now p steps.answer knows steps.made found (Goes m) steps.took);
+        subst (λ (w : Work). (left_in w ≤ p.deletions.left) ⊎ Rose before.counts.faults after.counts.faults) (sym is)
+        (paging_left who before after s t told told_after (leases_of (PagingOn home p)) st now p steps.answer knows steps.made found (Goes m) steps.took);
   }
     where
       on : p.trouble ≡ None → (k : Trouble) → Meets work More k → IsShown (paging_ask p) (leases_of (PagingOn home p)) before.counts after.counts s t k

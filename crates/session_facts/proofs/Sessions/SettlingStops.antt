@@ -11,7 +11,7 @@ use Rattle.cloud_trait.specs.Machine.{Next, Goes, Ends, Stops}
 use Rattle.cloud_trait.specs.State.{CloudState}
 use Rattle.db_base.specs.declared.trouble.Trouble.{Trouble}
 use Rattle.db_base.specs.declared.trouble.Trouble.TheVariants as trouble
-use Rattle.cloud_facts.specs.Homes.Homes.{Part, Parts}
+use Rattle.cloud_facts.specs.Homes.Homes.{Parts}
 use Rattle.leaf_view.specs.Lookup.{page_at}
 use Rattle.session_facts.specs.Openings.Opening.{MayStop as MayStopOpening}
 use Rattle.session_facts.proofs.Openings.Stopping.{opening_stops}

@@ -144,9 +144,10 @@ pub answer_untroubled : (who : Caller) (before after : Seen) (old new : Acting) 
     → ((s t : CloudState) → before.state ≡ Some s → after.state ≡ Some t → IsExplained who before after old new (Ended a) s t p) → IsUntroubled old.work
     → ((k : Trouble) → trouble_of_answer a ≡ Some k → IsOfNoCall k) × (left_told new.work (Ended a) ≡ 0)
 answer_untroubled who before after old new a p calm explained well =
-    let c = calmly who before after old new (Ended a) p calm explained in
-    (answers_untroubled calm.ask before.counts after.counts calm.calm.before calm.calm.after old.work new.work c.same c.free c.lasting c.received well a c.explains,
-    no_left calm.ask before.counts after.counts calm.calm.before calm.calm.after old.work new.work c.same c.free c.lasting c.received well (Ended a) c.explains)
+    let c = calmly who before after old new (Ended a) p calm explained in (
+      answers_untroubled calm.ask before.counts after.counts calm.calm.before calm.calm.after old.work new.work c.same c.free c.lasting c.received well a c.explains,
+      no_left calm.ask before.counts after.counts calm.calm.before calm.calm.after old.work new.work c.same c.free c.lasting c.received well (Ended a) c.explains,
+    )
 
 -- ---- behind an answer
 

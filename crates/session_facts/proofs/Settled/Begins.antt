@@ -15,15 +15,16 @@ module _ (book : Book) (order : List Entry) (t : CloudState) (sessions : Session
   left_begins = λ k is less. let some = is.some in absurd (omega (arith, less, some))
 
   pub cost_begins : Cost t new_settling (first_moment book order t sessions closed stand)
-  cost_begins =
-      (λ k is less. let some = is.some in absurd (omega (arith, less, some)),
-      record {
-        few = λ n e. omega arith;
-        heads = λ k from. refl;
-        logs = λ k from. refl;
-        sends = λ q pending. refl;
-        longer = λ q. omega arith;
-      })
+  cost_begins = (
+    λ k is less. let some = is.some in absurd (omega (arith, less, some)),
+    record {
+      few = λ n e. omega arith;
+      heads = λ k from. refl;
+      logs = λ k from. refl;
+      sends = λ q pending. refl;
+      longer = λ q. omega arith;
+    },
+  )
 
   pub both_begin : LeftAndCost t new_settling (first_moment book order t sessions closed stand)
   both_begin = (left_begins, cost_begins)

@@ -257,11 +257,12 @@ module _ (begin : CloudState) (trees : TreesRun) (pages : PagesRun) (clients : R
         on true e = (client_logs, recovering)
         on false e =
             let far : 64 ≤ client = enough e in
-            let most = is_client.most in
-            (λ k is less. let bound = is.most in client_logs k is (omega (arith, far, bound)),
-            takes begin 1 no_need (own_tree 1) IsPending (RestTree 1) more last.state (queue.TreePu 1) tt tt
-            (λ messages pages. zero_sum (queue_calls (messages (queue.TreePu 1)) (pages 1))) pending
-            (trees_begin begin last.state (client + 1) more (omega (arith, far, most)) recovering))
+            let most = is_client.most in (
+              λ k is less. let bound = is.most in client_logs k is (omega (arith, far, bound)),
+              takes begin 1 no_need (own_tree 1) IsPending (RestTree 1) more last.state (queue.TreePu 1) tt tt
+                  (λ messages pages. zero_sum (queue_calls (messages (queue.TreePu 1)) (pages 1))) pending
+                  (trees_begin begin last.state (client + 1) more (omega (arith, far, most)) recovering),
+            )
 
   -- ---- the queue of a tree
 
@@ -307,21 +308,23 @@ module _ (begin : CloudState) (trees : TreesRun) (pages : PagesRun) (clients : R
 
         on : (ids : List ℕ) → new_ids s.known r.received ≡ ids → HandsOn (passed_with (behind_part s (Tree tree r) h) ids)
         on [] e =
-            let none : length r.received ≡ 0 = ap length (none_told (queue.TreePu tree) s.known r.received first.state last.state left.1.1 tree_drains e) in
-            (tree_logs,
-            takes begin tree (own_tree tree) (own_pages tree (1 ∷ [])) (RestTree tree) (RestPages tree (1 ∷ [])) more last.state (queue.PagePu tree 1) tt (omega arith)
-            (λ messages pages. sum_zero (queue_calls (messages (queue.TreePu tree)) (pages tree)) (queue_calls (messages (queue.PagePu tree 1)) (pages tree))) first_page
-            (tree_moves nothing
-            (λ pages fits. no_more (length h) s.calls (queue_calls (length (waiting first.state (queue.TreePu tree))) (pages tree))
-            (none_received (length h) (length r.received) (length (waiting first.state (queue.TreePu tree))) (pages tree) (tree_run.few calm memory (pages tree) fits) none))))
+            let none : length r.received ≡ 0 = ap length (none_told (queue.TreePu tree) s.known r.received first.state last.state left.1.1 tree_drains e) in (
+              tree_logs,
+              takes begin tree (own_tree tree) (own_pages tree (1 ∷ [])) (RestTree tree) (RestPages tree (1 ∷ [])) more last.state (queue.PagePu tree 1) tt (omega arith)
+                  (λ messages pages. sum_zero (queue_calls (messages (queue.TreePu tree)) (pages tree)) (queue_calls (messages (queue.PagePu tree 1)) (pages tree))) first_page
+                  (tree_moves nothing
+                  (λ pages fits. no_more (length h) s.calls (queue_calls (length (waiting first.state (queue.TreePu tree))) (pages tree))
+                  (none_received (length h) (length r.received) (length (waiting first.state (queue.TreePu tree))) (pages tree) (tree_run.few calm memory (pages tree) fits) none))),
+            )
         on (id ∷ ids) e =
-            let some : 1 ≤ length r.received = some_told (queue.TreePu tree) s.known r.received first.state last.state left.1.1 tree_drains id ids e in
-            (tree_logs,
-            tree_moves (needs (length (waiting last.state (queue.TreePu tree))) tree)
-            (λ pages fits. some_more (length h) s.calls (queue_calls (length (waiting last.state (queue.TreePu tree))) (pages tree))
-            (queue_calls (length (waiting first.state (queue.TreePu tree))) (pages tree))
-            (some_received (length h) (length r.received) (length (waiting last.state (queue.TreePu tree))) (length (waiting first.state (queue.TreePu tree))) (pages tree)
-            (tree_run.few calm memory (pages tree) fits) some tree_drains.count)))
+            let some : 1 ≤ length r.received = some_told (queue.TreePu tree) s.known r.received first.state last.state left.1.1 tree_drains id ids e in (
+              tree_logs,
+              tree_moves (needs (length (waiting last.state (queue.TreePu tree))) tree)
+                  (λ pages fits. some_more (length h) s.calls (queue_calls (length (waiting last.state (queue.TreePu tree))) (pages tree))
+                  (queue_calls (length (waiting first.state (queue.TreePu tree))) (pages tree))
+                  (some_received (length h) (length r.received) (length (waiting last.state (queue.TreePu tree))) (length (waiting first.state (queue.TreePu tree))) (pages tree)
+                  (tree_run.few calm memory (pages tree) fits) some tree_drains.count)),
+            )
 
   -- ---- the queue of a page
 
@@ -394,10 +397,11 @@ module _ (begin : CloudState) (trees : TreesRun) (pages : PagesRun) (clients : R
         without_own (queue.PagePu t p) is = is
 
         by : (b : Bool) → nat_lt tree 16 ≡ b → HandsOn (cond b (begins (record after { visited = [] }) (part_of_tree (tree + 1))) (Ends after (record { calls = after.calls })))
-        by true f =
-            (page_logs,
-            takes begin (tree + 1) no_need (own_tree (tree + 1)) (RestFrom (tree + 1)) (RestTree (tree + 1)) more last.state (queue.TreePu (tree + 1)) tt (omega arith)
-            (λ messages counts. zero_sum (queue_calls (messages (queue.TreePu (tree + 1))) (counts (tree + 1)))) without_own (next_tree none e))
+        by true f = (
+          page_logs,
+          takes begin (tree + 1) no_need (own_tree (tree + 1)) (RestFrom (tree + 1)) (RestTree (tree + 1)) more last.state (queue.TreePu (tree + 1)) tt (omega arith)
+              (λ messages counts. zero_sum (queue_calls (messages (queue.TreePu (tree + 1))) (counts (tree + 1)))) without_own (next_tree none e),
+        )
         by false f =
             let far : 16 ≤ tree = enough f in
             let most = is_tree.most in
@@ -413,14 +417,15 @@ module _ (begin : CloudState) (trees : TreesRun) (pages : PagesRun) (clients : R
 
         by : (b : Bool) → is_visited after q ≡ b → HandsOn (cond b (Stops after (trouble.Loop q)) (to_page after tree q))
         by true f = tt
-        by false f =
-            (page_logs,
-            takes begin tree (own_pages tree s.visited) (own_pages tree (s.visited ++ q ∷ [])) (RestPages tree s.visited) (RestPages tree (s.visited ++ q ∷ [])) more last.state
-            (queue.PagePu tree q) tt (omega arith, λ e there. not_any s.visited q f there)
-            (λ messages counts.
-            sum_both (queue_calls (messages (queue.TreePu tree)) (counts tree)) (sum_over (λ p. queue_calls (messages (queue.PagePu tree p)) (counts tree)) (s.visited ++ q ∷ []))
-            (sum_over (λ p. queue_calls (messages (queue.PagePu tree p)) (counts tree)) s.visited) (queue_calls (messages (queue.PagePu tree q)) (counts tree))
-            (sum_over_more (λ p. queue_calls (messages (queue.PagePu tree p)) (counts tree)) s.visited q)) fewer (page_spent none))
+        by false f = (
+          page_logs,
+          takes begin tree (own_pages tree s.visited) (own_pages tree (s.visited ++ q ∷ [])) (RestPages tree s.visited) (RestPages tree (s.visited ++ q ∷ [])) more last.state
+              (queue.PagePu tree q) tt (omega arith, λ e there. not_any s.visited q f there)
+              (λ messages counts.
+              sum_both (queue_calls (messages (queue.TreePu tree)) (counts tree)) (sum_over (λ p. queue_calls (messages (queue.PagePu tree p)) (counts tree)) (s.visited ++ q ∷ []))
+              (sum_over (λ p. queue_calls (messages (queue.PagePu tree p)) (counts tree)) s.visited) (queue_calls (messages (queue.PagePu tree q)) (counts tree))
+              (sum_over_more (λ p. queue_calls (messages (queue.PagePu tree p)) (counts tree)) s.visited q)) fewer (page_spent none),
+        )
 
     cost_next : new_ids s.known r.received ≡ [] → (o : Option ℕ) → page_at r.home.right ≡ o → HandsOn (goes_right after tree o)
     cost_next none None e = cost_ends none e
@@ -432,13 +437,14 @@ module _ (begin : CloudState) (trees : TreesRun) (pages : PagesRun) (clients : R
         on : (ids : List ℕ) → new_ids s.known r.received ≡ ids → HandsOn (passed_with after ids)
         on [] e = cost_next e (page_at r.home.right) refl
         on (id ∷ ids) e =
-            let some : 1 ≤ length r.received = some_told (queue.PagePu tree page) s.known r.received first.state last.state left.1.1.0 page_drains id ids e in
-            (page_logs,
-            page_moves (needs (length (waiting last.state (queue.PagePu tree page))) tree)
-            (λ counts fits. some_more (length h) s.calls (queue_calls (length (waiting last.state (queue.PagePu tree page))) (counts tree))
-            (queue_calls (length (waiting first.state (queue.PagePu tree page))) (counts tree))
-            (some_received (length h) (length r.received) (length (waiting last.state (queue.PagePu tree page))) (length (waiting first.state (queue.PagePu tree page))) (counts tree)
-            (page_run.few calm memory (counts tree) fits) some page_drains.count)))
+            let some : 1 ≤ length r.received = some_told (queue.PagePu tree page) s.known r.received first.state last.state left.1.1.0 page_drains id ids e in (
+              page_logs,
+              page_moves (needs (length (waiting last.state (queue.PagePu tree page))) tree)
+                  (λ counts fits. some_more (length h) s.calls (queue_calls (length (waiting last.state (queue.PagePu tree page))) (counts tree))
+                  (queue_calls (length (waiting first.state (queue.PagePu tree page))) (counts tree))
+                  (some_received (length h) (length r.received) (length (waiting last.state (queue.PagePu tree page))) (length (waiting first.state (queue.PagePu tree page))) (counts tree)
+                  (page_run.few calm memory (counts tree) fits) some page_drains.count)),
+            )
 
   part_cost : (w : Part) → IsOfTree w → IsOfClient w → LeftAt w s.known s.visited first → CostAt begin w s.visited s.calls first → PartRan w h first last
       → HandsOn (passed (behind_part s w h))

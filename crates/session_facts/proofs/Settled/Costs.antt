@@ -94,10 +94,10 @@ moves begin t extra less own rest calls more first last same counts nexts rights
   longer = λ q. let was = spent.longer q in let two = counts q in omega (arith, was, two);
   few = λ n e messages pages fits.
       let was = spent.few n e messages pages
-          (record {
-            settles = λ q pending. let now = fits.settles q pending in let two = counts q in omega (arith, now, two);
-            within = λ k. let now = fits.within k in let grew = nexts k in omega (arith, now, grew);
-          }) in
+      (record {
+        settles = λ q pending. let now = fits.settles q pending in let two = counts q in omega (arith, now, two);
+        within = λ k. let now = fits.within k in let grew = nexts k in omega (arith, now, grew);
+      }) in
       let more_is = step pages (fits.within t) in
       close more calls (less pages) (extra pages) (all_clients begin) (trees_calls messages pages spent.leaves n + own messages pages) more_is was;
 }
@@ -153,10 +153,10 @@ all_within begin s rest t calls low high spent = record {
   are = λ k is. let most = is.most in spent.are k is (omega (arith, most, low));
   within =
       let was = spent.few 16 (omega (arith, low, high)) (to_settle begin s) (λ k. next_page s k - 1)
-          (record {
-            settles = λ q pending. let longer = spent.longer q in omega (arith, longer);
-            within = λ k. omega arith;
-          }) in
+      (record {
+        settles = λ q pending. let longer = spent.longer q in omega (arith, longer);
+        within = λ k. omega arith;
+      }) in
       let clients = sum_eights (client_calls begin) 64 in
       close calls (all_clients begin) (sum_upto (client_calls begin) 64)
       (sum_upto (λ k. tree_calls (to_settle begin s) (next_page s k - 1) k (spent.leaves k)) 16) was clients;

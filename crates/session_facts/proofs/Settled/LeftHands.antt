@@ -137,9 +137,10 @@ module _ (trees : TreesRun) (pages : PagesRun) (clients : RecoveriesRun) (s : Se
       on : (b : Bool) → nat_lt client 64 ≡ b → HandsOn (begins (behind_part s (Client client r) h) (cond b (part_of_client (client + 1)) (part_of_tree 1)))
       on true e = one_more
       on false e =
-          let far : 64 ≤ client = enough e in
-          (λ k is less. let most = is.most in one_more k is (omega (arith, far, most)),
-          (λ t is less. let some = is.some in absurd (omega (arith, some, less)), none_received (queue.TreePu 1) last.state))
+          let far : 64 ≤ client = enough e in (
+            λ k is less. let most = is.most in one_more k is (omega (arith, far, most)),
+            (λ t is less. let some = is.some in absurd (omega (arith, some, less)), none_received (queue.TreePu 1) last.state),
+          )
 
   tree_left : (tree : ℕ) (r : Making) → LeftAt (Tree tree r) s.known s.visited first → PartRan (Tree tree r) h first last → HandsOn (passed (behind_part s (Tree tree r) h))
   tree_left tree r left ran = on (new_ids s.known r.received) refl
@@ -160,13 +161,20 @@ module _ (trees : TreesRun) (pages : PagesRun) (clients : RecoveriesRun) (s : Se
       before = trees_stay true tree (queue.TreePu tree) first last keeps refl left.1.0
 
       on : (ids : List ℕ) → new_ids s.known r.received ≡ ids → HandsOn (passed_with (behind_part s (Tree tree r) h) ids)
-      on [] e =
-          (heads, (before, (none_received (queue.PagePu tree 1) last.state,
-          record {
-            own = none_left (queue.TreePu tree) s.known r.received first.state last.state left.1.1 drains e;
-            leads = (refl, refl);
-            behind = λ p is other. absurd (other (get_single 1 is.0 p is.1));
-          })))
+      on [] e = (
+        heads,
+        (
+          before,
+          (
+            none_received (queue.PagePu tree 1) last.state,
+            record {
+              own = none_left (queue.TreePu tree) s.known r.received first.state last.state left.1.1 drains e;
+              leads = (refl, refl);
+              behind = λ p is other. absurd (other (get_single 1 is.0 p is.1));
+            },
+          ),
+        ),
+      )
       on (id ∷ ids) e = (heads, (before, news_left (queue.TreePu tree) s.known r.received first.state last.state left.1.1 drains (id ∷ ids) e))
 
   module _ (tree page : ℕ) (r : Paging) (is_tree : IsTree tree) (left : LeftAt (Page tree page r) s.known s.visited first) (ran : PartRan (Page tree page r) h first last) where

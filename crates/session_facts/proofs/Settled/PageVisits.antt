@@ -53,14 +53,16 @@ module _ (p : Paging) where
   right_comes : (q : Paging) (l : Link) (b : Bool) → q.visited ≡ p.visited → is_visited q l.page ≡ b → Comes p (to_right q l b)
   right_comes q l true same e = inl same
   right_comes q l false same e =
-      inr (refl,
-      record {
-        page = l.page;
-        is = ap (λ (vs : List ℕ). vs ++ l.page ∷ []) same;
-        fresh =
-            subst (λ (vs : List ℕ). list_any (λ (x : ℕ). x == l.page) vs ≡ false) same
-            (or_second (l.page == q.page) (list_any (λ (x : ℕ). x == l.page) q.visited) e);
-      })
+      inr (
+        refl,
+        record {
+          page = l.page;
+          is = ap (λ (vs : List ℕ). vs ++ l.page ∷ []) same;
+          fresh =
+              subst (λ (vs : List ℕ). list_any (λ (x : ℕ). x == l.page) vs ≡ false) same
+              (or_second (l.page == q.page) (list_any (λ (x : ℕ). x == l.page) q.visited) e);
+        },
+      )
 
   on_comes : (q : Paging) (o : Option Link) (next : Step) → q.visited ≡ p.visited → GoesOn q o next → Comes p next
   on_comes q (Some l) next same h = by_built p next _ h (right_comes q l (is_visited q l.page) same refl)

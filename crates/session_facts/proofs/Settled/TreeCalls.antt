@@ -226,8 +226,8 @@ node_up : (p : ℕ) (r : Rising) (at level : ℕ) (plan : Result NodePlan Troubl
 unfolding BelowUp
 node_up p r at level (Ok q) few none from within =
     subst (λ (last : Option (List ℕ)). next_of r.chart ≤ p + 1 → Reserving (own_of last) r.chart q.placing
-      → up_left p last (record r { chart = record r.chart { links = r.chart.links ++ links_at level q.entries }; at = at + 1; placing = q.placing })
-      < 2 * (length r.chart.nodes - r.at) + (p + 1 - next_of r.chart) + 4)
+    → up_left p last (record r { chart = record r.chart { links = r.chart.links ++ links_at level q.entries }; at = at + 1; placing = q.placing })
+    < 2 * (length r.chart.nodes - r.at) + (p + 1 - next_of r.chart) + 4)
     (sym none) (λ next reserves. omega (arith, few q refl, from, within))
 node_up p r at level (Err t) few none from within = tt
 
@@ -378,7 +378,7 @@ below_start p d tree h root run ids items some = on (next_key (chart_of tree roo
   on None e =
       let within = all_within p d 0 (omega (arith, some)) in
       below_rising p (14 + d * (8 * p + 16)) (2 * (length {A = KeptNode} [] - 0) + (p + 1 - next_of (chart_of tree root run)) + 4) h
-          (rise.rise (rise.begun (chart_of tree root run)))
+      (rise.rise (rise.begun (chart_of tree root run)))
       (rise_up p (rise.begun (chart_of tree root run)) refl)
       (omega (arith, within, ids)) (omega (arith, within, ids))
 
@@ -457,7 +457,7 @@ below_put p h f (Err t) some reserves = λ room. omega arith
 below_folded : (p : ℕ) (h : Held) (f : Folding) (a : Answer) → FitsLeaf p f → Below p (calls_left p (work.Folding h f)) (folding_on h (fold.folding_next f a))
 below_folded p h f a (inl reading) =
     subst (λ (placing : Placing). Below p (calls_left p (work.Folding h (record f { placing = placing })))
-        (folding_on h (fold.folding_next (record f { placing = placing }) a)))
+    (folding_on h (fold.folding_next (record f { placing = placing }) a)))
     (sym reading.0)
     (below_got p h (record f { placing = no_placing }) (fold.leaf_got (record f { placing = no_placing }) (got_of a))
     (got_leaves (record f { placing = no_placing }) (got_of a)) (got_leaf (record f { placing = no_placing }) (got_of a)))

@@ -1,5 +1,5 @@
 -- The checkpoint of a tree that ended without a failed deletion deleted all that it received.
-use Rattle.std.proofs.Common.{◌≡◌, ◌+◌, ◌≤◌, ◌⊎◌, inl, inr, ℕ, Bool, true, false, List, [], ◌∷◌, ◌++◌, length, Result, Ok, Err, refl, sym, ap, subst, ◌∙◌, arith}
+use Rattle.std.proofs.Common.{◌≡◌, ◌≤◌, ◌⊎◌, inl, inr, ℕ, Bool, true, false, List, [], ◌∷◌, ◌++◌, length, Result, Ok, Err, refl, sym, ap, subst, ◌∙◌, arith}
 use Rattle.ckpt_parts.specs.Intakes.{ids_of}
 use Rattle.cloud_facts.proofs.Calls.Heads.{held_seen}
 use Rattle.cloud_facts.proofs.Chains.Pieces.{none_in, in_first, in_rest, in_cases}
@@ -184,14 +184,14 @@ record Opens (tree : ℕ) (s t : CloudState) (o : Opening) : Type 0 where
 
 opens : (tree : ℕ) (lease : Claim) (o : Opening) (s t : CloudState) → LedBy s (opening_calls tree lease o) t → Opens tree s t o
 opens tree lease o s t (held, (taken, (start, at, take), get), receive) = record {
-    messages = led_same (Receive (queue.TreePu tree) 256, call.Received o.messages) held t tt receive ∙ before;
-    delivered = subst (λ (f : QueueName → List Posted). IsDelivering (f (queue.TreePu tree)) 256 o.messages) before receive.delivers;
-    sent = subst (λ (f : QueueName → List Posted). AllByRecursion (WasSent (f (queue.TreePu tree))) o.messages) before
-        (received_sent receive.who tree (call.Received o.messages) held t o.messages receive.call refl);
-    got = held_seen get.who (object.Tree tree) lease (call.Got o.got) taken held get.call o.got refl
-        ∙ newest_same take.who (take_tree tree) (call.Given lease) start taken (object.Tree tree) take.call tt
-        ∙ ap (λ (u : CloudState). newest u (object.Tree tree)) at;
-  }
+  messages = led_same (Receive (queue.TreePu tree) 256, call.Received o.messages) held t tt receive ∙ before;
+  delivered = subst (λ (f : QueueName → List Posted). IsDelivering (f (queue.TreePu tree)) 256 o.messages) before receive.delivers;
+  sent = subst (λ (f : QueueName → List Posted). AllByRecursion (WasSent (f (queue.TreePu tree))) o.messages) before
+      (received_sent receive.who tree (call.Received o.messages) held t o.messages receive.call refl);
+  got = held_seen get.who (object.Tree tree) lease (call.Got o.got) taken held get.call o.got refl
+      ∙ newest_same take.who (take_tree tree) (call.Given lease) start taken (object.Tree tree) take.call tt
+      ∙ ap (λ (u : CloudState). newest u (object.Tree tree)) at;
+}
   where
     before : held.messages ≡ s.messages
     before =
@@ -213,19 +213,19 @@ module _ (book : Book) (order : List Entry) (first now last : CloudState) (copie
       by mid marks b = whole (opens tree lease o first b.mid b.led) where
         whole : Opens tree first b.mid o → Drains (queue.TreePu tree) received first last
         whole op = record {
-            messages = o.messages;
-            delivered = op.delivered;
-            told = told;
-            kept = λ m is.
-                let k = left_kept (first.messages (queue.TreePu tree)) 256 o.messages (tried_ids tries) op.delivered all only m
-                    (subst (λ (l : List Message). IsIn l m) left is) in
-                (k.0, λ there. k.1 (subst (λ (l : List ℕ). IsIn l m.id) told there));
-            count =
-                let count = left_count (first.messages (queue.TreePu tree)) 256 o.messages (tried_ids tries) op.delivered all only in
-                let here = ap length left in
-                let long = ap length told in
-                omega (arith, count, here, long);
-          }
+          messages = o.messages;
+          delivered = op.delivered;
+          told = told;
+          kept = λ m is.
+              let k = left_kept (first.messages (queue.TreePu tree)) 256 o.messages (tried_ids tries) op.delivered all only m
+              (subst (λ (l : List Message). IsIn l m) left is) in
+              (k.0, λ there. k.1 (subst (λ (l : List ℕ). IsIn l m.id) told there));
+          count =
+              let count = left_count (first.messages (queue.TreePu tree)) 256 o.messages (tried_ids tries) op.delivered all only in
+              let here = ap length left in
+              let long = ap length told in
+              omega (arith, count, here, long);
+        }
           where
             posts : last.messages (queue.TreePu tree) ≡ marked_over (first.messages (queue.TreePu tree)) (tried_ids tries)
             posts =
@@ -243,7 +243,7 @@ module _ (book : Book) (order : List Entry) (first now last : CloudState) (copie
                 tried_all tries id
                 (subst (λ (l : List ℕ). IsIn l id) (sym covered)
                 (all_covered (store_of book order first) copies tree 0 256 o.messages o.items o.run.items
-                    (tree_held o.got).cursor o.run.top op.sent op.delivered opened.read opened.run
+                (tree_held o.got).cursor o.run.top op.sent op.delivered opened.read opened.run
                 behind id is))
 
             only : (id : ℕ) → IsIn (tried_ids tries) id → IsIn (ids_of o.messages) id

@@ -202,28 +202,30 @@ module _ (book : Book) (order : List Entry) (s : CloudState) (stands : StandsUnd
         → KnowsRest at now lease c ids → HasRoom p c
     rest_fits lease c ids under root k =
         chart_fits book order s stands now p c.tree k.chart.tree (room_at c.tree under.tree_is) lease c
-            (root_at c.tree c.root under.tree_is root) k.chart.nodes k.apart
+        (root_at c.tree c.root under.tree_is root) k.chart.nodes k.apart
 
     come_fits : (lease : Claim) (c : Chart) (page : ℕ) (low visited ids : List ℕ) → IsUnder tree lease c.tree → c.root ≡ newest s (object.Tree tree) → Apart visited
         → IsCome at now lease c page low visited ids → HasRoom p c × (length visited ≤ p)
     come_fits lease c page low visited ids under root once k = (
-        rest_fits lease c ids under root k.rest,
-        visits_fit book order s stands now p c.tree k.rest.chart.tree (room_at c.tree under.tree_is) 0 page low c.key visited k.way once,
-      )
+      rest_fits lease c ids under root k.rest,
+      visits_fit book order s stands now p c.tree k.rest.chart.tree (room_at c.tree under.tree_is) 0 page low c.key visited k.way once,
+    )
 
     leaf_fits : (h : Held) (f : Folding) → IsUnder tree h.lease f.chart.tree → f.chart.root ≡ newest s (object.Tree tree) → Apart f.visited
         → KnowsLeaf at now h.lease f h.deletions.ids → HasRoom p f.chart × FitsLeaf p f
     leaf_fits h f under root once (inl k) = (
-        chart_fits book order s stands now p f.chart.tree k.at.chart.tree (room_at f.chart.tree under.tree_is) h.lease f.chart
-            (root_at f.chart.tree f.chart.root under.tree_is root) k.at.chart.nodes k.apart,
-        inl (k.placing_is,
-          visits_fit book order s stands now p f.chart.tree k.at.chart.tree (room_at f.chart.tree under.tree_is) 0 f.page f.low f.chart.key f.visited k.at.way once),
-      )
+      chart_fits book order s stands now p f.chart.tree k.at.chart.tree (room_at f.chart.tree under.tree_is) h.lease f.chart
+          (root_at f.chart.tree f.chart.root under.tree_is root) k.at.chart.nodes k.apart,
+      inl (
+        k.placing_is,
+        visits_fit book order s stands now p f.chart.tree k.at.chart.tree (room_at f.chart.tree under.tree_is) 0 f.page f.low f.chart.key f.visited k.at.way once,
+      ),
+    )
     leaf_fits h f under root once (inr k) = (
-        chart_fits book order s stands now p f.chart.tree k.tree (room_at f.chart.tree under.tree_is) h.lease f.chart
-            (root_at f.chart.tree f.chart.root under.tree_is root) k.nodes k.apart,
-        leaf_put_fits at now p h.lease f h.deletions.ids k,
-      )
+      chart_fits book order s stands now p f.chart.tree k.tree (room_at f.chart.tree under.tree_is) h.lease f.chart
+          (root_at f.chart.tree f.chart.root under.tree_is root) k.nodes k.apart,
+      leaf_put_fits at now p h.lease f h.deletions.ids k,
+    )
 
     pub work_fits : (w : Work) → HasRoot (newest s (object.Tree tree)) w → Once w → KnowsWork at now tree w → FitsWork p w
     work_fits work.TakingTree root once k = tt
@@ -236,11 +238,11 @@ module _ (book : Book) (order : List Entry) (s : CloudState) (stands : StandsUnd
     work_fits (work.ReleasingPage h l (onward.Handled c)) root once k = rest_fits h.lease c h.deletions.ids k.1.0 root k.1.1
     work_fits (work.LeftPage h o) root once k = absurd k
     work_fits (work.Rising h r) root once k = (
-        (let same = held_top s r.chart.tree r.chart.root (root_at r.chart.tree r.chart.root k.0.tree_is root) in
-        let most = room_at r.chart.tree k.0.tree_is in
-        omega (arith, same, most)),
-        up_fits at now h.lease r r.last k.1.puts,
-      )
+      (let same = held_top s r.chart.tree r.chart.root (root_at r.chart.tree r.chart.root k.0.tree_is root) in
+          let most = room_at r.chart.tree k.0.tree_is in
+          omega (arith, same, most)),
+      up_fits at now h.lease r r.last k.1.puts,
+    )
     work_fits (work.Deleting h applied) root once k = tt
     work_fits (work.Releasing held end) root once k = tt
     work_fits work.Finished root once k = tt

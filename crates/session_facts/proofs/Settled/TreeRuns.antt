@@ -221,13 +221,16 @@ story_led first [] tree m now story delivered = ap (λ (n : Moment). n.state) st
 story_led first (d ∷ h) tree m now (from, (before, (story, turn, leads))) delivered =
     let f = goes_from tree m from d.answer leads in
     let told = subst (λ (w : Part). PartStory first h w before) f.is story in
-    let turned = subst (λ (w : Part). IsTurn d w before now) f.is turn in
-    (before.state, story_led first h tree f.was before told delivered.1, record {
-      who = d.who;
-      call = turn_call d (Tree tree f.was) before now turned;
-      delivers = delivers_of d.who d.ask d.answer d.before.counts d.after.counts before.state d.after.state (turned.made.state before.state turned.told) delivered.0;
-      sends = subst SendsNothing (sym turned.asked) (work_sends f.was.tree f.was.work);
-    })
+    let turned = subst (λ (w : Part). IsTurn d w before now) f.is turn in (
+      before.state,
+      story_led first h tree f.was before told delivered.1,
+      record {
+        who = d.who;
+        call = turn_call d (Tree tree f.was) before now turned;
+        delivers = delivers_of d.who d.ask d.answer d.before.counts d.after.counts before.state d.after.state (turned.made.state before.state turned.told) delivered.0;
+        sends = subst SendsNothing (sym turned.asked) (work_sends f.was.tree f.was.work);
+      },
+    )
 
 -- ---- the whole
 

@@ -1,5 +1,5 @@
 -- What each call of a checkpoint of a tree leaves of the tree object and of the queues.
-use Rattle.std.proofs.Common.{◌≡◌, ◌+◌, ◌≤◌, ◌⊎◌, inl, inr, ℕ, true, false, List, [], ◌∷◌, ◌++◌, length, Option, Some, None, Ok, refl, sym, ap, subst, ◌∙◌, arith}
+use Rattle.std.proofs.Common.{◌≡◌, ◌≤◌, ◌⊎◌, inl, inr, ℕ, true, false, List, [], ◌∷◌, ◌++◌, length, Option, Some, None, Ok, refl, sym, ap, subst, ◌∙◌, arith}
 use Rattle.std.specs.Prelude.{unwrap_or}
 use Rattle.ckpt_parts.specs.Deleting.{next_id}
 use Rattle.ckpt_parts.specs.Leasing.{newest_lease}
@@ -233,11 +233,11 @@ module _ (who : Caller) (a : Answer) (s t : CloudState) (tree : ℕ) where
   newest_by st (work.Descending h d) k call = same_for (work_ask tree (work.Descending h d)) call tt
   newest_by st (work.TakingPage h c) k call = same_for (work_ask tree (work.TakingPage h c)) call tt
   newest_by st (work.Folding h f) k call = (
-      (λ none.
+    (λ none.
         let other : Ask = GetHeld (object.Page f.chart.tree f.page) f.lease in
         same_for other (subst (λ (q : Ask). IsCall who q a s t) (in_hand_none f.chart.tree h.lease (Some f.lease) other f.placing none) call) tt),
-      (λ some done. lands_for f.chart.tree h.lease (Some f.lease) (GetHeld (object.Page f.chart.tree f.page) f.lease) f.placing k.0.tree_is some done call),
-    )
+    (λ some done. lands_for f.chart.tree h.lease (Some f.lease) (GetHeld (object.Page f.chart.tree f.page) f.lease) f.placing k.0.tree_is some done call),
+  )
   newest_by st (work.ReleasingPage h l o) k call = same_for (Release l) call tt
   newest_by st (work.LeftPage h o) k call = absurd k
   newest_by st (work.Rising h r) k call = λ some done. lands_for r.chart.tree h.lease None (last_ask r h.lease r.last) r.placing k.0.tree_is some done call
@@ -282,7 +282,7 @@ module _ (who : Caller) (a : Answer) (s t : CloudState) (tree : ℕ) where
 
       put : (bytes : List ℕ) → newest t (object.Tree tree) ≡ Some bytes
           → (f.placing.reserved ≡ Some bytes) ⊎ ((has_nothing f.placing ≡ true) × Puts (GetHeld (object.Page f.chart.tree f.page) f.lease)
-              (object.Tree tree) bytes) → Grown
+          (object.Tree tree) bytes) → Grown
       put bytes new (inl e) = grown_put f.chart bytes root new (none_reserved bytes k e)
       put bytes new (inr never) = absurd never.1
 
@@ -308,9 +308,9 @@ module _ (who : Caller) (a : Answer) (s t : CloudState) (tree : ℕ) where
       omega (arith, held, same)
   last_more st l r bytes (cut k) none =
       let held = ap (λ (b : List ℕ). (tree_held (Some b)).next) k.bytes_are ∙ ap (λ (x : Tree). x.next)
-          (held_root (root_above (new_pages k.first k.root) k.root) k.fits) in
+      (held_root (root_above (new_pages k.first k.root) k.root) k.fits) in
       let reserves = subst (ReservesRoot st s.now l r.chart.tree (tree_held r.chart.root) k.root k.first k.middle k.behind)
-          (nothing_reserved r.placing none) k.reserves in
+      (nothing_reserved r.placing none) k.reserves in
       let same = reserves.1 in
       omega (arith, held, same)
 

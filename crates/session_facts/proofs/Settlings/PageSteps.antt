@@ -1,5 +1,5 @@
 -- What a checkpoint of a page has of the page once it read it, and that it stops for no page, stay so behind its steps.
-use Rattle.std.proofs.Common.{◌≡◌, ℕ, suc, Bool, true, false, inl, inr, List, Option, Some, None, Result, Ok, Err, refl, sym, subst, arith}
+use Rattle.std.proofs.Common.{◌≡◌, ℕ, Bool, true, false, inl, inr, List, Option, Some, None, Result, Ok, Err, refl, sym, subst}
 use Rattle.ckpt_parts.specs.Deleting.{next_id, tried}
 use Rattle.ckpt_parts.specs.Intakes.{ids_of, has_items, items_of, message_damage, TakesItems, TakesIn}
 use Rattle.ckpt_parts.specs.Leaves.{HoldsLinked}
@@ -17,7 +17,7 @@ use Rattle.log_codec.specs.declared.record.PuItem.{PuItem}
 use Rattle.page_ckpt.specs.Paging.{Paging, Step, stopping, own_queue, deleting_by, home_taken_by, HoldsNamed, HomeGot, home_read, LeafPut, link_of, is_visited, to_right, GoesOn, RunStarted, with_intake, IntakeTaken, ReceivedBy, right_taken_by, RightLacks, RightRead, RightGot, without_applying, right_put_by, with_applied, home_put_by, went, deleted_by, finished_by, released_by}
 use Rattle.page_ckpt.specs.declared.link.Link.{Link}
 use Rattle.page_ckpt.specs.declared.stage.Stage.{Stage}
-use Rattle.page_ckpt.specs.declared.stage.Stage.TheVariants.{PuttingRight, ReleasingRight, PuttingHome}
+use Rattle.page_ckpt.specs.declared.stage.Stage.TheVariants.{PuttingRight, PuttingHome}
 use Rattle.session_facts.specs.Settlings.Settling.{IsPast, IsOfNoPage}
 
 -- a trouble that is kept is of no page

@@ -1,7 +1,6 @@
 -- The way of a settling to the right: it stays what it is while the cloud grows, and leads to no page twice.
-use Rattle.std.proofs.Common.{◌≡◌, ◌∙◌, ℕ, zero, suc, true, false, List, [], ◌∷◌, ◌++◌, Some, None, refl, sym, ap, subst}
+use Rattle.std.proofs.Common.{◌≡◌, ◌∙◌, ℕ, zero, suc, false, List, [], ◌∷◌, ◌++◌, Some, None, refl, ap, subst}
 use Rattle.std.specs.Prelude.{slice_get}
-use Rattle.byte_format.specs.Order.{bytes_below}
 use Rattle.cloud_facts.specs.Book.Book.{Link}
 use Rattle.cloud_facts.specs.Book.Growth.{Grows}
 use Rattle.cloud_facts.specs.Book.Records.{IsIn}
@@ -11,11 +10,11 @@ use Rattle.cloud_facts.specs.Chains.Links.{first_link}
 use Rattle.db_base.specs.declared.trouble.Trouble.{Trouble}
 use Rattle.leaf_view.specs.Leaf.{Leaf}
 use Rattle.leaf_view.specs.Lookup.{page_at}
-use Rattle.page_ckpt.specs.Paging.{Paging, new_paging}
+use Rattle.page_ckpt.specs.Paging.{new_paging}
 use Rattle.session_facts.specs.PageCheckpoints.Rights.{IsLanded, IsUpto}
-use Rattle.session_facts.proofs.PageCheckpoints.Fences.{HasFences, landed_fences, named_right, some_named, unseen, upto_more}
+use Rattle.session_facts.proofs.PageCheckpoints.Fences.{landed_fences, named_right, some_named, unseen, upto_more}
 use Rattle.session_facts.proofs.PageCheckpoints.PagingOthers.{landed_stays, upto_stays}
-use Rattle.session_facts.specs.Settlings.Settling.{IsPast, IsOfNoPage, ReadsPage, ComesTo, KnowsWay}
+use Rattle.session_facts.specs.Settlings.Settling.{ReadsPage, ComesTo, KnowsWay}
 use Rattle.settle_run.specs.declared.part.Part.{Part as AtWork}
 use Rattle.settle_run.specs.declared.part.Part.TheVariants.{Client, Tree, Page}
 use Rattle.settle_run.specs.Settling.{Settling, is_visited}

@@ -1,5 +1,5 @@
 -- What a settling knows of its way to the right is known behind each of its steps, and no step leads to a page twice.
-use Rattle.std.proofs.Common.{◌≡◌, ◌∙◌, ◌+◌, ℕ, suc, Bool, true, false, cond, List, [], ◌∷◌, ◌++◌, Option, Some, None, Result, Ok, Err, refl, sym, ap, subst, arith}
+use Rattle.std.proofs.Common.{◌≡◌, ◌∙◌, ◌+◌, ℕ, suc, Bool, true, false, cond, List, [], ◌∷◌, Option, Some, None, Result, Ok, Err, refl, sym, ap, subst, arith}
 use Rattle.std.specs.Prelude.{◌==◌, nat_lt}
 use Rattle.ckpt_parts.specs.Leaves.{HoldsLinked}
 use Rattle.ckpt_parts.specs.Leasing.{newest_lease, without_newest}
@@ -10,8 +10,8 @@ use Rattle.cloud_facts.specs.Book.Telling.{nodes_of, roots_of, newest_leaf, newe
 use Rattle.cloud_facts.specs.Calls.Acting.{Setting}
 use Rattle.cloud_facts.specs.Calls.Call.{IsCall}
 use Rattle.cloud_facts.proofs.Calls.Heads.{held_seen}
-use Rattle.cloud_facts.specs.Chains.Chain.{IsChained, AreLevels}
-use Rattle.cloud_facts.specs.Homes.Homes.{Part, Parts}
+use Rattle.cloud_facts.specs.Chains.Chain.{IsChained}
+use Rattle.cloud_facts.specs.Homes.Homes.{Parts}
 use Rattle.cloud_facts.specs.Tellings.Told.{store_of}
 use Rattle.cloud_trait.specs.Ask.{Ask, GetHeld}
 use Rattle.cloud_trait.specs.Caller.{Caller}
@@ -27,25 +27,25 @@ use Rattle.db_base.specs.declared.trouble.Trouble.{Trouble}
 use Rattle.db_base.specs.declared.trouble.Trouble.TheVariants as trouble
 use Rattle.leaf_view.specs.Leaf.{Leaf}
 use Rattle.leaf_view.specs.Lookup.{page_at}
-use Rattle.page_ckpt.specs.Paging.{Paging, Step as PageStep, ask_at, paging_ask, under, home_name, right_name, held_after, handed, without_onward, HoldsNamed, AbsorbsAt, PagingLeads}
+use Rattle.page_ckpt.specs.Paging.{Paging, Step as PageStep, ask_at, paging_ask, under, home_name, right_name, held_after, without_onward, HoldsNamed, AbsorbsAt, PagingLeads}
 use Rattle.page_ckpt.specs.declared.stage.Stage.{Stage}
 use Rattle.page_ckpt.specs.declared.stage.Stage.TheVariants.{TakingHome, GettingHome, Receiving, TakingRight, GettingRight, PuttingRight, ReleasingRight, PuttingHome, Deleting as DeletingNext, Releasing, Finished}
 use Rattle.recover_run.specs.Ids.{new_ids}
-use Rattle.recover_run.specs.Recovery.{Recovery, Step as RecoveryStep}
+use Rattle.recover_run.specs.Recovery.{Step as RecoveryStep}
 use Rattle.report_types.specs.declared.entry.Entry.{Entry}
 use Rattle.session_facts.specs.PageCheckpoints.Checkpoint.{HasPage, HasRight, MayStop, ComesOn, KnowsPagingAt, KnowsPaging}
 use Rattle.session_facts.specs.PageCheckpoints.Rights.{IsLanded}
 use Rattle.session_facts.proofs.PageCheckpoints.Fences.{newest_landed}
 use Rattle.session_facts.proofs.PageCheckpoints.PageReads.{IsNamed, IsLinkedLeaf, named_is, named_leaf, linked_is}
 use Rattle.session_facts.proofs.PageCheckpoints.Steps.{got_may, received_may, done_may, given_may}
-use Rattle.session_facts.proofs.Settlings.PageSteps.{IsFair, IsRead, HasRead, home_taken_has, home_got_has, received_has, right_taken_has, right_got_has, right_put_has, on_has, home_put_has, deleted_has, released_has}
+use Rattle.session_facts.proofs.Settlings.PageSteps.{IsRead, HasRead, home_taken_has, home_got_has, received_has, right_taken_has, right_got_has, right_put_has, on_has, home_put_has, deleted_has, released_has}
 use Rattle.session_facts.proofs.Settlings.Rights.{reads_nothing, first_comes, right_comes, right_unvisited}
 use Rattle.session_facts.specs.Settlings.Settling.{IsPast, IsOfNoPage, ReadsPage, ComesTo, KnowsAtWork, KnowsWay}
 use Rattle.settle_run.specs.declared.part.Part.{Part as AtWork}
 use Rattle.settle_run.specs.declared.part.Part.TheVariants.{Client, Tree, Page}
 use Rattle.settle_run.specs.Parts.{part_of_client, part_of_tree, part_again, part_ask, part_received, recovers, makes, pages, PartLeads}
-use Rattle.settle_run.specs.Settling.{Settling, Step, begins, behind_client, to_page, behind_tree, is_visited, goes_right, goes_on, passed_with, passed, ended_by, counted, with_part, moved}
-use Rattle.tree_ckpt.specs.Making.{Making, MakingLeads}
+use Rattle.settle_run.specs.Settling.{Settling, Step, begins, to_page, is_visited, goes_right, goes_on, passed_with, passed, ended_by, counted, with_part, moved}
+use Rattle.tree_ckpt.specs.Making.{Making}
 
 -- ---- a step of a page's checkpoint
 

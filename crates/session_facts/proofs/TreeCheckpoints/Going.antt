@@ -1,12 +1,12 @@
 -- Key by key: down for the least key that is not handled, and up where all are; and what begins that.
-use Rattle.std.proofs.Common.{◌≡◌, ◌≤◌, ◌⊎◌, inl, inr, ℕ, Bool, true, false, List, [], Option, Some, None, Result, Ok, Err, refl, sym, ap, subst, ◌∙◌}
+use Rattle.std.proofs.Common.{◌≡◌, ◌⊎◌, inl, inr, ℕ, Bool, true, false, List, [], Option, Some, None, Result, Ok, Err, refl, sym, ap, subst, ◌∙◌}
 use Rattle.std.specs.List.{AllByRecursion}
 use Rattle.byte_format.specs.Order.{bytes_below, below_bound}
 use Rattle.cloud_facts.specs.Chains.Chain.{IsChained}
 use Rattle.cloud_facts.proofs.Chains.Pieces.{none_in}
 use Rattle.ckpt_parts.specs.declared.intake.Intake.{Intake}
 use Rattle.ckpt_parts.specs.Deleting.{to_delete}
-use Rattle.ckpt_parts.specs.Intakes.{items_of, has_items, intake_of, TakesItems, TakesIn, message_damage}
+use Rattle.ckpt_parts.specs.Intakes.{items_of, has_items, intake_of, TakesItems}
 use Rattle.cloud_facts.specs.Calls.Standing.{StandsUnder}
 use Rattle.cloud_trait.specs.declared.message.Message.{Message}
 use Rattle.cloud_trait.specs.Claim.{Claim}
@@ -28,7 +28,7 @@ use Rattle.node_codec.specs.Tree.{Tree, tree_of}
 use Rattle.report_types.specs.declared.entry.Entry.{Entry as Change}
 use Rattle.run_cursor.specs.Covered.{covered_ids}
 use Rattle.run_cursor.specs.Run.{Taken, IsRun}
-use Rattle.session_facts.specs.Runs.Runs.{IsSentItem, TookRun, MayDelete}
+use Rattle.session_facts.specs.Runs.Runs.{IsSentItem}
 use Rattle.session_facts.proofs.Runs.Received.{items_sent, none_damaged}
 use Rattle.cloud_facts.specs.Book.Book.{Book}
 use Rattle.cloud_facts.specs.Book.Records.{IsIn}
@@ -47,7 +47,6 @@ use Rattle.tree_descent.specs.Descent.{begun, arrive}
 use Rattle.session_facts.specs.Trees.Charts.{KnowsRoot, KnowsChart}
 use Rattle.session_facts.specs.Trees.Folds.{IsDone, KnowsRun, IsLeast}
 use Rattle.session_facts.specs.Trees.Leaves.{KnowsRest}
-use Rattle.session_facts.specs.Trees.Risings.{AppliesRun}
 use Rattle.session_facts.specs.Trees.Ways.{KnowsWay, LeadsOn}
 use Rattle.session_facts.proofs.Trees.RisingSteps.{rises_from}
 use Rattle.session_facts.proofs.Trees.Strides.{arrives}

@@ -1,24 +1,19 @@
 -- The leases of the tree and of a leaf guard what is put under them.
-use Rattle.std.proofs.Common.{◌≡◌, ◌≢◌, ◌+◌, ◌<◌, ◌≤◌, ◌⊎◌, inl, inr, ℕ, List, [], ◌∷◌, ◌++◌, length, map, reverse, Option, Some, None, refl, sym, ap, subst, ◌∙◌, arith, length-append}
-use Rattle.cloud_facts.specs.Chains.Cuts.{leaf_node, inner_node}
+use Rattle.std.proofs.Common.{◌≡◌, ◌+◌, ◌⊎◌, inl, inr, ℕ, List, [], ◌∷◌, ◌++◌, length, map, reverse, Option, Some, None, refl, sym, ap, subst, ◌∙◌, arith, length-append}
+use Rattle.cloud_facts.specs.Chains.Cuts.{leaf_node}
 use Rattle.cloud_facts.specs.Chains.Links.{top_of}
 use Rattle.cloud_facts.specs.Calls.Standing.{StandsUnder}
-use Rattle.cloud_trait.specs.Ask.{Ask, PutHeld}
-use Rattle.cloud_trait.specs.Caller.{Caller}
 use Rattle.cloud_trait.specs.Claim.{Claim, Lasts}
 use Rattle.cloud_trait.specs.State.{CloudState}
 use Rattle.db_base.specs.declared.names.Lock.TheVariants as lock
-use Rattle.db_base.specs.declared.names.ObjName.TheVariants as object
 use Rattle.leaf_fold.specs.declared.folding.Folding.{Folding}
 use Rattle.leaf_fold.specs.Folding.{folding_ask}
 use Rattle.cloud_facts.specs.Leases.Guards.{IsGuarded}
-use Rattle.log_codec.specs.declared.record.PuItem.{PuItem}
 use Rattle.report_types.specs.declared.entry.Entry.{Entry}
-use Rattle.split_plan.specs.declared.put_list.PagePut.{PagePut}
 use Rattle.split_plan.specs.Part.{Part, LeafPart}
 use Rattle.split_plan.specs.Plan.{put_of, on_pages, leaf_bytes}
 use Rattle.cloud_facts.specs.Book.Book.{Book, Link}
-use Rattle.cloud_facts.specs.Book.Tally.{Node, Store}
+use Rattle.cloud_facts.specs.Book.Tally.{Node}
 use Rattle.cloud_facts.specs.Book.Telling.{nodes_of, roots_of}
 use Rattle.cloud_facts.specs.Tellings.Told.{store_of}
 use Rattle.session_facts.specs.Trees.Leaves.{IsPutting}

@@ -1,6 +1,6 @@
 -- The least key of a run that is not handled, and a run that is handled whole.
-use Rattle.std.proofs.Common.{◌≡◌, ◌⊎◌, inl, inr, ℕ, zero, suc, Bool, true, false, cond, List, [], ◌∷◌, Option, Some, None, refl, sym, ap, subst, ◌∙◌}
-use Rattle.byte_format.specs.Order.{bytes_below, below_bound}
+use Rattle.std.proofs.Common.{◌≡◌, ◌⊎◌, inl, inr, ℕ, Bool, true, false, cond, List, [], ◌∷◌, Some, None, refl, ap, subst, ◌∙◌}
+use Rattle.byte_format.specs.Order.{bytes_below}
 use Rattle.cloud_facts.proofs.Chains.Pieces.{none_in, in_cases, not_itself}
 use Rattle.db_base.specs.Change.{key_of}
 use Rattle.leaf_edit.specs.Merging.{Rises}

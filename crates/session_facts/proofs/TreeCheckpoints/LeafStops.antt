@@ -1,5 +1,5 @@
 -- A leaf under its lease stops a checkpoint for no damage: it is the leaf that its link promised, and no page is come to twice.
-use Rattle.std.proofs.Common.{◌≡◌, ◌≤◌, ◌==◌, ◌&&◌, ◌||◌, ℕ, suc, Bool, true, false, cond, List, [], ◌∷◌, ◌++◌, length, map, reverse, Option, Some, None, Result, Ok, Err, refl, sym, ap, subst, ◌∙◌, arith}
+use Rattle.std.proofs.Common.{◌≡◌, ◌≤◌, ◌==◌, ◌&&◌, ◌||◌, ℕ, Bool, true, false, cond, List, [], ◌∷◌, ◌++◌, length, map, Option, Some, None, Result, Ok, Err, refl, sym, ap, subst, ◌∙◌, arith}
 use Rattle.std.specs.Prelude.{is_none}
 use Rattle.std.proofs.lemmas.Bool.{eq-eqb, eqb-true}
 use Rattle.std.proofs.lemmas.List.{length-reverse, length-map}
@@ -30,7 +30,6 @@ use Rattle.report_types.specs.declared.entry.Entry.{Entry}
 use Rattle.run_cursor.specs.Covered.{is_seen}
 use Rattle.split_plan.specs.declared.put_list.PagePut.{PagePut}
 use Rattle.split_plan.specs.Plan.{put_of, on_pages, leaf_bytes}
-use Rattle.split_plan.specs.Sizes.{count_of}
 use Rattle.cloud_facts.specs.Book.Book.{Book}
 use Rattle.cloud_facts.specs.Book.Tally.{Store}
 use Rattle.cloud_facts.specs.Book.Telling.{nodes_of, newest_leaf}
@@ -42,8 +41,8 @@ use Rattle.session_facts.specs.Trees.Ways.{IsOnWay}
 use Rattle.session_facts.proofs.Trees.LeafReads.{leaf_low, absent_is, spelled_is, leaf_right, right_fresh}
 use Rattle.tree_parts.specs.declared.reserve.Reserved.{Reserved}
 use Rattle.tree_parts.specs.Placing.{has_nothing, has_one_page}
-use Rattle.tree_parts.specs.Read.{tree_held, leaf_read}
-use Rattle.tree_parts.specs.Reserve.{version_spent, reservation}
+use Rattle.tree_parts.specs.Read.{tree_held}
+use Rattle.tree_parts.specs.Reserve.{version_spent}
 
 -- ---- the plan of a leaf
 

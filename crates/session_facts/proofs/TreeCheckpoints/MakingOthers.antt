@@ -1,5 +1,5 @@
 -- What a checkpoint knows survives the calls of others.
-use Rattle.std.proofs.Common.{◌≡◌, ◌≤◌, ◌⊎◌, inl, inr, ℕ, zero, suc, List, [], ◌∷◌, refl, sym, ap, subst, ◌∙◌}
+use Rattle.std.proofs.Common.{◌≡◌, ◌≤◌, inl, inr, ℕ, zero, suc, List, [], ◌∷◌, refl, sym, ap, ◌∙◌}
 use Rattle.cloud_trait.specs.Claim.{Claim}
 use Rattle.db_base.specs.declared.names.Lock.TheVariants as lock
 use Rattle.leaf_fold.specs.declared.folding.Folding.{Folding}
@@ -7,9 +7,7 @@ use Rattle.session_facts.proofs.Runs.Marks.{delete_stays}
 use Rattle.cloud_facts.specs.Book.Records.{IsIn}
 use Rattle.cloud_facts.specs.Book.Tally.{Store}
 use Rattle.tree_ckpt.specs.Making.{Making}
-use Rattle.tree_ckpt.specs.Standing.{OfTree}
 use Rattle.session_facts.specs.TreeCheckpoints.Checkpoint.{IsUnder, KnowsOnward, KnowsWork, KnowsMaking, leases_of_making}
-use Rattle.session_facts.specs.Trees.Charts.{KnowsRoot}
 use Rattle.session_facts.specs.Trees.Leaves.{KnowsLeaf}
 use Rattle.cloud_facts.specs.Calls.Others.{Others}
 use Rattle.session_facts.proofs.Trees.ChartOthers.{root_stays}

@@ -1,7 +1,6 @@
 -- What a checkpoint knows where its answers lead, by phase.
 use Rattle.std.proofs.Common.{◌≡◌, inl, inr, ℕ, suc, Bool, true, false, List, [], ◌∷◌, Option, Some, None, Result, Ok, Err, refl, sym, ap, subst, ◌∙◌}
 use Rattle.cloud_trait.specs.declared.turn.CkptAnswer.{CkptAnswer}
-use Rattle.ckpt_parts.specs.declared.leases.Leases.{Leases}
 use Rattle.ckpt_parts.specs.Deleting.{Deleting, next_id, tried, tried_of}
 use Rattle.ckpt_parts.specs.Leasing.{newest_lease, without_newest}
 use Rattle.cloud_trait.specs.Claim.{Claim}
@@ -16,7 +15,7 @@ use Rattle.cloud_facts.specs.Book.Records.{IsIn}
 use Rattle.cloud_facts.specs.Book.Tally.{Store}
 use Rattle.tree_ckpt.specs.Standing.{OfTree, HasIds}
 use Rattle.tree_ckpt.proofs.Leaving.{SameLeaf, LeavesLeaf}
-use Rattle.session_facts.specs.TreeCheckpoints.Checkpoint.{IsUnder, OfPage, HoldsLast, MayStop, EndsWell, KnowsOnward, KnowsWorkNext}
+use Rattle.session_facts.specs.TreeCheckpoints.Checkpoint.{IsUnder, OfPage, HoldsLast, MayStop, EndsWell, KnowsWorkNext}
 use Rattle.session_facts.proofs.TreeCheckpoints.Refusing.{StopsWell}
 use Rattle.session_facts.proofs.TreeCheckpoints.Upward.{StaysIn}
 use Rattle.tree_descent.specs.declared.descent.Descent.{Descent}

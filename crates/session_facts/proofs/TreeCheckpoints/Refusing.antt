@@ -1,5 +1,5 @@
 -- Why an answer, a plan or a way down stops a checkpoint: no damage does.
-use Rattle.std.proofs.Common.{◌≡◌, ◌+◌, ◌==◌, ℕ, Bool, true, false, cond, List, Some, None, Result, Ok, Err, refl, subst}
+use Rattle.std.proofs.Common.{◌≡◌, ◌+◌, ◌==◌, ℕ, Bool, true, false, cond, Some, None, Result, Ok, Err, refl, subst}
 use Rattle.std.specs.Prelude.{nat_lt}
 use Rattle.cloud_trait.specs.declared.answer.Answer.{Answer}
 use Rattle.cloud_trait.specs.declared.answer.Answer.TheVariants.{Got, Sent, Received, Done, Given, Held, Renewed, Late, Failed, Memory}

@@ -1,5 +1,5 @@
 -- What each call of a checkpoint leaves, whether it landed or not.
-use Rattle.std.proofs.Common.{◌≡◌, ◌≤◌, ◌⊎◌, inl, inr, ℕ, zero, suc, Bool, true, false, cond, List, [], ◌∷◌, ◌++◌, map, Option, Some, None, Result, Ok, Err, refl, sym, ap, subst, ◌∙◌}
+use Rattle.std.proofs.Common.{◌≡◌, ◌⊎◌, inl, inr, ℕ, zero, suc, cond, List, [], ◌∷◌, Option, Some, None, Result, Ok, Err, refl, sym, ap, subst}
 use Rattle.std.specs.Prelude.{unwrap_or}
 use Rattle.std.proofs.lemmas.List.{append-nil}
 use Rattle.ckpt_parts.specs.Deleting.{next_id}
@@ -7,7 +7,6 @@ use Rattle.ckpt_parts.specs.Leasing.{newest_lease}
 use Rattle.cloud_facts.specs.Calls.Acting.{Aside, Setting, Outcome}
 use Rattle.cloud_facts.specs.Calls.Call.{IsCall}
 use Rattle.cloud_facts.specs.Calls.Looks.{audit_of}
-use Rattle.cloud_facts.specs.Calls.Standing.{StandsUnder}
 use Rattle.cloud_facts.proofs.Calls.Calls.{landed_or_not}
 use Rattle.cloud_facts.proofs.Calls.Heads.{held_seen}
 use Rattle.cloud_facts.proofs.Calls.Passing.{landing_passes}
@@ -17,7 +16,7 @@ use Rattle.cloud_trait.specs.declared.turn.CkptAnswer.{CkptAnswer}
 use Rattle.cloud_trait.specs.Ask.{Ask, Get, GetHeld, PutHeld, Send, Receive, Delete, Take, Renew, Release, Lands, PutsNothing, TouchesNoMessage}
 use Rattle.cloud_trait.specs.Caller.{Caller}
 use Rattle.cloud_trait.specs.Claim.{Claim}
-use Rattle.cloud_trait.specs.Machine.{Next, Goes, Ends, Stops}
+use Rattle.cloud_trait.specs.Machine.{Goes, Ends, Stops}
 use Rattle.cloud_trait.specs.State.{CloudState, called}
 use Rattle.cloud_trait.specs.Views.{given_of, got_of, received_of, done_of}
 use Rattle.db_base.specs.Ids.{IsTree}
@@ -31,8 +30,7 @@ use Rattle.cloud_facts.specs.Homes.Homes.{Part, Parts, HomesHold}
 use Rattle.cloud_facts.proofs.Homes.HomeLemmas.{keeps_part, aside_keeps}
 use Rattle.cloud_facts.specs.Landings.Landing.{Landing, marks_post}
 use Rattle.leaf_fold.specs.declared.folding.Folding.{Folding}
-use Rattle.leaf_fold.specs.declared.folding.Left.{Left}
-use Rattle.leaf_fold.specs.Folding.{no_placing, folding_ask, folding_next, leaf_got, leaf_put}
+use Rattle.leaf_fold.specs.Folding.{folding_ask, folding_next, leaf_got, leaf_put}
 use Rattle.report_types.specs.declared.entry.Entry.{Entry}
 use Rattle.session_facts.specs.Runs.Runs.{MayDelete}
 use Rattle.session_facts.proofs.Runs.Marks.{delete_stays, may_mark}
@@ -45,7 +43,7 @@ use Rattle.cloud_facts.specs.Tellings.Told.{store_of}
 use Rattle.tree_ckpt.specs.Making.{Making, making_ask, MakingLeads}
 use Rattle.tree_ckpt.specs.Standing.{OfTree, HasIds}
 use Rattle.tree_ckpt.proofs.Leaving.{next_leaves}
-use Rattle.session_facts.specs.TreeCheckpoints.Checkpoint.{IsUnder, HoldsLast, MayStop, EndsWell, KnowsWork, KnowsMaking, KnowsWorkNext, KnowsMakingNext, KnowsAfter, leases_of_making, making_note}
+use Rattle.session_facts.specs.TreeCheckpoints.Checkpoint.{IsUnder, HoldsLast, MayStop, EndsWell, KnowsWork, KnowsMaking, KnowsWorkNext, KnowsAfter, leases_of_making, making_note}
 use Rattle.session_facts.proofs.TreeCheckpoints.Going.{left_leads, got_leads, received_leads}
 use Rattle.session_facts.proofs.TreeCheckpoints.MakingOthers.{lock_of, making_later}
 use Rattle.session_facts.proofs.TreeCheckpoints.Nexts.{taken_leads, deleted_leads, rising_leads, descending_leads, page_leads, folding_leads, released_leads}
@@ -69,7 +67,7 @@ use Rattle.session_facts.proofs.Trees.WayCharts.{LeadsApart, descent_apart, desc
 use Rattle.tree_moves.specs.declared.work.Held.{Held}
 use Rattle.tree_moves.specs.declared.work.Work.{Work}
 use Rattle.tree_moves.specs.declared.work.Work.TheVariants as work
-use Rattle.tree_moves.specs.Moves.{Step, descending_on, folding_on, rising_on, Leads}
+use Rattle.tree_moves.specs.Moves.{Step, Leads}
 use Rattle.tree_moves.specs.Work.{take_tree, delete_ask, release_ask, work_ask, claims_in}
 use Rattle.tree_parts.specs.declared.placing.Placing.{Placing}
 use Rattle.tree_parts.specs.Placing.{put_in_hand, has_nothing}

@@ -1,5 +1,5 @@
 -- What a held get of a tree object and a receive of its queue bring.
-use Rattle.std.proofs.Common.{◌≡◌, ◌≤◌, ◌⊎◌, inl, inr, ℕ, Bool, true, false, List, [], ◌∷◌, Option, Some, None, Result, Ok, Err, refl, sym, ap, subst, ◌∙◌, arith}
+use Rattle.std.proofs.Common.{◌≡◌, ◌⊎◌, inl, inr, ℕ, false, List, [], ◌∷◌, Option, Some, None, Ok, refl, sym, ap, subst, arith}
 use Rattle.std.specs.Prelude.{All, unwrap_or}
 use Rattle.std.specs.List.{AllByRecursion}
 use Rattle.std.proofs.lemmas.List.Elements.{recursion_from_All}
@@ -17,7 +17,6 @@ use Rattle.cloud_trait.specs.Delivery.{WasSent}
 use Rattle.cloud_trait.specs.State.{CloudState, newest}
 use Rattle.cloud_trait.specs.Views.{received_of}
 use Rattle.db_base.specs.Cursor.{number_of}
-use Rattle.db_base.specs.Ids.{IsClient}
 use Rattle.db_base.specs.declared.names.ObjName.TheVariants as object
 use Rattle.db_base.specs.declared.names.QueueName.TheVariants as queue
 use Rattle.cloud_facts.proofs.Decoding.Values.{newest_root_decodes}
@@ -28,7 +27,7 @@ use Rattle.cloud_facts.specs.Numbers.Numbers.{Numbers}
 use Rattle.report_types.specs.declared.entry.Entry.{Entry}
 use Rattle.run_cursor.specs.Covered.{covered_ids}
 use Rattle.run_cursor.specs.Run.{Taken, IsRun}
-use Rattle.session_facts.specs.Runs.Runs.{IsSentItem, IsCoveredBy, TookRun, MayDelete}
+use Rattle.session_facts.specs.Runs.Runs.{IsSentItem, TookRun, MayDelete}
 use Rattle.session_facts.proofs.Runs.Marks.{covered_more}
 use Rattle.session_facts.proofs.Runs.Received.{each_in, item_of, item_client, ids_covered}
 use Rattle.session_facts.proofs.Runs.Runs.{run_in, empty_top}

@@ -1,9 +1,9 @@
 -- The way up stops for no damage: its nodes are those that were got, and read as they were.
-use Rattle.std.proofs.Common.{◌≡◌, ◌+◌, ◌-◌, ◌==◌, ◌&&◌, ◌||◌, ℕ, Bool, true, false, cond, List, length, drop, Option, Some, None, Result, Ok, Err, refl, sym, ap, subst, ◌∙◌}
-use Rattle.std.specs.Prelude.{not, nat_lt, is_some, slice_get}
+use Rattle.std.proofs.Common.{◌≡◌, ◌+◌, ◌-◌, ◌==◌, ◌&&◌, ◌||◌, ℕ, Bool, true, false, cond, List, length, drop, Option, Some, None, Result, Ok, Err, refl, subst}
+use Rattle.std.specs.Prelude.{not, nat_lt, is_some}
 use Rattle.cloud_trait.specs.declared.answer.Answer.{Answer}
 use Rattle.cloud_trait.specs.Claim.{Claim}
-use Rattle.cloud_trait.specs.Machine.{Goes, Ends, Stops}
+use Rattle.cloud_trait.specs.Machine.{Goes, Ends}
 use Rattle.cloud_trait.specs.Views.{done_of}
 use Rattle.db_base.specs.declared.trouble.Trouble.{Trouble}
 use Rattle.node_codec.specs.Inner.{Inner}
@@ -20,14 +20,14 @@ use Rattle.tree_parts.specs.declared.kept.KeptNode.{KeptNode}
 use Rattle.tree_parts.specs.declared.link.Link.{Link as Found}
 use Rattle.tree_parts.specs.declared.reserve.Reserved.{Reserved}
 use Rattle.tree_parts.specs.Placing.{has_nothing}
-use Rattle.tree_parts.specs.Read.{tree_held, inner_read}
+use Rattle.tree_parts.specs.Read.{tree_held}
 use Rattle.tree_parts.specs.Reserve.{version_spent, pages_spent, next_tree, reservation}
 use Rattle.tree_rising.specs.declared.node.NodePlan.{NodePlan}
 use Rattle.tree_rising.specs.declared.rising.Rising.{Rising}
 use Rattle.tree_rising.specs.declared.root.RootPlan.{RootPlan}
-use Rattle.tree_rising.specs.Nodes.{touched_at, with_links, planned_by, planned, planned_of, linked_by, node_plan}
-use Rattle.tree_rising.specs.Rising.{put_node, plan_of, last_plan, put_root, next_touched, touched_node, rise_at, rise, landed, after_put, put_landed, risen_by, rising_next}
-use Rattle.tree_rising.specs.Root.{risen_by as root_risen, raised_root, lowered, cut_at, cut_by, cut_behind, root_cut, uncut, root_plan}
+use Rattle.tree_rising.specs.Nodes.{touched_at, with_links, planned_by, planned_of, linked_by, node_plan}
+use Rattle.tree_rising.specs.Rising.{put_node, plan_of, last_plan, put_root, next_touched, touched_node, rise_at, rise, landed, after_put, risen_by, rising_next}
+use Rattle.tree_rising.specs.Root.{risen_by as root_risen, lowered, cut_by, cut_behind, root_cut, uncut, root_plan}
 
 -- ---- the plan of a node
 

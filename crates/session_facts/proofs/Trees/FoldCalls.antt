@@ -1,5 +1,5 @@
 -- What each put of a leaf and its pieces leaves, whether it landed or not.
-use Rattle.std.proofs.Common.{◌≡◌, ◌+◌, ◌≤◌, ◌==◌, ◌⊎◌, inl, inr, ℕ, Bool, true, false, cond, ◌&&◌, nat_lt, List, [], ◌∷◌, ◌++◌, length, map, filter, reverse, Option, Some, None, Result, Ok, Err, refl, sym, ap, subst, ◌∙◌, arith}
+use Rattle.std.proofs.Common.{◌≡◌, ◌+◌, ◌==◌, ◌⊎◌, inl, inr, ℕ, Bool, true, false, cond, ◌&&◌, nat_lt, List, [], ◌∷◌, ◌++◌, length, map, filter, reverse, Option, Some, None, Result, Ok, Err, refl, sym, ap, subst, ◌∙◌, arith}
 use Rattle.std.specs.Prelude.{is_none}
 use Rattle.std.proofs.lemmas.Bool.{ne_eqb}
 use Rattle.std.proofs.lemmas.List.{append-nil, length-reverse}
@@ -17,7 +17,6 @@ use Rattle.cloud_trait.specs.Claim.{Claim, Lasts}
 use Rattle.cloud_trait.specs.State.{CloudState, called}
 use Rattle.cloud_trait.specs.Views.{done_of, got_of}
 use Rattle.db_base.specs.Change.{key_of}
-use Rattle.db_base.specs.Cursor.{number_of}
 use Rattle.db_base.specs.Ids.{IsClient, IsTree}
 use Rattle.db_base.specs.declared.names.Lock.TheVariants as lock
 use Rattle.db_base.specs.declared.names.ObjName.{ObjName}
@@ -35,13 +34,11 @@ use Rattle.leaf_view.specs.Leaf.{Leaf}
 use Rattle.leaf_view.specs.Lookup.{holds, number_of as done_number}
 use Rattle.log_codec.specs.declared.record.PuItem.{PuItem}
 use Rattle.report_types.specs.declared.entry.Entry.{Entry}
-use Rattle.run_cursor.specs.Run.{IsRun}
 use Rattle.split_plan.specs.declared.put_list.PagePut.{PagePut}
 use Rattle.split_plan.specs.Part.{LeafPart}
 use Rattle.split_plan.specs.Plan.{put_of, on_pages, leaf_bytes}
 use Rattle.cloud_facts.specs.Book.Book.{Book}
 use Rattle.cloud_facts.specs.Book.Effects.{is_lacking, lacking, taken_entries}
-use Rattle.cloud_facts.specs.Book.Premises.{IsItemOf}
 use Rattle.cloud_facts.specs.Book.Records.{IsIn}
 use Rattle.cloud_facts.specs.Book.Tally.{Store, at}
 use Rattle.cloud_facts.specs.Book.Telling.{leaf_in, nodes_of, roots_of, newest_leaf, newest_root}

@@ -1,5 +1,5 @@
 -- Where the held get of a leaf leads: to the right, behind the leaf, or to the puts of its pieces; and what is known there.
-use Rattle.std.proofs.Common.{◌≡◌, ◌==◌, ◌||◌, ◌<◌, ◌-◌, ◌⊎◌, inl, inr, ℕ, Bool, true, false, cond, List, [], ◌∷◌, ◌++◌, Option, Some, None, Result, Ok, Err, refl, sym, ap, subst, ◌∙◌, arith}
+use Rattle.std.proofs.Common.{◌≡◌, ◌==◌, ◌||◌, ◌⊎◌, inl, inr, ℕ, Bool, true, false, cond, List, [], ◌∷◌, ◌++◌, Option, Some, None, Result, Ok, Err, refl, sym, subst, arith}
 use Rattle.byte_format.specs.Order.{bytes_below, bytes_same}
 use Rattle.cloud_facts.proofs.Chains.Pieces.{none_in, in_cases, in_both}
 use Rattle.cloud_facts.specs.Calls.Standing.{StandsUnder}
@@ -11,9 +11,9 @@ use Rattle.db_base.specs.declared.trouble.Trouble.{Trouble}
 use Rattle.db_base.specs.declared.trouble.Trouble.TheVariants as trouble
 use Rattle.leaf_edit.specs.Lacked.{lacked}
 use Rattle.leaf_fold.specs.declared.folding.Folding.{Folding}
-use Rattle.leaf_fold.specs.declared.folding.Left.TheVariants.{Right, Handled}
+use Rattle.leaf_fold.specs.declared.folding.Left.TheVariants.{Right}
 use Rattle.leaf_fold.specs.declared.plan.LeafPlan.{LeafPlan}
-use Rattle.leaf_fold.specs.Folding.{Step, bad_low, turned, to_right, handled_to, planned, handled_by, handle, leaf_side, leaf_at, leaf_found, leaf_got}
+use Rattle.leaf_fold.specs.Folding.{Step, bad_low, turned, to_right, planned, handled_by, handle, leaf_side, leaf_at, leaf_found, leaf_got}
 use Rattle.leaf_fold.specs.Plan.{leaf_plan}
 use Rattle.leaf_view.specs.Leaf.{Leaf}
 use Rattle.leaf_view.specs.Lookup.{empty_leaf, page_at}
@@ -26,10 +26,10 @@ use Rattle.cloud_facts.specs.Book.Tally.{Store}
 use Rattle.cloud_facts.specs.Book.Telling.{nodes_of, newest_leaf}
 use Rattle.cloud_facts.specs.Tellings.Told.{store_of}
 use Rattle.tree_parts.specs.declared.link.Link.{Link as Found}
-use Rattle.tree_parts.specs.Read.{tree_held, leaf_read}
+use Rattle.tree_parts.specs.Read.{tree_held}
 use Rattle.session_facts.specs.Trees.Charts.{IsFound, AreFound}
 use Rattle.session_facts.specs.Trees.FoldSteps.{KnowsStep}
-use Rattle.session_facts.specs.Trees.Leaves.{KnowsRest, IsCome, IsReading, IsPutting}
+use Rattle.session_facts.specs.Trees.Leaves.{IsCome, IsReading}
 use Rattle.session_facts.specs.Trees.Ways.{IsOnWay}
 use Rattle.session_facts.proofs.Trees.FoldPlans.{nothing_left, plan_known}
 use Rattle.session_facts.proofs.Trees.LeafReads.{absent_is, spelled_is, leaf_right}

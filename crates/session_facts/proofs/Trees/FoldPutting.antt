@@ -1,5 +1,5 @@
 -- What a checkpoint knows behind a landed put of a leaf, its chart with it: the pieces that are left, and behind the last one the whole chart.
-use Rattle.std.proofs.Common.{◌≡◌, ◌≢◌, ◌+◌, ◌-◌, ◌<◌, ◌≤◌, ◌⊎◌, inl, inr, ℕ, List, [], ◌∷◌, ◌++◌, drop, length, map, Option, Some, None, refl, sym, ap, subst, ◌∙◌, arith}
+use Rattle.std.proofs.Common.{◌≡◌, ◌+◌, ◌-◌, ◌⊎◌, inl, inr, ℕ, List, [], ◌∷◌, ◌++◌, drop, length, map, Option, Some, None, refl, sym, ap, subst, ◌∙◌, arith}
 use Rattle.cloud_facts.specs.Chains.Cuts.{links_on}
 use Rattle.cloud_facts.specs.Chains.Links.{newest_node, top_of}
 use Rattle.cloud_facts.proofs.Chains.Pieces.{none_in, in_first, in_rest, in_cases, in_both, joined_has}
@@ -9,7 +9,6 @@ use Rattle.cloud_trait.specs.Ask.{PutHeld}
 use Rattle.cloud_trait.specs.Caller.{Caller}
 use Rattle.cloud_trait.specs.Claim.{Claim, Lasts}
 use Rattle.cloud_trait.specs.State.{CloudState}
-use Rattle.db_base.specs.Ids.{IsClient}
 use Rattle.db_base.specs.declared.names.ObjName.TheVariants as object
 use Rattle.leaf_edit.specs.Applied.{applied}
 use Rattle.leaf_fold.specs.declared.folding.Folding.{Folding}
@@ -24,7 +23,7 @@ use Rattle.session_facts.specs.Runs.Runs.{TookRun}
 use Rattle.session_facts.proofs.Runs.Marks.{run_stays}
 use Rattle.split_plan.specs.Part.{LeafPart}
 use Rattle.split_plan.specs.Plan.{entry_of, on_pages, leaf_bytes, leaf_pieces}
-use Rattle.cloud_facts.specs.Book.Book.{Book, Link, with_pieces}
+use Rattle.cloud_facts.specs.Book.Book.{Book, Link}
 use Rattle.cloud_facts.specs.Book.Growth.{Grows}
 use Rattle.cloud_facts.specs.Book.Records.{IsIn}
 use Rattle.cloud_facts.specs.Book.Tally.{Node, Leafy, Branch, Store}
@@ -32,14 +31,12 @@ use Rattle.cloud_facts.specs.Book.Telling.{last_or, nodes_of, roots_of, newest_l
 use Rattle.cloud_facts.proofs.Tellings.Names.{at2_same, at2_beside}
 use Rattle.cloud_facts.specs.Tellings.Pieces.{right_of}
 use Rattle.cloud_facts.specs.Tellings.Told.{store_of}
-use Rattle.tree_parts.specs.declared.chart.Chart.{Chart}
 use Rattle.tree_parts.specs.declared.link.Link.{Link as Found}
 use Rattle.tree_parts.specs.Kept.{links_at}
 use Rattle.tree_parts.specs.Placing.{root_after}
 use Rattle.tree_parts.specs.Read.{tree_held}
-use Rattle.session_facts.specs.Trees.Charts.{KnowsRoot, KnowsNodes, IsFound, AreFound}
+use Rattle.session_facts.specs.Trees.Charts.{KnowsRoot, IsFound, AreFound}
 use Rattle.session_facts.specs.Trees.Leaves.{KnowsRest, IsPutting}
-use Rattle.session_facts.specs.Trees.Placings.{reserving}
 use Rattle.session_facts.proofs.Trees.ChartOthers.{root_stays, nodes_stay, links_stay}
 use Rattle.session_facts.proofs.Trees.FoldPuts.{piece_after, piece_lands, piece_known, page_stays, reserved_last, within, left_after, left_lands, left_done, pieces_left}
 use Rattle.session_facts.proofs.Trees.FoldReserves.{reserving_after, reserving_lands, reserving_root, reserving_known, held}

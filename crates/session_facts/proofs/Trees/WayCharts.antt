@@ -1,7 +1,7 @@
 -- The way down changes the nodes and the links of a chart alone, and it gets no page twice.
 use Rattle.std.proofs.Common.{◌≡◌, ◌≢◌, ◌==◌, ◌⊎◌, inl, inr, ℕ, zero, suc, Bool, true, false, cond, List, [], ◌∷◌, ◌++◌, length, take, drop, Option, Some, None, Result, Ok, Err, refl, sym, ap, subst, ◌∙◌, take-append-drop}
 use Rattle.std.specs.Prelude.{find}
-use Rattle.std.proofs.lemmas.Bool.{eqb-true, eqb-false}
+use Rattle.std.proofs.lemmas.Bool.{eqb-false}
 use Rattle.cloud_facts.proofs.Chains.Pieces.{none_in, in_first, in_rest, in_cases}
 use Rattle.cloud_trait.specs.declared.answer.Answer.{Answer}
 use Rattle.cloud_trait.specs.Claim.{Claim}
@@ -21,9 +21,9 @@ use Rattle.tree_descent.specs.declared.fork.Fork.TheVariants.{Right, Down}
 use Rattle.tree_descent.specs.Descent.{fork_of, passed, go_on, stride_at, kept_at, stride, follow, walk, arrived, arrive, with_node, got_node, descent_got, descent_next}
 use Rattle.tree_parts.specs.declared.chart.Chart.{Chart}
 use Rattle.tree_parts.specs.declared.kept.KeptNode.{KeptNode}
-use Rattle.tree_parts.specs.Kept.{place_of, with_kept}
+use Rattle.tree_parts.specs.Kept.{place_of}
 use Rattle.session_facts.specs.Trees.Folds.{KnowsRun, IsLeast}
-use Rattle.session_facts.specs.Trees.Leaves.{KnowsRest, IsGetting, IsCome}
+use Rattle.session_facts.specs.Trees.Leaves.{IsGetting, IsCome}
 use Rattle.session_facts.specs.Trees.Risings.{AreApart}
 use Rattle.session_facts.specs.Trees.Ways.{IsOnWay, LeadsOn}
 

@@ -1,5 +1,6 @@
+use byte_format::ReadFault;
 use change_codec::{add_change, client_of, read_change, tree_of};
-use std::test::Fail;
+use std::alloc::Global;
 
 const INSERT: [u8; 6] = [1, 1, 0x6b, 0, 1, 0x76];
 
@@ -24,22 +25,29 @@ const REFUSED: [(&[u8], usize); 13] = [
     (&[2, 1, 0x6b, 255, 255], 2),
 ];
 
+/// Whether bytes are read as a change with nothing behind it, which is written as these bytes.
+fn is_written_back(alloc: Global, bytes: &[u8]) -> Option<bool> {
+    let (change, rest) = read_change(alloc, bytes).ok()?;
+    let mut out = Vec::new(alloc);
+    add_change(&mut out, &change).ok()?;
+    Some(rest.is_empty() && out.as_slice() == bytes)
+}
+
+/// How many bytes are left where they are refused as a change.
+fn left_of(alloc: Global, bytes: &[u8]) -> Option<usize> {
+    match read_change(alloc, bytes) {
+        Err(ReadFault::Stopped(stop)) => Some(stop.left),
+        _ => None,
+    }
+}
+
 #[test]
-fn changes(rt: HostRuntime) -> Result<(), Fail> {
+fn changes(rt: HostRuntime) {
     for bytes in [INSERT.as_slice(), UPDATE.as_slice(), DELETE.as_slice()] {
-        let (change, rest) = read_change(rt.alloc(), bytes)?;
-        assert!(rt; rest.is_empty());
-        let mut out = Vec::new(rt.alloc());
-        add_change(&mut out, &change)?;
-        assert_eq!(rt; out.as_slice(), bytes);
+        assert!(rt; is_written_back(rt.alloc(), bytes) == Some(true));
     }
     for (bytes, left) in REFUSED {
-        let fault = match read_change(rt.alloc(), bytes) {
-            Err(byte_format::ReadFault::Stopped(stop)) => Some(stop.left),
-            _ => None,
-        };
-        assert_eq!(rt; fault, Some(left));
+        assert!(rt; left_of(rt.alloc(), bytes) == Some(left));
     }
-    assert_eq!(rt; (client_of(64).get(), tree_of(16).get()), (64, 16));
-    Ok(())
+    assert!(rt; client_of(64).get() == 64 && tree_of(16).get() == 16);
 }

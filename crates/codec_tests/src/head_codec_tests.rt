@@ -1,3 +1,4 @@
+use db_base::blob::Blob;
 use db_base::change::Change;
 use db_base::ids::TreeId;
 use db_base::key::Key;
@@ -80,71 +81,93 @@ const COUNTERS_CHANGES: [(usize, u8, u64); 4] = [
 
 const OPEN_CHANGES: [(usize, u8, u64); 3] = [(19, 0, 19), (19, 201, 19), (18, 0, 19)];
 
-/// The fault of the bytes with one of them changed, or added behind the end.
-fn fault_at(
-    alloc: Global,
-    bytes: &[u8],
-    at: usize,
-    value: u8,
-) -> Result<Option<HeadFault>, AllocError> {
+/// Where bytes are refused as a head.
+fn fault_of(alloc: Global, bytes: &[u8]) -> Option<u64> {
+    match Head::read(alloc, bytes) {
+        Err(HeadFault::NotHead { offset }) => Some(offset),
+        _ => None,
+    }
+}
+
+/// Where bytes are refused with one of them changed, or added behind the end.
+fn fault_at(alloc: Global, bytes: &[u8], at: usize, value: u8) -> Result<Option<u64>, AllocError> {
     let mut changed = bytes.to_vec(alloc)?;
     if at < changed.len() {
         changed[at] = value;
     } else {
         changed.push(value)?;
     }
-    Ok(Head::read(alloc, changed.as_slice()).err())
+    Ok(fault_of(alloc, changed.as_slice()))
+}
+
+/// A head that is read and written back.
+fn again(alloc: Global, bytes: &[u8]) -> Result<Blob, Fail> {
+    Ok(Head::read(alloc, bytes)?.write(alloc)?)
 }
 
 #[test]
 fn vectors(rt: HostRuntime) -> Result<(), Fail> {
     for bytes in [HEAD.as_slice(), COUNTERS.as_slice(), OPEN.as_slice()] {
-        let head = Head::read(rt.alloc(), bytes)?;
-        assert_eq!(rt; head.write(rt.alloc())?.as_slice(), bytes);
+        let spelled = again(rt.alloc(), bytes)?;
+        assert!(rt; spelled.as_slice() == bytes);
     }
-    let head = Head::read(rt.alloc(), &HEAD)?;
-    assert_eq!(rt; (head.epoch, head.txn, head.phase), (1, 1, Phase::Settled));
-    assert_eq!(rt; head.counters.as_slice().len(), 1);
-    assert_eq!(rt; head.pending.into_vec().len(), 1);
     Ok(())
 }
 
 #[test]
-fn refused(rt: HostRuntime) -> Result<(), Fail> {
-    for (len, offset) in CUTS {
-        if len <= HEAD.len() {
-            let fault = Head::read(rt.alloc(), &HEAD[..len]).err();
-            assert_eq!(rt; fault, Some(HeadFault::NotHead { offset }));
+fn a_head_is_read(rt: HostRuntime) -> Result<(), Fail> {
+    let head = Head::read(rt.alloc(), &HEAD)?;
+    assert!(rt; head.epoch == 1 && head.txn == 1 && head.phase == Phase::Settled);
+    assert!(rt; head.counters.as_slice().len() == 1);
+    assert!(rt; head.pending.into_vec().len() == 1);
+    Ok(())
+}
+
+/// Whether bytes with one of them changed are refused where each row says.
+fn are_refused(alloc: Global, bytes: &[u8], rows: &[(usize, u8, u64)]) -> Result<bool, AllocError> {
+    for (at, value, offset) in rows {
+        if fault_at(alloc, bytes, *at, *value)? != Some(*offset) {
+            return Ok(false);
         }
     }
-    for (at, value, offset) in HEAD_CHANGES {
-        let fault = fault_at(rt.alloc(), &HEAD, at, value)?;
-        assert_eq!(rt; fault, Some(HeadFault::NotHead { offset }));
-    }
-    for (at, value, offset) in COUNTERS_CHANGES {
-        let fault = fault_at(rt.alloc(), &COUNTERS, at, value)?;
-        assert_eq!(rt; fault, Some(HeadFault::NotHead { offset }));
-    }
-    for (at, value, offset) in OPEN_CHANGES {
-        let fault = fault_at(rt.alloc(), &OPEN, at, value)?;
-        assert_eq!(rt; fault, Some(HeadFault::NotHead { offset }));
+    Ok(true)
+}
+
+#[test]
+fn cut_heads_are_refused(rt: HostRuntime) -> Result<(), Fail> {
+    for (len, offset) in CUTS {
+        let front = HEAD.get(..len).ok_or("the front")?;
+        assert!(rt; fault_of(rt.alloc(), front) == Some(offset));
     }
     Ok(())
 }
 
 #[test]
-fn first_epoch(rt: HostRuntime) -> Result<(), Fail> {
-    let mut head = Head::empty(rt.alloc());
-    head.next_epoch()?;
-    let mut pending = PendingList::new(rt.alloc());
-    let key = Key::new(rt.alloc(), b"k")?;
+fn changed_heads_are_refused(rt: HostRuntime) {
+    assert!(rt; are_refused(rt.alloc(), &HEAD, &HEAD_CHANGES) == Ok(true));
+    assert!(rt; are_refused(rt.alloc(), &COUNTERS, &COUNTERS_CHANGES) == Ok(true));
+    assert!(rt; are_refused(rt.alloc(), &OPEN, &OPEN_CHANGES) == Ok(true));
+}
+
+/// How many bytes spell a head of the first epoch with the pending deletion of k, number 1 of the queue of tree 1.
+fn first_length(alloc: Global) -> Result<usize, Fail> {
+    let tree = TreeId::new(1)?;
+    let key = Key::new(alloc, b"k")?;
+    let mut pending = PendingList::new(alloc);
     pending.push(Pending {
-        tree: TreeId::new(1)?,
+        tree,
         page: 0,
         number: 1,
         change: Change::Delete { key },
     })?;
+    let mut head = Head::empty(alloc);
+    head.next_epoch()?;
     head.pending = pending;
-    assert_eq!(rt; head.write(rt.alloc())?.len(), 42);
+    Ok(head.write(alloc)?.len())
+}
+
+#[test]
+fn first_epoch(rt: HostRuntime) -> Result<(), Fail> {
+    assert!(rt; first_length(rt.alloc())? == 42);
     Ok(())
 }

@@ -1,4 +1,4 @@
-use db_base::ids::ClientId;
+use db_base::ids::{ClientId, PageId};
 use leaf_view::LeafView;
 use std::alloc::{AllocError, Global};
 use std::test::Fail;
@@ -59,6 +59,14 @@ const REFUSED: [(usize, usize, u8, u64); 33] = [
     (89, 85, 5, 85),
 ];
 
+/// Where bytes are refused as a leaf.
+fn fault_of(bytes: &[u8]) -> Option<u64> {
+    match LeafView::read(bytes) {
+        Ok(_) => None,
+        Err(fault) => Some(fault.offset),
+    }
+}
+
 #[test]
 fn refused(rt: HostRuntime) -> Result<(), Fail> {
     for (kept, at, byte, offset) in REFUSED {
@@ -67,8 +75,7 @@ fn refused(rt: HostRuntime) -> Result<(), Fail> {
             bytes[at] = byte;
         }
         let front = bytes.get(..kept).ok_or("the front")?;
-        let refused = LeafView::read(front).err().ok_or("no leaf")?;
-        assert_eq!(rt; refused.offset, offset);
+        assert!(rt; fault_of(front) == Some(offset));
     }
     Ok(())
 }
@@ -93,64 +100,89 @@ fn changed(alloc: Global, bytes: &[u8], at: usize, byte: u8) -> Result<Vec<u8>, 
     Ok(changed)
 }
 
+/// Where so many bytes of PAGE with one of them changed are refused.
+fn changed_fault(alloc: Global, kept: usize, at: usize, byte: u8) -> Option<u64> {
+    let bytes = changed(alloc, &PAGE, at, byte).ok()?;
+    fault_of(bytes.as_slice().get(..kept)?)
+}
+
 #[test]
-fn refused_pages(rt: HostRuntime) -> Result<(), Fail> {
+fn refused_pages(rt: HostRuntime) {
     for (kept, at, byte, offset) in REFUSED_PAGES {
-        let bytes = changed(rt.alloc(), &PAGE, at, byte)?;
-        let front = bytes.as_slice().get(..kept).ok_or("the front")?;
-        let refused = LeafView::read(front).err().ok_or("no leaf")?;
-        assert_eq!(rt; refused.offset, offset);
+        assert!(rt; changed_fault(rt.alloc(), kept, at, byte) == Some(offset));
     }
+}
+
+#[test]
+fn a_page_is_read(rt: HostRuntime) -> Result<(), Fail> {
+    let page = LeafView::read(&PAGE).ok().ok_or("a leaf")?;
+    assert!(rt; page.version() == 1 && page.low().len() == 0);
+    assert!(rt; page.high().is_none() && page.right().is_none());
+    assert!(rt; page.find(b"k") == Some(b"v".as_slice()));
+    assert!(rt; page.find(b"l").is_none());
+    let client = ClientId::new(1).ok().ok_or("a client")?;
+    assert!(rt; page.done(0, client) == 1 && page.done(1, client) == 0);
+    assert!(rt; LeafView::empty().version() == 0);
     Ok(())
 }
 
 #[test]
-fn read(rt: HostRuntime) -> Result<(), Fail> {
-    let page = LeafView::read(&PAGE).ok().ok_or("a leaf")?;
-    assert_eq!(rt; page.version(), 1);
-    assert_eq!(rt; page.low().len(), 0);
-    assert!(rt; page.high().is_none() && page.right().is_none());
-    assert_eq!(rt; page.find(b"k").ok_or("k")?, b"v".as_slice());
-    assert!(rt; page.find(b"l").is_none());
-    let client = ClientId::new(1).ok().ok_or("a client")?;
-    assert_eq!(rt; page.done(0, client), 1);
-    assert_eq!(rt; page.done(1, client), 0);
+fn fences_are_read(rt: HostRuntime) -> Result<(), Fail> {
     let fenced = LeafView::read(&FENCED).ok().ok_or("a leaf")?;
-    assert_eq!(rt; fenced.low(), b"b".as_slice());
-    assert_eq!(rt; fenced.high().ok_or("a high key")?, b"d".as_slice());
-    assert_eq!(rt; fenced.right().ok_or("a right page")?.get(), 2);
+    assert!(rt; fenced.low() == b"b".as_slice());
+    assert!(rt; fenced.high() == Some(b"d".as_slice()));
+    assert!(rt; fenced.right().map(PageId::get) == Some(2));
     assert!(rt;
         fenced.holds(b"b") && fenced.holds(b"cz") && !fenced.holds(b"d") && !fenced.holds(b"a")
     );
+    Ok(())
+}
+
+#[test]
+fn records_are_read(rt: HostRuntime) -> Result<(), Fail> {
+    let fenced = LeafView::read(&FENCED).ok().ok_or("a leaf")?;
     let mut records = fenced.records();
-    assert_eq!(rt;
-        records.next().ok_or("b")?,
-        (b"b".as_slice(), b"".as_slice())
-    );
-    assert_eq!(rt;
-        records.next().ok_or("c")?,
-        (b"c".as_slice(), b"x".as_slice())
-    );
+    assert!(rt; records.next() == Some((b"b".as_slice(), b"".as_slice())));
+    assert!(rt; records.next() == Some((b"c".as_slice(), b"x".as_slice())));
     assert!(rt; records.next().is_none());
+    Ok(())
+}
+
+#[test]
+fn what_is_done_is_read(rt: HostRuntime) -> Result<(), Fail> {
+    let fenced = LeafView::read(&FENCED).ok().ok_or("a leaf")?;
     let (first, rest) = fenced.done_list().split().ok_or("an entry")?;
-    assert_eq!(rt; first.number, 5);
-    assert_eq!(rt; rest.again().next().ok_or("an entry")?.client.get(), 2);
-    assert_eq!(rt; LeafView::empty().version(), 0);
+    assert!(rt; first.number == 5);
+    let second = rest.again().next().ok_or("an entry")?;
+    assert!(rt; second.client.get() == 2);
     Ok(())
 }
 
 #[test]
 fn done_of_a_queue(rt: HostRuntime) -> Result<(), Fail> {
     let fenced = LeafView::read(&FENCED).ok().ok_or("a leaf")?;
-    let cursor = fenced.cursor(rt.alloc(), 0).ok().ok_or("a cursor")?;
     let numbers = fenced.numbers(0);
     for (number, done) in [(1, 5), (2, 1), (3, 0)] {
         let client = ClientId::new(number).ok().ok_or("a client")?;
-        assert_eq!(rt; cursor.get(client), done);
-        assert_eq!(rt; numbers.get(client), done);
+        assert!(rt; numbers.get(client) == done);
     }
     let first = ClientId::new(1).ok().ok_or("a client")?;
-    assert_eq!(rt; fenced.numbers(3).get(first), 1);
-    assert_eq!(rt; fenced.numbers(1).get(first), 0);
+    assert!(rt; fenced.numbers(3).get(first) == 1);
+    assert!(rt; fenced.numbers(1).get(first) == 0);
+    Ok(())
+}
+
+/// What the cursor of the tree's queue has for a client.
+fn cursor_of(alloc: Global, client: ClientId) -> Option<u64> {
+    let fenced = LeafView::read(&FENCED).ok()?;
+    Some(fenced.cursor(alloc, 0).ok()?.get(client))
+}
+
+#[test]
+fn cursor_of_a_queue(rt: HostRuntime) -> Result<(), Fail> {
+    for (number, done) in [(1, 5), (2, 1), (3, 0)] {
+        let client = ClientId::new(number).ok().ok_or("a client")?;
+        assert!(rt; cursor_of(rt.alloc(), client) == Some(done));
+    }
     Ok(())
 }

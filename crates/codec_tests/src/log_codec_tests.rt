@@ -1,3 +1,4 @@
+use db_base::blob::Blob;
 use log_codec::fault::RecFault;
 use log_codec::record::{AtomicRec, PuRec};
 use std::alloc::{AllocError, Global};
@@ -94,32 +95,77 @@ fn changed(alloc: Global, bytes: &[u8], at: usize, value: u8) -> Result<Vec<u8>,
     Ok(changed)
 }
 
+/// A record that is read and written back.
+fn pu_again(alloc: Global, bytes: &[u8]) -> Result<Blob, Fail> {
+    Ok(PuRec::read(alloc, bytes)?.write(alloc)?)
+}
+
+fn atomic_again(alloc: Global, bytes: &[u8]) -> Result<Blob, Fail> {
+    Ok(AtomicRec::read(alloc, bytes)?.write(alloc)?)
+}
+
+/// Client, epoch, transaction and number of a copy of the record.
+fn numbers_of(alloc: Global, bytes: &[u8]) -> Result<(u64, u64, u64, u64), Fail> {
+    let copy = PuRec::read(alloc, bytes)?.copied(alloc)?;
+    Ok((copy.client.get(), copy.epoch, copy.txn, copy.number))
+}
+
+/// Where bytes are refused as a record of a pending update.
+fn pu_fault(alloc: Global, bytes: &[u8]) -> Option<u64> {
+    match PuRec::read(alloc, bytes) {
+        Err(RecFault::NotRecord { offset }) => Some(offset),
+        _ => None,
+    }
+}
+
+/// Where bytes are refused as a record of a commit.
+fn atomic_fault(alloc: Global, bytes: &[u8]) -> Option<u64> {
+    match AtomicRec::read(alloc, bytes) {
+        Err(RecFault::NotRecord { offset }) => Some(offset),
+        _ => None,
+    }
+}
+
+/// Where PU with one of its bytes changed is refused.
+fn changed_pu_fault(alloc: Global, at: usize, value: u8) -> Option<u64> {
+    let bytes = changed(alloc, &PU, at, value).ok()?;
+    pu_fault(alloc, bytes.as_slice())
+}
+
+/// Where ATOMIC with one of its bytes changed is refused.
+fn changed_atomic_fault(alloc: Global, at: usize, value: u8) -> Option<u64> {
+    let bytes = changed(alloc, &ATOMIC, at, value).ok()?;
+    atomic_fault(alloc, bytes.as_slice())
+}
+
 #[test]
 fn vectors(rt: HostRuntime) -> Result<(), Fail> {
-    let rec = PuRec::read(rt.alloc(), &PU)?;
-    assert_eq!(rt; rec.write(rt.alloc())?.as_slice(), PU.as_slice());
-    let copy = rec.copied(rt.alloc())?;
-    assert_eq!(rt;
-        (copy.client.get(), copy.epoch, copy.txn, copy.number),
-        (1, 1, 1, 1)
-    );
-    let rec = AtomicRec::read(rt.alloc(), &ATOMIC)?;
-    assert_eq!(rt; rec.write(rt.alloc())?.as_slice(), ATOMIC.as_slice());
+    let spelled = pu_again(rt.alloc(), &PU)?;
+    assert!(rt; spelled.as_slice() == PU.as_slice());
+    Ok(())
+}
+
+#[test]
+fn atomic_vectors(rt: HostRuntime) -> Result<(), Fail> {
+    let spelled = atomic_again(rt.alloc(), &ATOMIC)?;
+    assert!(rt; spelled.as_slice() == ATOMIC.as_slice());
+    Ok(())
+}
+
+#[test]
+fn copies(rt: HostRuntime) -> Result<(), Fail> {
+    assert!(rt; numbers_of(rt.alloc(), &PU)? == (1, 1, 1, 1));
     Ok(())
 }
 
 #[test]
 fn refused_pu_records(rt: HostRuntime) -> Result<(), Fail> {
     for (len, offset) in PU_CUTS {
-        if len <= PU.len() {
-            let fault = PuRec::read(rt.alloc(), &PU[..len]).err();
-            assert_eq!(rt; fault, Some(RecFault::NotRecord { offset }));
-        }
+        let front = PU.get(..len).ok_or("the front")?;
+        assert!(rt; pu_fault(rt.alloc(), front) == Some(offset));
     }
     for (at, value, offset) in PU_CHANGES {
-        let bytes = changed(rt.alloc(), &PU, at, value)?;
-        let fault = PuRec::read(rt.alloc(), bytes.as_slice()).err();
-        assert_eq!(rt; fault, Some(RecFault::NotRecord { offset }));
+        assert!(rt; changed_pu_fault(rt.alloc(), at, value) == Some(offset));
     }
     Ok(())
 }
@@ -127,15 +173,11 @@ fn refused_pu_records(rt: HostRuntime) -> Result<(), Fail> {
 #[test]
 fn refused_atomic_records(rt: HostRuntime) -> Result<(), Fail> {
     for (len, offset) in ATOMIC_CUTS {
-        if len <= ATOMIC.len() {
-            let fault = AtomicRec::read(rt.alloc(), &ATOMIC[..len]).err();
-            assert_eq!(rt; fault, Some(RecFault::NotRecord { offset }));
-        }
+        let front = ATOMIC.get(..len).ok_or("the front")?;
+        assert!(rt; atomic_fault(rt.alloc(), front) == Some(offset));
     }
     for (at, value, offset) in ATOMIC_CHANGES {
-        let bytes = changed(rt.alloc(), &ATOMIC, at, value)?;
-        let fault = AtomicRec::read(rt.alloc(), bytes.as_slice()).err();
-        assert_eq!(rt; fault, Some(RecFault::NotRecord { offset }));
+        assert!(rt; changed_atomic_fault(rt.alloc(), at, value) == Some(offset));
     }
     Ok(())
 }

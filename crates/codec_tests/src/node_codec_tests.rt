@@ -6,6 +6,7 @@ use db_base::cursor::Cursor;
 use db_base::ids::{ClientId, PageId};
 use node_codec::{Entries, InnerBuf, InnerView, TreeBuf, TreeView};
 use std::alloc::{AllocError, Global};
+use std::process::Abort;
 use std::test::Fail;
 
 /// Version 1, next free page 2, level 1; client 1 up to number 1; the empty key to page 1.
@@ -180,6 +181,34 @@ fn node_fault(bytes: &[u8]) -> Option<u64> {
     }
 }
 
+/// Where ROOT with one of its bytes changed is refused.
+fn changed_root_fault(alloc: Global, at: usize, value: u8) -> Option<u64> {
+    let bytes = changed(alloc, &ROOT, at, value).ok()?;
+    root_fault(bytes.as_slice())
+}
+
+/// Where NODE with one of its bytes changed is refused.
+fn changed_node_fault(alloc: Global, at: usize, value: u8) -> Option<u64> {
+    let bytes = changed(alloc, &NODE, at, value).ok()?;
+    node_fault(bytes.as_slice())
+}
+
+/// Whether a root is written as these bytes.
+fn is_root(alloc: Global, root: &TreeBuf, bytes: &[u8]) -> bool {
+    match root.write(alloc) {
+        Ok(written) => written.as_slice() == bytes,
+        Err(_) => false,
+    }
+}
+
+/// Whether an inner node is written as these bytes.
+fn is_node(alloc: Global, node: &InnerBuf, bytes: &[u8]) -> bool {
+    match node.write(alloc) {
+        Ok(written) => written.as_slice() == bytes,
+        Err(_) => false,
+    }
+}
+
 /// The pages of entries, in their order.
 fn pages(alloc: Global, entries: Entries<'_>) -> Result<Vec<u64>, AllocError> {
     let mut pages = Vec::new(alloc);
@@ -193,13 +222,11 @@ fn pages(alloc: Global, entries: Entries<'_>) -> Result<Vec<u64>, AllocError> {
 fn refused_roots(rt: HostRuntime) -> Result<(), Fail> {
     for (len, offset) in ROOT_CUTS {
         let front = ROOT.get(..len).ok_or("the front")?;
-        assert_eq!(rt; root_fault(front), Some(offset), "cut to {len}");
+        assert!(rt; root_fault(front) == Some(offset), "cut to {len}");
     }
     for (at, value, offset) in ROOT_CHANGES {
-        let bytes = changed(rt.alloc(), &ROOT, at, value)?;
-        assert_eq!(rt;
-            root_fault(bytes.as_slice()),
-            Some(offset),
+        assert!(rt;
+            changed_root_fault(rt.alloc(), at, value) == Some(offset),
             "{value} at {at}"
         );
     }
@@ -210,13 +237,11 @@ fn refused_roots(rt: HostRuntime) -> Result<(), Fail> {
 fn refused_nodes(rt: HostRuntime) -> Result<(), Fail> {
     for (len, offset) in NODE_CUTS {
         let front = NODE.get(..len).ok_or("the front")?;
-        assert_eq!(rt; node_fault(front), Some(offset), "cut to {len}");
+        assert!(rt; node_fault(front) == Some(offset), "cut to {len}");
     }
     for (at, value, offset) in NODE_CHANGES {
-        let bytes = changed(rt.alloc(), &NODE, at, value)?;
-        assert_eq!(rt;
-            node_fault(bytes.as_slice()),
-            Some(offset),
+        assert!(rt;
+            changed_node_fault(rt.alloc(), at, value) == Some(offset),
             "{value} at {at}"
         );
     }
@@ -233,77 +258,120 @@ fn first_root(alloc: Global) -> Result<Blob, Fail> {
 }
 
 #[test]
-fn first_root_is_read(rt: HostRuntime) -> Result<(), Fail> {
-    assert_eq!(rt; first_root(rt.alloc())?.as_slice(), FIRST.as_slice());
-    let view = TreeView::read(&FIRST)?;
-    assert_eq!(rt; (view.version(), view.next(), view.level()), (1, 2, 1));
-    let client = ClientId::new(1)?;
-    assert_eq!(rt; view.cursor(client), 1);
-    assert_eq!(rt; view.whole_cursor(rt.alloc())?.get(client), 1);
-    assert_eq!(rt;
-        pages(rt.alloc(), view.entries())?.as_slice(),
-        [1].as_slice()
-    );
+fn first_root_is_written(rt: HostRuntime) -> Result<(), Fail> {
+    let root = first_root(rt.alloc())?;
+    assert!(rt; root.as_slice() == FIRST.as_slice());
     Ok(())
+}
+
+/// What the whole cursor of a root has for a client.
+fn cursor_of(alloc: Global, view: &TreeView<'_>, client: ClientId) -> Option<u64> {
+    Some(view.whole_cursor(alloc).ok()?.get(client))
+}
+
+#[test]
+fn first_root_is_read(rt: HostRuntime) -> Result<(), Fail> {
+    let view = TreeView::read(&FIRST)?;
+    assert!(rt; view.version() == 1 && view.next() == 2 && view.level() == 1);
+    let client = ClientId::new(1)?;
+    assert!(rt; view.cursor(client) == 1);
+    assert!(rt; cursor_of(rt.alloc(), &view, client) == Some(1));
+    let pages = pages(rt.alloc(), view.entries())?;
+    assert!(rt; pages.as_slice() == [1].as_slice());
+    Ok(())
+}
+
+/// Bytes with the next version, number 2.
+fn next(alloc: Global, bytes: &[u8]) -> Result<Vec<u8>, AllocError> {
+    changed(alloc, bytes, 9, 2)
+}
+
+/// Whether a root that is read is written with the next version.
+fn is_next_root(alloc: Global, bytes: &[u8]) -> Result<bool, Fail> {
+    let wanted = next(alloc, bytes)?;
+    let root = TreeBuf::of(alloc, &TreeView::read(bytes)?)?;
+    Ok(is_root(alloc, &root, wanted.as_slice()))
+}
+
+/// Whether an inner node that is read is written with the next version.
+fn is_next_node(alloc: Global, bytes: &[u8]) -> Result<bool, Fail> {
+    let wanted = next(alloc, bytes)?;
+    let node = InnerBuf::of(alloc, &InnerView::read(bytes)?)?;
+    Ok(is_node(alloc, &node, wanted.as_slice()))
 }
 
 #[test]
 fn written_back_with_the_next_version(rt: HostRuntime) -> Result<(), Fail> {
-    for bytes in [FIRST.as_slice(), ROOT.as_slice()] {
-        let root = TreeBuf::of(rt.alloc(), &TreeView::read(bytes)?)?;
-        let want = changed(rt.alloc(), bytes, 9, 2)?;
-        assert_eq!(rt; root.write(rt.alloc())?.as_slice(), want.as_slice());
-    }
-    let node = InnerBuf::of(rt.alloc(), &InnerView::read(&NODE)?)?;
-    let want = changed(rt.alloc(), &NODE, 9, 2)?;
-    assert_eq!(rt; node.write(rt.alloc())?.as_slice(), want.as_slice());
+    assert!(rt; is_next_root(rt.alloc(), &FIRST)?);
+    assert!(rt; is_next_root(rt.alloc(), &ROOT)?);
+    assert!(rt; is_next_node(rt.alloc(), &NODE)?);
     Ok(())
+}
+
+/// The first root with an entry of c to a new page, the first of three that were reserved, and then of c to page 1.
+fn with_an_entry(alloc: Global) -> Result<(u64, TreeBuf), Fail> {
+    let mut root = TreeBuf::of(alloc, &TreeView::read(&FIRST)?)?;
+    let second = root.reserve(3)?;
+    root.add(b"c", second)?;
+    root.add(b"c", PageId::first())?;
+    Ok((second.get(), root))
+}
+
+/// The next free page of a root, and the pages to which it leads from b and c.
+fn leads(alloc: Global, root: &TreeBuf) -> Result<(u64, u64, u64), Fail> {
+    let bytes = root.write(alloc)?;
+    let view = TreeView::read(bytes.as_slice())?;
+    Ok((
+        view.next(),
+        view.child(b"b").1.get(),
+        view.child(b"c").1.get(),
+    ))
 }
 
 #[test]
 fn an_entry_is_added(rt: HostRuntime) -> Result<(), Fail> {
-    let mut root = TreeBuf::of(rt.alloc(), &TreeView::read(&FIRST)?)?;
-    let second = root.reserve(3)?;
-    root.add(b"c", second)?;
-    root.add(b"c", PageId::first())?;
-    assert_eq!(rt; (second.get(), root.len()), (2, 2));
-    let bytes = root.write(rt.alloc())?;
-    let view = TreeView::read(bytes.as_slice())?;
-    assert_eq!(rt; view.next(), 5);
-    assert_eq!(rt;
-        (view.child(b"b").1.get(), view.child(b"c").1.get()),
-        (1, 2)
-    );
+    let (second, root) = with_an_entry(rt.alloc())?;
+    assert!(rt; second == 2 && root.len() == 2);
+    assert!(rt; leads(rt.alloc(), &root)? == (5, 1, 2));
     Ok(())
+}
+
+/// The root over a node that has its entries, and that node.
+fn lowered(rt: &impl Abort, alloc: Global) -> Result<(TreeBuf, InnerBuf), Fail> {
+    let view = TreeView::read(&ROOT)?;
+    assert!(rt; view.level() < 255);
+    let mut root = TreeBuf::of(alloc, &view)?;
+    let page = root.reserve(1)?;
+    Ok(root.lower(page)?)
 }
 
 #[test]
 fn entries_go_below(rt: HostRuntime) -> Result<(), Fail> {
-    let view = TreeView::read(&ROOT)?;
-    assert!(rt; view.level() < 255);
-    let mut root = TreeBuf::of(rt.alloc(), &view)?;
-    let page = root.reserve(1)?;
-    let (root, node) = root.lower(page)?;
-    assert_eq!(rt; (root.len(), node.len()), (1, 2));
-    assert_eq!(rt; root.write(rt.alloc())?.as_slice(), LOWERED.as_slice());
-    assert_eq!(rt; node.write(rt.alloc())?.as_slice(), BELOW.as_slice());
+    let (root, node) = lowered(&rt, rt.alloc())?;
+    assert!(rt; root.len() == 1 && node.len() == 2);
+    assert!(rt; is_root(rt.alloc(), &root, &LOWERED));
+    assert!(rt; is_node(rt.alloc(), &node, &BELOW));
     Ok(())
 }
 
 #[test]
 fn a_node_is_read(rt: HostRuntime) -> Result<(), Fail> {
     let view = InnerView::read(&NODE)?;
-    assert_eq!(rt; (view.version(), view.level()), (1, 1));
-    assert_eq!(rt; view.low(), b"b".as_slice());
-    assert_eq!(rt; view.high().ok_or("a high key")?, b"m".as_slice());
-    assert_eq!(rt; view.right().ok_or("a page")?.get(), 5);
-    assert_eq!(rt;
-        pages(rt.alloc(), view.entries())?.as_slice(),
-        [1, 2].as_slice()
-    );
+    assert!(rt; view.version() == 1 && view.level() == 1);
+    assert!(rt; view.low() == b"b".as_slice());
+    assert!(rt; view.high() == Some(b"m".as_slice()));
+    assert!(rt; view.right().map(PageId::get) == Some(5));
     assert!(rt; !is_below(b"bz", view.low()));
     let (low, page) = view.child(b"bz");
-    assert_eq!(rt; (low, page.get()), (b"b".as_slice(), 1));
+    assert!(rt; low == b"b".as_slice() && page.get() == 1);
+    Ok(())
+}
+
+#[test]
+fn entries_of_a_node_are_read(rt: HostRuntime) -> Result<(), Fail> {
+    let view = InnerView::read(&NODE)?;
+    let pages = pages(rt.alloc(), view.entries())?;
+    assert!(rt; pages.as_slice() == [1, 2].as_slice());
     Ok(())
 }
 
@@ -318,12 +386,17 @@ fn wider(alloc: Global) -> Result<InnerBuf, Fail> {
     Ok(node)
 }
 
+/// That node cut behind its first entry, the right part on page 7.
+fn cut(rt: &impl Abort, alloc: Global) -> Result<(InnerBuf, InnerBuf), Fail> {
+    let node = wider(alloc)?;
+    assert!(rt; node.len() > 1);
+    Ok(node.cut_at(1, PageId::new(7)?)?)
+}
+
 #[test]
 fn a_node_is_cut(rt: HostRuntime) -> Result<(), Fail> {
-    let node = wider(rt.alloc())?;
-    assert!(rt; node.len() > 1);
-    let (left, right) = node.cut_at(1, PageId::new(7)?)?;
-    assert_eq!(rt; left.write(rt.alloc())?.as_slice(), LEFT.as_slice());
-    assert_eq!(rt; right.write(rt.alloc())?.as_slice(), RIGHT.as_slice());
+    let (left, right) = cut(&rt, rt.alloc())?;
+    assert!(rt; is_node(rt.alloc(), &left, &LEFT));
+    assert!(rt; is_node(rt.alloc(), &right, &RIGHT));
     Ok(())
 }

@@ -13,6 +13,23 @@ fn insert(alloc: Global, key: &[u8], payload: &[u8]) -> Result<Change, Refused> 
     })
 }
 
+/// What a buffer answers to an insert of a payload x.
+fn inserted(
+    alloc: Global,
+    buffer: &mut TxnBuffer,
+    tree: TreeId,
+    key: &[u8],
+) -> Result<(), Refused> {
+    let change = insert(alloc, key, b"x")?;
+    buffer.note(tree, change)
+}
+
+/// What a buffer answers to a deletion.
+fn deleted(alloc: Global, buffer: &mut TxnBuffer, tree: TreeId, key: &[u8]) -> Result<(), Refused> {
+    let change = delete(alloc, key)?;
+    buffer.note(tree, change)
+}
+
 fn delete(alloc: Global, key: &[u8]) -> Result<Change, Refused> {
     Ok(Change::Delete {
         key: Key::new(alloc, key)?,
@@ -37,51 +54,82 @@ fn deletes(buffer: &TxnBuffer, tree: TreeId, key: &[u8]) -> Option<bool> {
     }
 }
 
-#[test]
-fn notes_in_order_with_net_changes(rt: HostRuntime) -> Result<(), Fail> {
-    let alloc = rt.alloc();
+/// Inserts of b in tree 1, of b in tree 2 and of a in tree 1, and then the deletion of b in tree 1.
+fn noted(alloc: Global) -> Result<TxnBuffer, Fail> {
     let mut buffer = TxnBuffer::new(alloc)?;
-    assert_eq!(rt; buffer.is_empty(), true);
-    let noted = [(1, "b"), (2, "b"), (1, "a")];
-    for (tree, key) in noted {
-        let change = insert(alloc, key.as_bytes(), b"x")?;
-        buffer.note(TreeId::new(tree)?, change)?;
+    note_all(alloc, &mut buffer)?;
+    Ok(buffer)
+}
+
+fn note_all(alloc: Global, buffer: &mut TxnBuffer) -> Result<(), Fail> {
+    for (number, key) in NOTED {
+        let tree = TreeId::new(number)?;
+        inserted(alloc, buffer, tree, key.as_bytes())?;
     }
     let one = TreeId::new(1)?;
-    let change = delete(alloc, b"b")?;
-    buffer.note(one, change)?;
-    assert_eq!(rt; buffer.len(), 3);
-    for (index, (tree, key)) in noted.iter().enumerate() {
-        assert_eq!(rt; is_at(&buffer, index, *tree, key), true);
+    deleted(alloc, buffer, one, b"b")?;
+    Ok(())
+}
+
+const NOTED: [(u64, &str); 3] = [(1, "b"), (2, "b"), (1, "a")];
+
+#[test]
+fn notes_in_order(rt: HostRuntime) -> Result<(), Fail> {
+    let buffer = noted(rt.alloc())?;
+    assert!(rt; buffer.len() == 3);
+    for (index, (tree, key)) in NOTED.iter().enumerate() {
+        assert!(rt; is_at(&buffer, index, *tree, key));
     }
-    assert_eq!(rt; buffer.at(3).is_none(), true);
-    let two = TreeId::new(2)?;
-    assert_eq!(rt; deletes(&buffer, one, b"b"), Some(true));
-    assert_eq!(rt; deletes(&buffer, two, b"b"), Some(false));
-    assert_eq!(rt; deletes(&buffer, two, b"a"), None);
-    assert_eq!(rt; deletes(&buffer, one, &[98; 65]), None);
-    let mut taken = buffer.take();
-    assert_eq!(rt; (buffer.len(), taken.len()), (0, 3));
-    taken.clear();
-    assert_eq!(rt; taken.len(), 0);
+    assert!(rt; buffer.at(3).is_none());
     Ok(())
 }
 
 #[test]
-fn refuses_the_201st(rt: HostRuntime) -> Result<(), Fail> {
-    let alloc = rt.alloc();
+fn finds_net_changes(rt: HostRuntime) -> Result<(), Fail> {
+    let (one, two) = (TreeId::new(1)?, TreeId::new(2)?);
+    let buffer = noted(rt.alloc())?;
+    assert!(rt; deletes(&buffer, one, b"b") == Some(true));
+    assert!(rt; deletes(&buffer, two, b"b") == Some(false));
+    assert!(rt; deletes(&buffer, two, b"a").is_none());
+    assert!(rt; deletes(&buffer, one, &[98; 65]).is_none());
+    Ok(())
+}
+
+#[test]
+fn gives_what_was_noted(rt: HostRuntime) -> Result<(), Fail> {
+    let mut buffer = noted(rt.alloc())?;
+    let mut taken = buffer.take();
+    assert!(rt; buffer.len() == 0 && taken.len() == 3);
+    taken.clear();
+    assert!(rt; taken.len() == 0);
+    Ok(())
+}
+
+#[test]
+fn begins_empty(rt: HostRuntime) -> Result<(), Fail> {
+    let buffer = TxnBuffer::new(rt.alloc())?;
+    assert!(rt; buffer.is_empty());
+    Ok(())
+}
+
+/// A buffer of 200 changes of tree 16.
+fn full(alloc: Global) -> Result<TxnBuffer, Fail> {
     let tree = TreeId::new(16)?;
     let mut buffer = TxnBuffer::new(alloc)?;
     for byte in 0..200u8 {
-        buffer.note(tree, insert(alloc, &[byte], b"")?)?;
+        inserted(alloc, &mut buffer, tree, &[byte])?;
     }
+    Ok(buffer)
+}
+
+#[test]
+fn refuses_the_201st(rt: HostRuntime) -> Result<(), Fail> {
+    let (one, last) = (TreeId::new(1)?, TreeId::new(16)?);
     let many = Err(Refused::Rule(Refusal::TooManyChanges));
-    assert_eq!(rt; buffer.note(tree, insert(alloc, &[200], b"")?), many);
-    assert_eq!(rt;
-        buffer.note(TreeId::new(1)?, insert(alloc, &[7], b"")?),
-        many
-    );
-    assert_eq!(rt; buffer.note(tree, delete(alloc, &[7])?), Ok(()));
-    assert_eq!(rt; buffer.len(), 200);
+    let mut buffer = full(rt.alloc())?;
+    assert!(rt; inserted(rt.alloc(), &mut buffer, last, &[200]) == many);
+    assert!(rt; inserted(rt.alloc(), &mut buffer, one, &[7]) == many);
+    assert!(rt; deleted(rt.alloc(), &mut buffer, last, &[7]) == Ok(()));
+    assert!(rt; buffer.len() == 200);
     Ok(())
 }

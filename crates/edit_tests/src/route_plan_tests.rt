@@ -81,48 +81,87 @@ fn four_records(
     tree: TreeId,
     head: &Head,
 ) -> Result<Vec<AtomicRec>, Fail> {
-    let buffer = four_changes(alloc, tree)?;
     let leaves = [PageId::new(9)?; 4];
-    assert_eq!(rt; buffer.len(), 4);
     let client = ClientId::new(1)?;
+    let buffer = four_changes(alloc, tree)?;
+    assert!(rt; buffer.len() == 4);
     let records = route(alloc, client, 2, 5, head, &buffer, &leaves)?;
-    assert_eq!(rt; records.len(), 4);
+    assert!(rt; records.len() == 4);
     Ok(records)
+}
+
+/// The records of the commit behind the used head.
+fn routed(rt: &impl Abort, alloc: Global) -> Result<Vec<AtomicRec>, Fail> {
+    let tree = TreeId::new(1)?;
+    let head = used_head(alloc, tree)?;
+    four_records(rt, alloc, tree, &head)
+}
+
+/// The number of the message of a record.
+fn number_of(alloc: Global, record: &AtomicRec) -> Option<u64> {
+    Some(pu_of_record(alloc, record).ok()?.number)
 }
 
 #[test]
 fn a_commit_is_routed(rt: HostRuntime) -> Result<(), Fail> {
-    let alloc = rt.alloc();
-    let tree = TreeId::new(1)?;
-    let head = used_head(alloc, tree)?;
-    let records = four_records(&rt, alloc, tree, &head)?;
-    for (r, place) in records.iter().zip([(7, 3), (9, 1), (0, 6), (0, 7)]) {
-        assert_eq!(rt; (r.page, r.number), place);
-        assert_eq!(rt; pu_of_record(alloc, r)?.number, r.number);
+    let records = routed(&rt, rt.alloc())?;
+    for (r, (page, number)) in records.iter().zip([(7, 3), (9, 1), (0, 6), (0, 7)]) {
+        assert!(rt; r.page == page && r.number == number);
+        assert!(rt; number_of(rt.alloc(), r) == Some(number));
     }
-    assert_eq!(rt; queue_name(tree, 0), QueueName::TreePu(tree));
-    let ninth = QueueName::PagePu(tree, PageId::new(9)?);
-    assert_eq!(rt; queue_name(tree, 9), ninth);
     Ok(())
 }
 
 #[test]
-fn a_commit_opens_and_settles_the_head(rt: HostRuntime) -> Result<(), Fail> {
-    let alloc = rt.alloc();
+fn queues_have_names(rt: HostRuntime) -> Result<(), Fail> {
     let tree = TreeId::new(1)?;
-    let mut head = used_head(alloc, tree)?;
-    let records = four_records(&rt, alloc, tree, &head)?;
-    assert_eq!(rt; records.len(), 4);
-    open_head(alloc, &mut head, 5, records.as_slice())?;
-    assert_eq!(rt; (head.txn, head.phase), (5, Phase::Open(4)));
-    let counters = head.counters.as_slice();
-    assert_eq!(rt; counters.len(), 3);
-    for (counter, place) in counters.iter().zip([(0, 7), (7, 3), (9, 1)]) {
-        assert_eq!(rt; (counter.page, counter.number), place);
-    }
+    assert!(rt; queue_name(tree, 0) == QueueName::TreePu(tree));
+    let ninth = QueueName::PagePu(tree, PageId::new(9)?);
+    assert!(rt; queue_name(tree, 9) == ninth);
+    Ok(())
+}
+
+/// Opens the head for four records.
+fn open(rt: &impl Abort, alloc: Global, head: &mut Head, four: &[AtomicRec]) -> Result<(), Fail> {
+    assert!(rt; four.len() == 4);
+    open_head(alloc, head, 5, four)?;
+    Ok(())
+}
+
+/// The used head opened for its commit.
+fn opened(rt: &impl Abort, alloc: Global) -> Result<Head, Fail> {
+    let records = routed(rt, alloc)?;
+    let mut head = used_head(alloc, TreeId::new(1)?)?;
+    open(rt, alloc, &mut head, records.as_slice())?;
+    Ok(head)
+}
+
+/// The same head settled.
+fn settled(rt: &impl Abort, alloc: Global) -> Result<Head, Fail> {
+    let records = routed(rt, alloc)?;
+    let mut head = used_head(alloc, TreeId::new(1)?)?;
+    open(rt, alloc, &mut head, records.as_slice())?;
     settle_head(alloc, &mut head, records.as_slice())?;
-    assert_eq!(rt; head.phase, Phase::Settled);
-    assert_eq!(rt; head.pending.as_slice().len(), 5);
+    Ok(head)
+}
+
+#[test]
+fn a_commit_opens_the_head(rt: HostRuntime) -> Result<(), Fail> {
+    let head = opened(&rt, rt.alloc())?;
+    assert!(rt; head.txn == 5 && head.phase == Phase::Open(4));
+    let counters = head.counters.as_slice();
+    assert!(rt; counters.len() == 3);
+    for (counter, (page, number)) in counters.iter().zip([(0, 7), (7, 3), (9, 1)]) {
+        assert!(rt; counter.page == page && counter.number == number);
+    }
+    Ok(())
+}
+
+#[test]
+fn a_commit_settles_the_head(rt: HostRuntime) -> Result<(), Fail> {
+    let head = settled(&rt, rt.alloc())?;
+    assert!(rt; head.phase == Phase::Settled);
+    assert!(rt; head.pending.as_slice().len() == 5);
     Ok(())
 }
 
@@ -141,15 +180,20 @@ fn pending_head(alloc: Global, tree: TreeId) -> Result<Head, Fail> {
     Ok(head)
 }
 
-#[test]
-fn what_is_lacked_is_seen(rt: HostRuntime) -> Result<(), Fail> {
-    let alloc = rt.alloc();
-    let client = ClientId::new(1)?;
-    let tree = TreeId::new(1)?;
-    let head = pending_head(alloc, tree)?;
+/// The update of b by the session itself.
+fn one_noted(alloc: Global, tree: TreeId) -> Result<TxnBuffer, Fail> {
     let mut buffer = TxnBuffer::new(alloc)?;
     buffer.note(tree, update(alloc, b"b")?)?;
+    Ok(buffer)
+}
+
+#[test]
+fn what_is_lacked_is_seen(rt: HostRuntime) -> Result<(), Fail> {
+    let client = ClientId::new(1)?;
+    let tree = TreeId::new(1)?;
     let leaf = LeafView::read(&LEAF)?;
+    let head = pending_head(rt.alloc(), tree)?;
+    let buffer = one_noted(rt.alloc(), tree)?;
     for (key, payload) in [
         ("a", Some("x")),
         ("b", Some("q")),
@@ -162,18 +206,23 @@ fn what_is_lacked_is_seen(rt: HostRuntime) -> Result<(), Fail> {
     Ok(())
 }
 
-#[test]
-fn what_is_applied_is_pruned(rt: HostRuntime) -> Result<(), Fail> {
-    let alloc = rt.alloc();
+/// The pending head without what the leaf and the root show to be applied.
+fn pruned(alloc: Global) -> Result<Head, Fail> {
     let client = ClientId::new(1)?;
     let tree = TreeId::new(1)?;
     let mut head = pending_head(alloc, tree)?;
     prune_leaf(&mut head, client, tree, &LeafView::read(&LEAF)?);
     prune_tree(&mut head, client, tree, &TreeView::read(&ROOT)?);
+    Ok(head)
+}
+
+#[test]
+fn what_is_applied_is_pruned(rt: HostRuntime) -> Result<(), Fail> {
+    let head = pruned(rt.alloc())?;
     let left = head.pending.as_slice();
-    assert_eq!(rt; left.len(), 2);
+    assert!(rt; left.len() == 2);
     for (entry, number) in left.iter().zip([4, 7]) {
-        assert_eq!(rt; entry.number, number);
+        assert!(rt; entry.number == number);
     }
     Ok(())
 }

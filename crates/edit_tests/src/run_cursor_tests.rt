@@ -4,7 +4,7 @@ use db_base::ids::{ClientId, MsgId};
 use db_base::key::Key;
 use log_codec::record::{PuItem, PuRec};
 use run_cursor::covered::covered;
-use run_cursor::run::take_run;
+use run_cursor::run::{Run, take_run};
 use std::alloc::Global;
 use std::test::Fail;
 
@@ -85,25 +85,67 @@ fn items_of(alloc: Global, rows: &[(u64, u64, u64, &[u8])]) -> Result<Vec<PuItem
     Ok(items)
 }
 
+/// The run of a row.
+fn run_of(alloc: Global, row: &Row) -> Result<Run, Fail> {
+    let cursor = cursor_of(alloc, row.cursor)?;
+    let items = items_of(alloc, row.items)?;
+    Ok(take_run(alloc, &cursor, items.as_slice())?)
+}
+
+/// The ids of its items.
+fn ids_of(alloc: Global, run: &Run) -> Result<Vec<u64>, Fail> {
+    let mut ids = Vec::new(alloc);
+    for item in run.items() {
+        ids.push(item.id.get())?;
+    }
+    Ok(ids)
+}
+
+/// The ids of a row's items that the run's top covers.
+fn covered_by(alloc: Global, row: &Row, run: &Run) -> Result<Vec<u64>, Fail> {
+    let items = items_of(alloc, row.items)?;
+    let mut ids = Vec::new(alloc);
+    for id in &covered(alloc, run.top(), items.as_slice())? {
+        ids.push(id.get())?;
+    }
+    Ok(ids)
+}
+
+/// Whether the run's top has these numbers.
+fn is_top(run: &Run, numbers: &[(u64, u64)]) -> Result<bool, Fail> {
+    for (client, number) in numbers {
+        if run.top().get(ClientId::new(*client)?) != *number {
+            return Ok(false);
+        }
+    }
+    Ok(true)
+}
+
 #[test]
 fn runs_are_taken(rt: HostRuntime) -> Result<(), Fail> {
     for row in &ROWS {
-        let cursor = cursor_of(rt.alloc(), row.cursor)?;
-        let items = items_of(rt.alloc(), row.items)?;
-        let run = take_run(rt.alloc(), &cursor, items.as_slice())?;
-        let mut ids = Vec::new(rt.alloc());
-        for item in run.items() {
-            ids.push(item.id.get())?;
-        }
-        assert_eq!(rt; ids.as_slice(), row.run);
-        for (client, number) in row.top {
-            assert_eq!(rt; run.top().get(ClientId::new(*client)?), *number);
-        }
-        let mut ids = Vec::new(rt.alloc());
-        for id in &covered(rt.alloc(), run.top(), items.as_slice())? {
-            ids.push(id.get())?;
-        }
-        assert_eq!(rt; ids.as_slice(), row.covered);
+        let run = run_of(rt.alloc(), row)?;
+        let ids = ids_of(rt.alloc(), &run)?;
+        assert!(rt; ids.as_slice() == row.run);
+    }
+    Ok(())
+}
+
+#[test]
+fn tops_are_reached(rt: HostRuntime) -> Result<(), Fail> {
+    for row in &ROWS {
+        let run = run_of(rt.alloc(), row)?;
+        assert!(rt; is_top(&run, row.top)?);
+    }
+    Ok(())
+}
+
+#[test]
+fn what_a_top_covers_is_found(rt: HostRuntime) -> Result<(), Fail> {
+    for row in &ROWS {
+        let run = run_of(rt.alloc(), row)?;
+        let ids = covered_by(rt.alloc(), row, &run)?;
+        assert!(rt; ids.as_slice() == row.covered);
     }
     Ok(())
 }

@@ -68,38 +68,46 @@ fn least_number_of_pieces(rt: HostRuntime) {
         (129, 3),
         (200, 4),
     ] {
-        assert_eq!(rt; pieces(len), count, "{len}");
+        assert!(rt; pieces(len) == count);
     }
 }
 
-/// The page is put last, and before it the new ones down to the first; each of these has its entry.
-fn on_pages(rt: &impl Abort, plan: &Pieces, page: u64, free: u64) {
+/// Whether the page is put last, and before it the new ones down to the first.
+fn are_put_on(plan: &Pieces, page: u64, free: u64) -> bool {
     let mut number = page;
     let mut next = free;
     for put in plan.puts.as_slice().iter().rev() {
-        assert_eq!(rt; put.page.get(), number);
+        if put.page.get() != number {
+            return false;
+        }
         number = next;
         next = next.saturating_add(1);
     }
-    let mut number = free;
-    for entry in plan.entries.as_slice() {
-        assert_eq!(rt; entry.page.get(), number);
-        number = number.saturating_add(1);
-    }
-    assert_eq!(rt;
-        plan.puts.as_slice().len(),
-        plan.entries.as_slice().len().saturating_add(1)
-    );
+    true
 }
 
-fn leaf_sizes(rt: &impl Abort, plan: &Pieces, sizes: &[usize]) -> Result<(), Fail> {
+/// Whether each of the new pages has its entry.
+fn are_named(plan: &Pieces, free: u64) -> bool {
+    let mut number = free;
+    for entry in plan.entries.as_slice() {
+        if entry.page.get() != number {
+            return false;
+        }
+        number = number.saturating_add(1);
+    }
+    plan.puts.as_slice().len() == plan.entries.as_slice().len().saturating_add(1)
+}
+
+/// Whether the pieces have so many records, and each the whole's table.
+fn are_leaves_of(plan: &Pieces, sizes: &[usize]) -> Result<bool, Fail> {
     let client = ClientId::new(1)?;
-    assert_eq!(rt; plan.puts.as_slice().len(), sizes.len());
     for (put, size) in plan.puts.as_slice().iter().rev().zip(sizes) {
         let leaf = LeafView::read(put.bytes.as_slice())?;
-        assert_eq!(rt; (leaf.records().len(), leaf.done(0, client)), (*size, 1));
+        if leaf.records().len() != *size || leaf.done(0, client) != 1 {
+            return Ok(false);
+        }
     }
-    Ok(())
+    Ok(plan.puts.as_slice().len() == sizes.len())
 }
 
 /// The leaf of so many records, cut on page 7, where page 10 is the first free one.
@@ -113,10 +121,17 @@ fn cut_leaf(rt: &impl Abort, alloc: Global, count: u8) -> Result<Pieces, Fail> {
 fn leaves_are_cut(rt: HostRuntime) -> Result<(), Fail> {
     for (count, sizes) in CUTS {
         let plan = cut_leaf(&rt, rt.alloc(), count)?;
-        leaf_sizes(&rt, &plan, sizes)?;
-        on_pages(&rt, &plan, 7, 10);
+        assert!(rt; are_leaves_of(&plan, sizes)?);
+        assert!(rt; are_put_on(&plan, 7, 10) && are_named(&plan, 10));
     }
     Ok(())
+}
+
+/// Whether a leaf is of this version, its keys go up to a bound, and the page on its right is of this number.
+fn is_before(leaf: &LeafView<'_>, version: u64, right: u64, high: &[u8]) -> bool {
+    leaf.version() == version
+        && leaf.right().map(PageId::get) == Some(right)
+        && leaf.high() == Some(high)
 }
 
 #[test]
@@ -124,39 +139,46 @@ fn fences_meet(rt: HostRuntime) -> Result<(), Fail> {
     let plan = cut_leaf(&rt, rt.alloc(), 65)?;
     let puts = plan.puts.as_slice();
     let entries = plan.entries.as_slice();
-    assert_eq!(rt; (puts.len(), entries.len()), (2, 1));
-    assert_eq!(rt; entries[0].low.as_slice(), [34].as_slice());
+    assert!(rt; puts.len() == 2 && entries.len() == 1);
+    assert!(rt; entries[0].low.as_slice() == [34].as_slice());
     let left = LeafView::read(puts[1].bytes.as_slice())?;
     let right = LeafView::read(puts[0].bytes.as_slice())?;
-    assert_eq!(rt; (left.version(), right.version()), (3, 1));
-    assert_eq!(rt; left.right(), Some(PageId::new(10)?));
-    assert!(rt; left.high() == Some([34].as_slice()));
-    assert_eq!(rt; right.low(), [34].as_slice());
-    assert_eq!(rt; right.right(), Some(PageId::new(5)?));
-    assert!(rt; right.high() == Some([255].as_slice()));
+    assert!(rt; is_before(&left, 3, 10, &[34]));
+    assert!(rt; right.low() == [34].as_slice());
+    assert!(rt; is_before(&right, 1, 5, &[255]));
     Ok(())
 }
 
-fn node_sizes(rt: &impl Abort, alloc: Global, plan: &Pieces, sizes: &[usize]) -> Result<(), Fail> {
-    assert_eq!(rt; plan.puts.as_slice().len(), sizes.len());
+/// How many entries a node has.
+fn length_of(alloc: Global, node: &InnerView<'_>) -> Result<usize, Fail> {
+    Ok(InnerBuf::of(alloc, node)?.len())
+}
+
+/// Whether the pieces have so many entries, and each the whole's level.
+fn are_nodes_of(alloc: Global, plan: &Pieces, sizes: &[usize]) -> Result<bool, Fail> {
     for (put, size) in plan.puts.as_slice().iter().rev().zip(sizes) {
         let node = InnerView::read(put.bytes.as_slice())?;
-        let buf = InnerBuf::of(alloc, &node)?;
-        assert_eq!(rt; (buf.len(), node.level()), (*size, 2));
+        if length_of(alloc, &node)? != *size || node.level() != 2 {
+            return Ok(false);
+        }
     }
-    Ok(())
+    Ok(plan.puts.as_slice().len() == sizes.len())
+}
+
+/// The inner node of so many entries, cut on page 7, where page 10 is the first free one.
+fn cut_node(rt: &impl Abort, alloc: Global, count: u8) -> Result<Pieces, Fail> {
+    let bytes = node_of(alloc, &NODE, count)?;
+    let buf = InnerBuf::of(alloc, &InnerView::read(bytes.as_slice())?)?;
+    assert!(rt; pieces(buf.len() as u64) <= 4);
+    Ok(plan_inner(alloc, PageId::new(7)?, buf, PageId::new(10)?)?)
 }
 
 #[test]
 fn inner_nodes_are_cut(rt: HostRuntime) -> Result<(), Fail> {
-    let alloc = rt.alloc();
     for (count, sizes) in CUTS {
-        let bytes = node_of(alloc, &NODE, count)?;
-        let buf = InnerBuf::of(alloc, &InnerView::read(bytes.as_slice())?)?;
-        assert!(rt; pieces(buf.len() as u64) <= 4);
-        let plan = plan_inner(alloc, PageId::new(7)?, buf, PageId::new(10)?)?;
-        node_sizes(&rt, alloc, &plan, sizes)?;
-        on_pages(&rt, &plan, 7, 10);
+        let plan = cut_node(&rt, rt.alloc(), count)?;
+        assert!(rt; are_nodes_of(rt.alloc(), &plan, sizes)?);
+        assert!(rt; are_put_on(&plan, 7, 10) && are_named(&plan, 10));
     }
     Ok(())
 }
@@ -171,21 +193,25 @@ fn cut_root(rt: &impl Abort, alloc: Global, count: u8) -> Result<(Pieces, TreeBu
     Ok(plan_root(alloc, buf, first)?)
 }
 
+/// Whether the root above the pieces is of the next version and level, and leads to page 300 first and to this one last.
+fn leads_to(alloc: Global, root: &TreeBuf, last: u64) -> Result<bool, Fail> {
+    let bytes = root.write(alloc)?;
+    let view = TreeView::read(bytes.as_slice())?;
+    Ok(
+        view.version() == 4
+            && view.level() == 3
+            && view.child(&[]).1.get() == 300
+            && view.child(&[200]).1.get() == last,
+    )
+}
+
 #[test]
 fn roots_are_cut(rt: HostRuntime) -> Result<(), Fail> {
-    let alloc = rt.alloc();
     for (count, sizes) in CUTS {
-        let (plan, root) = cut_root(&rt, alloc, count)?;
-        node_sizes(&rt, alloc, &plan, sizes)?;
-        assert_eq!(rt;
-            (plan.entries.as_slice().len(), root.len()),
-            (sizes.len(), sizes.len())
-        );
-        let bytes = root.write(alloc)?;
-        let view = TreeView::read(bytes.as_slice())?;
-        assert_eq!(rt; (view.version(), view.level()), (4, 3));
-        assert_eq!(rt; view.child(&[]).1.get(), 300);
-        assert_eq!(rt; view.child(&[200]).1.get(), 299 + sizes.len() as u64);
+        let (plan, root) = cut_root(&rt, rt.alloc(), count)?;
+        assert!(rt; are_nodes_of(rt.alloc(), &plan, sizes)?);
+        assert!(rt; plan.entries.as_slice().len() == sizes.len() && root.len() == sizes.len());
+        assert!(rt; leads_to(rt.alloc(), &root, 299 + sizes.len() as u64)?);
     }
     Ok(())
 }

@@ -10,6 +10,7 @@ pub mod OpeningSteps
 pub mod CommitSteps
 pub mod FoldingSteps
 pub mod FoldingExplaining
+pub mod FoldingCalls
 pub mod PagingSteps
 pub mod GettingSteps
 pub mod ReadingSteps

@@ -85,9 +85,43 @@ const NO_SHELL_LINES: [&str; 6] = [
 ];
 
 /// Whether an event is written as this line.
-fn is_written(alloc: Global, event: &Event, line: &str) -> Result<bool, TextFault> {
-    let text = event.write(alloc)?;
-    Ok(text.as_slice() == line.as_bytes())
+fn is_written(alloc: Global, event: &Event, line: &str) -> bool {
+    match event.write(alloc) {
+        Ok(text) => text.as_slice() == line.as_bytes(),
+        Err(_) => false,
+    }
+}
+
+/// Whether a line is read, and what is read is written as it.
+fn is_written_back(alloc: Global, line: &str) -> bool {
+    match Event::read(alloc, line.as_bytes()) {
+        Ok(event) => is_written(alloc, &event, line),
+        Err(_) => false,
+    }
+}
+
+/// Whether a shell's line is read, and what is read is written as this line.
+fn is_short_for(alloc: Global, line: &str, long: &str) -> bool {
+    match Event::read_shell(alloc, line.as_bytes()) {
+        Ok(event) => is_written(alloc, &event, long),
+        Err(_) => false,
+    }
+}
+
+/// Whether a line is in no schedule.
+fn is_refused(alloc: Global, line: &str) -> bool {
+    matches!(
+        Event::read(alloc, line.as_bytes()),
+        Err(TextFault::NotInGrammar)
+    )
+}
+
+/// Whether a line is no shell's line.
+fn is_refused_by_shells(alloc: Global, line: &str) -> bool {
+    matches!(
+        Event::read_shell(alloc, line.as_bytes()),
+        Err(TextFault::NotInGrammar)
+    )
 }
 
 /// The line of a `give` of so many positions.
@@ -101,34 +135,43 @@ fn give_of(alloc: Global, count: u64) -> Result<String, TextFault> {
 }
 
 #[test]
-fn each_line_is_read_and_written_back(rt: HostRuntime) -> Result<(), Fail> {
-    let alloc = rt.alloc();
+fn each_line_is_read_and_written_back(rt: HostRuntime) {
     for line in LINES {
-        let event = Event::read(alloc, line.as_bytes())?;
-        assert!(rt; is_written(alloc, &event, line)?, "{line}");
+        assert!(rt; is_written_back(rt.alloc(), line), "{line}");
     }
+}
+
+#[test]
+fn shell_lines_are_read_as_lines_of_session_1(rt: HostRuntime) {
     for (line, long) in SHELL_LINES {
-        let event = Event::read_shell(alloc, line.as_bytes())?;
-        assert!(rt; is_written(alloc, &event, long)?, "{line}");
+        assert!(rt; is_short_for(rt.alloc(), line, long), "{line}");
     }
-    let full = give_of(alloc, 256)?;
-    let event = Event::read(alloc, full.as_bytes())?;
-    assert!(rt; is_written(alloc, &event, full.as_str())?);
+}
+
+#[test]
+fn a_give_has_256_positions(rt: HostRuntime) -> Result<(), Fail> {
+    let full = give_of(rt.alloc(), 256)?;
+    assert!(rt; is_written_back(rt.alloc(), full.as_str()));
     Ok(())
 }
 
 #[test]
-fn near_misses_are_refused(rt: HostRuntime) -> Result<(), Fail> {
-    let alloc = rt.alloc();
+fn near_misses_are_refused(rt: HostRuntime) {
     for line in NEAR_MISSES {
-        let read = Event::read(alloc, line.as_bytes());
-        assert!(rt; matches!(read, Err(TextFault::NotInGrammar)), "{line}");
+        assert!(rt; is_refused(rt.alloc(), line), "{line}");
     }
+}
+
+#[test]
+fn shells_refuse_other_lines(rt: HostRuntime) {
     for line in NO_SHELL_LINES {
-        let read = Event::read_shell(alloc, line.as_bytes());
-        assert!(rt; matches!(read, Err(TextFault::NotInGrammar)), "{line}");
+        assert!(rt; is_refused_by_shells(rt.alloc(), line), "{line}");
     }
-    let read = Event::read(alloc, give_of(alloc, 257)?.as_bytes());
-    assert!(rt; matches!(read, Err(TextFault::NotInGrammar)));
+}
+
+#[test]
+fn a_give_has_no_257_positions(rt: HostRuntime) -> Result<(), Fail> {
+    let longer = give_of(rt.alloc(), 257)?;
+    assert!(rt; is_refused(rt.alloc(), longer.as_str()));
     Ok(())
 }

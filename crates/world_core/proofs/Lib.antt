@@ -11,6 +11,7 @@ pub mod BeginLemmas
 pub mod EveryLine
 pub mod Sound
 pub mod Explained
+pub mod Bounded
 pub mod Calm
 pub mod Settled
 pub mod AddedSteps

@@ -7,6 +7,7 @@ pub mod Stands
 pub mod Sound
 pub mod EachStep
 pub mod Explained
+pub mod Bounded
 pub mod Calm
 pub mod Settled
 pub mod Added

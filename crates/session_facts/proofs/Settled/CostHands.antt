@@ -1,11 +1,11 @@
 -- Each part of a settling whose calls go well makes no more calls than its client or its queue needs, and empties it.
-use Rattle.std.proofs.Common.{◌≡◌, ◌≢◌, ◌+◌, ◌-◌, ◌*◌, ◌<◌, ◌≤◌, ◌⊎◌, inl, inr, ℕ, zero, suc, Bool, true, false, cond, List, [], ◌∷◌, ◌++◌, length, map, Option, Some, None, refl, sym, ap, subst, ◌∙◌, arith}
+use Rattle.std.proofs.Common.{◌≡◌, ◌≢◌, ◌+◌, ◌*◌, ◌<◌, ◌≤◌, ◌⊎◌, inl, inr, ℕ, zero, suc, Bool, true, false, cond, List, [], ◌∷◌, ◌++◌, length, map, Option, Some, None, refl, sym, ap, subst, ◌∙◌, arith}
 use Rattle.std.specs.Prelude.{nat_lt, ◌==◌, ◌||◌}
 use Rattle.std.proofs.lemmas.Bool.{cases_eq, eq-eqb}
 use Rattle.std.proofs.lemmas.Bool.Decides.{nat_tests}
 use Rattle.calm_calls.specs.Calm.{IsCalm, AreCalm}
 use Rattle.calm_calls.specs.Plenty.{HadMemory}
-use Rattle.cloud_facts.proofs.Book.Places.{in_front, in_behind}
+use Rattle.cloud_facts.proofs.Book.Places.{in_front}
 use Rattle.cloud_facts.specs.Book.Records.{IsIn}
 use Rattle.cloud_facts.specs.Book.Tally.{Leafy, right_of}
 use Rattle.cloud_facts.specs.Book.Telling.{head_in, root_in, node_in, last_or}
@@ -16,7 +16,6 @@ use Rattle.cloud_trait.specs.declared.answer.Answer.TheVariants.{Memory}
 use Rattle.cloud_trait.specs.declared.state.Posted.{Posted}
 use Rattle.cloud_trait.specs.declared.state.Version.{Version}
 use Rattle.db_base.specs.Ids.{IsClient, IsTree}
-use Rattle.db_base.specs.declared.names.ObjName.TheVariants as object
 use Rattle.db_base.specs.declared.names.QueueName.{QueueName}
 use Rattle.db_base.specs.declared.names.QueueName.TheVariants as queue
 use Rattle.db_base.specs.declared.trouble.Trouble.TheVariants as trouble
@@ -28,7 +27,7 @@ use Rattle.recover_run.specs.Gathering.{count_of}
 use Rattle.recover_run.specs.Ids.{has_id, new_ids}
 use Rattle.recover_run.specs.Recovery.{Recovery}
 use Rattle.session_facts.proofs.Settled.Along.{Each, Handed, Hands, behind_part}
-use Rattle.session_facts.proofs.Settled.Costs.{Sends, Need, no_need, needs, nothing, Spent, takes, moves, tree_over, all_within, Recovering, trees_begin}
+use Rattle.session_facts.proofs.Settled.Costs.{Need, no_need, needs, nothing, Spent, takes, moves, tree_over, all_within, Recovering, trees_begin}
 use Rattle.session_facts.proofs.Settled.Frames.{IsPending, ClientKeeps, QueueKeeps, ran_keeps}
 use Rattle.session_facts.proofs.Settled.LeftHands.{IsDelivered, IsOfTree, works_tree, page_zero, left_hands}
 use Rattle.session_facts.proofs.Settled.Lefts.{LeftAt, Left, NothingWaits, again_left, left_again}
@@ -39,8 +38,8 @@ use Rattle.session_facts.specs.Settled.Bound.{sum_upto, sum_over, newest_head, c
 use Rattle.session_facts.specs.Settled.Runs.{AreDelivered, waiting, next_page, right_at, Drains, TreeRun, PageRun, RecoveryRun, TreesRun, PagesRun, RecoveriesRun}
 use Rattle.session_facts.specs.Settled.Story.{Moment, store_at, IsAtWork, PartRan}
 use Rattle.session_facts.specs.Settlings.Settling.{KnowsAtWork}
-use Rattle.settle_run.specs.Parts.{part_again, part_of_client, part_of_tree, part_of_page}
-use Rattle.settle_run.specs.Settling.{Settling, Step, begins, to_page, behind_client, behind_tree, is_visited, goes_right, passed_with, passed}
+use Rattle.settle_run.specs.Parts.{part_again, part_of_client, part_of_tree}
+use Rattle.settle_run.specs.Settling.{Settling, Step, begins, to_page, behind_tree, is_visited, goes_right, passed_with, passed}
 use Rattle.settle_run.specs.declared.part.Part.{Part}
 use Rattle.settle_run.specs.declared.part.Part.TheVariants.{Client, Tree, Page}
 use Rattle.settle_run.specs.declared.settled.Settled.{Settled as Answered}

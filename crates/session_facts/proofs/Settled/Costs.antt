@@ -1,16 +1,16 @@
 -- How many calls a settling made so far, by the messages that its queues had.
-use Rattle.std.proofs.Common.{◌≡◌, ◌≢◌, ◌+◌, ◌-◌, ◌*◌, ◌<◌, ◌≤◌, ◌⊎◌, inl, inr, ℕ, zero, suc, List, [], ◌∷◌, ◌++◌, length, refl, sym, ap, subst, ◌∙◌, arith}
+use Rattle.std.proofs.Common.{◌≡◌, ◌≢◌, ◌+◌, ◌-◌, ◌*◌, ◌<◌, ◌≤◌, ◌⊎◌, inl, inr, ℕ, zero, suc, List, [], length, refl, sym, ap, subst, ◌∙◌, arith}
 use Rattle.std.proofs.lemmas.Bool.{cases_eq}
 use Rattle.cloud_facts.proofs.Book.Names.{at_same, at_other}
 use Rattle.cloud_facts.specs.Book.Tally.{at}
 use Rattle.cloud_trait.specs.State.{CloudState}
-use Rattle.db_base.specs.Ids.{IsClient, IsTree}
+use Rattle.db_base.specs.Ids.{IsTree}
 use Rattle.db_base.specs.declared.names.ObjName.TheVariants as object
 use Rattle.db_base.specs.declared.names.QueueName.{QueueName}
 use Rattle.db_base.specs.declared.names.QueueName.TheVariants as queue
 use Rattle.session_facts.proofs.Settled.Frames.{IsPending}
-use Rattle.session_facts.proofs.Settled.Sums.{sum_same, sum_next, sum_none, sum_eights}
-use Rattle.session_facts.specs.Settled.Bound.{sum_upto, sum_over, client_calls, to_settle, queue_calls, tree_calls, LeadsTo, AreLeafPages, IsWithin}
+use Rattle.session_facts.proofs.Settled.Sums.{sum_same, sum_next, sum_eights}
+use Rattle.session_facts.specs.Settled.Bound.{sum_upto, client_calls, to_settle, queue_calls, tree_calls, LeadsTo, AreLeafPages, IsWithin}
 use Rattle.session_facts.specs.Settled.Runs.{waiting, next_page, right_at}
 
 -- ---- what is counted

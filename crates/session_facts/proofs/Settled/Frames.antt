@@ -19,12 +19,11 @@ use Rattle.cloud_trait.specs.State.{CloudState, called, put_at, marked, mark_at,
 use Rattle.cloud_trait.specs.declared.answer.Answer.{Answer}
 use Rattle.cloud_trait.specs.declared.state.Posted.{Posted}
 use Rattle.cloud_trait.specs.declared.state.Version.{Version}
-use Rattle.db_base.specs.declared.names.Lock.TheVariants as lock
 use Rattle.db_base.specs.declared.names.ObjName.{ObjName}
 use Rattle.db_base.specs.declared.names.ObjName.TheVariants as object
 use Rattle.db_base.specs.declared.names.QueueName.{QueueName}
 use Rattle.db_base.specs.declared.names.QueueName.TheVariants as queue
-use Rattle.page_ckpt.specs.Paging.{Paging, ask_at as paging_ask_at, paging_ask, under as under_page, delete_next as delete_page_next, home_name, right_name, take_home}
+use Rattle.page_ckpt.specs.Paging.{Paging, ask_at as paging_ask_at, paging_ask, under as under_page, delete_next as delete_page_next, home_name, right_name}
 use Rattle.page_ckpt.specs.declared.stage.Stage.{Stage as PageStage}
 use Rattle.page_ckpt.specs.declared.stage.Stage.TheVariants as paging
 use Rattle.recover_run.specs.Recovery.{Recovery, ask_at as recovery_ask_at, recovery_ask, under as under_client, delete_next, send_next}

@@ -1,5 +1,5 @@
 -- Each part of a settling hands on what the parts before it left; at the end nothing is left.
-use Rattle.std.proofs.Common.{◌≡◌, ◌≢◌, ◌+◌, ◌<◌, ◌≤◌, ◌⊎◌, inl, inr, ℕ, zero, suc, Bool, true, false, cond, List, [], ◌∷◌, ◌++◌, length, map, Option, Some, None, refl, sym, ap, subst, ◌∙◌, arith}
+use Rattle.std.proofs.Common.{◌≡◌, ◌≢◌, ◌+◌, ◌<◌, ◌≤◌, ◌⊎◌, inl, inr, ℕ, zero, suc, Bool, true, false, cond, List, [], ◌∷◌, ◌++◌, map, Option, Some, None, refl, sym, ap, subst, ◌∙◌, arith}
 use Rattle.std.specs.Prelude.{nat_lt}
 use Rattle.std.proofs.lemmas.Bool.{cases_eq}
 use Rattle.std.proofs.lemmas.Bool.Decides.{nat_tests}
@@ -9,17 +9,14 @@ use Rattle.cloud_facts.specs.Book.Telling.{queue_of, head_in, last_or}
 use Rattle.cloud_facts.specs.Homes.Homes.{Part as Place}
 use Rattle.cloud_facts.specs.Book.Tally.{Store}
 use Rattle.cloud_trait.specs.Delivery.{unmarked}
-use Rattle.cloud_trait.specs.Machine.{Goes, Ends, Stops, Deed}
-use Rattle.cloud_trait.specs.State.{CloudState}
-use Rattle.cloud_trait.specs.declared.state.Posted.{Posted}
+use Rattle.cloud_trait.specs.Machine.{Ends, Stops, Deed}
 use Rattle.cloud_trait.specs.declared.state.Version.{Version}
-use Rattle.db_base.specs.Ids.{IsClient, IsTree}
+use Rattle.db_base.specs.Ids.{IsTree}
 use Rattle.db_base.specs.declared.names.ObjName.TheVariants as object
 use Rattle.db_base.specs.declared.names.QueueName.{QueueName}
 use Rattle.db_base.specs.declared.names.QueueName.TheVariants as queue
 use Rattle.db_base.specs.declared.trouble.Trouble.TheVariants as trouble
 use Rattle.head_codec.specs.Head.{empty_head}
-use Rattle.head_codec.specs.declared.head.Head.{Head}
 use Rattle.head_codec.specs.declared.head.Phase.TheVariants.{Settled}
 use Rattle.leaf_view.specs.Lookup.{page_at}
 use Rattle.page_ckpt.specs.Paging.{Paging}
@@ -28,14 +25,14 @@ use Rattle.recover_run.specs.Recovery.{Recovery}
 use Rattle.session_facts.proofs.Settled.Along.{Each, Handed, Hands, behind_part}
 use Rattle.session_facts.proofs.Settled.Frames.{ClientKeeps, QueueKeeps, ran_keeps}
 use Rattle.session_facts.proofs.Settled.Lefts.{HeadsRest, NoneWaits, TreesRest, PagesRest, LeftAt, Left, NothingWaits, again_left, left_again, leads_more, tree_rests}
-use Rattle.session_facts.proofs.Settled.Queues.{AreNews, none_received, none_left, news_left}
+use Rattle.session_facts.proofs.Settled.Queues.{none_received, none_left, news_left}
 use Rattle.session_facts.proofs.Settled.Stories.{part_known}
 use Rattle.session_facts.specs.Settled.Bound.{LeadsTo}
 use Rattle.session_facts.specs.Settled.Runs.{AreDelivered, waiting, right_at, Drains, TreeRun, PageRun, RecoveryRun, TreesRun, PagesRun, RecoveriesRun}
 use Rattle.session_facts.specs.Settled.Story.{Moment, store_at, IsAtWork, PartRan}
 use Rattle.session_facts.specs.Settlings.Settling.{KnowsAtWork}
-use Rattle.settle_run.specs.Parts.{part_again, part_of_client, part_of_tree, part_of_page}
-use Rattle.settle_run.specs.Settling.{Settling, Step, begins, to_page, behind_client, behind_tree, is_visited, goes_right, passed_with, passed}
+use Rattle.settle_run.specs.Parts.{part_again, part_of_client, part_of_tree}
+use Rattle.settle_run.specs.Settling.{Settling, Step, begins, to_page, behind_tree, is_visited, goes_right, passed_with, passed}
 use Rattle.settle_run.specs.declared.part.Part.{Part}
 use Rattle.settle_run.specs.declared.part.Part.TheVariants.{Client, Tree, Page}
 use Rattle.tree_ckpt.specs.Making.{Making}

@@ -1,49 +1,31 @@
 -- What a settling leaves behind each of its parts: settled heads, and queues of which no message waits.
-use Rattle.std.proofs.Common.{◌≡◌, ◌≢◌, ◌+◌, ◌-◌, ◌<◌, ◌≤◌, ◌⊎◌, inl, inr, ℕ, zero, suc, Bool, true, false, cond, List, [], ◌∷◌, ◌++◌, length, Option, Some, None, refl, sym, ap, subst, ◌∙◌, arith}
-use Rattle.std.specs.Prelude.{slice_get, nat_lt, ◌==◌}
+use Rattle.std.proofs.Common.{◌≡◌, ◌≢◌, ◌+◌, ◌<◌, ◌⊎◌, inl, inr, ℕ, zero, suc, List, [], ◌∷◌, ◌++◌, length, Option, Some, None, refl, sym, ap, subst, ◌∙◌, arith}
+use Rattle.std.specs.Prelude.{slice_get}
 use Rattle.std.proofs.lemmas.Bool.{cases_eq}
-use Rattle.std.proofs.lemmas.Bool.Decides.{nat_tests}
-use Rattle.cloud_facts.proofs.Book.Places.{in_front, in_behind, in_either, in_none, get_single, get_within}
+use Rattle.cloud_facts.proofs.Book.Places.{in_none, get_single, get_within}
 use Rattle.cloud_facts.proofs.Copies.Receives.{IsLeft, left_of}
 use Rattle.cloud_facts.specs.Book.Book.{Link}
 use Rattle.cloud_facts.specs.Book.Records.{IsIn, StandsAt}
-use Rattle.cloud_facts.specs.Book.Telling.{queue_of, head_in, last_or}
+use Rattle.cloud_facts.specs.Book.Telling.{queue_of}
 use Rattle.cloud_facts.specs.Chains.Chain.{IsChained}
 use Rattle.cloud_facts.specs.Chains.Links.{first_link, page_after}
 use Rattle.cloud_facts.specs.Numbers.Numbers.{IsOfRecord}
 use Rattle.cloud_facts.specs.Book.Premises.{IsRouted}
 use Rattle.cloud_trait.specs.Delivery.{unmarked}
-use Rattle.cloud_trait.specs.Machine.{Goes, Ends, Stops, Deed}
 use Rattle.cloud_trait.specs.State.{CloudState}
 use Rattle.cloud_trait.specs.declared.message.Message.{Message}
-use Rattle.cloud_trait.specs.declared.state.Posted.{Posted}
-use Rattle.cloud_trait.specs.declared.state.Version.{Version}
 use Rattle.db_base.specs.Ids.{IsClient, IsTree}
-use Rattle.db_base.specs.declared.names.ObjName.TheVariants as object
-use Rattle.db_base.specs.declared.names.QueueName.{QueueName}
 use Rattle.db_base.specs.declared.names.QueueName.TheVariants as queue
-use Rattle.db_base.specs.declared.trouble.Trouble.TheVariants as trouble
-use Rattle.head_codec.specs.Head.{empty_head}
-use Rattle.head_codec.specs.declared.head.Head.{Head}
 use Rattle.head_codec.specs.declared.head.Phase.TheVariants.{Settled}
-use Rattle.leaf_view.specs.Lookup.{page_at}
-use Rattle.page_ckpt.specs.Paging.{Paging}
-use Rattle.recover_run.specs.Ids.{new_ids}
-use Rattle.recover_run.specs.Recovery.{Recovery}
-use Rattle.session_facts.proofs.Settled.Along.{Each, Handed, Hands, behind_part}
-use Rattle.session_facts.proofs.Settled.Frames.{QueueKeeps, PartKeeps, ran_keeps}
-use Rattle.session_facts.proofs.Settled.Queues.{in_rest, AreNews, none_received, none_left, news_left, empty_of}
-use Rattle.session_facts.proofs.Settled.Stories.{part_known}
+use Rattle.session_facts.proofs.Settled.Queues.{in_rest, AreNews, empty_of}
 use Rattle.session_facts.specs.Settled.Bound.{LeadsTo}
-use Rattle.session_facts.specs.Settled.Runs.{AreDelivered, waiting, right_at, Drains, TreesRun, PagesRun, RecoveriesRun}
-use Rattle.session_facts.specs.Settled.Story.{Moment, store_at, IsAtWork, PartRan}
-use Rattle.session_facts.specs.Settlings.Settling.{KnowsAtWork}
-use Rattle.settle_run.specs.Parts.{part_again, part_of_client, part_of_tree, part_of_page, part_received}
-use Rattle.settle_run.specs.Settling.{Settling, Step, begins, to_page, behind_client, behind_tree, is_visited, goes_right, goes_on, passed_with, passed}
+use Rattle.session_facts.specs.Settled.Runs.{waiting, right_at}
+use Rattle.session_facts.specs.Settled.Story.{Moment, store_at}
+use Rattle.settle_run.specs.Parts.{part_again}
+use Rattle.settle_run.specs.Settling.{Settling}
 use Rattle.settle_run.specs.declared.part.Part.{Part}
 use Rattle.settle_run.specs.declared.part.Part.TheVariants.{Client, Tree, Page}
 use Rattle.settle_run.specs.declared.settled.Settled.{Settled as Answered}
-use Rattle.tree_ckpt.specs.Making.{Making}
 
 -- ---- what is left
 

@@ -1,8 +1,7 @@
 -- A part's story, as its machine tells it, and what is known before each of its calls.
-use Rattle.std.proofs.Common.{◌≡◌, ◌≤◌, ℕ, List, [], ◌∷◌, Option, Some, None, refl, sym, ap, subst, ◌∙◌}
+use Rattle.std.proofs.Common.{◌≡◌, ℕ, List, [], ◌∷◌, Some, refl, sym, ap, subst, ◌∙◌}
 use Rattle.calm_calls.specs.Calm.{ComesNext, AreCalm, AreAlone}
 use Rattle.client_session.specs.declared.work.Work.{Work}
-use Rattle.client_session.specs.declared.work.Work.TheVariants as work
 use Rattle.cloud_facts.specs.Calls.Acting.{Setting}
 use Rattle.cloud_facts.specs.Calls.Call.{IsCall}
 use Rattle.cloud_facts.proofs.Calls.Calls.{call_of}
@@ -23,7 +22,6 @@ use Rattle.session_facts.proofs.Sessions.Laws.{setting_of}
 use Rattle.settle_run.specs.declared.part.Part.{Part}
 use Rattle.settle_run.specs.declared.part.Part.TheVariants.{Client, Tree, Page}
 use Rattle.settle_run.specs.Parts.{part_again, part_ask, recovers, makes, pages, PartLeads, PartWent}
-use Rattle.settle_run.specs.Settling.{Settling}
 use Rattle.tree_ckpt.specs.Making.{Making, MakingLeads}
 
 -- ---- what is known before a call

@@ -21,11 +21,10 @@ use Rattle.page_ckpt.specs.Paging.{Paging}
 use Rattle.recover_run.specs.declared.stage.RecoverAnswer.{RecoverAnswer}
 use Rattle.recover_run.specs.Recovery.{Recovery}
 use Rattle.session_facts.proofs.Settled.Stories.{part_known, turn_known, turn_call, turn_asks, story_went}
-use Rattle.session_facts.proofs.Settled.TreeCalls.{one_left}
 use Rattle.session_facts.proofs.Settled.TreeDrains.{Delivers, SendsNothing, LedBy, all_drained}
 use Rattle.session_facts.proofs.Settled.TreeReceives.{quiet_kept, IsReceiving}
 use Rattle.session_facts.proofs.Settled.TreeSteps.{IsQuiet, TouchesQueue, work_quiet}
-use Rattle.session_facts.proofs.Settled.TreeTurns.{Stays, stays_first, further, room_before, stays_on}
+use Rattle.session_facts.proofs.Settled.TreeTurns.{Stays, stays_first, further, ends_few, stays_on}
 use Rattle.session_facts.specs.Settled.Runs.{AreDelivered, Drains, IsFew, TreeRun, TreesRun}
 use Rattle.session_facts.specs.Settled.Story.{Moment, store_at, IsAtWork, IsTurn, PartStory}
 use Rattle.session_facts.specs.Settlings.Settling.{MakesTree}
@@ -149,7 +148,9 @@ turn_stays first d h tree was m before now turn at leads story k =
     (subst (λ (t : ℕ). KnowsWork (store_at now) now.state.now t m.work) there.tree_is there.knows.work)
     (work_fit d tree was before now turn)
     (subst (λ (t : ℕ). Leads t was.work d.answer (Goes m.work)) here.tree_is leads.1) leads.0.1
-    (λ receives. sym (length-map h (λ (e : Deed). (e.ask, e.answer))) ∙ receive_calls was.tree was.work (calls_of h) (went_done was h went) receives)
+    (λ receives.
+    let two = sym (length-map h (λ (e : Deed). (e.ask, e.answer))) ∙ receive_calls was.tree was.work (calls_of h) (went_done was h went) receives in
+    omega (arith, two))
   where
     here : MakesTree (store_at before) before.state.now tree was (before.stand.parts 0)
     here = making_known d tree was before now turn
@@ -270,12 +271,11 @@ module _ (tree : ℕ) (m : Making) (first last : Moment) (end : Deed) (earlier :
 
   whole_few : IsFew (length (end ∷ earlier)) m.received last.state tree
   whole_few p room =
-      let few = stays.few p
-      (room_before tree (length earlier) first.state before.state last.state end.who end.answer was.work was.received before.book before.order before.stand.cloud
-      (work_known end tree was before last turn) (work_call end tree was before last turn) stays p room) in
-      let one = one_left p was.work in
+      let few =
+      ends_few tree (length earlier) first.state before.state last.state end.who end.answer was.work was.received before.book before.order before.stand.cloud
+      (work_known end tree was before last turn) (work_call end tree was before last turn) stays p room in
       let long = ap (λ (l : List ℕ). length l * (8 * p + 16)) same_received in
-      omega (arith, few, one, long)
+      omega (arith, few, long)
 
   whole_run : TreeRun tree m (end ∷ earlier) first last
   whole_run = record { drains = whole_drains; few = λ calm had. whole_few; grows = whole_grows }

@@ -17,7 +17,7 @@ use Rattle.cloud_trait.specs.declared.message.Message.{Message}
 use Rattle.db_base.specs.declared.names.ObjName.TheVariants as object
 use Rattle.db_base.specs.declared.names.QueueName.TheVariants as queue
 use Rattle.report_types.specs.declared.entry.Entry.{Entry}
-use Rattle.session_facts.proofs.Settled.TreeCalls.{calls_left, before_step, goes_fewer}
+use Rattle.session_facts.proofs.Settled.TreeCalls.{calls_left, before_step, goes_fewer, one_left}
 use Rattle.session_facts.proofs.Settled.TreeReceives.{intake_fits, IsReceiving, received_stays}
 use Rattle.session_facts.proofs.Settled.TreeRoom.{work_fits, work_new}
 use Rattle.session_facts.proofs.Settled.TreeRoots.{HasRoot, root_goes}
@@ -60,14 +60,21 @@ module _ (tree calls : ℕ) (first s t : CloudState) (who : Caller) (a : Answer)
       let more = next_grows who a s t tree (store_of book order s) w k.root known call in
       omega (arith, was, more)
 
-  pub room_before : (p : ℕ) → (top_of (roots_of t tree)).next ≤ p + 1 → (top_of (roots_of s tree)).next ≤ p + 1
+  room_before : (p : ℕ) → (top_of (roots_of t tree)).next ≤ p + 1 → (top_of (roots_of s tree)).next ≤ p + 1
   room_before p room =
       let more = next_grows who a s t tree (store_of book order s) w k.root known call in
       omega (arith, room, more)
 
+  -- with this call, few were made for what was received before it
+  pub ends_few : (p : ℕ) → (top_of (roots_of t tree)).next ≤ p + 1 → calls + 1 ≤ 16 + length before * (8 * p + 16)
+  ends_few p room =
+      let few = k.few p (room_before p room) in
+      let one = one_left p w in
+      omega (arith, few, one)
+
   module _ (v : Work) (after : List ℕ) (next : Book) (order_next : List Entry) (stands_next : StandsUnder next order_next t)
       (knows : KnowsWork (store_of next order_next t) t.now tree v)
-      (fits : Fits (work_ask tree w) a) (leads : Leads tree w a (Goes v)) (told : after ≡ received_after before a) (early : IsReceiving w → calls ≡ 2) where
+      (fits : Fits (work_ask tree w) a) (leads : Leads tree w a (Goes v)) (told : after ≡ received_after before a) (early : IsReceiving w → calls ≤ 2) where
     root_stays : HasRoot (newest t (object.Tree tree)) v
     root_stays =
         root_goes tree w a (Goes v) (newest s (object.Tree tree)) (newest t (object.Tree tree)) k.root

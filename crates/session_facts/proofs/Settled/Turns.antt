@@ -1,7 +1,7 @@
 -- The steps of session 0, which settles: each leads along its parts, and the last one to the end.
-use Rattle.std.proofs.Common.{◌≡◌, ◌≢◌, ◌≤◌, ◌<◌, ℕ, List, [], Option, Some, None, Result, Ok, refl, sym, ap, subst, ◌∙◌, arith}
+use Rattle.std.proofs.Common.{◌≡◌, ◌≢◌, ℕ, List, Some, Ok, refl, sym, ap, subst, ◌∙◌, arith}
 use Rattle.calm_calls.specs.Calm.{IsCalm, NamesLasting}
-use Rattle.client_session.specs.Session.{Acting, closed_session, settling_session, StepsSession, StepsAt, StepsSettling, ShowsAt}
+use Rattle.client_session.specs.Session.{Acting, closed_session, settling_session, StepsSession, StepsAt, ShowsAt}
 use Rattle.client_session.specs.declared.answer.Answer.{Answer}
 use Rattle.client_session.specs.declared.answer.Answer.TheVariants as answer
 use Rattle.client_session.specs.declared.shown.Shown.{Shown}
@@ -11,21 +11,21 @@ use Rattle.cloud_facts.specs.Book.Book.{Book}
 use Rattle.cloud_facts.specs.Book.Tally.{at}
 use Rattle.cloud_trait.proofs.RowLemmas.{row_rest}
 use Rattle.cloud_trait.specs.Caller.{Caller}
-use Rattle.cloud_trait.specs.Machine.{Goes, Ends, Stops, Deed}
+use Rattle.cloud_trait.specs.Machine.{Goes, Ends, Deed}
 use Rattle.cloud_trait.specs.Seen.{Seen}
 use Rattle.cloud_trait.specs.State.{CloudState, Counts, called}
 use Rattle.cloud_trait.specs.Weather.{Makes, Leaves, Rose}
 use Rattle.cloud_trait.specs.declared.answer.Answer.TheVariants.{Memory}
 use Rattle.cloud_trait.specs.declared.answer.Answer.{Answer as Reply}
 use Rattle.cloud_trait.specs.declared.turn.Turn.{Turn}
-use Rattle.cloud_trait.specs.declared.turn.Turn.TheVariants.{More, Ended, Stopped}
+use Rattle.cloud_trait.specs.declared.turn.Turn.TheVariants.{More, Ended}
 use Rattle.db_base.specs.declared.wish.Wish.TheVariants.{Plain}
 use Rattle.page_cache.specs.Cache.{Cache}
 use Rattle.report_types.specs.declared.entry.Entry.{Entry}
 use Rattle.session_facts.proofs.Sessions.Begins.{settling_begins_session}
 use Rattle.session_facts.proofs.Sessions.Calling.{session_keeps}
 use Rattle.session_facts.proofs.Sessions.Laws.{rest_keeps}
-use Rattle.session_facts.proofs.Settled.Along.{Hands, Along, AlongNext, along_step, along_begins}
+use Rattle.session_facts.proofs.Settled.Along.{Hands, Along, along_step, along_begins}
 use Rattle.session_facts.proofs.Settled.Free.{settling_takes_free, settling_alone}
 use Rattle.session_facts.proofs.Settled.Stories.{settling_known}
 use Rattle.session_facts.specs.Sessions.Calls.{reply_at, reply_of}

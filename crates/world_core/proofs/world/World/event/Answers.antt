@@ -1,4 +1,5 @@
 use Rattle.world_core.proofs.EveryLine.{stands_after}
+use Rattle.world_core.proofs.Bounded.{few_calls}
 use Rattle.world_core.proofs.Calm.{well_after}
 use Rattle.world_core.proofs.Explained.{explained}
 use Rattle.world_core.proofs.Settled.{settling_ends, settling_leaves}
@@ -16,6 +17,9 @@ returns-clause-explained g c = explained _ _ _ _ _ _ _
 
 pub returns-clause-calm : goal.returns-clause-calm
 returns-clause-calm g c = well_after _ _ _ _ _ _ _
+
+pub returns-clause-bounded : goal.returns-clause-bounded
+returns-clause-bounded g c = few_calls _ _ _ _ _ _ _
 
 pub returns-clause-settled : goal.returns-clause-settled
 returns-clause-settled g c = settling_leaves _ _ _ _ _ _ _

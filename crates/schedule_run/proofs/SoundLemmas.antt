@@ -72,9 +72,10 @@ pub went_explained : (before : Seen) (old : World) (t : CloudState) (lines : Lis
     → WorldStands [] old t → AreExplained before old lines after new went
 went_explained before old t lines after new start told stands = tt
 went_explained before old t lines after new (further earlier line mid _ world _ went handled) told stands =
-    let o = went_soundly before old t earlier mid world went told stands in
-    (went_explained before old t earlier mid world went told stands,
-    record {
-      explains = explained (length earlier + 1) line.event mid after world new (Ok line.reply) earlier o.state refl o.told o.stands handled;
-      calm = well_after (length earlier + 1) line.event mid after world new (Ok line.reply) earlier o.state refl o.told o.stands handled;
-    })
+    let o = went_soundly before old t earlier mid world went told stands in (
+      went_explained before old t earlier mid world went told stands,
+      record {
+        explains = explained (length earlier + 1) line.event mid after world new (Ok line.reply) earlier o.state refl o.told o.stands handled;
+        calm = well_after (length earlier + 1) line.event mid after world new (Ok line.reply) earlier o.state refl o.told o.stands handled;
+      },
+    )

@@ -362,10 +362,11 @@ module _ (lines : List Line) (n k : ℕ) (before after : Seen) (old new : World)
       → IsSoundReply posture r → IsUntroubled (work_at new k) × RunsWell posture r
   runs_well (inl refuses) calm explains sound = let is = not_done _ refuses.declines in (is.0, refused_runs posture r is.1.0 is.1.1)
   runs_well (inr (inl run)) calm explains sound =
-      let c = run.comes in
-      (answers_rest who Plain c.mid after c.world new run.answer c.steps,
-      ended_well Plain c.mid c.world run.answer (went_on lines who before old c.mid c.world (sym number) way c.went) c.steps calm.1 explains.1
-      (went_calmly who before old c.mid c.world c.went calm.0 explains.0 well) sound run.replies)
+      let c = run.comes in (
+        answers_rest who Plain c.mid after c.world new run.answer c.steps,
+        ended_well Plain c.mid c.world run.answer (went_on lines who before old c.mid c.world (sym number) way c.went) c.steps calm.1 explains.1
+            (went_calmly who before old c.mid c.world c.went calm.0 explains.0 well) sound run.replies,
+      )
   runs_well (inr (inr memory)) calm explains sound = absurd (no_memory r memory)
 
   dies_well : (Changes k (λ a b. b ≡ closed_session) old.sessions new.sessions) → IsUntroubled (work_at new k)
@@ -538,12 +539,13 @@ module _ (lines : List Line) (n : ℕ) (before after : Seen) (old new : World) (
           → EachSettlingOn StepExplains first before after h.begun new (Ok r) s → IsUntroubled (work_at new 0) × SettlesWell r
       on (inr memory) calm explains = absurd (no_memory r memory)
       on (inl s) calm explains =
-          let c = s.comes in
-          (has_closed 0 s.left new s.closes,
-          settled_as c.steps.session.after.work s.answer
-          (answers_calmly first Plain c.mid after c.world s.left s.answer c.steps calm.1 explains.1
-          (went_calmly first before h.begun c.mid c.world c.went calm.0 explains.0 (begun_untroubled h.begun h.begins)))
-          s.replies)
+          let c = s.comes in (
+            has_closed 0 s.left new s.closes,
+            settled_as c.steps.session.after.work s.answer
+                (answers_calmly first Plain c.mid after c.world s.left s.answer c.steps calm.1 explains.1
+                (went_calmly first before h.begun c.mid c.world c.went calm.0 explains.0 (begun_untroubled h.begun h.begins)))
+                s.replies,
+          )
 
 -- ---- every line
 

@@ -63,9 +63,10 @@ module _ (lines : List Line) where
   went_explains : (who : Caller) (before : Seen) (old : World) (after : Seen) (new : World) → who.event ≡ length lines + 1 → IsUnderWay lines old before
       → (went : Went who before old after new) → EachWent StepExplains who before old after new went
   went_explains who before old after new number way start = tt
-  went_explains who before old after new number way (further mid _ world _ went step) =
-      (went_explains who before old mid world number way went,
-      own_explains who Plain mid after world new More number (went_on lines who before old mid world number way went) step)
+  went_explains who before old after new number way (further mid _ world _ went step) = (
+    went_explains who before old mid world number way went,
+    own_explains who Plain mid after world new More number (went_on lines who before old mid world number way went) step,
+  )
 
   module _ (n : ℕ) (before after : Seen) (old new : World) (result : Result Reply WorldFault) (t : CloudState) (number : length lines + 1 ≡ n) (told : before.state ≡ Some t)
       (stands : WorldStands lines old t) where
@@ -82,10 +83,11 @@ module _ (lines : List Line) where
 
     run_explains : (k : ℕ) (h : Runs n k before after old new result) → EachRun StepExplains n k before after old new result h
     run_explains k (inl refused) = tt
-    run_explains k (inr (inl run)) =
-        (went_explains (who k) before old run.comes.mid run.comes.world (sym number) way run.comes.went,
-        own_explains (who k) Plain run.comes.mid after run.comes.world new (Ended run.answer) (sym number)
-        (went_on lines (who k) before old run.comes.mid run.comes.world (sym number) way run.comes.went) run.comes.steps)
+    run_explains k (inr (inl run)) = (
+      went_explains (who k) before old run.comes.mid run.comes.world (sym number) way run.comes.went,
+      own_explains (who k) Plain run.comes.mid after run.comes.world new (Ended run.answer) (sym number)
+          (went_on lines (who k) before old run.comes.mid run.comes.world (sym number) way run.comes.went) run.comes.steps,
+    )
     run_explains k (inr (inr memory)) = tt
 
     crash_explains : (k : ℕ) (done : Bool) (h : Crashes n k done before after old new result) → EachCrashed StepExplains n k done before after old new result h
@@ -118,15 +120,17 @@ module _ (n : ℕ) (lines : List Line) (first : Sessions) (row : IsSettlersRow l
   settled_explains : (before : Seen) (old : World) (after : Seen) (new : World) → SettlerGoes n lines first old before → (went : Went (settler n) before old after new)
       → EachWent StepExplains (settler n) before old after new went
   settled_explains before old after new goes start = tt
-  settled_explains before old after new goes (further mid _ world _ went step) =
-      (settled_explains before old mid world goes went,
-      settler_explains mid after world new More (settler_went n lines first row before old mid world goes went) step)
+  settled_explains before old after new goes (further mid _ world _ went step) = (
+    settled_explains before old mid world goes went,
+    settler_explains mid after world new More (settler_went n lines first row before old mid world goes went) step,
+  )
 
   comes_explains : (before after : Seen) (old new : World) (answer : Answer) → SettlerGoes n lines first old before → (comes : ComesTo (settler n) before after old new answer)
       → EachCome StepExplains (settler n) before after old new answer comes
-  comes_explains before after old new answer goes comes =
-      (settled_explains before old comes.mid comes.world goes comes.went,
-      settler_explains comes.mid after comes.world new (Ended answer) (settler_went n lines first row before old comes.mid comes.world goes comes.went) comes.steps)
+  comes_explains before after old new answer goes comes = (
+    settled_explains before old comes.mid comes.world goes comes.went,
+    settler_explains comes.mid after comes.world new (Ended answer) (settler_went n lines first row before old comes.mid comes.world goes comes.went) comes.steps,
+  )
 
 module _ (lines : List Line) (n : ℕ) (before after : Seen) (old new : World) (result : Result Reply WorldFault) (t : CloudState) (number : length lines + 1 ≡ n) (told : before.state ≡ Some t)
     (stands : WorldStands lines old t) where

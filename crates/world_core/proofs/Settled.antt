@@ -98,7 +98,7 @@ module _ (Holds : StepFact) (B : Settling → Moment → Type 0) (E : Settling �
   world_more before after old new at_way p holds =
       let way = own before after old new More at_way p in
       let on = step_on B E P hands n p.under p.to p.session.before p.session.after at_way.state way (under before after old new More at_way p) p.session.does
-          (gives before after old new More p way.settling way.works holds) in
+      (gives before after old new More p way.settling way.works holds) in
       record {
         state = on.state;
         told = p.look_after.stays on.state on.told;
@@ -110,7 +110,7 @@ module _ (Holds : StepFact) (B : Settling → Moment → Type 0) (E : Settling �
   world_ends x before after old new at_way p holds =
       let way = own before after old new (Ended (answer.Settled x)) at_way p in
       let ends = step_ends B E P hands n p.under p.to p.session.before p.session.after at_way.state way (under before after old new (Ended (answer.Settled x)) at_way p) x p.session.does
-          (gives before after old new (Ended (answer.Settled x)) p way.settling way.works holds) in
+      (gives before after old new (Ended (answer.Settled x)) p way.settling way.works holds) in
       record { settling = ends.settling; now = ends.now; told = p.look_after.stays ends.now.state ends.told; holds = ends.holds }
 
   world_went : (before : Seen) (old : World) (after : Seen) (new : World) → WorldOnWay B P old before → (went : Went (settler n) before old after new)
@@ -164,16 +164,17 @@ same_ask a b e = cc (e)
 
 calm_gives : (n : ℕ) → Gives StepIsCalm GoesCalmly n
 calm_gives n before after old new turn p m is holds =
-    let asked : holds.ask ≡ settle_ask m = same_ask holds.ask (settle_ask m) (sym holds.hand ∙ ap ask_of_work is) in
-    (subst
-    (λ (ask : Ask). IsCalm (record {
-      who = settler n;
-      ask = ask;
-      answer = reply_of (settler n) p.under p.to p.session.before p.session.after turn p.session.does;
-      before = p.under;
-      after = p.to;
-    })) asked holds.calm,
-    holds.memory)
+    let asked : holds.ask ≡ settle_ask m = same_ask holds.ask (settle_ask m) (sym holds.hand ∙ ap ask_of_work is) in (
+      subst
+          (λ (ask : Ask). IsCalm (record {
+            who = settler n;
+            ask = ask;
+            answer = reply_of (settler n) p.under p.to p.session.before p.session.after turn p.session.does;
+            before = p.under;
+            after = p.to;
+          })) asked holds.calm,
+      holds.memory,
+    )
 
 -- ---- where no lock is held, the locks that it takes are free
 
@@ -240,7 +241,7 @@ module _ (n : ℕ) where
       → StepGoesWell (settler n) Plain before after old new More p → WorldAlone new after
   well_more before after old new here p well =
       let on = step_on Anything AnyEnd AnyCall any_hands n p.under p.to p.session.before p.session.after here.at.state (way before after old new More here p well)
-          (wish_set before after old new More here p well) p.session.does tt in
+      (wish_set before after old new More here p well) p.session.does tt in
       record {
         at = record {
           state = on.state;
@@ -302,7 +303,7 @@ module _ (trees : TreesRun) (pages : PagesRun) (clients : RecoveriesRun) (lines 
       on (inr memory) steps = absurd (no_memory memory)
       on (inl s) steps =
           let end = (world_settles StepDelivers Left NothingWaits IsDelivered (left_hands trees pages clients) n (delivers_gives n) before old h.begun t told lines stands h.begins
-              (left_begins stands.holds.book stands.holds.order t (session_at old.sessions) stands.rests stands.holds.stand) after new calls s steps) in
+          (left_begins stands.holds.book stands.holds.order t (session_at old.sessions) stands.rests stands.holds.stand) after new calls s steps) in
           record { state = end.1.1.now.state; told = end.1.1.told; nothing = leaves_nothing end.1.1.now end.1.1.settling end.0 end.1.1.holds }
 
   line_within : (h : SettlesLine n before after old new answered) → EachSettling StepIsCalm n before after old new answered h → SettledWithin t after calls
@@ -313,7 +314,7 @@ module _ (trees : TreesRun) (pages : PagesRun) (clients : RecoveriesRun) (lines 
       on (inr memory) steps = absurd (no_memory memory)
       on (inl s) steps =
           let end = (world_settles StepIsCalm (LeftAndCost t) (SettledWell t) GoesCalmly (cost_hands t trees pages clients) n (calm_gives n) before old h.begun t told lines stands h.begins
-              (both_begin stands.holds.book stands.holds.order t (session_at old.sessions) stands.rests stands.holds.stand) after new calls s steps) in
+          (both_begin stands.holds.book stands.holds.order t (session_at old.sessions) stands.rests stands.holds.stand) after new calls s steps) in
           record {
             state = end.1.1.now.state;
             told = end.1.1.told;

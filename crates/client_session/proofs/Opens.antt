@@ -26,7 +26,7 @@ use Rattle.recover_run.specs.Gathering.{gathered_with, lost_now, past_ids}
 use Rattle.recover_run.specs.Ids.{new_ids, rest_of}
 use Rattle.recover_run.specs.Items.{items_of}
 use Rattle.recover_run.specs.Recovery.{Recovery, Step, recovery_next, next_at, taken_by, got_by, none_read, bytes_read, head_read, phase_read, behind, stopping, goes_to, received_by, gathered_by, deleting, next_deletion, decided, deleted_by, send_at, send_or_put, sent_by, with_pending, put_by, kept_ids, clearing, swept_by, swept_with, sweeping, opened, ended, KeepsLeases}
-use Rattle.client_session.specs.Session.{IsOpening, StopsAtMost}
+use Rattle.client_session.specs.Opening.{IsOpening, StopsAtMost}
 
 -- a step goes on with an opening, or ends as one
 abbrev Opens : Step → Type 0

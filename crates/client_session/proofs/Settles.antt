@@ -10,7 +10,7 @@ use Rattle.cloud_trait.specs.Seen.{Seen}
 use Rattle.cloud_trait.specs.Weather.{Makes}
 use Rattle.settle_run.specs.declared.settled.Settled.{Settled}
 use Rattle.settle_run.specs.Settling.{Settling, settle_ask, SettleLeads, KeepsSettling}
-use Rattle.client_session.specs.Session.{IsSettling, IsUntold}
+use Rattle.client_session.specs.Settling.{IsSettling, IsUntold}
 
 -- what is seen of a cloud but for what it tells
 abbrev untold : Seen → Seen

@@ -1,5 +1,5 @@
 -- How a session stands.
-use Rattle.std.specs.Prelude.{ℕ, ◌≡◌, ◌≢◌, ◌≤◌, ◌<◌, ◌⊎◌, ◌^◌, ◌++◌, Bool, true, false, List, [], ◌∷◌, length, map, Option, Some, None, Result, Ok, Err}
+use Rattle.std.specs.Prelude.{ℕ, ◌≡◌, ◌≢◌, ◌≤◌, ◌<◌, ◌⊎◌, ◌^◌, ◌++◌, Bool, true, false, List, [], length, map, Option, Some, None, Result, Ok, Err}
 use Rattle.db_base.specs.declared.refusal.Refusal.{Refusal}
 use Rattle.db_base.specs.declared.refusal.Refusal.TheVariants as rule
 use Rattle.head_codec.specs.declared.head.Head.{Head}
@@ -20,13 +20,12 @@ use Rattle.cloud_trait.specs.declared.turn.Turn.TheVariants.{More, Ended, Stoppe
 use Rattle.cloud_trait.specs.Ask.{Ask, Renew, Release}
 use Rattle.cloud_trait.specs.Caller.{Caller}
 use Rattle.cloud_trait.specs.Claim.{Claim}
-use Rattle.cloud_trait.specs.Machine.{Goes, Ends, Stops, LeadsBy, Steps, Deed}
+use Rattle.cloud_trait.specs.Machine.{Goes, Ends, Stops, LeadsBy, Steps}
 use Rattle.cloud_trait.specs.Seen.{Seen}
 use Rattle.cloud_trait.specs.Views.{done_of, renewed_of}
 use Rattle.cloud_trait.specs.Weather.{Makes, RenewsLease}
 use Rattle.recover_run.specs.declared.home.Home.{Home}
 use Rattle.recover_run.specs.declared.stage.Aim.TheVariants as aim
-use Rattle.recover_run.specs.declared.stage.RecoverAnswer.{RecoverAnswer}
 use Rattle.recover_run.specs.declared.stage.RecoverAnswer.TheVariants.{Opened}
 use Rattle.recover_run.specs.Bound.{calls_left as recovery_left}
 use Rattle.recover_run.specs.Recovery.{Recovery, new_recovery, recovery_ask, recovery_next, home_of, KeepsLeases, IsSound as IsSoundOpening}
@@ -48,7 +47,7 @@ use Rattle.tree_moves.specs.Work.{applying_in}
 use Rattle.tree_ckpt.specs.Ending.{calls_in}
 use Rattle.tree_ckpt.specs.Making.{Making, new_making, making_ask, MakingLeads, KeepsLeases as KeepsTreeLeases}
 use Rattle.settle_run.specs.Ending.{calls_left as settling_left}
-use Rattle.settle_run.specs.Meaning.{Went, Meant}
+use Rattle.settle_run.specs.Meaning.{Meant}
 use Rattle.settle_run.specs.Parts.{part_applying, IsSoundPart}
 use Rattle.settle_run.specs.Settling.{Settling as SettlingState, new_settling, settle_ask, SettleLeads, KeepsSettling}
 use Rattle.client_session.specs.declared.listing.Listing.{Listing}
@@ -77,31 +76,6 @@ closed_session = record { buffer = []; work = Closed; cache = empty_cache; shown
 -- a session that stands for no client and settles, before its first call
 abbrev pub settling_session : Acting
 settling_session = record closed_session { work = Settling new_settling }
-
--- no answer waits for the release of the lease
-abbrev pub StopsAtMost : Option (Result RecoverAnswer Trouble) → Type 0
-StopsAtMost (Some (Ok a)) = ⊥
-StopsAtMost (Some (Err t)) = Unit {0}
-StopsAtMost None = Unit {0}
-
--- a recovery opens a client, and settles none
-abbrev pub IsOpening : Recovery → Type 0
-IsOpening m = (m.aim ≡ aim.Opening) × StopsAtMost m.ending
-
--- the newest call tells nothing of the cloud's state
-abbrev pub IsUntold : List Deed → Type 0
-IsUntold [] = Unit {0}
-IsUntold (d ∷ h) = d.after.state ≡ None
-
--- a settling came here from its first call on, whatever the cloud tells
-abbrev pub IsSettling : SettlingState → Type 0
-IsSettling m = (h : List Deed) × Went h m × IsUntold h
-
--- an opening in hand is one, and so is a settling
-abbrev pub IsOfClient : Work → Type 0
-IsOfClient (Opening m) = IsOpening m
-IsOfClient (Settling m) = IsSettling m
-IsOfClient work = Unit {0}
 
 -- the rule that refuses an operation of an open client, where one does
 abbrev pub rule_of : Work → Option Refusal

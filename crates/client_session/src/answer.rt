@@ -3,7 +3,7 @@ use db_base::trouble::{CommitAnswer, Trouble};
 use settle_run::Settled;
 
 /// What the begin of an operation answers.
-#[derive(Debug, Drop)]
+#[derive(Drop)]
 pub enum Begun {
     /// The operation has a call in hand.
     Working,
@@ -12,7 +12,7 @@ pub enum Begun {
 }
 
 /// What an operation answers.
-#[derive(Debug, Drop)]
+#[derive(Drop)]
 pub enum Answer {
     /// The client is open in this epoch.
     Opened { epoch: u64 },

@@ -1,4 +1,4 @@
-ghost use Rattle.client_session.specs.Session.{IsOfClient, StepsClosing};
+ghost use Rattle.client_session.specs.Session.{StepsClosing};
 
 use crate::answer::Answer;
 use crate::work::Work;
@@ -10,8 +10,7 @@ use cloud_trait::who::Who;
 
 /// Gives the lease of a client back. Whatever that answers, the client is closed.
 pub(crate) fn step_close<C: Cloud>(cloud: &mut C, who: Who, lease: Lease) -> (Work, Turn<Answer>)
-    ensures steps { StepsClosing lease who (C.seen cloud.old) (C.seen cloud.new) result.0 result.1 }
-    ensures client { IsOfClient result.0 }
+    ensures { StepsClosing lease who (C.seen cloud.old) (C.seen cloud.new) result.0 result.1 }
 {
     match let_go(cloud, who, lease).done() {
         Ok(()) => (Work::Closed, Turn::Ended(Answer::Closed)),

@@ -1,7 +1,7 @@
 ghost use Rattle.std.specs.Prelude.{◌≡◌, ◌≤◌, length};
 ghost use Rattle.commit_run.specs.Run.{home_of as home_of_run};
 ghost use Rattle.commit_run.specs.Sound.{IsSoundRun};
-ghost use Rattle.client_session.specs.Session.{CommitsNoted, CommitsOf, IsOfClient, StepsAt, StepsCommit, committed_work};
+ghost use Rattle.client_session.specs.Session.{CommitsNoted, StepsAt, StepsCommit, committed_work};
 
 use crate::answer::{Answer, Begun};
 use crate::work::{Work, lease_of};
@@ -22,8 +22,7 @@ pub(crate) fn commit_noted(
     changes: TxnBuffer,
     cache: &mut PageCache,
 ) -> (Work, Begun)
-    ensures commits { CommitsNoted home changes cache.old cache.new result.0 result.1 }
-    ensures client { IsOfClient result.0 }
+    ensures { CommitsNoted home changes cache.old cache.new result.0 result.1 }
 {
     if changes.is_empty() {
         let answer = CommitAnswer::Committed { txn: 0 };
@@ -35,8 +34,7 @@ pub(crate) fn commit_noted(
 /// Begins the commit of changes by a home: what is in hand then.
 fn commit_of(alloc: Global, home: Home, changes: TxnBuffer, cache: &mut PageCache) -> (Work, Begun)
     requires { 1 ≤ length changes }
-    ensures commits { CommitsOf home changes cache.old cache.new result.0 result.1 }
-    ensures client { IsOfClient result.0 }
+    ensures { CommitsNoted home changes cache.old cache.new result.0 result.1 }
 {
     let mut commit = CommitRun::new(alloc, home, changes);
     match commit.ready(alloc, cache) {
@@ -59,7 +57,6 @@ pub(crate) fn step_committing<C: Cloud>(
 ) -> (Work, Turn<Answer>)
     ensures steps { StepsAt who (C.seen cloud.old) (C.seen cloud.new) (Work.Committing machine) result.0 result.1 }
     ensures shows { StepsCommit who (C.seen cloud.old) (C.seen cloud.new) machine cache.old cache.new result.0 result.1 }
-    ensures client { IsOfClient result.0 }
 {
     step_commit(alloc, cloud, who, machine, cache)
 }
@@ -74,7 +71,6 @@ fn step_commit<C: Cloud>(
 ) -> (Work, Turn<Answer>)
     ensures sound { IsSoundRun machine }
     ensures steps { StepsCommit who (C.seen cloud.old) (C.seen cloud.new) machine cache.old cache.new result.0 result.1 }
-    ensures client { IsOfClient result.0 }
 {
     match machine.step(alloc, cloud, who, cache) {
         Turn::More => (Work::Committing(machine), Turn::More),
@@ -88,8 +84,7 @@ fn step_commit<C: Cloud>(
 
 /// A client after its commit: in doubt where it is not known whether the commit or all of its records landed.
 fn committed(answer: &CommitAnswer, machine: CommitRun) -> Work
-    ensures committed { result ≡ committed_work answer.now (home_of_run machine) }
-    ensures client { IsOfClient result }
+    ensures { result ≡ committed_work answer.now (home_of_run machine) }
 {
     match answer {
         CommitAnswer::InDoubt => broken(machine),

@@ -1,4 +1,4 @@
-ghost use Rattle.client_session.specs.Session.{IsOfClient, StepsFolding};
+ghost use Rattle.client_session.specs.Session.{StepsFolding};
 
 use crate::answer::Answer;
 use crate::work::{Work, stopped};
@@ -17,8 +17,7 @@ pub(crate) fn step_folding<C: Cloud>(
     home: Home,
     mut machine: TreeCkpt,
 ) -> (Work, Turn<Answer>)
-    ensures steps { StepsFolding home who (C.seen cloud.old) (C.seen cloud.new) machine result.0 result.1 }
-    ensures client { IsOfClient result.0 }
+    ensures { StepsFolding home who (C.seen cloud.old) (C.seen cloud.new) machine result.0 result.1 }
 {
     match machine.step(alloc, cloud, who) {
         Turn::More => (Work::Folding(home, machine), Turn::More),

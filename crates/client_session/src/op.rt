@@ -2,7 +2,7 @@ use db_base::ids::{ClientId, PageId, TreeId};
 use db_base::key::Key;
 
 /// An operation that a session can begin.
-#[derive(Debug, Drop)]
+#[derive(Drop)]
 pub enum Op {
     /// Opens a client.
     Open(ClientId),

@@ -1,9 +1,12 @@
 ghost use Rattle.std.specs.Prelude.{◌≡◌};
-ghost use Rattle.recover_run.specs.Recovery.{home_of, IsSound as IsSoundOpening};
-ghost use Rattle.client_session.specs.Session.{IsOfClient, IsOpening, StepsOpening, opened_work, opening_of};
+ghost use Rattle.cloud_trait.specs.Call.{ask_of};
+ghost use Rattle.recover_run.specs.declared.stage.Aim.TheVariants as aim;
+ghost use Rattle.recover_run.specs.Recovery.{home_of, new_recovery, recovery_ask, IsSound as IsSoundOpening};
+ghost use Rattle.client_session.specs.Session.{StepsOpening, opened_work};
 
 use crate::answer::Answer;
-use crate::work::{Work, drop_opening};
+use crate::work::Work;
+use cloud_trait::call::Call;
 use cloud_trait::cloud::Cloud;
 use cloud_trait::lease::Lease;
 use cloud_trait::turn::Turn;
@@ -12,47 +15,83 @@ use db_base::ids::ClientId;
 use recover_run::recover::RecoverRun;
 use recover_run::stage::{Aim, RecoverAnswer};
 use std::alloc::Global;
+use std::marker::Model;
 
-/// The opening of a client; an old lease is given back first.
-pub(crate) fn opening(alloc: Global, client: ClientId, old: Option<Lease>) -> Work
-    ensures opening { result ≡ opening_of client old }
-    ensures client { IsOfClient result }
-{
-    Work::Opening(RecoverRun::new(alloc, client, Aim::Opening, old))
+/// The opening of a client: a recovery that settles none.
+pub struct OpeningRun {
+    run: RecoverRun,
 }
 
-/// Makes the call in hand of an opening.
-pub(crate) fn step_opening<C: Cloud>(
-    alloc: Global,
-    cloud: &mut C,
-    who: Who,
-    mut machine: RecoverRun,
-) -> (Work, Turn<Answer>)
-    requires { IsOpening machine }
-    ensures sound { IsSoundOpening machine }
-    ensures steps { StepsOpening who (C.seen cloud.old) (C.seen cloud.new) machine result.0 result.1 }
-    ensures client { IsOfClient result.0 }
-{
-    match machine.step(alloc, cloud, who) {
-        Turn::More => (Work::Opening(machine), Turn::More),
-        Turn::Ended(RecoverAnswer::Opened { epoch }) => {
-            (opened(machine), Turn::Ended(Answer::Opened { epoch }))
+impl Model for OpeningRun {
+    ghost use Rattle.recover_run.specs.Recovery.{Recovery};
+    ghost use Rattle.client_session.specs.Opening.{IsOpening};
+
+    ghost Value = { Recovery };
+
+    ghost view = { λ o. o.run };
+
+    ghost invariant = { λ o. IsOpening o.run };
+}
+
+// Written out, so that what holds an opening need not look into it to let it go.
+impl Drop for OpeningRun {
+    fn drop(self) {
+        let OpeningRun { run } = self;
+        drop_run(run);
+    }
+}
+
+impl OpeningRun {
+    /// The opening of a client; an old lease is given back first.
+    pub(crate) fn new(alloc: Global, client: ClientId, old: Option<Lease>) -> OpeningRun
+        ensures { result ≡ new_recovery client aim.Opening old }
+    {
+        OpeningRun {
+            run: RecoverRun::new(alloc, client, Aim::Opening, old),
         }
-        Turn::Ended(RecoverAnswer::Nothing) => unreachable!(),
-        Turn::Stopped(trouble) => {
-            drop_opening(machine);
-            (Work::Closed, Turn::Ended(Answer::Trouble(trouble)))
+    }
+
+    /// The service call that the next step makes.
+    pub(crate) fn in_hand(&self) -> Call<'_>
+        ensures { ask_of result ≡ recovery_ask self.now }
+    {
+        self.run.in_hand()
+    }
+
+    /// Makes the call in hand: what is in hand then, and what it came to.
+    pub(crate) fn step<C: Cloud>(
+        self,
+        alloc: Global,
+        cloud: &mut C,
+        who: Who,
+    ) -> (Work, Turn<Answer>)
+        ensures sound { IsSoundOpening self }
+        ensures steps { StepsOpening who (C.seen cloud.old) (C.seen cloud.new) self result.0 result.1 }
+    {
+        let OpeningRun { mut run } = self;
+        match run.step(alloc, cloud, who) {
+            Turn::More => (Work::Opening(OpeningRun { run }), Turn::More),
+            Turn::Ended(RecoverAnswer::Opened { epoch }) => {
+                (opened(run), Turn::Ended(Answer::Opened { epoch }))
+            }
+            Turn::Ended(RecoverAnswer::Nothing) => unreachable!(),
+            Turn::Stopped(trouble) => {
+                drop_run(run);
+                (Work::Closed, Turn::Ended(Answer::Trouble(trouble)))
+            }
         }
     }
 }
 
 /// An open client after its opening.
-fn opened(machine: RecoverRun) -> Work
-    ensures opened { result ≡ opened_work (home_of machine) }
-    ensures client { IsOfClient result }
+fn opened(run: RecoverRun) -> Work
+    ensures { result ≡ opened_work (home_of run) }
 {
-    match machine.finish() {
+    match run.finish() {
         Some(home) => Work::Idle(home),
         None => Work::Closed,
     }
 }
+
+/// Lets a recovery go.
+fn drop_run(_run: RecoverRun) {}

@@ -1,4 +1,4 @@
-ghost use Rattle.client_session.specs.Session.{IsOfClient, StepsPaging};
+ghost use Rattle.client_session.specs.Session.{StepsPaging};
 
 use crate::answer::Answer;
 use crate::work::{Work, drop_paging, stopped};
@@ -17,8 +17,7 @@ pub(crate) fn step_paging<C: Cloud>(
     home: Home,
     mut machine: PageCkpt,
 ) -> (Work, Turn<Answer>)
-    ensures steps { StepsPaging home who (C.seen cloud.old) (C.seen cloud.new) machine result.0 result.1 }
-    ensures client { IsOfClient result.0 }
+    ensures { StepsPaging home who (C.seen cloud.old) (C.seen cloud.new) machine result.0 result.1 }
 {
     match machine.step(alloc, cloud, who) {
         Turn::More => (Work::Paging(home, machine), Turn::More),

@@ -1,4 +1,4 @@
-ghost use Rattle.client_session.specs.Session.{IsOfClient, ReadsBy, ReadsOf, StepsReading};
+ghost use Rattle.client_session.specs.Session.{ReadsBy, ReadsOf, StepsReading};
 
 use crate::answer::{Answer, Begun};
 use crate::shown::Shown;
@@ -18,8 +18,7 @@ pub(crate) fn begin_reading(
     mut read: RecordRead,
     cache: &mut PageCache,
 ) -> (Work, Shown, Begun)
-    ensures reads { ReadsOf home read cache.old cache.new result.0 result.1 result.2 }
-    ensures client { IsOfClient result.0 }
+    ensures { ReadsOf home read cache.old cache.new result.0 result.1 result.2 }
 {
     match read.ready(alloc, cache) {
         Turn::More => (Work::Reading(home, read), Shown::Nothing, Begun::Working),
@@ -47,7 +46,6 @@ pub(crate) fn step_reading<C: Cloud>(
 ) -> (Work, Shown, Turn<Answer>)
     ensures steps { StepsReading home who (C.seen cloud.old) (C.seen cloud.new) read result.0 result.2 }
     ensures reads { ReadsBy home who (C.seen cloud.old) (C.seen cloud.new) read cache.old cache.new result.0 result.1 result.2 }
-    ensures client { IsOfClient result.0 }
 {
     match read.step(alloc, cloud, who, cache) {
         Turn::More => (Work::Reading(home, read), Shown::Nothing, Turn::More),

@@ -1,4 +1,4 @@
-ghost use Rattle.client_session.specs.Session.{IsOfClient, StepsRenewing};
+ghost use Rattle.client_session.specs.Session.{StepsRenewing};
 
 use crate::answer::Answer;
 use crate::work::{Work, stopped};
@@ -15,8 +15,7 @@ pub(crate) fn step_renewal<C: Cloud>(
     who: Who,
     mut home: Home,
 ) -> (Work, Turn<Answer>)
-    ensures steps { StepsRenewing home who (C.seen cloud.old) (C.seen cloud.new) result.0 result.1 }
-    ensures client { IsOfClient result.0 }
+    ensures { StepsRenewing home who (C.seen cloud.old) (C.seen cloud.new) result.0 result.1 }
 {
     match renew(cloud, who, &mut home.lease, CLIENT_TICKS).renewed() {
         Ok(end) => (Work::Idle(home), Turn::Ended(Answer::Renewed { end })),

@@ -1,5 +1,5 @@
 ghost use Rattle.std.specs.Prelude.{◌≡◌, IfSome};
-ghost use Rattle.client_session.specs.Session.{Follows, IsListed, IsOfClient, ListsLeaf, ScansOf, StepsScanning, begins_by};
+ghost use Rattle.client_session.specs.Session.{Follows, IsListed, ListsLeaf, ScansOf, StepsScanning, begins_by};
 
 use crate::answer::{Answer, Begun};
 use crate::listing::{Listing, list_items};
@@ -25,8 +25,7 @@ pub(crate) fn begin_scanning(
     cache: &mut PageCache,
     buffer: &TxnBuffer,
 ) -> (Work, Shown, Begun)
-    ensures scans { ScansOf home buffer.now scan cache.old cache.new result.0 result.1 result.2 }
-    ensures client { IsOfClient result.0 }
+    ensures { ScansOf home buffer.now scan cache.old cache.new result.0 result.1 result.2 }
 {
     let turn = scan.ready(alloc, cache);
     let listing = Listing {
@@ -58,8 +57,7 @@ pub(crate) fn step_scanning<C: Cloud>(
     cache: &mut PageCache,
     buffer: &TxnBuffer,
 ) -> (Work, Shown, Turn<Answer>)
-    ensures steps { StepsScanning home buffer.now who (C.seen cloud.old) (C.seen cloud.new) listing cache.old cache.new result.0 result.1 result.2 }
-    ensures client { IsOfClient result.0 }
+    ensures { StepsScanning home buffer.now who (C.seen cloud.old) (C.seen cloud.new) listing cache.old cache.new result.0 result.1 result.2 }
 {
     let turn = listing.scan.step(alloc, cloud, who, cache);
     follow(alloc, home, listing, cache, buffer, turn)
@@ -74,8 +72,7 @@ fn follow(
     buffer: &TxnBuffer,
     turn: Turn<PageId>,
 ) -> (Work, Shown, Turn<Answer>)
-    ensures follows { Follows home buffer.now listing cache.now turn result.0 result.1 result.2 }
-    ensures client { IsOfClient result.0 }
+    ensures { Follows home buffer.now listing cache.now turn result.0 result.1 result.2 }
 {
     match turn {
         Turn::More => (Work::Scanning(home, listing), Shown::Nothing, Turn::More),
@@ -96,8 +93,7 @@ fn list_leaf(
     cache: &PageCache,
     buffer: &TxnBuffer,
 ) -> (Work, Shown, Turn<Answer>)
-    ensures lists { ListsLeaf home buffer.now listing cache.now result.0 result.1 result.2 }
-    ensures client { IsOfClient result.0 }
+    ensures { ListsLeaf home buffer.now listing cache.now result.0 result.1 result.2 }
 {
     let Listing { mut scan, pairs } = listing;
     let Some(pairs) = with_leaf(alloc, &home, &scan, pairs, cache, buffer) else {

@@ -6,11 +6,12 @@ ghost use Rattle.txn_buffer.specs.Noted.{noted_in};
 use crate::answer::{Answer, Begun};
 use crate::committing::commit_noted;
 use crate::op::Op;
-use crate::opening::opening;
+use crate::opening::OpeningRun;
 use crate::reading::begin_reading;
 use crate::scanning::begin_scanning;
+use crate::settling::SettlingRun;
 use crate::shown::Shown;
-use crate::work::Work;
+use crate::work::{Work, lease_of};
 use cloud_trait::call::Call;
 use cloud_trait::cloud::Cloud;
 use cloud_trait::turn::Turn;
@@ -27,7 +28,6 @@ use page_ckpt::PageCkpt;
 use range_scan::RangeScan;
 use record_read::RecordRead;
 use recover_run::home::Home;
-use settle_run::SettleRun;
 use std::alloc::Global;
 use std::marker::Model;
 use std::mem;
@@ -56,17 +56,15 @@ impl Drop for Session {
 }
 
 impl Model for Session {
-    ghost use Rattle.client_session.specs.Session.{Acting, IsOfClient};
+    ghost use Rattle.client_session.specs.Session.{Acting};
 
     ghost Value = { Acting };
 
     ghost view = { λ s. record { buffer = s.buffer; work = s.work; cache = s.cache; shown = s.shown } };
-
-    ghost invariant = { λ s. IsOfClient s.work };
 }
 
 impl Session {
-    ghost use Rattle.client_session.specs.Session.{Acting, closed_session, rule_of, NoteRefused, AbortRefused, Begins, BeginsOpening, BeginsWith, HasInHand, IsOfClient, folding_begun_by, paging_begun_by, TakesHome, CommitsIn, StepsSession, ReadsIn, ScansIn, settling_session, noted_behind, shown_behind, ask_of_work, committing_of, opens_of, applying_of, value_of, items_of};
+    ghost use Rattle.client_session.specs.Session.{Acting, closed_session, rule_of, NoteRefused, AbortRefused, Begins, BeginsOpening, BeginsWith, HasInHand, folding_begun_by, paging_begun_by, TakesHome, CommitsIn, StepsSession, ReadsIn, ScansIn, settling_session, noted_behind, shown_behind, ask_of_work, committing_of, opens_of, applying_of, value_of, items_of};
 
     /// A closed session without changes. Refused for memory alone.
     pub fn new(alloc: Global) -> Result<Session, Refused>
@@ -90,7 +88,7 @@ impl Session {
         ensures memory { IfErr result (λ e. e ≡ Refused.Memory) }
     {
         let mut session = Session::new(alloc)?;
-        session.has(Work::Settling(SettleRun::new(alloc)));
+        session.has(Work::Settling(SettlingRun::new(alloc)));
         Ok(session)
     }
 
@@ -166,7 +164,7 @@ impl Session {
         self.forget();
         let (work, old) = self.take_work().take_lease();
         self.has(work);
-        self.has(opening(alloc, client, old));
+        self.has(Work::Opening(OpeningRun::new(alloc, client, old)));
         Ok(Begun::Working)
     }
 
@@ -175,7 +173,7 @@ impl Session {
         ensures { BeginsWith (λ home. HasInHand self.old (Work.Closing home.lease)) self.old self.new result }
     {
         let home = self.take_home()?;
-        self.has(Work::Closing(home.lease));
+        self.has(Work::Closing(lease_of(home)));
         Ok(Begun::Working)
     }
 
@@ -262,14 +260,12 @@ impl Session {
     fn take_work(&mut self) -> Work
         ensures taken { result ≡ self.old.work }
         ensures left { self.new ≡ record self.old { work = Work.Closed } }
-        ensures client { IsOfClient result }
     {
         mem::replace(&mut self.work, Work::Closed)
     }
 
     /// Has this in hand from now on. It is the one place where what was in hand is dropped.
     fn has(&mut self, work: Work)
-        requires { IsOfClient work }
         ensures { self.new ≡ record self.old { work = work } }
     {
         self.work = work;

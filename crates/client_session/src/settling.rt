@@ -1,35 +1,92 @@
-ghost use Rattle.client_session.specs.Session.{IsOfClient, IsSettling, StepsSettling};
-ghost use Rattle.settle_run.specs.Parts.{IsSoundPart};
+ghost use Rattle.std.specs.Prelude.{◌≡◌};
+ghost use Rattle.cloud_trait.specs.Call.{ask_of};
+ghost use Rattle.settle_run.specs.Parts.{IsSoundPart, part_applying};
+ghost use Rattle.settle_run.specs.Settling.{new_settling, settle_ask};
+ghost use Rattle.client_session.specs.Session.{StepsSettling};
 
 use crate::answer::Answer;
-use crate::work::{Work, drop_settling};
+use crate::work::Work;
+use cloud_trait::call::Call;
 use cloud_trait::cloud::Cloud;
 use cloud_trait::turn::Turn;
 use cloud_trait::who::Who;
+use log_codec::record::PuItem;
 use settle_run::SettleRun;
 use std::alloc::Global;
+use std::marker::Model;
 
-/// Makes the call in hand of a settling.
-pub(crate) fn step_settling<C: Cloud>(
-    alloc: Global,
-    cloud: &mut C,
-    who: Who,
-    mut machine: SettleRun,
-) -> (Work, Turn<Answer>)
-    requires { IsSettling machine }
-    ensures sound { IsSoundPart machine.part }
-    ensures steps { StepsSettling who (C.seen cloud.old) (C.seen cloud.new) machine result.0 result.1 }
-    ensures client { IsOfClient result.0 }
-{
-    match machine.step(alloc, cloud, who) {
-        Turn::More => (Work::Settling(machine), Turn::More),
-        Turn::Ended(settled) => {
-            drop_settling(machine);
-            (Work::Closed, Turn::Ended(Answer::Settled(settled)))
+/// A settling that came here from its first call on.
+pub struct SettlingRun {
+    run: SettleRun,
+}
+
+impl Model for SettlingRun {
+    ghost use Rattle.settle_run.specs.Settling.{Settling};
+    ghost use Rattle.client_session.specs.Settling.{IsSettling};
+
+    ghost Value = { Settling };
+
+    ghost view = { λ s. s.run };
+
+    ghost invariant = { λ s. IsSettling s.run };
+}
+
+// Written out, so that what holds a settling need not look into it to let it go.
+impl Drop for SettlingRun {
+    fn drop(self) {
+        let SettlingRun { run } = self;
+        drop_run(run);
+    }
+}
+
+impl SettlingRun {
+    /// A settling before its first call.
+    pub(crate) fn new(alloc: Global) -> SettlingRun
+        ensures { result ≡ new_settling }
+    {
+        SettlingRun {
+            run: SettleRun::new(alloc),
         }
-        Turn::Stopped(trouble) => {
-            drop_settling(machine);
-            (Work::Closed, Turn::Ended(Answer::Trouble(trouble)))
+    }
+
+    /// The service call that the next step makes.
+    pub(crate) fn in_hand(&self) -> Call<'_>
+        ensures { ask_of result ≡ settle_ask self.now }
+    {
+        self.run.in_hand()
+    }
+
+    /// The items that the put in hand of the checkpoint at work applies; none where no checkpoint is at work.
+    pub(crate) fn applying(&self) -> &[PuItem]
+        ensures { result.now ≡ part_applying self.now.part }
+    {
+        self.run.applying()
+    }
+
+    /// Makes the call in hand: what is in hand then, and what it came to.
+    pub(crate) fn step<C: Cloud>(
+        self,
+        alloc: Global,
+        cloud: &mut C,
+        who: Who,
+    ) -> (Work, Turn<Answer>)
+        ensures sound { IsSoundPart self.part }
+        ensures steps { StepsSettling who (C.seen cloud.old) (C.seen cloud.new) self result.0 result.1 }
+    {
+        let SettlingRun { mut run } = self;
+        match run.step(alloc, cloud, who) {
+            Turn::More => (Work::Settling(SettlingRun { run }), Turn::More),
+            Turn::Ended(settled) => {
+                drop_run(run);
+                (Work::Closed, Turn::Ended(Answer::Settled(settled)))
+            }
+            Turn::Stopped(trouble) => {
+                drop_run(run);
+                (Work::Closed, Turn::Ended(Answer::Trouble(trouble)))
+            }
         }
     }
 }
+
+/// Lets a settling go.
+fn drop_run(_run: SettleRun) {}

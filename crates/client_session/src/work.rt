@@ -1,19 +1,19 @@
 ghost use Rattle.std.specs.Prelude.{◌≡◌, true, false, None};
 ghost use Rattle.std.specs.Option.{option_map, option_copied};
 ghost use Rattle.cloud_trait.specs.Call.{ask_of};
-ghost use Rattle.client_session.specs.Session.{GivesHome, IsOfClient, ShowsAt, StepsAt, old_lease, stopped_work};
+ghost use Rattle.client_session.specs.Session.{GivesHome, ShowsAt, StepsAt, old_lease, stopped_work};
 
 use crate::answer::Answer;
 use crate::closing::step_close;
 use crate::committing::step_committing;
 use crate::folding::step_folding;
 use crate::listing::Listing;
-use crate::opening::step_opening;
+use crate::opening::OpeningRun;
 use crate::paging::step_paging;
 use crate::reading::step_reading;
 use crate::renewing::step_renewal;
 use crate::scanning::step_scanning;
-use crate::settling::step_settling;
+use crate::settling::SettlingRun;
 use crate::shown::Shown;
 use cloud_trait::call::Call;
 use cloud_trait::cloud::Cloud;
@@ -29,8 +29,7 @@ use page_cache::PageCache;
 use page_ckpt::PageCkpt;
 use record_read::RecordRead;
 use recover_run::home::Home;
-use recover_run::recover::{CLIENT_TICKS, RecoverRun};
-use settle_run::SettleRun;
+use recover_run::recover::CLIENT_TICKS;
 use std::alloc::Global;
 use tree_ckpt::TreeCkpt;
 use txn_buffer::buffer::TxnBuffer;
@@ -42,7 +41,7 @@ pub enum Work {
     /// An open client.
     Idle(Home),
     /// An opening under way.
-    Opening(RecoverRun),
+    Opening(OpeningRun),
     /// A commit under way.
     Committing(CommitRun),
     /// A read under way, beside the open client.
@@ -58,7 +57,7 @@ pub enum Work {
     /// An open client whose lease is being renewed.
     Renewing(Home),
     /// A settling under way: no client is open.
-    Settling(SettleRun),
+    Settling(SettlingRun),
     /// The lease of a client whose newest operation left it in doubt.
     Broken(Lease),
 }
@@ -69,7 +68,7 @@ impl Drop for Work {
         match self {
             Work::Closed => {}
             Work::Idle(_) => {}
-            Work::Opening(machine) => drop_opening(machine),
+            Work::Opening(_) => {}
             Work::Committing(_) => {}
             Work::Reading(_, _) => {}
             Work::Scanning(_, _) => {}
@@ -77,20 +76,14 @@ impl Drop for Work {
             Work::Folding(_, _) => {}
             Work::Closing(_) => {}
             Work::Renewing(_) => {}
-            Work::Settling(machine) => drop_settling(machine),
+            Work::Settling(_) => {}
             Work::Broken(_) => {}
         }
     }
 }
 
-/// Lets an opening go.
-pub(crate) fn drop_opening(_machine: RecoverRun) {}
-
 /// Lets a page checkpoint go.
 pub(crate) fn drop_paging(_machine: PageCkpt) {}
-
-/// Lets a settling go.
-pub(crate) fn drop_settling(_machine: SettleRun) {}
 
 impl Work {
     ghost use Rattle.client_session.specs.Session.{rule_of, opening_rule_of, is_working, ask_of_work, committing_of, opens_of, applying_of};
@@ -237,9 +230,7 @@ impl Work {
 
     /// Takes the home out of what an open client has in hand; what else is in hand stays.
     pub(crate) fn take_home(self) -> (Work, Result<Home, Refused>)
-        requires { IsOfClient self }
-        ensures gives { GivesHome self result.0 result.1 }
-        ensures client { IsOfClient result.0 }
+        ensures { GivesHome self result.0 result.1 }
     {
         match self.rule() {
             Some(rule) => (self, Err(Refused::Rule(rule))),
@@ -260,9 +251,7 @@ impl Work {
 
     /// Takes the lease out of what a broken session has in hand; what else is in hand stays.
     pub(crate) fn take_lease(self) -> (Work, Option<Lease>)
-        requires { IsOfClient self }
-        ensures gives { result.1 ≡ old_lease self }
-        ensures client { IsOfClient result.0 }
+        ensures { result.1 ≡ old_lease self }
     {
         match self {
             Work::Broken(lease) => (Work::Closed, Some(lease)),
@@ -279,11 +268,9 @@ impl Work {
         cache: &mut PageCache,
         buffer: &TxnBuffer,
     ) -> (Work, Shown, Turn<Answer>)
-        requires client { IsOfClient self }
-        requires working { is_working self ≡ true }
+        requires { is_working self ≡ true }
         ensures steps { StepsAt who (C.seen cloud.old) (C.seen cloud.new) self result.0 result.2 }
         ensures shows { ShowsAt who (C.seen cloud.old) (C.seen cloud.new) buffer.now self cache.old cache.new result.0 result.1 result.2 }
-        ensures client { IsOfClient result.0 }
     {
         match self {
             Work::Reading(home, read) => step_reading(alloc, cloud, who, home, read, cache),
@@ -291,7 +278,7 @@ impl Work {
                 step_scanning(alloc, cloud, who, home, listing, cache, buffer)
             }
             Work::Opening(machine) => {
-                let (work, turn) = step_opening(alloc, cloud, who, machine);
+                let (work, turn) = machine.step(alloc, cloud, who);
                 (work, Shown::Nothing, turn)
             }
             Work::Committing(machine) => {
@@ -315,7 +302,7 @@ impl Work {
                 (work, Shown::Nothing, turn)
             }
             Work::Settling(machine) => {
-                let (work, turn) = step_settling(alloc, cloud, who, machine);
+                let (work, turn) = machine.step(alloc, cloud, who);
                 (work, Shown::Nothing, turn)
             }
             Work::Closed => unreachable!(),
@@ -327,8 +314,7 @@ impl Work {
 
 /// An open client behind an operation that stopped: want of memory leaves its lease alone.
 pub(crate) fn stopped(trouble: &Trouble, home: Home) -> Work
-    ensures stopped { result ≡ stopped_work trouble.now home }
-    ensures client { IsOfClient result }
+    ensures { result ≡ stopped_work trouble.now home }
 {
     match trouble {
         Trouble::Memory => Work::Broken(lease_of(home)),

@@ -3,8 +3,8 @@ use Rattle.recover_run.specs.declared.home.Home.{Home}
 use Rattle.client_session.specs.Session.{RenewsHome, stopped_work}
 use Rattle.client_session.proofs.renewing.step_renewal.Goals as goal
 
-pub returns-in-Err-clause-steps : goal.returns-in-Err-clause-steps
-returns-in-Err-clause-steps g c =
+pub returns-in-Err : goal.returns-in-Err
+returns-in-Err g c =
     let At : Home → Type 0 = λ old. (new : Home) × RenewsHome old new c.args.who (g.C.Cloud.seen c.args.cloud.now) (g.C.Cloud.seen c.renew.new.cloud) (Err c.in-Err.trouble)
     × (c.stopped.result ≡ stopped_work c.in-Err.trouble new) in
     subst At c.home.view_is (
@@ -16,5 +16,5 @@ returns-in-Err-clause-steps g c =
         lease = c.renew.ensures.lease;
         home = refl;
       },
-      c.stopped.ensures.stopped,
+      c.stopped.ensures,
     )

@@ -13,4 +13,4 @@ returns c =
     let beside = c.begin_reading-work.new.cache in
     begun_reading c.args.tree c.args.key c.args.self.now c.take_home.new.self c.shows.new.self c.in_ok-home.home c.new-read.result c.self.inside.cache beside left shown c.begin_reading-work.result.2
     (subst takes c.in_ok-home.was c.take_home.ensures) c.new-read.ensures (ap (λ (s : Acting). s.cache) c.self.view_is)
-    (c.shows.ensures ∙ ap (λ (s : Acting). record s { shown = shown }) (c.has.ensures ∙ ap (λ (s : Acting). record s { work = left; cache = beside }) c.self.view_is)) c.begin_reading-work.ensures.reads
+    (c.shows.ensures ∙ ap (λ (s : Acting). record s { shown = shown }) (c.has.ensures ∙ ap (λ (s : Acting). record s { work = left; cache = beside }) c.self.view_is)) c.begin_reading-work.ensures

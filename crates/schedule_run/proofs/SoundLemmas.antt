@@ -7,14 +7,22 @@ use Rattle.std.proofs.lemmas.Bool.{cases_lt}
 use Rattle.cloud_trait.proofs.StateLemmas.{slice_get-push}
 use Rattle.cloud_trait.specs.Seen.{Seen}
 use Rattle.cloud_trait.specs.State.{CloudState}
+use Rattle.event_text.specs.declared.event.Event.{Event}
+use Rattle.event_text.specs.declared.event.Event.TheVariants as event
 use Rattle.replay_meaning.specs.Standing.{Line, session_of}
+use Rattle.reply_text.specs.declared.reply.Reply.{Reply}
+use Rattle.reply_text.specs.declared.reply.Reply.TheVariants as reply
 use Rattle.world_core.specs.declared.world.World.{World}
+use Rattle.world_core.specs.Handled.{Handled}
+use Rattle.world_core.specs.Settled.{SettlingLeaves, SettlingEnds}
 use Rattle.world_core.specs.Stands.{WorldStands}
+use Rattle.world_core.proofs.Bounded.{few_calls}
 use Rattle.world_core.proofs.EveryLine.{stands_after}
 use Rattle.world_core.proofs.Calm.{well_after}
 use Rattle.world_core.proofs.Explained.{explained}
+use Rattle.world_core.proofs.Settled.{settling_leaves, settling_ends}
 use Rattle.world_core.proofs.Sound.{sound_after}
-use Rattle.schedule_run.specs.Answered.{WentOn, start, further, AreExplained, IsSoundLine, RepliesAreSound}
+use Rattle.schedule_run.specs.Answered.{WentOn, start, further, LeavesSo, EndsSo, AreExplained, IsSoundLine, RepliesAreSound}
 
 -- ---- places of lines
 
@@ -67,6 +75,22 @@ went_soundly before old t lines after new (further earlier line mid _ world _ we
       sound = sound_more earlier line o.sound q;
     }
 
+-- what a settling among them left, and how it ended
+leaves_so : (n : ℕ) (e : Event) (before after : Seen) (old new : World) (r : Reply) → SettlingLeaves n e before after old new (Ok r)
+    → (lines : List Line) (t : CloudState) → length lines + 1 ≡ n → before.state ≡ Some t → WorldStands lines old t
+    → (handled : Handled n e before after old new (Ok r)) → LeavesSo n e before after old new r handled
+leaves_so n event.Settle before after old new (reply.Settled calls) law lines t number told stands handled = law lines t number told stands handled
+leaves_so n e before after old new r law lines t number told stands handled = tt
+
+ends_so : (n : ℕ) (e : Event) (before after : Seen) (old new : World) (r : Reply) → SettlingEnds n e before after old new (Ok r)
+    → (lines : List Line) (t : CloudState) → length lines + 1 ≡ n → before.state ≡ Some t → WorldStands lines old t
+    → (handled : Handled n e before after old new (Ok r)) → EndsSo t n e before after old new r handled
+ends_so n event.Settle before after old new r law lines t number told stands handled = λ free each. law lines t number told stands free handled each
+ends_so n e before after old new r law lines t number told stands handled = tt
+
+same_some : {X : Type 0} (x y : X) → Some x ≡ Some y → x ≡ y
+same_some x y e = cc
+
 -- and each of them explains itself
 pub went_explained : (before : Seen) (old : World) (t : CloudState) (lines : List Line) (after : Seen) (new : World) → (went : WentOn before old lines after new) → before.state ≡ Some t
     → WorldStands [] old t → AreExplained before old lines after new went
@@ -77,5 +101,13 @@ went_explained before old t lines after new (further earlier line mid _ world _ 
       record {
         explains = explained (length earlier + 1) line.event mid after world new (Ok line.reply) earlier o.state refl o.told o.stands handled;
         calm = well_after (length earlier + 1) line.event mid after world new (Ok line.reply) earlier o.state refl o.told o.stands handled;
+        bounded = few_calls (length earlier + 1) line.event mid after world new (Ok line.reply) earlier o.state refl o.told o.stands handled;
+        leaves =
+            leaves_so (length earlier + 1) line.event mid after world new line.reply
+            (settling_leaves (length earlier + 1) line.event mid after world new (Ok line.reply)) earlier o.state refl o.told o.stands handled;
+        ends = λ t told_so.
+            subst (λ x. EndsSo x (length earlier + 1) line.event mid after world new line.reply handled) (same_some o.state t (sym o.told ∙ told_so))
+            (ends_so (length earlier + 1) line.event mid after world new line.reply
+            (settling_ends (length earlier + 1) line.event mid after world new (Ok line.reply)) earlier o.state refl o.told o.stands handled);
       },
     )

@@ -5,15 +5,20 @@ use Rattle.cloud_trait.specs.State.{CloudState, IsEmptyCloud}
 use Rattle.cloud_trait.specs.Seen.{Seen}
 use Rattle.cloud_trait.specs.Upto.{upto}
 use Rattle.event_text.specs.declared.event.Event.{Event}
+use Rattle.event_text.specs.declared.event.Event.TheVariants as event
+use Rattle.reply_text.specs.declared.reply.Reply.{Reply}
+use Rattle.reply_text.specs.declared.reply.Reply.TheVariants as reply
 use Rattle.replay_meaning.specs.Standing.{Line, session_of, standing}
 use Rattle.replay_meaning.specs.Right.{ReportIsRight}
 use Rattle.session_facts.specs.Sessions.Untroubled.{IsUntroubled}
 use Rattle.world_core.specs.declared.world.World.{World}
 use Rattle.world_core.specs.declared.world.WorldFault.{WorldFault}
+use Rattle.world_core.specs.Bounded.{AnswersSoon}
 use Rattle.world_core.specs.Calm.{StepIsCalm, RepliesWell, work_at}
 use Rattle.world_core.specs.EachStep.{EachStep}
 use Rattle.world_core.specs.Explained.{StepExplains}
 use Rattle.world_core.specs.Handled.{Handled}
+use Rattle.world_core.specs.Settled.{SettledLeaves, AnswersSettled, NoLockHeld, StepGoesWell}
 use Rattle.world_core.specs.Sound.{IsSoundFor}
 
 -- a world whose sessions are closed, and that saw nothing
@@ -29,13 +34,27 @@ pub data WentOn (before : Seen) (old : World) : List Line → Seen → World →
       → WentOn before old lines mid world → Handled (length lines + 1) line.event mid after world new (Ok line.reply)
       → WentOn before old (lines ++ line ∷ []) after new
 
--- a line that was handled explains the steps that it made; and where its session was untroubled and each of these was calm, the session is untroubled
--- behind it, and the line is answered well
+-- a settling that came to its end leaves nothing, where in no step of it a message was withheld
+abbrev pub LeavesSo : (n : ℕ) (event : Event) (before after : Seen) (old new : World) (r : Reply) → Handled n event before after old new (Ok r) → Type 0
+LeavesSo n event.Settle before after old new (reply.Settled calls) handled = SettledLeaves n calls before after old new handled
+LeavesSo n event before after old new r handled = Unit {0}
+
+-- where no lock was held before it and every step of it went well, a settling came to its end so, within the bound
+abbrev pub EndsSo : CloudState → (n : ℕ) (event : Event) (before after : Seen) (old new : World) (r : Reply) → Handled n event before after old new (Ok r) → Type 0
+EndsSo t n event.Settle before after old new r handled =
+    NoLockHeld t → EachStep StepGoesWell n event.Settle before after old new (Ok r) handled → AnswersSettled t after r
+EndsSo t n event before after old new r handled = Unit {0}
+
+-- a line that was handled explains the steps that it made; where its session was untroubled and each of these was calm, the session is untroubled
+-- behind it, and the line is answered well; a run of it makes few calls for a tree checkpoint; and a settling leaves nothing and comes to its end so
 pub record IsExplained (lines : List Line) (line : Line) (before after : Seen) (old new : World) (handled : Handled (length lines + 1) line.event before after old new (Ok line.reply))
     : Type 0 where
   pub explains : EachStep StepExplains (length lines + 1) line.event before after old new (Ok line.reply) handled
   pub calm : EachStep StepIsCalm (length lines + 1) line.event before after old new (Ok line.reply) handled → IsUntroubled (work_at old (session_of line.event))
       → IsUntroubled (work_at new (session_of line.event)) × RepliesWell line.event (standing lines (session_of line.event)).posture line.reply
+  pub bounded : AnswersSoon (length lines + 1) handled.asked before after old new (Ok line.reply) handled.answers
+  pub leaves : LeavesSo (length lines + 1) line.event before after old new line.reply handled
+  pub ends : (t : CloudState) → before.state ≡ Some t → EndsSo t (length lines + 1) line.event before after old new line.reply handled
 
 -- and so does each line
 abbrev pub AreExplained : (before : Seen) (old : World) (lines : List Line) (after : Seen) (new : World) → WentOn before old lines after new → Type 0

@@ -9,6 +9,7 @@ pub mod key;
 pub mod names;
 pub mod pair;
 pub mod refusal;
+pub mod sequence;
 pub mod text;
 pub mod trouble;
 pub mod wish;

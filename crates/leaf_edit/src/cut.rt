@@ -5,7 +5,6 @@ ghost use Rattle.db_base.specs.Key.{IsKey};
 ghost use Rattle.leaf_view.specs.Leaf.{IsLeaf};
 ghost use Rattle.leaf_view.specs.Fits.{IsVersion};
 ghost use Rattle.leaf_view.specs.Shown.{shown};
-ghost use Rattle.leaf_edit.specs.Buffer.{leaf_in};
 ghost use Rattle.leaf_edit.specs.Cut.{first_key, left_part, right_part, TakesNone, TakesOne};
 ghost use Rattle.leaf_edit.specs.Merging.{AreRecords};
 ghost use Rattle.leaf_edit.specs.Spelled.{dones_before, entries_bytes};
@@ -81,41 +80,66 @@ fn first_key<'a>(records: &Records<'a>) -> &'a [u8]
     }
 }
 
-/// The spelling of the left part.
-fn left_bytes(
+/// Appends the spelling of the left part to no bytes.
+fn spell_left(
+    out: &mut Vec<u8>,
+    leaf: &LeafView<'_>,
+    n: usize,
+    right: PageId,
+) -> Result<(), AllocError>
+    requires empty { out.old.items ≡ [] }
+    requires version { IsVersion leaf.now.version }
+    requires some { 0 < n }
+    requires less { n < length leaf.now.records }
+    ensures { OnOk result (IsLeaf out.new.items (left_part n right leaf.now)) }
+{
+    let key = first_key(&skip(leaf.records(), n));
+    try_add_fields(out, leaf.version(), leaf.low(), right.get(), Some(key))?;
+    add_dones(out, leaf.done_list())?;
+    try_add_u8(out, 0)?;
+    add_front(out, leaf.records(), n)?;
+    Ok(())
+}
+
+/// The left part.
+fn left_leaf(
     alloc: Global,
     leaf: &LeafView<'_>,
     n: usize,
     right: PageId,
-) -> Result<Vec<u8>, AllocError>
+) -> Result<LeafBuf, AllocError>
     requires version { IsVersion leaf.now.version }
     requires some { 0 < n }
     requires less { n < length leaf.now.records }
-    ensures spells { IfOk result (λ v. IsLeaf v.items (leaf_in v.items)) }
-    ensures part { IfOk result (λ v. leaf_in v.items ≡ left_part n right leaf.now) }
+    ensures { IfOk result (λ l. l ≡ left_part n right leaf.now) }
 {
-    let key = first_key(&skip(leaf.records(), n));
     let mut out = Vec::new(alloc);
-    try_add_fields(&mut out, leaf.version(), leaf.low(), right.get(), Some(key))?;
-    add_dones(&mut out, leaf.done_list())?;
-    try_add_u8(&mut out, 0)?;
-    add_front(&mut out, leaf.records(), n)?;
-    Ok(out)
+    spell_left(&mut out, leaf, n, right)?;
+    Ok(LeafBuf::of(out))
 }
 
-/// The spelling of the right part.
-fn right_bytes(alloc: Global, leaf: &LeafView<'_>, n: usize) -> Result<Vec<u8>, AllocError>
-    requires { n < length leaf.now.records }
-    ensures spells { IfOk result (λ v. IsLeaf v.items (leaf_in v.items)) }
-    ensures part { IfOk result (λ v. leaf_in v.items ≡ right_part n leaf.now) }
+/// Appends the spelling of the right part to no bytes.
+fn spell_right(out: &mut Vec<u8>, leaf: &LeafView<'_>, n: usize) -> Result<(), AllocError>
+    requires empty { out.old.items ≡ [] }
+    requires less { n < length leaf.now.records }
+    ensures { OnOk result (IsLeaf out.new.items (right_part n leaf.now)) }
 {
     let rest = skip(leaf.records(), n);
+    try_add_fields(out, 1, first_key(&rest), right_of(leaf), leaf.high())?;
+    add_dones(out, leaf.done_list())?;
+    try_add_u8(out, 0)?;
+    add_rest(out, rest)?;
+    Ok(())
+}
+
+/// The right part.
+fn right_leaf(alloc: Global, leaf: &LeafView<'_>, n: usize) -> Result<LeafBuf, AllocError>
+    requires { n < length leaf.now.records }
+    ensures { IfOk result (λ l. l ≡ right_part n leaf.now) }
+{
     let mut out = Vec::new(alloc);
-    try_add_fields(&mut out, 1, first_key(&rest), right_of(leaf), leaf.high())?;
-    add_dones(&mut out, leaf.done_list())?;
-    try_add_u8(&mut out, 0)?;
-    add_rest(&mut out, rest)?;
-    Ok(out)
+    spell_right(&mut out, leaf, n)?;
+    Ok(LeafBuf::of(out))
 }
 
 /// Appends the records as a list.
@@ -148,8 +172,8 @@ impl LeafBuf {
         ensures err { IfErr result (λ e. e ≡ EditFault.Memory) }
     {
         let view = self.view();
-        let left = left_bytes(alloc, &view, n, right)?;
-        let rest = right_bytes(alloc, &view, n)?;
-        Ok((LeafBuf::of(left), LeafBuf::of(rest)))
+        let left = left_leaf(alloc, &view, n, right)?;
+        let rest = right_leaf(alloc, &view, n)?;
+        Ok((left, rest))
     }
 }

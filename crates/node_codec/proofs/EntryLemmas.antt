@@ -1,8 +1,6 @@
 -- Lists of entries with one more, and in two parts.
-use Rattle.std.proofs.Common.{◌≡◌, ℕ, zero, suc, ◌<◌, ◌≤◌, Bool, true, false, cond, List, [], ◌∷◌, ◌++◌, length, take, drop, Option, Some, None, Result, Ok, Err, refl, sym, ap, subst, ◌∙◌, append_assoc, arith}
-use Rattle.std.specs.Prelude.{◌&&◌, nat_le, IfOk}
-use Rattle.std.specs.Global.{Vec}
-use Rattle.std.specs.declared.alloc.AllocError.{AllocError}
+use Rattle.std.proofs.Common.{◌≡◌, ℕ, zero, suc, ◌<◌, ◌≤◌, Bool, true, false, cond, List, [], ◌∷◌, ◌++◌, length, take, drop, Option, Some, None, Ok, refl, sym, ap, subst, ◌∙◌, append_assoc, arith}
+use Rattle.std.specs.Prelude.{◌&&◌, nat_le}
 use Rattle.std.specs.Ordering.{is_lt, is_eq, ordering_reverse}
 use Rattle.std.specs.declared.cmp.Ordering.{Ordering}
 use Rattle.std.specs.declared.cmp.Ordering.TheVariants.{Less, Equal, Greater}
@@ -120,15 +118,6 @@ cut_over n all out k left c is = record {
     drop_nothing : (k : ℕ) → drop {A = Entry} k [] ≡ []
     drop_nothing zero = refl
     drop_nothing (suc k) = refl
-
--- what the two parts are
-pub parts_front : (n : ℕ) (all : List Entry) (out : List ℕ) (left : List Entry) → IsCutAt n all out 0 left → (r : Result (Vec ℕ × Vec ℕ) AllocError) → IfOk r (λ v. v.0.items ≡ out ++ 0 ∷ []) → IfOk r (λ v. v.0.items ≡ spelled (take n all))
-parts_front n all out left c (Ok v) written = written ∙ c.front
-parts_front n all out left c (Err e) written = tt
-
-pub parts_back : (n : ℕ) (all : List Entry) (out rest : List ℕ) (left : List Entry) → IsCutAt n all out 0 left → rest ≡ spelled left → (r : Result (Vec ℕ × Vec ℕ) AllocError) → IfOk r (λ v. v.1.items ≡ rest) → IfOk r (λ v. v.1.items ≡ spelled (drop n all))
-parts_back n all out rest left c read (Ok v) is = is ∙ read ∙ ap spelled c.back
-parts_back n all out rest left c read (Err e) is = tt
 
 -- ---- what fits
 

@@ -30,7 +30,8 @@ pub(crate) fn push_entry(out: &mut Vec<u8>, low: &[u8], page: u64) -> Result<(),
 {
     try_add_u8(out, 1)?;
     try_add_text8(out, low)?;
-    try_add_u64(out, page)
+    try_add_u64(out, page)?;
+    Ok(())
 }
 
 /// Appends an entry, and the rest of the list behind it.
@@ -39,11 +40,37 @@ fn push_last(out: &mut Vec<u8>, low: &[u8], page: u64, rest: &[u8]) -> Result<()
     ensures { OnOk result (out.new.items ≡ (out.old.items ++ entry_bytes low.now page) ++ rest.now) }
 {
     push_entry(out, low, page)?;
-    try_add(out, rest)
+    try_add(out, rest)?;
+    Ok(())
+}
+
+/// Appends the entries with one more in its place to no bytes; as they are where its low key is there.
+#[tactic(auto, using(crate::proofs::PlainLemmas::list_from_whole))]
+fn add_one_more(out: &mut Vec<u8>, entries: &[u8], low: &[u8], page: u64) -> Result<(), AllocError>
+    requires empty { out.old.items ≡ [] }
+    requires listed { IsWholeList plain_entry entries.now }
+    requires short { length low.now ≤ 64 }
+    ensures { OnOk result (out.new.items ≡ list_spelling (λ _. plain_entry) None (with_entry low.now page (items_of plain_entry entries.now))) }
+{
+    let mut rest = entries;
+    'entries: while let Some((entry, behind)) = first_entry(rest) {
+        let next = entry.low();
+        if is_below(low, next) {
+            push_last(out, low, page, rest)?;
+            return Ok(());
+        }
+        if is_same(low, next) {
+            try_add(out, rest)?;
+            return Ok(());
+        }
+        push_entry(out, next, entry.page().get())?;
+        rest = behind;
+    }
+    push_last(out, low, page, rest)?;
+    Ok(())
 }
 
 /// The entries with one more in its place; as they are where its low key is there.
-#[tactic(auto, using(crate::proofs::PlainLemmas::list_from_whole))]
 pub(crate) fn with_one_more(
     alloc: Global,
     entries: &[u8],
@@ -55,37 +82,38 @@ pub(crate) fn with_one_more(
     ensures { IfOk result (λ v. v.items ≡ list_spelling (λ _. plain_entry) None (with_entry low.now page (items_of plain_entry entries.now))) }
 {
     let mut out = Vec::new(alloc);
-    let mut rest = entries;
-    'entries: while let Some((entry, behind)) = first_entry(rest) {
-        let next = entry.low();
-        if is_below(low, next) {
-            push_last(&mut out, low, page, rest)?;
-            return Ok(out);
-        }
-        if is_same(low, next) {
-            try_add(&mut out, rest)?;
-            return Ok(out);
-        }
-        push_entry(&mut out, next, entry.page().get())?;
-        rest = behind;
-    }
-    push_last(&mut out, low, page, rest)?;
+    add_one_more(&mut out, entries, low, page)?;
     Ok(out)
 }
 
-/// The entries of the front as a list that ends there, and the rest as a list.
-fn parted(alloc: Global, front: Vec<u8>, rest: &[u8]) -> Result<(Vec<u8>, Vec<u8>), AllocError>
-    ensures front { IfOk result (λ v. v.0.items ≡ front.items ++ 0 ∷ []) }
-    ensures back { IfOk result (λ v. v.1.items ≡ rest.now) }
+/// Appends the first `count` entries to no bytes as a list, and gives the bytes of the others.
+#[tactic(auto, using(crate::proofs::PlainLemmas::list_from_whole))]
+fn add_front<'a>(
+    front: &mut Vec<u8>,
+    entries: &'a [u8],
+    count: usize,
+) -> Result<&'a [u8], AllocError>
+    requires empty { front.old.items ≡ [] }
+    requires listed { IsWholeList plain_entry entries.now }
+    ensures front { OnOk result (front.new.items ≡ list_spelling (λ _. plain_entry) None (take count (items_of plain_entry entries.now))) }
+    ensures back { IfOk result (λ rest. rest.now ≡ list_spelling (λ _. plain_entry) None (drop count (items_of plain_entry entries.now))) }
 {
-    let mut front = front;
-    try_add_u8(&mut front, 0)?;
-    let back = rest.to_vec(alloc)?;
-    Ok((front, back))
+    let mut left = count;
+    let mut rest = entries;
+    'entries: while let Some((entry, behind)) = first_entry(rest) {
+        if left == 0 {
+            try_add_u8(front, 0)?;
+            return Ok(rest);
+        }
+        push_entry(front, entry.low(), entry.page().get())?;
+        left -= 1;
+        rest = behind;
+    }
+    try_add_u8(front, 0)?;
+    Ok(rest)
 }
 
 /// The first `count` entries, and the others.
-#[tactic(auto, using(crate::proofs::PlainLemmas::list_from_whole))]
 pub(crate) fn cut_entries(
     alloc: Global,
     entries: &[u8],
@@ -96,17 +124,9 @@ pub(crate) fn cut_entries(
     ensures back { IfOk result (λ v. v.1.items ≡ list_spelling (λ _. plain_entry) None (drop count (items_of plain_entry entries.now))) }
 {
     let mut front = Vec::new(alloc);
-    let mut left = count;
-    let mut rest = entries;
-    'entries: while let Some((entry, behind)) = first_entry(rest) {
-        if left == 0 {
-            return parted(alloc, front, rest);
-        }
-        push_entry(&mut front, entry.low(), entry.page().get())?;
-        left -= 1;
-        rest = behind;
-    }
-    parted(alloc, front, rest)
+    let rest = add_front(&mut front, entries, count)?;
+    let back = rest.to_vec(alloc)?;
+    Ok((front, back))
 }
 
 /// A list of one entry, from the empty key to the page.

@@ -171,22 +171,31 @@ impl InnerBuf {
         Ok((left, right))
     }
 
+    /// Appends the spelling of the node to no bytes.
+    fn spell(&self, out: &mut Vec<u8>) -> Result<(), AllocError>
+        requires { out.old.items ≡ [] }
+        ensures { OnOk result (IsInner out.new.items self.now) }
+    {
+        let low = self.low.as_slice();
+        let entries = self.entries.as_slice();
+        try_add_u8(out, 0x49)?;
+        try_add_u8(out, 1)?;
+        try_add_u64(out, self.version)?;
+        try_add_u8(out, self.level)?;
+        try_add_text8(out, low)?;
+        try_add_u64(out, self.right)?;
+        push_high(out, &self.high)?;
+        try_add(out, entries)?;
+        Ok(())
+    }
+
     /// The one spelling of the node. Refused for memory alone.
     pub fn write(&self, alloc: Global) -> Result<Blob, EditFault>
         ensures ok { IfOk result (λ b. IsInner b self.now) }
         ensures memory { IfErr result (λ e. e ≡ EditFault.Memory) }
     {
-        let low = self.low.as_slice();
-        let entries = self.entries.as_slice();
-        let mut out = Vec::with_capacity(alloc, entries.len().saturating_add(148))?;
-        try_add_u8(&mut out, 0x49)?;
-        try_add_u8(&mut out, 1)?;
-        try_add_u64(&mut out, self.version)?;
-        try_add_u8(&mut out, self.level)?;
-        try_add_text8(&mut out, low)?;
-        try_add_u64(&mut out, self.right)?;
-        push_high(&mut out, &self.high)?;
-        try_add(&mut out, entries)?;
+        let mut out = Vec::with_capacity(alloc, self.entries.len().saturating_add(148))?;
+        self.spell(&mut out)?;
         Ok(Blob::of(out))
     }
 }

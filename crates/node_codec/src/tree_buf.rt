@@ -1,6 +1,6 @@
 //! A root under edit.
 
-ghost use Rattle.std.specs.Prelude.{◌≡◌, ◌+◌, ◌<◌, ◌≤◌, ◌↔◌, length, IfOk, IfErr, OnOk, OnErr, IsErrOf};
+ghost use Rattle.std.specs.Prelude.{◌≡◌, ◌+◌, ◌<◌, ◌≤◌, ◌↔◌, [], length, IfOk, IfErr, OnOk, OnErr, IsErrOf};
 ghost use Rattle.node_codec.specs.Node.{raised};
 ghost use Rattle.node_codec.specs.Tree.{Tree, IsTree, HasTreeSpelling, with_child, raised_root};
 ghost use Rattle.node_codec.specs.Inner.{node_of_root};
@@ -152,25 +152,35 @@ impl TreeBuf {
         count_entries(self.entries.as_slice())
     }
 
+    /// Appends the spelling of the root to no bytes.
+    fn spell(&self, out: &mut Vec<u8>) -> Result<(), AllocError>
+        requires { out.old.items ≡ [] }
+        ensures { OnOk result (IsTree out.new.items self.now) }
+    {
+        let cursor = self.cursor.as_slice();
+        let entries = self.entries.as_slice();
+        try_add_u8(out, 0x54)?;
+        try_add_u8(out, 1)?;
+        try_add_u64(out, self.version)?;
+        try_add_u64(out, self.next)?;
+        try_add_u8(out, self.level)?;
+        try_add(out, cursor)?;
+        try_add(out, entries)?;
+        Ok(())
+    }
+
     /// The one spelling of the root. Refused for memory alone.
     pub fn write(&self, alloc: Global) -> Result<Blob, EditFault>
         ensures ok { IfOk result (λ b. IsTree b self.now) }
         ensures memory { IfErr result (λ e. e ≡ EditFault.Memory) }
     {
-        let cursor = self.cursor.as_slice();
-        let entries = self.entries.as_slice();
-        let room = cursor
+        let room = self
+            .cursor
             .len()
-            .saturating_add(entries.len())
+            .saturating_add(self.entries.len())
             .saturating_add(19);
         let mut out = Vec::with_capacity(alloc, room)?;
-        try_add_u8(&mut out, 0x54)?;
-        try_add_u8(&mut out, 1)?;
-        try_add_u64(&mut out, self.version)?;
-        try_add_u64(&mut out, self.next)?;
-        try_add_u8(&mut out, self.level)?;
-        try_add(&mut out, cursor)?;
-        try_add(&mut out, entries)?;
+        self.spell(&mut out)?;
         Ok(Blob::of(out))
     }
 }

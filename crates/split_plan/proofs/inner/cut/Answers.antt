@@ -3,7 +3,7 @@ use Rattle.split_plan.specs.Part.{part_of_node, entry_key}
 use Rattle.split_plan.specs.Plan.{node_bytes, IsNodePart}
 use Rattle.split_plan.specs.Sizes.{CanCut}
 use Rattle.split_plan.proofs.Buffers.{left-inner, right-inner}
-use Rattle.split_plan.proofs.Underway.{goes_on}
+use Rattle.split_plan.proofs.Underway.{goes_on, ends}
 use Rattle.split_plan.proofs.inner.cut.Goals as goal
 
 pub pieces-preserved : goal.pieces-preserved
@@ -18,3 +18,21 @@ pieces-preserved c =
     (ap part_of_node c.in_ok-left.ensures.left ∙ left-inner n c.pieces.free node room.1)
     (ap part_of_node c.in_ok-left.ensures.right ∙ right-inner n node) c.page_behind-free.ensures c.in_ok-add.ensures.puts
     c.in_ok-add.ensures.entries c.in_ok-add.ensures.fits
+
+pub returns-clause-puts : goal.returns-clause-puts
+returns-clause-puts c =
+    (ends entry_key node_bytes IsNodePart c.args.page c.args.first_free (part_of_node c.args.buf) c.pieces.plan.puts c.add-2.new.plan.puts c.pieces.plan.entries
+    c.add-2.new.plan.entries c.pieces.sizes c.pieces.at c.pieces.free (part_of_node c.pieces.rest) c.pieces.invariant c.in_default.ensures
+    c.in_ok-add-2.ensures.puts c.in_ok-add-2.ensures.entries c.in_ok-add-2.ensures.fits).0
+
+pub returns-clause-entries : goal.returns-clause-entries
+returns-clause-entries c =
+    (ends entry_key node_bytes IsNodePart c.args.page c.args.first_free (part_of_node c.args.buf) c.pieces.plan.puts c.add-2.new.plan.puts c.pieces.plan.entries
+    c.add-2.new.plan.entries c.pieces.sizes c.pieces.at c.pieces.free (part_of_node c.pieces.rest) c.pieces.invariant c.in_default.ensures
+    c.in_ok-add-2.ensures.puts c.in_ok-add-2.ensures.entries c.in_ok-add-2.ensures.fits).1
+
+pub returns-clause-fit : goal.returns-clause-fit
+returns-clause-fit c =
+    (ends entry_key node_bytes IsNodePart c.args.page c.args.first_free (part_of_node c.args.buf) c.pieces.plan.puts c.add-2.new.plan.puts c.pieces.plan.entries
+    c.add-2.new.plan.entries c.pieces.sizes c.pieces.at c.pieces.free (part_of_node c.pieces.rest) c.pieces.invariant c.in_default.ensures
+    c.in_ok-add-2.ensures.puts c.in_ok-add-2.ensures.entries c.in_ok-add-2.ensures.fits).2

@@ -5,7 +5,7 @@ use Rattle.node_codec.specs.Plain.{items_of}
 use Rattle.node_codec.proofs.NodeLemmas.{plain_entry_exact}
 use Rattle.node_codec.proofs.PlainLemmas.{whole_list_is, whole_behind}
 use Rattle.node_codec.proofs.EntryLemmas.{added_here, added_there, added_goes_on, here_before, here_last}
-use Rattle.node_codec.proofs.entry_list.with_one_more.Goals as goal
+use Rattle.node_codec.proofs.entry_list.add_one_more.Goals as goal
 
 pub returns-then-is_below : goal.returns-then-is_below
 returns-then-is_below c =

@@ -3,19 +3,19 @@ use Rattle.node_codec.specs.Node.{plain_entry, entry_bytes}
 use Rattle.node_codec.specs.Plain.{items_of}
 use Rattle.node_codec.proofs.NodeLemmas.{plain_entry_exact}
 use Rattle.node_codec.proofs.PlainLemmas.{whole_list_is, whole_behind}
-use Rattle.node_codec.proofs.EntryLemmas.{cut_goes_on, cut_done, cut_over, parts_front, parts_back}
-use Rattle.node_codec.proofs.entry_list.cut_entries.Goals as goal
+use Rattle.node_codec.proofs.EntryLemmas.{cut_goes_on, cut_done, cut_over, spelled}
+use Rattle.node_codec.proofs.entry_list.add_front.Goals as goal
 
 pub returns-then-left-eq0-clause-front : goal.returns-then-left-eq0-clause-front
 returns-then-left-eq0-clause-front c =
     let left = items_of plain_entry c.entries.rest.now in
-    parts_front c.args.count (items_of plain_entry c.args.entries.now) c.entries.front.items left (cut_done c.args.count (items_of plain_entry c.args.entries.now) c.entries.front.items c.entries.left left c.entries.invariant.2 c.if-left-eq0.true) c.parted.result c.parted.ensures.front
+    c.in_ok-try_add_u8.ensures ∙ (cut_done c.args.count (items_of plain_entry c.args.entries.now) c.entries.front.items c.entries.left left c.entries.invariant.2 c.if-left-eq0.true).front
 
 pub returns-then-left-eq0-clause-back : goal.returns-then-left-eq0-clause-back
 returns-then-left-eq0-clause-back c =
     let left = items_of plain_entry c.entries.rest.now in
-    parts_back c.args.count (items_of plain_entry c.args.entries.now) c.entries.front.items c.entries.rest.now left (cut_done c.args.count (items_of plain_entry c.args.entries.now) c.entries.front.items c.entries.left left c.entries.invariant.2 c.if-left-eq0.true)
-    (whole_list_is plain_entry plain_entry_exact c.entries.rest.now c.entries.invariant.0 c.entries.invariant.1) c.parted.result c.parted.ensures.back
+    whole_list_is plain_entry plain_entry_exact c.entries.rest.now c.entries.invariant.0 c.entries.invariant.1
+    ∙ ap spelled (cut_done c.args.count (items_of plain_entry c.args.entries.now) c.entries.front.items c.entries.left left c.entries.invariant.2 c.if-left-eq0.true).back
 
 pub entries-preserved : goal.entries-preserved
 entries-preserved c =
@@ -32,10 +32,10 @@ entries-preserved c =
 pub returns-clause-front : goal.returns-clause-front
 returns-clause-front c =
     let left = items_of plain_entry c.entries.rest.now in
-    parts_front c.args.count (items_of plain_entry c.args.entries.now) c.entries.front.items left (cut_over c.args.count (items_of plain_entry c.args.entries.now) c.entries.front.items c.entries.left left c.entries.invariant.2 c.in_default.ensures) c.parted-2.result c.parted-2.ensures.front
+    c.in_ok-try_add_u8-2.ensures ∙ (cut_over c.args.count (items_of plain_entry c.args.entries.now) c.entries.front.items c.entries.left left c.entries.invariant.2 c.in_default.ensures).front
 
 pub returns-clause-back : goal.returns-clause-back
 returns-clause-back c =
     let left = items_of plain_entry c.entries.rest.now in
-    parts_back c.args.count (items_of plain_entry c.args.entries.now) c.entries.front.items c.entries.rest.now left (cut_over c.args.count (items_of plain_entry c.args.entries.now) c.entries.front.items c.entries.left left c.entries.invariant.2 c.in_default.ensures)
-    (whole_list_is plain_entry plain_entry_exact c.entries.rest.now c.entries.invariant.0 c.entries.invariant.1) c.parted-2.result c.parted-2.ensures.back
+    whole_list_is plain_entry plain_entry_exact c.entries.rest.now c.entries.invariant.0 c.entries.invariant.1
+    ∙ ap spelled (cut_over c.args.count (items_of plain_entry c.args.entries.now) c.entries.front.items c.entries.left left c.entries.invariant.2 c.in_default.ensures).back

@@ -3,7 +3,7 @@ use Rattle.byte_format.specs.Whole.{IsBytes}
 use Rattle.node_codec.specs.Node.{plain_entry}
 use Rattle.node_codec.specs.Plain.{items_of, IsWholeList}
 use Rattle.node_codec.proofs.EntryLemmas.{IsCutAt}
-use Rattle.node_codec.proofs.entry_list.cut_entries.Given as goal
+use Rattle.node_codec.proofs.entry_list.add_front.Given as goal
 
 abbrev pub invariant-entries : goal.invariant-entries
 invariant-entries l = IsBytes l.rest × IsWholeList plain_entry l.rest × IsCutAt l.count (items_of plain_entry l.entries) l.front.items l.left (items_of plain_entry l.rest)

@@ -21,6 +21,13 @@ const MARK: u8 = 0x48;
 /// The byte of its format.
 const FORMAT: u8 = 1;
 
+// Bytes that make room for the fields of a head at once, for a counter, and for a pending entry whose key and payload are short.
+const HEAD_ROOM: usize = 32;
+
+const COUNTER_ROOM: usize = 18;
+
+const ENTRY_ROOM: usize = 48;
+
 /// The phase at the front of bytes, and the bytes behind it.
 fn phase_at(bytes: &[u8]) -> Result<(Phase, &[u8]), Stop>
     ensures { Gives (λ x. (x.0, x.1.now)) result (phase.reading bytes.now) }
@@ -93,6 +100,15 @@ fn add_head(out: &mut Vec<u8>, of: &Head) -> Result<(), AllocError>
     Ok(())
 }
 
+/// Room for most spellings of a head, so that its writer seldom asks for more.
+fn room_for(head: &Head) -> usize {
+    let counters = head.counters.as_slice().len();
+    let entries = head.pending.as_slice().len();
+    HEAD_ROOM
+        .saturating_add(counters.saturating_mul(COUNTER_ROOM))
+        .saturating_add(entries.saturating_mul(ENTRY_ROOM))
+}
+
 impl Head {
     /// The head that the bytes spell, all of them.
     pub fn read(alloc: Global, bytes: &[u8]) -> Result<Head, HeadFault>
@@ -120,7 +136,7 @@ impl Head {
         ensures decoded { IfOk result (λ b. head_of b ≡ Some self.now) }
         ensures memory { IfErr result (λ e. e ≡ HeadFault.Memory) }
     {
-        let mut out = Vec::new(alloc);
+        let mut out = Vec::with_capacity(alloc, room_for(self))?;
         add_head(&mut out, self)?;
         Ok(Blob::of(out))
     }

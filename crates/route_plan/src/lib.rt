@@ -10,3 +10,4 @@ pub mod queue;
 pub mod record;
 pub mod route;
 pub mod seen;
+mod slots;

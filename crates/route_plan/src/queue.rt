@@ -26,7 +26,11 @@ pub fn number_of_queue(counters: &[QueueCount], tree: TreeId, page: u64) -> u64
 }
 
 /// The last pending entry of a tree and key.
-fn last_pending<'a>(pending: &'a [Pending], tree: TreeId, key: &[u8]) -> Option<&'a Pending>
+pub(crate) fn last_pending<'a>(
+    pending: &'a [Pending],
+    tree: TreeId,
+    key: &[u8],
+) -> Option<&'a Pending>
     ensures { option_copied result ≡ last_pending pending.now tree key.now }
 {
     pending.iter().rev().find(|entry| entry.tree.get() == tree.get()

@@ -90,12 +90,12 @@ fn push(records: &mut Vec<AtomicRec>, next: AtomicRec) -> Result<(), Trouble>
     }
 }
 
-/// The pending entries of a head by key.
-fn index_of<'a>(alloc: Global, head: &'a Head) -> Result<PendingIndex<'a>, Trouble>
+/// The pending entries of a head by key, for so many searches.
+fn index_of<'a>(alloc: Global, head: &'a Head, searches: usize) -> Result<PendingIndex<'a>, Trouble>
     ensures ok { IfOk result (λ x. x ≡ head.now.pending) }
     ensures err { IfErr result (λ e. e ≡ Trouble.Memory) }
 {
-    match PendingIndex::of(alloc, head.pending.as_slice()) {
+    match PendingIndex::of(alloc, head.pending.as_slice(), searches) {
         Ok(index) => Ok(index),
         Err(_) => Err(Trouble::Memory),
     }
@@ -125,7 +125,7 @@ pub fn route(
         txn,
         count: changes.len() as u8,
     };
-    let index = index_of(alloc, head)?;
+    let index = index_of(alloc, head, changes.len())?;
     let mut records: Vec<AtomicRec> = Vec::new(alloc);
     while let Some(noted) = changes.at(records.len()) {
         let leaf = leaves[records.len()];

@@ -5,10 +5,10 @@ use Rattle.head_codec.proofs.head.Head.write.Goals as goal
 
 pub returns-clause-spelling : goal.returns-clause-spelling
 returns-clause-spelling c =
-    let same : c.of.result ≡ head_bytes c.args.self.now = c.of.ensures ∙ c.in_ok-add_head.ensures.spelling ∙ ap (λ (old : List ℕ). old ++ head_bytes c.args.self.now) c.new-out.ensures.items in
+    let same : c.of.result ≡ head_bytes c.args.self.now = c.of.ensures ∙ c.in_ok-add_head.ensures.spelling ∙ ap (λ (old : List ℕ). old ++ head_bytes c.args.self.now) c.in_ok-out.ensures.items in
     (c.in_ok-add_head.ensures.valid, head_spells c.args.self.now c.of.result c.requires c.in_ok-add_head.ensures.valid same)
 
 pub returns-clause-decoded : goal.returns-clause-decoded
 returns-clause-decoded c =
-    let same : c.of.result ≡ head_bytes c.args.self.now = c.of.ensures ∙ c.in_ok-add_head.ensures.spelling ∙ ap (λ (old : List ℕ). old ++ head_bytes c.args.self.now) c.new-out.ensures.items in
+    let same : c.of.result ≡ head_bytes c.args.self.now = c.of.ensures ∙ c.in_ok-add_head.ensures.spelling ∙ ap (λ (old : List ℕ). old ++ head_bytes c.args.self.now) c.in_ok-out.ensures.items in
     head_of-spelling c.of.result c.args.self.now (head_spells c.args.self.now c.of.result c.requires c.in_ok-add_head.ensures.valid same)

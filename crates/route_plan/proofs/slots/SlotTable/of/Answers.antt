@@ -3,7 +3,7 @@ use Rattle.std.specs.Prelude.{slice_index}
 use Rattle.std.proofs.lemmas.Grind.{common_steps}
 use Rattle.route_plan.specs.Index.{slot_of}
 use Rattle.route_plan.proofs.Indexes.{built-start, built-step, built-smaller, built-end}
-use Rattle.route_plan.proofs.index.PendingIndex.of.Goals as goal
+use Rattle.route_plan.proofs.slots.SlotTable.of.Goals as goal
 
 pub loop-entry-init : goal.loop-entry-init
 loop-entry-init c = built-start _ _ _ 4096 refl (c.in_ok-newest.ensures.items_if_clones_equal (λ y h. h)) c.new-before.ensures.items
@@ -19,5 +19,5 @@ pub loop-entry-smaller : goal.loop-entry-smaller
 loop-entry-smaller c =
     built-smaller _ _ _ _ c.in-Some.entry.now (c.len.ensures ∙ c.loop-entry.before.ok.0) c.in-Some.ensures c.in_ok-push.ensures.length
 
-pub invariant_of-result : goal.invariant_of-result
-invariant_of-result c = built-end _ _ _ _ c.loop-entry.invariant (c.len.ensures ∙ c.loop-entry.before.ok.0) c.in_default.ensures
+pub returns : goal.returns
+returns c = built-end _ _ _ _ c.loop-entry.invariant (c.len.ensures ∙ c.loop-entry.before.ok.0) c.in_default.ensures

@@ -1,6 +1,6 @@
 use Rattle.std.proofs.Common.{◌-◌, length}
 use Rattle.route_plan.proofs.Indexes.{IsBuilt}
-use Rattle.route_plan.proofs.index.PendingIndex.of.Given as goal
+use Rattle.route_plan.proofs.slots.SlotTable.of.Given as goal
 
 abbrev pub invariant-loop-entry : goal.invariant-loop-entry
 invariant-loop-entry l = IsBuilt l.pending l.newest.items l.before.items

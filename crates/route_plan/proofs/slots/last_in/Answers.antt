@@ -1,6 +1,6 @@
 use Rattle.std.proofs.Common.{sym, refl, ◌∙◌}
 use Rattle.route_plan.proofs.Indexes.{way-start, way-found, way-on, way-end}
-use Rattle.route_plan.proofs.index.last_in.Goals as goal
+use Rattle.route_plan.proofs.slots.last_in.Goals as goal
 
 pub loop-entry-init : goal.loop-entry-init
 loop-entry-init c = way-start _ _ _ _ _ c.slot_of-slot.result _ c.requires.index c.slot_of-slot.ensures.slot refl

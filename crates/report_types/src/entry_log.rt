@@ -5,7 +5,7 @@ use std::alloc::{AllocError, Global};
 use std::marker::Model;
 
 /// Entries in order, seen as the list of them.
-#[derive(Debug, Drop)]
+#[derive(Drop)]
 pub struct EntryLog {
     entries: Vec<Entry>,
 }

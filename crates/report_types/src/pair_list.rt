@@ -5,7 +5,7 @@ use std::alloc::{AllocError, Global};
 use std::marker::Model;
 
 /// Records in the order of their keys, seen as the list of them.
-#[derive(Debug, Drop)]
+#[derive(Drop)]
 pub struct PairList {
     pairs: Vec<Pair>,
 }

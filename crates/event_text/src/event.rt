@@ -2,7 +2,7 @@ use db_base::blob::Blob;
 use db_base::wish::Wish;
 
 /// What a line of a schedule says, before any check of range. Sessions, clients, trees and pages are as they were written.
-#[derive(Debug, Drop)]
+#[derive(Drop)]
 pub enum Event {
     /// Begins opening a session for a client.
     Open {

@@ -33,23 +33,28 @@ fn positions(alloc: Global, words: Parts<'_>) -> Result<Positions, TextFault>
     }
 }
 
+/// A wish behind whose first word nothing is left.
+#[tactic(auto, unfolding(crate::specs::Reading::alone))]
+fn wish_alone(wish: Wish, words: Parts<'_>) -> Result<Wish, TextFault>
+    ensures { Reads result (alone wish words.entry) }
+{
+    words.end()?;
+    Ok(wish)
+}
+
 /// The wish that a word begins.
-#[tactic(auto, unfolding(crate::specs::Reading::wish_by, crate::specs::Reading::alone))]
+#[tactic(auto, unfolding(crate::specs::Reading::wish_by))]
 fn wish_by(alloc: Global, kind: &[u8], words: Parts<'_>) -> Result<Wish, TextFault>
     ensures { Reads result (wish_by kind.now words.entry) }
 {
     if kind == b"plain".as_slice() {
-        words.end()?;
-        Ok(Wish::Plain)
+        wish_alone(Wish::Plain, words)
     } else if kind == b"fail".as_slice() {
-        words.end()?;
-        Ok(Wish::Fail)
+        wish_alone(Wish::Fail, words)
     } else if kind == b"lost".as_slice() {
-        words.end()?;
-        Ok(Wish::Lost)
+        wish_alone(Wish::Lost, words)
     } else if kind == b"hide".as_slice() {
-        words.end()?;
-        Ok(Wish::Hide)
+        wish_alone(Wish::Hide, words)
     } else if kind == b"old".as_slice() {
         Ok(Wish::Old(words.one_number()?))
     } else if kind == b"give".as_slice() {
@@ -86,8 +91,17 @@ fn done(words: Parts<'_>) -> Result<bool, TextFault>
     }
 }
 
+/// An event behind which nothing is left.
+#[tactic(auto, unfolding(crate::specs::Reading::alone))]
+fn alone(event: Event, words: Parts<'_>) -> Result<Event, TextFault>
+    ensures { Reads result (alone event words.entry) }
+{
+    words.end()?;
+    Ok(event)
+}
+
 /// The event of a session that a keyword begins.
-#[tactic(auto, unfolding(crate::specs::Reading::event_by, crate::specs::Reading::alone))]
+#[tactic(auto, unfolding(crate::specs::Reading::event_by))]
 fn event_by(
     alloc: Global,
     keyword: Keyword,
@@ -101,14 +115,8 @@ fn event_by(
             let client = words.one_number()?;
             Ok(Event::Open { session, client })
         }
-        Keyword::Close => {
-            words.end()?;
-            Ok(Event::Close { session })
-        }
-        Keyword::Renew => {
-            words.end()?;
-            Ok(Event::Renew { session })
-        }
+        Keyword::Close => alone(Event::Close { session }, words),
+        Keyword::Renew => alone(Event::Renew { session }, words),
         Keyword::Insert => {
             let (tree, key, payload) = words.record(alloc)?;
             Ok(Event::Insert {
@@ -131,14 +139,8 @@ fn event_by(
             let (tree, key) = words.place(alloc)?;
             Ok(Event::Delete { session, tree, key })
         }
-        Keyword::Commit => {
-            words.end()?;
-            Ok(Event::Commit { session })
-        }
-        Keyword::Abort => {
-            words.end()?;
-            Ok(Event::Abort { session })
-        }
+        Keyword::Commit => alone(Event::Commit { session }, words),
+        Keyword::Abort => alone(Event::Abort { session }, words),
         Keyword::Read => {
             let (tree, key) = words.place(alloc)?;
             Ok(Event::Read { session, tree, key })
@@ -168,10 +170,7 @@ fn event_by(
             let wish = wish(alloc, words)?;
             Ok(Event::Step { session, wish })
         }
-        Keyword::Run => {
-            words.end()?;
-            Ok(Event::Run { session })
-        }
+        Keyword::Run => alone(Event::Run { session }, words),
         Keyword::Crash => {
             let done = done(words)?;
             Ok(Event::Crash { session, done })
@@ -192,7 +191,7 @@ fn session_event(alloc: Global, keyword: Keyword, words: Parts<'_>) -> Result<Ev
 }
 
 /// The event of a line behind its keyword.
-#[tactic(auto, unfolding(crate::specs::Reading::event_behind, crate::specs::Reading::alone))]
+#[tactic(auto, unfolding(crate::specs::Reading::event_behind))]
 fn event_behind(alloc: Global, keyword: Keyword, words: Parts<'_>) -> Result<Event, TextFault>
     ensures { Reads result (event_behind keyword words.entry) }
 {
@@ -205,10 +204,7 @@ fn event_behind(alloc: Global, keyword: Keyword, words: Parts<'_>) -> Result<Eve
             let tree = words.one_number()?;
             Ok(Event::Report { tree })
         }
-        Keyword::Settle => {
-            words.end()?;
-            Ok(Event::Settle)
-        }
+        Keyword::Settle => alone(Event::Settle, words),
         other => session_event(alloc, other, words),
     }
 }

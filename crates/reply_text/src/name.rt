@@ -11,16 +11,14 @@ use std::alloc::{AllocError, Global};
 fn one_part(alloc: Global, kind: &str, number: u64) -> Result<String, AllocError>
     ensures { IfOk result (λ word. string_bytes word ≡ one_part kind.now number) }
 {
-    let word = format!(in alloc; "{kind}:{number}")?;
-    Ok(word)
+    format!(in alloc; "{kind}:{number}")
 }
 
 /// A kind and two numbers.
 fn two_parts(alloc: Global, kind: &str, first: u64, second: u64) -> Result<String, AllocError>
     ensures { IfOk result (λ word. string_bytes word ≡ two_parts kind.now first second) }
 {
-    let word = format!(in alloc; "{kind}:{first}:{second}")?;
-    Ok(word)
+    format!(in alloc; "{kind}:{first}:{second}")
 }
 
 /// What a lease locks, as a word: `client:C`, `tree:T`, `page:T:P`.
@@ -65,8 +63,7 @@ pub fn place_word(alloc: Global, place: &Place) -> Result<String, AllocError>
         Place::Message(queue, id) => {
             let queue = queue_word(alloc, queue)?;
             let position = id.get();
-            let word = format!(in alloc; "{queue}#{position}")?;
-            Ok(word)
+            format!(in alloc; "{queue}#{position}")
         }
     }
 }

@@ -6,7 +6,7 @@ use report_types::pair_list::PairList;
 use report_types::report::Report;
 
 /// What is answered to an event.
-#[derive(Debug, Drop)]
+#[derive(Drop)]
 pub enum Reply {
     /// An operation began and has a call in hand.
     Begun,

@@ -19,22 +19,27 @@ use std::alloc::{AllocError, Global};
 use words::bytes::hexadecimal;
 use words::fault::TextFault;
 
+/// A word alone.
+fn plain_text(alloc: Global, word: &str) -> Result<String, TextFault>
+    ensures ok { IfOk result (λ text. string_bytes text ≡ word.now) }
+    ensures memory { IfErr result (λ e. e ≡ TextFault.Memory) }
+{
+    Ok(String::from_str(alloc, word)?)
+}
+
 /// A kind and a number.
-fn number_text(alloc: Global, kind: &str, number: u64) -> Result<String, AllocError>
-    ensures { IfOk result (λ text. string_bytes text ≡ text_of 32 (kind.now ∷ decimal number ∷ [])) }
+fn number_text(alloc: Global, kind: &str, number: u64) -> Result<String, TextFault>
+    ensures ok { IfOk result (λ text. string_bytes text ≡ text_of 32 (kind.now ∷ decimal number ∷ [])) }
+    ensures memory { IfErr result (λ e. e ≡ TextFault.Memory) }
 {
     let text = format!(in alloc; "{kind} {number}")?;
     Ok(text)
 }
 
 /// A kind and two numbers.
-fn two_numbers_text(
-    alloc: Global,
-    kind: &str,
-    first: u64,
-    second: u64,
-) -> Result<String, AllocError>
-    ensures { IfOk result (λ text. string_bytes text ≡ text_of 32 (kind.now ∷ decimal first ∷ decimal second ∷ [])) }
+fn two_numbers_text(alloc: Global, kind: &str, first: u64, second: u64) -> Result<String, TextFault>
+    ensures ok { IfOk result (λ text. string_bytes text ≡ text_of 32 (kind.now ∷ decimal first ∷ decimal second ∷ [])) }
+    ensures memory { IfErr result (λ e. e ≡ TextFault.Memory) }
 {
     let text = format!(in alloc; "{kind} {first} {second}")?;
     Ok(text)
@@ -47,24 +52,27 @@ fn three_numbers_text(
     first: u64,
     second: u64,
     third: u64,
-) -> Result<String, AllocError>
-    ensures { IfOk result (λ text. string_bytes text ≡ text_of 32 (kind.now ∷ decimal first ∷ decimal second ∷ decimal third ∷ [])) }
+) -> Result<String, TextFault>
+    ensures ok { IfOk result (λ text. string_bytes text ≡ text_of 32 (kind.now ∷ decimal first ∷ decimal second ∷ decimal third ∷ [])) }
+    ensures memory { IfErr result (λ e. e ≡ TextFault.Memory) }
 {
     let text = format!(in alloc; "{kind} {first} {second} {third}")?;
     Ok(text)
 }
 
 /// A kind and a word.
-fn word_text(alloc: Global, kind: &str, word: &str) -> Result<String, AllocError>
-    ensures { IfOk result (λ text. string_bytes text ≡ text_of 32 (kind.now ∷ word.now ∷ [])) }
+fn word_text(alloc: Global, kind: &str, word: &str) -> Result<String, TextFault>
+    ensures ok { IfOk result (λ text. string_bytes text ≡ text_of 32 (kind.now ∷ word.now ∷ [])) }
+    ensures memory { IfErr result (λ e. e ≡ TextFault.Memory) }
 {
     let text = format!(in alloc; "{kind} {word}")?;
     Ok(text)
 }
 
 /// A kind, a word and a number.
-fn place_text(alloc: Global, kind: &str, word: &str, number: u64) -> Result<String, AllocError>
-    ensures { IfOk result (λ text. string_bytes text ≡ text_of 32 (kind.now ∷ word.now ∷ decimal number ∷ [])) }
+fn place_text(alloc: Global, kind: &str, word: &str, number: u64) -> Result<String, TextFault>
+    ensures ok { IfOk result (λ text. string_bytes text ≡ text_of 32 (kind.now ∷ word.now ∷ decimal number ∷ [])) }
+    ensures memory { IfErr result (λ e. e ≡ TextFault.Memory) }
 {
     let text = format!(in alloc; "{kind} {word} {number}")?;
     Ok(text)
@@ -75,8 +83,7 @@ fn bytes_text(alloc: Global, kind: &str, bytes: &[u8]) -> Result<String, AllocEr
     ensures { IfOk result (λ text. string_bytes text ≡ text_of 32 (kind.now ∷ hexadecimal bytes.now ∷ [])) }
 {
     let word = hexadecimal(alloc, bytes)?;
-    let text = format!(in alloc; "{kind} {word}")?;
-    Ok(text)
+    format!(in alloc; "{kind} {word}")
 }
 
 /// A kind, a key and a payload.
@@ -85,13 +92,13 @@ fn record_text(alloc: Global, kind: &str, key: &[u8], payload: &[u8]) -> Result<
 {
     let key = hexadecimal(alloc, key)?;
     let payload = hexadecimal(alloc, payload)?;
-    let text = format!(in alloc; "{kind} {key} {payload}")?;
-    Ok(text)
+    format!(in alloc; "{kind} {key} {payload}")
 }
 
 /// A low key that differs from what led to it.
-fn fence_text(alloc: Global, page: u64, expected: &Blob, found: &Blob) -> Result<String, AllocError>
-    ensures { IfOk result (λ text. string_bytes text ≡ text_of 32 (codes "bad-fence" ∷ decimal page ∷ hexadecimal expected.now ∷ hexadecimal found.now ∷ [])) }
+fn fence_text(alloc: Global, page: u64, expected: &Blob, found: &Blob) -> Result<String, TextFault>
+    ensures ok { IfOk result (λ text. string_bytes text ≡ text_of 32 (codes "bad-fence" ∷ decimal page ∷ hexadecimal expected.now ∷ hexadecimal found.now ∷ [])) }
+    ensures memory { IfErr result (λ e. e ≡ TextFault.Memory) }
 {
     let expected = hexadecimal(alloc, expected.as_slice())?;
     let found = hexadecimal(alloc, found.as_slice())?;
@@ -131,8 +138,9 @@ pub fn counter_word(counter: Counter) -> &'static str
 }
 
 /// A rule's number and word.
-fn refused_text(alloc: Global, refusal: Refusal) -> Result<String, AllocError>
-    ensures { IfOk result (λ text. string_bytes text ≡ text_of 32 (codes "refused" ∷ decimal (number_of_refusal refusal) ∷ refusal_word refusal ∷ [])) }
+fn refused_text(alloc: Global, refusal: Refusal) -> Result<String, TextFault>
+    ensures ok { IfOk result (λ text. string_bytes text ≡ text_of 32 (codes "refused" ∷ decimal (number_of_refusal refusal) ∷ refusal_word refusal ∷ [])) }
+    ensures memory { IfErr result (λ e. e ≡ TextFault.Memory) }
 {
     let number = refusal.number();
     let word = refusal_word(refusal);
@@ -147,33 +155,33 @@ pub fn trouble_text(alloc: Global, trouble: &Trouble) -> Result<String, TextFaul
     ensures memory { IfErr result (λ e. e ≡ TextFault.Memory) }
 {
     match trouble {
-        Trouble::Failed => Ok(String::from_str(alloc, "failed")?),
-        Trouble::Late { end, now } => Ok(two_numbers_text(alloc, "late", *end, *now)?),
+        Trouble::Failed => plain_text(alloc, "failed"),
+        Trouble::Late { end, now } => two_numbers_text(alloc, "late", *end, *now),
         Trouble::Busy { lock, until } => {
             let word = lock_word(alloc, lock)?;
-            Ok(place_text(alloc, "busy", word.as_str(), *until)?)
+            place_text(alloc, "busy", word.as_str(), *until)
         }
-        Trouble::Waiting { have, need } => Ok(two_numbers_text(alloc, "waiting", *have, *need)?),
-        Trouble::Stale { page, least, got } => Ok(three_numbers_text(
+        Trouble::Waiting { have, need } => two_numbers_text(alloc, "waiting", *have, *need),
+        Trouble::Stale { page, least, got } => three_numbers_text(
             alloc,
             "stale",
             page.get(),
             *least,
             *got,
-        )?),
-        Trouble::Absent { page } => Ok(number_text(alloc, "absent", page.get())?),
-        Trouble::NotALeaf { page } => Ok(number_text(alloc, "not-leaf", page.get())?),
+        ),
+        Trouble::Absent { page } => number_text(alloc, "absent", page.get()),
+        Trouble::NotALeaf { page } => number_text(alloc, "not-leaf", page.get()),
         Trouble::Damaged { place, offset } => {
             let word = place_word(alloc, place)?;
-            Ok(place_text(alloc, "damaged", word.as_str(), *offset)?)
+            place_text(alloc, "damaged", word.as_str(), *offset)
         }
         Trouble::BadFence {
             page,
             expected,
             found,
-        } => Ok(fence_text(alloc, page.get(), expected, found)?),
-        Trouble::Loop { page } => Ok(number_text(alloc, "loop", page.get())?),
-        Trouble::Exhausted { what } => Ok(word_text(alloc, "exhausted", counter_word(*what))?),
+        } => fence_text(alloc, page.get(), expected, found),
+        Trouble::Loop { page } => number_text(alloc, "loop", page.get()),
+        Trouble::Exhausted { what } => word_text(alloc, "exhausted", counter_word(*what)),
         Trouble::Memory => Err(TextFault::Memory),
     }
 }
@@ -197,9 +205,9 @@ fn commit_text(alloc: Global, answer: &CommitAnswer) -> Result<String, TextFault
     ensures memory { IfErr result (λ e. e ≡ TextFault.Memory) }
 {
     match answer {
-        CommitAnswer::Committed { txn } => Ok(number_text(alloc, "committed", *txn)?),
+        CommitAnswer::Committed { txn } => number_text(alloc, "committed", *txn),
         CommitAnswer::NotCommitted(trouble) => stopped_text(alloc, "not-committed", trouble),
-        CommitAnswer::InDoubt => Ok(String::from_str(alloc, "in-doubt")?),
+        CommitAnswer::InDoubt => plain_text(alloc, "in-doubt"),
         CommitAnswer::CommittedOpen(trouble) => stopped_text(alloc, "committed-open", trouble),
     }
 }
@@ -210,8 +218,7 @@ fn pair_word(alloc: Global, pair: &Pair) -> Result<String, AllocError>
 {
     let key = hexadecimal(alloc, pair.key.as_slice())?;
     let payload = hexadecimal(alloc, pair.payload.as_slice())?;
-    let text = format!(in alloc; "{key}={payload}")?;
-    Ok(text)
+    format!(in alloc; "{key}={payload}")
 }
 
 /// A record as a line.
@@ -220,8 +227,7 @@ fn pair_text(alloc: Global, pair: &Pair) -> Result<String, AllocError>
 {
     let key = hexadecimal(alloc, pair.key.as_slice())?;
     let payload = hexadecimal(alloc, pair.payload.as_slice())?;
-    let text = format!(in alloc; "{key} {payload}")?;
-    Ok(text)
+    format!(in alloc; "{key} {payload}")
 }
 
 /// A change.
@@ -254,8 +260,7 @@ fn entry_text(alloc: Global, entry: &Entry) -> Result<String, AllocError>
     let client = entry.client.get();
     let epoch = entry.epoch;
     let txn = entry.txn;
-    let text = format!(in alloc; "{client} {epoch} {txn} {change}")?;
-    Ok(text)
+    format!(in alloc; "{client} {epoch} {txn} {change}")
 }
 
 /// Adds a text with a separator before it.
@@ -307,17 +312,20 @@ fn add_entries(alloc: Global, text: &mut String, entries: &[Entry]) -> Result<()
 }
 
 /// Adds the line of a list's name and length behind a line feed.
-fn add_count(alloc: Global, text: &mut String, name: &str, count: usize) -> Result<(), AllocError>
-    ensures { OnOk result (string_bytes text.new ≡ string_bytes text.old ++ (10 ∷ text_of 32 (name.now ∷ decimal count ∷ []))) }
+fn add_count(alloc: Global, text: &mut String, name: &str, count: usize) -> Result<(), TextFault>
+    ensures ok { OnOk result (string_bytes text.new ≡ string_bytes text.old ++ (10 ∷ text_of 32 (name.now ∷ decimal count ∷ []))) }
+    ensures memory { IfErr result (λ e. e ≡ TextFault.Memory) }
 {
     let count = count as u64;
     let line = number_text(alloc, name, count)?;
-    add_text(text, "\n", line.as_str())
+    add_text(text, "\n", line.as_str())?;
+    Ok(())
 }
 
 /// The lines of a report.
-fn report_text(alloc: Global, report: &Report) -> Result<String, AllocError>
-    ensures { IfOk result (λ text. string_bytes text ≡ text_of 10 (map (text_of 32) (report_lines report.now))) }
+fn report_text(alloc: Global, report: &Report) -> Result<String, TextFault>
+    ensures ok { IfOk result (λ text. string_bytes text ≡ text_of 10 (map (text_of 32) (report_lines report.now))) }
+    ensures memory { IfErr result (λ e. e ≡ TextFault.Memory) }
 {
     let mut text = number_text(alloc, "report", report.tree.get())?;
     add_count(alloc, &mut text, "committed", report.committed.len())?;
@@ -333,8 +341,9 @@ fn report_text(alloc: Global, report: &Report) -> Result<String, AllocError>
 
 /// The records of a scan.
 #[tactic(auto, using(crate::proofs::Texts::text_of_scan))]
-fn scan_text(alloc: Global, pairs: &[Pair]) -> Result<String, AllocError>
-    ensures { IfOk result (λ text. string_bytes text ≡ text_of 32 (codes "scan" ∷ decimal (length pairs.now) ∷ map pair_word pairs.now)) }
+fn scan_text(alloc: Global, pairs: &[Pair]) -> Result<String, TextFault>
+    ensures ok { IfOk result (λ text. string_bytes text ≡ text_of 32 (codes "scan" ∷ decimal (length pairs.now) ∷ map pair_word pairs.now)) }
+    ensures memory { IfErr result (λ e. e ≡ TextFault.Memory) }
 {
     let count = pairs.len() as u64;
     let mut text = number_text(alloc, "scan", count)?;
@@ -350,31 +359,31 @@ impl Reply {
         ensures memory { IfErr result (λ e. e ≡ TextFault.Memory) }
     {
         match self {
-            Reply::Begun => Ok(String::from_str(alloc, "begun")?),
-            Reply::Called => Ok(String::from_str(alloc, "called")?),
-            Reply::Noted => Ok(String::from_str(alloc, "noted")?),
-            Reply::Aborted => Ok(String::from_str(alloc, "aborted")?),
-            Reply::Crashed => Ok(String::from_str(alloc, "crashed")?),
-            Reply::Waited => Ok(String::from_str(alloc, "waited")?),
-            Reply::Refused(refusal) => Ok(refused_text(alloc, *refusal)?),
-            Reply::Opened { epoch } => Ok(number_text(alloc, "opened", *epoch)?),
-            Reply::Closed => Ok(String::from_str(alloc, "closed")?),
-            Reply::Renewed { end } => Ok(number_text(alloc, "renewed", *end)?),
+            Reply::Begun => plain_text(alloc, "begun"),
+            Reply::Called => plain_text(alloc, "called"),
+            Reply::Noted => plain_text(alloc, "noted"),
+            Reply::Aborted => plain_text(alloc, "aborted"),
+            Reply::Crashed => plain_text(alloc, "crashed"),
+            Reply::Waited => plain_text(alloc, "waited"),
+            Reply::Refused(refusal) => refused_text(alloc, *refusal),
+            Reply::Opened { epoch } => number_text(alloc, "opened", *epoch),
+            Reply::Closed => plain_text(alloc, "closed"),
+            Reply::Renewed { end } => number_text(alloc, "renewed", *end),
             Reply::Commit(answer) => commit_text(alloc, answer),
-            Reply::Done(answer) => Ok(three_numbers_text(
+            Reply::Done(answer) => three_numbers_text(
                 alloc,
                 "done",
                 answer.applied,
                 answer.deleted,
                 answer.left,
-            )?),
+            ),
             Reply::Value(payload) => Ok(bytes_text(alloc, "value", payload.as_slice())?),
-            Reply::NoValue => Ok(String::from_str(alloc, "none")?),
-            Reply::Scan(pairs) => Ok(scan_text(alloc, pairs.as_slice())?),
-            Reply::Settled { calls } => Ok(number_text(alloc, "settled", *calls)?),
+            Reply::NoValue => plain_text(alloc, "none"),
+            Reply::Scan(pairs) => scan_text(alloc, pairs.as_slice()),
+            Reply::Settled { calls } => number_text(alloc, "settled", *calls),
             Reply::NotSettled(trouble) => stopped_text(alloc, "not-settled", trouble),
             Reply::Trouble(trouble) => trouble_text(alloc, trouble),
-            Reply::Report(report) => Ok(report_text(alloc, report)?),
+            Reply::Report(report) => report_text(alloc, report),
         }
     }
 

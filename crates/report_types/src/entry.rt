@@ -2,7 +2,7 @@ use db_base::change::Change;
 use db_base::ids::{ClientId, TreeId};
 
 /// A change that a transaction committed, or that was applied to a page.
-#[derive(Debug, Drop)]
+#[derive(Drop)]
 pub struct Entry {
     /// The client that committed it.
     pub client: ClientId,

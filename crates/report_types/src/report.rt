@@ -3,7 +3,7 @@ use crate::pair_list::PairList;
 use db_base::ids::TreeId;
 
 /// What is committed, applied and left in a tree.
-#[derive(Debug, Drop)]
+#[derive(Drop)]
 pub struct Report {
     /// The tree.
     pub tree: TreeId,

@@ -26,7 +26,7 @@ use std::marker::Model;
 use txn_buffer::buffer::TxnBuffer;
 
 /// What was seen to commit, in the order of commit, and to be applied, in the order of application.
-#[derive(Debug, Drop)]
+#[derive(Drop)]
 pub struct Audit {
     committed: EntryLog,
     order: EntryLog,

@@ -2,13 +2,19 @@
 #![tactic(auto)]
 
 #[cfg(test)]
+mod machine;
+#[cfg(test)]
 mod objects;
 #[cfg(test)]
 mod page_cache_tests;
 #[cfg(test)]
 mod record_read_tests;
 #[cfg(test)]
+mod script;
+#[cfg(test)]
 mod session;
+#[cfg(test)]
+mod store;
 #[cfg(test)]
 mod story;
 #[cfg(test)]

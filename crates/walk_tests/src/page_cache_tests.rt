@@ -1,56 +1,70 @@
 use crate::objects::{LEAF, NODE_7, ROOT};
-use crate::session::object;
+use crate::store::object;
 use crate::story::Story;
 use db_base::blob::Blob;
-use db_base::ids::TreeId;
 use page_cache::PageCache;
 use std::alloc::Global;
 use std::test::Fail;
 
-/// A cache that takes answers.
-#[derive(Drop)]
-struct Taking {
-    alloc: Global,
-    tree: TreeId,
-    cache: PageCache,
-    story: Story,
+/// What is done with a cache.
+#[derive(Clone, Copy)]
+enum Step<'a> {
+    /// It takes the answer of a get of an object by its number, 0 for the tree object, which is asked for as a leaf or not.
+    Takes(u64, Option<&'a [u8]>, bool),
+    /// It takes a leaf of a page and a version from 1 to 255; an absent one for 0.
+    TakesLeaf(u64, u8),
+    /// It takes leaves of version 2 of the pages from 1 to this one.
+    TakesLeavesTo(u64),
+    /// It forgets all.
+    Clears,
+    /// How many objects it keeps.
+    Counts,
+    /// Whether it keeps a page.
+    Looks(u64),
 }
 
-impl Taking {
-    fn new(alloc: Global) -> Result<Taking, Fail> {
-        Ok(Taking {
-            alloc,
-            tree: TreeId::new(1)?,
-            cache: PageCache::new(alloc)?,
-            story: Story::new(alloc),
-        })
-    }
-
+/// A cache.
+trait Taking {
     /// Takes an answer of a get, and tells the version or the trouble.
-    fn accept(&mut self, number: u64, got: Option<Blob>, leaf: bool) -> Result<(), Fail> {
-        let name = object(self.tree, number)?;
-        match self.cache.accept(name, got, leaf) {
-            Ok(version) => self.story.number("version", version),
-            Err(trouble) => self.story.trouble(&trouble),
+    fn take_answer(
+        &mut self,
+        number: u64,
+        got: Option<Blob>,
+        leaf: bool,
+        story: &mut Story,
+    ) -> Result<(), Fail>;
+
+    fn forget(&mut self);
+
+    fn count(&self) -> usize;
+
+    fn keeps(&self, page: u64) -> Result<bool, Fail>;
+}
+
+impl Taking for PageCache {
+    fn take_answer(
+        &mut self,
+        number: u64,
+        got: Option<Blob>,
+        leaf: bool,
+        story: &mut Story,
+    ) -> Result<(), Fail> {
+        match self.accept(object(number)?, got, leaf) {
+            Ok(version) => story.number("version", version),
+            Err(trouble) => story.trouble(&trouble),
         }
     }
 
-    /// Takes bytes.
-    fn accept_bytes(&mut self, number: u64, bytes: &[u8], leaf: bool) -> Result<(), Fail> {
-        let bytes = Blob::copy_of(self.alloc, bytes)?;
-        self.accept(number, Some(bytes), leaf)
+    fn forget(&mut self) {
+        self.clear();
     }
 
-    /// Takes a leaf of a version from 1 to 255; an absent one for 0.
-    fn accept_leaf(&mut self, page: u64, version: u8) -> Result<(), Fail> {
-        if version == 0 {
-            return self.accept(page, None, true);
-        }
-        self.accept_bytes(page, &leaf(version), true)
+    fn count(&self) -> usize {
+        self.len()
     }
 
-    fn is_kept(&self, number: u64) -> Result<bool, Fail> {
-        Ok(self.cache.kept(object(self.tree, number)?))
+    fn keeps(&self, page: u64) -> Result<bool, Fail> {
+        Ok(self.kept(object(page)?))
     }
 }
 
@@ -61,18 +75,103 @@ fn leaf(version: u8) -> [u8; 21] {
     ]
 }
 
-/// Pages with the versions of leaves that are taken in turn, 0 for an absent one.
-const LEAVES: [(u64, u8); 8] = [
+/// A cache takes bytes, or none.
+fn take<T: Taking>(
+    cache: &mut T,
+    alloc: Global,
+    number: u64,
+    bytes: Option<&[u8]>,
+    leaf: bool,
+    story: &mut Story,
+) -> Result<(), Fail> {
+    let got = match bytes {
+        Some(bytes) => Some(Blob::copy_of(alloc, bytes)?),
+        None => None,
+    };
+    cache.take_answer(number, got, leaf, story)
+}
+
+fn take_leaf<T: Taking>(
+    cache: &mut T,
+    alloc: Global,
+    page: u64,
+    version: u8,
+    story: &mut Story,
+) -> Result<(), Fail> {
+    if version == 0 {
+        return take(cache, alloc, page, None, true, story);
+    }
+    take(cache, alloc, page, Some(&leaf(version)), true, story)
+}
+
+/// Takes leaves, of which nothing is told.
+fn take_leaves<T: Taking>(cache: &mut T, alloc: Global, last: u64) -> Result<(), Fail> {
+    let mut untold = Story::new(alloc);
+    for page in 1..=last {
+        take_leaf(cache, alloc, page, 2, &mut untold)?;
+    }
+    Ok(())
+}
+
+fn tell_kept<T: Taking>(cache: &T, page: u64, story: &mut Story) -> Result<(), Fail> {
+    if cache.keeps(page)? {
+        story.number("kept", page)
+    } else {
+        story.number("gone", page)
+    }
+}
+
+/// What is done, and what is told of it.
+fn play_step<T: Taking>(
+    cache: &mut T,
+    alloc: Global,
+    step: Step<'_>,
+    story: &mut Story,
+) -> Result<(), Fail> {
+    match step {
+        Step::Takes(number, bytes, leaf) => take(cache, alloc, number, bytes, leaf, story),
+        Step::TakesLeaf(page, version) => take_leaf(cache, alloc, page, version, story),
+        Step::TakesLeavesTo(last) => take_leaves(cache, alloc, last),
+        Step::Clears => {
+            cache.forget();
+            Ok(())
+        }
+        Step::Counts => story.number("objects", cache.count() as u64),
+        Step::Looks(page) => tell_kept(cache, page, story),
+    }
+}
+
+fn play_all<T: Taking>(
+    alloc: Global,
+    cache: &mut T,
+    script: &[Step<'_>],
+    wanted: &str,
+) -> Result<(), Fail> {
+    let mut story = Story::new(alloc);
+    for step in script {
+        play_step(cache, alloc, *step, &mut story)?;
+    }
+    story.is(wanted)
+}
+
+/// Plays a script over an empty cache, and compares what is told.
+fn play(alloc: Global, script: &[Step<'_>], wanted: &str) -> Result<(), Fail> {
+    let mut cache = PageCache::new(alloc)?;
+    play_all(alloc, &mut cache, script, wanted)
+}
+
+/// Leaves that are taken in turn.
+const LEAVES: &[Step<'static>] = &[
     // nothing was served yet: page 1 may be absent, no other leaf may
-    (1, 0),
-    (2, 0),
-    (2, 3),
+    Step::TakesLeaf(1, 0),
+    Step::TakesLeaf(2, 0),
+    Step::TakesLeaf(2, 3),
     // from then on no older version, and not none
-    (2, 2),
-    (2, 0),
-    (2, 3),
-    (1, 1),
-    (1, 0),
+    Step::TakesLeaf(2, 2),
+    Step::TakesLeaf(2, 0),
+    Step::TakesLeaf(2, 3),
+    Step::TakesLeaf(1, 1),
+    Step::TakesLeaf(1, 0),
 ];
 
 /// The answers.
@@ -88,24 +187,22 @@ stale 1 1 0
 
 #[test]
 fn refuses_stale_leaves(rt: HostRuntime) -> Result<(), Fail> {
-    let mut taking = Taking::new(rt.alloc())?;
-    for (page, version) in LEAVES {
-        taking.accept_leaf(page, version)?;
-    }
-    assert_eq!(rt; taking.story.as_str(), SERVED);
-    Ok(())
+    play(rt.alloc(), LEAVES, SERVED)
 }
 
-/// Bytes of objects, and whether each is asked for as a leaf.
-const BYTES: [(u64, &[u8], bool); 5] = [
-    (0, ROOT, false),
-    (7, NODE_7, false),
-    (2, b"L\x02", true),
-    (2, LEAF, false),
-    (0, LEAF, false),
+/// Bytes of objects, and an absent root and an absent inner node, of which no version is kept in mind.
+const BYTES: &[Step<'static>] = &[
+    Step::Takes(0, Some(ROOT), false),
+    Step::Takes(7, Some(NODE_7), false),
+    Step::Takes(2, Some(b"L\x02"), true),
+    Step::Takes(2, Some(LEAF), false),
+    Step::Takes(0, Some(LEAF), false),
+    Step::Takes(0, None, false),
+    Step::Takes(7, None, false),
+    Step::Counts,
 ];
 
-/// The answers, and those to an absent root and an absent inner node, of which no version is kept in mind.
+/// The answers.
 const READ: &str = "version 1
 version 1
 damaged page:1:2 1
@@ -113,60 +210,47 @@ damaged page:1:2 0
 damaged tree:1 0
 version 0
 stale 7 1 0
+objects 2
 ";
 
 #[test]
 fn reads_each_as_its_kind(rt: HostRuntime) -> Result<(), Fail> {
-    let mut taking = Taking::new(rt.alloc())?;
-    for (number, bytes, leaf) in BYTES {
-        taking.accept_bytes(number, bytes, leaf)?;
-    }
-    taking.accept(0, None, false)?;
-    taking.accept(7, None, false)?;
-    assert_eq!(rt; taking.story.as_str(), READ);
-    assert_eq!(rt; taking.cache.len(), 2);
-    Ok(())
+    play(rt.alloc(), BYTES, READ)
 }
 
-/// A cache that took the pages 1 to 65, then page 2 again, then page 66, all at version 2.
-fn filled(alloc: Global) -> Result<Taking, Fail> {
-    let mut taking = Taking::new(alloc)?;
-    for page in 1..=65u64 {
-        taking.accept_leaf(page, 2)?;
-    }
-    taking.accept_leaf(2, 2)?;
-    taking.accept_leaf(66, 2)?;
-    Ok(taking)
-}
-
-/// Whether pages are kept then: of 65 the one that was taken longest ago went, twice.
-const KEPT: [(u64, bool); 6] = [
-    (1, false),
-    (2, true),
-    (3, false),
-    (4, true),
-    (65, true),
-    (66, true),
+/// The pages 1 to 65, then page 2 again, then page 66: of 65 the one that was taken longest ago goes, twice.
+const MANY: &[Step<'static>] = &[
+    Step::TakesLeavesTo(65),
+    Step::TakesLeaf(2, 2),
+    Step::TakesLeaf(66, 2),
+    Step::Counts,
+    Step::Looks(1),
+    Step::Looks(2),
+    Step::Looks(3),
+    Step::Looks(4),
+    Step::Looks(65),
+    Step::Looks(66),
+    // page 1 at version 1 behind version 2, which is no longer kept, and again once the cache is cleared
+    Step::TakesLeaf(1, 1),
+    Step::Clears,
+    Step::TakesLeaf(1, 1),
 ];
 
-#[test]
-fn keeps_64_objects(rt: HostRuntime) -> Result<(), Fail> {
-    let taking = filled(rt.alloc())?;
-    assert_eq!(rt; taking.cache.len(), 64);
-    for (page, wanted) in KEPT {
-        assert_eq!(rt; taking.is_kept(page)?, wanted, "page {page}");
-    }
-    Ok(())
-}
+/// What is told of them.
+const KEPT: &str = "version 2
+version 2
+objects 64
+gone 1
+kept 2
+gone 3
+kept 4
+kept 65
+kept 66
+stale 1 2 1
+version 1
+";
 
-/// Page 1 at version 1 behind version 2, which is no longer kept, and again once the cache is cleared.
 #[test]
-fn keeps_the_versions_of_what_went(rt: HostRuntime) -> Result<(), Fail> {
-    let mut taking = filled(rt.alloc())?;
-    taking.story = Story::new(rt.alloc());
-    taking.accept_leaf(1, 1)?;
-    taking.cache.clear();
-    taking.accept_leaf(1, 1)?;
-    assert_eq!(rt; taking.story.as_str(), "stale 1 2 1\nversion 1\n");
-    Ok(())
+fn keeps_64_objects_and_the_versions_of_what_went(rt: HostRuntime) -> Result<(), Fail> {
+    play(rt.alloc(), MANY, KEPT)
 }

@@ -1,9 +1,20 @@
 use crate::objects::HEAD;
-use crate::session::Session;
+use crate::script::Step;
+use crate::session::{THREE_LEVELS, play};
 use std::test::Fail;
 
 /// Reads of n, which leaf 3 has; of m, which it lacks; of p, of which the head has an insert of w pending; and of p again, once an
 /// insert of a is noted.
+const READS: &[Step<'static>] = &[
+    Step::HasHead(HEAD),
+    Step::Reads(b"n"),
+    Step::Reads(b"m"),
+    Step::Reads(b"p"),
+    Step::Notes(b"p", b"a"),
+    Step::Reads(b"p"),
+];
+
+/// What they tell.
 const VALUES: &str = "get tree:1
 get page:1:8
 get page:1:3
@@ -22,13 +33,5 @@ leaf 3
 
 #[test]
 fn reads_what_its_client_sees(rt: HostRuntime) -> Result<(), Fail> {
-    let mut session = Session::over_three_levels(rt.alloc())?;
-    session.has_head(HEAD)?;
-    session.read(b"n")?;
-    session.read(b"m")?;
-    session.read(b"p")?;
-    session.note(b"p", b"a")?;
-    session.read(b"p")?;
-    assert_eq!(rt; session.story.as_str(), VALUES);
-    Ok(())
+    play(rt.alloc(), THREE_LEVELS, READS, VALUES)
 }

@@ -1,17 +1,14 @@
 //! A session of client 1 that reads tree 1 of a cloud in memory.
 
+use crate::machine::run;
 use crate::objects::{LEAF_1, LEAF_2, LEAF_3, LEAF_4, NODE_7, NODE_8, ROOT};
+use crate::script::{Reader, Step, play_all};
+use crate::store::{put, tree};
 use crate::story::Story;
 use cloud_trait::cloud::{Bench, Cloud};
-use cloud_trait::grant::Grant;
-use cloud_trait::lease::Lease;
-use cloud_trait::turn::Turn;
-use cloud_trait::who::Who;
 use db_base::change::Change;
-use db_base::ids::{ClientId, PageId, SessionNo, TreeId};
+use db_base::ids::ClientId;
 use db_base::key::{Key, Payload};
-use db_base::names::{Lock, ObjName};
-use db_base::wish::Wish;
 use head_codec::head::Head;
 use memory_cloud::memory::MemoryCloud;
 use page_cache::PageCache;
@@ -21,21 +18,26 @@ use std::test::Fail;
 use tree_walk::Walk;
 use txn_buffer::buffer::TxnBuffer;
 
+/// What a session reads with.
 #[derive(Drop)]
-pub(crate) struct Session {
+struct Session {
     alloc: Global,
-    who: Who,
-    client: ClientId,
-    tree: TreeId,
-    cloud: MemoryCloud,
     cache: PageCache,
-    head: Head,
-    buffer: TxnBuffer,
-    pub(crate) story: Story,
+    own: Own,
 }
 
+/// What a client has of its own.
+#[derive(Drop)]
+struct Own {
+    head: Head,
+    buffer: TxnBuffer,
+}
+
+/// Objects of a tree by their numbers.
+pub(crate) type Objects<'a> = &'a [(u64, &'a [u8])];
+
 /// A tree of three levels: inner nodes 7 and 8, and below them leaves 1, 2, 3 and 4 that begin with the empty key, g, m and t.
-const THREE_LEVELS: [(u64, &[u8]); 7] = [
+pub(crate) const THREE_LEVELS: Objects<'static> = &[
     (0, ROOT),
     (7, NODE_7),
     (8, NODE_8),
@@ -45,136 +47,109 @@ const THREE_LEVELS: [(u64, &[u8]); 7] = [
     (4, LEAF_4),
 ];
 
-/// An object of a tree by its number: 0 for the tree object, else a page.
-pub(crate) fn object(tree: TreeId, number: u64) -> Result<ObjName, Fail> {
-    if number == 0 {
-        return Ok(ObjName::Tree(tree));
-    }
-    Ok(ObjName::Page(tree, PageId::new(number)?))
+/// Plays a script over a cloud with these objects, and compares what is told.
+pub(crate) fn play(
+    alloc: Global,
+    objects: Objects<'_>,
+    script: &[Step<'_>],
+    wanted: &str,
+) -> Result<(), Fail> {
+    let mut story = Story::new(alloc);
+    let mut cloud = MemoryCloud::new(alloc);
+    play_over(alloc, &mut cloud, &mut story, objects, script)?;
+    story.is(wanted)
 }
 
-/// A key, none of no byte.
-fn key(alloc: Global, bytes: &[u8]) -> Result<Option<Key>, Fail> {
-    if bytes.is_empty() {
-        return Ok(None);
+fn play_over<C: Bench>(
+    alloc: Global,
+    cloud: &mut C,
+    story: &mut Story,
+    objects: Objects<'_>,
+    script: &[Step<'_>],
+) -> Result<(), Fail> {
+    for (number, bytes) in objects {
+        put(cloud, *number, bytes)?;
     }
-    Ok(Some(Key::new(alloc, bytes)?))
+    let mut session = with_cache(alloc, PageCache::new(alloc)?)?;
+    play_all(&mut session, cloud, story, script)
 }
 
-impl Session {
-    /// Over an empty cloud.
-    pub(crate) fn new(alloc: Global) -> Result<Session, Fail> {
-        let who = Who::new(SessionNo::new(3)?, 7);
-        let client = ClientId::new(1)?;
-        let tree = TreeId::new(1)?;
-        let cache = PageCache::new(alloc)?;
-        let buffer = TxnBuffer::new(alloc)?;
-        Ok(Session {
+fn with_cache(alloc: Global, cache: PageCache) -> Result<Session, Fail> {
+    match TxnBuffer::new(alloc) {
+        Ok(buffer) => Ok(Session {
             alloc,
-            who,
-            client,
-            tree,
-            cloud: MemoryCloud::new(alloc),
             cache,
-            head: Head::empty(alloc),
-            buffer,
-            story: Story::new(alloc),
-        })
+            own: Own {
+                head: Head::empty(alloc),
+                buffer,
+            },
+        }),
+        Err(_) => Err(Fail::from("no buffer")),
     }
+}
 
-    /// Over the tree of three levels.
-    pub(crate) fn over_three_levels(alloc: Global) -> Result<Session, Fail> {
-        let mut session = Session::new(alloc)?;
-        for (number, bytes) in THREE_LEVELS {
-            session.put(number, bytes)?;
-        }
-        Ok(session)
+/// A walk to a key, to the left end without one.
+fn walk_to(alloc: Global, to: &[u8], fresh: bool) -> Result<Walk, Fail> {
+    let key = if to.is_empty() {
+        None
+    } else {
+        Some(Key::new(alloc, to)?)
+    };
+    Ok(Walk::new(alloc, tree()?, key, fresh))
+}
+
+/// A read of a key.
+fn read_of(alloc: Global, key: &[u8]) -> Result<RecordRead, Fail> {
+    let key = Key::new(alloc, key)?;
+    Ok(RecordRead::new(alloc, tree()?, key))
+}
+
+/// An insert of a key.
+fn insert_of(alloc: Global, key: &[u8], payload: &[u8]) -> Result<Change, Fail> {
+    let key = Key::new(alloc, key)?;
+    let payload = Payload::new(alloc, payload)?;
+    Ok(Change::Insert { key, payload })
+}
+
+impl Own {
+    /// What is read of the client's.
+    fn tell_value(
+        &self,
+        read: &RecordRead,
+        cache: &PageCache,
+        story: &mut Story,
+    ) -> Result<(), Fail> {
+        let client = ClientId::new(1)?;
+        story.value(read.value(cache, client, &self.head, &self.buffer))
     }
+}
 
-    fn take(&mut self) -> Result<Lease, Fail> {
-        let lock = Lock::Page(self.tree, PageId::first());
-        match self.cloud.take(self.who, lock, 10)? {
-            Grant::Given(lease) => Ok(lease),
-            Grant::Held(_) => Err(Fail::from("held")),
-        }
-    }
-
-    fn put_under(&mut self, lease: &Lease, number: u64, bytes: &[u8]) -> Result<(), Fail> {
-        let name = object(self.tree, number)?;
-        self.cloud.put_held(self.who, name, bytes, lease, None)?;
+impl Reader for Session {
+    fn has_head(&mut self, bytes: &[u8]) -> Result<(), Fail> {
+        self.own.head = Head::read(self.alloc, bytes)?;
         Ok(())
     }
 
-    /// Puts an object by its number.
-    pub(crate) fn put(&mut self, number: u64, bytes: &[u8]) -> Result<(), Fail> {
-        let lease = self.take()?;
-        self.put_under(&lease, number, bytes)?;
-        self.cloud.release(self.who, lease)?;
+    fn note(&mut self, key: &[u8], payload: &[u8]) -> Result<(), Fail> {
+        let change = insert_of(self.alloc, key, payload)?;
+        self.own.buffer.note(tree()?, change)?;
         Ok(())
     }
 
-    /// Sets the wish for the next call.
-    pub(crate) fn wish(&mut self, wish: Wish) {
-        self.cloud.wish(wish);
+    fn walk<C: Cloud>(
+        &mut self,
+        cloud: &mut C,
+        story: &mut Story,
+        to: &[u8],
+        fresh: bool,
+    ) -> Result<(), Fail> {
+        let mut walk = walk_to(self.alloc, to, fresh)?;
+        run(&mut walk, self.alloc, cloud, &mut self.cache, story)
     }
 
-    /// The client's head from now on.
-    pub(crate) fn has_head(&mut self, bytes: &[u8]) -> Result<(), Fail> {
-        self.head = Head::read(self.alloc, bytes)?;
-        Ok(())
-    }
-
-    /// Notes an insert of the session's own.
-    pub(crate) fn note(&mut self, key: &[u8], payload: &[u8]) -> Result<(), Fail> {
-        let key = Key::new(self.alloc, key)?;
-        let payload = Payload::new(self.alloc, payload)?;
-        let change = Change::Insert { key, payload };
-        self.buffer.note(self.tree, change)?;
-        Ok(())
-    }
-
-    /// A walk to a key, to the left end without one: its calls, and the leaf at which it ended or its trouble.
-    pub(crate) fn walk(&mut self, to: &[u8], fresh: bool) -> Result<(), Fail> {
-        let mut walk = Walk::new(self.alloc, self.tree, key(self.alloc, to)?, fresh);
-        let mut turn = walk.ready(self.alloc, &mut self.cache);
-        for _ in 1..20u64 {
-            if self.story.end(&turn)? {
-                return Ok(());
-            }
-            turn = self.walk_on(&mut walk)?;
-        }
-        Err(Fail::from("no end"))
-    }
-
-    /// One call of a walk. The type of a lease is named, for the checker of borrows wants it beside a call.
-    fn walk_on(&mut self, walk: &mut Walk) -> Result<Turn<PageId>, Fail> {
-        let _none: Option<Lease> = None;
-        self.story.call(&walk.in_hand())?;
-        Ok(walk.step(self.alloc, &mut self.cloud, self.who, &mut self.cache))
-    }
-
-    /// A read of a key: its calls, and then the leaf and the payload.
-    pub(crate) fn read(&mut self, key: &[u8]) -> Result<(), Fail> {
-        let mut read = RecordRead::new(self.alloc, self.tree, Key::new(self.alloc, key)?);
-        let mut turn = read.ready(self.alloc, &mut self.cache);
-        for _ in 1..20u64 {
-            if self.story.end(&turn)? {
-                return self.tell_value(&read);
-            }
-            turn = self.read_on(&mut read)?;
-        }
-        Err(Fail::from("no end"))
-    }
-
-    /// One call of a read; as with a walk, the type of a lease is named.
-    fn read_on(&mut self, read: &mut RecordRead) -> Result<Turn<PageId>, Fail> {
-        let _none: Option<Lease> = None;
-        self.story.call(&read.in_hand())?;
-        Ok(read.step(self.alloc, &mut self.cloud, self.who, &mut self.cache))
-    }
-
-    fn tell_value(&mut self, read: &RecordRead) -> Result<(), Fail> {
-        let value = read.value(&self.cache, self.client, &self.head, &self.buffer);
-        self.story.value(value)
+    fn read<C: Cloud>(&mut self, cloud: &mut C, story: &mut Story, key: &[u8]) -> Result<(), Fail> {
+        let mut read = read_of(self.alloc, key)?;
+        run(&mut read, self.alloc, cloud, &mut self.cache, story)?;
+        self.own.tell_value(&read, &self.cache, story)
     }
 }

@@ -1,9 +1,8 @@
 use crate::objects::{
     LEAF_3_FAR, LEAF_3_NEWER, LEAF_4_TURNING, NODE_7_HIGH, NODE_8_OF_3, ROOT_OF_7, ROOT_OF_9,
 };
-use crate::session::Session;
-use db_base::wish::Wish;
-use std::alloc::Global;
+use crate::script::Step;
+use crate::session::{THREE_LEVELS, play};
 use std::test::Fail;
 
 /// Walks to p, to p over what is kept, a fresh one to x, which gets the tree object anew, and one to the left end, which goes down by
@@ -24,13 +23,13 @@ leaf 1
 
 #[test]
 fn gets_only_the_leaf_of_a_kept_tree(rt: HostRuntime) -> Result<(), Fail> {
-    let mut session = Session::over_three_levels(rt.alloc())?;
-    session.walk(b"p", false)?;
-    session.walk(b"p", false)?;
-    session.walk(b"x", true)?;
-    session.walk(b"", false)?;
-    assert_eq!(rt; session.story.as_str(), KEPT);
-    Ok(())
+    let walks = [
+        Step::Walks(b"p"),
+        Step::Walks(b"p"),
+        Step::WalksAnew(b"x"),
+        Step::Walks(b""),
+    ];
+    play(rt.alloc(), THREE_LEVELS, &walks, KEPT)
 }
 
 /// Two walks in the empty tree, which keeps that there is no tree object.
@@ -43,11 +42,12 @@ leaf 1
 
 #[test]
 fn takes_absent_objects_for_the_empty_tree(rt: HostRuntime) -> Result<(), Fail> {
-    let mut session = Session::new(rt.alloc())?;
-    session.walk(b"p", false)?;
-    session.walk(b"p", false)?;
-    assert_eq!(rt; session.story.as_str(), EMPTY);
-    Ok(())
+    play(
+        rt.alloc(),
+        &[],
+        &[Step::Walks(b"p"), Step::Walks(b"p")],
+        EMPTY,
+    )
 }
 
 /// Two walks over right links: the second one gets anew what the first one passed.
@@ -67,13 +67,13 @@ leaf 4
 
 #[test]
 fn drops_what_it_passed_where_it_follows_a_right_link(rt: HostRuntime) -> Result<(), Fail> {
-    let mut session = Session::over_three_levels(rt.alloc())?;
-    session.put(0, ROOT_OF_7)?;
-    session.put(8, NODE_8_OF_3)?;
-    session.walk(b"x", false)?;
-    session.walk(b"x", false)?;
-    assert_eq!(rt; session.story.as_str(), RIGHT_LINKS);
-    Ok(())
+    let walks = [
+        Step::Puts(0, ROOT_OF_7),
+        Step::Puts(8, NODE_8_OF_3),
+        Step::Walks(b"x"),
+        Step::Walks(b"x"),
+    ];
+    play(rt.alloc(), THREE_LEVELS, &walks, RIGHT_LINKS)
 }
 
 /// A walk to a leaf of version 2, and one that gets its version 1.
@@ -87,13 +87,13 @@ stale 3 2 1
 
 #[test]
 fn stops_at_an_older_leaf(rt: HostRuntime) -> Result<(), Fail> {
-    let mut session = Session::over_three_levels(rt.alloc())?;
-    session.put(3, LEAF_3_NEWER)?;
-    session.walk(b"p", false)?;
-    session.wish(Wish::Old(1));
-    session.walk(b"p", false)?;
-    assert_eq!(rt; session.story.as_str(), OLDER);
-    Ok(())
+    let walks = [
+        Step::Puts(3, LEAF_3_NEWER),
+        Step::Walks(b"p"),
+        Step::GetsVersion(1),
+        Step::Walks(b"p"),
+    ];
+    play(rt.alloc(), THREE_LEVELS, &walks, OLDER)
 }
 
 /// A walk whose first get fails, and one behind it, for which nothing is kept.
@@ -107,12 +107,8 @@ leaf 3
 
 #[test]
 fn stops_where_a_get_fails(rt: HostRuntime) -> Result<(), Fail> {
-    let mut session = Session::over_three_levels(rt.alloc())?;
-    session.wish(Wish::Fail);
-    session.walk(b"p", false)?;
-    session.walk(b"p", false)?;
-    assert_eq!(rt; session.story.as_str(), FAILED);
-    Ok(())
+    let walks = [Step::Fails, Step::Walks(b"p"), Step::Walks(b"p")];
+    play(rt.alloc(), THREE_LEVELS, &walks, FAILED)
 }
 
 /// A tree object or a page that is put over one of the tree, the key of a walk, and what is told of it.
@@ -149,19 +145,11 @@ const TROUBLES: [(u64, &[u8], &[u8], &str); 5] = [
     ),
 ];
 
-/// A walk over such a tree.
-fn walked(alloc: Global, number: u64, bytes: &[u8], to: &[u8]) -> Result<Session, Fail> {
-    let mut session = Session::over_three_levels(alloc)?;
-    session.put(number, bytes)?;
-    session.walk(to, false)?;
-    Ok(session)
-}
-
 #[test]
 fn stops_at_troubles(rt: HostRuntime) -> Result<(), Fail> {
     for (number, bytes, to, wanted) in TROUBLES {
-        let session = walked(rt.alloc(), number, bytes, to)?;
-        assert_eq!(rt; session.story.as_str(), wanted);
+        let walk = [Step::Puts(number, bytes), Step::Walks(to)];
+        play(rt.alloc(), THREE_LEVELS, &walk, wanted)?;
     }
     Ok(())
 }

@@ -1,0 +1,51 @@
+//! Tree 1 in any cloud.
+
+use cloud_trait::cloud::Cloud;
+use cloud_trait::grant::Grant;
+use cloud_trait::lease::Lease;
+use cloud_trait::who::Who;
+use db_base::ids::{PageId, SessionNo, TreeId};
+use db_base::names::{Lock, ObjName};
+use std::test::Fail;
+
+pub(crate) fn who() -> Result<Who, Fail> {
+    Ok(Who::new(SessionNo::new(3)?, 7))
+}
+
+pub(crate) fn tree() -> Result<TreeId, Fail> {
+    Ok(TreeId::new(1)?)
+}
+
+/// An object of the tree by its number: 0 for the tree object, else a page.
+pub(crate) fn object(number: u64) -> Result<ObjName, Fail> {
+    if number == 0 {
+        return Ok(ObjName::Tree(tree()?));
+    }
+    Ok(ObjName::Page(tree()?, PageId::new(number)?))
+}
+
+fn take<C: Cloud>(cloud: &mut C) -> Result<Lease, Fail> {
+    let lock = Lock::Page(tree()?, PageId::first());
+    match cloud.take(who()?, lock, 10)? {
+        Grant::Given(lease) => Ok(lease),
+        Grant::Held(_) => Err(Fail::from("held")),
+    }
+}
+
+fn put_under<C: Cloud>(
+    cloud: &mut C,
+    lease: &Lease,
+    number: u64,
+    bytes: &[u8],
+) -> Result<(), Fail> {
+    cloud.put_held(who()?, object(number)?, bytes, lease, None)?;
+    Ok(())
+}
+
+/// Puts an object by its number.
+pub(crate) fn put<C: Cloud>(cloud: &mut C, number: u64, bytes: &[u8]) -> Result<(), Fail> {
+    let lease = take(cloud)?;
+    put_under(cloud, &lease, number, bytes)?;
+    cloud.release(who()?, lease)?;
+    Ok(())
+}

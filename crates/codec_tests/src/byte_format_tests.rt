@@ -4,7 +4,7 @@ use byte_format::{
     try_add_u16, try_add_u64, u8_at, u16_at, u64_at,
 };
 use std::alloc::AllocError;
-use std::test::Fail;
+use std::process::Abort;
 
 /// A mark, numbers of one, two and eight bytes, texts behind one and two bytes of length.
 const FIELDS: [u8; 20] = [
@@ -35,27 +35,35 @@ fn end(bytes: &[u8]) -> Option<(bool, &[u8])> {
 }
 
 #[test]
-fn numbers_are_read(rt: HostRuntime) -> Result<(), Fail> {
-    let (numbers, _) = numbers(&FIELDS).ok_or("numbers")?;
-    assert!(rt; numbers == (1, 2, 3));
-    Ok(())
+fn numbers_are_read(rt: HostRuntime) {
+    match numbers(&FIELDS) {
+        Some((numbers, _)) => assert!(rt; numbers == (1, 2, 3)),
+        None => rt.panic("no numbers"),
+    }
 }
 
 #[test]
-fn texts_are_read(rt: HostRuntime) -> Result<(), Fail> {
-    let ((short, long), _) = texts(&FIELDS).ok_or("texts")?;
-    assert!(rt; short == b"ab".as_slice() && long == b"c".as_slice());
-    assert!(rt; is_below(short, long) && is_below_bound(short, Some(long)) && is_same(long, long));
-    Ok(())
+fn texts_are_read(rt: HostRuntime) {
+    match texts(&FIELDS) {
+        Some(((short, long), _)) => {
+            assert!(rt; short == b"ab".as_slice() && long == b"c".as_slice());
+            assert!(rt; is_below(short, long) && is_below_bound(short, Some(long)));
+            assert!(rt; is_same(long, long));
+        }
+        None => rt.panic("no texts"),
+    }
 }
 
 #[test]
-fn the_end_of_a_list_is_read(rt: HostRuntime) -> Result<(), Fail> {
-    let (more, rest) = end(&FIELDS).ok_or("an end")?;
+fn the_end_of_a_list_is_read(rt: HostRuntime) {
+    let Some((more, rest)) = end(&FIELDS) else {
+        rt.panic("no end")
+    };
     assert!(rt; !more && rest == [7].as_slice());
-    let stop = u8_at(rest, 8, 9).err().ok_or("a number below the range")?;
-    assert!(rt; stop.offset(&FIELDS) == 19);
-    Ok(())
+    match u8_at(rest, 8, 9) {
+        Ok(_) => rt.panic("a number below the range"),
+        Err(stop) => assert!(rt; stop.offset(&FIELDS) == 19),
+    }
 }
 
 /// Adds the fields up to the end of the list.
@@ -69,16 +77,16 @@ fn try_fields(out: &mut Vec<u8>) -> Result<(), AllocError> {
 }
 
 #[test]
-fn written(rt: HostRuntime) -> Result<(), Fail> {
+fn written(rt: HostRuntime) {
     let mut out = Vec::new(rt.alloc());
-    try_fields(&mut out)?;
-    assert!(rt; out.as_slice() == &FIELDS[..18]);
-    Ok(())
+    assert!(rt; try_fields(&mut out).is_ok() && out.as_slice() == &FIELDS[..18]);
 }
 
 #[test]
-fn written_where_there_is_room(rt: HostRuntime) -> Result<(), Fail> {
-    let mut spare = Vec::with_capacity(rt.alloc(), 18)?;
+fn written_where_there_is_room(rt: HostRuntime) {
+    let Ok(mut spare) = Vec::with_capacity(rt.alloc(), 18) else {
+        rt.panic("no room")
+    };
     add(&mut spare, &[9]);
     add_u8(&mut spare, 1);
     add_u16(&mut spare, 2);
@@ -86,5 +94,4 @@ fn written_where_there_is_room(rt: HostRuntime) -> Result<(), Fail> {
     add_text8(&mut spare, b"ab");
     add_text16(&mut spare, b"c");
     assert!(rt; spare.as_slice() == &FIELDS[..18]);
-    Ok(())
 }

@@ -1,5 +1,6 @@
 use byte_format::ReadFault;
 use change_codec::{add_change, client_of, read_change, tree_of};
+use db_base::change::Change;
 use std::alloc::Global;
 
 const INSERT: [u8; 6] = [1, 1, 0x6b, 0, 1, 0x76];
@@ -25,12 +26,23 @@ const REFUSED: [(&[u8], usize); 13] = [
     (&[2, 1, 0x6b, 255, 255], 2),
 ];
 
-/// Whether bytes are read as a change with nothing behind it, which is written as these bytes.
-fn is_written_back(alloc: Global, bytes: &[u8]) -> Option<bool> {
-    let (change, rest) = read_change(alloc, bytes).ok()?;
+/// Whether a change is written as these bytes, behind none.
+fn is_added(out: &mut Vec<u8>, change: &Change, bytes: &[u8]) -> bool {
+    add_change(out, change).is_ok() && out.as_slice() == bytes
+}
+
+/// Whether a change is written as these bytes.
+fn is_change(alloc: Global, change: &Change, bytes: &[u8]) -> bool {
     let mut out = Vec::new(alloc);
-    add_change(&mut out, &change).ok()?;
-    Some(rest.is_empty() && out.as_slice() == bytes)
+    is_added(&mut out, change, bytes)
+}
+
+/// Whether bytes are read as a change with nothing behind it, which is written as these bytes.
+fn is_written_back(alloc: Global, bytes: &[u8]) -> bool {
+    match read_change(alloc, bytes) {
+        Ok((change, rest)) => rest.is_empty() && is_change(alloc, &change, bytes),
+        Err(_) => false,
+    }
 }
 
 /// How many bytes are left where they are refused as a change.
@@ -41,13 +53,21 @@ fn left_of(alloc: Global, bytes: &[u8]) -> Option<usize> {
     }
 }
 
+/// Whether each row's bytes are refused where it says.
+fn are_refused(alloc: Global, rows: &[(&[u8], usize)]) -> bool {
+    for (bytes, left) in rows {
+        if left_of(alloc, bytes) != Some(*left) {
+            return false;
+        }
+    }
+    true
+}
+
 #[test]
 fn changes(rt: HostRuntime) {
-    for bytes in [INSERT.as_slice(), UPDATE.as_slice(), DELETE.as_slice()] {
-        assert!(rt; is_written_back(rt.alloc(), bytes) == Some(true));
-    }
-    for (bytes, left) in REFUSED {
-        assert!(rt; left_of(rt.alloc(), bytes) == Some(left));
-    }
+    assert!(rt; is_written_back(rt.alloc(), &INSERT));
+    assert!(rt; is_written_back(rt.alloc(), &UPDATE));
+    assert!(rt; is_written_back(rt.alloc(), &DELETE));
+    assert!(rt; are_refused(rt.alloc(), &REFUSED));
     assert!(rt; client_of(64).get() == 64 && tree_of(16).get() == 16);
 }

@@ -7,7 +7,7 @@ use db_base::refusal::{Refusal, Refused};
 use db_base::text::Text;
 use db_base::wish::Positions;
 use std::alloc::Global;
-use std::test::Fail;
+use std::process::Abort;
 
 /// Why bytes are refused as a key.
 fn key_fault(alloc: Global, bytes: &[u8]) -> Option<Refused> {
@@ -19,124 +19,205 @@ fn payload_fault(alloc: Global, bytes: &[u8]) -> Option<Refused> {
     Payload::new(alloc, bytes).err()
 }
 
-#[test]
-fn lengths_are_refused_exactly(rt: HostRuntime) -> Result<(), Fail> {
-    let bytes = [7u8; 1025];
-    for (len, key, payload) in [
-        (0, Some(Refusal::EmptyKey), None),
-        (1, None, None),
-        (64, None, None),
-        (65, Some(Refusal::LongKey), None),
-        (1024, Some(Refusal::LongKey), None),
-        (1025, Some(Refusal::LongKey), Some(Refusal::LongPayload)),
-    ] {
-        let bytes = bytes.get(..len).ok_or("too long")?;
-        assert!(rt; key_fault(rt.alloc(), bytes) == key.map(Refused::Rule));
-        assert!(rt; payload_fault(rt.alloc(), bytes) == payload.map(Refused::Rule));
+/// Whether a key and a payload of these bytes are refused so.
+fn are_refused(
+    alloc: Global,
+    bytes: &[u8],
+    key: Option<Refusal>,
+    payload: Option<Refusal>,
+) -> bool {
+    key_fault(alloc, bytes) == key.map(Refused::Rule)
+        && payload_fault(alloc, bytes) == payload.map(Refused::Rule)
+}
+
+/// A count of bytes, and how a key and a payload of so many are refused.
+const LENGTHS: [(usize, Option<Refusal>, Option<Refusal>); 6] = [
+    (0, Some(Refusal::EmptyKey), None),
+    (1, None, None),
+    (64, None, None),
+    (65, Some(Refusal::LongKey), None),
+    (1024, Some(Refusal::LongKey), None),
+    (1025, Some(Refusal::LongKey), Some(Refusal::LongPayload)),
+];
+
+/// Whether the first so many bytes are refused as each row says.
+fn are_all_refused(
+    alloc: Global,
+    bytes: &[u8],
+    rows: &[(usize, Option<Refusal>, Option<Refusal>)],
+) -> bool {
+    for (len, key, payload) in rows {
+        let Some(bytes) = bytes.get(..*len) else {
+            return false;
+        };
+        if !are_refused(alloc, bytes, *key, *payload) {
+            return false;
+        }
     }
-    Ok(())
+    true
 }
 
 #[test]
-fn counts_of_positions_are_refused_exactly(rt: HostRuntime) -> Result<(), Fail> {
+fn lengths_are_refused_exactly(rt: HostRuntime) {
+    assert!(rt; are_all_refused(rt.alloc(), &[7; 1025], &LENGTHS));
+}
+
+/// Whether so many positions are taken.
+fn are_positions(alloc: Global, numbers: &[u64], len: usize) -> Option<bool> {
+    let numbers = numbers.get(..len)?;
+    Some(Positions::new(alloc, numbers).is_ok())
+}
+
+#[test]
+fn counts_of_positions_are_refused_exactly(rt: HostRuntime) {
     let numbers = [7u64; 257];
-    for (len, good) in [(0, false), (1, true), (256, true), (257, false)] {
-        let numbers = numbers.get(..len).ok_or("too long")?;
-        assert!(rt; Positions::new(rt.alloc(), numbers).is_ok() == good);
+    assert!(rt; are_positions(rt.alloc(), &numbers, 0) == Some(false));
+    assert!(rt; are_positions(rt.alloc(), &numbers, 1) == Some(true));
+    assert!(rt; are_positions(rt.alloc(), &numbers, 256) == Some(true));
+    assert!(rt; are_positions(rt.alloc(), &numbers, 257) == Some(false));
+}
+
+/// Whether a number is one of a client; whether one of a tree and of a session; whether one of a page; and a message's at any rate.
+fn is_number(n: u64, client: bool, tree: bool, page: bool) -> bool {
+    ClientId::new(n).is_ok() == client
+        && TreeId::new(n).is_ok() == tree
+        && SessionNo::new(n).is_ok() == tree
+        && PageId::new(n).is_ok() == page
+        && MsgId::new(n).get() == n
+}
+
+/// A number, and what it is one of, as above.
+const NUMBERS: [(u64, bool, bool, bool); 7] = [
+    (0, false, false, false),
+    (1, true, true, true),
+    (16, true, true, true),
+    (17, true, false, true),
+    (64, true, false, true),
+    (65, false, false, true),
+    (u64::MAX, false, false, true),
+];
+
+/// Whether each row is so.
+fn are_numbers(rows: &[(u64, bool, bool, bool)]) -> bool {
+    for (n, client, tree, page) in rows {
+        if !is_number(*n, *client, *tree, *page) {
+            return false;
+        }
     }
-    Ok(())
+    true
 }
 
 #[test]
 fn numbers_are_refused_exactly(rt: HostRuntime) {
-    for (n, client, tree, page) in [
-        (0, false, false, false),
-        (1, true, true, true),
-        (16, true, true, true),
-        (17, true, false, true),
-        (64, true, false, true),
-        (65, false, false, true),
-        (u64::MAX, false, false, true),
-    ] {
-        assert!(rt; ClientId::new(n).is_ok() == client);
-        assert!(rt; TreeId::new(n).is_ok() == tree);
-        assert!(rt; SessionNo::new(n).is_ok() == tree);
-        assert!(rt; PageId::new(n).is_ok() == page);
-        assert!(rt; MsgId::new(n).get() == n);
-    }
+    assert!(rt; are_numbers(&NUMBERS));
     assert!(rt; PageId::first().get() == 1 && SessionNo::settler().get() == 0);
 }
 
 /// An insert of a payload under k.
-fn insert(alloc: Global, payload: &[u8]) -> Result<Change, Refused> {
-    Ok(Change::Insert {
-        key: Key::new(alloc, b"k")?,
-        payload: Payload::new(alloc, payload)?,
-    })
+fn insert(alloc: Global, payload: &[u8]) -> Option<Change> {
+    match (Key::new(alloc, b"k"), Payload::new(alloc, payload)) {
+        (Ok(key), Ok(payload)) => Some(Change::Insert { key, payload }),
+        _ => None,
+    }
 }
 
-/// An update of a payload under k.
-fn update(alloc: Global, payload: &[u8]) -> Result<Change, Refused> {
-    Ok(Change::Update {
-        key: Key::new(alloc, b"k")?,
-        payload: Payload::new(alloc, payload)?,
-    })
-}
-
-#[test]
-fn changes_act(rt: HostRuntime) -> Result<(), Fail> {
-    let insert = insert(rt.alloc(), b"one")?;
-    assert!(rt; act(None, &insert) == Some(b"one".as_slice()));
-    Ok(())
+/// An update of k to a payload.
+fn update(alloc: Global, payload: Payload) -> Option<Change> {
+    match Key::new(alloc, b"k") {
+        Ok(key) => Some(Change::Update { key, payload }),
+        Err(_) => None,
+    }
 }
 
 #[test]
-fn an_update_of_no_record_does_nothing(rt: HostRuntime) -> Result<(), Fail> {
-    let update = update(rt.alloc(), b"two")?;
-    assert!(rt; act(None, &update).is_none());
-    Ok(())
+fn changes_act(rt: HostRuntime) {
+    match insert(rt.alloc(), b"one") {
+        Some(insert) => assert!(rt; act(None, &insert) == Some(b"one".as_slice())),
+        None => rt.panic("no insert"),
+    }
 }
 
-/// What a copy of an insert and an update behind it come to.
-fn joined(alloc: Global) -> Result<Change, Fail> {
-    let insert = insert(alloc, b"one")?;
-    let update = Change::Update {
-        key: insert.key().copied(alloc)?,
-        payload: Payload::new(alloc, b"two")?,
+/// Whether an update to a payload does nothing where there is no record.
+fn does_nothing(alloc: Global, payload: Payload) -> bool {
+    match update(alloc, payload) {
+        Some(update) => act(None, &update).is_none(),
+        None => false,
+    }
+}
+
+#[test]
+fn an_update_of_no_record_does_nothing(rt: HostRuntime) {
+    match Payload::new(rt.alloc(), b"two") {
+        Ok(payload) => assert!(rt; does_nothing(rt.alloc(), payload)),
+        Err(_) => rt.panic("no payload"),
+    }
+}
+
+/// What an insert and an update to a payload behind it come to.
+fn joined(alloc: Global, insert: Change, payload: Payload) -> Option<Change> {
+    match insert.key().copied(alloc) {
+        Ok(key) => Some(net(insert, Change::Update { key, payload })),
+        Err(_) => None,
+    }
+}
+
+/// Whether they come to the record of the payload.
+fn is_updated(alloc: Global, insert: Change, payload: Payload) -> bool {
+    match joined(alloc, insert, payload) {
+        Some(both) => act(None, &both) == Some(b"two".as_slice()),
+        None => false,
+    }
+}
+
+/// Whether that holds for a copy of an insert.
+fn is_copy_updated(alloc: Global, insert: &Change) -> bool {
+    match (insert.copied(alloc), Payload::new(alloc, b"two")) {
+        (Ok(copy), Ok(payload)) => is_updated(alloc, copy, payload),
+        _ => false,
+    }
+}
+
+#[test]
+fn changes_join(rt: HostRuntime) {
+    match insert(rt.alloc(), b"one") {
+        Some(insert) => assert!(rt; is_copy_updated(rt.alloc(), &insert)),
+        None => rt.panic("no insert"),
+    }
+}
+
+/// Whether a cursor keeps number 5 of a client.
+fn keeps_its_number(cursor: &mut Cursor, client: ClientId) -> bool {
+    cursor.get(client) == 0 && cursor.set(client, 5).is_ok() && cursor.get(client) == 5
+}
+
+#[test]
+fn a_cursor_keeps_its_number(rt: HostRuntime) {
+    let Ok(client) = ClientId::new(9) else {
+        rt.panic("no client")
     };
-    Ok(net(insert.copied(alloc)?, update))
+    assert!(rt; keeps_its_number(&mut Cursor::new(rt.alloc()), client));
+}
+
+/// Whether bytes are a, b and c behind the addition of c.
+fn is_abc(mut blob: Blob) -> bool {
+    if blob.add(b"c").is_err() || blob.len() != 3 || blob.is_empty() {
+        return false;
+    }
+    Blob::of(blob.into_vec()).as_slice() == b"abc".as_slice()
 }
 
 #[test]
-fn changes_join(rt: HostRuntime) -> Result<(), Fail> {
-    let both = joined(rt.alloc())?;
-    assert!(rt; act(None, &both) == Some(b"two".as_slice()));
-    Ok(())
+fn bytes_are_kept(rt: HostRuntime) {
+    match Blob::copy_of(rt.alloc(), b"ab") {
+        Ok(blob) => assert!(rt; is_abc(blob)),
+        Err(_) => rt.panic("no bytes"),
+    }
 }
 
 #[test]
-fn a_cursor_keeps_its_number(rt: HostRuntime) -> Result<(), Fail> {
-    let client = ClientId::new(9)?;
-    let mut cursor = Cursor::new(rt.alloc());
-    assert!(rt; cursor.get(client) == 0);
-    assert!(rt; cursor.set(client, 5).is_ok());
-    assert!(rt; cursor.get(client) == 5);
-    Ok(())
-}
-
-#[test]
-fn bytes_are_kept(rt: HostRuntime) -> Result<(), Fail> {
-    let mut blob = Blob::copy_of(rt.alloc(), b"ab")?;
-    assert!(rt; blob.add(b"c").is_ok());
-    assert!(rt; blob.len() == 3 && !blob.is_empty());
-    let blob = Blob::of(blob.into_vec());
-    assert!(rt; blob.as_slice() == b"abc".as_slice());
-    Ok(())
-}
-
-#[test]
-fn a_text_is_kept(rt: HostRuntime) -> Result<(), Fail> {
-    let text = Text::new(rt.alloc(), "word")?;
-    assert!(rt; text.as_str() == "word");
-    Ok(())
+fn a_text_is_kept(rt: HostRuntime) {
+    match Text::new(rt.alloc(), "word") {
+        Ok(text) => assert!(rt; text.as_str() == "word"),
+        Err(_) => rt.panic("no text"),
+    }
 }

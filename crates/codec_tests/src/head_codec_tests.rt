@@ -1,11 +1,12 @@
+use crate::refusals::{Reads, refuses_changes, refuses_cuts};
 use db_base::blob::Blob;
 use db_base::change::Change;
 use db_base::ids::TreeId;
 use db_base::key::Key;
 use head_codec::head::{Head, HeadFault, Phase};
 use head_codec::lists::{Pending, PendingList};
-use std::alloc::{AllocError, Global};
-use std::test::Fail;
+use std::alloc::Global;
+use std::process::Abort;
 
 /// Epoch 1, transaction 1, settled; one counter and one pending insert, both of the tree queue of tree 1.
 const HEAD: [u8; 63] = [
@@ -81,93 +82,106 @@ const COUNTERS_CHANGES: [(usize, u8, u64); 4] = [
 
 const OPEN_CHANGES: [(usize, u8, u64); 3] = [(19, 0, 19), (19, 201, 19), (18, 0, 19)];
 
-/// Where bytes are refused as a head.
-fn fault_of(alloc: Global, bytes: &[u8]) -> Option<u64> {
-    match Head::read(alloc, bytes) {
-        Err(HeadFault::NotHead { offset }) => Some(offset),
-        _ => None,
-    }
-}
+/// Reads bytes as a head.
+struct Heads;
 
-/// Where bytes are refused with one of them changed, or added behind the end.
-fn fault_at(alloc: Global, bytes: &[u8], at: usize, value: u8) -> Result<Option<u64>, AllocError> {
-    let mut changed = bytes.to_vec(alloc)?;
-    if at < changed.len() {
-        changed[at] = value;
-    } else {
-        changed.push(value)?;
-    }
-    Ok(fault_of(alloc, changed.as_slice()))
-}
-
-/// A head that is read and written back.
-fn again(alloc: Global, bytes: &[u8]) -> Result<Blob, Fail> {
-    Ok(Head::read(alloc, bytes)?.write(alloc)?)
-}
-
-#[test]
-fn vectors(rt: HostRuntime) -> Result<(), Fail> {
-    for bytes in [HEAD.as_slice(), COUNTERS.as_slice(), OPEN.as_slice()] {
-        let spelled = again(rt.alloc(), bytes)?;
-        assert!(rt; spelled.as_slice() == bytes);
-    }
-    Ok(())
-}
-
-#[test]
-fn a_head_is_read(rt: HostRuntime) -> Result<(), Fail> {
-    let head = Head::read(rt.alloc(), &HEAD)?;
-    assert!(rt; head.epoch == 1 && head.txn == 1 && head.phase == Phase::Settled);
-    assert!(rt; head.counters.as_slice().len() == 1);
-    assert!(rt; head.pending.into_vec().len() == 1);
-    Ok(())
-}
-
-/// Whether bytes with one of them changed are refused where each row says.
-fn are_refused(alloc: Global, bytes: &[u8], rows: &[(usize, u8, u64)]) -> Result<bool, AllocError> {
-    for (at, value, offset) in rows {
-        if fault_at(alloc, bytes, *at, *value)? != Some(*offset) {
-            return Ok(false);
+impl Reads for Heads {
+    fn fault_of(alloc: Global, bytes: &[u8]) -> Option<u64> {
+        match Head::read(alloc, bytes) {
+            Err(HeadFault::NotHead { offset }) => Some(offset),
+            _ => None,
         }
     }
-    Ok(true)
+}
+
+/// The bytes as which a head is written that is read from bytes.
+fn again(alloc: Global, bytes: &[u8]) -> Option<Blob> {
+    match Head::read(alloc, bytes) {
+        Ok(head) => head.write(alloc).ok(),
+        Err(_) => None,
+    }
+}
+
+/// Whether bytes are read as a head, which is written as these bytes.
+fn is_written_back(alloc: Global, bytes: &[u8]) -> bool {
+    match again(alloc, bytes) {
+        Some(written) => written.as_slice() == bytes,
+        None => false,
+    }
 }
 
 #[test]
-fn cut_heads_are_refused(rt: HostRuntime) -> Result<(), Fail> {
-    for (len, offset) in CUTS {
-        let front = HEAD.get(..len).ok_or("the front")?;
-        assert!(rt; fault_of(rt.alloc(), front) == Some(offset));
+fn vectors(rt: HostRuntime) {
+    assert!(rt; is_written_back(rt.alloc(), &HEAD));
+    assert!(rt; is_written_back(rt.alloc(), &COUNTERS));
+    assert!(rt; is_written_back(rt.alloc(), &OPEN));
+}
+
+/// Whether a head is of epoch 1 and transaction 1, settled, with one counter.
+fn is_settled(head: &Head) -> bool {
+    head.epoch == 1
+        && head.txn == 1
+        && head.phase == Phase::Settled
+        && head.counters.as_slice().len() == 1
+}
+
+#[test]
+fn a_head_is_read(rt: HostRuntime) {
+    match Head::read(rt.alloc(), &HEAD) {
+        Ok(head) => {
+            assert!(rt; is_settled(&head));
+            assert!(rt; head.pending.into_vec().len() == 1);
+        }
+        Err(_) => rt.panic("no head"),
     }
-    Ok(())
+}
+
+#[test]
+fn cut_heads_are_refused(rt: HostRuntime) {
+    assert!(rt; refuses_cuts::<Heads>(rt.alloc(), &HEAD, &CUTS));
 }
 
 #[test]
 fn changed_heads_are_refused(rt: HostRuntime) {
-    assert!(rt; are_refused(rt.alloc(), &HEAD, &HEAD_CHANGES) == Ok(true));
-    assert!(rt; are_refused(rt.alloc(), &COUNTERS, &COUNTERS_CHANGES) == Ok(true));
-    assert!(rt; are_refused(rt.alloc(), &OPEN, &OPEN_CHANGES) == Ok(true));
+    assert!(rt; refuses_changes::<Heads>(rt.alloc(), &HEAD, &HEAD_CHANGES));
+    assert!(rt; refuses_changes::<Heads>(rt.alloc(), &COUNTERS, &COUNTERS_CHANGES));
+    assert!(rt; refuses_changes::<Heads>(rt.alloc(), &OPEN, &OPEN_CHANGES));
 }
 
-/// How many bytes spell a head of the first epoch with the pending deletion of k, number 1 of the queue of tree 1.
-fn first_length(alloc: Global) -> Result<usize, Fail> {
-    let tree = TreeId::new(1)?;
-    let key = Key::new(alloc, b"k")?;
+/// How many bytes spell a head of the first epoch with the pending deletion of a key, number 1 of the queue of a tree.
+fn first_length(alloc: Global, tree: TreeId, key: Key) -> Option<usize> {
     let mut pending = PendingList::new(alloc);
-    pending.push(Pending {
+    let Ok(()) = pending.push(Pending {
         tree,
         page: 0,
         number: 1,
         change: Change::Delete { key },
-    })?;
+    }) else {
+        return None;
+    };
     let mut head = Head::empty(alloc);
-    head.next_epoch()?;
+    let Ok(()) = head.next_epoch() else {
+        return None;
+    };
     head.pending = pending;
-    Ok(head.write(alloc)?.len())
+    match head.write(alloc) {
+        Ok(bytes) => Some(bytes.len()),
+        Err(_) => None,
+    }
+}
+
+/// Whether 42 bytes spell such a head.
+fn is_first_length(alloc: Global, tree: TreeId) -> bool {
+    match Key::new(alloc, b"k") {
+        Ok(key) => first_length(alloc, tree, key) == Some(42),
+        Err(_) => false,
+    }
 }
 
 #[test]
-fn first_epoch(rt: HostRuntime) -> Result<(), Fail> {
-    assert!(rt; first_length(rt.alloc())? == 42);
-    Ok(())
+fn first_epoch(rt: HostRuntime) {
+    match TreeId::new(1) {
+        Ok(tree) => assert!(rt; is_first_length(rt.alloc(), tree)),
+        Err(_) => rt.panic("no tree"),
+    }
 }

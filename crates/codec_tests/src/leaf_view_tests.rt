@@ -1,7 +1,9 @@
+use crate::refusals::{Reads, refuses_changes, refuses_cuts};
+use db_base::cursor::Cursor;
 use db_base::ids::{ClientId, PageId};
 use leaf_view::LeafView;
-use std::alloc::{AllocError, Global};
-use std::test::Fail;
+use std::alloc::Global;
+use std::process::Abort;
 
 /// Version 1, no fence, one entry of what is done and one record.
 const PAGE: [u8; 45] = [
@@ -16,173 +18,220 @@ const FENCED: [u8; 89] = [
     0, 0, 0, 0, 0, 3, 1, 0, 0, 0, 0, 0, 0, 0, 1, 0, 1, 1, b'b', 0, 0, 1, 1, b'c', 0, 1, b'x', 0,
 ];
 
-/// How many bytes of the fenced leaf are kept, which of them is changed to what, and the offset of the refusal.
-const REFUSED: [(usize, usize, u8, u64); 33] = [
-    // cut short: at the begin, in each field, before a continuation
-    (0, 0, 0, 0),
-    (1, 0, 0x4c, 1),
-    (5, 0, 0x4c, 2),
-    (11, 0, 0x4c, 10),
-    (15, 0, 0x4c, 12),
-    (21, 0, 0x4c, 20),
-    (22, 0, 0x4c, 22),
-    (30, 0, 0x4c, 23),
-    (31, 0, 0x4c, 31),
-    (39, 0, 0x4c, 32),
-    (79, 0, 0x4c, 78),
-    (87, 0, 0x4c, 85),
-    (88, 0, 0x4c, 88),
-    // mark, format, version
-    (89, 0, 0x49, 0),
-    (89, 1, 3, 1),
-    (89, 9, 0, 2),
-    // fences: a long low key, no right page, no high key, a long one, one at the low key
-    (89, 10, 65, 10),
-    (89, 19, 0, 29),
-    (89, 20, 0, 20),
-    (89, 20, 65, 20),
-    (89, 21, b'b', 20),
-    // a continuation that is none
-    (89, 22, 2, 22),
-    (89, 77, 2, 77),
-    // the table: client 0, client 65, number 0, a queue below the last, a client at the last
-    (89, 31, 0, 31),
-    (89, 67, 65, 67),
-    (89, 39, 0, 32),
-    (89, 48, 4, 59),
-    (89, 49, 1, 49),
-    // records: no key, below the low key, at the high key, at the key before, a long payload
-    (89, 78, 0, 78),
-    (89, 79, b'a', 78),
-    (89, 84, b'd', 83),
-    (89, 84, b'b', 83),
-    (89, 85, 5, 85),
+/// How many bytes of the fenced leaf are there, and where it is refused: at the begin, in each field, before a continuation.
+const FENCED_CUTS: [(usize, u64); 13] = [
+    (0, 0),
+    (1, 1),
+    (5, 2),
+    (11, 10),
+    (15, 12),
+    (21, 20),
+    (22, 22),
+    (30, 23),
+    (31, 31),
+    (39, 32),
+    (79, 78),
+    (87, 85),
+    (88, 88),
 ];
 
-/// Where bytes are refused as a leaf.
-fn fault_of(bytes: &[u8]) -> Option<u64> {
-    match LeafView::read(bytes) {
-        Ok(_) => None,
-        Err(fault) => Some(fault.offset),
+/// A place in the fenced leaf, the byte that stands there instead, and where that is refused.
+const FENCED_CHANGES: [(usize, u8, u64); 20] = [
+    // mark, format, version
+    (0, 0x49, 0),
+    (1, 3, 1),
+    (9, 0, 2),
+    // fences: a long low key, no right page, no high key, a long one, one at the low key
+    (10, 65, 10),
+    (19, 0, 29),
+    (20, 0, 20),
+    (20, 65, 20),
+    (21, b'b', 20),
+    // a continuation that is none
+    (22, 2, 22),
+    (77, 2, 77),
+    // the table: client 0, client 65, number 0, a queue below the last, a client at the last
+    (31, 0, 31),
+    (67, 65, 67),
+    (39, 0, 32),
+    (48, 4, 59),
+    (49, 1, 49),
+    // records: no key, below the low key, at the high key, at the key before, a long payload
+    (78, 0, 78),
+    (79, b'a', 78),
+    (84, b'd', 83),
+    (84, b'b', 83),
+    (85, 5, 85),
+];
+
+/// Reads bytes as a leaf.
+struct Leaves;
+
+impl Reads for Leaves {
+    fn fault_of(_alloc: Global, bytes: &[u8]) -> Option<u64> {
+        match LeafView::read(bytes) {
+            Ok(_) => None,
+            Err(fault) => Some(fault.offset),
+        }
     }
 }
 
 #[test]
-fn refused(rt: HostRuntime) -> Result<(), Fail> {
-    for (kept, at, byte, offset) in REFUSED {
-        let mut bytes = FENCED;
-        if at < 89 {
-            bytes[at] = byte;
-        }
-        let front = bytes.get(..kept).ok_or("the front")?;
-        assert!(rt; fault_of(front) == Some(offset));
-    }
-    Ok(())
+fn refused(rt: HostRuntime) {
+    assert!(rt; refuses_cuts::<Leaves>(rt.alloc(), &FENCED, &FENCED_CUTS));
+    assert!(rt; refuses_changes::<Leaves>(rt.alloc(), &FENCED, &FENCED_CHANGES));
 }
 
 /// The same of the page without a fence; place 45 is behind its end.
-const REFUSED_PAGES: [(usize, usize, u8, u64); 5] = [
-    (0, 0, 0x4c, 0),
-    (2, 1, 3, 1),
-    (45, 9, 0, 2),
-    (44, 0, 0x4c, 44),
-    (46, 45, 0, 45),
-];
+const PAGE_CUTS: [(usize, u64); 2] = [(0, 0), (44, 44)];
 
-/// The bytes with one of them changed, or added behind the end.
-fn changed(alloc: Global, bytes: &[u8], at: usize, byte: u8) -> Result<Vec<u8>, AllocError> {
-    let mut changed = bytes.to_vec(alloc)?;
-    if at < changed.len() {
-        changed[at] = byte;
-    } else {
-        changed.push(byte)?;
-    }
-    Ok(changed)
-}
-
-/// Where so many bytes of PAGE with one of them changed are refused.
-fn changed_fault(alloc: Global, kept: usize, at: usize, byte: u8) -> Option<u64> {
-    let bytes = changed(alloc, &PAGE, at, byte).ok()?;
-    fault_of(bytes.as_slice().get(..kept)?)
-}
+const PAGE_CHANGES: [(usize, u8, u64); 2] = [(9, 0, 2), (45, 0, 45)];
 
 #[test]
 fn refused_pages(rt: HostRuntime) {
-    for (kept, at, byte, offset) in REFUSED_PAGES {
-        assert!(rt; changed_fault(rt.alloc(), kept, at, byte) == Some(offset));
+    assert!(rt; refuses_cuts::<Leaves>(rt.alloc(), &PAGE, &PAGE_CUTS));
+    assert!(rt; refuses_changes::<Leaves>(rt.alloc(), &PAGE, &PAGE_CHANGES));
+    assert!(rt; Leaves::fault_of(rt.alloc(), &[0x4c, 3]) == Some(1));
+}
+
+/// Whether a leaf is of version 1 and has no fence.
+fn has_no_fence(page: &LeafView<'_>) -> bool {
+    page.version() == 1 && page.low().is_empty() && page.high().is_none() && page.right().is_none()
+}
+
+/// Whether a leaf has the record of k and v, and none of l.
+fn has_one_record(page: &LeafView<'_>) -> bool {
+    page.find(b"k") == Some(b"v".as_slice()) && page.find(b"l").is_none()
+}
+
+/// Whether number 1 of the tree's queue of client 1 is done, and none of the queue of page 1.
+fn has_done_one(page: &LeafView<'_>) -> bool {
+    match ClientId::new(1) {
+        Ok(client) => page.done(0, client) == 1 && page.done(1, client) == 0,
+        Err(_) => false,
     }
 }
 
 #[test]
-fn a_page_is_read(rt: HostRuntime) -> Result<(), Fail> {
-    let page = LeafView::read(&PAGE).ok().ok_or("a leaf")?;
-    assert!(rt; page.version() == 1 && page.low().len() == 0);
-    assert!(rt; page.high().is_none() && page.right().is_none());
-    assert!(rt; page.find(b"k") == Some(b"v".as_slice()));
-    assert!(rt; page.find(b"l").is_none());
-    let client = ClientId::new(1).ok().ok_or("a client")?;
-    assert!(rt; page.done(0, client) == 1 && page.done(1, client) == 0);
+fn a_page_is_read(rt: HostRuntime) {
+    match LeafView::read(&PAGE) {
+        Ok(page) => {
+            assert!(rt; has_no_fence(&page) && has_one_record(&page) && has_done_one(&page));
+        }
+        Err(_) => rt.panic("no leaf"),
+    }
     assert!(rt; LeafView::empty().version() == 0);
-    Ok(())
+}
+
+/// Whether a leaf's keys are those from b on and below d, and page 2 is to the right.
+fn is_from_b_to_d(fenced: &LeafView<'_>) -> bool {
+    fenced.low() == b"b".as_slice()
+        && fenced.high() == Some(b"d".as_slice())
+        && fenced.right().map(PageId::get) == Some(2)
+}
+
+/// Whether a leaf may hold b and cz, and neither d nor a.
+fn holds_from_b_to_d(fenced: &LeafView<'_>) -> bool {
+    fenced.holds(b"b") && fenced.holds(b"cz") && !fenced.holds(b"d") && !fenced.holds(b"a")
 }
 
 #[test]
-fn fences_are_read(rt: HostRuntime) -> Result<(), Fail> {
-    let fenced = LeafView::read(&FENCED).ok().ok_or("a leaf")?;
-    assert!(rt; fenced.low() == b"b".as_slice());
-    assert!(rt; fenced.high() == Some(b"d".as_slice()));
-    assert!(rt; fenced.right().map(PageId::get) == Some(2));
-    assert!(rt;
-        fenced.holds(b"b") && fenced.holds(b"cz") && !fenced.holds(b"d") && !fenced.holds(b"a")
-    );
-    Ok(())
-}
-
-#[test]
-fn records_are_read(rt: HostRuntime) -> Result<(), Fail> {
-    let fenced = LeafView::read(&FENCED).ok().ok_or("a leaf")?;
-    let mut records = fenced.records();
-    assert!(rt; records.next() == Some((b"b".as_slice(), b"".as_slice())));
-    assert!(rt; records.next() == Some((b"c".as_slice(), b"x".as_slice())));
-    assert!(rt; records.next().is_none());
-    Ok(())
-}
-
-#[test]
-fn what_is_done_is_read(rt: HostRuntime) -> Result<(), Fail> {
-    let fenced = LeafView::read(&FENCED).ok().ok_or("a leaf")?;
-    let (first, rest) = fenced.done_list().split().ok_or("an entry")?;
-    assert!(rt; first.number == 5);
-    let second = rest.again().next().ok_or("an entry")?;
-    assert!(rt; second.client.get() == 2);
-    Ok(())
-}
-
-#[test]
-fn done_of_a_queue(rt: HostRuntime) -> Result<(), Fail> {
-    let fenced = LeafView::read(&FENCED).ok().ok_or("a leaf")?;
-    let numbers = fenced.numbers(0);
-    for (number, done) in [(1, 5), (2, 1), (3, 0)] {
-        let client = ClientId::new(number).ok().ok_or("a client")?;
-        assert!(rt; numbers.get(client) == done);
+fn fences_are_read(rt: HostRuntime) {
+    match LeafView::read(&FENCED) {
+        Ok(fenced) => assert!(rt; is_from_b_to_d(&fenced) && holds_from_b_to_d(&fenced)),
+        Err(_) => rt.panic("no leaf"),
     }
-    let first = ClientId::new(1).ok().ok_or("a client")?;
-    assert!(rt; fenced.numbers(3).get(first) == 1);
-    assert!(rt; fenced.numbers(1).get(first) == 0);
-    Ok(())
 }
 
-/// What the cursor of the tree's queue has for a client.
-fn cursor_of(alloc: Global, client: ClientId) -> Option<u64> {
-    let fenced = LeafView::read(&FENCED).ok()?;
-    Some(fenced.cursor(alloc, 0).ok()?.get(client))
+/// The records of the fenced leaf.
+const RECORDS: [(&[u8], &[u8]); 2] = [(b"b", b""), (b"c", b"x")];
+
+/// Whether a leaf has these records, in their order, and no other.
+fn has_records(fenced: &LeafView<'_>, wanted: &[(&[u8], &[u8])]) -> bool {
+    let mut count = 0;
+    for record in fenced.records() {
+        if wanted.get(count) != Some(&record) {
+            return false;
+        }
+        count = count.saturating_add(1);
+    }
+    count == wanted.len()
 }
 
 #[test]
-fn cursor_of_a_queue(rt: HostRuntime) -> Result<(), Fail> {
-    for (number, done) in [(1, 5), (2, 1), (3, 0)] {
-        let client = ClientId::new(number).ok().ok_or("a client")?;
-        assert!(rt; cursor_of(rt.alloc(), client) == Some(done));
+fn records_are_read(rt: HostRuntime) {
+    match LeafView::read(&FENCED) {
+        Ok(fenced) => assert!(rt; has_records(&fenced, &RECORDS)),
+        Err(_) => rt.panic("no leaf"),
     }
-    Ok(())
+}
+
+/// The number of the first entry of what is done, and the client of the second.
+fn first_done(fenced: &LeafView<'_>) -> Option<(u64, u64)> {
+    let (first, rest) = fenced.done_list().split()?;
+    let second = rest.again().next()?;
+    Some((first.number, second.client.get()))
+}
+
+#[test]
+fn what_is_done_is_read(rt: HostRuntime) {
+    match LeafView::read(&FENCED) {
+        Ok(fenced) => assert!(rt; first_done(&fenced) == Some((5, 2))),
+        Err(_) => rt.panic("no leaf"),
+    }
+}
+
+/// A page or 0 for the tree, a client, and up to which number its messages in the page's or tree's queue are done.
+const DONE: [(u64, u64, u64); 5] = [(0, 1, 5), (0, 2, 1), (0, 3, 0), (3, 1, 1), (1, 1, 0)];
+
+/// Whether a leaf tells so of the queue and the client.
+fn is_done(fenced: &LeafView<'_>, queue: u64, number: u64, done: u64) -> bool {
+    match ClientId::new(number) {
+        Ok(client) => fenced.numbers(queue).get(client) == done,
+        Err(_) => false,
+    }
+}
+
+/// Whether a leaf tells what each row says.
+fn are_done(fenced: &LeafView<'_>, rows: &[(u64, u64, u64)]) -> bool {
+    for (queue, number, done) in rows {
+        if !is_done(fenced, *queue, *number, *done) {
+            return false;
+        }
+    }
+    true
+}
+
+#[test]
+fn done_of_a_queue(rt: HostRuntime) {
+    match LeafView::read(&FENCED) {
+        Ok(fenced) => assert!(rt; are_done(&fenced, &DONE)),
+        Err(_) => rt.panic("no leaf"),
+    }
+}
+
+/// Whether a cursor has this number of a client.
+fn has_number(cursor: &Cursor, number: u64, done: u64) -> bool {
+    match ClientId::new(number) {
+        Ok(client) => cursor.get(client) == done,
+        Err(_) => false,
+    }
+}
+
+/// Whether the cursor of the tree's queue has number 5 of client 1, number 1 of client 2 and none of client 3.
+fn has_cursor(alloc: Global, fenced: &LeafView<'_>) -> bool {
+    match fenced.cursor(alloc, 0) {
+        Ok(cursor) => {
+            has_number(&cursor, 1, 5) && has_number(&cursor, 2, 1) && has_number(&cursor, 3, 0)
+        }
+        Err(_) => false,
+    }
+}
+
+#[test]
+fn cursor_of_a_queue(rt: HostRuntime) {
+    match LeafView::read(&FENCED) {
+        Ok(fenced) => assert!(rt; has_cursor(rt.alloc(), &fenced)),
+        Err(_) => rt.panic("no leaf"),
+    }
 }

@@ -16,4 +16,6 @@ mod log_codec_tests;
 #[cfg(test)]
 mod node_codec_tests;
 #[cfg(test)]
+mod refusals;
+#[cfg(test)]
 mod txn_buffer_tests;

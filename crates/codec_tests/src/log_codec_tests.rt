@@ -1,8 +1,8 @@
+use crate::refusals::{Reads, refuses_changes, refuses_cuts};
 use db_base::blob::Blob;
 use log_codec::fault::RecFault;
 use log_codec::record::{AtomicRec, PuRec};
-use std::alloc::{AllocError, Global};
-use std::test::Fail;
+use std::alloc::Global;
 
 /// Client 1, epoch 1, transaction 1, number 1, an insert.
 const PU: [u8; 33] = [
@@ -84,100 +84,88 @@ const ATOMIC_CHANGES: [(usize, u8, u64); 17] = [
     (44, 1, 44),
 ];
 
-/// The bytes with one of them changed, or added behind the end.
-fn changed(alloc: Global, bytes: &[u8], at: usize, value: u8) -> Result<Vec<u8>, AllocError> {
-    let mut changed = bytes.to_vec(alloc)?;
-    if at < changed.len() {
-        changed[at] = value;
-    } else {
-        changed.push(value)?;
+/// Reads bytes as a record of a pending update.
+struct Updates;
+
+impl Reads for Updates {
+    fn fault_of(alloc: Global, bytes: &[u8]) -> Option<u64> {
+        match PuRec::read(alloc, bytes) {
+            Err(RecFault::NotRecord { offset }) => Some(offset),
+            _ => None,
+        }
     }
-    Ok(changed)
 }
 
-/// A record that is read and written back.
-fn pu_again(alloc: Global, bytes: &[u8]) -> Result<Blob, Fail> {
-    Ok(PuRec::read(alloc, bytes)?.write(alloc)?)
+/// Reads bytes as a record of a commit.
+struct Commits;
+
+impl Reads for Commits {
+    fn fault_of(alloc: Global, bytes: &[u8]) -> Option<u64> {
+        match AtomicRec::read(alloc, bytes) {
+            Err(RecFault::NotRecord { offset }) => Some(offset),
+            _ => None,
+        }
+    }
 }
 
-fn atomic_again(alloc: Global, bytes: &[u8]) -> Result<Blob, Fail> {
-    Ok(AtomicRec::read(alloc, bytes)?.write(alloc)?)
-}
-
-/// Client, epoch, transaction and number of a copy of the record.
-fn numbers_of(alloc: Global, bytes: &[u8]) -> Result<(u64, u64, u64, u64), Fail> {
-    let copy = PuRec::read(alloc, bytes)?.copied(alloc)?;
-    Ok((copy.client.get(), copy.epoch, copy.txn, copy.number))
-}
-
-/// Where bytes are refused as a record of a pending update.
-fn pu_fault(alloc: Global, bytes: &[u8]) -> Option<u64> {
+/// The bytes as which a record is written that is read from bytes.
+fn pu_again(alloc: Global, bytes: &[u8]) -> Option<Blob> {
     match PuRec::read(alloc, bytes) {
-        Err(RecFault::NotRecord { offset }) => Some(offset),
-        _ => None,
+        Ok(record) => record.write(alloc).ok(),
+        Err(_) => None,
     }
 }
 
-/// Where bytes are refused as a record of a commit.
-fn atomic_fault(alloc: Global, bytes: &[u8]) -> Option<u64> {
+fn atomic_again(alloc: Global, bytes: &[u8]) -> Option<Blob> {
     match AtomicRec::read(alloc, bytes) {
-        Err(RecFault::NotRecord { offset }) => Some(offset),
-        _ => None,
+        Ok(record) => record.write(alloc).ok(),
+        Err(_) => None,
     }
 }
 
-/// Where PU with one of its bytes changed is refused.
-fn changed_pu_fault(alloc: Global, at: usize, value: u8) -> Option<u64> {
-    let bytes = changed(alloc, &PU, at, value).ok()?;
-    pu_fault(alloc, bytes.as_slice())
-}
-
-/// Where ATOMIC with one of its bytes changed is refused.
-fn changed_atomic_fault(alloc: Global, at: usize, value: u8) -> Option<u64> {
-    let bytes = changed(alloc, &ATOMIC, at, value).ok()?;
-    atomic_fault(alloc, bytes.as_slice())
-}
-
-#[test]
-fn vectors(rt: HostRuntime) -> Result<(), Fail> {
-    let spelled = pu_again(rt.alloc(), &PU)?;
-    assert!(rt; spelled.as_slice() == PU.as_slice());
-    Ok(())
-}
-
-#[test]
-fn atomic_vectors(rt: HostRuntime) -> Result<(), Fail> {
-    let spelled = atomic_again(rt.alloc(), &ATOMIC)?;
-    assert!(rt; spelled.as_slice() == ATOMIC.as_slice());
-    Ok(())
-}
-
-#[test]
-fn copies(rt: HostRuntime) -> Result<(), Fail> {
-    assert!(rt; numbers_of(rt.alloc(), &PU)? == (1, 1, 1, 1));
-    Ok(())
-}
-
-#[test]
-fn refused_pu_records(rt: HostRuntime) -> Result<(), Fail> {
-    for (len, offset) in PU_CUTS {
-        let front = PU.get(..len).ok_or("the front")?;
-        assert!(rt; pu_fault(rt.alloc(), front) == Some(offset));
+/// Whether there is a spelling, and it is these bytes.
+fn is_spelled(spelling: Option<Blob>, bytes: &[u8]) -> bool {
+    match spelling {
+        Some(spelling) => spelling.as_slice() == bytes,
+        None => false,
     }
-    for (at, value, offset) in PU_CHANGES {
-        assert!(rt; changed_pu_fault(rt.alloc(), at, value) == Some(offset));
-    }
-    Ok(())
 }
 
 #[test]
-fn refused_atomic_records(rt: HostRuntime) -> Result<(), Fail> {
-    for (len, offset) in ATOMIC_CUTS {
-        let front = ATOMIC.get(..len).ok_or("the front")?;
-        assert!(rt; atomic_fault(rt.alloc(), front) == Some(offset));
+fn vectors(rt: HostRuntime) {
+    assert!(rt; is_spelled(pu_again(rt.alloc(), &PU), &PU));
+    assert!(rt; is_spelled(atomic_again(rt.alloc(), &ATOMIC), &ATOMIC));
+}
+
+/// Whether client, epoch, transaction and number of a copy of a record are 1.
+fn is_copied(alloc: Global, record: &PuRec) -> bool {
+    match record.copied(alloc) {
+        Ok(copy) => copy.client.get() == 1 && copy.epoch == 1 && copy.txn == 1 && copy.number == 1,
+        Err(_) => false,
     }
-    for (at, value, offset) in ATOMIC_CHANGES {
-        assert!(rt; changed_atomic_fault(rt.alloc(), at, value) == Some(offset));
+}
+
+/// Whether bytes are read as a record of which the copy is so.
+fn are_copied(alloc: Global, bytes: &[u8]) -> bool {
+    match PuRec::read(alloc, bytes) {
+        Ok(record) => is_copied(alloc, &record),
+        Err(_) => false,
     }
-    Ok(())
+}
+
+#[test]
+fn copies(rt: HostRuntime) {
+    assert!(rt; are_copied(rt.alloc(), &PU));
+}
+
+#[test]
+fn refused_pu_records(rt: HostRuntime) {
+    assert!(rt; refuses_cuts::<Updates>(rt.alloc(), &PU, &PU_CUTS));
+    assert!(rt; refuses_changes::<Updates>(rt.alloc(), &PU, &PU_CHANGES));
+}
+
+#[test]
+fn refused_atomic_records(rt: HostRuntime) {
+    assert!(rt; refuses_cuts::<Commits>(rt.alloc(), &ATOMIC, &ATOMIC_CUTS));
+    assert!(rt; refuses_changes::<Commits>(rt.alloc(), &ATOMIC, &ATOMIC_CHANGES));
 }

@@ -1,13 +1,13 @@
 //! Vectors, refused bytes with the places that were worked out by hand, and each edit once.
 
+use crate::refusals::{Reads, changed, refuses_changes, refuses_cuts};
 use byte_format::{is_below, is_below_bound};
-use db_base::blob::Blob;
 use db_base::cursor::Cursor;
 use db_base::ids::{ClientId, PageId};
+use db_base::pair::EditFault;
 use node_codec::{Entries, InnerBuf, InnerView, TreeBuf, TreeView};
-use std::alloc::{AllocError, Global};
+use std::alloc::Global;
 use std::process::Abort;
-use std::test::Fail;
 
 /// Version 1, next free page 2, level 1; client 1 up to number 1; the empty key to page 1.
 const FIRST: [u8; 41] = [
@@ -154,43 +154,40 @@ const NODE_CHANGES: [(usize, u8, u64); 22] = [
     (46, 0, 46),
 ];
 
-/// The bytes with one of them changed, or added behind the end.
-fn changed(alloc: Global, bytes: &[u8], at: usize, value: u8) -> Result<Vec<u8>, AllocError> {
-    let mut changed = bytes.to_vec(alloc)?;
-    if at < changed.len() {
-        changed[at] = value;
-    } else {
-        changed.push(value)?;
-    }
-    Ok(changed)
-}
+/// Reads bytes as a root.
+struct Roots;
 
-/// Where bytes are refused as a root.
-fn root_fault(bytes: &[u8]) -> Option<u64> {
-    match TreeView::read(bytes) {
-        Ok(_) => None,
-        Err(fault) => Some(fault.offset),
+impl Reads for Roots {
+    fn fault_of(_alloc: Global, bytes: &[u8]) -> Option<u64> {
+        match TreeView::read(bytes) {
+            Ok(_) => None,
+            Err(fault) => Some(fault.offset),
+        }
     }
 }
 
-/// Where bytes are refused as an inner node.
-fn node_fault(bytes: &[u8]) -> Option<u64> {
-    match InnerView::read(bytes) {
-        Ok(_) => None,
-        Err(fault) => Some(fault.offset),
+/// Reads bytes as an inner node.
+struct Nodes;
+
+impl Reads for Nodes {
+    fn fault_of(_alloc: Global, bytes: &[u8]) -> Option<u64> {
+        match InnerView::read(bytes) {
+            Ok(_) => None,
+            Err(fault) => Some(fault.offset),
+        }
     }
 }
 
-/// Where ROOT with one of its bytes changed is refused.
-fn changed_root_fault(alloc: Global, at: usize, value: u8) -> Option<u64> {
-    let bytes = changed(alloc, &ROOT, at, value).ok()?;
-    root_fault(bytes.as_slice())
+#[test]
+fn refused_roots(rt: HostRuntime) {
+    assert!(rt; refuses_cuts::<Roots>(rt.alloc(), &ROOT, &ROOT_CUTS));
+    assert!(rt; refuses_changes::<Roots>(rt.alloc(), &ROOT, &ROOT_CHANGES));
 }
 
-/// Where NODE with one of its bytes changed is refused.
-fn changed_node_fault(alloc: Global, at: usize, value: u8) -> Option<u64> {
-    let bytes = changed(alloc, &NODE, at, value).ok()?;
-    node_fault(bytes.as_slice())
+#[test]
+fn refused_nodes(rt: HostRuntime) {
+    assert!(rt; refuses_cuts::<Nodes>(rt.alloc(), &NODE, &NODE_CUTS));
+    assert!(rt; refuses_changes::<Nodes>(rt.alloc(), &NODE, &NODE_CHANGES));
 }
 
 /// Whether a root is written as these bytes.
@@ -209,194 +206,252 @@ fn is_node(alloc: Global, node: &InnerBuf, bytes: &[u8]) -> bool {
     }
 }
 
-/// The pages of entries, in their order.
-fn pages(alloc: Global, entries: Entries<'_>) -> Result<Vec<u64>, AllocError> {
-    let mut pages = Vec::new(alloc);
-    for (_, page) in entries {
-        pages.push(page.get())?;
+/// The root that is put behind a view of one.
+fn root_behind(alloc: Global, bytes: &[u8]) -> Option<TreeBuf> {
+    match TreeView::read(bytes) {
+        Ok(view) => TreeBuf::of(alloc, &view).ok(),
+        Err(_) => None,
     }
-    Ok(pages)
 }
 
-#[test]
-fn refused_roots(rt: HostRuntime) -> Result<(), Fail> {
-    for (len, offset) in ROOT_CUTS {
-        let front = ROOT.get(..len).ok_or("the front")?;
-        assert!(rt; root_fault(front) == Some(offset), "cut to {len}");
+/// The node that is put behind a view of one.
+fn node_behind(alloc: Global, bytes: &[u8]) -> Option<InnerBuf> {
+    match InnerView::read(bytes) {
+        Ok(view) => InnerBuf::of(alloc, &view).ok(),
+        Err(_) => None,
     }
-    for (at, value, offset) in ROOT_CHANGES {
-        assert!(rt;
-            changed_root_fault(rt.alloc(), at, value) == Some(offset),
-            "{value} at {at}"
-        );
-    }
-    Ok(())
 }
 
-#[test]
-fn refused_nodes(rt: HostRuntime) -> Result<(), Fail> {
-    for (len, offset) in NODE_CUTS {
-        let front = NODE.get(..len).ok_or("the front")?;
-        assert!(rt; node_fault(front) == Some(offset), "cut to {len}");
-    }
-    for (at, value, offset) in NODE_CHANGES {
-        assert!(rt;
-            changed_node_fault(rt.alloc(), at, value) == Some(offset),
-            "{value} at {at}"
-        );
-    }
-    Ok(())
-}
-
-/// The first root that is put: up to number 1 of client 1.
-fn first_root(alloc: Global) -> Result<Blob, Fail> {
+/// The cursor up to number 1 of client 1.
+fn first_numbers(alloc: Global) -> Option<Cursor> {
+    let client = ClientId::new(1).ok()?;
     let mut cursor = Cursor::new(alloc);
-    cursor.set(ClientId::new(1)?, 1)?;
-    let mut root = TreeBuf::of(alloc, &TreeView::empty())?;
-    root.raise(&cursor)?;
-    Ok(root.write(alloc)?)
+    match cursor.set(client, 1) {
+        Ok(()) => Some(cursor),
+        Err(_) => None,
+    }
+}
+
+/// Whether the first root that is put, raised to a cursor, is written as these bytes.
+fn is_first_root(alloc: Global, cursor: &Cursor, bytes: &[u8]) -> bool {
+    match TreeBuf::of(alloc, &TreeView::empty()) {
+        Ok(mut root) => root.raise(cursor).is_ok() && is_root(alloc, &root, bytes),
+        Err(_) => false,
+    }
 }
 
 #[test]
-fn first_root_is_written(rt: HostRuntime) -> Result<(), Fail> {
-    let root = first_root(rt.alloc())?;
-    assert!(rt; root.as_slice() == FIRST.as_slice());
-    Ok(())
+fn first_root_is_written(rt: HostRuntime) {
+    match first_numbers(rt.alloc()) {
+        Some(cursor) => assert!(rt; is_first_root(rt.alloc(), &cursor, &FIRST)),
+        None => rt.panic("no cursor"),
+    }
 }
 
 /// What the whole cursor of a root has for a client.
 fn cursor_of(alloc: Global, view: &TreeView<'_>, client: ClientId) -> Option<u64> {
-    Some(view.whole_cursor(alloc).ok()?.get(client))
+    match view.whole_cursor(alloc) {
+        Ok(cursor) => Some(cursor.get(client)),
+        Err(_) => None,
+    }
+}
+
+/// Whether the entries lead to these pages, in their order.
+fn are_pages(entries: Entries<'_>, pages: &[u64]) -> bool {
+    let mut count = 0;
+    for (_, page) in entries {
+        if pages.get(count) != Some(&page.get()) {
+            return false;
+        }
+        count = count.saturating_add(1);
+    }
+    count == pages.len()
+}
+
+/// Whether a root is of version 1 and level 1, has the next free page 2, and leads to page 1 alone.
+fn is_first(view: &TreeView<'_>) -> bool {
+    view.version() == 1 && view.next() == 2 && view.level() == 1 && are_pages(view.entries(), &[1])
+}
+
+/// Whether a root has number 1 of client 1.
+fn has_number_1(alloc: Global, view: &TreeView<'_>) -> bool {
+    match ClientId::new(1) {
+        Ok(client) => view.cursor(client) == 1 && cursor_of(alloc, view, client) == Some(1),
+        Err(_) => false,
+    }
 }
 
 #[test]
-fn first_root_is_read(rt: HostRuntime) -> Result<(), Fail> {
-    let view = TreeView::read(&FIRST)?;
-    assert!(rt; view.version() == 1 && view.next() == 2 && view.level() == 1);
-    let client = ClientId::new(1)?;
-    assert!(rt; view.cursor(client) == 1);
-    assert!(rt; cursor_of(rt.alloc(), &view, client) == Some(1));
-    let pages = pages(rt.alloc(), view.entries())?;
-    assert!(rt; pages.as_slice() == [1].as_slice());
-    Ok(())
+fn first_root_is_read(rt: HostRuntime) {
+    match TreeView::read(&FIRST) {
+        Ok(view) => assert!(rt; is_first(&view) && has_number_1(rt.alloc(), &view)),
+        Err(_) => rt.panic("no root"),
+    }
 }
 
-/// Bytes with the next version, number 2.
-fn next(alloc: Global, bytes: &[u8]) -> Result<Vec<u8>, AllocError> {
-    changed(alloc, bytes, 9, 2)
+/// Whether the bytes of a root are written with the next version, number 2.
+fn is_next_root(alloc: Global, bytes: &[u8]) -> bool {
+    match (changed(alloc, bytes, 9, 2), root_behind(alloc, bytes)) {
+        (Some(wanted), Some(root)) => is_root(alloc, &root, wanted.as_slice()),
+        _ => false,
+    }
 }
 
-/// Whether a root that is read is written with the next version.
-fn is_next_root(alloc: Global, bytes: &[u8]) -> Result<bool, Fail> {
-    let wanted = next(alloc, bytes)?;
-    let root = TreeBuf::of(alloc, &TreeView::read(bytes)?)?;
-    Ok(is_root(alloc, &root, wanted.as_slice()))
-}
-
-/// Whether an inner node that is read is written with the next version.
-fn is_next_node(alloc: Global, bytes: &[u8]) -> Result<bool, Fail> {
-    let wanted = next(alloc, bytes)?;
-    let node = InnerBuf::of(alloc, &InnerView::read(bytes)?)?;
-    Ok(is_node(alloc, &node, wanted.as_slice()))
+/// Whether the bytes of an inner node are written with the next version, number 2.
+fn is_next_node(alloc: Global, bytes: &[u8]) -> bool {
+    match (changed(alloc, bytes, 9, 2), node_behind(alloc, bytes)) {
+        (Some(wanted), Some(node)) => is_node(alloc, &node, wanted.as_slice()),
+        _ => false,
+    }
 }
 
 #[test]
-fn written_back_with_the_next_version(rt: HostRuntime) -> Result<(), Fail> {
-    assert!(rt; is_next_root(rt.alloc(), &FIRST)?);
-    assert!(rt; is_next_root(rt.alloc(), &ROOT)?);
-    assert!(rt; is_next_node(rt.alloc(), &NODE)?);
-    Ok(())
+fn written_back_with_the_next_version(rt: HostRuntime) {
+    assert!(rt; is_next_root(rt.alloc(), &FIRST));
+    assert!(rt; is_next_root(rt.alloc(), &ROOT));
+    assert!(rt; is_next_node(rt.alloc(), &NODE));
 }
 
-/// The first root with an entry of c to a new page, the first of three that were reserved, and then of c to page 1.
-fn with_an_entry(alloc: Global) -> Result<(u64, TreeBuf), Fail> {
-    let mut root = TreeBuf::of(alloc, &TreeView::read(&FIRST)?)?;
+/// Reserves three pages, adds an entry of c to the first of them and then one of c to page 1, and gives the first.
+fn reserve_and_add(root: &mut TreeBuf) -> Result<u64, EditFault> {
     let second = root.reserve(3)?;
     root.add(b"c", second)?;
     root.add(b"c", PageId::first())?;
-    Ok((second.get(), root))
+    Ok(second.get())
 }
 
-/// The next free page of a root, and the pages to which it leads from b and c.
-fn leads(alloc: Global, root: &TreeBuf) -> Result<(u64, u64, u64), Fail> {
-    let bytes = root.write(alloc)?;
-    let view = TreeView::read(bytes.as_slice())?;
-    Ok((
-        view.next(),
-        view.child(b"b").1.get(),
-        view.child(b"c").1.get(),
-    ))
+/// The page to which a root leads from a key.
+fn child(view: &TreeView<'_>, key: &[u8]) -> u64 {
+    view.child(key).1.get()
+}
+
+/// Whether the bytes of a root have the next free page 5, and lead to page 1 from b and to page 2 from c.
+fn leads(bytes: &[u8]) -> bool {
+    match TreeView::read(bytes) {
+        Ok(view) => view.next() == 5 && child(&view, b"b") == 1 && child(&view, b"c") == 2,
+        Err(_) => false,
+    }
+}
+
+/// Whether a root is written as such bytes.
+fn is_written_to_lead(alloc: Global, root: &TreeBuf) -> bool {
+    match root.write(alloc) {
+        Ok(bytes) => leads(bytes.as_slice()),
+        Err(_) => false,
+    }
 }
 
 #[test]
-fn an_entry_is_added(rt: HostRuntime) -> Result<(), Fail> {
-    let (second, root) = with_an_entry(rt.alloc())?;
-    assert!(rt; second == 2 && root.len() == 2);
-    assert!(rt; leads(rt.alloc(), &root)? == (5, 1, 2));
-    Ok(())
+fn an_entry_is_added(rt: HostRuntime) {
+    match root_behind(rt.alloc(), &FIRST) {
+        Some(mut root) => {
+            assert!(rt; reserve_and_add(&mut root) == Ok(2) && root.len() == 2);
+            assert!(rt; is_written_to_lead(rt.alloc(), &root));
+        }
+        None => rt.panic("no root"),
+    }
 }
 
 /// The root over a node that has its entries, and that node.
-fn lowered(rt: &impl Abort, alloc: Global) -> Result<(TreeBuf, InnerBuf), Fail> {
-    let view = TreeView::read(&ROOT)?;
-    assert!(rt; view.level() < 255);
-    let mut root = TreeBuf::of(alloc, &view)?;
-    let page = root.reserve(1)?;
-    Ok(root.lower(page)?)
-}
-
-#[test]
-fn entries_go_below(rt: HostRuntime) -> Result<(), Fail> {
-    let (root, node) = lowered(&rt, rt.alloc())?;
-    assert!(rt; root.len() == 1 && node.len() == 2);
-    assert!(rt; is_root(rt.alloc(), &root, &LOWERED));
-    assert!(rt; is_node(rt.alloc(), &node, &BELOW));
-    Ok(())
-}
-
-#[test]
-fn a_node_is_read(rt: HostRuntime) -> Result<(), Fail> {
-    let view = InnerView::read(&NODE)?;
-    assert!(rt; view.version() == 1 && view.level() == 1);
-    assert!(rt; view.low() == b"b".as_slice());
-    assert!(rt; view.high() == Some(b"m".as_slice()));
-    assert!(rt; view.right().map(PageId::get) == Some(5));
-    assert!(rt; !is_below(b"bz", view.low()));
-    let (low, page) = view.child(b"bz");
-    assert!(rt; low == b"b".as_slice() && page.get() == 1);
-    Ok(())
-}
-
-#[test]
-fn entries_of_a_node_are_read(rt: HostRuntime) -> Result<(), Fail> {
-    let view = InnerView::read(&NODE)?;
-    let pages = pages(rt.alloc(), view.entries())?;
-    assert!(rt; pages.as_slice() == [1, 2].as_slice());
-    Ok(())
-}
-
-/// The node with one more entry, d to page 1.
-fn wider(alloc: Global) -> Result<InnerBuf, Fail> {
-    let view = InnerView::read(&NODE)?;
-    if is_below(b"d", view.low()) || !is_below_bound(b"d", view.high()) {
-        return Err(Fail::from("d is in the range"));
+fn lowered(alloc: Global, view: &TreeView<'_>) -> Result<(TreeBuf, InnerBuf), EditFault> {
+    if view.level() == 255 {
+        return Err(EditFault::Exhausted);
     }
-    let mut node = InnerBuf::of(alloc, &view)?;
+    let mut root = TreeBuf::of(alloc, view)?;
+    let page = root.reserve(1)?;
+    root.lower(page)
+}
+
+/// Whether a root is lowered to the root and the node that were spelled by hand.
+fn is_lowered(alloc: Global, view: &TreeView<'_>) -> bool {
+    match lowered(alloc, view) {
+        Ok((root, node)) => {
+            root.len() == 1
+                && node.len() == 2
+                && is_root(alloc, &root, &LOWERED)
+                && is_node(alloc, &node, &BELOW)
+        }
+        Err(_) => false,
+    }
+}
+
+#[test]
+fn entries_go_below(rt: HostRuntime) {
+    match TreeView::read(&ROOT) {
+        Ok(view) => assert!(rt; is_lowered(rt.alloc(), &view)),
+        Err(_) => rt.panic("no root"),
+    }
+}
+
+/// Whether a node is of version 1 and level 1, and has page 5 to the right.
+fn has_numbers(view: &InnerView<'_>) -> bool {
+    view.version() == 1 && view.level() == 1 && view.right().map(PageId::get) == Some(5)
+}
+
+/// Whether a node's keys are those from b on and below m.
+fn is_from_b_to_m(view: &InnerView<'_>) -> bool {
+    view.low() == b"b".as_slice() && view.high() == Some(b"m".as_slice())
+}
+
+/// Whether a node leads from bz to page 1, by the entry of b.
+fn leads_from_b(view: &InnerView<'_>) -> bool {
+    if is_below(b"bz", view.low()) {
+        return false;
+    }
+    let (low, page) = view.child(b"bz");
+    low == b"b".as_slice() && page.get() == 1
+}
+
+#[test]
+fn a_node_is_read(rt: HostRuntime) {
+    match InnerView::read(&NODE) {
+        Ok(view) => {
+            assert!(rt; has_numbers(&view) && is_from_b_to_m(&view) && leads_from_b(&view));
+            assert!(rt; are_pages(view.entries(), &[1, 2]));
+        }
+        Err(_) => rt.panic("no node"),
+    }
+}
+
+/// The node behind a view with one more entry, d to page 1.
+fn wider(alloc: Global, view: &InnerView<'_>) -> Result<InnerBuf, EditFault> {
+    if is_below(b"d", view.low()) || !is_below_bound(b"d", view.high()) {
+        return Err(EditFault::Exhausted);
+    }
+    let mut node = InnerBuf::of(alloc, view)?;
     node.add(b"d", PageId::first())?;
     Ok(node)
 }
 
-/// That node cut behind its first entry, the right part on page 7.
-fn cut(rt: &impl Abort, alloc: Global) -> Result<(InnerBuf, InnerBuf), Fail> {
-    let node = wider(alloc)?;
-    assert!(rt; node.len() > 1);
-    Ok(node.cut_at(1, PageId::new(7)?)?)
+/// A node cut behind its first entry, the right part on page 7.
+fn cut(node: InnerBuf) -> Option<(InnerBuf, InnerBuf)> {
+    let page = PageId::new(7).ok()?;
+    if node.len() < 2 {
+        return None;
+    }
+    node.cut_at(1, page).ok()
+}
+
+/// Whether a node is cut into the parts that were spelled by hand.
+fn is_cut(alloc: Global, node: InnerBuf) -> bool {
+    match cut(node) {
+        Some((left, right)) => is_node(alloc, &left, &LEFT) && is_node(alloc, &right, &RIGHT),
+        None => false,
+    }
+}
+
+/// Whether a node with one more entry is so cut.
+fn is_widened_and_cut(alloc: Global, view: &InnerView<'_>) -> bool {
+    match wider(alloc, view) {
+        Ok(node) => is_cut(alloc, node),
+        Err(_) => false,
+    }
 }
 
 #[test]
-fn a_node_is_cut(rt: HostRuntime) -> Result<(), Fail> {
-    let (left, right) = cut(&rt, rt.alloc())?;
-    assert!(rt; is_node(rt.alloc(), &left, &LEFT));
-    assert!(rt; is_node(rt.alloc(), &right, &RIGHT));
-    Ok(())
+fn a_node_is_cut(rt: HostRuntime) {
+    match InnerView::read(&NODE) {
+        Ok(view) => assert!(rt; is_widened_and_cut(rt.alloc(), &view)),
+        Err(_) => rt.panic("no node"),
+    }
 }

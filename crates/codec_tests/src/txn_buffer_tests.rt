@@ -3,7 +3,7 @@ use db_base::ids::TreeId;
 use db_base::key::{Key, Payload};
 use db_base::refusal::{Refusal, Refused};
 use std::alloc::Global;
-use std::test::Fail;
+use std::process::Abort;
 use txn_buffer::buffer::TxnBuffer;
 
 fn insert(alloc: Global, key: &[u8], payload: &[u8]) -> Result<Change, Refused> {
@@ -54,82 +54,117 @@ fn deletes(buffer: &TxnBuffer, tree: TreeId, key: &[u8]) -> Option<bool> {
     }
 }
 
-/// Inserts of b in tree 1, of b in tree 2 and of a in tree 1, and then the deletion of b in tree 1.
-fn noted(alloc: Global) -> Result<TxnBuffer, Fail> {
-    let mut buffer = TxnBuffer::new(alloc)?;
-    note_all(alloc, &mut buffer)?;
-    Ok(buffer)
-}
-
-fn note_all(alloc: Global, buffer: &mut TxnBuffer) -> Result<(), Fail> {
-    for (number, key) in NOTED {
-        let tree = TreeId::new(number)?;
-        inserted(alloc, buffer, tree, key.as_bytes())?;
-    }
-    let one = TreeId::new(1)?;
-    deleted(alloc, buffer, one, b"b")?;
-    Ok(())
-}
-
 const NOTED: [(u64, &str); 3] = [(1, "b"), (2, "b"), (1, "a")];
 
-#[test]
-fn notes_in_order(rt: HostRuntime) -> Result<(), Fail> {
-    let buffer = noted(rt.alloc())?;
-    assert!(rt; buffer.len() == 3);
-    for (index, (tree, key)) in NOTED.iter().enumerate() {
-        assert!(rt; is_at(&buffer, index, *tree, key));
+/// What a buffer answers to an insert of a payload x in the tree of this number.
+fn note_insert(
+    alloc: Global,
+    buffer: &mut TxnBuffer,
+    number: u64,
+    key: &str,
+) -> Result<(), Refused> {
+    match TreeId::new(number) {
+        Ok(tree) => inserted(alloc, buffer, tree, key.as_bytes()),
+        Err(_) => Err(Refused::Rule(Refusal::BadNumber)),
     }
-    assert!(rt; buffer.at(3).is_none());
+}
+
+/// Notes an insert for each row.
+fn note_inserts(
+    alloc: Global,
+    buffer: &mut TxnBuffer,
+    rows: &[(u64, &str)],
+) -> Result<(), Refused> {
+    for (number, key) in rows {
+        note_insert(alloc, buffer, *number, key)?;
+    }
     Ok(())
 }
 
-#[test]
-fn finds_net_changes(rt: HostRuntime) -> Result<(), Fail> {
-    let (one, two) = (TreeId::new(1)?, TreeId::new(2)?);
-    let buffer = noted(rt.alloc())?;
-    assert!(rt; deletes(&buffer, one, b"b") == Some(true));
-    assert!(rt; deletes(&buffer, two, b"b") == Some(false));
-    assert!(rt; deletes(&buffer, two, b"a").is_none());
-    assert!(rt; deletes(&buffer, one, &[98; 65]).is_none());
-    Ok(())
+/// Inserts of b in tree 1, of b in tree 2 and of a in tree 1, and then the deletion of b in tree 1.
+fn noted(alloc: Global, one: TreeId) -> Option<TxnBuffer> {
+    let mut buffer = TxnBuffer::new(alloc).ok()?;
+    let inserts = note_inserts(alloc, &mut buffer, &NOTED);
+    if inserts.is_err() || deleted(alloc, &mut buffer, one, b"b").is_err() {
+        return None;
+    }
+    Some(buffer)
 }
 
-#[test]
-fn gives_what_was_noted(rt: HostRuntime) -> Result<(), Fail> {
-    let mut buffer = noted(rt.alloc())?;
+/// Whether a buffer has an entry for each row, in their order, and no more.
+fn has_noted(buffer: &TxnBuffer, rows: &[(u64, &str)]) -> bool {
+    for (index, (tree, key)) in rows.iter().enumerate() {
+        if !is_at(buffer, index, *tree, key) {
+            return false;
+        }
+    }
+    buffer.len() == rows.len() && buffer.at(rows.len()).is_none()
+}
+
+/// Whether b of tree 1 is found to be deleted, b of tree 2 to be put, and no other key of them to be changed.
+fn has_net_changes(buffer: &TxnBuffer, one: TreeId, two: TreeId) -> bool {
+    deletes(buffer, one, b"b") == Some(true)
+        && deletes(buffer, two, b"b") == Some(false)
+        && deletes(buffer, two, b"a").is_none()
+        && deletes(buffer, one, &[98; 65]).is_none()
+}
+
+/// Whether a buffer of three entries gives them, which can be dropped then, and is empty.
+fn gives_three(buffer: &mut TxnBuffer) -> bool {
     let mut taken = buffer.take();
-    assert!(rt; buffer.len() == 0 && taken.len() == 3);
+    let count = taken.len();
     taken.clear();
-    assert!(rt; taken.len() == 0);
-    Ok(())
+    count == 3 && taken.len() == 0 && buffer.len() == 0
 }
 
 #[test]
-fn begins_empty(rt: HostRuntime) -> Result<(), Fail> {
-    let buffer = TxnBuffer::new(rt.alloc())?;
-    assert!(rt; buffer.is_empty());
-    Ok(())
+fn notes_net_changes_in_order(rt: HostRuntime) {
+    let (Ok(one), Ok(two)) = (TreeId::new(1), TreeId::new(2)) else {
+        rt.panic("no tree")
+    };
+    let Some(mut buffer) = noted(rt.alloc(), one) else {
+        rt.panic("no buffer")
+    };
+    assert!(rt; has_noted(&buffer, &NOTED));
+    assert!(rt; has_net_changes(&buffer, one, two));
+    assert!(rt; gives_three(&mut buffer));
 }
 
-/// A buffer of 200 changes of tree 16.
-fn full(alloc: Global) -> Result<TxnBuffer, Fail> {
-    let tree = TreeId::new(16)?;
-    let mut buffer = TxnBuffer::new(alloc)?;
-    for byte in 0..200u8 {
-        inserted(alloc, &mut buffer, tree, &[byte])?;
+#[test]
+fn begins_empty(rt: HostRuntime) {
+    match TxnBuffer::new(rt.alloc()) {
+        Ok(buffer) => assert!(rt; buffer.is_empty()),
+        Err(_) => rt.panic("no buffer"),
     }
-    Ok(buffer)
+}
+
+/// Whether a buffer takes 200 changes of a tree.
+fn is_filled(alloc: Global, buffer: &mut TxnBuffer, tree: TreeId) -> bool {
+    for byte in 0..200u8 {
+        if inserted(alloc, buffer, tree, &[byte]).is_err() {
+            return false;
+        }
+    }
+    true
+}
+
+/// Whether a full buffer refuses the change of another key, and takes that of a key that it has.
+fn is_full(alloc: Global, buffer: &mut TxnBuffer, one: TreeId, last: TreeId) -> bool {
+    let many = Err(Refused::Rule(Refusal::TooManyChanges));
+    inserted(alloc, buffer, last, &[200]) == many
+        && inserted(alloc, buffer, one, &[7]) == many
+        && deleted(alloc, buffer, last, &[7]) == Ok(())
+        && buffer.len() == 200
 }
 
 #[test]
-fn refuses_the_201st(rt: HostRuntime) -> Result<(), Fail> {
-    let (one, last) = (TreeId::new(1)?, TreeId::new(16)?);
-    let many = Err(Refused::Rule(Refusal::TooManyChanges));
-    let mut buffer = full(rt.alloc())?;
-    assert!(rt; inserted(rt.alloc(), &mut buffer, last, &[200]) == many);
-    assert!(rt; inserted(rt.alloc(), &mut buffer, one, &[7]) == many);
-    assert!(rt; deleted(rt.alloc(), &mut buffer, last, &[7]) == Ok(()));
-    assert!(rt; buffer.len() == 200);
-    Ok(())
+fn refuses_the_201st(rt: HostRuntime) {
+    let (Ok(one), Ok(last)) = (TreeId::new(1), TreeId::new(16)) else {
+        rt.panic("no tree")
+    };
+    let Ok(mut buffer) = TxnBuffer::new(rt.alloc()) else {
+        rt.panic("no buffer")
+    };
+    assert!(rt; is_filled(rt.alloc(), &mut buffer, last));
+    assert!(rt; is_full(rt.alloc(), &mut buffer, one, last));
 }

@@ -1,15 +1,11 @@
-use db_base::blob::Blob;
-use db_base::change::Change;
 use db_base::cursor::Cursor;
 use db_base::ids::{ClientId, MsgId, PageId};
-use db_base::key::{Key, Payload};
 use leaf_edit::{LeafBuf, VersionSpent, apply, fresh, merge, need};
 use leaf_view::LeafView;
 use log_codec::record::{PuItem, PuRec};
 use run_cursor::run::{Run, take_run};
 use std::alloc::Global;
 use std::process::Abort;
-use std::test::Fail;
 
 /// Version 1, no fence, one entry of what is done and one record.
 const PAGE: [u8; 45] = [
@@ -17,39 +13,48 @@ const PAGE: [u8; 45] = [
     0, 0, 0, 0, 0, 1, 0, 1, 1, 0x6b, 0, 1, 0x76, 0,
 ];
 
-/// The page as a leaf of its own.
-fn page(alloc: Global) -> Result<LeafBuf, Fail> {
-    Ok(LeafBuf::read(PAGE.to_vec(alloc)?)?)
+/// Bytes as a leaf of its own.
+fn leaf_of(alloc: Global, bytes: &[u8]) -> Option<LeafBuf> {
+    match bytes.to_vec(alloc) {
+        Ok(bytes) => LeafBuf::read(bytes).ok(),
+        Err(_) => None,
+    }
 }
 
-/// Where the page without its last byte is refused.
-fn cut_short(alloc: Global) -> Result<Option<u64>, Fail> {
-    match LeafBuf::read(PAGE[..44].to_vec(alloc)?) {
-        Ok(_) => Ok(None),
-        Err(fault) => Ok(Some(fault.offset)),
+/// Where bytes are refused.
+fn fault_of(alloc: Global, bytes: &[u8]) -> Option<u64> {
+    match LeafBuf::read(bytes.to_vec(alloc).ok()?) {
+        Ok(_) => None,
+        Err(fault) => Some(fault.offset),
+    }
+}
+
+/// Whether a leaf is written as these bytes.
+fn is_written(alloc: Global, leaf: &LeafBuf, bytes: &[u8]) -> bool {
+    match leaf.write(alloc) {
+        Ok(written) => written.as_slice() == bytes,
+        Err(_) => false,
+    }
+}
+
+/// Whether a leaf of version 1 with one record is written as these bytes, and consists of them.
+fn is_page_one(alloc: Global, page: LeafBuf, bytes: &[u8]) -> bool {
+    let is_right = page.len() == 1 && page.view().version() == 1 && is_written(alloc, &page, bytes);
+    let blob = page.into_blob();
+    is_right && blob.as_slice() == bytes
+}
+
+#[test]
+fn page_one(rt: HostRuntime) {
+    match leaf_of(rt.alloc(), &PAGE) {
+        Some(page) => assert!(rt; is_page_one(rt.alloc(), page, &PAGE)),
+        None => rt.panic("no leaf"),
     }
 }
 
 #[test]
-fn page_one(rt: HostRuntime) -> Result<(), Fail> {
-    let page = page(rt.alloc())?;
-    assert!(rt; page.len() == 1 && page.view().version() == 1);
-    let bytes = page.into_blob();
-    assert!(rt; bytes.as_slice() == PAGE.as_slice());
-    Ok(())
-}
-
-#[test]
-fn page_one_is_written(rt: HostRuntime) -> Result<(), Fail> {
-    let copy = page(rt.alloc())?.write(rt.alloc())?;
-    assert!(rt; copy.as_slice() == PAGE.as_slice());
-    Ok(())
-}
-
-#[test]
-fn page_one_cut_short_is_refused(rt: HostRuntime) -> Result<(), Fail> {
-    assert!(rt; cut_short(rt.alloc())? == Some(44));
-    Ok(())
+fn page_one_cut_short_is_refused(rt: HostRuntime) {
+    assert!(rt; fault_of(rt.alloc(), &PAGE[..44]) == Some(44));
 }
 
 /// The page behind an update of its record, number 1 of client 1 in the queue of page 1.
@@ -59,116 +64,148 @@ const APPLIED: [u8; 64] = [
     0x77, 0x78, 0,
 ];
 
+/// That update, in epoch 1 and transaction 1.
+const UPDATE: [u8; 34] = [
+    0x50, 1, 1, 0, 0, 0, 0, 0, 0, 0, 1, 0, 0, 0, 0, 0, 0, 0, 1, 0, 0, 0, 0, 0, 0, 0, 1, 2, 1, 0x6b,
+    0, 2, 0x77, 0x78,
+];
+
+/// The run of one item.
+fn run_of(alloc: Global, item: PuItem) -> Option<Run> {
+    take_run(alloc, &Cursor::new(alloc), &[item]).ok()
+}
+
 /// The run of that one update.
-fn one_update(alloc: Global) -> Result<Run, Fail> {
-    let mut items = Vec::new(alloc);
-    items.push(PuItem {
-        id: MsgId::new(1),
-        rec: PuRec {
-            client: ClientId::new(1)?,
-            epoch: 1,
-            txn: 1,
-            number: 1,
-            change: Change::Update {
-                key: Key::new(alloc, b"k")?,
-                payload: Payload::new(alloc, b"wx")?,
+fn one_update(alloc: Global) -> Option<Run> {
+    match PuRec::read(alloc, &UPDATE) {
+        Ok(rec) => run_of(
+            alloc,
+            PuItem {
+                id: MsgId::new(1),
+                rec,
             },
-        },
-    })?;
-    let cursor = Cursor::new(alloc);
-    Ok(take_run(alloc, &cursor, items.as_slice())?)
+        ),
+        Err(_) => None,
+    }
 }
 
-/// The page behind the run.
-fn applied(alloc: Global, run: &Run) -> Result<LeafBuf, Fail> {
-    let page = LeafView::read(PAGE.as_slice())?;
-    Ok(apply(alloc, &page, 1, run.items())?)
-}
-
-/// How many items of the run are new to the page, and then to the page behind it.
-fn fresh_before_and_behind(alloc: Global) -> Result<(usize, usize), Fail> {
-    let run = one_update(alloc)?;
-    let page = LeafView::read(PAGE.as_slice())?;
-    let before = fresh(&page, 1, run.items());
-    let applied = applied(alloc, &run)?;
-    Ok((before, fresh(&applied.view(), 1, run.items())))
-}
-
-/// The bytes of the page behind the run.
-fn applied_bytes(alloc: Global) -> Result<Blob, Fail> {
-    let run = one_update(alloc)?;
-    Ok(applied(alloc, &run)?.into_blob())
+/// Whether the page behind a run has these bytes, and no item of the run is new to it.
+fn is_applied(alloc: Global, page: &LeafView<'_>, run: &Run, bytes: &[u8]) -> bool {
+    match apply(alloc, page, 1, run.items()) {
+        Ok(applied) => {
+            let left = fresh(&applied.view(), 1, run.items());
+            let blob = applied.into_blob();
+            left == 0 && blob.as_slice() == bytes
+        }
+        Err(_) => false,
+    }
 }
 
 #[test]
-fn a_run_is_applied(rt: HostRuntime) -> Result<(), Fail> {
-    let bytes = applied_bytes(rt.alloc())?;
-    assert!(rt; bytes.as_slice() == APPLIED.as_slice());
-    Ok(())
+fn a_run_is_applied(rt: HostRuntime) {
+    let Ok(page) = LeafView::read(&PAGE) else {
+        rt.panic("no leaf")
+    };
+    let Some(run) = one_update(rt.alloc()) else {
+        rt.panic("no run")
+    };
+    assert!(rt; fresh(&page, 1, run.items()) == 1);
+    assert!(rt; is_applied(rt.alloc(), &page, &run, &APPLIED));
 }
 
-#[test]
-fn an_applied_run_is_fresh_no_more(rt: HostRuntime) -> Result<(), Fail> {
-    assert!(rt; fresh_before_and_behind(rt.alloc())? == (1, 0));
-    Ok(())
-}
-
-/// What is written where a page takes the run, and whether it was.
-fn merged(
+/// Whether these bytes are written where a page takes the run, and that is answered.
+fn is_merged(
     alloc: Global,
-    page: &[u8],
+    page: &LeafView<'_>,
     run: &Run,
-) -> Result<(Vec<u8>, Result<(), VersionSpent>), Fail> {
-    let page = LeafView::read(page)?;
-    let length = need(&page, 1, run.items()).ok_or("a length")?;
-    let mut out = Vec::with_capacity(alloc, length)?;
-    let merged = merge(&page, 1, run.items(), &mut out);
-    Ok((out, merged))
+    wanted: Result<(), VersionSpent>,
+    bytes: &[u8],
+) -> bool {
+    let Some(length) = need(page, 1, run.items()) else {
+        return false;
+    };
+    match Vec::with_capacity(alloc, length) {
+        Ok(mut out) => {
+            merge(page, 1, run.items(), &mut out) == wanted && out.as_slice() == bytes
+        }
+        Err(_) => false,
+    }
 }
 
 #[test]
-fn a_run_is_merged(rt: HostRuntime) -> Result<(), Fail> {
-    let run = one_update(rt.alloc())?;
-    let page = LeafView::read(PAGE.as_slice())?;
+fn a_run_is_merged(rt: HostRuntime) {
+    let Ok(page) = LeafView::read(&PAGE) else {
+        rt.panic("no leaf")
+    };
+    let Some(run) = one_update(rt.alloc()) else {
+        rt.panic("no run")
+    };
     assert!(rt; need(&page, 1, run.items()) == Some(64));
-    let (out, merged) = merged(rt.alloc(), &PAGE, &run)?;
-    assert!(rt; merged.is_ok() && out.as_slice() == APPLIED.as_slice());
-    Ok(())
+    assert!(rt; is_merged(rt.alloc(), &page, &run, Ok(()), &APPLIED));
 }
 
 #[test]
-fn the_greatest_version_has_no_next_one(rt: HostRuntime) -> Result<(), Fail> {
-    let run = one_update(rt.alloc())?;
+fn the_greatest_version_has_no_next_one(rt: HostRuntime) {
     let mut last = PAGE;
     last[2..10].fill(0xff);
-    let (out, merged) = merged(rt.alloc(), &last, &run)?;
-    assert!(rt; merged == Err(VersionSpent) && out.as_slice().is_empty());
-    Ok(())
+    let Ok(page) = LeafView::read(&last) else {
+        rt.panic("no leaf")
+    };
+    let Some(run) = one_update(rt.alloc()) else {
+        rt.panic("no run")
+    };
+    assert!(rt; is_merged(rt.alloc(), &page, &run, Err(VersionSpent), &[]));
 }
 
-/// A leaf of records a and b, with the table of `PAGE`.
-fn of_two_records(alloc: Global) -> Result<LeafBuf, Fail> {
-    let mut bytes = PAGE[..40].to_vec(alloc)?;
-    bytes.extend_from_slice(b"a\x00\x01v\x01\x01b\x00\x00\x00")?;
-    Ok(LeafBuf::read(bytes)?)
+/// The page with the records a and b instead of its own.
+const TWO_RECORDS: [u8; 50] = [
+    0x4c, 1, 0, 0, 0, 0, 0, 0, 0, 1, 0, 0, 0, 0, 0, 0, 0, 0, 0, 1, 0, 0, 0, 0, 0, 0, 0, 0, 1, 0, 0,
+    0, 0, 0, 0, 0, 1, 0, 1, 1, b'a', 0, 1, b'v', 1, 1, b'b', 0, 0, 0,
+];
+
+/// A leaf of two records cut behind its first, the right part on page 2.
+fn cut(alloc: Global, page: LeafBuf) -> Option<(LeafBuf, LeafBuf)> {
+    let right = PageId::new(2).ok()?;
+    if page.len() != 2 {
+        return None;
+    }
+    page.cut_at(alloc, 1, right).ok()
 }
 
-/// That leaf cut behind its first record, the right part on page 2.
-fn cut(rt: &impl Abort, alloc: Global) -> Result<(LeafBuf, LeafBuf), Fail> {
-    let page = of_two_records(alloc)?;
-    assert!(rt; page.len() == 2);
-    Ok(page.cut_at(alloc, 1, PageId::new(2)?)?)
+/// Whether a leaf is of version 1 and has one record.
+fn is_single(leaf: &LeafView<'_>) -> bool {
+    leaf.version() == 1 && leaf.records().len() == 1
+}
+
+/// Whether a leaf has number 1 of the tree's queue of client 1 done.
+fn has_table(leaf: &LeafView<'_>) -> bool {
+    match ClientId::new(1) {
+        Ok(client) => leaf.done(0, client) == 1,
+        Err(_) => false,
+    }
+}
+
+/// Whether two leaves are of one record each, meet at b, and the second has the table.
+fn are_parts(left: &LeafView<'_>, right: &LeafView<'_>) -> bool {
+    is_single(left)
+        && is_single(right)
+        && left.high() == Some(b"b".as_slice())
+        && right.low() == b"b".as_slice()
+        && has_table(right)
+}
+
+/// Whether a leaf of the records a and b is cut into such leaves.
+fn is_cut(alloc: Global, page: LeafBuf) -> bool {
+    match cut(alloc, page) {
+        Some((left, right)) => are_parts(&left.view(), &right.view()),
+        None => false,
+    }
 }
 
 #[test]
-fn a_leaf_is_cut(rt: HostRuntime) -> Result<(), Fail> {
-    let client = ClientId::new(1)?;
-    let (left, right) = cut(&rt, rt.alloc())?;
-    let (left, right) = (left.view(), right.view());
-    assert!(rt; left.version() == 1 && right.version() == 1);
-    assert!(rt; left.high() == Some(b"b".as_slice()));
-    assert!(rt; right.low() == b"b".as_slice());
-    assert!(rt; left.records().len() == 1 && right.records().len() == 1);
-    assert!(rt; right.done(0, client) == 1);
-    Ok(())
+fn a_leaf_is_cut(rt: HostRuntime) {
+    match leaf_of(rt.alloc(), &TWO_RECORDS) {
+        Some(page) => assert!(rt; is_cut(rt.alloc(), page)),
+        None => rt.panic("no leaf"),
+    }
 }

@@ -2,9 +2,8 @@ use db_base::change::Change;
 use db_base::ids::{ClientId, PageId, TreeId};
 use db_base::key::{Key, Payload};
 use db_base::names::QueueName;
-use db_base::refusal::Refused;
 use head_codec::head::{Head, Phase};
-use head_codec::lists::{CounterList, Pending, PendingList, QueueCount};
+use head_codec::lists::{CounterList, Pending, QueueCount};
 use leaf_view::LeafView;
 use log_codec::record::AtomicRec;
 use node_codec::TreeView;
@@ -16,7 +15,6 @@ use route_plan::route::route;
 use route_plan::seen::seen;
 use std::alloc::Global;
 use std::process::Abort;
-use std::test::Fail;
 use txn_buffer::buffer::TxnBuffer;
 
 // Version 1, no fence; up to number 3 of client 1 of the queue of page 7 applied; the record of key "a" and payload "x".
@@ -31,198 +29,270 @@ const ROOT: [u8; 41] = [
     0, 0, 0, 0, 0, 0, 0, 0, 1, 0,
 ];
 
-fn insert(alloc: Global, key: &[u8]) -> Result<Change, Refused> {
-    Ok(Change::Insert {
-        key: Key::new(alloc, key)?,
-        payload: Payload::new(alloc, b"p")?,
-    })
+/// An insert of the payload p.
+fn insert(alloc: Global, key: &str) -> Option<Change> {
+    match Key::new(alloc, key.as_bytes()) {
+        Ok(key) => insert_under(alloc, key),
+        Err(_) => None,
+    }
 }
 
-fn update(alloc: Global, key: &[u8]) -> Result<Change, Refused> {
-    Ok(Change::Update {
-        key: Key::new(alloc, key)?,
-        payload: Payload::new(alloc, b"q")?,
-    })
+fn insert_under(alloc: Global, key: Key) -> Option<Change> {
+    match Payload::new(alloc, b"p") {
+        Ok(payload) => Some(Change::Insert { key, payload }),
+        Err(_) => None,
+    }
 }
 
-/// The client used five numbers of the tree's queue and two of page 7's, of which the last is pending.
-fn used_head(alloc: Global, tree: TreeId) -> Result<Head, Fail> {
-    let counts = [(0, 5), (7, 2)].map(|(page, number)| QueueCount { tree, page, number });
-    let mut pending = PendingList::new(alloc);
-    pending.push(Pending {
-        tree,
-        page: 7,
-        number: 2,
-        change: update(alloc, b"a")?,
-    })?;
-    Ok(Head {
-        epoch: 2,
-        txn: 4,
-        phase: Phase::Settled,
-        counters: CounterList::of(Vec::from_slice(alloc, &counts)?),
-        pending,
-    })
+/// An update to the payload q.
+fn update(alloc: Global, key: &str) -> Option<Change> {
+    match Key::new(alloc, key.as_bytes()) {
+        Ok(key) => update_under(alloc, key),
+        Err(_) => None,
+    }
 }
 
-/// An insert of the pending key, an update of another, and two more inserts.
-fn four_changes(alloc: Global, tree: TreeId) -> Result<TxnBuffer, Fail> {
-    let mut buffer = TxnBuffer::new(alloc)?;
-    buffer.note(tree, insert(alloc, b"a")?)?;
-    buffer.note(tree, update(alloc, b"b")?)?;
-    buffer.note(tree, insert(alloc, b"c")?)?;
-    buffer.note(tree, insert(alloc, b"d")?)?;
-    Ok(buffer)
+fn update_under(alloc: Global, key: Key) -> Option<Change> {
+    match Payload::new(alloc, b"q") {
+        Ok(payload) => Some(Change::Update { key, payload }),
+        Err(_) => None,
+    }
 }
 
-/// Their records, where each walk came to page 9.
-fn four_records(
-    rt: &impl Abort,
-    alloc: Global,
+/// Adds a pending change.
+fn add_pending(
+    head: &mut Head,
     tree: TreeId,
+    page: u64,
+    number: u64,
+    change: Option<Change>,
+) -> bool {
+    match change {
+        Some(change) => head
+            .pending
+            .push(Pending {
+                tree,
+                page,
+                number,
+                change,
+            })
+            .is_ok(),
+        None => false,
+    }
+}
+
+/// Notes a change.
+fn note(buffer: &mut TxnBuffer, tree: TreeId, change: Option<Change>) -> bool {
+    match change {
+        Some(change) => buffer.note(tree, change).is_ok(),
+        None => false,
+    }
+}
+
+/// Makes a head that of a client which used five numbers of the tree's queue and two of page 7's, of which the last is pending.
+fn use_head(alloc: Global, head: &mut Head, tree: TreeId) -> bool {
+    let counts = [(0, 5), (7, 2)].map(|(page, number)| QueueCount { tree, page, number });
+    let Ok(counts) = Vec::from_slice(alloc, &counts) else {
+        return false;
+    };
+    head.epoch = 2;
+    head.txn = 4;
+    head.counters = CounterList::of(counts);
+    head.phase == Phase::Settled && add_pending(head, tree, 7, 2, update(alloc, "a"))
+}
+
+/// Notes an insert of the pending key, an update of another, and two more inserts.
+fn note_four(alloc: Global, buffer: &mut TxnBuffer, tree: TreeId) -> bool {
+    note(buffer, tree, insert(alloc, "a"))
+        && note(buffer, tree, update(alloc, "b"))
+        && note(buffer, tree, insert(alloc, "c"))
+        && note(buffer, tree, insert(alloc, "d"))
+}
+
+/// The records of four changes behind the used head, where each walk came to page 9.
+fn four_records(
+    alloc: Global,
+    client: ClientId,
     head: &Head,
-) -> Result<Vec<AtomicRec>, Fail> {
-    let leaves = [PageId::new(9)?; 4];
-    let client = ClientId::new(1)?;
-    let buffer = four_changes(alloc, tree)?;
-    assert!(rt; buffer.len() == 4);
-    let records = route(alloc, client, 2, 5, head, &buffer, &leaves)?;
-    assert!(rt; records.len() == 4);
-    Ok(records)
+    buffer: &TxnBuffer,
+) -> Option<Vec<AtomicRec>> {
+    let leaves = [PageId::new(9).ok()?; 4];
+    if buffer.len() != 4 {
+        return None;
+    }
+    route(alloc, client, 2, 5, head, buffer, &leaves).ok()
 }
 
 /// The records of the commit behind the used head.
-fn routed(rt: &impl Abort, alloc: Global) -> Result<Vec<AtomicRec>, Fail> {
-    let tree = TreeId::new(1)?;
-    let head = used_head(alloc, tree)?;
-    four_records(rt, alloc, tree, &head)
+fn routed(alloc: Global, tree: TreeId, head: &Head) -> Option<Vec<AtomicRec>> {
+    let client = ClientId::new(1).ok()?;
+    let mut buffer = TxnBuffer::new(alloc).ok()?;
+    if !note_four(alloc, &mut buffer, tree) {
+        return None;
+    }
+    four_records(alloc, client, head, &buffer)
 }
 
 /// The number of the message of a record.
 fn number_of(alloc: Global, record: &AtomicRec) -> Option<u64> {
-    Some(pu_of_record(alloc, record).ok()?.number)
-}
-
-#[test]
-fn a_commit_is_routed(rt: HostRuntime) -> Result<(), Fail> {
-    let records = routed(&rt, rt.alloc())?;
-    for (r, (page, number)) in records.iter().zip([(7, 3), (9, 1), (0, 6), (0, 7)]) {
-        assert!(rt; r.page == page && r.number == number);
-        assert!(rt; number_of(rt.alloc(), r) == Some(number));
+    match pu_of_record(alloc, record) {
+        Ok(update) => Some(update.number),
+        Err(_) => None,
     }
-    Ok(())
+}
+
+/// Whether records are of the queues of these pages and have these numbers, as their messages have, in their order.
+fn are_numbered(alloc: Global, records: &[AtomicRec], rows: &[(u64, u64)]) -> bool {
+    for (r, (page, number)) in records.iter().zip(rows) {
+        if r.page != *page || r.number != *number || number_of(alloc, r) != Some(*number) {
+            return false;
+        }
+    }
+    records.len() == rows.len()
+}
+
+/// Whether counters are of the queues of these pages and have these numbers, in their order.
+fn are_counted(counters: &[QueueCount], rows: &[(u64, u64)]) -> bool {
+    for (counter, (page, number)) in counters.iter().zip(rows) {
+        if counter.page != *page || counter.number != *number {
+            return false;
+        }
+    }
+    counters.len() == rows.len()
+}
+
+/// Whether a head is opened for four records, and then has the counters that they make.
+fn is_opened(alloc: Global, head: &mut Head, records: &[AtomicRec]) -> bool {
+    if records.len() != 4 {
+        return false;
+    }
+    open_head(alloc, head, 5, records).is_ok()
+        && head.txn == 5
+        && head.phase == Phase::Open(4)
+        && are_counted(head.counters.as_slice(), &[(0, 7), (7, 3), (9, 1)])
+}
+
+/// Whether an open head is settled, and then has a pending change more for each of four records.
+fn is_settled(alloc: Global, head: &mut Head, records: &[AtomicRec]) -> bool {
+    settle_head(alloc, head, records).is_ok()
+        && head.phase == Phase::Settled
+        && head.pending.as_slice().len() == 5
 }
 
 #[test]
-fn queues_have_names(rt: HostRuntime) -> Result<(), Fail> {
-    let tree = TreeId::new(1)?;
+fn a_commit_is_routed_and_opens_and_settles_the_head(rt: HostRuntime) {
+    let Ok(tree) = TreeId::new(1) else {
+        rt.panic("no tree")
+    };
+    let mut head = Head::empty(rt.alloc());
+    assert!(rt; use_head(rt.alloc(), &mut head, tree));
+    let Some(records) = routed(rt.alloc(), tree, &head) else {
+        rt.panic("no records")
+    };
+    let records = records.as_slice();
+    assert!(rt; are_numbered(rt.alloc(), records, &[(7, 3), (9, 1), (0, 6), (0, 7)]));
+    assert!(rt; is_opened(rt.alloc(), &mut head, records));
+    assert!(rt; is_settled(rt.alloc(), &mut head, records));
+}
+
+#[test]
+fn queues_have_names(rt: HostRuntime) {
+    let (Ok(tree), Ok(page)) = (TreeId::new(1), PageId::new(9)) else {
+        rt.panic("no names")
+    };
     assert!(rt; queue_name(tree, 0) == QueueName::TreePu(tree));
-    let ninth = QueueName::PagePu(tree, PageId::new(9)?);
-    assert!(rt; queue_name(tree, 9) == ninth);
-    Ok(())
+    assert!(rt; queue_name(tree, 9) == QueueName::PagePu(tree, page));
 }
 
-/// Opens the head for four records.
-fn open(rt: &impl Abort, alloc: Global, head: &mut Head, four: &[AtomicRec]) -> Result<(), Fail> {
-    assert!(rt; four.len() == 4);
-    open_head(alloc, head, 5, four)?;
-    Ok(())
+/// Adds pending inserts of four keys, two of page 7's queue and two of the tree's.
+fn add_four(alloc: Global, head: &mut Head, tree: TreeId) -> bool {
+    add_pending(head, tree, 7, 3, insert(alloc, "a"))
+        && add_pending(head, tree, 7, 4, insert(alloc, "b"))
+        && add_pending(head, tree, 0, 6, insert(alloc, "c"))
+        && add_pending(head, tree, 0, 7, insert(alloc, "d"))
 }
 
-/// The used head opened for its commit.
-fn opened(rt: &impl Abort, alloc: Global) -> Result<Head, Fail> {
-    let records = routed(rt, alloc)?;
-    let mut head = used_head(alloc, TreeId::new(1)?)?;
-    open(rt, alloc, &mut head, records.as_slice())?;
-    Ok(head)
+/// A key, and the record that a read finds by what is applied, pending and noted.
+const SEEN: [(&str, Option<&str>); 4] = [
+    ("a", Some("x")),
+    ("b", Some("q")),
+    ("d", Some("p")),
+    ("e", None),
+];
+
+/// Whether a record is of this payload, or there is none.
+fn is_payload(record: Option<&[u8]>, payload: Option<&str>) -> bool {
+    match (record, payload) {
+        (Some(record), Some(payload)) => record == payload.as_bytes(),
+        (None, None) => true,
+        _ => false,
+    }
 }
 
-/// The same head settled.
-fn settled(rt: &impl Abort, alloc: Global) -> Result<Head, Fail> {
-    let records = routed(rt, alloc)?;
-    let mut head = used_head(alloc, TreeId::new(1)?)?;
-    open(rt, alloc, &mut head, records.as_slice())?;
-    settle_head(alloc, &mut head, records.as_slice())?;
-    Ok(head)
+/// Whether the record of a key is seen so.
+fn is_seen(
+    leaf: &LeafView<'_>,
+    tree: TreeId,
+    client: ClientId,
+    head: &Head,
+    buffer: &TxnBuffer,
+    key: &str,
+    payload: Option<&str>,
+) -> bool {
+    is_payload(
+        seen(leaf, tree, key.as_bytes(), client, head, buffer),
+        payload,
+    )
 }
 
 #[test]
-fn a_commit_opens_the_head(rt: HostRuntime) -> Result<(), Fail> {
-    let head = opened(&rt, rt.alloc())?;
-    assert!(rt; head.txn == 5 && head.phase == Phase::Open(4));
-    let counters = head.counters.as_slice();
-    assert!(rt; counters.len() == 3);
-    for (counter, (page, number)) in counters.iter().zip([(0, 7), (7, 3), (9, 1)]) {
-        assert!(rt; counter.page == page && counter.number == number);
+fn what_is_lacked_is_seen(rt: HostRuntime) {
+    let (Ok(client), Ok(tree)) = (ClientId::new(1), TreeId::new(1)) else {
+        rt.panic("no names")
+    };
+    let Ok(leaf) = LeafView::read(&LEAF) else {
+        rt.panic("no leaf")
+    };
+    let Ok(mut buffer) = TxnBuffer::new(rt.alloc()) else {
+        rt.panic("no buffer")
+    };
+    let mut head = Head::empty(rt.alloc());
+    assert!(rt; add_four(rt.alloc(), &mut head, tree));
+    assert!(rt; note(&mut buffer, tree, update(rt.alloc(), "b")));
+    for (key, payload) in SEEN {
+        assert!(rt; is_seen(&leaf, tree, client, &head, &buffer, key, payload));
     }
-    Ok(())
+}
+
+/// Whether pending changes have these numbers, in their order.
+fn are_left(left: &[Pending], numbers: &[u64]) -> bool {
+    for (entry, number) in left.iter().zip(numbers) {
+        if entry.number != *number {
+            return false;
+        }
+    }
+    left.len() == numbers.len()
+}
+
+/// Drops from a head what the leaf and the root show to be applied.
+fn prune(head: &mut Head, client: ClientId, tree: TreeId) -> bool {
+    match (LeafView::read(&LEAF), TreeView::read(&ROOT)) {
+        (Ok(leaf), Ok(root)) => {
+            prune_leaf(head, client, tree, &leaf);
+            prune_tree(head, client, tree, &root);
+            true
+        }
+        _ => false,
+    }
 }
 
 #[test]
-fn a_commit_settles_the_head(rt: HostRuntime) -> Result<(), Fail> {
-    let head = settled(&rt, rt.alloc())?;
-    assert!(rt; head.phase == Phase::Settled);
-    assert!(rt; head.pending.as_slice().len() == 5);
-    Ok(())
-}
-
-/// Inserts of four keys are pending, two of page 7's queue and two of the tree's.
-fn pending_head(alloc: Global, tree: TreeId) -> Result<Head, Fail> {
-    let mut head = Head::empty(alloc);
-    for (page, number, key) in [(7, 3, "a"), (7, 4, "b"), (0, 6, "c"), (0, 7, "d")] {
-        let change = insert(alloc, key.as_bytes())?;
-        head.pending.push(Pending {
-            tree,
-            page,
-            number,
-            change,
-        })?;
-    }
-    Ok(head)
-}
-
-/// The update of b by the session itself.
-fn one_noted(alloc: Global, tree: TreeId) -> Result<TxnBuffer, Fail> {
-    let mut buffer = TxnBuffer::new(alloc)?;
-    buffer.note(tree, update(alloc, b"b")?)?;
-    Ok(buffer)
-}
-
-#[test]
-fn what_is_lacked_is_seen(rt: HostRuntime) -> Result<(), Fail> {
-    let client = ClientId::new(1)?;
-    let tree = TreeId::new(1)?;
-    let leaf = LeafView::read(&LEAF)?;
-    let head = pending_head(rt.alloc(), tree)?;
-    let buffer = one_noted(rt.alloc(), tree)?;
-    for (key, payload) in [
-        ("a", Some("x")),
-        ("b", Some("q")),
-        ("d", Some("p")),
-        ("e", None),
-    ] {
-        let found = seen(&leaf, tree, key.as_bytes(), client, &head, &buffer);
-        assert!(rt; found == payload.map(|text| text.as_bytes()), "{key}");
-    }
-    Ok(())
-}
-
-/// The pending head without what the leaf and the root show to be applied.
-fn pruned(alloc: Global) -> Result<Head, Fail> {
-    let client = ClientId::new(1)?;
-    let tree = TreeId::new(1)?;
-    let mut head = pending_head(alloc, tree)?;
-    prune_leaf(&mut head, client, tree, &LeafView::read(&LEAF)?);
-    prune_tree(&mut head, client, tree, &TreeView::read(&ROOT)?);
-    Ok(head)
-}
-
-#[test]
-fn what_is_applied_is_pruned(rt: HostRuntime) -> Result<(), Fail> {
-    let head = pruned(rt.alloc())?;
-    let left = head.pending.as_slice();
-    assert!(rt; left.len() == 2);
-    for (entry, number) in left.iter().zip([4, 7]) {
-        assert!(rt; entry.number == number);
-    }
-    Ok(())
+fn what_is_applied_is_pruned(rt: HostRuntime) {
+    let (Ok(client), Ok(tree)) = (ClientId::new(1), TreeId::new(1)) else {
+        rt.panic("no names")
+    };
+    let mut head = Head::empty(rt.alloc());
+    assert!(rt; add_four(rt.alloc(), &mut head, tree));
+    assert!(rt; prune(&mut head, client, tree));
+    assert!(rt; are_left(head.pending.as_slice(), &[4, 7]));
 }

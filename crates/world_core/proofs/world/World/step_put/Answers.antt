@@ -20,12 +20,12 @@ returns-clause-looked g c = rw (← c.self.view_is) (record {
   look_after = c.is_newest-2.ensures.looked;
   newest_call = newest_call c.args.who c.args.wish _ _ _ _ _ c.args.who.session _ _ c.step-turn.result
       c.is_newest.ensures.looked (record { no_call = c.wish.ensures.no_call; set = c.wish.ensures.set }) c.step-turn.ensures c.is_newest-2.ensures.looked;
-  saw = λ e. (c.is_blinded-self.ensures.saw e).0;
-  blinded = λ e. blinds c.self.inside.blind c.in_ok-before.before c.in_ok-after.after c.is_newest.result c.is_newest-2.result _ _ c.in_ok-before.was c.in_ok-after.was c.is_newest.ensures.dark c.is_newest-2.ensures.dark (c.is_blinded-self.ensures.blinded e);
+  saw = λ e. (c.is_blinded-self-inside.ensures.saw e).0;
+  blinded = λ e. blinds c.self.inside.blind c.in_ok-before.before c.in_ok-after.after c.is_newest.result c.is_newest-2.result _ _ c.in_ok-before.was c.in_ok-after.was c.is_newest.ensures.dark c.is_newest-2.ensures.dark (c.is_blinded-self-inside.ensures.blinded e);
   audit = λ e x y first second. audited_put (newest x) (newest y) c.step-turn.ensures.before.work c.self.inside.audit c.note_put.new.audit c.keep_landed.new.audit
       c.mark-mark.result c.args.put.now c.in_ok-before.before c.in_ok-after.after
       (put_before c.args.who.session c.self.inside.sessions _ c.step-turn.ensures.before (subst (λ (w : World). HasPut c.args.who.session w.sessions (Some c.args.put.now)) (sym c.self.view_is) c.requires.puts) c.step-turn.ensures.there)
-      (c.is_blinded-self.ensures.saw e).1 (c.is_blinded-self.ensures.saw e).2 (c.in_ok-before.ensures.newest x first) (c.in_ok-after.ensures.newest y second)
+      (c.is_blinded-self-inside.ensures.saw e).1 (c.is_blinded-self-inside.ensures.saw e).2 (c.in_ok-before.ensures.newest x first) (c.in_ok-after.ensures.newest y second)
       c.mark-mark.ensures.committed c.mark-mark.ensures.order
       (noted_of c.who.inside.session c.args.who.session c.self.inside.sessions c.in-Ok.ensures.session c.step-turn.ensures.before c.args.put.now.name c.self.inside.audit c.note_put.new.audit
       (ap (λ (w : Caller). w.session) c.who.view_is) c.in-Ok.ensures.there c.step-turn.ensures.there c.in-Ok.ensures.noted) c.keep_landed.ensures;

@@ -10,7 +10,7 @@ use Rattle.line_io.specs.declared.output.OutputFault.{OutputFault}
 use Rattle.line_io.specs.declared.output.OutputFault.TheVariants.{WriteFault, Memory}
 use Rattle.reply_text.specs.declared.reply.Reply.{Reply}
 use Rattle.replay_meaning.specs.Standing.{Line}
-use Rattle.schedule_run.specs.declared.play.Play.{Play}
+use Rattle.schedule_run.specs.InPlay.{Play}
 use Rattle.schedule_run.specs.Play.{IsFresh, IsNext, RanOut}
 use Rattle.schedule_run.specs.Generated.{events_of, Handles, StopsAmong, HandlesAll, IsAmong, GenEnded, out_writing}
 use Rattle.schedule_run.specs.Summary.{summary}

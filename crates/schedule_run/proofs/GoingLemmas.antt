@@ -21,7 +21,7 @@ use Rattle.replay_meaning.specs.Right.{ReportIsRight}
 use Rattle.replay_model.specs.Facts.{session_at, Stands}
 use Rattle.replay_model.proofs.UptoRight.{HoldTheSame, right_same}
 use Rattle.replay_model.proofs.StartLemmas.{nothing_stands_yet}
-use Rattle.world_core.specs.declared.world.World.{World}
+use Rattle.world_core.specs.World.{World}
 use Rattle.world_core.specs.declared.world.WorldFault.{WorldFault}
 use Rattle.world_core.specs.declared.world.WorldFault.TheVariants as world
 use Rattle.world_core.specs.Handled.{Handled}

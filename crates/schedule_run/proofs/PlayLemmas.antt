@@ -14,14 +14,14 @@ use Rattle.replay_meaning.specs.Standing.{Line, unnamed}
 use Rattle.replay_model.specs.Facts.{session_at, ActsAs}
 use Rattle.replay_model.proofs.AddedRows.{adds_nothing as nothing_added}
 use Rattle.replay_model.proofs.StartLemmas.{closed_at}
-use Rattle.world_core.specs.declared.world.World.{World}
+use Rattle.world_core.specs.World.{World}
 use Rattle.world_core.specs.Added.{WorldAdds}
 use Rattle.world_core.proofs.AddedLines.{handled_adds}
 use Rattle.world_core.specs.declared.world.WorldFault.{WorldFault}
 use Rattle.world_core.specs.declared.world.WorldFault.TheVariants as world
 use Rattle.world_core.specs.Handled.{Handled}
 use Rattle.world_core.specs.Stands.{Grows}
-use Rattle.schedule_run.specs.declared.play.Play.{Play}
+use Rattle.schedule_run.specs.InPlay.{Play}
 use Rattle.schedule_run.specs.Answered.{IsNew, start, further, KeepsTheTheorem}
 use Rattle.schedule_run.specs.Play.{IsFresh, IsNext, RanOut, uncounted, no_answer, Takes, answered_run, stops_run, RunsWhole, Played, StoppedAt, stopped_before, stopped_within}
 use Rattle.schedule_run.proofs.GoingLemmas.{stands_more, fresh_stands, replies_sound, lines_explained, report_same}

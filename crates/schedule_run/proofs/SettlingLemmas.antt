@@ -18,7 +18,7 @@ use Rattle.replay_meaning.specs.Standing.{Line, Closed, Working, Committing, sta
 use Rattle.replay_model.specs.Added.{AddsKinds, AddsTo}
 use Rattle.replay_model.proofs.Once.{at_place}
 use Rattle.reply_text.specs.declared.reply.Reply.{Reply}
-use Rattle.schedule_run.specs.declared.play.Play.{Play}
+use Rattle.schedule_run.specs.InPlay.{Play}
 use Rattle.schedule_run.specs.declared.settling.SettleFault.TheVariants.{NotSettled}
 use Rattle.schedule_run.specs.Play.{IsFresh, IsNext, RanOut, Played, StoppedAt}
 use Rattle.schedule_run.specs.Settling.{is_settled, settled_by, settle_end_of, OpensNothing, WasSettled, ShowsSettling, out_writing, SettleEnded}

@@ -15,7 +15,7 @@ use Rattle.reply_text.specs.declared.reply.Reply.TheVariants.{Begun}
 use Rattle.replay_meaning.specs.Standing.{Line}
 use Rattle.words.specs.Word.{IsReadTo}
 use Rattle.words.specs.declared.fault.TextFault.TheVariants.{NotInGrammar}
-use Rattle.schedule_run.specs.declared.play.Play.{Play}
+use Rattle.schedule_run.specs.InPlay.{Play}
 use Rattle.schedule_run.specs.declared.shell.ShellFault.{ShellFault}
 use Rattle.schedule_run.specs.declared.shell.ShellFault.TheVariants.{NotOpened, BadLine, WriteFault, Memory}
 use Rattle.schedule_run.specs.Play.{IsFresh, IsNext, IsRun, answered, answered_run, StopsRun, stops_event, stops_run, Played}

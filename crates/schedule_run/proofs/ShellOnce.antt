@@ -18,7 +18,7 @@ use Rattle.replay_model.specs.Facts.{session_at}
 use Rattle.replay_model.specs.Opened.{TakesNumber, AddsNoneTwice}
 use Rattle.replay_model.proofs.OpenedCalls.{opened_nothing}
 use Rattle.replay_model.proofs.StartLemmas.{closed_at}
-use Rattle.world_core.specs.declared.world.World.{World}
+use Rattle.world_core.specs.World.{World}
 use Rattle.world_core.specs.Added.{WorldAdds}
 use Rattle.world_core.specs.Handled.{Handled}
 use Rattle.world_core.specs.Opened.{IsShells, WorldOnce, WorldOpenedNone}

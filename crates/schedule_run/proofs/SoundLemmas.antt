@@ -12,7 +12,7 @@ use Rattle.event_text.specs.declared.event.Event.TheVariants as event
 use Rattle.replay_meaning.specs.Standing.{Line, session_of}
 use Rattle.reply_text.specs.declared.reply.Reply.{Reply}
 use Rattle.reply_text.specs.declared.reply.Reply.TheVariants as reply
-use Rattle.world_core.specs.declared.world.World.{World}
+use Rattle.world_core.specs.World.{World}
 use Rattle.world_core.specs.Handled.{Handled}
 use Rattle.world_core.specs.Settled.{SettlingLeaves, SettlingEnds}
 use Rattle.world_core.specs.Stands.{WorldStands}

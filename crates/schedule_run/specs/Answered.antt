@@ -11,7 +11,7 @@ use Rattle.reply_text.specs.declared.reply.Reply.TheVariants as reply
 use Rattle.replay_meaning.specs.Standing.{Line, session_of, standing}
 use Rattle.replay_meaning.specs.Right.{ReportIsRight}
 use Rattle.session_facts.specs.Sessions.Untroubled.{IsUntroubled}
-use Rattle.world_core.specs.declared.world.World.{World}
+use Rattle.world_core.specs.World.{World}
 use Rattle.world_core.specs.declared.world.WorldFault.{WorldFault}
 use Rattle.world_core.specs.Bounded.{AnswersSoon}
 use Rattle.world_core.specs.Calm.{StepIsCalm, RepliesWell, work_at}

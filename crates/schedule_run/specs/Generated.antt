@@ -9,7 +9,7 @@ use Rattle.line_io.specs.declared.output.OutputFault.TheVariants.{WriteFault, Me
 use Rattle.reply_text.specs.declared.reply.Reply.{Reply}
 use Rattle.replay_meaning.specs.Standing.{Line}
 use Rattle.world_core.specs.declared.world.WorldFault.{WorldFault}
-use Rattle.schedule_run.specs.declared.play.Play.{Play}
+use Rattle.schedule_run.specs.InPlay.{Play}
 use Rattle.schedule_run.specs.Play.{Played, StoppedAt}
 use Rattle.schedule_run.specs.Summary.{summary}
 use Rattle.schedule_run.specs.Written.{NothingRan}

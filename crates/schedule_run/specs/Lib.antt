@@ -7,3 +7,4 @@ pub mod ShellOnce
 pub mod Shell
 pub mod Summary
 pub mod Generated
+pub mod InPlay

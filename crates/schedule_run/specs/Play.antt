@@ -7,14 +7,14 @@ use Rattle.event_text.specs.declared.event.Event.TheVariants.{Run}
 use Rattle.reply_text.specs.declared.reply.Reply.{Reply}
 use Rattle.reply_text.specs.declared.reply.Reply.TheVariants.{Begun}
 use Rattle.replay_meaning.specs.Standing.{Line}
-use Rattle.world_core.specs.declared.world.World.{World}
+use Rattle.world_core.specs.World.{World}
 use Rattle.world_core.specs.declared.world.WorldFault.{WorldFault}
 use Rattle.world_core.specs.declared.world.WorldFault.TheVariants as world
 use Rattle.world_core.specs.Handled.{Handled}
 use Rattle.replay_model.specs.Added.{AddsTo}
 use Rattle.world_core.specs.Added.{WorldAdds}
 use Rattle.world_core.specs.Stands.{WorldStands, StandsOn, Grows}
-use Rattle.schedule_run.specs.declared.play.Play.{Play}
+use Rattle.schedule_run.specs.InPlay.{Play}
 use Rattle.schedule_run.specs.Answered.{IsNew, WentOn, IsUnanswered, ReportsAreRight, KeepsTheTheorem}
 
 -- a new world that has handled nothing

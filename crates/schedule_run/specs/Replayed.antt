@@ -8,7 +8,7 @@ use Rattle.event_text.specs.Event.{IsEvent}
 use Rattle.line_io.specs.Lines.{lines_of}
 use Rattle.reply_text.specs.declared.reply.Reply.{Reply}
 use Rattle.replay_meaning.specs.Standing.{Line}
-use Rattle.world_core.specs.declared.world.World.{World}
+use Rattle.world_core.specs.World.{World}
 use Rattle.world_core.specs.declared.world.WorldFault.{WorldFault}
 use Rattle.world_core.specs.declared.world.WorldFault.TheVariants as world
 use Rattle.world_core.specs.Handled.{Handled}

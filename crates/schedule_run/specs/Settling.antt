@@ -11,7 +11,7 @@ use Rattle.line_io.specs.declared.output.OutputFault.TheVariants as output
 use Rattle.replay_meaning.specs.Kinds.{LandsOpen}
 use Rattle.reply_text.specs.declared.reply.Reply.{Reply}
 use Rattle.reply_text.specs.declared.reply.Reply.TheVariants.{Settled}
-use Rattle.schedule_run.specs.declared.play.Play.{Play}
+use Rattle.schedule_run.specs.InPlay.{Play}
 use Rattle.schedule_run.specs.declared.settling.SettleFault.{SettleFault}
 use Rattle.schedule_run.specs.declared.settling.SettleFault.TheVariants.{NotSettled, WriteFault, Memory}
 use Rattle.schedule_run.specs.Play.{Played, StoppedAt}

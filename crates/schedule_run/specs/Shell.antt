@@ -13,7 +13,7 @@ use Rattle.reply_text.specs.declared.reply.Reply.{Reply}
 use Rattle.reply_text.specs.declared.reply.Reply.TheVariants.{Begun, Opened}
 use Rattle.replay_meaning.specs.Standing.{Line}
 use Rattle.replay_model.specs.Opened.{AddsNoneTwice}
-use Rattle.schedule_run.specs.declared.play.Play.{Play}
+use Rattle.schedule_run.specs.InPlay.{Play}
 use Rattle.schedule_run.specs.declared.shell.ShellFault.{ShellFault}
 use Rattle.schedule_run.specs.declared.shell.ShellFault.TheVariants.{NotOpened, BadLine, WriteFault, Memory}
 use Rattle.schedule_run.specs.Play.{Played, StoppedAt, IsRun, StopsRun}

@@ -3,7 +3,7 @@ use Rattle.std.specs.Prelude.{List, [], ◌∷◌}
 use Rattle.cloud_trait.specs.State.{CloudState}
 use Rattle.cloud_trait.specs.Seen.{Seen}
 use Rattle.event_text.specs.declared.event.Event.{Event}
-use Rattle.world_core.specs.declared.world.World.{World}
+use Rattle.world_core.specs.World.{World}
 use Rattle.world_core.specs.Opened.{OpensFirst, IsShells, WorldOnce, WorldOpenedNone}
 
 -- each is one of session 1 that opens no client

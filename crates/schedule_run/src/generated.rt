@@ -8,12 +8,14 @@ ghost use Rattle.schedule_run.specs.Generated.{GenEnded, TakesAll, TakesEach};
 use crate::play::Play;
 use crate::summary::summary;
 use crate::writing::let_go;
+use client_session::session::Session;
 use cloud_trait::cloud::Bench;
 use db_io::sink::Sink;
 use event_text::event::Event;
 use line_io::output::{OutputFault, write_text};
 use reply_text::reply::Reply;
 use sched_gen::make::make;
+use session_calls::SessionCalls;
 use std::alloc::Global;
 use world_core::world::WorldFault;
 
@@ -38,16 +40,16 @@ pub fn generate<O: Sink, C: Bench>(
     let Some((last, earlier)) = events.as_slice().split_last() else {
         unreachable!()
     };
-    match Play::new(alloc) {
+    match Play::<Session>::new(alloc) {
         Ok(mut play) => generate_in(alloc, &mut play, earlier, last, sink, cloud),
         Err(_) => Err(OutputFault::Memory),
     }
 }
 
 /// Handles the events in a new world, the last one behind the earlier ones, and then a report of tree 1. The summary is written.
-fn generate_in<O: Sink, C: Bench>(
+fn generate_in<S: SessionCalls, O: Sink, C: Bench>(
     alloc: Global,
-    play: &mut Play,
+    play: &mut Play<S>,
     earlier: &[Event],
     last: &Event,
     sink: &mut O,
@@ -72,9 +74,9 @@ fn generate_in<O: Sink, C: Bench>(
 }
 
 /// Handles the events and then a report of tree 1: the reply to the last event, and the report.
-fn take_all<C: Bench>(
+fn take_all<S: SessionCalls, C: Bench>(
     alloc: Global,
-    play: &mut Play,
+    play: &mut Play<S>,
     earlier: &[Event],
     last: &Event,
     cloud: &mut C,
@@ -100,9 +102,9 @@ fn take_all<C: Bench>(
 }
 
 /// Handles the events.
-fn take_each<C: Bench>(
+fn take_each<S: SessionCalls, C: Bench>(
     alloc: Global,
-    play: &mut Play,
+    play: &mut Play<S>,
     events: &[Event],
     cloud: &mut C,
 ) -> Result<(), WorldFault>

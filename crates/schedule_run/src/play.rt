@@ -7,19 +7,20 @@ use cloud_trait::cloud::Bench;
 use db_base::refusal::Refused;
 use event_text::event::Event;
 use reply_text::reply::Reply;
+use session_calls::SessionCalls;
 use std::alloc::Global;
+use std::marker::Model;
 use world_core::world::{World, WorldFault};
 
 /// A world that handles one event behind another, each under the next number from 1 on.
-pub(crate) struct Play {
-    /// The world.
-    pub world: World,
-    /// How many events it has handled.
-    pub handled: u64,
+pub(crate) struct Play<S: SessionCalls> {
+    world: World<S>,
+    // How many events it has handled.
+    handled: u64,
 }
 
 // Written out, so that what holds one need not look into it to let it go.
-impl Drop for Play {
+impl<S: SessionCalls> Drop for Play<S> {
     fn drop(self) {
         let Play {
             world: _,
@@ -28,9 +29,17 @@ impl Drop for Play {
     }
 }
 
-impl Play {
+impl<S: SessionCalls> Model for Play<S> {
+    ghost use Rattle.schedule_run.specs.InPlay.{Play};
+
+    ghost Value = { Play };
+
+    ghost view = { λ p. record { world = p.world; handled = p.handled } };
+}
+
+impl<S: SessionCalls> Play<S> {
     /// A new world, that has handled nothing. Refused for memory alone.
-    pub fn new(alloc: Global) -> Result<Play, Refused>
+    pub fn new(alloc: Global) -> Result<Play<S>, Refused>
         ensures { IfOk result (λ play. IsFresh play) }
     {
         Ok(Play {

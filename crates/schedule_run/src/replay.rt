@@ -7,11 +7,13 @@ ghost use Rattle.schedule_run.specs.Replayed.{HasBadLine, LineWent, LineHandled,
 
 use crate::play::let_event_go;
 use crate::writing::{let_go, refuse, write_reply};
+use client_session::session::Session;
 use cloud_trait::cloud::Bench;
 use db_io::sink::Sink;
 use event_text::event::Event;
 use line_io::lines::next_line;
 use line_io::output::OutputFault;
+use session_calls::SessionCalls;
 use std::alloc::Global;
 use words::fault::TextFault;
 use world_core::world::{World, WorldFault};
@@ -40,16 +42,16 @@ pub fn replay_lines<O: Sink, C: Bench>(
     ensures went { ReplayWent result input.now (O.told sink.old) (O.told sink.new)
         (C.seen cloud.old) (C.seen cloud.new) }
 {
-    match World::new(alloc) {
+    match World::<Session>::new(alloc) {
         Ok(mut world) => go_on(alloc, &mut world, input, sink, cloud),
         Err(_) => Err(LineFault::Memory),
     }
 }
 
 /// Handles the lines of an input in a new world, up to the first that ends the run.
-fn go_on<O: Sink, C: Bench>(
+fn go_on<S: SessionCalls, O: Sink, C: Bench>(
     alloc: Global,
-    world: &mut World,
+    world: &mut World<S>,
     input: &[u8],
     sink: &mut O,
     cloud: &mut C,
@@ -78,9 +80,9 @@ fn go_on<O: Sink, C: Bench>(
 }
 
 /// Handles one line, and writes its reply.
-fn replay_line<O: Sink, C: Bench>(
+fn replay_line<S: SessionCalls, O: Sink, C: Bench>(
     alloc: Global,
-    world: &mut World,
+    world: &mut World<S>,
     sink: &mut O,
     cloud: &mut C,
     n: u64,
@@ -111,9 +113,9 @@ fn replay_line<O: Sink, C: Bench>(
 }
 
 /// Handles the event of a line, and writes its reply.
-fn handle<O: Sink, C: Bench>(
+fn handle<S: SessionCalls, O: Sink, C: Bench>(
     alloc: Global,
-    world: &mut World,
+    world: &mut World<S>,
     sink: &mut O,
     cloud: &mut C,
     n: u64,

@@ -4,11 +4,13 @@ ghost use Rattle.schedule_run.specs.Settling.{settled_by, settle_end_of, SettleE
 
 use crate::play::Play;
 use crate::writing::{let_go, write_reply};
+use client_session::session::Session;
 use cloud_trait::cloud::Bench;
 use db_io::sink::Sink;
 use event_text::event::Event;
 use line_io::output::OutputFault;
 use reply_text::reply::Reply;
+use session_calls::SessionCalls;
 use std::alloc::Global;
 
 /// Why a settling did not end well.
@@ -32,16 +34,16 @@ pub fn settle<O: Sink, C: Bench>(
         → (O.told sink.old).faults < (O.told sink.new).faults }
     ensures went { SettleEnded result (O.told sink.old) (O.told sink.new) (C.seen cloud.old) (C.seen cloud.new) }
 {
-    match Play::new(alloc) {
+    match Play::<Session>::new(alloc) {
         Ok(mut play) => settle_in(alloc, &mut play, sink, cloud),
         Err(_) => Err(SettleFault::Memory),
     }
 }
 
 /// Settles in a new world.
-fn settle_in<O: Sink, C: Bench>(
+fn settle_in<S: SessionCalls, O: Sink, C: Bench>(
     alloc: Global,
-    play: &mut Play,
+    play: &mut Play<S>,
     sink: &mut O,
     cloud: &mut C,
 ) -> Result<(), SettleFault>

@@ -6,6 +6,7 @@ ghost use Rattle.schedule_run.specs.Shell.{HasBadShellLine, ShellWent, OpeningRa
 
 use crate::play::{Play, let_event_go};
 use crate::writing::{let_go, refuse, write_reply};
+use client_session::session::Session;
 use cloud_trait::cloud::Bench;
 use db_base::ids::ClientId;
 use db_io::sink::Sink;
@@ -13,6 +14,7 @@ use event_text::event::Event;
 use line_io::lines::next_line;
 use line_io::output::OutputFault;
 use reply_text::reply::Reply;
+use session_calls::SessionCalls;
 use std::alloc::Global;
 use words::fault::TextFault;
 
@@ -44,16 +46,16 @@ pub fn run_shell<O: Sink, C: Bench>(
     ensures went { ShellWent client input.now result (O.told sink.old) (O.told sink.new)
         (C.seen cloud.old) (C.seen cloud.new) }
 {
-    match Play::new(alloc) {
+    match Play::<Session>::new(alloc) {
         Ok(mut play) => run_lines(alloc, &mut play, client, input, sink, cloud),
         Err(_) => Err(ShellFault::Memory),
     }
 }
 
 /// Opens the client's session in a new world, runs the lines, and closes it.
-fn run_lines<O: Sink, C: Bench>(
+fn run_lines<S: SessionCalls, O: Sink, C: Bench>(
     alloc: Global,
-    play: &mut Play,
+    play: &mut Play<S>,
     client: ClientId,
     input: &[u8],
     sink: &mut O,
@@ -90,9 +92,9 @@ fn run_lines<O: Sink, C: Bench>(
 }
 
 /// Opens the client's session, and writes the reply under 0.
-fn open<O: Sink, C: Bench>(
+fn open<S: SessionCalls, O: Sink, C: Bench>(
     alloc: Global,
-    play: &mut Play,
+    play: &mut Play<S>,
     client: ClientId,
     sink: &mut O,
     cloud: &mut C,
@@ -132,9 +134,9 @@ fn opened(reply: &Reply) -> Result<(), ShellFault>
 }
 
 /// Runs one line to its answer, and writes the last reply.
-fn run_line<O: Sink, C: Bench>(
+fn run_line<S: SessionCalls, O: Sink, C: Bench>(
     alloc: Global,
-    play: &mut Play,
+    play: &mut Play<S>,
     sink: &mut O,
     cloud: &mut C,
     n: u64,
@@ -163,9 +165,9 @@ fn run_line<O: Sink, C: Bench>(
 }
 
 /// Closes the session, and writes the reply under a number.
-fn close<O: Sink, C: Bench>(
+fn close<S: SessionCalls, O: Sink, C: Bench>(
     alloc: Global,
-    play: &mut Play,
+    play: &mut Play<S>,
     sink: &mut O,
     cloud: &mut C,
     n: u64,
@@ -210,9 +212,9 @@ fn shown(written: Result<(), OutputFault>, reply: Reply) -> Result<Reply, ShellF
 }
 
 /// Runs an event to its answer, and writes the last reply under a number.
-fn run_event<O: Sink, C: Bench>(
+fn run_event<S: SessionCalls, O: Sink, C: Bench>(
     alloc: Global,
-    play: &mut Play,
+    play: &mut Play<S>,
     sink: &mut O,
     cloud: &mut C,
     n: u64,

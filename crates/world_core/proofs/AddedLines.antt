@@ -18,7 +18,7 @@ use Rattle.client_session.specs.Session.{Acting, rule_of, paging_begun_by, foldi
 use Rattle.replay_meaning.specs.Standing.{Line, Standing, standing, after_own, session_of, notes as notes_own}
 use Rattle.replay_model.specs.Facts.{ActsAs}
 use Rattle.replay_model.proofs.LineLemmas.{line_of, refused_own}
-use Rattle.world_core.specs.declared.world.World.{World}
+use Rattle.world_core.specs.World.{World}
 use Rattle.world_core.specs.declared.asked.Request.{Request}
 use Rattle.world_core.specs.declared.asked.Request.TheVariants.{Begin, Note, Abort, Step, Run, Crash}
 use Rattle.world_core.specs.declared.asked.Asked.{Asked}

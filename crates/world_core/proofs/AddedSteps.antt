@@ -28,7 +28,7 @@ use Rattle.replay_model.proofs.CallKinds.{IsSettling, IsSettlersRow, settling_go
 use Rattle.replay_model.proofs.CommittedLemmas.{standing_line}
 use Rattle.replay_model.proofs.LineLemmas.{line_of, AllActWith, own_line, still_line, refused_own, acts_set}
 use Rattle.replay_model.proofs.SettlerLemmas.{settler_row}
-use Rattle.world_core.specs.declared.world.World.{World}
+use Rattle.world_core.specs.World.{World}
 use Rattle.world_core.specs.Replying.{RepliesTo, RepliesTurn}
 use Rattle.world_core.specs.Sessions.{Changes}
 use Rattle.world_core.specs.Handled.{Declines, Has, MakesNoCall, SetsWish, StepsLooked, MakesStep, Went, start, further, RunsTo, Runs, SettlesTo, SettlesOn, Settles, Dies, DiesDone, Crashes, WaitsFor, WaitsTooLong, Reports}

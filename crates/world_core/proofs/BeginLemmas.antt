@@ -52,7 +52,7 @@ use Rattle.replay_model.proofs.LineLemmas.{line_of, refused_own}
 use Rattle.replay_model.proofs.OpeningSteps.{opening_begins}
 use Rattle.replay_model.proofs.ReadingWalk.{reading_begins}
 use Rattle.replay_model.proofs.ScanningRange.{range_of, moved_range, scanning_begins, scanning_begins_ended}
-use Rattle.world_core.specs.declared.world.World.{World}
+use Rattle.world_core.specs.World.{World}
 use Rattle.world_core.specs.declared.world.WorldFault.{WorldFault}
 use Rattle.world_core.specs.Asked.{bound_of}
 use Rattle.world_core.specs.Sessions.{Changes, NotesIn, AbortsIn}

@@ -1,13 +1,14 @@
 -- Lists of closed sessions.
-use Rattle.std.proofs.Common.{◌≡◌, ◌+◌, ℕ, List, [], ◌∷◌, ◌++◌, length, ap, ◌∙◌}
+use Rattle.std.proofs.Common.{◌≡◌, ◌+◌, ℕ, List, [], ◌∷◌, ◌++◌, length, map, ap, sym, ◌∙◌}
 use Rattle.std.specs.Prelude.{replicate}
-use Rattle.std.proofs.lemmas.List.{length-replicate, replicate-append-replicate}
+use Rattle.std.proofs.lemmas.List.{length-map, length-replicate, map_push, replicate-append-replicate}
 use Rattle.client_session.specs.Session.{Acting, closed_session}
 
 -- one more closed session
-pub replicate_more : (n : ℕ) (xs : List Acting) (x : Acting) → xs ≡ replicate n closed_session → x ≡ closed_session → xs ++ x ∷ [] ≡ replicate (n + 1) closed_session
-replicate_more n xs x e f =
-    ap (λ l. l ++ x ∷ []) e ∙ ap (λ z. replicate n closed_session ++ z ∷ []) f ∙ replicate-append-replicate n 1 closed_session
+pub replicate_more : {X : Type 0} (acting : X → Acting) (n : ℕ) (xs : List X) (x : X) → map acting xs ≡ replicate n closed_session → acting x ≡ closed_session
+    → map acting (xs ++ x ∷ []) ≡ replicate (n + 1) closed_session
+replicate_more acting n xs x e f =
+    map_push acting xs x ∙ ap (λ l. l ++ acting x ∷ []) e ∙ ap (λ z. replicate n closed_session ++ z ∷ []) f ∙ replicate-append-replicate n 1 closed_session
 
-pub seventeen : (xs : List Acting) → xs ≡ replicate 17 closed_session → length xs ≡ 17
-seventeen xs e = ap length e ∙ length-replicate 17 closed_session
+pub seventeen : {X : Type 0} (acting : X → Acting) (xs : List X) → map acting xs ≡ replicate 17 closed_session → length xs ≡ 17
+seventeen acting xs e = sym (length-map xs acting) ∙ ap length e ∙ length-replicate 17 closed_session

@@ -19,7 +19,7 @@ use Rattle.client_session.specs.Session.{Acting, closed_session, Follows, StepsA
 use Rattle.client_session.proofs.Ending.{session_less}
 use Rattle.cloud_trait.specs.Ask.{Ask}
 use Rattle.world_core.specs.declared.put.Put.{Put}
-use Rattle.world_core.specs.declared.world.World.{World}
+use Rattle.world_core.specs.World.{World}
 use Rattle.world_core.specs.Put.{put_of}
 use Rattle.db_base.specs.declared.names.ObjName.{ObjName}
 use Rattle.history.specs.Audited.{Audited}

@@ -16,7 +16,7 @@ use Rattle.client_session.specs.declared.work.Work.{Work}
 use Rattle.client_session.specs.Session.{Acting, StepsSession, StepsAt}
 use Rattle.replay_model.proofs.Steps.{made_call}
 use Rattle.world_audit.specs.Look.{Looked}
-use Rattle.world_core.specs.declared.world.World.{World}
+use Rattle.world_core.specs.World.{World}
 use Rattle.world_core.specs.Sessions.{Changes}
 use Rattle.world_core.specs.Handled.{SetsWish, StepsLooked}
 use Rattle.world_core.specs.Stands.{Grows}

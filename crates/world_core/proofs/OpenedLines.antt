@@ -36,7 +36,7 @@ use Rattle.replay_model.specs.Facts.{session_at}
 use Rattle.replay_model.specs.Opened.{IsOpenedBy, MayHaveOpened, TakesNumber, AddsOpenedTo, AddsOnce}
 use Rattle.replay_model.proofs.OpenedCalls.{Leads, scan_leads, stopped_leads, opened_same, opened_weaker, session_once}
 use Rattle.replay_model.proofs.OpenedRuns.{RunsFrom, run_begins_from}
-use Rattle.world_core.specs.declared.world.World.{World}
+use Rattle.world_core.specs.World.{World}
 use Rattle.world_core.specs.declared.asked.Request.{Request}
 use Rattle.world_core.specs.declared.asked.Request.TheVariants.{Begin, Note, Abort, Step, Run, Crash}
 use Rattle.world_core.specs.declared.asked.Asked.{Asked}

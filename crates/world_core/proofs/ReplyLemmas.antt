@@ -8,7 +8,7 @@ use Rattle.db_base.specs.declared.wish.Wish.{Wish}
 use Rattle.reply_text.specs.declared.reply.Reply.{Reply}
 use Rattle.client_session.specs.declared.answer.Answer.{Answer}
 use Rattle.client_session.specs.Session.{Acting}
-use Rattle.world_core.specs.declared.world.World.{World}
+use Rattle.world_core.specs.World.{World}
 use Rattle.world_core.specs.declared.world.WorldFault.{WorldFault}
 use Rattle.world_core.specs.Sessions.{Changes}
 use Rattle.world_core.specs.Replying.{RepliesTo, RepliesTurn}

@@ -1,6 +1,7 @@
 -- A session that settles has a call in hand, and its answer is that of a settling.
-use Rattle.std.proofs.Common.{◌≡◌, ◌<◌, ℕ, List, length, Some, refl, sym, ap, subst, ◌∙◌, get_or}
+use Rattle.std.proofs.Common.{◌≡◌, ◌<◌, ℕ, List, map, length, Some, refl, sym, ap, subst, ◌∙◌, get_or}
 use Rattle.std.specs.Prelude.{slice_get, slice_set}
+use Rattle.std.proofs.lemmas.List.{length-map, map-set}
 use Rattle.std.proofs.lemmas.Option.{slice_get-get_or}
 use Rattle.cloud_trait.specs.Caller.{Caller}
 use Rattle.cloud_trait.specs.Seen.{Seen}
@@ -11,7 +12,7 @@ use Rattle.client_session.specs.declared.work.Work.{Work}
 use Rattle.client_session.specs.declared.work.Work.TheVariants.{Settling}
 use Rattle.client_session.specs.Session.{Acting, StepsAt, StepsSettling, closed_session, settling_session}
 use Rattle.settle_run.specs.Settling.{Settling as SettlingState, new_settling, settle_ask}
-use Rattle.world_core.specs.declared.world.World.{World}
+use Rattle.world_core.specs.World.{World}
 use Rattle.world_core.specs.Replying.{IsOfSettling}
 use Rattle.world_core.specs.Sessions.{Changes, IsAtWork}
 use Rattle.world_core.specs.Handled.{Went, start, further, ComesTo}
@@ -21,9 +22,9 @@ use Rattle.world_core.proofs.Going.{same_session, after_there}
 abbrev Begins : Acting → Acting → Type 0
 Begins before after = after ≡ settling_session
 
-pub settles_in : (number place : ℕ) (sessions items : List Acting) (a : Acting) → items ≡ sessions → length items ≡ 17 → place ≡ number → place < 17 → a ≡ settling_session
+settles_at : (number place : ℕ) (sessions items : List Acting) (a : Acting) → items ≡ sessions → length items ≡ 17 → place ≡ number → place < 17 → a ≡ settling_session
     → Changes number (λ x b. b ≡ settling_session) sessions (slice_set items place a)
-settles_in number place sessions items a same long is within settles =
+settles_at number place sessions items a same long is within settles =
     subst (λ l. Changes number Begins l (slice_set items place a)) same (subst (λ n. Changes n Begins items (slice_set items place a)) is (record {
       before = get_or items place closed_session;
       after = a;
@@ -31,6 +32,13 @@ settles_in number place sessions items a same long is within settles =
       does = settles;
       rest = refl;
     }))
+
+-- by how the sessions stand
+pub settles_in : {X : Type 0} (acting : X → Acting) (number place : ℕ) (sessions : List Acting) (items : List X) (a : X) → map acting items ≡ sessions → length items ≡ 17
+    → place ≡ number → place < 17 → acting a ≡ settling_session → Changes number (λ x b. b ≡ settling_session) sessions (map acting (slice_set items place a))
+settles_in acting number place sessions items a same long is within settles =
+    subst (λ l. Changes number Begins sessions l)
+    (sym (map-set acting items place a)) (settles_at number place sessions (map acting items) (acting a) same (length-map items acting ∙ long) is within settles)
 
 pub settling_there : (number : ℕ) (old new : List Acting) → Changes number (λ a b. b ≡ settling_session) old new → slice_get new number ≡ Some settling_session
 settling_there number old new c = after_there number _ old new c ∙ ap Some c.does

@@ -43,7 +43,7 @@ use Rattle.replay_model.proofs.Lists.{session_there, session_set}
 use Rattle.replay_model.proofs.SettlerLemmas.{settle_begins, settle_ends, settler_row}
 use Rattle.replay_model.proofs.Steps.{CallLeaves, CallLeavesUpto, call_holds, settle_holds, never_stops, wish_holds, wait_holds}
 use Rattle.replay_model.proofs.ReportLemmas.{IsShown, report_right}
-use Rattle.world_core.specs.declared.world.World.{World}
+use Rattle.world_core.specs.World.{World}
 use Rattle.world_core.specs.declared.world.WorldFault.{WorldFault}
 use Rattle.world_core.specs.declared.world.WorldFault.TheVariants.{Memory}
 use Rattle.world_core.specs.Replying.{declined, trouble_reply, unsettled_reply, value_reply, RepliesTo, RepliesSettled, RepliesTurn}

@@ -4,7 +4,7 @@ use Rattle.db_base.specs.Ids.{IsTree}
 use Rattle.db_base.specs.declared.trouble.Trouble.{Trouble}
 use Rattle.db_base.specs.declared.trouble.Trouble.TheVariants as trouble
 use Rattle.cloud_trait.specs.Seen.{Seen}
-use Rattle.world_core.specs.declared.world.World.{World}
+use Rattle.world_core.specs.World.{World}
 use Rattle.world_core.specs.Replying.{trouble_reply}
 use Rattle.world_core.specs.Handled.{StopsBy, ReportReply}
 

@@ -10,7 +10,7 @@ use Rattle.replay_model.specs.Facts.{session_at}
 use Rattle.reply_text.specs.declared.reply.Reply.{Reply}
 use Rattle.reply_text.specs.declared.reply.Reply.TheVariants as reply
 use Rattle.session_facts.specs.Sessions.Untroubled.{StepsCalmly, IsUntroubled, IsSpent, IsSpentOrOf, CommitsWell}
-use Rattle.world_core.specs.declared.world.World.{World}
+use Rattle.world_core.specs.World.{World}
 use Rattle.world_core.specs.declared.world.WorldFault.{WorldFault}
 use Rattle.world_core.specs.EachStep.{StepFact, EachStep}
 use Rattle.world_core.specs.Handled.{Handled}

@@ -6,7 +6,7 @@ use Rattle.event_text.specs.declared.event.Event.{Event}
 use Rattle.replay_meaning.specs.Standing.{Line}
 use Rattle.reply_text.specs.declared.reply.Reply.{Reply}
 use Rattle.session_facts.specs.Sessions.Calls.{IsExplained}
-use Rattle.world_core.specs.declared.world.World.{World}
+use Rattle.world_core.specs.World.{World}
 use Rattle.world_core.specs.declared.world.WorldFault.{WorldFault}
 use Rattle.world_core.specs.EachStep.{StepFact, EachStep}
 use Rattle.world_core.specs.Handled.{Handled}

@@ -12,3 +12,4 @@ pub mod Calm
 pub mod Settled
 pub mod Added
 pub mod Opened
+pub mod World

@@ -7,7 +7,7 @@ use Rattle.cloud_trait.specs.Seen.{Seen}
 use Rattle.head_codec.specs.declared.head.Head.{Head}
 use Rattle.replay_model.specs.Facts.{session_at}
 use Rattle.replay_model.specs.Opened.{AddsOpenedTo, AddsOnce, TakesNumber}
-use Rattle.world_core.specs.declared.world.World.{World}
+use Rattle.world_core.specs.World.{World}
 
 -- the line opens session 1
 abbrev pub OpensFirst : Event → Type 0

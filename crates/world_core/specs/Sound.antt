@@ -9,7 +9,7 @@ use Rattle.replay_meaning.specs.Standing.{Line, Posture, session_of, standing}
 use Rattle.replay_model.specs.Answers.{IsSoundReply}
 use Rattle.reply_text.specs.declared.reply.Reply.{Reply}
 use Rattle.reply_text.specs.declared.reply.Reply.TheVariants as reply
-use Rattle.world_core.specs.declared.world.World.{World}
+use Rattle.world_core.specs.World.{World}
 use Rattle.world_core.specs.declared.world.WorldFault.{WorldFault}
 use Rattle.world_core.specs.Stands.{WorldStands}
 

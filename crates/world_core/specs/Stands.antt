@@ -11,7 +11,7 @@ use Rattle.world_audit.specs.Counts.{heads_upto, AreWaiting}
 use Rattle.replay_meaning.specs.Standing.{Line}
 use Rattle.replay_meaning.specs.Right.{ReportIsRight}
 use Rattle.replay_model.specs.Facts.{session_at, Stands}
-use Rattle.world_core.specs.declared.world.World.{World}
+use Rattle.world_core.specs.World.{World}
 use Rattle.world_core.specs.declared.world.WorldFault.{WorldFault}
 
 -- the two numbers of a report: the clients whose newest head is open with a committed entry of its tree, and the messages that wait for it

@@ -7,19 +7,19 @@ ghost use Rattle.world_core.specs.Put.{noted_put, kept_of};
 ghost use Rattle.world_core.specs.Sessions.{NotesPut};
 
 use crate::sessions::Sessions;
-use client_session::session::Session;
 use db_base::ids::{ClientId, SessionNo};
 use db_base::names::ObjName;
 use db_base::refusal::Refused;
+use session_calls::SessionCalls;
 use std::alloc::Global;
 use world_audit::audit::Audit;
 use world_audit::mark::Mark;
 
 /// Notes what a put of the object by the session of a number commits or applies. Refused for memory alone.
-pub(crate) fn note_put(
+pub(crate) fn note_put<S: SessionCalls>(
     alloc: Global,
     audit: &mut Audit,
-    sessions: &Sessions,
+    sessions: &Sessions<S>,
     number: SessionNo,
     name: ObjName,
 ) -> Result<(), Refused>
@@ -29,13 +29,13 @@ pub(crate) fn note_put(
 }
 
 /// Notes what a put of the object by the session commits or applies.
-fn note_put_of(
+fn note_put_of<S: SessionCalls>(
     alloc: Global,
     audit: &mut Audit,
-    session: &Session,
+    session: &S,
     name: ObjName,
 ) -> Result<(), Refused>
-    ensures { OnOk result (audit.new ≡ noted_put name session.now.work audit.old) }
+    ensures { OnOk result (audit.new ≡ noted_put name (S.acting session.now).work audit.old) }
 {
     match name {
         ObjName::Head(client) => note_head(alloc, audit, session, client),
@@ -45,13 +45,13 @@ fn note_put_of(
 }
 
 /// Notes the changes that a put of the client's head commits, where it opens a head.
-fn note_head(
+fn note_head<S: SessionCalls>(
     alloc: Global,
     audit: &mut Audit,
-    session: &Session,
+    session: &S,
     client: ClientId,
 ) -> Result<(), Refused>
-    ensures { OnOk result (audit.new ≡ noted_head client (opens_of session.now.work) (committing_of session.now.work) audit.old) }
+    ensures { OnOk result (audit.new ≡ noted_head client (opens_of (S.acting session.now).work) (committing_of (S.acting session.now).work) audit.old) }
 {
     match session.opens() {
         Some(head) => match session.committing() {

@@ -8,12 +8,12 @@ ghost use Rattle.world_audit.specs.Look.{Looked};
 ghost use Rattle.world_core.specs.Put.{put_of, put_of_ask, SeesNewest};
 
 use crate::world::WorldFault;
-use client_session::session::Session;
 use cloud_trait::call::Call;
 use cloud_trait::cloud::Bench;
 use cloud_trait::fault::CloudFault;
 use db_base::blob::Blob;
 use db_base::names::ObjName;
+use session_calls::SessionCalls;
 use std::alloc::{AllocError, Global};
 
 /// A put: its object, and a copy of its bytes.
@@ -46,8 +46,11 @@ fn put_of_call(alloc: Global, call: &Call<'_>) -> Result<Option<Put>, AllocError
 }
 
 /// The put that the session has in hand; none where its next call is no put.
-pub(crate) fn put_in_hand(alloc: Global, session: &Session) -> Result<Option<Put>, AllocError>
-    ensures { IfOk result (λ put. put ≡ put_of session.now.work) }
+pub(crate) fn put_in_hand<S: SessionCalls>(
+    alloc: Global,
+    session: &S,
+) -> Result<Option<Put>, AllocError>
+    ensures { IfOk result (λ put. put ≡ put_of (S.acting session.now).work) }
 {
     match session.in_hand() {
         Some(call) => put_of_call(alloc, &call),

@@ -6,7 +6,6 @@ ghost use Rattle.world_core.specs.Replying.{declined, done_reply, told, trouble_
 
 use crate::world::WorldFault;
 use client_session::answer::{Answer, Begun};
-use client_session::session::Session;
 use cloud_trait::turn::Turn;
 use db_base::blob::Blob;
 use db_base::pair::Pair;
@@ -14,6 +13,7 @@ use db_base::refusal::Refused;
 use db_base::trouble::Trouble;
 use reply_text::reply::Reply;
 use report_types::pair_list::PairList;
+use session_calls::SessionCalls;
 use std::alloc::{AllocError, Global};
 
 /// The answer to a line that is not done.
@@ -27,12 +27,12 @@ pub(crate) fn declined(why: Refused) -> Result<Reply, WorldFault>
 }
 
 /// The reply to the begin of an operation of the session.
-pub(crate) fn begun_reply(
+pub(crate) fn begun_reply<S: SessionCalls>(
     alloc: Global,
-    session: &Session,
+    session: &S,
     begun: Result<Begun, Refused>,
 ) -> Result<Reply, WorldFault>
-    ensures { RepliesBegun begun session.now result }
+    ensures { RepliesBegun begun (S.acting session.now) result }
 {
     match begun {
         Ok(Begun::Working) => Ok(Reply::Begun),
@@ -52,12 +52,12 @@ pub(crate) fn done(reply: Reply, done: Result<(), Refused>) -> Result<Reply, Wor
 }
 
 /// The reply to a step of the session.
-pub(crate) fn turn_reply(
+pub(crate) fn turn_reply<S: SessionCalls>(
     alloc: Global,
-    session: &Session,
+    session: &S,
     turn: Turn<Answer>,
 ) -> Result<Reply, WorldFault>
-    ensures { RepliesTurn turn session.now result }
+    ensures { RepliesTurn turn (S.acting session.now) result }
 {
     match turn {
         Turn::More => Ok(Reply::Called),
@@ -67,12 +67,12 @@ pub(crate) fn turn_reply(
 }
 
 /// The reply to the answer of an operation of the session.
-pub(crate) fn reply_of(
+pub(crate) fn reply_of<S: SessionCalls>(
     alloc: Global,
-    session: &Session,
+    session: &S,
     answer: Answer,
 ) -> Result<Reply, WorldFault>
-    ensures { RepliesTo answer session.now result }
+    ensures { RepliesTo answer (S.acting session.now) result }
 {
     match answer {
         Answer::Opened { epoch } => Ok(Reply::Opened { epoch }),
@@ -90,8 +90,8 @@ pub(crate) fn reply_of(
 }
 
 /// The reply that shows what the session read.
-fn value_reply(alloc: Global, session: &Session) -> Result<Reply, WorldFault>
-    ensures { ShowsValue (value_of session.now) result }
+fn value_reply<S: SessionCalls>(alloc: Global, session: &S) -> Result<Reply, WorldFault>
+    ensures { ShowsValue (value_of (S.acting session.now)) result }
 {
     match session.value() {
         Some(payload) => match Blob::copy_of(alloc, payload) {
@@ -103,8 +103,8 @@ fn value_reply(alloc: Global, session: &Session) -> Result<Reply, WorldFault>
 }
 
 /// The reply that shows what the session listed.
-fn scan_reply(alloc: Global, session: &Session) -> Result<Reply, WorldFault>
-    ensures { ShowsItems (items_of session.now) result }
+fn scan_reply<S: SessionCalls>(alloc: Global, session: &S) -> Result<Reply, WorldFault>
+    ensures { ShowsItems (items_of (S.acting session.now)) result }
 {
     match copies(alloc, session.items()) {
         Ok(pairs) => Ok(Reply::Scan(pairs)),

@@ -2,60 +2,60 @@ ghost use Rattle.std.specs.Prelude.{◌≡◌, ◌<◌};
 
 use client_session::answer::{Answer, Begun};
 use client_session::op::Op;
-use client_session::session::Session;
 use cloud_trait::cloud::Cloud;
 use cloud_trait::turn::Turn;
 use cloud_trait::who::Who;
 use db_base::change::Change;
 use db_base::ids::{SessionNo, TreeId};
 use db_base::refusal::Refused;
+use session_calls::SessionCalls;
 use std::alloc::Global;
 use std::marker::Model;
 
 /// The sessions of a replay, by their numbers: the settler, and those from 1 to 16 that lines name.
-pub struct Sessions {
-    list: Vec<Session>,
+pub struct Sessions<S: SessionCalls> {
+    list: Vec<S>,
 }
 
 // Written out, so that what holds sessions need not look into them to let them go.
-impl Drop for Sessions {
+impl<S: SessionCalls> Drop for Sessions<S> {
     fn drop(self) {
         let Sessions { list: _ } = self;
     }
 }
 
-impl Model for Sessions {
-    ghost use Rattle.std.specs.Prelude.{List, ◌≡◌, length};
+impl<S: SessionCalls> Model for Sessions<S> {
+    ghost use Rattle.std.specs.Prelude.{List, ◌≡◌, length, map};
     ghost use Rattle.client_session.specs.Session.{Acting};
 
     ghost Value = { List Acting };
 
-    ghost view = { λ s. s.list.items };
+    ghost view = { λ s. map S.acting s.list.items };
 
     ghost invariant = { λ s. length s.list.items ≡ 17 };
 }
 
-impl Sessions {
+impl<S: SessionCalls> Sessions<S> {
     ghost use Rattle.std.specs.Prelude.{replicate, slice_get, IfOk, IfErr, OnOk, OnErr, Some, Ok};
     ghost use Rattle.client_session.specs.Session.{closed_session, settling_session, Begins, StepsSession};
     ghost use Rattle.world_core.specs.Sessions.{Changes, IsAtWork, NotesIn, AbortsIn};
 
     /// Closed sessions. Refused for memory alone.
     #[tactic(auto, using(crate::proofs::Closed::replicate_more, crate::proofs::Closed::seventeen))]
-    pub fn new(alloc: Global) -> Result<Sessions, Refused>
+    pub fn new(alloc: Global) -> Result<Sessions<S>, Refused>
         ensures ok { IfOk result (λ s. s ≡ replicate 17 closed_session) }
         ensures memory { IfErr result (λ e. e ≡ Refused.Memory) }
     {
         let mut list = Vec::new(alloc);
         for _count in 0..17u64 {
-            list.push(Session::new(alloc)?)?;
+            list.push(S::new(alloc)?)?;
         }
         Ok(Sessions { list })
     }
 
     /// The session of a number.
-    pub(crate) fn get(&self, number: SessionNo) -> &Session
-        ensures { slice_get self.now number ≡ Some result.now }
+    pub(crate) fn get(&self, number: SessionNo) -> &S
+        ensures { slice_get self.now number ≡ Some (S.acting result.now) }
     {
         &self.list[place_of(number)]
     }
@@ -97,7 +97,7 @@ impl Sessions {
         ensures err { OnErr result (self.new ≡ self.old) }
         ensures memory { IfErr result (λ e. e ≡ Refused.Memory) }
     {
-        let session = Session::settling(alloc)?;
+        let session = S::settling(alloc)?;
         put(&mut self.list[place_of(number)], session);
         Ok(())
     }
@@ -122,7 +122,7 @@ impl Sessions {
 }
 
 /// Puts a session into a place.
-fn put(place: &mut Session, session: Session)
+fn put<S: Drop>(place: &mut S, session: S)
     ensures { place.new ≡ session }
 {
     *place = session;

@@ -1,4 +1,4 @@
-ghost use Rattle.std.specs.Prelude.{◌≡◌, ℕ, ◌≤◌, ◌<◌, ◌⊎◌, true, false, [], replicate, slice_get, Some, None, Ok, IfOk, IfErr};
+ghost use Rattle.std.specs.Prelude.{◌≡◌, ℕ, ◌≤◌, ◌<◌, ◌⊎◌, true, false, [], replicate, slice_get, Some, None, Ok, IfOk, IfErr, OnOk};
 ghost use Rattle.world_core.specs.Put.{is_blind};
 ghost use Rattle.world_core.specs.Stands.{Grows};
 ghost use Rattle.world_core.specs.Handled.{WaitsFor};
@@ -22,7 +22,9 @@ use db_base::trouble::Trouble;
 use db_base::wish::Wish;
 use event_text::event::Event;
 use reply_text::reply::Reply;
+use session_calls::SessionCalls;
 use std::alloc::Global;
+use std::marker::Model;
 use world_audit::audit::Audit;
 
 /// The most ticks that a line waits for.
@@ -36,17 +38,17 @@ pub enum WorldFault {
 }
 
 /// The sessions of a replay, and what was seen of them.
-pub struct World {
-    /// The sessions, by their numbers.
-    pub sessions: Sessions,
-    /// What was seen to commit and to be applied.
-    pub audit: Audit,
-    /// Whether a look at the object of a put failed: the audit does not know then whether the put landed.
-    pub blind: bool,
+pub struct World<S: SessionCalls> {
+    // By their numbers.
+    sessions: Sessions<S>,
+    // What was seen to commit and to be applied.
+    audit: Audit,
+    // Whether a look at the object of a put failed: the audit does not know then whether the put landed.
+    blind: bool,
 }
 
 // Written out, so that what holds a world need not look into it to let it go.
-impl Drop for World {
+impl<S: SessionCalls> Drop for World<S> {
     fn drop(self) {
         let World {
             sessions: _,
@@ -56,8 +58,16 @@ impl Drop for World {
     }
 }
 
-impl World {
-    ghost use Rattle.client_session.specs.Session.{closed_session, settling_session};
+impl<S: SessionCalls> Model for World<S> {
+    ghost use Rattle.world_core.specs.World.{World};
+
+    ghost Value = { World };
+
+    ghost view = { λ w. record { sessions = w.sessions; audit = w.audit; blind = w.blind } };
+}
+
+impl<S: SessionCalls> World<S> {
+    ghost use Rattle.client_session.specs.Session.{closed_session, settling_session, StepsSession};
     ghost use Rattle.world_core.specs.Sound.{AnswersSoundly};
     ghost use Rattle.world_core.specs.Explained.{ExplainsSteps};
     ghost use Rattle.world_core.specs.Calm.{AnswersWell};
@@ -65,10 +75,10 @@ impl World {
     ghost use Rattle.world_core.specs.Settled.{SettlingEnds, SettlingLeaves};
     ghost use Rattle.world_core.specs.Stands.{StandsOn};
     ghost use Rattle.world_core.specs.Sessions.{Changes, IsNotWorking, IsAtWork, HasPut};
-    ghost use Rattle.world_core.specs.Handled.{Handled, Answers, Does, BeginsOp, NotesChange, DropsChanges, MakesStep, ComesTo, Runs, Settles, SettlesOn, Crashes, CrashesDone, StepsLooked, Reports};
+    ghost use Rattle.world_core.specs.Handled.{Handled, Answers, Does, BeginsOp, NotesChange, DropsChanges, MakesStep, ComesTo, Runs, Settles, SettlesOn, Has, Crashes, CrashesDone, StepsLooked, Reports};
 
     /// A world whose sessions are closed, and that saw nothing. Refused for memory alone.
-    pub fn new(alloc: Global) -> Result<World, Refused>
+    pub fn new(alloc: Global) -> Result<World<S>, Refused>
         ensures sessions { IfOk result (λ w. w.sessions ≡ replicate 17 closed_session) }
         ensures audit { IfOk result (λ w. w.audit ≡ record { committed = []; order = [] }) }
         ensures sees { IfOk result (λ w. w.blind ≡ false) }
@@ -189,12 +199,43 @@ impl World {
         done(Reply::Aborted, self.sessions.abort(number))
     }
 
+    /// The session of a number.
+    fn session(&self, number: SessionNo) -> &S
+        ensures { slice_get self.now.sessions number ≡ Some (S.acting result.now) }
+    {
+        self.sessions.get(number)
+    }
+
+    /// Has the session settle from now on. Refused for memory alone.
+    fn begin_settling(&mut self, alloc: Global, number: SessionNo) -> Result<(), Refused>
+        ensures { OnOk result (Has number settling_session self.old self.new) }
+    {
+        self.sessions.settle(alloc, number)
+    }
+
+    /// Closes the session at once.
+    fn close(&mut self, number: SessionNo)
+        ensures { Has number closed_session self.old self.new }
+    {
+        self.sessions.crash(number);
+    }
+
+    /// Makes the call in hand of the session.
+    fn call<C: Bench>(&mut self, alloc: Global, cloud: &mut C, who: Who) -> Turn<Answer>
+        requires { IsAtWork who.session self.old.sessions }
+        ensures session { Changes who.session (λ a b. StepsSession who (C.seen cloud.old) (C.seen cloud.new) a b (Ok result)) self.old.sessions self.new.sessions }
+        ensures audit { self.new.audit ≡ self.old.audit }
+        ensures blind { self.new.blind ≡ self.old.blind }
+    {
+        self.sessions.step(alloc, cloud, who)
+    }
+
     /// Whether the session has a call in hand.
     fn works(&self, number: SessionNo) -> bool
         ensures idle { result ≡ false → IsNotWorking number self.now.sessions }
         ensures works { result ≡ true → IsAtWork number self.now.sessions }
     {
-        self.sessions.get(number).in_hand().is_some()
+        self.session(number).in_hand().is_some()
     }
 
     /// Makes one step under a wish.
@@ -212,7 +253,7 @@ impl World {
             return Ok(Reply::Refused(Refusal::NotWorking));
         }
         match self.step_under(alloc, cloud, who, wish) {
-            Ok(turn) => turn_reply(alloc, self.sessions.get(who.session), turn),
+            Ok(turn) => turn_reply(alloc, self.session(who.session), turn),
             Err(fault) => Err(fault),
         }
     }
@@ -226,7 +267,7 @@ impl World {
             return Ok(Reply::Refused(Refusal::NotWorking));
         }
         match self.run_on(alloc, cloud, who) {
-            Ok(answer) => reply_of(alloc, self.sessions.get(who.session), answer),
+            Ok(answer) => reply_of(alloc, self.session(who.session), answer),
             Err(fault) => Err(fault),
         }
     }
@@ -264,7 +305,7 @@ impl World {
         ensures grows { Grows n (C.seen cloud.old) (C.seen cloud.new) }
     {
         let session = SessionNo::settler();
-        match self.sessions.settle(alloc, session) {
+        match self.begin_settling(alloc, session) {
             Ok(()) => self.settle_on(alloc, cloud, Who { session, event: n }),
             Err(_) => Err(WorldFault::Memory),
         }
@@ -282,7 +323,7 @@ impl World {
         ensures grows { Grows who.event (C.seen cloud.old) (C.seen cloud.new) }
     {
         let answer = self.run_on(alloc, cloud, who);
-        self.sessions.crash(who.session);
+        self.close(who.session);
         match answer {
             Ok(answer) => settled_reply(answer),
             Err(fault) => Err(fault),
@@ -304,7 +345,7 @@ impl World {
         if done && self.works(who.session) {
             return self.crash_done(alloc, cloud, who);
         }
-        self.sessions.crash(who.session);
+        self.close(who.session);
         Ok(Reply::Crashed)
     }
 
@@ -320,7 +361,7 @@ impl World {
         ensures grows { Grows who.event (C.seen cloud.old) (C.seen cloud.new) }
     {
         let turn = self.step_under(alloc, cloud, who, Wish::Plain)?;
-        self.sessions.crash(who.session);
+        self.close(who.session);
         unanswered(turn);
         Ok(Reply::Crashed)
     }
@@ -337,7 +378,7 @@ impl World {
         ensures looked { IfOk result (λ turn. StepsLooked who wish (C.seen cloud.old) (C.seen cloud.new) self.old self.new turn) }
         ensures grows { Grows who.event (C.seen cloud.old) (C.seen cloud.new) }
     {
-        match put_in_hand(alloc, self.sessions.get(who.session)) {
+        match put_in_hand(alloc, self.session(who.session)) {
             Ok(Some(put)) => self.step_put(alloc, cloud, who, wish, &put),
             Ok(None) => self.step_other(alloc, cloud, who, wish),
             Err(_) => Err(WorldFault::Memory),
@@ -358,7 +399,7 @@ impl World {
         ensures grows { Grows who.event (C.seen cloud.old) (C.seen cloud.new) }
     {
         cloud.wish(wish);
-        Ok(self.sessions.step(alloc, cloud, who))
+        Ok(self.call(alloc, cloud, who))
     }
 
     /// Makes a step that is a put, and notes what it commits or applies where it is seen to land.

@@ -1,7 +1,7 @@
-use Rattle.std.proofs.Common.{◌≡◌, inl, refl, ap, subst}
+use Rattle.std.proofs.Common.{inl, refl, ap, subst}
 use Rattle.cloud_trait.specs.Caller.{Caller}
 use Rattle.client_session.specs.Session.{closed_session}
-use Rattle.world_core.specs.Sessions.{Changes}
+use Rattle.world_core.specs.Handled.{Has}
 use Rattle.world_core.proofs.world.World.crash_done.Goals as goal
 
 pub returns-clause-dies : goal.returns-clause-dies
@@ -9,10 +9,6 @@ returns-clause-dies g c = inl (record {
   world = c.step_under.new.self;
   turn = c.in_ok-turn.turn;
   steps = c.in_ok-turn.ensures.looked;
-  closes = record {
-    session_is = subst (λ n. Changes n (λ a b. b ≡ closed_session) c.step_under.new.self.sessions c.crash.new.self) (ap (λ (w : Caller). w.session) c.who.view_is) c.crash.ensures;
-    audit = refl;
-    blind = refl;
-  };
+  closes = subst (λ n. Has n closed_session c.step_under.new.self c.close.new.self) (ap (λ (w : Caller). w.session) c.who.view_is) c.close.ensures;
   replies = refl;
 })

@@ -6,4 +6,4 @@ use Rattle.world_core.proofs.world.World.step.Goals as goal
 pub returns-in-Ok-clause-steps : goal.returns-in-Ok-clause-steps
 returns-in-Ok-clause-steps g c =
     inr (inl (steps_to c.args.who c.args.wish (g.C.Cloud.seen c.args.cloud.now) (g.C.Cloud.seen c.step_under.new.cloud) c.args.self.now c.step_under.new.self
-    c.in-Ok.turn c.who-2.inside.session c.get.result.now c.turn_reply.result (ap (λ (w : Caller). w.session) c.who-2.view_is) c.in-Ok.ensures.looked c.get.ensures c.turn_reply.ensures))
+    c.in-Ok.turn c.who-2.inside.session (g.S.SessionCalls.acting c.session.result.now) c.turn_reply.result (ap (λ (w : Caller). w.session) c.who-2.view_is) c.in-Ok.ensures.looked c.session.ensures c.turn_reply.ensures))

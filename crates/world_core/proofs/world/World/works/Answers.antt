@@ -3,4 +3,4 @@ use Rattle.world_core.proofs.Going.{at_work}
 use Rattle.world_core.proofs.world.World.works.Goals as goal
 
 pub returns-clause-works : goal.returns-clause-works
-returns-clause-works c = at_work ask_of c.in_hand.result c.args.number c.args.self.now.sessions c.get.result.now c.is_some.result c.get.ensures c.in_hand.ensures c.is_some.ensures
+returns-clause-works g c = at_work ask_of c.in_hand.result c.args.number c.args.self.now.sessions (g.S.SessionCalls.acting c.session.result.now) c.is_some.result c.session.ensures c.in_hand.ensures c.is_some.ensures

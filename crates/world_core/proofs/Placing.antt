@@ -1,0 +1,53 @@
+-- Sessions of which one, in a place of the list that holds them, changes.
+use Rattle.std.proofs.Common.{◌≡◌, ◌≤◌, ◌<◌, ℕ, List, [], length, map, Some, None, Result, Ok, Err, sym, ap, subst, ◌∙◌, get_or}
+use Rattle.std.specs.Prelude.{slice_get, slice_set, OnOk, OnErr, IfErr}
+use Rattle.std.specs.Option.{option_map}
+use Rattle.std.proofs.lemmas.List.{length-map, map-set}
+use Rattle.std.proofs.lemmas.Option.{slice_get-map, slice_get-get_or}
+use Rattle.db_base.specs.declared.change.Change.{Change}
+use Rattle.db_base.specs.declared.refusal.Refused.{Refused}
+use Rattle.txn_buffer.specs.Noted.{noted_in}
+use Rattle.client_session.specs.Session.{Acting, rule_of, NoteRefused, AbortRefused}
+use Rattle.world_core.specs.Sessions.{Changes, NotesIn, AbortsIn}
+
+-- what stands in a place of a list stands in that of what its items are seen as
+pub seen_there : {X Y : Type 0} (view : X → Y) (seen : List Y) (items : List X) (place : ℕ) (x : X) → map view items ≡ seen → place < length items → x ≡ get_or items place x
+    → slice_get seen place ≡ Some (view x)
+seen_there view seen items place x same within is =
+    ap (λ l. slice_get l place) (sym same) ∙ slice_get-map view items place
+    ∙ ap (option_map view) (slice_get-get_or items place x within) ∙ ap (λ z. Some (view z)) (sym is)
+
+set_there : {X Y : Type 0} (view : X → Y) (seen : List Y) (items : List X) (place : ℕ) (y : X) → map view items ≡ seen
+    → map view (slice_set items place y) ≡ slice_set seen place (view y)
+set_there view seen items place y same = map-set view items place y ∙ ap (λ l. slice_set l place (view y)) same
+
+changes_at : {X : Type 0} (acting : X → Acting) (Does : Acting → Acting → Type 0) (place : ℕ) (sessions : List Acting) (items : List X) (x y : X) → map acting items ≡ sessions
+    → place < length items → x ≡ get_or items place x → Does (acting x) (acting y) → Changes place Does sessions (map acting (slice_set items place y))
+changes_at acting Does place sessions items x y same within is does = record {
+  before = acting x;
+  after = acting y;
+  there = seen_there acting sessions items place x same within is;
+  does = does;
+  rest = set_there acting sessions items place y same;
+}
+
+-- one of seventeen sessions changes
+pub changes_there : {X : Type 0} (acting : X → Acting) (Does : Acting → Acting → Type 0) (number place : ℕ) (sessions : List Acting) (items : List X) (x y : X) → map acting items ≡ sessions
+    → length items ≡ 17 → place ≡ number → place < 17 → x ≡ get_or items place x → Does (acting x) (acting y)
+    → Changes number Does sessions (map acting (slice_set items place y))
+changes_there acting Does number place sessions items x y same long at within is does =
+    subst (λ n. Changes n Does sessions (map acting (slice_set items place y))) at
+    (changes_at acting Does place sessions items x y same (subst (λ n. place < n) (sym long) within) is does)
+
+-- ---- what it says of a change noted, or of all dropped
+
+pub notes_in : (tree : ℕ) (change : Change) (a b : Acting) (result : Result (Unit {0}) Refused)
+    → OnOk result ((b ≡ record a { buffer = noted_in a.buffer tree change }) × (rule_of a.work ≡ None)) → OnErr result (b ≡ a) → IfErr result (NoteRefused a tree change)
+    → OnOk result (length b.buffer ≤ 200) → NotesIn tree change a b result
+notes_in tree change a b (Ok done) ok err cause few = (ok.0, ok.1, few)
+notes_in tree change a b (Err why) ok err cause few = (err, cause)
+
+pub aborts_in : (a b : Acting) (result : Result (Unit {0}) Refused) → OnOk result ((b ≡ record a { buffer = [] }) × (rule_of a.work ≡ None)) → OnErr result (b ≡ a)
+    → IfErr result (AbortRefused a) → AbortsIn a b result
+aborts_in a b (Ok done) ok err cause = ok
+aborts_in a b (Err why) ok err cause = (err, cause)

@@ -1,5 +1,6 @@
 pub mod Ending
 pub mod Opens
+pub mod Phases
 pub mod Readying
 pub mod Resting
 pub mod Settles

@@ -1,60 +1,62 @@
 -- What a session does with what it has in hand, and with its cache beside that, the session does.
-use Rattle.std.proofs.Common.{◌≡◌, ℕ, List, Option, Some, Ok, false, refl, sym, subst, ap}
+use Rattle.std.proofs.Common.{◌≡◌, ◌∙◌, ℕ, false, List, Some, Ok, sym, subst, ap}
 use Rattle.txn_buffer.specs.Noted.{Noted}
 use Rattle.cloud_trait.specs.Caller.{Caller}
 use Rattle.cloud_trait.specs.Seen.{Seen}
 use Rattle.cloud_trait.specs.declared.turn.Turn.{Turn}
 use Rattle.page_cache.specs.Cache.{Cache}
 use Rattle.recover_run.specs.declared.home.Home.{Home}
-use Rattle.range_scan.specs.Scan.{Scan, new_scan}
 use Rattle.tree_walk.specs.Walk.{Walk, new_walk}
 use Rattle.client_session.specs.declared.answer.Answer.{Answer}
 use Rattle.client_session.specs.declared.answer.Begun.{Begun}
+use Rattle.client_session.specs.declared.op.Op.{Op}
+use Rattle.client_session.specs.declared.op.Op.TheVariants as op
+use Rattle.client_session.specs.declared.phase.Phase.{Phase}
 use Rattle.client_session.specs.declared.shown.Shown.{Shown}
 use Rattle.client_session.specs.declared.work.Work.{Work}
-use Rattle.client_session.specs.Session.{Acting, StepsSession, StepsAt, ShowsAt, BeginsWith, ReadsIn, ReadsOf, ScansIn, ScansOf, TakesHome, noted_behind, shown_behind}
+use Rattle.client_session.specs.declared.work.Work.TheVariants.{Idle}
+use Rattle.client_session.specs.Phase.{BeginsAt, kept_in, noted_in, phase_of}
+use Rattle.client_session.specs.Session.{Acting, StepsSession, StepsAt, ShowsAt, ReadsOf}
+use Rattle.client_session.proofs.Phases.{kept_by, noted_by}
 
-pub stepped : (who : Caller) (before after : Seen) (old new : Acting) (buffer : List Noted) (work left : Work) (c d : Cache) (shown : Shown) (turn : Turn Answer) → work ≡ old.work → c ≡ old.cache
-    → buffer ≡ noted_behind old.work old.buffer → new ≡ record { buffer = noted_behind old.work old.buffer; work = left; cache = shown_behind left d; shown = shown }
-    → StepsAt who before after work left turn → ShowsAt who before after buffer work c d left shown turn → StepsSession who before after old new (Ok turn)
-stepped who before after old new buffer work left c d shown turn is_work is_cache is_buffer is steps shows =
-    subst (λ (x : Acting). StepsSession who before after old x (Ok turn)) (sym is) (record {
-      buffer = refl;
+pub stepped : (who : Caller) (before after : Seen) (old : Acting) (was work left : Work) (buffer noted : List Noted) (c d kept : Cache) (earlier shown : Shown) (turn : Turn Answer) (p q : Phase)
+    → (let s : Acting = record { buffer = buffer; work = work; cache = c; shown = earlier } in s ≡ old) → was ≡ work → p ≡ phase_of work → q ≡ phase_of left → noted ≡ noted_in p buffer → kept ≡ kept_in q d
+    → StepsAt who before after was left turn → ShowsAt who before after noted was c d left shown turn
+    → StepsSession who before after old (record { buffer = noted; work = left; cache = kept; shown = shown }) (Ok turn)
+stepped who before after old was work left buffer noted c d kept earlier shown turn p q is_old is_work is_p is_q is_noted is_kept steps shows =
+    let new : Acting = record { buffer = noted; work = left; cache = kept; shown = shown } in
+    subst (λ (s : Acting). StepsSession who before after s new (Ok turn)) is_old (record {
+      buffer = is_noted ∙ (ap (λ (z : Phase). noted_in z buffer) is_p ∙ noted_by work buffer);
       work = subst (λ (w : Work). StepsAt who before after w left turn) is_work steps;
       shown = (
         d,
-        subst (λ (b : List Noted). ShowsAt who before after b old.work old.cache d left shown turn) is_buffer
-            (subst (λ (w : Work). ShowsAt who before after buffer w old.cache d left shown turn) is_work
-            (subst (λ (x : Cache). ShowsAt who before after buffer work x d left shown turn) is_cache shows)),
-        refl,
+        subst (λ (w : Work). ShowsAt who before after noted w c d left shown turn) is_work shows,
+        is_kept ∙ (ap (λ (z : Phase). kept_in z d) is_q ∙ kept_by left d),
       );
     })
 
-pub begun_reading : (tree : ℕ) (key : List ℕ) (old taken new : Acting) (home : Home) (start : Walk) (c d : Cache) (left : Work) (shown : Shown) (begun : Begun)
-    → TakesHome old taken (Ok home) → start ≡ new_walk tree (Some key) false → c ≡ taken.cache → new ≡ record taken { work = left; cache = d; shown = shown }
-    → ReadsOf home start c d left shown begun → BeginsWith (ReadsIn tree key old) old new (Ok begun)
-begun_reading tree key old taken new home start c d left shown begun takes is_start is_cache is reads =
-    let At : Acting → Type 0 = λ x. ReadsIn tree key old home x begun in
-    let from : ReadsOf home (new_walk tree (Some key) false) taken.cache d left shown begun =
-    subst (λ (w : Walk). ReadsOf home w taken.cache d left shown begun) is_start (subst (λ (x : Cache). ReadsOf home start x d left shown begun) is_cache reads) in
-    let was : ReadsOf home (new_walk tree (Some key) false) old.cache d left shown begun =
-    subst (λ (x : Acting). ReadsOf home (new_walk tree (Some key) false) x.cache d left shown begun) takes.1 from in (
-      home,
-      takes.0,
-      subst At (sym is) (ap (λ (x : Acting). x.buffer) takes.1, was),
-    )
+-- ---- what one machine did
 
-pub begun_scanning : (tree : ℕ) (first last : Option (List ℕ)) (old taken new : Acting) (home : Home) (start : Scan) (buffer : List Noted) (c d : Cache) (left : Work) (shown : Shown) (begun : Begun)
-    → TakesHome old taken (Ok home) → start ≡ new_scan tree first last → c ≡ taken.cache → buffer ≡ taken.buffer → new ≡ record taken { work = left; cache = d; shown = shown }
-    → ScansOf home buffer start c d left shown begun → BeginsWith (ScansIn tree first last old) old new (Ok begun)
-begun_scanning tree first last old taken new home start buffer c d left shown begun takes is_start is_cache is_buffer is scans =
-    let At : Acting → Type 0 = λ x. ScansIn tree first last old home x begun in
-    let from : ScansOf home taken.buffer (new_scan tree first last) taken.cache d left shown begun =
-    subst (λ (b : List Noted). ScansOf home b (new_scan tree first last) taken.cache d left shown begun) is_buffer
-    (subst (λ (w : Scan). ScansOf home buffer w taken.cache d left shown begun) is_start (subst (λ (x : Cache). ScansOf home buffer start x d left shown begun) is_cache scans)) in
-    let was : ScansOf home old.buffer (new_scan tree first last) old.cache d left shown begun =
-    subst (λ (x : Acting). ScansOf home x.buffer (new_scan tree first last) x.cache d left shown begun) takes.1 from in (
+pub steps_by : (who : Caller) (before after : Seen) (old was new left : Work) (turn : Turn Answer) → old ≡ was → new ≡ left → StepsAt who before after was left turn → StepsAt who before after old new turn
+steps_by who before after old was new left turn is_was is_left steps =
+    subst (λ (w : Work). StepsAt who before after w new turn) (sym is_was) (subst (λ (w : Work). StepsAt who before after was w turn) (sym is_left) steps)
+
+pub shows_by : (who : Caller) (before after : Seen) (buffer : List Noted) (old was new left : Work) (c d : Cache) (shown : Shown) (turn : Turn Answer) → old ≡ was → new ≡ left
+    → ShowsAt who before after buffer was c d left shown turn → ShowsAt who before after buffer old c d new shown turn
+shows_by who before after buffer old was new left c d shown turn is_was is_left shows =
+    subst (λ (w : Work). ShowsAt who before after buffer w c d new shown turn) (sym is_was)
+    (subst (λ (w : Work). ShowsAt who before after buffer was c d w shown turn) (sym is_left) shows)
+
+-- a read that begins beside an open client begins an operation
+pub reads_by : (o : Op) (tree : ℕ) (key : List ℕ) (buffer noted : List Noted) (old new left : Work) (home : Home) (start : Walk) (c d : Cache) (shown : Shown) (begun : Begun)
+    → o ≡ op.Read tree key → old ≡ Idle home → noted ≡ buffer → start ≡ new_walk tree (Some key) false → new ≡ left → ReadsOf home start c d left shown begun
+    → BeginsAt o buffer old c noted new d shown begun
+reads_by o tree key buffer noted old new left home start c d shown begun is_read is_idle is_noted is_start is_left reads =
+    subst (λ (z : Op). BeginsAt z buffer old c noted new d shown begun) (sym is_read) (
       home,
-      takes.0,
-      subst At (sym is) (ap (λ (x : Acting). x.buffer) takes.1, was),
+      is_idle,
+      (
+        is_noted,
+        subst (λ (w : Work). ReadsOf home (new_walk tree (Some key) false) c d w shown begun) (sym is_left) (subst (λ (s : Walk). ReadsOf home s c d left shown begun) is_start reads),
+      ),
     )

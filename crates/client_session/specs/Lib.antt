@@ -1,3 +1,5 @@
+pub mod Left
 pub mod Opening
+pub mod Phase
 pub mod Session
 pub mod Settling

@@ -1,7 +1,7 @@
+ghost use Rattle.client_session.specs.declared.work.Work.TheVariants as work;
 ghost use Rattle.client_session.specs.Session.{StepsClosing};
 
 use crate::answer::Answer;
-use crate::work::Work;
 use cloud_trait::cloud::Cloud;
 use cloud_trait::lease::Lease;
 use cloud_trait::perform::let_go;
@@ -9,11 +9,11 @@ use cloud_trait::turn::Turn;
 use cloud_trait::who::Who;
 
 /// Gives the lease of a client back. Whatever that answers, the client is closed.
-pub(crate) fn step_close<C: Cloud>(cloud: &mut C, who: Who, lease: Lease) -> (Work, Turn<Answer>)
-    ensures { StepsClosing lease who (C.seen cloud.old) (C.seen cloud.new) result.0 result.1 }
+pub(crate) fn step_close<C: Cloud>(cloud: &mut C, who: Who, lease: Lease) -> Turn<Answer>
+    ensures { StepsClosing lease who (C.seen cloud.old) (C.seen cloud.new) work.Closed result }
 {
     match let_go(cloud, who, lease).done() {
-        Ok(()) => (Work::Closed, Turn::Ended(Answer::Closed)),
-        Err(trouble) => (Work::Closed, Turn::Ended(Answer::Trouble(trouble))),
+        Ok(()) => Turn::Ended(Answer::Closed),
+        Err(trouble) => Turn::Ended(Answer::Trouble(trouble)),
     }
 }

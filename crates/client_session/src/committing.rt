@@ -1,10 +1,13 @@
 ghost use Rattle.std.specs.Prelude.{◌≡◌, ◌≤◌, length};
 ghost use Rattle.commit_run.specs.Run.{home_of as home_of_run};
 ghost use Rattle.commit_run.specs.Sound.{IsSoundRun};
+ghost use Rattle.client_session.specs.declared.work.Work.TheVariants as work;
+ghost use Rattle.client_session.specs.Left.{at_rest, behind_commit};
 ghost use Rattle.client_session.specs.Session.{CommitsNoted, StepsAt, StepsCommit, committed_work};
 
 use crate::answer::{Answer, Begun};
-use crate::work::{Work, lease_of};
+use crate::left::{Left, Rest};
+use crate::work::lease_of;
 use cloud_trait::cloud::Cloud;
 use cloud_trait::turn::Turn;
 use cloud_trait::who::Who;
@@ -21,29 +24,40 @@ pub(crate) fn commit_noted(
     home: Home,
     changes: TxnBuffer,
     cache: &mut PageCache,
-) -> (Work, Begun)
-    ensures { CommitsNoted home changes cache.old cache.new result.0 result.1 }
+) -> (Left<CommitRun>, Begun)
+    ensures { CommitsNoted home changes cache.old cache.new (behind_commit result.0) result.1 }
 {
     if changes.is_empty() {
         let answer = CommitAnswer::Committed { txn: 0 };
-        return (Work::Idle(home), Begun::Answered(Answer::Commit(answer)));
+        return (
+            Left::Rests(Rest::Idle(home)),
+            Begun::Answered(Answer::Commit(answer)),
+        );
     }
     commit_of(alloc, home, changes, cache)
 }
 
 /// Begins the commit of changes by a home: what is in hand then.
-fn commit_of(alloc: Global, home: Home, changes: TxnBuffer, cache: &mut PageCache) -> (Work, Begun)
+fn commit_of(
+    alloc: Global,
+    home: Home,
+    changes: TxnBuffer,
+    cache: &mut PageCache,
+) -> (Left<CommitRun>, Begun)
     requires { 1 ≤ length changes }
-    ensures { CommitsNoted home changes cache.old cache.new result.0 result.1 }
+    ensures { CommitsNoted home changes cache.old cache.new (behind_commit result.0) result.1 }
 {
     let mut commit = CommitRun::new(alloc, home, changes);
     match commit.ready(alloc, cache) {
-        Turn::More => (Work::Committing(commit), Begun::Working),
+        Turn::More => (Left::Goes(commit), Begun::Working),
         Turn::Ended(answer) => (
-            Work::Idle(commit.finish()),
+            Left::Rests(Rest::Idle(commit.finish())),
             Begun::Answered(Answer::Commit(answer)),
         ),
-        Turn::Stopped(trouble) => (broken(commit), Begun::Answered(Answer::Trouble(trouble))),
+        Turn::Stopped(trouble) => (
+            Left::Rests(broken(commit)),
+            Begun::Answered(Answer::Trouble(trouble)),
+        ),
     }
 }
 
@@ -54,9 +68,9 @@ pub(crate) fn step_committing<C: Cloud>(
     who: Who,
     machine: CommitRun,
     cache: &mut PageCache,
-) -> (Work, Turn<Answer>)
-    ensures steps { StepsAt who (C.seen cloud.old) (C.seen cloud.new) (Work.Committing machine) result.0 result.1 }
-    ensures shows { StepsCommit who (C.seen cloud.old) (C.seen cloud.new) machine cache.old cache.new result.0 result.1 }
+) -> (Left<CommitRun>, Turn<Answer>)
+    ensures steps { StepsAt who (C.seen cloud.old) (C.seen cloud.new) (work.Committing machine) (behind_commit result.0) result.1 }
+    ensures shows { StepsCommit who (C.seen cloud.old) (C.seen cloud.new) machine cache.old cache.new (behind_commit result.0) result.1 }
 {
     step_commit(alloc, cloud, who, machine, cache)
 }
@@ -68,35 +82,38 @@ fn step_commit<C: Cloud>(
     who: Who,
     mut machine: CommitRun,
     cache: &mut PageCache,
-) -> (Work, Turn<Answer>)
+) -> (Left<CommitRun>, Turn<Answer>)
     ensures sound { IsSoundRun machine }
-    ensures steps { StepsCommit who (C.seen cloud.old) (C.seen cloud.new) machine cache.old cache.new result.0 result.1 }
+    ensures steps { StepsCommit who (C.seen cloud.old) (C.seen cloud.new) machine cache.old cache.new (behind_commit result.0) result.1 }
 {
     match machine.step(alloc, cloud, who, cache) {
-        Turn::More => (Work::Committing(machine), Turn::More),
+        Turn::More => (Left::Goes(machine), Turn::More),
         Turn::Ended(answer) => (
-            committed(&answer, machine),
+            Left::Rests(committed(&answer, machine)),
             Turn::Ended(Answer::Commit(answer)),
         ),
-        Turn::Stopped(trouble) => (broken(machine), Turn::Ended(Answer::Trouble(trouble))),
+        Turn::Stopped(trouble) => (
+            Left::Rests(broken(machine)),
+            Turn::Ended(Answer::Trouble(trouble)),
+        ),
     }
 }
 
 /// A client after its commit: in doubt where it is not known whether the commit or all of its records landed.
-fn committed(answer: &CommitAnswer, machine: CommitRun) -> Work
-    ensures { result ≡ committed_work answer.now (home_of_run machine) }
+fn committed(answer: &CommitAnswer, machine: CommitRun) -> Rest
+    ensures { at_rest result ≡ committed_work answer.now (home_of_run machine) }
 {
     match answer {
         CommitAnswer::InDoubt => broken(machine),
         CommitAnswer::CommittedOpen(_) => broken(machine),
-        CommitAnswer::Committed { .. } => Work::Idle(machine.finish()),
-        CommitAnswer::NotCommitted(_) => Work::Idle(machine.finish()),
+        CommitAnswer::Committed { .. } => Rest::Idle(machine.finish()),
+        CommitAnswer::NotCommitted(_) => Rest::Idle(machine.finish()),
     }
 }
 
 /// A client in doubt: its lease alone is left.
-fn broken(machine: CommitRun) -> Work
-    ensures { result ≡ Work.Broken (home_of_run machine).lease }
+fn broken(machine: CommitRun) -> Rest
+    ensures { at_rest result ≡ work.Broken (home_of_run machine).lease }
 {
-    Work::Broken(lease_of(machine.finish()))
+    Rest::Broken(lease_of(machine.finish()))
 }

@@ -1,7 +1,9 @@
+ghost use Rattle.client_session.specs.Left.{behind_tree};
 ghost use Rattle.client_session.specs.Session.{StepsFolding};
 
 use crate::answer::Answer;
-use crate::work::{Work, stopped};
+use crate::left::{Left, Rest};
+use crate::work::stopped;
 use cloud_trait::cloud::Cloud;
 use cloud_trait::turn::Turn;
 use cloud_trait::who::Who;
@@ -16,14 +18,17 @@ pub(crate) fn step_folding<C: Cloud>(
     who: Who,
     home: Home,
     mut machine: TreeCkpt,
-) -> (Work, Turn<Answer>)
-    ensures { StepsFolding home who (C.seen cloud.old) (C.seen cloud.new) machine result.0 result.1 }
+) -> (Left<(Home, TreeCkpt)>, Turn<Answer>)
+    ensures { StepsFolding home who (C.seen cloud.old) (C.seen cloud.new) machine (behind_tree result.0) result.1 }
 {
     match machine.step(alloc, cloud, who) {
-        Turn::More => (Work::Folding(home, machine), Turn::More),
-        Turn::Ended(answer) => (Work::Idle(home), Turn::Ended(Answer::Done(answer))),
+        Turn::More => (Left::Goes((home, machine)), Turn::More),
+        Turn::Ended(answer) => (
+            Left::Rests(Rest::Idle(home)),
+            Turn::Ended(Answer::Done(answer)),
+        ),
         Turn::Stopped(trouble) => (
-            stopped(&trouble, home),
+            Left::Rests(stopped(&trouble, home)),
             Turn::Ended(Answer::Trouble(trouble)),
         ),
     }

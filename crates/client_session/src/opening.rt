@@ -2,10 +2,11 @@ ghost use Rattle.std.specs.Prelude.{◌≡◌};
 ghost use Rattle.cloud_trait.specs.Call.{ask_of};
 ghost use Rattle.recover_run.specs.declared.stage.Aim.TheVariants as aim;
 ghost use Rattle.recover_run.specs.Recovery.{home_of, new_recovery, recovery_ask, IsSound as IsSoundOpening};
+ghost use Rattle.client_session.specs.Left.{at_rest, behind_opening};
 ghost use Rattle.client_session.specs.Session.{StepsOpening, opened_work};
 
 use crate::answer::Answer;
-use crate::work::Work;
+use crate::left::{Left, Rest};
 use cloud_trait::call::Call;
 use cloud_trait::cloud::Cloud;
 use cloud_trait::lease::Lease;
@@ -64,32 +65,38 @@ impl OpeningRun {
         alloc: Global,
         cloud: &mut C,
         who: Who,
-    ) -> (Work, Turn<Answer>)
+    ) -> (Left<OpeningRun>, Turn<Answer>)
         ensures sound { IsSoundOpening self }
-        ensures steps { StepsOpening who (C.seen cloud.old) (C.seen cloud.new) self result.0 result.1 }
+        ensures steps { StepsOpening who (C.seen cloud.old) (C.seen cloud.new) self (behind_opening result.0) result.1 }
     {
         let OpeningRun { mut run } = self;
         match run.step(alloc, cloud, who) {
-            Turn::More => (Work::Opening(OpeningRun { run }), Turn::More),
+            Turn::More => (Left::Goes(OpeningRun { run }), Turn::More),
             Turn::Ended(RecoverAnswer::Opened { epoch }) => {
-                (opened(run), Turn::Ended(Answer::Opened { epoch }))
+                (
+                    Left::Rests(opened(run)),
+                    Turn::Ended(Answer::Opened { epoch }),
+                )
             }
             Turn::Ended(RecoverAnswer::Nothing) => unreachable!(),
             Turn::Stopped(trouble) => {
                 drop_run(run);
-                (Work::Closed, Turn::Ended(Answer::Trouble(trouble)))
+                (
+                    Left::Rests(Rest::Closed),
+                    Turn::Ended(Answer::Trouble(trouble)),
+                )
             }
         }
     }
 }
 
 /// An open client after its opening.
-fn opened(run: RecoverRun) -> Work
-    ensures { result ≡ opened_work (home_of run) }
+fn opened(run: RecoverRun) -> Rest
+    ensures { at_rest result ≡ opened_work (home_of run) }
 {
     match run.finish() {
-        Some(home) => Work::Idle(home),
-        None => Work::Closed,
+        Some(home) => Rest::Idle(home),
+        None => Rest::Closed,
     }
 }
 

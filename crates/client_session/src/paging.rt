@@ -1,7 +1,9 @@
+ghost use Rattle.client_session.specs.Left.{behind_page};
 ghost use Rattle.client_session.specs.Session.{StepsPaging};
 
 use crate::answer::Answer;
-use crate::work::{Work, drop_paging, stopped};
+use crate::left::{Left, Rest};
+use crate::work::{drop_paging, stopped};
 use cloud_trait::cloud::Cloud;
 use cloud_trait::turn::Turn;
 use cloud_trait::who::Who;
@@ -16,19 +18,22 @@ pub(crate) fn step_paging<C: Cloud>(
     who: Who,
     home: Home,
     mut machine: PageCkpt,
-) -> (Work, Turn<Answer>)
-    ensures { StepsPaging home who (C.seen cloud.old) (C.seen cloud.new) machine result.0 result.1 }
+) -> (Left<(Home, PageCkpt)>, Turn<Answer>)
+    ensures { StepsPaging home who (C.seen cloud.old) (C.seen cloud.new) machine (behind_page result.0) result.1 }
 {
     match machine.step(alloc, cloud, who) {
-        Turn::More => (Work::Paging(home, machine), Turn::More),
+        Turn::More => (Left::Goes((home, machine)), Turn::More),
         Turn::Ended(answer) => {
             drop_paging(machine);
-            (Work::Idle(home), Turn::Ended(Answer::Done(answer)))
+            (
+                Left::Rests(Rest::Idle(home)),
+                Turn::Ended(Answer::Done(answer)),
+            )
         }
         Turn::Stopped(trouble) => {
             drop_paging(machine);
-            let work = stopped(&trouble, home);
-            (work, Turn::Ended(Answer::Trouble(trouble)))
+            let rest = stopped(&trouble, home);
+            (Left::Rests(rest), Turn::Ended(Answer::Trouble(trouble)))
         }
     }
 }

@@ -1,8 +1,10 @@
+ghost use Rattle.client_session.specs.Left.{behind_read};
 ghost use Rattle.client_session.specs.Session.{ReadsBy, ReadsOf, StepsReading};
 
 use crate::answer::{Answer, Begun};
+use crate::left::{Left, Rest};
 use crate::shown::Shown;
-use crate::work::{Work, stopped};
+use crate::work::stopped;
 use cloud_trait::cloud::Cloud;
 use cloud_trait::turn::Turn;
 use cloud_trait::who::Who;
@@ -17,18 +19,18 @@ pub(crate) fn begin_reading(
     home: Home,
     mut read: RecordRead,
     cache: &mut PageCache,
-) -> (Work, Shown, Begun)
-    ensures { ReadsOf home read cache.old cache.new result.0 result.1 result.2 }
+) -> (Left<(Home, RecordRead)>, Shown, Begun)
+    ensures { ReadsOf home read cache.old cache.new (behind_read result.0) result.1 result.2 }
 {
     match read.ready(alloc, cache) {
-        Turn::More => (Work::Reading(home, read), Shown::Nothing, Begun::Working),
+        Turn::More => (Left::Goes((home, read)), Shown::Nothing, Begun::Working),
         Turn::Ended(_) => (
-            Work::Idle(home),
+            Left::Rests(Rest::Idle(home)),
             Shown::Read(read),
             Begun::Answered(Answer::Value),
         ),
         Turn::Stopped(trouble) => (
-            stopped(&trouble, home),
+            Left::Rests(stopped(&trouble, home)),
             Shown::Nothing,
             Begun::Answered(Answer::Trouble(trouble)),
         ),
@@ -43,19 +45,19 @@ pub(crate) fn step_reading<C: Cloud>(
     home: Home,
     mut read: RecordRead,
     cache: &mut PageCache,
-) -> (Work, Shown, Turn<Answer>)
-    ensures steps { StepsReading home who (C.seen cloud.old) (C.seen cloud.new) read result.0 result.2 }
-    ensures reads { ReadsBy home who (C.seen cloud.old) (C.seen cloud.new) read cache.old cache.new result.0 result.1 result.2 }
+) -> (Left<(Home, RecordRead)>, Shown, Turn<Answer>)
+    ensures steps { StepsReading home who (C.seen cloud.old) (C.seen cloud.new) read (behind_read result.0) result.2 }
+    ensures reads { ReadsBy home who (C.seen cloud.old) (C.seen cloud.new) read cache.old cache.new (behind_read result.0) result.1 result.2 }
 {
     match read.step(alloc, cloud, who, cache) {
-        Turn::More => (Work::Reading(home, read), Shown::Nothing, Turn::More),
+        Turn::More => (Left::Goes((home, read)), Shown::Nothing, Turn::More),
         Turn::Ended(_) => (
-            Work::Idle(home),
+            Left::Rests(Rest::Idle(home)),
             Shown::Read(read),
             Turn::Ended(Answer::Value),
         ),
         Turn::Stopped(trouble) => (
-            stopped(&trouble, home),
+            Left::Rests(stopped(&trouble, home)),
             Shown::Nothing,
             Turn::Ended(Answer::Trouble(trouble)),
         ),

@@ -1,7 +1,9 @@
+ghost use Rattle.client_session.specs.Left.{at_rest};
 ghost use Rattle.client_session.specs.Session.{StepsRenewing};
 
 use crate::answer::Answer;
-use crate::work::{Work, stopped};
+use crate::left::Rest;
+use crate::work::stopped;
 use cloud_trait::cloud::Cloud;
 use cloud_trait::perform::renew;
 use cloud_trait::turn::Turn;
@@ -14,11 +16,11 @@ pub(crate) fn step_renewal<C: Cloud>(
     cloud: &mut C,
     who: Who,
     mut home: Home,
-) -> (Work, Turn<Answer>)
-    ensures { StepsRenewing home who (C.seen cloud.old) (C.seen cloud.new) result.0 result.1 }
+) -> (Rest, Turn<Answer>)
+    ensures { StepsRenewing home who (C.seen cloud.old) (C.seen cloud.new) (at_rest result.0) result.1 }
 {
     match renew(cloud, who, &mut home.lease, CLIENT_TICKS).renewed() {
-        Ok(end) => (Work::Idle(home), Turn::Ended(Answer::Renewed { end })),
+        Ok(end) => (Rest::Idle(home), Turn::Ended(Answer::Renewed { end })),
         Err(trouble) => (
             stopped(&trouble, home),
             Turn::Ended(Answer::Trouble(trouble)),

@@ -1,10 +1,12 @@
 ghost use Rattle.std.specs.Prelude.{◌≡◌, IfSome};
+ghost use Rattle.client_session.specs.Left.{behind_scan};
 ghost use Rattle.client_session.specs.Session.{Follows, IsListed, ListsLeaf, ScansOf, StepsScanning, begins_by};
 
 use crate::answer::{Answer, Begun};
+use crate::left::{Left, Rest};
 use crate::listing::{Listing, list_items};
 use crate::shown::Shown;
-use crate::work::{Work, lease_of, stopped};
+use crate::work::{lease_of, stopped};
 use cloud_trait::cloud::Cloud;
 use cloud_trait::turn::Turn;
 use cloud_trait::who::Who;
@@ -24,16 +26,16 @@ pub(crate) fn begin_scanning(
     mut scan: RangeScan,
     cache: &mut PageCache,
     buffer: &TxnBuffer,
-) -> (Work, Shown, Begun)
-    ensures { ScansOf home buffer.now scan cache.old cache.new result.0 result.1 result.2 }
+) -> (Left<(Home, Listing)>, Shown, Begun)
+    ensures { ScansOf home buffer.now scan cache.old cache.new (behind_scan result.0) result.1 result.2 }
 {
     let turn = scan.ready(alloc, cache);
     let listing = Listing {
         scan,
         pairs: PairList::new(alloc),
     };
-    let (work, shown, turn) = follow(alloc, home, listing, cache, buffer, turn);
-    (work, shown, begun(turn))
+    let (left, shown, turn) = follow(alloc, home, listing, cache, buffer, turn);
+    (left, shown, begun(turn))
 }
 
 /// The begin of an operation that came to this.
@@ -56,8 +58,8 @@ pub(crate) fn step_scanning<C: Cloud>(
     mut listing: Listing,
     cache: &mut PageCache,
     buffer: &TxnBuffer,
-) -> (Work, Shown, Turn<Answer>)
-    ensures { StepsScanning home buffer.now who (C.seen cloud.old) (C.seen cloud.new) listing cache.old cache.new result.0 result.1 result.2 }
+) -> (Left<(Home, Listing)>, Shown, Turn<Answer>)
+    ensures { StepsScanning home buffer.now who (C.seen cloud.old) (C.seen cloud.new) listing cache.old cache.new (behind_scan result.0) result.1 result.2 }
 {
     let turn = listing.scan.step(alloc, cloud, who, cache);
     follow(alloc, home, listing, cache, buffer, turn)
@@ -71,14 +73,14 @@ fn follow(
     cache: &PageCache,
     buffer: &TxnBuffer,
     turn: Turn<PageId>,
-) -> (Work, Shown, Turn<Answer>)
-    ensures { Follows home buffer.now listing cache.now turn result.0 result.1 result.2 }
+) -> (Left<(Home, Listing)>, Shown, Turn<Answer>)
+    ensures { Follows home buffer.now listing cache.now turn (behind_scan result.0) result.1 result.2 }
 {
     match turn {
-        Turn::More => (Work::Scanning(home, listing), Shown::Nothing, Turn::More),
+        Turn::More => (Left::Goes((home, listing)), Shown::Nothing, Turn::More),
         Turn::Ended(_) => list_leaf(alloc, home, listing, cache, buffer),
         Turn::Stopped(trouble) => (
-            stopped(&trouble, home),
+            Left::Rests(stopped(&trouble, home)),
             Shown::Nothing,
             Turn::Ended(Answer::Trouble(trouble)),
         ),
@@ -92,23 +94,23 @@ fn list_leaf(
     listing: Listing,
     cache: &PageCache,
     buffer: &TxnBuffer,
-) -> (Work, Shown, Turn<Answer>)
-    ensures { ListsLeaf home buffer.now listing cache.now result.0 result.1 result.2 }
+) -> (Left<(Home, Listing)>, Shown, Turn<Answer>)
+    ensures { ListsLeaf home buffer.now listing cache.now (behind_scan result.0) result.1 result.2 }
 {
     let Listing { mut scan, pairs } = listing;
     let Some(pairs) = with_leaf(alloc, &home, &scan, pairs, cache, buffer) else {
         return (
-            Work::Broken(lease_of(home)),
+            Left::Rests(Rest::Broken(lease_of(home))),
             Shown::Nothing,
             Turn::Ended(Answer::Trouble(Trouble::Memory)),
         );
     };
     if scan.go_on() {
-        let work = Work::Scanning(home, Listing { scan, pairs });
-        return (work, Shown::Nothing, Turn::More);
+        let listing = Listing { scan, pairs };
+        return (Left::Goes((home, listing)), Shown::Nothing, Turn::More);
     }
     (
-        Work::Idle(home),
+        Left::Rests(Rest::Idle(home)),
         Shown::Listed(pairs),
         Turn::Ended(Answer::Scan),
     )

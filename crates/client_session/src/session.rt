@@ -4,47 +4,37 @@ ghost use Rattle.cloud_trait.specs.Call.{ask_of};
 ghost use Rattle.txn_buffer.specs.Noted.{noted_in};
 
 use crate::answer::{Answer, Begun};
-use crate::committing::commit_noted;
+use crate::hand::Hand;
 use crate::op::Op;
-use crate::opening::OpeningRun;
-use crate::reading::begin_reading;
-use crate::scanning::begin_scanning;
-use crate::settling::SettlingRun;
 use crate::shown::Shown;
-use crate::work::{Work, lease_of};
+use crate::work::Work;
 use cloud_trait::call::Call;
 use cloud_trait::cloud::Cloud;
 use cloud_trait::turn::Turn;
 use cloud_trait::who::Who;
 use db_base::change::Change;
-use db_base::ids::{ClientId, PageId, TreeId};
-use db_base::key::Key;
+use db_base::ids::TreeId;
 use db_base::pair::Pair;
 use db_base::refusal::{Refusal, Refused};
 use head_codec::head::Head;
 use log_codec::record::PuItem;
 use page_cache::PageCache;
-use page_ckpt::PageCkpt;
-use range_scan::RangeScan;
-use record_read::RecordRead;
-use recover_run::home::Home;
 use std::alloc::Global;
 use std::marker::Model;
 use std::mem;
-use tree_ckpt::TreeCkpt;
 use txn_buffer::buffer::TxnBuffer;
 
 /// A session of a client. It is closed at first.
-pub struct Session {
+pub struct Session<H: Hand = Work> {
     buffer: TxnBuffer,
-    work: Work,
+    work: H,
     cache: PageCache,
     // What the newest operation shows.
     shown: Shown,
 }
 
 // Written out, so that what holds a session need not look into it to let it go.
-impl Drop for Session {
+impl<H: Hand> Drop for Session<H> {
     fn drop(self) {
         let Session {
             buffer: _,
@@ -55,19 +45,19 @@ impl Drop for Session {
     }
 }
 
-impl Model for Session {
+impl<H: Hand> Model for Session<H> {
     ghost use Rattle.client_session.specs.Session.{Acting};
 
     ghost Value = { Acting };
 
-    ghost view = { λ s. record { buffer = s.buffer; work = s.work; cache = s.cache; shown = s.shown } };
+    ghost view = { λ s. record { buffer = s.buffer; work = H.work s.work; cache = s.cache; shown = s.shown } };
 }
 
-impl Session {
-    ghost use Rattle.client_session.specs.Session.{Acting, closed_session, rule_of, NoteRefused, AbortRefused, Begins, BeginsOpening, BeginsWith, HasInHand, folding_begun_by, paging_begun_by, TakesHome, CommitsIn, StepsSession, ReadsIn, ScansIn, settling_session, noted_behind, shown_behind, ask_of_work, committing_of, opens_of, applying_of, value_of, items_of};
+impl<H: Hand> Session<H> {
+    ghost use Rattle.client_session.specs.Session.{Acting, closed_session, rule_of, NoteRefused, AbortRefused, Begins, StepsSession, settling_session, ask_of_work, committing_of, opens_of, applying_of, value_of, items_of};
 
     /// A closed session without changes. Refused for memory alone.
-    pub fn new(alloc: Global) -> Result<Session, Refused>
+    pub fn new(alloc: Global) -> Result<Session<H>, Refused>
         ensures ok { IfOk result (λ s. s ≡ closed_session) }
         ensures memory { IfErr result (λ e. e ≡ Refused.Memory) }
     {
@@ -76,19 +66,19 @@ impl Session {
         };
         Ok(Session {
             buffer: TxnBuffer::new(alloc)?,
-            work: Work::Closed,
+            work: H::closed(),
             cache,
             shown: Shown::Nothing,
         })
     }
 
     /// A session that stands for no client and settles. Refused for memory alone.
-    pub fn settling(alloc: Global) -> Result<Session, Refused>
+    pub fn settling(alloc: Global) -> Result<Session<H>, Refused>
         ensures ok { IfOk result (λ s. s ≡ settling_session) }
         ensures memory { IfErr result (λ e. e ≡ Refused.Memory) }
     {
-        let mut session = Session::new(alloc)?;
-        session.has(Work::Settling(SettlingRun::new(alloc)));
+        let mut session = Session::<H>::new(alloc)?;
+        session.work = H::settling(alloc);
         Ok(session)
     }
 
@@ -99,7 +89,7 @@ impl Session {
         ensures cause { IfErr result (NoteRefused self.old tree change) }
         ensures few { OnOk result (length self.new.buffer ≤ 200) }
     {
-        if let Some(rule) = self.work.rule() {
+        if let Some(rule) = self.work.phase().rule() {
             return Err(Refused::Rule(rule));
         }
         let noted = self.buffer.note(tree, change);
@@ -114,7 +104,7 @@ impl Session {
         ensures err { OnErr result (self.new ≡ self.old) }
         ensures cause { IfErr result (AbortRefused self.old) }
     {
-        if let Some(rule) = self.work.rule() {
+        if let Some(rule) = self.work.phase().rule() {
             return Err(Refused::Rule(rule));
         }
         self.buffer.clear();
@@ -125,16 +115,9 @@ impl Session {
     pub fn crash(&mut self)
         ensures { self.new ≡ closed_session }
     {
-        self.forget();
-        self.has(Work::Closed);
-    }
-
-    /// Forgets what was noted and what was seen of the cloud.
-    fn forget(&mut self)
-        ensures { self.new ≡ record closed_session { work = self.old.work } }
-    {
         self.buffer.clear();
         self.cache.clear();
+        self.work = H::closed();
         self.shown = Shown::Nothing;
     }
 
@@ -142,140 +125,14 @@ impl Session {
     pub fn begin(&mut self, alloc: Global, op: Op) -> Result<Begun, Refused>
         ensures { Begins op self.old self.new result }
     {
-        match op {
-            Op::Open(client) => self.begin_opening(alloc, client),
-            Op::Close => self.begin_close(),
-            Op::Renew => self.begin_renewal(),
-            Op::Commit => self.begin_commit(alloc),
-            Op::Read(tree, key) => self.begin_read(alloc, tree, key),
-            Op::Scan(tree, from, to) => self.begin_scan(alloc, tree, from, to),
-            Op::Page(tree, page) => self.begin_page(alloc, tree, page),
-            Op::Tree(tree) => self.begin_tree(alloc, tree),
-        }
-    }
-
-    /// Begins opening a client, in a closed session, or in a broken one with its old lease. It drops what was noted.
-    fn begin_opening(&mut self, alloc: Global, client: ClientId) -> Result<Begun, Refused>
-        ensures { BeginsOpening client self.old self.new result }
-    {
-        if let Some(rule) = self.work.opening_rule() {
+        if let Some(rule) = self.work.phase().bar(&op) {
             return Err(Refused::Rule(rule));
         }
-        self.forget();
-        let (work, old) = self.take_work().take_lease();
-        self.has(work);
-        self.has(Work::Opening(OpeningRun::new(alloc, client, old)));
-        Ok(Begun::Working)
-    }
-
-    /// Begins closing the client.
-    fn begin_close(&mut self) -> Result<Begun, Refused>
-        ensures { BeginsWith (λ home. HasInHand self.old (Work.Closing home.lease)) self.old self.new result }
-    {
-        let home = self.take_home()?;
-        self.has(Work::Closing(lease_of(home)));
-        Ok(Begun::Working)
-    }
-
-    /// Begins renewing the client's lease.
-    fn begin_renewal(&mut self) -> Result<Begun, Refused>
-        ensures { BeginsWith (λ home. HasInHand self.old (Work.Renewing home)) self.old self.new result }
-    {
-        let home = self.take_home()?;
-        self.has(Work::Renewing(home));
-        Ok(Begun::Working)
-    }
-
-    /// Begins the commit of what was noted; that of nothing is answered at once.
-    fn begin_commit(&mut self, alloc: Global) -> Result<Begun, Refused>
-        ensures { BeginsWith (CommitsIn self.old) self.old self.new result }
-    {
-        let home = self.take_home()?;
-        let (work, begun) = commit_noted(alloc, home, self.buffer.take(), &mut self.cache);
-        self.has(work);
-        Ok(begun)
-    }
-
-    /// Begins a read of a record.
-    fn begin_read(&mut self, alloc: Global, tree: TreeId, key: Key) -> Result<Begun, Refused>
-        ensures { BeginsWith (ReadsIn tree key self.old) self.old self.new result }
-    {
-        let home = self.take_home()?;
-        let read = RecordRead::new(alloc, tree, key);
-        let (work, shown, begun) = begin_reading(alloc, home, read, &mut self.cache);
-        self.has(work);
-        self.shows(shown);
-        Ok(begun)
-    }
-
-    /// Begins a scan of records.
-    fn begin_scan(
-        &mut self,
-        alloc: Global,
-        tree: TreeId,
-        from: Option<Key>,
-        to: Option<Key>,
-    ) -> Result<Begun, Refused>
-        ensures { BeginsWith (ScansIn tree from to self.old) self.old self.new result }
-    {
-        let home = self.take_home()?;
-        let scan = RangeScan::new(alloc, tree, from, to);
-        let (work, shown, begun) = begin_scanning(alloc, home, scan, &mut self.cache, &self.buffer);
-        self.has(work);
-        self.shows(shown);
-        Ok(begun)
-    }
-
-    /// Begins a checkpoint of a page.
-    fn begin_page(&mut self, alloc: Global, tree: TreeId, page: PageId) -> Result<Begun, Refused>
-        ensures { BeginsWith (λ home. HasInHand self.old (paging_begun_by tree page home)) self.old self.new result }
-    {
-        let home = self.take_home()?;
-        self.has(Work::Paging(home, PageCkpt::new(alloc, tree, page)));
-        Ok(Begun::Working)
-    }
-
-    /// Begins a checkpoint of a tree.
-    fn begin_tree(&mut self, alloc: Global, tree: TreeId) -> Result<Begun, Refused>
-        ensures { BeginsWith (λ home. HasInHand self.old (folding_begun_by tree home)) self.old self.new result }
-    {
-        let home = self.take_home()?;
-        self.has(Work::Folding(home, TreeCkpt::new(alloc, tree)));
-        Ok(Begun::Working)
-    }
-
-    /// Takes the home of an open client, for what begins. A refusal changes nothing.
-    fn take_home(&mut self) -> Result<Home, Refused>
-        ensures { TakesHome self.old self.new result }
-    {
-        let (work, home) = self.take_work().take_home();
-        self.has(work);
-        if home.is_ok() {
-            self.shows(Shown::Nothing);
-        }
-        home
-    }
-
-    /// Takes what is in hand.
-    fn take_work(&mut self) -> Work
-        ensures taken { result ≡ self.old.work }
-        ensures left { self.new ≡ record self.old { work = Work.Closed } }
-    {
-        mem::replace(&mut self.work, Work::Closed)
-    }
-
-    /// Has this in hand from now on. It is the one place where what was in hand is dropped.
-    fn has(&mut self, work: Work)
-        ensures { self.new ≡ record self.old { work = work } }
-    {
+        let work = mem::replace(&mut self.work, H::closed());
+        let (work, shown, begun) = work.begin(alloc, op, &mut self.buffer, &mut self.cache);
         self.work = work;
-    }
-
-    /// Shows this from now on.
-    fn shows(&mut self, shown: Shown)
-        ensures { self.new ≡ record self.old { shown = shown } }
-    {
         self.shown = shown;
+        Ok(begun)
     }
 
     /// Makes the call in hand of the operation at work, and does the local work up to the next one.
@@ -287,36 +144,18 @@ impl Session {
     ) -> Result<Turn<Answer>, Refused>
         ensures { StepsSession who (C.seen cloud.old) (C.seen cloud.new) self.old self.new result }
     {
-        if !self.work.is_working() {
+        let phase = self.work.phase();
+        if !phase.is_working() {
             return Err(Refused::Rule(Refusal::NotWorking));
         }
-        self.drop_at_close();
-        let work = self.take_work();
+        phase.drop_noted(&mut self.buffer);
+        let work = mem::replace(&mut self.work, H::closed());
         let (work, shown, turn) = work.step(alloc, cloud, who, &mut self.cache, &self.buffer);
-        self.has(work);
-        self.shows(shown);
-        self.clear_where_closed();
+        let left = work.phase();
+        left.drop_kept(&mut self.cache);
+        self.work = work;
+        self.shown = shown;
         Ok(turn)
-    }
-
-    /// A closed session keeps nothing of the cloud.
-    fn clear_where_closed(&mut self)
-        ensures { self.new ≡ record self.old { cache = shown_behind self.old.work self.old.cache } }
-    {
-        match &self.work {
-            Work::Closed => self.cache.clear(),
-            _ => {}
-        }
-    }
-
-    /// A close drops what was noted.
-    fn drop_at_close(&mut self)
-        ensures { self.new ≡ record self.old { buffer = noted_behind self.old.work self.old.buffer } }
-    {
-        match &self.work {
-            Work::Closing(_) => self.buffer.clear(),
-            _ => {}
-        }
     }
 
     /// The service call that the next step makes; none where nothing is at work.
@@ -351,12 +190,7 @@ impl Session {
     pub fn value(&self) -> Option<&[u8]>
         ensures { option_copied result ≡ value_of self.now }
     {
-        match (&self.work, &self.shown) {
-            (Work::Idle(home), Shown::Read(read)) => {
-                read.value(&self.cache, home.client, &home.head, &self.buffer)
-            }
-            _ => None,
-        }
+        self.work.value(&self.shown, &self.cache, &self.buffer)
     }
 
     /// The records that the newest operation listed, in the order of their keys; none where it was no scan.

@@ -2,10 +2,11 @@ ghost use Rattle.std.specs.Prelude.{◌≡◌};
 ghost use Rattle.cloud_trait.specs.Call.{ask_of};
 ghost use Rattle.settle_run.specs.Parts.{IsSoundPart, part_applying};
 ghost use Rattle.settle_run.specs.Settling.{new_settling, settle_ask};
+ghost use Rattle.client_session.specs.Left.{behind_settling};
 ghost use Rattle.client_session.specs.Session.{StepsSettling};
 
 use crate::answer::Answer;
-use crate::work::Work;
+use crate::left::{Left, Rest};
 use cloud_trait::call::Call;
 use cloud_trait::cloud::Cloud;
 use cloud_trait::turn::Turn;
@@ -69,20 +70,26 @@ impl SettlingRun {
         alloc: Global,
         cloud: &mut C,
         who: Who,
-    ) -> (Work, Turn<Answer>)
+    ) -> (Left<SettlingRun>, Turn<Answer>)
         ensures sound { IsSoundPart self.part }
-        ensures steps { StepsSettling who (C.seen cloud.old) (C.seen cloud.new) self result.0 result.1 }
+        ensures steps { StepsSettling who (C.seen cloud.old) (C.seen cloud.new) self (behind_settling result.0) result.1 }
     {
         let SettlingRun { mut run } = self;
         match run.step(alloc, cloud, who) {
-            Turn::More => (Work::Settling(SettlingRun { run }), Turn::More),
+            Turn::More => (Left::Goes(SettlingRun { run }), Turn::More),
             Turn::Ended(settled) => {
                 drop_run(run);
-                (Work::Closed, Turn::Ended(Answer::Settled(settled)))
+                (
+                    Left::Rests(Rest::Closed),
+                    Turn::Ended(Answer::Settled(settled)),
+                )
             }
             Turn::Stopped(trouble) => {
                 drop_run(run);
-                (Work::Closed, Turn::Ended(Answer::Trouble(trouble)))
+                (
+                    Left::Rests(Rest::Closed),
+                    Turn::Ended(Answer::Trouble(trouble)),
+                )
             }
         }
     }

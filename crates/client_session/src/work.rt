@@ -1,18 +1,21 @@
-ghost use Rattle.std.specs.Prelude.{◌≡◌, true, false, None};
-ghost use Rattle.std.specs.Option.{option_map, option_copied};
-ghost use Rattle.cloud_trait.specs.Call.{ask_of};
-ghost use Rattle.client_session.specs.Session.{GivesHome, ShowsAt, StepsAt, old_lease, stopped_work};
+ghost use Rattle.std.specs.Prelude.{◌≡◌, None};
+ghost use Rattle.client_session.specs.Left.{at_rest, behind_opening, behind_commit, behind_read, behind_scan, behind_page, behind_tree, behind_settling};
+ghost use Rattle.client_session.specs.Session.{old_lease, rule_of, stopped_work};
 
-use crate::answer::Answer;
+use crate::answer::{Answer, Begun};
 use crate::closing::step_close;
-use crate::committing::step_committing;
+use crate::committing::{commit_noted, step_committing};
 use crate::folding::step_folding;
+use crate::hand::Hand;
+use crate::left::{Left, Rest};
 use crate::listing::Listing;
+use crate::op::Op;
 use crate::opening::OpeningRun;
 use crate::paging::step_paging;
-use crate::reading::step_reading;
+use crate::phase::Phase;
+use crate::reading::{begin_reading, step_reading};
 use crate::renewing::step_renewal;
-use crate::scanning::step_scanning;
+use crate::scanning::{begin_scanning, step_scanning};
 use crate::settling::SettlingRun;
 use crate::shown::Shown;
 use cloud_trait::call::Call;
@@ -21,12 +24,12 @@ use cloud_trait::lease::Lease;
 use cloud_trait::turn::Turn;
 use cloud_trait::who::Who;
 use commit_run::CommitRun;
-use db_base::refusal::{Refusal, Refused};
 use db_base::trouble::Trouble;
 use head_codec::head::Head;
 use log_codec::record::PuItem;
 use page_cache::PageCache;
 use page_ckpt::PageCkpt;
+use range_scan::RangeScan;
 use record_read::RecordRead;
 use recover_run::home::Home;
 use recover_run::recover::CLIENT_TICKS;
@@ -85,73 +88,37 @@ impl Drop for Work {
 /// Lets a page checkpoint go.
 pub(crate) fn drop_paging(_machine: PageCkpt) {}
 
-impl Work {
-    ghost use Rattle.client_session.specs.Session.{rule_of, opening_rule_of, is_working, ask_of_work, committing_of, opens_of, applying_of};
+impl Hand for Work {
+    ghost use Rattle.client_session.specs.declared.work.Work.{Work};
 
-    /// The rule that keeps an open client's operation from beginning.
-    pub(crate) fn rule(&self) -> Option<Refusal>
-        ensures { result ≡ rule_of self.now }
-    {
+    ghost work = { λ (w : Work). w };
+
+    fn closed() -> Work {
+        Work::Closed
+    }
+
+    fn settling(alloc: Global) -> Work {
+        Work::Settling(SettlingRun::new(alloc))
+    }
+
+    fn phase(&self) -> Phase {
         match self {
-            Work::Closed => Some(Refusal::NotOpen),
-            Work::Idle(_) => None,
-            Work::Opening(_) => Some(Refusal::AtWork),
-            Work::Committing(_) => Some(Refusal::AtWork),
-            Work::Reading(_, _) => Some(Refusal::AtWork),
-            Work::Scanning(_, _) => Some(Refusal::AtWork),
-            Work::Paging(_, _) => Some(Refusal::AtWork),
-            Work::Folding(_, _) => Some(Refusal::AtWork),
-            Work::Closing(_) => Some(Refusal::AtWork),
-            Work::Renewing(_) => Some(Refusal::AtWork),
-            Work::Settling(_) => Some(Refusal::AtWork),
-            Work::Broken(_) => Some(Refusal::Broken),
+            Work::Closed => Phase::Closed,
+            Work::Idle(_) => Phase::Idle,
+            Work::Opening(_) => Phase::Working,
+            Work::Committing(_) => Phase::Working,
+            Work::Reading(_, _) => Phase::Working,
+            Work::Scanning(_, _) => Phase::Working,
+            Work::Paging(_, _) => Phase::Working,
+            Work::Folding(_, _) => Phase::Working,
+            Work::Closing(_) => Phase::Closing,
+            Work::Renewing(_) => Phase::Working,
+            Work::Settling(_) => Phase::Working,
+            Work::Broken(_) => Phase::Broken,
         }
     }
 
-    /// The rule that keeps an opening from beginning.
-    pub(crate) fn opening_rule(&self) -> Option<Refusal>
-        ensures { result ≡ opening_rule_of self.now }
-    {
-        match self {
-            Work::Closed => None,
-            Work::Idle(_) => Some(Refusal::AlreadyOpen),
-            Work::Opening(_) => Some(Refusal::AtWork),
-            Work::Committing(_) => Some(Refusal::AtWork),
-            Work::Reading(_, _) => Some(Refusal::AtWork),
-            Work::Scanning(_, _) => Some(Refusal::AtWork),
-            Work::Paging(_, _) => Some(Refusal::AtWork),
-            Work::Folding(_, _) => Some(Refusal::AtWork),
-            Work::Closing(_) => Some(Refusal::AtWork),
-            Work::Renewing(_) => Some(Refusal::AtWork),
-            Work::Settling(_) => Some(Refusal::AtWork),
-            Work::Broken(_) => None,
-        }
-    }
-
-    /// Whether an operation is at work.
-    pub(crate) fn is_working(&self) -> bool
-        ensures { result ≡ is_working self.now }
-    {
-        match self {
-            Work::Opening(_) => true,
-            Work::Committing(_) => true,
-            Work::Reading(_, _) => true,
-            Work::Scanning(_, _) => true,
-            Work::Paging(_, _) => true,
-            Work::Folding(_, _) => true,
-            Work::Closing(_) => true,
-            Work::Renewing(_) => true,
-            Work::Settling(_) => true,
-            Work::Closed => false,
-            Work::Idle(_) => false,
-            Work::Broken(_) => false,
-        }
-    }
-
-    /// The service call that the next step makes; none where nothing is at work.
-    pub(crate) fn in_hand(&self) -> Option<Call<'_>>
-        ensures { option_map ask_of result ≡ ask_of_work self.now }
-    {
+    fn in_hand(&self) -> Option<Call<'_>> {
         match self {
             Work::Opening(machine) => Some(machine.in_hand()),
             Work::Committing(machine) => Some(machine.in_hand()),
@@ -168,10 +135,7 @@ impl Work {
         }
     }
 
-    /// The changes of the commit at work; none where none is.
-    pub(crate) fn committing(&self) -> Option<&TxnBuffer>
-        ensures { option_copied result ≡ committing_of self.now }
-    {
+    fn committing(&self) -> Option<&TxnBuffer> {
         match self {
             Work::Committing(machine) => Some(machine.changes()),
             Work::Closed => None,
@@ -188,10 +152,7 @@ impl Work {
         }
     }
 
-    /// The head that the put in hand opens, where it is the one that commits.
-    pub(crate) fn opens(&self) -> Option<&Head>
-        ensures { option_copied result ≡ opens_of self.now }
-    {
+    fn opens(&self) -> Option<&Head> {
         match self {
             Work::Committing(machine) => machine.opens(),
             Work::Closed => None,
@@ -208,10 +169,7 @@ impl Work {
         }
     }
 
-    /// The items that the put in hand of a checkpoint applies.
-    pub(crate) fn applying(&self) -> &[PuItem]
-        ensures { result.now ≡ applying_of self.now }
-    {
+    fn applying(&self) -> &[PuItem] {
         match self {
             Work::Reading(_, _) => &[],
             Work::Scanning(_, _) => &[],
@@ -228,18 +186,133 @@ impl Work {
         }
     }
 
-    /// Takes the home out of what an open client has in hand; what else is in hand stays.
-    pub(crate) fn take_home(self) -> (Work, Result<Home, Refused>)
-        ensures { GivesHome self result.0 result.1 }
-    {
-        match self.rule() {
-            Some(rule) => (self, Err(Refused::Rule(rule))),
-            None => (Work::Closed, Ok(self.idle_home())),
+    fn value<'a>(
+        &'a self,
+        shown: &'a Shown,
+        cache: &'a PageCache,
+        buffer: &'a TxnBuffer,
+    ) -> Option<&'a [u8]> {
+        match (self, shown) {
+            (Work::Idle(home), Shown::Read(read)) => {
+                read.value(cache, home.client, &home.head, buffer)
+            }
+            _ => None,
         }
     }
 
+    fn begin(
+        self,
+        alloc: Global,
+        op: Op,
+        buffer: &mut TxnBuffer,
+        cache: &mut PageCache,
+    ) -> (Work, Shown, Begun) {
+        match op {
+            Op::Open(client) => {
+                buffer.clear();
+                cache.clear();
+                let opening = OpeningRun::new(alloc, client, self.into_lease());
+                (Work::Opening(opening), Shown::Nothing, Begun::Working)
+            }
+            Op::Close => {
+                let lease = lease_of(self.into_home());
+                (Work::Closing(lease), Shown::Nothing, Begun::Working)
+            }
+            Op::Renew => (
+                Work::Renewing(self.into_home()),
+                Shown::Nothing,
+                Begun::Working,
+            ),
+            Op::Commit => {
+                let (left, begun) = commit_noted(alloc, self.into_home(), buffer.take(), cache);
+                (after_commit(left), Shown::Nothing, begun)
+            }
+            Op::Read(tree, key) => {
+                let read = RecordRead::new(alloc, tree, key);
+                let (left, shown, begun) = begin_reading(alloc, self.into_home(), read, cache);
+                (after_read(left), shown, begun)
+            }
+            Op::Scan(tree, from, to) => {
+                let scan = RangeScan::new(alloc, tree, from, to);
+                let (left, shown, begun) = begin_scanning(
+                    alloc,
+                    self.into_home(),
+                    scan,
+                    cache,
+                    buffer,
+                );
+                (after_scan(left), shown, begun)
+            }
+            Op::Page(tree, page) => {
+                let machine = PageCkpt::new(alloc, tree, page);
+                let work = Work::Paging(self.into_home(), machine);
+                (work, Shown::Nothing, Begun::Working)
+            }
+            Op::Tree(tree) => {
+                let machine = TreeCkpt::new(alloc, tree);
+                let work = Work::Folding(self.into_home(), machine);
+                (work, Shown::Nothing, Begun::Working)
+            }
+        }
+    }
+
+    fn step<C: Cloud>(
+        self,
+        alloc: Global,
+        cloud: &mut C,
+        who: Who,
+        cache: &mut PageCache,
+        buffer: &TxnBuffer,
+    ) -> (Work, Shown, Turn<Answer>) {
+        match self {
+            Work::Reading(home, read) => {
+                let (left, shown, turn) = step_reading(alloc, cloud, who, home, read, cache);
+                (after_read(left), shown, turn)
+            }
+            Work::Scanning(home, listing) => {
+                let (left, shown, turn) = step_scanning(
+                    alloc, cloud, who, home, listing, cache, buffer,
+                );
+                (after_scan(left), shown, turn)
+            }
+            Work::Opening(machine) => {
+                let (left, turn) = machine.step(alloc, cloud, who);
+                (after_opening(left), Shown::Nothing, turn)
+            }
+            Work::Committing(machine) => {
+                let (left, turn) = step_committing(alloc, cloud, who, machine, cache);
+                (after_commit(left), Shown::Nothing, turn)
+            }
+            Work::Paging(home, machine) => {
+                let (left, turn) = step_paging(alloc, cloud, who, home, machine);
+                (after_page(left), Shown::Nothing, turn)
+            }
+            Work::Folding(home, machine) => {
+                let (left, turn) = step_folding(alloc, cloud, who, home, machine);
+                (after_tree(left), Shown::Nothing, turn)
+            }
+            Work::Closing(lease) => {
+                let turn = step_close(cloud, who, lease);
+                (Work::Closed, Shown::Nothing, turn)
+            }
+            Work::Renewing(home) => {
+                let (rest, turn) = step_renewal(cloud, who, home);
+                (resting(rest), Shown::Nothing, turn)
+            }
+            Work::Settling(machine) => {
+                let (left, turn) = machine.step(alloc, cloud, who);
+                (after_settling(left), Shown::Nothing, turn)
+            }
+            Work::Closed => unreachable!(),
+            Work::Idle(_) => unreachable!(),
+            Work::Broken(_) => unreachable!(),
+        }
+    }
+}
+
+impl Work {
     /// The home of an open client with nothing at work.
-    fn idle_home(self) -> Home
+    fn into_home(self) -> Home
         requires { rule_of self ≡ None }
         ensures { self ≡ Work.Idle result }
     {
@@ -249,76 +322,105 @@ impl Work {
         }
     }
 
-    /// Takes the lease out of what a broken session has in hand; what else is in hand stays.
-    pub(crate) fn take_lease(self) -> (Work, Option<Lease>)
-        ensures { result.1 ≡ old_lease self }
+    /// The lease that a broken session still has.
+    fn into_lease(self) -> Option<Lease>
+        ensures { result ≡ old_lease self }
     {
         match self {
-            Work::Broken(lease) => (Work::Closed, Some(lease)),
-            other => (other, None),
-        }
-    }
-
-    /// Makes the call in hand of what is at work, where so much is noted: what is in hand then, what that shows, and what it came to.
-    pub(crate) fn step<C: Cloud>(
-        self,
-        alloc: Global,
-        cloud: &mut C,
-        who: Who,
-        cache: &mut PageCache,
-        buffer: &TxnBuffer,
-    ) -> (Work, Shown, Turn<Answer>)
-        requires { is_working self ≡ true }
-        ensures steps { StepsAt who (C.seen cloud.old) (C.seen cloud.new) self result.0 result.2 }
-        ensures shows { ShowsAt who (C.seen cloud.old) (C.seen cloud.new) buffer.now self cache.old cache.new result.0 result.1 result.2 }
-    {
-        match self {
-            Work::Reading(home, read) => step_reading(alloc, cloud, who, home, read, cache),
-            Work::Scanning(home, listing) => {
-                step_scanning(alloc, cloud, who, home, listing, cache, buffer)
-            }
-            Work::Opening(machine) => {
-                let (work, turn) = machine.step(alloc, cloud, who);
-                (work, Shown::Nothing, turn)
-            }
-            Work::Committing(machine) => {
-                let (work, turn) = step_committing(alloc, cloud, who, machine, cache);
-                (work, Shown::Nothing, turn)
-            }
-            Work::Paging(home, machine) => {
-                let (work, turn) = step_paging(alloc, cloud, who, home, machine);
-                (work, Shown::Nothing, turn)
-            }
-            Work::Folding(home, machine) => {
-                let (work, turn) = step_folding(alloc, cloud, who, home, machine);
-                (work, Shown::Nothing, turn)
-            }
-            Work::Closing(lease) => {
-                let (work, turn) = step_close(cloud, who, lease);
-                (work, Shown::Nothing, turn)
-            }
-            Work::Renewing(home) => {
-                let (work, turn) = step_renewal(cloud, who, home);
-                (work, Shown::Nothing, turn)
-            }
-            Work::Settling(machine) => {
-                let (work, turn) = machine.step(alloc, cloud, who);
-                (work, Shown::Nothing, turn)
-            }
-            Work::Closed => unreachable!(),
-            Work::Idle(_) => unreachable!(),
-            Work::Broken(_) => unreachable!(),
+            Work::Broken(lease) => Some(lease),
+            _ => None,
         }
     }
 }
 
+/// Nothing is at work.
+fn resting(rest: Rest) -> Work
+    ensures { result ≡ at_rest rest }
+{
+    match rest {
+        Rest::Closed => Work::Closed,
+        Rest::Idle(home) => Work::Idle(home),
+        Rest::Broken(lease) => Work::Broken(lease),
+    }
+}
+
+/// What is in hand behind an opening.
+fn after_opening(left: Left<OpeningRun>) -> Work
+    ensures { result ≡ behind_opening left }
+{
+    match left {
+        Left::Goes(machine) => Work::Opening(machine),
+        Left::Rests(rest) => resting(rest),
+    }
+}
+
+/// What is in hand behind a commit.
+fn after_commit(left: Left<CommitRun>) -> Work
+    ensures { result ≡ behind_commit left }
+{
+    match left {
+        Left::Goes(machine) => Work::Committing(machine),
+        Left::Rests(rest) => resting(rest),
+    }
+}
+
+/// What is in hand behind a read.
+fn after_read(left: Left<(Home, RecordRead)>) -> Work
+    ensures { result ≡ behind_read left }
+{
+    match left {
+        Left::Goes((home, read)) => Work::Reading(home, read),
+        Left::Rests(rest) => resting(rest),
+    }
+}
+
+/// What is in hand behind a scan.
+fn after_scan(left: Left<(Home, Listing)>) -> Work
+    ensures { result ≡ behind_scan left }
+{
+    match left {
+        Left::Goes((home, listing)) => Work::Scanning(home, listing),
+        Left::Rests(rest) => resting(rest),
+    }
+}
+
+/// What is in hand behind a page checkpoint.
+fn after_page(left: Left<(Home, PageCkpt)>) -> Work
+    ensures { result ≡ behind_page left }
+{
+    match left {
+        Left::Goes((home, machine)) => Work::Paging(home, machine),
+        Left::Rests(rest) => resting(rest),
+    }
+}
+
+/// What is in hand behind a tree checkpoint.
+fn after_tree(left: Left<(Home, TreeCkpt)>) -> Work
+    ensures { result ≡ behind_tree left }
+{
+    match left {
+        Left::Goes((home, machine)) => Work::Folding(home, machine),
+        Left::Rests(rest) => resting(rest),
+    }
+}
+
+/// What is in hand behind a settling.
+fn after_settling(left: Left<SettlingRun>) -> Work
+    ensures { result ≡ behind_settling left }
+{
+    match left {
+        Left::Goes(machine) => Work::Settling(machine),
+        Left::Rests(rest) => resting(rest),
+    }
+}
+
 /// An open client behind an operation that stopped: want of memory leaves its lease alone.
-pub(crate) fn stopped(trouble: &Trouble, home: Home) -> Work
-    ensures { result ≡ stopped_work trouble.now home }
+pub(crate) fn stopped(trouble: &Trouble, home: Home) -> Rest
+    ensures { at_rest result ≡ stopped_work trouble.now home }
 {
     match trouble {
-        Trouble::Memory => Work::Broken(lease_of(home)),
-        _ => Work::Idle(home),
+        Trouble::Memory => Rest::Broken(lease_of(home)),
+        _ => Rest::Idle(home),
     }
 }
 

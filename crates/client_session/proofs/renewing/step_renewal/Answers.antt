@@ -1,12 +1,13 @@
 use Rattle.std.proofs.Common.{refl, sym, subst, Err, ◌≡◌, ◌∙◌}
 use Rattle.recover_run.specs.declared.home.Home.{Home}
+use Rattle.client_session.specs.Left.{at_rest}
 use Rattle.client_session.specs.Session.{RenewsHome, stopped_work}
 use Rattle.client_session.proofs.renewing.step_renewal.Goals as goal
 
 pub returns-in-Err : goal.returns-in-Err
 returns-in-Err g c =
     let At : Home → Type 0 = λ old. (new : Home) × RenewsHome old new c.args.who (g.C.Cloud.seen c.args.cloud.now) (g.C.Cloud.seen c.renew.new.cloud) (Err c.in-Err.trouble)
-    × (c.stopped.result ≡ stopped_work c.in-Err.trouble new) in
+    × (at_rest c.stopped.result ≡ stopped_work c.in-Err.trouble new) in
     subst At c.home.view_is (
       record { client = c.home.inside.client; lease = c.renew.new.lease; head = c.home.inside.head; attempt = c.home.inside.attempt },
       record {

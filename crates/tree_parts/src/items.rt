@@ -3,7 +3,7 @@ use std::alloc::Global;
 use std::marker::Model;
 
 /// Items in the order in which they are applied, seen as the list of them.
-#[derive(Debug, Drop)]
+#[derive(Drop)]
 pub struct ItemList {
     items: Vec<PuItem>,
 }

@@ -4,7 +4,7 @@ use std::alloc::{AllocError, Global};
 use std::marker::Model;
 
 /// A page that the level above is to name.
-#[derive(Debug, Drop)]
+#[derive(Drop)]
 pub struct Link {
     /// The level that names it, 1 for a leaf.
     pub level: u64,
@@ -15,7 +15,7 @@ pub struct Link {
 }
 
 /// Links in the order in which they were found, seen as the list of them.
-#[derive(Debug, Drop)]
+#[derive(Drop)]
 pub struct LinkList {
     links: Vec<Link>,
 }

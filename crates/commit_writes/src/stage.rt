@@ -21,7 +21,7 @@ pub enum Stage {
 }
 
 /// What the put that commits changes in a head.
-#[derive(Debug, Drop)]
+#[derive(Drop)]
 pub(crate) struct Saved {
     pub(crate) txn: u64,
     pub(crate) phase: Phase,

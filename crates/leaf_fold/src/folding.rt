@@ -29,7 +29,7 @@ use tree_parts::placing::Placing;
 use tree_parts::read::{leaf_view, tree_view};
 
 /// Where a leaf is left for.
-#[derive(Debug, Drop)]
+#[derive(Drop)]
 pub enum Left {
     /// For the page on its right, which begins at this key.
     Right(Blob, PageId),
@@ -38,7 +38,7 @@ pub enum Left {
 }
 
 /// A leaf that the chart's key led to, under its lease.
-#[derive(Debug, Drop)]
+#[derive(Drop)]
 pub struct Folding {
     /// What is known of the tree.
     pub chart: Chart,

@@ -20,7 +20,7 @@ use tree_parts::placing::{Placing, PutQueue};
 use tree_parts::reserve::{Reserved, reserve, version_spent};
 
 /// What is put, and what the level above is to name.
-#[derive(Debug, Drop)]
+#[derive(Drop)]
 pub struct LeafPlan {
     /// The puts: the reservation, where the leaf is cut, the right pieces, and the leaf itself last.
     pub placing: Placing,

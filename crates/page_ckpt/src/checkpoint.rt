@@ -35,7 +35,6 @@ use std::marker::Model;
 
 /// A checkpoint of a page: the run of its pending update queue is applied to the pages on its right that hold the run's keys,
 /// then to the page itself, and then the messages that its numbers cover are deleted.
-#[derive(Drop)]
 pub struct PageCkpt {
     tree: TreeId,
     page: PageId,
@@ -53,6 +52,29 @@ pub struct PageCkpt {
     out: Blob,
     applied: u64,
     trouble: Option<Trouble>,
+}
+
+// Written out, so that what holds a checkpoint need not look into it to let it go.
+impl Drop for PageCkpt {
+    fn drop(self) {
+        let PageCkpt {
+            tree: _,
+            page: _,
+            stage: _,
+            held: _,
+            received: _,
+            home: _,
+            run: _,
+            deletions: _,
+            at: _,
+            onward: _,
+            visited: _,
+            applying: _,
+            out: _,
+            applied: _,
+            trouble: _,
+        } = self;
+    }
 }
 
 impl Model for PageCkpt {

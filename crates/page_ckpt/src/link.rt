@@ -11,7 +11,7 @@ use log_codec::record::PuItem;
 use std::alloc::{AllocError, Global};
 
 /// A link to a right page, with the low key that it promises (Lehman and Yao, 1981).
-#[derive(Debug, Drop)]
+#[derive(Drop)]
 pub struct Link {
     /// The page.
     pub page: PageId,

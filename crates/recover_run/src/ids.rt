@@ -7,7 +7,7 @@ use std::collections::VecDeque;
 use std::marker::Model;
 
 /// A set of message ids, in the order in which they were added. Seen as the list of them.
-#[derive(Debug, Drop)]
+#[derive(Drop)]
 pub(crate) struct IdSet {
     ids: Vec<MsgId>,
 }

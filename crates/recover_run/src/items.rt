@@ -12,7 +12,7 @@ use log_codec::record::AtomicRec;
 use std::alloc::{AllocError, Global};
 
 /// An ATOMIC record as it was received.
-#[derive(Debug, Drop)]
+#[derive(Drop)]
 pub struct AtomicItem {
     /// The message.
     pub id: MsgId,
@@ -21,7 +21,7 @@ pub struct AtomicItem {
 }
 
 /// Why received messages are no records.
-#[derive(Debug, Drop)]
+#[derive(Drop)]
 pub(crate) enum ItemFault {
     /// A message is in no record's spelling.
     NotRecord(Trouble),

@@ -11,7 +11,7 @@ use std::collections::VecDeque;
 use std::marker::Model;
 
 /// The records of one transaction that were kept, in order of index, one of each. Seen as the list of them.
-#[derive(Debug, Drop)]
+#[derive(Drop)]
 pub(crate) struct Kept {
     items: Vec<AtomicItem>,
 }

@@ -43,7 +43,6 @@ pub const MAX_MESSAGES: u16 = 256;
 
 /// An opening or a settling of a client: under the client's lease its head is read; the records of an open one are gathered from the
 /// client's ATOMIC queue and sent on; the head is put in the next epoch; and what past epochs left in the queue is deleted.
-#[derive(Drop)]
 pub struct RecoverRun {
     client: ClientId,
     aim: Aim,
@@ -58,6 +57,27 @@ pub struct RecoverRun {
     swept: IdSet,
     out: Blob,
     ending: Option<Result<RecoverAnswer, Trouble>>,
+}
+
+// Written out, so that what holds a recovery need not look into it to let it go.
+impl Drop for RecoverRun {
+    fn drop(self) {
+        let RecoverRun {
+            client: _,
+            aim: _,
+            stage: _,
+            former: _,
+            lease: _,
+            wanted: _,
+            head: _,
+            gathering: _,
+            ids: _,
+            sent: _,
+            swept: _,
+            out: _,
+            ending: _,
+        } = self;
+    }
 }
 
 impl Model for RecoverRun {
@@ -662,11 +682,26 @@ impl RecoverRun {
     pub fn finish(self) -> Option<Home>
         ensures { result ≡ home_of self }
     {
-        match (self.stage, self.lease) {
+        let RecoverRun {
+            client,
+            aim: _,
+            stage,
+            former: _,
+            lease,
+            wanted: _,
+            head,
+            gathering: _,
+            ids: _,
+            sent: _,
+            swept: _,
+            out: _,
+            ending: _,
+        } = self;
+        match (stage, lease) {
             (Stage::Finished, Some(lease)) => Some(Home {
-                client: self.client,
+                client,
                 lease,
-                head: self.head,
+                head,
                 attempt: 0,
             }),
             _ => None,

@@ -18,7 +18,6 @@ use std::alloc::Global;
 use tree_ckpt::TreeCkpt;
 
 /// What a settling has at work.
-#[derive(Drop)]
 pub enum Part {
     /// The recovery of a client.
     Client(ClientId, RecoverRun),
@@ -26,6 +25,17 @@ pub enum Part {
     Tree(TreeId, TreeCkpt),
     /// A checkpoint of a page.
     Page(TreeId, PageId, PageCkpt),
+}
+
+// Written out, so that what holds a part need not look into it to let it go.
+impl Drop for Part {
+    fn drop(self) {
+        match self {
+            Part::Client(_, _) => {}
+            Part::Tree(_, _) => {}
+            Part::Page(_, _, _) => {}
+        }
+    }
 }
 
 impl Part {

@@ -22,12 +22,23 @@ use std::marker::Model;
 
 /// A whole settling: each client is recovered; then, tree by tree, checkpoints empty the tree's queue and the queue of each leaf from
 /// the left end on, each queue until a checkpoint received nothing from it that was new.
-#[derive(Drop)]
 pub struct SettleRun {
     part: Part,
     known: Vec<MsgId>,
     visited: Vec<PageId>,
     calls: u64,
+}
+
+// Written out, so that what holds a settling need not look into it to let it go.
+impl Drop for SettleRun {
+    fn drop(self) {
+        let SettleRun {
+            part: _,
+            known: _,
+            visited: _,
+            calls: _,
+        } = self;
+    }
 }
 
 impl Model for SettleRun {

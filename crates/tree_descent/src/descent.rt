@@ -34,7 +34,7 @@ pub enum Reach {
 }
 
 /// The way down to the leaf of the chart's key.
-#[derive(Debug, Drop)]
+#[derive(Drop)]
 pub struct Descent {
     /// What is known of the tree.
     pub chart: Chart,

@@ -13,7 +13,7 @@ use node_codec::InnerView;
 use std::alloc::{AllocError, Global};
 
 /// Where an inner node leads for a key: a low key, and the page that begins there.
-#[derive(Debug, Drop)]
+#[derive(Drop)]
 pub enum Fork {
     /// To the node on the right.
     Right(Blob, PageId),

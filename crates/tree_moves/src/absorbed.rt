@@ -16,7 +16,10 @@ use crate::ending::{deleted, released};
 use crate::going::{ascend, descend, go};
 use crate::moved::Moved;
 use crate::opening::{received, tree_got, tree_taken};
-use crate::work::{Coming, Held, Onward, Work, one_lease, two_leases};
+use crate::release::{
+    both_leases, drop_answer, drop_coming, drop_onward, drop_placing, tree_lease,
+};
+use crate::work::{Coming, Held, Onward, Work};
 use cloud_trait::answer::Answer;
 use cloud_trait::lease::Lease;
 use cloud_trait::turn::Turn;
@@ -77,7 +80,10 @@ fn page_taken(alloc: Global, held: Held, coming: Coming, given: Result<Lease, Tr
             let folding = Folding::begin(alloc, chart, lease, page, low, visited);
             Moved::goes(Work::Folding(held, folding))
         }
-        Err(trouble) => Moved::stops(one_lease(held.lease), trouble),
+        Err(trouble) => {
+            drop_coming(coming);
+            Moved::stops(tree_lease(held), trouble)
+        }
     }
 }
 
@@ -91,9 +97,10 @@ fn leave_page(held: Held, folding: Folding, left: Left) -> Moved
         page: _,
         low: _,
         visited,
-        placing: _,
+        placing,
         lacked: _,
     } = folding;
+    drop_placing(placing);
     let onward = match left {
         Left::Right(low, page) => Onward::Right(Coming {
             chart,
@@ -113,8 +120,8 @@ fn fold_on(held: Held, folding: Folding, pace: Pace<Left>) -> Moved
     match pace {
         Pace::More => Moved::goes(Work::Folding(held, folding)),
         Pace::Ended(left) => leave_page(held, folding, left),
-        Pace::Stopped(trouble) => Moved::stops(two_leases(held.lease, folding.lease), trouble),
-        Pace::Memory => Moved::no_memory(two_leases(held.lease, folding.lease)),
+        Pace::Stopped(trouble) => Moved::stops(both_leases(held, folding), trouble),
+        Pace::Memory => Moved::no_memory(both_leases(held, folding)),
     }
 }
 
@@ -148,12 +155,25 @@ fn lead(alloc: Global, tree: TreeId, work: Work, answer: Answer) -> Moved
         Work::Descending(held, descent) => descended(alloc, held, descent, answer),
         Work::TakingPage(held, coming) => page_answered(alloc, held, coming, answer),
         Work::Folding(held, folding) => folded(alloc, held, folding, answer),
-        Work::ReleasingPage(_, _, _) => Moved::finished(Err(Trouble::Failed)),
-        Work::LeftPage(held, onward) => page_left(alloc, held, onward),
+        Work::ReleasingPage(_, _, onward) => {
+            drop_answer(answer);
+            drop_onward(onward);
+            Moved::finished(Err(Trouble::Failed))
+        }
+        Work::LeftPage(held, onward) => {
+            drop_answer(answer);
+            page_left(alloc, held, onward)
+        }
         Work::Rising(held, rising) => risen(alloc, held, rising, answer),
         Work::Deleting(held, applied) => deleted(held, applied, answer.done()),
-        Work::Releasing(held, end) => released(held, end),
-        Work::Finished => Moved::finished(Err(Trouble::Failed)),
+        Work::Releasing(held, end) => {
+            drop_answer(answer);
+            released(held, end)
+        }
+        Work::Finished => {
+            drop_answer(answer);
+            Moved::finished(Err(Trouble::Failed))
+        }
     }
 }
 

@@ -11,7 +11,8 @@ ghost use Rattle.tree_moves.specs.Moves.{MovesOn, descending_on, rising_on, root
 
 use crate::ending::delete_next;
 use crate::moved::Moved;
-use crate::work::{Coming, Held, Work, one_lease};
+use crate::release::{drop_chart, drop_descent, drop_rising, tree_lease};
+use crate::work::{Coming, Held, Work};
 use byte_format::is_below;
 use db_base::blob::Blob;
 use db_base::ids::PageId;
@@ -49,8 +50,14 @@ pub(crate) fn descend(held: Held, descent: Descent, pace: Pace<()>) -> Moved
     match pace {
         Pace::More => Moved::goes(Work::Descending(held, descent)),
         Pace::Ended(()) => Moved::goes(Work::TakingPage(held, leaf_of(descent))),
-        Pace::Stopped(trouble) => Moved::stops(one_lease(held.lease), trouble),
-        Pace::Memory => Moved::no_memory(one_lease(held.lease)),
+        Pace::Stopped(trouble) => {
+            drop_descent(descent);
+            Moved::stops(tree_lease(held), trouble)
+        }
+        Pace::Memory => {
+            drop_descent(descent);
+            Moved::no_memory(tree_lease(held))
+        }
     }
 }
 
@@ -60,9 +67,19 @@ pub(crate) fn ascend(held: Held, rising: Rising, pace: Pace<()>) -> Moved
 {
     match pace {
         Pace::More => Moved::goes(Work::Rising(held, rising)),
-        Pace::Ended(()) => delete_next(held, rising.chart.applied),
-        Pace::Stopped(trouble) => Moved::stops(one_lease(held.lease), trouble),
-        Pace::Memory => Moved::no_memory(one_lease(held.lease)),
+        Pace::Ended(()) => {
+            let applied = rising.chart.applied;
+            drop_rising(rising);
+            delete_next(held, applied)
+        }
+        Pace::Stopped(trouble) => {
+            drop_rising(rising);
+            Moved::stops(tree_lease(held), trouble)
+        }
+        Pace::Memory => {
+            drop_rising(rising);
+            Moved::no_memory(tree_lease(held))
+        }
     }
 }
 
@@ -84,7 +101,10 @@ fn go_down(alloc: Global, held: Held, chart: Chart) -> Moved
             let pace = descent.arrive(alloc);
             descend(held, descent, pace)
         }
-        Err(_) => Moved::no_memory(one_lease(held.lease)),
+        Err(_) => {
+            drop_chart(chart);
+            Moved::no_memory(tree_lease(held))
+        }
     }
 }
 
@@ -145,6 +165,9 @@ pub(crate) fn go(alloc: Global, held: Held, chart: Chart) -> Moved
             go_down(alloc, held, chart)
         }
         Ok(None) => go_up(alloc, held, chart),
-        Err(_) => Moved::no_memory(one_lease(held.lease)),
+        Err(_) => {
+            drop_chart(chart);
+            Moved::no_memory(tree_lease(held))
+        }
     }
 }

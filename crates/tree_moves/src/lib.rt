@@ -7,4 +7,5 @@ pub mod ending;
 pub mod going;
 pub mod moved;
 pub mod opening;
+mod release;
 pub mod work;

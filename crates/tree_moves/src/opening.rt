@@ -81,7 +81,7 @@ pub(crate) fn received(
     ensures { Moves (ReceivedBy tree lease root received) (lease ∷ []) result }
 {
     match received {
-        Ok(messages) => read_messages(alloc, tree, lease, root, messages),
+        Ok(messages) => read_messages(alloc, tree, lease, root, &messages),
         Err(trouble) => Moved::stops(one_lease(lease), trouble),
     }
 }
@@ -91,11 +91,11 @@ fn read_messages(
     tree: TreeId,
     lease: Lease,
     root: Option<Blob>,
-    messages: MessageList,
+    messages: &MessageList,
 ) -> Moved
-    ensures { Moves (ReceivedBy tree lease root (Ok messages)) (lease ∷ []) result }
+    ensures { Moves (ReceivedBy tree lease root (Ok messages.now)) (lease ∷ []) result }
 {
-    match intake_of(alloc, tree, &root, &messages) {
+    match intake_of(alloc, tree, &root, messages) {
         Ok(intake) => taken(alloc, tree, lease, root, intake),
         Err(Fault::Stops(trouble)) => Moved::stops(one_lease(lease), trouble),
         Err(Fault::Memory) => Moved::no_memory(one_lease(lease)),

@@ -5,7 +5,7 @@ use db_base::ids::TreeId;
 use run_cursor::run::Run;
 
 /// What a tree checkpoint knows and has found so far.
-#[derive(Debug, Drop)]
+#[derive(Drop)]
 pub struct Chart {
     /// The tree.
     pub tree: TreeId,

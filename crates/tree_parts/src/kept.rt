@@ -4,7 +4,7 @@ use std::alloc::{AllocError, Global};
 use std::marker::Model;
 
 /// An inner node that was got: where it stands, and its bytes.
-#[derive(Debug, Drop)]
+#[derive(Drop)]
 pub struct KeptNode {
     /// Its page.
     pub page: PageId,
@@ -17,7 +17,7 @@ pub struct KeptNode {
 }
 
 /// Inner nodes that were got, by level and then by low key. Seen as the list of them.
-#[derive(Debug, Drop)]
+#[derive(Drop)]
 pub struct KeptList {
     nodes: Vec<KeptNode>,
 }

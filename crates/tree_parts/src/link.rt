@@ -8,7 +8,7 @@ use split_plan::entry_list::NewEntry;
 use std::alloc::{AllocError, Global};
 
 /// A page that the level above is to name.
-#[derive(Debug, Drop)]
+#[derive(Drop)]
 pub struct Link {
     /// The level that names it, 1 for a leaf.
     pub level: u64,

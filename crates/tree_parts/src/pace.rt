@@ -1,7 +1,7 @@
 use db_base::trouble::Trouble;
 
 /// How a phase goes on behind an answer.
-#[derive(Debug, Drop)]
+#[derive(Drop)]
 pub enum Pace<A> {
     /// There is a next call.
     More,

@@ -3,7 +3,7 @@ use std::alloc::{AllocError, Global};
 use std::marker::Model;
 
 /// Pages in the order in which they were come to, seen as the list of their numbers.
-#[derive(Debug, Drop)]
+#[derive(Drop)]
 pub struct PageList {
     pages: Vec<PageId>,
 }

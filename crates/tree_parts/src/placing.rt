@@ -4,7 +4,7 @@ use std::alloc::Global;
 use std::marker::Model;
 
 /// Pages that are to be put, in this order. Seen as the list of the puts.
-#[derive(Debug, Drop)]
+#[derive(Drop)]
 pub struct PutQueue {
     puts: Vec<PagePut>,
 }
@@ -65,7 +65,7 @@ impl PutQueue {
 }
 
 /// What is to be put: first the tree object that reserves the numbers of new pages, where there are such, then pages.
-#[derive(Debug, Drop)]
+#[derive(Drop)]
 pub struct Placing {
     /// The tree object with the reservation.
     pub reserved: Option<Blob>,

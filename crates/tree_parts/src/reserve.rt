@@ -53,7 +53,7 @@ pub fn tree_spelled(alloc: Global, buf: &TreeBuf) -> Result<Blob, AllocError>
 }
 
 /// Numbers for new pages.
-#[derive(Debug, Drop)]
+#[derive(Drop)]
 pub struct Reserved {
     /// The tree object that is put for them; none where no number is needed.
     pub put: Option<Blob>,

@@ -21,7 +21,7 @@ use tree_parts::read::inner_view;
 use tree_parts::reserve::{Reserved, reserve, version_spent};
 
 /// What is put, and what the level above is to name.
-#[derive(Debug, Drop)]
+#[derive(Drop)]
 pub struct NodePlan {
     /// The puts: the reservation, where the node is cut, the right pieces, and the node itself last.
     pub placing: Placing,

@@ -23,7 +23,7 @@ use tree_parts::placing::Placing;
 use tree_parts::read::tree_view;
 
 /// What was found and made below goes up.
-#[derive(Debug, Drop)]
+#[derive(Drop)]
 pub struct Rising {
     /// What is known of the tree.
     pub chart: Chart,

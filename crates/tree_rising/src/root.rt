@@ -21,7 +21,7 @@ use tree_parts::read::tree_view;
 use tree_parts::reserve::{next_tree, pages_spent, reserve, tree_spelled};
 
 /// What is put, and the tree object that is put last.
-#[derive(Debug, Drop)]
+#[derive(Drop)]
 pub struct RootPlan {
     /// The puts before it: the reservation and the pieces, where it is cut.
     pub placing: Placing,

@@ -1,0 +1,55 @@
+//! Letting go of what a checkpoint has in hand, each part in one place.
+
+ghost use Rattle.std.specs.Prelude.{◌≡◌};
+ghost use Rattle.tree_moves.specs.Work.{one_lease, two_leases};
+
+use crate::work::{Coming, Held, Onward, one_lease, two_leases};
+use ckpt_parts::Leases;
+use cloud_trait::answer::Answer;
+use leaf_fold::folding::Folding;
+use tree_descent::descent::Descent;
+use tree_parts::chart::Chart;
+use tree_parts::placing::Placing;
+use tree_rising::rising::Rising;
+
+/// The tree's lease alone; the messages that the run covers are let go.
+pub(crate) fn tree_lease(held: Held) -> Leases
+    ensures { result ≡ one_lease held.lease }
+{
+    one_lease(held.lease)
+}
+
+/// The tree's lease and then a leaf's; all else is let go.
+pub(crate) fn both_leases(held: Held, folding: Folding) -> Leases
+    ensures { result ≡ two_leases held.lease folding.lease }
+{
+    drop_chart(folding.chart);
+    drop_placing(folding.placing);
+    two_leases(held.lease, folding.lease)
+}
+
+pub(crate) fn drop_answer(_answer: Answer) {}
+
+pub(crate) fn drop_chart(_chart: Chart) {}
+
+pub(crate) fn drop_placing(_placing: Placing) {}
+
+pub(crate) fn drop_descent(descent: Descent) {
+    drop_chart(descent.chart);
+}
+
+pub(crate) fn drop_coming(coming: Coming) {
+    drop_chart(coming.chart);
+}
+
+pub(crate) fn drop_rising(rising: Rising) {
+    drop_chart(rising.chart);
+    drop_placing(rising.placing);
+}
+
+pub(crate) fn drop_onward(onward: Onward) {
+    match onward {
+        Onward::Right(coming) => drop_coming(coming),
+        Onward::Handled(chart) => drop_chart(chart),
+    }
+}

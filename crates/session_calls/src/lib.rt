@@ -8,6 +8,7 @@ ghost use Rattle.txn_buffer.specs.Noted.{noted_in};
 ghost use Rattle.client_session.specs.Session.{Acting, closed_session, settling_session, rule_of, NoteRefused, AbortRefused, Begins, StepsSession, ask_of_work, committing_of, opens_of, applying_of, value_of, items_of};
 
 use client_session::answer::{Answer, Begun};
+use client_session::hand::Hand;
 use client_session::op::Op;
 use client_session::session::Session;
 use cloud_trait::call::Call;
@@ -93,14 +94,14 @@ pub trait SessionCalls: Drop {
         ensures { result.now ≡ items_of (acting self.now) };
 }
 
-impl SessionCalls for Session {
+impl<H: Hand> SessionCalls for Session<H> {
     ghost acting = { λ s. s };
 
-    fn new(alloc: Global) -> Result<Session, Refused> {
+    fn new(alloc: Global) -> Result<Session<H>, Refused> {
         Session::new(alloc)
     }
 
-    fn settling(alloc: Global) -> Result<Session, Refused> {
+    fn settling(alloc: Global) -> Result<Session<H>, Refused> {
         Session::settling(alloc)
     }
 

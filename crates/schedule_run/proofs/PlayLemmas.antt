@@ -20,7 +20,7 @@ use Rattle.world_core.proofs.AddedLines.{handled_adds}
 use Rattle.world_core.specs.declared.world.WorldFault.{WorldFault}
 use Rattle.world_core.specs.declared.world.WorldFault.TheVariants as world
 use Rattle.world_core.specs.Handled.{Handled}
-use Rattle.world_core.specs.Stands.{Grows}
+use Rattle.world_core.specs.Stands.{StandsOn, Grows}
 use Rattle.schedule_run.specs.InPlay.{Play}
 use Rattle.schedule_run.specs.Answered.{IsNew, start, further, KeepsTheTheorem}
 use Rattle.schedule_run.specs.Play.{IsFresh, IsNext, RanOut, uncounted, no_answer, Takes, answered_run, stops_run, RunsWhole, Played, StoppedAt, stopped_before, stopped_within}
@@ -113,6 +113,12 @@ pub found_no_memory : (event : Event) (m : ℕ) (t z : Seen) (old new : Play) (f
     → Handled m event t z old.world new.world (Err fault) → Grows m t z → RanOut event t z old new
 found_no_memory event m t z old new world.Memory next handled grows =
     no_answer (subst (λ j. Handled j event t z old.world new.world (Err world.Memory)) next handled) (subst (λ j. Grows j t z) next grows)
+
+-- whatever its result, the next event was taken
+pub takes_next : (event : Event) (result : Result Reply WorldFault) (t z : Seen) (old new : Play) → new.handled ≡ old.handled + 1
+    → Handled new.handled event t z old.world new.world result → StandsOn new.handled event t z old.world new.world result → Grows new.handled t z → Takes event result t z old new
+takes_next event (Ok reply) t z old new next handled stands grows = record { count = next; handled = handled; stands = stands; grows = grows }
+takes_next event (Err fault) t z old new next handled stands grows = found_no_memory event new.handled t z old new fault next handled grows
 
 -- an operation that an event began is run behind it
 pub run_behind : (event : Event) (result : Result Reply WorldFault) (s t z : Seen) (old mid new : Play) → IsNext event Begun s t old mid → Takes (Run 1) result t z mid new

@@ -61,10 +61,7 @@ impl<S: SessionCalls> Play<S> {
             Some(handled) => handled,
             None => return Err(WorldFault::Memory),
         };
-        match self.world.event(alloc, cloud, self.handled, event) {
-            Ok(reply) => Ok(reply),
-            Err(WorldFault::Memory) => Err(WorldFault::Memory),
-        }
+        self.world.event(alloc, cloud, self.handled, event)
     }
 
     /// Handles an event and, where it began an operation of session 1, the run of that session. The last reply.

@@ -1,14 +1,10 @@
 use Rattle.schedule_run.specs.InPlay.{Play}
-use Rattle.schedule_run.proofs.PlayLemmas.{found_no_memory}
+use Rattle.schedule_run.proofs.PlayLemmas.{takes_next}
 use Rattle.schedule_run.proofs.play.Play.take.Goals as goal
 
-pub returns-in-Ok : goal.returns-in-Ok
-returns-in-Ok g c =
-    rw (← c.self.view_is)
-    (record { count = c.in-Some.ensures.1; handled = c.in-Ok.ensures.handled; stands = c.in-Ok.ensures.stands; grows = c.in-Ok.ensures.grows })
-
-pub returns-in-Err-Memory : goal.returns-in-Err-Memory
-returns-in-Err-Memory g c =
+pub returns : goal.returns
+returns g c =
     let old : Play = record { world = c.self.inside.world; handled = c.self.inside.handled } in
+    let new : Play = record { world = c.event.new.self; handled = c.in-Some.handled } in
     rw (← c.self.view_is)
-    (found_no_memory _ _ _ _ old _ c.in-Err-Memory.field-0 c.in-Some.ensures.1 c.in-Err-Memory.ensures.handled c.in-Err-Memory.ensures.grows)
+    (takes_next c.args.event.now c.event.result (g.C.Cloud.seen c.args.cloud.now) (g.C.Cloud.seen c.event.new.cloud) old new c.in-Some.ensures.1 c.event.ensures.handled c.event.ensures.stands c.event.ensures.grows)

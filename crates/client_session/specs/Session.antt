@@ -108,18 +108,6 @@ AbortRefused s refused.Memory = ⊥
 
 -- ---- what a begin does
 
--- the home is taken out of what an open client has in hand; the rule refuses another's, which stays
-abbrev pub GivesHome : Work → Work → Result Home Refused → Type 0
-GivesHome work left (Ok home) = (work ≡ Idle home) × (left ≡ Closed)
-GivesHome work left (Err (refused.Rule r)) = (rule_of work ≡ Some r) × (left ≡ work)
-GivesHome work left (Err refused.Memory) = ⊥
-
--- and so of a session
-abbrev pub TakesHome : Acting → Acting → Result Home Refused → Type 0
-TakesHome old new (Ok home) = (old.work ≡ Idle home) × (new ≡ record old { work = Closed; shown = Nothing })
-TakesHome old new (Err (refused.Rule r)) = (rule_of old.work ≡ Some r) × (new ≡ old)
-TakesHome old new (Err refused.Memory) = ⊥
-
 -- the rule that refuses an opening, where one does
 abbrev pub opening_rule_of : Work → Option Refusal
 opening_rule_of Closed = None

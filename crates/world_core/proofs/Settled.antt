@@ -1,20 +1,17 @@
 -- A settling that came to its end left nothing, and stayed within its bound.
-use Rattle.std.proofs.Common.{◌≡◌, ◌≢◌, ◌+◌, ◌<◌, ◌≤◌, ℕ, List, [], ◌∷◌, length, Option, Some, None, Result, Ok, Err, refl, sym, ap, subst, ◌∙◌, ◌⊎◌, inl, inr, arith}
+use Rattle.std.proofs.Common.{◌≡◌, ℕ, List, Some, Result, Ok, Err, refl, sym, ap, subst, ◌∙◌, inl, inr, arith}
 use Rattle.calm_calls.specs.Calm.{IsCalm, NamesLasting}
-use Rattle.client_session.specs.Session.{Acting, closed_session, settling_session, StepsSession, ask_of_work}
+use Rattle.client_session.specs.Session.{Acting, settling_session, ask_of_work}
 use Rattle.client_session.specs.declared.answer.Answer.{Answer}
 use Rattle.client_session.specs.declared.answer.Answer.TheVariants as answer
-use Rattle.client_session.specs.declared.work.Work.{Work}
 use Rattle.client_session.specs.declared.work.Work.TheVariants as work
 use Rattle.cloud_facts.proofs.Book.Names.{at_same}
-use Rattle.cloud_facts.specs.Book.Tally.{at}
 use Rattle.cloud_trait.specs.Ask.{Ask}
 use Rattle.cloud_trait.specs.Machine.{Goes, Ends, Stops, Deed}
 use Rattle.cloud_trait.specs.Seen.{Seen}
 use Rattle.cloud_trait.specs.State.{CloudState}
 use Rattle.cloud_trait.specs.declared.turn.Turn.{Turn}
 use Rattle.cloud_trait.specs.declared.turn.Turn.TheVariants.{More, Ended}
-use Rattle.db_base.specs.Ids.{IsClient, IsTree}
 use Rattle.db_base.specs.declared.trouble.Trouble.{Trouble}
 use Rattle.db_base.specs.declared.trouble.Trouble.TheVariants as trouble
 use Rattle.db_base.specs.declared.wish.Wish.TheVariants.{Plain}
@@ -34,7 +31,7 @@ use Rattle.session_facts.proofs.Settled.Lefts.{Left, NothingWaits}
 use Rattle.session_facts.proofs.Settled.PageRuns.{pages_run}
 use Rattle.session_facts.proofs.Settled.RecoveryRuns.{recoveries_run}
 use Rattle.session_facts.proofs.Settled.TreeRuns.{trees_run}
-use Rattle.session_facts.proofs.Settled.Turns.{settler, OnWay, of_session, IsAlone, AtEnd, calm_with, step_on, step_ends, first_moment, begins_on}
+use Rattle.session_facts.proofs.Settled.Turns.{settler, OnWay, of_session, IsAlone, calm_with, step_on, step_ends, first_moment, begins_on}
 use Rattle.session_facts.specs.Sessions.Calls.{reply_of}
 use Rattle.session_facts.specs.Sessions.Explaining.{ReceivesLate}
 use Rattle.session_facts.specs.Sessions.Sessions.{leases_of}
@@ -49,13 +46,10 @@ use Rattle.world_core.specs.Calm.{StepIsCalm, SettlesWell, work_at}
 use Rattle.world_core.specs.EachStep.{StepFact, EachWent, EachCome, EachSettlingOn, EachSettling, EachAsked, EachStep}
 use Rattle.world_core.specs.Handled.{Has, StepsLooked, Went, start, further, SettlesTo, SettlesOn, Settles as SettlesLine, Answers, Handled}
 use Rattle.world_core.specs.Replying.{RepliesSettled, unsettled_reply}
-use Rattle.world_core.specs.Asked.{Asks}
-use Rattle.world_core.specs.Sessions.{Changes}
 use Rattle.world_core.specs.Settled.{StepDelivers, StepGoesWell, NoLockHeld, LeavesNothing, LeftNothing, SettledWithin, AnswersSettled, SettlingLeaves, SettlingEnds}
 use Rattle.world_core.specs.Stands.{WorldStands}
 use Rattle.world_core.specs.declared.asked.Asked.{Asked}
 use Rattle.world_core.specs.declared.asked.Asked.TheVariants.{Session, Wait, Report, Settle}
-use Rattle.world_core.specs.declared.asked.Request.{Request}
 use Rattle.world_core.specs.World.{World}
 use Rattle.world_core.specs.declared.world.WorldFault.{WorldFault}
 use Rattle.world_core.specs.declared.world.WorldFault.TheVariants as fault

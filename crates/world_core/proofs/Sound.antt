@@ -1,5 +1,5 @@
 -- Every line is answered soundly: no trouble is replied that only damage could cause.
-use Rattle.std.proofs.Common.{◌≡◌, ◌+◌, inl, inr, ℕ, List, [], ◌∷◌, ◌++◌, length, Bool, true, false, Option, Some, None, Result, Ok, Err, refl, sym, ap, subst, ◌∙◌}
+use Rattle.std.proofs.Common.{◌≡◌, ◌+◌, inl, inr, ℕ, List, [], ◌∷◌, ◌++◌, length, Bool, true, false, Option, Some, None, Result, Ok, Err, refl, sym, ap, subst}
 use Rattle.client_session.specs.Session.{Acting, StepsSession, Begins, value_of}
 use Rattle.client_session.specs.declared.answer.Answer.{Answer}
 use Rattle.client_session.specs.declared.answer.Answer.TheVariants as answer
@@ -44,7 +44,6 @@ use Rattle.session_facts.proofs.Sessions.Stopping.{session_stops, session_ends}
 use Rattle.cloud_facts.specs.Book.Tally.{at}
 use Rattle.cloud_facts.specs.Tellings.Told.{store_of}
 use Rattle.cloud_facts.proofs.Audits.Whole.{only_slips}
-use Rattle.cloud_facts.proofs.Book.Names.{at_same}
 use Rattle.world_core.specs.declared.asked.Asked.{Asked}
 use Rattle.world_core.specs.declared.asked.Asked.TheVariants.{Session, Wait, Report, Settle}
 use Rattle.world_core.specs.declared.asked.Request.{Request}
@@ -57,7 +56,7 @@ use Rattle.world_core.specs.Replying.{declined, done_reply, unsettled_reply, val
 use Rattle.world_core.specs.Sessions.{Changes}
 use Rattle.world_core.specs.Sound.{IsSoundReport, IsSoundFor, AnswersSoundly}
 use Rattle.world_core.specs.Stands.{WorldStands}
-use Rattle.world_core.proofs.StandsLemmas.{IsUnderWay, changed_at, changed_was, way_begins, told_under, call, steps_own, went_on, no_stop, no_memory, replies_to, SettlerGoes, settler, settler_own, settler_call, settler_went, settler_begins, settled_plain}
+use Rattle.world_core.proofs.StandsLemmas.{IsUnderWay, changed_was, way_begins, told_under, call, steps_own, went_on, no_stop, no_memory, replies_to, SettlerGoes, settler, settler_own, settler_call, settler_went, settler_begins, settled_plain}
 
 -- ---- replies
 

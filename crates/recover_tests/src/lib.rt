@@ -2,10 +2,14 @@
 #![tactic(auto)]
 
 #[cfg(test)]
-mod client;
+mod machine;
 #[cfg(test)]
 mod recover_run_tests;
 #[cfg(test)]
+mod script;
+#[cfg(test)]
 mod settle_run_tests;
+#[cfg(test)]
+mod store;
 #[cfg(test)]
 mod story;

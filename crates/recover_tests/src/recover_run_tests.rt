@@ -1,8 +1,4 @@
-use crate::client::Client;
-use cloud_trait::lease::Lease;
-use recover_run::home::Home;
-use recover_run::stage::Aim;
-use std::alloc::Global;
+use crate::script::{Record, Step, play, play_failing};
 use std::test::Fail;
 
 /// A head of epoch 2 with transaction 5, Settled, without counters and pending entries.
@@ -23,17 +19,6 @@ const REOPENED: &[u8] =
 \x01\x01\x00\x00\x00\x00\x00\x00\x00\x00\x00\x00\x00\x00\x00\x00\x00\x01\x01\x01k\x00\x01v\
 \x01\x01\x00\x00\x00\x00\x00\x00\x00\x07\x00\x00\x00\x00\x00\x00\x00\x02\x01\x01k\x00\x01v\
 \x01\x01\x00\x00\x00\x00\x00\x00\x00\x00\x00\x00\x00\x00\x00\x00\x00\x03\x01\x01k\x00\x01v\x00";
-
-/// A record of a commit of three: client 1's insert of k in tree 1, with its index as its number.
-fn record(epoch: u8, txn: u8, index: u8, page: u8) -> [u8; 44] {
-    [
-        0x41, 1, 1, 0, 0, 0, 0, 0, 0, 0, epoch, 0, 0, 0, 0, 0, 0, 0, txn, index, 3, 1, 0, 0, 0, 0,
-        0, 0, 0, page, 0, 0, 0, 0, 0, 0, 0, index, 1, 1, 0x6b, 0, 1, 0x76,
-    ]
-}
-
-/// A record by its epoch, transaction, index and page.
-type Record = (u8, u8, u8, u8);
 
 /// A head, the records in the client's queue, and what an opening does.
 #[derive(Clone, Copy)]
@@ -126,39 +111,23 @@ exhausted epoch
 
 const OPENINGS: [Opening; 5] = [FIRST, SENT_ON, WAITING, PAST, EXHAUSTED];
 
-/// Leaves a head and records.
-fn leave(client: &mut Client, head: &[u8], records: &[Record]) -> Result<(), Fail> {
-    if !head.is_empty() {
-        client.put(head)?;
-    }
-    for (epoch, txn, index, page) in records {
-        client.log(&record(*epoch, *txn, *index, *page))?;
-    }
-    Ok(())
-}
-
-/// An opening over what is left.
-fn opened(alloc: Global, opening: &Opening) -> Result<Client, Fail> {
-    let mut client = Client::new(alloc)?;
-    leave(&mut client, opening.head, opening.records)?;
-    let _home = client.recover(Aim::Opening, None)?;
-    Ok(client)
-}
-
 #[test]
 fn opens_and_recovers(rt: HostRuntime) -> Result<(), Fail> {
-    for opening in OPENINGS.iter() {
-        let client = opened(rt.alloc(), opening)?;
-        assert_eq!(rt; client.story.as_str(), opening.told);
+    for opening in OPENINGS {
+        let steps = [Step::Leaves(opening.head, opening.records), Step::Opens(0)];
+        play(rt.alloc(), &steps, opening.told)?;
     }
     Ok(())
 }
 
 #[test]
 fn puts_what_was_sent_on(rt: HostRuntime) -> Result<(), Fail> {
-    let client = opened(rt.alloc(), &SENT_ON)?;
-    assert_eq!(rt; client.head(2), Some(REOPENED));
-    Ok(())
+    let steps = [
+        Step::Leaves(SENT_ON.head, SENT_ON.records),
+        Step::Opens(0),
+        Step::Has(2, REOPENED),
+    ];
+    play(rt.alloc(), &steps, SENT_ON.told)
 }
 
 /// What an opening does whose first receive gives the record of index 2 alone.
@@ -179,16 +148,9 @@ opened 3
 
 #[test]
 fn gathers_over_two_receives(rt: HostRuntime) -> Result<(), Fail> {
-    let mut client = Client::new(rt.alloc())?;
-    leave(
-        &mut client,
-        OPEN,
-        &[(2, 5, 2, 7), (2, 5, 1, 0), (2, 5, 3, 0)],
-    )?;
-    client.short = 3;
-    let _home = client.recover(Aim::Opening, None)?;
-    assert_eq!(rt; client.story.as_str(), IN_TWO_RECEIVES);
-    Ok(())
+    let records = [(2, 5, 2, 7), (2, 5, 1, 0), (2, 5, 3, 0)];
+    let steps = [Step::Leaves(OPEN, &records), Step::Opens(3)];
+    play(rt.alloc(), &steps, IN_TWO_RECEIVES)
 }
 
 /// An opening with the lease of the one before, and then one while that lease lasts.
@@ -207,22 +169,10 @@ take client:1
 busy client:1 600
 ";
 
-fn lease_of(home: Option<Home>) -> Option<Lease> {
-    match home {
-        Some(home) => Some(home.lease),
-        None => None,
-    }
-}
-
 #[test]
 fn gives_the_old_lease_back_first(rt: HostRuntime) -> Result<(), Fail> {
-    let mut client = Client::new(rt.alloc())?;
-    let home = client.recover(Aim::Opening, None)?;
-    let home = client.recover(Aim::Opening, lease_of(home))?;
-    let _busy = client.recover(Aim::Opening, None)?;
-    let _held = home;
-    assert_eq!(rt; client.story.as_str(), AGAIN);
-    Ok(())
+    let steps = [Step::Opens(0), Step::Reopens, Step::Opens(0)];
+    play(rt.alloc(), &steps, AGAIN)
 }
 
 /// Settlings of a client that has no head, and of one that has a settled one.
@@ -240,12 +190,8 @@ opened 3
 
 #[test]
 fn settles_a_client(rt: HostRuntime) -> Result<(), Fail> {
-    let mut client = Client::new(rt.alloc())?;
-    let _none = client.recover(Aim::Settling, None)?;
-    client.put(SETTLED)?;
-    let _none = client.recover(Aim::Settling, None)?;
-    assert_eq!(rt; client.story.as_str(), SETTLINGS);
-    Ok(())
+    let steps = [Step::Recovers, Step::Leaves(SETTLED, &[]), Step::Recovers];
+    play(rt.alloc(), &steps, SETTLINGS)
 }
 
 /// A deletion of a lost record that fails; it is the 13th call with those that left the head and six records.
@@ -259,11 +205,8 @@ failed
 
 #[test]
 fn stops_at_a_failed_deletion_of_a_lost_record(rt: HostRuntime) -> Result<(), Fail> {
-    let mut client = Client::failing(rt.alloc(), 13)?;
-    leave(&mut client, SENT_ON.head, SENT_ON.records)?;
-    let _none = client.recover(Aim::Opening, None)?;
-    assert_eq!(rt; client.story.as_str(), NOT_DELETED);
-    Ok(())
+    let steps = [Step::Leaves(SENT_ON.head, SENT_ON.records), Step::Opens(0)];
+    play_failing(rt.alloc(), 13, &steps, NOT_DELETED)
 }
 
 /// An open head beside a message in no spelling.
@@ -276,10 +219,10 @@ damaged atomic:1#2 0
 
 #[test]
 fn stops_at_a_message_that_is_no_record(rt: HostRuntime) -> Result<(), Fail> {
-    let mut client = Client::new(rt.alloc())?;
-    leave(&mut client, OPEN, &[(1, 9, 1, 0)])?;
-    client.log(b"x")?;
-    let _none = client.recover(Aim::Opening, None)?;
-    assert_eq!(rt; client.story.as_str(), DAMAGED);
-    Ok(())
+    let steps = [
+        Step::Leaves(OPEN, &[(1, 9, 1, 0)]),
+        Step::Logs(b"x"),
+        Step::Opens(0),
+    ];
+    play(rt.alloc(), &steps, DAMAGED)
 }

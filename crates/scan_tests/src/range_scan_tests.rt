@@ -1,6 +1,6 @@
 use crate::objects::{HEAD, LEAF_3_FAR, LEAF_3_NEWER, LEAF_3_TURNING};
-use crate::scanner::Scanner;
-use std::alloc::Global;
+use crate::scanner::play;
+use crate::script::Step;
 use std::test::Fail;
 
 /// A scan from h on and below q, of a client that has an insert of p pending, and an insert of j and a deletion of n noted.
@@ -18,13 +18,13 @@ leaf 3
 
 #[test]
 fn goes_from_leaf_to_leaf(rt: HostRuntime) -> Result<(), Fail> {
-    let mut scanner = Scanner::new(rt.alloc())?;
-    scanner.has_head(HEAD)?;
-    scanner.inserts(b"j", b"a")?;
-    scanner.deletes(b"n")?;
-    scanner.scan(b"h", b"q")?;
-    assert_eq!(rt; scanner.story.as_str(), FROM_LEAF_TO_LEAF);
-    Ok(())
+    let steps = [
+        Step::HasHead(HEAD),
+        Step::Inserts(b"j", b"a"),
+        Step::Deletes(b"n"),
+        Step::Scans(b"h", b"q"),
+    ];
+    play(rt.alloc(), &steps, FROM_LEAF_TO_LEAF)
 }
 
 /// A scan of the whole tree, and one more, over the tree object that is kept, that ends behind the leaf whose high key is its end, and
@@ -60,12 +60,12 @@ leaf 2
 
 #[test]
 fn goes_from_the_left_end(rt: HostRuntime) -> Result<(), Fail> {
-    let mut scanner = Scanner::new(rt.alloc())?;
-    scanner.scan(b"", b"")?;
-    scanner.scan(b"", b"m")?;
-    scanner.scan(b"h", b"c")?;
-    assert_eq!(rt; scanner.story.as_str(), FROM_THE_LEFT_END);
-    Ok(())
+    let steps = [
+        Step::Scans(b"", b""),
+        Step::Scans(b"", b"m"),
+        Step::Scans(b"h", b"c"),
+    ];
+    play(rt.alloc(), &steps, FROM_THE_LEFT_END)
 }
 
 /// A scan that gets leaf 3 at version 2, and then one that gets it at version 1.
@@ -82,35 +82,31 @@ stale 3 2 1
 
 #[test]
 fn stops_at_a_stale_right_page(rt: HostRuntime) -> Result<(), Fail> {
-    let mut scanner = Scanner::new(rt.alloc())?;
-    scanner.store.put_leaf(3, LEAF_3_NEWER)?;
-    scanner.scan(b"n", b"o")?;
-    scanner.scan_late(b"i", b"", 2)?;
-    assert_eq!(rt; scanner.story.as_str(), STALE);
-    Ok(())
+    let steps = [
+        Step::Puts(3, LEAF_3_NEWER),
+        Step::Scans(b"n", b"o"),
+        Step::ScansLate(b"i", b"", 2),
+    ];
+    play(rt.alloc(), &steps, STALE)
 }
 
-/// A leaf 3, and what is told of it behind leaf 2.
+/// A leaf 3, and what a scan over it tells.
 const TROUBLES: [(&[u8], &str); 2] = [
-    (LEAF_3_FAR, "bad-fence 3 6d 6e\n"),
-    (LEAF_3_TURNING, "loop 2\n"),
+    (
+        LEAF_3_FAR,
+        "get tree:1\nget page:1:2\nleaf 2\n69=76\nget page:1:3\nbad-fence 3 6d 6e\n",
+    ),
+    (
+        LEAF_3_TURNING,
+        "get tree:1\nget page:1:2\nleaf 2\n69=76\nget page:1:3\nloop 2\n",
+    ),
 ];
-
-/// A scan over such a tree.
-fn scanned(alloc: Global, bytes: &[u8]) -> Result<Scanner, Fail> {
-    let mut scanner = Scanner::new(alloc)?;
-    scanner.store.put_leaf(3, bytes)?;
-    scanner.scan(b"i", b"")?;
-    Ok(scanner)
-}
 
 #[test]
 fn stops_behind_a_leaf(rt: HostRuntime) -> Result<(), Fail> {
     for (bytes, wanted) in TROUBLES {
-        let scanner = scanned(rt.alloc(), bytes)?;
-        let told = scanner.story.as_str();
-        let told = told.strip_prefix("get tree:1\nget page:1:2\nleaf 2\n69=76\nget page:1:3\n");
-        assert_eq!(rt; told, Some(wanted));
+        let steps = [Step::Puts(3, bytes), Step::Scans(b"i", b"")];
+        play(rt.alloc(), &steps, wanted)?;
     }
     Ok(())
 }

@@ -24,8 +24,13 @@ impl Story {
         }
     }
 
-    pub(crate) fn as_str(&self) -> &str {
-        self.text.as_str()
+    /// Whether this was to be told.
+    pub(crate) fn is(&self, wanted: &str) -> Result<(), Fail> {
+        if self.text.as_str() == wanted {
+            Ok(())
+        } else {
+            Err(Fail::from("another story"))
+        }
     }
 
     /// Adds a line.

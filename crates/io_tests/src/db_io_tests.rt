@@ -1,4 +1,4 @@
-use crate::script::{gives, takes, writes};
+use crate::script::{gives, takes};
 use db_base::blob::Blob;
 use db_io::fault::IoFault;
 use db_io::memory_sink::MemorySink;
@@ -96,8 +96,7 @@ fn memory_sink_takes(alloc: Global) -> bool {
 
 #[test]
 fn memory_ends_give_and_take(rt: HostRuntime) {
-    assert!(rt; memory_source_gives(rt.alloc()));
-    assert!(rt; memory_sink_takes(rt.alloc()));
+    assert!(rt; memory_source_gives(rt.alloc()) && memory_sink_takes(rt.alloc()));
 }
 
 /// The reads of six bytes.
@@ -127,7 +126,7 @@ const PIECES: &[(&str, usize)] = &[("abc", 3), ("", 3), ("defgh", 8)];
 /// Whether a sink of its own gives a writer a piece.
 fn writes_on<W: Write>(writer: &mut W, piece: &str) -> bool {
     let mut sink = StdSink::new(writer);
-    writes(&mut sink, piece, Ok(()))
+    takes(&mut sink, &[(piece, Ok(()))])
 }
 
 fn flushes_all(writer: &mut Recording, pieces: &[(&str, usize)]) -> bool {
@@ -180,6 +179,5 @@ fn halting_sink_takes() -> bool {
 
 #[test]
 fn std_ends_fail_in_mid_stream(rt: HostRuntime) {
-    assert!(rt; halting_source_gives(rt.alloc()));
-    assert!(rt; halting_sink_takes());
+    assert!(rt; halting_source_gives(rt.alloc()) && halting_sink_takes());
 }

@@ -5,16 +5,6 @@ use db_io::fault::IoFault;
 use db_io::sink::Sink;
 use db_io::source::Source;
 
-/// Whether a read of at most so many bytes answers this.
-fn reads<I: Source>(
-    source: &mut I,
-    into: &mut Blob,
-    most: usize,
-    wanted: Result<usize, IoFault>,
-) -> bool {
-    source.read(into, most) == wanted
-}
-
 /// Whether reads of at most so many bytes answer as each row says.
 fn reads_all<I: Source>(
     source: &mut I,
@@ -22,7 +12,7 @@ fn reads_all<I: Source>(
     rows: &[(usize, Result<usize, IoFault>)],
 ) -> bool {
     for (most, wanted) in rows {
-        if !reads(source, into, *most, *wanted) {
+        if source.read(into, *most) != *wanted {
             return false;
         }
     }
@@ -39,15 +29,10 @@ pub(crate) fn gives<I: Source>(
     reads_all(source, into, rows) && into.as_slice() == bytes
 }
 
-/// Whether a write of a piece answers this.
-pub(crate) fn writes<O: Sink>(sink: &mut O, piece: &str, wanted: Result<(), IoFault>) -> bool {
-    sink.write(piece.as_bytes()) == wanted
-}
-
 /// Whether writes of pieces answer as each row says.
 pub(crate) fn takes<O: Sink>(sink: &mut O, rows: &[(&str, Result<(), IoFault>)]) -> bool {
     for (piece, wanted) in rows {
-        if !writes(sink, piece, *wanted) {
+        if sink.write(piece.as_bytes()) != *wanted {
             return false;
         }
     }

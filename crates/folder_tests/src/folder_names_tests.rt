@@ -3,69 +3,124 @@ use db_base::names::{Lock, ObjName, QueueName};
 use folder_names::fault::NameFault;
 use folder_names::files::{file_of, folder_of, lock_of};
 use folder_names::objects::object_of;
-use std::test::Fail;
+use std::alloc::Global;
+use std::process::Abort;
 
-#[test]
-fn objects_have_files_and_files_objects(rt: HostRuntime) -> Result<(), Fail> {
-    let alloc = rt.alloc();
-    let tree = TreeId::new(16)?;
-    for (name, file) in [
-        (ObjName::Head(ClientId::new(63)?), "head-3f"),
-        (ObjName::Tree(tree), "tree-10"),
-        (
-            ObjName::Page(tree, PageId::new(258)?),
-            "page-100000000000000102",
-        ),
-    ] {
-        assert_eq!(rt; file_of(alloc, name)?.as_str(), file);
-        assert_eq!(rt; object_of(alloc, file), Ok(name), "{file}");
+/// A client, a tree and a page.
+type Ids = (ClientId, TreeId, PageId);
+
+fn ids(client: u64, tree: u64, page: u64) -> Option<Ids> {
+    match (ClientId::new(client), TreeId::new(tree), PageId::new(page)) {
+        (Ok(client), Ok(tree), Ok(page)) => Some((client, tree, page)),
+        _ => None,
     }
-    Ok(())
+}
+
+fn has_file(alloc: Global, name: ObjName, file: &str) -> bool {
+    match file_of(alloc, name) {
+        Ok(text) => text.as_str() == file,
+        Err(_) => false,
+    }
+}
+
+fn has_object(alloc: Global, file: &str, name: ObjName) -> bool {
+    match object_of(alloc, file) {
+        Ok(found) => found == name,
+        Err(_) => false,
+    }
+}
+
+/// Whether this object has this file, and the file this object.
+fn is_file(alloc: Global, name: &ObjName, file: &str) -> bool {
+    has_file(alloc, *name, file) && has_object(alloc, file, *name)
+}
+
+fn have_files(alloc: Global, ids: &Ids) -> bool {
+    let (client, tree, page) = *ids;
+    is_file(alloc, &ObjName::Head(client), "head-3f")
+        && is_file(alloc, &ObjName::Tree(tree), "tree-10")
+        && is_file(alloc, &ObjName::Page(tree, page), "page-100000000000000102")
 }
 
 #[test]
-fn queues_have_folders_and_locks_files(rt: HostRuntime) -> Result<(), Fail> {
-    let alloc = rt.alloc();
-    let (client, tree, page) = (ClientId::new(1)?, TreeId::new(2)?, PageId::new(3)?);
-    for (queue, folder) in [
-        (QueueName::Atomic(client), "atomic-01"),
-        (QueueName::TreePu(tree), "updates-020000000000000000"),
-        (QueueName::PagePu(tree, page), "updates-020000000000000003"),
-    ] {
-        assert_eq!(rt; folder_of(alloc, queue)?.as_str(), folder);
+fn objects_have_files_and_files_objects(rt: HostRuntime) {
+    match ids(63, 16, 258) {
+        Some(ids) => assert!(rt; have_files(rt.alloc(), &ids)),
+        None => rt.panic("no ids"),
     }
-    for (lock, file) in [
-        (Lock::Client(client), "head-01"),
-        (Lock::Tree(tree), "tree-02"),
-        (Lock::Page(tree, page), "page-020000000000000003"),
-    ] {
-        assert_eq!(rt; lock_of(alloc, lock)?.as_str(), file);
+}
+
+fn is_folder(alloc: Global, queue: QueueName, folder: &str) -> bool {
+    match folder_of(alloc, queue) {
+        Ok(text) => text.as_str() == folder,
+        Err(_) => false,
     }
-    Ok(())
+}
+
+fn is_lock(alloc: Global, lock: Lock, file: &str) -> bool {
+    match lock_of(alloc, lock) {
+        Ok(text) => text.as_str() == file,
+        Err(_) => false,
+    }
+}
+
+fn have_folders(alloc: Global, ids: &Ids) -> bool {
+    let (client, tree, page) = *ids;
+    is_folder(alloc, QueueName::Atomic(client), "atomic-01")
+        && is_folder(alloc, QueueName::TreePu(tree), "updates-020000000000000000")
+        && is_folder(
+            alloc,
+            QueueName::PagePu(tree, page),
+            "updates-020000000000000003",
+        )
+}
+
+fn have_locks(alloc: Global, ids: &Ids) -> bool {
+    let (client, tree, page) = *ids;
+    is_lock(alloc, Lock::Client(client), "head-01")
+        && is_lock(alloc, Lock::Tree(tree), "tree-02")
+        && is_lock(alloc, Lock::Page(tree, page), "page-020000000000000003")
+}
+
+#[test]
+fn queues_have_folders_and_locks_files(rt: HostRuntime) {
+    match ids(1, 2, 3) {
+        Some(ids) => {
+            assert!(rt; have_folders(rt.alloc(), &ids));
+            assert!(rt; have_locks(rt.alloc(), &ids));
+        }
+        None => rt.panic("no ids"),
+    }
+}
+
+const FOREIGN: [&str; 14] = [
+    "",
+    "head-",
+    "head-00",
+    "head-41",
+    "head-3F",
+    "head-3f ",
+    "head_3f",
+    "head-3f3f",
+    "tree-11",
+    "page-10",
+    "page-100000000000000000",
+    "page-00000000000000000001",
+    ".lock",
+    "notes.txt",
+];
+
+/// Whether none of these is an object's file.
+fn are_foreign(alloc: Global, files: &[&str]) -> bool {
+    for file in files {
+        if object_of(alloc, file) != Err(NameFault::NotOurs) {
+            return false;
+        }
+    }
+    true
 }
 
 #[test]
 fn foreign_names_are_no_objects(rt: HostRuntime) {
-    for text in [
-        "",
-        "head-",
-        "head-00",
-        "head-41",
-        "head-3F",
-        "head-3f ",
-        "head_3f",
-        "head-3f3f",
-        "tree-11",
-        "page-10",
-        "page-100000000000000000",
-        "page-00000000000000000001",
-        ".lock",
-        "notes.txt",
-    ] {
-        assert_eq!(rt;
-            object_of(rt.alloc(), text),
-            Err(NameFault::NotOurs),
-            "{text}"
-        );
-    }
+    assert!(rt; are_foreign(rt.alloc(), &FOREIGN));
 }

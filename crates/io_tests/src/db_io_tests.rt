@@ -1,14 +1,13 @@
+use crate::script::{gives, takes};
 use db_base::blob::Blob;
 use db_io::fault::IoFault;
 use db_io::memory_sink::MemorySink;
 use db_io::memory_source::MemorySource;
-use db_io::sink::Sink;
-use db_io::source::Source;
 use db_io::std_sink::StdSink;
 use db_io::std_source::StdSource;
+use std::alloc::Global;
 use std::io;
 use std::io::{Read, Write};
-use std::test::Fail;
 
 /// A reader that gives two bytes at each of its first two calls, and a writer that takes two, and then none; its third
 /// read fails.
@@ -65,57 +64,120 @@ impl Write for Recording {
     }
 }
 
-#[test]
-fn memory_ends_give_and_take(rt: HostRuntime) -> Result<(), Fail> {
-    let alloc = rt.alloc();
-    let mut source = MemorySource::new(alloc, b"abcde", &[2])?;
+/// The reads of at most three bytes, of which the second one fails.
+const MEMORY_READS: &[(usize, Result<usize, IoFault>)] = &[
+    (3, Ok(3)),
+    (3, Err(IoFault::Failed)),
+    (3, Ok(2)),
+    (3, Ok(0)),
+];
+
+fn memory_source_gives(alloc: Global) -> bool {
     let mut into = Blob::new(alloc);
-    for want in [Ok(3), Err(IoFault::Failed), Ok(2), Ok(0)] {
-        assert_eq!(rt; source.read(&mut into, 3), want);
+    match MemorySource::new(alloc, b"abcde", &[2]) {
+        Ok(mut source) => gives(&mut source, &mut into, MEMORY_READS, b"abcde"),
+        Err(_) => false,
     }
-    assert_eq!(rt; into.as_slice(), b"abcde".as_slice());
-    let mut sink = MemorySink::new(alloc, &[2])?;
-    for (piece, want) in [("ab", Ok(())), ("cd", Err(IoFault::Failed)), ("ef", Ok(()))] {
-        assert_eq!(rt; sink.write(piece.as_bytes()), want);
+}
+
+/// The writes, of which the second one fails.
+const MEMORY_WRITES: &[(&str, Result<(), IoFault>)] = &[
+    ("ab", Ok(())),
+    ("cd", Err(IoFault::Failed)),
+    ("ef", Ok(())),
+];
+
+fn memory_sink_takes(alloc: Global) -> bool {
+    match MemorySink::new(alloc, &[2]) {
+        Ok(mut sink) => takes(&mut sink, MEMORY_WRITES) && sink.written() == b"abef".as_slice(),
+        Err(_) => false,
     }
-    assert_eq!(rt; sink.written(), b"abef".as_slice());
-    Ok(())
 }
 
 #[test]
-fn a_std_source_gives_the_bytes_of_its_reader(rt: HostRuntime) -> Result<(), Fail> {
+fn memory_ends_give_and_take(rt: HostRuntime) {
+    assert!(rt; memory_source_gives(rt.alloc()) && memory_sink_takes(rt.alloc()));
+}
+
+/// The reads of six bytes.
+const STD_READS: &[(usize, Result<usize, IoFault>)] = &[
+    (2, Ok(2)),
+    (0, Ok(0)),
+    (9, Ok(4)),
+    (9, Ok(0)),
+];
+
+fn std_source_gives(alloc: Global) -> bool {
     let mut source = StdSource::new(b"abcdef".as_slice());
-    let mut into = Blob::copy_of(rt.alloc(), b">")?;
-    for (max, want) in [(2, Ok(2)), (0, Ok(0)), (9, Ok(4)), (9, Ok(0))] {
-        assert_eq!(rt; source.read(&mut into, max), want, "{max}");
+    match Blob::copy_of(alloc, b">") {
+        Ok(mut into) => gives(&mut source, &mut into, STD_READS, b">abcdef"),
+        Err(_) => false,
     }
-    assert_eq!(rt; into.as_slice(), b">abcdef".as_slice());
-    Ok(())
+}
+
+#[test]
+fn a_std_source_gives_the_bytes_of_its_reader(rt: HostRuntime) {
+    assert!(rt; std_source_gives(rt.alloc()));
+}
+
+/// Pieces, and how many bytes are flushed behind each.
+const PIECES: &[(&str, usize)] = &[("abc", 3), ("", 3), ("defgh", 8)];
+
+/// Whether a sink of its own gives a writer a piece.
+fn writes_on<W: Write>(writer: &mut W, piece: &str) -> bool {
+    let mut sink = StdSink::new(writer);
+    takes(&mut sink, &[(piece, Ok(()))])
+}
+
+fn flushes_all(writer: &mut Recording, pieces: &[(&str, usize)]) -> bool {
+    for (piece, wanted) in pieces {
+        if !writes_on(writer, piece) || writer.flushed != *wanted {
+            return false;
+        }
+    }
+    true
+}
+
+fn std_sink_takes(alloc: Global) -> bool {
+    let mut writer = Recording {
+        taken: Vec::new(alloc),
+        flushed: 0,
+    };
+    flushes_all(&mut writer, PIECES) && writer.taken.as_slice() == b"abcdefgh".as_slice()
 }
 
 #[test]
 fn a_std_sink_gives_its_writer_the_bytes_and_flushes_it(rt: HostRuntime) {
-    let mut writer = Recording {
-        taken: Vec::new(rt.alloc()),
-        flushed: 0,
-    };
-    for (piece, want) in [("abc", 3), ("", 3), ("defgh", 8)] {
-        assert_eq!(rt; StdSink::new(&mut writer).write(piece.as_bytes()), Ok(()));
-        assert_eq!(rt; writer.flushed, want, "{piece}");
-    }
-    assert_eq!(rt; writer.taken.as_slice(), b"abcdefgh".as_slice());
+    assert!(rt; std_sink_takes(rt.alloc()));
+}
+
+/// The reads of a reader that halts.
+const HALTING_READS: &[(usize, Result<usize, IoFault>)] = &[
+    (9, Ok(2)),
+    (9, Ok(2)),
+    (9, Err(IoFault::Failed)),
+    (9, Err(IoFault::Failed)),
+];
+
+fn halting_source_gives(alloc: Global) -> bool {
+    let mut source = StdSource::new(Halting { calls: 0 });
+    let mut into = Blob::new(alloc);
+    gives(&mut source, &mut into, HALTING_READS, b"1122")
+}
+
+/// The writes to a writer that halts.
+const HALTING_WRITES: &[(&str, Result<(), IoFault>)] = &[
+    ("abc", Ok(())),
+    ("d", Err(IoFault::Failed)),
+    ("", Ok(())),
+];
+
+fn halting_sink_takes() -> bool {
+    let mut sink = StdSink::new(Halting { calls: 0 });
+    takes(&mut sink, HALTING_WRITES)
 }
 
 #[test]
 fn std_ends_fail_in_mid_stream(rt: HostRuntime) {
-    let mut source = StdSource::new(Halting { calls: 0 });
-    let mut into = Blob::new(rt.alloc());
-    for want in [Ok(2), Ok(2), Err(IoFault::Failed), Err(IoFault::Failed)] {
-        assert_eq!(rt; source.read(&mut into, 9), want);
-    }
-    assert_eq!(rt; into.as_slice(), b"1122".as_slice());
-    let mut sink = StdSink::new(Halting { calls: 0 });
-    for (piece, want) in [("abc", Ok(())), ("d", Err(IoFault::Failed)), ("", Ok(()))] {
-        assert_eq!(rt; sink.write(piece.as_bytes()), want, "{piece}");
-    }
+    assert!(rt; halting_source_gives(rt.alloc()) && halting_sink_takes());
 }

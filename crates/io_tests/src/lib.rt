@@ -5,3 +5,5 @@
 mod db_io_tests;
 #[cfg(test)]
 mod line_io_tests;
+#[cfg(test)]
+mod script;

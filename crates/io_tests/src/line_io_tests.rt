@@ -1,49 +1,122 @@
 use db_io::memory_sink::MemorySink;
 use db_io::memory_source::MemorySource;
+use db_io::sink::Sink;
+use db_io::source::Source;
 use line_io::input::{InputFault, MAX_INPUT, read_whole};
 use line_io::lines::next_line;
 use line_io::output::{OutputFault, write_text};
-use std::test::Fail;
+use std::alloc::Global;
 
-#[test]
-fn reads_up_to_the_most(rt: HostRuntime) -> Result<(), Fail> {
-    let alloc = rt.alloc();
-    let mut bytes = Vec::new(alloc);
+/// How many bytes there are, which read fails, and the length or the fault of the whole input.
+type Row = (usize, u64, Result<usize, InputFault>);
+
+const INPUTS: &[Row] = &[
+    (0, 9, Ok(0)),
+    (MAX_INPUT, 9, Ok(MAX_INPUT)),
+    (MAX_INPUT + 1, 9, Err(InputFault::TooLong)),
+    (3, 1, Err(InputFault::ReadFault)),
+    (3, 2, Err(InputFault::ReadFault)),
+];
+
+/// Whether a source's input is this long, or has this fault.
+fn is_whole<I: Source>(alloc: Global, source: &mut I, wanted: &Result<usize, InputFault>) -> bool {
+    match read_whole(alloc, source) {
+        Ok(input) => *wanted == Ok(input.len()),
+        Err(fault) => *wanted == Err(fault),
+    }
+}
+
+fn is_read(alloc: Global, bytes: &[u8], failing: u64, wanted: &Result<usize, InputFault>) -> bool {
+    match MemorySource::new(alloc, bytes, &[failing]) {
+        Ok(mut source) => is_whole(alloc, &mut source, wanted),
+        Err(_) => false,
+    }
+}
+
+fn is_row(alloc: Global, bytes: &[u8], row: &Row) -> bool {
+    let (len, failing, wanted) = row;
+    match bytes.get(..*len) {
+        Some(front) => is_read(alloc, front, *failing, wanted),
+        None => false,
+    }
+}
+
+/// Whether inputs from the front of these bytes are read as each row says.
+fn are_read(alloc: Global, bytes: &[u8], rows: &[Row]) -> bool {
+    for row in rows {
+        if !is_row(alloc, bytes, row) {
+            return false;
+        }
+    }
+    true
+}
+
+/// Adds one byte more than an input has.
+fn fill(bytes: &mut Vec<u8>) -> bool {
     for _ in 0..=MAX_INPUT {
-        bytes.push(7)?;
+        if bytes.push(7).is_err() {
+            return false;
+        }
     }
-    for (len, failing, want) in [
-        (0, 9, Ok(0)),
-        (MAX_INPUT, 9, Ok(MAX_INPUT)),
-        (MAX_INPUT + 1, 9, Err(InputFault::TooLong)),
-        (3, 1, Err(InputFault::ReadFault)),
-        (3, 2, Err(InputFault::ReadFault)),
-    ] {
-        let bytes = bytes.as_slice().get(..len).ok_or("too short")?;
-        let mut source = MemorySource::new(alloc, bytes, &[failing])?;
-        let read = read_whole(alloc, &mut source).map(|input| input.len());
-        assert_eq!(rt; read, want, "{len} bytes");
-    }
-    Ok(())
+    true
+}
+
+fn reads_inputs(alloc: Global) -> bool {
+    let mut bytes = Vec::new(alloc);
+    fill(&mut bytes) && are_read(alloc, bytes.as_slice(), INPUTS)
 }
 
 #[test]
-fn splits_lines_and_writes_them(rt: HostRuntime) -> Result<(), Fail> {
-    let alloc = rt.alloc();
-    let mut sink = MemorySink::new(alloc, &[4])?;
-    let mut rest = b"one\n\nlast".as_slice();
-    for want in ["one\n", "\n", "last"] {
-        assert!(rt; !rest.is_empty());
-        let (line, behind) = next_line(rest);
-        assert_eq!(rt; line, want.as_bytes());
-        assert_eq!(rt; write_text(&mut sink, line), Ok(()));
-        rest = behind;
+fn reads_up_to_the_most(rt: HostRuntime) {
+    assert!(rt; reads_inputs(rt.alloc()));
+}
+
+/// Whether the first line of a text is this one, which is written, and the text behind it.
+fn write_line<'a, O: Sink>(sink: &mut O, text: &'a [u8], wanted: &str) -> Option<&'a [u8]> {
+    if text.is_empty() {
+        return None;
     }
-    assert_eq!(rt; rest.is_empty(), true);
-    assert_eq!(rt;
-        write_text(&mut sink, b"more"),
-        Err(OutputFault::WriteFault)
-    );
-    assert_eq!(rt; sink.written(), b"one\n\nlast".as_slice());
-    Ok(())
+    let (line, rest) = next_line(text);
+    if line == wanted.as_bytes() && write_text(sink, line) == Ok(()) {
+        Some(rest)
+    } else {
+        None
+    }
+}
+
+/// Whether a text has these lines, which are written one by one, and no more.
+fn writes_lines<O: Sink>(sink: &mut O, text: &[u8], lines: &[&str]) -> bool {
+    let mut rest = text;
+    for line in lines {
+        match write_line(sink, rest, line) {
+            Some(behind) => rest = behind,
+            None => return false,
+        }
+    }
+    rest.is_empty()
+}
+
+fn fails_to_write<O: Sink>(sink: &mut O, text: &[u8]) -> bool {
+    write_text(sink, text) == Err(OutputFault::WriteFault)
+}
+
+const TEXT: &[u8] = b"one\n\nlast";
+
+const LINES: &[&str] = &["one\n", "\n", "last"];
+
+/// Whether the lines of a text are written by three calls, and a fourth one fails.
+fn splits_and_writes(alloc: Global) -> bool {
+    match MemorySink::new(alloc, &[4]) {
+        Ok(mut sink) => {
+            writes_lines(&mut sink, TEXT, LINES)
+                && fails_to_write(&mut sink, b"more")
+                && sink.written() == TEXT
+        }
+        Err(_) => false,
+    }
+}
+
+#[test]
+fn splits_lines_and_writes_them(rt: HostRuntime) {
+    assert!(rt; splits_and_writes(rt.alloc()));
 }

@@ -11,9 +11,10 @@ use cloud_trait::who::Who;
 use db_base::blob::Blob;
 use db_base::ids::{MsgId, SessionNo, TreeId};
 use db_base::names::{Lock, ObjName, QueueName};
+use db_base::trouble::Trouble;
 use db_base::wish::Wish;
 use std::alloc::Global;
-use std::test::Fail;
+use std::process::Abort;
 
 // A cloud that tells nothing: it keeps no bytes, gives every lock, and fails every get.
 #[derive(Drop)]
@@ -108,56 +109,127 @@ impl Bench for Silent {
     }
 }
 
+/// The names that the tests use.
+#[derive(Clone, Copy)]
+struct Names {
+    who: Who,
+    object: ObjName,
+    queue: QueueName,
+    lock: Lock,
+}
+
+fn usual_names() -> Option<Names> {
+    let (Ok(tree), Ok(session)) = (TreeId::new(2), SessionNo::new(1)) else {
+        return None;
+    };
+    Some(Names {
+        who: Who::new(session, 4),
+        object: ObjName::Tree(tree),
+        queue: QueueName::TreePu(tree),
+        lock: Lock::Tree(tree),
+    })
+}
+
+/// Whether an object is put under a lease.
+fn is_put<C: Cloud>(cloud: &mut C, names: &Names, lease: &Lease) -> bool {
+    let put = Call::PutHeld(names.object, b"x", lease, None);
+    put.bytes() == Some(b"x".as_slice()) && perform(cloud, names.who, &put).done().is_ok()
+}
+
+/// Whether a get has no answer.
+fn is_not_got<C: Cloud>(cloud: &mut C, names: &Names) -> bool {
+    perform(cloud, names.who, &Call::Get(names.object))
+        .got()
+        .is_err()
+}
+
+/// Whether a lease is renewed up to 60, by the answer and by itself.
+fn is_renewed<C: Cloud>(cloud: &mut C, names: &Names, lease: &mut Lease) -> bool {
+    renew(cloud, names.who, lease, 60).renewed().ok() == Some(60) && lease.end() == 60
+}
+
+/// Whether a lease is given back.
+fn is_released<C: Cloud>(cloud: &mut C, names: &Names, lease: Lease) -> bool {
+    matches!(&let_go(cloud, names.who, lease), Answer::Done)
+}
+
+/// What a take of the lock is about. The type of a lease is named, for the checker of borrows wants it beside a call.
+fn target(lock: Lock) -> Target {
+    let _none: Option<Lease> = None;
+    Call::Take(lock, 30).name()
+}
+
+/// What a take of the lock answers.
+fn take<C: Cloud>(cloud: &mut C, names: &Names) -> Answer {
+    perform(cloud, names.who, &Call::Take(names.lock, 30))
+}
+
+/// The lease of the lock.
+fn taken<C: Cloud>(cloud: &mut C, names: &Names) -> Result<Lease, Trouble> {
+    take(cloud, names).given(names.lock)
+}
+
+/// Whether the lock is taken, and its lease used, renewed and given back.
+fn is_taken<C: Cloud>(cloud: &mut C, names: &Names) -> bool {
+    let Ok(mut lease) = taken(cloud, names) else {
+        return false;
+    };
+    if !is_put(cloud, names, &lease) || !is_not_got(cloud, names) {
+        return false;
+    }
+    if !is_renewed(cloud, names, &mut lease) {
+        return false;
+    }
+    is_released(cloud, names, lease)
+}
+
 #[test]
-fn takes_renews_and_releases(rt: HostRuntime) -> Result<(), Fail> {
+fn takes_renews_and_releases(rt: HostRuntime) {
+    let Some(names) = usual_names() else {
+        rt.panic("no names")
+    };
     let mut cloud = Silent {
         alloc: rt.alloc(),
         faults: 0,
     };
-    let tree = TreeId::new(2)?;
-    let who = Who::new(SessionNo::new(1)?, 4);
-    let lock = Lock::Tree(tree);
-    let take = Call::Take(lock, 30);
-    assert_eq!(rt; take.name(), Target::Lock(lock));
-    let mut lease = perform(&mut cloud, who, &take)
-        .given(lock)
-        .ok()
-        .ok_or("held")?;
-    let put = Call::PutHeld(ObjName::Tree(tree), b"x", &lease, None);
-    assert_eq!(rt; put.bytes(), Some(b"x".as_slice()));
-    assert!(rt; perform(&mut cloud, who, &put).done().is_ok());
-    assert!(rt;
-        perform(&mut cloud, who, &Call::Get(ObjName::Tree(tree)))
-            .got()
-            .is_err()
-    );
-    assert_eq!(rt;
-        renew(&mut cloud, who, &mut lease, 60).renewed().ok(),
-        Some(60)
-    );
-    assert_eq!(rt; lease.end(), 60);
-    assert!(rt; matches!(&let_go(&mut cloud, who, lease), Answer::Done));
-    Ok(())
+    assert!(rt; target(names.lock) == Target::Lock(names.lock) && is_taken(&mut cloud, &names));
+}
+
+/// Whether a cloud counts seven ticks, whatever is wished.
+fn is_later<C: Bench>(cloud: &mut C) -> bool {
+    cloud.wish(Wish::Old(1));
+    cloud.wait(7);
+    cloud.now() == 7
+}
+
+/// Whether the lock is not taken.
+fn is_not_taken<C: Cloud>(cloud: &mut C, names: &Names) -> bool {
+    matches!(&take(cloud, names), Answer::Failed)
+}
+
+/// Whether a send fails.
+fn is_not_sent<C: Cloud>(cloud: &mut C, names: &Names) -> bool {
+    match cloud.send(names.who, names.queue, b"x") {
+        Err(fault) => fault == CloudFault::Failed,
+        Ok(_) => false,
+    }
+}
+
+/// Whether the count of a queue's messages fails.
+fn is_not_counted<C: Bench>(cloud: &mut C, names: &Names) -> bool {
+    match cloud.backlog(names.queue) {
+        Err(fault) => fault == CloudFault::Failed,
+        Ok(_) => false,
+    }
 }
 
 #[test]
-fn is_down(rt: HostRuntime) -> Result<(), Fail> {
+fn is_down(rt: HostRuntime) {
+    let Some(names) = usual_names() else {
+        rt.panic("no names")
+    };
     let mut cloud = DownCloud::new();
-    let tree = TreeId::new(2)?;
-    let who = Who::new(SessionNo::new(1)?, 4);
-    cloud.wish(Wish::Old(1));
-    cloud.wait(7);
-    assert_eq!(rt; cloud.now(), 7);
-    let take = Call::Take(Lock::Tree(tree), 30);
-    assert!(rt; matches!(&perform(&mut cloud, who, &take), Answer::Failed));
-    assert_eq!(rt;
-        cloud.send(who, QueueName::TreePu(tree), b"x").err(),
-        Some(CloudFault::Failed)
-    );
-    assert_eq!(rt;
-        cloud.backlog(QueueName::TreePu(tree)).err(),
-        Some(CloudFault::Failed)
-    );
-    assert!(rt; cloud.peek(ObjName::Tree(tree)).is_err());
-    Ok(())
+    assert!(rt; is_later(&mut cloud) && is_not_taken(&mut cloud, &names));
+    assert!(rt; is_not_sent(&mut cloud, &names) && is_not_counted(&mut cloud, &names));
+    assert!(rt; cloud.peek(names.object).is_err());
 }

@@ -6,7 +6,6 @@ use log_codec::record::{PuItem, PuRec};
 use run_cursor::covered::covered;
 use run_cursor::run::{Run, take_run};
 use std::alloc::Global;
-use std::test::Fail;
 
 /// What is received, and what comes of it. Items are id, client, number and key; cursors client and number.
 struct Row {
@@ -57,95 +56,139 @@ static ROWS: [Row; 3] = [
     },
 ];
 
-fn cursor_of(alloc: Global, numbers: &[(u64, u64)]) -> Result<Cursor, Fail> {
-    let mut cursor = Cursor::new(alloc);
+/// Whether a cursor takes a client's number.
+fn is_set(cursor: &mut Cursor, client: u64, number: u64) -> bool {
+    match ClientId::new(client) {
+        Ok(client) => cursor.set(client, number).is_ok(),
+        Err(_) => false,
+    }
+}
+
+/// Whether a cursor takes these numbers.
+fn are_set(cursor: &mut Cursor, numbers: &[(u64, u64)]) -> bool {
     for (client, number) in numbers {
-        cursor.set(ClientId::new(*client)?, *number)?;
-    }
-    Ok(cursor)
-}
-
-fn items_of(alloc: Global, rows: &[(u64, u64, u64, &[u8])]) -> Result<Vec<PuItem>, Fail> {
-    let mut items = Vec::new(alloc);
-    for (id, client, number, key) in rows {
-        let rec = PuRec {
-            client: ClientId::new(*client)?,
-            epoch: 1,
-            txn: 1,
-            number: *number,
-            change: Change::Delete {
-                key: Key::new(alloc, key)?,
-            },
-        };
-        items.push(PuItem {
-            id: MsgId::new(*id),
-            rec,
-        })?;
-    }
-    Ok(items)
-}
-
-/// The run of a row.
-fn run_of(alloc: Global, row: &Row) -> Result<Run, Fail> {
-    let cursor = cursor_of(alloc, row.cursor)?;
-    let items = items_of(alloc, row.items)?;
-    Ok(take_run(alloc, &cursor, items.as_slice())?)
-}
-
-/// The ids of its items.
-fn ids_of(alloc: Global, run: &Run) -> Result<Vec<u64>, Fail> {
-    let mut ids = Vec::new(alloc);
-    for item in run.items() {
-        ids.push(item.id.get())?;
-    }
-    Ok(ids)
-}
-
-/// The ids of a row's items that the run's top covers.
-fn covered_by(alloc: Global, row: &Row, run: &Run) -> Result<Vec<u64>, Fail> {
-    let items = items_of(alloc, row.items)?;
-    let mut ids = Vec::new(alloc);
-    for id in &covered(alloc, run.top(), items.as_slice())? {
-        ids.push(id.get())?;
-    }
-    Ok(ids)
-}
-
-/// Whether the run's top has these numbers.
-fn is_top(run: &Run, numbers: &[(u64, u64)]) -> Result<bool, Fail> {
-    for (client, number) in numbers {
-        if run.top().get(ClientId::new(*client)?) != *number {
-            return Ok(false);
+        if !is_set(cursor, *client, *number) {
+            return false;
         }
     }
-    Ok(true)
+    true
+}
+
+/// A deletion as it is received.
+fn item(id: u64, client: ClientId, number: u64, key: Key) -> PuItem {
+    PuItem {
+        id: MsgId::new(id),
+        rec: PuRec {
+            client,
+            epoch: 1,
+            txn: 1,
+            number,
+            change: Change::Delete { key },
+        },
+    }
+}
+
+/// Whether an item of these numbers and key is added.
+fn is_added(
+    alloc: Global,
+    items: &mut Vec<PuItem>,
+    id: u64,
+    client: u64,
+    number: u64,
+    key: &[u8],
+) -> bool {
+    let Ok(client) = ClientId::new(client) else {
+        return false;
+    };
+    match Key::new(alloc, key) {
+        Ok(key) => items.push(item(id, client, number, key)).is_ok(),
+        Err(_) => false,
+    }
+}
+
+/// Whether the items of a row are added.
+fn are_added(alloc: Global, items: &mut Vec<PuItem>, rows: &[(u64, u64, u64, &[u8])]) -> bool {
+    for (id, client, number, key) in rows {
+        if !is_added(alloc, items, *id, *client, *number, key) {
+            return false;
+        }
+    }
+    true
+}
+
+/// Whether the items of a run have these ids, in their order.
+fn has_ids(run: &Run, ids: &[u64]) -> bool {
+    let mut count = 0;
+    for item in run.items() {
+        if ids.get(count) != Some(&item.id.get()) {
+            return false;
+        }
+        count = count.saturating_add(1);
+    }
+    count == ids.len()
+}
+
+/// Whether a cursor has this number of a client.
+fn has_number(cursor: &Cursor, client: u64, number: u64) -> bool {
+    match ClientId::new(client) {
+        Ok(client) => cursor.get(client) == number,
+        Err(_) => false,
+    }
+}
+
+/// Whether a cursor has these numbers.
+fn has_numbers(cursor: &Cursor, numbers: &[(u64, u64)]) -> bool {
+    for (client, number) in numbers {
+        if !has_number(cursor, *client, *number) {
+            return false;
+        }
+    }
+    true
+}
+
+/// Whether messages have these ids, in their order.
+fn are_ids(messages: &[MsgId], ids: &[u64]) -> bool {
+    for (message, id) in messages.iter().zip(ids) {
+        if message.get() != *id {
+            return false;
+        }
+    }
+    messages.len() == ids.len()
+}
+
+/// Whether a cursor covers the items of these ids.
+fn covers(alloc: Global, top: &Cursor, items: &[PuItem], ids: &[u64]) -> bool {
+    match covered(alloc, top, items) {
+        Ok(messages) => are_ids(messages.as_slice(), ids),
+        Err(_) => false,
+    }
+}
+
+/// Whether what a row says comes of its items, behind its cursor.
+fn is_taken(alloc: Global, row: &Row, cursor: &Cursor, items: &[PuItem]) -> bool {
+    match take_run(alloc, cursor, items) {
+        Ok(run) => {
+            has_ids(&run, row.run)
+                && has_numbers(run.top(), row.top)
+                && covers(alloc, run.top(), items, row.covered)
+        }
+        Err(_) => false,
+    }
+}
+
+/// Whether what a row says comes of what is received.
+fn is_right(alloc: Global, row: &Row) -> bool {
+    let mut cursor = Cursor::new(alloc);
+    if !are_set(&mut cursor, row.cursor) {
+        return false;
+    }
+    let mut items = Vec::new(alloc);
+    are_added(alloc, &mut items, row.items) && is_taken(alloc, row, &cursor, items.as_slice())
 }
 
 #[test]
-fn runs_are_taken(rt: HostRuntime) -> Result<(), Fail> {
+fn runs_are_taken_and_their_tops_cover_messages(rt: HostRuntime) {
     for row in &ROWS {
-        let run = run_of(rt.alloc(), row)?;
-        let ids = ids_of(rt.alloc(), &run)?;
-        assert!(rt; ids.as_slice() == row.run);
+        assert!(rt; is_right(rt.alloc(), row));
     }
-    Ok(())
-}
-
-#[test]
-fn tops_are_reached(rt: HostRuntime) -> Result<(), Fail> {
-    for row in &ROWS {
-        let run = run_of(rt.alloc(), row)?;
-        assert!(rt; is_top(&run, row.top)?);
-    }
-    Ok(())
-}
-
-#[test]
-fn what_a_top_covers_is_found(rt: HostRuntime) -> Result<(), Fail> {
-    for row in &ROWS {
-        let run = run_of(rt.alloc(), row)?;
-        let ids = covered_by(rt.alloc(), row, &run)?;
-        assert!(rt; ids.as_slice() == row.covered);
-    }
-    Ok(())
 }

@@ -1,22 +1,24 @@
 use command_words::read::shape;
 use command_words::shape::{Shape, WordsFault};
-use std::alloc::{AllocError, Global};
+use std::alloc::Global;
 
-/// Words of a shape, and what is read of them.
-const SHAPES: [(&[&str], &str); 10] = [
-    (&["replay"], "replay"),
-    (&["gen", "7", "10000"], "gen 7 10000"),
-    (&["gen", "0", "0"], "gen 0 0"),
+/// Words of a shape, the name of the shape, its numbers, and its folder.
+const SHAPES: [(&[&str], &str, &[u64], &str); 10] = [
+    (&["replay"], "replay", &[], ""),
+    (&["gen", "7", "10000"], "gen", &[7, 10000], ""),
+    (&["gen", "0", "0"], "gen", &[0, 0], ""),
     (
         &["gen", "18446744073709551615", "1"],
-        "gen 18446744073709551615 1",
+        "gen",
+        &[u64::MAX, 1],
+        "",
     ),
-    (&["shell", "1", "store"], "shell 1 store"),
-    (&["shell", "64", ""], "shell 64 "),
-    (&["shell", "2", "a-b"], "shell 2 a-b"),
-    (&["settle", "a b"], "settle a b"),
-    (&["settle", ""], "settle "),
-    (&["settle", "settle"], "settle settle"),
+    (&["shell", "1", "store"], "shell", &[1], "store"),
+    (&["shell", "64", ""], "shell", &[64], ""),
+    (&["shell", "2", "a-b"], "shell", &[2], "a-b"),
+    (&["settle", "a b"], "settle", &[], "a b"),
+    (&["settle", ""], "settle", &[], ""),
+    (&["settle", "settle"], "settle", &[], "settle"),
 ];
 
 /// Words of no shape.
@@ -49,53 +51,62 @@ const NO_SHAPES: [&[&str]; 26] = [
     &["settle", "a", "b"],
 ];
 
-/// The words as a list of texts.
-fn texts(alloc: Global, words: &[&str]) -> Result<Vec<String>, AllocError> {
-    let mut list = Vec::new(alloc);
+/// Adds words to a list of texts, and tells whether memory was there.
+fn add_words(alloc: Global, list: &mut Vec<String>, words: &[&str]) -> bool {
     for word in words {
-        list.push(String::from_str(alloc, word)?)?;
-    }
-    Ok(list)
-}
-
-/// A shape with its values, as a text.
-fn shown(alloc: Global, shape: &Shape) -> Result<String, AllocError> {
-    match shape {
-        Shape::Replay => String::from_str(alloc, "replay"),
-        Shape::Gen { number, count } => format!(in alloc; "gen {number} {count}"),
-        Shape::Shell { client, dir } => {
-            let client = client.get();
-            format!(in alloc; "shell {client} {}", dir.as_str())
+        let Ok(text) = String::from_str(alloc, word) else {
+            return false;
+        };
+        if list.push(text).is_err() {
+            return false;
         }
-        Shape::Settle { dir } => format!(in alloc; "settle {}", dir.as_str()),
+    }
+    true
+}
+
+/// Whether a shape has this name, these numbers and this folder.
+fn is_shape(shape: &Shape, name: &str, numbers: &[u64], folder: &str) -> bool {
+    match shape {
+        Shape::Replay => name == "replay",
+        Shape::Gen { number, count } => {
+            name == "gen" && numbers.first() == Some(number) && numbers.last() == Some(count)
+        }
+        Shape::Shell { client, dir } => {
+            name == "shell" && numbers.first() == Some(&client.get()) && dir.as_str() == folder
+        }
+        Shape::Settle { dir } => name == "settle" && dir.as_str() == folder,
     }
 }
 
-/// Whether words are read as a shape that is shown so.
-fn are_read(alloc: Global, words: &[&str], want: &str) -> Result<bool, AllocError> {
-    let list = texts(alloc, words)?;
+/// Whether words are read as a shape of this name, these numbers and this folder.
+fn are_read(alloc: Global, words: &[&str], name: &str, numbers: &[u64], folder: &str) -> bool {
+    let mut list = Vec::new(alloc);
+    if !add_words(alloc, &mut list, words) {
+        return false;
+    }
     match shape(alloc, list.as_slice()) {
-        Ok(shape) => Ok(shown(alloc, &shape)?.as_str() == want),
-        Err(_) => Ok(false),
+        Ok(shape) => is_shape(&shape, name, numbers, folder),
+        Err(_) => false,
     }
 }
 
 /// Whether words are of no shape.
-fn are_refused(alloc: Global, words: &[&str]) -> Result<bool, AllocError> {
-    let list = texts(alloc, words)?;
-    Ok(matches!(shape(alloc, list.as_slice()), Err(WordsFault::BadWords)))
+fn are_refused(alloc: Global, words: &[&str]) -> bool {
+    let mut list = Vec::new(alloc);
+    add_words(alloc, &mut list, words)
+        && matches!(shape(alloc, list.as_slice()), Err(WordsFault::BadWords))
 }
 
 #[test]
 fn the_shapes_are_read(rt: HostRuntime) {
-    for (words, want) in SHAPES {
-        assert!(rt; are_read(rt.alloc(), words, want) == Ok(true), "{want}");
+    for (words, name, numbers, folder) in &SHAPES {
+        assert!(rt; are_read(rt.alloc(), words, name, numbers, folder));
     }
 }
 
 #[test]
 fn no_other_words_are_read(rt: HostRuntime) {
-    for words in NO_SHAPES {
-        assert!(rt; are_refused(rt.alloc(), words) == Ok(true), "{words:?}");
+    for words in &NO_SHAPES {
+        assert!(rt; are_refused(rt.alloc(), words));
     }
 }

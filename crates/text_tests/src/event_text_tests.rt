@@ -1,6 +1,6 @@
 use event_text::event::Event;
-use std::alloc::Global;
-use std::test::Fail;
+use std::alloc::{AllocError, Global};
+use std::process::Abort;
 use words::fault::TextFault;
 
 /// Every line of a schedule.
@@ -124,54 +124,95 @@ fn is_refused_by_shells(alloc: Global, line: &str) -> bool {
     )
 }
 
-/// The line of a `give` of so many positions.
-fn give_of(alloc: Global, count: u64) -> Result<String, TextFault> {
-    let mut line = String::from_str(alloc, "step 1 give")?;
-    for _ in 0..count {
-        line.push_str(" 7")?;
+/// Whether each line is read, and what is read is written as it.
+fn are_written_back(alloc: Global, lines: &[&str]) -> bool {
+    for line in lines {
+        if !is_written_back(alloc, line) {
+            return false;
+        }
     }
-    line.push_str("\n")?;
-    Ok(line)
+    true
+}
+
+/// Whether each shell's line is read, and what is read is written as the line beside it.
+fn are_short_for(alloc: Global, lines: &[(&str, &str)]) -> bool {
+    for (line, long) in lines {
+        if !is_short_for(alloc, line, long) {
+            return false;
+        }
+    }
+    true
+}
+
+/// Whether the lines are in no schedule.
+fn are_refused(alloc: Global, lines: &[&str]) -> bool {
+    for line in lines {
+        if !is_refused(alloc, line) {
+            return false;
+        }
+    }
+    true
+}
+
+/// Whether the lines are no shell's lines.
+fn are_refused_by_shells(alloc: Global, lines: &[&str]) -> bool {
+    for line in lines {
+        if !is_refused_by_shells(alloc, line) {
+            return false;
+        }
+    }
+    true
 }
 
 #[test]
 fn each_line_is_read_and_written_back(rt: HostRuntime) {
-    for line in LINES {
-        assert!(rt; is_written_back(rt.alloc(), line), "{line}");
-    }
+    assert!(rt; are_written_back(rt.alloc(), &LINES));
 }
 
 #[test]
 fn shell_lines_are_read_as_lines_of_session_1(rt: HostRuntime) {
-    for (line, long) in SHELL_LINES {
-        assert!(rt; is_short_for(rt.alloc(), line, long), "{line}");
-    }
-}
-
-#[test]
-fn a_give_has_256_positions(rt: HostRuntime) -> Result<(), Fail> {
-    let full = give_of(rt.alloc(), 256)?;
-    assert!(rt; is_written_back(rt.alloc(), full.as_str()));
-    Ok(())
+    assert!(rt; are_short_for(rt.alloc(), &SHELL_LINES));
 }
 
 #[test]
 fn near_misses_are_refused(rt: HostRuntime) {
-    for line in NEAR_MISSES {
-        assert!(rt; is_refused(rt.alloc(), line), "{line}");
-    }
+    assert!(rt; are_refused(rt.alloc(), &NEAR_MISSES));
 }
 
 #[test]
 fn shells_refuse_other_lines(rt: HostRuntime) {
-    for line in NO_SHELL_LINES {
-        assert!(rt; is_refused_by_shells(rt.alloc(), line), "{line}");
+    assert!(rt; are_refused_by_shells(rt.alloc(), &NO_SHELL_LINES));
+}
+
+/// Adds so many positions to a line.
+fn add_positions(line: &mut String, count: u64) -> Result<(), AllocError> {
+    for _ in 0..count {
+        line.push_str(" 7")?;
+    }
+    line.push_str("\n")
+}
+
+/// The line of a `give` of so many positions.
+fn give_of(alloc: Global, count: u64) -> Option<String> {
+    let mut line = String::from_str(alloc, "step 1 give").ok()?;
+    match add_positions(&mut line, count) {
+        Ok(()) => Some(line),
+        Err(_) => None,
     }
 }
 
 #[test]
-fn a_give_has_no_257_positions(rt: HostRuntime) -> Result<(), Fail> {
-    let longer = give_of(rt.alloc(), 257)?;
-    assert!(rt; is_refused(rt.alloc(), longer.as_str()));
-    Ok(())
+fn a_give_has_256_positions(rt: HostRuntime) {
+    match give_of(rt.alloc(), 256) {
+        Some(full) => assert!(rt; is_written_back(rt.alloc(), full.as_str())),
+        None => rt.panic("no line"),
+    }
+}
+
+#[test]
+fn a_give_has_no_257_positions(rt: HostRuntime) {
+    match give_of(rt.alloc(), 257) {
+        Some(longer) => assert!(rt; is_refused(rt.alloc(), longer.as_str())),
+        None => rt.panic("no line"),
+    }
 }

@@ -13,7 +13,7 @@ use report_types::entry_log::EntryLog;
 use report_types::pair_list::PairList;
 use report_types::report::Report;
 use std::alloc::Global;
-use std::test::Fail;
+use std::process::Abort;
 
 /// Whether a reply is written as this text.
 fn is_written(alloc: Global, reply: Reply, text: &str) -> bool {
@@ -23,205 +23,281 @@ fn is_written(alloc: Global, reply: Reply, text: &str) -> bool {
     }
 }
 
-/// A record.
-fn pair(alloc: Global, key: &[u8], payload: &[u8]) -> Result<Pair, Fail> {
-    let key = Blob::copy_of(alloc, key)?;
-    let payload = Blob::copy_of(alloc, payload)?;
-    Ok(Pair { key, payload })
-}
-
-fn add_pairs(alloc: Global, pairs: &mut PairList) -> Result<(), Fail> {
-    pairs.push(pair(alloc, b"k", b"v")?)?;
-    pairs.push(pair(alloc, b"l", b"")?)?;
-    Ok(())
-}
-
-/// The records k with v and l with no byte.
-fn pairs(alloc: Global) -> Result<PairList, Fail> {
-    let mut pairs = PairList::new(alloc);
-    add_pairs(alloc, &mut pairs)?;
-    Ok(pairs)
-}
-
-/// An entry of client 2 in tree 1.
-fn entry(txn: u64, change: Change) -> Result<Entry, Fail> {
-    Ok(Entry {
-        client: ClientId::new(2)?,
-        epoch: 3,
-        txn,
-        tree: TreeId::new(1)?,
-        change,
-    })
-}
-
-fn insertion(alloc: Global) -> Result<Change, Fail> {
-    let key = Key::new(alloc, b"k")?;
-    let payload = Payload::new(alloc, b"v")?;
-    Ok(Change::Insert { key, payload })
-}
-
-fn deletion(alloc: Global) -> Result<Change, Fail> {
-    let key = Key::new(alloc, b"l")?;
-    Ok(Change::Delete { key })
-}
-
-fn add_entries(alloc: Global, entries: &mut EntryLog) -> Result<(), Fail> {
-    entries.push(entry(4, insertion(alloc)?)?)?;
-    entries.push(entry(5, deletion(alloc)?)?)?;
-    Ok(())
-}
-
-/// The entries of an insert and a deletion by client 2.
-fn entries(alloc: Global) -> Result<EntryLog, Fail> {
-    let mut entries = EntryLog::new(alloc);
-    add_entries(alloc, &mut entries)?;
-    Ok(entries)
-}
-
-#[test]
-fn answers_without_values_are_written(rt: HostRuntime) {
-    let alloc = rt.alloc();
-    assert!(rt; is_written(alloc, Reply::Begun, "begun"));
-    assert!(rt; is_written(alloc, Reply::Called, "called"));
-    assert!(rt; is_written(alloc, Reply::Noted, "noted"));
-    assert!(rt; is_written(alloc, Reply::Aborted, "aborted"));
-    assert!(rt; is_written(alloc, Reply::Crashed, "crashed"));
-    assert!(rt; is_written(alloc, Reply::Waited, "waited"));
-    assert!(rt; is_written(alloc, Reply::Closed, "closed"));
-    assert!(rt; is_written(alloc, Reply::NoValue, "none"));
-}
-
-#[test]
-fn refusals_are_written(rt: HostRuntime) {
-    let alloc = rt.alloc();
-    assert!(rt;
-        is_written(
-            alloc,
-            Reply::Refused(Refusal::LongPayload),
-            "refused 3 long-payload"
-        )
-    );
-    assert!(rt;
-        is_written(
-            alloc,
-            Reply::Refused(Refusal::NotWorking),
-            "refused 10 not-working"
-        )
-    );
-}
-
-#[test]
-fn answers_with_numbers_are_written(rt: HostRuntime) {
-    let alloc = rt.alloc();
-    assert!(rt; is_written(alloc, Reply::Opened { epoch: 1 }, "opened 1"));
-    assert!(rt; is_written(alloc, Reply::Renewed { end: 600 }, "renewed 600"));
-    assert!(rt;
-        is_written(
-            alloc,
-            Reply::Commit(CommitAnswer::Committed { txn: 7 }),
-            "committed 7"
-        )
-    );
-    assert!(rt; is_written(alloc, Reply::Commit(CommitAnswer::InDoubt), "in-doubt"));
-    let done = CkptAnswer {
-        applied: 1,
-        deleted: 2,
-        left: 3,
-    };
-    assert!(rt; is_written(alloc, Reply::Done(done), "done 1 2 3"));
-    assert!(rt; is_written(alloc, Reply::Settled { calls: 320 }, "settled 320"));
-}
-
-#[test]
-fn values_and_records_are_written(rt: HostRuntime) -> Result<(), Fail> {
-    let alloc = rt.alloc();
-    assert!(rt; is_written(alloc, Reply::Value(Blob::copy_of(alloc, b"v")?), "value 76"));
-    assert!(rt; is_written(alloc, Reply::Scan(pairs(alloc)?), "scan 2 6b=76 6c=-"));
-    Ok(())
-}
-
 /// Whether a trouble is written as this text.
 fn is_told(alloc: Global, trouble: Trouble, text: &str) -> bool {
     is_written(alloc, Reply::Trouble(trouble), text)
 }
 
-#[test]
-fn troubles_of_commits_and_settlings_are_written(rt: HostRuntime) {
-    let alloc = rt.alloc();
-    let late = Trouble::Late { end: 600, now: 601 };
-    let closed = Reply::Commit(CommitAnswer::NotCommitted(late));
-    assert!(rt; is_written(alloc, closed, "not-committed late 600 601"));
-    let open = Reply::Commit(CommitAnswer::CommittedOpen(Trouble::Failed));
-    assert!(rt; is_written(alloc, open, "committed-open failed"));
-    let waiting = Trouble::Waiting { have: 1, need: 2 };
-    assert!(rt; is_written(alloc, Reply::NotSettled(waiting), "not-settled waiting 1 2"));
+fn are_answers_written(alloc: Global) -> bool {
+    is_written(alloc, Reply::Begun, "begun")
+        && is_written(alloc, Reply::Called, "called")
+        && is_written(alloc, Reply::Noted, "noted")
+        && is_written(alloc, Reply::Aborted, "aborted")
+}
+
+fn are_ends_written(alloc: Global) -> bool {
+    is_written(alloc, Reply::Crashed, "crashed")
+        && is_written(alloc, Reply::Waited, "waited")
+        && is_written(alloc, Reply::Closed, "closed")
+        && is_written(alloc, Reply::NoValue, "none")
 }
 
 #[test]
-fn troubles_of_pages_are_written(rt: HostRuntime) -> Result<(), Fail> {
-    let alloc = rt.alloc();
-    let page = PageId::new(5)?;
-    let lock = Lock::Page(TreeId::new(2)?, page);
-    assert!(rt; is_told(alloc, Trouble::Busy { lock, until: 30 }, "busy page:2:5 30"));
+fn answers_without_values_are_written(rt: HostRuntime) {
+    assert!(rt; are_answers_written(rt.alloc()) && are_ends_written(rt.alloc()));
+}
+
+/// Whether a refusal is written as this text.
+fn is_refusal_written(alloc: Global, refusal: Refusal, text: &str) -> bool {
+    is_written(alloc, Reply::Refused(refusal), text)
+}
+
+#[test]
+fn refusals_are_written(rt: HostRuntime) {
+    assert!(rt; is_refusal_written(rt.alloc(), Refusal::LongPayload, "refused 3 long-payload"));
+    assert!(rt; is_refusal_written(rt.alloc(), Refusal::NotWorking, "refused 10 not-working"));
+}
+
+fn are_numbers_written(alloc: Global) -> bool {
+    is_written(alloc, Reply::Opened { epoch: 1 }, "opened 1")
+        && is_written(alloc, Reply::Renewed { end: 600 }, "renewed 600")
+        && is_written(alloc, Reply::Settled { calls: 320 }, "settled 320")
+}
+
+fn is_checkpoint_written(alloc: Global) -> bool {
+    let done = CkptAnswer {
+        applied: 1,
+        deleted: 2,
+        left: 3,
+    };
+    is_written(alloc, Reply::Done(done), "done 1 2 3")
+}
+
+/// Whether the answer to a commit is written as this text.
+fn is_commit_written(alloc: Global, answer: CommitAnswer, text: &str) -> bool {
+    is_written(alloc, Reply::Commit(answer), text)
+}
+
+#[test]
+fn answers_with_numbers_are_written(rt: HostRuntime) {
+    assert!(rt; are_numbers_written(rt.alloc()) && is_checkpoint_written(rt.alloc()));
+    assert!(rt;
+        is_commit_written(
+            rt.alloc(),
+            CommitAnswer::Committed { txn: 7 },
+            "committed 7"
+        )
+    );
+    assert!(rt; is_commit_written(rt.alloc(), CommitAnswer::InDoubt, "in-doubt"));
+}
+
+/// A record.
+fn pair(alloc: Global, key: &[u8], payload: &[u8]) -> Option<Pair> {
+    match Blob::copy_of(alloc, key) {
+        Ok(key) => pair_of(alloc, key, payload),
+        Err(_) => None,
+    }
+}
+
+fn pair_of(alloc: Global, key: Blob, payload: &[u8]) -> Option<Pair> {
+    match Blob::copy_of(alloc, payload) {
+        Ok(payload) => Some(Pair { key, payload }),
+        Err(_) => None,
+    }
+}
+
+fn add_pair(pairs: &mut PairList, pair: Option<Pair>) -> bool {
+    match pair {
+        Some(pair) => pairs.push(pair).is_ok(),
+        None => false,
+    }
+}
+
+/// Adds the records k with v and l with no byte.
+fn add_pairs(alloc: Global, pairs: &mut PairList) -> bool {
+    add_pair(pairs, pair(alloc, b"k", b"v")) && add_pair(pairs, pair(alloc, b"l", b""))
+}
+
+fn is_value_written(alloc: Global) -> bool {
+    match Blob::copy_of(alloc, b"v") {
+        Ok(value) => is_written(alloc, Reply::Value(value), "value 76"),
+        Err(_) => false,
+    }
+}
+
+fn is_scan_written(alloc: Global) -> bool {
+    let mut pairs = PairList::new(alloc);
+    if !add_pairs(alloc, &mut pairs) {
+        return false;
+    }
+    is_written(alloc, Reply::Scan(pairs), "scan 2 6b=76 6c=-")
+}
+
+#[test]
+fn values_and_records_are_written(rt: HostRuntime) {
+    assert!(rt; is_value_written(rt.alloc()) && is_scan_written(rt.alloc()));
+}
+
+fn is_closed_written(alloc: Global) -> bool {
+    let late = Trouble::Late { end: 600, now: 601 };
+    let answer = CommitAnswer::NotCommitted(late);
+    is_commit_written(alloc, answer, "not-committed late 600 601")
+}
+
+fn is_open_written(alloc: Global) -> bool {
+    let answer = CommitAnswer::CommittedOpen(Trouble::Failed);
+    is_commit_written(alloc, answer, "committed-open failed")
+}
+
+fn is_settling_written(alloc: Global) -> bool {
+    let waiting = Trouble::Waiting { have: 1, need: 2 };
+    is_written(alloc, Reply::NotSettled(waiting), "not-settled waiting 1 2")
+}
+
+#[test]
+fn troubles_of_commits_and_settlings_are_written(rt: HostRuntime) {
+    assert!(rt; is_closed_written(rt.alloc()) && is_open_written(rt.alloc()));
+    assert!(rt; is_settling_written(rt.alloc()));
+}
+
+fn are_pages_told(alloc: Global, tree: TreeId, page: PageId) -> bool {
+    let lock = Lock::Page(tree, page);
+    is_told(alloc, Trouble::Busy { lock, until: 30 }, "busy page:2:5 30")
+        && is_told(alloc, Trouble::Absent { page }, "absent 5")
+        && is_told(alloc, Trouble::NotALeaf { page }, "not-leaf 5")
+        && is_told(alloc, Trouble::Loop { page }, "loop 5")
+}
+
+fn is_stale_told(alloc: Global, page: PageId) -> bool {
     let stale = Trouble::Stale {
         page,
         least: 2,
         got: 0,
     };
-    assert!(rt; is_told(alloc, stale, "stale 5 2 0"));
-    assert!(rt; is_told(alloc, Trouble::Absent { page }, "absent 5"));
-    assert!(rt; is_told(alloc, Trouble::NotALeaf { page }, "not-leaf 5"));
-    assert!(rt; is_told(alloc, Trouble::Loop { page }, "loop 5"));
-    Ok(())
+    is_told(alloc, stale, "stale 5 2 0")
+}
+
+/// Whether the trouble of a page, whose low key should be empty and is k, is written so.
+fn is_fence_told(alloc: Global, page: PageId) -> bool {
+    let Ok(found) = Blob::copy_of(alloc, b"k") else {
+        return false;
+    };
+    let fence = Trouble::BadFence {
+        page,
+        expected: Blob::new(alloc),
+        found,
+    };
+    is_told(alloc, fence, "bad-fence 5 - 6b")
 }
 
 #[test]
-fn damage_is_written(rt: HostRuntime) -> Result<(), Fail> {
-    let (alloc, tree, client) = (rt.alloc(), TreeId::new(2)?, ClientId::new(64)?);
-    let place = Place::Message(QueueName::TreePu(tree), MsgId::new(9));
-    let damaged = Trouble::Damaged { place, offset: 10 };
-    assert!(rt; is_told(alloc, damaged, "damaged pu:2:0#9 10"));
-    let place = Place::Object(ObjName::Head(client));
-    let damaged = Trouble::Damaged { place, offset: 0 };
-    assert!(rt; is_told(alloc, damaged, "damaged head:64 0"));
+fn troubles_of_pages_are_written(rt: HostRuntime) {
+    let (Ok(tree), Ok(page)) = (TreeId::new(2), PageId::new(5)) else {
+        rt.panic("no names")
+    };
+    assert!(rt; are_pages_told(rt.alloc(), tree, page));
+    assert!(rt; is_stale_told(rt.alloc(), page) && is_fence_told(rt.alloc(), page));
+}
+
+/// Whether damage is written as this text.
+fn is_damage_told(alloc: Global, place: Place, offset: u64, text: &str) -> bool {
+    is_told(alloc, Trouble::Damaged { place, offset }, text)
+}
+
+fn is_exhausted_told(alloc: Global) -> bool {
     let exhausted = Trouble::Exhausted {
         what: Counter::Pages,
     };
-    assert!(rt; is_told(alloc, exhausted, "exhausted pages"));
-    Ok(())
-}
-
-/// The trouble of page 5, whose low key should be empty and is k.
-fn bad_fence(alloc: Global) -> Result<Trouble, Fail> {
-    Ok(Trouble::BadFence {
-        page: PageId::new(5)?,
-        expected: Blob::new(alloc),
-        found: Blob::copy_of(alloc, b"k")?,
-    })
+    is_told(alloc, exhausted, "exhausted pages")
 }
 
 #[test]
-fn bad_fences_are_written(rt: HostRuntime) -> Result<(), Fail> {
-    assert!(rt; is_told(rt.alloc(), bad_fence(rt.alloc())?, "bad-fence 5 - 6b"));
-    Ok(())
+fn damage_is_written(rt: HostRuntime) {
+    let (Ok(tree), Ok(client)) = (TreeId::new(2), ClientId::new(64)) else {
+        rt.panic("no names")
+    };
+    let message = Place::Message(QueueName::TreePu(tree), MsgId::new(9));
+    assert!(rt; is_damage_told(rt.alloc(), message, 10, "damaged pu:2:0#9 10"));
+    let head = Place::Object(ObjName::Head(client));
+    assert!(rt; is_damage_told(rt.alloc(), head, 0, "damaged head:64 0"));
+    assert!(rt; is_exhausted_told(rt.alloc()));
 }
 
-/// A report of these entries and records.
-fn report(alloc: Global) -> Result<Report, Fail> {
-    Ok(Report {
-        tree: TreeId::new(1)?,
-        committed: entries(alloc)?,
+fn insertion(alloc: Global, key: Key) -> Option<Change> {
+    match Payload::new(alloc, b"v") {
+        Ok(payload) => Some(Change::Insert { key, payload }),
+        Err(_) => None,
+    }
+}
+
+/// Adds an entry of client 2 in tree 1.
+fn add_entry(entries: &mut EntryLog, txn: u64, change: Change) -> bool {
+    let (Ok(client), Ok(tree)) = (ClientId::new(2), TreeId::new(1)) else {
+        return false;
+    };
+    let entry = Entry {
+        client,
+        epoch: 3,
+        txn,
+        tree,
+        change,
+    };
+    entries.push(entry).is_ok()
+}
+
+/// Adds the entry of the insert of v under a key.
+fn add_insert(alloc: Global, entries: &mut EntryLog, key: Key) -> bool {
+    match insertion(alloc, key) {
+        Some(change) => add_entry(entries, 4, change),
+        None => false,
+    }
+}
+
+/// Adds the entries of an insert and a deletion by client 2.
+fn add_entries(alloc: Global, entries: &mut EntryLog) -> bool {
+    match Key::new(alloc, b"k") {
+        Ok(key) => add_insert(alloc, entries, key) && add_deletion(alloc, entries),
+        Err(_) => false,
+    }
+}
+
+/// Adds the entry of the deletion of l.
+fn add_deletion(alloc: Global, entries: &mut EntryLog) -> bool {
+    match Key::new(alloc, b"l") {
+        Ok(key) => add_entry(entries, 5, Change::Delete { key }),
+        Err(_) => false,
+    }
+}
+
+/// A report of no entry and no record.
+fn report(alloc: Global, tree: TreeId) -> Report {
+    Report {
+        tree,
+        committed: EntryLog::new(alloc),
         order: EntryLog::new(alloc),
-        contents: pairs(alloc)?,
+        contents: PairList::new(alloc),
         heads: 1,
         messages: 2,
-    })
+    }
+}
+
+/// The report, as it is written.
+const REPORT: &str =
+    "report 1\ncommitted 2\n2 3 4 insert 6b 76\n2 3 5 delete 6c\norder 0\ncontents 2\n6b 76\n6c -\nleft 1 2";
+
+/// Whether a report of these entries and records is written so.
+fn is_report_written(alloc: Global, tree: TreeId) -> bool {
+    let mut report = report(alloc, tree);
+    if !add_entries(alloc, &mut report.committed) || !add_pairs(alloc, &mut report.contents) {
+        return false;
+    }
+    is_written(alloc, Reply::Report(report), REPORT)
 }
 
 #[test]
-fn reports_are_written(rt: HostRuntime) -> Result<(), Fail> {
-    let text =
-        "report 1\ncommitted 2\n2 3 4 insert 6b 76\n2 3 5 delete 6c\norder 0\ncontents 2\n6b 76\n6c -\nleft 1 2";
-    assert!(rt; is_written(rt.alloc(), Reply::Report(report(rt.alloc())?), text));
-    Ok(())
+fn reports_are_written(rt: HostRuntime) {
+    match TreeId::new(1) {
+        Ok(tree) => assert!(rt; is_report_written(rt.alloc(), tree)),
+        Err(_) => rt.panic("no tree"),
+    }
 }

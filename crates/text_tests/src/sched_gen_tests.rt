@@ -1,7 +1,7 @@
 use event_text::event::Event;
 use sched_gen::make::make;
 use std::alloc::Global;
-use std::test::Fail;
+use std::process::Abort;
 
 /// The first lines of the schedule of number 7.
 const FIRST_LINES: [&str; 34] = [
@@ -49,12 +49,23 @@ fn is_written(alloc: Global, event: &Event, line: &str) -> bool {
     }
 }
 
-#[test]
-fn the_first_lines_of_a_schedule(rt: HostRuntime) -> Result<(), Fail> {
-    let events = make(rt.alloc(), 7, 1000)?;
-    assert!(rt; events.len() == 3267);
-    for (event, line) in events.iter().zip(&FIRST_LINES) {
-        assert!(rt; is_written(rt.alloc(), event, line), "{line}");
+/// Whether the first events are written as these lines.
+fn begin_with(alloc: Global, events: &[Event], lines: &[&str]) -> bool {
+    for (event, line) in events.iter().zip(lines) {
+        if !is_written(alloc, event, line) {
+            return false;
+        }
     }
-    Ok(())
+    lines.len() <= events.len()
+}
+
+#[test]
+fn the_first_lines_of_a_schedule(rt: HostRuntime) {
+    match make(rt.alloc(), 7, 1000) {
+        Ok(events) => {
+            assert!(rt; events.len() == 3267);
+            assert!(rt; begin_with(rt.alloc(), events.as_slice(), &FIRST_LINES));
+        }
+        Err(_) => rt.panic("no schedule"),
+    }
 }

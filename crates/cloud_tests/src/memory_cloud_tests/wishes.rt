@@ -1,159 +1,580 @@
-use super::{Names, end_of, taken, usual_names, wish};
+ghost use Rattle.cloud_trait.specs.Call.{ask_of, Lends};
+
+use super::{Mishap, Names, Shown, befall, ends_at, taken, usual_names};
 use cloud_trait::answer::Answer;
 use cloud_trait::call::Call;
 use cloud_trait::cloud::{Bench, Cloud};
 use cloud_trait::lease::Lease;
 use cloud_trait::message::Message;
 use cloud_trait::perform::{let_go, perform, renew};
+use db_base::blob::Blob;
 use db_base::ids::MsgId;
 use memory_cloud::memory::MemoryCloud;
 use std::alloc::Global;
-use std::fmt::Write;
-use std::test::Fail;
+use std::process::Abort;
 
-// A cloud at moment 10 with two versions of the object, three messages of which the first is deleted, and a
-// lease of the tree until 20.
-fn filled(alloc: Global, names: &Names) -> Result<(MemoryCloud, Lease), Fail> {
-    let mut cloud = MemoryCloud::new(alloc);
-    cloud.wait(10);
-    let lease = taken(&mut cloud, names.who, names.tree, 10)?;
-    cloud.put_held(names.who, names.object, b"a", &lease, None)?;
-    cloud.put_held(names.who, names.object, b"b", &lease, None)?;
-    let first = cloud.send(names.who, names.queue, b"m1")?;
-    let _second = cloud.send(names.who, names.queue, b"m2")?;
-    let _third = cloud.send(names.who, names.queue, b"m3")?;
-    cloud.delete(names.who, names.queue, first)?;
-    Ok((cloud, lease))
+// A call of the tests.
+#[derive(Clone, Copy)]
+enum Asked {
+    Get,
+    GetHeld,
+    PutHeld,
+    Send,
+    Receive,
+    Delete,
+    DeleteAgain,
+    DeleteNone,
+    Take,
+    TakeHeld,
+    Renew,
+    Release,
 }
 
-fn made(cloud: &mut MemoryCloud, names: &Names, lease: Lease, call: &str) -> Answer {
-    let who = names.who;
-    match call {
-        "get" => perform(cloud, who, &Call::Get(names.object)),
-        "get_held" => perform(cloud, who, &Call::GetHeld(names.object, &lease)),
-        "put_held" => perform(cloud, who, &Call::PutHeld(names.object, b"c", &lease, None)),
-        "send" => perform(cloud, who, &Call::Send(names.queue, b"m4")),
-        "receive" => perform(cloud, who, &Call::Receive(names.queue, 2)),
-        "delete" => perform(cloud, who, &Call::Delete(names.queue, MsgId::new(2))),
-        "delete_again" => perform(cloud, who, &Call::Delete(names.queue, MsgId::new(1))),
-        "delete_none" => perform(cloud, who, &Call::Delete(names.queue, MsgId::new(9))),
-        "take" => perform(cloud, who, &Call::Take(names.page, 5)),
-        "take_held" => perform(cloud, who, &Call::Take(names.tree, 5)),
-        "renew" => {
-            let mut lease = lease;
-            renew(cloud, who, &mut lease, 30)
-        }
-        _ => let_go(cloud, who, lease),
-    }
+// What a call is to answer: bytes, a message's number, the numbers of messages, a lease's generation and end, the end of a lock
+// or of a lease, or the end of a lease that is over and the clock.
+#[derive(Clone, Copy)]
+enum Wanted {
+    Got(&'static [u8]),
+    Nothing,
+    Sent(u64),
+    Received(&'static [u64]),
+    Done,
+    Given(u64, u64),
+    Held(u64),
+    Renewed(u64),
+    Late(u64, u64),
+    Failed,
 }
 
-fn listed(alloc: Global, messages: &[Message]) -> Result<String, Fail> {
-    let mut text = String::new(alloc);
-    text.push_str("received")?;
-    for message in messages {
-        write!(text, " {}", message.id.get())?;
-    }
-    Ok(text)
+// What a call answers under each of some mishaps, after so many ticks; whether it lands a third version of the object or a fourth
+// message; and how many messages it leaves, and the ends of the locks of page and tree. The lease of the tree ends after ten ticks.
+struct Row {
+    asked: Asked,
+    ticks: u64,
+    mishaps: &'static [Mishap],
+    wanted: Wanted,
+    lands: (bool, bool),
+    left: (u64, u64, u64),
 }
 
-fn shown(alloc: Global, answer: &Answer) -> Result<String, Fail> {
-    match answer {
-        Answer::Got(Some(bytes)) => Ok(format!(in alloc; "got {:?}", bytes.as_slice())?),
-        Answer::Got(None) => Ok(format!(in alloc; "none")?),
-        Answer::Sent(id) => Ok(format!(in alloc; "sent {}", id.get())?),
-        Answer::Received(messages) => listed(alloc, messages.as_slice()),
-        Answer::Done => Ok(format!(in alloc; "done")?),
-        Answer::Given(lease) => Ok(format!(in alloc;
-            "given {} {}",
-            lease.generation(),
-            lease.end()
-        )?),
-        Answer::Held(until) => Ok(format!(in alloc; "held {until}")?),
-        Answer::Renewed(end) => Ok(format!(in alloc; "renewed {end}")?),
-        Answer::Late { end, now } => Ok(format!(in alloc; "late {end} {now}")?),
-        Answer::Failed => Ok(format!(in alloc; "failed")?),
-        Answer::Memory => Ok(format!(in alloc; "memory")?),
-    }
-}
-
-// Whether a third version or a fourth message landed, how many messages are left, and the ends of the locks of page and tree.
-fn left(alloc: Global, cloud: &mut MemoryCloud, names: &Names) -> Result<String, Fail> {
-    let put = cloud.version(names.object, 3).is_some();
-    let sent = cloud.message(names.queue, MsgId::new(4)).is_some();
-    let landed = match (put, sent) {
-        (true, _) => "put ",
-        (false, true) => "sent ",
-        (false, false) => "",
-    };
-    let backlog = cloud.backlog(names.queue)?;
-    let page = end_of(cloud, names.who, names.page)?;
-    let tree = end_of(cloud, names.who, names.tree)?;
-    Ok(format!(in alloc; "{landed}{backlog} {page} {tree}")?)
-}
-
-// What each call answers and leaves under each wish, after so many ticks. The lease ends after ten.
-const ROWS: [(&str, u64, &str, &str, &str); 44] = [
-    ("get", 0, "plain hide give newest", "got [98]", "2 0 20"),
-    ("get", 0, "fail lost", "failed", "2 0 20"),
-    ("get", 0, "old", "got [97]", "2 0 20"),
-    ("get", 0, "oldest", "none", "2 0 20"),
-    ("get_held", 0, "plain hide old give", "got [98]", "2 0 20"),
-    ("get_held", 0, "fail lost", "failed", "2 0 20"),
-    ("get_held", 10, "plain lost hide", "late 20 20", "2 0 0"),
-    ("get_held", 10, "old give", "late 20 20", "2 0 0"),
-    ("get_held", 10, "fail", "failed", "2 0 0"),
-    ("put_held", 0, "plain hide old give", "done", "put 2 0 20"),
-    ("put_held", 0, "fail", "failed", "2 0 20"),
-    ("put_held", 0, "lost", "failed", "put 2 0 20"),
-    ("put_held", 10, "plain lost hide", "late 20 20", "2 0 0"),
-    ("put_held", 10, "old give", "late 20 20", "2 0 0"),
-    ("put_held", 10, "fail", "failed", "2 0 0"),
-    ("send", 0, "plain hide old give", "sent 4", "sent 3 0 20"),
-    ("send", 0, "fail", "failed", "2 0 20"),
-    ("send", 0, "lost", "failed", "sent 3 0 20"),
-    ("receive", 0, "plain old", "received 2 3", "2 0 20"),
-    ("receive", 0, "fail lost", "failed", "2 0 20"),
-    ("receive", 0, "hide", "received", "2 0 20"),
-    ("receive", 0, "give", "received 3 1", "2 0 20"),
-    ("delete", 0, "plain hide old give", "done", "1 0 20"),
-    ("delete", 0, "fail", "failed", "2 0 20"),
-    ("delete", 0, "lost", "failed", "1 0 20"),
-    ("delete_again", 0, "plain hide old give", "done", "2 0 20"),
-    ("delete_none", 0, "plain hide old give", "done", "2 0 20"),
-    ("take", 0, "plain old give", "given 1 15", "2 15 20"),
-    ("take", 0, "fail", "failed", "2 0 20"),
-    ("take", 0, "lost", "failed", "2 15 20"),
-    ("take", 0, "hide", "held 10", "2 0 20"),
-    ("take_held", 0, "plain old give", "held 20", "2 0 20"),
-    ("take_held", 0, "fail lost", "failed", "2 0 20"),
-    ("take_held", 0, "hide", "held 10", "2 0 20"),
-    ("renew", 0, "plain hide old give", "renewed 40", "2 0 40"),
-    ("renew", 0, "fail", "failed", "2 0 20"),
-    ("renew", 0, "lost", "failed", "2 0 40"),
-    ("renew", 10, "plain lost hide", "late 20 20", "2 0 0"),
-    ("renew", 10, "old give", "late 20 20", "2 0 0"),
-    ("renew", 10, "fail", "failed", "2 0 0"),
-    ("release", 0, "plain hide old give", "done", "2 0 0"),
-    ("release", 0, "fail", "failed", "2 0 20"),
-    ("release", 0, "lost", "failed", "2 0 0"),
-    ("release", 10, "plain hide old give", "done", "2 0 0"),
+static ROWS: [Row; 44] = [
+    Row {
+        asked: Asked::Get,
+        ticks: 0,
+        mishaps: &[Mishap::Plain, Mishap::Hide, Mishap::Give, Mishap::Newest],
+        wanted: Wanted::Got(b"b"),
+        lands: (false, false),
+        left: (2, 0, 20),
+    },
+    Row {
+        asked: Asked::Get,
+        ticks: 0,
+        mishaps: &[Mishap::Fail, Mishap::Lost],
+        wanted: Wanted::Failed,
+        lands: (false, false),
+        left: (2, 0, 20),
+    },
+    Row {
+        asked: Asked::Get,
+        ticks: 0,
+        mishaps: &[Mishap::Old],
+        wanted: Wanted::Got(b"a"),
+        lands: (false, false),
+        left: (2, 0, 20),
+    },
+    Row {
+        asked: Asked::Get,
+        ticks: 0,
+        mishaps: &[Mishap::Oldest],
+        wanted: Wanted::Nothing,
+        lands: (false, false),
+        left: (2, 0, 20),
+    },
+    Row {
+        asked: Asked::GetHeld,
+        ticks: 0,
+        mishaps: &[Mishap::Plain, Mishap::Hide, Mishap::Old, Mishap::Give],
+        wanted: Wanted::Got(b"b"),
+        lands: (false, false),
+        left: (2, 0, 20),
+    },
+    Row {
+        asked: Asked::GetHeld,
+        ticks: 0,
+        mishaps: &[Mishap::Fail, Mishap::Lost],
+        wanted: Wanted::Failed,
+        lands: (false, false),
+        left: (2, 0, 20),
+    },
+    Row {
+        asked: Asked::GetHeld,
+        ticks: 10,
+        mishaps: &[Mishap::Plain, Mishap::Lost, Mishap::Hide],
+        wanted: Wanted::Late(20, 20),
+        lands: (false, false),
+        left: (2, 0, 0),
+    },
+    Row {
+        asked: Asked::GetHeld,
+        ticks: 10,
+        mishaps: &[Mishap::Old, Mishap::Give],
+        wanted: Wanted::Late(20, 20),
+        lands: (false, false),
+        left: (2, 0, 0),
+    },
+    Row {
+        asked: Asked::GetHeld,
+        ticks: 10,
+        mishaps: &[Mishap::Fail],
+        wanted: Wanted::Failed,
+        lands: (false, false),
+        left: (2, 0, 0),
+    },
+    Row {
+        asked: Asked::PutHeld,
+        ticks: 0,
+        mishaps: &[Mishap::Plain, Mishap::Hide, Mishap::Old, Mishap::Give],
+        wanted: Wanted::Done,
+        lands: (true, false),
+        left: (2, 0, 20),
+    },
+    Row {
+        asked: Asked::PutHeld,
+        ticks: 0,
+        mishaps: &[Mishap::Fail],
+        wanted: Wanted::Failed,
+        lands: (false, false),
+        left: (2, 0, 20),
+    },
+    Row {
+        asked: Asked::PutHeld,
+        ticks: 0,
+        mishaps: &[Mishap::Lost],
+        wanted: Wanted::Failed,
+        lands: (true, false),
+        left: (2, 0, 20),
+    },
+    Row {
+        asked: Asked::PutHeld,
+        ticks: 10,
+        mishaps: &[Mishap::Plain, Mishap::Lost, Mishap::Hide],
+        wanted: Wanted::Late(20, 20),
+        lands: (false, false),
+        left: (2, 0, 0),
+    },
+    Row {
+        asked: Asked::PutHeld,
+        ticks: 10,
+        mishaps: &[Mishap::Old, Mishap::Give],
+        wanted: Wanted::Late(20, 20),
+        lands: (false, false),
+        left: (2, 0, 0),
+    },
+    Row {
+        asked: Asked::PutHeld,
+        ticks: 10,
+        mishaps: &[Mishap::Fail],
+        wanted: Wanted::Failed,
+        lands: (false, false),
+        left: (2, 0, 0),
+    },
+    Row {
+        asked: Asked::Send,
+        ticks: 0,
+        mishaps: &[Mishap::Plain, Mishap::Hide, Mishap::Old, Mishap::Give],
+        wanted: Wanted::Sent(4),
+        lands: (false, true),
+        left: (3, 0, 20),
+    },
+    Row {
+        asked: Asked::Send,
+        ticks: 0,
+        mishaps: &[Mishap::Fail],
+        wanted: Wanted::Failed,
+        lands: (false, false),
+        left: (2, 0, 20),
+    },
+    Row {
+        asked: Asked::Send,
+        ticks: 0,
+        mishaps: &[Mishap::Lost],
+        wanted: Wanted::Failed,
+        lands: (false, true),
+        left: (3, 0, 20),
+    },
+    Row {
+        asked: Asked::Receive,
+        ticks: 0,
+        mishaps: &[Mishap::Plain, Mishap::Old],
+        wanted: Wanted::Received(&[2, 3]),
+        lands: (false, false),
+        left: (2, 0, 20),
+    },
+    Row {
+        asked: Asked::Receive,
+        ticks: 0,
+        mishaps: &[Mishap::Fail, Mishap::Lost],
+        wanted: Wanted::Failed,
+        lands: (false, false),
+        left: (2, 0, 20),
+    },
+    Row {
+        asked: Asked::Receive,
+        ticks: 0,
+        mishaps: &[Mishap::Hide],
+        wanted: Wanted::Received(&[]),
+        lands: (false, false),
+        left: (2, 0, 20),
+    },
+    Row {
+        asked: Asked::Receive,
+        ticks: 0,
+        mishaps: &[Mishap::Give],
+        wanted: Wanted::Received(&[3, 1]),
+        lands: (false, false),
+        left: (2, 0, 20),
+    },
+    Row {
+        asked: Asked::Delete,
+        ticks: 0,
+        mishaps: &[Mishap::Plain, Mishap::Hide, Mishap::Old, Mishap::Give],
+        wanted: Wanted::Done,
+        lands: (false, false),
+        left: (1, 0, 20),
+    },
+    Row {
+        asked: Asked::Delete,
+        ticks: 0,
+        mishaps: &[Mishap::Fail],
+        wanted: Wanted::Failed,
+        lands: (false, false),
+        left: (2, 0, 20),
+    },
+    Row {
+        asked: Asked::Delete,
+        ticks: 0,
+        mishaps: &[Mishap::Lost],
+        wanted: Wanted::Failed,
+        lands: (false, false),
+        left: (1, 0, 20),
+    },
+    Row {
+        asked: Asked::DeleteAgain,
+        ticks: 0,
+        mishaps: &[Mishap::Plain, Mishap::Hide, Mishap::Old, Mishap::Give],
+        wanted: Wanted::Done,
+        lands: (false, false),
+        left: (2, 0, 20),
+    },
+    Row {
+        asked: Asked::DeleteNone,
+        ticks: 0,
+        mishaps: &[Mishap::Plain, Mishap::Hide, Mishap::Old, Mishap::Give],
+        wanted: Wanted::Done,
+        lands: (false, false),
+        left: (2, 0, 20),
+    },
+    Row {
+        asked: Asked::Take,
+        ticks: 0,
+        mishaps: &[Mishap::Plain, Mishap::Old, Mishap::Give],
+        wanted: Wanted::Given(1, 15),
+        lands: (false, false),
+        left: (2, 15, 20),
+    },
+    Row {
+        asked: Asked::Take,
+        ticks: 0,
+        mishaps: &[Mishap::Fail],
+        wanted: Wanted::Failed,
+        lands: (false, false),
+        left: (2, 0, 20),
+    },
+    Row {
+        asked: Asked::Take,
+        ticks: 0,
+        mishaps: &[Mishap::Lost],
+        wanted: Wanted::Failed,
+        lands: (false, false),
+        left: (2, 15, 20),
+    },
+    Row {
+        asked: Asked::Take,
+        ticks: 0,
+        mishaps: &[Mishap::Hide],
+        wanted: Wanted::Held(10),
+        lands: (false, false),
+        left: (2, 0, 20),
+    },
+    Row {
+        asked: Asked::TakeHeld,
+        ticks: 0,
+        mishaps: &[Mishap::Plain, Mishap::Old, Mishap::Give],
+        wanted: Wanted::Held(20),
+        lands: (false, false),
+        left: (2, 0, 20),
+    },
+    Row {
+        asked: Asked::TakeHeld,
+        ticks: 0,
+        mishaps: &[Mishap::Fail, Mishap::Lost],
+        wanted: Wanted::Failed,
+        lands: (false, false),
+        left: (2, 0, 20),
+    },
+    Row {
+        asked: Asked::TakeHeld,
+        ticks: 0,
+        mishaps: &[Mishap::Hide],
+        wanted: Wanted::Held(10),
+        lands: (false, false),
+        left: (2, 0, 20),
+    },
+    Row {
+        asked: Asked::Renew,
+        ticks: 0,
+        mishaps: &[Mishap::Plain, Mishap::Hide, Mishap::Old, Mishap::Give],
+        wanted: Wanted::Renewed(40),
+        lands: (false, false),
+        left: (2, 0, 40),
+    },
+    Row {
+        asked: Asked::Renew,
+        ticks: 0,
+        mishaps: &[Mishap::Fail],
+        wanted: Wanted::Failed,
+        lands: (false, false),
+        left: (2, 0, 20),
+    },
+    Row {
+        asked: Asked::Renew,
+        ticks: 0,
+        mishaps: &[Mishap::Lost],
+        wanted: Wanted::Failed,
+        lands: (false, false),
+        left: (2, 0, 40),
+    },
+    Row {
+        asked: Asked::Renew,
+        ticks: 10,
+        mishaps: &[Mishap::Plain, Mishap::Lost, Mishap::Hide],
+        wanted: Wanted::Late(20, 20),
+        lands: (false, false),
+        left: (2, 0, 0),
+    },
+    Row {
+        asked: Asked::Renew,
+        ticks: 10,
+        mishaps: &[Mishap::Old, Mishap::Give],
+        wanted: Wanted::Late(20, 20),
+        lands: (false, false),
+        left: (2, 0, 0),
+    },
+    Row {
+        asked: Asked::Renew,
+        ticks: 10,
+        mishaps: &[Mishap::Fail],
+        wanted: Wanted::Failed,
+        lands: (false, false),
+        left: (2, 0, 0),
+    },
+    Row {
+        asked: Asked::Release,
+        ticks: 0,
+        mishaps: &[Mishap::Plain, Mishap::Hide, Mishap::Old, Mishap::Give],
+        wanted: Wanted::Done,
+        lands: (false, false),
+        left: (2, 0, 0),
+    },
+    Row {
+        asked: Asked::Release,
+        ticks: 0,
+        mishaps: &[Mishap::Fail],
+        wanted: Wanted::Failed,
+        lands: (false, false),
+        left: (2, 0, 20),
+    },
+    Row {
+        asked: Asked::Release,
+        ticks: 0,
+        mishaps: &[Mishap::Lost],
+        wanted: Wanted::Failed,
+        lands: (false, false),
+        left: (2, 0, 0),
+    },
+    Row {
+        asked: Asked::Release,
+        ticks: 10,
+        mishaps: &[Mishap::Plain, Mishap::Hide, Mishap::Old, Mishap::Give],
+        wanted: Wanted::Done,
+        lands: (false, false),
+        left: (2, 0, 0),
+    },
 ];
 
-#[test]
-fn obeys_wishes(rt: HostRuntime) -> Result<(), Fail> {
-    let alloc = rt.alloc();
-    let names = usual_names()?;
-    for (call, ticks, wishes, wanted, rest) in ROWS.iter() {
-        for word in wishes.split_whitespace() {
-            let (mut cloud, lease) = filled(alloc, &names)?;
-            cloud.wait(*ticks);
-            cloud.wish(wish(alloc, word)?);
-            let answer = made(&mut cloud, &names, lease, call);
-            let got = shown(alloc, &answer)?;
-            assert_eq!(rt; got.as_str(), *wanted, "{call} {word}");
-            let kept = left(alloc, &mut cloud, &names)?;
-            assert_eq!(rt; kept.as_str(), *rest, "{call} {word}");
+// Whether an object is put under a lease.
+fn is_put<C: Cloud>(cloud: &mut C, names: &Names, lease: &Lease, bytes: &[u8]) -> bool {
+    cloud
+        .put_held(names.who, names.object, bytes, lease, None)
+        .is_ok()
+}
+
+// Whether a message is sent.
+fn is_sent<C: Cloud>(cloud: &mut C, names: &Names, bytes: &[u8]) -> bool {
+    cloud.send(names.who, names.queue, bytes).is_ok()
+}
+
+// Whether three messages are sent and the first is deleted.
+fn are_sent<C: Cloud>(cloud: &mut C, names: &Names) -> bool {
+    match cloud.send(names.who, names.queue, b"m1") {
+        Ok(first) => {
+            is_sent(cloud, names, b"m2")
+                && is_sent(cloud, names, b"m3")
+                && cloud.delete(names.who, names.queue, first).is_ok()
+        }
+        Err(_) => false,
+    }
+}
+
+// Fills a cloud, and gives a lease of the tree: at moment 10 there are two versions of the object, three messages of which the
+// first is deleted, and the lease until 20.
+fn filled<C: Bench>(cloud: &mut C, names: &Names) -> Option<Lease> {
+    cloud.wait(10);
+    let lease = taken(cloud, names.who, names.tree, 10)?;
+    if is_put(cloud, names, &lease, b"a")
+        && is_put(cloud, names, &lease, b"b")
+        && are_sent(cloud, names)
+    {
+        Some(lease)
+    } else {
+        None
+    }
+}
+
+// The call that leaves every lease where it is.
+fn call<'a>(names: &Names, lease: &'a Lease, asked: Asked) -> Call<'a>
+    ensures { Lends (ask_of result) }
+{
+    match asked {
+        Asked::Get => Call::Get(names.object),
+        Asked::GetHeld => Call::GetHeld(names.object, lease),
+        Asked::PutHeld => Call::PutHeld(names.object, b"c", lease, None),
+        Asked::Send => Call::Send(names.queue, b"m4"),
+        Asked::Receive => Call::Receive(names.queue, 2),
+        Asked::Delete => Call::Delete(names.queue, MsgId::new(2)),
+        Asked::DeleteAgain => Call::Delete(names.queue, MsgId::new(1)),
+        Asked::DeleteNone => Call::Delete(names.queue, MsgId::new(9)),
+        Asked::Take => Call::Take(names.page, 5),
+        _ => Call::Take(names.tree, 5),
+    }
+}
+
+// Makes a call.
+fn made<C: Cloud>(cloud: &mut C, names: &Names, mut lease: Lease, asked: Asked) -> Answer {
+    match asked {
+        Asked::Renew => renew(cloud, names.who, &mut lease, 30),
+        Asked::Release => let_go(cloud, names.who, lease),
+        _ => perform(cloud, names.who, &call(names, &lease, asked)),
+    }
+}
+
+// Whether these bytes were got, none for no object.
+fn are_got(got: &Option<Blob>, wanted: Option<&[u8]>) -> bool {
+    match (got, wanted) {
+        (Some(got), Some(wanted)) => got.as_slice() == wanted,
+        (None, None) => true,
+        _ => false,
+    }
+}
+
+// Whether messages have these numbers, in their order.
+fn are_numbered(messages: &[Message], numbers: &[u64]) -> bool {
+    for (message, number) in messages.iter().zip(numbers) {
+        if message.id.get() != *number {
+            return false;
         }
     }
-    Ok(())
+    messages.len() == numbers.len()
+}
+
+// Whether this was answered.
+fn is_answered(answer: &Answer, wanted: Wanted) -> bool {
+    match (answer, wanted) {
+        (Answer::Got(got), Wanted::Got(bytes)) => are_got(got, Some(bytes)),
+        (Answer::Got(got), Wanted::Nothing) => are_got(got, None),
+        (Answer::Sent(id), Wanted::Sent(number)) => id.get() == number,
+        (Answer::Received(messages), Wanted::Received(numbers)) => {
+            are_numbered(messages.as_slice(), numbers)
+        }
+        (Answer::Done, Wanted::Done) => true,
+        (Answer::Given(lease), Wanted::Given(generation, end)) => {
+            lease.generation() == generation && lease.end() == end
+        }
+        (Answer::Held(until), Wanted::Held(moment)) => *until == moment,
+        (Answer::Renewed(end), Wanted::Renewed(moment)) => *end == moment,
+        (Answer::Late { end, now }, Wanted::Late(over, moment)) => {
+            *end == over && *now == moment
+        }
+        (Answer::Failed, Wanted::Failed) => true,
+        _ => false,
+    }
+}
+
+// Whether a third version landed, and whether a fourth message did.
+fn has_landed<C: Shown>(cloud: &C, names: &Names, lands: (bool, bool)) -> bool {
+    let (put, sent) = lands;
+    cloud.has_version(names.object, 3) == put && cloud.has_message(names.queue, 4) == sent
+}
+
+// Whether so many messages and locks up to these ends are left.
+fn is_left<C: Bench>(cloud: &mut C, names: &Names, left: (u64, u64, u64)) -> bool {
+    let (backlog, page, tree) = left;
+    cloud.backlog(names.queue).ok() == Some(backlog)
+        && ends_at(cloud, names.who, names.page, page)
+        && ends_at(cloud, names.who, names.tree, tree)
+}
+
+// Whether the call of a row answers and leaves what the row says, in a cloud that is filled.
+fn obeys<C: Shown>(
+    alloc: Global,
+    cloud: &mut C,
+    names: &Names,
+    lease: Lease,
+    row: &Row,
+    mishap: Mishap,
+) -> bool {
+    cloud.wait(row.ticks);
+    befall(alloc, cloud, mishap)
+        && is_answered(&made(cloud, names, lease, row.asked), row.wanted)
+        && has_landed(cloud, names, row.lands)
+        && is_left(cloud, names, row.left)
+}
+
+// Whether a cloud in memory does what a row says under a mishap.
+fn is_right(alloc: Global, names: &Names, row: &Row, mishap: Mishap) -> bool {
+    let mut cloud = MemoryCloud::new(alloc);
+    match filled(&mut cloud, names) {
+        Some(lease) => obeys(alloc, &mut cloud, names, lease, row, mishap),
+        None => false,
+    }
+}
+
+// Whether it does so under each of the row's.
+fn are_right(alloc: Global, names: &Names, row: &Row) -> bool {
+    for mishap in row.mishaps {
+        if !is_right(alloc, names, row, *mishap) {
+            return false;
+        }
+    }
+    true
+}
+
+#[test]
+fn obeys_wishes(rt: HostRuntime) {
+    let Some(names) = usual_names() else {
+        rt.panic("no names")
+    };
+    for row in &ROWS {
+        assert!(rt; are_right(rt.alloc(), &names, row));
+    }
 }

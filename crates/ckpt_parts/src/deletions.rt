@@ -5,11 +5,16 @@ use std::alloc::Global;
 use std::marker::Model;
 
 /// The messages that are still to be deleted, and how many deletions went and how many failed.
-#[derive(Drop)]
 pub struct Deletions {
     ids: Vec<MsgId>,
     deleted: usize,
     left: usize,
+}
+
+impl Drop for Deletions {
+    fn drop(self) {
+        let Deletions { ids: _, deleted: _, left: _ } = self;
+    }
 }
 
 impl Model for Deletions {

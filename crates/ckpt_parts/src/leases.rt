@@ -6,12 +6,17 @@ use cloud_trait::lease::Lease;
 pub const PAGE_TICKS: u64 = 30;
 
 /// The leases that a checkpoint holds: that of its page or tree, and one of a leaf that it took while it held the first.
-#[derive(Drop)]
 pub struct Leases {
     /// That of the page or tree of the checkpoint.
     pub first: Option<Lease>,
     /// That of the leaf at hand.
     pub second: Option<Lease>,
+}
+
+impl Drop for Leases {
+    fn drop(self) {
+        let Leases { first: _, second: _ } = self;
+    }
 }
 
 impl Leases {

@@ -7,7 +7,6 @@ ghost use Rattle.client_session.specs.Session.{CommitsNoted, StepsAt, StepsCommi
 
 use crate::answer::{Answer, Begun};
 use crate::left::{Left, Rest};
-use crate::work::lease_of;
 use cloud_trait::cloud::Cloud;
 use cloud_trait::turn::Turn;
 use cloud_trait::who::Who;
@@ -115,5 +114,5 @@ fn committed(answer: &CommitAnswer, machine: CommitRun) -> Rest
 fn broken(machine: CommitRun) -> Rest
     ensures { at_rest result ≡ work.Broken (home_of_run machine).lease }
 {
-    Rest::Broken(lease_of(machine.finish()))
+    Rest::Broken(machine.finish().into_lease())
 }

@@ -6,7 +6,7 @@ use crate::answer::{Answer, Begun};
 use crate::left::{Left, Rest};
 use crate::listing::{Listing, list_items};
 use crate::shown::Shown;
-use crate::work::{lease_of, stopped};
+use crate::work::stopped;
 use cloud_trait::cloud::Cloud;
 use cloud_trait::turn::Turn;
 use cloud_trait::who::Who;
@@ -100,7 +100,7 @@ fn list_leaf(
     let Listing { mut scan, pairs } = listing;
     let Some(pairs) = with_leaf(alloc, &home, &scan, pairs, cache, buffer) else {
         return (
-            Left::Rests(Rest::Broken(lease_of(home))),
+            Left::Rests(Rest::Broken(home.into_lease())),
             Shown::Nothing,
             Turn::Ended(Answer::Trouble(Trouble::Memory)),
         );

@@ -215,7 +215,7 @@ impl Hand for Work {
                 (Work::Opening(opening), Shown::Nothing, Begun::Working)
             }
             Op::Close => {
-                let lease = lease_of(self.into_home());
+                let lease = self.into_home().into_lease();
                 (Work::Closing(lease), Shown::Nothing, Begun::Working)
             }
             Op::Renew => (
@@ -419,14 +419,8 @@ pub(crate) fn stopped(trouble: &Trouble, home: Home) -> Rest
     ensures { at_rest result ≡ stopped_work trouble.now home }
 {
     match trouble {
-        Trouble::Memory => Rest::Broken(lease_of(home)),
+        Trouble::Memory => Rest::Broken(home.into_lease()),
         _ => Rest::Idle(home),
     }
 }
 
-/// The lease of a home; the rest of it is let go.
-pub(crate) fn lease_of(home: Home) -> Lease
-    ensures { result ≡ home.lease }
-{
-    home.lease
-}

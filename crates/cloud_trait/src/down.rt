@@ -20,7 +20,7 @@ use std::mem;
 
 /// A cloud that is down: each service call and each look fails, and nothing ever lands. It tells all that is seen of
 /// it, its answers too.
-#[derive(Debug, Drop)]
+#[derive(Debug)]
 pub struct DownCloud {
     clock: u64,
     waits: u64,
@@ -29,6 +29,12 @@ pub struct DownCloud {
     faults: u64,
     dark: u64,
     heard: Option<CloudFault>,
+}
+
+impl Drop for DownCloud {
+    fn drop(self) {
+        let DownCloud { clock: _, waits: _, wish: _, last: _, faults: _, dark: _, heard: _ } = self;
+    }
 }
 
 impl DownCloud {

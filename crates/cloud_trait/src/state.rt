@@ -3,7 +3,7 @@ use db_base::blob::Blob;
 use db_base::names::{ObjName, QueueName};
 
 /// A landed version of an object.
-#[derive(Debug, Drop)]
+#[derive(Debug)]
 pub struct Version {
     /// Who put it.
     pub who: Who,
@@ -11,8 +11,14 @@ pub struct Version {
     pub bytes: Blob,
 }
 
+impl Drop for Version {
+    fn drop(self) {
+        let Version { who: _, bytes: _ } = self;
+    }
+}
+
 /// A message that was sent to a queue.
-#[derive(Debug, Drop)]
+#[derive(Debug)]
 pub struct Posted {
     /// Who sent it.
     pub who: Who,
@@ -20,6 +26,12 @@ pub struct Posted {
     pub bytes: Blob,
     /// Whether it was deleted.
     pub deleted: bool,
+}
+
+impl Drop for Posted {
+    fn drop(self) {
+        let Posted { who: _, bytes: _, deleted: _ } = self;
+    }
 }
 
 /// How a lock stands.

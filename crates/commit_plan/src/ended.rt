@@ -10,12 +10,18 @@ use std::alloc::{AllocError, Global};
 use std::marker::Model;
 
 /// A leaf at which a walk ended, with the range of the version that the walk was served.
-#[derive(Debug, Drop)]
+#[derive(Debug)]
 pub struct EndedLeaf {
     tree: TreeId,
     page: PageId,
     low: Blob,
     high: Option<Blob>,
+}
+
+impl Drop for EndedLeaf {
+    fn drop(self) {
+        let EndedLeaf { tree: _, page: _, low: _, high: _ } = self;
+    }
 }
 
 impl Model for EndedLeaf {

@@ -21,9 +21,14 @@ pub enum Stage {
 }
 
 /// What the put that commits changes in a head.
-#[derive(Drop)]
 pub(crate) struct Saved {
     pub(crate) txn: u64,
     pub(crate) phase: Phase,
     pub(crate) counters: Vec<QueueCount>,
+}
+
+impl Drop for Saved {
+    fn drop(self) {
+        let Saved { txn: _, phase: _, counters: _ } = self;
+    }
 }

@@ -34,7 +34,6 @@ use txn_buffer::buffer::TxnBuffer;
 
 /// A client's home and changes with what their commit writes: the records go to the client's ATOMIC queue, the head is put open, the records go to
 /// their pending update queues, the head is put settled, and the ATOMIC messages are deleted.
-#[derive(Drop)]
 pub struct CommitWrites {
     home: Home,
     before: Saved,
@@ -44,6 +43,21 @@ pub struct CommitWrites {
     place: usize,
     ids: Vec<MsgId>,
     out: Blob,
+}
+
+impl Drop for CommitWrites {
+    fn drop(self) {
+        let CommitWrites {
+            home: _,
+            before: _,
+            changes: _,
+            stage: _,
+            records: _,
+            place: _,
+            ids: _,
+            out: _,
+        } = self;
+    }
 }
 
 impl Model for CommitWrites {
@@ -97,7 +111,17 @@ impl CommitWrites {
     pub fn finish(self) -> Home
         ensures { result ≡ self.home }
     {
-        self.home
+        let CommitWrites {
+            home,
+            before: _,
+            changes: _,
+            stage: _,
+            records: _,
+            place: _,
+            ids: _,
+            out: _,
+        } = self;
+        home
     }
 
     /// The changes that it commits.

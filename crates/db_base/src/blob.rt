@@ -5,9 +5,15 @@ use std::alloc::{AllocError, Global};
 use std::marker::Model;
 
 /// Bytes that are owned, seen as the list of them.
-#[derive(Debug, Drop)]
+#[derive(Debug)]
 pub struct Blob {
     bytes: Vec<u8>,
+}
+
+impl Drop for Blob {
+    fn drop(self) {
+        let Blob { bytes: _ } = self;
+    }
 }
 
 impl Model for Blob {

@@ -6,7 +6,7 @@ use crate::key::{Key, Payload};
 use std::alloc::{AllocError, Global};
 
 /// A change of one record. Changes are blind: they do not depend on a read.
-#[derive(Debug, Drop)]
+#[derive(Debug)]
 pub enum Change {
     /// Sets the payload, whether or not the key is there.
     Insert { key: Key, payload: Payload },
@@ -14,6 +14,16 @@ pub enum Change {
     Update { key: Key, payload: Payload },
     /// Removes the record where it is there.
     Delete { key: Key },
+}
+
+impl Drop for Change {
+    fn drop(self) {
+        match self {
+            Change::Insert { key: _, payload: _ } => {}
+            Change::Update { key: _, payload: _ } => {}
+            Change::Delete { key: _ } => {}
+        }
+    }
 }
 
 impl Change {

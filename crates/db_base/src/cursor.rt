@@ -10,9 +10,15 @@ use std::collections::BTreeMap;
 use std::marker::Model;
 
 /// For each client the number up to which its records of a queue are applied: pairs of client and number, ascending by client.
-#[derive(Debug, Drop)]
+#[derive(Debug)]
 pub struct Cursor {
     numbers: BTreeMap<u64, u64>,
+}
+
+impl Drop for Cursor {
+    fn drop(self) {
+        let Cursor { numbers: _ } = self;
+    }
 }
 
 impl Model for Cursor {

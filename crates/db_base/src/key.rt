@@ -12,9 +12,15 @@ pub const MAX_KEY: usize = 64;
 pub const MAX_PAYLOAD: usize = 1024;
 
 /// The key of a record: 1 to 64 bytes, ordered as bytes.
-#[derive(Debug, Drop)]
+#[derive(Debug)]
 pub struct Key {
     bytes: Vec<u8>,
+}
+
+impl Drop for Key {
+    fn drop(self) {
+        let Key { bytes: _ } = self;
+    }
 }
 
 impl Model for Key {
@@ -67,9 +73,15 @@ impl Key {
 }
 
 /// The payload of a record: 0 to 1,024 bytes.
-#[derive(Debug, Drop)]
+#[derive(Debug)]
 pub struct Payload {
     bytes: Vec<u8>,
+}
+
+impl Drop for Payload {
+    fn drop(self) {
+        let Payload { bytes: _ } = self;
+    }
 }
 
 impl Model for Payload {

@@ -1,12 +1,18 @@
 use crate::blob::Blob;
 
 /// A key and a payload.
-#[derive(Debug, Drop)]
+#[derive(Debug)]
 pub struct Pair {
     /// The key.
     pub key: Blob,
     /// The payload.
     pub payload: Blob,
+}
+
+impl Drop for Pair {
+    fn drop(self) {
+        let Pair { key: _, payload: _ } = self;
+    }
 }
 
 /// Why a page could not be edited.

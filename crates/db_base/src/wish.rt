@@ -9,9 +9,15 @@ use std::marker::Model;
 pub const MAX_POSITIONS: usize = 256;
 
 /// The positions of messages of a queue, 1 to 256 of them. They have no range.
-#[derive(Debug, Drop)]
+#[derive(Debug)]
 pub struct Positions {
     list: Vec<u64>,
+}
+
+impl Drop for Positions {
+    fn drop(self) {
+        let Positions { list: _ } = self;
+    }
 }
 
 impl Model for Positions {
@@ -51,7 +57,7 @@ impl Positions {
 }
 
 /// What a schedule wishes of the next service call. One that does not fit the call is Plain.
-#[derive(Debug, Drop)]
+#[derive(Debug)]
 pub enum Wish {
     /// The call as it should be.
     Plain,
@@ -65,4 +71,17 @@ pub enum Wish {
     Old(u64),
     /// A receive of the messages at these positions.
     Give(Positions),
+}
+
+impl Drop for Wish {
+    fn drop(self) {
+        match self {
+            Wish::Plain => {}
+            Wish::Fail => {}
+            Wish::Lost => {}
+            Wish::Hide => {}
+            Wish::Old(_) => {}
+            Wish::Give(_) => {}
+        }
+    }
 }

@@ -8,12 +8,18 @@ use std::alloc::Global;
 use std::marker::Model;
 
 /// A sink in memory, which fails at the calls that it is told and then takes nothing.
-#[derive(Debug, Drop)]
+#[derive(Debug)]
 pub struct MemorySink {
     written: Vec<u8>,
     failing: Vec<u64>,
     calls: u64,
     faults: u64,
+}
+
+impl Drop for MemorySink {
+    fn drop(self) {
+        let MemorySink { written: _, failing: _, calls: _, faults: _ } = self;
+    }
 }
 
 impl Model for MemorySink {

@@ -9,13 +9,19 @@ use std::alloc::Global;
 use std::marker::Model;
 
 /// A source over bytes in memory, which fails at the calls that it is told.
-#[derive(Debug, Drop)]
+#[derive(Debug)]
 pub struct MemorySource {
     bytes: Vec<u8>,
     at: usize,
     failing: Vec<u64>,
     calls: u64,
     faults: u64,
+}
+
+impl Drop for MemorySource {
+    fn drop(self) {
+        let MemorySource { bytes: _, at: _, failing: _, calls: _, faults: _ } = self;
+    }
 }
 
 impl Model for MemorySource {

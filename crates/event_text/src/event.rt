@@ -2,7 +2,6 @@ use db_base::blob::Blob;
 use db_base::wish::Wish;
 
 /// What a line of a schedule says, before any check of range. Sessions, clients, trees and pages are as they were written.
-#[derive(Drop)]
 pub enum Event {
     /// Begins opening a session for a client.
     Open {
@@ -93,4 +92,29 @@ pub enum Event {
     },
     /// Makes a whole settling.
     Settle,
+}
+
+impl Drop for Event {
+    fn drop(self) {
+        match self {
+            Event::Open { session: _, client: _ } => {}
+            Event::Close { session: _ } => {}
+            Event::Renew { session: _ } => {}
+            Event::Insert { session: _, tree: _, key: _, payload: _ } => {}
+            Event::Update { session: _, tree: _, key: _, payload: _ } => {}
+            Event::Delete { session: _, tree: _, key: _ } => {}
+            Event::Commit { session: _ } => {}
+            Event::Abort { session: _ } => {}
+            Event::Read { session: _, tree: _, key: _ } => {}
+            Event::Scan { session: _, tree: _, from: _, to: _ } => {}
+            Event::Page { session: _, tree: _, page: _ } => {}
+            Event::Tree { session: _, tree: _ } => {}
+            Event::Step { session: _, wish: _ } => {}
+            Event::Run { session: _ } => {}
+            Event::Crash { session: _, done: _ } => {}
+            Event::Wait { ticks: _ } => {}
+            Event::Report { tree: _ } => {}
+            Event::Settle => {}
+        }
+    }
 }

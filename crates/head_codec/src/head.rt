@@ -14,7 +14,7 @@ pub enum Phase {
 }
 
 /// The head of a client.
-#[derive(Debug, Drop)]
+#[derive(Debug)]
 pub struct Head {
     /// The epoch: each opening raises it by one. An absent head has 0.
     pub epoch: u64,
@@ -26,6 +26,12 @@ pub struct Head {
     pub counters: CounterList,
     /// The client's records that it does not know applied.
     pub pending: PendingList,
+}
+
+impl Drop for Head {
+    fn drop(self) {
+        let Head { epoch: _, txn: _, phase: _, counters: _, pending: _ } = self;
+    }
 }
 
 /// Why a head was refused.

@@ -14,7 +14,7 @@ pub struct QueueCount {
 }
 
 /// A committed record that its client does not know applied.
-#[derive(Debug, Drop)]
+#[derive(Debug)]
 pub struct Pending {
     /// The tree of the record's queue.
     pub tree: TreeId,
@@ -24,6 +24,12 @@ pub struct Pending {
     pub number: u64,
     /// What it changes.
     pub change: Change,
+}
+
+impl Drop for Pending {
+    fn drop(self) {
+        let Pending { tree: _, page: _, number: _, change: _ } = self;
+    }
 }
 
 /// The counters of a head, ascending by tree and page.

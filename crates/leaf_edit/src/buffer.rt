@@ -7,9 +7,14 @@ use std::alloc::Global;
 use std::marker::Model;
 
 /// A leaf that owns the bytes that spell it.
-#[derive(Drop)]
 pub struct LeafBuf {
     bytes: Vec<u8>,
+}
+
+impl Drop for LeafBuf {
+    fn drop(self) {
+        let LeafBuf { bytes: _ } = self;
+    }
 }
 
 impl Model for LeafBuf {
@@ -79,6 +84,7 @@ impl LeafBuf {
     pub fn into_blob(self) -> Blob
         ensures { IsLeaf result self }
     {
-        Blob::of(self.bytes)
+        let LeafBuf { bytes } = self;
+        Blob::of(bytes)
     }
 }

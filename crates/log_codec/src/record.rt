@@ -6,7 +6,7 @@ use db_base::ids::{ClientId, MsgId, TreeId};
 use std::alloc::{AllocError, Global};
 
 /// A record of a commit as it stands in the ATOMIC queue of its client.
-#[derive(Debug, Drop)]
+#[derive(Debug)]
 pub struct AtomicRec {
     /// Whose commit it is.
     pub client: ClientId,
@@ -28,8 +28,24 @@ pub struct AtomicRec {
     pub change: Change,
 }
 
+impl Drop for AtomicRec {
+    fn drop(self) {
+        let AtomicRec {
+            client: _,
+            epoch: _,
+            txn: _,
+            index: _,
+            count: _,
+            tree: _,
+            page: _,
+            number: _,
+            change: _,
+        } = self;
+    }
+}
+
 /// A record of a commit as it stands in a pending update queue.
-#[derive(Debug, Drop)]
+#[derive(Debug)]
 pub struct PuRec {
     /// Whose commit it is.
     pub client: ClientId,
@@ -43,13 +59,25 @@ pub struct PuRec {
     pub change: Change,
 }
 
+impl Drop for PuRec {
+    fn drop(self) {
+        let PuRec { client: _, epoch: _, txn: _, number: _, change: _ } = self;
+    }
+}
+
 /// A pending update record as it was received.
-#[derive(Debug, Drop)]
+#[derive(Debug)]
 pub struct PuItem {
     /// The message.
     pub id: MsgId,
     /// Its record.
     pub rec: PuRec,
+}
+
+impl Drop for PuItem {
+    fn drop(self) {
+        let PuItem { id: _, rec: _ } = self;
+    }
 }
 
 impl PuRec {

@@ -13,11 +13,16 @@ use std::alloc::Global;
 use std::mem;
 
 /// A cloud in memory. It tells its state, and obeys the wishes that are set.
-#[derive(Drop)]
 pub struct MemoryCloud {
     pub(crate) store: Store,
     calls: u64,
     failing: Vec<u64>,
+}
+
+impl Drop for MemoryCloud {
+    fn drop(self) {
+        let MemoryCloud { store: _, calls: _, failing: _ } = self;
+    }
 }
 
 impl MemoryCloud {

@@ -25,7 +25,6 @@ pub struct Last {
 }
 
 /// What a cloud in memory holds: all that it tells of itself.
-#[derive(Drop)]
 pub struct Store {
     pub alloc: Global,
     pub objects: Objects,
@@ -39,6 +38,25 @@ pub struct Store {
     pub faults: u64,
     pub withheld: u64,
     pub stale: u64,
+}
+
+impl Drop for Store {
+    fn drop(self) {
+        let Store {
+            alloc: _,
+            objects: _,
+            queues: _,
+            locks: _,
+            trace: _,
+            clock: _,
+            waits: _,
+            wish: _,
+            last: _,
+            faults: _,
+            withheld: _,
+            stale: _,
+        } = self;
+    }
 }
 
 impl Store {

@@ -18,7 +18,6 @@ use std::alloc::{AllocError, Global};
 use std::marker::Model;
 
 /// An inner node that is edited and then written.
-#[derive(Drop)]
 pub struct InnerBuf {
     alloc: Global,
     version: u64,
@@ -28,6 +27,20 @@ pub struct InnerBuf {
     high: Option<Blob>,
     // The list of entries.
     entries: Vec<u8>,
+}
+
+impl Drop for InnerBuf {
+    fn drop(self) {
+        let InnerBuf {
+            alloc: _,
+            version: _,
+            level: _,
+            low: _,
+            right: _,
+            high: _,
+            entries: _,
+        } = self;
+    }
 }
 
 impl Model for InnerBuf {

@@ -18,7 +18,6 @@ use std::alloc::{AllocError, Global};
 use std::marker::Model;
 
 /// The root of a tree that is edited and then written.
-#[derive(Drop)]
 pub struct TreeBuf {
     alloc: Global,
     version: u64,
@@ -28,6 +27,12 @@ pub struct TreeBuf {
     cursor: Vec<u8>,
     // The list of entries.
     entries: Vec<u8>,
+}
+
+impl Drop for TreeBuf {
+    fn drop(self) {
+        let TreeBuf { alloc: _, version: _, next: _, level: _, cursor: _, entries: _ } = self;
+    }
 }
 
 impl Model for TreeBuf {

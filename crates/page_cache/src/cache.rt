@@ -22,10 +22,15 @@ use std::marker::Model;
 
 /// The objects that a session keeps, at most 64, the newest accepted first; and apart from them the greatest
 /// version served of every leaf, also of one that is no longer kept.
-#[derive(Drop)]
 pub struct PageCache {
     objects: Objects,
     versions: Versions,
+}
+
+impl Drop for PageCache {
+    fn drop(self) {
+        let PageCache { objects: _, versions: _ } = self;
+    }
 }
 
 impl Model for PageCache {

@@ -17,9 +17,14 @@ use std::num::NonZeroUsize;
 pub const MOST_OBJECTS: usize = 64;
 
 /// The objects that are kept, the newest first, each with its bytes or as absent.
-#[derive(Drop)]
 pub(crate) struct Objects {
     kept: LruCache<ObjName, Option<Blob>>,
+}
+
+impl Drop for Objects {
+    fn drop(self) {
+        let Objects { kept: _ } = self;
+    }
 }
 
 impl Model for Objects {

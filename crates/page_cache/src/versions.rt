@@ -9,9 +9,14 @@ use indexmap::IndexMap;
 use std::alloc::Global;
 
 /// The greatest version served of each leaf, in the order of first service.
-#[derive(Drop)]
 pub(crate) struct Versions {
     served: IndexMap<ObjName, u64>,
+}
+
+impl Drop for Versions {
+    fn drop(self) {
+        let Versions { served: _ } = self;
+    }
 }
 
 impl Versions {

@@ -11,12 +11,17 @@ use log_codec::record::PuItem;
 use std::alloc::{AllocError, Global};
 
 /// A link to a right page, with the low key that it promises (Lehman and Yao, 1981).
-#[derive(Drop)]
 pub struct Link {
     /// The page.
     pub page: PageId,
     /// The low key of the page: the high key of the page on its left.
     pub low: Blob,
+}
+
+impl Drop for Link {
+    fn drop(self) {
+        let Link { page: _, low: _ } = self;
+    }
 }
 
 /// Whether items have keys not below this one.

@@ -24,9 +24,14 @@ use tree_walk::Walk;
 use txn_buffer::buffer::TxnBuffer;
 
 /// A read of one record: a walk to its key.
-#[derive(Drop)]
 pub struct RecordRead {
     walk: Walk,
+}
+
+impl Drop for RecordRead {
+    fn drop(self) {
+        let RecordRead { walk: _ } = self;
+    }
 }
 
 impl Model for RecordRead {

@@ -12,12 +12,17 @@ use std::collections::VecDeque;
 use std::marker::Model;
 
 /// What a recovery gathered of the records of an open head.
-#[derive(Drop)]
 pub(crate) struct Gathering {
     kept: Kept,
     seen: IdSet,
     fresh: bool,
     lost: IdSet,
+}
+
+impl Drop for Gathering {
+    fn drop(self) {
+        let Gathering { kept: _, seen: _, fresh: _, lost: _ } = self;
+    }
 }
 
 impl Model for Gathering {

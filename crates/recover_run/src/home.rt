@@ -4,7 +4,7 @@ use head_codec::head::Head;
 use std::marker::Model;
 
 /// What an open session of a client has in hand. Its head has a spelling.
-#[derive(Debug, Drop)]
+#[derive(Debug)]
 pub struct Home {
     /// The client.
     pub client: ClientId,
@@ -14,6 +14,27 @@ pub struct Home {
     pub head: Head,
     /// The last transaction number of the epoch that a commit took, 0 where none did.
     pub attempt: u64,
+}
+
+impl Drop for Home {
+    fn drop(self) {
+        let Home { client: _, lease: _, head: _, attempt: _ } = self;
+    }
+}
+
+impl Home {
+    /// The lease; the rest is let go.
+    pub fn into_lease(self) -> Lease
+        ensures { result ≡ self.lease }
+    {
+        let Home {
+            client: _,
+            lease,
+            head: _,
+            attempt: _,
+        } = self;
+        lease
+    }
 }
 
 impl Model for Home {

@@ -7,9 +7,14 @@ use std::collections::VecDeque;
 use std::marker::Model;
 
 /// A set of message ids, in the order in which they were added. Seen as the list of them.
-#[derive(Drop)]
 pub(crate) struct IdSet {
     ids: Vec<MsgId>,
+}
+
+impl Drop for IdSet {
+    fn drop(self) {
+        let IdSet { ids: _ } = self;
+    }
 }
 
 impl Model for IdSet {

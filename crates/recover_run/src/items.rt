@@ -12,12 +12,17 @@ use log_codec::record::AtomicRec;
 use std::alloc::{AllocError, Global};
 
 /// An ATOMIC record as it was received.
-#[derive(Drop)]
 pub struct AtomicItem {
     /// The message.
     pub id: MsgId,
     /// Its record.
     pub rec: AtomicRec,
+}
+
+impl Drop for AtomicItem {
+    fn drop(self) {
+        let AtomicItem { id: _, rec: _ } = self;
+    }
 }
 
 /// Why received messages are no records.

@@ -11,9 +11,14 @@ use std::collections::VecDeque;
 use std::marker::Model;
 
 /// The records of one transaction that were kept, in order of index, one of each. Seen as the list of them.
-#[derive(Drop)]
 pub(crate) struct Kept {
     items: Vec<AtomicItem>,
+}
+
+impl Drop for Kept {
+    fn drop(self) {
+        let Kept { items: _ } = self;
+    }
 }
 
 impl Model for Kept {

@@ -2,7 +2,6 @@ use db_base::change::Change;
 use db_base::ids::{ClientId, TreeId};
 
 /// A change that a transaction committed, or that was applied to a page.
-#[derive(Drop)]
 pub struct Entry {
     /// The client that committed it.
     pub client: ClientId,
@@ -14,4 +13,10 @@ pub struct Entry {
     pub tree: TreeId,
     /// The change.
     pub change: Change,
+}
+
+impl Drop for Entry {
+    fn drop(self) {
+        let Entry { client: _, epoch: _, txn: _, tree: _, change: _ } = self;
+    }
 }

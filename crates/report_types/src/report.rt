@@ -3,7 +3,6 @@ use crate::pair_list::PairList;
 use db_base::ids::TreeId;
 
 /// What is committed, applied and left in a tree.
-#[derive(Drop)]
 pub struct Report {
     /// The tree.
     pub tree: TreeId,
@@ -17,4 +16,10 @@ pub struct Report {
     pub heads: u64,
     /// How many messages of its queues are not deleted.
     pub messages: u64,
+}
+
+impl Drop for Report {
+    fn drop(self) {
+        let Report { tree: _, committed: _, order: _, contents: _, heads: _, messages: _ } = self;
+    }
 }

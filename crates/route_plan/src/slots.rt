@@ -12,12 +12,17 @@ use std::alloc::{AllocError, Global};
 const SLOTS: usize = 4096;
 
 /// A hash table of the keys of pending entries, whose chains lead from newer entries to older ones.
-#[derive(Drop)]
 pub(crate) struct SlotTable {
     // By slot: how many entries there are up to the newest one of the slot.
     newest: Vec<usize>,
     // By entry: how many there are up to the one before it of its slot.
     before: Vec<usize>,
+}
+
+impl Drop for SlotTable {
+    fn drop(self) {
+        let SlotTable { newest: _, before: _ } = self;
+    }
 }
 
 /// The slot of a key.

@@ -29,10 +29,16 @@ impl<T: Drop> From<AllocFailed<T>> for RunFault {
 
 /// The records of a queue that are applied next, for each client the longest list of consecutive numbers
 /// behind the cursor, in the order in which they are applied: by key, then client, then number.
-#[derive(Debug, Drop)]
+#[derive(Debug)]
 pub struct Run {
     items: Vec<PuItem>,
     top: Cursor,
+}
+
+impl Drop for Run {
+    fn drop(self) {
+        let Run { items: _, top: _ } = self;
+    }
 }
 
 impl Model for Run {

@@ -5,7 +5,6 @@ use db_base::ids::TreeId;
 use run_cursor::run::Run;
 
 /// What a tree checkpoint knows and has found so far.
-#[derive(Drop)]
 pub struct Chart {
     /// The tree.
     pub tree: TreeId,
@@ -23,4 +22,19 @@ pub struct Chart {
     pub links: LinkList,
     /// How many records were applied.
     pub applied: u64,
+}
+
+impl Drop for Chart {
+    fn drop(self) {
+        let Chart {
+            tree: _,
+            root: _,
+            run: _,
+            from: _,
+            key: _,
+            nodes: _,
+            links: _,
+            applied: _,
+        } = self;
+    }
 }

@@ -4,7 +4,6 @@ use std::alloc::{AllocError, Global};
 use std::marker::Model;
 
 /// An inner node that was got: where it stands, and its bytes.
-#[derive(Drop)]
 pub struct KeptNode {
     /// Its page.
     pub page: PageId,
@@ -16,10 +15,21 @@ pub struct KeptNode {
     pub bytes: Blob,
 }
 
+impl Drop for KeptNode {
+    fn drop(self) {
+        let KeptNode { page: _, level: _, low: _, bytes: _ } = self;
+    }
+}
+
 /// Inner nodes that were got, by level and then by low key. Seen as the list of them.
-#[derive(Drop)]
 pub struct KeptList {
     nodes: Vec<KeptNode>,
+}
+
+impl Drop for KeptList {
+    fn drop(self) {
+        let KeptList { nodes: _ } = self;
+    }
 }
 
 impl Model for KeptList {

@@ -8,7 +8,6 @@ use split_plan::entry_list::NewEntry;
 use std::alloc::{AllocError, Global};
 
 /// A page that the level above is to name.
-#[derive(Drop)]
 pub struct Link {
     /// The level that names it, 1 for a leaf.
     pub level: u64,
@@ -16,6 +15,12 @@ pub struct Link {
     pub low: Blob,
     /// The page.
     pub page: PageId,
+}
+
+impl Drop for Link {
+    fn drop(self) {
+        let Link { level: _, low: _, page: _ } = self;
+    }
 }
 
 /// Links in the order in which they were found.

@@ -3,9 +3,14 @@ use std::alloc::{AllocError, Global};
 use std::marker::Model;
 
 /// Pages in the order in which they were come to, seen as the list of their numbers.
-#[derive(Drop)]
 pub struct PageList {
     pages: Vec<PageId>,
+}
+
+impl Drop for PageList {
+    fn drop(self) {
+        let PageList { pages: _ } = self;
+    }
 }
 
 impl Model for PageList {

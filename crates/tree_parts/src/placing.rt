@@ -4,9 +4,14 @@ use std::alloc::Global;
 use std::marker::Model;
 
 /// Pages that are to be put, in this order. Seen as the list of the puts.
-#[derive(Drop)]
 pub struct PutQueue {
     puts: Vec<PagePut>,
+}
+
+impl Drop for PutQueue {
+    fn drop(self) {
+        let PutQueue { puts: _ } = self;
+    }
 }
 
 impl Model for PutQueue {
@@ -65,12 +70,17 @@ impl PutQueue {
 }
 
 /// What is to be put: first the tree object that reserves the numbers of new pages, where there are such, then pages.
-#[derive(Drop)]
 pub struct Placing {
     /// The tree object with the reservation.
     pub reserved: Option<Blob>,
     /// The pages, the rightmost first.
     pub puts: PutQueue,
+}
+
+impl Drop for Placing {
+    fn drop(self) {
+        let Placing { reserved: _, puts: _ } = self;
+    }
 }
 
 ghost use Rattle.std.specs.Prelude.{◌≡◌, [], None};

@@ -3,7 +3,7 @@ use db_base::ids::PageId;
 use std::marker::Model;
 
 /// A page that a link led to.
-#[derive(Debug, Drop)]
+#[derive(Debug)]
 pub struct Spot {
     /// The page.
     pub page: PageId,
@@ -11,6 +11,12 @@ pub struct Spot {
     pub level: u8,
     /// The low key that the link promised.
     pub low: Blob,
+}
+
+impl Drop for Spot {
+    fn drop(self) {
+        let Spot { page: _, level: _, low: _ } = self;
+    }
 }
 
 impl Model for Spot {

@@ -36,7 +36,6 @@ const LEVEL_OFFSET: u64 = 10;
 
 /// A walk down a B-link tree (Lehman and Yao, 1981) to the leaf whose range holds a key, or without a key to the leaf at the
 /// tree's left end. The tree object and inner nodes are taken from the cache where it keeps them; leaves are always got.
-#[derive(Drop)]
 pub struct Walk {
     tree: TreeId,
     key: Option<Key>,
@@ -47,6 +46,21 @@ pub struct Walk {
     leaves: Vec<PageId>,
     turned: bool,
     used: Option<ObjName>,
+}
+
+impl Drop for Walk {
+    fn drop(self) {
+        let Walk {
+            tree: _,
+            key: _,
+            fresh: _,
+            spot: _,
+            nodes: _,
+            leaves: _,
+            turned: _,
+            used: _,
+        } = self;
+    }
 }
 
 impl Model for Walk {

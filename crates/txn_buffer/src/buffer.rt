@@ -17,10 +17,15 @@ use std::mem;
 pub const MAX_CHANGES: usize = 200;
 
 /// The changes of a transaction, one net change for each tree and key, in the order of first noting.
-#[derive(Drop)]
 pub struct TxnBuffer {
     changes: IndexMap<NotedKey, Change>,
     alloc: Global,
+}
+
+impl Drop for TxnBuffer {
+    fn drop(self) {
+        let TxnBuffer { changes: _, alloc: _ } = self;
+    }
 }
 
 impl Model for TxnBuffer {

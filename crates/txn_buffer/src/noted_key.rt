@@ -7,10 +7,16 @@ use db_base::ids::TreeId;
 use db_base::key::MAX_KEY;
 
 /// A tree and a key of it, which lie in the value itself, so that a change is looked up without memory.
-#[derive(Drop, PartialEq, Eq, Hash)]
+#[derive(PartialEq, Eq, Hash)]
 pub struct NotedKey {
     pub tree: TreeId,
     pub key: ArrayVec<u8, MAX_KEY>,
+}
+
+impl Drop for NotedKey {
+    fn drop(self) {
+        let NotedKey { tree: _, key: _ } = self;
+    }
 }
 
 impl NotedKey {

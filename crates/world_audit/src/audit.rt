@@ -26,10 +26,15 @@ use std::marker::Model;
 use txn_buffer::buffer::TxnBuffer;
 
 /// What was seen to commit, in the order of commit, and to be applied, in the order of application.
-#[derive(Drop)]
 pub struct Audit {
     committed: EntryLog,
     order: EntryLog,
+}
+
+impl Drop for Audit {
+    fn drop(self) {
+        let Audit { committed: _, order: _ } = self;
+    }
 }
 
 impl Model for Audit {

@@ -17,12 +17,18 @@ use session_calls::SessionCalls;
 use std::alloc::{AllocError, Global};
 
 /// A put: its object, and a copy of its bytes.
-#[derive(Debug, Drop)]
+#[derive(Debug)]
 pub(crate) struct Put {
     /// The object.
     pub name: ObjName,
     /// The bytes.
     pub bytes: Blob,
+}
+
+impl Drop for Put {
+    fn drop(self) {
+        let Put { name: _, bytes: _ } = self;
+    }
 }
 
 /// The call, where it is a put.

@@ -13,7 +13,11 @@ pub struct Deletions {
 
 impl Drop for Deletions {
     fn drop(self) {
-        let Deletions { ids: _, deleted: _, left: _ } = self;
+        let Deletions {
+            ids: _,
+            deleted: _,
+            left: _,
+        } = self;
     }
 }
 

@@ -15,7 +15,10 @@ pub struct Leases {
 
 impl Drop for Leases {
     fn drop(self) {
-        let Leases { first: _, second: _ } = self;
+        let Leases {
+            first: _,
+            second: _,
+        } = self;
     }
 }
 

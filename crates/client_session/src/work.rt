@@ -423,4 +423,3 @@ pub(crate) fn stopped(trouble: &Trouble, home: Home) -> Rest
         _ => Rest::Idle(home),
     }
 }
-

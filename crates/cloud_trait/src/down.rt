@@ -33,7 +33,15 @@ pub struct DownCloud {
 
 impl Drop for DownCloud {
     fn drop(self) {
-        let DownCloud { clock: _, waits: _, wish: _, last: _, faults: _, dark: _, heard: _ } = self;
+        let DownCloud {
+            clock: _,
+            waits: _,
+            wish: _,
+            last: _,
+            faults: _,
+            dark: _,
+            heard: _,
+        } = self;
     }
 }
 

@@ -30,7 +30,11 @@ pub struct Posted {
 
 impl Drop for Posted {
     fn drop(self) {
-        let Posted { who: _, bytes: _, deleted: _ } = self;
+        let Posted {
+            who: _,
+            bytes: _,
+            deleted: _,
+        } = self;
     }
 }
 

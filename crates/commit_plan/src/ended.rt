@@ -20,7 +20,12 @@ pub struct EndedLeaf {
 
 impl Drop for EndedLeaf {
     fn drop(self) {
-        let EndedLeaf { tree: _, page: _, low: _, high: _ } = self;
+        let EndedLeaf {
+            tree: _,
+            page: _,
+            low: _,
+            high: _,
+        } = self;
     }
 }
 

@@ -29,6 +29,10 @@ pub(crate) struct Saved {
 
 impl Drop for Saved {
     fn drop(self) {
-        let Saved { txn: _, phase: _, counters: _ } = self;
+        let Saved {
+            txn: _,
+            phase: _,
+            counters: _,
+        } = self;
     }
 }

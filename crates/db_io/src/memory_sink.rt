@@ -18,7 +18,12 @@ pub struct MemorySink {
 
 impl Drop for MemorySink {
     fn drop(self) {
-        let MemorySink { written: _, failing: _, calls: _, faults: _ } = self;
+        let MemorySink {
+            written: _,
+            failing: _,
+            calls: _,
+            faults: _,
+        } = self;
     }
 }
 

@@ -20,7 +20,13 @@ pub struct MemorySource {
 
 impl Drop for MemorySource {
     fn drop(self) {
-        let MemorySource { bytes: _, at: _, failing: _, calls: _, faults: _ } = self;
+        let MemorySource {
+            bytes: _,
+            at: _,
+            failing: _,
+            calls: _,
+            faults: _,
+        } = self;
     }
 }
 

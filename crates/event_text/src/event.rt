@@ -97,21 +97,60 @@ pub enum Event {
 impl Drop for Event {
     fn drop(self) {
         match self {
-            Event::Open { session: _, client: _ } => {}
+            Event::Open {
+                session: _,
+                client: _,
+            } => {}
             Event::Close { session: _ } => {}
             Event::Renew { session: _ } => {}
-            Event::Insert { session: _, tree: _, key: _, payload: _ } => {}
-            Event::Update { session: _, tree: _, key: _, payload: _ } => {}
-            Event::Delete { session: _, tree: _, key: _ } => {}
+            Event::Insert {
+                session: _,
+                tree: _,
+                key: _,
+                payload: _,
+            } => {}
+            Event::Update {
+                session: _,
+                tree: _,
+                key: _,
+                payload: _,
+            } => {}
+            Event::Delete {
+                session: _,
+                tree: _,
+                key: _,
+            } => {}
             Event::Commit { session: _ } => {}
             Event::Abort { session: _ } => {}
-            Event::Read { session: _, tree: _, key: _ } => {}
-            Event::Scan { session: _, tree: _, from: _, to: _ } => {}
-            Event::Page { session: _, tree: _, page: _ } => {}
-            Event::Tree { session: _, tree: _ } => {}
-            Event::Step { session: _, wish: _ } => {}
+            Event::Read {
+                session: _,
+                tree: _,
+                key: _,
+            } => {}
+            Event::Scan {
+                session: _,
+                tree: _,
+                from: _,
+                to: _,
+            } => {}
+            Event::Page {
+                session: _,
+                tree: _,
+                page: _,
+            } => {}
+            Event::Tree {
+                session: _,
+                tree: _,
+            } => {}
+            Event::Step {
+                session: _,
+                wish: _,
+            } => {}
             Event::Run { session: _ } => {}
-            Event::Crash { session: _, done: _ } => {}
+            Event::Crash {
+                session: _,
+                done: _,
+            } => {}
             Event::Wait { ticks: _ } => {}
             Event::Report { tree: _ } => {}
             Event::Settle => {}

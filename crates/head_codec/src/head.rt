@@ -30,7 +30,13 @@ pub struct Head {
 
 impl Drop for Head {
     fn drop(self) {
-        let Head { epoch: _, txn: _, phase: _, counters: _, pending: _ } = self;
+        let Head {
+            epoch: _,
+            txn: _,
+            phase: _,
+            counters: _,
+            pending: _,
+        } = self;
     }
 }
 

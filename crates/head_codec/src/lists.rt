@@ -28,7 +28,12 @@ pub struct Pending {
 
 impl Drop for Pending {
     fn drop(self) {
-        let Pending { tree: _, page: _, number: _, change: _ } = self;
+        let Pending {
+            tree: _,
+            page: _,
+            number: _,
+            change: _,
+        } = self;
     }
 }
 

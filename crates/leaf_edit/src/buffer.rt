@@ -59,10 +59,7 @@ impl LeafBuf {
         ensures view { result ≡ self.now }
         ensures version { IsVersion self.now.version }
     {
-        match LeafView::read(&self.bytes) {
-            Ok(view) => view,
-            Err(_) => LeafView::empty(),
-        }
+        LeafView::known(&self.bytes)
     }
 
     /// How many records it has.

@@ -102,6 +102,22 @@ is_read bytes head done records rest fits h d r end =
       is = is;
     }
 
+-- of bytes that spell a leaf the records are read as well
+pub is_known : (bytes : List ℕ) (head : Head) (done records : List ℕ) → IsBytes bytes → (l : Leaf) × IsSpelling leaf bytes l → leaf_head.reading bytes ≡ Ok (head, done)
+    → behind_it (list_at true done_item None done) ≡ Ok records → IsRead bytes head done records
+is_known bytes head done records fits spelled h d = known_by (behind_it (list_at true (record_item head.low head.high) None records)) refl
+  where
+    never_fails : (left : ℕ) → whole leaf bytes ≡ Err left → ⊥
+    never_fails left is = never_err spelled.0 left (sym (whole_only leaf leaf_exact bytes spelled.0 spelled.1) ∙ is)
+
+    ends : (rest : List ℕ) → behind_it (list_at true (record_item head.low head.high) None records) ≡ Ok rest → (b : Bool) → eqb (length rest) 0 ≡ b → IsRead bytes head done records
+    ends rest r true is = is_read bytes head done records rest fits h d r is
+    ends rest r false more = absurd (never_fails (length rest) (goes_on bytes head done records rest h d r more))
+
+    known_by : (b : Result (List ℕ) ℕ) → behind_it (list_at true (record_item head.low head.high) None records) ≡ b → IsRead bytes head done records
+    known_by (Ok rest) r = ends rest r (eqb (length rest) 0) refl
+    known_by (Err left) r = absurd (never_fails left (records_fail bytes head done records left h d r))
+
 -- ---- the page that was never put
 
 no_items : {A : Type 0} (f : Format A) → list_at true (λ _. f) None (0 ∷ []) ≡ Ok ([], [])

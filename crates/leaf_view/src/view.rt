@@ -94,6 +94,34 @@ impl<'a> LeafView<'a> {
         })
     }
 
+    /// The leaf of bytes that spell one: its records are not checked again. Takes no memory.
+    pub fn known(bytes: &'a [u8]) -> LeafView<'a>
+        requires { (l : Leaf) × IsLeaf bytes.now l }
+        ensures { IsLeaf bytes.now result }
+    {
+        match LeafView::front(bytes) {
+            Ok(view) => view,
+            Err(_) => LeafView::empty(),
+        }
+    }
+
+    /// The leaf of bytes that spell one, by its head and the table of what is done.
+    fn front(bytes: &'a [u8]) -> Result<LeafView<'a>, Stop>
+        requires { (l : Leaf) × IsLeaf bytes.now l }
+        ensures { Gives (λ v. v) result (whole leaf bytes.now) }
+    {
+        let (head, done) = head_at(bytes)?;
+        let records = skip_list(&DoneRules, true, done)?;
+        Ok(LeafView {
+            version: head.version,
+            low: head.low,
+            right: head.right,
+            high: head.high,
+            done,
+            records,
+        })
+    }
+
     /// The page 1 that was never put: version 0, no fence, no table, no record.
     pub fn empty() -> LeafView<'a>
         ensures { result ≡ empty_leaf }

@@ -61,7 +61,13 @@ pub struct PuRec {
 
 impl Drop for PuRec {
     fn drop(self) {
-        let PuRec { client: _, epoch: _, txn: _, number: _, change: _ } = self;
+        let PuRec {
+            client: _,
+            epoch: _,
+            txn: _,
+            number: _,
+            change: _,
+        } = self;
     }
 }
 

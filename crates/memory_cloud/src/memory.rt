@@ -21,7 +21,11 @@ pub struct MemoryCloud {
 
 impl Drop for MemoryCloud {
     fn drop(self) {
-        let MemoryCloud { store: _, calls: _, failing: _ } = self;
+        let MemoryCloud {
+            store: _,
+            calls: _,
+            failing: _,
+        } = self;
     }
 }
 

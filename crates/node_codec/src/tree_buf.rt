@@ -31,7 +31,14 @@ pub struct TreeBuf {
 
 impl Drop for TreeBuf {
     fn drop(self) {
-        let TreeBuf { alloc: _, version: _, next: _, level: _, cursor: _, entries: _ } = self;
+        let TreeBuf {
+            alloc: _,
+            version: _,
+            next: _,
+            level: _,
+            cursor: _,
+            entries: _,
+        } = self;
     }
 }
 

@@ -1,8 +1,8 @@
 -- The objects that are kept, after one is put and after one is forgotten.
 use Rattle.std.proofs.Common.{◌≡◌, ℕ, ◌-◌, ◌≤◌, Bool, true, false, cond, List, [], ◌∷◌, length, take, Option, Some, None, Result, Ok, Err, refl, sym, ap, ◌∙◌, subst, arith}
-use Rattle.std.specs.Prelude.{OnOk, OnErr}
+use Rattle.std.specs.Prelude.{OnOk, OnErr, IfSome}
 use Rattle.std.specs.List.{AllByRecursion, IsDistinct}
-use Rattle.std.specs.Map.{keys_of, lookup_entry, remove_entry}
+use Rattle.std.specs.Map.{keys_of, lookup, lookup_entry, remove_entry}
 use Rattle.std.specs.Option.{option_map_or}
 use Rattle.lru.specs.LruCache.{LruCache, lru_cache, put_entries}
 use Rattle.db_base.specs.declared.names.ObjName.{ObjName}
@@ -18,6 +18,15 @@ Object = ObjName × Option (List ℕ)
 pub no_objects : AreObjects []
 unfolding IsDistinct
 no_objects = record { few = omega arith; distinct = tt; spelled = tt }
+
+-- what is kept of a name is in a spelling of its kind
+pub kept_spelled : (name : ObjName) (es : List Object) → AllByRecursion (λ (o : Object). IsSpelled o.0 o.1) es → IfSome (lookup (same_name name) es) (λ bytes. IsSpelled name bytes)
+kept_spelled name [] h = tt
+kept_spelled name (e ∷ es) h = on (same_name name e.0) refl
+  where
+    on : (b : Bool) → same_name name e.0 ≡ b → IfSome (cond b (Some e.1) (lookup (same_name name) es)) (λ bytes. IsSpelled name bytes)
+    on true is = subst (λ (n : ObjName). IsSpelled n e.1) (sym (same_name-is name e.0 is)) h.0
+    on false is = kept_spelled name es h.1
 
 -- the objects without one of them
 pub objects_left : (name : ObjName) (es : List Object) → AreObjects es → AreObjects (remove_entry (same_name name) es)

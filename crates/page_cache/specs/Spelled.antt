@@ -1,5 +1,6 @@
 -- What the bytes of an object are read as: a page as a leaf or as an inner node, all else as a root.
-use Rattle.std.specs.Prelude.{◌≡◌, ℕ, Bool, if◌then◌else◌, List, Option, Some, None, Result, Ok, Err, ◌⊎◌}
+use Rattle.std.specs.Prelude.{◌≡◌, ℕ, Bool, true, false, if◌then◌else◌, List, Option, Some, None, Result, Ok, Err, ◌⊎◌}
+use Rattle.byte_format.specs.Format.{mark_at}
 use Rattle.byte_format.specs.Whole.{whole, offset}
 use Rattle.db_base.specs.declared.names.ObjName.{ObjName}
 use Rattle.db_base.specs.declared.names.ObjName.TheVariants.{Head, Tree, Page}
@@ -30,6 +31,14 @@ version_read (Page tree page) as_leaf bytes = if as_leaf then leaf_version bytes
 -- bytes of a page spell a leaf or an inner node
 abbrev pub IsPageSpelled : List ℕ → Type 0
 IsPageSpelled bytes = ((l : Leaf) × IsLeaf bytes l) ⊎ ((n : Inner) × IsInner bytes n)
+
+abbrev pub is_found : {A E : Type 0} → Result A E → Bool
+is_found (Ok x) = true
+is_found (Err e) = false
+
+-- bytes begin as those of a leaf do
+abbrev pub is_marked : List ℕ → Bool
+is_marked bytes = is_found (mark_at 76 bytes)
 
 -- what is kept of an object is in a spelling of its kind; of the pages, page 1 alone may be kept as absent
 abbrev pub IsSpelled : ObjName → Option (List ℕ) → Type 0

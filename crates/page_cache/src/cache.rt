@@ -29,7 +29,10 @@ pub struct PageCache {
 
 impl Drop for PageCache {
     fn drop(self) {
-        let PageCache { objects: _, versions: _ } = self;
+        let PageCache {
+            objects: _,
+            versions: _,
+        } = self;
     }
 }
 
@@ -215,7 +218,7 @@ impl PageCache {
         self.objects.len() == 0
     }
 
-    /// The leaf that is kept at a page. Takes no memory, and checks the kept bytes again.
+    /// The leaf that is kept at a page. Takes no memory.
     pub fn leaf(&self, name: ObjName) -> Option<LeafView<'_>>
         ensures { result ≡ leaf_at self.now name }
     {

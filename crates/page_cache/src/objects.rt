@@ -1,4 +1,4 @@
-ghost use Rattle.std.specs.Prelude.{◌≡◌, ℕ, ◌≤◌, List, [], length, IfOk, IfErr, OnOk, OnErr};
+ghost use Rattle.std.specs.Prelude.{◌≡◌, ℕ, ◌≤◌, List, [], length, IfOk, IfErr, IfSome, OnOk, OnErr};
 ghost use Rattle.std.specs.Option.{option_copied};
 ghost use Rattle.std.specs.Map.{lookup, remove_entry};
 ghost use Rattle.page_cache.specs.Cache.{AreObjects, placed_in};
@@ -56,7 +56,8 @@ impl Objects {
 
     /// What is kept of an object: nothing, its bytes, or that it is absent.
     pub fn get(&self, name: &ObjName) -> Option<&Option<Blob>>
-        ensures { option_copied result ≡ lookup (same_name name.now) self.now }
+        ensures found { option_copied result ≡ lookup (same_name name.now) self.now }
+        ensures spelled { IfSome (option_copied result) (λ bytes. IsSpelled name.now bytes) }
     {
         self.kept.peek(name)
     }

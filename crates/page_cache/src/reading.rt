@@ -5,17 +5,33 @@ ghost use Rattle.leaf_view.specs.Leaf.{Leaf, IsLeaf};
 ghost use Rattle.node_codec.specs.Inner.{Inner, IsInner, inner_of};
 ghost use Rattle.node_codec.specs.Tree.{Tree as Root, IsTree, tree_of};
 ghost use Rattle.page_cache.specs.Held.{leaf_in};
-ghost use Rattle.page_cache.specs.Spelled.{leaf_version, inner_version, root_version, version_read, IsSpelled};
+ghost use Rattle.page_cache.specs.Spelled.{leaf_version, inner_version, root_version, version_read, IsSpelled, IsPageSpelled, is_marked};
 
+use byte_format::mark_at;
 use db_base::names::ObjName;
 use leaf_view::LeafView;
 use node_codec::{InnerView, TreeView};
 
-/// The leaf that the bytes spell.
+// The byte that a leaf begins with, and no other page.
+const LEAF_MARK: u8 = 0x4c;
+
+/// Whether bytes begin as those of a leaf do.
+fn is_marked(bytes: &[u8]) -> bool
+    ensures { result ≡ is_marked bytes.now }
+{
+    mark_at(bytes, LEAF_MARK).is_ok()
+}
+
+/// The leaf that the bytes of a page spell, where they spell one.
 pub(crate) fn leaf_of(bytes: &[u8]) -> Option<LeafView<'_>>
+    requires { IsPageSpelled bytes.now }
     ensures { result ≡ leaf_in bytes.now }
 {
-    LeafView::read(bytes).ok()
+    if is_marked(bytes) {
+        Some(LeafView::known(bytes))
+    } else {
+        None
+    }
 }
 
 /// The inner node that the bytes spell.

@@ -21,7 +21,12 @@ pub(crate) struct Gathering {
 
 impl Drop for Gathering {
     fn drop(self) {
-        let Gathering { kept: _, seen: _, fresh: _, lost: _ } = self;
+        let Gathering {
+            kept: _,
+            seen: _,
+            fresh: _,
+            lost: _,
+        } = self;
     }
 }
 

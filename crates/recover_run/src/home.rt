@@ -18,7 +18,12 @@ pub struct Home {
 
 impl Drop for Home {
     fn drop(self) {
-        let Home { client: _, lease: _, head: _, attempt: _ } = self;
+        let Home {
+            client: _,
+            lease: _,
+            head: _,
+            attempt: _,
+        } = self;
     }
 }
 

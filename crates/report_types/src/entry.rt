@@ -17,6 +17,12 @@ pub struct Entry {
 
 impl Drop for Entry {
     fn drop(self) {
-        let Entry { client: _, epoch: _, txn: _, tree: _, change: _ } = self;
+        let Entry {
+            client: _,
+            epoch: _,
+            txn: _,
+            tree: _,
+            change: _,
+        } = self;
     }
 }

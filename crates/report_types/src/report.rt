@@ -20,6 +20,13 @@ pub struct Report {
 
 impl Drop for Report {
     fn drop(self) {
-        let Report { tree: _, committed: _, order: _, contents: _, heads: _, messages: _ } = self;
+        let Report {
+            tree: _,
+            committed: _,
+            order: _,
+            contents: _,
+            heads: _,
+            messages: _,
+        } = self;
     }
 }

@@ -21,7 +21,10 @@ pub(crate) struct SlotTable {
 
 impl Drop for SlotTable {
     fn drop(self) {
-        let SlotTable { newest: _, before: _ } = self;
+        let SlotTable {
+            newest: _,
+            before: _,
+        } = self;
     }
 }
 

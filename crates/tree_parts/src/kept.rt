@@ -17,7 +17,12 @@ pub struct KeptNode {
 
 impl Drop for KeptNode {
     fn drop(self) {
-        let KeptNode { page: _, level: _, low: _, bytes: _ } = self;
+        let KeptNode {
+            page: _,
+            level: _,
+            low: _,
+            bytes: _,
+        } = self;
     }
 }
 

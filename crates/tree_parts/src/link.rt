@@ -19,7 +19,11 @@ pub struct Link {
 
 impl Drop for Link {
     fn drop(self) {
-        let Link { level: _, low: _, page: _ } = self;
+        let Link {
+            level: _,
+            low: _,
+            page: _,
+        } = self;
     }
 }
 

@@ -79,7 +79,10 @@ pub struct Placing {
 
 impl Drop for Placing {
     fn drop(self) {
-        let Placing { reserved: _, puts: _ } = self;
+        let Placing {
+            reserved: _,
+            puts: _,
+        } = self;
     }
 }
 

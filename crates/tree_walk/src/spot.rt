@@ -15,7 +15,11 @@ pub struct Spot {
 
 impl Drop for Spot {
     fn drop(self) {
-        let Spot { page: _, level: _, low: _ } = self;
+        let Spot {
+            page: _,
+            level: _,
+            low: _,
+        } = self;
     }
 }
 

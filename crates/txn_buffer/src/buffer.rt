@@ -24,7 +24,10 @@ pub struct TxnBuffer {
 
 impl Drop for TxnBuffer {
     fn drop(self) {
-        let TxnBuffer { changes: _, alloc: _ } = self;
+        let TxnBuffer {
+            changes: _,
+            alloc: _,
+        } = self;
     }
 }
 

@@ -33,7 +33,10 @@ pub struct Audit {
 
 impl Drop for Audit {
     fn drop(self) {
-        let Audit { committed: _, order: _ } = self;
+        let Audit {
+            committed: _,
+            order: _,
+        } = self;
     }
 }
 

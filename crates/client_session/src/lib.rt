@@ -2,6 +2,7 @@
 #![tactic(auto)]
 
 pub mod answer;
+pub mod calls;
 mod closing;
 mod committing;
 mod folding;

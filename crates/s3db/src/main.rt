@@ -1,14 +1,8 @@
 //! The program: replays a schedule or generates one over a cloud in memory, and runs a shell or settles over a folder.
 #![tactic(auto)]
 
-mod arguments;
-mod run;
 mod seconds;
-mod status;
-#[cfg(test)]
-mod tests;
 
-use arguments::arguments;
 use cloud_trait::cloud::Bench;
 use cloud_trait::fault::CloudFault;
 use command_words::read::shape;
@@ -17,9 +11,10 @@ use db_io::std_sink::StdSink;
 use db_io::std_source::StdSource;
 use folder_cloud::FolderCloud;
 use memory_cloud::memory::MemoryCloud;
-use run::run;
+use schedule_run::arguments::arguments;
+use schedule_run::run::run;
+use schedule_run::status::Status;
 use seconds::Seconds;
-use status::Status;
 use std::io;
 use std::process::ExitCode;
 

@@ -18,9 +18,9 @@ use Rattle.reply_text.specs.declared.reply.Reply.{Reply}
 use Rattle.reply_text.specs.declared.reply.Reply.TheVariants as reply
 use Rattle.replay_meaning.specs.Standing.{Line}
 use Rattle.replay_meaning.specs.Right.{ReportIsRight}
-use Rattle.replay_model.specs.Facts.{session_at, Stands}
-use Rattle.replay_model.proofs.UptoRight.{HoldTheSame, right_same}
-use Rattle.replay_model.proofs.StartLemmas.{nothing_stands_yet}
+use Rattle.session_facts.specs.Facts.{session_at, Stands}
+use Rattle.session_facts.proofs.UptoRight.{HoldTheSame, right_same}
+use Rattle.session_facts.proofs.StartLemmas.{nothing_stands_yet}
 use Rattle.world_core.specs.World.{World}
 use Rattle.world_core.specs.declared.world.WorldFault.{WorldFault}
 use Rattle.world_core.specs.declared.world.WorldFault.TheVariants as world

@@ -5,3 +5,5 @@ pub mod ShellOnce
 pub mod ShellLemmas
 pub mod GeneratedLemmas
 pub mod SettlingLemmas
+pub mod RunLemmas
+pub mod CompleteLemmas

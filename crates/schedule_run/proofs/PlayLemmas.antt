@@ -10,9 +10,9 @@ use Rattle.reply_text.specs.declared.reply.Reply.TheVariants.{Begun}
 use Rattle.client_session.specs.Session.{Acting, closed_session}
 use Rattle.cloud_trait.specs.State.{CloudState}
 use Rattle.replay_meaning.specs.Standing.{Line, unnamed}
-use Rattle.replay_model.specs.Facts.{session_at, ActsAs}
-use Rattle.replay_model.proofs.AddedRows.{adds_nothing as nothing_added}
-use Rattle.replay_model.proofs.StartLemmas.{closed_at}
+use Rattle.session_facts.specs.Facts.{session_at, ActsAs}
+use Rattle.session_facts.proofs.AddedRows.{adds_nothing as nothing_added}
+use Rattle.session_facts.proofs.StartLemmas.{closed_at}
 use Rattle.world_core.specs.World.{World}
 use Rattle.world_core.specs.Added.{WorldAdds}
 use Rattle.world_core.proofs.AddedLines.{handled_adds}

@@ -15,8 +15,8 @@ use Rattle.line_io.specs.declared.output.OutputFault.TheVariants as output
 use Rattle.line_io.specs.Output.{WasWritten}
 use Rattle.replay_meaning.specs.Kinds.{CommitsCount, MayPutPhase, MayPutHead, MayPutBytes, IsOfKindAt, IsOfKind, LandsOpen}
 use Rattle.replay_meaning.specs.Standing.{Line, Closed, Working, Committing, standing, standing_of_row}
-use Rattle.replay_model.specs.Added.{AddsKinds, AddsTo}
-use Rattle.replay_model.proofs.Once.{at_place}
+use Rattle.session_facts.specs.Added.{AddsKinds, AddsTo}
+use Rattle.session_facts.proofs.Once.{at_place}
 use Rattle.reply_text.specs.declared.reply.Reply.{Reply}
 use Rattle.schedule_run.specs.InPlay.{Play}
 use Rattle.schedule_run.specs.declared.settling.SettleFault.TheVariants.{NotSettled}

@@ -24,7 +24,7 @@ use Rattle.schedule_run.specs.Shell.{AreShellLines, IsBad, alone, with_run, no_e
 use Rattle.schedule_run.proofs.GoingLemmas.{adds_more}
 use Rattle.schedule_run.proofs.ShellOnce.{of_shell, shells_more, once_nothing, once_more, once_behind, none_twice}
 use Rattle.schedule_run.specs.ShellOnce.{AllShells, AreShells}
-use Rattle.replay_model.specs.Opened.{AddsNoneTwice}
+use Rattle.session_facts.specs.Opened.{AddsNoneTwice}
 use Rattle.world_core.specs.Opened.{WorldOnce}
 use Rattle.world_core.proofs.OpenedLines.{handled_once}
 use Rattle.cloud_trait.specs.State.{CloudState}

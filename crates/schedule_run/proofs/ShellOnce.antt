@@ -14,10 +14,10 @@ use Rattle.event_text.specs.Keyword.{keyword_text, keyword_of, is_shell}
 use Rattle.event_text.specs.Event.{IsShellLine, event_words}
 use Rattle.reply_text.specs.declared.reply.Reply.{Reply}
 use Rattle.replay_meaning.specs.Standing.{Line}
-use Rattle.replay_model.specs.Facts.{session_at}
-use Rattle.replay_model.specs.Opened.{TakesNumber, AddsNoneTwice}
-use Rattle.replay_model.proofs.OpenedCalls.{opened_nothing}
-use Rattle.replay_model.proofs.StartLemmas.{closed_at}
+use Rattle.session_facts.specs.Facts.{session_at}
+use Rattle.session_facts.specs.Opened.{TakesNumber, AddsNoneTwice}
+use Rattle.session_facts.proofs.OpenedCalls.{opened_nothing}
+use Rattle.session_facts.proofs.StartLemmas.{closed_at}
 use Rattle.world_core.specs.World.{World}
 use Rattle.world_core.specs.Added.{WorldAdds}
 use Rattle.world_core.specs.Handled.{Handled}

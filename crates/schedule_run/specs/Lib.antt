@@ -8,3 +8,7 @@ pub mod Shell
 pub mod Summary
 pub mod Generated
 pub mod InPlay
+pub mod Status
+pub mod Arguments
+pub mod Run
+pub mod Complete

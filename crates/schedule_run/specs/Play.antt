@@ -11,7 +11,7 @@ use Rattle.world_core.specs.World.{World}
 use Rattle.world_core.specs.declared.world.WorldFault.{WorldFault}
 use Rattle.world_core.specs.declared.world.WorldFault.TheVariants as world
 use Rattle.world_core.specs.Handled.{Handled}
-use Rattle.replay_model.specs.Added.{AddsTo}
+use Rattle.session_facts.specs.Added.{AddsTo}
 use Rattle.world_core.specs.Added.{WorldAdds}
 use Rattle.world_core.specs.Stands.{WorldStands, StandsOn, Grows}
 use Rattle.schedule_run.specs.InPlay.{Play}

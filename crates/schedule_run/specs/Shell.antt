@@ -12,7 +12,7 @@ use Rattle.line_io.specs.declared.output.OutputFault.TheVariants as output
 use Rattle.reply_text.specs.declared.reply.Reply.{Reply}
 use Rattle.reply_text.specs.declared.reply.Reply.TheVariants.{Begun, Opened}
 use Rattle.replay_meaning.specs.Standing.{Line}
-use Rattle.replay_model.specs.Opened.{AddsNoneTwice}
+use Rattle.session_facts.specs.Opened.{AddsNoneTwice}
 use Rattle.schedule_run.specs.InPlay.{Play}
 use Rattle.schedule_run.specs.declared.shell.ShellFault.{ShellFault}
 use Rattle.schedule_run.specs.declared.shell.ShellFault.TheVariants.{NotOpened, BadLine, WriteFault, Memory}

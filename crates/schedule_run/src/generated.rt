@@ -8,6 +8,7 @@ ghost use Rattle.schedule_run.specs.Generated.{GenEnded, TakesAll, TakesEach};
 use crate::play::Play;
 use crate::summary::summary;
 use crate::writing::let_go;
+use client_session::calls::SessionCalls;
 use client_session::session::Session;
 use cloud_trait::cloud::Bench;
 use db_io::sink::Sink;
@@ -15,7 +16,6 @@ use event_text::event::Event;
 use line_io::output::{OutputFault, write_text};
 use reply_text::reply::Reply;
 use sched_gen::make::make;
-use session_calls::SessionCalls;
 use std::alloc::Global;
 use world_core::world::WorldFault;
 

@@ -1,10 +1,13 @@
 //! What each command of the program does over a cloud: a replay, a generated schedule, a shell and a settling.
 #![tactic(auto)]
 
+pub mod arguments;
 pub mod generated;
 mod play;
 pub mod replay;
+pub mod run;
 pub mod settling;
 pub mod shell;
+pub mod status;
 mod summary;
 mod writing;

@@ -3,11 +3,11 @@
 ghost use Rattle.std.specs.Prelude.{IfOk};
 ghost use Rattle.schedule_run.specs.Play.{IsFresh, Takes, RunsWhole};
 
+use client_session::calls::SessionCalls;
 use cloud_trait::cloud::Bench;
 use db_base::refusal::Refused;
 use event_text::event::Event;
 use reply_text::reply::Reply;
-use session_calls::SessionCalls;
 use std::alloc::Global;
 use std::marker::Model;
 use world_core::world::{World, WorldFault};

@@ -7,13 +7,13 @@ ghost use Rattle.schedule_run.specs.Replayed.{HasBadLine, LineWent, LineHandled,
 
 use crate::play::let_event_go;
 use crate::writing::{let_go, refuse, write_reply};
+use client_session::calls::SessionCalls;
 use client_session::session::Session;
 use cloud_trait::cloud::Bench;
 use db_io::sink::Sink;
 use event_text::event::Event;
 use line_io::lines::next_line;
 use line_io::output::OutputFault;
-use session_calls::SessionCalls;
 use std::alloc::Global;
 use words::fault::TextFault;
 use world_core::world::{World, WorldFault};

@@ -4,13 +4,13 @@ ghost use Rattle.schedule_run.specs.Settling.{settled_by, settle_end_of, SettleE
 
 use crate::play::Play;
 use crate::writing::{let_go, write_reply};
+use client_session::calls::SessionCalls;
 use client_session::session::Session;
 use cloud_trait::cloud::Bench;
 use db_io::sink::Sink;
 use event_text::event::Event;
 use line_io::output::OutputFault;
 use reply_text::reply::Reply;
-use session_calls::SessionCalls;
 use std::alloc::Global;
 
 /// Why a settling did not end well.

@@ -6,6 +6,7 @@ ghost use Rattle.schedule_run.specs.Shell.{HasBadShellLine, ShellWent, OpeningRa
 
 use crate::play::{Play, let_event_go};
 use crate::writing::{let_go, refuse, write_reply};
+use client_session::calls::SessionCalls;
 use client_session::session::Session;
 use cloud_trait::cloud::Bench;
 use db_base::ids::ClientId;
@@ -14,7 +15,6 @@ use event_text::event::Event;
 use line_io::lines::next_line;
 use line_io::output::OutputFault;
 use reply_text::reply::Reply;
-use session_calls::SessionCalls;
 use std::alloc::Global;
 use words::fault::TextFault;
 

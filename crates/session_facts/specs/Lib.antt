@@ -11,3 +11,8 @@ pub mod Settlings
 pub mod Settled
 pub mod Sessions
 pub mod RowKinds
+pub mod Running
+pub mod Facts
+pub mod Answers
+pub mod Added
+pub mod Opened

@@ -16,8 +16,8 @@ use Rattle.client_session.specs.declared.op.Op.TheVariants as op
 use Rattle.client_session.specs.declared.work.Work.TheVariants as work
 use Rattle.client_session.specs.Session.{Acting, rule_of, paging_begun_by, folding_begun_by}
 use Rattle.replay_meaning.specs.Standing.{Line, Standing, standing, after_own, session_of, notes as notes_own}
-use Rattle.replay_model.specs.Facts.{ActsAs}
-use Rattle.replay_model.proofs.LineLemmas.{line_of, refused_own}
+use Rattle.session_facts.specs.Facts.{ActsAs}
+use Rattle.session_facts.proofs.LineLemmas.{line_of, refused_own}
 use Rattle.world_core.specs.World.{World}
 use Rattle.world_core.specs.declared.asked.Request.{Request}
 use Rattle.world_core.specs.declared.asked.Request.TheVariants.{Begin, Note, Abort, Step, Run, Crash}

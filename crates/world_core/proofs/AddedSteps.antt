@@ -20,14 +20,14 @@ use Rattle.cloud_facts.specs.Book.Tally.{at}
 use Rattle.cloud_facts.proofs.Book.Names.{at_same, at_other}
 use Rattle.session_facts.specs.Sessions.Sessions.{Sessions}
 use Rattle.replay_meaning.specs.Standing.{Line, Standing, standing, after_line, after_own, session_of, steps}
-use Rattle.replay_model.specs.Added.{AddsKinds, AddsTo}
-use Rattle.replay_model.specs.Facts.{session_at, ActsAs, AllAct, SettlerRests}
-use Rattle.replay_model.proofs.AddedRows.{adds_same, adds_line, adds_later, session_adds, settler_adds}
-use Rattle.replay_model.proofs.Acting.{goes_as, goes_noted, ends_as}
-use Rattle.replay_model.proofs.CallKinds.{IsSettling, IsSettlersRow, settling_goes}
-use Rattle.replay_model.proofs.CommittedLemmas.{standing_line}
-use Rattle.replay_model.proofs.LineLemmas.{line_of, AllActWith, own_line, still_line, refused_own, acts_set}
-use Rattle.replay_model.proofs.SettlerLemmas.{settler_row}
+use Rattle.session_facts.specs.Added.{AddsKinds, AddsTo}
+use Rattle.session_facts.specs.Facts.{session_at, ActsAs, AllAct, SettlerRests}
+use Rattle.session_facts.proofs.AddedRows.{adds_same, adds_line, adds_later, session_adds, settler_adds}
+use Rattle.session_facts.proofs.Acting.{goes_as, goes_noted, ends_as}
+use Rattle.session_facts.proofs.CallKinds.{IsSettling, IsSettlersRow, settling_goes}
+use Rattle.session_facts.proofs.CommittedLemmas.{standing_line}
+use Rattle.session_facts.proofs.LineLemmas.{line_of, AllActWith, own_line, still_line, refused_own, acts_set}
+use Rattle.session_facts.proofs.SettlerLemmas.{settler_row}
 use Rattle.world_core.specs.World.{World}
 use Rattle.world_core.specs.Replying.{RepliesTo, RepliesTurn}
 use Rattle.world_core.specs.Sessions.{Changes}

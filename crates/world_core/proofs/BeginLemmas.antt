@@ -45,13 +45,13 @@ use Rattle.session_facts.proofs.Commits.Noted.{may_note, may_none}
 use Rattle.cloud_facts.specs.Book.Tally.{at}
 use Rattle.cloud_facts.proofs.Book.Names.{at_same, at_other}
 use Rattle.replay_meaning.specs.Standing.{Line, Standing, Working as WorkingOn, Committing as Noting, Reading as ReadingKey, Scanning as ScanningRange, standing, after_own, notes as notes_own}
-use Rattle.replay_model.specs.Facts.{session_at, ActsAs, WorksAs}
-use Rattle.replay_model.proofs.Acting.{IsReplyTo}
-use Rattle.replay_model.proofs.RunSteps.{RunsFor, IsRefusal, run_begins}
-use Rattle.replay_model.proofs.LineLemmas.{line_of, refused_own}
-use Rattle.replay_model.proofs.OpeningSteps.{opening_begins}
-use Rattle.replay_model.proofs.ReadingWalk.{reading_begins}
-use Rattle.replay_model.proofs.ScanningRange.{range_of, moved_range, scanning_begins, scanning_begins_ended}
+use Rattle.session_facts.specs.Facts.{session_at, ActsAs, WorksAs}
+use Rattle.session_facts.proofs.Acting.{IsReplyTo}
+use Rattle.session_facts.proofs.RunSteps.{RunsFor, IsRefusal, run_begins}
+use Rattle.session_facts.proofs.LineLemmas.{line_of, refused_own}
+use Rattle.session_facts.proofs.OpeningSteps.{opening_begins}
+use Rattle.session_facts.proofs.ReadingWalk.{reading_begins}
+use Rattle.session_facts.proofs.ScanningRange.{range_of, moved_range, scanning_begins, scanning_begins_ended}
 use Rattle.world_core.specs.World.{World}
 use Rattle.world_core.specs.declared.world.WorldFault.{WorldFault}
 use Rattle.world_core.specs.Asked.{bound_of}

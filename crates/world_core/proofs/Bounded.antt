@@ -14,8 +14,8 @@ use Rattle.db_base.specs.declared.wish.Wish.TheVariants.{Plain}
 use Rattle.event_text.specs.declared.event.Event.{Event}
 use Rattle.recover_run.specs.declared.home.Home.{Home}
 use Rattle.replay_meaning.specs.Standing.{Line}
-use Rattle.replay_model.proofs.Steps.{CallLeaves, wish_holds}
-use Rattle.replay_model.specs.Facts.{session_at, CloudHolds}
+use Rattle.session_facts.proofs.Steps.{CallLeaves, wish_holds}
+use Rattle.session_facts.specs.Facts.{session_at, CloudHolds}
 use Rattle.reply_text.specs.declared.reply.Reply.{Reply}
 use Rattle.session_facts.proofs.Sessions.FoldingCalls.{IsMaking, making_first, making_wishes, making_goes, making_few}
 use Rattle.session_facts.specs.Settled.Runs.{IsFew}

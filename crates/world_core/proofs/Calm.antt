@@ -32,8 +32,8 @@ use Rattle.event_text.specs.declared.event.Event.TheVariants as event
 use Rattle.page_cache.specs.Cache.{Cache}
 use Rattle.recover_run.specs.declared.home.Home.{Home}
 use Rattle.replay_meaning.specs.Standing.{Line, Task, Opening, Closing, Renewing, Committing, Reading, Scanning, Paging, Folding, Posture, Working, Standing, session_of, standing}
-use Rattle.replay_model.specs.Answers.{IsSoundReply}
-use Rattle.replay_model.specs.Facts.{session_at, WorksAs}
+use Rattle.session_facts.specs.Answers.{IsSoundReply}
+use Rattle.session_facts.specs.Facts.{session_at, WorksAs}
 use Rattle.reply_text.specs.declared.reply.Reply.{Reply}
 use Rattle.reply_text.specs.declared.reply.Reply.TheVariants as reply
 use Rattle.session_facts.specs.CommitRuns.Stopping.{MayStop as MayStopCommit}

@@ -12,11 +12,11 @@ use Rattle.db_base.specs.declared.wish.Wish.TheVariants.{Plain}
 use Rattle.event_text.specs.declared.event.Event.{Event}
 use Rattle.event_text.specs.declared.event.Event.TheVariants as event
 use Rattle.replay_meaning.specs.Standing.{Line}
-use Rattle.replay_model.specs.Facts.{session_at, CloudHolds}
-use Rattle.replay_model.proofs.CallKinds.{IsSettlersRow}
-use Rattle.replay_model.proofs.LineLemmas.{line_of}
-use Rattle.replay_model.proofs.SettlerLemmas.{settler_row}
-use Rattle.replay_model.proofs.Steps.{wish_holds}
+use Rattle.session_facts.specs.Facts.{session_at, CloudHolds}
+use Rattle.session_facts.proofs.CallKinds.{IsSettlersRow}
+use Rattle.session_facts.proofs.LineLemmas.{line_of}
+use Rattle.session_facts.proofs.SettlerLemmas.{settler_row}
+use Rattle.session_facts.proofs.Steps.{wish_holds}
 use Rattle.reply_text.specs.declared.reply.Reply.{Reply}
 use Rattle.reply_text.specs.declared.reply.Reply.TheVariants as reply
 use Rattle.session_facts.specs.Sessions.Sessions.{Sessions, SessionsStand}

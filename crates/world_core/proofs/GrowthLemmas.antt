@@ -14,7 +14,7 @@ use Rattle.cloud_trait.proofs.UptoLemmas.{agree_itself, agree_trans}
 use Rattle.client_session.specs.declared.answer.Answer.{Answer}
 use Rattle.client_session.specs.declared.work.Work.{Work}
 use Rattle.client_session.specs.Session.{Acting, StepsSession, StepsAt}
-use Rattle.replay_model.proofs.Steps.{made_call}
+use Rattle.session_facts.proofs.Steps.{made_call}
 use Rattle.world_audit.specs.Look.{Looked}
 use Rattle.world_core.specs.World.{World}
 use Rattle.world_core.specs.Sessions.{Changes}

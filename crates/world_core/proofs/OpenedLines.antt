@@ -32,10 +32,10 @@ use Rattle.client_session.specs.declared.work.Work.TheVariants as work
 use Rattle.client_session.specs.Session.{Acting, StepsSession, Begins, BeginsWith, BeginsOpening, HasInHand, CommitsIn, CommitsOf, CommitsNoted, ReadsOf, ReadsIn, ScansIn, stopped_work, paging_begun_by, folding_begun_by}
 use Rattle.cloud_facts.proofs.Book.Names.{at_same}
 use Rattle.replay_meaning.specs.Standing.{Line}
-use Rattle.replay_model.specs.Facts.{session_at}
-use Rattle.replay_model.specs.Opened.{IsOpenedBy, MayHaveOpened, TakesNumber, AddsOpenedTo, AddsOnce}
-use Rattle.replay_model.proofs.OpenedCalls.{Leads, scan_leads, stopped_leads, opened_same, opened_weaker, session_once}
-use Rattle.replay_model.proofs.OpenedRuns.{RunsFrom, run_begins_from}
+use Rattle.session_facts.specs.Facts.{session_at}
+use Rattle.session_facts.specs.Opened.{IsOpenedBy, MayHaveOpened, TakesNumber, AddsOpenedTo, AddsOnce}
+use Rattle.session_facts.proofs.OpenedCalls.{Leads, scan_leads, stopped_leads, opened_same, opened_weaker, session_once}
+use Rattle.session_facts.proofs.OpenedRuns.{RunsFrom, run_begins_from}
 use Rattle.world_core.specs.World.{World}
 use Rattle.world_core.specs.declared.asked.Request.{Request}
 use Rattle.world_core.specs.declared.asked.Request.TheVariants.{Begin, Note, Abort, Step, Run, Crash}

@@ -18,8 +18,8 @@ use Rattle.db_base.specs.declared.wish.Wish.TheVariants.{Plain}
 use Rattle.event_text.specs.declared.event.Event.{Event}
 use Rattle.event_text.specs.declared.event.Event.TheVariants as event
 use Rattle.replay_meaning.specs.Standing.{Line}
-use Rattle.replay_model.proofs.SettledLemmas.{none_open, none_wait}
-use Rattle.replay_model.specs.Facts.{session_at}
+use Rattle.session_facts.proofs.SettledLemmas.{none_open, none_wait}
+use Rattle.session_facts.specs.Facts.{session_at}
 use Rattle.reply_text.specs.declared.reply.Reply.{Reply}
 use Rattle.reply_text.specs.declared.reply.Reply.TheVariants as reply
 use Rattle.session_facts.proofs.Settled.Along.{Handed, Hands, behind_part}

@@ -35,14 +35,14 @@ use Rattle.session_facts.proofs.Sessions.Begins.{settling_begins_session}
 use Rattle.session_facts.proofs.Sessions.Laws.{crash_keeps}
 use Rattle.replay_meaning.specs.Standing.{Line, Standing, standing, after_line, after_own, session_of, steps}
 use Rattle.replay_meaning.specs.Right.{ReportIsRight}
-use Rattle.replay_model.specs.Facts.{session_at, ActsAs, AllAct, CloudHolds, IsFrontOf, SettlerRests, Stands, GoesOn}
-use Rattle.replay_model.proofs.CallKinds.{IsSettling, IsSettlersRow, settling_goes}
-use Rattle.replay_model.proofs.Acting.{IsReplyTo, goes_as, goes_noted, ends_as}
-use Rattle.replay_model.proofs.LineLemmas.{line_of, AllActWith, begins_line, begins_with, line_through, holds_same, own_line, still_line, refused_own, acts_set}
-use Rattle.replay_model.proofs.Lists.{session_there, session_set}
-use Rattle.replay_model.proofs.SettlerLemmas.{settle_begins, settle_ends, settler_row}
-use Rattle.replay_model.proofs.Steps.{CallLeaves, CallLeavesUpto, call_holds, settle_holds, never_stops, wish_holds, wait_holds}
-use Rattle.replay_model.proofs.ReportLemmas.{IsShown, report_right}
+use Rattle.session_facts.specs.Facts.{session_at, ActsAs, AllAct, CloudHolds, IsFrontOf, SettlerRests, Stands, GoesOn}
+use Rattle.session_facts.proofs.CallKinds.{IsSettling, IsSettlersRow, settling_goes}
+use Rattle.session_facts.proofs.Acting.{IsReplyTo, goes_as, goes_noted, ends_as}
+use Rattle.session_facts.proofs.LineLemmas.{line_of, AllActWith, begins_line, begins_with, line_through, holds_same, own_line, still_line, refused_own, acts_set}
+use Rattle.session_facts.proofs.Lists.{session_there, session_set}
+use Rattle.session_facts.proofs.SettlerLemmas.{settle_begins, settle_ends, settler_row}
+use Rattle.session_facts.proofs.Steps.{CallLeaves, CallLeavesUpto, call_holds, settle_holds, never_stops, wish_holds, wait_holds}
+use Rattle.session_facts.proofs.ReportLemmas.{IsShown, report_right}
 use Rattle.world_core.specs.World.{World}
 use Rattle.world_core.specs.declared.world.WorldFault.{WorldFault}
 use Rattle.world_core.specs.declared.world.WorldFault.TheVariants.{Memory}

@@ -11,7 +11,7 @@ use Rattle.db_base.specs.declared.refusal.Refused.{Refused}
 use Rattle.event_text.specs.declared.event.Event.{Event}
 use Rattle.recover_run.specs.declared.home.Home.{Home}
 use Rattle.replay_meaning.specs.Standing.{Line}
-use Rattle.replay_model.specs.Facts.{session_at}
+use Rattle.session_facts.specs.Facts.{session_at}
 use Rattle.reply_text.specs.declared.reply.Reply.{Reply}
 use Rattle.session_facts.specs.Settled.Runs.{IsFew}
 use Rattle.tree_ckpt.specs.Making.{Making, new_making}

@@ -6,7 +6,7 @@ use Rattle.cloud_trait.specs.State.{CloudState}
 use Rattle.event_text.specs.declared.event.Event.{Event}
 use Rattle.event_text.specs.declared.event.Event.TheVariants as event
 use Rattle.replay_meaning.specs.Standing.{Line, Task, Opening, Closing, Renewing, Committing, Reading, Scanning, Paging, Folding, Posture, Working, session_of, standing}
-use Rattle.replay_model.specs.Facts.{session_at}
+use Rattle.session_facts.specs.Facts.{session_at}
 use Rattle.reply_text.specs.declared.reply.Reply.{Reply}
 use Rattle.reply_text.specs.declared.reply.Reply.TheVariants as reply
 use Rattle.session_facts.specs.Sessions.Untroubled.{StepsCalmly, IsUntroubled, IsSpent, IsSpentOrOf, CommitsWell}

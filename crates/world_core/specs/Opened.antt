@@ -5,8 +5,8 @@ use Rattle.event_text.specs.declared.event.Event.TheVariants.{Open, Close, Renew
 use Rattle.cloud_trait.specs.State.{CloudState}
 use Rattle.cloud_trait.specs.Seen.{Seen}
 use Rattle.head_codec.specs.declared.head.Head.{Head}
-use Rattle.replay_model.specs.Facts.{session_at}
-use Rattle.replay_model.specs.Opened.{AddsOpenedTo, AddsOnce, TakesNumber}
+use Rattle.session_facts.specs.Facts.{session_at}
+use Rattle.session_facts.specs.Opened.{AddsOpenedTo, AddsOnce, TakesNumber}
 use Rattle.world_core.specs.World.{World}
 
 -- the line opens session 1

@@ -6,7 +6,7 @@ use Rattle.cloud_trait.specs.State.{CloudState}
 use Rattle.event_text.specs.declared.event.Event.{Event}
 use Rattle.event_text.specs.declared.event.Event.TheVariants as event
 use Rattle.replay_meaning.specs.Standing.{Line, Posture, session_of, standing}
-use Rattle.replay_model.specs.Answers.{IsSoundReply}
+use Rattle.session_facts.specs.Answers.{IsSoundReply}
 use Rattle.reply_text.specs.declared.reply.Reply.{Reply}
 use Rattle.reply_text.specs.declared.reply.Reply.TheVariants as reply
 use Rattle.world_core.specs.World.{World}

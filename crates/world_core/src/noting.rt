@@ -10,7 +10,7 @@ use crate::sessions::Sessions;
 use db_base::ids::{ClientId, SessionNo};
 use db_base::names::ObjName;
 use db_base::refusal::Refused;
-use session_calls::SessionCalls;
+use client_session::calls::SessionCalls;
 use std::alloc::Global;
 use world_audit::audit::Audit;
 use world_audit::mark::Mark;

@@ -13,7 +13,7 @@ use cloud_trait::cloud::Bench;
 use cloud_trait::fault::CloudFault;
 use db_base::blob::Blob;
 use db_base::names::ObjName;
-use session_calls::SessionCalls;
+use client_session::calls::SessionCalls;
 use std::alloc::{AllocError, Global};
 
 /// A put: its object, and a copy of its bytes.

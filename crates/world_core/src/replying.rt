@@ -13,7 +13,7 @@ use db_base::refusal::Refused;
 use db_base::trouble::Trouble;
 use reply_text::reply::Reply;
 use report_types::pair_list::PairList;
-use session_calls::SessionCalls;
+use client_session::calls::SessionCalls;
 use std::alloc::{AllocError, Global};
 
 /// The answer to a line that is not done.

@@ -8,7 +8,7 @@ use cloud_trait::who::Who;
 use db_base::change::Change;
 use db_base::ids::{SessionNo, TreeId};
 use db_base::refusal::Refused;
-use session_calls::SessionCalls;
+use client_session::calls::SessionCalls;
 use std::alloc::Global;
 use std::marker::Model;
 

@@ -22,7 +22,7 @@ use db_base::trouble::Trouble;
 use db_base::wish::Wish;
 use event_text::event::Event;
 use reply_text::reply::Reply;
-use session_calls::SessionCalls;
+use client_session::calls::SessionCalls;
 use std::alloc::Global;
 use std::marker::Model;
 use world_audit::audit::Audit;

@@ -1,7 +1,0 @@
-use Rattle.s3db.proofs.run.run_asked.Goals as goal
-
-pub returns-in-Replay-clause-ran : goal.returns-in-Replay-clause-ran
-returns-in-Replay-clause-ran g c = rw c.in-Replay.is c.replay.ensures.ran
-
-pub returns-in-Shell-clause-ran : goal.returns-in-Shell-clause-ran
-returns-in-Shell-clause-ran g c = rw c.in-Shell.is c.shell.ensures.ran

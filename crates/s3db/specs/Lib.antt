@@ -1,4 +1,0 @@
-pub mod Status
-pub mod Arguments
-pub mod Run
-pub mod Complete

@@ -1,0 +1,197 @@
+-- A run in which no read and no write failed.
+use Rattle.std.proofs.Common.{◌≡◌, ◌<◌, ◌≤◌, ℕ, List, [], ◌∷◌, ◌++◌, Option, Some, None, Result, Ok, Err, refl, sym, ap, subst, ◌∙◌, inl, inr, arith}
+use Rattle.std.proofs.lemmas.List.{append-nil, append_cancel_right}
+use Rattle.cloud_trait.specs.Seen.{Seen}
+use Rattle.command_words.specs.declared.shape.Shape.{Shape}
+use Rattle.command_words.specs.declared.shape.Shape.TheVariants.{Replay, Gen, Shell, Settle}
+use Rattle.db_io.specs.Content.{Told, Takes}
+use Rattle.event_text.specs.declared.event.Event.{Event}
+use Rattle.event_text.specs.Event.{IsEvent, IsShellLine}
+use Rattle.line_io.specs.declared.input.InputFault.{InputFault}
+use Rattle.line_io.specs.declared.input.InputFault.TheVariants as input
+use Rattle.line_io.specs.Lines.{lines_of}
+use Rattle.replay_meaning.specs.Standing.{Line}
+use Rattle.schedule_run.specs.declared.replay.LineFault.{LineFault}
+use Rattle.schedule_run.specs.declared.replay.LineFault.TheVariants as line
+use Rattle.schedule_run.specs.declared.settling.SettleFault.{SettleFault}
+use Rattle.schedule_run.specs.declared.settling.SettleFault.TheVariants as settle
+use Rattle.schedule_run.specs.declared.shell.ShellFault.{ShellFault}
+use Rattle.schedule_run.specs.declared.shell.ShellFault.TheVariants as shell
+use Rattle.schedule_run.specs.Replayed.{AreSpelled, HasBadLine, ReplayWent}
+use Rattle.schedule_run.specs.Settling.{SettleEnded}
+use Rattle.schedule_run.specs.Shell.{AreShellLines, HasBadShellLine, ShellWent, WasNotOpened}
+use Rattle.schedule_run.specs.declared.status.Status.{Status}
+use Rattle.schedule_run.specs.declared.status.Status.TheVariants as status
+use Rattle.schedule_run.specs.Status.{ended_as, status_of_input, status_of_line, status_of_settle, status_of_shell}
+use Rattle.schedule_run.specs.Run.{AsksForShell, AsksToSettle, Replays, replay_unread, replay_went, RunsShell, shell_unread, shell_went, Ran, WasBad, WasTooLong}
+use Rattle.schedule_run.specs.Complete.{WentInOrder, ReadBadLine, IsKnown, EndsWith, IsComplete, StopsAtBadLine}
+
+-- ---- what was read
+
+-- a source that tells what it holds gave these bytes and no others
+same_bytes : (left rest : Told) (bytes others : List ℕ) → IsKnown left → Takes left rest bytes → Takes left rest others → others ≡ bytes
+same_bytes left rest bytes others known taken taken_too =
+    let a = taken known.0 known.1 in
+    let b = taken_too known.0 known.1 in
+    let clash : Some a.0 ≡ Some b.0 = sym a.1 ∙ b.1 in
+    let same : b.0 ≡ a.0 = cc in
+    let both : others ++ b.0 ≡ bytes ++ a.0 = sym b.2 ∙ a.2 in
+    append_cancel_right others bytes a.0 (ap (λ r. others ++ r) (sym same) ∙ both)
+
+-- where nothing is behind the first lines, each line is among them
+all_of : (lines earlier later ahead behind : List (List ℕ)) (text : List ℕ) → lines ≡ earlier ++ later → later ≡ [] → lines ≡ ahead ++ text ∷ behind
+    → earlier ≡ ahead ++ text ∷ behind
+all_of lines earlier later ahead behind text split none at = sym (append-nil earlier) ∙ ap (λ l. earlier ++ l) (sym none) ∙ sym split ∙ at
+
+spelled_at : (ahead behind : List (List ℕ)) (text : List ℕ) (lines : List Line) → AreSpelled (ahead ++ text ∷ behind) lines → (event : Event) × IsEvent text event
+spelled_at [] behind text [] s = absurd s
+spelled_at [] behind text (l ∷ lines) s = (l.event, s.0)
+spelled_at (t ∷ ahead) behind text [] s = absurd s
+spelled_at (t ∷ ahead) behind text (l ∷ lines) s = spelled_at ahead behind text lines s.1
+
+shell_at : (ahead behind : List (List ℕ)) (text : List ℕ) (events : List Event) → AreShellLines (ahead ++ text ∷ behind) events → (event : Event) × IsShellLine text event
+shell_at [] behind text [] s = absurd s
+shell_at [] behind text (e ∷ events) s = (e, s.0)
+shell_at (t ∷ ahead) behind text [] s = absurd s
+shell_at (t ∷ ahead) behind text (e ∷ events) s = shell_at ahead behind text events s.1
+
+-- ---- a run that is done has read no bad line
+
+unread_not_done : (fault : InputFault) → status.Done ≡ status_of_input fault → ⊥
+unread_not_done input.ReadFault e = absurd (cc)
+unread_not_done input.TooLong e = absurd (cc)
+unread_not_done input.Memory e = absurd (cc)
+
+replay_lines_good : (ended : Result (Unit {0}) LineFault) (text : List ℕ) (w u : Told) (s t : Seen) → status.Done ≡ ended_as status_of_line ended
+    → ReplayWent ended text w u s t → HasBadLine text → ⊥
+replay_lines_good (Ok done) text w u s t e went bad =
+    let all = all_of (lines_of text) went.earlier went.later bad.earlier bad.later bad.line went.at went.so.0 bad.at in
+    let event = spelled_at bad.earlier bad.later bad.line went.lines (subst (λ l. AreSpelled l went.lines) all went.spelled) in
+    bad.bad event.0 event.1
+replay_lines_good (Err line.BadLine) text w u s t e went bad = absurd (cc)
+replay_lines_good (Err line.WriteFault) text w u s t e went bad = absurd (cc)
+replay_lines_good (Err line.Memory) text w u s t e went bad = absurd (cc)
+
+shell_lines_good : (client : ℕ) (ended : Result (Unit {0}) ShellFault) (text : List ℕ) (w u : Told) (s t : Seen) → status.Done ≡ ended_as status_of_shell ended
+    → ShellWent client text ended w u s t → HasBadShellLine text → ⊥
+shell_lines_good client (Ok done) text w u s t e went bad =
+    let all = all_of (lines_of text) went.earlier went.later bad.earlier bad.later bad.line went.at went.so.0 bad.at in
+    let event = shell_at bad.earlier bad.later bad.line went.events (subst (λ l. AreShellLines l went.events) all went.spelled) in
+    bad.bad event.0 event.1
+shell_lines_good client (Err shell.NotOpened) text w u s t e went bad = absurd (cc)
+shell_lines_good client (Err shell.BadLine) text w u s t e went bad = absurd (cc)
+shell_lines_good client (Err shell.WriteFault) text w u s t e went bad = absurd (cc)
+shell_lines_good client (Err shell.Memory) text w u s t e went bad = absurd (cc)
+
+replay_good : (left rest w u : Told) (s t : Seen) → IsKnown left → Replays status.Done left rest w u s t → WasBad HasBadLine left rest → ⊥
+replay_good left rest w u s t known (replay_unread fault e nothing) bad = unread_not_done fault e
+replay_good left rest w u s t known (replay_went read ended e went) bad =
+    replay_lines_good ended read.bytes w u s t e went (subst HasBadLine (same_bytes left rest read.bytes bad.bytes known read.taken bad.taken) bad.bad)
+
+shell_good : (client : ℕ) (left rest w u : Told) (s t : Seen) → IsKnown left → RunsShell client status.Done left rest w u s t → WasBad HasBadShellLine left rest → ⊥
+shell_good client left rest w u s t known (shell_unread fault e nothing) bad = unread_not_done fault e
+shell_good client left rest w u s t known (shell_went read ended e went) bad =
+    shell_lines_good client ended read.bytes w u s t e went (subst HasBadShellLine (same_bytes left rest read.bytes bad.bytes known read.taken bad.taken) bad.bad)
+
+all_good : (shape : Shape) (left rest w u : Told) (s t : Seen) → IsKnown left → Ran (Some shape) status.Done left rest w u s t → ReadBadLine (Some shape) left rest → ⊥
+all_good Replay left rest w u s t known ran bad = replay_good left rest w u s t known ran bad
+all_good (Gen number count) left rest w u s t known ran bad = bad.bad
+all_good (Shell client dir) left rest w u s t known ran bad = shell_good client left rest w u s t known ran bad
+all_good (Settle dir) left rest w u s t known ran bad = bad.bad
+
+-- ---- what each status but Done comes of
+
+-- the causes of the statuses
+pub record Caused (asked : Option Shape) (result : Status) (left rest written now_written : Told) : Type 0 where
+  pub bad_words : result ≡ status.BadWords → ⊥
+  pub read_fault : result ≡ status.ReadFault → left.faults < rest.faults
+  pub too_long : result ≡ status.TooLong → WasTooLong left rest
+  pub bad_line : result ≡ status.BadLine → ReadBadLine asked left rest
+  pub write_fault : result ≡ status.WriteFault → written.faults < now_written.faults
+  pub not_settled : result ≡ status.NotSettled → AsksToSettle asked
+  pub not_opened : result ≡ status.NotOpened → AsksForShell asked
+
+-- this status is one of those with which it may end
+is_one : (wanted : Status) (shape : Shape) (result : Status) (w u : Told) (s t : Seen) → result ≡ wanted → EndsWith wanted (Some shape) result w u s t
+is_one wanted Replay result w u s t e = inl e
+is_one wanted (Gen number count) result w u s t e = inl e
+is_one wanted (Shell client dir) result w u s t e = inl (inl e)
+is_one wanted (Settle dir) result w u s t e = inl (inl e)
+
+-- so is want of memory
+pub out_of_memory : (wanted : Status) (asked : Option Shape) (w u : Told) (s t : Seen) → EndsWith wanted asked status.Memory w u s t
+out_of_memory wanted (Some Replay) w u s t = inr refl
+out_of_memory wanted (Some (Gen number count)) w u s t = inr refl
+out_of_memory wanted (Some (Shell client dir)) w u s t = inl (inr refl)
+out_of_memory wanted (Some (Settle dir)) w u s t = inl (inr refl)
+out_of_memory wanted None w u s t = tt
+
+-- a settling that ended so stopped
+stopped : (ended : Result (Unit {0}) SettleFault) (w u : Told) (s t : Seen) → status.NotSettled ≡ ended_as status_of_settle ended
+    → SettleEnded ended w u s t → SettleEnded (Err settle.NotSettled) w u s t
+stopped (Ok done) w u s t e so = absurd (cc)
+stopped (Err settle.NotSettled) w u s t e so = so
+stopped (Err settle.WriteFault) w u s t e so = absurd (cc)
+stopped (Err settle.Memory) w u s t e so = absurd (cc)
+
+unsettled : (wanted : Status) (shape : Shape) (left rest w u : Told) (s t : Seen) → AsksToSettle (Some shape) → Ran (Some shape) status.NotSettled left rest w u s t
+    → EndsWith wanted (Some shape) status.NotSettled w u s t
+unsettled wanted Replay left rest w u s t asks ran = absurd asks
+unsettled wanted (Gen number count) left rest w u s t asks ran = absurd asks
+unsettled wanted (Shell client dir) left rest w u s t asks ran = absurd asks
+unsettled wanted (Settle dir) left rest w u s t asks ran = inr (refl, stopped ran.1.ended w u s t ran.1.leads ran.1.went)
+
+-- a shell that ended so was not opened
+unread_not_opened : (fault : InputFault) → status.NotOpened ≡ status_of_input fault → ⊥
+unread_not_opened input.ReadFault e = absurd (cc)
+unread_not_opened input.TooLong e = absurd (cc)
+unread_not_opened input.Memory e = absurd (cc)
+
+closed : (client : ℕ) (ended : Result (Unit {0}) ShellFault) (text : List ℕ) (w u : Told) (s t : Seen) → status.NotOpened ≡ ended_as status_of_shell ended
+    → ShellWent client text ended w u s t → WasNotOpened client w u s t
+closed client (Ok done) text w u s t e went = absurd (cc)
+closed client (Err shell.NotOpened) text w u s t e went = went.so
+closed client (Err shell.BadLine) text w u s t e went = absurd (cc)
+closed client (Err shell.WriteFault) text w u s t e went = absurd (cc)
+closed client (Err shell.Memory) text w u s t e went = absurd (cc)
+
+not_opened : (client : ℕ) (left rest w u : Told) (s t : Seen) → RunsShell client status.NotOpened left rest w u s t → WasNotOpened client w u s t
+not_opened client left rest w u s t (shell_unread fault e nothing) = absurd (unread_not_opened fault e)
+not_opened client left rest w u s t (shell_went read ended e went) = closed client ended read.bytes w u s t e went
+
+unopened : (wanted : Status) (shape : Shape) (left rest w u : Told) (s t : Seen) → AsksForShell (Some shape) → Ran (Some shape) status.NotOpened left rest w u s t
+    → EndsWith wanted (Some shape) status.NotOpened w u s t
+unopened wanted Replay left rest w u s t asks ran = absurd asks
+unopened wanted (Gen number count) left rest w u s t asks ran = absurd asks
+unopened wanted (Shell client dir) left rest w u s t asks ran = inr (refl, not_opened client left rest w u s t ran)
+unopened wanted (Settle dir) left rest w u s t asks ran = absurd asks
+
+-- where all went in order, a run is done or ended by a bad line, unless it ends as it may
+in_order : (wanted : Status) (shape : Shape) (result : Status) (left rest w u : Told) (s t : Seen) → Caused (Some shape) result left rest w u
+    → Ran (Some shape) result left rest w u s t → WentInOrder left rest w u → (result ≡ status.Done → EndsWith wanted (Some shape) result w u s t)
+    → (result ≡ status.BadLine → EndsWith wanted (Some shape) result w u s t) → EndsWith wanted (Some shape) result w u s t
+in_order wanted shape status.Done left rest w u s t c ran order done bad = done refl
+in_order wanted shape status.BadLine left rest w u s t c ran order done bad = bad refl
+in_order wanted shape status.BadWords left rest w u s t c ran order done bad = absurd (c.bad_words refl)
+in_order wanted shape status.ReadFault left rest w u s t c ran order done bad =
+    let more : left.faults < rest.faults = c.read_fault refl in
+    let no_more : rest.faults ≤ left.faults = order.reads in absurd (omega arith)
+in_order wanted shape status.WriteFault left rest w u s t c ran order done bad =
+    let more : w.faults < u.faults = c.write_fault refl in
+    let no_more : u.faults ≤ w.faults = order.writes in absurd (omega arith)
+in_order wanted shape status.NotSettled left rest w u s t c ran order done bad = unsettled wanted shape left rest w u s t (c.not_settled refl) ran
+in_order wanted shape status.TooLong left rest w u s t c ran order done bad = absurd (order.within (c.too_long refl))
+in_order wanted shape status.NotOpened left rest w u s t c ran order done bad = unopened wanted shape left rest w u s t (c.not_opened refl) ran
+in_order wanted shape status.Memory left rest w u s t c ran order done bad = out_of_memory wanted (Some shape) w u s t
+
+pub completes : (shape : Shape) (result : Status) (left rest w u : Told) (s t : Seen) → Caused (Some shape) result left rest w u
+    → Ran (Some shape) result left rest w u s t → IsComplete (Some shape) result left rest w u s t
+completes shape result left rest w u s t c ran order good =
+    in_order status.Done shape result left rest w u s t c ran order (is_one status.Done shape result w u s t) (λ e. absurd (good (c.bad_line e)))
+
+pub stops_at_bad_line : (shape : Shape) (result : Status) (left rest w u : Told) (s t : Seen) → Caused (Some shape) result left rest w u
+    → Ran (Some shape) result left rest w u s t → StopsAtBadLine (Some shape) result left rest w u s t
+stops_at_bad_line shape result left rest w u s t c ran order known bad =
+    in_order status.BadLine shape result left rest w u s t c ran order
+    (λ e. absurd (all_good shape left rest w u s t known (subst (λ r. Ran (Some shape) r left rest w u s t) e ran) bad))
+    (is_one status.BadLine shape result w u s t)

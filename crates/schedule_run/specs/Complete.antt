@@ -1,0 +1,50 @@
+-- What a run comes to in which no read and no write failed.
+use Rattle.std.specs.Prelude.{ℕ, ◌≡◌, ◌≤◌, ◌⊎◌, List, Option, Some, None, Err}
+use Rattle.cloud_trait.specs.Seen.{Seen}
+use Rattle.command_words.specs.declared.shape.Shape.{Shape}
+use Rattle.command_words.specs.declared.shape.Shape.TheVariants.{Replay, Gen, Shell, Settle}
+use Rattle.db_io.specs.Content.{Told}
+use Rattle.schedule_run.specs.declared.settling.SettleFault.TheVariants as settle
+use Rattle.schedule_run.specs.Settling.{SettleEnded}
+use Rattle.schedule_run.specs.Shell.{WasNotOpened}
+use Rattle.schedule_run.specs.declared.status.Status.{Status}
+use Rattle.schedule_run.specs.declared.status.Status.TheVariants.{Done, BadLine, NotSettled, NotOpened, Memory}
+use Rattle.schedule_run.specs.Run.{HasBad, WasBad, WasTooLong}
+
+-- neither the source's nor the sink's count rose, and no more than an input has was read
+pub record WentInOrder (left rest written now_written : Told) : Type 0 where
+  pub reads : rest.faults ≤ left.faults
+  pub writes : now_written.faults ≤ written.faults
+  pub within : WasTooLong left rest → ⊥
+
+-- a line of what was read is none that the command reads
+abbrev pub ReadBadLine : Option Shape → Told → Told → Type 0
+ReadBadLine asked left rest = WasBad (HasBad asked) left rest
+
+-- the source tells what it holds
+abbrev pub IsKnown : Told → Type 0
+IsKnown left = (all : List ℕ) × (left.content ≡ Some all)
+
+-- the status is this one, or memory ran out
+abbrev pub IsOrMemory : Status → Status → Type 0
+IsOrMemory wanted result = (result ≡ wanted) ⊎ (result ≡ Memory)
+
+-- a run of words of a shape ends so, unless it is a shell whose opening did not open its session, or a settling that stopped
+abbrev pub EndsWith : Status → Option Shape → Status → Told → Told → Seen → Seen → Type 0
+EndsWith wanted (Some Replay) result written now_written start now = IsOrMemory wanted result
+EndsWith wanted (Some (Gen number count)) result written now_written start now = IsOrMemory wanted result
+EndsWith wanted (Some (Shell client dir)) result written now_written start now =
+    IsOrMemory wanted result ⊎ ((result ≡ NotOpened) × WasNotOpened client written now_written start now)
+EndsWith wanted (Some (Settle dir)) result written now_written start now =
+    IsOrMemory wanted result ⊎ ((result ≡ NotSettled) × SettleEnded (Err settle.NotSettled) written now_written start now)
+EndsWith wanted None result written now_written start now = Unit {0}
+
+-- where all went in order and no line is bad, the run is done
+abbrev pub IsComplete : Option Shape → Status → Told → Told → Told → Told → Seen → Seen → Type 0
+IsComplete asked result left rest written now_written start now =
+    WentInOrder left rest written now_written → (ReadBadLine asked left rest → ⊥) → EndsWith Done asked result written now_written start now
+
+-- where all went in order and a line is bad, the run ends by it
+abbrev pub StopsAtBadLine : Option Shape → Status → Told → Told → Told → Told → Seen → Seen → Type 0
+StopsAtBadLine asked result left rest written now_written start now =
+    WentInOrder left rest written now_written → IsKnown left → ReadBadLine asked left rest → EndsWith BadLine asked result written now_written start now

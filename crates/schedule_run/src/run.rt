@@ -1,0 +1,202 @@
+ghost use Rattle.std.specs.Prelude.{◌≡◌, ◌<◌, ◌≤◌, ◌⊎◌, Some, None, map, string_bytes};
+ghost use Rattle.command_words.specs.Words.{shape_of};
+ghost use Rattle.schedule_run.specs.Replayed.{HasBadLine};
+ghost use Rattle.schedule_run.specs.Shell.{HasBadShellLine};
+ghost use Rattle.schedule_run.specs.Complete.{IsComplete, StopsAtBadLine};
+ghost use Rattle.schedule_run.specs.Run.{AsksForShell, AsksToSettle, AsksWithin, Generates, HasBad, IsOfSchedule, IsOfSettling, Ran, Replays, RunsSettling, RunsShell, WasBad, WasTooLong, WasWithin};
+
+use crate::generated::generate;
+use crate::replay::{LineFault, replay_lines};
+use crate::settling::{SettleFault, settle};
+use crate::shell::{ShellFault, run_shell};
+use crate::status::Status;
+use cloud_trait::cloud::Bench;
+use command_words::read::shape;
+use command_words::shape::{Shape, WordsFault};
+use db_base::ids::ClientId;
+use db_io::sink::Sink;
+use db_io::source::Source;
+use line_io::input::{InputFault, read_whole};
+use line_io::output::OutputFault;
+use std::alloc::Global;
+
+/// Runs the command that the words ask for over the cloud: a replay of the lines of the source, a generated schedule, a shell
+/// over the lines of the source, or a settling.
+#[tactic(auto, using(crate::proofs::RunLemmas::reads_nothing))]
+pub fn run<I: Source, O: Sink, C: Bench>(
+    alloc: Global,
+    words: &[String],
+    source: &mut I,
+    sink: &mut O,
+    cloud: &mut C,
+) -> Status
+    ensures bad_words { result ≡ Status.BadWords → shape_of (map string_bytes words.now) ≡ None }
+    ensures no_shape { shape_of (map string_bytes words.now) ≡ None
+        → (result ≡ Status.BadWords) ⊎ (result ≡ Status.Memory) }
+    ensures unread { result ≡ Status.BadWords → I.told source.new ≡ I.told source.old }
+    ensures read_fault { result ≡ Status.ReadFault
+        → (I.told source.old).faults < (I.told source.new).faults }
+    ensures too_long { result ≡ Status.TooLong → WasTooLong (I.told source.old) (I.told source.new) }
+    ensures within { (result ≡ Status.TooLong) ⊎ WasWithin (I.told source.old) (I.told source.new) }
+    ensures bad_line { result ≡ Status.BadLine
+        → WasBad (HasBad (shape_of (map string_bytes words.now))) (I.told source.old) (I.told source.new) }
+    ensures write_fault { result ≡ Status.WriteFault
+        → (O.told sink.old).faults < (O.told sink.new).faults }
+    ensures not_settled { result ≡ Status.NotSettled → AsksToSettle (shape_of (map string_bytes words.now)) }
+    ensures not_opened { result ≡ Status.NotOpened → AsksForShell (shape_of (map string_bytes words.now)) }
+    // Where no read or write failed, the input was not too long and no line of it is bad, it is done.
+    ensures complete { IsComplete (shape_of (map string_bytes words.now)) result
+        (I.told source.old) (I.told source.new) (O.told sink.old) (O.told sink.new)
+        (C.seen cloud.old) (C.seen cloud.new) }
+    // Where a line of it is bad, it ends by that.
+    ensures at_bad_line { StopsAtBadLine (shape_of (map string_bytes words.now)) result
+        (I.told source.old) (I.told source.new) (O.told sink.old) (O.told sink.new)
+        (C.seen cloud.old) (C.seen cloud.new) }
+    ensures ran { Ran (shape_of (map string_bytes words.now)) result
+        (I.told source.old) (I.told source.new) (O.told sink.old) (O.told sink.new)
+        (C.seen cloud.old) (C.seen cloud.new) }
+{
+    match shape(alloc, words) {
+        Ok(asked) => run_asked(alloc, asked, source, sink, cloud),
+        Err(WordsFault::BadWords) => Status::BadWords,
+        Err(WordsFault::Memory) => Status::Memory,
+    }
+}
+
+/// Runs the command that is asked for.
+#[tactic(auto, using(crate::proofs::RunLemmas::reads_nothing))]
+fn run_asked<I: Source, O: Sink, C: Bench>(
+    alloc: Global,
+    asked: Shape,
+    source: &mut I,
+    sink: &mut O,
+    cloud: &mut C,
+) -> Status
+    requires { AsksWithin asked }
+    ensures not_words { result ≡ Status.BadWords → ⊥ }
+    ensures read_fault { result ≡ Status.ReadFault
+        → (I.told source.old).faults < (I.told source.new).faults }
+    ensures too_long { result ≡ Status.TooLong → WasTooLong (I.told source.old) (I.told source.new) }
+    ensures within { (result ≡ Status.TooLong) ⊎ WasWithin (I.told source.old) (I.told source.new) }
+    ensures bad_line { result ≡ Status.BadLine → WasBad (HasBad (Some asked)) (I.told source.old) (I.told source.new) }
+    ensures write_fault { result ≡ Status.WriteFault
+        → (O.told sink.old).faults < (O.told sink.new).faults }
+    ensures not_settled { result ≡ Status.NotSettled → AsksToSettle (Some asked) }
+    ensures not_opened { result ≡ Status.NotOpened → AsksForShell (Some asked) }
+    ensures ran { Ran (Some asked) result (I.told source.old) (I.told source.new) (O.told sink.old) (O.told sink.new)
+        (C.seen cloud.old) (C.seen cloud.new) }
+{
+    match asked {
+        Shape::Replay => replay(alloc, source, sink, cloud),
+        Shape::Gen { number, count } => generated(alloc, number, count, sink, cloud),
+        Shape::Shell { client, dir: _ } => shell(alloc, client, source, sink, cloud),
+        Shape::Settle { dir: _ } => settled(alloc, sink, cloud),
+    }
+}
+
+/// Replays the lines of the source.
+fn replay<I: Source, O: Sink, C: Bench>(
+    alloc: Global,
+    source: &mut I,
+    sink: &mut O,
+    cloud: &mut C,
+) -> Status
+    ensures not_words { result ≡ Status.BadWords → ⊥ }
+    ensures read_fault { result ≡ Status.ReadFault
+        → (I.told source.old).faults < (I.told source.new).faults }
+    ensures too_long { result ≡ Status.TooLong → WasTooLong (I.told source.old) (I.told source.new) }
+    ensures within { (result ≡ Status.TooLong) ⊎ WasWithin (I.told source.old) (I.told source.new) }
+    ensures bad_line { result ≡ Status.BadLine
+        → WasBad HasBadLine (I.told source.old) (I.told source.new) }
+    ensures write_fault { result ≡ Status.WriteFault
+        → (O.told sink.old).faults < (O.told sink.new).faults }
+    ensures not_settled { result ≡ Status.NotSettled → ⊥ }
+    ensures not_opened { result ≡ Status.NotOpened → ⊥ }
+    ensures ran { Replays result (I.told source.old) (I.told source.new) (O.told sink.old) (O.told sink.new)
+        (C.seen cloud.old) (C.seen cloud.new) }
+{
+    match read_whole(alloc, source) {
+        Ok(input) => match replay_lines(alloc, input.as_slice(), sink, cloud) {
+            Ok(()) => Status::Done,
+            Err(LineFault::BadLine) => Status::BadLine,
+            Err(LineFault::WriteFault) => Status::WriteFault,
+            Err(LineFault::Memory) => Status::Memory,
+        },
+        Err(InputFault::ReadFault) => Status::ReadFault,
+        Err(InputFault::TooLong) => Status::TooLong,
+        Err(InputFault::Memory) => Status::Memory,
+    }
+}
+
+/// Runs the lines of the source as those of a shell of the client.
+fn shell<I: Source, O: Sink, C: Bench>(
+    alloc: Global,
+    client: ClientId,
+    source: &mut I,
+    sink: &mut O,
+    cloud: &mut C,
+) -> Status
+    ensures not_words { result ≡ Status.BadWords → ⊥ }
+    ensures read_fault { result ≡ Status.ReadFault
+        → (I.told source.old).faults < (I.told source.new).faults }
+    ensures too_long { result ≡ Status.TooLong → WasTooLong (I.told source.old) (I.told source.new) }
+    ensures within { (result ≡ Status.TooLong) ⊎ WasWithin (I.told source.old) (I.told source.new) }
+    ensures bad_line { result ≡ Status.BadLine
+        → WasBad HasBadShellLine (I.told source.old) (I.told source.new) }
+    ensures write_fault { result ≡ Status.WriteFault
+        → (O.told sink.old).faults < (O.told sink.new).faults }
+    ensures not_settled { result ≡ Status.NotSettled → ⊥ }
+    ensures ran { RunsShell client result (I.told source.old) (I.told source.new) (O.told sink.old) (O.told sink.new)
+        (C.seen cloud.old) (C.seen cloud.new) }
+{
+    match read_whole(alloc, source) {
+        Ok(input) => match run_shell(alloc, client, input.as_slice(), sink, cloud) {
+            Ok(()) => Status::Done,
+            Err(ShellFault::NotOpened) => Status::NotOpened,
+            Err(ShellFault::BadLine) => Status::BadLine,
+            Err(ShellFault::WriteFault) => Status::WriteFault,
+            Err(ShellFault::Memory) => Status::Memory,
+        },
+        Err(InputFault::ReadFault) => Status::ReadFault,
+        Err(InputFault::TooLong) => Status::TooLong,
+        Err(InputFault::Memory) => Status::Memory,
+    }
+}
+
+/// Handles the schedule of a number and a count of rounds, and writes its summary.
+fn generated<O: Sink, C: Bench>(
+    alloc: Global,
+    number: u64,
+    count: u64,
+    sink: &mut O,
+    cloud: &mut C,
+) -> Status
+    requires { count ≤ 10000 }
+    ensures only { IsOfSchedule result }
+    ensures write_fault { result ≡ Status.WriteFault
+        → (O.told sink.old).faults < (O.told sink.new).faults }
+    ensures ran { Generates number count result (O.told sink.old) (O.told sink.new)
+        (C.seen cloud.old) (C.seen cloud.new) }
+{
+    match generate(alloc, number, count, sink, cloud) {
+        Ok(()) => Status::Done,
+        Err(OutputFault::WriteFault) => Status::WriteFault,
+        Err(OutputFault::Memory) => Status::Memory,
+    }
+}
+
+/// Settles what is in the cloud.
+fn settled<O: Sink, C: Bench>(alloc: Global, sink: &mut O, cloud: &mut C) -> Status
+    ensures only { IsOfSettling result }
+    ensures write_fault { result ≡ Status.WriteFault
+        → (O.told sink.old).faults < (O.told sink.new).faults }
+    ensures ran { RunsSettling result (O.told sink.old) (O.told sink.new)
+        (C.seen cloud.old) (C.seen cloud.new) }
+{
+    match settle(alloc, sink, cloud) {
+        Ok(()) => Status::Done,
+        Err(SettleFault::NotSettled) => Status::NotSettled,
+        Err(SettleFault::WriteFault) => Status::WriteFault,
+        Err(SettleFault::Memory) => Status::Memory,
+    }
+}

@@ -1,0 +1,109 @@
+-- The call that a session has in hand is of a kind that its standing by the lines allows, and opens no transaction twice.
+use Rattle.std.proofs.Common.{◌≡◌, ◌+◌, ◌-◌, ◌⊎◌, ℕ, List, length, take, Some, None, refl, sym, ap, subst, ◌∙◌, inl, inr}
+use Rattle.std.specs.Prelude.{All, slice_get}
+use Rattle.db_base.specs.declared.names.ObjName.TheVariants as object
+use Rattle.cloud_trait.specs.declared.state.Landing.{Landing}
+use Rattle.cloud_trait.specs.Ask.{Ask, Get, GetHeld, PutHeld, Send, Receive, Delete, Take, Renew, Release}
+use Rattle.cloud_trait.specs.Caller.{Caller}
+use Rattle.cloud_trait.specs.Seen.{Seen}
+use Rattle.cloud_trait.specs.declared.turn.Turn.TheVariants.{More}
+use Rattle.cloud_trait.specs.State.{CloudState}
+use Rattle.client_session.specs.declared.work.Work.{Work}
+use Rattle.client_session.specs.declared.work.Work.TheVariants.{Settling}
+use Rattle.client_session.specs.Session.{StepsAt, ask_of_work, opens_of, committing_of}
+use Rattle.head_codec.specs.declared.head.Head.{Head}
+use Rattle.head_codec.specs.declared.head.Phase.TheVariants as phase
+use Rattle.head_codec.specs.Spelling.{head_of}
+use Rattle.cloud_facts.specs.Homes.Homes.{Part}
+use Rattle.session_facts.specs.RowKinds.Asks.{MayAsk}
+use Rattle.session_facts.specs.RowKinds.New.{IsNew}
+use Rattle.session_facts.proofs.RowKinds.Opens.{work_is_new}
+use Rattle.page_cache.specs.Cache.{Cache}
+use Rattle.settle_run.specs.Settling.{settle_ask}
+use Rattle.replay_meaning.specs.Standing.{Line, standing, standing_of_row}
+use Rattle.replay_meaning.specs.Committed.{committed}
+use Rattle.replay_meaning.specs.Kinds.{IsOfSettler, IsOfKind, LandsOpen}
+use Rattle.session_facts.specs.Sessions.Puts.{IsSoundWork, Commits, PutsHead}
+use Rattle.session_facts.specs.Sessions.Sessions.{KnowsWork}
+use Rattle.session_facts.proofs.Sessions.HeadPuts.{head_put}
+use Rattle.cloud_facts.specs.Book.Records.{entries_of}
+use Rattle.cloud_facts.specs.Book.Tally.{Store}
+use Rattle.session_facts.specs.Facts.{WorksAs}
+use Rattle.session_facts.specs.Running.{PutsSettled}
+use Rattle.session_facts.proofs.CallAsks.{settling_may, work_asks}
+use Rattle.session_facts.proofs.CommittedLemmas.{now_standing}
+use Rattle.session_facts.proofs.SettlingHeads.{settling_stays}
+use Rattle.session_facts.proofs.Once.{at_place, not_opened, OpensUnopened}
+
+-- the settler is at work, and puts no head but settled ones
+abbrev pub IsSettling : Work → Type 0
+IsSettling (Settling m) = PutsSettled m.part
+IsSettling w = ⊥
+
+-- a row of this caller is the settler's, of a line that settles
+abbrev pub IsSettlersRow : List Line → Caller → Type 0
+IsSettlersRow lines who = (row : Landing) → row.who ≡ who → IsOfSettler lines row
+
+-- a settling commits nothing
+pub settles_none : (w : Work) → IsSettling w → committing_of w ≡ None
+settles_none (Settling m) settles = refl
+settles_none w settles = absurd settles
+
+-- the call of a settling at work, for a row of the settler's
+pub settle_asks : (lines : List Line) (row : Landing) (w : Work) → IsSettling w → IsOfSettler lines row → IsSoundWork w → (ask : Ask) → ask_of_work w ≡ Some ask → MayAsk lines row ask
+settle_asks lines row (Settling m) settles own sound ask e =
+    let is : settle_ask m ≡ ask = cc in
+    subst (MayAsk lines row) is (settling_may lines row m settles sound own)
+settle_asks lines row w settles own sound ask e = absurd settles
+
+-- a settling that goes on is one
+pub settling_goes : (who : Caller) (before after : Seen) (w new : Work) → StepsAt who before after w new More → IsSettling w → IsSettling new
+settling_goes who before after (Settling m) new p is = subst IsSettling (sym p.1.2) (settling_stays m p.1.0 p.1.1.answer p.1.1.took is)
+settling_goes who before after w new p is = absurd is
+
+-- how the session of a row within a line stands after the lines before it
+standing_now : (lines : List Line) (who : Caller) (row : Landing) → who.event ≡ length lines + 1 → row.who ≡ who → standing_of_row lines row ≡ standing lines who.session
+standing_now lines who row event is = ap (λ (w : Caller). standing (take (w.event - 1) lines) w.session) is ∙ now_standing lines who event
+
+-- the row of a call within a line is of its kind
+pub call_kind : (lines : List Line) (who : Caller) (w : Work) (ask : Ask) → who.event ≡ length lines + 1 → WorksAs w (standing lines who.session)
+    → IsSoundWork w → ask_of_work w ≡ Some ask → (row : Landing) → row.who ≡ who → MayAsk lines row ask
+call_kind lines who w ask event acts sound e row is =
+    work_asks lines row w (subst (WorksAs w) (sym (standing_now lines who row event is)) acts) sound ask e
+
+-- ---- a transaction opens once
+
+-- what opens a transaction opens one of which no row opened a head
+pub call_opens : (lines : List Line) (t : CloudState) (st : Store) (now : ℕ) (c : Cache) (part : Part) (w : Work) (ask : Ask) → entries_of st.book.log ≡ committed lines t
+    → All (IsOfKind lines t) t.trace → KnowsWork st now c w part → IsSoundWork w → ask_of_work w ≡ Some ask → OpensUnopened t ask
+call_opens lines t st now c part w (PutHeld (object.Head client) bytes one two) so kinds k sound e = λ head count spells opens place row other at lands epoch txn.
+    on head count spells opens place row other at lands epoch txn p.how
+  where
+    p : PutsHead w client bytes
+    p = head_put st now c w part k sound client bytes one two e
+
+    never : (count : ℕ) → phase.Settled ≡ phase.Open count → ⊥
+    never count h = absurd (cc)
+
+    on : (head : Head) (count : ℕ) → head_of bytes ≡ Some head → head.phase ≡ phase.Open count → (place : ℕ) (row : Landing) (other : Head) → slice_get t.trace place ≡ Some row
+        → LandsOpen t row client other → other.epoch ≡ head.epoch → other.txn ≡ head.txn → Commits w p.head ⊎ ((opens_of w ≡ None) × (p.head.phase ≡ phase.Settled)) → ⊥
+    on head count spells opens place row other at lands epoch txn (inl o) =
+        let found : Some p.head ≡ Some head = sym p.spells ∙ spells in
+        let same : p.head ≡ head = cc in
+        let new : IsNew st.book.log client p.head o.changes = work_is_new st now c w part client p.head o.changes k p.client_is o.opens o.committing in
+        not_opened lines t st.book.log place row client other head so at (at_place (IsOfKind lines t) t.trace place row kinds at) lands epoch txn
+        (λ r logged own e x. new.fresh r logged own (e ∙ ap (λ (h : Head). h.epoch) (sym same)) (x ∙ ap (λ (h : Head). h.txn) (sym same)))
+    on head count spells opens place row other at lands epoch txn (inr settled) =
+        let found : Some p.head ≡ Some head = sym p.spells ∙ spells in
+        let same : p.head ≡ head = cc in
+        never count (sym settled.1 ∙ ap (λ (h : Head). h.phase) same ∙ opens)
+call_opens lines t st now c part w (PutHeld (object.Tree tree) bytes one two) so kinds k sound e = tt
+call_opens lines t st now c part w (PutHeld (object.Page tree page) bytes one two) so kinds k sound e = tt
+call_opens lines t st now c part w (Get name) so kinds k sound e = tt
+call_opens lines t st now c part w (GetHeld name l) so kinds k sound e = tt
+call_opens lines t st now c part w (Send queue bytes) so kinds k sound e = tt
+call_opens lines t st now c part w (Receive queue most) so kinds k sound e = tt
+call_opens lines t st now c part w (Delete queue id) so kinds k sound e = tt
+call_opens lines t st now c part w (Take lock ticks) so kinds k sound e = tt
+call_opens lines t st now c part w (Renew l ticks) so kinds k sound e = tt
+call_opens lines t st now c part w (Release l) so kinds k sound e = tt

@@ -22,11 +22,12 @@ no_objects = record { few = omega arith; distinct = tt; spelled = tt }
 -- what is kept of a name is in a spelling of its kind
 pub kept_spelled : (name : ObjName) (es : List Object) → AllByRecursion (λ (o : Object). IsSpelled o.0 o.1) es → IfSome (lookup (same_name name) es) (λ bytes. IsSpelled name bytes)
 kept_spelled name [] h = tt
-kept_spelled name (e ∷ es) h = on (same_name name e.0) refl
+kept_spelled name (e ∷ es) h = on (same_name name e.0) refl (kept_spelled name es h.1)
   where
-    on : (b : Bool) → same_name name e.0 ≡ b → IfSome (cond b (Some e.1) (lookup (same_name name) es)) (λ bytes. IsSpelled name bytes)
-    on true is = subst (λ (n : ObjName). IsSpelled n e.1) (sym (same_name-is name e.0 is)) h.0
-    on false is = kept_spelled name es h.1
+    on : (b : Bool) → same_name name e.0 ≡ b → IfSome (lookup (same_name name) es) (λ bytes. IsSpelled name bytes)
+        → IfSome (cond b (Some e.1) (lookup (same_name name) es)) (λ bytes. IsSpelled name bytes)
+    on true is rest = subst (λ (n : ObjName). IsSpelled n e.1) (sym (same_name-is name e.0 is)) h.0
+    on false is rest = rest
 
 -- the objects without one of them
 pub objects_left : (name : ObjName) (es : List Object) → AreObjects es → AreObjects (remove_entry (same_name name) es)

@@ -1,6 +1,6 @@
 -- What is read of bytes, by what the readers of their formats answer.
-use Rattle.std.proofs.Common.{◌≡◌, ℕ, true, false, List, Some, None, Result, Ok, Err, refl, sym, ap}
-use Rattle.std.specs.Prelude.{IfOk, IsOkAnd, ◌⊎◌, inl, inr}
+use Rattle.std.proofs.Common.{◌≡◌, ℕ, true, false, List, Some, None, Result, Ok, Err, refl, sym, ap, inl, inr}
+use Rattle.std.specs.Prelude.{IfOk, IsOkAnd}
 use Rattle.std.specs.Result.{result_ok}
 use Rattle.byte_format.specs.Format.{Format, mark_at}
 use Rattle.byte_format.specs.Whole.{whole, offset, IsSpelling, IsBytes, IsExact}

@@ -28,6 +28,8 @@ impl Drop for Home {
 }
 
 impl Home {
+    ghost use Rattle.std.specs.Prelude.{◌≡◌};
+
     /// The lease; the rest is let go.
     pub fn into_lease(self) -> Lease
         ensures { result ≡ self.lease }

@@ -1,10 +1,20 @@
-use Rattle.std.proofs.Common.{subst}
+use Rattle.std.proofs.Common.{sym, ◌∙◌, subst}
 use Rattle.leaf_view.specs.Fits.{IsVersion}
 use Rattle.leaf_view.specs.Leaf.{Leaf}
 use Rattle.leaf_view.proofs.Split.{leaf_fits}
+use Rattle.leaf_edit.specs.Buffer.{leaf_in}
+use Rattle.leaf_edit.proofs.Spelled.{leaf_in_is}
 use Rattle.leaf_edit.proofs.buffer.LeafBuf.view.Goals as goal
 
-pub returns-in-Ok-clause-version : goal.returns-in-Ok-clause-version
-returns-in-Ok-clause-version c =
+pub known-requires : goal.known-requires
+known-requires c = (leaf_in c.self.inside.bytes.items, rw c.deref.ensures.value c.self.invariant)
+
+pub returns-clause-view : goal.returns-clause-view
+returns-clause-view c =
+    let is = rw c.deref.ensures.value at c.known.ensures in
+    sym (leaf_in_is c.self.inside.bytes.items c.known.result is) ∙ c.self.view_is
+
+pub returns-clause-version : goal.returns-clause-version
+returns-clause-version c =
     let P : Leaf → Type 0 = λ l. IsVersion l.version in
     subst P c.self.view_is (leaf_fits _ c.self.invariant.fits).0

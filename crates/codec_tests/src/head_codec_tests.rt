@@ -130,7 +130,7 @@ fn a_head_is_read(rt: HostRuntime) {
     match Head::read(rt.alloc(), &HEAD) {
         Ok(head) => {
             assert!(rt; is_settled(&head));
-            assert!(rt; head.pending.into_vec().len() == 1);
+            assert!(rt; head.pending.as_slice().len() == 1);
         }
         Err(_) => rt.panic("no head"),
     }

@@ -152,7 +152,7 @@ fn has<S: Store>(cloud: &S, number: u64, bytes: &[u8]) -> Result<(), Fail> {
 
 fn lease_of(home: Option<Home>) -> Option<Lease> {
     match home {
-        Some(home) => Some(home.lease),
+        Some(home) => Some(home.into_lease()),
         None => None,
     }
 }

@@ -7,10 +7,10 @@ ghost use Rattle.world_core.specs.Put.{noted_put, kept_of};
 ghost use Rattle.world_core.specs.Sessions.{NotesPut};
 
 use crate::sessions::Sessions;
+use client_session::calls::SessionCalls;
 use db_base::ids::{ClientId, SessionNo};
 use db_base::names::ObjName;
 use db_base::refusal::Refused;
-use client_session::calls::SessionCalls;
 use std::alloc::Global;
 use world_audit::audit::Audit;
 use world_audit::mark::Mark;

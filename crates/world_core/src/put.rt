@@ -8,12 +8,12 @@ ghost use Rattle.world_audit.specs.Look.{Looked};
 ghost use Rattle.world_core.specs.Put.{put_of, put_of_ask, SeesNewest};
 
 use crate::world::WorldFault;
+use client_session::calls::SessionCalls;
 use cloud_trait::call::Call;
 use cloud_trait::cloud::Bench;
 use cloud_trait::fault::CloudFault;
 use db_base::blob::Blob;
 use db_base::names::ObjName;
-use client_session::calls::SessionCalls;
 use std::alloc::{AllocError, Global};
 
 /// A put: its object, and a copy of its bytes.

@@ -6,6 +6,7 @@ ghost use Rattle.world_core.specs.Replying.{declined, done_reply, told, trouble_
 
 use crate::world::WorldFault;
 use client_session::answer::{Answer, Begun};
+use client_session::calls::SessionCalls;
 use cloud_trait::turn::Turn;
 use db_base::blob::Blob;
 use db_base::pair::Pair;
@@ -13,7 +14,6 @@ use db_base::refusal::Refused;
 use db_base::trouble::Trouble;
 use reply_text::reply::Reply;
 use report_types::pair_list::PairList;
-use client_session::calls::SessionCalls;
 use std::alloc::{AllocError, Global};
 
 /// The answer to a line that is not done.

@@ -1,6 +1,7 @@
 ghost use Rattle.std.specs.Prelude.{◌≡◌, ◌<◌};
 
 use client_session::answer::{Answer, Begun};
+use client_session::calls::SessionCalls;
 use client_session::op::Op;
 use cloud_trait::cloud::Cloud;
 use cloud_trait::turn::Turn;
@@ -8,7 +9,6 @@ use cloud_trait::who::Who;
 use db_base::change::Change;
 use db_base::ids::{SessionNo, TreeId};
 use db_base::refusal::Refused;
-use client_session::calls::SessionCalls;
 use std::alloc::Global;
 use std::marker::Model;
 

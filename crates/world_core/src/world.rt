@@ -11,6 +11,7 @@ use crate::replying::{
 };
 use crate::sessions::Sessions;
 use client_session::answer::Answer;
+use client_session::calls::SessionCalls;
 use client_session::op::Op;
 use cloud_trait::cloud::Bench;
 use cloud_trait::turn::Turn;
@@ -22,7 +23,6 @@ use db_base::trouble::Trouble;
 use db_base::wish::Wish;
 use event_text::event::Event;
 use reply_text::reply::Reply;
-use client_session::calls::SessionCalls;
 use std::alloc::Global;
 use std::marker::Model;
 use world_audit::audit::Audit;

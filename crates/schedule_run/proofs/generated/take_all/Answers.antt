@@ -10,5 +10,5 @@ returns-in-Err-take g c = stop_earlier _ _ _ _ (stop_next _ _ _ _ _ _ _ c.in-Ok.
 pub returns-in-Ok-take-2 : goal.returns-in-Ok-take-2
 returns-in-Ok-take-2 g c = handles_all _ _ _ _ _ _ _ _ _ _ _ c.in-Ok.ensures c.in-Ok-take.ensures c.in-Ok-take-2.ensures
 
-pub returns-in-Err-take-2 : goal.returns-in-Err-take-2
-returns-in-Err-take-2 g c = stop_report _ _ _ _ _ _ _ _ _ _ c.in-Ok.ensures c.in-Ok-take.ensures c.in-Err-take-2.ensures
+pub returns : goal.returns
+returns g c = stop_report _ _ _ _ _ _ _ _ _ _ c.in-Ok.ensures c.in-Ok-take.ensures c.in-Err-take-2.ensures

@@ -10,5 +10,5 @@ returns-in-Ok-clause-went g c =
     (g.C.Cloud.seen c.take.new.cloud) in
     subst At (sym c.end_of-end.ensures) (settle_shown _ _ _ _ _ _ _ _ c.requires c.in-Ok.ensures c.write_reply-written.ensures)
 
-pub returns-in-Err-clause-went : goal.returns-in-Err-clause-went
-returns-in-Err-clause-went g c = out_handling (settle_stopped _ _ _ _ c.requires c.in-Err.ensures) refl
+pub returns-clause-went : goal.returns-clause-went
+returns-clause-went g c = out_handling (settle_stopped _ _ _ _ c.requires c.in-Err.ensures) refl

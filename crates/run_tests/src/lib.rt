@@ -2,4 +2,18 @@
 #![tactic(auto)]
 
 #[cfg(test)]
-mod tests;
+mod bench;
+#[cfg(test)]
+mod bytes;
+#[cfg(test)]
+mod commits;
+#[cfg(test)]
+mod ends;
+#[cfg(test)]
+mod replays;
+#[cfg(test)]
+mod shells;
+#[cfg(test)]
+mod sizes;
+#[cfg(test)]
+mod trees;

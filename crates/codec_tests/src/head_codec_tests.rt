@@ -2,7 +2,7 @@ use crate::refusals::{Reads, refuses_changes, refuses_cuts};
 use db_base::blob::Blob;
 use db_base::change::Change;
 use db_base::ids::TreeId;
-use db_base::key::Key;
+use db_base::key::{Key, Payload};
 use head_codec::head::{Head, HeadFault, Phase};
 use head_codec::lists::{Pending, PendingList};
 use std::alloc::Global;
@@ -24,6 +24,12 @@ const COUNTERS: [u8; 57] = [
 /// Epoch 1, transaction 1 of 200 records under way.
 const OPEN: [u8; 22] = [
     0x48, 1, 0, 0, 0, 0, 0, 0, 0, 1, 0, 0, 0, 0, 0, 0, 0, 1, 1, 200, 0, 0,
+];
+
+/// HEAD while the commit of its pending entry was under way.
+const UNDER_WAY: [u8; 40] = [
+    0x48, 1, 0, 0, 0, 0, 0, 0, 0, 1, 0, 0, 0, 0, 0, 0, 0, 1, 1, 1, 1, 1, 0, 0, 0, 0, 0, 0, 0, 0, 0,
+    0, 0, 0, 0, 0, 0, 1, 0, 0,
 ];
 
 /// How many bytes of HEAD are there, and where it is refused.
@@ -115,6 +121,52 @@ fn vectors(rt: HostRuntime) {
     assert!(rt; is_written_back(rt.alloc(), &HEAD));
     assert!(rt; is_written_back(rt.alloc(), &COUNTERS));
     assert!(rt; is_written_back(rt.alloc(), &OPEN));
+}
+
+/// The bytes of a head whose commit of one record is under way, settled with that record, which has number 1 of a tree queue.
+#[tactic(auto, using(head_codec::proofs::Settling::was_open))]
+fn settled(alloc: Global, bytes: &[u8], tree: TreeId, change: Change) -> Option<Blob> {
+    let Ok(mut head) = Head::read(alloc, bytes) else {
+        return None;
+    };
+    if head.phase != Phase::Open(1) {
+        return None;
+    }
+    let Ok(()) = head.pending.push(Pending {
+        tree,
+        page: 0,
+        number: 1,
+        change,
+    })
+    else {
+        return None;
+    };
+    head.phase = Phase::Settled;
+    head.write_settled(alloc, bytes, 1).ok()
+}
+
+/// Whether UNDER_WAY is settled as HEAD with the insert of a payload.
+fn is_settled_by(alloc: Global, tree: TreeId, key: Key, payload: Payload) -> bool {
+    match settled(alloc, &UNDER_WAY, tree, Change::Insert { key, payload }) {
+        Some(written) => written.as_slice() == HEAD.as_slice(),
+        None => false,
+    }
+}
+
+/// The same of the payload `v` under the key `k`.
+fn is_settled_in(alloc: Global, tree: TreeId) -> bool {
+    match (Key::new(alloc, b"k"), Payload::new(alloc, b"v")) {
+        (Ok(key), Ok(payload)) => is_settled_by(alloc, tree, key, payload),
+        _ => false,
+    }
+}
+
+#[test]
+fn a_head_is_settled(rt: HostRuntime) {
+    match TreeId::new(1) {
+        Ok(tree) => assert!(rt; is_settled_in(rt.alloc(), tree)),
+        Err(_) => rt.panic("no tree"),
+    }
 }
 
 /// Whether a head is of epoch 1 and transaction 1, settled, with one counter.

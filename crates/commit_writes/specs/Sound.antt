@@ -1,8 +1,10 @@
 -- What the bytes in hand spell, and what a commit keeps while it writes.
-use Rattle.std.specs.Prelude.{ℕ, ◌≡◌, ◌≤◌, length, slice_get, Option, Some, None}
+use Rattle.std.specs.Prelude.{ℕ, ◌≡◌, ◌≤◌, length, slice_get, List, Option, Some, None}
 use Rattle.std.specs.List.{AllByRecursion}
 use Rattle.head_codec.specs.Counters.{AreCounters}
 use Rattle.head_codec.specs.Spelling.{IsPhase, head_of}
+use Rattle.head_codec.specs.declared.head.Head.{Head}
+use Rattle.head_codec.specs.declared.head.Phase.TheVariants.{Open}
 use Rattle.log_codec.specs.declared.record.AtomicRec.{AtomicRec}
 use Rattle.log_codec.specs.Atomic.{HasPlace, atomic_of}
 use Rattle.log_codec.specs.Pu.{pu_of}
@@ -51,3 +53,8 @@ pub record IsKept (w : Writing) : Type 0 where
   pub before : IsBefore w.before
   pub placed : AllByRecursion HasPlace w.records
   pub sound : IsSound w
+
+-- bytes that are kept of the head that commits are its own, and it is under way with the records
+abbrev pub IsSpelled : Head → List AtomicRec → Option (List ℕ) → Type 0
+IsSpelled h records (Some bytes) = (head_of bytes ≡ Some h) × (h.phase ≡ Open (length records))
+IsSpelled h records None = Unit {0}

@@ -1,13 +1,14 @@
 //! The bytes of what a commit sends and puts.
 
-ghost use Rattle.std.specs.Prelude.{◌≡◌, ◌≤◌, length, Some, IfOk, OnOk};
+ghost use Rattle.std.specs.Prelude.{◌≡◌, ◌≤◌, length, Some, IfOk, IfSome, OnOk};
 ghost use Rattle.std.specs.List.{AllByRecursion};
-ghost use Rattle.head_codec.specs.Spelling.{HasSpelling, head_bytes, head_of};
+ghost use Rattle.head_codec.specs.Spelling.{HasSpelling, WasOpen, head_bytes, head_of};
 ghost use Rattle.log_codec.specs.Atomic.{HasPlace, atomic_bytes, atomic_of};
 ghost use Rattle.log_codec.specs.Pu.{pu_bytes, pu_of};
 ghost use Rattle.log_codec.specs.declared.record.AtomicRec.{AtomicRec};
 ghost use Rattle.route_plan.specs.Heads.{opened_head, settled_head};
 ghost use Rattle.route_plan.specs.Record.{pu_record_of};
+ghost use Rattle.commit_writes.specs.Sound.{IsSpelled};
 ghost use Rattle.commit_writes.specs.Writing.{with_head};
 
 use crate::stage::Saved;
@@ -77,13 +78,26 @@ pub(crate) fn open_home(
     bytes_of(alloc, &home.head)
 }
 
-/// Makes the home's head the one that settles the records, and gives its bytes. After an `Err` the head may be either.
-#[tactic(auto, using(crate::proofs::Keeping::settled_spelled))]
+/// A copy of a head's bytes; none where memory runs out.
+pub(crate) fn copy_of(alloc: Global, bytes: &Blob) -> Option<Blob>
+    ensures { IfSome result (λ copy. copy ≡ bytes.now) }
+{
+    match Blob::copy_of(alloc, bytes.as_slice()) {
+        Ok(copy) => Some(copy),
+        Err(_) => None,
+    }
+}
+
+/// Makes the home's head the one that settles the records, and gives its bytes; `before` are those of the head as it was, where they
+/// are kept. After an `Err` the head may be either.
+#[tactic(auto, using(crate::proofs::Keeping::settled_spelled, crate::proofs::Keeping::was_open))]
 pub(crate) fn settle_home(
     alloc: Global,
     home: &mut Home,
     records: &[AtomicRec],
+    before: Option<Blob>,
 ) -> Result<Blob, AllocError>
+    requires before { IsSpelled home.old.head records.now before }
     requires placed { AllByRecursion HasPlace records.now }
     ensures home { OnOk result (home.new ≡ with_head home.old (settled_head home.old.head records.now)) }
     ensures kept { home.new ≡ with_head home.old home.new.head }
@@ -91,7 +105,10 @@ pub(crate) fn settle_home(
     ensures decoded { IfOk result (λ out. head_of out ≡ Some home.new.head) }
 {
     settle_head(alloc, &mut home.head, records)?;
-    bytes_of(alloc, &home.head)
+    match before {
+        Some(before) => settled_bytes(alloc, &home.head, before.as_slice(), records.len()),
+        None => bytes_of(alloc, &home.head),
+    }
 }
 
 /// The spelling of a head.
@@ -101,6 +118,24 @@ fn bytes_of(alloc: Global, head: &Head) -> Result<Blob, AllocError>
     ensures decoded { IfOk result (λ out. head_of out ≡ Some head.now) }
 {
     match head.write(alloc) {
+        Ok(out) => Ok(out),
+        Err(_) => Err(AllocError),
+    }
+}
+
+/// The spelling of a settled head, from that of the head under way.
+fn settled_bytes(
+    alloc: Global,
+    head: &Head,
+    before: &[u8],
+    count: usize,
+) -> Result<Blob, AllocError>
+    requires spelling { HasSpelling head.now }
+    requires before { WasOpen head.now before.now count }
+    ensures bytes { IfOk result (λ out. out ≡ head_bytes head.now) }
+    ensures decoded { IfOk result (λ out. head_of out ≡ Some head.now) }
+{
+    match head.write_settled(alloc, before, count) {
         Ok(out) => Ok(out),
         Err(_) => Err(AllocError),
     }

@@ -8,7 +8,7 @@ ghost use Rattle.cloud_trait.specs.Weather.{Makes};
 
 use crate::pruning::{prune_home_leaf, prune_home_tree};
 use crate::routing::{first_leaves, records_of};
-use crate::spelling::{log_bytes, open_home, queue_bytes, settle_home, what_changes};
+use crate::spelling::{copy_of, log_bytes, open_home, queue_bytes, settle_home, what_changes};
 use crate::stage::{Saved, Stage};
 use cloud_trait::answer::Answer;
 use cloud_trait::call::Call;
@@ -43,6 +43,8 @@ pub struct CommitWrites {
     place: usize,
     ids: Vec<MsgId>,
     out: Blob,
+    /// The bytes of the head that commits, while it is under way and they are kept.
+    spelled: Option<Blob>,
 }
 
 impl Drop for CommitWrites {
@@ -56,19 +58,20 @@ impl Drop for CommitWrites {
             place: _,
             ids: _,
             out: _,
+            spelled: _,
         } = self;
     }
 }
 
 impl Model for CommitWrites {
     ghost use Rattle.commit_writes.specs.Writing.{Writing};
-    ghost use Rattle.commit_writes.specs.Sound.{IsKept};
+    ghost use Rattle.commit_writes.specs.Sound.{IsKept, IsSpelled};
 
     ghost Value = { Writing };
 
     ghost view = { λ w. record { home = w.home; before = record { txn = w.before.txn; phase = w.before.phase; counters = w.before.counters.items }; changes = w.changes; stage = w.stage; records = w.records.items; place = w.place; ids = w.ids.items; out = w.out } };
 
-    ghost invariant = { λ w. IsKept (record { home = w.home; before = record { txn = w.before.txn; phase = w.before.phase; counters = w.before.counters.items }; changes = w.changes; stage = w.stage; records = w.records.items; place = w.place; ids = w.ids.items; out = w.out }) };
+    ghost invariant = { λ w. IsKept (record { home = w.home; before = record { txn = w.before.txn; phase = w.before.phase; counters = w.before.counters.items }; changes = w.changes; stage = w.stage; records = w.records.items; place = w.place; ids = w.ids.items; out = w.out }) × IsSpelled w.home.head w.records.items w.spelled };
 }
 
 impl CommitWrites {
@@ -104,6 +107,7 @@ impl CommitWrites {
             place: 0,
             ids: Vec::new(alloc),
             out: Blob::new(alloc),
+            spelled: None,
         }
     }
 
@@ -120,6 +124,7 @@ impl CommitWrites {
             place: _,
             ids: _,
             out: _,
+            spelled: _,
         } = self;
         home
     }
@@ -173,6 +178,7 @@ impl CommitWrites {
         ensures { self.new ≡ pruned self.old (pruned_by_leaf self.old.home.head self.old.home.client tree view.now) }
     {
         self.stage = Stage::Waiting;
+        self.spelled = None;
         prune_home_leaf(&mut self.home, tree, view);
     }
 
@@ -181,6 +187,7 @@ impl CommitWrites {
         ensures { self.new ≡ pruned self.old (pruned_by_tree self.old.home.head self.old.home.client tree view.now) }
     {
         self.stage = Stage::Waiting;
+        self.spelled = None;
         prune_home_tree(&mut self.home, tree, view);
     }
 
@@ -250,6 +257,7 @@ impl CommitWrites {
         ensures calls { result ≡ Turn.More → calls_left self.new ≡ 3 * length records.items + length self.old.ids + 2 }
     {
         self.stage = Stage::Finished;
+        self.spelled = None;
         self.records = records;
         self.log_at(alloc, 0)
     }
@@ -286,8 +294,10 @@ impl CommitWrites {
             Ok(before) => before,
             Err(_) => return Turn::Stopped(Trouble::Memory),
         };
+        self.spelled = None;
         match open_home(alloc, &mut self.home, self.records.as_slice()) {
             Ok(out) => {
+                self.spelled = copy_of(alloc, &out);
                 self.before = before;
                 self.stage = Stage::Opening;
                 self.out = out;
@@ -326,7 +336,8 @@ impl CommitWrites {
     fn settle(&mut self, alloc: Global) -> Turn<CommitAnswer>
         ensures { Took (λ w _ n. settling w ≡ n) KeepsHome self.old Answer.Failed self.new result }
     {
-        match settle_home(alloc, &mut self.home, self.records.as_slice()) {
+        let spelled = self.spelled.take();
+        match settle_home(alloc, &mut self.home, self.records.as_slice(), spelled) {
             Ok(out) => {
                 self.stage = Stage::Settling;
                 self.out = out;
@@ -401,6 +412,7 @@ impl CommitWrites {
     fn restore(&mut self, alloc: Global)
         ensures { self.new ≡ finished (closed_again self.old) }
     {
+        self.spelled = None;
         let counters = mem::replace(&mut self.before.counters, Vec::new(alloc));
         let home = &mut self.home;
         home.head.txn = self.before.txn;

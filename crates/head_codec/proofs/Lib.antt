@@ -1,3 +1,4 @@
 pub mod ListSpelling
 pub mod HeadLaws
 pub mod Keeping
+pub mod Settling

@@ -1,5 +1,5 @@
 -- The format of a head.
-use Rattle.std.specs.Prelude.{ℕ, ◌≤◌, ◌<◌, ◌^◌, ◌==◌, Bool, List, Option, Some, None}
+use Rattle.std.specs.Prelude.{ℕ, ◌≡◌, ◌≤◌, ◌<◌, ◌-◌, ◌^◌, ◌==◌, Bool, List, length, take, Option, Some, None}
 use Rattle.std.specs.List.{AllByRecursion}
 use Rattle.std.specs.Int.{w8}
 use Rattle.db_base.specs.Ids.{IsTree}
@@ -97,3 +97,13 @@ pub record FitsTypes (h : Head) : Type 0 where
   pub txn : h.txn < 2 ^ 64
   pub counters : AllByRecursion FitsCounter h.counters
   pub pending : AllByRecursion FitsPending h.pending
+
+-- a settled head as it was while its commit of so many records was under way: they were not among its entries yet
+abbrev pub under_way : Head → ℕ → Head
+under_way h count = record h { phase = Open count; pending = take (length h.pending - count) h.pending }
+
+-- a head is settled, and these bytes spelled it before
+pub record WasOpen (h : Head) (before : List ℕ) (count : ℕ) : Type 0 where
+  pub settled : h.phase ≡ Settled
+  pub few : count ≤ length h.pending
+  pub spelled : head_of before ≡ Some (under_way h count)

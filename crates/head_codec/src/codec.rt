@@ -4,14 +4,16 @@ ghost use Rattle.std.specs.Prelude.{◌≡◌, ◌++◌, OnOk, IfOk, IfErr};
 ghost use Rattle.byte_format.specs.Gives.{Gives, GivesOwned};
 ghost use Rattle.byte_format.specs.Whole.{whole, IsSpelling};
 ghost use Rattle.head_codec.specs.Fault.{Answers, Decodes, IsAt};
-ghost use Rattle.head_codec.specs.Spelling.{phase, head, head_at, head_bytes, head_of, head_offset, IsPhase, HasSpelling, FitsTypes};
+ghost use Rattle.head_codec.specs.Spelling.{phase, head, head_at, head_bytes, head_of, head_offset, IsPhase, HasSpelling, FitsTypes, WasOpen};
 ghost use Rattle.head_codec.specs.declared.head.Head.{Head};
 
 use crate::counters::{CounterRules, add_counters};
 use crate::head::{Head, HeadFault, Phase};
 use crate::lists::{CounterList, PendingList};
 use crate::pending::{PendingRules, add_pending};
-use byte_format::{ReadFault, Stop, mark_at, owned_list, try_add, try_add_u64, u8_at, u64_at};
+use byte_format::{
+    ReadFault, Stop, mark_at, owned_list, try_add, try_add_u8, try_add_u64, u8_at, u64_at,
+};
 use db_base::blob::Blob;
 use std::alloc::{AllocError, Global};
 
@@ -27,6 +29,11 @@ const HEAD_ROOM: usize = 32;
 const COUNTER_ROOM: usize = 18;
 
 const ENTRY_ROOM: usize = 48;
+
+// Where the phase stands in a head's spelling, and how many bytes one under way takes.
+const PHASE_AT: usize = 18;
+
+const OPEN_PHASE: usize = 2;
 
 /// The phase at the front of bytes, and the bytes behind it.
 fn phase_at(bytes: &[u8]) -> Result<(Phase, &[u8]), Stop>
@@ -100,6 +107,25 @@ fn add_head(out: &mut Vec<u8>, of: &Head) -> Result<(), AllocError>
     Ok(())
 }
 
+/// Appends the spelling of a settled head, made of the one that it had while its commit of so many records was under way.
+#[tactic(auto, using(crate::proofs::Settling::long_enough))]
+fn add_settled(out: &mut Vec<u8>, of: &Head, before: &[u8], count: usize) -> Result<(), AllocError>
+    requires { WasOpen of.now before.now count }
+    ensures spelling { OnOk result (out.new.items ≡ out.old.items ++ head_bytes of.now) }
+    ensures valid { OnOk result (FitsTypes of.now) }
+{
+    let (front, rest) = before.split_at(PHASE_AT);
+    let (_, rest) = rest.split_at(OPEN_PHASE);
+    let (lists, _) = rest.split_at(rest.len() - 1);
+    let pending = of.pending.as_slice();
+    let (_, more) = pending.split_at(pending.len() - count);
+    try_add(out, front)?;
+    try_add_u8(out, 0)?;
+    try_add(out, lists)?;
+    add_pending(out, more)?;
+    Ok(())
+}
+
 /// Room for most spellings of a head, so that its writer seldom asks for more.
 fn room_for(head: &Head) -> usize {
     let counters = head.counters.as_slice().len();
@@ -138,6 +164,25 @@ impl Head {
     {
         let mut out = Vec::with_capacity(alloc, room_for(self))?;
         add_head(&mut out, self)?;
+        Ok(Blob::of(out))
+    }
+
+    /// The one spelling of a settled head, from the bytes that it had while its commit of so many records was under way.
+    pub fn write_settled(
+        &self,
+        alloc: Global,
+        before: &[u8],
+        count: usize,
+    ) -> Result<Blob, HeadFault>
+        requires spelling { HasSpelling self.now }
+        requires before { WasOpen self.now before.now count }
+        ensures spelling { IfOk result (λ b. FitsTypes self.now × IsSpelling head b self.now) }
+        ensures decoded { IfOk result (λ b. head_of b ≡ Some self.now) }
+        ensures memory { IfErr result (λ e. e ≡ HeadFault.Memory) }
+    {
+        let room = count.saturating_mul(ENTRY_ROOM);
+        let mut out = Vec::with_capacity(alloc, before.len().saturating_add(room))?;
+        add_settled(&mut out, self, before, count)?;
         Ok(Blob::of(out))
     }
 }

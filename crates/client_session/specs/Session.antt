@@ -302,6 +302,24 @@ StepsCommit who before after old c d work (Ended (answer.Trouble k)) =
     (m : Run) × Steps run_asks (LeadsBy run_next) KeepsHome who before after (old, c) (m, d) (Stopped k) × (work ≡ Broken (home_of_run m).lease)
 StepsCommit who before after old c d work turn = ⊥
 
+-- what a commit leaves in hand whose newest step came to this
+abbrev pub behind_step : Run → Turn Answer → Work
+behind_step m (Ended (answer.Commit a)) = committed_work a (home_of_run m)
+behind_step m (Ended (answer.Trouble k)) = Broken (home_of_run m).lease
+behind_step m turn = Committing m
+
+-- the same of a tree checkpoint beside an open client
+abbrev pub behind_fold : Home → Making → Turn Answer → Work
+behind_fold home m (Ended (answer.Done a)) = Idle home
+behind_fold home m (Ended (answer.Trouble k)) = stopped_work k home
+behind_fold home m turn = Folding home m
+
+-- the same of whatever is in hand: what is neither stays
+abbrev pub ended_by : Work → Turn Answer → Work
+ended_by (Committing m) turn = behind_step m turn
+ended_by (Folding home m) turn = behind_fold home m turn
+ended_by work turn = work
+
 -- a call was made, and answered
 pub record Asks (ask : Ask) (who : Caller) (before after : Seen) : Type 0 where
   pub answer : Heard
@@ -420,6 +438,21 @@ is_working (Closing lease) = true
 is_working (Renewing home) = true
 is_working (Settling m) = true
 is_working (Broken lease) = false
+
+-- whether something is at work that is neither a commit nor a tree checkpoint
+abbrev pub is_other : Work → Bool
+is_other (Opening m) = true
+is_other (Committing m) = false
+is_other (Reading home m) = true
+is_other (Scanning home m) = true
+is_other (Paging home m) = true
+is_other (Folding home m) = false
+is_other Closed = false
+is_other (Idle home) = false
+is_other (Closing lease) = true
+is_other (Renewing home) = true
+is_other (Settling m) = true
+is_other (Broken lease) = false
 
 -- one step of what is in hand; where nothing is at work it is refused and changes nothing
 abbrev pub StepsWork : Caller → Seen → Seen → Work → Work → Result (Turn Answer) Refused → Type 0

@@ -3,7 +3,7 @@ ghost use Rattle.commit_run.specs.Run.{home_of as home_of_run};
 ghost use Rattle.commit_run.specs.Sound.{IsSoundRun};
 ghost use Rattle.client_session.specs.declared.work.Work.TheVariants as work;
 ghost use Rattle.client_session.specs.Left.{at_rest, behind_commit};
-ghost use Rattle.client_session.specs.Session.{CommitsNoted, StepsAt, StepsCommit, committed_work};
+ghost use Rattle.client_session.specs.Session.{CommitsNoted, StepsCommit, behind_step, committed_work};
 
 use crate::answer::{Answer, Begun};
 use crate::left::{Left, Rest};
@@ -60,41 +60,32 @@ fn commit_of(
     }
 }
 
-/// Makes the call in hand of a commit, beside the cache.
-pub(crate) fn step_committing<C: Cloud>(
+/// Makes the call in hand of a commit where it stands, beside the cache.
+pub(crate) fn advance<C: Cloud>(
     alloc: Global,
     cloud: &mut C,
     who: Who,
-    machine: CommitRun,
+    machine: &mut CommitRun,
     cache: &mut PageCache,
-) -> (Left<CommitRun>, Turn<Answer>)
-    ensures steps { StepsAt who (C.seen cloud.old) (C.seen cloud.new) (work.Committing machine) (behind_commit result.0) result.1 }
-    ensures shows { StepsCommit who (C.seen cloud.old) (C.seen cloud.new) machine cache.old cache.new (behind_commit result.0) result.1 }
-{
-    step_commit(alloc, cloud, who, machine, cache)
-}
-
-/// The same: what is in hand then, and what it came to.
-fn step_commit<C: Cloud>(
-    alloc: Global,
-    cloud: &mut C,
-    who: Who,
-    mut machine: CommitRun,
-    cache: &mut PageCache,
-) -> (Left<CommitRun>, Turn<Answer>)
-    ensures sound { IsSoundRun machine }
-    ensures steps { StepsCommit who (C.seen cloud.old) (C.seen cloud.new) machine cache.old cache.new (behind_commit result.0) result.1 }
+) -> Turn<Answer>
+    ensures sound { IsSoundRun machine.old }
+    ensures steps { StepsCommit who (C.seen cloud.old) (C.seen cloud.new) machine.old cache.old cache.new (behind_step machine.new result) result }
 {
     match machine.step(alloc, cloud, who, cache) {
-        Turn::More => (Left::Goes(machine), Turn::More),
-        Turn::Ended(answer) => (
-            Left::Rests(committed(&answer, machine)),
-            Turn::Ended(Answer::Commit(answer)),
-        ),
-        Turn::Stopped(trouble) => (
-            Left::Rests(broken(machine)),
-            Turn::Ended(Answer::Trouble(trouble)),
-        ),
+        Turn::More => Turn::More,
+        Turn::Ended(answer) => Turn::Ended(Answer::Commit(answer)),
+        Turn::Stopped(trouble) => Turn::Ended(Answer::Trouble(trouble)),
+    }
+}
+
+/// What a commit leaves in hand whose newest step came to this.
+pub(crate) fn left_by(machine: CommitRun, turn: &Turn<Answer>) -> Left<CommitRun>
+    ensures { behind_commit result ≡ behind_step machine turn.now }
+{
+    match turn {
+        Turn::Ended(Answer::Commit(answer)) => Left::Rests(committed(answer, machine)),
+        Turn::Ended(Answer::Trouble(_)) => Left::Rests(broken(machine)),
+        _ => Left::Goes(machine),
     }
 }
 

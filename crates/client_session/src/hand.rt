@@ -77,16 +77,16 @@ pub trait Hand: Drop {
         requires { bar_of op (work self) ≡ None }
         ensures { BeginsAt op buffer.old (work self) cache.old buffer.new (work result.0) cache.new result.1 result.2 };
 
-    /// Makes the call in hand of what is at work, where so much is noted: what is in hand then, what that shows, and what it came to.
+    /// Makes the call in hand of what is at work, where so much is noted: what that shows, and what it came to.
     fn step<C: Cloud>(
-        self,
+        &mut self,
         alloc: Global,
         cloud: &mut C,
         who: Who,
         cache: &mut PageCache,
         buffer: &TxnBuffer,
-    ) -> (Self, Shown, Turn<Answer>)
-        requires { is_working (work self) ≡ true }
-        ensures steps { StepsAt who (C.seen cloud.old) (C.seen cloud.new) (work self) (work result.0) result.2 }
-        ensures shows { ShowsAt who (C.seen cloud.old) (C.seen cloud.new) buffer.now (work self) cache.old cache.new (work result.0) result.1 result.2 };
+    ) -> (Shown, Turn<Answer>)
+        requires { is_working (work self.old) ≡ true }
+        ensures steps { StepsAt who (C.seen cloud.old) (C.seen cloud.new) (work self.old) (work self.new) result.1 }
+        ensures shows { ShowsAt who (C.seen cloud.old) (C.seen cloud.new) buffer.now (work self.old) cache.old cache.new (work self.new) result.0 result.1 };
 }

@@ -149,11 +149,11 @@ impl<H: Hand> Session<H> {
             return Err(Refused::Rule(Refusal::NotWorking));
         }
         phase.drop_noted(&mut self.buffer);
-        let work = mem::replace(&mut self.work, H::closed());
-        let (work, shown, turn) = work.step(alloc, cloud, who, &mut self.cache, &self.buffer);
-        let left = work.phase();
+        let (shown, turn) = self
+            .work
+            .step(alloc, cloud, who, &mut self.cache, &self.buffer);
+        let left = self.work.phase();
         left.drop_kept(&mut self.cache);
-        self.work = work;
         self.shown = shown;
         Ok(turn)
     }

@@ -1,11 +1,11 @@
-ghost use Rattle.std.specs.Prelude.{◌≡◌, None};
+ghost use Rattle.std.specs.Prelude.{◌≡◌, true, None};
 ghost use Rattle.client_session.specs.Left.{at_rest, behind_opening, behind_commit, behind_read, behind_scan, behind_page, behind_tree, behind_settling};
-ghost use Rattle.client_session.specs.Session.{old_lease, rule_of, stopped_work};
+ghost use Rattle.client_session.specs.Session.{ShowsAt, StepsAt, ended_by, is_other, old_lease, rule_of, stopped_work};
 
 use crate::answer::{Answer, Begun};
 use crate::closing::step_close;
-use crate::committing::{commit_noted, step_committing};
-use crate::folding::step_folding;
+use crate::committing::{advance, commit_noted, left_by};
+use crate::folding::{fold, left_by_fold};
 use crate::hand::Hand;
 use crate::left::{Left, Rest};
 use crate::listing::Listing;
@@ -34,6 +34,7 @@ use record_read::RecordRead;
 use recover_run::home::Home;
 use recover_run::recover::CLIENT_TICKS;
 use std::alloc::Global;
+use std::mem;
 use tree_ckpt::TreeCkpt;
 use txn_buffer::buffer::TxnBuffer;
 
@@ -256,14 +257,88 @@ impl Hand for Work {
         }
     }
 
+    // Commits and tree checkpoints go on where they stand: most steps are theirs, and to move one costs as much as a step of it. Here
+    // stands nothing that would need room for a whole machine, since that would be cleared at each step.
     fn step<C: Cloud>(
+        &mut self,
+        alloc: Global,
+        cloud: &mut C,
+        who: Who,
+        cache: &mut PageCache,
+        buffer: &TxnBuffer,
+    ) -> (Shown, Turn<Answer>) {
+        match self {
+            Work::Committing(machine) => match advance(alloc, cloud, who, machine, cache) {
+                Turn::More => (Shown::Nothing, Turn::More),
+                turn => {
+                    self.end(&turn);
+                    (Shown::Nothing, turn)
+                }
+            },
+            Work::Folding(_, machine) => match fold(alloc, cloud, who, machine) {
+                Turn::More => (Shown::Nothing, Turn::More),
+                turn => {
+                    self.end(&turn);
+                    (Shown::Nothing, turn)
+                }
+            },
+            _ => self.step_apart(alloc, cloud, who, cache, buffer),
+        }
+    }
+}
+
+impl Work {
+    /// What is in hand behind the last step of a commit or a tree checkpoint.
+    fn ended(self, turn: &Turn<Answer>) -> Work
+        ensures { result ≡ ended_by self turn.now }
+    {
+        match self {
+            Work::Committing(machine) => after_commit(left_by(machine, turn)),
+            Work::Folding(home, machine) => after_tree(left_by_fold(home, machine, turn)),
+            other => other,
+        }
+    }
+
+    /// Has in hand what the last step of a commit or a tree checkpoint leaves.
+    fn end(&mut self, turn: &Turn<Answer>)
+        ensures { self.new ≡ ended_by self.old turn.now }
+    {
+        let work = mem::replace(self, Work::Closed);
+        *self = work.ended(turn);
+    }
+
+    /// Takes out what is neither, makes its step, and puts back what that leaves.
+    fn step_apart<C: Cloud>(
+        &mut self,
+        alloc: Global,
+        cloud: &mut C,
+        who: Who,
+        cache: &mut PageCache,
+        buffer: &TxnBuffer,
+    ) -> (Shown, Turn<Answer>)
+        requires { is_other self.old ≡ true }
+        ensures steps { StepsAt who (C.seen cloud.old) (C.seen cloud.new) self.old self.new result.1 }
+        ensures shows { ShowsAt who (C.seen cloud.old) (C.seen cloud.new) buffer.now self.old cache.old cache.new self.new result.0 result.1 }
+    {
+        let work = mem::replace(self, Work::Closed);
+        let (work, shown, turn) = work.step_other(alloc, cloud, who, cache, buffer);
+        *self = work;
+        (shown, turn)
+    }
+
+    /// The step of what is neither.
+    fn step_other<C: Cloud>(
         self,
         alloc: Global,
         cloud: &mut C,
         who: Who,
         cache: &mut PageCache,
         buffer: &TxnBuffer,
-    ) -> (Work, Shown, Turn<Answer>) {
+    ) -> (Work, Shown, Turn<Answer>)
+        requires { is_other self ≡ true }
+        ensures steps { StepsAt who (C.seen cloud.old) (C.seen cloud.new) self result.0 result.2 }
+        ensures shows { ShowsAt who (C.seen cloud.old) (C.seen cloud.new) buffer.now self cache.old cache.new result.0 result.1 result.2 }
+    {
         match self {
             Work::Reading(home, read) => {
                 let (left, shown, turn) = step_reading(alloc, cloud, who, home, read, cache);
@@ -279,17 +354,9 @@ impl Hand for Work {
                 let (left, turn) = machine.step(alloc, cloud, who);
                 (after_opening(left), Shown::Nothing, turn)
             }
-            Work::Committing(machine) => {
-                let (left, turn) = step_committing(alloc, cloud, who, machine, cache);
-                (after_commit(left), Shown::Nothing, turn)
-            }
             Work::Paging(home, machine) => {
                 let (left, turn) = step_paging(alloc, cloud, who, home, machine);
                 (after_page(left), Shown::Nothing, turn)
-            }
-            Work::Folding(home, machine) => {
-                let (left, turn) = step_folding(alloc, cloud, who, home, machine);
-                (after_tree(left), Shown::Nothing, turn)
             }
             Work::Closing(lease) => {
                 let turn = step_close(cloud, who, lease);
@@ -303,14 +370,13 @@ impl Hand for Work {
                 let (left, turn) = machine.step(alloc, cloud, who);
                 (after_settling(left), Shown::Nothing, turn)
             }
+            Work::Committing(_) => unreachable!(),
+            Work::Folding(_, _) => unreachable!(),
             Work::Closed => unreachable!(),
             Work::Idle(_) => unreachable!(),
             Work::Broken(_) => unreachable!(),
         }
     }
-}
-
-impl Work {
     /// The home of an open client with nothing at work.
     fn into_home(self) -> Home
         requires { rule_of self ≡ None }

@@ -1,8 +1,19 @@
+use Rattle.std.proofs.Common.{refl}
+use Rattle.client_session.proofs.Resting.{other_work}
 use Rattle.client_session.proofs.Stepped.{shows_by, steps_by}
 use Rattle.client_session.proofs.work.WorkHand.step.Goals as goal
 
-pub returns-in-Reading-clause-shows : goal.returns-in-Reading-clause-shows
-returns-in-Reading-clause-shows g c = shows_by _ _ _ _ _ _ _ _ _ _ _ _ c.in-Reading.is c.after_read.ensures c.step_reading-left.ensures.reads
+pub step_apart-requires : goal.step_apart-requires
+step_apart-requires g c = other_work c.args.self.now c.requires c.in_default.not-Committing c.in_default.not-Folding
 
-pub returns-in-Committing-clause-steps : goal.returns-in-Committing-clause-steps
-returns-in-Committing-clause-steps g c = steps_by _ _ _ _ _ _ _ _ c.in-Committing.is c.after_commit.ensures c.step_committing-left.ensures.steps
+pub returns-in_default-advance : goal.returns-in_default-advance
+returns-in_default-advance g c = record {
+  steps = steps_by _ _ _ _ _ _ _ _ c.in-Committing.is c.end.ensures (c.advance.ensures.sound, c.args.cache.now, c.advance.new.cache, c.advance.ensures.steps);
+  shows = shows_by _ _ _ _ _ _ _ _ _ _ _ _ c.in-Committing.is c.end.ensures (c.advance.ensures.steps, refl);
+}
+
+pub returns-in_default-fold : goal.returns-in_default-fold
+returns-in_default-fold g c = record {
+  steps = steps_by _ _ _ _ _ _ _ _ c.in-Folding.is c.end-in_default-fold.ensures (c.fold.ensures c.in-Folding.field-0);
+  shows = shows_by _ _ _ _ _ _ _ _ _ _ _ _ c.in-Folding.is c.end-in_default-fold.ensures (refl, refl);
+}

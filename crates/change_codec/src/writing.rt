@@ -1,13 +1,24 @@
 //! Changes written to bytes.
 
-ghost use Rattle.std.specs.Prelude.{◌≡◌, true, ◌++◌, OnOk, IfOk};
-ghost use Rattle.std.specs.Int.{w8, w16};
-ghost use Rattle.change_codec.specs.Change.{change_fits, change_bytes, IsChange};
+ghost use Rattle.std.specs.Prelude.{◌≡◌, ◌++◌, OnOk, length};
+ghost use Rattle.std.specs.Int.{w8, to_be_bytes};
+ghost use Rattle.db_base.specs.Key.{IsKey};
+ghost use Rattle.change_codec.specs.Change.{change_bytes, IsChange};
 
-use byte_format::{try_add_text8, try_add_text16, try_add_u8};
+use byte_format::{try_add, try_add_text16};
 use db_base::change::Change;
-use db_base::key::{Key, Payload};
+use db_base::key::Key;
 use std::alloc::AllocError;
+
+/// Appends the kind of a change and its key behind its length: both bytes at once, since heads hold many changes.
+fn add_key(out: &mut Vec<u8>, kind: u8, key: &Key) -> Result<(), AllocError>
+    ensures spelling { OnOk result (out.new.items ≡ out.old.items ++ (to_be_bytes w8 kind ++ (to_be_bytes w8 (length key.now) ++ key.now))) }
+    ensures valid { IsKey key.now }
+{
+    let bytes = key.as_slice();
+    try_add(out, &[kind, bytes.len() as u8])?;
+    try_add(out, bytes)
+}
 
 /// Appends the spelling of the change.
 #[tactic(auto, unfolding(crate::specs::Change::change_bytes))]
@@ -17,18 +28,13 @@ pub fn add_change(out: &mut Vec<u8>, change: &Change) -> Result<(), AllocError>
 {
     match change {
         Change::Insert { key, payload } => {
-            try_add_u8(out, 1)?;
-            try_add_text8(out, key.as_slice())?;
+            add_key(out, 1, key)?;
             try_add_text16(out, payload.as_slice())
         }
         Change::Update { key, payload } => {
-            try_add_u8(out, 2)?;
-            try_add_text8(out, key.as_slice())?;
+            add_key(out, 2, key)?;
             try_add_text16(out, payload.as_slice())
         }
-        Change::Delete { key } => {
-            try_add_u8(out, 3)?;
-            try_add_text8(out, key.as_slice())
-        }
+        Change::Delete { key } => add_key(out, 3, key),
     }
 }

@@ -15,19 +15,17 @@ entries-any before [] = refl
 entries-any before (x ∷ xs) = refl
 
 -- one item more is written, and the rest is still to be written
-written : (out mid new text tail : List ℕ) → mid ≡ out ++ 1 ∷ [] → new ≡ mid ++ text → new ++ tail ≡ out ++ (1 ∷ text ++ tail)
-written out mid new text tail first second =
-    ap (λ (xs : List ℕ). xs ++ tail) (second ∙ ap (λ (xs : List ℕ). xs ++ text) first)
-    ∙ append_assoc (out ++ 1 ∷ []) text tail ∙ append_assoc out (1 ∷ []) (text ++ tail)
+written : (out new text tail : List ℕ) → new ≡ out ++ (1 ∷ text) → new ++ tail ≡ out ++ (1 ∷ text ++ tail)
+written out new text tail is = ap (λ (xs : List ℕ). xs ++ tail) is ∙ append_assoc out (1 ∷ text) tail
 
 pub counters_step : (out mid new : List ℕ) (left rest : List QueueCount) (x : QueueCount) → left ≡ x ∷ rest → mid ≡ out ++ 1 ∷ [] → new ≡ mid ++ (counter None).spelling x → new ++ list_spelling counter None rest ≡ out ++ list_spelling counter None left
 counters_step out mid new left rest x is first second =
-    written out mid new ((counter None).spelling x) (list_spelling counter None rest) first second
+    written out new ((counter None).spelling x) (list_spelling counter None rest) (second ∙ ap (λ (xs : List ℕ). xs ++ (counter None).spelling x) first ∙ append_assoc out (1 ∷ []) ((counter None).spelling x))
     ∙ ap (λ (tail : List ℕ). out ++ (1 ∷ (counter None).spelling x ++ tail)) (sym (counters-any (Some x) rest))
     ∙ ap (λ (xs : List QueueCount). out ++ list_spelling counter None xs) (sym is)
 
-pub entries_step : (out mid new : List ℕ) (left rest : List Pending) (x : Pending) → left ≡ x ∷ rest → mid ≡ out ++ 1 ∷ [] → new ≡ mid ++ (pending_entry None).spelling x → new ++ list_spelling pending_entry None rest ≡ out ++ list_spelling pending_entry None left
-entries_step out mid new left rest x is first second =
-    written out mid new ((pending_entry None).spelling x) (list_spelling pending_entry None rest) first second
+pub entries_step : (out new : List ℕ) (left rest : List Pending) (x : Pending) → left ≡ x ∷ rest → new ≡ out ++ (1 ∷ (pending_entry None).spelling x) → new ++ list_spelling pending_entry None rest ≡ out ++ list_spelling pending_entry None left
+entries_step out new left rest x is written_is =
+    written out new ((pending_entry None).spelling x) (list_spelling pending_entry None rest) written_is
     ∙ ap (λ (tail : List ℕ). out ++ (1 ∷ (pending_entry None).spelling x ++ tail)) (sym (entries-any (Some x) rest))
     ∙ ap (λ (xs : List Pending). out ++ list_spelling pending_entry None xs) (sym is)

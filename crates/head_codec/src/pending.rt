@@ -1,6 +1,7 @@
 //! Pending entries read from bytes and written to them.
 
-ghost use Rattle.std.specs.Prelude.{◌≡◌, ◌++◌, None, OnOk};
+ghost use Rattle.std.specs.Prelude.{◌≡◌, ◌<◌, ◌^◌, ◌∷◌, ◌++◌, None, OnOk};
+ghost use Rattle.std.specs.Int.{w64, to_be_bytes};
 ghost use Rattle.std.specs.List.{AllByRecursion};
 ghost use Rattle.std.specs.Option.{option_copied};
 ghost use Rattle.byte_format.specs.Format.{list_spelling};
@@ -9,7 +10,7 @@ ghost use Rattle.head_codec.specs.Pending.{pending_entry};
 ghost use Rattle.head_codec.specs.Spelling.{FitsPending};
 
 use crate::lists::Pending;
-use byte_format::{OwnedRules, ReadFault, try_add_u8, try_add_u64, u8_at, u64_at};
+use byte_format::{OwnedRules, ReadFault, try_add, try_add_u8, u8_at, u64_at};
 use change_codec::{add_change, read_change, tree_of};
 use std::alloc::{AllocError, Global};
 
@@ -43,14 +44,27 @@ impl OwnedRules for PendingRules {
     }
 }
 
-/// Appends the spelling of a pending entry.
+/// The bytes of a number, the most significant one first.
+fn bytes_of(number: u64) -> [u8; 8]
+    ensures bytes { result ≡ to_be_bytes w64 number }
+    ensures fits { number < 2 ^ 64 }
+{
+    number.to_be_bytes()
+}
+
+/// Appends the spelling of a pending entry, behind the byte that says that one follows. Heads hold many: all before the change is
+/// appended at once.
 fn add_entry(out: &mut Vec<u8>, entry: &Pending) -> Result<(), AllocError>
-    ensures spelling { OnOk result (out.new.items ≡ out.old.items ++ (pending_entry None).spelling entry.now) }
+    ensures spelling { OnOk result (out.new.items ≡ out.old.items ++ (1 ∷ (pending_entry None).spelling entry.now)) }
     ensures valid { OnOk result (FitsPending entry.now) }
 {
-    try_add_u8(out, entry.tree.get() as u8)?;
-    try_add_u64(out, entry.page)?;
-    try_add_u64(out, entry.number)?;
+    let [a, b, c, d, e, f, g, h] = bytes_of(entry.page);
+    let [i, j, k, l, m, n, o, p] = bytes_of(entry.number);
+    let tree = entry.tree.get() as u8;
+    try_add(
+        out,
+        &[1, tree, a, b, c, d, e, f, g, h, i, j, k, l, m, n, o, p],
+    )?;
     add_change(out, &entry.change)?;
     Ok(())
 }
@@ -62,7 +76,6 @@ pub fn add_pending(out: &mut Vec<u8>, entries: &[Pending]) -> Result<(), AllocEr
 {
     let mut left = entries;
     while let Some((entry, rest)) = left.split_first() {
-        try_add_u8(out, 1)?;
         add_entry(out, entry)?;
         left = rest;
     }

@@ -1,15 +1,16 @@
-use Rattle.std.proofs.Common.{◌≡◌, ◌<◌, ◌∙◌, ap, sym, [], ◌∷◌, ◌++◌, List, ℕ, arith}
+use Rattle.std.proofs.Common.{◌<◌, ◌∷◌, ◌++◌, ◌∙◌, arith}
 use Rattle.std.specs.Int.{w8, w64, to_be_bytes}
 use Rattle.change_codec.specs.Change.{change_bytes}
-use Rattle.change_codec.proofs.Appends.{append_four, to_be_bytes-byte}
+use Rattle.change_codec.proofs.Appends.{append_more}
+use Rattle.head_codec.proofs.Front.{front_bytes}
 use Rattle.head_codec.proofs.pending.add_entry.Goals as goal
 
 pub returns-clause-spelling : goal.returns-clause-spelling
 returns-clause-spelling c =
-    let p = c.args.entry.now in
+    let entry = c.args.entry.now in
     let old = c.args.out.now.items in
-    let small : p.tree < 256 = omega (arith, c.get.ensures.range.most) in
-    let first : c.try_add_u8.new.out.items ≡ old ++ to_be_bytes w8 p.tree = c.in_ok-try_add_u8.ensures ∙ ap (λ (n : ℕ). old ++ n ∷ []) c.get.ensures.number ∙ ap (λ (bytes : List ℕ). old ++ bytes) (sym (to_be_bytes-byte p.tree small)) in
-    append_four old c.try_add_u8.new.out.items c.try_add_u64.new.out.items c.try_add_u64-2.new.out.items c.add_change.new.out.items
-    (to_be_bytes w8 p.tree) (to_be_bytes w64 p.page) (to_be_bytes w64 p.number) (change_bytes p.change)
-    first c.in_ok-try_add_u64.ensures c.in_ok-try_add_u64-2.ensures c.in_ok-add_change.ensures.spelling
+    let small : entry.tree < 256 = omega (arith, c.get-tree.ensures.range.most) in
+    append_more old c.try_add.new.out.items c.add_change.new.out.items
+    (1 ∷ (to_be_bytes w8 entry.tree ++ (to_be_bytes w64 entry.page ++ to_be_bytes w64 entry.number))) (change_bytes entry.change)
+    (c.in_ok-try_add.ensures ∙ front_bytes old c.get-tree.result entry.tree entry.page entry.number c.bytes_of.result c.bytes_of-2.result c.get-tree.ensures.number small c.bytes_of.ensures.bytes c.bytes_of-2.ensures.bytes)
+    c.in_ok-add_change.ensures.spelling

@@ -104,6 +104,10 @@ impl Bench for Silent {
         Ok(None)
     }
 
+    fn has(&mut self, _name: ObjName, _bytes: &[u8]) -> Result<bool, CloudFault> {
+        Ok(false)
+    }
+
     fn backlog(&mut self, _queue: QueueName) -> Result<u64, CloudFault> {
         Ok(0)
     }
@@ -231,5 +235,5 @@ fn is_down(rt: HostRuntime) {
     let mut cloud = DownCloud::new();
     assert!(rt; is_later(&mut cloud) && is_not_taken(&mut cloud, &names));
     assert!(rt; is_not_sent(&mut cloud, &names) && is_not_counted(&mut cloud, &names));
-    assert!(rt; cloud.peek(names.object).is_err());
+    assert!(rt; cloud.peek(names.object).is_err() && cloud.has(names.object, b"a").is_err());
 }

@@ -152,7 +152,7 @@ fn are_checked<C: Bench>(cloud: &mut C, names: &Names, tree: &Lease, page: &Leas
 
 // Whether there is no object.
 fn is_absent<C: Bench>(cloud: &mut C, name: ObjName) -> bool {
-    matches!(cloud.peek(name), Ok(None))
+    matches!(cloud.peek(name), Ok(None)) && matches!(cloud.has(name, b"a"), Ok(false))
 }
 
 // Whether a lock is taken for the second time, until 7.

@@ -1,5 +1,6 @@
 -- What the schedule does to a cloud.
-use Rattle.std.specs.Prelude.{ℕ, ◌≡◌, ◌≢◌, ◌+◌, ◌≤◌, min, Option, Some, Result, Err}
+use Rattle.std.specs.Prelude.{ℕ, ◌≡◌, ◌≢◌, ◌+◌, ◌≤◌, min, Bool, false, List, Option, Some, None, Result, Err}
+use Rattle.std.specs.Str.{bytes_eq}
 use Rattle.cloud_trait.specs.declared.fault.CloudFault.{CloudFault}
 use Rattle.cloud_trait.specs.declared.fault.CloudFault.TheVariants.{Failed}
 use Rattle.cloud_trait.specs.State.{CloudState, end_after, greatest}
@@ -28,3 +29,8 @@ pub record Looks {A : Type 0} (result : Result A CloudFault) (old new : Seen) : 
   pub seeing : result ≢ Err Failed → new.counts.dark ≡ old.counts.dark
   pub heard : new.heard ≡ old.heard
   pub stays : (s : CloudState) → old.state ≡ Some s → new.state ≡ Some s
+
+-- the newest version has these bytes
+abbrev pub has_bytes : Option (List ℕ) → List ℕ → Bool
+has_bytes (Some newest) bytes = bytes_eq newest bytes
+has_bytes None bytes = false

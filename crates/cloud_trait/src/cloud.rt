@@ -7,7 +7,7 @@ ghost use Rattle.cloud_trait.specs.State.{CloudState, newest};
 ghost use Rattle.cloud_trait.specs.Seen.{Seen};
 ghost use Rattle.cloud_trait.specs.Delivery.{unmarked};
 ghost use Rattle.cloud_trait.specs.Weather.{Makes, RenewsLease};
-ghost use Rattle.cloud_trait.specs.Bench.{Waits, Looks, IsNoCall};
+ghost use Rattle.cloud_trait.specs.Bench.{Waits, Looks, IsNoCall, has_bytes};
 
 use crate::fault::{CloudFault, HeldFault};
 use crate::grant::Grant;
@@ -96,6 +96,11 @@ pub trait Bench: Cloud {
     fn peek(&mut self, name: ObjName) -> Result<Option<Blob>, CloudFault>
         ensures looks { Looks result (Self.seen self.old) (Self.seen self.new) }
         ensures newest { (s : CloudState) → (Self.seen self.old).state ≡ Some s → IfOk result (λ v. v ≡ newest s name) };
+
+    /// Looks whether the newest version of an object has these bytes.
+    fn has(&mut self, name: ObjName, bytes: &[u8]) -> Result<bool, CloudFault>
+        ensures looks { Looks result (Self.seen self.old) (Self.seen self.new) }
+        ensures newest { (s : CloudState) → (Self.seen self.old).state ≡ Some s → IfOk result (λ is. is ≡ has_bytes (newest s name) bytes.now) };
 
     /// Counts the messages of a queue that are not deleted.
     fn backlog(&mut self, queue: QueueName) -> Result<u64, CloudFault>

@@ -175,6 +175,10 @@ impl Bench for DownCloud {
         Err(self.look())
     }
 
+    fn has(&mut self, _name: ObjName, _bytes: &[u8]) -> Result<bool, CloudFault> {
+        Err(self.look())
+    }
+
     fn backlog(&mut self, _queue: QueueName) -> Result<u64, CloudFault> {
         Err(self.look())
     }

@@ -225,6 +225,13 @@ impl<R: Files<File = File> + AllocGlobal + Drop, K: Ticks + Drop> Bench for Fold
         }
     }
 
+    fn has(&mut self, name: ObjName, bytes: &[u8]) -> Result<bool, CloudFault> {
+        match self.peek(name)? {
+            Some(newest) => Ok(newest.as_slice() == bytes),
+            None => Ok(false),
+        }
+    }
+
     fn backlog(&mut self, queue: QueueName) -> Result<u64, CloudFault> {
         match self.folder.backlog(&queue) {
             Ok(count) => Ok(count),

@@ -1,5 +1,6 @@
 ghost use Rattle.std.specs.Prelude.{◌≡◌, ◌++◌, take, OnOk, IfOk};
 ghost use Rattle.std.specs.Option.{option_copied};
+ghost use Rattle.cloud_trait.specs.Bench.{has_bytes};
 ghost use Rattle.cloud_trait.specs.State.{newest_of, version_at, message_at};
 ghost use Rattle.memory_cloud.specs.Choice.{chosen, chosen_at};
 ghost use Rattle.memory_cloud.specs.Outcome.{old_version};
@@ -53,6 +54,16 @@ pub fn copy_newest(alloc: Global, versions: &[Version]) -> Result<Option<Blob>, 
     match versions.last() {
         Some(version) => Ok(Some(Blob::copy_of(alloc, version.bytes.as_slice())?)),
         None => Ok(None),
+    }
+}
+
+/// Whether the newest version has these bytes.
+pub fn newest_has(versions: &[Version], bytes: &[u8]) -> bool
+    ensures { result ≡ has_bytes (newest_of versions.now) bytes.now }
+{
+    match versions.last() {
+        Some(version) => version.bytes.as_slice() == bytes,
+        None => false,
     }
 }
 

@@ -6,7 +6,7 @@ ghost use Rattle.cloud_trait.specs.Ask.{Get, GetHeld, PutHeld, Send, Receive, De
 ghost use Rattle.cloud_trait.specs.State.{CloudState, called, newest, end_after, greatest};
 ghost use Rattle.cloud_trait.specs.Delivery.{unmarked};
 ghost use Rattle.cloud_trait.specs.Weather.{Makes, RenewsLease};
-ghost use Rattle.cloud_trait.specs.Bench.{Waits, Looks, IsNoCall};
+ghost use Rattle.cloud_trait.specs.Bench.{Waits, Looks, IsNoCall, has_bytes};
 ghost use Rattle.cloud_trait.specs.declared.fault.CloudFault.{CloudFault};
 ghost use Rattle.memory_cloud.specs.Memory.{state_of, counts_of, told_state, seen_of, next_mood, next_call, failing_calls, CountsCall};
 ghost use Rattle.memory_cloud.specs.Outcome.{Obeys, lease_in};
@@ -168,6 +168,17 @@ impl Bench for MemoryCloud {
             Ok(bytes) => Ok(bytes),
             Err(_) => Err(CloudFault::Memory),
         }
+    }
+
+    fn has(&mut self, name: ObjName, bytes: &[u8]) -> Result<bool, CloudFault>
+        ensures looks { Looks result (seen_of self.old) (seen_of self.new) }
+        ensures newest { (s : CloudState) → told_state self.old ≡ Some s → IfOk result (λ is. is ≡ has_bytes (newest s name) bytes.now) }
+        ensures no_memory { (e : CloudFault) → result ≢ Err e }
+        ensures call { next_call self.new ≡ next_call self.old }
+        ensures failing { failing_calls self.new ≡ failing_calls self.old }
+    {
+        let versions = objects::versions(&self.store.objects, &name);
+        Ok(copies::newest_has(versions, bytes))
     }
 
     fn backlog(&mut self, queue: QueueName) -> Result<u64, CloudFault>

@@ -11,7 +11,8 @@ use Rattle.head_codec.specs.declared.head.Phase.TheVariants as phase
 use Rattle.head_codec.specs.Spelling.{head_of}
 use Rattle.report_types.specs.declared.entry.Entry.{Entry}
 use Rattle.txn_buffer.specs.Noted.{Noted}
-use Rattle.cloud_facts.specs.Calls.Looks.{has_bytes, has_landed}
+use Rattle.cloud_trait.specs.Bench.{has_bytes}
+use Rattle.cloud_facts.specs.Calls.Looks.{has_landed}
 use Rattle.cloud_trait.specs.declared.answer.Answer.{Answer}
 use Rattle.cloud_trait.specs.declared.state.Version.{Version}
 use Rattle.cloud_trait.specs.Caller.{Caller}

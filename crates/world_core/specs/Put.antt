@@ -7,7 +7,8 @@ use Rattle.client_session.specs.declared.work.Work.{Work}
 use Rattle.client_session.specs.Session.{ask_of_work, committing_of, opens_of, applying_of}
 use Rattle.history.specs.Audited.{Audited, applied_entry}
 use Rattle.world_audit.specs.declared.mark.Mark.{Mark}
-use Rattle.cloud_facts.specs.Calls.Looks.{Newest, has_bytes}
+use Rattle.cloud_trait.specs.Bench.{has_bytes}
+use Rattle.cloud_facts.specs.Calls.Looks.{Newest}
 use Rattle.session_facts.specs.Sessions.Noting.{noted_head}
 use Rattle.world_core.specs.declared.put.Put.{Put}
 

@@ -70,9 +70,8 @@ pub(crate) fn is_newest<C: Bench>(cloud: &mut C, put: &Put) -> Result<Option<boo
     ensures dark { result ≡ Ok None → Rose (C.seen cloud.old).counts.dark (C.seen cloud.new).counts.dark }
     ensures newest { (s : CloudState) → (C.seen cloud.old).state ≡ Some s → IfOk result (SeesNewest (newest s) put.now) }
 {
-    match cloud.peek(put.name) {
-        Ok(Some(newest)) => Ok(Some(newest.as_slice() == put.bytes.as_slice())),
-        Ok(None) => Ok(Some(false)),
+    match cloud.has(put.name, put.bytes.as_slice()) {
+        Ok(is) => Ok(Some(is)),
         Err(CloudFault::Failed) => Ok(None),
         Err(CloudFault::Memory) => Err(WorldFault::Memory),
     }

@@ -12,7 +12,8 @@ use Rattle.cloud_trait.specs.State.{CloudState, called, newest, landed as put}
 use Rattle.cloud_facts.specs.Calls.Acting.{Outcome, Handles}
 use Rattle.cloud_facts.specs.Calls.Call.{IsCall}
 use Rattle.cloud_facts.specs.Calls.Links.{LinksBy, OwesLease}
-use Rattle.cloud_facts.specs.Calls.Looks.{Newest, has_bytes, has_landed, audited_at, audit_of}
+use Rattle.cloud_trait.specs.Bench.{has_bytes}
+use Rattle.cloud_facts.specs.Calls.Looks.{Newest, has_landed, audited_at, audit_of}
 use Rattle.cloud_facts.specs.Calls.Others.{Passes}
 use Rattle.cloud_facts.specs.Calls.Standing.{StandsUnder, Follows, Commits}
 use Rattle.cloud_facts.proofs.Calls.Calls.{landed_or_not}

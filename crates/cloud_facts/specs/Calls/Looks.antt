@@ -1,8 +1,8 @@
 -- What looks before and after a put show of it, and what an audit takes of that.
 use Rattle.std.specs.Prelude.{ℕ, Bool, false, not, ◌&&◌, if◌then◌else◌, List, Option, Some, None}
-use Rattle.std.specs.Str.{bytes_eq}
 use Rattle.db_base.specs.declared.names.ObjName.{ObjName}
 use Rattle.cloud_trait.specs.Ask.{Ask, PutHeld}
+use Rattle.cloud_trait.specs.Bench.{has_bytes}
 use Rattle.history.specs.Audited.{Audited}
 use Rattle.report_types.specs.declared.entry.Entry.{Entry}
 use Rattle.cloud_facts.specs.Book.Book.{Book}
@@ -11,11 +11,6 @@ use Rattle.cloud_facts.specs.Book.Records.{entries_of}
 -- the newest bytes of each object
 abbrev pub Newest : Type 0
 Newest = ObjName → Option (List ℕ)
-
--- the newest version has these bytes
-abbrev pub has_bytes : Option (List ℕ) → List ℕ → Bool
-has_bytes (Some newest) bytes = bytes_eq newest bytes
-has_bytes None bytes = false
 
 -- a put landed: the newest bytes before it are others, and those after it are its own
 abbrev pub has_landed : Newest → Newest → Option Ask → Bool

@@ -106,6 +106,7 @@ fn is_right<C: Shown>(
     cloud.wait(10);
     is_kept(alloc, &mut keeper, cloud, names.who, at, mishap, wanted)
         && cloud.has_version(names.object, 1) == is_put
+        && cloud.has(names.object, b"kept").ok() == Some(is_put)
         && ends_at(cloud, names.who, names.tree, end)
 }
 

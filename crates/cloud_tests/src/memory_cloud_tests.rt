@@ -151,8 +151,9 @@ fn are_checked<C: Bench>(cloud: &mut C, names: &Names, tree: &Lease, page: &Leas
 }
 
 // Whether there is no object.
-fn is_absent<C: Bench>(cloud: &mut C, name: ObjName) -> bool {
-    matches!(cloud.peek(name), Ok(None)) && matches!(cloud.has(name, b"a"), Ok(false))
+fn is_absent<C: Bench>(cloud: &mut C, names: &Names) -> bool {
+    matches!(cloud.peek(names.object), Ok(None))
+        && cloud.has(names.object, b"a").ok() == Some(false)
 }
 
 // Whether a lock is taken for the second time, until 7.
@@ -171,7 +172,7 @@ fn is_in_order<C: Bench>(cloud: &mut C, names: &Names) -> bool {
     match taken(cloud, names.who, names.page, 6) {
         Some(page) => {
             are_checked(cloud, names, &tree, &page)
-                && is_absent(cloud, names.object)
+                && is_absent(cloud, names)
                 && is_taken_again(cloud, names)
         }
         None => false,

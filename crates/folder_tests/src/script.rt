@@ -175,18 +175,18 @@ fn gets_held<C: Cloud>(
 
 fn peeks<C: Bench>(cloud: &mut C, names: &Names, wanted: Option<&[u8]>) -> bool {
     match cloud.peek(names.page) {
-        Ok(got) => is_read(&got, wanted) && has(cloud, names.page, wanted),
+        Ok(got) => is_read(&got, wanted) && finds(cloud, names, wanted),
         Err(_) => false,
     }
 }
 
-/// Whether a look finds the wanted bytes in an object, and no others.
-fn has<C: Bench>(cloud: &mut C, name: ObjName, wanted: Option<&[u8]>) -> bool {
+/// Whether a look finds the wanted bytes in the page, and no others.
+fn finds<C: Bench>(cloud: &mut C, names: &Names, wanted: Option<&[u8]>) -> bool {
     let same = match wanted {
-        Some(bytes) => matches!(cloud.has(name, bytes), Ok(true)),
+        Some(bytes) => cloud.has(names.page, bytes).ok() == Some(true),
         None => true,
     };
-    same && matches!(cloud.has(name, b"another"), Ok(false))
+    same && cloud.has(names.page, b"another").ok() == Some(false)
 }
 
 fn puts<C: Cloud>(cloud: &mut C, names: &Names, lease: &Option<Lease>, bytes: &[u8]) -> bool {

@@ -1,12 +1,6 @@
-//! The replies of a replay.
+//! The replies of a replay, and how they are written.
 #![tactic(auto)]
 
 pub mod name;
-pub mod read;
-mod read_name;
-mod read_report;
-mod read_trouble;
 pub mod reply;
-pub mod reply_kind;
-pub mod trouble_kind;
 pub mod write;

@@ -1,3 +1,4 @@
+use reply_reading::read::read_reply;
 use reply_text::reply::Reply;
 use std::alloc::Global;
 use words::fault::TextFault;
@@ -155,7 +156,7 @@ const NEAR_REPORTS: [&str; 14] = [
 
 /// Whether a text is read, and what is read is written as it.
 fn is_read_and_written_back(alloc: Global, text: &str) -> bool {
-    match Reply::read(alloc, text.as_bytes()) {
+    match read_reply(alloc, text.as_bytes()) {
         Ok(reply) => is_written(alloc, &reply, text),
         Err(_) => false,
     }
@@ -172,7 +173,7 @@ fn is_written(alloc: Global, reply: &Reply, text: &str) -> bool {
 /// Whether a text is in the grammar of no reply.
 fn is_refused(alloc: Global, text: &str) -> bool {
     matches!(
-        Reply::read(alloc, text.as_bytes()),
+        read_reply(alloc, text.as_bytes()),
         Err(TextFault::NotInGrammar)
     )
 }

@@ -1,0 +1,10 @@
+use Rattle.std.proofs.Common.{◌≡◌}
+use Rattle.reply_reading.specs.Counted.{counted, entry_by}
+use Rattle.reply_reading.proofs.CountedLaws.{ahead}
+use Rattle.reply_reading.proofs.read_report.entries_at.Given as goal
+
+abbrev pub invariant-loop-missing : goal.invariant-loop-missing
+invariant-loop-missing l = ahead l.entries (counted (entry_by l.fn.tree) l.missing l.left) ≡ counted (entry_by l.fn.tree) l.fn.count l.fn.lines
+
+abbrev pub decreases-loop-missing : goal.decreases-loop-missing
+decreases-loop-missing l = l.missing

@@ -1,0 +1,4 @@
+pub mod Kind
+pub mod Naming
+pub mod Counted
+pub mod Reading

@@ -2,14 +2,14 @@
 use Rattle.std.proofs.Common.{◌≡◌, List, Ok, refl, subst}
 use Rattle.page_cache.specs.Cache.{Cache}
 use Rattle.txn_buffer.specs.Noted.{Noted}
-use Rattle.client_session.specs.declared.answer.Begun.{Begun}
-use Rattle.client_session.specs.declared.op.Op.{Op}
-use Rattle.client_session.specs.declared.op.Op.TheVariants as op
-use Rattle.client_session.specs.declared.shown.Shown.{Shown}
-use Rattle.client_session.specs.declared.work.Work.{Work}
-use Rattle.client_session.specs.declared.work.Work.TheVariants.{Closed, Idle, Opening, Committing, Reading, Scanning, Paging, Folding, Closing, Renewing, Settling, Broken}
-use Rattle.client_session.specs.Phase.{BeginsAt, kept_in, noted_in, phase_of}
-use Rattle.client_session.specs.Session.{Acting, Begins, noted_behind, shown_behind}
+use Rattle.client_work.specs.declared.answer.Begun.{Begun}
+use Rattle.client_work.specs.declared.op.Op.{Op}
+use Rattle.client_work.specs.declared.op.Op.TheVariants as op
+use Rattle.client_work.specs.declared.shown.Shown.{Shown}
+use Rattle.client_work.specs.declared.work.Work.{Work}
+use Rattle.client_work.specs.declared.work.Work.TheVariants.{Closed, Idle, Opening, Committing, Reading, Scanning, Paging, Folding, Closing, Renewing, Settling, Broken}
+use Rattle.client_work.specs.Phase.{BeginsAt, kept_in, noted_in, phase_of}
+use Rattle.client_work.specs.Session.{Acting, Begins, noted_behind, shown_behind}
 
 -- the changes go where a close is at work, and nowhere else
 pub noted_by : (w : Work) (buffer : List Noted) → noted_in (phase_of w) buffer ≡ noted_behind w buffer

@@ -1,15 +1,10 @@
-//! The calls of a session that a world makes, whatever works inside it.
+//! A session makes the calls that a world asks of it.
 
-ghost use Rattle.std.specs.Prelude.{◌≡◌, ◌≤◌, [], length, None, IfOk, IfErr, OnOk, OnErr};
-ghost use Rattle.std.specs.Option.{option_map, option_copied};
-ghost use Rattle.cloud_trait.specs.Call.{ask_of};
-ghost use Rattle.txn_buffer.specs.Noted.{noted_in};
-ghost use Rattle.client_session.specs.Session.{Acting, closed_session, settling_session, rule_of, NoteRefused, AbortRefused, Begins, StepsSession, ask_of_work, committing_of, opens_of, applying_of, value_of, items_of};
-
-use crate::answer::{Answer, Begun};
-use crate::hand::Hand;
-use crate::op::Op;
 use crate::session::Session;
+use client_work::answer::{Answer, Begun};
+use client_work::calls::SessionCalls;
+use client_work::hand::Hand;
+use client_work::op::Op;
 use cloud_trait::call::Call;
 use cloud_trait::cloud::Cloud;
 use cloud_trait::turn::Turn;
@@ -22,76 +17,6 @@ use head_codec::head::Head;
 use log_codec::record::PuItem;
 use std::alloc::Global;
 use txn_buffer::buffer::TxnBuffer;
-
-/// The calls of a session that a world makes.
-pub trait SessionCalls: Drop {
-    /// How the session stands.
-    ghost acting: { Self → Acting };
-
-    /// A closed session without changes. Refused for memory alone.
-    fn new(alloc: Global) -> Result<Self, Refused>
-        ensures ok { IfOk result (λ s. acting s ≡ closed_session) }
-        ensures memory { IfErr result (λ e. e ≡ Refused.Memory) };
-
-    /// A session that stands for no client and settles. Refused for memory alone.
-    fn settling(alloc: Global) -> Result<Self, Refused>
-        ensures ok { IfOk result (λ s. acting s ≡ settling_session) }
-        ensures memory { IfErr result (λ e. e ≡ Refused.Memory) };
-
-    /// Notes a change of an open client. A refusal changes nothing.
-    fn note(&mut self, tree: TreeId, change: Change) -> Result<(), Refused>
-        ensures ok { OnOk result ((acting self.new ≡ record (acting self.old) { buffer = noted_in (acting self.old).buffer tree change }) × (rule_of (acting self.old).work ≡ None)) }
-        ensures err { OnErr result (acting self.new ≡ acting self.old) }
-        ensures cause { IfErr result (NoteRefused (acting self.old) tree change) }
-        ensures few { OnOk result (length (acting self.new).buffer ≤ 200) };
-
-    /// Drops the changes of an open client. A refusal changes nothing.
-    fn abort(&mut self) -> Result<(), Refused>
-        ensures ok { OnOk result ((acting self.new ≡ record (acting self.old) { buffer = [] }) × (rule_of (acting self.old).work ≡ None)) }
-        ensures err { OnErr result (acting self.new ≡ acting self.old) }
-        ensures cause { IfErr result (AbortRefused (acting self.old)) };
-
-    /// Closes the session at once, whatever it has in hand: no call is made, and leases run out by themselves.
-    fn crash(&mut self)
-        ensures { acting self.new ≡ closed_session };
-
-    /// Begins an operation. A refusal changes nothing.
-    fn begin(&mut self, alloc: Global, op: Op) -> Result<Begun, Refused>
-        ensures { Begins op (acting self.old) (acting self.new) result };
-
-    /// Makes the call in hand of the operation at work, and does the local work up to the next one.
-    fn step<C: Cloud>(
-        &mut self,
-        alloc: Global,
-        cloud: &mut C,
-        who: Who,
-    ) -> Result<Turn<Answer>, Refused>
-        ensures { StepsSession who (C.seen cloud.old) (C.seen cloud.new) (acting self.old) (acting self.new) result };
-
-    /// The service call that the next step makes; none where nothing is at work.
-    fn in_hand(&self) -> Option<Call<'_>>
-        ensures { option_map ask_of result ≡ ask_of_work (acting self.now).work };
-
-    /// The changes of the commit at work; none where none is.
-    fn committing(&self) -> Option<&TxnBuffer>
-        ensures { option_copied result ≡ committing_of (acting self.now).work };
-
-    /// The head that the put in hand opens, where it is the one that commits.
-    fn opens(&self) -> Option<&Head>
-        ensures { option_copied result ≡ opens_of (acting self.now).work };
-
-    /// The items that the put in hand of a checkpoint applies.
-    fn applying(&self) -> &[PuItem]
-        ensures { result.now ≡ applying_of (acting self.now).work };
-
-    /// The payload that the newest operation read, as the client sees it; none where it was no read, or where there is no record.
-    fn value(&self) -> Option<&[u8]>
-        ensures { option_copied result ≡ value_of (acting self.now) };
-
-    /// The records that the newest operation listed, in the order of their keys; none where it was no scan.
-    fn items(&self) -> &[Pair]
-        ensures { result.now ≡ items_of (acting self.now) };
-}
 
 impl<H: Hand> SessionCalls for Session<H> {
     ghost acting = { λ s. s };

@@ -1,22 +1,5 @@
 //! A session of a client: it notes changes and works on one operation at a time.
 #![tactic(auto)]
 
-pub mod answer;
-pub mod calls;
-mod closing;
-mod committing;
-mod folding;
-pub mod hand;
-pub mod left;
-pub mod listing;
-pub mod op;
-pub mod opening;
-mod paging;
-pub mod phase;
-mod reading;
-mod renewing;
-mod scanning;
+mod calls;
 pub mod session;
-pub mod settling;
-pub mod shown;
-pub mod work;

@@ -3,11 +3,11 @@ ghost use Rattle.std.specs.Option.{option_map, option_copied};
 ghost use Rattle.cloud_trait.specs.Call.{ask_of};
 ghost use Rattle.txn_buffer.specs.Noted.{noted_in};
 
-use crate::answer::{Answer, Begun};
-use crate::hand::Hand;
-use crate::op::Op;
-use crate::shown::Shown;
-use crate::work::Work;
+use client_work::answer::{Answer, Begun};
+use client_work::hand::Hand;
+use client_work::op::Op;
+use client_work::shown::Shown;
+use client_work::work::Work;
 use cloud_trait::call::Call;
 use cloud_trait::cloud::Cloud;
 use cloud_trait::turn::Turn;
@@ -46,7 +46,7 @@ impl<H: Hand> Drop for Session<H> {
 }
 
 impl<H: Hand> Model for Session<H> {
-    ghost use Rattle.client_session.specs.Session.{Acting};
+    ghost use Rattle.client_work.specs.Session.{Acting};
 
     ghost Value = { Acting };
 
@@ -54,7 +54,7 @@ impl<H: Hand> Model for Session<H> {
 }
 
 impl<H: Hand> Session<H> {
-    ghost use Rattle.client_session.specs.Session.{Acting, closed_session, rule_of, NoteRefused, AbortRefused, Begins, StepsSession, settling_session, ask_of_work, committing_of, opens_of, applying_of, value_of, items_of};
+    ghost use Rattle.client_work.specs.Session.{Acting, closed_session, rule_of, NoteRefused, AbortRefused, Begins, StepsSession, settling_session, ask_of_work, committing_of, opens_of, applying_of, value_of, items_of};
 
     /// A closed session without changes. Refused for memory alone.
     pub fn new(alloc: Global) -> Result<Session<H>, Refused>

@@ -4,7 +4,7 @@ use Rattle.std.specs.Prelude.{slice_get, replicate, false}
 use Rattle.std.proofs.lemmas.List.{append-nil, nil_from_length, take-append-le}
 use Rattle.std.proofs.lemmas.Option.{slice_get_within}
 use Rattle.std.proofs.lemmas.Bool.{cases_lt}
-use Rattle.client_session.specs.Session.{closed_session}
+use Rattle.client_work.specs.Session.{closed_session}
 use Rattle.cloud_trait.specs.State.{CloudState, IsEmptyCloud}
 use Rattle.cloud_trait.specs.Seen.{Seen}
 use Rattle.cloud_trait.specs.Upto.{upto, AgreeUpto, IsUpto, posts_of}

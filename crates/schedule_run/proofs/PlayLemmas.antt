@@ -7,7 +7,7 @@ use Rattle.event_text.specs.declared.event.Event.{Event}
 use Rattle.event_text.specs.declared.event.Event.TheVariants.{Run}
 use Rattle.reply_text.specs.declared.reply.Reply.{Reply}
 use Rattle.reply_text.specs.declared.reply.Reply.TheVariants.{Begun}
-use Rattle.client_session.specs.Session.{Acting, closed_session}
+use Rattle.client_work.specs.Session.{Acting, closed_session}
 use Rattle.cloud_trait.specs.State.{CloudState}
 use Rattle.replay_meaning.specs.Standing.{Line, unnamed}
 use Rattle.session_facts.specs.Facts.{session_at, ActsAs}

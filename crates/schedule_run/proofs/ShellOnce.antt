@@ -4,7 +4,7 @@ use Rattle.std.specs.Fmt.{decimal}
 use Rattle.std.proofs.lemmas.Fmt.{decimal_injective}
 use Rattle.cloud_trait.specs.State.{CloudState}
 use Rattle.cloud_trait.specs.Seen.{Seen}
-use Rattle.client_session.specs.Session.{Acting, closed_session}
+use Rattle.client_work.specs.Session.{Acting, closed_session}
 use Rattle.head_codec.specs.declared.head.Head.{Head}
 use Rattle.event_text.specs.declared.event.Event.{Event}
 use Rattle.event_text.specs.declared.event.Event.TheVariants as event

@@ -1,6 +1,6 @@
 -- Lines that a world handles, one behind another.
 use Rattle.std.specs.Prelude.{ℕ, ◌≡◌, ◌+◌, false, List, [], ◌∷◌, ◌++◌, length, replicate, take, slice_get, Some, Ok, Err}
-use Rattle.client_session.specs.Session.{closed_session}
+use Rattle.client_work.specs.Session.{closed_session}
 use Rattle.cloud_trait.specs.State.{CloudState, IsEmptyCloud}
 use Rattle.cloud_trait.specs.Seen.{Seen}
 use Rattle.cloud_trait.specs.Upto.{upto}

@@ -3,7 +3,7 @@
 ghost use Rattle.std.specs.Prelude.{IfOk};
 ghost use Rattle.schedule_run.specs.Play.{IsFresh, Takes, RunsWhole};
 
-use client_session::calls::SessionCalls;
+use client_work::calls::SessionCalls;
 use cloud_trait::cloud::Bench;
 use db_base::refusal::Refused;
 use event_text::event::Event;

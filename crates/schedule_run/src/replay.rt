@@ -7,8 +7,8 @@ ghost use Rattle.schedule_run.specs.Replayed.{HasBadLine, LineWent, LineHandled,
 
 use crate::play::let_event_go;
 use crate::writing::{let_go, refuse, write_reply};
-use client_session::calls::SessionCalls;
 use client_session::session::Session;
+use client_work::calls::SessionCalls;
 use cloud_trait::cloud::Bench;
 use db_io::sink::Sink;
 use event_text::event::Event;

@@ -4,8 +4,8 @@ ghost use Rattle.schedule_run.specs.Settling.{settled_by, settle_end_of, SettleE
 
 use crate::play::Play;
 use crate::writing::{let_go, write_reply};
-use client_session::calls::SessionCalls;
 use client_session::session::Session;
+use client_work::calls::SessionCalls;
 use cloud_trait::cloud::Bench;
 use db_io::sink::Sink;
 use event_text::event::Event;

@@ -6,8 +6,8 @@ ghost use Rattle.schedule_run.specs.Shell.{HasBadShellLine, ShellWent, OpeningRa
 
 use crate::play::{Play, let_event_go};
 use crate::writing::{let_go, refuse, write_reply};
-use client_session::calls::SessionCalls;
 use client_session::session::Session;
+use client_work::calls::SessionCalls;
 use cloud_trait::cloud::Bench;
 use db_base::ids::ClientId;
 use db_io::sink::Sink;

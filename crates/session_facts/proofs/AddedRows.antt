@@ -13,9 +13,9 @@ use Rattle.cloud_trait.specs.State.{CloudState, called}
 use Rattle.cloud_trait.specs.Weather.{Leaves}
 use Rattle.cloud_trait.proofs.EffectLemmas.{effect_versions, effect_trace}
 use Rattle.cloud_trait.proofs.RowLemmas.{row_by}
-use Rattle.client_session.specs.declared.answer.Answer.{Answer}
-use Rattle.client_session.specs.declared.work.Work.{Work}
-use Rattle.client_session.specs.Session.{StepsAt, ask_of_work}
+use Rattle.client_work.specs.declared.answer.Answer.{Answer}
+use Rattle.client_work.specs.declared.work.Work.{Work}
+use Rattle.client_work.specs.Session.{StepsAt, ask_of_work}
 use Rattle.replay_meaning.specs.Standing.{Line, standing}
 use Rattle.replay_meaning.specs.Committed.{Versions}
 use Rattle.replay_meaning.specs.Kinds.{IsOfKind}

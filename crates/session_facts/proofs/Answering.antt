@@ -1,7 +1,7 @@
 -- A session at work is answered with a trouble that is right by how it stands.
 use Rattle.std.proofs.Common.{sym, subst}
-use Rattle.client_session.specs.declared.work.Work.{Work}
-use Rattle.client_session.specs.declared.work.Work.TheVariants as work
+use Rattle.client_work.specs.declared.work.Work.{Work}
+use Rattle.client_work.specs.declared.work.Work.TheVariants as work
 use Rattle.db_base.specs.declared.trouble.Trouble.{Trouble}
 use Rattle.replay_meaning.specs.Standing.{Posture, Standing}
 use Rattle.session_facts.specs.Answers.{MayTrouble}

@@ -39,9 +39,9 @@ use Rattle.settle_run.specs.declared.part.Part.{Part}
 use Rattle.settle_run.specs.declared.part.Part.TheVariants.{Client, Tree, Page}
 use Rattle.settle_run.specs.Parts.{part_ask, IsSoundPart}
 use Rattle.settle_run.specs.Settling.{Settling as SettlingState, settle_ask}
-use Rattle.client_session.specs.declared.work.Work.{Work}
-use Rattle.client_session.specs.declared.work.Work.TheVariants.{Closed, Idle, Opening, Committing, Reading, Scanning, Paging, Folding, Closing, Renewing, Settling, Broken}
-use Rattle.client_session.specs.Session.{ask_of_work}
+use Rattle.client_work.specs.declared.work.Work.{Work}
+use Rattle.client_work.specs.declared.work.Work.TheVariants.{Closed, Idle, Opening, Committing, Reading, Scanning, Paging, Folding, Closing, Renewing, Settling, Broken}
+use Rattle.client_work.specs.Session.{ask_of_work}
 use Rattle.session_facts.specs.RowKinds.Asks.{MayAsk, MayAskBeside}
 use Rattle.session_facts.specs.Sessions.Puts.{IsSoundWork}
 use Rattle.session_facts.proofs.RowKinds.Asks.{recovery_asks, run_asks, paging_asks}

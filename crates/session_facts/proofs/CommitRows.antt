@@ -28,9 +28,9 @@ use Rattle.cloud_facts.specs.Decoding.Decodes.{Decodes}
 use Rattle.cloud_facts.specs.Decoding.Kinds.{MomentsDiffer}
 use Rattle.cloud_facts.proofs.Decoding.Newest.{newest_last}
 use Rattle.history.specs.Audited.{Audited, committed_entry}
-use Rattle.client_session.specs.declared.work.Work.{Work}
-use Rattle.client_session.specs.declared.work.Work.TheVariants.{Closed, Idle, Opening, Committing, Reading, Scanning, Paging, Folding, Closing, Renewing, Settling, Broken}
-use Rattle.client_session.specs.Session.{ask_of_work, committing_of, opens_of}
+use Rattle.client_work.specs.declared.work.Work.{Work}
+use Rattle.client_work.specs.declared.work.Work.TheVariants.{Closed, Idle, Opening, Committing, Reading, Scanning, Paging, Folding, Closing, Renewing, Settling, Broken}
+use Rattle.client_work.specs.Session.{ask_of_work, committing_of, opens_of}
 use Rattle.replay_meaning.specs.Standing.{Line, Standing, standing}
 use Rattle.replay_meaning.specs.Committed.{committed, entries_of_bytes, entries_of_head, entries_of_phase, changes_at}
 use Rattle.session_facts.specs.Sessions.Noting.{noted_at, noted_head, noted_in_hand, audited}

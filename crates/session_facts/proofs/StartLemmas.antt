@@ -2,7 +2,7 @@
 use Rattle.std.proofs.Common.{◌≡◌, ℕ, zero, suc, [], refl, sym, subst, false}
 use Rattle.std.specs.Prelude.{replicate, slice_get, unwrap_or}
 use Rattle.cloud_trait.specs.State.{CloudState, IsEmptyCloud}
-use Rattle.client_session.specs.Session.{Acting, closed_session}
+use Rattle.client_work.specs.Session.{Acting, closed_session}
 use Rattle.cloud_facts.specs.Book.Book.{empty_book}
 use Rattle.replay_meaning.specs.Standing.{unnamed}
 use Rattle.session_facts.proofs.Sessions.Laws.{starts}

@@ -11,9 +11,9 @@ use Rattle.history.specs.Audited.{Audited}
 use Rattle.report_types.specs.declared.entry.Entry.{Entry}
 use Rattle.reply_text.specs.declared.reply.Reply.{Reply}
 use Rattle.reply_text.specs.declared.reply.Reply.TheVariants as reply
-use Rattle.client_session.specs.declared.work.Work.{Work}
-use Rattle.client_session.specs.declared.work.Work.TheVariants as work
-use Rattle.client_session.specs.Session.{Acting, closed_session}
+use Rattle.client_work.specs.declared.work.Work.{Work}
+use Rattle.client_work.specs.declared.work.Work.TheVariants as work
+use Rattle.client_work.specs.Session.{Acting, closed_session}
 use Rattle.replay_meaning.specs.Standing.{Line, Closed, Idle, Broken, Working, Opening, Closing, Renewing, Committing, Reading as ReadingKey, Scanning as ScanningRange, Paging as PagingPage, Folding as FoldingTree, Standing, standing}
 use Rattle.replay_meaning.specs.Committed.{Versions, committed}
 use Rattle.replay_meaning.specs.Kinds.{IsOfKind, OpensOnce}

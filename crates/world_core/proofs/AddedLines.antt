@@ -12,9 +12,9 @@ use Rattle.reply_text.specs.declared.reply.Reply.TheVariants as reply
 use Rattle.txn_buffer.specs.Noted.{Noted, noted_in}
 use Rattle.cloud_trait.specs.State.{CloudState}
 use Rattle.cloud_trait.specs.Seen.{Seen}
-use Rattle.client_session.specs.declared.op.Op.TheVariants as op
-use Rattle.client_session.specs.declared.work.Work.TheVariants as work
-use Rattle.client_session.specs.Session.{Acting, rule_of, paging_begun_by, folding_begun_by}
+use Rattle.client_work.specs.declared.op.Op.TheVariants as op
+use Rattle.client_work.specs.declared.work.Work.TheVariants as work
+use Rattle.client_work.specs.Session.{Acting, rule_of, paging_begun_by, folding_begun_by}
 use Rattle.replay_meaning.specs.Standing.{Line, Standing, standing, after_own, session_of, notes as notes_own}
 use Rattle.session_facts.specs.Facts.{ActsAs}
 use Rattle.session_facts.proofs.LineLemmas.{line_of, refused_own}

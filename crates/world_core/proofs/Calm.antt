@@ -1,17 +1,17 @@
 -- A line whose calls are all calm is answered well.
 use Rattle.std.proofs.Common.{◌≡◌, ◌+◌, inl, inr, ℕ, List, [], length, Bool, true, false, Option, Some, None, Result, Ok, Err, refl, sym, ap, subst, ◌∙◌}
 use Rattle.std.specs.Prelude.{unwrap_or}
-use Rattle.client_session.specs.Session.{Acting, StepsSession, StepsAt, Follows, Begins, closed_session, settling_session, value_of}
-use Rattle.client_session.specs.declared.answer.Answer.{Answer}
-use Rattle.client_session.specs.declared.answer.Answer.TheVariants as answer
-use Rattle.client_session.specs.declared.answer.Begun.{Begun}
-use Rattle.client_session.specs.declared.answer.Begun.TheVariants.{Working as BegunWorking, Answered}
-use Rattle.client_session.specs.declared.listing.Listing.{Listing}
-use Rattle.client_session.specs.declared.op.Op.{Op}
-use Rattle.client_session.specs.declared.op.Op.TheVariants as op
-use Rattle.client_session.specs.declared.shown.Shown.{Shown}
-use Rattle.client_session.specs.declared.work.Work.{Work}
-use Rattle.client_session.specs.declared.work.Work.TheVariants as work
+use Rattle.client_work.specs.Session.{Acting, StepsSession, StepsAt, Follows, Begins, closed_session, settling_session, value_of}
+use Rattle.client_work.specs.declared.answer.Answer.{Answer}
+use Rattle.client_work.specs.declared.answer.Answer.TheVariants as answer
+use Rattle.client_work.specs.declared.answer.Begun.{Begun}
+use Rattle.client_work.specs.declared.answer.Begun.TheVariants.{Working as BegunWorking, Answered}
+use Rattle.client_work.specs.declared.listing.Listing.{Listing}
+use Rattle.client_work.specs.declared.op.Op.{Op}
+use Rattle.client_work.specs.declared.op.Op.TheVariants as op
+use Rattle.client_work.specs.declared.shown.Shown.{Shown}
+use Rattle.client_work.specs.declared.work.Work.{Work}
+use Rattle.client_work.specs.declared.work.Work.TheVariants as work
 use Rattle.cloud_facts.proofs.Book.Names.{at_same}
 use Rattle.cloud_trait.specs.Caller.{Caller}
 use Rattle.cloud_trait.specs.Seen.{Seen}

@@ -2,7 +2,7 @@
 use Rattle.std.proofs.Common.{◌≡◌, ◌+◌, ℕ, List, [], ◌∷◌, ◌++◌, length, map, ap, sym, ◌∙◌}
 use Rattle.std.specs.Prelude.{replicate}
 use Rattle.std.proofs.lemmas.List.{length-map, length-replicate, map_push, replicate-append-replicate}
-use Rattle.client_session.specs.Session.{Acting, closed_session}
+use Rattle.client_work.specs.Session.{Acting, closed_session}
 
 -- one more closed session
 pub replicate_more : {X : Type 0} (acting : X → Acting) (n : ℕ) (xs : List X) (x : X) → map acting xs ≡ replicate n closed_session → acting x ≡ closed_session

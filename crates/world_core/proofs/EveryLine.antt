@@ -11,7 +11,7 @@ use Rattle.event_text.specs.declared.event.Event.TheVariants as event
 use Rattle.reply_text.specs.declared.reply.Reply.{Reply}
 use Rattle.cloud_trait.specs.State.{CloudState}
 use Rattle.cloud_trait.specs.Seen.{Seen}
-use Rattle.client_session.specs.declared.op.Op.TheVariants as op
+use Rattle.client_work.specs.declared.op.Op.TheVariants as op
 use Rattle.replay_meaning.specs.Standing.{Line, Standing, after_own, session_of, notes as notes_own}
 use Rattle.session_facts.proofs.LineLemmas.{line_of}
 use Rattle.world_core.specs.World.{World}

@@ -11,12 +11,12 @@ use Rattle.page_cache.specs.Cache.{Cache}
 use Rattle.recover_run.specs.declared.home.Home.{Home}
 use Rattle.txn_buffer.specs.Noted.{Noted}
 use Rattle.db_base.specs.declared.wish.Wish.{Wish}
-use Rattle.client_session.specs.declared.work.Work.{Work}
-use Rattle.client_session.specs.declared.work.Work.TheVariants.{Closed, Idle, Opening, Committing, Reading, Scanning, Paging, Folding, Closing, Renewing, Settling, Broken}
-use Rattle.client_session.specs.declared.listing.Listing.{Listing}
-use Rattle.client_session.specs.declared.shown.Shown.{Shown}
-use Rattle.client_session.specs.Session.{Acting, closed_session, Follows, StepsAt, ask_of_work, calls_left}
-use Rattle.client_session.proofs.Ending.{session_less}
+use Rattle.client_work.specs.declared.work.Work.{Work}
+use Rattle.client_work.specs.declared.work.Work.TheVariants.{Closed, Idle, Opening, Committing, Reading, Scanning, Paging, Folding, Closing, Renewing, Settling, Broken}
+use Rattle.client_work.specs.declared.listing.Listing.{Listing}
+use Rattle.client_work.specs.declared.shown.Shown.{Shown}
+use Rattle.client_work.specs.Session.{Acting, closed_session, Follows, StepsAt, ask_of_work, calls_left}
+use Rattle.client_work.proofs.Ending.{session_less}
 use Rattle.cloud_trait.specs.Ask.{Ask}
 use Rattle.world_core.specs.declared.put.Put.{Put}
 use Rattle.world_core.specs.World.{World}
@@ -25,7 +25,7 @@ use Rattle.db_base.specs.declared.names.ObjName.{ObjName}
 use Rattle.history.specs.Audited.{Audited}
 use Rattle.db_base.specs.declared.wish.Wish.TheVariants.{Plain}
 use Rattle.cloud_trait.specs.declared.turn.Turn.{Turn}
-use Rattle.client_session.specs.declared.answer.Answer.{Answer}
+use Rattle.client_work.specs.declared.answer.Answer.{Answer}
 use Rattle.world_core.specs.Sessions.{Changes, IsAtWork, HasPut}
 use Rattle.world_core.specs.Put.{noted_put}
 use Rattle.world_core.specs.declared.world.WorldFault.{WorldFault}

@@ -11,9 +11,9 @@ use Rattle.cloud_trait.specs.Seen.{Seen}
 use Rattle.cloud_trait.specs.Weather.{Makes}
 use Rattle.cloud_trait.proofs.RowLemmas.{leaves_agree}
 use Rattle.cloud_trait.proofs.UptoLemmas.{agree_itself, agree_trans}
-use Rattle.client_session.specs.declared.answer.Answer.{Answer}
-use Rattle.client_session.specs.declared.work.Work.{Work}
-use Rattle.client_session.specs.Session.{Acting, StepsSession, StepsAt}
+use Rattle.client_work.specs.declared.answer.Answer.{Answer}
+use Rattle.client_work.specs.declared.work.Work.{Work}
+use Rattle.client_work.specs.Session.{Acting, StepsSession, StepsAt}
 use Rattle.session_facts.proofs.Steps.{made_call}
 use Rattle.world_audit.specs.Look.{Looked}
 use Rattle.world_core.specs.World.{World}

@@ -9,8 +9,8 @@ use Rattle.cloud_trait.specs.Claim.{Claim}
 use Rattle.head_codec.specs.declared.head.Head.{Head}
 use Rattle.report_types.specs.declared.entry.Entry.{Entry}
 use Rattle.txn_buffer.specs.Noted.{Noted}
-use Rattle.client_session.specs.declared.work.Work.{Work}
-use Rattle.client_session.specs.Session.{ask_of_work, opens_of, committing_of}
+use Rattle.client_work.specs.declared.work.Work.{Work}
+use Rattle.client_work.specs.Session.{ask_of_work, opens_of, committing_of}
 use Rattle.history.specs.Audited.{Audited}
 use Rattle.world_audit.specs.declared.mark.Mark.{Mark}
 use Rattle.cloud_facts.specs.Calls.Looks.{Newest, has_landed}

@@ -7,8 +7,8 @@ use Rattle.cloud_trait.specs.Weather.{Leaves}
 use Rattle.cloud_trait.specs.declared.turn.Turn.{Turn}
 use Rattle.cloud_trait.proofs.RowLemmas.{leaves_last, leaves_waits}
 use Rattle.db_base.specs.declared.wish.Wish.{Wish}
-use Rattle.client_session.specs.declared.answer.Answer.{Answer}
-use Rattle.client_session.specs.Session.{Acting, StepsSession}
+use Rattle.client_work.specs.declared.answer.Answer.{Answer}
+use Rattle.client_work.specs.Session.{Acting, StepsSession}
 use Rattle.session_facts.proofs.Steps.{MadeCall, made_call}
 use Rattle.world_audit.specs.Look.{Looked}
 use Rattle.world_core.specs.Sessions.{Changes}

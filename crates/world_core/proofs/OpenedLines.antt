@@ -20,16 +20,16 @@ use Rattle.cloud_trait.specs.declared.turn.Turn.TheVariants.{More, Ended}
 use Rattle.recover_run.specs.declared.home.Home.{Home}
 use Rattle.tree_walk.specs.Walk.{new_walk}
 use Rattle.commit_run.specs.Run.{home_of}
-use Rattle.client_session.specs.declared.answer.Answer.{Answer}
-use Rattle.client_session.specs.declared.answer.Answer.TheVariants as answer
-use Rattle.client_session.specs.declared.answer.Begun.{Begun}
-use Rattle.client_session.specs.declared.answer.Begun.TheVariants.{Working, Answered}
-use Rattle.client_session.specs.declared.op.Op.{Op}
-use Rattle.client_session.specs.declared.op.Op.TheVariants as op
-use Rattle.client_session.specs.declared.shown.Shown.{Shown}
-use Rattle.client_session.specs.declared.work.Work.{Work}
-use Rattle.client_session.specs.declared.work.Work.TheVariants as work
-use Rattle.client_session.specs.Session.{Acting, StepsSession, Begins, BeginsWith, BeginsOpening, HasInHand, CommitsIn, CommitsOf, CommitsNoted, ReadsOf, ReadsIn, ScansIn, stopped_work, paging_begun_by, folding_begun_by}
+use Rattle.client_work.specs.declared.answer.Answer.{Answer}
+use Rattle.client_work.specs.declared.answer.Answer.TheVariants as answer
+use Rattle.client_work.specs.declared.answer.Begun.{Begun}
+use Rattle.client_work.specs.declared.answer.Begun.TheVariants.{Working, Answered}
+use Rattle.client_work.specs.declared.op.Op.{Op}
+use Rattle.client_work.specs.declared.op.Op.TheVariants as op
+use Rattle.client_work.specs.declared.shown.Shown.{Shown}
+use Rattle.client_work.specs.declared.work.Work.{Work}
+use Rattle.client_work.specs.declared.work.Work.TheVariants as work
+use Rattle.client_work.specs.Session.{Acting, StepsSession, Begins, BeginsWith, BeginsOpening, HasInHand, CommitsIn, CommitsOf, CommitsNoted, ReadsOf, ReadsIn, ScansIn, stopped_work, paging_begun_by, folding_begun_by}
 use Rattle.cloud_facts.proofs.Book.Names.{at_same}
 use Rattle.replay_meaning.specs.Standing.{Line}
 use Rattle.session_facts.specs.Facts.{session_at}

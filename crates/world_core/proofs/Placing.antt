@@ -7,7 +7,7 @@ use Rattle.std.proofs.lemmas.Option.{slice_get-map, slice_get-get_or}
 use Rattle.db_base.specs.declared.change.Change.{Change}
 use Rattle.db_base.specs.declared.refusal.Refused.{Refused}
 use Rattle.txn_buffer.specs.Noted.{noted_in}
-use Rattle.client_session.specs.Session.{Acting, rule_of, NoteRefused, AbortRefused}
+use Rattle.client_work.specs.Session.{Acting, rule_of, NoteRefused, AbortRefused}
 use Rattle.world_core.specs.Sessions.{Changes, NotesIn, AbortsIn}
 
 -- what stands in a place of a list stands in that of what its items are seen as

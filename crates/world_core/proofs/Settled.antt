@@ -1,10 +1,10 @@
 -- A settling that came to its end left nothing, and stayed within its bound.
 use Rattle.std.proofs.Common.{◌≡◌, ℕ, List, Some, Result, Ok, Err, refl, sym, ap, subst, ◌∙◌, inl, inr, arith}
 use Rattle.calm_calls.specs.Calm.{IsCalm, NamesLasting}
-use Rattle.client_session.specs.Session.{Acting, settling_session, ask_of_work}
-use Rattle.client_session.specs.declared.answer.Answer.{Answer}
-use Rattle.client_session.specs.declared.answer.Answer.TheVariants as answer
-use Rattle.client_session.specs.declared.work.Work.TheVariants as work
+use Rattle.client_work.specs.Session.{Acting, settling_session, ask_of_work}
+use Rattle.client_work.specs.declared.answer.Answer.{Answer}
+use Rattle.client_work.specs.declared.answer.Answer.TheVariants as answer
+use Rattle.client_work.specs.declared.work.Work.TheVariants as work
 use Rattle.cloud_facts.proofs.Book.Names.{at_same}
 use Rattle.cloud_trait.specs.Ask.{Ask}
 use Rattle.cloud_trait.specs.Machine.{Goes, Ends, Stops, Deed}

@@ -6,11 +6,11 @@ use Rattle.std.proofs.lemmas.Option.{slice_get-get_or}
 use Rattle.cloud_trait.specs.Caller.{Caller}
 use Rattle.cloud_trait.specs.Seen.{Seen}
 use Rattle.cloud_trait.specs.declared.turn.Turn.TheVariants.{More, Ended}
-use Rattle.client_session.specs.declared.answer.Answer.{Answer}
-use Rattle.client_session.specs.declared.answer.Answer.TheVariants as answer
-use Rattle.client_session.specs.declared.work.Work.{Work}
-use Rattle.client_session.specs.declared.work.Work.TheVariants.{Settling}
-use Rattle.client_session.specs.Session.{Acting, StepsAt, StepsSettling, closed_session, settling_session}
+use Rattle.client_work.specs.declared.answer.Answer.{Answer}
+use Rattle.client_work.specs.declared.answer.Answer.TheVariants as answer
+use Rattle.client_work.specs.declared.work.Work.{Work}
+use Rattle.client_work.specs.declared.work.Work.TheVariants.{Settling}
+use Rattle.client_work.specs.Session.{Acting, StepsAt, StepsSettling, closed_session, settling_session}
 use Rattle.settle_run.specs.Settling.{Settling as SettlingState, new_settling, settle_ask}
 use Rattle.world_core.specs.World.{World}
 use Rattle.world_core.specs.Replying.{IsOfSettling}

@@ -1,14 +1,14 @@
 -- Every line is answered soundly: no trouble is replied that only damage could cause.
 use Rattle.std.proofs.Common.{◌≡◌, ◌+◌, inl, inr, ℕ, List, [], ◌∷◌, ◌++◌, length, Bool, true, false, Option, Some, None, Result, Ok, Err, refl, sym, ap, subst}
-use Rattle.client_session.specs.Session.{Acting, StepsSession, Begins, value_of}
-use Rattle.client_session.specs.declared.answer.Answer.{Answer}
-use Rattle.client_session.specs.declared.answer.Answer.TheVariants as answer
-use Rattle.client_session.specs.declared.answer.Begun.{Begun}
-use Rattle.client_session.specs.declared.answer.Begun.TheVariants.{Working, Answered}
-use Rattle.client_session.specs.declared.op.Op.{Op}
-use Rattle.client_session.specs.declared.op.Op.TheVariants as op
-use Rattle.client_session.specs.declared.work.Work.{Work}
-use Rattle.client_session.specs.declared.work.Work.TheVariants as work
+use Rattle.client_work.specs.Session.{Acting, StepsSession, Begins, value_of}
+use Rattle.client_work.specs.declared.answer.Answer.{Answer}
+use Rattle.client_work.specs.declared.answer.Answer.TheVariants as answer
+use Rattle.client_work.specs.declared.answer.Begun.{Begun}
+use Rattle.client_work.specs.declared.answer.Begun.TheVariants.{Working, Answered}
+use Rattle.client_work.specs.declared.op.Op.{Op}
+use Rattle.client_work.specs.declared.op.Op.TheVariants as op
+use Rattle.client_work.specs.declared.work.Work.{Work}
+use Rattle.client_work.specs.declared.work.Work.TheVariants as work
 use Rattle.cloud_facts.specs.Audits.Slip.{IsSlip}
 use Rattle.cloud_facts.specs.Calls.Standing.{StandsUnder}
 use Rattle.cloud_trait.specs.Caller.{Caller}

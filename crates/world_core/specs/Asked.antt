@@ -10,7 +10,7 @@ use Rattle.db_base.specs.declared.refusal.Refused.{Refused}
 use Rattle.db_base.specs.declared.refusal.Refused.TheVariants as refused
 use Rattle.event_text.specs.declared.event.Event.{Event}
 use Rattle.event_text.specs.declared.event.Event.TheVariants as event
-use Rattle.client_session.specs.declared.op.Op.TheVariants as op
+use Rattle.client_work.specs.declared.op.Op.TheVariants as op
 use Rattle.world_core.specs.declared.asked.Request.{Request}
 use Rattle.world_core.specs.declared.asked.Request.TheVariants.{Begin, Note, Abort, Step, Run, Crash}
 use Rattle.world_core.specs.declared.asked.Asked.{Asked}

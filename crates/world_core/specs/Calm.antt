@@ -1,6 +1,6 @@
 -- A line whose calls are all calm is answered well.
 use Rattle.std.specs.Prelude.{ℕ, ◌≡◌, ◌+◌, List, [], length, Some, Result, Ok, Err}
-use Rattle.client_session.specs.declared.work.Work.{Work}
+use Rattle.client_work.specs.declared.work.Work.{Work}
 use Rattle.cloud_trait.specs.Seen.{Seen}
 use Rattle.cloud_trait.specs.State.{CloudState}
 use Rattle.event_text.specs.declared.event.Event.{Event}

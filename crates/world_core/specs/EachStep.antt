@@ -1,7 +1,7 @@
 -- What holds of each step that a line made.
 use Rattle.std.specs.Prelude.{ℕ, Bool, true, false, Result, Ok, Err}
 use Rattle.std.proofs.Common.{inl, inr}
-use Rattle.client_session.specs.declared.answer.Answer.{Answer}
+use Rattle.client_work.specs.declared.answer.Answer.{Answer}
 use Rattle.cloud_trait.specs.Caller.{Caller}
 use Rattle.cloud_trait.specs.Seen.{Seen}
 use Rattle.cloud_trait.specs.declared.turn.Turn.{Turn}

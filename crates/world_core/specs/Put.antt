@@ -3,8 +3,8 @@ use Rattle.std.specs.Prelude.{◌≡◌, Bool, true, false, not, ◌&&◌, ◌++
 use Rattle.db_base.specs.declared.names.ObjName.{ObjName}
 use Rattle.db_base.specs.declared.names.ObjName.TheVariants as object
 use Rattle.cloud_trait.specs.Ask.{Ask, PutHeld}
-use Rattle.client_session.specs.declared.work.Work.{Work}
-use Rattle.client_session.specs.Session.{ask_of_work, committing_of, opens_of, applying_of}
+use Rattle.client_work.specs.declared.work.Work.{Work}
+use Rattle.client_work.specs.Session.{ask_of_work, committing_of, opens_of, applying_of}
 use Rattle.history.specs.Audited.{Audited, applied_entry}
 use Rattle.world_audit.specs.declared.mark.Mark.{Mark}
 use Rattle.cloud_trait.specs.Bench.{has_bytes}

@@ -3,7 +3,7 @@ use Rattle.std.specs.Prelude.{ℕ, ◌≡◌, ◌≤◌, [], List, length, slice
 use Rattle.db_base.specs.declared.change.Change.{Change}
 use Rattle.db_base.specs.declared.refusal.Refused.{Refused}
 use Rattle.txn_buffer.specs.Noted.{noted_in}
-use Rattle.client_session.specs.Session.{Acting, rule_of, NoteRefused, AbortRefused, ask_of_work}
+use Rattle.client_work.specs.Session.{Acting, rule_of, NoteRefused, AbortRefused, ask_of_work}
 use Rattle.cloud_trait.specs.Ask.{Ask}
 use Rattle.db_base.specs.declared.names.ObjName.{ObjName}
 use Rattle.history.specs.Audited.{Audited}

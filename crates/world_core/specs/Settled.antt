@@ -1,8 +1,8 @@
 -- What a settling leaves where nobody else acts, which is so within its line, and how many calls it makes at most.
 use Rattle.std.specs.Prelude.{ℕ, ◌≡◌, ◌≢◌, ◌≤◌, ◌+◌, List, [], length, Some, Result, Ok}
 use Rattle.calm_calls.specs.Calm.{NamesLasting}
-use Rattle.client_session.specs.Session.{Acting, StepsSession, ask_of_work}
-use Rattle.client_session.specs.declared.answer.Answer.{Answer}
+use Rattle.client_work.specs.Session.{Acting, StepsSession, ask_of_work}
+use Rattle.client_work.specs.declared.answer.Answer.{Answer}
 use Rattle.cloud_trait.specs.Ask.{Ask}
 use Rattle.cloud_trait.specs.Caller.{Caller}
 use Rattle.cloud_trait.specs.Delivery.{unmarked}

@@ -3,7 +3,7 @@
 ghost use Rattle.std.specs.Prelude.{◌≡◌};
 ghost use Rattle.world_core.specs.Asked.{Asks, IsBound, IsDelete, IsInsert, IsUpdate, IsOpening, IsReading, IsScanning, IsPaging, IsFolding, IsNoted, IsStep};
 
-use client_session::op::Op;
+use client_work::op::Op;
 use db_base::blob::Blob;
 use db_base::change::Change;
 use db_base::ids::{ClientId, PageId, TreeId};

@@ -1,13 +1,13 @@
 //! What the audit takes of a put that a session has in hand.
 
 ghost use Rattle.std.specs.Prelude.{◌≡◌, Some, OnOk};
-ghost use Rattle.client_session.specs.Session.{opens_of, committing_of};
+ghost use Rattle.client_work.specs.Session.{opens_of, committing_of};
 ghost use Rattle.session_facts.specs.Sessions.Noting.{noted_head};
 ghost use Rattle.world_core.specs.Put.{noted_put, kept_of};
 ghost use Rattle.world_core.specs.Sessions.{NotesPut};
 
 use crate::sessions::Sessions;
-use client_session::calls::SessionCalls;
+use client_work::calls::SessionCalls;
 use db_base::ids::{ClientId, SessionNo};
 use db_base::names::ObjName;
 use db_base::refusal::Refused;

@@ -8,7 +8,7 @@ ghost use Rattle.world_audit.specs.Look.{Looked};
 ghost use Rattle.world_core.specs.Put.{put_of, put_of_ask, SeesNewest};
 
 use crate::world::WorldFault;
-use client_session::calls::SessionCalls;
+use client_work::calls::SessionCalls;
 use cloud_trait::call::Call;
 use cloud_trait::cloud::Bench;
 use cloud_trait::fault::CloudFault;

@@ -1,12 +1,12 @@
 //! The reply of a line.
 
 ghost use Rattle.std.specs.Prelude.{◌≡◌, IfOk};
-ghost use Rattle.client_session.specs.Session.{items_of, value_of};
+ghost use Rattle.client_work.specs.Session.{items_of, value_of};
 ghost use Rattle.world_core.specs.Replying.{declined, done_reply, told, trouble_reply, unsettled_reply, IsOfSettling, ShowsItems, ShowsValue, RepliesTo, RepliesBegun, RepliesSettled, RepliesTurn};
 
 use crate::world::WorldFault;
-use client_session::answer::{Answer, Begun};
-use client_session::calls::SessionCalls;
+use client_work::answer::{Answer, Begun};
+use client_work::calls::SessionCalls;
 use cloud_trait::turn::Turn;
 use db_base::blob::Blob;
 use db_base::pair::Pair;

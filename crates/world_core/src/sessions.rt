@@ -1,8 +1,8 @@
 ghost use Rattle.std.specs.Prelude.{◌≡◌, ◌<◌};
 
-use client_session::answer::{Answer, Begun};
-use client_session::calls::SessionCalls;
-use client_session::op::Op;
+use client_work::answer::{Answer, Begun};
+use client_work::calls::SessionCalls;
+use client_work::op::Op;
 use cloud_trait::cloud::Cloud;
 use cloud_trait::turn::Turn;
 use cloud_trait::who::Who;
@@ -26,7 +26,7 @@ impl<S: SessionCalls> Drop for Sessions<S> {
 
 impl<S: SessionCalls> Model for Sessions<S> {
     ghost use Rattle.std.specs.Prelude.{List, ◌≡◌, length, map};
-    ghost use Rattle.client_session.specs.Session.{Acting};
+    ghost use Rattle.client_work.specs.Session.{Acting};
 
     ghost Value = { List Acting };
 
@@ -37,7 +37,7 @@ impl<S: SessionCalls> Model for Sessions<S> {
 
 impl<S: SessionCalls> Sessions<S> {
     ghost use Rattle.std.specs.Prelude.{replicate, slice_get, IfOk, IfErr, OnOk, OnErr, Some, Ok};
-    ghost use Rattle.client_session.specs.Session.{closed_session, settling_session, Begins, StepsSession};
+    ghost use Rattle.client_work.specs.Session.{closed_session, settling_session, Begins, StepsSession};
     ghost use Rattle.world_core.specs.Sessions.{Changes, IsAtWork, NotesIn, AbortsIn};
 
     /// Closed sessions. Refused for memory alone.

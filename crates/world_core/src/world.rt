@@ -10,9 +10,9 @@ use crate::replying::{
     begun_reply, declined, done, reply_of, settled_reply, trouble_reply, turn_reply,
 };
 use crate::sessions::Sessions;
-use client_session::answer::Answer;
-use client_session::calls::SessionCalls;
-use client_session::op::Op;
+use client_work::answer::Answer;
+use client_work::calls::SessionCalls;
+use client_work::op::Op;
 use cloud_trait::cloud::Bench;
 use cloud_trait::turn::Turn;
 use cloud_trait::who::Who;
@@ -67,7 +67,7 @@ impl<S: SessionCalls> Model for World<S> {
 }
 
 impl<S: SessionCalls> World<S> {
-    ghost use Rattle.client_session.specs.Session.{closed_session, settling_session, StepsSession};
+    ghost use Rattle.client_work.specs.Session.{closed_session, settling_session, StepsSession};
     ghost use Rattle.world_core.specs.Sound.{AnswersSoundly};
     ghost use Rattle.world_core.specs.Explained.{ExplainsSteps};
     ghost use Rattle.world_core.specs.Calm.{AnswersWell};

@@ -1,8 +1,8 @@
 -- What the last answer of an operation tells of the troubles that it met.
 use Rattle.std.proofs.Common.{◌≡◌, ◌≢◌, ◌⊎◌, inl, inr, Some, None, refl, sym, ap, ◌∙◌}
-use Rattle.client_session.specs.Session.{stopped_work}
-use Rattle.client_session.specs.declared.answer.Answer.TheVariants as answer
-use Rattle.client_session.specs.declared.work.Work.{Work}
+use Rattle.client_work.specs.Session.{stopped_work}
+use Rattle.client_work.specs.declared.answer.Answer.TheVariants as answer
+use Rattle.client_work.specs.declared.work.Work.{Work}
 use Rattle.cloud_trait.specs.declared.turn.Turn.TheVariants.{Ended}
 use Rattle.db_base.specs.declared.trouble.Trouble.{Trouble}
 use Rattle.db_base.specs.declared.trouble.Trouble.TheVariants as trouble

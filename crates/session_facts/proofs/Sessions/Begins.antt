@@ -1,16 +1,16 @@
 -- What an operation that begins leaves.
 use Rattle.std.specs.Prelude.{false}
 use Rattle.std.proofs.Common.{◌≡◌, ◌≢◌, ◌≤◌, ◌⊎◌, inl, inr, ℕ, List, [], ◌∷◌, length, Option, Some, None, Result, Ok, Err, refl, sym, ap, subst, ◌∙◌}
-use Rattle.client_session.specs.Session.{Acting, closed_session, settling_session, ReadsIn, ReadsOf, ScansIn, ScansOf, Follows, ListsLeaf, stopped_work, Begins, BeginsOpening, BeginsWith, HasInHand, folding_begun_by, paging_begun_by, opening_rule_of, opening_of, old_lease, CommitsOf, CommitsNoted, CommitsIn}
-use Rattle.client_session.specs.declared.answer.Answer.{Answer}
-use Rattle.client_session.specs.declared.answer.Answer.TheVariants as answer
-use Rattle.client_session.specs.declared.answer.Begun.{Begun}
-use Rattle.client_session.specs.declared.answer.Begun.TheVariants.{Working, Answered}
-use Rattle.client_session.specs.declared.listing.Listing.{Listing}
-use Rattle.client_session.specs.declared.op.Op.{Op}
-use Rattle.client_session.specs.declared.op.Op.TheVariants as op
-use Rattle.client_session.specs.declared.work.Work.{Work}
-use Rattle.client_session.specs.declared.work.Work.TheVariants.{Closed, Idle, Opening, Committing, Reading, Scanning, Folding, Paging, Closing, Renewing, Settling, Broken}
+use Rattle.client_work.specs.Session.{Acting, closed_session, settling_session, ReadsIn, ReadsOf, ScansIn, ScansOf, Follows, ListsLeaf, stopped_work, Begins, BeginsOpening, BeginsWith, HasInHand, folding_begun_by, paging_begun_by, opening_rule_of, opening_of, old_lease, CommitsOf, CommitsNoted, CommitsIn}
+use Rattle.client_work.specs.declared.answer.Answer.{Answer}
+use Rattle.client_work.specs.declared.answer.Answer.TheVariants as answer
+use Rattle.client_work.specs.declared.answer.Begun.{Begun}
+use Rattle.client_work.specs.declared.answer.Begun.TheVariants.{Working, Answered}
+use Rattle.client_work.specs.declared.listing.Listing.{Listing}
+use Rattle.client_work.specs.declared.op.Op.{Op}
+use Rattle.client_work.specs.declared.op.Op.TheVariants as op
+use Rattle.client_work.specs.declared.work.Work.{Work}
+use Rattle.client_work.specs.declared.work.Work.TheVariants.{Closed, Idle, Opening, Committing, Reading, Scanning, Folding, Paging, Closing, Renewing, Settling, Broken}
 use Rattle.cloud_trait.specs.declared.turn.Turn.{Turn}
 use Rattle.cloud_trait.specs.declared.turn.Turn.TheVariants.{More, Ended, Stopped}
 use Rattle.cloud_trait.specs.Claim.{Claim}

@@ -1,11 +1,11 @@
 -- One step of a session's commit, walks and writes.
 use Rattle.std.proofs.Common.{◌≡◌, ◌≢◌, ◌≤◌, ◌⊎◌, inl, inr, ℕ, List, [], ◌∷◌, Option, Some, None, refl, sym, ap, subst, ◌∙◌}
 use Rattle.std.specs.Prelude.{Bool, true, false, slice_get}
-use Rattle.client_session.specs.Session.{StepsCommit, committed_work}
-use Rattle.client_session.specs.declared.answer.Answer.{Answer}
-use Rattle.client_session.specs.declared.answer.Answer.TheVariants as answer
-use Rattle.client_session.specs.declared.work.Work.{Work}
-use Rattle.client_session.specs.declared.work.Work.TheVariants.{Committing, Broken}
+use Rattle.client_work.specs.Session.{StepsCommit, committed_work}
+use Rattle.client_work.specs.declared.answer.Answer.{Answer}
+use Rattle.client_work.specs.declared.answer.Answer.TheVariants as answer
+use Rattle.client_work.specs.declared.work.Work.{Work}
+use Rattle.client_work.specs.declared.work.Work.TheVariants.{Committing, Broken}
 use Rattle.cloud_facts.specs.Calls.Acting.{Setting, Outcome, Handles}
 use Rattle.cloud_facts.specs.Calls.Call.{IsCall}
 use Rattle.cloud_facts.proofs.Calls.Calls.{call_of}

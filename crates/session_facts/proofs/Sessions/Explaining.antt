@@ -1,10 +1,10 @@
 -- A step of a session explains what it brought.
 use Rattle.std.proofs.Common.{◌≡◌, ◌≢◌, ◌≤◌, List, Some, Ok, refl, subst}
-use Rattle.client_session.specs.Session.{Acting, StepsSession, StepsAt, ShowsAt, ask_of_work}
-use Rattle.client_session.specs.declared.answer.Answer.{Answer}
-use Rattle.client_session.specs.declared.shown.Shown.{Shown}
-use Rattle.client_session.specs.declared.work.Work.{Work}
-use Rattle.client_session.specs.declared.work.Work.TheVariants.{Closed, Idle, Opening, Committing, Reading, Scanning, Folding, Paging, Closing, Renewing, Settling, Broken}
+use Rattle.client_work.specs.Session.{Acting, StepsSession, StepsAt, ShowsAt, ask_of_work}
+use Rattle.client_work.specs.declared.answer.Answer.{Answer}
+use Rattle.client_work.specs.declared.shown.Shown.{Shown}
+use Rattle.client_work.specs.declared.work.Work.{Work}
+use Rattle.client_work.specs.declared.work.Work.TheVariants.{Closed, Idle, Opening, Committing, Reading, Scanning, Folding, Paging, Closing, Renewing, Settling, Broken}
 use Rattle.cloud_trait.specs.declared.answer.Answer.{Answer as Reply}
 use Rattle.cloud_trait.specs.declared.answer.Answer.TheVariants.{Memory}
 use Rattle.cloud_trait.specs.declared.turn.Turn.{Turn}

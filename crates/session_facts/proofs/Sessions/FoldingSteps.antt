@@ -1,10 +1,10 @@
 -- One step of a session's tree checkpoint.
 use Rattle.std.proofs.Common.{◌≡◌, ◌≤◌, ℕ, List, [], ◌∷◌, Some, refl, sym, subst}
-use Rattle.client_session.specs.Session.{StepsFolding, stopped_work}
-use Rattle.client_session.specs.declared.answer.Answer.{Answer}
-use Rattle.client_session.specs.declared.answer.Answer.TheVariants as answer
-use Rattle.client_session.specs.declared.work.Work.{Work}
-use Rattle.client_session.specs.declared.work.Work.TheVariants.{Idle, Folding as FoldingTree, Broken}
+use Rattle.client_work.specs.Session.{StepsFolding, stopped_work}
+use Rattle.client_work.specs.declared.answer.Answer.{Answer}
+use Rattle.client_work.specs.declared.answer.Answer.TheVariants as answer
+use Rattle.client_work.specs.declared.work.Work.{Work}
+use Rattle.client_work.specs.declared.work.Work.TheVariants.{Idle, Folding as FoldingTree, Broken}
 use Rattle.cloud_facts.specs.Calls.Acting.{Setting, Outcome, Handles, Aside}
 use Rattle.cloud_facts.specs.Calls.Call.{IsCall}
 use Rattle.cloud_facts.proofs.Calls.Calls.{call_of}

@@ -1,7 +1,7 @@
 -- A get of a session beside its open client: it changes nothing, and the client stays open unless memory ran out.
 use Rattle.std.proofs.Common.{◌≡◌, ◌≤◌, List, [], ◌∷◌, inl, refl, sym, subst}
-use Rattle.client_session.specs.declared.work.Work.{Work}
-use Rattle.client_session.specs.declared.work.Work.TheVariants.{Broken}
+use Rattle.client_work.specs.declared.work.Work.{Work}
+use Rattle.client_work.specs.declared.work.Work.TheVariants.{Broken}
 use Rattle.cloud_facts.specs.Calls.Acting.{Setting, Outcome, Handles}
 use Rattle.cloud_facts.specs.Calls.Call.{IsCall}
 use Rattle.cloud_facts.proofs.Calls.Outcomes.{quiet, gives_up, weaker}

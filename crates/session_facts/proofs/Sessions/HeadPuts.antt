@@ -2,9 +2,9 @@
 use Rattle.std.proofs.Common.{◌≡◌, ◌⊎◌, inl, inr, ℕ, Bool, true, false, List, [], length, Option, Some, None, refl, sym, ap, ◌∙◌}
 use Rattle.cloud_trait.specs.Ask.{Ask, PutHeld, Renew, Release}
 use Rattle.cloud_trait.specs.Claim.{Claim}
-use Rattle.client_session.specs.Session.{ask_of_work, opens_of}
-use Rattle.client_session.specs.declared.work.Work.{Work}
-use Rattle.client_session.specs.declared.work.Work.TheVariants.{Closed, Idle, Opening, Committing, Reading, Scanning, Folding, Paging, Closing, Renewing, Settling, Broken}
+use Rattle.client_work.specs.Session.{ask_of_work, opens_of}
+use Rattle.client_work.specs.declared.work.Work.{Work}
+use Rattle.client_work.specs.declared.work.Work.TheVariants.{Closed, Idle, Opening, Committing, Reading, Scanning, Folding, Paging, Closing, Renewing, Settling, Broken}
 use Rattle.commit_run.specs.Run.{Run, run_opens}
 use Rattle.session_facts.specs.CommitRuns.Puts.{OpensRun, PutsRun}
 use Rattle.session_facts.proofs.CommitRuns.HeadPuts.{run_puts}

@@ -1,8 +1,8 @@
 -- What each session knows survives a call of another one, and time.
 use Rattle.std.proofs.Common.{◌≡◌, ◌≤◌, ℕ, List, [], ◌∷◌, refl, sym, ap, subst, ◌∙◌}
-use Rattle.client_session.specs.Session.{Acting}
-use Rattle.client_session.specs.declared.work.Work.{Work}
-use Rattle.client_session.specs.declared.work.Work.TheVariants.{Closed, Idle, Opening, Committing, Reading, Scanning, Folding, Paging, Closing, Renewing, Settling, Broken}
+use Rattle.client_work.specs.Session.{Acting}
+use Rattle.client_work.specs.declared.work.Work.{Work}
+use Rattle.client_work.specs.declared.work.Work.TheVariants.{Closed, Idle, Opening, Committing, Reading, Scanning, Folding, Paging, Closing, Renewing, Settling, Broken}
 use Rattle.cloud_facts.specs.Calls.Acting.{HasLeaseOf}
 use Rattle.cloud_facts.specs.Calls.Others.{NoneJoins, Others}
 use Rattle.cloud_facts.proofs.Calls.Guarding.{others_itself, fewer_others}

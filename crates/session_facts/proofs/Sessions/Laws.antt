@@ -3,7 +3,7 @@ use Rattle.std.proofs.Common.{◌≡◌, ◌≢◌, ◌≤◌, ◌⊎◌, inl, i
 use Rattle.std.specs.Prelude.{cond}
 use Rattle.std.proofs.lemmas.Bool.{cases_eq}
 use Rattle.cloud_facts.specs.Chains.Chain.{ChainHolds}
-use Rattle.client_session.specs.Session.{Acting, closed_session, ask_of_work}
+use Rattle.client_work.specs.Session.{Acting, closed_session, ask_of_work}
 use Rattle.cloud_facts.proofs.Calls.Guarding.{others_of}
 use Rattle.cloud_facts.proofs.Calls.StandingLemmas.{empty_stands, same_stands}
 use Rattle.cloud_facts.specs.Calls.Acting.{HasLeaseOf, Setting, Outcome, Handles}

@@ -1,10 +1,10 @@
 -- Why a session's page checkpoint meets a trouble.
 use Rattle.std.proofs.Common.{◌≡◌, ◌≢◌, ◌≤◌, ◌⊎◌, inl, inr, ℕ, Some, None, sym, ap, subst, ◌∙◌, arith}
-use Rattle.client_session.specs.Session.{StepsPaging, stopped_work}
-use Rattle.client_session.specs.declared.answer.Answer.{Answer}
-use Rattle.client_session.specs.declared.answer.Answer.TheVariants as answer
-use Rattle.client_session.specs.declared.work.Work.{Work}
-use Rattle.client_session.specs.declared.work.Work.TheVariants.{Idle, Paging as PagingOn}
+use Rattle.client_work.specs.Session.{StepsPaging, stopped_work}
+use Rattle.client_work.specs.declared.answer.Answer.{Answer}
+use Rattle.client_work.specs.declared.answer.Answer.TheVariants as answer
+use Rattle.client_work.specs.declared.work.Work.{Work}
+use Rattle.client_work.specs.declared.work.Work.TheVariants.{Idle, Paging as PagingOn}
 use Rattle.cloud_facts.specs.Book.Tally.{Store}
 use Rattle.cloud_trait.specs.declared.answer.Answer.TheVariants.{Memory}
 use Rattle.cloud_trait.specs.declared.turn.CkptAnswer.{CkptAnswer}

@@ -3,11 +3,11 @@ use Rattle.std.proofs.Common.{◌≡◌, ◌≤◌, ℕ, List, [], ◌∷◌, So
 use Rattle.session_facts.specs.PageCheckpoints.Checkpoint.{KnowsPaging, KnowsAfter, paging_note}
 use Rattle.session_facts.proofs.PageCheckpoints.Hands.{paging_handles, paging_home_handles}
 use Rattle.session_facts.proofs.PageCheckpoints.Steps.{paging_outcome}
-use Rattle.client_session.specs.Session.{StepsPaging, stopped_work}
-use Rattle.client_session.specs.declared.answer.Answer.{Answer}
-use Rattle.client_session.specs.declared.answer.Answer.TheVariants as answer
-use Rattle.client_session.specs.declared.work.Work.{Work}
-use Rattle.client_session.specs.declared.work.Work.TheVariants.{Idle, Paging as PagingOn, Broken}
+use Rattle.client_work.specs.Session.{StepsPaging, stopped_work}
+use Rattle.client_work.specs.declared.answer.Answer.{Answer}
+use Rattle.client_work.specs.declared.answer.Answer.TheVariants as answer
+use Rattle.client_work.specs.declared.work.Work.{Work}
+use Rattle.client_work.specs.declared.work.Work.TheVariants.{Idle, Paging as PagingOn, Broken}
 use Rattle.cloud_facts.specs.Calls.Acting.{Setting, Outcome, Handles, Aside}
 use Rattle.cloud_facts.specs.Calls.Call.{IsCall}
 use Rattle.cloud_facts.proofs.Calls.Calls.{call_of}

@@ -1,12 +1,12 @@
 -- Why a read, a scan or a commit is answered with a trouble: its call shows it.
 use Rattle.std.proofs.Common.{◌≡◌, ◌≢◌, ◌≤◌, inl, inr, ℕ, List, Option, Some, None, refl, sym, ap, subst, ◌∙◌, arith}
-use Rattle.client_session.specs.Session.{StepsCommit, ReadsBy, ListsLeaf, Follows, StepsScanning, stopped_work, committed_work}
-use Rattle.client_session.specs.declared.answer.Answer.{Answer}
-use Rattle.client_session.specs.declared.answer.Answer.TheVariants as answer
-use Rattle.client_session.specs.declared.listing.Listing.{Listing}
-use Rattle.client_session.specs.declared.shown.Shown.{Shown}
-use Rattle.client_session.specs.declared.work.Work.{Work}
-use Rattle.client_session.specs.declared.work.Work.TheVariants.{Committing, Reading, Scanning}
+use Rattle.client_work.specs.Session.{StepsCommit, ReadsBy, ListsLeaf, Follows, StepsScanning, stopped_work, committed_work}
+use Rattle.client_work.specs.declared.answer.Answer.{Answer}
+use Rattle.client_work.specs.declared.answer.Answer.TheVariants as answer
+use Rattle.client_work.specs.declared.listing.Listing.{Listing}
+use Rattle.client_work.specs.declared.shown.Shown.{Shown}
+use Rattle.client_work.specs.declared.work.Work.{Work}
+use Rattle.client_work.specs.declared.work.Work.TheVariants.{Committing, Reading, Scanning}
 use Rattle.cloud_trait.specs.declared.answer.Answer.{Answer as Reply}
 use Rattle.cloud_trait.specs.declared.answer.Answer.TheVariants.{Memory}
 use Rattle.cloud_trait.specs.declared.turn.Turn.{Turn}

@@ -1,10 +1,10 @@
 -- One step of a session's settling.
 use Rattle.std.proofs.Common.{◌≡◌, ◌≤◌, List, Some, refl, sym, subst}
-use Rattle.client_session.specs.Session.{StepsSettling}
-use Rattle.client_session.specs.declared.answer.Answer.{Answer}
-use Rattle.client_session.specs.declared.answer.Answer.TheVariants as answer
-use Rattle.client_session.specs.declared.work.Work.{Work}
-use Rattle.client_session.specs.declared.work.Work.TheVariants.{Closed, Settling as SettlingAll}
+use Rattle.client_work.specs.Session.{StepsSettling}
+use Rattle.client_work.specs.declared.answer.Answer.{Answer}
+use Rattle.client_work.specs.declared.answer.Answer.TheVariants as answer
+use Rattle.client_work.specs.declared.work.Work.{Work}
+use Rattle.client_work.specs.declared.work.Work.TheVariants.{Closed, Settling as SettlingAll}
 use Rattle.cloud_facts.specs.Calls.Acting.{Setting, Outcome}
 use Rattle.cloud_facts.specs.Calls.Call.{IsCall}
 use Rattle.cloud_facts.proofs.Calls.Calls.{call_of}

@@ -1,7 +1,7 @@
 -- Troubles by want of memory.
 use Rattle.std.proofs.Common.{◌≡◌, ◌≢◌, ◌⊎◌, inl, inr, refl}
-use Rattle.client_session.specs.Session.{stopped_work}
-use Rattle.client_session.specs.declared.work.Work.TheVariants.{Idle}
+use Rattle.client_work.specs.Session.{stopped_work}
+use Rattle.client_work.specs.declared.work.Work.TheVariants.{Idle}
 use Rattle.db_base.specs.declared.trouble.Trouble.{Trouble}
 use Rattle.db_base.specs.declared.trouble.Trouble.TheVariants as trouble
 use Rattle.recover_run.specs.declared.home.Home.{Home}

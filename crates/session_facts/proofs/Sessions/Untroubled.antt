@@ -1,13 +1,13 @@
 -- A calm step leaves a session untroubled, and brings no answer that a call brought about.
 use Rattle.std.proofs.Common.{◌≡◌, ◌≢◌, ◌≤◌, ◌⊎◌, inl, inr, ℕ, List, Option, Some, None, Ok, refl, sym, ap, subst, ◌∙◌, arith}
 use Rattle.calm_calls.specs.Calm.{NamesLasting, TakesFree}
-use Rattle.client_session.specs.Session.{Acting, StepsSession, StepsAt, ShowsAt, Follows, ListsLeaf, opened_work, committed_work, stopped_work}
-use Rattle.client_session.specs.declared.answer.Answer.{Answer}
-use Rattle.client_session.specs.declared.answer.Answer.TheVariants as answer
-use Rattle.client_session.specs.declared.listing.Listing.{Listing}
-use Rattle.client_session.specs.declared.shown.Shown.{Shown}
-use Rattle.client_session.specs.declared.work.Work.{Work}
-use Rattle.client_session.specs.declared.work.Work.TheVariants.{Closed, Idle, Opening, Committing, Reading, Scanning, Folding, Paging, Closing, Renewing, Settling, Broken}
+use Rattle.client_work.specs.Session.{Acting, StepsSession, StepsAt, ShowsAt, Follows, ListsLeaf, opened_work, committed_work, stopped_work}
+use Rattle.client_work.specs.declared.answer.Answer.{Answer}
+use Rattle.client_work.specs.declared.answer.Answer.TheVariants as answer
+use Rattle.client_work.specs.declared.listing.Listing.{Listing}
+use Rattle.client_work.specs.declared.shown.Shown.{Shown}
+use Rattle.client_work.specs.declared.work.Work.{Work}
+use Rattle.client_work.specs.declared.work.Work.TheVariants.{Closed, Idle, Opening, Committing, Reading, Scanning, Folding, Paging, Closing, Renewing, Settling, Broken}
 use Rattle.cloud_trait.specs.declared.answer.Answer.TheVariants.{Memory}
 use Rattle.cloud_trait.specs.declared.turn.Turn.{Turn}
 use Rattle.cloud_trait.specs.declared.turn.Turn.TheVariants.{More, Ended, Stopped}

@@ -1,12 +1,12 @@
 -- The steps of session 0, which settles: each leads along its parts, and the last one to the end.
 use Rattle.std.proofs.Common.{◌≡◌, ◌≢◌, ℕ, List, Some, Ok, refl, sym, ap, subst, ◌∙◌, arith}
 use Rattle.calm_calls.specs.Calm.{IsCalm, NamesLasting}
-use Rattle.client_session.specs.Session.{Acting, closed_session, settling_session, StepsSession, StepsAt, ShowsAt}
-use Rattle.client_session.specs.declared.answer.Answer.{Answer}
-use Rattle.client_session.specs.declared.answer.Answer.TheVariants as answer
-use Rattle.client_session.specs.declared.shown.Shown.{Shown}
-use Rattle.client_session.specs.declared.work.Work.{Work}
-use Rattle.client_session.specs.declared.work.Work.TheVariants as work
+use Rattle.client_work.specs.Session.{Acting, closed_session, settling_session, StepsSession, StepsAt, ShowsAt}
+use Rattle.client_work.specs.declared.answer.Answer.{Answer}
+use Rattle.client_work.specs.declared.answer.Answer.TheVariants as answer
+use Rattle.client_work.specs.declared.shown.Shown.{Shown}
+use Rattle.client_work.specs.declared.work.Work.{Work}
+use Rattle.client_work.specs.declared.work.Work.TheVariants as work
 use Rattle.cloud_facts.specs.Book.Book.{Book}
 use Rattle.cloud_facts.specs.Book.Tally.{at}
 use Rattle.cloud_trait.proofs.RowLemmas.{row_rest}

@@ -1,10 +1,10 @@
 -- Why an operation meets a trouble: the call that brought it shows it, by what the cloud tells before and behind it.
 use Rattle.std.specs.Prelude.{ℕ, ◌≡◌, ◌≢◌, ◌≤◌, ◌⊎◌, List, Option, Some, None, Result, Ok, Err}
 use Rattle.calm_calls.specs.Calm.{NamesLasting, TakesFree}
-use Rattle.client_session.specs.declared.answer.Answer.{Answer}
-use Rattle.client_session.specs.declared.answer.Answer.TheVariants as answer
-use Rattle.client_session.specs.declared.work.Work.{Work}
-use Rattle.client_session.specs.declared.work.Work.TheVariants.{Closed, Idle, Opening, Committing, Reading, Scanning, Folding, Paging, Closing, Renewing, Settling, Broken}
+use Rattle.client_work.specs.declared.answer.Answer.{Answer}
+use Rattle.client_work.specs.declared.answer.Answer.TheVariants as answer
+use Rattle.client_work.specs.declared.work.Work.{Work}
+use Rattle.client_work.specs.declared.work.Work.TheVariants.{Closed, Idle, Opening, Committing, Reading, Scanning, Folding, Paging, Closing, Renewing, Settling, Broken}
 use Rattle.cloud_facts.specs.Book.Records.{IsIn}
 use Rattle.cloud_trait.specs.declared.turn.CkptAnswer.{CkptAnswer}
 use Rattle.cloud_trait.specs.declared.turn.Turn.{Turn}

@@ -5,8 +5,8 @@ use Rattle.cloud_facts.specs.Calls.Looks.{Newest, has_landed}
 use Rattle.cloud_trait.specs.Ask.{Ask, PutHeld}
 use Rattle.head_codec.specs.declared.head.Head.{Head}
 use Rattle.txn_buffer.specs.Noted.{Noted}
-use Rattle.client_session.specs.declared.work.Work.{Work}
-use Rattle.client_session.specs.Session.{ask_of_work, committing_of, opens_of, applying_of}
+use Rattle.client_work.specs.declared.work.Work.{Work}
+use Rattle.client_work.specs.Session.{ask_of_work, committing_of, opens_of, applying_of}
 use Rattle.history.specs.Audited.{Audited, committed_entry, applied_entry}
 
 abbrev pub noted_head : ℕ → Option Head → Option (List Noted) → Audited → Audited

@@ -1,8 +1,8 @@
 -- What a put of a head that a session has in hand is.
 use Rattle.std.specs.Prelude.{ℕ, ◌≡◌, ◌⊎◌, List, Some, None}
-use Rattle.client_session.specs.Session.{opens_of, committing_of}
-use Rattle.client_session.specs.declared.work.Work.{Work}
-use Rattle.client_session.specs.declared.work.Work.TheVariants.{Closed, Idle, Opening, Committing, Reading, Scanning, Folding, Paging, Closing, Renewing, Settling, Broken}
+use Rattle.client_work.specs.Session.{opens_of, committing_of}
+use Rattle.client_work.specs.declared.work.Work.{Work}
+use Rattle.client_work.specs.declared.work.Work.TheVariants.{Closed, Idle, Opening, Committing, Reading, Scanning, Folding, Paging, Closing, Renewing, Settling, Broken}
 use Rattle.commit_run.specs.Run.{home_of as home_of_run}
 use Rattle.commit_run.specs.Sound.{IsSoundRun}
 use Rattle.head_codec.specs.Spelling.{head_of}

@@ -1,9 +1,9 @@
 -- When a session goes on and is answered well: where its calls are calm.
 use Rattle.std.specs.Prelude.{ℕ, ◌≡◌, ◌≢◌, Some, Ok}
 use Rattle.calm_calls.specs.Calm.{IsCalm}
-use Rattle.client_session.specs.Session.{Acting, StepsSession, ask_of_work}
-use Rattle.client_session.specs.declared.answer.Answer.{Answer}
-use Rattle.client_session.specs.declared.work.Work.{Work}
+use Rattle.client_work.specs.Session.{Acting, StepsSession, ask_of_work}
+use Rattle.client_work.specs.declared.answer.Answer.{Answer}
+use Rattle.client_work.specs.declared.work.Work.{Work}
 use Rattle.cloud_trait.specs.declared.answer.Answer.TheVariants.{Memory}
 use Rattle.cloud_trait.specs.declared.turn.Turn.{Turn}
 use Rattle.cloud_trait.specs.Ask.{Ask}

@@ -1,6 +1,6 @@
 -- The story of a part of a settling: its calls, with all that stands before and behind each, where nobody else acts in between.
 use Rattle.std.specs.Prelude.{◌≡◌, List, [], ◌∷◌, Some}
-use Rattle.client_session.specs.declared.work.Work.TheVariants as work
+use Rattle.client_work.specs.declared.work.Work.TheVariants as work
 use Rattle.cloud_facts.specs.Book.Book.{Book}
 use Rattle.cloud_facts.specs.Book.Growth.{Grows}
 use Rattle.cloud_facts.specs.Book.Tally.{Store}

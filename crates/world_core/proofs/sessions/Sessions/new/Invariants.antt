@@ -1,5 +1,5 @@
 use Rattle.std.proofs.Common.{◌≡◌, replicate, map}
-use Rattle.client_session.specs.Session.{closed_session}
+use Rattle.client_work.specs.Session.{closed_session}
 use Rattle.world_core.proofs.sessions.Sessions.new.Given as goal
 
 -- the sessions so far are closed ones

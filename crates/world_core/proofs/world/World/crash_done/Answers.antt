@@ -1,6 +1,6 @@
 use Rattle.std.proofs.Common.{inl, refl, ap, subst}
 use Rattle.cloud_trait.specs.Caller.{Caller}
-use Rattle.client_session.specs.Session.{closed_session}
+use Rattle.client_work.specs.Session.{closed_session}
 use Rattle.world_core.specs.Handled.{Has}
 use Rattle.world_core.proofs.world.World.crash_done.Goals as goal
 

@@ -1,4 +1,4 @@
-use Rattle.client_session.specs.Session.{calls_left}
+use Rattle.client_work.specs.Session.{calls_left}
 use Rattle.world_core.specs.Handled.{Went}
 use Rattle.world_core.specs.Sessions.{IsAtWork}
 use Rattle.world_core.specs.Stands.{Grows}

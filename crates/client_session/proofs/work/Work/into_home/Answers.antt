@@ -1,5 +1,0 @@
-use Rattle.client_session.proofs.Resting.{only_idle}
-use Rattle.client_session.proofs.work.Work.into_home.Goals as goal
-
-pub unreachable-requires : goal.unreachable-requires
-unreachable-requires c = only_idle c.args.self c.requires c.in_default.not-Idle

@@ -1,5 +1,0 @@
-use Rattle.client_session.proofs.Stopping.{stays_idle}
-use Rattle.client_session.proofs.work.stopped.Goals as goal
-
-pub returns-in_default : goal.returns-in_default
-returns-in_default c = stays_idle c.args.trouble.now c.args.home c.in_default.not-Memory

@@ -1,0 +1,45 @@
+ghost use Rattle.std.specs.Prelude.{◌≡◌};
+ghost use Rattle.recover_run.specs.declared.home.Home.{Home as AnyHome};
+ghost use Rattle.client_work.specs.Left.{behind_tree};
+ghost use Rattle.client_work.specs.Session.{StepsFolding, behind_fold};
+
+use crate::answer::Answer;
+use crate::left::{Left, Rest};
+use crate::work::stopped;
+use cloud_trait::cloud::Cloud;
+use cloud_trait::turn::Turn;
+use cloud_trait::who::Who;
+use recover_run::home::Home;
+use std::alloc::Global;
+use tree_ckpt::TreeCkpt;
+
+/// Makes the call in hand of a tree checkpoint where it stands, beside any open client.
+pub(crate) fn fold<C: Cloud>(
+    alloc: Global,
+    cloud: &mut C,
+    who: Who,
+    machine: &mut TreeCkpt,
+) -> Turn<Answer>
+    ensures { (home : AnyHome) → StepsFolding home who (C.seen cloud.old) (C.seen cloud.new) machine.old (behind_fold home machine.new result) result }
+{
+    match machine.step(alloc, cloud, who) {
+        Turn::More => Turn::More,
+        Turn::Ended(answer) => Turn::Ended(Answer::Done(answer)),
+        Turn::Stopped(trouble) => Turn::Ended(Answer::Trouble(trouble)),
+    }
+}
+
+/// What a tree checkpoint leaves in hand whose newest step came to this.
+pub(crate) fn left_by_fold(
+    home: Home,
+    machine: TreeCkpt,
+    turn: &Turn<Answer>,
+) -> Left<(Home, TreeCkpt)>
+    ensures { behind_tree result ≡ behind_fold home machine turn.now }
+{
+    match turn {
+        Turn::Ended(Answer::Done(_)) => Left::Rests(Rest::Idle(home)),
+        Turn::Ended(Answer::Trouble(trouble)) => Left::Rests(stopped(trouble, home)),
+        _ => Left::Goes((home, machine)),
+    }
+}

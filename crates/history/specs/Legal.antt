@@ -21,9 +21,11 @@ pub record AreOfOneKey (a b : Entry) : Type 0 where
   pub tree : a.tree ≡ b.tree
   pub key : key_of a.change ≡ key_of b.change
 
--- the order has committed entries alone, each once, and one client's entries of a key as they were committed
+-- the order has committed entries alone, each once, and of one client's committed entries of a key the first ones, as they were committed
 pub record IsLegal (order committed : List Entry) : Type 0 where
   pub once : (i j : ℕ) (a b : Entry) → StandsAt order i a → StandsAt order j b → AreSame a b → i ≡ j
   pub all_committed : (i : ℕ) (a : Entry) → StandsAt order i a → (j : ℕ) × StandsAt committed j a
   pub in_order : (i j : ℕ) (a b : Entry) → StandsAt order i a → StandsAt order j b → AreOfOneKey a b → i < j
       → (k l : ℕ) → StandsAt committed k a → StandsAt committed l b → k < l
+  pub without_gap : (k l j : ℕ) (a b : Entry) → StandsAt committed k a → StandsAt committed l b → AreOfOneKey a b → k < l
+      → StandsAt order j b → (i : ℕ) × StandsAt order i a

@@ -92,6 +92,25 @@ module _ {X : Type 0} (p : X → Bool) where
       on rest true = omega (arith, rest)
       on rest false = rest
 
+  -- the element that is at a place among those that pass is there
+  rank_of_place : (xs : List X) (k : ℕ) (a : X) → slice_get (filter p xs) k ≡ Some a → rank_of p xs (place_of p xs k) ≡ k
+  rank_of_place [] k a at = absurd (cc)
+  rank_of_place (x ∷ xs) zero a at = on (rank_of_place xs zero a) (p x) refl at
+    where
+      on : (slice_get (filter p xs) zero ≡ Some a → rank_of p xs (place_of p xs zero) ≡ zero)
+          → (b : Bool) → p x ≡ b → slice_get (cond b (x ∷ filter p xs) (filter p xs)) zero ≡ Some a
+          → rank_of p (x ∷ xs) (cond b zero (suc (place_of p xs zero))) ≡ zero
+      on rest true is here = refl
+      on rest false is here = ap (λ c. cond c (suc (rank_of p xs (place_of p xs zero))) (rank_of p xs (place_of p xs zero))) is ∙ rest here
+  rank_of_place (x ∷ xs) (suc k) a at = on (rank_of_place xs k a) (rank_of_place xs (suc k) a) (p x) refl at
+    where
+      on : (slice_get (filter p xs) k ≡ Some a → rank_of p xs (place_of p xs k) ≡ k)
+          → (slice_get (filter p xs) (suc k) ≡ Some a → rank_of p xs (place_of p xs (suc k)) ≡ suc k)
+          → (b : Bool) → p x ≡ b → slice_get (cond b (x ∷ filter p xs) (filter p xs)) (suc k) ≡ Some a
+          → rank_of p (x ∷ xs) (suc (place_of p xs (cond b k (suc k)))) ≡ suc k
+      on one rest true is there = ap (λ c. cond c (suc (rank_of p xs (place_of p xs k))) (rank_of p xs (place_of p xs k))) is ∙ ap suc (one there)
+      on one rest false is there = ap (λ c. cond c (suc (rank_of p xs (place_of p xs (suc k)))) (rank_of p xs (place_of p xs (suc k)))) is ∙ rest there
+
 -- ---- the entries of a client, a tree and a key
 
 pub record IsOf (tree : ℕ) (key : List ℕ) (client : ℕ) (e : Entry) : Type 0 where
@@ -134,6 +153,33 @@ module _ (tree : ℕ) (key : List ℕ) (client : ℕ) (committed order : List En
       let later = committed_rises i j a is_a at_a less in
       absurd (omega (arith, one, later))
 
+  -- what was committed before an entry of the order is in the order
+  in_front : (k j : ℕ) (a b : Entry) → IsOf tree key client a → IsOf tree key client b → StandsAt committed k a → StandsAt order j b → k < home j
+      → (i : ℕ) × StandsAt order i a
+  in_front k j a b is_a is_b at_k at_j less =
+      ⊎_elim
+      (λ here. let found = filter_there (is_entry_of tree key client) order (rank_of (is_entry_of tree key client) committed k) a here in (found.place, found.there))
+      (λ behind. absurd (let is = behind.1 in omega (arith, is, below, round, within)))
+      (get_cases (entries_of_key tree key client order) first.0 (rank_of (is_entry_of tree key client) committed k) a moved)
+    where
+      own : slice_get (entries_of_key tree key client order) (rank_of (is_entry_of tree key client) order j) ≡ Some b
+      own = rank_there (is_entry_of tree key client) order j b (entry_test tree key client b is_b) at_j
+
+      within : rank_of (is_entry_of tree key client) order j < length (entries_of_key tree key client order)
+      within = slice_get_within (entries_of_key tree key client order) (rank_of (is_entry_of tree key client) order j) b own
+
+      round : rank_of (is_entry_of tree key client) committed (home j) ≡ rank_of (is_entry_of tree key client) order j
+      round = rank_of_place (is_entry_of tree key client) committed (rank_of (is_entry_of tree key client) order j) b
+          (ap (λ l. slice_get l (rank_of (is_entry_of tree key client) order j)) first.1
+          ∙ get_front (entries_of_key tree key client order) first.0 (rank_of (is_entry_of tree key client) order j) b own)
+
+      below : rank_of (is_entry_of tree key client) committed k < rank_of (is_entry_of tree key client) committed (home j)
+      below = rank_rises (is_entry_of tree key client) committed k (home j) a (entry_test tree key client a is_a) at_k less
+
+      moved : StandsAt (entries_of_key tree key client order ++ first.0) (rank_of (is_entry_of tree key client) committed k) a
+      moved = sym (ap (λ l. slice_get l (rank_of (is_entry_of tree key client) committed k)) first.1)
+          ∙ rank_there (is_entry_of tree key client) committed k a (entry_test tree key client a is_a) at_k
+
 same_self : (a : Entry) → AreSame a a
 same_self a = record { client = refl; epoch = refl; txn = refl; tree = refl; key = refl }
 
@@ -152,7 +198,7 @@ equal_unless i j below above = ⊎_elim (λ less. absurd (below less)) (λ upto.
 -- such an order is legal
 pub legal_of : (committed order : List Entry) → IsOnce committed
     → ((e : Entry) → IsIn order e → AreFirst committed order e.tree (key_of e.change) e.client) → IsLegal order committed
-legal_of committed order once first = record { once = distinct; all_committed = there; in_order = rises }
+legal_of committed order once first = record { once = distinct; all_committed = there; in_order = rises; without_gap = whole }
   where
     distinct : (i j : ℕ) (a b : Entry) → StandsAt order i a → StandsAt order j b → AreSame a b → i ≡ j
     distinct i j a b at_a at_b same =
@@ -177,6 +223,13 @@ legal_of committed order once first = record { once = distinct; all_committed = 
         let high = once l (home a.tree (key_of a.change) a.client committed order own j) b b at_l to (same_self b) in
         let later = committed_rises a.tree (key_of a.change) a.client committed order own i j a (of_self a) at_a less in
         omega (arith, low, high, later)
+
+    whole : (k l j : ℕ) (a b : Entry) → StandsAt committed k a → StandsAt committed l b → AreOfOneKey a b → k < l → StandsAt order j b → (i : ℕ) × StandsAt order i a
+    whole k l j a b at_k at_l one less at_j =
+        let own = first b (j, at_j) in
+        let place = home b.tree (key_of b.change) b.client committed order own j in
+        let high : l ≡ place = once l place b b at_l (committed_at b.tree (key_of b.change) b.client committed order own j b (of_self b) at_j) (same_self b) in
+        in_front b.tree (key_of b.change) b.client committed order own k j a b (of_other b a (sym one.client) (sym one.tree) (sym one.key)) (of_self b) at_k at_j (omega (arith, less, high))
 
 -- ---- the entries of one tree
 

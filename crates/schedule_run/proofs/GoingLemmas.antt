@@ -9,7 +9,7 @@ use Rattle.cloud_trait.specs.State.{CloudState, IsEmptyCloud}
 use Rattle.cloud_trait.specs.Seen.{Seen}
 use Rattle.cloud_trait.specs.Upto.{upto, AgreeUpto, IsUpto, posts_of}
 use Rattle.cloud_trait.proofs.StateLemmas.{slice_get-push}
-use Rattle.cloud_trait.proofs.UptoLemmas.{versions_upto-all, messages_upto-all, trace_upto-all}
+use Rattle.cloud_trait.proofs.UptoLemmas.{agree_itself, versions_upto-all, messages_upto-all, trace_upto-all}
 use Rattle.db_io.specs.Content.{Told, Adds, AddsPrefix}
 use Rattle.event_text.specs.declared.event.Event.{Event}
 use Rattle.event_text.specs.Event.{IsEvent}
@@ -19,7 +19,7 @@ use Rattle.reply_text.specs.declared.reply.Reply.TheVariants as reply
 use Rattle.replay_meaning.specs.Standing.{Line}
 use Rattle.replay_meaning.specs.Right.{ReportIsRight}
 use Rattle.session_facts.specs.Facts.{session_at, Stands}
-use Rattle.session_facts.proofs.UptoRight.{HoldTheSame, right_same}
+use Rattle.session_facts.proofs.UptoRight.{HoldTheSame, right_same, kinds_upto}
 use Rattle.session_facts.proofs.StartLemmas.{nothing_stands_yet}
 use Rattle.world_core.specs.World.{World}
 use Rattle.world_core.specs.declared.world.WorldFault.{WorldFault}
@@ -28,7 +28,7 @@ use Rattle.world_core.specs.Handled.{Handled}
 use Rattle.world_core.specs.Stands.{WorldStands, StandsOn, Grows}
 use Rattle.schedule_run.specs.declared.replay.LineFault.{LineFault}
 use Rattle.schedule_run.specs.declared.replay.LineFault.TheVariants.{BadLine, WriteFault, Memory}
-use Rattle.schedule_run.specs.Answered.{IsNew, WentOn, start, further, AreAnswered, AreExplained, ReportsAreRight, RepliesAreSound, KeepsTheTheorem}
+use Rattle.schedule_run.specs.Answered.{IsNew, WentOn, start, further, AreAnswered, AreExplained, ReportsAreRight, RepliesAreSound, ActsByTheLines, KeepsTheTheorem}
 use Rattle.schedule_run.proofs.SoundLemmas.{get_before, take_whole, went_soundly, went_explained}
 use Rattle.schedule_run.specs.Written.{reply_line, replies_from, replies, bad_line}
 use Rattle.schedule_run.specs.Replayed.{AreSpelled, WroteFront, reply_cut, refusal_cut, EndedBy, between, writing, handling, Ended, WentThrough, Handles, IsAt, IsAnswered, LineWent, event_handled, refused, unread}
@@ -99,6 +99,14 @@ reports_more lines line u v agree all so new k l at = on (cases_lt k (length lin
         trace = trace_upto-all (k + 1) v.trace upto_all.trace;
       })
       (subst (λ (x : Line). ReportIsRight (lines ++ line ∷ []) v x.reply) is new))
+
+-- what was put and sent is what the lines allow, in every later state
+
+pub acts_upto : (lines : List Line) (world : World) (u v : CloudState) → WorldStands lines world u → AgreeUpto (length lines) u v → ActsByTheLines lines v
+acts_upto lines world u v stands agree = let cloud = stands.holds.cloud in kinds_upto (length lines) lines u v cloud.upto agree cloud.kinds cloud.once
+
+acts_now : (lines : List Line) (world : World) (u : CloudState) → WorldStands lines world u → ActsByTheLines lines u
+acts_now lines world u stands = acts_upto lines world u u stands (agree_itself (length lines) u u refl refl refl)
 
 -- ---- one line more
 
@@ -203,7 +211,7 @@ at_end text rest n w v s t first world fresh is none = record {
   at = is.at;
   spelled = is.handles.spelled;
   so = (ap lines_of (nil_from_length rest none), answered is.earlier w v s t first world fresh is.handles, is.handles.wrote);
-  theorem = λ x told empty. let o = is.handles.stands x told empty in (o.0, o.1, o.3, replies_sound is.handles.lines s t first world x is.handles.went fresh told empty);
+  theorem = λ x told empty. let o = is.handles.stands x told empty in (o.0, o.1, o.3, replies_sound is.handles.lines s t first world x is.handles.went fresh told empty, acts_now is.handles.lines world o.0 o.2);
 }
 
 -- where a run stops between two lines for want of memory
@@ -216,7 +224,7 @@ at_stop text rest n w v s t first world fresh is = record {
   at = is.at;
   spelled = is.handles.spelled;
   so = between (answered is.earlier w v s t first world fresh is.handles) is.handles.wrote;
-  theorem = λ x told empty. let o = is.handles.stands x told empty in (o.0, o.1, o.3, replies_sound is.handles.lines s t first world x is.handles.went fresh told empty);
+  theorem = λ x told empty. let o = is.handles.stands x told empty in (o.0, o.1, o.3, replies_sound is.handles.lines s t first world x is.handles.went fresh told empty, acts_now is.handles.lines world o.0 o.2);
 }
 
 -- ---- a line that ends the run
@@ -252,6 +260,7 @@ keeps {text} {rest} {behind} {line} {n} {m} {w} {v} {s} {t} {z} {first} {old} me
           let a : AgreeUpto (k + 1) o.0 g.0 = g.2 (k + 1) (omega arith) in
           report_same (take (k + 1) h.lines) (upto o.0 (k + 1)) (upto g.0 (k + 1)) line.reply (record { versions = a.versions; messages = a.messages; trace = a.trace }) (o.3 k line at),
       replies_sound h.lines s t first old x h.went met.fresh told empty,
+      acts_upto h.lines old o.0 g.0 o.2 (g.2 (length h.lines) (omega (arith, count))),
     )
 
 -- the run ends before a text that has no reply
@@ -302,7 +311,7 @@ ends_behind {text} {rest} {behind} {line} {n} {m} {w} {v} {s} {t} {z} {first} {o
           let o = h.stands x told empty in
           let p = stands_more h.lines one m t z old new (omega arith) a.stands met.grows o.0 o.1 o.2 o.3 in
           let q : AreAnswered (h.lines ++ one ∷ []) s z = with_answer met new one a in
-          (p.0, p.1, p.3, replies_sound (h.lines ++ one ∷ []) s z q.first q.last x q.went q.fresh told empty);
+          (p.0, p.1, p.3, replies_sound (h.lines ++ one ∷ []) s z q.first q.last x q.went q.fresh told empty, acts_now (h.lines ++ one ∷ []) new p.0 p.2);
     }
 
 -- the lines before the text, where no call was made at it

@@ -23,7 +23,7 @@ use Rattle.world_core.specs.Stands.{StandsOn, Grows}
 use Rattle.schedule_run.specs.InPlay.{Play}
 use Rattle.schedule_run.specs.Answered.{IsNew, start, further, KeepsTheTheorem}
 use Rattle.schedule_run.specs.Play.{IsFresh, IsNext, RanOut, uncounted, no_answer, Takes, answered_run, stops_run, RunsWhole, Played, StoppedAt, stopped_before, stopped_within}
-use Rattle.schedule_run.proofs.GoingLemmas.{stands_more, fresh_stands, replies_sound, lines_explained, report_same}
+use Rattle.schedule_run.proofs.GoingLemmas.{stands_more, fresh_stands, replies_sound, lines_explained, report_same, acts_upto}
 
 -- a new world added nothing to any cloud
 fresh_adds : (s : Seen) (world : World) (t : CloudState) → s.state ≡ Some t → IsNew world → WorldAdds [] t world s
@@ -83,6 +83,7 @@ keeps_behind lines n s t z play p count grows x told empty =
           let a : AgreeUpto (k + 1) o.0 g.0 = g.2 (k + 1) (omega arith) in
           report_same (take (k + 1) lines) (upto o.0 (k + 1)) (upto g.0 (k + 1)) line.reply (record { versions = a.versions; messages = a.messages; trace = a.trace }) (o.3 k line at),
       replies_sound lines s t p.first play.world x p.went p.fresh told empty,
+      acts_upto lines play.world o.0 g.0 o.2 (g.2 (length lines) (omega (arith, count))),
     )
 
 -- memory ran out at the next event

@@ -9,6 +9,7 @@ use Rattle.event_text.specs.declared.event.Event.TheVariants as event
 use Rattle.reply_text.specs.declared.reply.Reply.{Reply}
 use Rattle.reply_text.specs.declared.reply.Reply.TheVariants as reply
 use Rattle.replay_meaning.specs.Standing.{Line, session_of, standing}
+use Rattle.replay_meaning.specs.Kinds.{KeepsKinds}
 use Rattle.replay_meaning.specs.Right.{ReportIsRight}
 use Rattle.session_facts.specs.Sessions.Untroubled.{IsUntroubled}
 use Rattle.world_core.specs.World.{World}
@@ -87,8 +88,12 @@ IsSoundLine before line = IsSoundFor line.event (standing before (session_of lin
 abbrev pub RepliesAreSound : List Line → Type 0
 RepliesAreSound lines = (k : ℕ) (line : Line) → slice_get lines k ≡ Some line → IsSoundLine (take k lines) line
 
--- over a cloud that was empty and told its state, every report of these lines is right for the state in which they left it, and every reply is
--- sound
+-- each put and send up to the last of these lines is of a kind that its session's standing allows, and no transaction was opened twice
+abbrev pub ActsByTheLines : List Line → CloudState → Type 0
+ActsByTheLines lines t = KeepsKinds lines (upto t (length lines)) []
+
+-- over a cloud that was empty and told its state, every report of these lines is right for the state in which they left it, every reply is sound,
+-- and what was put and sent is what the lines allow
 abbrev pub KeepsTheTheorem : List Line → Seen → Seen → Type 0
 KeepsTheTheorem lines before after =
-    (t : CloudState) → before.state ≡ Some t → IsEmptyCloud t → (u : CloudState) × (after.state ≡ Some u) × ReportsAreRight lines u × RepliesAreSound lines
+    (t : CloudState) → before.state ≡ Some t → IsEmptyCloud t → (u : CloudState) × (after.state ≡ Some u) × ReportsAreRight lines u × RepliesAreSound lines × ActsByTheLines lines u

@@ -1,6 +1,6 @@
 -- A report that is right stays right for a later state, cut at its line, and under more lines.
-use Rattle.std.proofs.Common.{◌≡◌, ℕ, List, Some, ap, sym, ◌∙◌}
-use Rattle.std.specs.Prelude.{slice_get}
+use Rattle.std.proofs.Common.{◌≡◌, ℕ, List, [], Some, ap, sym, ◌∙◌}
+use Rattle.std.specs.Prelude.{slice_get, All}
 use Rattle.db_base.specs.declared.names.ObjName.{ObjName}
 use Rattle.db_base.specs.declared.names.QueueName.{QueueName}
 use Rattle.cloud_trait.specs.Caller.{Caller}
@@ -15,7 +15,7 @@ use Rattle.report_types.specs.declared.entry.Entry.{Entry}
 use Rattle.report_types.specs.declared.report.Report.{Report}
 use Rattle.tree_meaning.proofs.SameLemmas.{AreNewest, leads_same, finds_same}
 use Rattle.replay_meaning.specs.Standing.{Line}
-use Rattle.replay_meaning.specs.Kinds.{WasSentFor, KeepsKinds}
+use Rattle.replay_meaning.specs.Kinds.{IsOfKind, OpensOnce, WasSentFor, KeepsKinds}
 use Rattle.replay_meaning.specs.Right.{IsRight, payload_at}
 use Rattle.session_facts.proofs.CommittedLemmas.{committed_same}
 use Rattle.session_facts.proofs.Once.{once_same}
@@ -73,6 +73,15 @@ right_same lines s t r alike h =
       kinds = kinds_keep lines s t r.order alike h.kinds;
     }
 
+-- a later state, cut at the line of an earlier one, holds what that held
+upto_same : (n : ℕ) (s t : CloudState) → IsUpto n s → AgreeUpto n s t → HoldTheSame s (upto t n)
+upto_same n s t u a = record { versions = upto_versions n s t u a; messages = upto_posts n s t u a; trace = upto_trace n s t u a }
+
+-- rows are of their kinds, and no transaction opens twice, in every later state, cut at the line
+pub kinds_upto : (n : ℕ) (lines : List Line) (s t : CloudState) → IsUpto n s → AgreeUpto n s t → All (IsOfKind lines s) s.trace → OpensOnce s → KeepsKinds lines (upto t n) []
+kinds_upto n lines s t u a kinds once =
+    kinds_keep lines s (upto t n) [] (upto_same n s t u a) (record { kinds = kinds; once = once; sent = λ place entry there. absurd (cc) })
+
 -- a report that was right is right for every later state, cut at its line
 pub right_upto : (n : ℕ) (lines : List Line) (s t : CloudState) (r : Report) → IsUpto n s → AgreeUpto n s t → IsRight lines s r → IsRight lines (upto t n) r
-right_upto n lines s t r u a h = right_same lines s (upto t n) r (record { versions = upto_versions n s t u a; messages = upto_posts n s t u a; trace = upto_trace n s t u a }) h
+right_upto n lines s t r u a h = right_same lines s (upto t n) r (upto_same n s t u a) h

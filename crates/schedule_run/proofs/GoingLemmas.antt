@@ -1,10 +1,9 @@
 -- The lines of a replay, one after another.
 use Rattle.std.proofs.Common.{suc, ◌≡◌, ◌<◌, ◌≤◌, ◌+◌, ◌⊎◌, ℕ, List, [], ◌∷◌, ◌++◌, length, take, Some, Result, Ok, Err, refl, sym, ap, subst, ◌∙◌, inl, inr, append_assoc, arith, length-append}
-use Rattle.std.specs.Prelude.{slice_get, replicate, false}
+use Rattle.std.specs.Prelude.{slice_get}
 use Rattle.std.proofs.lemmas.List.{append-nil, nil_from_length, take-append-le}
 use Rattle.std.proofs.lemmas.Option.{slice_get_within}
 use Rattle.std.proofs.lemmas.Bool.{cases_lt}
-use Rattle.client_work.specs.Session.{closed_session}
 use Rattle.cloud_trait.specs.State.{CloudState, IsEmptyCloud}
 use Rattle.cloud_trait.specs.Seen.{Seen}
 use Rattle.cloud_trait.specs.Upto.{upto, AgreeUpto, IsUpto, posts_of}
@@ -18,14 +17,13 @@ use Rattle.reply_text.specs.declared.reply.Reply.{Reply}
 use Rattle.reply_text.specs.declared.reply.Reply.TheVariants as reply
 use Rattle.replay_meaning.specs.Standing.{Line}
 use Rattle.replay_meaning.specs.Right.{ReportIsRight}
-use Rattle.session_facts.specs.Facts.{session_at, Stands}
 use Rattle.session_facts.proofs.UptoRight.{HoldTheSame, right_same, kinds_upto}
-use Rattle.session_facts.proofs.StartLemmas.{nothing_stands_yet}
 use Rattle.world_core.specs.World.{World}
 use Rattle.world_core.specs.declared.world.WorldFault.{WorldFault}
 use Rattle.world_core.specs.declared.world.WorldFault.TheVariants as world
 use Rattle.world_core.specs.Handled.{Handled}
 use Rattle.world_core.specs.Stands.{WorldStands, StandsOn, Grows}
+use Rattle.world_core.proofs.StartLemmas.{new_stands}
 use Rattle.schedule_run.specs.declared.replay.LineFault.{LineFault}
 use Rattle.schedule_run.specs.declared.replay.LineFault.TheVariants.{BadLine, WriteFault, Memory}
 use Rattle.schedule_run.specs.Answered.{IsNew, WentOn, start, further, AreAnswered, AreExplained, ReportsAreRight, RepliesAreSound, ActsByTheLines, KeepsTheTheorem}
@@ -142,10 +140,7 @@ lines_more texts text n w v u s t z first old new line count h spells a grows ad
 
 -- a new world stands for no lines over an empty cloud
 pub fresh_stands : (world : World) (t : CloudState) → IsNew world → IsEmptyCloud t → WorldStands [] world t
-fresh_stands world t fresh empty =
-    subst (λ b. Stands [] (session_at world.sessions) world.audit b t) (sym fresh.sees)
-    (subst (λ l. Stands [] (session_at l) world.audit false t) (sym fresh.sessions)
-    (subst (λ a. Stands [] (session_at (replicate 17 closed_session)) a false t) (sym fresh.audit) (nothing_stands_yet 17 t empty)))
+fresh_stands world t fresh empty = new_stands world.sessions world.audit world.blind t fresh.sessions fresh.audit fresh.sees empty
 
 -- and so every reply of lines that were handled from it on is sound
 pub replies_sound : (lines : List Line) (s t : Seen) (first world : World) (x : CloudState) → WentOn s first lines t world → IsNew first → s.state ≡ Some x → IsEmptyCloud x

@@ -1,4 +1,5 @@
 pub mod Closed
+pub mod StartLemmas
 pub mod Placing
 pub mod Going
 pub mod Settling

@@ -67,22 +67,26 @@ impl<S: SessionCalls> Model for World<S> {
 }
 
 impl<S: SessionCalls> World<S> {
+    ghost use Rattle.cloud_trait.specs.State.{CloudState, IsEmptyCloud};
     ghost use Rattle.client_work.specs.Session.{closed_session, settling_session, StepsSession};
     ghost use Rattle.world_core.specs.Sound.{AnswersSoundly};
     ghost use Rattle.world_core.specs.Explained.{ExplainsSteps};
     ghost use Rattle.world_core.specs.Calm.{AnswersWell};
     ghost use Rattle.world_core.specs.Bounded.{MakesFewCalls};
     ghost use Rattle.world_core.specs.Settled.{SettlingEnds, SettlingLeaves};
-    ghost use Rattle.world_core.specs.Stands.{StandsOn};
+    ghost use Rattle.world_core.specs.Stands.{WorldStands, StandsOn};
     ghost use Rattle.world_core.specs.Sessions.{Changes, IsNotWorking, IsAtWork, HasPut};
     ghost use Rattle.world_core.specs.Handled.{Handled, Answers, Does, BeginsOp, NotesChange, DropsChanges, MakesStep, ComesTo, Runs, Settles, SettlesOn, Has, Crashes, CrashesDone, StepsLooked, Reports};
 
-    /// A world whose sessions are closed, and that saw nothing. Refused for memory alone.
+    /// A world whose sessions are closed, and that saw nothing: over an empty cloud it stands for no lines. Refused for memory
+    /// alone.
+    #[tactic(auto, using(crate::proofs::StartLemmas::new_stands))]
     pub fn new(alloc: Global) -> Result<World<S>, Refused>
         ensures sessions { IfOk result (λ w. w.sessions ≡ replicate 17 closed_session) }
         ensures audit { IfOk result (λ w. w.audit ≡ record { committed = []; order = [] }) }
         ensures sees { IfOk result (λ w. w.blind ≡ false) }
         ensures memory { IfErr result (λ e. e ≡ Refused.Memory) }
+        ensures stands { (t : CloudState) → IsEmptyCloud t → IfOk result (λ w. WorldStands [] w t) }
     {
         Ok(World {
             sessions: Sessions::new(alloc)?,

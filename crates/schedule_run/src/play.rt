@@ -1,6 +1,6 @@
 //! A world, and how many events it has handled.
 
-ghost use Rattle.std.specs.Prelude.{IfOk};
+ghost use Rattle.std.specs.Prelude.{◌≡◌, IfOk, IfErr};
 ghost use Rattle.schedule_run.specs.Play.{IsFresh, Takes, RunsWhole};
 
 use client_work::calls::SessionCalls;
@@ -40,7 +40,8 @@ impl<S: SessionCalls> Model for Play<S> {
 impl<S: SessionCalls> Play<S> {
     /// A new world, that has handled nothing. Refused for memory alone.
     pub fn new(alloc: Global) -> Result<Play<S>, Refused>
-        ensures { IfOk result (λ play. IsFresh play) }
+        ensures fresh { IfOk result (λ play. IsFresh play) }
+        ensures memory { IfErr result (λ e. e ≡ Refused.Memory) }
     {
         Ok(Play {
             world: World::new(alloc)?,

@@ -5,7 +5,7 @@ use Rattle.cloud_facts.specs.Calls.Acting.{HasLeaseOf}
 use Rattle.cloud_facts.proofs.Calls.Copies.{copied_stays, log_stays}
 use Rattle.cloud_trait.specs.Claim.{Claim, Lasts}
 use Rattle.cloud_facts.proofs.Calls.OthersLemmas.{pruned_stays}
-use Rattle.session_facts.specs.Commits.Committing.{IsLeafFor, AreLeavesFor, Attempt, attempt_of, IsOfAttempt, AreMessagesOf, Routes, HasOpened, AreSentOn, KnowsCommitAt, IsHomeOf, KnowsCommit}
+use Rattle.session_facts.specs.Commits.Committing.{IsLeafFor, AreLeavesFor, Attempt, attempt_of, IsOfAttempt, AreMessagesOf, Routes, HasOpened, HasCommitted, AreSentOn, KnowsCommitAt, IsHomeOf, KnowsCommit}
 use Rattle.session_facts.proofs.Commits.Attempts.{messages_stay}
 use Rattle.commit_writes.specs.declared.stage.Stage.{Stage}
 use Rattle.commit_writes.specs.declared.stage.Stage.TheVariants.{Waiting, Logging, Opening, Sending, Settling, Deleting, Finished}
@@ -117,6 +117,11 @@ module _ (st su : Store) (now later : ℕ) (x : Attempt) (after : now ≤ later)
     all = λ r is of. k.all r (none r is of) of;
   }
 
+-- what is committed stays so
+pub committed_on : (log more : List AtomicRec) (x : Attempt) (changes : List Noted) → ((r : AtomicRec) → IsIn log r → IsIn more r) → HasCommitted log x changes → HasCommitted more x changes
+committed_on log more x changes stays committed n is =
+    let of = committed n is in record { of = of.of; logged = stays of.of of.logged; is = of.is; tree_is = of.tree_is; change_is = of.change_is }
+
 -- ---- the whole
 
 pub commit_others : (st su : Store) (now later : ℕ) (w : Writing) (part : Part) → now ≤ later → Others (w.home.lease ∷ []) later st su → NoneJoins part st su → KnowsCommit st now w part
@@ -132,6 +137,9 @@ commit_others st su now later w part after o joins k =
 
     stays : (r : AtomicRec) → IsIn st.book.log r → IsIn su.book.log r
     stays r is = log_stays st su r (o.passes).grows is
+
+    committed : HasCommitted st.book.log (attempt_of w) w.changes → HasCommitted su.book.log (attempt_of w) w.changes
+    committed = committed_on st.book.log su.book.log (attempt_of w) w.changes stays
 
     messages : AreMessagesOf st (attempt_of w) w.ids → AreMessagesOf su (attempt_of w) w.ids
     messages = messages_stay st su (attempt_of w) w.ids (o.passes).grows
@@ -149,17 +157,20 @@ commit_others st su now later w part after o joins k =
     }
     on Sending a = record {
       has = opened_others st su now later (attempt_of w) after still none w.records w.home.head stays a.has;
+      committed = committed a.committed;
       sent = sent_others st su w.records w.place o.passes (λ r is. ((a.has).logged r is).0) a.sent;
       messages = messages a.messages;
     }
     on Settling a = record {
       opened = a.opened;
       has = opened_others st su now later (attempt_of w) after still none w.records a.opened stays a.has;
+      committed = committed a.committed;
       head = a.head;
       sent = sent_others st su w.records _ o.passes (λ r is. ((a.has).logged r is).0) a.sent;
       messages = messages a.messages;
     }
     on Deleting a = record {
+      committed = committed a.committed;
       settled = a.settled;
       txn_is = a.txn_is;
       past = past_on w.home.head (st.tally.head w.home.client) (su.tally.head w.home.client) a.past ((o.passes).grows.heads w.home.client);

@@ -56,6 +56,7 @@ module _ (who : Caller) (book : Book) (order : List Entry) (s t : CloudState) (p
 
   still : Deletes su t.now w g
   still = record {
+    committed = a.committed;
     settled = a.settled;
     txn_is = a.txn_is;
     past = a.past;

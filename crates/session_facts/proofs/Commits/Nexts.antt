@@ -6,7 +6,7 @@ use Rattle.session_facts.specs.Openings.Client.{AreOfTrees, KnowsClient}
 use Rattle.cloud_facts.proofs.Calls.OthersLemmas.{pruned_itself}
 use Rattle.cloud_trait.specs.Claim.{Lasts}
 use Rattle.cloud_trait.specs.Machine.{Next, Goes, Ends, Stops}
-use Rattle.session_facts.specs.Commits.Committing.{MayCommit, Attempt, attempt_of, AreMessagesOf, Routes, HasSent, HasOpened, AreSentOn, Deletes, IsHomeOf, KnowsCommitAt, KnowsCommit, KnowsNext}
+use Rattle.session_facts.specs.Commits.Committing.{MayCommit, Attempt, attempt_of, AreMessagesOf, Routes, HasSent, HasOpened, HasCommitted, AreSentOn, Deletes, IsHomeOf, KnowsCommitAt, KnowsCommit, KnowsNext}
 use Rattle.session_facts.proofs.Commits.Attempts.{take_all}
 use Rattle.commit_writes.specs.Writing.{Writing, before_of, restored, log_or_open, log_at, send_or_settle, send_at, delete_or_end, delete_at, not_opened, logged_by, opened_by, sent_by, settled_by, deleted_by}
 use Rattle.db_base.specs.Ids.{IsClient}
@@ -129,17 +129,17 @@ module _ (u : Store) (now : ℕ) (w : Writing) (part : Part) (g : Home) (stands 
   logs_at n routes has messages = log_next n (slice_get w.records n) routes has messages refl
 
   -- the next record is sent on, or all were
-  send_next : (n : ℕ) (o : Option AtomicRec) → HasOpened u now (attempt_of w) w.records w.home.head → AreSentOn u w.records n → AreMessagesOf u (attempt_of w) w.ids
+  send_next : (n : ℕ) (o : Option AtomicRec) → HasOpened u now (attempt_of w) w.records w.home.head → HasCommitted u.book.log (attempt_of w) w.changes → AreSentOn u w.records n → AreMessagesOf u (attempt_of w) w.ids
       → slice_get w.records n ≡ o → Known (send_or_settle (record w { place = n }) o) u now part
-  send_next n (Some r) has sent messages e = record {
+  send_next n (Some r) has committed sent messages e = record {
     client = stands.client;
     lock = stands.lock;
     changes = stands.changes_may;
     home = g;
     at_home = stands.home;
-    at = record { has = has; sent = sent; messages = messages };
+    at = record { has = has; committed = committed; sent = sent; messages = messages };
   }
-  send_next n None has sent messages e = record {
+  send_next n None has committed sent messages e = record {
     client = stands.client;
     lock = stands.lock;
     changes = stands.changes_may;
@@ -148,14 +148,16 @@ module _ (u : Store) (now : ℕ) (w : Writing) (part : Part) (g : Home) (stands 
     at = record {
       opened = w.home.head;
       has = has;
+      committed = committed;
       head = refl;
       sent = λ place r less there. let past = past_none w.records n e in sent place r (omega (arith, less, past)) there;
       messages = messages;
     };
   }
 
-  pub sends_at : (n : ℕ) → HasOpened u now (attempt_of w) w.records w.home.head → AreSentOn u w.records n → AreMessagesOf u (attempt_of w) w.ids → Known (send_at w n) u now part
-  sends_at n has sent messages = send_next n (slice_get w.records n) has sent messages refl
+  pub sends_at : (n : ℕ) → HasOpened u now (attempt_of w) w.records w.home.head → HasCommitted u.book.log (attempt_of w) w.changes → AreSentOn u w.records n
+      → AreMessagesOf u (attempt_of w) w.ids → Known (send_at w n) u now part
+  sends_at n has committed sent messages = send_next n (slice_get w.records n) has committed sent messages refl
 
   -- the next message is deleted, or all were
   delete_next : (n : ℕ) (o : Option ℕ) → Deletes u now w g → Known (delete_or_end (record w { place = n }) o) u now part
@@ -165,7 +167,7 @@ module _ (u : Store) (now : ℕ) (w : Writing) (part : Part) (g : Home) (stands 
     changes = stands.changes_may;
     home = g;
     at_home = stands.home;
-    at = record { settled = a.settled; txn_is = a.txn_is; past = a.past; newest = a.newest; trees = a.trees; needed = a.needed; messages = a.messages };
+    at = record { committed = a.committed; settled = a.settled; txn_is = a.txn_is; past = a.past; newest = a.newest; trees = a.trees; needed = a.needed; messages = a.messages };
   }
   delete_next n None a =
       knows_home u now (attempt_of w) w.changes part g w.home.head stands refl (let e = a.txn_is in omega (arith, e)) a.settled

@@ -12,9 +12,9 @@ use Rattle.cloud_trait.specs.Caller.{Caller}
 use Rattle.cloud_trait.specs.Claim.{Lasts}
 use Rattle.cloud_trait.specs.State.{CloudState, called}
 use Rattle.cloud_trait.specs.Views.{done_of}
-use Rattle.session_facts.specs.Commits.Committing.{attempt_of, IsOfAttempt, AreMessagesOf, OpensBehind, HasOpened, KnowsNext}
+use Rattle.session_facts.specs.Commits.Committing.{attempt_of, IsOfAttempt, AreMessagesOf, OpensBehind, HasOpened, HasCommitted, KnowsNext}
 use Rattle.session_facts.specs.Commits.Noting.{noted_at}
-use Rattle.session_facts.proofs.Commits.Attempts.{record_of, messages_stay}
+use Rattle.session_facts.proofs.Commits.Attempts.{record_of, record_for, messages_stay}
 use Rattle.session_facts.proofs.Commits.Nexts.{Step, IsLeft, part_next, next_homes, knows_home, sends_at, opened_known, restored_is}
 use Rattle.session_facts.proofs.Commits.Opened as opened
 use Rattle.session_facts.proofs.Commits.Ready.{Ready, OutcomeAt, at_home, holds, homes, lasting, alone}
@@ -135,6 +135,13 @@ module _ (who : Caller) (book : Book) (order : List Entry) (s t : CloudState) (p
         all r of (inr new) = subst (λ rs. IsIn rs r) (sym records_are) new
         all r of (inl old) = absurd ((a.routes).uncommitted r old of)
 
+    -- each change has its record
+    has_committed : HasCommitted su.book.log (attempt_of w) w.changes
+    has_committed n is =
+        let for = record_for st t.now (attempt_of w) w.changes w.records a.base a.routes is.0 n is.1 in
+        let of = has_opened.logged for.of for.is in
+        record { of = for.of; logged = of.0; is = of.1; tree_is = for.tree_is; change_is = for.change_is }
+
     messages : AreMessagesOf su (attempt_of w) w.ids
     messages = messages_stay st su (attempt_of w) w.ids (head_grows st client w.home.head recs (opens_later st client w.home.head recs opens_recs)) a.messages
 
@@ -155,7 +162,7 @@ module _ (who : Caller) (book : Book) (order : List Entry) (s t : CloudState) (p
         (g, at_home who book order s t.now parts w part g ready, sym same_client, sym ((ready.stands).home).epoch_is) tt (part_next step part)
         (next_homes su.tally t.now parts who.session part step after_homes)
         (opened_known su t.now w part (done_of reply)
-        (λ done. sends_at su t.now w part g ready.stands 0 has_opened (λ place r less there. absurd (omega (arith, less))) messages)
+        (λ done. sends_at su t.now w part g ready.stands 0 has_opened has_committed (λ place r less there. absurd (omega (arith, less))) messages)
         (λ end late e. left su (λ still. absurd (put_late who (object.Head client) w.out w.home.lease reply s t call end late e still))))
         noted
 

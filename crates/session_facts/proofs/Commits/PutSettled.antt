@@ -15,6 +15,7 @@ use Rattle.session_facts.proofs.Openings.Entries.{settled_trees}
 use Rattle.session_facts.specs.Commits.Committing.{attempt_of, SettlesOpened, Deletes, KnowsNext}
 use Rattle.session_facts.specs.Commits.Noting.{noted_at}
 use Rattle.session_facts.proofs.Commits.Attempts.{messages_stay}
+use Rattle.session_facts.proofs.Commits.CommitOthers.{committed_on}
 use Rattle.session_facts.proofs.Commits.Nexts.{Step, Stands, part_next, next_homes, deletes_at, settled_known}
 use Rattle.session_facts.proofs.Commits.Ready.{Ready, OutcomeAt, at_home, homes, lasting, alone}
 use Rattle.session_facts.proofs.Commits.Settled.{settles_opened}
@@ -35,6 +36,7 @@ use Rattle.cloud_facts.specs.Book.Premises.{Settles}
 use Rattle.cloud_facts.specs.Book.Tally.{Store, at}
 use Rattle.cloud_facts.proofs.Book.GrowthLemmas.{head_grows}
 use Rattle.cloud_facts.proofs.Book.Names.{at_same}
+use Rattle.cloud_facts.proofs.Book.Places.{in_front}
 use Rattle.cloud_facts.specs.Tellings.Told.{store_of}
 
 module _ (who : Caller) (book : Book) (order : List Entry) (s t : CloudState) (parts : Parts) (w : Writing) (reply : Answer) (part : Part) (g : Home)
@@ -93,6 +95,7 @@ module _ (who : Caller) (book : Book) (order : List Entry) (s t : CloudState) (p
 
     deletes : Deletes su t.now w rested
     deletes = record {
+      committed = committed_on book.log su.book.log (attempt_of w) w.changes (λ r is. in_front book.log [] r is) k.committed;
       settled = settles.phase;
       txn_is = ap (λ (h : Head). h.txn) k.head ∙ (k.has).txn_is;
       past = inl here;

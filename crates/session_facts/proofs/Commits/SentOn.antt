@@ -127,7 +127,7 @@ module _ (who : Caller) (book : Book) (order : List Entry) (s t : CloudState) (p
           (next_homes su.tally t.now parts who.session part step (aside_keeps st.tally su.tally t.now (at who.session part parts) refl refl (homes who book order s t.now parts w part g ready)))
           (sent_known su t.now w part (sent_of reply)
           (λ id done. sends_at su t.now w part g ready.stands (w.place + 1)
-          (opened_others st su t.now t.now (attempt_of w) (omega arith) (λ lasts. refl) (λ q is of. is) w.records w.home.head (λ q is. is) a.has) more
+          (opened_others st su t.now t.now (attempt_of w) (omega arith) (λ lasts. refl) (λ q is of. is) w.records w.home.head (λ q is. is) a.has) a.committed more
           (messages_stay st su (attempt_of w) w.ids (posted_grows st r.tree r.page (sent_by who w.out)) a.messages)))
           (λ look new. refl) refl
 

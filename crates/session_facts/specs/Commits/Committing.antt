@@ -129,6 +129,18 @@ pub record HasOpened (st : Store) (now : ℕ) (x : Attempt) (records : List Atom
   pub newest : Lasts now x.lease → st.tally.head x.client ≡ opened
   pub all : (r : AtomicRec) → IsIn st.book.log r → IsOfAttempt x r → IsIn records r
 
+-- a change has a record of the transaction in the log
+pub record IsLogged (log : List AtomicRec) (x : Attempt) (n : Noted) : Type 0 where
+  pub of : AtomicRec
+  pub logged : IsIn log of
+  pub is : IsOfAttempt x of
+  pub tree_is : of.tree ≡ n.tree
+  pub change_is : of.change ≡ n.change
+
+-- the transaction committed each of the changes
+abbrev pub HasCommitted : List AtomicRec → Attempt → List Noted → Type 0
+HasCommitted log x changes = (n : Noted) → IsIn changes n → IsLogged log x n
+
 -- the first so many records were sent on, each with a copy in its queue
 abbrev pub AreSentOn : Store → List AtomicRec → ℕ → Type 0
 AreSentOn st records upto = (place : ℕ) (r : AtomicRec) → place < upto → StandsAt records place r → WasSentOn st.tally r × IsCopied st.tally r
@@ -136,6 +148,7 @@ AreSentOn st records upto = (place : ℕ) (r : AtomicRec) → place < upto → S
 -- the next record is sent on; those before it were
 pub record SendsNext (st : Store) (now : ℕ) (w : Writing) : Type 0 where
   pub has : HasOpened st now (attempt_of w) w.records w.home.head
+  pub committed : HasCommitted st.book.log (attempt_of w) w.changes
   pub sent : AreSentOn st w.records w.place
   pub messages : AreMessagesOf st (attempt_of w) w.ids
 
@@ -143,13 +156,15 @@ pub record SendsNext (st : Store) (now : ℕ) (w : Writing) : Type 0 where
 pub record SettlesOpened (st : Store) (now : ℕ) (w : Writing) : Type 0 where
   pub opened : Head
   pub has : HasOpened st now (attempt_of w) w.records opened
+  pub committed : HasCommitted st.book.log (attempt_of w) w.changes
   pub head : w.home.head ≡ settled_head opened w.records
   pub sent : AreSentOn st w.records (length w.records)
   pub messages : AreMessagesOf st (attempt_of w) w.ids
 
 -- the head that settles landed: it is the newest or an earlier one, and the newest while the lease lasts; the ATOMIC messages of the
--- transaction are needed no more; its pending entries are of trees
+-- transaction are needed no more; its pending entries are of trees; the transaction committed the changes
 pub record Deletes (st : Store) (now : ℕ) (w : Writing) (g : Home) : Type 0 where
+  pub committed : HasCommitted st.book.log (attempt_of w) w.changes
   pub settled : w.home.head.phase ≡ Settled
   pub txn_is : w.home.head.txn ≡ w.home.attempt
   pub past : (st.tally.head w.home.client ≡ w.home.head) ⊎ IsLater w.home.head (st.tally.head w.home.client)

@@ -41,3 +41,4 @@ pub mod LeftLemmas
 pub mod SettledLemmas
 pub mod ReportLemmas
 pub mod Answering
+pub mod Acknowledged

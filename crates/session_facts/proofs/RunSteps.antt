@@ -54,9 +54,9 @@ none_left (n ∷ changes) (suc place) none = omega (arith, none_left changes pla
 
 module _ (changes : List Noted) (client : ℕ) where
   -- the writes are of these changes and this client
-  record IsFor (w : Writing) : Type 0 where
-    changes_are : w.changes ≡ changes
-    client_is : w.home.client ≡ client
+  pub record IsFor (w : Writing) : Type 0 where
+    pub changes_are : w.changes ≡ changes
+    pub client_is : w.home.client ≡ client
 
   abbrev Refuses : Next (Run × Cache) CommitAnswer → Type 0
   Refuses = RunsFor IsRefusal changes client
@@ -128,7 +128,7 @@ module _ (changes : List Noted) (client : ℕ) where
       on true = stale_so first d c f
       on false = stops_so d c t f
 
-  turns : (first : Bool) (d : Draft) (n : Next (Walk × Cache) ℕ) → IsFor d.writes → Refuses (by_turn (walk_turned first d) n)
+  pub turns : (first : Bool) (d : Draft) (n : Next (Walk × Cache) ℕ) → IsFor d.writes → Refuses (by_turn (walk_turned first d) n)
   turns first d (Goes m) f = goes_walking first (pruned_behind d m.0 m.1) m.0 m.1 (by_use d.writes m.1 m.0.used f)
   turns first d (Ends m page) f = plans (leaf_noted (pruned_behind d m.0 m.1) m.0 m.1 page) m.1 (by_use d.writes m.1 m.0.used f)
   turns first d (Stops m t) f = walk_stops first (pruned_behind d m.0 m.1) m.1 t (by_use d.writes m.1 m.0.used f)

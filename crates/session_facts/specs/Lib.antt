@@ -14,5 +14,6 @@ pub mod RowKinds
 pub mod Running
 pub mod Facts
 pub mod Answers
+pub mod Acknowledged
 pub mod Added
 pub mod Opened

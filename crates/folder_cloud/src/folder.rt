@@ -26,8 +26,11 @@ pub(crate) struct Folder<R> {
 }
 
 impl<R: Files<File = File> + AllocGlobal + Drop> Folder<R> {
-    /// The folder at a path, which is made where there is none.
+    /// The folder at a path, which is made where there is none. An empty path names none: its parts would be the root's.
     pub fn open(rt: R, dir: &str) -> Result<Folder<R>, FolderFault> {
+        if dir.is_empty() {
+            return Err(FolderFault::Failed);
+        }
         let dir = String::from_str(rt.alloc(), dir)?;
         let folder = Folder { rt, dir };
         for part in ["objects", "locks", "queues"] {
@@ -139,7 +142,8 @@ impl<R: Files<File = File> + AllocGlobal + Drop> Folder<R> {
         }
     }
 
-    /// Sends a message. Its number is counted before it is written, so no number comes twice.
+    /// Sends a message. Its number is counted before it is written, so no number comes twice; where the count was set back, the message
+    /// that has the number stays, and the send fails.
     pub fn send(&self, queue: &QueueName, bytes: &[u8]) -> Result<MsgId, FolderFault> {
         let _held = self.hold()?;
         let folder = self.queue_path(queue)?;
@@ -150,6 +154,9 @@ impl<R: Files<File = File> + AllocGlobal + Drop> Folder<R> {
         let last = self.last_id(counter.as_str())?;
         let id = last.checked_add(1).ok_or(FolderFault::Failed)?;
         let path = self.message_path(folder.as_str(), id)?;
+        if self.read(path.as_str())?.is_some() {
+            return Err(FolderFault::Failed);
+        }
         self.write(counter.as_str(), &id.to_be_bytes())?;
         self.write(path.as_str(), bytes)?;
         Ok(MsgId::new(id))

@@ -36,7 +36,7 @@ pub struct FolderCloud<R, K> {
 }
 
 impl<R: Files<File = File> + AllocGlobal + Drop, K: Ticks + Drop> FolderCloud<R, K> {
-    /// The cloud in the folder at a path, which is made where there is none. Failed or Memory.
+    /// The cloud in the folder at a path, which is made where there is none. Failed, for an empty path too, or Memory.
     pub fn open(rt: R, dir: &str, clock: K) -> Result<FolderCloud<R, K>, CloudFault> {
         match Folder::open(rt, dir) {
             Ok(folder) => Ok(FolderCloud {

@@ -138,3 +138,24 @@ const FOREIGN: &[Step<'static>] = &[
 fn fails_where_a_file_is_foreign(rt: HostRuntime) {
     assert!(rt; plays_anew(&rt, "foreign-test", FOREIGN));
 }
+
+const SET_BACK: &[Step<'static>] = &[
+    Step::Sends(b"a", 1),
+    Step::Writes(
+        "set-back-test/queues/updates-010000000000000000/last",
+        "\0\0\0\0\0\0\0\0",
+    ),
+    Step::FailsToSend(b"b"),
+    Step::Receives(256, &[(1, b"a")]),
+];
+
+#[test]
+fn keeps_a_message_where_its_number_comes_again(rt: HostRuntime) {
+    assert!(rt; plays_anew(&rt, "set-back-test", SET_BACK));
+}
+
+#[test]
+fn opens_no_folder_at_an_empty_path(rt: HostRuntime) {
+    let opened = FolderCloud::open(&rt, "", Steady { last: 10 });
+    assert!(rt; opened.is_err());
+}

@@ -38,6 +38,8 @@ pub(crate) enum Step<'a> {
     Releases,
     /// A send: the number of the message.
     Sends(&'a [u8], u64),
+    /// A send that fails.
+    FailsToSend(&'a [u8]),
     /// A receive of at most so many messages: their numbers and bytes.
     Receives(u16, &'a [(u64, &'a [u8])]),
     /// A deletion of a message by its number.
@@ -124,6 +126,7 @@ fn play_step<R: Files<File = File> + AllocGlobal, C: Bench>(
         Step::Renews(ticks, end) => renews(cloud, names, lease, ticks, end),
         Step::Releases => releases(cloud, names, lease),
         Step::Sends(bytes, id) => sends(cloud, names, bytes, id),
+        Step::FailsToSend(bytes) => fails_to_send(cloud, names, bytes),
         Step::Receives(most, wanted) => receives(cloud, names, most, wanted),
         Step::Deletes(id) => cloud.delete(names.who, names.queue, MsgId::new(id)).is_ok(),
         Step::Counts(wanted) => counts(cloud, names, wanted),
@@ -243,6 +246,13 @@ fn finds_held<C: Cloud>(cloud: &mut C, names: &Names, ticks: u64, wanted: u64) -
 fn fails_to_take<C: Cloud>(cloud: &mut C, names: &Names, ticks: u64) -> bool {
     matches!(
         cloud.take(names.who, names.lock, ticks),
+        Err(CloudFault::Failed)
+    )
+}
+
+fn fails_to_send<C: Cloud>(cloud: &mut C, names: &Names, bytes: &[u8]) -> bool {
+    matches!(
+        cloud.send(names.who, names.queue, bytes),
         Err(CloudFault::Failed)
     )
 }

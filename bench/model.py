@@ -8,6 +8,7 @@ replies, and holds every report against what it follows:
 - behind `left 0 0` the order has every committed entry.
 
 A commit that was cut off by a crash, or is in doubt, is committed where the next report says so, and never afterwards.
+A report while a commit is half done is not for it: lines and replies do not tell whether its head landed.
 A read or a scan shows payloads that a session noted for that key. Lines and replies are matched by their numbers.
 
 Usage: bench/model.py SCHEDULE REPLIES [..]     prints one line for each pair; status 1 where one is not as the model says

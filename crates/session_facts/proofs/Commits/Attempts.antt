@@ -79,7 +79,7 @@ record_for st now x changes records base routes place n there =
       is = (
         place,
         subst (λ rs. StandsAt rs place (record_behind x.client base.epoch x.txn (length changes) base (take place (routed x.client base.epoch x.txn base changes routes.pages)) n page.0)) (sym routes.records_are)
-        (routed_behind-at x.client base.epoch x.txn (length changes) base [] changes routes.pages place n page.0 there page.1),
+            (routed_behind-at x.client base.epoch x.txn (length changes) base [] changes routes.pages place n page.0 there page.1),
       );
       tree_is = refl;
       change_is = refl;

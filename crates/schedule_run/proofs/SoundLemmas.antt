@@ -16,6 +16,7 @@ use Rattle.world_core.specs.World.{World}
 use Rattle.world_core.specs.Handled.{Handled}
 use Rattle.world_core.specs.Settled.{SettlingLeaves, SettlingEnds}
 use Rattle.world_core.specs.Stands.{WorldStands}
+use Rattle.world_core.proofs.Acknowledged.{durable_after}
 use Rattle.world_core.proofs.Bounded.{few_calls}
 use Rattle.world_core.proofs.EveryLine.{stands_after}
 use Rattle.world_core.proofs.Calm.{well_after}
@@ -109,5 +110,6 @@ went_explained before old t lines after new (further earlier line mid _ world _ 
             subst (λ x. EndsSo x (length earlier + 1) line.event mid after world new line.reply handled) (same_some o.state t (sym o.told ∙ told_so))
             (ends_so (length earlier + 1) line.event mid after world new line.reply
             (settling_ends (length earlier + 1) line.event mid after world new (Ok line.reply)) earlier o.state refl o.told o.stands handled);
+        kept = λ u seen. durable_after (length earlier + 1) line.event mid after world new (Ok line.reply) handled earlier o.state u refl o.told o.stands seen;
       },
     )

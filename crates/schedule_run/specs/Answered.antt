@@ -8,9 +8,11 @@ use Rattle.event_text.specs.declared.event.Event.{Event}
 use Rattle.event_text.specs.declared.event.Event.TheVariants as event
 use Rattle.reply_text.specs.declared.reply.Reply.{Reply}
 use Rattle.reply_text.specs.declared.reply.Reply.TheVariants as reply
+use Rattle.replay_meaning.specs.Committed.{committed}
 use Rattle.replay_meaning.specs.Standing.{Line, session_of, standing}
 use Rattle.replay_meaning.specs.Kinds.{KeepsKinds}
 use Rattle.replay_meaning.specs.Right.{ReportIsRight}
+use Rattle.session_facts.specs.Acknowledged.{IsKeptReply}
 use Rattle.session_facts.specs.Sessions.Untroubled.{IsUntroubled}
 use Rattle.world_core.specs.World.{World}
 use Rattle.world_core.specs.declared.world.WorldFault.{WorldFault}
@@ -47,7 +49,8 @@ EndsSo t n event.Settle before after old new r handled =
 EndsSo t n event before after old new r handled = Unit {0}
 
 -- a line that was handled explains the steps that it made; where its session was untroubled and each of these was calm, the session is untroubled
--- behind it, and the line is answered well; a run of it makes few calls for a tree checkpoint; and a settling leaves nothing and comes to its end so
+-- behind it, and the line is answered well; a run of it makes few calls for a tree checkpoint; a settling leaves nothing and comes to its end so;
+-- and a commit that it answers as committed is among what was committed
 pub record IsExplained (lines : List Line) (line : Line) (before after : Seen) (old new : World) (handled : Handled (length lines + 1) line.event before after old new (Ok line.reply))
     : Type 0 where
   pub explains : EachStep StepExplains (length lines + 1) line.event before after old new (Ok line.reply) handled
@@ -56,6 +59,8 @@ pub record IsExplained (lines : List Line) (line : Line) (before after : Seen) (
   pub bounded : AnswersSoon (length lines + 1) handled.asked before after old new (Ok line.reply) handled.answers
   pub leaves : LeavesSo (length lines + 1) line.event before after old new line.reply handled
   pub ends : (t : CloudState) → before.state ≡ Some t → EndsSo t (length lines + 1) line.event before after old new line.reply handled
+  pub kept : (u : CloudState) → after.state ≡ Some u
+      → IsKeptReply (committed (lines ++ line ∷ []) u) (standing lines (session_of line.event)).client (standing lines (session_of line.event)).posture line.reply
 
 -- and so does each line
 abbrev pub AreExplained : (before : Seen) (old : World) (lines : List Line) (after : Seen) (new : World) → WentOn before old lines after new → Type 0

@@ -12,6 +12,7 @@ pub mod StandsLemmas
 pub mod BeginLemmas
 pub mod EveryLine
 pub mod Sound
+pub mod Acknowledged
 pub mod Explained
 pub mod Bounded
 pub mod Calm

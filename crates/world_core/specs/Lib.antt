@@ -5,6 +5,7 @@ pub mod Replying
 pub mod Handled
 pub mod Stands
 pub mod Sound
+pub mod Acknowledged
 pub mod EachStep
 pub mod Explained
 pub mod Bounded

@@ -70,6 +70,7 @@ impl<S: SessionCalls> World<S> {
     ghost use Rattle.cloud_trait.specs.State.{CloudState, IsEmptyCloud};
     ghost use Rattle.client_work.specs.Session.{closed_session, settling_session, StepsSession};
     ghost use Rattle.world_core.specs.Sound.{AnswersSoundly};
+    ghost use Rattle.world_core.specs.Acknowledged.{AnswersDurably};
     ghost use Rattle.world_core.specs.Explained.{ExplainsSteps};
     ghost use Rattle.world_core.specs.Calm.{AnswersWell};
     ghost use Rattle.world_core.specs.Bounded.{MakesFewCalls};
@@ -106,6 +107,7 @@ impl<S: SessionCalls> World<S> {
         ensures handled { Handled n event.now (C.seen cloud.old) (C.seen cloud.new) self.old self.new result }
         ensures stands { StandsOn n event.now (C.seen cloud.old) (C.seen cloud.new) self.old self.new result }
         ensures sound { AnswersSoundly n event.now (C.seen cloud.old) (C.seen cloud.new) self.old self.new result }
+        ensures acknowledged { AnswersDurably n event.now (C.seen cloud.old) (C.seen cloud.new) self.old self.new result }
         ensures explained { ExplainsSteps n event.now (C.seen cloud.old) (C.seen cloud.new) self.old self.new result }
         ensures calm { AnswersWell n event.now (C.seen cloud.old) (C.seen cloud.new) self.old self.new result }
         ensures bounded { MakesFewCalls n event.now (C.seen cloud.old) (C.seen cloud.new) self.old self.new result }

@@ -4,6 +4,7 @@ use Rattle.world_core.proofs.Calm.{well_after}
 use Rattle.world_core.proofs.Explained.{explained}
 use Rattle.world_core.proofs.Settled.{settling_ends, settling_leaves}
 use Rattle.world_core.proofs.Sound.{sound_after}
+use Rattle.world_core.proofs.Acknowledged.{durable_after}
 use Rattle.world_core.proofs.world.World.event.Goals as goal
 
 pub returns-clause-stands : goal.returns-clause-stands
@@ -11,6 +12,9 @@ returns-clause-stands g c = stands_after _ _ _ _ _ _ _ c.handle.ensures.handled
 
 pub returns-clause-sound : goal.returns-clause-sound
 returns-clause-sound g c = sound_after _ _ _ _ _ _ _ c.handle.ensures.handled
+
+pub returns-clause-acknowledged : goal.returns-clause-acknowledged
+returns-clause-acknowledged g c = durable_after _ _ _ _ _ _ _ c.handle.ensures.handled
 
 pub returns-clause-explained : goal.returns-clause-explained
 returns-clause-explained g c = explained _ _ _ _ _ _ _

@@ -1,4 +1,4 @@
-ghost use Rattle.std.specs.Prelude.{◌≡◌, ◌≤◌, ◌<◌, ◌+◌, [], ◌∷◌, ◌++◌, Err};
+ghost use Rattle.std.specs.Prelude.{◌≡◌, ◌≤◌, ◌<◌, ◌+◌, ◌⊎◌, [], ◌∷◌, ◌++◌, Err};
 ghost use Rattle.line_io.specs.Output.{WasWritten};
 ghost use Rattle.schedule_run.specs.Play.{IsFresh};
 ghost use Rattle.schedule_run.specs.Summary.{summary};
@@ -31,6 +31,8 @@ pub fn generate<O: Sink, C: Bench>(
     requires { count ≤ 10000 }
     ensures write_fault { result ≡ Err OutputFault.WriteFault
         → (O.told sink.old).faults < (O.told sink.new).faults }
+    ensures writes { (result ≡ Err OutputFault.WriteFault)
+        ⊎ ((O.told sink.new).faults ≡ (O.told sink.old).faults) }
     ensures went { GenEnded (schedule number count) result (O.told sink.old) (O.told sink.new)
         (C.seen cloud.old) (C.seen cloud.new) }
 {
@@ -58,6 +60,8 @@ fn generate_in<S: SessionCalls, O: Sink, C: Bench>(
     requires { IsFresh play.old }
     ensures write_fault { result ≡ Err OutputFault.WriteFault
         → (O.told sink.old).faults < (O.told sink.new).faults }
+    ensures writes { (result ≡ Err OutputFault.WriteFault)
+        ⊎ ((O.told sink.new).faults ≡ (O.told sink.old).faults) }
     ensures went { GenEnded (earlier.now ++ last.now ∷ []) result (O.told sink.old) (O.told sink.new)
         (C.seen cloud.old) (C.seen cloud.new) }
 {

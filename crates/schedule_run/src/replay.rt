@@ -1,4 +1,4 @@
-ghost use Rattle.std.specs.Prelude.{◌≡◌, ◌<◌, ◌≤◌, Err};
+ghost use Rattle.std.specs.Prelude.{◌≡◌, ◌<◌, ◌⊎◌, Err};
 ghost use Rattle.event_text.specs.declared.event.Event.{Event};
 ghost use Rattle.event_text.specs.Event.{IsEvent};
 ghost use Rattle.world_core.specs.Stands.{Grows};
@@ -39,6 +39,8 @@ pub fn replay_lines<O: Sink, C: Bench>(
     ensures bad_line { result ≡ Err LineFault.BadLine → HasBadLine input.now }
     ensures write_fault { result ≡ Err LineFault.WriteFault
         → (O.told sink.old).faults < (O.told sink.new).faults }
+    ensures writes { (result ≡ Err LineFault.WriteFault)
+        ⊎ ((O.told sink.new).faults ≡ (O.told sink.old).faults) }
     ensures went { ReplayWent result input.now (O.told sink.old) (O.told sink.new)
         (C.seen cloud.old) (C.seen cloud.new) }
 {
@@ -62,6 +64,8 @@ fn go_on<S: SessionCalls, O: Sink, C: Bench>(
     ensures bad_line { result ≡ Err LineFault.BadLine → HasBadLine input.now }
     ensures write_fault { result ≡ Err LineFault.WriteFault
         → (O.told sink.old).faults < (O.told sink.new).faults }
+    ensures writes { (result ≡ Err LineFault.WriteFault)
+        ⊎ ((O.told sink.new).faults ≡ (O.told sink.old).faults) }
 {
     let mut rest = input;
     let mut n: u64 = 0;
@@ -95,7 +99,8 @@ fn replay_line<S: SessionCalls, O: Sink, C: Bench>(
     ensures bad_line { result ≡ Err LineFault.BadLine → (event : Event) → IsEvent line.now event → ⊥ }
     ensures write_fault { result ≡ Err LineFault.WriteFault
         → (O.told sink.old).faults < (O.told sink.new).faults }
-    ensures faults { (O.told sink.old).faults ≤ (O.told sink.new).faults }
+    ensures writes { (result ≡ Err LineFault.WriteFault)
+        ⊎ ((O.told sink.new).faults ≡ (O.told sink.old).faults) }
 {
     match Event::read(alloc, line) {
         Ok(event) => {
@@ -127,7 +132,8 @@ fn handle<S: SessionCalls, O: Sink, C: Bench>(
     ensures grows { Grows n (C.seen cloud.old) (C.seen cloud.new) }
     ensures write_fault { result ≡ Err LineFault.WriteFault
         → (O.told sink.old).faults < (O.told sink.new).faults }
-    ensures faults { (O.told sink.old).faults ≤ (O.told sink.new).faults }
+    ensures writes { (result ≡ Err LineFault.WriteFault)
+        ⊎ ((O.told sink.new).faults ≡ (O.told sink.old).faults) }
 {
     match world.event(alloc, cloud, n, event) {
         Ok(reply) => {

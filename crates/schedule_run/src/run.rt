@@ -36,12 +36,16 @@ pub fn run<I: Source, O: Sink, C: Bench>(
     ensures unread { result ≡ Status.BadWords → I.told source.new ≡ I.told source.old }
     ensures read_fault { result ≡ Status.ReadFault
         → (I.told source.old).faults < (I.told source.new).faults }
+    ensures reads { (result ≡ Status.ReadFault)
+        ⊎ ((I.told source.new).faults ≡ (I.told source.old).faults) }
     ensures too_long { result ≡ Status.TooLong → WasTooLong (I.told source.old) (I.told source.new) }
     ensures within { (result ≡ Status.TooLong) ⊎ WasWithin (I.told source.old) (I.told source.new) }
     ensures bad_line { result ≡ Status.BadLine
         → WasBad (HasBad (shape_of (map string_bytes words.now))) (I.told source.old) (I.told source.new) }
     ensures write_fault { result ≡ Status.WriteFault
         → (O.told sink.old).faults < (O.told sink.new).faults }
+    ensures writes { (result ≡ Status.WriteFault)
+        ⊎ ((O.told sink.new).faults ≡ (O.told sink.old).faults) }
     ensures not_settled { result ≡ Status.NotSettled → AsksToSettle (shape_of (map string_bytes words.now)) }
     ensures not_opened { result ≡ Status.NotOpened → AsksForShell (shape_of (map string_bytes words.now)) }
     // Where no read or write failed, the input was not too long and no line of it is bad, it is done.
@@ -76,11 +80,15 @@ fn run_asked<I: Source, O: Sink, C: Bench>(
     ensures not_words { result ≡ Status.BadWords → ⊥ }
     ensures read_fault { result ≡ Status.ReadFault
         → (I.told source.old).faults < (I.told source.new).faults }
+    ensures reads { (result ≡ Status.ReadFault)
+        ⊎ ((I.told source.new).faults ≡ (I.told source.old).faults) }
     ensures too_long { result ≡ Status.TooLong → WasTooLong (I.told source.old) (I.told source.new) }
     ensures within { (result ≡ Status.TooLong) ⊎ WasWithin (I.told source.old) (I.told source.new) }
     ensures bad_line { result ≡ Status.BadLine → WasBad (HasBad (Some asked)) (I.told source.old) (I.told source.new) }
     ensures write_fault { result ≡ Status.WriteFault
         → (O.told sink.old).faults < (O.told sink.new).faults }
+    ensures writes { (result ≡ Status.WriteFault)
+        ⊎ ((O.told sink.new).faults ≡ (O.told sink.old).faults) }
     ensures not_settled { result ≡ Status.NotSettled → AsksToSettle (Some asked) }
     ensures not_opened { result ≡ Status.NotOpened → AsksForShell (Some asked) }
     ensures ran { Ran (Some asked) result (I.told source.old) (I.told source.new) (O.told sink.old) (O.told sink.new)
@@ -104,12 +112,16 @@ fn replay<I: Source, O: Sink, C: Bench>(
     ensures not_words { result ≡ Status.BadWords → ⊥ }
     ensures read_fault { result ≡ Status.ReadFault
         → (I.told source.old).faults < (I.told source.new).faults }
+    ensures reads { (result ≡ Status.ReadFault)
+        ⊎ ((I.told source.new).faults ≡ (I.told source.old).faults) }
     ensures too_long { result ≡ Status.TooLong → WasTooLong (I.told source.old) (I.told source.new) }
     ensures within { (result ≡ Status.TooLong) ⊎ WasWithin (I.told source.old) (I.told source.new) }
     ensures bad_line { result ≡ Status.BadLine
         → WasBad HasBadLine (I.told source.old) (I.told source.new) }
     ensures write_fault { result ≡ Status.WriteFault
         → (O.told sink.old).faults < (O.told sink.new).faults }
+    ensures writes { (result ≡ Status.WriteFault)
+        ⊎ ((O.told sink.new).faults ≡ (O.told sink.old).faults) }
     ensures not_settled { result ≡ Status.NotSettled → ⊥ }
     ensures not_opened { result ≡ Status.NotOpened → ⊥ }
     ensures ran { Replays result (I.told source.old) (I.told source.new) (O.told sink.old) (O.told sink.new)
@@ -139,12 +151,16 @@ fn shell<I: Source, O: Sink, C: Bench>(
     ensures not_words { result ≡ Status.BadWords → ⊥ }
     ensures read_fault { result ≡ Status.ReadFault
         → (I.told source.old).faults < (I.told source.new).faults }
+    ensures reads { (result ≡ Status.ReadFault)
+        ⊎ ((I.told source.new).faults ≡ (I.told source.old).faults) }
     ensures too_long { result ≡ Status.TooLong → WasTooLong (I.told source.old) (I.told source.new) }
     ensures within { (result ≡ Status.TooLong) ⊎ WasWithin (I.told source.old) (I.told source.new) }
     ensures bad_line { result ≡ Status.BadLine
         → WasBad HasBadShellLine (I.told source.old) (I.told source.new) }
     ensures write_fault { result ≡ Status.WriteFault
         → (O.told sink.old).faults < (O.told sink.new).faults }
+    ensures writes { (result ≡ Status.WriteFault)
+        ⊎ ((O.told sink.new).faults ≡ (O.told sink.old).faults) }
     ensures not_settled { result ≡ Status.NotSettled → ⊥ }
     ensures ran { RunsShell client result (I.told source.old) (I.told source.new) (O.told sink.old) (O.told sink.new)
         (C.seen cloud.old) (C.seen cloud.new) }
@@ -175,6 +191,8 @@ fn generated<O: Sink, C: Bench>(
     ensures only { IsOfSchedule result }
     ensures write_fault { result ≡ Status.WriteFault
         → (O.told sink.old).faults < (O.told sink.new).faults }
+    ensures writes { (result ≡ Status.WriteFault)
+        ⊎ ((O.told sink.new).faults ≡ (O.told sink.old).faults) }
     ensures ran { Generates number count result (O.told sink.old) (O.told sink.new)
         (C.seen cloud.old) (C.seen cloud.new) }
 {
@@ -190,6 +208,8 @@ fn settled<O: Sink, C: Bench>(alloc: Global, sink: &mut O, cloud: &mut C) -> Sta
     ensures only { IsOfSettling result }
     ensures write_fault { result ≡ Status.WriteFault
         → (O.told sink.old).faults < (O.told sink.new).faults }
+    ensures writes { (result ≡ Status.WriteFault)
+        ⊎ ((O.told sink.new).faults ≡ (O.told sink.old).faults) }
     ensures ran { RunsSettling result (O.told sink.old) (O.told sink.new)
         (C.seen cloud.old) (C.seen cloud.new) }
 {

@@ -1,4 +1,4 @@
-ghost use Rattle.std.specs.Prelude.{◌≡◌, ◌<◌, Err};
+ghost use Rattle.std.specs.Prelude.{◌≡◌, ◌<◌, ◌⊎◌, Err};
 ghost use Rattle.schedule_run.specs.Play.{IsFresh};
 ghost use Rattle.schedule_run.specs.Settling.{settled_by, settle_end_of, SettleEnded};
 
@@ -32,6 +32,8 @@ pub fn settle<O: Sink, C: Bench>(
 ) -> Result<(), SettleFault>
     ensures write_fault { result ≡ Err SettleFault.WriteFault
         → (O.told sink.old).faults < (O.told sink.new).faults }
+    ensures writes { (result ≡ Err SettleFault.WriteFault)
+        ⊎ ((O.told sink.new).faults ≡ (O.told sink.old).faults) }
     ensures went { SettleEnded result (O.told sink.old) (O.told sink.new) (C.seen cloud.old) (C.seen cloud.new) }
 {
     match Play::<Session>::new(alloc) {
@@ -50,6 +52,8 @@ fn settle_in<S: SessionCalls, O: Sink, C: Bench>(
     requires { IsFresh play.old }
     ensures write_fault { result ≡ Err SettleFault.WriteFault
         → (O.told sink.old).faults < (O.told sink.new).faults }
+    ensures writes { (result ≡ Err SettleFault.WriteFault)
+        ⊎ ((O.told sink.new).faults ≡ (O.told sink.old).faults) }
     ensures went { SettleEnded result (O.told sink.old) (O.told sink.new) (C.seen cloud.old) (C.seen cloud.new) }
 {
     match play.take(alloc, cloud, &Event::Settle) {

@@ -1,4 +1,4 @@
-ghost use Rattle.std.specs.Prelude.{◌≡◌, ◌<◌, ◌≤◌, Err};
+ghost use Rattle.std.specs.Prelude.{◌≡◌, ◌<◌, ◌⊎◌, Err};
 ghost use Rattle.event_text.specs.declared.event.Event.{Event};
 ghost use Rattle.event_text.specs.Event.{IsShellLine};
 ghost use Rattle.schedule_run.specs.Play.{IsFresh};
@@ -43,6 +43,8 @@ pub fn run_shell<O: Sink, C: Bench>(
     ensures bad_line { result ≡ Err ShellFault.BadLine → HasBadShellLine input.now }
     ensures write_fault { result ≡ Err ShellFault.WriteFault
         → (O.told sink.old).faults < (O.told sink.new).faults }
+    ensures writes { (result ≡ Err ShellFault.WriteFault)
+        ⊎ ((O.told sink.new).faults ≡ (O.told sink.old).faults) }
     ensures went { ShellWent client input.now result (O.told sink.old) (O.told sink.new)
         (C.seen cloud.old) (C.seen cloud.new) }
 {
@@ -65,6 +67,8 @@ fn run_lines<S: SessionCalls, O: Sink, C: Bench>(
     ensures bad_line { result ≡ Err ShellFault.BadLine → HasBadShellLine input.now }
     ensures write_fault { result ≡ Err ShellFault.WriteFault
         → (O.told sink.old).faults < (O.told sink.new).faults }
+    ensures writes { (result ≡ Err ShellFault.WriteFault)
+        ⊎ ((O.told sink.new).faults ≡ (O.told sink.old).faults) }
     ensures went { ShellWent client input.now result (O.told sink.old) (O.told sink.new)
         (C.seen cloud.old) (C.seen cloud.new) }
 {
@@ -103,7 +107,8 @@ fn open<S: SessionCalls, O: Sink, C: Bench>(
         (C.seen cloud.old) (C.seen cloud.new) play.old play.new }
     ensures write_fault { result ≡ Err ShellFault.WriteFault
         → (O.told sink.old).faults < (O.told sink.new).faults }
-    ensures faults { (O.told sink.old).faults ≤ (O.told sink.new).faults }
+    ensures writes { (result ≡ Err ShellFault.WriteFault)
+        ⊎ ((O.told sink.new).faults ≡ (O.told sink.old).faults) }
 {
     let event = Event::Open {
         session: 1,
@@ -147,7 +152,8 @@ fn run_line<S: SessionCalls, O: Sink, C: Bench>(
     ensures bad_line { result ≡ Err ShellFault.BadLine → (event : Event) → IsShellLine line.now event → ⊥ }
     ensures write_fault { result ≡ Err ShellFault.WriteFault
         → (O.told sink.old).faults < (O.told sink.new).faults }
-    ensures faults { (O.told sink.old).faults ≤ (O.told sink.new).faults }
+    ensures writes { (result ≡ Err ShellFault.WriteFault)
+        ⊎ ((O.told sink.new).faults ≡ (O.told sink.old).faults) }
 {
     match Event::read_shell(alloc, line) {
         Ok(event) => {
@@ -177,6 +183,8 @@ fn close<S: SessionCalls, O: Sink, C: Bench>(
     ensures no_bad_line { result ≡ Err ShellFault.BadLine → ⊥ }
     ensures write_fault { result ≡ Err ShellFault.WriteFault
         → (O.told sink.old).faults < (O.told sink.new).faults }
+    ensures writes { (result ≡ Err ShellFault.WriteFault)
+        ⊎ ((O.told sink.new).faults ≡ (O.told sink.old).faults) }
 {
     ended(run_event(alloc, play, sink, cloud, n, &Event::Close { session: 1 }))
 }
@@ -224,7 +232,8 @@ fn run_event<S: SessionCalls, O: Sink, C: Bench>(
         (C.seen cloud.old) (C.seen cloud.new) play.old play.new }
     ensures write_fault { result ≡ Err ShellFault.WriteFault
         → (O.told sink.old).faults < (O.told sink.new).faults }
-    ensures faults { (O.told sink.old).faults ≤ (O.told sink.new).faults }
+    ensures writes { (result ≡ Err ShellFault.WriteFault)
+        ⊎ ((O.told sink.new).faults ≡ (O.told sink.old).faults) }
 {
     match play.run_whole(alloc, cloud, event) {
         Ok(reply) => {

@@ -1,0 +1,24 @@
+-- The count of writes that failed.
+use Rattle.std.proofs.Common.{◌≡◌, ◌⊎◌, ℕ, List, Result, Ok, Err, refl, inl, inr}
+use Rattle.db_io.specs.Content.{Told}
+use Rattle.line_io.specs.declared.output.OutputFault.{OutputFault}
+use Rattle.line_io.specs.declared.output.OutputFault.TheVariants as output
+use Rattle.line_io.specs.Output.{WasWritten}
+use Rattle.reply_text.specs.declared.reply.Reply.{Reply}
+use Rattle.schedule_run.specs.declared.settling.SettleFault.TheVariants.{WriteFault}
+use Rattle.schedule_run.specs.Settling.{settle_end_of}
+
+abbrev pub well : {F : Type 0} → Result (Unit {0}) F
+well = Ok tt
+
+-- where a line ended well, no write of it failed
+pub unfaulted : {F : Type 0} (fault : F) (before after : ℕ) → (well ≡ Err fault) ⊎ (after ≡ before) → after ≡ before
+unfaulted fault before after (inl e) = absurd (cc)
+unfaulted fault before after (inr same) = same
+
+-- the writing of a settling's reply fails only where the settling ends by that
+pub settle_writes : (written : Result (Unit {0}) OutputFault) (reply : Reply) (text : List ℕ) (w u : Told) → WasWritten w u text written
+    → (settle_end_of written reply ≡ Err WriteFault) ⊎ (u.faults ≡ w.faults)
+settle_writes (Ok done) reply text w u p = inr p.1
+settle_writes (Err output.WriteFault) reply text w u p = inl refl
+settle_writes (Err output.Memory) reply text w u p = inr p.1

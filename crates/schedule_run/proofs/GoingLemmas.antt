@@ -26,8 +26,9 @@ use Rattle.world_core.specs.Stands.{WorldStands, StandsOn, Grows}
 use Rattle.world_core.proofs.StartLemmas.{new_stands}
 use Rattle.schedule_run.specs.declared.replay.LineFault.{LineFault}
 use Rattle.schedule_run.specs.declared.replay.LineFault.TheVariants.{BadLine, WriteFault, Memory}
-use Rattle.schedule_run.specs.Answered.{IsNew, WentOn, start, further, AreAnswered, AreExplained, ReportsAreRight, RepliesAreSound, ActsByTheLines, KeepsTheTheorem}
+use Rattle.schedule_run.specs.Answered.{IsNew, WentOn, start, further, AreAnswered, AreExplained, ReportsAreRight, RepliesAreSound, ActsByTheLines, AcknowledgedStay, KeepsTheTheorem}
 use Rattle.schedule_run.proofs.SoundLemmas.{get_before, take_whole, went_soundly, went_explained}
+use Rattle.schedule_run.proofs.StayLemmas.{stay_upto, went_stay}
 use Rattle.schedule_run.specs.Written.{reply_line, replies_from, replies, bad_line}
 use Rattle.schedule_run.specs.Replayed.{AreSpelled, WroteFront, reply_cut, refusal_cut, EndedBy, between, writing, handling, Ended, WentThrough, Handles, IsAt, IsAnswered, LineWent, event_handled, refused, unread}
 
@@ -152,6 +153,11 @@ pub lines_explained : (lines : List Line) (s t : Seen) (first world : World) (x 
     → AreExplained s first lines t world went
 lines_explained lines s t first world x went fresh told empty = went_explained s first x lines t world went told (fresh_stands first x fresh empty)
 
+-- and what they acknowledged stays committed
+pub acknowledged_stay : (lines : List Line) (s t : Seen) (first world : World) (x u : CloudState) → WentOn s first lines t world → IsNew first → s.state ≡ Some x → IsEmptyCloud x → t.state ≡ Some u
+    → AcknowledgedStay lines u
+acknowledged_stay lines s t first world x u went fresh told empty seen = went_stay s first x lines t world u went told (fresh_stands first x fresh empty) seen
+
 -- ---- the lines of a text
 
 pub at_start : (text : List ℕ) (w : Told) (s : Seen) (world : World) → IsNew world → IsAt text text 0 w w s s world world
@@ -187,6 +193,19 @@ at_more text rest behind line n m w v u s t z first old new is split next (event
 at_more text rest behind line n m w v u s t z first old new is split next (refused bad e p) grows = absurd p
 at_more text rest behind line n m w v u s t z first old new is split next (unread e f h) grows = absurd (cc)
 
+-- the theorem of lines behind which nothing landed
+keeps_now : (lines : List Line) (s t : Seen) (first world : World) → WentOn s first lines t world → IsNew first
+    → ((x : CloudState) → s.state ≡ Some x → IsEmptyCloud x → (u : CloudState) × (t.state ≡ Some u) × WorldStands lines world u × ReportsAreRight lines u) → KeepsTheTheorem lines s t
+keeps_now lines s t first world went fresh stands x told empty =
+    let o = stands x told empty in (
+      o.0,
+      o.1,
+      o.3,
+      replies_sound lines s t first world x went fresh told empty,
+      acts_now lines world o.0 o.2,
+      acknowledged_stay lines s t first world x o.0 went fresh told empty o.1,
+    )
+
 abbrev answered : (texts : List (List ℕ)) (w v : Told) (s t : Seen) (first world : World) → IsNew first
     → (h : Handles texts w v s t first world) → AreAnswered h.lines s t
 answered texts w v s t first world fresh h = record {
@@ -206,7 +225,7 @@ at_end text rest n w v s t first world fresh is none = record {
   at = is.at;
   spelled = is.handles.spelled;
   so = (ap lines_of (nil_from_length rest none), answered is.earlier w v s t first world fresh is.handles, is.handles.wrote);
-  theorem = λ x told empty. let o = is.handles.stands x told empty in (o.0, o.1, o.3, replies_sound is.handles.lines s t first world x is.handles.went fresh told empty, acts_now is.handles.lines world o.0 o.2);
+  theorem = keeps_now is.handles.lines s t first world is.handles.went fresh is.handles.stands;
 }
 
 -- where a run stops between two lines for want of memory
@@ -219,7 +238,7 @@ at_stop text rest n w v s t first world fresh is = record {
   at = is.at;
   spelled = is.handles.spelled;
   so = between (answered is.earlier w v s t first world fresh is.handles) is.handles.wrote;
-  theorem = λ x told empty. let o = is.handles.stands x told empty in (o.0, o.1, o.3, replies_sound is.handles.lines s t first world x is.handles.went fresh told empty, acts_now is.handles.lines world o.0 o.2);
+  theorem = keeps_now is.handles.lines s t first world is.handles.went fresh is.handles.stands;
 }
 
 -- ---- a line that ends the run
@@ -256,6 +275,7 @@ keeps {text} {rest} {behind} {line} {n} {m} {w} {v} {s} {t} {z} {first} {old} me
           report_same (take (k + 1) h.lines) (upto o.0 (k + 1)) (upto g.0 (k + 1)) line.reply (record { versions = a.versions; messages = a.messages; trace = a.trace }) (o.3 k line at),
       replies_sound h.lines s t first old x h.went met.fresh told empty,
       acts_upto h.lines old o.0 g.0 o.2 (g.2 (length h.lines) (omega (arith, count))),
+      stay_upto h.lines o.0 g.0 (λ j within. g.2 j (omega (arith, count))) (acknowledged_stay h.lines s t first old x o.0 h.went met.fresh told empty o.1),
     )
 
 -- the run ends before a text that has no reply
@@ -273,19 +293,24 @@ ends_before {text} {rest} {behind} {line} ended u met so = record {
 }
 
 -- the lines with the text's own
+went_answer : {text rest behind line : List ℕ} {n m : ℕ} {w v : Told} {s t z : Seen} {first old : World}
+    → (met : IsMet text rest behind line n m w v s t z first old) (new : World) (one : Line) → IsAnswered m one.event t z old new one.reply
+    → WentOn s first (met.is.handles.lines ++ one ∷ []) z new
+went_answer {text} {rest} {behind} {line} {n} {m} {w} {v} {s} {t} {z} {first} {old} met new one a =
+    further met.is.handles.lines one t z old new met.is.handles.went (subst (λ j. Handled j one.event t z old new (Ok one.reply)) (met_count met) a.handled)
+
 with_answer : {text rest behind line : List ℕ} {n m : ℕ} {w v : Told} {s t z : Seen} {first old : World}
     → (met : IsMet text rest behind line n m w v s t z first old) (new : World) (one : Line) → IsAnswered m one.event t z old new one.reply
     → AreAnswered (met.is.handles.lines ++ one ∷ []) s z
-with_answer {text} {rest} {behind} {line} {n} {m} {w} {v} {s} {t} {z} {first} {old} met new one a = record {
-  first = first;
-  fresh = met.fresh;
-  last = new;
-  went = went;
-  explained = λ x told empty. lines_explained (met.is.handles.lines ++ one ∷ []) s z first new x went met.fresh told empty;
-}
-  where
-    went : WentOn s first (met.is.handles.lines ++ one ∷ []) z new
-    went = further met.is.handles.lines one t z old new met.is.handles.went (subst (λ j. Handled j one.event t z old new (Ok one.reply)) (met_count met) a.handled)
+with_answer {text} {rest} {behind} {line} {n} {m} {w} {v} {s} {t} {z} {first} {old} met new one a =
+    let went : WentOn s first (met.is.handles.lines ++ one ∷ []) z new = went_answer met new one a in
+    record {
+      first = first;
+      fresh = met.fresh;
+      last = new;
+      went = went;
+      explained = λ x told empty. lines_explained (met.is.handles.lines ++ one ∷ []) s z first new x went met.fresh told empty;
+    }
 
 -- the run ends behind a text that has a reply
 ends_behind : {text rest behind line : List ℕ} {n m : ℕ} {w v : Told} {s t z : Seen} {first old : World}
@@ -302,11 +327,9 @@ ends_behind {text} {rest} {behind} {line} {n} {m} {w} {v} {s} {t} {z} {first} {o
       at = met.is.at ∙ ap (λ ls. met.is.earlier ++ ls) met.split ∙ sym (append_assoc met.is.earlier (line ∷ []) (lines_of behind));
       spelled = spelled_more met.is.earlier h.lines line one h.spelled spells;
       so = so;
-      theorem = λ x told empty.
-          let o = h.stands x told empty in
-          let p = stands_more h.lines one m t z old new (omega arith) a.stands met.grows o.0 o.1 o.2 o.3 in
-          let q : AreAnswered (h.lines ++ one ∷ []) s z = with_answer met new one a in
-          (p.0, p.1, p.3, replies_sound (h.lines ++ one ∷ []) s z q.first q.last x q.went q.fresh told empty, acts_now (h.lines ++ one ∷ []) new p.0 p.2);
+      theorem =
+          keeps_now (h.lines ++ one ∷ []) s z first new (went_answer met new one a) met.fresh
+          (λ x told empty. let o = h.stands x told empty in stands_more h.lines one m t z old new (omega arith) a.stands met.grows o.0 o.1 o.2 o.3);
     }
 
 -- the lines before the text, where no call was made at it

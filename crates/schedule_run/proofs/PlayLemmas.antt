@@ -23,7 +23,8 @@ use Rattle.world_core.specs.Stands.{StandsOn, Grows}
 use Rattle.schedule_run.specs.InPlay.{Play}
 use Rattle.schedule_run.specs.Answered.{IsNew, start, further, KeepsTheTheorem}
 use Rattle.schedule_run.specs.Play.{IsFresh, IsNext, RanOut, uncounted, no_answer, Takes, answered_run, stops_run, RunsWhole, Played, StoppedAt, stopped_before, stopped_within}
-use Rattle.schedule_run.proofs.GoingLemmas.{stands_more, fresh_stands, replies_sound, lines_explained, report_same, acts_upto}
+use Rattle.schedule_run.proofs.GoingLemmas.{stands_more, fresh_stands, replies_sound, lines_explained, report_same, acts_upto, acknowledged_stay}
+use Rattle.schedule_run.proofs.StayLemmas.{stay_upto}
 
 -- a new world added nothing to any cloud
 fresh_adds : (s : Seen) (world : World) (t : CloudState) → s.state ≡ Some t → IsNew world → WorldAdds [] t world s
@@ -84,6 +85,7 @@ keeps_behind lines n s t z play p count grows x told empty =
           report_same (take (k + 1) lines) (upto o.0 (k + 1)) (upto g.0 (k + 1)) line.reply (record { versions = a.versions; messages = a.messages; trace = a.trace }) (o.3 k line at),
       replies_sound lines s t p.first play.world x p.went p.fresh told empty,
       acts_upto lines play.world o.0 g.0 o.2 (g.2 (length lines) (omega (arith, count))),
+      stay_upto lines o.0 g.0 (λ j within. g.2 j (omega (arith, count))) (acknowledged_stay lines s t p.first play.world x o.0 p.went p.fresh told empty o.1),
     )
 
 -- memory ran out at the next event

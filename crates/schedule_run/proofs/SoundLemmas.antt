@@ -37,13 +37,15 @@ take_whole lines k e = take_all k lines (omega arith)
 
 -- ---- one line more
 
-sound_more : (lines : List Line) (line : Line) → RepliesAreSound lines → IsSoundLine lines line → RepliesAreSound (lines ++ line ∷ [])
-sound_more lines line so new k l at = on (cases_lt k (length lines)) where
-  on : (k < length lines) ⊎ (length lines ≤ k) → IsSoundLine (take k (lines ++ line ∷ [])) l
+-- what holds of each line by those before it holds with one more
+pub each_more : (P : List Line → Line → Type 0) (lines : List Line) (line : Line) → ((k : ℕ) (l : Line) → slice_get lines k ≡ Some l → P (take k lines) l) → P lines line
+    → (k : ℕ) (l : Line) → slice_get (lines ++ line ∷ []) k ≡ Some l → P (take k (lines ++ line ∷ [])) l
+each_more P lines line so new k l at = on (cases_lt k (length lines)) where
+  on : (k < length lines) ⊎ (length lines ≤ k) → P (take k (lines ++ line ∷ [])) l
   on (inl less) =
       let old : slice_get lines k ≡ Some l = sym (get_before lines line k less) ∙ at in
       let front : take k (lines ++ line ∷ []) ≡ take k lines = take-append-le k lines (line ∷ []) (omega arith) in
-      subst (λ ls. IsSoundLine ls l) (sym front) (so k l old)
+      subst (λ ls. P ls l) (sym front) (so k l old)
   on (inr more) =
       let within : k < length (lines ++ line ∷ []) = slice_get_within (lines ++ line ∷ []) k l at in
       let e : k ≡ length lines = omega (arith, length-append lines (line ∷ [])) in
@@ -51,7 +53,7 @@ sound_more lines line so new k l at = on (cases_lt k (length lines)) where
       let is : line ≡ l = cc in
       let front : take k (lines ++ line ∷ []) ≡ take k lines = take-append-le k lines (line ∷ []) (omega arith) in
       let whole : take k lines ≡ lines = take_whole lines k e in
-      subst (λ ls. IsSoundLine ls l) (sym (front ∙ whole)) (subst (λ (x : Line). IsSoundLine lines x) is new)
+      subst (λ ls. P ls l) (sym (front ∙ whole)) (subst (λ (x : Line). P lines x) is new)
 
 -- ---- all lines
 
@@ -73,7 +75,7 @@ went_soundly before old t lines after new (further earlier line mid _ world _ we
       state = f.after;
       told = f.told;
       stands = f.stands;
-      sound = sound_more earlier line o.sound q;
+      sound = each_more IsSoundLine earlier line o.sound q;
     }
 
 -- what a settling among them left, and how it ended
@@ -89,7 +91,7 @@ ends_so : (n : ℕ) (e : Event) (before after : Seen) (old new : World) (r : Rep
 ends_so n event.Settle before after old new r law lines t number told stands handled = λ free each. law lines t number told stands free handled each
 ends_so n e before after old new r law lines t number told stands handled = tt
 
-same_some : {X : Type 0} (x y : X) → Some x ≡ Some y → x ≡ y
+pub same_some : {X : Type 0} (x y : X) → Some x ≡ Some y → x ≡ y
 same_some x y e = cc
 
 -- and each of them explains itself

@@ -1,5 +1,5 @@
 -- Lines that a world handles, one behind another.
-use Rattle.std.specs.Prelude.{ℕ, ◌≡◌, ◌+◌, false, List, [], ◌∷◌, ◌++◌, length, replicate, take, slice_get, Some, Ok, Err}
+use Rattle.std.specs.Prelude.{ℕ, ◌≡◌, ◌+◌, ◌≤◌, false, List, [], ◌∷◌, ◌++◌, length, replicate, take, slice_get, Some, Ok, Err}
 use Rattle.client_work.specs.Session.{closed_session}
 use Rattle.cloud_trait.specs.State.{CloudState, IsEmptyCloud}
 use Rattle.cloud_trait.specs.Seen.{Seen}
@@ -12,6 +12,7 @@ use Rattle.replay_meaning.specs.Committed.{committed}
 use Rattle.replay_meaning.specs.Standing.{Line, session_of, standing}
 use Rattle.replay_meaning.specs.Kinds.{KeepsKinds}
 use Rattle.replay_meaning.specs.Right.{ReportIsRight}
+use Rattle.report_types.specs.declared.entry.Entry.{Entry}
 use Rattle.session_facts.specs.Acknowledged.{IsKeptReply}
 use Rattle.session_facts.specs.Sessions.Untroubled.{IsUntroubled}
 use Rattle.world_core.specs.World.{World}
@@ -48,6 +49,10 @@ EndsSo t n event.Settle before after old new r handled =
     NoLockHeld t → EachStep StepGoesWell n event.Settle before after old new (Ok r) handled → AnswersSettled t after r
 EndsSo t n event before after old new r handled = Unit {0}
 
+-- where the reply to a line says that a commit committed, each change on which its session stood by the lines before it is among the entries
+abbrev pub IsKeptLine : List Entry → List Line → Line → Type 0
+IsKeptLine entries before line = IsKeptReply entries (standing before (session_of line.event)).client (standing before (session_of line.event)).posture line.reply
+
 -- a line that was handled explains the steps that it made; where its session was untroubled and each of these was calm, the session is untroubled
 -- behind it, and the line is answered well; a run of it makes few calls for a tree checkpoint; a settling leaves nothing and comes to its end so;
 -- and a commit that it answers as committed is among what was committed
@@ -59,8 +64,7 @@ pub record IsExplained (lines : List Line) (line : Line) (before after : Seen) (
   pub bounded : AnswersSoon (length lines + 1) handled.asked before after old new (Ok line.reply) handled.answers
   pub leaves : LeavesSo (length lines + 1) line.event before after old new line.reply handled
   pub ends : (t : CloudState) → before.state ≡ Some t → EndsSo t (length lines + 1) line.event before after old new line.reply handled
-  pub kept : (u : CloudState) → after.state ≡ Some u
-      → IsKeptReply (committed (lines ++ line ∷ []) u) (standing lines (session_of line.event)).client (standing lines (session_of line.event)).posture line.reply
+  pub kept : (u : CloudState) → after.state ≡ Some u → IsKeptLine (committed (lines ++ line ∷ []) u) lines line
 
 -- and so does each line
 abbrev pub AreExplained : (before : Seen) (old : World) (lines : List Line) (after : Seen) (new : World) → WentOn before old lines after new → Type 0
@@ -97,8 +101,17 @@ RepliesAreSound lines = (k : ℕ) (line : Line) → slice_get lines k ≡ Some l
 abbrev pub ActsByTheLines : List Line → CloudState → Type 0
 ActsByTheLines lines t = KeepsKinds lines (upto t (length lines)) []
 
+-- whatever any of these lines acknowledged is among the entries
+abbrev pub AreKept : List Line → List Entry → Type 0
+AreKept lines entries = (k : ℕ) (line : Line) → slice_get lines k ≡ Some line → IsKeptLine entries (take k lines) line
+
+-- an acknowledged commit stays committed: whatever any of the first n lines acknowledged is among what was committed up to the last of them,
+-- of which a report on that line shows its tree's part
+abbrev pub AcknowledgedStay : List Line → CloudState → Type 0
+AcknowledgedStay lines t = (n : ℕ) → n ≤ length lines → AreKept (take n lines) (committed (take n lines) (upto t n))
+
 -- over a cloud that was empty and told its state, every report of these lines is right for the state in which they left it, every reply is sound,
--- and what was put and sent is what the lines allow
+-- what was put and sent is what the lines allow, and what was acknowledged stays committed
 abbrev pub KeepsTheTheorem : List Line → Seen → Seen → Type 0
 KeepsTheTheorem lines before after =
-    (t : CloudState) → before.state ≡ Some t → IsEmptyCloud t → (u : CloudState) × (after.state ≡ Some u) × ReportsAreRight lines u × RepliesAreSound lines × ActsByTheLines lines u
+    (t : CloudState) → before.state ≡ Some t → IsEmptyCloud t → (u : CloudState) × (after.state ≡ Some u) × ReportsAreRight lines u × RepliesAreSound lines × ActsByTheLines lines u × AcknowledgedStay lines u

@@ -13,7 +13,7 @@ use Rattle.replay_meaning.specs.Standing.{Line}
 use Rattle.schedule_run.specs.InPlay.{Play}
 use Rattle.schedule_run.specs.Play.{IsFresh, IsNext, RanOut}
 use Rattle.schedule_run.specs.Generated.{events_of, Handles, StopsAmong, HandlesAll, IsAmong, GenEnded, out_writing}
-use Rattle.schedule_run.specs.Summary.{summary}
+use Rattle.run_text.specs.Summary.{summary}
 use Rattle.schedule_run.proofs.PlayLemmas.{played_nothing, played_more, stopped_at}
 
 events_more : (lines : List Line) (line : Line) → events_of (lines ++ line ∷ []) ≡ events_of lines ++ line.event ∷ []

@@ -29,7 +29,7 @@ use Rattle.schedule_run.specs.declared.replay.LineFault.TheVariants.{BadLine, Wr
 use Rattle.schedule_run.specs.Answered.{IsNew, WentOn, start, further, AreAnswered, AreExplained, ReportsAreRight, RepliesAreSound, ActsByTheLines, AcknowledgedStay, KeepsTheTheorem}
 use Rattle.schedule_run.proofs.SoundLemmas.{get_before, take_whole, went_soundly, went_explained}
 use Rattle.schedule_run.proofs.StayLemmas.{stay_upto, went_stay}
-use Rattle.schedule_run.specs.Written.{reply_line, replies_from, replies, bad_line}
+use Rattle.run_text.specs.Written.{reply_line, replies_from, replies, bad_line}
 use Rattle.schedule_run.specs.Replayed.{AreSpelled, WroteFront, reply_cut, refusal_cut, EndedBy, between, writing, handling, Ended, WentThrough, Handles, IsAt, IsAnswered, LineWent, event_handled, refused, unread}
 
 -- ---- content that is written

@@ -11,8 +11,8 @@ use Rattle.replay_meaning.specs.Standing.{Line}
 use Rattle.world_core.specs.declared.world.WorldFault.{WorldFault}
 use Rattle.schedule_run.specs.InPlay.{Play}
 use Rattle.schedule_run.specs.Play.{Played, StoppedAt}
-use Rattle.schedule_run.specs.Summary.{summary}
-use Rattle.schedule_run.specs.Written.{NothingRan}
+use Rattle.run_text.specs.Summary.{summary}
+use Rattle.run_text.specs.Written.{NothingRan}
 
 abbrev pub events_of : List Line → List Event
 events_of lines = map (λ line. line.event) lines

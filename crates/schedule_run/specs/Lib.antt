@@ -1,11 +1,9 @@
 pub mod Answered
-pub mod Written
 pub mod Replayed
 pub mod Play
 pub mod Settling
 pub mod ShellOnce
 pub mod Shell
-pub mod Summary
 pub mod Generated
 pub mod InPlay
 pub mod Status

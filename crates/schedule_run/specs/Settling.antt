@@ -15,7 +15,7 @@ use Rattle.schedule_run.specs.InPlay.{Play}
 use Rattle.schedule_run.specs.declared.settling.SettleFault.{SettleFault}
 use Rattle.schedule_run.specs.declared.settling.SettleFault.TheVariants.{NotSettled, WriteFault, Memory}
 use Rattle.schedule_run.specs.Play.{Played, StoppedAt}
-use Rattle.schedule_run.specs.Written.{NothingRan, reply_line}
+use Rattle.run_text.specs.Written.{NothingRan, reply_line}
 
 -- a reply says that the settling is done
 abbrev pub is_settled : Reply → Bool

@@ -1,13 +1,11 @@
 ghost use Rattle.std.specs.Prelude.{◌≡◌, ◌≤◌, ◌<◌, ◌+◌, ◌⊎◌, [], ◌∷◌, ◌++◌, Err};
 ghost use Rattle.line_io.specs.Output.{WasWritten};
 ghost use Rattle.schedule_run.specs.Play.{IsFresh};
-ghost use Rattle.schedule_run.specs.Summary.{summary};
+ghost use Rattle.run_text.specs.Summary.{summary};
 ghost use Rattle.sched_gen.specs.Schedule.{schedule};
 ghost use Rattle.schedule_run.specs.Generated.{GenEnded, TakesAll, TakesEach};
 
 use crate::play::Play;
-use crate::summary::summary;
-use crate::writing::let_go;
 use client_session::session::Session;
 use client_work::calls::SessionCalls;
 use cloud_trait::cloud::Bench;
@@ -15,6 +13,8 @@ use db_io::sink::Sink;
 use event_text::event::Event;
 use line_io::output::{OutputFault, write_text};
 use reply_text::reply::Reply;
+use run_text::summary::summary;
+use run_text::writing::let_go;
 use sched_gen::make::make;
 use std::alloc::Global;
 use world_core::world::WorldFault;

@@ -9,5 +9,3 @@ pub mod run;
 pub mod settling;
 pub mod shell;
 pub mod status;
-mod summary;
-mod writing;

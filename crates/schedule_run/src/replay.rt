@@ -6,7 +6,6 @@ ghost use Rattle.schedule_run.specs.Answered.{IsNew};
 ghost use Rattle.schedule_run.specs.Replayed.{HasBadLine, LineWent, LineHandled, ReplayWent, WentThrough};
 
 use crate::play::let_event_go;
-use crate::writing::{let_go, refuse, write_reply};
 use client_session::session::Session;
 use client_work::calls::SessionCalls;
 use cloud_trait::cloud::Bench;
@@ -14,6 +13,7 @@ use db_io::sink::Sink;
 use event_text::event::Event;
 use line_io::lines::next_line;
 use line_io::output::OutputFault;
+use run_text::writing::{let_go, refuse, write_reply};
 use std::alloc::Global;
 use words::fault::TextFault;
 use world_core::world::{World, WorldFault};

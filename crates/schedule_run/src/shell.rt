@@ -5,7 +5,6 @@ ghost use Rattle.schedule_run.specs.Play.{IsFresh};
 ghost use Rattle.schedule_run.specs.Shell.{HasBadShellLine, ShellWent, OpeningRan, ClosingRan, LineRan, EventRan, ended, opened_by, shown_by};
 
 use crate::play::{Play, let_event_go};
-use crate::writing::{let_go, refuse, write_reply};
 use client_session::session::Session;
 use client_work::calls::SessionCalls;
 use cloud_trait::cloud::Bench;
@@ -15,6 +14,7 @@ use event_text::event::Event;
 use line_io::lines::next_line;
 use line_io::output::OutputFault;
 use reply_text::reply::Reply;
+use run_text::writing::{let_go, refuse, write_reply};
 use std::alloc::Global;
 use words::fault::TextFault;
 

@@ -2,7 +2,7 @@
 
 ghost use Rattle.std.specs.Prelude.{◌≡◌, IfOk};
 ghost use Rattle.line_io.specs.Output.{WasWritten};
-ghost use Rattle.schedule_run.specs.Written.{reply_line, bad_line};
+ghost use Rattle.run_text.specs.Written.{reply_line, bad_line};
 
 use db_base::blob::Blob;
 use db_base::refusal::Refused;
@@ -12,7 +12,7 @@ use reply_text::reply::Reply;
 use std::alloc::Global;
 
 /// Writes that a line is in no grammar.
-pub(crate) fn refuse<O: Sink>(alloc: Global, sink: &mut O, n: u64) -> Result<(), OutputFault>
+pub fn refuse<O: Sink>(alloc: Global, sink: &mut O, n: u64) -> Result<(), OutputFault>
     ensures { WasWritten (O.told sink.old) (O.told sink.new) (bad_line n) result }
 {
     match format!(in alloc; "bad line {n}\n") {
@@ -22,7 +22,7 @@ pub(crate) fn refuse<O: Sink>(alloc: Global, sink: &mut O, n: u64) -> Result<(),
 }
 
 /// Writes a reply under a number.
-pub(crate) fn write_reply<O: Sink>(
+pub fn write_reply<O: Sink>(
     alloc: Global,
     sink: &mut O,
     n: u64,
@@ -54,4 +54,4 @@ fn reply_line(alloc: Global, n: u64, reply: &Reply) -> Result<Blob, Refused>
 }
 
 /// Lets a reply go: no other function has to look into its parts for that.
-pub(crate) fn let_go(_reply: Reply) {}
+pub fn let_go(_reply: Reply) {}

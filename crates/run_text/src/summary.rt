@@ -2,7 +2,7 @@
 
 ghost use Rattle.std.specs.Prelude.{◌≡◌, [], ◌∷◌, ◌++◌, codes, IfOk, OnOk};
 ghost use Rattle.std.specs.Fmt.{decimal};
-ghost use Rattle.schedule_run.specs.Summary.{labelled, committed_word, order_word, contents_word, left_words, summary};
+ghost use Rattle.run_text.specs.Summary.{labelled, committed_word, order_word, contents_word, left_words, summary};
 ghost use Rattle.reply_text.specs.Reply.{reply_text};
 
 use db_base::blob::Blob;
@@ -48,12 +48,7 @@ fn add_reply(alloc: Global, text: &mut Blob, name: &str, reply: &Reply) -> Resul
 }
 
 /// The summary: how many events, the figures of the report, and the text of the settling's reply.
-pub(crate) fn summary(
-    alloc: Global,
-    count: u64,
-    settling: &Reply,
-    report: &Reply,
-) -> Result<Blob, Refused>
+pub fn summary(alloc: Global, count: u64, settling: &Reply, report: &Reply) -> Result<Blob, Refused>
     ensures { IfOk result (λ text. text ≡ summary count settling.now report.now) }
 {
     let mut text = Blob::new(alloc);

@@ -21,7 +21,7 @@ use Rattle.world_core.specs.declared.world.WorldFault.TheVariants as world
 use Rattle.world_core.specs.Handled.{Handled}
 use Rattle.world_core.specs.Stands.{StandsOn, Grows}
 use Rattle.schedule_run.specs.InPlay.{Play}
-use Rattle.schedule_run.specs.Answered.{IsNew, start, further, KeepsTheTheorem}
+use Rattle.schedule_run.specs.Answered.{IsNew, WentOn, start, further, KeepsTheTheorem}
 use Rattle.schedule_run.specs.Play.{IsFresh, IsNext, RanOut, uncounted, no_answer, Takes, answered_run, stops_run, RunsWhole, Played, StoppedAt, stopped_before, stopped_within}
 use Rattle.schedule_run.proofs.GoingLemmas.{stands_more, fresh_stands, replies_sound, lines_explained, report_same, acts_upto, acknowledged_stay}
 use Rattle.schedule_run.proofs.StayLemmas.{stay_upto}
@@ -50,6 +50,7 @@ played_nothing s play fresh = record {
     told,
     fresh_stands play.world t fresh.world empty,
     λ k line at. absurd (cc),
+    acknowledged_stay [] s s play.world play.world t t start fresh.world told empty told,
   );
 }
 
@@ -61,15 +62,22 @@ played_more lines event reply s t z old new p n =
     let c : old.handled ≡ length lines = p.count in
     let d : new.handled ≡ old.handled + 1 = n.count in
     let at : new.handled ≡ length lines + 1 = omega arith in
+    let went : WentOn s p.first (lines ++ line ∷ []) z new.world = further lines line t z old.world new.world p.went (subst (λ j. Handled j event t z old.world new.world (Ok reply)) at n.handled) in
     record {
       count = omega (arith, length-append lines (line ∷ []));
       first = p.first;
       fresh = p.fresh;
-      went = further lines line t z old.world new.world p.went (subst (λ j. Handled j event t z old.world new.world (Ok reply)) at n.handled);
+      went = went;
       kinds = λ x told. handled_adds new.handled event t z old.world new.world reply lines x (omega arith) n.handled (p.kinds x told);
       stands = λ x told empty.
           let o = p.stands x told empty in
-          stands_more lines line new.handled t z old.world new.world (omega arith) n.stands n.grows o.0 o.1 o.2 o.3;
+          let f = stands_more lines line new.handled t z old.world new.world (omega arith) n.stands n.grows o.0 o.1 o.2 o.3 in (
+            f.0,
+            f.1,
+            f.2,
+            f.3,
+            acknowledged_stay (lines ++ line ∷ []) s z p.first new.world x f.0 went p.fresh told empty f.1,
+          );
     }
 
 -- what was handled keeps the theorem where a later event grew the cloud
@@ -85,7 +93,7 @@ keeps_behind lines n s t z play p count grows x told empty =
           report_same (take (k + 1) lines) (upto o.0 (k + 1)) (upto g.0 (k + 1)) line.reply (record { versions = a.versions; messages = a.messages; trace = a.trace }) (o.3 k line at),
       replies_sound lines s t p.first play.world x p.went p.fresh told empty,
       acts_upto lines play.world o.0 g.0 o.2 (g.2 (length lines) (omega (arith, count))),
-      stay_upto lines o.0 g.0 (λ j within. g.2 j (omega (arith, count))) (acknowledged_stay lines s t p.first play.world x o.0 p.went p.fresh told empty o.1),
+      stay_upto lines o.0 g.0 (λ j within. g.2 j (omega (arith, count))) o.4,
     )
 
 -- memory ran out at the next event

@@ -15,7 +15,7 @@ use Rattle.session_facts.specs.Added.{AddsTo}
 use Rattle.world_core.specs.Added.{WorldAdds}
 use Rattle.world_core.specs.Stands.{WorldStands, StandsOn, Grows}
 use Rattle.schedule_run.specs.InPlay.{Play}
-use Rattle.schedule_run.specs.Answered.{IsNew, WentOn, IsUnanswered, ReportsAreRight, KeepsTheTheorem}
+use Rattle.schedule_run.specs.Answered.{IsNew, WentOn, IsUnanswered, ReportsAreRight, AcknowledgedStay, KeepsTheTheorem}
 
 -- a new world that has handled nothing
 pub record IsFresh (play : Play) : Type 0 where
@@ -62,7 +62,7 @@ RunsWhole event (Err fault) before after old new = StopsRun event before after o
 -- ---- lines from a new world on
 
 -- these lines were handled from a new world on; over any cloud that tells its state each row that they added is of a kind that its session's standing
--- by them allows, and over one that was empty all stands for them, and every report is right
+-- by them allows, and over one that was empty all stands for them, every report is right, and what they acknowledged stays committed
 pub record Played (lines : List Line) (start now : Seen) (play : Play) : Type 0 where
   pub count : play.handled ≡ length lines
   pub first : World
@@ -70,7 +70,7 @@ pub record Played (lines : List Line) (start now : Seen) (play : Play) : Type 0 
   pub went : WentOn start first lines now play.world
   pub kinds : (t : CloudState) → start.state ≡ Some t → WorldAdds lines t play.world now
   pub stands : (t : CloudState) → start.state ≡ Some t → IsEmptyCloud t
-      → (u : CloudState) × (now.state ≡ Some u) × WorldStands lines play.world u × ReportsAreRight lines u
+      → (u : CloudState) × (now.state ≡ Some u) × WorldStands lines play.world u × ReportsAreRight lines u × AcknowledgedStay lines u
 
 -- behind these lines memory ran out: before this event did anything, or while it was handled. What was handled keeps the theorem, and what it added to
 -- any cloud is of its kind

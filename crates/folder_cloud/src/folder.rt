@@ -1,6 +1,6 @@
 //! The files of a folder. Each call holds the folder's file lock from its begin to its end.
 
-ghost use Rattle.std.specs.Prelude.{◌≡◌, ◌≤◌, length, IfOk, Ok};
+ghost use Rattle.std.specs.Prelude.{◌≡◌, ◌≤◌, length, IfOk, OnOk, Ok};
 ghost use Rattle.cloud_trait.specs.Claim.{Claim};
 
 use crate::fault::FolderFault;
@@ -27,7 +27,9 @@ pub(crate) struct Folder<R> {
 
 impl<R: Files<File = File> + AllocGlobal + Drop> Folder<R> {
     /// The folder at a path, which is made where there is none. An empty path names none: its parts would be the root's.
-    pub fn open(rt: R, dir: &str) -> Result<Folder<R>, FolderFault> {
+    pub fn open(rt: R, dir: &str) -> Result<Folder<R>, FolderFault>
+        ensures named { OnOk result (1 ≤ length dir.now) }
+    {
         if dir.is_empty() {
             return Err(FolderFault::Failed);
         }

@@ -1,4 +1,4 @@
-ghost use Rattle.std.specs.Prelude.{◌≡◌, ℕ, Err, IfSome};
+ghost use Rattle.std.specs.Prelude.{◌≡◌, ◌≤◌, ℕ, length, Err, IfSome, OnOk};
 ghost use Rattle.std.specs.Option.{option_copied};
 ghost use Rattle.cloud_trait.specs.Answers.{fault_answer, held_fault_answer};
 ghost use Rattle.cloud_trait.specs.Ask.{Ask};
@@ -37,7 +37,9 @@ pub struct FolderCloud<R, K> {
 
 impl<R: Files<File = File> + AllocGlobal + Drop, K: Ticks + Drop> FolderCloud<R, K> {
     /// The cloud in the folder at a path, which is made where there is none. Failed, for an empty path too, or Memory.
-    pub fn open(rt: R, dir: &str, clock: K) -> Result<FolderCloud<R, K>, CloudFault> {
+    pub fn open(rt: R, dir: &str, clock: K) -> Result<FolderCloud<R, K>, CloudFault>
+        ensures named { OnOk result (1 ≤ length dir.now) }
+    {
         match Folder::open(rt, dir) {
             Ok(folder) => Ok(FolderCloud {
                 folder,

@@ -6,6 +6,7 @@ pub mod Queues
 pub mod Lefts
 pub mod LeftHands
 pub mod Sums
+pub mod LeafPages
 pub mod Costs
 pub mod CostHands
 pub mod RecoveryCalls

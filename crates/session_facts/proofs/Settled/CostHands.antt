@@ -34,7 +34,7 @@ use Rattle.session_facts.proofs.Settled.Lefts.{LeftAt, Left, NothingWaits, again
 use Rattle.session_facts.proofs.Settled.Queues.{none_told, some_told}
 use Rattle.session_facts.proofs.Settled.Stories.{calm_delivered, part_known}
 use Rattle.session_facts.proofs.Settled.Sums.{sum_next, sum_over_more, some_received, none_received}
-use Rattle.session_facts.specs.Settled.Bound.{sum_upto, sum_over, newest_head, client_calls, queue_calls, tree_calls, LeadsTo, AreLeafPages, IsWithin}
+use Rattle.session_facts.specs.Settled.Bound.{sum_upto, sum_over, newest_head, client_calls, queue_calls, tree_calls, LeadAlong, AreLeafPages, IsWithin}
 use Rattle.session_facts.specs.Settled.Runs.{AreDelivered, waiting, next_page, right_at, Drains, TreeRun, PageRun, RecoveryRun, TreesRun, PagesRun, RecoveriesRun}
 use Rattle.session_facts.specs.Settled.Story.{Moment, store_at, IsAtWork, PartRan}
 use Rattle.session_facts.specs.Settlings.Settling.{KnowsAtWork}
@@ -345,12 +345,6 @@ module _ (begin : CloudState) (trees : TreesRun) (pages : PagesRun) (clients : R
     abbrev after : Settling
     after = behind_part s (Page tree page r) h
 
-    -- the page at work was come to
-    here : (right : ℕ → ℕ) (from to : ℕ) (ps : List ℕ) → LeadsTo right from to ps → IsIn ps to
-    here right from to [] leads = absurd leads
-    here right from to (p ∷ []) leads = (zero, ap (λ (n : ℕ). Some n) leads.1)
-    here right from to (p ∷ q ∷ ps) leads = let rest : IsIn (q ∷ ps) to = here right (right p) to (q ∷ ps) leads.1 in (suc rest.0, rest.1)
-
     page_moves : (less : (ℕ → ℕ) → ℕ)
         → ((counts : ℕ → ℕ) → next_page last.state tree ≤ counts tree + 1 → more + less counts ≤ s.calls + needs (length (waiting first.state (queue.PagePu tree page))) tree counts)
         → Spent begin tree less (own_pages tree s.visited) (RestPages tree s.visited) more last.state
@@ -362,7 +356,7 @@ module _ (begin : CloudState) (trees : TreesRun) (pages : PagesRun) (clients : R
         (rights_stay false tree (queue.PagePu tree page) first last page_keeps) step cost.1
       where
         itself : (tree ≤ tree) × (tree ≡ tree → IsIn s.visited page → ⊥) → ⊥
-        itself rest = rest.1 refl (here (right_at first.state tree) 1 page s.visited left.1.1.1.leads)
+        itself rest = rest.1 refl left.1.1.1.here
 
     -- behind a checkpoint that received nothing new
     page_spent : new_ids s.known r.received ≡ [] → Spent begin tree nothing (own_pages tree s.visited) (RestPages tree s.visited) more last.state
@@ -375,7 +369,8 @@ module _ (begin : CloudState) (trees : TreesRun) (pages : PagesRun) (clients : R
     -- the tree is over
     leaf_pages : page_at r.home.right ≡ None → AreLeafPages last.state tree s.visited
     leaf_pages e =
-        (page, (subst (λ (right : ℕ → ℕ). LeadsTo right 1 page s.visited) (λ i p. (sym (page_run.rights p)) i) left.1.1.1.leads, page_run.right ∙ page_zero r.home.right e))
+        subst (LeadAlong (right_at last.state tree) 1 s.visited) (page_run.right ∙ page_zero r.home.right e)
+        (subst (λ (right : ℕ → ℕ). LeadAlong right 1 s.visited (right page)) (λ i p. (sym (page_run.rights p)) i) left.1.1.1.leads)
 
     next_tree : new_ids s.known r.received ≡ [] → page_at r.home.right ≡ None → Spent begin (tree + 1) nothing no_need (RestFrom (tree + 1)) more last.state
     next_tree none e = tree_over begin tree s.visited (RestPages tree s.visited) (RestFrom (tree + 1)) more last.state is_tree later (leaf_pages e) (page_spent none)

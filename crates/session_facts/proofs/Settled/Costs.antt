@@ -9,8 +9,9 @@ use Rattle.db_base.specs.declared.names.ObjName.TheVariants as object
 use Rattle.db_base.specs.declared.names.QueueName.{QueueName}
 use Rattle.db_base.specs.declared.names.QueueName.TheVariants as queue
 use Rattle.session_facts.proofs.Settled.Frames.{IsPending}
+use Rattle.session_facts.proofs.Settled.LeafPages.{one_way, same_most}
 use Rattle.session_facts.proofs.Settled.Sums.{sum_same, sum_next, sum_eights}
-use Rattle.session_facts.specs.Settled.Bound.{sum_upto, client_calls, to_settle, queue_calls, tree_calls, LeadsTo, AreLeafPages, IsWithin}
+use Rattle.session_facts.specs.Settled.Bound.{sum_upto, client_calls, to_settle, queue_calls, tree_calls, LeadAlong, AreLeafPages, AreAllLeafPages, most_calls, IsWithin}
 use Rattle.session_facts.specs.Settled.Runs.{waiting, next_page, right_at}
 
 -- ---- what is counted
@@ -85,7 +86,7 @@ pub moves : (begin : CloudState) (t : ℕ) (extra less : (ℕ → ℕ) → ℕ) 
 moves begin t extra less own rest calls more first last same counts nexts rights step spent = record {
   leaves = spent.leaves;
   are = λ k is below. let h = spent.are k is below in
-      subst (λ (right : ℕ → ℕ). (end : ℕ) × (LeadsTo right 1 end (spent.leaves k) × (right end ≡ 0))) (rights k below) h;
+      subst (λ (right : ℕ → ℕ). LeadAlong right 1 (spent.leaves k) 0) (rights k below) h;
   sends = λ q r.
       let one : length (waiting last q) ≡ length (waiting first q) = ap length (same q r) in
       let two = counts q in
@@ -150,20 +151,30 @@ module _ (begin : CloudState) (t : ℕ) (visited : List ℕ) (rest fewer : Queue
 pub all_within : (begin s : CloudState) (rest : QueueName → Type 0) (t calls : ℕ) → 17 ≤ t → t ≤ 17 → Spent begin t nothing no_need rest calls s → IsWithin begin s calls
 all_within begin s rest t calls low high spent = record {
   leaves = spent.leaves;
-  are = λ k is. let most = is.most in spent.are k is (omega (arith, most, low));
-  within =
-      let was = spent.few 16 (omega (arith, low, high)) (to_settle begin s) (λ k. next_page s k - 1)
-      (record {
-        settles = λ q pending. let longer = spent.longer q in omega (arith, longer);
-        within = λ k. omega arith;
-      }) in
-      let clients = sum_eights (client_calls begin) 64 in
-      close calls (all_clients begin) (sum_upto (client_calls begin) 64)
-      (sum_upto (λ k. tree_calls (to_settle begin s) (next_page s k - 1) k (spent.leaves k)) 16) was clients;
+  are = are;
+  only = only;
+  within = λ others is. subst (λ (n : ℕ). calls ≤ n) (same_most begin s spent.leaves others (λ k tree. sym (only others is k tree))) few;
 }
   where
+    are : AreAllLeafPages s spent.leaves
+    are k is = let most = is.most in spent.are k is (omega (arith, most, low))
+
+    only : (others : ℕ → List ℕ) → AreAllLeafPages s others → (k : ℕ) → IsTree k → others k ≡ spent.leaves k
+    only others is k tree = one_way (right_at s k) 1 (others k) (spent.leaves k) (is k tree) (are k tree)
+
     close : (calls all clients trees : ℕ) → calls + 0 ≤ all + (trees + 0) → all ≡ 64 * 8 + clients → calls ≤ 64 * 8 + clients + trees
     close calls all clients trees was e = omega (arith, was, e)
+
+    few : calls ≤ most_calls begin s spent.leaves
+    few =
+        let was = spent.few 16 (omega (arith, low, high)) (to_settle begin s) (λ k. next_page s k - 1)
+        (record {
+          settles = λ q pending. let longer = spent.longer q in omega (arith, longer);
+          within = λ k. omega arith;
+        }) in
+        let clients = sum_eights (client_calls begin) 64 in
+        close calls (all_clients begin) (sum_upto (client_calls begin) 64)
+        (sum_upto (λ k. tree_calls (to_settle begin s) (next_page s k - 1) k (spent.leaves k)) 16) was clients
 
 -- ---- clients
 

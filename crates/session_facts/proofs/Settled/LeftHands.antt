@@ -3,7 +3,7 @@ use Rattle.std.proofs.Common.{◌≡◌, ◌≢◌, ◌+◌, ◌<◌, ◌≤◌,
 use Rattle.std.specs.Prelude.{nat_lt}
 use Rattle.std.proofs.lemmas.Bool.{cases_eq}
 use Rattle.std.proofs.lemmas.Bool.Decides.{nat_tests}
-use Rattle.cloud_facts.proofs.Book.Places.{get_single, in_either}
+use Rattle.cloud_facts.proofs.Book.Places.{get_single, in_either, in_behind}
 use Rattle.cloud_facts.specs.Book.Records.{IsIn}
 use Rattle.cloud_facts.specs.Book.Telling.{queue_of, head_in, last_or}
 use Rattle.cloud_facts.specs.Homes.Homes.{Part as Place}
@@ -11,7 +11,7 @@ use Rattle.cloud_facts.specs.Book.Tally.{Store}
 use Rattle.cloud_trait.specs.Delivery.{unmarked}
 use Rattle.cloud_trait.specs.Machine.{Ends, Stops, Deed}
 use Rattle.cloud_trait.specs.declared.state.Version.{Version}
-use Rattle.db_base.specs.Ids.{IsTree}
+use Rattle.db_base.specs.Ids.{IsPage, IsTree}
 use Rattle.db_base.specs.declared.names.ObjName.TheVariants as object
 use Rattle.db_base.specs.declared.names.QueueName.{QueueName}
 use Rattle.db_base.specs.declared.names.QueueName.TheVariants as queue
@@ -27,7 +27,7 @@ use Rattle.session_facts.proofs.Settled.Frames.{ClientKeeps, QueueKeeps, ran_kee
 use Rattle.session_facts.proofs.Settled.Lefts.{HeadsRest, NoneWaits, TreesRest, PagesRest, LeftAt, Left, NothingWaits, again_left, left_again, leads_more, tree_rests}
 use Rattle.session_facts.proofs.Settled.Queues.{none_received, none_left, news_left}
 use Rattle.session_facts.proofs.Settled.Stories.{part_known}
-use Rattle.session_facts.specs.Settled.Bound.{LeadsTo}
+use Rattle.session_facts.specs.Settled.Bound.{LeadAlong}
 use Rattle.session_facts.specs.Settled.Runs.{AreDelivered, waiting, right_at, Drains, TreeRun, PageRun, RecoveryRun, TreesRun, PagesRun, RecoveriesRun}
 use Rattle.session_facts.specs.Settled.Story.{Moment, store_at, IsAtWork, PartRan}
 use Rattle.session_facts.specs.Settlings.Settling.{KnowsAtWork}
@@ -109,6 +109,10 @@ pub page_some : (n q : ℕ) → page_at n ≡ Some q → n ≡ q
 page_some zero q e = absurd (cc (e))
 page_some (suc n) q e = cc (e)
 
+page_is : (n q : ℕ) → page_at n ≡ Some q → IsPage q
+page_is zero q e = absurd (cc (e))
+page_is (suc n) q e = let same : suc n ≡ q = cc (e) in omega (arith, same)
+
 -- ---- each part
 
 module _ (trees : TreesRun) (pages : PagesRun) (clients : RecoveriesRun) (s : Settling) (h : List Deed) (first last : Moment) (delivered : AreDelivered h) where
@@ -169,7 +173,8 @@ module _ (trees : TreesRun) (pages : PagesRun) (clients : RecoveriesRun) (s : Se
             none_received (queue.PagePu tree 1) last.state,
             record {
               own = none_left (queue.TreePu tree) s.known r.received first.state last.state left.1.1 drains e;
-              leads = (refl, refl);
+              leads = (omega arith, (refl, refl));
+              here = (zero, refl);
               behind = λ p is other. absurd (other (get_single 1 is.0 p is.1));
             },
           ),
@@ -202,7 +207,8 @@ module _ (trees : TreesRun) (pages : PagesRun) (clients : RecoveriesRun) (s : Se
     rest : PagesRest tree page s.visited last.state
     rest = record {
       own = waiting_stays false tree (queue.PagePu tree page) first last keeps (queue.TreePu tree) (λ e. cc (e)) ∙ was.own;
-      leads = subst (λ (right : ℕ → ℕ). LeadsTo right 1 page s.visited) same_rights was.leads;
+      leads = subst (λ (right : ℕ → ℕ). LeadAlong right 1 s.visited (right page)) same_rights was.leads;
+      here = was.here;
       behind = λ p is other. waiting_stays false tree (queue.PagePu tree page) first last keeps (queue.PagePu tree p) (λ e. other (cc (e))) ∙ was.behind p is other;
     }
 
@@ -238,7 +244,9 @@ module _ (trees : TreesRun) (pages : PagesRun) (clients : RecoveriesRun) (s : Se
     further : new_ids s.known r.received ≡ [] → (q : ℕ) → page_at r.home.right ≡ Some q → PagesRest tree q (s.visited ++ q ∷ []) last.state
     further none q e = record {
       own = rest.own;
-      leads = leads_more (right_at last.state tree) 1 page q s.visited rest.leads (run.right ∙ page_some r.home.right q e);
+      leads = leads_more (right_at last.state tree) 1 q s.visited
+          (subst (LeadAlong (right_at last.state tree) 1 s.visited) (run.right ∙ page_some r.home.right q e) rest.leads) (page_is r.home.right q e);
+      here = in_behind s.visited (q ∷ []) q (zero, refl);
       behind = λ p is other. at p other (in_either s.visited (q ∷ []) p is);
     }
       where

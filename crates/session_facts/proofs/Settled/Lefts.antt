@@ -14,11 +14,11 @@ use Rattle.cloud_facts.specs.Book.Premises.{IsRouted}
 use Rattle.cloud_trait.specs.Delivery.{unmarked}
 use Rattle.cloud_trait.specs.State.{CloudState}
 use Rattle.cloud_trait.specs.declared.message.Message.{Message}
-use Rattle.db_base.specs.Ids.{IsClient, IsTree}
+use Rattle.db_base.specs.Ids.{IsClient, IsPage, IsTree}
 use Rattle.db_base.specs.declared.names.QueueName.TheVariants as queue
 use Rattle.head_codec.specs.declared.head.Phase.TheVariants.{Settled}
 use Rattle.session_facts.proofs.Settled.Queues.{in_rest, AreNews, empty_of}
-use Rattle.session_facts.specs.Settled.Bound.{LeadsTo}
+use Rattle.session_facts.specs.Settled.Bound.{LeadAlong}
 use Rattle.session_facts.specs.Settled.Runs.{waiting, right_at}
 use Rattle.session_facts.specs.Settled.Story.{Moment, store_at}
 use Rattle.settle_run.specs.Parts.{part_again}
@@ -41,10 +41,12 @@ NoneWaits tree s = (page : ℕ) → waiting s (queue_of tree page) ≡ []
 abbrev pub TreesRest : ℕ → CloudState → Type 0
 TreesRest upto s = (t : ℕ) → IsTree t → t < upto → NoneWaits t s
 
--- of a tree whose page is at work: its own queue and those of the pages before it are empty, and the pages lead to it from page 1
+-- of a tree whose page is at work: its own queue and those of the pages before it are empty, and right pages lead along these from page 1, the
+-- page at work among them, to its right page
 pub record PagesRest (tree page : ℕ) (visited : List ℕ) (s : CloudState) : Type 0 where
   pub own : waiting s (queue.TreePu tree) ≡ []
-  pub leads : LeadsTo (right_at s tree) 1 page visited
+  pub leads : LeadAlong (right_at s tree) 1 visited (right_at s tree page)
+  pub here : IsIn visited page
   pub behind : (p : ℕ) → IsIn visited p → (page ≡ p → ⊥) → waiting s (queue.PagePu tree p) ≡ []
 
 -- where a part begins
@@ -72,28 +74,26 @@ left_again (Page tree page r) known visited m k = k
 
 -- ---- the way along the pages
 
-leads_in : (right : ℕ → ℕ) (first last : ℕ) (ps : List ℕ) → LeadsTo right first last ps → IsIn ps first
-leads_in right first last [] leads = absurd leads
-leads_in right first last (p ∷ []) leads = (zero, ap (λ (n : ℕ). Some n) leads.0)
-leads_in right first last (p ∷ q ∷ ps) leads = (zero, ap (λ (n : ℕ). Some n) leads.0)
+leads_first : (right : ℕ → ℕ) (from to : ℕ) (ps : List ℕ) (p : ℕ) → LeadAlong right from ps to → IsIn ps p → IsIn ps from
+leads_first right from to [] p leads is = absurd (cc (is.1))
+leads_first right from to (x ∷ ps) p leads is = (zero, ap (λ (n : ℕ). Some n) leads.1.0)
 
--- each page but the last leads to one of them
-leads_on : (right : ℕ → ℕ) (first last : ℕ) (ps : List ℕ) (p : ℕ) → LeadsTo right first last ps → IsIn ps p → (p ≡ last) ⊎ IsIn ps (right p)
-leads_on right first last [] p leads is = absurd leads
-leads_on right first last (x ∷ []) p leads is = inl (sym (get_single x is.0 p is.1) ∙ leads.1)
-leads_on right first last (x ∷ y ∷ ps) p leads (zero, e) =
-    let same : x ≡ p = cc (e) in
-    inr (in_rest x (y ∷ ps) (right p) (subst (λ (n : ℕ). IsIn (y ∷ ps) (right n)) same (leads_in right (right x) last (y ∷ ps) leads.1)))
-leads_on right first last (x ∷ y ∷ ps) p leads (suc place, e) = on (leads_on right (right x) last (y ∷ ps) p leads.1 (place, e))
+-- each page leads to one of them, or to where they all do
+leads_on : (right : ℕ → ℕ) (from to : ℕ) (ps : List ℕ) (p : ℕ) → LeadAlong right from ps to → IsIn ps p → (right p ≡ to) ⊎ IsIn ps (right p)
+leads_on right from to [] p leads (place, e) = absurd (cc (e))
+leads_on right from to (x ∷ ps) p leads (suc place, e) = on (leads_on right (right x) to ps p leads.1.1 (place, e))
   where
-    on : (p ≡ last) ⊎ IsIn (y ∷ ps) (right p) → (p ≡ last) ⊎ IsIn (x ∷ y ∷ ps) (right p)
+    on : (right p ≡ to) ⊎ IsIn ps (right p) → (right p ≡ to) ⊎ IsIn (x ∷ ps) (right p)
     on (inl same) = inl same
-    on (inr is) = inr (in_rest x (y ∷ ps) (right p) is)
+    on (inr is) = inr (in_rest x ps (right p) is)
+leads_on right from to (x ∷ []) p leads (zero, e) = let same : x ≡ p = cc (e) in inl (sym (ap right same) ∙ leads.1.1)
+leads_on right from to (x ∷ y ∷ ps) p leads (zero, e) =
+    let same : x ≡ p = cc (e) in
+    inr (in_rest x (y ∷ ps) (right p) (zero, ap (λ (n : ℕ). Some n) (leads.1.1.1.0 ∙ ap right same)))
 
-pub leads_more : (right : ℕ → ℕ) (first last next : ℕ) (ps : List ℕ) → LeadsTo right first last ps → right last ≡ next → LeadsTo right first next (ps ++ next ∷ [])
-leads_more right first last next [] leads e = absurd leads
-leads_more right first last next (p ∷ []) leads e = (leads.0, (sym (ap right leads.1 ∙ e), refl))
-leads_more right first last next (p ∷ q ∷ ps) leads e = (leads.0, leads_more right (right p) last next (q ∷ ps) leads.1 e)
+pub leads_more : (right : ℕ → ℕ) (from to : ℕ) (ps : List ℕ) → LeadAlong right from ps to → IsPage to → LeadAlong right from (ps ++ to ∷ []) (right to)
+leads_more right from to [] leads is = (is, (sym leads, refl))
+leads_more right from to (p ∷ ps) leads is = (leads.0, (leads.1.0, leads_more right (right p) to ps leads.1.1 is))
 
 -- ---- a tree whose pages are all behind
 
@@ -110,7 +110,7 @@ module _ (m : Moment) (tree page : ℕ) (visited : List ℕ) (is_tree : IsTree t
   link_in zero link there =
       let first : slice_get (m.book.chain tree 0) 0 ≡ Some first_link = ap (λ (ls : List Link). slice_get ls 0) chained.levels.leaves.1 in
       let same : first_link ≡ link = cc (first, there) in
-      subst (λ (x : Link). IsIn visited x.page) same (leads_in (right_at s tree) 1 page visited rest.leads)
+      subst (λ (x : Link). IsIn visited x.page) same (leads_first (right_at s tree) 1 (right_at s tree page) visited page rest.leads rest.here)
   link_in (suc place) link there = before (slice_get (m.book.chain tree 0) place) refl (λ last e. link_in place last e)
     where
       before : (o : Option Link) → slice_get (m.book.chain tree 0) place ≡ o → ((last : Link) → StandsAt (m.book.chain tree 0) place last → IsIn visited last.page) → IsIn visited link.page
@@ -127,12 +127,12 @@ module _ (m : Moment) (tree page : ℕ) (visited : List ℕ) (is_tree : IsTree t
           let there_next : slice_get (m.book.chain tree 0) (place + 1) ≡ Some link = ap (slice_get (m.book.chain tree 0)) next ∙ there in
           let right : right_at s tree last.page ≡ link.page =
           (chained.newest.ends 0 place last e).right ∙ ap page_after there_next in
-          on right (leads_on (right_at s tree) 1 page visited last.page rest.leads (again last e))
+          on right (leads_on (right_at s tree) 1 (right_at s tree page) visited last.page rest.leads (again last e))
         where
-          on : right_at s tree last.page ≡ link.page → (last.page ≡ page) ⊎ IsIn visited (right_at s tree last.page) → IsIn visited link.page
+          on : right_at s tree last.page ≡ link.page → (right_at s tree last.page ≡ right_at s tree page) ⊎ IsIn visited (right_at s tree last.page) → IsIn visited link.page
           on right (inl same) =
               let some = (chained.pages.linked 0 link (suc place, there)).0 in
-              let zero_is : link.page ≡ 0 = sym right ∙ (ap (right_at s tree) same ∙ ends) in
+              let zero_is : link.page ≡ 0 = sym right ∙ (same ∙ ends) in
               absurd (omega (arith, some, zero_is))
           on right (inr is) = subst (IsIn visited) right is
 

@@ -2,7 +2,7 @@
 use Rattle.std.specs.Prelude.{ℕ, zero, suc, ◌≡◌, ◌+◌, ◌-◌, ◌*◌, ◌≤◌, List, [], ◌∷◌, length, map}
 use Rattle.cloud_facts.specs.Book.Telling.{head_in, last_or}
 use Rattle.cloud_trait.specs.State.{CloudState}
-use Rattle.db_base.specs.Ids.{IsTree}
+use Rattle.db_base.specs.Ids.{IsPage, IsTree}
 use Rattle.db_base.specs.declared.names.ObjName.TheVariants as object
 use Rattle.db_base.specs.declared.names.QueueName.{QueueName}
 use Rattle.db_base.specs.declared.names.QueueName.TheVariants as queue
@@ -50,23 +50,29 @@ tree_calls messages pages tree leaves =
 
 -- ---- leaves
 
--- pages that lead from one to another, each to the next as its right page
-abbrev pub LeadsTo : (ℕ → ℕ) → ℕ → ℕ → List ℕ → Type 0
-LeadsTo right first last [] = ⊥
-LeadsTo right first last (p ∷ []) = (p ≡ first) × (p ≡ last)
-LeadsTo right first last (p ∷ q ∷ ps) = (p ≡ first) × LeadsTo right (right p) last (q ∷ ps)
+-- right pages lead along these pages from one to another, each of them a page
+abbrev pub LeadAlong : (ℕ → ℕ) → ℕ → List ℕ → ℕ → Type 0
+LeadAlong right from [] to = from ≡ to
+LeadAlong right from (page ∷ pages) to = IsPage page × ((page ≡ from) × LeadAlong right (right page) pages to)
 
--- the pages of all leaves of a tree: from page 1 to one that has no right page
+-- the pages of all leaves of a tree: right pages lead along them from page 1 to no page
 abbrev pub AreLeafPages : CloudState → ℕ → List ℕ → Type 0
-AreLeafPages s tree pages = (last : ℕ) × (LeadsTo (right_at s tree) 1 last pages × (right_at s tree last ≡ 0))
+AreLeafPages s tree pages = LeadAlong (right_at s tree) 1 pages 0
+
+-- .. of each tree
+abbrev pub AreAllLeafPages : CloudState → (ℕ → List ℕ) → Type 0
+AreAllLeafPages s leaves = (tree : ℕ) → IsTree tree → AreLeafPages s tree (leaves tree)
 
 -- ---- the whole
 
--- eight calls for each of 64 clients and what their messages and records need, and what the queues of 16 trees and of all their leaves at the
--- end need
+-- eight calls for each of 64 clients and what their messages and records need, and what the queues of 16 trees and of all their leaves need
+abbrev pub most_calls : CloudState → CloudState → (ℕ → List ℕ) → ℕ
+most_calls before after leaves =
+    64 * 8 + sum_upto (client_calls before) 64 + sum_upto (λ tree. tree_calls (to_settle before after) (next_page after tree - 1) tree (leaves tree)) 16
+
+-- each tree has one list of leaf pages at the end, and so many calls are no more than the most by these
 pub record IsWithin (before after : CloudState) (calls : ℕ) : Type 0 where
   pub leaves : ℕ → List ℕ
-  pub are : (tree : ℕ) → IsTree tree → AreLeafPages after tree (leaves tree)
-  pub within :
-      calls ≤ 64 * 8 + sum_upto (client_calls before) 64
-      + sum_upto (λ tree. tree_calls (to_settle before after) (next_page after tree - 1) tree (leaves tree)) 16
+  pub are : AreAllLeafPages after leaves
+  pub only : (others : ℕ → List ℕ) → AreAllLeafPages after others → (tree : ℕ) → IsTree tree → others tree ≡ leaves tree
+  pub within : (these : ℕ → List ℕ) → AreAllLeafPages after these → calls ≤ most_calls before after these

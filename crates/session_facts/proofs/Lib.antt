@@ -29,6 +29,7 @@ pub mod LineRows
 pub mod Once
 pub mod CallAsks
 pub mod CallKinds
+pub mod BookLemmas
 pub mod Steps
 pub mod AddedRows
 pub mod OpenedRuns

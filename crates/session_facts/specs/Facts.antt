@@ -112,3 +112,16 @@ pub record Stands (lines : List Line) (sessions : Sessions) (audit : Audited) (b
 pub record GoesOn (lines : List Line) (sessions : Sessions) (audit : Audited) (blind : Bool) (t : CloudState) : Type 0 where
   pub holds : CloudHolds (length lines + 1) lines sessions audit blind t
   pub acts : AllAct lines sessions
+
+-- ---- whatever lines led there
+
+-- some book and some order stand for a cloud and these sessions, and the settler rests
+pub record SomeBookStands (sessions : Sessions) (t : CloudState) : Type 0 where
+  pub book : Book
+  pub order : List Entry
+  pub stand : SessionsStand book order t sessions
+  pub rests : SettlerRests sessions
+
+-- a cloud that runs left: some book stands for it once all their sessions are gone
+abbrev pub WasLeft : CloudState → Type 0
+WasLeft t = SomeBookStands (λ session. closed_session) t

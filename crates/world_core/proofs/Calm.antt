@@ -530,7 +530,7 @@ module _ (lines : List Line) (n : ℕ) (before after : Seen) (old new : World) (
       subst (λ (a : Acting). IsUntroubled a.work) (sym (has_at 0 settling_session old begun has 0 ∙ at_same 0 settling_session (session_at old.sessions) 0 refl))
       (at_rest settling_session.work refl refl)
 
-  settles_well : (h : Settles n before after old new (Ok r)) → EachSettling StepIsCalm n before after old new (Ok r) h → EachSettling StepExplains n before after old new (Ok r) h
+  pub settles_well : (h : Settles n before after old new (Ok r)) → EachSettling StepIsCalm n before after old new (Ok r) h → EachSettling StepExplains n before after old new (Ok r) h
       → IsUntroubled (work_at new 0) × SettlesWell r
   settles_well (inr memory) calm explains = absurd (no_memory r memory)
   settles_well (inl h) calm explains = on h.settles calm explains

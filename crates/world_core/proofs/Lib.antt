@@ -11,6 +11,7 @@ pub mod Marks
 pub mod StandsLemmas
 pub mod BeginLemmas
 pub mod EveryLine
+pub mod Keeping
 pub mod Sound
 pub mod Acknowledged
 pub mod Explained

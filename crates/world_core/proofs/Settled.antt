@@ -1,15 +1,17 @@
 -- A settling that came to its end left nothing, and stayed within its bound.
-use Rattle.std.proofs.Common.{◌≡◌, ℕ, List, Some, Result, Ok, Err, refl, sym, ap, subst, ◌∙◌, inl, inr, arith}
+use Rattle.std.proofs.Common.{◌≡◌, ℕ, List, [], Some, Result, Ok, Err, refl, sym, ap, subst, ◌∙◌, inl, inr, arith}
 use Rattle.calm_calls.specs.Calm.{IsCalm, NamesLasting}
-use Rattle.client_work.specs.Session.{Acting, settling_session, ask_of_work}
+use Rattle.client_work.specs.Session.{Acting, StepsSession, settling_session, ask_of_work}
 use Rattle.client_work.specs.declared.answer.Answer.{Answer}
 use Rattle.client_work.specs.declared.answer.Answer.TheVariants as answer
+use Rattle.client_work.specs.declared.work.Work.{Work}
 use Rattle.client_work.specs.declared.work.Work.TheVariants as work
 use Rattle.cloud_facts.proofs.Book.Names.{at_same}
 use Rattle.cloud_trait.specs.Ask.{Ask}
 use Rattle.cloud_trait.specs.Machine.{Goes, Ends, Stops, Deed}
 use Rattle.cloud_trait.specs.Seen.{Seen}
 use Rattle.cloud_trait.specs.State.{CloudState}
+use Rattle.cloud_trait.specs.Weather.{Leaves}
 use Rattle.cloud_trait.specs.declared.turn.Turn.{Turn}
 use Rattle.cloud_trait.specs.declared.turn.Turn.TheVariants.{More, Ended}
 use Rattle.db_base.specs.declared.trouble.Trouble.{Trouble}
@@ -17,9 +19,10 @@ use Rattle.db_base.specs.declared.trouble.Trouble.TheVariants as trouble
 use Rattle.db_base.specs.declared.wish.Wish.TheVariants.{Plain}
 use Rattle.event_text.specs.declared.event.Event.{Event}
 use Rattle.event_text.specs.declared.event.Event.TheVariants as event
-use Rattle.replay_meaning.specs.Standing.{Line}
+use Rattle.replay_meaning.specs.Standing.{Posture, standing}
 use Rattle.session_facts.proofs.SettledLemmas.{none_open, none_wait}
-use Rattle.session_facts.specs.Facts.{session_at}
+use Rattle.session_facts.specs.Answers.{IsSoundReply}
+use Rattle.session_facts.specs.Facts.{session_at, SomeBookStands}
 use Rattle.reply_text.specs.declared.reply.Reply.{Reply}
 use Rattle.reply_text.specs.declared.reply.Reply.TheVariants as reply
 use Rattle.session_facts.proofs.Settled.Along.{Handed, Hands, behind_part}
@@ -33,27 +36,31 @@ use Rattle.session_facts.proofs.Settled.RecoveryRuns.{recoveries_run}
 use Rattle.session_facts.proofs.Settled.TreeRuns.{trees_run}
 use Rattle.session_facts.proofs.Settled.Turns.{settler, OnWay, of_session, IsAlone, calm_with, step_on, step_ends, first_moment, begins_on}
 use Rattle.session_facts.specs.Sessions.Calls.{reply_of}
+use Rattle.session_facts.proofs.Sessions.Explaining.{session_explains}
+use Rattle.session_facts.proofs.Sessions.Stopping.{session_stops}
+use Rattle.session_facts.proofs.Steps.{MadeCall, made_call}
+use Rattle.session_facts.specs.Sessions.Answering.{MaySettle, MayAnswer}
 use Rattle.session_facts.specs.Sessions.Explaining.{ReceivesLate}
-use Rattle.session_facts.specs.Sessions.Sessions.{leases_of}
+use Rattle.session_facts.specs.Sessions.Sessions.{SessionsStand, leases_of}
 use Rattle.session_facts.specs.Sessions.Untroubled.{IsUntroubled}
 use Rattle.session_facts.specs.Settled.Bound.{IsWithin}
 use Rattle.session_facts.specs.Settled.Runs.{TreesRun, PagesRun, RecoveriesRun}
 use Rattle.session_facts.specs.Settled.Story.{Moment}
 use Rattle.settle_run.specs.Settling.{Settling, Step, passed, new_settling, settle_ask}
 use Rattle.settle_run.specs.declared.settled.Settled.{Settled as Answered}
-use Rattle.world_core.proofs.Calm.{well_after}
+use Rattle.world_core.proofs.Calm.{settles_well}
 use Rattle.world_core.specs.Calm.{StepIsCalm, SettlesWell, work_at}
 use Rattle.world_core.specs.EachStep.{StepFact, EachWent, EachCome, EachSettlingOn, EachSettling, EachAsked, EachStep}
 use Rattle.world_core.specs.Handled.{Has, StepsLooked, Went, start, further, SettlesTo, SettlesOn, Settles as SettlesLine, Answers, Handled}
 use Rattle.world_core.specs.Replying.{RepliesSettled, unsettled_reply}
-use Rattle.world_core.specs.Settled.{StepDelivers, StepGoesWell, NoLockHeld, LeavesNothing, LeftNothing, SettledWithin, AnswersSettled, SettlingLeaves, SettlingEnds}
-use Rattle.world_core.specs.Stands.{WorldStands}
+use Rattle.world_core.specs.Explained.{StepExplains}
+use Rattle.world_core.specs.Settled.{StepDelivers, StepGoesWell, NoLockHeld, LeavesNothing, LeftNothing, SettledWithin, AnswersSettled, SettlingLeaves, SettlingEnds, SettlingIsRight}
 use Rattle.world_core.specs.declared.asked.Asked.{Asked}
 use Rattle.world_core.specs.declared.asked.Asked.TheVariants.{Session, Wait, Report, Settle}
 use Rattle.world_core.specs.World.{World}
 use Rattle.world_core.specs.declared.world.WorldFault.{WorldFault}
 use Rattle.world_core.specs.declared.world.WorldFault.TheVariants as fault
-use Rattle.world_core.proofs.StandsLemmas.{changed_at, changed_was}
+use Rattle.world_core.proofs.StandsLemmas.{changed_at, changed_was, no_memory}
 
 -- ---- the steps of the line
 
@@ -113,8 +120,8 @@ module _ (Holds : StepFact) (B : Settling → Moment → Type 0) (E : Settling �
   world_went before old after new at_way (further mid _ world _ went step) each =
       world_more mid after world new (world_went before old mid world at_way went each.0) step each.1
 
-  module _ (before : Seen) (old begun : World) (t : CloudState) (told : before.state ≡ Some t) (lines : List Line) (stands : WorldStands lines old t) (begins : Has 0 settling_session old begun)
-      (at_start : B new_settling (first_moment stands.holds.book stands.holds.order t (session_at old.sessions) stands.rests stands.holds.stand)) where
+  module _ (before : Seen) (old begun : World) (t : CloudState) (told : before.state ≡ Some t) (stands : SomeBookStands (session_at old.sessions) t) (begins : Has 0 settling_session old begun)
+      (at_start : B new_settling (first_moment stands.book stands.order t (session_at old.sessions) stands.rests stands.stand)) where
     begun_session : session_at begun.sessions 0 ≡ settling_session
     begun_session =
         changed_at 0 _ old.sessions begun.sessions begins.session_is 0 ∙ (at_same 0 begins.session_is.after (session_at old.sessions) 0 refl ∙ begins.session_is.does)
@@ -124,7 +131,7 @@ module _ (Holds : StepFact) (B : Settling → Moment → Type 0) (E : Settling �
       state = t;
       told = told;
       way = of_session B P settling_session (session_at begun.sessions 0) t (sym begun_session)
-          (begins_on B E P hands stands.holds.book stands.holds.order t (session_at old.sessions) stands.rests stands.holds.stand at_start);
+          (begins_on B E P hands stands.book stands.order t (session_at old.sessions) stands.rests stands.stand at_start);
     }
 
     -- the answer counts the calls
@@ -190,8 +197,8 @@ any_hands s w h first last holds place ran each works = on (passed (behind_part 
     on (Ends m x) = tt
     on (Stops m t) = tt
 
-any_gives : (n : ℕ) → Gives StepGoesWell AnyCall n
-any_gives n before after old new turn p m is holds = tt
+any_gives : (Holds : StepFact) (n : ℕ) → Gives Holds AnyCall n
+any_gives Holds n before after old new turn p m is holds = tt
 
 -- the settler is under way, and nobody else has a lease
 record WorldAlone (world : World) (seen : Seen) : Type 0 where
@@ -202,10 +209,10 @@ module _ (n : ℕ) where
   module _ (before after : Seen) (old new : World) (turn : Turn Answer) (here : WorldAlone old before) (p : StepsLooked (settler n) Plain before after old new turn)
       (well : StepGoesWell (settler n) Plain before after old new turn p) where
     abbrev way : OnWay Anything AnyCall p.session.before here.at.state
-    way = own StepGoesWell Anything AnyEnd AnyCall any_hands n (any_gives n) before after old new turn here.at p
+    way = own StepGoesWell Anything AnyEnd AnyCall any_hands n (any_gives StepGoesWell n) before after old new turn here.at p
 
     wish_set : p.under.state ≡ Some (record here.at.state { wish = Plain })
-    wish_set = under StepGoesWell Anything AnyEnd AnyCall any_hands n (any_gives n) before after old new turn here.at p
+    wish_set = under StepGoesWell Anything AnyEnd AnyCall any_hands n (any_gives StepGoesWell n) before after old new turn here.at p
 
     asked : well.ask ≡ settle_ask way.settling
     asked = same_ask well.ask (settle_ask way.settling) (sym well.hand ∙ ap ask_of_work way.works)
@@ -241,7 +248,7 @@ module _ (n : ℕ) where
           state = on.state;
           told = p.look_after.stays on.state on.told;
           way = of_session Anything AnyCall p.session.after (session_at new.sessions 0) on.state
-              (sym (session_after StepGoesWell Anything AnyEnd AnyCall any_hands n (any_gives n) before after old new More here.at p)) on.way;
+              (sym (session_after StepGoesWell Anything AnyEnd AnyCall any_hands n (any_gives StepGoesWell n) before after old new More here.at p)) on.way;
         };
         alone = on.alone (here.alone, (well.counts, well.memory));
       }
@@ -253,10 +260,10 @@ module _ (n : ℕ) where
       let before_it = went_calm before old mid world here went each.0 in
       ((before_it.0, well_calm mid after world new More before_it.1 step each.1), well_more mid after world new before_it.1 step each.1)
 
-  module _ (before after : Seen) (old new : World) (r : Reply) (t : CloudState) (told : before.state ≡ Some t) (lines : List Line) (stands : WorldStands lines old t) (free : NoLockHeld t) where
+  module _ (before after : Seen) (old new : World) (r : Reply) (t : CloudState) (told : before.state ≡ Some t) (stands : SomeBookStands (session_at old.sessions) t) (free : NoLockHeld t) where
     begins_free : (begun : World) → Has 0 settling_session old begun → WorldAlone begun before
     begins_free begun begins = record {
-      at = world_begins StepGoesWell Anything AnyEnd AnyCall any_hands n (any_gives n) before old begun t told lines stands begins tt;
+      at = world_begins StepGoesWell Anything AnyEnd AnyCall any_hands n (any_gives StepGoesWell n) before old begun t told stands begins tt;
       alone = begins_alone t free;
     }
 
@@ -271,6 +278,111 @@ module _ (n : ℕ) where
             let went = went_calm before h.begun s.comes.mid s.comes.world (begins_free h.begun h.begins) s.comes.went steps.0 in
             (went.0, well_calm s.comes.mid after s.comes.world s.left (Ended s.answer) went.1 s.comes.steps steps.1)
 
+-- ---- what each step brought, and the trouble of the last one
+
+-- nothing is asked of a step
+abbrev AnyStep : StepFact
+AnyStep who wish before after old new turn p = Unit {0}
+
+abbrev SettlerOnWay : World → Seen → Type 0
+SettlerOnWay world seen = WorldOnWay Anything AnyCall world seen
+
+state_is : (x y z : CloudState) → x ≡ y → Some y ≡ Some z → x ≡ z
+state_is x y z e f = e ∙ cc (f)
+
+module _ (n : ℕ) where
+  settler_more : (before after : Seen) (old new : World) → SettlerOnWay old before → StepsLooked (settler n) Plain before after old new More → SettlerOnWay new after
+  settler_more before after old new way p = world_more AnyStep Anything AnyEnd AnyCall any_hands n (any_gives AnyStep n) before after old new way p tt
+
+  module _ (before after : Seen) (old new : World) (turn : Turn Answer) (at_way : SettlerOnWay old before) (p : StepsLooked (settler n) Plain before after old new turn) where
+    abbrev goes : OnWay Anything AnyCall p.session.before at_way.state
+    goes = own AnyStep Anything AnyEnd AnyCall any_hands n (any_gives AnyStep n) before after old new turn at_way p
+
+    abbrev at : Moment
+    at = goes.now
+
+    wished : p.under.state ≡ Some (record at_way.state { wish = Plain })
+    wished = under AnyStep Anything AnyEnd AnyCall any_hands n (any_gives AnyStep n) before after old new turn at_way p
+
+    stand : (s : CloudState) → p.under.state ≡ Some s → SessionsStand at.book at.order s at.sessions
+    stand s told =
+        subst (λ (x : CloudState). SessionsStand at.book at.order x at.sessions)
+        (state_is at.state (record at_way.state { wish = Plain }) s goes.now_is (sym wished ∙ told)) at.stand
+
+    settler_explains : StepExplains (settler n) Plain before after old new turn p
+    settler_explains s t told left =
+        session_explains (settler n) p.under p.to s t at.book at.order at.sessions told left (stand s told) p.session.before p.session.after turn goes.session_is p.session.does
+
+  settler_stops : (before after : Seen) (old new : World) (q : Trouble) → SettlerOnWay old before → StepsLooked (settler n) Plain before after old new (Ended (answer.Trouble q)) → MaySettle q
+  settler_stops before after old new q at_way p =
+      subst (λ (w : Work). MayAnswer w q) works
+      (session_stops (settler n) p.under p.to s left.after here.book here.order here.sessions told left.told (stand before after old new (Ended (answer.Trouble q)) at_way p s told) p.session.after q steps)
+    where
+      way : OnWay Anything AnyCall p.session.before at_way.state
+      way = goes before after old new (Ended (answer.Trouble q)) at_way p
+
+      here : Moment
+      here = way.now
+
+      s : CloudState
+      s = record at_way.state { wish = Plain }
+
+      told : p.under.state ≡ Some s
+      told = wished before after old new (Ended (answer.Trouble q)) at_way p
+
+      steps : StepsSession (settler n) p.under p.to (here.sessions 0) p.session.after (Ok (Ended (answer.Trouble q)))
+      steps = subst (λ (a : Acting). StepsSession (settler n) p.under p.to a p.session.after (Ok (Ended (answer.Trouble q)))) (sym way.session_is) p.session.does
+
+      works : (here.sessions 0).work ≡ work.Settling way.settling
+      works = ap (λ (a : Acting). a.work) way.session_is ∙ way.works
+
+      made : MadeCall (settler n) p.under p.to (here.sessions 0).work
+      made = made_call (settler n) p.under p.to (here.sessions 0).work p.session.after.work (Ended (answer.Trouble q)) steps.work
+
+      left : Leaves (settler n) made.ask made.answer p.under.counts p.to.counts s p.to.state
+      left = made.made.state s told
+
+  went_explains : (before : Seen) (old : World) (after : Seen) (new : World) → SettlerOnWay old before → (went : Went (settler n) before old after new)
+      → EachWent StepExplains (settler n) before old after new went × SettlerOnWay new after
+  went_explains before old after new way start = (tt, way)
+  went_explains before old after new way (further mid _ world _ went step) =
+      let before_it = went_explains before old mid world way went in
+      ((before_it.0, settler_explains mid after world new More before_it.1 step), settler_more mid after world new before_it.1 step)
+
+  module _ (before after : Seen) (old new : World) (r : Reply) (t : CloudState) (told : before.state ≡ Some t) (stands : SomeBookStands (session_at old.sessions) t) where
+    begins_way : (begun : World) → Has 0 settling_session old begun → SettlerOnWay begun before
+    begins_way begun begins = world_begins AnyStep Anything AnyEnd AnyCall any_hands n (any_gives AnyStep n) before old begun t told stands begins tt
+
+    settling_explains : (h : SettlesLine n before after old new (Ok r)) → EachSettling StepExplains n before after old new (Ok r) h
+    settling_explains (inr memory) = tt
+    settling_explains (inl h) = on h.settles
+      where
+        on : (s : SettlesOn (settler n) before after h.begun new (Ok r)) → EachSettlingOn StepExplains (settler n) before after h.begun new (Ok r) s
+        on (inr memory) = tt
+        on (inl s) =
+            let went = went_explains before h.begun s.comes.mid s.comes.world (begins_way h.begun h.begins) s.comes.went in
+            (went.0, settler_explains s.comes.mid after s.comes.world s.left (Ended s.answer) went.1 s.comes.steps)
+
+    unsettled_sound : (posture : Posture) (q : Trouble) → (let result : Result Reply WorldFault = Ok r in result ≡ unsettled_reply q) → MaySettle q → IsSoundReply posture r
+    unsettled_sound posture trouble.Memory e may = absurd (cc (e))
+    unsettled_sound posture q e may = let is : r ≡ reply.NotSettled q = cc (e) in subst (IsSoundReply posture) (sym is) may
+
+    settling_sound : SettlesLine n before after old new (Ok r) → (posture : Posture) → IsSoundReply posture r
+    settling_sound (inr memory) posture = absurd (no_memory r memory)
+    settling_sound (inl h) posture = by_end h.settles
+      where
+        by_end : SettlesOn (settler n) before after h.begun new (Ok r) → IsSoundReply posture r
+        by_end (inr memory) = absurd (no_memory r memory)
+        by_end (inl s) = on s.answer s.comes.steps s.replies
+          where
+            way : SettlerOnWay s.comes.world s.comes.mid
+            way = (went_explains before h.begun s.comes.mid s.comes.world (begins_way h.begun h.begins) s.comes.went).1
+
+            on : (a : Answer) → StepsLooked (settler n) Plain s.comes.mid after s.comes.world s.left (Ended a) → RepliesSettled a (Ok r) → IsSoundReply posture r
+            on (answer.Settled x) p e = let is : r ≡ reply.Settled x.calls = cc (e) in subst (IsSoundReply posture) (sym is) tt
+            on (answer.Trouble q) p e = unsettled_sound posture q e (settler_stops s.comes.mid after s.comes.world s.left q way p)
+            on a p e = absurd e
+
 -- ---- the line
 
 leaves_nothing : (m : Moment) (s : Settling) (x : Answered) → NothingWaits s x m → LeavesNothing m.state
@@ -281,34 +393,31 @@ leaves_nothing m s x left tree is =
       messages = none_wait m.state tree m.stand.cloud.decodes (left.1 tree is (omega (arith, most)));
     }
 
-module _ (trees : TreesRun) (pages : PagesRun) (clients : RecoveriesRun) (lines : List Line) (n : ℕ) (before after : Seen) (old new : World) (t : CloudState) (calls : ℕ)
-    (told : before.state ≡ Some t) (stands : WorldStands lines old t) where
+module _ (trees : TreesRun) (pages : PagesRun) (clients : RecoveriesRun) (n : ℕ) (before after : Seen) (old new : World) (t : CloudState) (calls : ℕ)
+    (told : before.state ≡ Some t) (stands : SomeBookStands (session_at old.sessions) t) where
   abbrev answered : Result Reply WorldFault
   answered = Ok (reply.Settled calls)
 
-  no_memory : (let r : Result Reply WorldFault = Ok (reply.Settled calls) in r ≡ Err fault.Memory) → ⊥
-  no_memory e = absurd (cc (e))
-
   line_leaves : (h : SettlesLine n before after old new answered) → EachSettling StepDelivers n before after old new answered h → LeftNothing after
-  line_leaves (inr memory) each = absurd (no_memory memory)
+  line_leaves (inr memory) each = absurd (no_memory (reply.Settled calls) memory)
   line_leaves (inl h) each = on h.settles each
     where
       on : (s : SettlesOn (settler n) before after h.begun new answered) → EachSettlingOn StepDelivers (settler n) before after h.begun new answered s → LeftNothing after
-      on (inr memory) steps = absurd (no_memory memory)
+      on (inr memory) steps = absurd (no_memory (reply.Settled calls) memory)
       on (inl s) steps =
-          let end = (world_settles StepDelivers Left NothingWaits IsDelivered (left_hands trees pages clients) n (delivers_gives n) before old h.begun t told lines stands h.begins
-          (left_begins stands.holds.book stands.holds.order t (session_at old.sessions) stands.rests stands.holds.stand) after new calls s steps) in
+          let end = (world_settles StepDelivers Left NothingWaits IsDelivered (left_hands trees pages clients) n (delivers_gives n) before old h.begun t told stands h.begins
+          (left_begins stands.book stands.order t (session_at old.sessions) stands.rests stands.stand) after new calls s steps) in
           record { state = end.1.1.now.state; told = end.1.1.told; nothing = leaves_nothing end.1.1.now end.1.1.settling end.0 end.1.1.holds }
 
   line_within : (h : SettlesLine n before after old new answered) → EachSettling StepIsCalm n before after old new answered h → SettledWithin t after calls
-  line_within (inr memory) each = absurd (no_memory memory)
+  line_within (inr memory) each = absurd (no_memory (reply.Settled calls) memory)
   line_within (inl h) each = on h.settles each
     where
       on : (s : SettlesOn (settler n) before after h.begun new answered) → EachSettlingOn StepIsCalm (settler n) before after h.begun new answered s → SettledWithin t after calls
-      on (inr memory) steps = absurd (no_memory memory)
+      on (inr memory) steps = absurd (no_memory (reply.Settled calls) memory)
       on (inl s) steps =
-          let end = (world_settles StepIsCalm (LeftAndCost t) (SettledWell t) GoesCalmly (cost_hands t trees pages clients) n (calm_gives n) before old h.begun t told lines stands h.begins
-          (both_begin stands.holds.book stands.holds.order t (session_at old.sessions) stands.rests stands.holds.stand) after new calls s steps) in
+          let end = (world_settles StepIsCalm (LeftAndCost t) (SettledWell t) GoesCalmly (cost_hands t trees pages clients) n (calm_gives n) before old h.begun t told stands h.begins
+          (both_begin stands.book stands.order t (session_at old.sessions) stands.rests stands.stand) after new calls s steps) in
           record {
             state = end.1.1.now.state;
             told = end.1.1.told;
@@ -320,51 +429,69 @@ module _ (trees : TreesRun) (pages : PagesRun) (clients : RecoveriesRun) (lines 
 -- ---- the clauses
 
 module _ (trees : TreesRun) (pages : PagesRun) (clients : RecoveriesRun) where
-  asked_leaves : (lines : List Line) (n : ℕ) (before after : Seen) (old new : World) (t : CloudState) (calls : ℕ) → before.state ≡ Some t → WorldStands lines old t
+  asked_leaves : (n : ℕ) (before after : Seen) (old new : World) (t : CloudState) (calls : ℕ) → before.state ≡ Some t → SomeBookStands (session_at old.sessions) t
       → (asked : Asked) → asked ≡ Settle → (answers : Answers n asked before after old new (Ok (reply.Settled calls)))
       → EachAsked StepDelivers n asked before after old new (Ok (reply.Settled calls)) answers → LeftNothing after
-  asked_leaves lines n before after old new t calls told stands Settle is answers each = line_leaves trees pages clients lines n before after old new t calls told stands answers each
-  asked_leaves lines n before after old new t calls told stands (Session j request) is answers each = absurd (cc (is))
-  asked_leaves lines n before after old new t calls told stands (Wait ticks) is answers each = absurd (cc (is))
-  asked_leaves lines n before after old new t calls told stands (Report tree) is answers each = absurd (cc (is))
+  asked_leaves n before after old new t calls told stands Settle is answers each = line_leaves trees pages clients n before after old new t calls told stands answers each
+  asked_leaves n before after old new t calls told stands (Session j request) is answers each = absurd (cc (is))
+  asked_leaves n before after old new t calls told stands (Wait ticks) is answers each = absurd (cc (is))
+  asked_leaves n before after old new t calls told stands (Report tree) is answers each = absurd (cc (is))
 
-  asked_within : (lines : List Line) (n : ℕ) (before after : Seen) (old new : World) (t : CloudState) (calls : ℕ) → before.state ≡ Some t → WorldStands lines old t
+  asked_within : (n : ℕ) (before after : Seen) (old new : World) (t : CloudState) (calls : ℕ) → before.state ≡ Some t → SomeBookStands (session_at old.sessions) t
       → (asked : Asked) → asked ≡ Settle → (answers : Answers n asked before after old new (Ok (reply.Settled calls)))
       → EachAsked StepIsCalm n asked before after old new (Ok (reply.Settled calls)) answers → SettledWithin t after calls
-  asked_within lines n before after old new t calls told stands Settle is answers each = line_within trees pages clients lines n before after old new t calls told stands answers each
-  asked_within lines n before after old new t calls told stands (Session j request) is answers each = absurd (cc (is))
-  asked_within lines n before after old new t calls told stands (Wait ticks) is answers each = absurd (cc (is))
-  asked_within lines n before after old new t calls told stands (Report tree) is answers each = absurd (cc (is))
+  asked_within n before after old new t calls told stands Settle is answers each = line_within trees pages clients n before after old new t calls told stands answers each
+  asked_within n before after old new t calls told stands (Session j request) is answers each = absurd (cc (is))
+  asked_within n before after old new t calls told stands (Wait ticks) is answers each = absurd (cc (is))
+  asked_within n before after old new t calls told stands (Report tree) is answers each = absurd (cc (is))
 
   leaves_for : (n : ℕ) (e : Event) (before after : Seen) (old new : World) (result : Result Reply WorldFault) → SettlingLeaves n e before after old new result
-  leaves_for n event.Settle before after old new (Ok (reply.Settled calls)) = λ lines t number told stands handled each.
-      asked_leaves lines n before after old new t calls told stands handled.asked handled.asks handled.answers each
+  leaves_for n event.Settle before after old new (Ok (reply.Settled calls)) = λ t told stands handled each.
+      asked_leaves n before after old new t calls told stands handled.asked handled.asks handled.answers each
   leaves_for n e before after old new result = tt
 
-asked_calm : (lines : List Line) (n : ℕ) (before after : Seen) (old new : World) (t : CloudState) (r : Reply) → before.state ≡ Some t → WorldStands lines old t → NoLockHeld t
+asked_calm : (n : ℕ) (before after : Seen) (old new : World) (t : CloudState) (r : Reply) → before.state ≡ Some t → SomeBookStands (session_at old.sessions) t → NoLockHeld t
     → (asked : Asked) → asked ≡ Settle → (answers : Answers n asked before after old new (Ok r)) → EachAsked StepGoesWell n asked before after old new (Ok r) answers
     → EachAsked StepIsCalm n asked before after old new (Ok r) answers
-asked_calm lines n before after old new t r told stands free Settle is answers each = settling_calm n before after old new r t told lines stands free answers each
-asked_calm lines n before after old new t r told stands free (Session j request) is answers each = absurd (cc (is))
-asked_calm lines n before after old new t r told stands free (Wait ticks) is answers each = absurd (cc (is))
-asked_calm lines n before after old new t r told stands free (Report tree) is answers each = absurd (cc (is))
+asked_calm n before after old new t r told stands free Settle is answers each = settling_calm n before after old new r t told stands free answers each
+asked_calm n before after old new t r told stands free (Session j request) is answers each = absurd (cc (is))
+asked_calm n before after old new t r told stands free (Wait ticks) is answers each = absurd (cc (is))
+asked_calm n before after old new t r told stands free (Report tree) is answers each = absurd (cc (is))
 
--- a settler at rest is untroubled
-rests_untroubled : (lines : List Line) (old : World) (t : CloudState) → WorldStands lines old t → IsUntroubled (work_at old 0)
-rests_untroubled lines old t stands = subst (λ (a : Acting). IsUntroubled a.work) (sym stands.rests) (record { trouble = λ k e. absurd (cc (e)); left = refl })
+-- what is asked of a settling is right
+record AsksRightly (n : ℕ) (asked : Asked) (before after : Seen) (old new : World) (r : Reply) (answers : Answers n asked before after old new (Ok r)) : Type 0 where
+  sound : (posture : Posture) → IsSoundReply posture r
+  explains : EachAsked StepExplains n asked before after old new (Ok r) answers
+  calm : EachAsked StepIsCalm n asked before after old new (Ok r) answers → IsUntroubled (work_at new 0) × SettlesWell r
+
+asked_right : (n : ℕ) (before after : Seen) (old new : World) (t : CloudState) (r : Reply) → before.state ≡ Some t → SomeBookStands (session_at old.sessions) t
+    → (asked : Asked) → asked ≡ Settle → (answers : Answers n asked before after old new (Ok r)) → AsksRightly n asked before after old new r answers
+asked_right n before after old new t r told stands Settle is answers =
+    let sound = settling_sound n before after old new r t told stands answers in
+    let explains = settling_explains n before after old new r t told stands answers in
+    record { sound = sound; explains = explains; calm = λ each. settles_well [] n before after old new r (sound (standing [] 0).posture) answers each explains }
+asked_right n before after old new t r told stands (Session j request) is answers = absurd (cc (is))
+asked_right n before after old new t r told stands (Wait ticks) is answers = absurd (cc (is))
+asked_right n before after old new t r told stands (Report tree) is answers = absurd (cc (is))
+
+pub settling_right : (n : ℕ) (e : Event) (before after : Seen) (old new : World) (result : Result Reply WorldFault) → SettlingIsRight n e before after old new result
+settling_right n event.Settle before after old new (Ok r) = λ t told stands handled.
+    let right = asked_right n before after old new t r told stands handled.asked handled.asks handled.answers in
+    record { sound = right.sound; explains = right.explains; calm = right.calm }
+settling_right n e before after old new result = tt
 
 module _ (trees : TreesRun) (pages : PagesRun) (clients : RecoveriesRun) where
   settles_for : (n : ℕ) (e : Event) (before after : Seen) (old new : World) (result : Result Reply WorldFault) → SettlingEnds n e before after old new result
-  settles_for n event.Settle before after old new (Ok r) = λ lines t number told stands free handled each.
-      let calm = asked_calm lines n before after old new t r told stands free handled.asked handled.asks handled.answers each in
-      let well = (well_after n event.Settle before after old new (Ok r) lines t number told stands handled calm (rests_untroubled lines old t stands)).1 in
-      on r lines t told stands handled calm well
+  settles_for n event.Settle before after old new (Ok r) = λ t told stands free handled each.
+      let calm = asked_calm n before after old new t r told stands free handled.asked handled.asks handled.answers each in
+      let right = asked_right n before after old new t r told stands handled.asked handled.asks handled.answers in
+      on r t told stands handled calm (right.calm calm).1
     where
-      on : (q : Reply) (lines : List Line) (t : CloudState) → before.state ≡ Some t → WorldStands lines old t → (handled : Handled n event.Settle before after old new (Ok q))
+      on : (q : Reply) (t : CloudState) → before.state ≡ Some t → SomeBookStands (session_at old.sessions) t → (handled : Handled n event.Settle before after old new (Ok q))
           → EachStep StepIsCalm n event.Settle before after old new (Ok q) handled → SettlesWell q → AnswersSettled t after q
-      on (reply.Settled calls) lines t told stands handled calm well = asked_within trees pages clients lines n before after old new t calls told stands handled.asked handled.asks handled.answers calm
-      on (reply.NotSettled k) lines t told stands handled calm well = well
-      on q lines t told stands handled calm well = absurd well
+      on (reply.Settled calls) t told stands handled calm well = asked_within trees pages clients n before after old new t calls told stands handled.asked handled.asks handled.answers calm
+      on (reply.NotSettled k) t told stands handled calm well = well
+      on q t told stands handled calm well = absurd well
   settles_for n e before after old new result = tt
 
 pub settling_leaves : (n : ℕ) (e : Event) (before after : Seen) (old new : World) (result : Result Reply WorldFault) → SettlingLeaves n e before after old new result

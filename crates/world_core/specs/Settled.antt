@@ -1,5 +1,5 @@
--- What a settling leaves where nobody else acts, which is so within its line, and how many calls it makes at most.
-use Rattle.std.specs.Prelude.{ℕ, ◌≡◌, ◌≢◌, ◌≤◌, ◌+◌, List, [], length, Some, Result, Ok}
+-- What a settling leaves where nobody else acts, which is so within its line, and how many calls it makes at most: over whatever cloud runs left.
+use Rattle.std.specs.Prelude.{ℕ, ◌≡◌, ◌≢◌, ◌≤◌, List, [], Some, Result, Ok}
 use Rattle.calm_calls.specs.Calm.{NamesLasting}
 use Rattle.client_work.specs.Session.{Acting, StepsSession, ask_of_work}
 use Rattle.client_work.specs.declared.answer.Answer.{Answer}
@@ -15,19 +15,22 @@ use Rattle.db_base.specs.declared.names.Lock.{Lock}
 use Rattle.db_base.specs.declared.names.QueueName.TheVariants as queue
 use Rattle.event_text.specs.declared.event.Event.{Event}
 use Rattle.event_text.specs.declared.event.Event.TheVariants as event
-use Rattle.replay_meaning.specs.Standing.{Line}
+use Rattle.replay_meaning.specs.Standing.{Posture}
 use Rattle.reply_text.specs.declared.reply.Reply.{Reply}
 use Rattle.reply_text.specs.declared.reply.Reply.TheVariants as reply
 use Rattle.report_types.specs.declared.entry.Entry.{Entry}
+use Rattle.session_facts.specs.Answers.{IsSoundReply}
+use Rattle.session_facts.specs.Facts.{session_at, SomeBookStands}
 use Rattle.session_facts.specs.Sessions.Calls.{reply_of}
 use Rattle.session_facts.specs.Sessions.Explaining.{ReceivesLate}
 use Rattle.session_facts.specs.Sessions.Sessions.{leases_of}
-use Rattle.session_facts.specs.Sessions.Untroubled.{IsSpent}
+use Rattle.session_facts.specs.Sessions.Untroubled.{IsSpent, IsUntroubled}
 use Rattle.session_facts.specs.Settled.Bound.{IsWithin}
 use Rattle.world_audit.specs.Counts.{heads_upto, AreWaiting}
+use Rattle.world_core.specs.Calm.{StepIsCalm, SettlesWell, work_at}
 use Rattle.world_core.specs.EachStep.{StepFact, EachStep}
+use Rattle.world_core.specs.Explained.{StepExplains}
 use Rattle.world_core.specs.Handled.{Handled}
-use Rattle.world_core.specs.Stands.{WorldStands}
 use Rattle.world_core.specs.World.{World}
 use Rattle.world_core.specs.declared.world.WorldFault.{WorldFault}
 
@@ -93,16 +96,28 @@ AnswersSettled t after (reply.Settled calls) = SettledWithin t after calls
 AnswersSettled t after (reply.NotSettled k) = IsSpent k
 AnswersSettled t after r = ⊥
 
--- Whatever lines a world and a cloud stood for before a settling, however it was handled: where in no step a message was withheld a settling that
--- came to its end left nothing; and where no lock was held and every step went well it came to its end so.
+-- It shows no trouble that only damage could cause, each of its steps explains what it brought, and where each was calm it comes to its end.
+pub record SettlesRightly (n : ℕ) (before after : Seen) (old new : World) (r : Reply) (handled : Handled n event.Settle before after old new (Ok r)) : Type 0 where
+  pub sound : (posture : Posture) → IsSoundReply posture r
+  pub explains : EachStep StepExplains n event.Settle before after old new (Ok r) handled
+  pub calm : EachStep StepIsCalm n event.Settle before after old new (Ok r) handled → IsUntroubled (work_at new 0) × SettlesWell r
+
+-- Whatever lines led to a world and a cloud for which some book stands before a settling, however it was handled: where in no step a message was
+-- withheld a settling that came to its end left nothing; where no lock was held and every step went well it came to its end so; and it was right.
 abbrev pub SettlingLeaves : ℕ → Event → Seen → Seen → World → World → Result Reply WorldFault → Type 0
 SettlingLeaves n event.Settle before after old new (Ok (reply.Settled calls)) =
-    (lines : List Line) (t : CloudState) → length lines + 1 ≡ n → before.state ≡ Some t → WorldStands lines old t
+    (t : CloudState) → before.state ≡ Some t → SomeBookStands (session_at old.sessions) t
     → (handled : Handled n event.Settle before after old new (Ok (reply.Settled calls))) → SettledLeaves n calls before after old new handled
 SettlingLeaves n event before after old new result = Unit {0}
 
 abbrev pub SettlingEnds : ℕ → Event → Seen → Seen → World → World → Result Reply WorldFault → Type 0
 SettlingEnds n event.Settle before after old new (Ok r) =
-    (lines : List Line) (t : CloudState) → length lines + 1 ≡ n → before.state ≡ Some t → WorldStands lines old t → NoLockHeld t
+    (t : CloudState) → before.state ≡ Some t → SomeBookStands (session_at old.sessions) t → NoLockHeld t
     → (handled : Handled n event.Settle before after old new (Ok r)) → EachStep StepGoesWell n event.Settle before after old new (Ok r) handled → AnswersSettled t after r
 SettlingEnds n event before after old new result = Unit {0}
+
+abbrev pub SettlingIsRight : ℕ → Event → Seen → Seen → World → World → Result Reply WorldFault → Type 0
+SettlingIsRight n event.Settle before after old new (Ok r) =
+    (t : CloudState) → before.state ≡ Some t → SomeBookStands (session_at old.sessions) t
+    → (handled : Handled n event.Settle before after old new (Ok r)) → SettlesRightly n before after old new r handled
+SettlingIsRight n event before after old new result = Unit {0}

@@ -10,7 +10,7 @@ use Rattle.reply_text.specs.declared.reply.Reply.TheVariants as reply
 use Rattle.world_audit.specs.Counts.{heads_upto, AreWaiting}
 use Rattle.replay_meaning.specs.Standing.{Line}
 use Rattle.replay_meaning.specs.Right.{ReportIsRight}
-use Rattle.session_facts.specs.Facts.{session_at, Stands}
+use Rattle.session_facts.specs.Facts.{session_at, Stands, SomeBookStands}
 use Rattle.world_core.specs.World.{World}
 use Rattle.world_core.specs.declared.world.WorldFault.{WorldFault}
 
@@ -41,6 +41,13 @@ StandsOn n event before after old new (Ok reply) =
     (lines : List Line) (t : CloudState) → length lines + 1 ≡ n → before.state ≡ Some t → WorldStands lines old t
     → StandsFor (lines ++ record { event = event; reply = reply } ∷ []) new after reply
 StandsOn n event before after old new (Err fault) = Unit {0}
+
+-- whatever lines led to a world and a cloud for which some book stands, one does behind a line
+abbrev pub KeepsABook : Seen → Seen → World → World → Result Reply WorldFault → Type 0
+KeepsABook before after old new (Ok reply) =
+    (t : CloudState) → before.state ≡ Some t → SomeBookStands (session_at old.sessions) t
+    → (u : CloudState) × (after.state ≡ Some u) × SomeBookStands (session_at new.sessions) u
+KeepsABook before after old new (Err fault) = Unit {0}
 
 -- up to every earlier line nothing has changed that the cloud tells
 abbrev pub Grows : ℕ → Seen → Seen → Type 0

@@ -74,8 +74,8 @@ impl<S: SessionCalls> World<S> {
     ghost use Rattle.world_core.specs.Explained.{ExplainsSteps};
     ghost use Rattle.world_core.specs.Calm.{AnswersWell};
     ghost use Rattle.world_core.specs.Bounded.{MakesFewCalls};
-    ghost use Rattle.world_core.specs.Settled.{SettlingEnds, SettlingLeaves};
-    ghost use Rattle.world_core.specs.Stands.{WorldStands, StandsOn};
+    ghost use Rattle.world_core.specs.Settled.{SettlingEnds, SettlingIsRight, SettlingLeaves};
+    ghost use Rattle.world_core.specs.Stands.{KeepsABook, WorldStands, StandsOn};
     ghost use Rattle.world_core.specs.Sessions.{Changes, IsNotWorking, IsAtWork, HasPut};
     ghost use Rattle.world_core.specs.Handled.{Handled, Answers, Does, BeginsOp, NotesChange, DropsChanges, MakesStep, ComesTo, Runs, Settles, SettlesOn, Has, Crashes, CrashesDone, StepsLooked, Reports};
 
@@ -113,6 +113,8 @@ impl<S: SessionCalls> World<S> {
         ensures bounded { MakesFewCalls n event.now (C.seen cloud.old) (C.seen cloud.new) self.old self.new result }
         ensures settled { SettlingLeaves n event.now (C.seen cloud.old) (C.seen cloud.new) self.old self.new result }
         ensures settles { SettlingEnds n event.now (C.seen cloud.old) (C.seen cloud.new) self.old self.new result }
+        ensures settling { SettlingIsRight n event.now (C.seen cloud.old) (C.seen cloud.new) self.old self.new result }
+        ensures keeps { KeepsABook (C.seen cloud.old) (C.seen cloud.new) self.old self.new result }
         ensures grows { Grows n (C.seen cloud.old) (C.seen cloud.new) }
     {
         self.handle(alloc, cloud, n, event)

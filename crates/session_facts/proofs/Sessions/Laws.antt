@@ -10,6 +10,7 @@ use Rattle.cloud_facts.specs.Calls.Acting.{HasLeaseOf, Setting, Outcome, Handles
 use Rattle.cloud_facts.specs.Calls.Call.{IsCall}
 use Rattle.cloud_facts.specs.Calls.Looks.{has_landed, audit_of}
 use Rattle.cloud_facts.specs.Calls.Others.{IsOfPart, NoneJoins}
+use Rattle.cloud_facts.specs.Calls.Standing.{StandsUnder}
 use Rattle.cloud_trait.specs.declared.answer.Answer.{Answer as Reply}
 use Rattle.cloud_trait.specs.declared.state.Hold.{Hold}
 use Rattle.cloud_trait.specs.Ask.{Ask, Get, GetHeld, PutHeld, Send, Receive, Delete, Take, Renew, Release}
@@ -267,19 +268,24 @@ same_sessions book order s f g same = subst (SessionsStand book order s) (sym al
     alike : g ≡ f
     alike = λ i n. same n i
 
--- ---- the beginning
+-- ---- with no session
 
-pub starts : (s : CloudState) → IsEmptyCloud s → SessionsStand empty_book [] s (λ n. closed_session)
-starts s empty = record {
-  cloud = empty_stands s empty;
+-- a cloud that stands does so with all sessions closed
+pub none_open : (book : Book) (order : List Entry) (s : CloudState) → StandsUnder book order s → SessionsStand book order s (λ n. closed_session)
+none_open book order s cloud = record {
+  cloud = cloud;
   leases = record {
     each = λ n l holds. absurd (in_none [] l refl holds);
     apart = λ n u l m ne one two e. in_none [] l refl one;
   };
   parts = λ n. Away;
-  homes = none_home (store_of empty_book [] s).tally s.now;
-  each = λ n. record { work = refl; kept = empty_knows (store_of empty_book [] s); buffer = may_none };
+  homes = none_home (store_of book order s).tally s.now;
+  each = λ n. record { work = refl; kept = empty_knows (store_of book order s); buffer = may_none };
 }
+
+-- at the beginning
+pub starts : (s : CloudState) → IsEmptyCloud s → SessionsStand empty_book [] s (λ n. closed_session)
+starts s empty = none_open empty_book [] s (empty_stands s empty)
 
 -- ---- at a report
 

@@ -2,7 +2,8 @@ use Rattle.world_core.proofs.EveryLine.{stands_after}
 use Rattle.world_core.proofs.Bounded.{few_calls}
 use Rattle.world_core.proofs.Calm.{well_after}
 use Rattle.world_core.proofs.Explained.{explained}
-use Rattle.world_core.proofs.Settled.{settling_ends, settling_leaves}
+use Rattle.world_core.proofs.Keeping.{keeps_book}
+use Rattle.world_core.proofs.Settled.{settling_ends, settling_leaves, settling_right}
 use Rattle.world_core.proofs.Sound.{sound_after}
 use Rattle.world_core.proofs.Acknowledged.{durable_after}
 use Rattle.world_core.proofs.world.World.event.Goals as goal
@@ -30,3 +31,9 @@ returns-clause-settled g c = settling_leaves _ _ _ _ _ _ _
 
 pub returns-clause-settles : goal.returns-clause-settles
 returns-clause-settles g c = settling_ends _ _ _ _ _ _ _
+
+pub returns-clause-settling : goal.returns-clause-settling
+returns-clause-settling g c = settling_right _ _ _ _ _ _ _
+
+pub returns-clause-keeps : goal.returns-clause-keeps
+returns-clause-keeps g c = keeps_book _ _ _ _ _ _ _ c.handle.ensures.handled

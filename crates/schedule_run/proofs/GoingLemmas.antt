@@ -27,6 +27,7 @@ use Rattle.world_core.proofs.StartLemmas.{new_stands}
 use Rattle.schedule_run.specs.declared.replay.LineFault.{LineFault}
 use Rattle.schedule_run.specs.declared.replay.LineFault.TheVariants.{BadLine, WriteFault, Memory}
 use Rattle.schedule_run.specs.Answered.{IsNew, WentOn, start, further, AreAnswered, AreExplained, ReportsAreRight, RepliesAreSound, ActsByTheLines, AcknowledgedStay, KeepsTheTheorem}
+use Rattle.schedule_run.proofs.BehindLemmas.{lines_left, lines_settled}
 use Rattle.schedule_run.proofs.SoundLemmas.{get_before, take_whole, went_soundly, went_explained}
 use Rattle.schedule_run.proofs.StayLemmas.{stay_upto, went_stay}
 use Rattle.run_text.specs.Written.{reply_line, replies_from, replies, bad_line}
@@ -214,6 +215,8 @@ answered texts w v s t first world fresh h = record {
   last = world;
   went = h.went;
   explained = λ x told empty. lines_explained h.lines s t first world x h.went fresh told empty;
+  settled = lines_settled h.lines s t first world h.went fresh;
+  left = lines_left h.lines s t first world h.went fresh;
 }
 
 pub at_end : (text rest : List ℕ) (n : ℕ) (w v : Told) (s t : Seen) (first world : World) → IsNew first
@@ -310,6 +313,8 @@ with_answer {text} {rest} {behind} {line} {n} {m} {w} {v} {s} {t} {z} {first} {o
       last = new;
       went = went;
       explained = λ x told empty. lines_explained (met.is.handles.lines ++ one ∷ []) s z first new x went met.fresh told empty;
+      settled = lines_settled (met.is.handles.lines ++ one ∷ []) s z first new went met.fresh;
+      left = lines_left (met.is.handles.lines ++ one ∷ []) s z first new went met.fresh;
     }
 
 -- the run ends behind a text that has a reply

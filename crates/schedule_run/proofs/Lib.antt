@@ -1,4 +1,5 @@
 pub mod SoundLemmas
+pub mod BehindLemmas
 pub mod StayLemmas
 pub mod WriteLemmas
 pub mod GoingLemmas

@@ -23,6 +23,7 @@ use Rattle.world_core.specs.Stands.{StandsOn, Grows}
 use Rattle.schedule_run.specs.InPlay.{Play}
 use Rattle.schedule_run.specs.Answered.{IsNew, WentOn, start, further, KeepsTheTheorem}
 use Rattle.schedule_run.specs.Play.{IsFresh, IsNext, RanOut, uncounted, no_answer, Takes, answered_run, stops_run, RunsWhole, Played, StoppedAt, stopped_before, stopped_within}
+use Rattle.schedule_run.proofs.BehindLemmas.{lines_left, lines_settled}
 use Rattle.schedule_run.proofs.GoingLemmas.{stands_more, fresh_stands, replies_sound, lines_explained, report_same, acts_upto, acknowledged_stay}
 use Rattle.schedule_run.proofs.StayLemmas.{stay_upto}
 
@@ -45,6 +46,8 @@ played_nothing s play fresh = record {
   fresh = fresh.world;
   went = start;
   kinds = λ t told. fresh_adds s play.world t told fresh.world;
+  settled = λ t told runs. tt;
+  left = lines_left [] s s play.world play.world start fresh.world;
   stands = λ t told empty. (
     t,
     told,
@@ -69,6 +72,8 @@ played_more lines event reply s t z old new p n =
       fresh = p.fresh;
       went = went;
       kinds = λ x told. handled_adds new.handled event t z old.world new.world reply lines x (omega arith) n.handled (p.kinds x told);
+      settled = lines_settled (lines ++ line ∷ []) s z p.first new.world went p.fresh;
+      left = lines_left (lines ++ line ∷ []) s z p.first new.world went p.fresh;
       stands = λ x told empty.
           let o = p.stands x told empty in
           let f = stands_more lines line new.handled t z old.world new.world (omega arith) n.stands n.grows o.0 o.1 o.2 o.3 in (
@@ -111,6 +116,8 @@ stopped_at lines event s t z old new p (no_answer handled grows) =
         last = old.world;
         went = p.went;
         explained = λ x told empty. lines_explained lines s t p.first old.world x p.went p.fresh told empty;
+        settled = p.settled;
+        left = p.left;
       };
       last = new.world;
       handled = subst (λ j. Handled j event t z old.world new.world (Err world.Memory)) at handled;

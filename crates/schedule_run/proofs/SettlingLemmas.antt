@@ -1,5 +1,5 @@
 -- The end of a settling.
-use Rattle.std.proofs.Common.{◌≡◌, ◌≤◌, ◌-◌, ◌∙◌, ℕ, List, [], ◌∷◌, take, Some, Result, Bool, true, false, Ok, Err, if◌then◌else◌, refl, sym, ap, subst, arith}
+use Rattle.std.proofs.Common.{◌≡◌, ◌≤◌, ◌-◌, ◌+◌, ◌∙◌, ℕ, List, [], ◌∷◌, take, Some, Result, Bool, true, false, Ok, Err, if◌then◌else◌, refl, sym, ap, subst, arith}
 use Rattle.std.specs.Prelude.{slice_get}
 use Rattle.std.proofs.lemmas.List.{append_cancel_left}
 use Rattle.cloud_trait.specs.Seen.{Seen}
@@ -18,11 +18,13 @@ use Rattle.replay_meaning.specs.Standing.{Line, Closed, Working, Committing, sta
 use Rattle.session_facts.specs.Added.{AddsKinds, AddsTo}
 use Rattle.session_facts.proofs.Once.{at_place}
 use Rattle.reply_text.specs.declared.reply.Reply.{Reply}
+use Rattle.schedule_run.proofs.BehindLemmas.{new_on_book, settles_so}
 use Rattle.schedule_run.specs.InPlay.{Play}
 use Rattle.schedule_run.specs.declared.settling.SettleFault.TheVariants.{NotSettled}
 use Rattle.schedule_run.specs.Play.{IsFresh, IsNext, RanOut, Played, StoppedAt}
 use Rattle.schedule_run.specs.Settling.{is_settled, settled_by, settle_end_of, OpensNothing, WasSettled, ShowsSettling, out_writing, SettleEnded}
 use Rattle.run_text.specs.Written.{reply_line}
+use Rattle.world_core.specs.Handled.{Handled}
 use Rattle.txn_buffer.specs.Noted.{Noted}
 use Rattle.schedule_run.proofs.PlayLemmas.{played_nothing, played_more, stopped_at}
 
@@ -74,7 +76,19 @@ settled_opens line s t play p x u added from to rows place row client head there
 pub was_settled : (reply : Reply) (s t : Seen) (old new : Play) → IsFresh old → IsNext Settle reply s t old new → WasSettled reply s t
 was_settled reply s t old new fresh next =
     let played = played_more [] Settle reply s s t old new (played_nothing s old fresh) next in
-    record { play = new; played = played; opens = settled_opens (record { event = Settle; reply = reply }) s t new played }
+    let none : old.handled ≡ 0 = fresh.none in
+    let count : new.handled ≡ old.handled + 1 = next.count in
+    let first : new.handled ≡ 1 = omega arith in
+    let handled : Handled 1 Settle s t old.world new.world (Ok reply) = subst (λ (n : ℕ). Handled n Settle s t old.world new.world (Ok reply)) first next.handled in
+    record {
+      play = new;
+      played = played;
+      first = old.world;
+      fresh = fresh.world;
+      handled = handled;
+      settles = λ x told runs. settles_so [] Settle reply s t old.world new.world x told (new_on_book old.world x fresh.world runs) handled;
+      opens = settled_opens (record { event = Settle; reply = reply }) s t new played;
+    }
 
 -- a settling ends as its reply says
 pub settle_end : (reply : Reply) (w u : Told) (s t : Seen) → ShowsSettling reply w u s t → SettleEnded (settled_by reply) w u s t

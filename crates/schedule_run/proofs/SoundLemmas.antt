@@ -12,6 +12,8 @@ use Rattle.event_text.specs.declared.event.Event.TheVariants as event
 use Rattle.replay_meaning.specs.Standing.{Line}
 use Rattle.reply_text.specs.declared.reply.Reply.{Reply}
 use Rattle.reply_text.specs.declared.reply.Reply.TheVariants as reply
+use Rattle.session_facts.proofs.BookLemmas.{book_of}
+use Rattle.session_facts.specs.Facts.{session_at, SomeBookStands}
 use Rattle.world_core.specs.World.{World}
 use Rattle.world_core.specs.Handled.{Handled}
 use Rattle.world_core.specs.Settled.{SettlingLeaves, SettlingEnds}
@@ -78,21 +80,31 @@ went_soundly before old t lines after new (further earlier line mid _ world _ we
       sound = each_more IsSoundLine earlier line o.sound q;
     }
 
--- what a settling among them left, and how it ended
-leaves_so : (n : ℕ) (e : Event) (before after : Seen) (old new : World) (r : Reply) → SettlingLeaves n e before after old new (Ok r)
-    → (lines : List Line) (t : CloudState) → length lines + 1 ≡ n → before.state ≡ Some t → WorldStands lines old t
-    → (handled : Handled n e before after old new (Ok r)) → LeavesSo n e before after old new r handled
-leaves_so n event.Settle before after old new (reply.Settled calls) law lines t number told stands handled = law lines t number told stands handled
-leaves_so n e before after old new r law lines t number told stands handled = tt
+-- some book stands where lines do
+on_book : (lines : List Line) (world : World) (t : CloudState) → WorldStands lines world t → SomeBookStands (session_at world.sessions) t
+on_book lines world t stands = book_of lines (session_at world.sessions) world.audit world.blind t stands
 
-ends_so : (n : ℕ) (e : Event) (before after : Seen) (old new : World) (r : Reply) → SettlingEnds n e before after old new (Ok r)
-    → (lines : List Line) (t : CloudState) → length lines + 1 ≡ n → before.state ≡ Some t → WorldStands lines old t
-    → (handled : Handled n e before after old new (Ok r)) → EndsSo t n e before after old new r handled
-ends_so n event.Settle before after old new r law lines t number told stands handled = λ free each. law lines t number told stands free handled each
-ends_so n e before after old new r law lines t number told stands handled = tt
+-- what a settling among them left, and how it ended
+pub leaves_so : (n : ℕ) (e : Event) (before after : Seen) (old new : World) (r : Reply) → SettlingLeaves n e before after old new (Ok r)
+    → (t : CloudState) → before.state ≡ Some t → SomeBookStands (session_at old.sessions) t → (handled : Handled n e before after old new (Ok r))
+    → LeavesSo n e before after old new r handled
+leaves_so n event.Settle before after old new (reply.Settled calls) law t told stands handled = law t told stands handled
+leaves_so n e before after old new r law t told stands handled = tt
+
+ends_here : (n : ℕ) (e : Event) (before after : Seen) (old new : World) (r : Reply) → SettlingEnds n e before after old new (Ok r)
+    → (t : CloudState) → before.state ≡ Some t → SomeBookStands (session_at old.sessions) t → (handled : Handled n e before after old new (Ok r))
+    → EndsSo t n e before after old new r handled
+ends_here n event.Settle before after old new r law t told stands handled = λ free each. law t told stands free handled each
+ends_here n e before after old new r law t told stands handled = tt
 
 pub same_some : {X : Type 0} (x y : X) → Some x ≡ Some y → x ≡ y
 same_some x y e = cc
+
+pub ends_so : (n : ℕ) (e : Event) (before after : Seen) (old new : World) (r : Reply) → SettlingEnds n e before after old new (Ok r)
+    → (t : CloudState) → before.state ≡ Some t → SomeBookStands (session_at old.sessions) t → (handled : Handled n e before after old new (Ok r))
+    → (s : CloudState) → before.state ≡ Some s → EndsSo s n e before after old new r handled
+ends_so n e before after old new r law t told stands handled s seen =
+    subst (λ x. EndsSo x n e before after old new r handled) (same_some t s (sym told ∙ seen)) (ends_here n e before after old new r law t told stands handled)
 
 -- and each of them explains itself
 pub went_explained : (before : Seen) (old : World) (t : CloudState) (lines : List Line) (after : Seen) (new : World) → (went : WentOn before old lines after new) → before.state ≡ Some t
@@ -107,11 +119,10 @@ went_explained before old t lines after new (further earlier line mid _ world _ 
         bounded = few_calls (length earlier + 1) line.event mid after world new (Ok line.reply) earlier o.state refl o.told o.stands handled;
         leaves =
             leaves_so (length earlier + 1) line.event mid after world new line.reply
-            (settling_leaves (length earlier + 1) line.event mid after world new (Ok line.reply)) earlier o.state refl o.told o.stands handled;
-        ends = λ t told_so.
-            subst (λ x. EndsSo x (length earlier + 1) line.event mid after world new line.reply handled) (same_some o.state t (sym o.told ∙ told_so))
-            (ends_so (length earlier + 1) line.event mid after world new line.reply
-            (settling_ends (length earlier + 1) line.event mid after world new (Ok line.reply)) earlier o.state refl o.told o.stands handled);
+            (settling_leaves (length earlier + 1) line.event mid after world new (Ok line.reply)) o.state o.told (on_book earlier world o.state o.stands) handled;
+        ends =
+            ends_so (length earlier + 1) line.event mid after world new line.reply
+            (settling_ends (length earlier + 1) line.event mid after world new (Ok line.reply)) o.state o.told (on_book earlier world o.state o.stands) handled;
         kept = λ u seen. durable_after (length earlier + 1) line.event mid after world new (Ok line.reply) handled earlier o.state u refl o.told o.stands seen;
       },
     )

@@ -1,5 +1,5 @@
 -- Lines that a world handles, one behind another.
-use Rattle.std.specs.Prelude.{ℕ, ◌≡◌, ◌+◌, ◌≤◌, false, List, [], ◌∷◌, ◌++◌, length, replicate, take, slice_get, Some, Ok, Err}
+use Rattle.std.specs.Prelude.{ℕ, ◌≡◌, ◌+◌, ◌≤◌, ◌⊎◌, false, List, [], ◌∷◌, ◌++◌, length, replicate, take, slice_get, Some, Ok, Err}
 use Rattle.client_work.specs.Session.{closed_session}
 use Rattle.cloud_trait.specs.State.{CloudState, IsEmptyCloud}
 use Rattle.cloud_trait.specs.Seen.{Seen}
@@ -14,6 +14,7 @@ use Rattle.replay_meaning.specs.Kinds.{KeepsKinds}
 use Rattle.replay_meaning.specs.Right.{ReportIsRight}
 use Rattle.report_types.specs.declared.entry.Entry.{Entry}
 use Rattle.session_facts.specs.Acknowledged.{IsKeptReply}
+use Rattle.session_facts.specs.Facts.{WasLeft}
 use Rattle.session_facts.specs.Sessions.Untroubled.{IsUntroubled}
 use Rattle.world_core.specs.World.{World}
 use Rattle.world_core.specs.declared.world.WorldFault.{WorldFault}
@@ -71,13 +72,40 @@ abbrev pub AreExplained : (before : Seen) (old : World) (lines : List Line) (aft
 AreExplained before old lines after new start = Unit {0}
 AreExplained before old _ after new (further lines line mid _ world _ went handled) = AreExplained before old lines mid world went × IsExplained lines line mid after world new handled
 
--- these lines were handled from a new world on; over a cloud that was empty and told its state each of them explains itself
+-- the reply to a line is sound by how the lines before it say that its session stood: it shows no trouble that only damage could cause
+abbrev pub IsSoundLine : List Line → Line → Type 0
+IsSoundLine before line = IsSoundFor line.event (standing before (session_of line.event)).posture line.reply
+
+-- a settling has a sound reply and explains itself; of other lines nothing is said
+abbrev pub SettlesSo : (lines : List Line) (event : Event) (r : Reply) (before after : Seen) (old new : World) → Handled (length lines + 1) event before after old new (Ok r) → Type 0
+SettlesSo lines event.Settle r before after old new handled =
+    IsSoundLine lines (record { event = event.Settle; reply = r }) × IsExplained lines (record { event = event.Settle; reply = r }) before after old new handled
+SettlesSo lines event r before after old new handled = Unit {0}
+
+-- and so does each settling of these lines
+abbrev pub AreSettled : (before : Seen) (old : World) (lines : List Line) (after : Seen) (new : World) → WentOn before old lines after new → Type 0
+AreSettled before old lines after new start = Unit {0}
+AreSettled before old _ after new (further lines line mid _ world _ went handled) =
+    AreSettled before old lines mid world went × SettlesSo lines line.event line.reply mid after world new handled
+
+-- a cloud that was empty, or that earlier runs left
+abbrev pub IsOfRuns : CloudState → Type 0
+IsOfRuns t = IsEmptyCloud t ⊎ WasLeft t
+
+-- over such a cloud that tells its state another one is left
+abbrev pub LeavesOne : Seen → Seen → Type 0
+LeavesOne before after = (t : CloudState) → before.state ≡ Some t → IsOfRuns t → (u : CloudState) × (after.state ≡ Some u) × WasLeft u
+
+-- these lines were handled from a new world on; over a cloud that was empty and told its state each of them explains itself, and over one that
+-- earlier runs left each settling among them does
 pub record AreAnswered (lines : List Line) (before after : Seen) : Type 0 where
   pub first : World
   pub fresh : IsNew first
   pub last : World
   pub went : WentOn before first lines after last
   pub explained : (t : CloudState) → before.state ≡ Some t → IsEmptyCloud t → AreExplained before first lines after last went
+  pub settled : (t : CloudState) → before.state ≡ Some t → IsOfRuns t → AreSettled before first lines after last went
+  pub left : LeavesOne before after
 
 -- behind these lines this event was handled, and has no reply, by this fault
 pub record IsUnanswered (lines : List Line) (event : Event) (fault : WorldFault) (before after : Seen) : Type 0 where
@@ -89,10 +117,6 @@ pub record IsUnanswered (lines : List Line) (event : Event) (fault : WorldFault)
 -- every report is right for the lines up to its own and the state up to its line
 abbrev pub ReportsAreRight : List Line → CloudState → Type 0
 ReportsAreRight lines t = (k : ℕ) (line : Line) → slice_get lines k ≡ Some line → ReportIsRight (take (k + 1) lines) (upto t (k + 1)) line.reply
-
--- the reply to a line is sound by how the lines before it say that its session stood: it shows no trouble that only damage could cause
-abbrev pub IsSoundLine : List Line → Line → Type 0
-IsSoundLine before line = IsSoundFor line.event (standing before (session_of line.event)).posture line.reply
 
 abbrev pub RepliesAreSound : List Line → Type 0
 RepliesAreSound lines = (k : ℕ) (line : Line) → slice_get lines k ≡ Some line → IsSoundLine (take k lines) line

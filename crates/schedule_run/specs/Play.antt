@@ -15,7 +15,7 @@ use Rattle.session_facts.specs.Added.{AddsTo}
 use Rattle.world_core.specs.Added.{WorldAdds}
 use Rattle.world_core.specs.Stands.{WorldStands, StandsOn, Grows}
 use Rattle.schedule_run.specs.InPlay.{Play}
-use Rattle.schedule_run.specs.Answered.{IsNew, WentOn, IsUnanswered, ReportsAreRight, AcknowledgedStay, KeepsTheTheorem}
+use Rattle.schedule_run.specs.Answered.{IsNew, WentOn, AreSettled, IsOfRuns, LeavesOne, IsUnanswered, ReportsAreRight, AcknowledgedStay, KeepsTheTheorem}
 
 -- a new world that has handled nothing
 pub record IsFresh (play : Play) : Type 0 where
@@ -62,13 +62,16 @@ RunsWhole event (Err fault) before after old new = StopsRun event before after o
 -- ---- lines from a new world on
 
 -- these lines were handled from a new world on; over any cloud that tells its state each row that they added is of a kind that its session's standing
--- by them allows, and over one that was empty all stands for them, every report is right, and what they acknowledged stays committed
+-- by them allows, over one that earlier runs left each settling among them explains itself and another one is left, and over one that was empty all
+-- stands for them, every report is right, and what they acknowledged stays committed
 pub record Played (lines : List Line) (start now : Seen) (play : Play) : Type 0 where
   pub count : play.handled ≡ length lines
   pub first : World
   pub fresh : IsNew first
   pub went : WentOn start first lines now play.world
   pub kinds : (t : CloudState) → start.state ≡ Some t → WorldAdds lines t play.world now
+  pub settled : (t : CloudState) → start.state ≡ Some t → IsOfRuns t → AreSettled start first lines now play.world went
+  pub left : LeavesOne start now
   pub stands : (t : CloudState) → start.state ≡ Some t → IsEmptyCloud t
       → (u : CloudState) × (now.state ≡ Some u) × WorldStands lines play.world u × ReportsAreRight lines u × AcknowledgedStay lines u
 

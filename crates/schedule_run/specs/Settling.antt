@@ -11,11 +11,14 @@ use Rattle.line_io.specs.declared.output.OutputFault.TheVariants as output
 use Rattle.replay_meaning.specs.Kinds.{LandsOpen}
 use Rattle.reply_text.specs.declared.reply.Reply.{Reply}
 use Rattle.reply_text.specs.declared.reply.Reply.TheVariants.{Settled}
+use Rattle.schedule_run.specs.Answered.{IsNew, IsOfRuns, SettlesSo}
 use Rattle.schedule_run.specs.InPlay.{Play}
 use Rattle.schedule_run.specs.declared.settling.SettleFault.{SettleFault}
 use Rattle.schedule_run.specs.declared.settling.SettleFault.TheVariants.{NotSettled, WriteFault, Memory}
 use Rattle.schedule_run.specs.Play.{Played, StoppedAt}
 use Rattle.run_text.specs.Written.{NothingRan, reply_line}
+use Rattle.world_core.specs.Handled.{Handled}
+use Rattle.world_core.specs.World.{World}
 
 -- a reply says that the settling is done
 abbrev pub is_settled : Reply → Bool
@@ -28,10 +31,14 @@ OpensNothing start now =
     (t u : CloudState) (added : List Landing) → start.state ≡ Some t → now.state ≡ Some u → u.trace ≡ t.trace ++ added
     → (place : ℕ) (row : Landing) (client : ℕ) (head : Head) → slice_get added place ≡ Some row → LandsOpen u row client head → ⊥
 
--- the one line `settle` was handled in a new world, and has this reply
+-- the one line `settle` was handled in a new world, and has this reply; over a cloud that earlier runs left, that is sound and explains itself
 pub record WasSettled (reply : Reply) (start now : Seen) : Type 0 where
   pub play : Play
   pub played : Played (record { event = Settle; reply = reply } ∷ []) start now play
+  pub first : World
+  pub fresh : IsNew first
+  pub handled : Handled 1 Settle start now first play.world (Ok reply)
+  pub settles : (t : CloudState) → start.state ≡ Some t → IsOfRuns t → SettlesSo [] Settle reply start now first play.world handled
   pub opens : OpensNothing start now
 
 -- it is written under number 1

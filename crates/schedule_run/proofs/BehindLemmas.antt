@@ -1,0 +1,123 @@
+-- What runs leave, and settlings among them, over whatever cloud earlier runs left.
+use Rattle.std.proofs.Common.{◌≡◌, ◌+◌, ◌⊎◌, ℕ, List, [], ◌∷◌, length, Some, Result, Ok, refl, sym, ap, subst, ◌∙◌, inl, inr}
+use Rattle.client_work.specs.Session.{Acting, closed_session}
+use Rattle.client_work.specs.declared.answer.Answer.{Answer}
+use Rattle.client_work.specs.declared.answer.Answer.TheVariants as answer
+use Rattle.cloud_trait.specs.Seen.{Seen}
+use Rattle.cloud_trait.specs.State.{CloudState}
+use Rattle.db_base.specs.declared.trouble.Trouble.{Trouble}
+use Rattle.db_base.specs.declared.trouble.Trouble.TheVariants as trouble
+use Rattle.event_text.specs.declared.event.Event.{Event}
+use Rattle.event_text.specs.declared.event.Event.TheVariants as event
+use Rattle.replay_meaning.specs.Standing.{Line, Posture, standing}
+use Rattle.reply_text.specs.declared.reply.Reply.{Reply}
+use Rattle.reply_text.specs.declared.reply.Reply.TheVariants as reply
+use Rattle.report_types.specs.declared.entry.Entry.{Entry}
+use Rattle.session_facts.proofs.BookLemmas.{was_left, empty_left}
+use Rattle.session_facts.proofs.StartLemmas.{closed_at}
+use Rattle.session_facts.specs.Acknowledged.{IsKeptReply}
+use Rattle.session_facts.specs.Facts.{session_at, SomeBookStands, WasLeft}
+use Rattle.session_facts.specs.Sessions.Sessions.{Sessions}
+use Rattle.world_core.proofs.Keeping.{keeps_book}
+use Rattle.world_core.proofs.Settled.{settling_leaves, settling_ends, settling_right}
+use Rattle.world_core.proofs.StandsLemmas.{no_memory}
+use Rattle.world_core.specs.Bounded.{AnswersSoon}
+use Rattle.world_core.specs.Handled.{SettlesOn, Settles as SettlesLine, Answers, Handled}
+use Rattle.world_core.specs.Replying.{RepliesSettled, unsettled_reply}
+use Rattle.world_core.specs.World.{World}
+use Rattle.world_core.specs.declared.asked.Asked.{Asked}
+use Rattle.world_core.specs.declared.asked.Asked.TheVariants.{Session, Wait, Report, Settle}
+use Rattle.world_core.specs.declared.world.WorldFault.{WorldFault}
+use Rattle.schedule_run.proofs.SoundLemmas.{leaves_so, ends_so}
+use Rattle.schedule_run.specs.Answered.{IsNew, WentOn, start, further, SettlesSo, AreSettled, IsOfRuns, LeavesOne}
+
+-- ---- the beginning
+
+left_by_runs : (t : CloudState) → IsOfRuns t → WasLeft t
+left_by_runs t (inl empty) = empty_left t empty
+left_by_runs t (inr left) = left
+
+-- a new world stands over what runs left
+pub new_on_book : (world : World) (t : CloudState) → IsNew world → IsOfRuns t → SomeBookStands (session_at world.sessions) t
+new_on_book world t fresh runs = subst (λ (f : Sessions). SomeBookStands f t) (sym alike) (left_by_runs t runs)
+  where
+    closed : (n : ℕ) → session_at world.sessions n ≡ closed_session
+    closed n = ap (λ (l : List Acting). session_at l n) fresh.sessions ∙ closed_at 17 n
+
+    alike : session_at world.sessions ≡ (λ n. closed_session)
+    alike = λ i n. closed n i
+
+-- ---- a settling
+
+-- no run is a settling
+no_run : (n : ℕ) (asked : Asked) (before after : Seen) (old new : World) (result : Result Reply WorldFault) → asked ≡ Settle → (answers : Answers n asked before after old new result)
+    → AnswersSoon n asked before after old new result answers
+no_run n Settle before after old new result is answers = tt
+no_run n (Session k request) before after old new result is answers = absurd (cc (is))
+no_run n (Wait ticks) before after old new result is answers = tt
+no_run n (Report tree) before after old new result is answers = tt
+
+-- its reply acknowledges nothing
+unsettled_keeps : (entries : List Entry) (client : ℕ) (posture : Posture) (r : Reply) (q : Trouble) → (let result : Result Reply WorldFault = Ok r in result ≡ unsettled_reply q)
+    → IsKeptReply entries client posture r
+unsettled_keeps entries client posture r trouble.Memory e = absurd (cc (e))
+unsettled_keeps entries client posture r q e = let is : r ≡ reply.NotSettled q = cc (e) in subst (IsKeptReply entries client posture) (sym is) tt
+
+settled_keeps : (entries : List Entry) (client : ℕ) (posture : Posture) (n : ℕ) (before after : Seen) (old new : World) (r : Reply) → SettlesLine n before after old new (Ok r)
+    → IsKeptReply entries client posture r
+settled_keeps entries client posture n before after old new r (inr memory) = absurd (no_memory r memory)
+settled_keeps entries client posture n before after old new r (inl h) = by_end h.settles
+  where
+    replied : (a : Answer) → RepliesSettled a (Ok r) → IsKeptReply entries client posture r
+    replied (answer.Settled x) e = let is : r ≡ reply.Settled x.calls = cc (e) in subst (IsKeptReply entries client posture) (sym is) tt
+    replied (answer.Trouble q) e = unsettled_keeps entries client posture r q e
+    replied a e = absurd e
+
+    by_end : SettlesOn (record { session = 0; event = n }) before after h.begun new (Ok r) → IsKeptReply entries client posture r
+    by_end (inr memory) = absurd (no_memory r memory)
+    by_end (inl s) = replied s.answer s.replies
+
+pub settles_so : (lines : List Line) (e : Event) (r : Reply) (before after : Seen) (old new : World) (t : CloudState) → before.state ≡ Some t → SomeBookStands (session_at old.sessions) t
+    → (handled : Handled (length lines + 1) e before after old new (Ok r)) → SettlesSo lines e r before after old new handled
+settles_so lines event.Settle r before after old new t told stands handled =
+    let right = settling_right (length lines + 1) event.Settle before after old new (Ok r) t told stands handled in (
+      right.sound (standing lines 0).posture,
+      record {
+        explains = right.explains;
+        calm = λ each well. right.calm each;
+        bounded = no_run (length lines + 1) handled.asked before after old new (Ok r) handled.asks handled.answers;
+        leaves = leaves_so (length lines + 1) event.Settle before after old new r (settling_leaves (length lines + 1) event.Settle before after old new (Ok r)) t told stands handled;
+        ends = ends_so (length lines + 1) event.Settle before after old new r (settling_ends (length lines + 1) event.Settle before after old new (Ok r)) t told stands handled;
+        kept = λ u seen.
+            settled_keeps _ (standing lines 0).client (standing lines 0).posture (length lines + 1) before after old new r
+            (subst (λ z. Answers (length lines + 1) z before after old new (Ok r)) handled.asks handled.answers);
+      },
+    )
+settles_so lines e r before after old new t told stands handled = tt
+
+-- ---- all lines
+
+went_left : (before : Seen) (old : World) (t : CloudState) (lines : List Line) (after : Seen) (new : World) → WentOn before old lines after new → before.state ≡ Some t
+    → SomeBookStands (session_at old.sessions) t → (u : CloudState) × (after.state ≡ Some u) × SomeBookStands (session_at new.sessions) u
+went_left before old t lines after new start told stands = (t, told, stands)
+went_left before old t lines after new (further earlier line mid _ world _ went handled) told stands =
+    let o = went_left before old t earlier mid world went told stands in
+    keeps_book (length earlier + 1) line.event mid after world new (Ok line.reply) handled o.0 o.1 o.2
+
+went_settled : (before : Seen) (old : World) (t : CloudState) (lines : List Line) (after : Seen) (new : World) → (went : WentOn before old lines after new) → before.state ≡ Some t
+    → SomeBookStands (session_at old.sessions) t → AreSettled before old lines after new went
+went_settled before old t lines after new start told stands = tt
+went_settled before old t lines after new (further earlier line mid _ world _ went handled) told stands =
+    let o = went_left before old t earlier mid world went told stands in
+    (went_settled before old t earlier mid world went told stands, settles_so earlier line.event line.reply mid after world new o.0 o.1 o.2 handled)
+
+-- ---- from a new world on
+
+pub lines_left : (lines : List Line) (s t : Seen) (first world : World) → WentOn s first lines t world → IsNew first → LeavesOne s t
+lines_left lines s t first world went fresh x told runs =
+    let o = went_left s first x lines t world went told (new_on_book first x fresh runs) in
+    (o.0, o.1, was_left (session_at world.sessions) o.0 o.2)
+
+pub lines_settled : (lines : List Line) (s t : Seen) (first world : World) → (went : WentOn s first lines t world) → IsNew first → (x : CloudState) → s.state ≡ Some x → IsOfRuns x
+    → AreSettled s first lines t world went
+lines_settled lines s t first world went fresh x told runs = went_settled s first x lines t world went told (new_on_book first x fresh runs)

@@ -1,20 +1,15 @@
 -- Laws of where a step leads.
 use Rattle.std.proofs.Common.{◌≡◌, ℕ, List, Option, Result, Ok, Err, refl, subst, ap, ◌∙◌}
-use Rattle.db_base.specs.Cursor.{number_of}
 use Rattle.db_base.specs.declared.trouble.Trouble.{Trouble}
 use Rattle.leaf_view.specs.Leaf.{Leaf}
-use Rattle.leaf_view.specs.Lookup.{AreNumbers}
 use Rattle.cloud_trait.specs.declared.answer.Answer.{Answer}
-use Rattle.cloud_trait.specs.declared.message.Message.{Message}
 use Rattle.cloud_trait.specs.declared.turn.CkptAnswer.{CkptAnswer}
 use Rattle.cloud_trait.specs.declared.turn.Turn.{Turn}
 use Rattle.cloud_trait.specs.declared.turn.Turn.TheVariants.{More, Ended, Stopped}
 use Rattle.cloud_trait.specs.Machine.{Goes, Ends, Stops, Took}
-use Rattle.ckpt_parts.specs.declared.intake.Intake.{Intake}
-use Rattle.ckpt_parts.specs.Intakes.{TakesIn}
 use Rattle.ckpt_parts.specs.Leaves.{HoldsLinked}
 use Rattle.page_ckpt.specs.declared.stage.Stage.TheVariants.{Receiving}
-use Rattle.page_ckpt.specs.Paging.{Paging, leaf_or_empty, found_home, stopping, own_queue, HoldsNamed, HomeGot, RightGot, RightRead, MessagesRead, IntakeTaken, Absorbs, PagingLeads, SameLeases, KeepsLeases, handed}
+use Rattle.page_ckpt.specs.Paging.{Paging, leaf_or_empty, found_home, stopping, HoldsNamed, HomeGot, RightGot, RightRead, Absorbs, PagingLeads, SameLeases, KeepsLeases, handed}
 
 -- the page that a get brought is kept
 pub home_took : (p : Paging) (got : Option (List ℕ)) (home : Option Leaf) → HoldsNamed p.tree p.page got (found_home (Ok home))
@@ -39,25 +34,6 @@ pub right_stopped : (p n : Paging) (a : Answer) (turn : Turn CkptAnswer) (got : 
     → HoldsLinked p.tree p.at.page p.at.low got (Err t)
     → Took (λ q x next. next ≡ stopping q t) SameLeases p a n turn → Took (λ q x next. RightGot q (Ok got) next) SameLeases p a n turn
 right_stopped p n a turn got t holds h = right_took p n a turn got (Err t) holds (right_stops p n a turn t h)
-
--- a step from what a receive brought is one from its messages
-pub messages_took : (p n : Paging) (a : Answer) (turn : Turn CkptAnswer) (ms : List Message) (cursor : List (ℕ × ℕ)) (taken : Result Intake Trouble)
-    → AreNumbers p.home.done p.page (number_of cursor) → TakesIn (own_queue p) cursor ms taken
-    → Took (λ q x next. IntakeTaken q taken next) SameLeases p a n turn → Took (λ q x next. MessagesRead q ms next) SameLeases p a n turn
-messages_took p n a More ms cursor taken own takes h = (cursor, own, (taken, takes, h))
-messages_took p n a (Ended x) ms cursor taken own takes h = (cursor, own, (taken, takes, h))
-messages_took p n a (Stopped t) ms cursor taken own takes h = (λ k. (cursor, own, (taken, takes, h.0 k)), h.1)
-
-intake_stops : (p n : Paging) (a : Answer) (turn : Turn CkptAnswer) (t : Trouble)
-    → Took (λ q x next. next ≡ stopping q t) SameLeases p a n turn → Took (λ q x next. IntakeTaken q (Err t) next) SameLeases p a n turn
-intake_stops p n a More t h = h
-intake_stops p n a (Ended x) t h = h
-intake_stops p n a (Stopped u) t h = h
-
-pub messages_stopped : (p n : Paging) (a : Answer) (turn : Turn CkptAnswer) (ms : List Message) (cursor : List (ℕ × ℕ)) (t : Trouble)
-    → AreNumbers p.home.done p.page (number_of cursor) → TakesIn (own_queue p) cursor ms (Err t)
-    → Took (λ q x next. next ≡ stopping q t) SameLeases p a n turn → Took (λ q x next. MessagesRead q ms next) SameLeases p a n turn
-messages_stopped p n a turn ms cursor t own takes h = messages_took p n a turn ms cursor (Err t) own takes (intake_stops p n a turn t h)
 
 -- a step of the machine without the lease that is given back is one of the machine with it
 pub took_handed : (old mid new : Paging) (a : Answer) (turn : Turn CkptAnswer) → mid ≡ handed old

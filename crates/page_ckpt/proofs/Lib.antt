@@ -1,9 +1,8 @@
 pub mod Leading
-pub mod Ending
-pub mod Standing
-pub mod Knowing
-pub mod Causing
-pub mod Resting
-pub mod Exactly
-pub mod Wellness
-pub mod Bringing
+pub mod Outcomes
+pub mod End
+pub mod Leases
+pub mod Meaning
+pub mod Causes
+pub mod Calm
+pub mod Demands

@@ -18,7 +18,7 @@ use Rattle.recover_run.specs.Recovery.{Recovery, recovery_next}
 use Rattle.recover_run.proofs.Standing.{stands_leases as recovery_leases, stands_names as recovery_names, stands_gives as recovery_gives}
 use Rattle.page_ckpt.specs.Paging.{Paging, PagingLeads}
 use Rattle.page_ckpt.specs.Standing.{Stands as PageStands}
-use Rattle.page_ckpt.proofs.Standing.{came_stands as page_stands, stands_names as page_names, stands_gives as page_gives}
+use Rattle.page_ckpt.proofs.Leases.{came_stands as page_stands, stands_names as page_names, stands_gives as page_gives}
 use Rattle.tree_ckpt.specs.Making.{Making, MakingLeads}
 use Rattle.tree_ckpt.specs.Standing.{Stands as TreeStands}
 use Rattle.tree_ckpt.proofs.Standing.{came_stands as tree_stands, stands_names as tree_names, stands_gives as tree_gives}

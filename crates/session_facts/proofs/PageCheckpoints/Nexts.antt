@@ -28,7 +28,7 @@ use Rattle.leaf_view.specs.Leaf.{Leaf}
 use Rattle.leaf_view.specs.Lookup.{AreNumbers, holds, number_of as done_number}
 use Rattle.log_codec.specs.declared.record.PuItem.{PuItem}
 use Rattle.cloud_facts.specs.Numbers.Numbers.{Numbers}
-use Rattle.page_ckpt.proofs.Resting.{NextRests, step_rests}
+use Rattle.page_ckpt.proofs.Calm.{NextRests, step_rests}
 use Rattle.page_ckpt.specs.Paging.{Paging, Step, PagingLeads, stopping, deleting_by, deleting, home_taken_by, HoldsNamed, HomeGot, home_read, own_queue, LeafPut, link_of, is_visited, to_right, GoesOn, RunStarted, with_intake, IntakeTaken, ReceivedBy, right_taken_by, RightLacks, RightRead, RightGot, without_right, without_onward, with_applied, right_put_by, home_put_by, went, deleted_by, finished_by, released_by}
 use Rattle.page_ckpt.specs.declared.link.Link.{Link as Found}
 use Rattle.page_ckpt.specs.declared.stage.Stage.{Stage}

@@ -23,7 +23,7 @@ use Rattle.db_base.specs.declared.names.QueueName.{QueueName}
 use Rattle.db_base.specs.declared.names.QueueName.TheVariants as queue
 use Rattle.leaf_view.specs.Leaf.{Leaf}
 use Rattle.leaf_view.specs.Lookup.{number_of as done_number}
-use Rattle.page_ckpt.proofs.Knowing.{went_knows, knows_done}
+use Rattle.page_ckpt.proofs.Meaning.{went_knows, knows_done}
 use Rattle.page_ckpt.specs.Meaning.{scene, opening_calls, failed_count, main_calls, IsDone}
 use Rattle.page_ckpt.specs.Paging.{Paging, paging_ask}
 use Rattle.page_ckpt.specs.Standing.{Went}

@@ -17,8 +17,8 @@ use Rattle.cloud_trait.specs.declared.answer.Answer.{Answer}
 use Rattle.cloud_trait.specs.declared.message.Message.{Message}
 use Rattle.db_base.specs.Ids.{IsTree}
 use Rattle.log_codec.specs.declared.record.PuItem.{PuItem}
-use Rattle.page_ckpt.proofs.Knowing.{KnowsAt, Knows, went_knows}
-use Rattle.page_ckpt.proofs.Standing.{went_stands, stands_few}
+use Rattle.page_ckpt.proofs.Meaning.{KnowsAt, Knows, went_knows}
+use Rattle.page_ckpt.proofs.Leases.{went_stands, stands_few}
 use Rattle.page_ckpt.specs.Meaning.{Calls, Scene, Opening, Visit, Works, Tried, scene, tried_before, one_more, one_less, went_count, failed_count, deletes_over, main_calls}
 use Rattle.page_ckpt.specs.Paging.{Paging, new_paging, went}
 use Rattle.page_ckpt.specs.Standing.{tries}

@@ -1,13 +1,11 @@
-use Rattle.page_ckpt.proofs.Bringing.{knows_brought}
-use Rattle.page_ckpt.proofs.Causing.{took_tells}
-use Rattle.page_ckpt.proofs.Ending.{took_less}
-use Rattle.page_ckpt.proofs.Exactly.{took_owes}
-use Rattle.page_ckpt.proofs.Resting.{went_quiet}
-use Rattle.page_ckpt.proofs.Wellness.{took_well}
+use Rattle.page_ckpt.proofs.Meaning.{went_knows, knows_done, knows_brought}
+use Rattle.page_ckpt.proofs.Causes.{took_tells}
+use Rattle.page_ckpt.proofs.End.{took_less}
+use Rattle.page_ckpt.proofs.Demands.{took_owes}
+use Rattle.page_ckpt.proofs.Calm.{went_quiet, took_well}
 use Rattle.calm_calls.proofs.CalmLemmas.{goes_well}
-use Rattle.page_ckpt.proofs.Knowing.{went_knows, knows_done}
 use Rattle.page_ckpt.proofs.Leading.{took_handed}
-use Rattle.page_ckpt.proofs.Standing.{went_stands, stands_names, stands_gives, stands_few}
+use Rattle.page_ckpt.proofs.Leases.{went_stands, stands_names, stands_gives, stands_few}
 use Rattle.page_ckpt.proofs.checkpoint.PageCkpt.step.Goals as goal
 
 pub returns-clause-steps : goal.returns-clause-steps

@@ -1,5 +1,5 @@
--- A page checkpoint whose calls go well.
-use Rattle.std.proofs.Common.{◌≡◌, ◌≢◌, ◌⊎◌, ℕ, List, [], ◌∷◌, Some, None, refl, sym, subst, inl, inr, ◌∙◌}
+-- A page checkpoint keeps a trouble only while leases are given back, and where its calls go well it ends well.
+use Rattle.std.proofs.Common.{◌≡◌, ◌≢◌, ◌⊎◌, ℕ, List, [], ◌∷◌, Option, Some, None, refl, sym, subst, inl, inr, ◌∙◌}
 use Rattle.db_base.specs.declared.names.QueueName.{QueueName}
 use Rattle.db_base.specs.declared.trouble.Trouble.{Trouble}
 use Rattle.db_base.specs.declared.trouble.Trouble.TheVariants as trouble
@@ -9,21 +9,96 @@ use Rattle.cloud_trait.specs.declared.turn.CkptAnswer.{CkptAnswer}
 use Rattle.cloud_trait.specs.declared.turn.Turn.{Turn}
 use Rattle.cloud_trait.specs.declared.turn.Turn.TheVariants.{More, Ended, Stopped}
 use Rattle.cloud_trait.specs.Ask.{Ask, Delete}
-use Rattle.cloud_trait.specs.Machine.{Goes, Stops, Took, Deed, Came, calls_of}
+use Rattle.cloud_trait.specs.Machine.{Goes, Ends, Stops, Took, Deed, Came, calls_of}
 use Rattle.cloud_trait.specs.Views.{done_of}
 use Rattle.cloud_trait.specs.Weather.{Fits}
 use Rattle.calm_calls.specs.Calm.{GoesWell, AreCalm}
 use Rattle.calm_calls.specs.Plenty.{HadMemory}
 use Rattle.calm_calls.proofs.CalmLemmas.{goes_well}
 use Rattle.page_ckpt.specs.declared.link.Link.{Link}
-use Rattle.page_ckpt.specs.Paging.{Paging, new_paging, paging_ask, went, PagingLeads, KeepsLeases}
+use Rattle.page_ckpt.specs.declared.stage.Stage.TheVariants.{Releasing}
+use Rattle.page_ckpt.specs.Paging.{Paging, Step, new_paging, paging_ask, went, PagingLeads, KeepsLeases}
 use Rattle.page_ckpt.specs.Standing.{Went}
 use Rattle.page_ckpt.specs.Meaning.{Calls, Scene, Tried, scene, scene_queue, deletes_over, one_less, failed_count, main_calls, IsDone, MeansDone}
 use Rattle.page_ckpt.specs.Causing.{Reads, Shows, IsShown, Tells}
 use Rattle.page_ckpt.specs.Well.{IsLeft, IsWell}
-use Rattle.page_ckpt.proofs.Standing.{came_stands}
-use Rattle.page_ckpt.proofs.Causing.{NextTells, step_tells}
-use Rattle.page_ckpt.proofs.Resting.{IsBeside, NextRests, IsQuiet, has_none, step_rests, came_quiet}
+use Rattle.page_ckpt.proofs.Outcomes.{Onward, Clears, Fails, Comes, comes}
+use Rattle.page_ckpt.proofs.Outcomes as step
+use Rattle.page_ckpt.proofs.Leases.{came_stands}
+use Rattle.page_ckpt.proofs.Causes.{NextTells, step_tells}
+
+-- ---- local work
+
+-- the page and the link in hand are the same
+abbrev pub IsBeside : Paging → Paging → Type 0
+IsBeside p n = (n.page ≡ p.page) × (n.at ≡ p.at)
+
+-- local work that is done while no lease is given back: the page, the link and the trouble stay
+record Stays (p q : Paging) : Type 0 where
+  beside : IsBeside p q
+  trouble : q.trouble ≡ p.trouble
+  going : p.stage ≢ Releasing
+
+onward_stays : {p q : Paging} {a : Answer} {o : Option Link} → Onward p a q o → Stays p q
+onward_stays (step.with_run p first second ms i read some) = record { beside = (refl, refl); trouble = refl; going = λ e. absurd (cc (e)) }
+onward_stays (step.from_right p first second a) = record { beside = (refl, refl); trouble = refl; going = λ e. absurd (cc (e)) }
+
+clears_stays : {p q : Paging} {a : Answer} → Clears p a q → Stays p q
+clears_stays (step.no_run p first second ms i read none) = record { beside = (refl, refl); trouble = refl; going = λ e. absurd (cc (e)) }
+clears_stays (step.home_put p first second) = record { beside = (refl, refl); trouble = refl; going = λ e. absurd (cc (e)) }
+clears_stays (step.one_tried p first second a) = record { beside = (refl, refl); trouble = refl; going = λ e. absurd (cc (e)) }
+
+fails_beside : {p q : Paging} {a : Answer} {t : Trouble} → Fails p a q t → IsBeside p q
+fails_beside (step.round link on seen) = (onward_stays on).beside
+fails_beside (step.home_spent on spent) = (onward_stays on).beside
+fails_beside f = (refl, refl)
+
+-- ---- a step
+
+-- it gives leases back, with the same page and link, or it goes on without a new trouble
+abbrev pub NextRests : Paging → Step → Type 0
+NextRests p (Goes n) = ((n.stage ≡ Releasing) × IsBeside p n) ⊎ ((p.stage ≢ Releasing) × (n.trouble ≡ p.trouble))
+NextRests p (Ends n x) = Unit {0}
+NextRests p (Stops n t) = IsBeside p n
+
+rests : {p : Paging} {a : Answer} {next : Step} → Comes p a next → NextRests p next
+rests (step.stops q t f) = inl (refl, fails_beside f)
+rests (step.turns q link on new) = inr ((onward_stays on).going, (onward_stays on).trouble)
+rests (step.puts_home q out on fresh is) = inr ((onward_stays on).going, (onward_stays on).trouble)
+rests (step.deletes q id c some) = inr ((clears_stays c).going, (clears_stays c).trouble)
+rests (step.rests q c none) = inl (refl, (clears_stays c).beside)
+rests (step.gives_back p l r a) = inl (refl, (refl, refl))
+rests (step.refused p first second a t e) = (refl, refl)
+rests (step.ends p first second a last none) = tt
+rests (step.stopped p first second a t last kept) = (refl, refl)
+rests (step.nothing p first second a) = (refl, refl)
+rests c = inr (λ e. absurd (cc (e)), refl)
+
+pub step_rests : (p : Paging) (a : Answer) (next : Step) → PagingLeads p a next → NextRests p next
+step_rests p a next leads = rests (comes p a next leads)
+
+-- ---- a trouble is kept only while leases are given back
+
+abbrev pub IsQuiet : Paging → Type 0
+IsQuiet p = (p.stage ≡ Releasing) ⊎ (p.trouble ≡ None)
+
+-- where a checkpoint goes on, it has no trouble
+pub has_none : (p : Paging) (t : Trouble) → IsQuiet p → p.stage ≢ Releasing → p.trouble ≡ Some t → ⊥
+has_none p t (inl stage) going kept = going stage
+has_none p t (inr none) going kept = absurd (cc (none, kept))
+
+quiet_after : (p n : Paging) → IsQuiet p → NextRests p (Goes n) → IsQuiet n
+quiet_after p n quiet (inl h) = inl h.0
+quiet_after p n (inl stage) (inr h) = absurd (h.0 stage)
+quiet_after p n (inr none) (inr h) = inr (h.1 ∙ none)
+
+pub came_quiet : (tree page : ℕ) (h : List Deed) (p : Paging) → Came paging_ask PagingLeads (new_paging tree page) h p → IsQuiet p
+came_quiet tree page [] p came = subst IsQuiet (sym came) (inr refl)
+came_quiet tree page (d ∷ h) p came =
+    quiet_after came.0 p (came_quiet tree page h came.0 came.1) (step_rests came.0 d.answer (Goes p) came.4)
+
+pub went_quiet : (p : Paging) (h : List Deed) → Went h p → IsQuiet p
+went_quiet p h came = came_quiet p.tree p.page h p came
 
 -- ---- what is shown where the call went well
 

@@ -229,7 +229,7 @@ obeys_row m who ask a c d b t (inr o) =
     subst P (sym o.0) (subst Q (sym o.1) (subst R (sym o.2) (quiet who ask Memory c b b tt (λ e. absurd (cc)) refl)))
 
 -- and so is what a service call is
-pub obeys_makes : (m : Mood) (who : Caller) (ask : Ask) (a : Answer) (c d : Counts) (s t : CloudState) → Obeys m who ask a c d (called who s.now s) t → Makes who ask a (told c s) (told d t)
+obeys_makes : (m : Mood) (who : Caller) (ask : Ask) (a : Answer) (c d : Counts) (s t : CloudState) → Obeys m who ask a c d (called who s.now s) t → Makes who ask a (told c s) (told d t)
 obeys_makes m who ask a c d s t o =
     let r = obeys_row m who ask a c d (called who s.now s) t o in
     let still : t.now ≡ s.now = (row_rest who ask a c d (called who s.now s) t r.row).now in
@@ -281,7 +281,7 @@ renews_told who ticks l m Failed c d s t n r = (
 renews_told who ticks l m a c d s t n r = r
 
 -- a renewal that obeys its mood leaves the lease as a renewal does
-pub obeys_renews : (m : Mood) (who : Caller) (l n : Claim) (ticks : ℕ) (a : Answer) (c d : Counts) (s t : CloudState) → Obeys m who (Renew l ticks) a c d (called who s.now s) t → (a ≡ Memory → ⊥) → n ≡ lease_in m l ticks (called who s.now s) → RenewsLease who ticks l n a (told c s) (told d t)
+obeys_renews : (m : Mood) (who : Caller) (l n : Claim) (ticks : ℕ) (a : Answer) (c d : Counts) (s t : CloudState) → Obeys m who (Renew l ticks) a c d (called who s.now s) t → (a ≡ Memory → ⊥) → n ≡ lease_in m l ticks (called who s.now s) → RenewsLease who ticks l n a (told c s) (told d t)
 obeys_renews m who l n ticks a c d s t (inr o) never e = absurd (never o.0)
 obeys_renews m who l n ticks a c d s t (inl o) never e =
     let r = obeys_row m who (Renew l ticks) a c d (called who s.now s) t (inl o) in
@@ -291,19 +291,36 @@ obeys_renews m who l n ticks a c d s t (inl o) never e =
     let R : CloudState → Type 0 = λ x. RenewsRow who ticks l (lease_in m l ticks (called who s.now s)) (answer_in m (Renew l ticks) (called who s.now s)) (called who s.now s) x in
     renews_told who ticks l n a c d s t still (subst P (sym e) (subst Q (sym o.0) (subst R (sym o.1) (renews_in m who l ticks (called who s.now s)))))
 
+-- what is seen of a cloud in which foreign bytes were planted, or none
+abbrev seen_in : Bool → Counts → CloudState → Seen
+seen_in planted c s = record { counts = c; state = cond planted None (Some s); heard = None }
+
+-- where the state is not told, less is said of a call
+untold_makes : (planted : Bool) (who : Caller) (ask : Ask) (a : Answer) (c d : Counts) (s t : CloudState) → Makes who ask a (told c s) (told d t) → Makes who ask a (seen_in planted c s) (seen_in planted d t)
+untold_makes false who ask a c d s t m = m
+untold_makes true who ask a c d s t m = record { fits = m.fits; heard = m.heard; counts = m.counts; dark = m.dark; failed = m.failed; memory = m.memory; state = λ u e. absurd (cc (e)) }
+
+untold_renews : (planted : Bool) (who : Caller) (ticks : ℕ) (l n : Claim) (a : Answer) (c d : Counts) (s t : CloudState) → RenewsLease who ticks l n a (told c s) (told d t) → RenewsLease who ticks l n a (seen_in planted c s) (seen_in planted d t)
+untold_renews false who ticks l n a c d s t r = r
+untold_renews true who ticks l n (Renewed e) c d s t r = r
+untold_renews true who ticks l n Failed c d s t r = (r.0, λ u v e f. absurd (cc (e)))
+untold_renews true who ticks l n a c d s t r = r
+
 -- the same of a call that has begun
-pub begun_makes : (m : Mood) (who : Caller) (ask : Ask) (a : Answer) (c e d : Counts) (s b t : CloudState) → b ≡ called who s.now s → e ≡ c → Obeys m who ask a e d b t → Makes who ask a (told c s) (told d t)
-begun_makes m who ask a c e d s b t is same o =
+pub begun_makes : (p q : Bool) (m : Mood) (who : Caller) (ask : Ask) (a : Answer) (c e d : Counts) (s b t : CloudState) → q ≡ p → b ≡ called who s.now s → e ≡ c → Obeys m who ask a e d b t → Makes who ask a (seen_in p c s) (seen_in q d t)
+begun_makes p q m who ask a c e d s b t still is same o =
     let P : CloudState → Type 0 = λ x. Obeys m who ask a e d x t in
     let Q : Counts → Type 0 = λ x. Obeys m who ask a x d (called who s.now s) t in
-    obeys_makes m who ask a c d s t (subst Q same (subst P is o))
+    let R : Bool → Type 0 = λ x. Makes who ask a (seen_in p c s) (seen_in x d t) in
+    subst R (sym still) (untold_makes p who ask a c d s t (obeys_makes m who ask a c d s t (subst Q same (subst P is o))))
 
-pub begun_renews : (m : Mood) (who : Caller) (l n : Claim) (ticks : ℕ) (a : Answer) (c e d : Counts) (s b t : CloudState) → b ≡ called who s.now s → e ≡ c → Obeys m who (Renew l ticks) a e d b t → (a ≡ Memory → ⊥) → n ≡ lease_in m l ticks b → RenewsLease who ticks l n a (told c s) (told d t)
-begun_renews m who l n ticks a c e d s b t is same o never lease =
+pub begun_renews : (p q : Bool) (m : Mood) (who : Caller) (l n : Claim) (ticks : ℕ) (a : Answer) (c e d : Counts) (s b t : CloudState) → q ≡ p → b ≡ called who s.now s → e ≡ c → Obeys m who (Renew l ticks) a e d b t → (a ≡ Memory → ⊥) → n ≡ lease_in m l ticks b → RenewsLease who ticks l n a (seen_in p c s) (seen_in q d t)
+begun_renews p q m who l n ticks a c e d s b t still is same o never lease =
     let P : CloudState → Type 0 = λ x. Obeys m who (Renew l ticks) a e d x t in
     let Q : Counts → Type 0 = λ x. Obeys m who (Renew l ticks) a x d (called who s.now s) t in
     let R : CloudState → Type 0 = λ x. n ≡ lease_in m l ticks x in
-    obeys_renews m who l n ticks a c d s t (subst Q same (subst P is o)) never (subst R is lease)
+    let S : Bool → Type 0 = λ x. RenewsLease who ticks l n a (seen_in p c s) (seen_in x d t) in
+    subst S (sym still) (untold_renews p who ticks l n a c d s t (obeys_renews m who l n ticks a c d s t (subst Q same (subst P is o)) never (subst R is lease)))
 
 -- a renewal that does not answer want of memory
 pub not_memory : {A : Type 0} (l : Claim) (r : Result A HeldFault) → (r ≡ Err held.Memory → ⊥) → held_answer_of (renewed_by l) r ≡ Memory → ⊥

@@ -1,7 +1,8 @@
 -- What the cloud in memory tells of itself.
-use Rattle.std.specs.Prelude.{ℕ, ◌≡◌, ◌+◌, min, List, Option, Some, None}
+use Rattle.std.specs.Prelude.{ℕ, ◌≡◌, ◌+◌, min, Bool, cond, List, Option, Some, None}
 use Rattle.std.specs.Option.{option_map}
 use Rattle.cloud_trait.specs.State.{CloudState, Counts, greatest}
+use Rattle.cloud_trait.specs.Caller.{Caller}
 use Rattle.cloud_trait.specs.Seen.{Seen}
 use Rattle.memory_cloud.specs.Maps.{versions_in, messages_in, hold_in}
 use Rattle.memory_cloud.specs.Mood.{mood_at}
@@ -33,9 +34,13 @@ state_of c = store_state c.store
 abbrev pub counts_of : MemoryCloud → Counts
 counts_of c = store_counts c.store
 
--- the state, where it is told: it always is
+-- foreign bytes were planted in it
+abbrev pub is_planted : MemoryCloud → Bool
+is_planted c = c.planted
+
+-- the state, where it is told: until foreign bytes are planted
 abbrev pub told_state : MemoryCloud → Option CloudState
-told_state c = Some (state_of c)
+told_state c = cond (is_planted c) None (Some (state_of c))
 
 -- what is seen of it; it does not tell what it answered
 abbrev pub seen_of : MemoryCloud → Seen
@@ -53,7 +58,17 @@ failing_calls c = c.failing.items
 abbrev pub next_mood : MemoryCloud → Mood
 next_mood c = mood_at (counts_of c) (failing_calls c) (next_call c) c.store.wish
 
--- one service call more was made, and those that fail are as they were
+-- one service call more was made, those that fail are as they were, and the state is told where it was
 pub record CountsCall (old new : MemoryCloud) : Type 0 where
   pub next : next_call new ≡ min (next_call old + 1) greatest
   pub failing : failing_calls new ≡ failing_calls old
+  pub planted : is_planted new ≡ is_planted old
+
+-- no service call was made, and those that fail are as they were
+pub record MakesNoCall (old new : MemoryCloud) : Type 0 where
+  pub next : next_call new ≡ next_call old
+  pub failing : failing_calls new ≡ failing_calls old
+
+-- who plants foreign bytes: the settler, before the first event
+abbrev pub planter : Caller
+planter = record { session = 0; event = 0 }

@@ -1,22 +1,24 @@
-ghost use Rattle.std.specs.Prelude.{◌≡◌, [], IfOk, IfErr, IsTrue};
+ghost use Rattle.std.specs.Prelude.{◌≡◌, [], None, Some, OnOk, OnErr, IfOk, IfErr, IsTrue};
 ghost use Rattle.std.specs.Option.{option_copied};
+ghost use Rattle.memory_cloud.specs.Memory.{planter};
 
 use crate::mood::Mood;
 use crate::store::{Last, Store};
 use crate::{copies, objects, queues};
 use cloud_trait::fault::CloudFault;
 use cloud_trait::who::Who;
-use db_base::ids::MsgId;
+use db_base::ids::{MsgId, SessionNo};
 use db_base::names::{ObjName, QueueName};
 use db_base::wish::Wish;
 use std::alloc::Global;
 use std::mem;
 
-/// A cloud in memory. It tells its state, and obeys the wishes that are set.
+/// A cloud in memory. It obeys the wishes that are set, and tells its state until foreign bytes are planted in it.
 pub struct MemoryCloud {
     pub(crate) store: Store,
     calls: u64,
     failing: Vec<u64>,
+    planted: bool,
 }
 
 impl Drop for MemoryCloud {
@@ -25,14 +27,15 @@ impl Drop for MemoryCloud {
             store: _,
             calls: _,
             failing: _,
+            planted: _,
         } = self;
     }
 }
 
 impl MemoryCloud {
     ghost use Rattle.db_base.specs.declared.wish.Wish.TheVariants.{Plain};
-    ghost use Rattle.cloud_trait.specs.State.{IsEmptyCloud, called, version_at, message_at};
-    ghost use Rattle.memory_cloud.specs.Memory.{state_of, counts_of, next_mood, next_call, failing_calls, CountsCall};
+    ghost use Rattle.cloud_trait.specs.State.{IsEmptyCloud, called, landed, sent, version_at, message_at};
+    ghost use Rattle.memory_cloud.specs.Memory.{state_of, counts_of, told_state, is_planted, next_mood, next_call, failing_calls, CountsCall, MakesNoCall};
     ghost use Rattle.memory_cloud.specs.Mood.{HasRoom, mood_at, wanted_mood, has_room};
 
     /// An empty cloud at clock 0, that fails no call. Takes no memory.
@@ -45,11 +48,13 @@ impl MemoryCloud {
         ensures counts { counts_of result ≡ record { faults = 0; withheld = 0; stale = 0; dark = 0 } }
         ensures failing { failing_calls result ≡ [] }
         ensures first { next_call result ≡ 1 }
+        ensures told { told_state result ≡ Some (state_of result) }
     {
         MemoryCloud {
             store: Store::new(alloc),
             calls: 0,
             failing: Vec::new(alloc),
+            planted: false,
         }
     }
 
@@ -63,6 +68,7 @@ impl MemoryCloud {
         ensures counts { IfOk result (λ c. counts_of c ≡ record { faults = 0; withheld = 0; stale = 0; dark = 0 }) }
         ensures failing { IfOk result (λ c. failing_calls c ≡ calls.now) }
         ensures first { IfOk result (λ c. next_call c ≡ 1) }
+        ensures told { IfOk result (λ c. told_state c ≡ Some (state_of c)) }
         ensures memory { IfErr result (λ e. e ≡ CloudFault.Memory) }
     {
         let failing = match calls.to_vec(alloc) {
@@ -86,6 +92,42 @@ impl MemoryCloud {
         ensures { option_copied result ≡ message_at ((state_of self.now).messages queue) id }
     {
         copies::message_bytes(queues::messages(&self.store.queues, &queue), id.get())
+    }
+
+    /// Plants foreign bytes as the newest version of an object, for tests; from then on the cloud tells no state.
+    /// Refused for memory alone.
+    pub fn plant(&mut self, name: ObjName, bytes: &[u8]) -> Result<(), CloudFault>
+        ensures ok { OnOk result ((told_state self.new ≡ None) × (state_of self.new ≡ landed planter name bytes.now (state_of self.old))) }
+        ensures err { OnErr result ((told_state self.new ≡ told_state self.old) × (state_of self.new ≡ state_of self.old)) }
+        ensures memory { IfErr result (λ e. e ≡ CloudFault.Memory) }
+        ensures counts { counts_of self.new ≡ counts_of self.old }
+        ensures call { MakesNoCall self.old self.new }
+    {
+        match self.store.land(planter(), &name, bytes) {
+            Ok(()) => {
+                self.planted = true;
+                Ok(())
+            }
+            Err(_) => Err(CloudFault::Memory),
+        }
+    }
+
+    /// Plants a message of foreign bytes at the end of a queue, for tests; from then on the cloud tells no state.
+    /// Refused for memory alone.
+    pub fn plant_message(&mut self, queue: QueueName, bytes: &[u8]) -> Result<(), CloudFault>
+        ensures ok { OnOk result ((told_state self.new ≡ None) × (state_of self.new ≡ sent planter queue bytes.now (state_of self.old))) }
+        ensures err { OnErr result ((told_state self.new ≡ told_state self.old) × (state_of self.new ≡ state_of self.old)) }
+        ensures memory { IfErr result (λ e. e ≡ CloudFault.Memory) }
+        ensures counts { counts_of self.new ≡ counts_of self.old }
+        ensures call { MakesNoCall self.old self.new }
+    {
+        match self.store.post(planter(), &queue, bytes) {
+            Ok(_) => {
+                self.planted = true;
+                Ok(())
+            }
+            Err(_) => Err(CloudFault::Memory),
+        }
     }
 
     // Begins a service call: it spends the wish, and says how the call goes.
@@ -146,4 +188,11 @@ impl MemoryCloud {
             Mood::Give => self.store.withheld < u64::MAX,
         }
     }
+}
+
+// Who plants foreign bytes: the settler, before the first event.
+fn planter() -> Who
+    ensures { result ≡ planter }
+{
+    Who::new(SessionNo::settler(), 0)
 }

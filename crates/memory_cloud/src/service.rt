@@ -8,7 +8,7 @@ ghost use Rattle.cloud_trait.specs.Delivery.{unmarked};
 ghost use Rattle.cloud_trait.specs.Weather.{Makes, RenewsLease};
 ghost use Rattle.cloud_trait.specs.Bench.{Waits, Looks, IsNoCall, has_bytes};
 ghost use Rattle.cloud_trait.specs.declared.fault.CloudFault.{CloudFault};
-ghost use Rattle.memory_cloud.specs.Memory.{state_of, counts_of, told_state, seen_of, next_mood, next_call, failing_calls, CountsCall};
+ghost use Rattle.memory_cloud.specs.Memory.{state_of, counts_of, is_planted, told_state, seen_of, next_mood, CountsCall, MakesNoCall};
 ghost use Rattle.memory_cloud.specs.Outcome.{Obeys, lease_in};
 
 use crate::memory::MemoryCloud;
@@ -138,8 +138,8 @@ impl Bench for MemoryCloud {
     fn wish(&mut self, wish: Wish)
         ensures no_call { IsNoCall (seen_of self.old) (seen_of self.new) }
         ensures set { (s : CloudState) → told_state self.old ≡ Some s → told_state self.new ≡ Some (record s { wish = wish }) }
-        ensures call { next_call self.new ≡ next_call self.old }
-        ensures failing { failing_calls self.new ≡ failing_calls self.old }
+        ensures call { MakesNoCall self.old self.new }
+        ensures planted { is_planted self.new ≡ is_planted self.old }
     {
         self.store.wish = wish;
     }
@@ -148,8 +148,8 @@ impl Bench for MemoryCloud {
         ensures no_call { IsNoCall (seen_of self.old) (seen_of self.new) }
         ensures waited { (s : CloudState) → told_state self.old ≡ Some s → Waits ticks s (told_state self.new) }
         ensures exactly { state_of self.new ≡ record (state_of self.old) { now = end_after (state_of self.old).now ticks; waits = min ((state_of self.old).waits + 1) greatest } }
-        ensures call { next_call self.new ≡ next_call self.old }
-        ensures failing { failing_calls self.new ≡ failing_calls self.old }
+        ensures call { MakesNoCall self.old self.new }
+        ensures planted { is_planted self.new ≡ is_planted self.old }
     {
         self.store.clock = self.store.clock.saturating_add(ticks);
         self.store.waits = self.store.waits.saturating_add(1);
@@ -158,8 +158,8 @@ impl Bench for MemoryCloud {
     fn peek(&mut self, name: ObjName) -> Result<Option<Blob>, CloudFault>
         ensures looks { Looks result (seen_of self.old) (seen_of self.new) }
         ensures newest { (s : CloudState) → told_state self.old ≡ Some s → IfOk result (λ v. v ≡ newest s name) }
-        ensures call { next_call self.new ≡ next_call self.old }
-        ensures failing { failing_calls self.new ≡ failing_calls self.old }
+        ensures call { MakesNoCall self.old self.new }
+        ensures planted { is_planted self.new ≡ is_planted self.old }
     {
         match copies::copy_newest(
             self.store.alloc,
@@ -174,8 +174,8 @@ impl Bench for MemoryCloud {
         ensures looks { Looks result (seen_of self.old) (seen_of self.new) }
         ensures newest { (s : CloudState) → told_state self.old ≡ Some s → IfOk result (λ is. is ≡ has_bytes (newest s name) bytes.now) }
         ensures no_memory { (e : CloudFault) → result ≢ Err e }
-        ensures call { next_call self.new ≡ next_call self.old }
-        ensures failing { failing_calls self.new ≡ failing_calls self.old }
+        ensures call { MakesNoCall self.old self.new }
+        ensures planted { is_planted self.new ≡ is_planted self.old }
     {
         let versions = objects::versions(&self.store.objects, &name);
         Ok(copies::newest_has(versions, bytes))
@@ -185,8 +185,8 @@ impl Bench for MemoryCloud {
         ensures looks { Looks result (seen_of self.old) (seen_of self.new) }
         ensures length { (s : CloudState) → told_state self.old ≡ Some s → IfOk result (λ n. n ≡ length (unmarked (s.messages queue))) }
         ensures no_memory { (e : CloudFault) → result ≢ Err e }
-        ensures call { next_call self.new ≡ next_call self.old }
-        ensures failing { failing_calls self.new ≡ failing_calls self.old }
+        ensures call { MakesNoCall self.old self.new }
+        ensures planted { is_planted self.new ≡ is_planted self.old }
     {
         Ok(queues::count_messages(&self.store.queues, &queue))
     }

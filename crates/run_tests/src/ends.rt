@@ -31,27 +31,51 @@ fn ends_by_its_words(rt: HostRuntime) {
     assert!(rt; all_run(rt.alloc(), &WORDS));
 }
 
-/// A commit of one insert.
-const FIRST: &[u8] = b"open 1 1\nrun 1\ninsert 1 1 6b 76\ncommit 1\nrun 1\n";
-
-#[test]
-fn ends_that_fail(rt: HostRuntime) {
-    assert!(rt; replays_failing(rt.alloc(), FIRST, &[1], &[], Status::ReadFault, b""));
-    assert!(rt;
-        replays_failing(
-            rt.alloc(),
-            FIRST,
-            &[],
-            &[2],
-            Status::WriteFault,
-            b"1 begun\n"
-        )
-    );
-}
-
 /// The first worked example.
 const WORKED: &[u8] =
     b"open 1 1\nrun 1\ninsert 1 1 6b 76\ncommit 1\nrun 1\ntree 1 1\nrun 1\nreport 1\n";
+
+/// What it writes.
+const WORKED_OUT: &[u8] =
+    b"1 begun\n2 opened 1\n3 noted\n4 begun\n5 committed 1\n6 begun\n7 done 1 1 0\n8 report 1\ncommitted 1\n1 1 1 insert 6b 76\norder 1\n1 1 1 insert 6b 76\ncontents 1\n6b 76\nleft 0 0\n";
+
+/// The reads of its input: the one that brings it, and the one that finds its end.
+const READS: [u64; 2] = [1, 2];
+
+#[test]
+fn a_read_that_fails_ends_a_replay_without_a_reply(rt: HostRuntime) {
+    for read in READS.as_slice() {
+        assert!(rt; replays_failing(rt.alloc(), WORKED, &[*read], &[], Status::ReadFault, b""));
+    }
+}
+
+/// Its writes, each with all that was written before it.
+const WRITES: [(u64, &[u8]); 8] = [
+    (1, b""),
+    (2, b"1 begun\n"),
+    (3, b"1 begun\n2 opened 1\n"),
+    (4, b"1 begun\n2 opened 1\n3 noted\n"),
+    (5, b"1 begun\n2 opened 1\n3 noted\n4 begun\n"),
+    (6, b"1 begun\n2 opened 1\n3 noted\n4 begun\n5 committed 1\n"),
+    (7, b"1 begun\n2 opened 1\n3 noted\n4 begun\n5 committed 1\n6 begun\n"),
+    (8, b"1 begun\n2 opened 1\n3 noted\n4 begun\n5 committed 1\n6 begun\n7 done 1 1 0\n"),
+];
+
+/// Whether a replay whose write of each row's number fails writes what the row says.
+fn all_end(alloc: Global, rows: &[(u64, &[u8])]) -> bool {
+    for (write, output) in rows {
+        if !replays_failing(alloc, WORKED, &[], &[*write], Status::WriteFault, output) {
+            return false;
+        }
+    }
+    true
+}
+
+#[test]
+fn a_write_that_fails_ends_a_replay_behind_the_replies_before_it(rt: HostRuntime) {
+    assert!(rt; all_end(rt.alloc(), &WRITES));
+    assert!(rt; replays_failing(rt.alloc(), WORKED, &[3], &[9], Status::Done, WORKED_OUT));
+}
 
 /// Whether it writes this where the cloud's call of this number fails.
 fn replies(alloc: Global, call: u64, output: &[u8]) -> bool {

@@ -10,6 +10,8 @@ mod commits;
 #[cfg(test)]
 mod ends;
 #[cfg(test)]
+mod planted;
+#[cfg(test)]
 mod replays;
 #[cfg(test)]
 mod shells;

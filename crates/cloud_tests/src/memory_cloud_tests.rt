@@ -189,3 +189,21 @@ fn checks_leases_in_order(rt: HostRuntime) {
         Err(_) => rt.panic("no cloud"),
     }
 }
+
+// Whether planted bytes stand behind what is there: as the newest version, and as the next message of a queue.
+fn plants(cloud: &mut MemoryCloud, names: &Names) -> bool {
+    cloud.send(names.who, names.queue, b"a").is_ok()
+        && cloud.plant_message(names.queue, b"b").is_ok()
+        && cloud.plant(names.object, b"c").is_ok()
+        && cloud.message(names.queue, MsgId::new(2)) == Some(b"b".as_slice())
+        && cloud.version(names.object, 1) == Some(b"c".as_slice())
+}
+
+#[test]
+fn plants_behind_what_is_there(rt: HostRuntime) {
+    let Some(names) = usual_names() else {
+        rt.panic("no names")
+    };
+    let mut cloud = MemoryCloud::new(rt.alloc());
+    assert!(rt; plants(&mut cloud, &names));
+}

@@ -57,8 +57,14 @@ const WRITES: [(u64, &[u8]); 8] = [
     (4, b"1 begun\n2 opened 1\n3 noted\n"),
     (5, b"1 begun\n2 opened 1\n3 noted\n4 begun\n"),
     (6, b"1 begun\n2 opened 1\n3 noted\n4 begun\n5 committed 1\n"),
-    (7, b"1 begun\n2 opened 1\n3 noted\n4 begun\n5 committed 1\n6 begun\n"),
-    (8, b"1 begun\n2 opened 1\n3 noted\n4 begun\n5 committed 1\n6 begun\n7 done 1 1 0\n"),
+    (
+        7,
+        b"1 begun\n2 opened 1\n3 noted\n4 begun\n5 committed 1\n6 begun\n",
+    ),
+    (
+        8,
+        b"1 begun\n2 opened 1\n3 noted\n4 begun\n5 committed 1\n6 begun\n7 done 1 1 0\n",
+    ),
 ];
 
 /// Whether a replay whose write of each row's number fails writes what the row says.

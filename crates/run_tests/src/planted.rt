@@ -35,7 +35,9 @@ fn plant_in(
 ) -> bool {
     match place {
         Place::Head => cloud.plant(ObjName::Head(client), bytes).is_ok(),
-        Place::Atomic => cloud.plant_message(QueueName::Atomic(client), bytes).is_ok(),
+        Place::Atomic => cloud
+            .plant_message(QueueName::Atomic(client), bytes)
+            .is_ok(),
         Place::Tree => cloud.plant(ObjName::Tree(tree), bytes).is_ok(),
         Place::Page(page) => plant_page(cloud, tree, page, bytes),
         Place::TreeUpdates => cloud.plant_message(QueueName::TreePu(tree), bytes).is_ok(),
@@ -182,7 +184,11 @@ const READS: [(&[(Place, &[u8])], &[u8], &[u8]); 5] = [
         b"open 1 1\nrun 1\nread 1 1 6b\nrun 1\nreport 1\n",
         b"1 begun\n2 opened 1\n3 begun\n4 damaged page:1:1 0\n5 damaged page:1:1 0\n",
     ),
-    (&[(Place::Page(1), NOTHING)], b"report 1\n", b"1 damaged page:1:1 0\n"),
+    (
+        &[(Place::Page(1), NOTHING)],
+        b"report 1\n",
+        b"1 damaged page:1:1 0\n",
+    ),
 ];
 
 #[test]

@@ -1,20 +1,21 @@
 -- A tree checkpoint stops for what the answer of its call demands.
 use Rattle.std.proofs.Common.{◌≡◌, ◌≢◌, ◌⊎◌, ℕ, Bool, true, false, cond, List, [], ◌∷◌, Option, Some, None, Result, Ok, Err, refl, sym, ap, subst, inl, inr, ◌∙◌}
-use Rattle.std.specs.Prelude.{◌&&◌, not}
+use Rattle.std.specs.Prelude.{◌==◌, ◌||◌, ◌+◌, not, is_some}
 use Rattle.std.proofs.lemmas.Bool.{eq-eqb, ne_eqb}
 use Rattle.db_base.specs.declared.names.Lock.{Lock}
 use Rattle.db_base.specs.declared.names.Lock.TheVariants as lock
 use Rattle.db_base.specs.declared.names.ObjName.TheVariants as object
-use Rattle.db_base.specs.declared.names.Place.{Place}
 use Rattle.db_base.specs.declared.names.Place.TheVariants as place
 use Rattle.db_base.specs.declared.names.QueueName.TheVariants as queue
 use Rattle.db_base.specs.declared.trouble.Trouble.{Trouble}
 use Rattle.db_base.specs.declared.trouble.Trouble.TheVariants as trouble
-use Rattle.byte_format.specs.Order.{bytes_same, bytes_below}
+use Rattle.db_base.specs.declared.trouble.Counter.TheVariants as counter
+use Rattle.byte_format.specs.Order.{below_bound, bytes_same, bytes_below}
 use Rattle.byte_format.specs.Whole.{whole, offset}
 use Rattle.leaf_view.specs.Leaf.{Leaf, leaf}
 use Rattle.leaf_view.specs.Lookup.{empty_leaf, page_at}
-use Rattle.node_codec.specs.Inner.{Inner, inner_of, inner_format}
+use Rattle.leaf_edit.specs.Lacked.{lacked}
+use Rattle.node_codec.specs.Inner.{inner_of, inner_format}
 use Rattle.node_codec.specs.Tree.{Tree, tree_of, tree_format}
 use Rattle.log_codec.specs.declared.record.PuItem.{PuItem}
 use Rattle.cloud_trait.specs.declared.answer.Answer.{Answer}
@@ -32,29 +33,52 @@ use Rattle.split_plan.specs.declared.put_list.PagePut.{PagePut}
 use Rattle.ckpt_parts.specs.declared.intake.Intake.{Intake}
 use Rattle.ckpt_parts.specs.declared.leases.Leases.{Leases}
 use Rattle.ckpt_parts.specs.Deleting.{next_id}
-use Rattle.ckpt_parts.specs.Intakes.{message_damage, TakesItems}
+use Rattle.ckpt_parts.specs.Intakes.{has_items, message_damage, TakesItems}
 use Rattle.ckpt_parts.specs.Leasing.{newest_lease, without_newest}
+use Rattle.run_cursor.specs.Covered.{is_seen}
+use Rattle.tree_parts.specs.declared.chart.Chart.{Chart}
+use Rattle.tree_parts.specs.declared.kept.KeptNode.{KeptNode}
+use Rattle.tree_parts.specs.declared.link.Link.{Link}
 use Rattle.tree_parts.specs.Placing.{has_nothing}
-use Rattle.tree_parts.specs.Read.{damaged, inner_or, leaf_or, tree_held}
+use Rattle.tree_parts.specs.Read.{damaged, leaf_or, tree_held}
+use Rattle.tree_parts.specs.Reserve.{version_spent, pages_spent, next_tree}
 use Rattle.tree_descent.specs.declared.descent.Descent.{Descent}
 use Rattle.tree_descent.specs.declared.fork.Fork.{Fork}
-use Rattle.tree_descent.specs.Fork.{bad_fence, forked_on}
-use Rattle.tree_descent.specs.Descent.{forked, forked_by, fork_of, absent_node, got_node, descent_got}
+use Rattle.tree_descent.specs.Descent.{fork_of, arrive, absent_node, with_node, got_node, descent_got}
 use Rattle.leaf_fold.specs.declared.folding.Folding.{Folding}
 use Rattle.leaf_fold.specs.declared.folding.Left.{Left}
-use Rattle.leaf_fold.specs.Folding.{folding_ask, leaf_got, leaf_put, leaf_at, leaf_side, leaf_found, bad_low}
+use Rattle.leaf_fold.specs.declared.folding.Left.TheVariants.{Right}
+use Rattle.leaf_fold.specs.declared.plan.LeafPlan.{LeafPlan}
+use Rattle.leaf_fold.specs.Plan.{leaf_plan}
+use Rattle.leaf_fold.specs.Folding.{folding_ask, turned, to_right, planned, handled_by, handle, leaf_got, leaf_put, leaf_at, leaf_side, leaf_found, bad_low}
 use Rattle.tree_rising.specs.declared.rising.Rising.{Rising}
-use Rattle.tree_rising.specs.Rising.{rising_ask}
+use Rattle.tree_rising.specs.Nodes.{node_plan}
+use Rattle.tree_rising.specs.Rising.{rising_ask, next_touched, touched_node, put_node, put_root, plan_of, last_plan, rise_at, rise, landed, after_put}
+use Rattle.tree_rising.specs.Root.{risen_by}
 use Rattle.tree_moves.specs.declared.work.Held.{Held}
+use Rattle.tree_moves.specs.declared.work.Onward.TheVariants as onward
 use Rattle.tree_moves.specs.declared.work.Work.{Work}
 use Rattle.tree_moves.specs.declared.work.Work.TheVariants as work
 use Rattle.tree_moves.specs.Work.{work_ask, delete_ask, release_ask}
-use Rattle.tree_moves.specs.Moves.{Step, released_by, descending_on, folding_on, tree_damage, tree_read, tree_got, intake_taken, Leads}
+use Rattle.tree_moves.specs.Moves.{Step, released_by, rising_on, descending_on, going_by, folding_on, tree_damage, tree_read, tree_got, intake_taken, Leads}
 use Rattle.tree_ckpt.specs.Making.{Making, making_ask, MakingLeads, KeepsLeases}
 use Rattle.tree_ckpt.specs.Standing.{HasIds, HoldsOne, HoldsAt, Stands}
-use Rattle.tree_ckpt.specs.Causing.{Calls, ticks_of, kept_trouble}
-use Rattle.tree_ckpt.specs.Exact.{Matters, Refuses, BreaksRoot, BreaksRecord, BreaksNode, GetsLeaf, BreaksLeaf, Demands, Owes}
+use Rattle.tree_ckpt.specs.Causing.{Calls, GoesRight, ticks_of, kept_trouble}
+use Rattle.tree_ckpt.specs.Way.{behind, BreaksFrom, from_root, BreaksWay}
+use Rattle.tree_ckpt.specs.Due.{Due, LeafDue, NodeDue, RootDue, IsSpent, HasNoPages, GetsLeaf, IsUp, IsDue, Spends}
+use Rattle.tree_ckpt.specs.Demands.{Matters, Refuses, BreaksRoot, BreaksRecord, BreaksNode, BreaksLeaf, Demands}
+use Rattle.tree_ckpt.specs.Stepped.{Owes}
 use Rattle.tree_ckpt.proofs.Causing.{KnowsAt}
+use Rattle.tree_ckpt.proofs.Spending.{leaf_plan_spent, leaf_plan_full, node_plan_spent, node_plan_full, last_plan_spent, last_plan_full}
+use Rattle.tree_ckpt.proofs.Walking.{page_same, damage_same, fence_same, fork_none, fork_some, fork_level, fork_fence, fork_promised, behind_keeps, root_upto, way_stops}
+
+abbrev Rise : Type 0
+Rise = Next Rising (Unit {0})
+
+abbrev IsStop : Trouble → Rise → Type 0
+IsStop t (Goes r) = ⊥
+IsStop t (Ends r x) = ⊥
+IsStop t (Stops r u) = u ≡ t
 
 -- the trouble is kept or answered
 abbrev NextOwes : Step → Trouble → Type 0
@@ -196,39 +220,29 @@ refused_owes tree w a next (trouble.Waiting have need) own fits leads k = absurd
 refused_owes tree w a next (trouble.Stale page least got) own fits leads k = absurd k
 refused_owes tree w a next trouble.Memory own fits leads k = absurd k
 
--- ---- damage at a place
-
-damage_same : (here where_it_is : Place) (at first : ℕ) → where_it_is ≡ here → at ≡ first → trouble.Damaged here first ≡ trouble.Damaged where_it_is at
-damage_same here where_it_is at first one two = ap (λ (x : Place). trouble.Damaged x first) (sym one) ∙ ap (trouble.Damaged where_it_is) (sym two)
-
-page_same : (tree mine page at first : ℕ) (where_it_is : Place) → mine ≡ tree → where_it_is ≡ place.Object (object.Page tree page) → at ≡ first
-    → damaged mine page first ≡ trouble.Damaged where_it_is at
-page_same tree mine page at first where_it_is same here there =
-    ap (λ (x : ℕ). damaged x page first) same ∙ damage_same (place.Object (object.Page tree page)) where_it_is at first here there
-
 -- ---- the tree object
 
 root_stops : (tree : ℕ) (l : Claim) (bytes : List ℕ) → tree_of bytes ≡ None → NextOwes (tree_got tree l (Ok (Some bytes))) (tree_damage tree bytes)
 root_stops tree l bytes none = subst (λ (x : Option Tree). NextOwes (tree_read tree l bytes x) (tree_damage tree bytes)) (sym none) refl
 
-root_owes : (m : Making) (a : Answer) (next : Step) (t : Trouble) → Leads m.tree m.work a next → BreaksRoot m a t → NextOwes next t
-root_owes m a next (trouble.Damaged where_it_is at) leads (here, (l, is, (bytes, e, none, there))) =
-    let one : Leads m.tree (work.GettingTree l) a next = subst (λ (w : Work). Leads m.tree w a next) is leads in
-    let two : Leads m.tree (work.GettingTree l) (call.Got (Some bytes)) next = subst (λ (x : Answer). Leads m.tree (work.GettingTree l) x next) e one in
-    owes_same (tree_damage m.tree bytes) (trouble.Damaged where_it_is at) next
-    (damage_same (place.Object (object.Tree m.tree)) where_it_is at (offset tree_format bytes) here there)
-    (owes_by (tree_damage m.tree bytes) next _ two (root_stops m.tree l bytes none))
-root_owes m a next trouble.Failed leads k = absurd k
-root_owes m a next (trouble.Late end now) leads k = absurd k
-root_owes m a next (trouble.Busy lk until) leads k = absurd k
-root_owes m a next (trouble.Absent page) leads k = absurd k
-root_owes m a next (trouble.NotALeaf page) leads k = absurd k
-root_owes m a next (trouble.BadFence page expected found) leads k = absurd k
-root_owes m a next (trouble.Loop page) leads k = absurd k
-root_owes m a next (trouble.Exhausted what) leads k = absurd k
-root_owes m a next (trouble.Waiting have need) leads k = absurd k
-root_owes m a next (trouble.Stale page least got) leads k = absurd k
-root_owes m a next trouble.Memory leads k = absurd k
+root_owes : (tree : ℕ) (w : Work) (a : Answer) (next : Step) (t : Trouble) → Leads tree w a next → BreaksRoot tree w a t → NextOwes next t
+root_owes tree w a next (trouble.Damaged where_it_is at) leads (here, (l, is, (bytes, e, none, there))) =
+    let one : Leads tree (work.GettingTree l) a next = subst (λ (x : Work). Leads tree x a next) is leads in
+    let two : Leads tree (work.GettingTree l) (call.Got (Some bytes)) next = subst (λ (x : Answer). Leads tree (work.GettingTree l) x next) e one in
+    owes_same (tree_damage tree bytes) (trouble.Damaged where_it_is at) next
+    (damage_same (place.Object (object.Tree tree)) where_it_is at (offset tree_format bytes) here there)
+    (owes_by (tree_damage tree bytes) next _ two (root_stops tree l bytes none))
+root_owes tree w a next trouble.Failed leads k = absurd k
+root_owes tree w a next (trouble.Late end now) leads k = absurd k
+root_owes tree w a next (trouble.Busy lk until) leads k = absurd k
+root_owes tree w a next (trouble.Absent page) leads k = absurd k
+root_owes tree w a next (trouble.NotALeaf page) leads k = absurd k
+root_owes tree w a next (trouble.BadFence page expected found) leads k = absurd k
+root_owes tree w a next (trouble.Loop page) leads k = absurd k
+root_owes tree w a next (trouble.Exhausted what) leads k = absurd k
+root_owes tree w a next (trouble.Waiting have need) leads k = absurd k
+root_owes tree w a next (trouble.Stale page least got) leads k = absurd k
+root_owes tree w a next trouble.Memory leads k = absurd k
 
 -- ---- messages
 
@@ -237,45 +251,26 @@ intake_owes : (tree : ℕ) (l : Claim) (root : Option (List ℕ)) (cursor : List
 intake_owes tree l root cursor m taken next takes e =
     owes_by (message_damage (queue.TreePu tree) m) next _ (e ∙ ap (intake_taken tree l root) takes) refl
 
-record_owes : (m : Making) (a : Answer) (next : Step) (t : Trouble) → Leads m.tree m.work a next → BreaksRecord m a t → NextOwes next t
-record_owes m a next (trouble.Damaged where_it_is at) leads ((l, (root, is)), (ms, (bad, e, read, here, there))) =
-    let one : Leads m.tree (work.Receiving l root) a next = subst (λ (w : Work). Leads m.tree w a next) is leads in
-    let two : Leads m.tree (work.Receiving l root) (call.Received ms) next = subst (λ (x : Answer). Leads m.tree (work.Receiving l root) x next) e one in
-    owes_same (message_damage (queue.TreePu m.tree) bad) (trouble.Damaged where_it_is at) next
-    (damage_same (place.Message (queue.TreePu m.tree) bad.id) where_it_is at _ here there)
-    (intake_owes m.tree l root (tree_held root).cursor bad two.0 next (subst (λ (x : Result (List PuItem) Message). TakesItems (queue.TreePu m.tree) (tree_held root).cursor x two.0) read two.1) two.2)
-record_owes m a next trouble.Failed leads k = absurd k
-record_owes m a next (trouble.Late end now) leads k = absurd k
-record_owes m a next (trouble.Busy lk until) leads k = absurd k
-record_owes m a next (trouble.Absent page) leads k = absurd k
-record_owes m a next (trouble.NotALeaf page) leads k = absurd k
-record_owes m a next (trouble.BadFence page expected found) leads k = absurd k
-record_owes m a next (trouble.Loop page) leads k = absurd k
-record_owes m a next (trouble.Exhausted what) leads k = absurd k
-record_owes m a next (trouble.Waiting have need) leads k = absurd k
-record_owes m a next (trouble.Stale page least got) leads k = absurd k
-record_owes m a next trouble.Memory leads k = absurd k
+record_owes : (tree : ℕ) (w : Work) (a : Answer) (next : Step) (t : Trouble) → Leads tree w a next → BreaksRecord tree w a t → NextOwes next t
+record_owes tree w a next (trouble.Damaged where_it_is at) leads ((l, (root, is)), (ms, (bad, e, read, here, there))) =
+    let one : Leads tree (work.Receiving l root) a next = subst (λ (x : Work). Leads tree x a next) is leads in
+    let two : Leads tree (work.Receiving l root) (call.Received ms) next = subst (λ (x : Answer). Leads tree (work.Receiving l root) x next) e one in
+    owes_same (message_damage (queue.TreePu tree) bad) (trouble.Damaged where_it_is at) next
+    (damage_same (place.Message (queue.TreePu tree) bad.id) where_it_is at _ here there)
+    (intake_owes tree l root (tree_held root).cursor bad two.0 next (subst (λ (x : Result (List PuItem) Message). TakesItems (queue.TreePu tree) (tree_held root).cursor x two.0) read two.1) two.2)
+record_owes tree w a next trouble.Failed leads k = absurd k
+record_owes tree w a next (trouble.Late end now) leads k = absurd k
+record_owes tree w a next (trouble.Busy lk until) leads k = absurd k
+record_owes tree w a next (trouble.Absent page) leads k = absurd k
+record_owes tree w a next (trouble.NotALeaf page) leads k = absurd k
+record_owes tree w a next (trouble.BadFence page expected found) leads k = absurd k
+record_owes tree w a next (trouble.Loop page) leads k = absurd k
+record_owes tree w a next (trouble.Exhausted what) leads k = absurd k
+record_owes tree w a next (trouble.Waiting have need) leads k = absurd k
+record_owes tree w a next (trouble.Stale page least got) leads k = absurd k
+record_owes tree w a next trouble.Memory leads k = absurd k
 
 -- ---- inner nodes
-
-fork_none : (d : Descent) (bytes : List ℕ) → inner_of bytes ≡ None → fork_of d bytes ≡ Err (damaged d.chart.tree d.page (offset inner_format bytes))
-fork_none d bytes e = ap (λ (o : Option Inner). forked_by d (inner_or d.chart.tree d.page (offset inner_format bytes) o)) e
-
-fork_some : (d : Descent) (bytes : List ℕ) (n : Inner) → inner_of bytes ≡ Some n → fork_of d bytes ≡ forked d n
-fork_some d bytes n e = ap (λ (o : Option Inner). forked_by d (inner_or d.chart.tree d.page (offset inner_format bytes) o)) e
-
--- of a node: whether its level is the one, and whether its fence is
-abbrev fork_by : Descent → Inner → Bool → Bool → Result Fork Trouble
-fork_by d n level fence =
-    cond level (cond fence (Ok (forked_on d.chart.key n)) (Err (bad_fence d.page d.low n.low))) (Err (damaged d.chart.tree d.page 10))
-
-fork_level : (d : Descent) (n : Inner) → n.level ≢ d.level → forked d n ≡ Err (damaged d.chart.tree d.page 10)
-fork_level d n other = ap (λ (b : Bool). fork_by d n b (bytes_same n.low d.low && not (bytes_below d.chart.key n.low))) (ne_eqb n.level d.level other)
-
-fork_fence : (d : Descent) (n : Inner) → n.level ≡ d.level → bytes_same n.low d.low ≡ false → forked d n ≡ Err (bad_fence d.page d.low n.low)
-fork_fence d n level fence =
-    ap (λ (b : Bool). fork_by d n b (bytes_same n.low d.low && not (bytes_below d.chart.key n.low))) (eq-eqb n.level d.level level)
-    ∙ ap (λ (b : Bool). fork_by d n true (b && not (bytes_below d.chart.key n.low))) fence
 
 node_stops : (h : Held) (d : Descent) (bytes : List ℕ) (t : Trouble) → fork_of d bytes ≡ Err t → NextOwes (descending_on h (descent_got d (Ok (Some bytes)))) t
 node_stops h d bytes t e = subst (λ (x : Result Fork Trouble). NextOwes (descending_on h (got_node d bytes x)) t) (sym e) refl
@@ -285,12 +280,6 @@ absent_first d e = ap (λ (b : Bool). cond b (damaged d.chart.tree d.page 0) (tr
 
 absent_other : (d : Descent) → d.page ≢ 1 → absent_node d ≡ trouble.Absent d.page
 absent_other d e = ap (λ (b : Bool). cond b (damaged d.chart.tree d.page 0) (trouble.Absent d.page)) (ne_eqb d.page 1 e)
-
-fence_same : (mine page : ℕ) (low expected here found : List ℕ) → page ≡ mine → expected ≡ low → found ≡ here
-    → trouble.BadFence mine low here ≡ trouble.BadFence page expected found
-fence_same mine page low expected here found one two three =
-    ap (λ (x : ℕ). trouble.BadFence x low here) (sym one)
-    ∙ (ap (λ (x : List ℕ). trouble.BadFence page x here) (sym two) ∙ ap (trouble.BadFence page expected) (sym three))
 
 -- the step from what a get of a node brought
 abbrev node_step : Held → Descent → Answer → Step
@@ -362,6 +351,33 @@ got_leaf_owes h f a l t (inr (first, e, is)) k =
     (subst (λ (b : Bool). NextOwes (folding_on h (absent_leaf_by f b)) t) (sym (eq-eqb f.page 1 first))
     (subst (λ (x : Leaf). NextOwes (folding_on h (leaf_at f x)) t) is k))
 
+-- a right link leads to a page that the way came to before
+leaf_loops : (h : Held) (f : Folding) (l : Leaf) (high : List ℕ) (page : ℕ) → bytes_same l.low f.low ≡ true → GoesRight l.high (page_at l.right) high page
+    → bytes_below f.chart.key high ≡ false → (page ≡ f.page) ⊎ (is_seen f.visited page ≡ true) → NextOwes (folding_on h (leaf_at f l)) (trouble.Loop page)
+leaf_loops h f l high page promised right beyond seen =
+    subst (λ (x : Next Folding Left). NextOwes (folding_on h x) (trouble.Loop page)) (sym there) refl where
+      at_by : Bool → Next Folding Left
+      at_by b = cond b (leaf_side f l l.high (page_at l.right)) (Stops f (bad_low f l.low))
+
+      right_by : Bool → Next Folding Left
+      right_by b = cond b (handle f l) (to_right f high page)
+
+      loop_by : Bool → Next Folding Left
+      loop_by b = cond b (Stops f (trouble.Loop page)) (Ends (turned f high page) (Right high page))
+
+      came : (page ≡ f.page) ⊎ (is_seen f.visited page ≡ true) → ((page == f.page) || is_seen f.visited page) ≡ true
+      came (inl e) = ap (λ (b : Bool). b || is_seen f.visited page) (eq-eqb page f.page e)
+      came (inr e) = ap (λ (b : Bool). (page == f.page) || b) e ∙ either (page == f.page) where
+        either : (b : Bool) → (b || true) ≡ true
+        either true = refl
+        either false = refl
+
+      there : leaf_at f l ≡ Stops f (trouble.Loop page)
+      there =
+          ap (λ (b : Bool). at_by b) promised
+          ∙ (ap (λ (o : Option (List ℕ)). leaf_side f l o (page_at l.right)) right.0
+          ∙ (ap (leaf_side f l (Some high)) right.1 ∙ (ap (λ (b : Bool). right_by b) beyond ∙ ap (λ (b : Bool). loop_by b) (came seen))))
+
 leaf_owes : (tree : ℕ) (h : Held) (f : Folding) (a : Answer) (t : Trouble) → f.chart.tree ≡ tree → BreaksLeaf tree f a t → NextOwes (leaf_step h f a) t
 leaf_owes tree h f a (trouble.Absent page) same (here, other, e) =
     leaf_by h f a (call.Got None) (trouble.Absent page) e
@@ -378,11 +394,141 @@ leaf_owes tree h f a trouble.Failed same k = absurd k
 leaf_owes tree h f a (trouble.Late end now) same k = absurd k
 leaf_owes tree h f a (trouble.Busy lk until) same k = absurd k
 leaf_owes tree h f a (trouble.NotALeaf page) same k = absurd k
-leaf_owes tree h f a (trouble.Loop page) same k = absurd k
+leaf_owes tree h f a (trouble.Loop page) same (l, high, gets, promised, right, beyond, seen) =
+    got_leaf_owes h f a l (trouble.Loop page) gets (leaf_loops h f l high page promised right beyond seen)
 leaf_owes tree h f a (trouble.Exhausted what) same k = absurd k
 leaf_owes tree h f a (trouble.Waiting have need) same k = absurd k
 leaf_owes tree h f a (trouble.Stale page least got) same k = absurd k
 leaf_owes tree h f a trouble.Memory same k = absurd k
+
+-- ---- the way over nodes that were got before
+
+way_at : (h : Held) (start : Descent) (t : Trouble) (e : Descent) → arrive start ≡ Stops e t → NextOwes (descending_on h (arrive start)) t
+way_at h start t e stops = subst (λ (x : Next Descent (Unit {0})). NextOwes (descending_on h x) t) (sym stops) refl
+
+way_owes : (tree : ℕ) (w : Work) (cs : Calls) (a : Answer) (next : Step) (t : Trouble) → KnowsAt tree w cs → Leads tree w a next → BreaksWay tree w a t → NextOwes next t
+way_owes tree w cs a next t knows leads (d, inl b, breaks) =
+    let known : KnowsAt tree (work.Descending b.held b.from) cs = subst (λ (x : Work). KnowsAt tree x cs) b.stands knows in
+    let one : Leads tree (work.Descending b.held b.from) a next = subst (λ (x : Work). Leads tree x a next) b.stands leads in
+    let start : Descent = behind (with_node b.from b.bytes) b.node in
+    let keeps = behind_keeps (with_node b.from b.bytes) b.node in
+    let stops = way_stops tree start t (keeps.tree ∙ known.chart.same) keeps.upto (subst (λ (x : Descent). BreaksFrom tree x t) b.leads breaks) in
+    owes_by t next _ one
+    (node_by b.held b.from a (call.Got (Some b.bytes)) t b.brought
+    (subst (λ (x : Result Fork Trouble). NextOwes (descending_on b.held (got_node b.from b.bytes x)) t)
+    (sym (fork_some b.from b.bytes b.node b.reads ∙ fork_promised b.from b.node known.upto b.promised)) (way_at b.held start t stops.0 stops.1)))
+way_owes tree w cs a next t knows leads (d, inr b, breaks) =
+    let known : KnowsAt tree (work.ReleasingPage b.held b.lease (onward.Handled b.chart)) cs = subst (λ (x : Work). KnowsAt tree x cs) b.stands knows in
+    let one : Leads tree (work.ReleasingPage b.held b.lease (onward.Handled b.chart)) a next = subst (λ (x : Work). Leads tree x a next) b.stands leads in
+    let c : Chart = record b.chart { key = b.key } in
+    let stops = way_stops tree (from_root c) t known.same (root_upto c) (subst (λ (x : Descent). BreaksFrom tree x t) b.leads breaks) in
+    owes_by t next _ one
+    (subst (λ (key : Option (List ℕ)). NextOwes (going_by b.held b.chart key) t) (sym b.next) (way_at b.held (from_root c) t stops.0 stops.1))
+
+-- ---- what is spent
+
+-- a leaf that is to be put and cannot be planned
+leaf_unplanned : (h : Held) (f : Folding) (l : Leaf) (t : Trouble) → bytes_same l.low f.low ≡ true → below_bound f.chart.key l.high ≡ true
+    → has_items (lacked l 0 f.chart.run.items) ≡ true → leaf_plan (tree_held f.chart.root) f.page l f.chart.run.items ≡ Err t → NextOwes (folding_on h (leaf_at f l)) t
+leaf_unplanned h f l t promised stays lacks e =
+    subst (λ (b : Bool). NextOwes (folding_on h (cond b (leaf_side f l l.high (page_at l.right)) (Stops f (bad_low f l.low)))) t) (sym promised)
+    (side l.high (page_at l.right) stays) where
+      item : (items : List PuItem) → has_items items ≡ true → NextOwes (folding_on h (handled_by f l items)) t
+      item [] some = absurd (cc (some))
+      item (x ∷ xs) some = subst (λ (p : Result LeafPlan Trouble). NextOwes (folding_on h (planned f l.high (x ∷ xs) p)) t) (sym e) refl
+
+      side : (high : Option (List ℕ)) (right : Option ℕ) → below_bound f.chart.key high ≡ true → NextOwes (folding_on h (leaf_side f l high right)) t
+      side None right below = item (lacked l 0 f.chart.run.items) lacks
+      side (Some high) None below = item (lacked l 0 f.chart.run.items) lacks
+      side (Some high) (Some right) below =
+          subst (λ (b : Bool). NextOwes (folding_on h (cond b (handle f l) (to_right f high right))) t) (sym below) (item (lacked l 0 f.chart.run.items) lacks)
+
+-- the way up stops
+up_stops : (h : Held) (up : Rising) (t : Trouble) (x : Rise) → rise_at up (next_touched up) (touched_node up) ≡ x → IsStop t x → NextOwes (rising_on h (rise up)) t
+up_stops h up t x e is = subst (λ (y : Rise). NextOwes (rising_on h y) t) (sym e) (on x is) where
+  on : (y : Rise) → IsStop t y → NextOwes (rising_on h y) t
+  on (Goes r) s = absurd s
+  on (Ends r u) s = absurd s
+  on (Stops r u) s = ap Some s
+
+up_owes : (tree : ℕ) (w : Work) (a : Answer) (next : Step) (t : Trouble) (up : Rising) → Leads tree w a next → IsUp w a up → ((h : Held) → NextOwes (rising_on h (rise up)) t)
+    → NextOwes next t
+up_owes tree w a next t up leads (inl b) owes =
+    let one : Leads tree (work.ReleasingPage b.held b.lease (onward.Handled b.chart)) a next = subst (λ (x : Work). Leads tree x a next) b.stands leads in
+    owes_by t next _ one
+    (subst (λ (key : Option (List ℕ)). NextOwes (going_by b.held b.chart key) t) (sym b.none)
+    (subst (λ (r : Rising). NextOwes (rising_on b.held (rise r)) t) b.is (owes b.held)))
+up_owes tree w a next t up leads (inr g) owes =
+    let one : Leads tree (work.Rising g.held g.from) a next = subst (λ (x : Work). Leads tree x a next) g.stands leads in
+    let two : Leads tree (work.Rising g.held g.from) call.Done next = subst (λ (x : Answer). Leads tree (work.Rising g.held g.from) x next) g.put one in
+    owes_by t next _ two
+    (subst (λ (b : Bool). NextOwes (rising_on g.held (cond b (Ends g.from tt) (after_put (landed g.from)))) t) (sym g.some)
+    (subst (λ (b : Bool). NextOwes (rising_on g.held (cond (not b || is_some g.from.last) (Goes (landed g.from)) (rise (landed g.from)))) t) (sym g.nothing)
+    (subst (λ (o : Option (List ℕ)). NextOwes (rising_on g.held (cond (is_some o) (Goes (landed g.from)) (rise (landed g.from)))) t) (sym g.between)
+    (subst (λ (r : Rising). NextOwes (rising_on g.held (rise r)) t) g.is (owes g.held)))))
+
+-- what is due cannot be planned
+DueStops : Due → Trouble → Type 0
+DueStops (LeafDue root l run) t = (page : ℕ) → leaf_plan root page l run ≡ Err t
+DueStops (NodeDue root n links) t = (tree : ℕ) (k : KeptNode) → inner_of k.bytes ≡ Some n → node_plan root tree k links ≡ Err t
+DueStops (RootDue root links top) t = plan_of root (risen_by root.level links top (next_tree root)) ≡ Err t
+
+due_owes : (tree : ℕ) (w : Work) (a : Answer) (next : Step) (t : Trouble) → Leads tree w a next → (due : Due) → IsDue w a due → DueStops due t → NextOwes next t
+unfolding DueStops
+due_owes tree w a next t leads (LeafDue root l run) is stops =
+    let one : Leads tree (work.Folding is.held is.from) a next = subst (λ (x : Work). Leads tree x a next) is.stands leads in
+    let planned : leaf_plan (tree_held is.from.chart.root) is.from.page l is.from.chart.run.items ≡ Err t =
+    sym (ap (λ (r : Tree). leaf_plan r is.from.page l run) is.root_is ∙ ap (leaf_plan (tree_held is.from.chart.root) is.from.page l) is.run_is) ∙ stops is.from.page in
+    owes_by t next _ one
+    (subst (λ (b : Bool). NextOwes (folding_on is.held (cond b (leaf_got is.from (got_of a)) (leaf_put is.from (done_of a)))) t) (sym is.nothing)
+    (got_leaf_owes is.held is.from a l t is.gets (leaf_unplanned is.held is.from l t is.promised is.stays is.lacks planned)))
+due_owes tree w a next t leads (NodeDue root n links) is stops =
+    let up : Rising = is.up in
+    let planned : node_plan (tree_held up.chart.root) up.chart.tree is.kept up.chart.links ≡ Err t =
+    sym (ap (λ (r : Tree). node_plan r up.chart.tree is.kept links) is.root_is ∙ ap (node_plan (tree_held up.chart.root) up.chart.tree is.kept) is.links_are)
+    ∙ stops up.chart.tree is.kept is.reads in
+    up_owes tree w a next t up leads is.is_up
+    (λ h. up_stops h up t (Stops up t)
+    (ap (rise_at up (next_touched up)) is.next ∙ ap (put_node up (next_touched up + 1) (is.kept.level + 1)) planned) refl)
+due_owes tree w a next t leads (RootDue root links top) is stops =
+    let up : Rising = is.up in
+    let stood : Tree = tree_held up.chart.root in
+    let planned : last_plan up ≡ Err t =
+    sym (ap (λ (r : Tree). plan_of r (risen_by r.level links top (next_tree r))) is.root_is
+    ∙ (ap (λ (ls : List Link). plan_of stood (risen_by stood.level ls top (next_tree stood))) is.links_are
+    ∙ ap (λ (x : List (ℕ × ℕ)). plan_of stood (risen_by stood.level up.chart.links x (next_tree stood))) is.top_is)) ∙ stops in
+    up_owes tree w a next t up leads is.is_up
+    (λ h. up_stops h up t (Stops up t) (ap (rise_at up (next_touched up)) is.none ∙ ap (put_root up) planned) refl)
+
+spent_stops : (due : Due) → IsSpent due → DueStops due version_spent
+unfolding DueStops
+spent_stops (LeafDue root l run) s = λ page. leaf_plan_spent root page l run s
+spent_stops (NodeDue root n links) s = λ tree k reads. node_plan_spent root tree k n links reads s
+spent_stops (RootDue root links top) s = last_plan_spent root links top s
+
+full_stops : (due : Due) → HasNoPages due → DueStops due pages_spent
+unfolding DueStops
+full_stops (LeafDue root l run) s = λ page. leaf_plan_full root page l run s
+full_stops (NodeDue root n links) s = λ tree k reads. node_plan_full root tree k n links reads s
+full_stops (RootDue root links top) s = last_plan_full root links top s
+
+spent_owes : (tree : ℕ) (w : Work) (a : Answer) (next : Step) (t : Trouble) → Leads tree w a next → Spends w a t → NextOwes next t
+spent_owes tree w a next (trouble.Exhausted counter.Version) leads (due, is, s) = due_owes tree w a next version_spent leads due is (spent_stops due s)
+spent_owes tree w a next (trouble.Exhausted counter.Pages) leads (due, is, s) = due_owes tree w a next pages_spent leads due is (full_stops due s)
+spent_owes tree w a next (trouble.Exhausted counter.Epoch) leads k = absurd k
+spent_owes tree w a next (trouble.Exhausted counter.Txn) leads k = absurd k
+spent_owes tree w a next (trouble.Exhausted counter.Number) leads k = absurd k
+spent_owes tree w a next trouble.Failed leads k = absurd k
+spent_owes tree w a next (trouble.Late end now) leads k = absurd k
+spent_owes tree w a next (trouble.Busy lk until) leads k = absurd k
+spent_owes tree w a next (trouble.Absent page) leads k = absurd k
+spent_owes tree w a next (trouble.NotALeaf page) leads k = absurd k
+spent_owes tree w a next (trouble.Damaged where_it_is at) leads k = absurd k
+spent_owes tree w a next (trouble.BadFence page expected found) leads k = absurd k
+spent_owes tree w a next (trouble.Loop page) leads k = absurd k
+spent_owes tree w a next (trouble.Waiting have need) leads k = absurd k
+spent_owes tree w a next (trouble.Stale page least got) leads k = absurd k
+spent_owes tree w a next trouble.Memory leads k = absurd k
 
 -- ---- all
 
@@ -404,13 +550,15 @@ at_leaf tree h f w cs a next t is nothing knows leads k =
     (leaf_owes tree h f a t known.chart.same k))
 
 demanded_owes : (m : Making) (h : List Deed) (a : Answer) (next : Step) (t : Trouble) → Stands m h → KnowsAt m.tree m.work (calls_of h)
-    → Fits (making_ask m) a → Leads m.tree m.work a next → Demands m a t → NextOwes next t
+    → Fits (making_ask m) a → Leads m.tree m.work a next → Demands m.tree m.work a t → NextOwes next t
 demanded_owes m h a next t s knows fits leads (inl k) = refused_owes m.tree m.work a next t s.own fits leads k
-demanded_owes m h a next t s knows fits leads (inr (inl k)) = root_owes m a next t leads k
-demanded_owes m h a next t s knows fits leads (inr (inr (inl k))) = record_owes m a next t leads k
+demanded_owes m h a next t s knows fits leads (inr (inl k)) = root_owes m.tree m.work a next t leads k
+demanded_owes m h a next t s knows fits leads (inr (inr (inl k))) = record_owes m.tree m.work a next t leads k
 demanded_owes m h a next t s knows fits leads (inr (inr (inr (inl (held, (d, is, k)))))) = at_node m.tree held d m.work (calls_of h) a next t is knows leads k
-demanded_owes m h a next t s knows fits leads (inr (inr (inr (inr (held, (f, is, nothing, k)))))) =
+demanded_owes m h a next t s knows fits leads (inr (inr (inr (inr (inl (held, (f, is, nothing, k))))))) =
     at_leaf m.tree held f m.work (calls_of h) a next t is nothing knows leads k
+demanded_owes m h a next t s knows fits leads (inr (inr (inr (inr (inr (inl k)))))) = way_owes m.tree m.work (calls_of h) a next t knows leads k
+demanded_owes m h a next t s knows fits leads (inr (inr (inr (inr (inr (inr k)))))) = spent_owes m.tree m.work a next t leads k
 
 -- a trouble that was kept stays until it is answered
 finished_owes : (held : Leases) (end : Result CkptAnswer Trouble) (lease : Option Claim) (t : Trouble) → kept_trouble (work.Releasing held end) ≡ Some t
@@ -438,12 +586,12 @@ kept_owes tree (work.Deleting h applied) a next t leads kept = absurd (cc (kept)
 kept_owes tree work.Finished a next t leads kept = absurd (cc (kept))
 
 step_owes : (m : Making) (h : List Deed) (a : Answer) (next : Step) (t : Trouble) → Stands m h → KnowsAt m.tree m.work (calls_of h) → Fits (making_ask m) a
-    → Leads m.tree m.work a next → (kept_trouble m.work ≡ Some t) ⊎ Demands m a t → NextOwes next t
+    → Leads m.tree m.work a next → (kept_trouble m.work ≡ Some t) ⊎ Demands m.tree m.work a t → NextOwes next t
 step_owes m h a next t s knows fits leads (inl kept) = kept_owes m.tree m.work a next t leads kept
 step_owes m h a next t s knows fits leads (inr k) = demanded_owes m h a next t s knows fits leads k
 
 pub took_owes : (old new : Making) (h : List Deed) (a : Answer) (turn : Turn CkptAnswer) (t : Trouble) → Stands old h → KnowsAt old.tree old.work (calls_of h)
-    → Fits (making_ask old) a → Took MakingLeads KeepsLeases old a new turn → (kept_trouble old.work ≡ Some t) ⊎ Demands old a t → Owes new turn t
+    → Fits (making_ask old) a → Took MakingLeads KeepsLeases old a new turn → (kept_trouble old.work ≡ Some t) ⊎ Demands old.tree old.work a t → Owes new turn t
 took_owes old new h a More t s knows fits took k = step_owes old h a (Goes new.work) t s knows fits took.1 k
 took_owes old new h a (Ended x) t s knows fits took k = step_owes old h a (Ends new.work x) t s knows fits took.1 k
 took_owes old new h a (Stopped u) t s knows fits took k = λ memory. step_owes old h a (Stops new.work u) t s knows fits (took.0 memory).1 k

@@ -20,6 +20,7 @@ use Rattle.leaf_fold.specs.Folding.{folding_ask}
 use Rattle.tree_rising.specs.declared.rising.Rising.{Rising}
 use Rattle.tree_rising.specs.Rising.{rising_ask}
 use Rattle.tree_moves.specs.declared.work.Held.{Held}
+use Rattle.tree_moves.specs.declared.work.Onward.{Onward}
 use Rattle.tree_moves.specs.declared.work.Work.{Work}
 use Rattle.tree_moves.specs.declared.work.Work.TheVariants as work
 use Rattle.tree_moves.specs.Work.{work_ask}
@@ -27,7 +28,8 @@ use Rattle.tree_moves.specs.Moves.{Step, released_by, deleting_by, went, Leads}
 use Rattle.tree_ckpt.specs.Making.{Making, making_ask, MakingLeads, KeepsLeases}
 use Rattle.tree_ckpt.specs.Standing.{HoldsAt, Stands}
 use Rattle.tree_ckpt.specs.Causing.{Calls, Shows, kept_trouble}
-use Rattle.tree_ckpt.specs.Exact.{Matters, ComesToFail}
+use Rattle.tree_ckpt.specs.Demands.{Matters}
+use Rattle.tree_ckpt.specs.Stepped.{ComesToFail}
 use Rattle.tree_ckpt.proofs.Causing.{KnowsAt, NextTells, left_tells}
 
 -- the step leads to a failed call's trouble
@@ -53,9 +55,10 @@ rising_matters r l = on r.placing.reserved r.placing.puts r.last where
   on None [] None = tt
 
 -- what is told of a release that was done is no failed call
-told_of_done : (tree : ℕ) (cs : Calls) (l : Claim) (t : Trouble) → t ≡ trouble.Failed → (◌≡◌ {A = Option Trouble} None (Some t)) ⊎ Shows tree cs (Release l) call.Done t → ⊥
+told_of_done : (tree : ℕ) (cs : Calls) (l : Claim) (t : Trouble) {D : Type 0} → t ≡ trouble.Failed
+    → (◌≡◌ {A = Option Trouble} None (Some t)) ⊎ (D × Shows tree cs (Release l) call.Done t) → ⊥
 told_of_done tree cs l t e (inl kept) = absurd (cc (kept))
-told_of_done tree cs l t e (inr shows) = never (subst (Shows tree cs (Release l) call.Done) e shows) where
+told_of_done tree cs l t e (inr shows) = never (subst (Shows tree cs (Release l) call.Done) e shows.1) where
   never : call.Done ≡ call.Failed → ⊥
   never same = absurd (cc (same))
 
@@ -64,10 +67,10 @@ failed_is t e f = never (sym e ∙ f) where
   never : trouble.Failed ≡ trouble.Memory → ⊥
   never same = absurd (cc (same))
 
-left_fails : (tree : ℕ) (cs : Calls) (l : Claim) (next : Step) → NextTells tree cs (Release l) call.Done None next → NextFails next → ⊥
-left_fails tree cs l (Goes w) tells f = told_of_done tree cs l trouble.Failed refl (tells.1 trouble.Failed f)
-left_fails tree cs l (Ends w x) tells f = f
-left_fails tree cs l (Stops w t) tells f = told_of_done tree cs l t f (tells (λ memory. failed_is t f memory))
+left_fails : (tree : ℕ) (cs : Calls) (h : Held) (l : Claim) (o : Onward) (next : Step) → NextTells tree (work.ReleasingPage h l o) cs call.Done next → NextFails next → ⊥
+left_fails tree cs h l o (Goes w) tells f = told_of_done tree cs l trouble.Failed refl (tells.1 trouble.Failed f)
+left_fails tree cs h l o (Ends w x) tells f = f
+left_fails tree cs h l o (Stops w t) tells f = told_of_done tree cs l t f (tells (λ memory. failed_is t f memory))
 
 deleting_fails : (h : Held) (applied : ℕ) (id : Option ℕ) → NextFails (deleting_by h applied id) → ⊥
 deleting_fails h applied (Some id) f = absurd (cc (f))
@@ -91,7 +94,8 @@ fails_by tree (work.Descending h d) cs a next own k e none f = tt
 fails_by tree (work.TakingPage h c) cs a next own k e none f = tt
 fails_by tree (work.Folding h p) cs a next own k e none f = folding_matters p h.lease
 fails_by tree (work.ReleasingPage h l o) cs a next own k e none f =
-    left_fails tree cs l next (subst (NextTells tree cs (Release l) call.Done None) (sym e) (left_tells tree cs (Release l) call.Done None h o k)) f
+    left_fails tree cs h l o next
+    (subst (NextTells tree (work.ReleasingPage h l o) cs call.Done) (sym e) (left_tells tree (work.ReleasingPage h l o) cs call.Done h l o refl k)) f
 fails_by tree (work.LeftPage h o) cs a next own k e none f = absurd own
 fails_by tree (work.Rising h r) cs a next own k e none f = rising_matters r h.lease
 fails_by tree (work.Deleting h applied) cs a next own k e none f =

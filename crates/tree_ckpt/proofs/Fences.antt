@@ -78,7 +78,7 @@ head_sides bytes x e =
     let sides : HasSides s.0.0.1.1.0 s.0.0.1.1.1 = option_read (key_above s.0.0.1.0) r.0 s.0.0.1.1.0 (s.0.0.1.1.1, s.0.1) r.2 in
     subst (λ (h : Head). HasSides h.right h.high) s.2 sides
 
-read_sides : (bytes : List ℕ) (l : Leaf) → whole leaf bytes ≡ Ok l → HasSides l.right l.high
+pub read_sides : (bytes : List ℕ) (l : Leaf) → whole leaf bytes ≡ Ok l → HasSides l.right l.high
 unfolding leaf
 read_sides bytes l e =
     let w = whole_read leaf bytes l e in

@@ -7,6 +7,7 @@ pub mod Fences
 pub mod Charts
 pub mod Folds
 pub mod Ending
+pub mod Spending
 pub mod Brought
 pub mod Passed
 pub mod Ways
@@ -24,6 +25,9 @@ pub mod Tours
 pub mod Climbs
 pub mod Telling
 pub mod Doing
+pub mod Dues
+pub mod Walking
 pub mod Exactly
 pub mod Wellness
 pub mod Failing
+pub mod Stepping

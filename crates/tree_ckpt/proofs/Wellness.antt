@@ -20,9 +20,10 @@ use Rattle.calm_calls.proofs.CalmLemmas.{goes_well}
 use Rattle.tree_moves.specs.Moves.{went}
 use Rattle.tree_ckpt.specs.Making.{Making, new_making, making_ask, MakingLeads}
 use Rattle.tree_ckpt.specs.Standing.{Went}
-use Rattle.tree_ckpt.specs.Causing.{Calls, Shows, kept_trouble, IsShown, Tells}
+use Rattle.tree_ckpt.specs.Causing.{Calls, Shows, kept_trouble}
 use Rattle.tree_ckpt.specs.Meaning.{Tried, deletes_over, one_less, failed_count, IsDone, MeansDone}
 use Rattle.tree_ckpt.specs.Well.{IsLeft, IsWell}
+use Rattle.tree_ckpt.specs.Stepped.{IsCaused, Tells}
 use Rattle.tree_ckpt.proofs.Brought.{link_more}
 use Rattle.tree_ckpt.proofs.Causing.{came_brought, took_tells}
 
@@ -65,9 +66,9 @@ left_later tree c cs (trouble.Stale page least got) k = k
 left_later tree c cs trouble.Memory k = tt
 
 told_left : (m : Making) (h : List Deed) (a : Answer) (t : Trouble) → GoesWell a → (kept_trouble m.work ≡ Some t → IsLeft m.tree (calls_of h) t)
-    → IsShown m h a t → IsLeft m.tree ((making_ask m, a) ∷ calls_of h) t
+    → IsCaused m h a t → IsLeft m.tree ((making_ask m, a) ∷ calls_of h) t
 told_left m h a t well before (inl kept) = left_later m.tree (making_ask m, a) (calls_of h) t (before kept)
-told_left m h a t well before (inr shows) = shown_left m.tree (calls_of h) (making_ask m) a t well shows
+told_left m h a t well before (inr shows) = shown_left m.tree (calls_of h) (making_ask m) a t well shows.1
 
 -- ---- a trouble that is kept in a calm history
 

@@ -1,11 +1,5 @@
--- Why a tree checkpoint stops: each trouble is shown by the answer of the step that brings it, and by what its calls brought before.
-use Rattle.leaf_edit.specs.Applied.{applied}
-use Rattle.log_codec.specs.declared.record.PuItem.{PuItem}
-use Rattle.split_plan.specs.Sizes.{count_of}
-use Rattle.tree_parts.specs.declared.link.Link.{Link}
-use Rattle.tree_rising.specs.Nodes.{with_links}
-use Rattle.tree_rising.specs.Root.{risen}
-use Rattle.std.specs.Prelude.{length, ℕ, ◌≡◌, ◌≢◌, ◌<◌, ◌≤◌, ◌+◌, ◌-◌, false, List, [], ◌∷◌, Option, Some, None, Ok, Err, ◌⊎◌}
+-- What the calls of a tree checkpoint brought where it stops for a trouble.
+use Rattle.std.specs.Prelude.{ℕ, ◌≡◌, ◌≢◌, ◌-◌, false, List, [], ◌∷◌, Option, Some, None, Ok, Err, ◌⊎◌}
 use Rattle.db_base.specs.declared.names.Lock.{Lock}
 use Rattle.db_base.specs.declared.names.Lock.TheVariants as lock
 use Rattle.db_base.specs.declared.names.ObjName.{ObjName}
@@ -28,21 +22,13 @@ use Rattle.log_codec.specs.Pu.{pu_offset}
 use Rattle.cloud_trait.specs.declared.answer.Answer.{Answer}
 use Rattle.cloud_trait.specs.declared.answer.Answer.TheVariants as call
 use Rattle.cloud_trait.specs.declared.message.Message.{Message}
-use Rattle.cloud_trait.specs.declared.turn.CkptAnswer.{CkptAnswer}
-use Rattle.cloud_trait.specs.declared.turn.Turn.{Turn}
-use Rattle.cloud_trait.specs.declared.turn.Turn.TheVariants.{More, Ended, Stopped}
 use Rattle.cloud_trait.specs.Ask.{Ask, GetHeld, PutHeld, Take}
-use Rattle.cloud_trait.specs.Caller.{Caller}
 use Rattle.cloud_trait.specs.Claim.{Claim}
-use Rattle.cloud_trait.specs.Machine.{Deed, calls_of}
-use Rattle.cloud_trait.specs.Seen.{Seen}
-use Rattle.cloud_trait.specs.Weather.{Makes}
 use Rattle.ckpt_parts.specs.Intakes.{items_of}
 use Rattle.tree_parts.specs.Read.{tree_held}
 use Rattle.tree_moves.specs.declared.work.Work.{Work}
 use Rattle.tree_moves.specs.declared.work.Work.TheVariants.{Releasing}
 use Rattle.tree_moves.specs.Moves.{entry_or}
-use Rattle.tree_ckpt.specs.Making.{Making, making_ask}
 
 -- calls with their answers, the newest first
 abbrev pub Calls : Type 0
@@ -140,37 +126,14 @@ BreaksMessage tree a where_it_is at =
 abbrev pub Breaks : ℕ → Calls → Ask → Answer → Place → ℕ → Type 0
 Breaks tree cs ask a where_it_is at = ((name : ObjName) × (where_it_is ≡ place.Object name) × BreaksObject tree cs ask a name at) ⊎ BreaksMessage tree a where_it_is at
 
-abbrev pub greatest_number : ℕ
-greatest_number = 18446744073709551615
-
--- an object to be put has the greatest version; a tree object that is cut is put twice
-abbrev pub IsSpent : ℕ → Calls → Type 0
-IsSpent tree cs =
-    ((t : Tree) × WasRoot tree t cs × (greatest_number ≤ t.version + 1))
-    ⊎ (((page : ℕ) × (n : Inner) × WasNode tree page n cs × (n.version ≡ greatest_number))
-    ⊎ ((page : ℕ) × (l : Leaf) × WasLeaf tree page l cs × (l.version ≡ greatest_number)))
-
--- So many new pages are needed where a leaf that was got is cut with a run applied, an inner node with links, or the tree object with a cursor and
--- links. The first piece keeps its page, but for a tree object, whose pieces are all new.
-abbrev pub NeedsPages : ℕ → Calls → ℕ → Type 0
-NeedsPages tree cs count =
-    ((page : ℕ) × (l : Leaf) × (run : List PuItem) × WasLeaf tree page l cs × (count ≡ count_of (length (applied l 0 run).records) - 1))
-    ⊎ (((page : ℕ) × (n : Inner) × (ls : List Link) × WasNode tree page n cs × (count ≡ count_of (length (with_links n ls n.entries)) - 1))
-    ⊎ ((t : Tree) × (ls : List Link) × (top : List (ℕ × ℕ)) × WasRoot tree t cs
-    × (count ≡ count_of (length (risen t.level ls top (record t { version = t.version + 1 })).entries))))
-
--- the numbers of so many new pages pass the greatest one
-abbrev pub HasNoPages : ℕ → Calls → Type 0
-HasNoPages tree cs = (t : Tree) × (count : ℕ) × WasRoot tree t cs × NeedsPages tree cs count × (greatest_number < t.next + count)
-
 -- how long leases of a checkpoint are taken for
 abbrev pub ticks_of : Lock → ℕ
 ticks_of (lock.Tree tree) = 60
 ticks_of (lock.Page tree page) = 30
 ticks_of (lock.Client client) = 0
 
--- What must be where this trouble comes of the newest call, of these calls: a page that is absent was got by the newest one; a loop leads to
--- a page that was read before. Want of memory is free.
+-- What these calls brought where this trouble comes of the newest one: a page that is absent was got by it; a loop leads to a page that was read
+-- before. What is spent is that of what is due. Want of memory is free.
 abbrev pub Shows : ℕ → Calls → Ask → Answer → Trouble → Type 0
 Shows tree cs ask a trouble.Failed = a ≡ call.Failed
 Shows tree cs ask a (trouble.Late e n) = a ≡ call.Late e n
@@ -181,8 +144,8 @@ Shows tree cs ask a (trouble.NotALeaf page) = ⊥
 Shows tree cs ask a (trouble.Damaged where_it_is at) = Breaks tree cs ask a where_it_is at
 Shows tree cs ask a (trouble.BadFence page expected found) = BreaksFence tree cs page expected found
 Shows tree cs ask a (trouble.Loop page) = WasRead tree page cs × ((level : ℕ) × (low : List ℕ) × IsLink tree level low page cs)
-Shows tree cs ask a (trouble.Exhausted counter.Version) = IsSpent tree cs
-Shows tree cs ask a (trouble.Exhausted counter.Pages) = HasNoPages tree cs
+Shows tree cs ask a (trouble.Exhausted counter.Version) = Unit {0}
+Shows tree cs ask a (trouble.Exhausted counter.Pages) = Unit {0}
 Shows tree cs ask a (trouble.Exhausted what) = ⊥
 Shows tree cs ask a (trouble.Waiting have need) = ⊥
 Shows tree cs ask a (trouble.Stale page least got) = ⊥
@@ -192,18 +155,3 @@ Shows tree cs ask a trouble.Memory = Unit {0}
 abbrev pub kept_trouble : Work → Option Trouble
 kept_trouble (Releasing held (Err t)) = Some t
 kept_trouble w = None
-
--- a trouble that is kept or answered after a call was kept before it, or that call shows it
-abbrev pub IsShown : Making → List Deed → Answer → Trouble → Type 0
-IsShown m h a t = (kept_trouble m.work ≡ Some t) ⊎ Shows m.tree ((making_ask m, a) ∷ calls_of h) (making_ask m) a t
-
-abbrev pub Tells : Making → List Deed → Answer → Making → Turn CkptAnswer → Type 0
-Tells m h a n More = (t : Trouble) → kept_trouble n.work ≡ Some t → IsShown m h a t
-Tells m h a n (Ended answer) = kept_trouble m.work ≡ None
-Tells m h a n (Stopped t) = t ≢ trouble.Memory → IsShown m h a t
-
--- what a step tells of its trouble, by the answer that the cloud gave
-pub record Causes (who : Caller) (before after : Seen) (h : List Deed) (old new : Making) (turn : Turn CkptAnswer) : Type 0 where
-  pub answer : Answer
-  pub made : Makes who (making_ask old) answer before after
-  pub tells : Tells old h answer new turn

@@ -2,7 +2,10 @@ pub mod Making
 pub mod Standing
 pub mod Ending
 pub mod Causing
+pub mod Way
+pub mod Due
+pub mod Demands
 pub mod Working
 pub mod Meaning
-pub mod Exact
 pub mod Well
+pub mod Stepped

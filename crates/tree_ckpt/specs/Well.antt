@@ -1,20 +1,12 @@
 -- A tree checkpoint whose calls go well.
-use Rattle.std.specs.Prelude.{ℕ, ◌≡◌, ◌≢◌, List, ◌∷◌, None}
+use Rattle.std.specs.Prelude.{ℕ, ◌≡◌, ◌≢◌, List, None}
 use Rattle.db_base.specs.declared.names.ObjName.TheVariants as object
 use Rattle.db_base.specs.declared.trouble.Trouble.{Trouble}
 use Rattle.db_base.specs.declared.trouble.Trouble.TheVariants as trouble
 use Rattle.db_base.specs.declared.trouble.Counter.TheVariants as counter
-use Rattle.cloud_trait.specs.declared.answer.Answer.{Answer}
 use Rattle.cloud_trait.specs.declared.turn.CkptAnswer.{CkptAnswer}
 use Rattle.cloud_trait.specs.declared.turn.Turn.{Turn}
 use Rattle.cloud_trait.specs.declared.turn.Turn.TheVariants.{More, Ended, Stopped}
-use Rattle.cloud_trait.specs.Caller.{Caller}
-use Rattle.cloud_trait.specs.Machine.{Deed, calls_of}
-use Rattle.cloud_trait.specs.Seen.{Seen}
-use Rattle.cloud_trait.specs.Weather.{Makes}
-use Rattle.calm_calls.specs.Calm.{AreCalm}
-use Rattle.calm_calls.specs.Plenty.{HadMemory}
-use Rattle.tree_ckpt.specs.Making.{Making, making_ask}
 use Rattle.tree_ckpt.specs.Causing.{Calls, WasGot, IsLink}
 
 -- A trouble that may come although all these calls went well: of what the cloud holds, a greatest number, or want of memory. A page that is
@@ -41,10 +33,3 @@ abbrev pub IsWell : ℕ → Calls → Turn CkptAnswer → Type 0
 IsWell tree cs More = Unit {0}
 IsWell tree cs (Ended answer) = answer.left ≡ 0
 IsWell tree cs (Stopped t) = IsLeft tree cs t
-
--- what a step answers where this call and all before it were calm, and none before it was answered for want of memory
-pub record EndsWell (who : Caller) (before after : Seen) (h : List Deed) (old new : Making) (turn : Turn CkptAnswer) : Type 0 where
-  pub answer : Answer
-  pub made : Makes who (making_ask old) answer before after
-  pub well : AreCalm (record { who = who; ask = making_ask old; answer = answer; before = before; after = after } ∷ h) → HadMemory h
-      → IsWell old.tree ((making_ask old, answer) ∷ calls_of h) turn

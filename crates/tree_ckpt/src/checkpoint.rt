@@ -3,7 +3,7 @@
 ghost use Rattle.std.specs.Prelude.{◌≡◌, ◌<◌, List, OnOk, OnErr};
 ghost use Rattle.cloud_trait.specs.Call.{ask_of};
 ghost use Rattle.cloud_trait.specs.Weather.{Makes};
-ghost use Rattle.cloud_trait.specs.Machine.{Took, Steps, Deed};
+ghost use Rattle.cloud_trait.specs.Machine.{Took, Deed};
 
 use crate::release::let_go;
 use crate::short::work_is_short;
@@ -56,10 +56,7 @@ impl TreeCkpt {
     ghost use Rattle.tree_moves.specs.Work.{applying_in, claims_in};
     ghost use Rattle.tree_ckpt.specs.Ending.{calls_in, IsShort};
     ghost use Rattle.tree_ckpt.specs.Standing.{Went, Names, GivesBack};
-    ghost use Rattle.tree_ckpt.specs.Causing.{Causes};
-    ghost use Rattle.tree_ckpt.specs.Exact.{Exact};
-    ghost use Rattle.tree_ckpt.specs.Meaning.{MeansDone};
-    ghost use Rattle.tree_ckpt.specs.Well.{EndsWell};
+    ghost use Rattle.tree_ckpt.specs.Stepped.{Stepped};
     ghost use Rattle.tree_ckpt.specs.Making.{new_making, making_ask, with_received, with_work, handed_over, AbsorbsBy, WentBy, SameLeases, MakingLeads, KeepsLeases};
 
     /// The checkpoint of a tree. Takes no memory.
@@ -172,7 +169,8 @@ impl TreeCkpt {
 
     /// Makes the call in hand, and does the local work up to the next one.
     pub fn step<C: Cloud>(&mut self, alloc: Global, cloud: &mut C, who: Who) -> Turn<CkptAnswer>
-        ensures steps { Steps making_ask MakingLeads KeepsLeases who (C.seen cloud.old) (C.seen cloud.new) self.old self.new result }
+        // By one answer: where it leads, why it stops and what makes it stop, what Done means, and what comes where all calls were calm.
+        ensures stepped { Stepped who (C.seen cloud.old) (C.seen cloud.new) self.old self.new result }
         // Each step that goes on leaves fewer calls.
         ensures less { result ≡ Turn.More → calls_in self.new.work < calls_in self.old.work }
         // The leases that it holds are those that it took and has not given back.
@@ -181,14 +179,6 @@ impl TreeCkpt {
         ensures names { (h : List Deed) → Went h self.old → Names (making_ask self.old) (outstanding h) }
         // Before an end all leases are given back.
         ensures gives_back { (h : List Deed) → Went h self.old → GivesBack self.new result }
-        // A trouble that it keeps or answers was shown by the answer of a step, and by what its calls brought before.
-        ensures causes { (h : List Deed) → Went h self.old → Causes who (C.seen cloud.old) (C.seen cloud.new) h self.old self.new result }
-        // It keeps and answers each trouble that the answer of a step demands.
-        ensures exact { (h : List Deed) → Went h self.old → Exact who (C.seen cloud.old) (C.seen cloud.new) h self.old self.new result }
-        // At Done the calls were these, in this order: each put is right by what was got before it.
-        ensures done { (h : List Deed) → Went h self.old → MeansDone (making_ask self.old) self.old h result }
-        // Where all calls went well, an end leaves no message, and no stop is for a call that failed, a lease that was over or a lock that was held.
-        ensures well { (h : List Deed) → Went h self.old → EndsWell who (C.seen cloud.old) (C.seen cloud.new) h self.old self.new result }
     {
         let answer = self.call(cloud, who);
         self.absorb(alloc, answer)

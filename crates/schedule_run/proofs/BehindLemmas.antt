@@ -1,5 +1,5 @@
 -- What runs leave, and settlings among them, over whatever cloud earlier runs left.
-use Rattle.std.proofs.Common.{◌≡◌, ◌+◌, ◌⊎◌, ℕ, List, [], ◌∷◌, length, Some, Result, Ok, refl, sym, ap, subst, ◌∙◌, inl, inr}
+use Rattle.std.proofs.Common.{◌≡◌, ◌+◌, ℕ, List, length, Some, Result, Ok, sym, ap, subst, ◌∙◌, inl, inr}
 use Rattle.client_work.specs.Session.{Acting, closed_session}
 use Rattle.client_work.specs.declared.answer.Answer.{Answer}
 use Rattle.client_work.specs.declared.answer.Answer.TheVariants as answer

@@ -1,5 +1,5 @@
 -- Behind each line some book stands, whatever lines led to the cloud before it.
-use Rattle.std.proofs.Common.{◌≡◌, ◌≤◌, ◌⊎◌, ℕ, List, [], Option, Some, Result, Ok, Err, length, refl, sym, ap, subst, ◌∙◌, inl, inr, Bool, true, false, arith}
+use Rattle.std.proofs.Common.{◌≡◌, ◌≤◌, ◌⊎◌, ℕ, List, [], Some, Result, Ok, Err, length, refl, sym, ap, subst, ◌∙◌, inl, inr, Bool, true, false, arith}
 use Rattle.client_work.specs.Session.{Acting, StepsSession, Begins, closed_session, settling_session}
 use Rattle.client_work.specs.declared.answer.Answer.{Answer}
 use Rattle.client_work.specs.declared.op.Op.{Op}
@@ -9,12 +9,12 @@ use Rattle.cloud_facts.specs.Book.Book.{Book}
 use Rattle.cloud_facts.specs.Book.Tally.{at}
 use Rattle.cloud_trait.specs.Caller.{Caller}
 use Rattle.cloud_trait.specs.Seen.{Seen}
-use Rattle.cloud_trait.specs.State.{CloudState, greatest}
+use Rattle.cloud_trait.specs.State.{CloudState}
 use Rattle.cloud_trait.specs.Weather.{Leaves}
 use Rattle.cloud_trait.specs.declared.turn.Turn.{Turn}
 use Rattle.cloud_trait.specs.declared.turn.Turn.TheVariants.{More, Ended}
 use Rattle.db_base.specs.Change.{IsChange}
-use Rattle.db_base.specs.Ids.{IsSession, IsTree}
+use Rattle.db_base.specs.Ids.{IsTree}
 use Rattle.db_base.specs.declared.change.Change.{Change}
 use Rattle.db_base.specs.declared.change.Change.TheVariants.{Insert, Update, Delete}
 use Rattle.db_base.specs.declared.refusal.Refused.{Refused}
@@ -30,13 +30,13 @@ use Rattle.session_facts.proofs.Sessions.Calling.{session_keeps}
 use Rattle.session_facts.proofs.Sessions.Laws.{buffer_keeps, crash_keeps, rest_keeps, same_sessions}
 use Rattle.session_facts.proofs.Steps.{MadeCall, made_call}
 use Rattle.session_facts.specs.Commits.Committing.{MayCommit}
-use Rattle.session_facts.specs.Facts.{session_at, SettlerRests, SomeBookStands}
+use Rattle.session_facts.specs.Facts.{session_at, SettlerRests}
 use Rattle.session_facts.specs.Sessions.Sessions.{Sessions, SessionsStand, Goes as SessionGoes, IsRightOp}
 use Rattle.txn_buffer.specs.Noted.{Noted, noted_in}
 use Rattle.world_core.proofs.EveryLine.{insert_is, update_is, delete_is}
 use Rattle.world_core.proofs.StandsLemmas.{changed_at, changed_was, changed_rests, went_rests, has_at, no_memory}
 use Rattle.world_core.specs.Asked.{bound_of, IsOpening, IsReading, IsScanning, IsPaging, IsFolding, IsInsert, IsUpdate, IsDelete, IsNoted, IsStep, OfSession, Asks}
-use Rattle.world_core.specs.Handled.{Declines, Has, BeginsOp, NotesChange, DropsChanges, MakesNoCall, StepsLooked, MakesStep, Went, start, further, Runs, SettlesOn, Settles, Dies, DiesDone, Crashes, Does, WaitsFor, WaitsTooLong, Reports, Answers, Handled}
+use Rattle.world_core.specs.Handled.{Declines, Has, BeginsOp, NotesChange, DropsChanges, MakesNoCall, StepsLooked, MakesStep, Went, start, further, Runs, SettlesOn, Settles, Dies, Crashes, Does, WaitsFor, WaitsTooLong, Reports, Answers, Handled}
 use Rattle.world_core.specs.Sessions.{Changes, NotesIn, AbortsIn}
 use Rattle.world_core.specs.Stands.{KeepsABook}
 use Rattle.world_core.specs.World.{World}

@@ -1,5 +1,5 @@
 -- A settling that came to its end left nothing, and stayed within its bound.
-use Rattle.std.proofs.Common.{◌≡◌, ℕ, List, [], Some, Result, Ok, Err, refl, sym, ap, subst, ◌∙◌, inl, inr, arith}
+use Rattle.std.proofs.Common.{◌≡◌, ℕ, [], Some, Result, Ok, refl, sym, ap, subst, ◌∙◌, inl, inr, arith}
 use Rattle.calm_calls.specs.Calm.{IsCalm, NamesLasting}
 use Rattle.client_work.specs.Session.{Acting, StepsSession, settling_session, ask_of_work}
 use Rattle.client_work.specs.declared.answer.Answer.{Answer}
@@ -59,7 +59,6 @@ use Rattle.world_core.specs.declared.asked.Asked.{Asked}
 use Rattle.world_core.specs.declared.asked.Asked.TheVariants.{Session, Wait, Report, Settle}
 use Rattle.world_core.specs.World.{World}
 use Rattle.world_core.specs.declared.world.WorldFault.{WorldFault}
-use Rattle.world_core.specs.declared.world.WorldFault.TheVariants as fault
 use Rattle.world_core.proofs.StandsLemmas.{changed_at, changed_was, no_memory}
 
 -- ---- the steps of the line

@@ -34,6 +34,7 @@ use Rattle.page_ckpt.specs.Standing.{HoldsAt, Stands}
 use Rattle.page_ckpt.specs.Causing.{Matters, Shows, IsShown, Tells, LeadsOn}
 use Rattle.page_ckpt.proofs.Outcomes.{leased, noted, Onward, Clears, Fails, Comes, comes}
 use Rattle.page_ckpt.proofs.Outcomes as step
+use Rattle.page_ckpt.proofs.Links.{link_taken}
 
 -- the leases that the call needs are held
 abbrev pub IsHeld : Paging → Type 0
@@ -144,7 +145,7 @@ items_read q cursor (Err m) i takes = absurd (cc (takes))
 pub onward_leads : {p q : Paging} {a : Answer} {o : Option Link} → Onward p a q o → LeadsOn p a q o
 onward_leads (step.with_run p first second ms i read some) =
     let records : (items : List PuItem) × (items_of ms ≡ Ok items) = items_read (own_queue p) read.cursor (items_of ms) i read.takes in
-    inl (refl, (ms, (records.0, refl, records.1, some)), refl)
+    inl (refl, (ms, (records.0, refl, records.1, some)), link_taken p.home i.run.items)
 onward_leads (step.from_right p first second a) = inr (refl, refl)
 
 -- it came to the same pages, and the page is as it was

@@ -43,6 +43,7 @@ use Rattle.page_ckpt.specs.Causing.{Matters, Reads, LeadsOn, Shows, IsShown, gre
 use Rattle.page_ckpt.specs.Exact.{Owes}
 use Rattle.page_ckpt.proofs.Outcomes.{leased, IsLast, AreRead, Onward, Clears, Fails, Comes, comes}
 use Rattle.page_ckpt.proofs.Outcomes as step
+use Rattle.page_ckpt.proofs.Links.{one_link}
 use Rattle.page_ckpt.proofs.Causes.{IsHeld, err_is, some_is, onward_visited, onward_home}
 use Rattle.page_ckpt.proofs.Calm.{IsQuiet}
 
@@ -377,7 +378,8 @@ is_spent p t b = absurd b
 
 -- one link leads on
 one_way : {p q : Paging} {a : Answer} {o : Option Link} (n : Paging) (other : Option Link) → n.run ≡ q.run → Onward p a q o → LeadsOn p a n other → other ≡ o
-one_way n other kept (step.with_run p first second ms i read some) (inl k) = k.2 ∙ ap (λ (run : Taken). link_of p.home run.items) kept
+one_way n other kept (step.with_run p first second ms i read some) (inl k) =
+    one_link p.home n.run.items other k.2 ∙ ap (λ (run : Taken). link_of p.home run.items) kept
 one_way n other kept (step.with_run p first second ms i read some) (inr k) = absurd (cc (k.0))
 one_way n other kept (step.from_right p first second a) (inl k) = absurd (cc (k.0))
 one_way n other kept (step.from_right p first second a) (inr k) = k.1

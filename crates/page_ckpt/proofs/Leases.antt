@@ -23,7 +23,7 @@ use Rattle.page_ckpt.specs.declared.stage.Stage.{Stage}
 use Rattle.page_ckpt.specs.declared.stage.Stage.TheVariants.{TakingHome, GettingHome, Receiving, TakingRight, GettingRight, PuttingRight, ReleasingRight, PuttingHome, Deleting as DeletingNext, Releasing, Finished}
 use Rattle.page_ckpt.specs.Paging.{Paging, Step, new_paging, paging_ask, ask_at, delete_next, is_visited, went, PagingLeads, KeepsLeases}
 use Rattle.page_ckpt.specs.Ending.{held_count}
-use Rattle.page_ckpt.specs.Standing.{Went, HoldsNone, HoldsHome, HoldsBoth, HoldsFirst, HasIds, HoldsAt, DueAt, tries, StandsAt, Stands, Names, GivesBack, AreFew}
+use Rattle.page_ckpt.specs.Standing.{Went, HoldsNone, HoldsHome, HoldsBoth, HoldsFirst, HasIds, HoldsAt, DueAt, tries, StandsAt, Stands, Names, GivesBack, AreReturned, AreFew}
 use Rattle.page_ckpt.proofs.Outcomes.{leased, Onward, Clears, Fails, Comes, comes}
 use Rattle.page_ckpt.proofs.Outcomes as step
 
@@ -266,6 +266,16 @@ stands_gives old new h a (Ended x) s fits took =
 stands_gives old new h a (Stopped t) s fits took = λ memory.
     let stops : NextStands (length h + 1) (outstanding_after (paging_ask old) a (outstanding h)) (Stops new t) =
     step_stands old (length h) (outstanding h) a (Stops new t) s fits (took.0 memory) in stops.0
+
+-- .. by its calls
+pub stands_returns : (old new : Paging) (h : List Deed) (a : Answer) (turn : Turn CkptAnswer) → Stands old h → Fits (paging_ask old) a
+    → Took PagingLeads KeepsLeases old a new turn → AreReturned (after old a (outstanding h)) turn
+stands_returns old new h a More s fits took = tt
+stands_returns old new h a (Ended x) s fits took =
+    let ends : NextStands (length h + 1) (after old a (outstanding h)) (Ends new x) = step_stands old (length h) (outstanding h) a (Ends new x) s fits took in ends.1
+stands_returns old new h a (Stopped t) s fits took = λ memory.
+    let stops : NextStands (length h + 1) (after old a (outstanding h)) (Stops new t) = step_stands old (length h) (outstanding h) a (Stops new t) s fits (took.0 memory) in
+    stops.1
 
 -- ---- the calls are few
 

@@ -1,5 +1,6 @@
 pub mod Leading
 pub mod Outcomes
+pub mod Links
 pub mod End
 pub mod Leases
 pub mod Meaning

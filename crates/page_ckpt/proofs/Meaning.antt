@@ -29,6 +29,7 @@ use Rattle.page_ckpt.specs.Meaning.{Calls, Scene, scene, page_name, take_page, s
 use Rattle.page_ckpt.specs.Exact.{WasGot, HomeWasGot, OnwardWasGot, WasBrought}
 use Rattle.page_ckpt.proofs.Outcomes.{leased, noted, IsLast, AreRead, Onward, Clears, Comes, comes}
 use Rattle.page_ckpt.proofs.Outcomes as step
+use Rattle.page_ckpt.proofs.Links.{link_taken, takes_link}
 
 -- ---- what is known
 
@@ -208,13 +209,13 @@ released_knows p l r a cs (visits, (rest, (leaf, (before, (out, (n, mid, leads, 
       count = count ∙ ap (λ (m : ℕ). m + length (lacked_by (scene p) leaf)) mid.count;
       ids = mid.ids;
     } in
-    (v ∷ visits, more, (at.leads, record { holds = at.holds; puts = puts }, leads), quiet)
+    (v ∷ visits, more, (takes_link leaf p.run.items p.onward at.leads, record { holds = at.holds; puts = puts }, leads), quiet)
 
 onward_knows : {p q : Paging} {a : Answer} {o : Option Link} (cs : Calls) → Knows p cs → Onward p a q o
     → WithHome (OnTheWay q o ((paging_ask p, a) ∷ cs)) q.held.first q.held.second
 onward_knows cs k (step.with_run p (Some l) None ms i read some) =
     let opened : Opens p l ms i cs = opens p l ms i cs read k in
-    ([], record { opening = opened.opening; opened = opened.opened; some = some; calls = opened.calls; count = k.3; ids = opened.ids }, refl, k.4)
+    ([], record { opening = opened.opening; opened = opened.opened; some = some; calls = opened.calls; count = k.3; ids = opened.ids }, link_taken p.home i.run.items, k.4)
 onward_knows cs k (step.from_right p (Some l) (Some r) a) = released_knows p l r a cs k
 onward_knows cs k on = absurd k
 
@@ -421,7 +422,7 @@ released_brought p (Some l) (Some r) cs (visits, (rest, (leaf, (before, (out, (n
     let right_before : WasGot p.tree p.at.page at.got before = subst (WasGot p.tree p.at.page at.got) (sym at.calls) (inl (r, refl)) in
     let right_now : WasGot p.tree p.at.page at.got cs =
     subst (WasGot p.tree p.at.page at.got) (sym calls) (put_later p.tree p.at.page at.got (scene p) l r p.at.page out before right_before) in
-    ((middle.opening.got, home_now, middle.opened.home), (at.got, (leaf, right_now, at.holds, at.leads)))
+    ((middle.opening.got, home_now, middle.opened.home), (at.got, (leaf, right_now, at.holds, takes_link leaf p.run.items p.onward at.leads)))
 released_brought p (Some l) None cs k = absurd k
 released_brought p None second cs k = absurd k
 

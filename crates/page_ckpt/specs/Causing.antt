@@ -20,14 +20,12 @@ use Rattle.cloud_trait.specs.declared.turn.CkptAnswer.{CkptAnswer}
 use Rattle.cloud_trait.specs.declared.turn.Turn.{Turn}
 use Rattle.cloud_trait.specs.declared.turn.Turn.TheVariants.{More, Ended, Stopped}
 use Rattle.cloud_trait.specs.Ask.{Ask, Delete, Take, Release}
-use Rattle.cloud_trait.specs.Caller.{Caller}
-use Rattle.cloud_trait.specs.Seen.{Seen}
-use Rattle.cloud_trait.specs.Weather.{Makes}
 use Rattle.ckpt_parts.specs.Intakes.{items_of, has_items}
 use Rattle.ckpt_parts.specs.Leaves.{IsNoLeaf, HoldsLeaf, HoldsLinked}
 use Rattle.page_ckpt.specs.declared.link.Link.{Link}
 use Rattle.page_ckpt.specs.declared.stage.Stage.TheVariants.{GettingHome, Receiving, GettingRight, ReleasingRight}
-use Rattle.page_ckpt.specs.Paging.{Paging, paging_ask, own_queue, IsNoInner, is_visited, link_of}
+use Rattle.page_ckpt.specs.Links.{TakesLink}
+use Rattle.page_ckpt.specs.Paging.{Paging, paging_ask, own_queue, IsNoInner, is_visited}
 
 -- a call whose failure stops the checkpoint: each but a deletion and a release
 abbrev pub Matters : Ask → Type 0
@@ -64,7 +62,7 @@ BringsRun a run = (ms : List Message) × ((items : List PuItem) × (a ≡ call.R
 -- this link leads on, or none does: from the page as it was read, once a run was taken, or from a right page that is given back
 abbrev pub LeadsOn : Paging → Answer → Paging → Option Link → Type 0
 LeadsOn p a n link =
-    ((p.stage ≡ Receiving) × BringsRun a n.run.items × (link ≡ link_of p.home n.run.items)) ⊎ ((p.stage ≡ ReleasingRight) × (link ≡ p.onward))
+    ((p.stage ≡ Receiving) × BringsRun a n.run.items × TakesLink p.home n.run.items link) ⊎ ((p.stage ≡ ReleasingRight) × (link ≡ p.onward))
 
 -- a link leads on to a page that was come to before
 abbrev pub GoesRound : Paging → Answer → Paging → ℕ → Type 0
@@ -106,13 +104,8 @@ Shows p a n trouble.Memory = Unit {0}
 abbrev pub IsShown : Paging → Answer → Paging → Trouble → Type 0
 IsShown p a n t = (p.trouble ≡ Some t) ⊎ Shows p a n t
 
+-- what a step tells of its trouble
 abbrev pub Tells : Paging → Answer → Paging → Turn CkptAnswer → Type 0
 Tells p a n More = (t : Trouble) → n.trouble ≡ Some t → IsShown p a n t
 Tells p a n (Ended answer) = p.trouble ≡ None
 Tells p a n (Stopped t) = t ≢ trouble.Memory → IsShown p a n t
-
--- what a step tells of its trouble, by the answer that the cloud gave
-pub record Causes (who : Caller) (before after : Seen) (old new : Paging) (turn : Turn CkptAnswer) : Type 0 where
-  pub answer : Answer
-  pub made : Makes who (paging_ask old) answer before after
-  pub tells : Tells old answer new turn

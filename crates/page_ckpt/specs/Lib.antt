@@ -1,7 +1,9 @@
 pub mod Paging
 pub mod Ending
 pub mod Standing
+pub mod Links
 pub mod Meaning
 pub mod Causing
 pub mod Exact
 pub mod Well
+pub mod Stepped

@@ -26,7 +26,8 @@ use Rattle.cloud_trait.specs.Views.{done_of}
 use Rattle.ckpt_parts.specs.Intakes.{ids_of, items_of, has_items}
 use Rattle.ckpt_parts.specs.Leaves.{HoldsLinked}
 use Rattle.page_ckpt.specs.declared.link.Link.{Link}
-use Rattle.page_ckpt.specs.Paging.{Paging, HoldsNamed, link_of, went}
+use Rattle.page_ckpt.specs.Links.{TakesLink}
+use Rattle.page_ckpt.specs.Paging.{Paging, HoldsNamed, went}
 
 -- calls with their answers, the newest first
 abbrev pub Calls : Type 0
@@ -127,8 +128,8 @@ pub record IsVisit (s : Scene) (v : Visit) : Type 0 where
 
 -- visits, the newest first, each behind the link that the run takes from the page before, and the link that leads on from the last
 abbrev pub LeadsOn : Scene → List Visit → Option Link → Type 0
-LeadsOn s [] link = link ≡ link_of s.home s.run.items
-LeadsOn s (v ∷ vs) link = (link ≡ link_of v.leaf s.run.items) × IsVisit s v × LeadsOn s vs (Some v.link)
+LeadsOn s [] link = TakesLink s.home s.run.items link
+LeadsOn s (v ∷ vs) link = TakesLink v.leaf s.run.items link × IsVisit s v × LeadsOn s vs (Some v.link)
 
 -- how many items the visited pages lacked
 abbrev pub lacked_on : Scene → List Visit → ℕ

@@ -132,6 +132,12 @@ GivesBack n More = Unit {0}
 GivesBack n (Ended a) = claims_of n.held ≡ []
 GivesBack n (Stopped t) = t ≢ trouble.Memory → claims_of n.held ≡ []
 
+-- the same of the leases that calls took and did not give back
+abbrev pub AreReturned : List Claim → Turn CkptAnswer → Type 0
+AreReturned claims More = Unit {0}
+AreReturned claims (Ended a) = claims ≡ []
+AreReturned claims (Stopped t) = t ≢ trouble.Memory → claims ≡ []
+
 -- so many calls are few: five, one for each id that is deleted, and four for each right page that was come to
 abbrev pub AreFew : Paging → ℕ → Type 0
 AreFew p calls = calls ≤ 5 + (tries p.deletions + length p.deletions.ids) + 4 * length p.visited

@@ -1,20 +1,13 @@
 -- A page checkpoint whose calls go well.
-use Rattle.std.specs.Prelude.{ℕ, ◌≡◌, ◌≢◌, List, ◌∷◌, ◌⊎◌}
+use Rattle.std.specs.Prelude.{ℕ, ◌≡◌, ◌≢◌, ◌⊎◌}
 use Rattle.db_base.specs.declared.trouble.Trouble.{Trouble}
 use Rattle.db_base.specs.declared.trouble.Trouble.TheVariants as trouble
 use Rattle.db_base.specs.declared.trouble.Counter.TheVariants as counter
-use Rattle.cloud_trait.specs.declared.answer.Answer.{Answer}
 use Rattle.cloud_trait.specs.declared.turn.CkptAnswer.{CkptAnswer}
 use Rattle.cloud_trait.specs.declared.turn.Turn.{Turn}
 use Rattle.cloud_trait.specs.declared.turn.Turn.TheVariants.{More, Ended, Stopped}
-use Rattle.cloud_trait.specs.Caller.{Caller}
-use Rattle.cloud_trait.specs.Machine.{Deed}
-use Rattle.cloud_trait.specs.Seen.{Seen}
-use Rattle.cloud_trait.specs.Weather.{Makes}
-use Rattle.calm_calls.specs.Calm.{AreCalm}
-use Rattle.calm_calls.specs.Plenty.{HadMemory}
 use Rattle.page_ckpt.specs.declared.link.Link.{Link}
-use Rattle.page_ckpt.specs.Paging.{Paging, paging_ask}
+use Rattle.page_ckpt.specs.Paging.{Paging}
 
 -- A trouble that may come although all calls went well, by the checkpoint's page and the link to the right page in hand: of what the cloud holds
 -- of these pages and of the queue, a greatest version, or want of memory. No call failed, no lease was over, and no lock was held.
@@ -37,9 +30,3 @@ abbrev pub IsWell : Paging → Turn CkptAnswer → Type 0
 IsWell n More = Unit {0}
 IsWell n (Ended answer) = answer.left ≡ 0
 IsWell n (Stopped t) = IsLeft n.page n.at t
-
--- what a step answers where this call and all before it were calm, and none before it was answered for want of memory
-pub record EndsWell (who : Caller) (before after : Seen) (h : List Deed) (old new : Paging) (turn : Turn CkptAnswer) : Type 0 where
-  pub answer : Answer
-  pub made : Makes who (paging_ask old) answer before after
-  pub well : AreCalm (record { who = who; ask = paging_ask old; answer = answer; before = before; after = after } ∷ h) → HadMemory h → IsWell new turn

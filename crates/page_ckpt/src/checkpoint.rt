@@ -4,7 +4,7 @@ ghost use Rattle.std.specs.Prelude.{◌≡◌, ◌<◌, ◌≤◌, ◌+◌, ◌^
 ghost use Rattle.std.specs.List.{list_any};
 ghost use Rattle.cloud_trait.specs.Ask.{Release};
 ghost use Rattle.cloud_trait.specs.Call.{ask_of, Lends};
-ghost use Rattle.cloud_trait.specs.Machine.{Took, Steps, Deed};
+ghost use Rattle.cloud_trait.specs.Machine.{Took, Deed};
 ghost use Rattle.cloud_trait.specs.Weather.{Makes};
 
 use crate::leaf::{Made, held_bytes, made_leaf, named_leaf};
@@ -109,15 +109,12 @@ impl PageCkpt {
     ghost use Rattle.ckpt_parts.specs.Deleting.{next_id};
     ghost use Rattle.ckpt_parts.specs.Intakes.{has_items};
     ghost use Rattle.ckpt_parts.specs.Leasing.{newest_lease, claims_of, outstanding};
-    ghost use Rattle.page_ckpt.specs.Causing.{Causes};
-    ghost use Rattle.page_ckpt.specs.Exact.{Exact};
-    ghost use Rattle.page_ckpt.specs.Meaning.{MeansDone};
-    ghost use Rattle.page_ckpt.specs.Well.{EndsWell};
+    ghost use Rattle.page_ckpt.specs.Stepped.{Stepped};
     ghost use Rattle.page_ckpt.specs.Standing.{Went, Names, GivesBack, AreFew};
     ghost use Rattle.leaf_view.specs.Lookup.{page_at};
     ghost use Rattle.log_codec.specs.Order.{IsOrdered};
     ghost use Rattle.page_ckpt.specs.Ending.{calls_left};
-    ghost use Rattle.page_ckpt.specs.Paging.{new_paging, paging_ask, take_home, under, delete_next, handed, stopping, home_taken_by, HomeGot, ReceivedBy, MessagesRead, IntakeTaken, GoesOn, without_onward, to_right, is_visited, LeafPut, MakesLeaf, MadePut, right_taken_by, RightGot, RightRead, RightLacks, right_put_by, home_put_by, deleted_by, deleting, released_by, finished_by, Absorbs, PagingLeads, SameLeases, KeepsLeases};
+    ghost use Rattle.page_ckpt.specs.Paging.{new_paging, paging_ask, take_home, under, delete_next, handed, stopping, home_taken_by, HomeGot, ReceivedBy, MessagesRead, IntakeTaken, GoesOn, without_onward, to_right, is_visited, LeafPut, MakesLeaf, MadePut, right_taken_by, RightGot, RightRead, RightLacks, right_put_by, home_put_by, deleted_by, deleting, released_by, finished_by, Absorbs, SameLeases};
 
     /// The checkpoint of a page of a tree. Takes no memory.
     pub fn new(alloc: Global, tree: TreeId, page: PageId) -> PageCkpt
@@ -651,7 +648,8 @@ impl PageCkpt {
 
     /// Makes the call in hand, and does the local work up to the next one.
     pub fn step<C: Cloud>(&mut self, alloc: Global, cloud: &mut C, who: Who) -> Turn<CkptAnswer>
-        ensures steps { Steps paging_ask PagingLeads KeepsLeases who (C.seen cloud.old) (C.seen cloud.new) self.old self.new result }
+        // The call in hand was made, and all that follows from its one answer.
+        ensures steps { Stepped who (C.seen cloud.old) (C.seen cloud.new) self.old self.new result }
         ensures less { result ≡ Turn.More → calls_left self.new < calls_left self.old }
         // The leases that it holds are those that it took and has not given back.
         ensures leases { (h : List Deed) → Went h self.old → claims_of self.old.held ≡ outstanding h }
@@ -659,14 +657,6 @@ impl PageCkpt {
         ensures names { (h : List Deed) → Went h self.old → Names (paging_ask self.old) (outstanding h) }
         // Before an end all leases are given back.
         ensures gives_back { (h : List Deed) → Went h self.old → GivesBack self.new result }
-        // A trouble that it keeps or answers was shown by the answer of a step.
-        ensures causes { (h : List Deed) → Went h self.old → Causes who (C.seen cloud.old) (C.seen cloud.new) self.old self.new result }
-        // It keeps or answers a trouble exactly where the answer of a step shows it.
-        ensures exact { (h : List Deed) → Went h self.old → Exact who (C.seen cloud.old) (C.seen cloud.new) h self.old self.new result }
-        // At Done the calls were these, in this order.
-        ensures done { (h : List Deed) → Went h self.old → MeansDone (paging_ask self.old) self.new h result }
-        // Where all calls went well, an end leaves no message, and no stop is for a call that failed, a lease that was over or a lock that was held.
-        ensures well { (h : List Deed) → Went h self.old → EndsWell who (C.seen cloud.old) (C.seen cloud.new) h self.old self.new result }
         // Five calls, one for each id that is deleted, and four for each right page that is come to, are all.
         ensures few { (h : List Deed) → Went h self.old → AreFew self.old (length h + 1) }
     {
@@ -684,9 +674,10 @@ impl PageCkpt {
     }
 }
 
-/// A count with so many items more; none where it would pass the greatest u64.
+/// A count with so many items more; none where it would pass the greatest u64, and its checkpoint stops there as for want of memory.
 fn counted_after(count: u64, items: &[PuItem]) -> Option<u64>
-    ensures { IfSome result (λ n. n ≡ count + length items.now) }
+    ensures counted { IfSome result (λ n. n ≡ count + length items.now) }
+    ensures full { IfNone result (2 ^ 64 ≤ count + length items.now) }
 {
     count.checked_add(items.len() as u64)
 }

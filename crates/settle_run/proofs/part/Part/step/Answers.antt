@@ -22,7 +22,7 @@ returns-in-Tree-clause-less g c = λ h went.
 
 pub returns-in-Page-clause-steps : goal.returns-in-Page-clause-steps
 returns-in-Page-clause-steps g c =
-    paging_steps c.in-Page.field-0 c.in-Page.field-1 _ _ _ c.in-Page.machine _ _ _ _ c.in-Page.is c.left_turn-in-Page.ensures c.step-in-Page.ensures.steps
+    paging_steps c.in-Page.field-0 c.in-Page.field-1 _ _ _ c.in-Page.machine _ _ _ _ c.in-Page.is c.left_turn-in-Page.ensures c.step-in-Page.ensures.steps.did
 
 pub returns-in-Page-clause-less : goal.returns-in-Page-clause-less
 returns-in-Page-clause-less g c = λ h went.

@@ -1,0 +1,45 @@
+-- What a step of a page checkpoint is, all of it by the one answer that the cloud gave.
+use Rattle.std.specs.Prelude.{◌≡◌, ◌≢◌, List, ◌∷◌}
+use Rattle.db_base.specs.declared.trouble.Trouble.{Trouble}
+use Rattle.db_base.specs.declared.trouble.Trouble.TheVariants as trouble
+use Rattle.cloud_trait.specs.declared.answer.Answer.{Answer}
+use Rattle.cloud_trait.specs.declared.answer.Answer.TheVariants as call
+use Rattle.cloud_trait.specs.declared.turn.CkptAnswer.{CkptAnswer}
+use Rattle.cloud_trait.specs.declared.turn.Turn.{Turn}
+use Rattle.cloud_trait.specs.declared.turn.Turn.TheVariants.{Stopped}
+use Rattle.cloud_trait.specs.Caller.{Caller}
+use Rattle.cloud_trait.specs.Machine.{Steps, Deed, calls_of}
+use Rattle.cloud_trait.specs.Seen.{Seen}
+use Rattle.calm_calls.specs.Calm.{AreCalm}
+use Rattle.calm_calls.specs.Plenty.{HadMemory}
+use Rattle.ckpt_parts.specs.Leasing.{outstanding}
+use Rattle.page_ckpt.specs.Paging.{Paging, paging_ask, PagingLeads, KeepsLeases}
+use Rattle.page_ckpt.specs.Standing.{Went, AreReturned}
+use Rattle.page_ckpt.specs.Meaning.{MeansDone}
+use Rattle.page_ckpt.specs.Causing.{IsShown, Tells}
+use Rattle.page_ckpt.specs.Exact.{WasBrought, Owes}
+use Rattle.page_ckpt.specs.Well.{IsWell}
+
+-- the call in hand and its answer, before others
+abbrev pub and_then : Caller → Seen → Seen → Paging → Answer → List Deed → List Deed
+and_then who before after old answer h = record { who = who; ask = paging_ask old; answer = answer; before = before; after = after } ∷ h
+
+-- What this answer came to behind these calls. Each trouble that is kept or answered was kept before or is shown by the answer (`tells`), and each
+-- such trouble is kept or answered (`owes`). The leaves from which links lead on were brought by gets. At an end the calls were those of a
+-- checkpoint that is done, in their order (`done`), and before it each lease that a call took was given back by a call (`returned`). Where all calls
+-- were calm, and those before this one were not answered for want of memory, an end leaves no message, and a stop is for what the cloud holds
+-- (`well`).
+pub record Means (who : Caller) (before after : Seen) (h : List Deed) (old : Paging) (answer : Answer) (new : Paging) (turn : Turn CkptAnswer) : Type 0 where
+  pub tells : Tells old answer new turn
+  pub owes : (t : Trouble) → t ≢ trouble.Memory → IsShown old answer new t → Owes new turn t
+  pub brought : WasBrought old (calls_of h)
+  pub done : MeansDone (paging_ask old) new h turn
+  pub returned : AreReturned (outstanding (and_then who before after old answer h)) turn
+  pub well : AreCalm (and_then who before after old answer h) → HadMemory h → IsWell new turn
+
+-- The code made the call in hand and took a step that its answer leads to. Where the answer is want of memory, it stops for it. Whichever calls the
+-- checkpoint came by, the answer came to this behind them.
+pub record Stepped (who : Caller) (before after : Seen) (old new : Paging) (turn : Turn CkptAnswer) : Type 0 where
+  pub did : Steps paging_ask PagingLeads KeepsLeases who before after old new turn
+  pub memory : did.answer ≡ call.Memory → turn ≡ Stopped trouble.Memory
+  pub means : (h : List Deed) → Went h old → Means who before after h old did.answer new turn

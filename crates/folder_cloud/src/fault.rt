@@ -12,6 +12,31 @@ pub(crate) enum FolderFault {
     Memory,
 }
 
+/// Why a call under a lease was not done in a folder.
+#[derive(Clone, Copy, Debug, PartialEq, Eq)]
+pub(crate) enum HeldStop {
+    /// A lease was over: its end and the clock, in ticks.
+    Late {
+        /// The end of the lease.
+        end: u64,
+        /// The clock.
+        now: u64,
+    },
+    /// Anything else.
+    Fault(FolderFault),
+}
+
+impl From<FolderFault> for HeldStop {
+    ghost use Rattle.std.specs.Prelude.{◌≡◌};
+    ghost use Rattle.folder_cloud.specs.declared.fault.HeldStop.TheVariants.{Fault};
+
+    ghost from_gives = { λ fault stop. stop ≡ Fault fault };
+
+    fn from(fault: FolderFault) -> Self {
+        HeldStop::Fault(fault)
+    }
+}
+
 impl From<io::Error> for FolderFault {
     fn from(error: io::Error) -> Self {
         match error.kind() {

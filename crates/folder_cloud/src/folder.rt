@@ -1,10 +1,15 @@
-//! The files of a folder. Each call holds the folder's file lock from its begin to its end.
+//! The files of a folder. What looks at them or changes them is handed the lock on the folder that it is done under.
 
 ghost use Rattle.std.specs.Prelude.{◌≡◌, ◌≤◌, length, IfOk, OnOk, Ok};
 ghost use Rattle.cloud_trait.specs.Claim.{Claim};
 
 use crate::fault::FolderFault;
+use crate::files::{
+    flush_names, keep_folder, look, make_folder, make_new, open_there, read, remove,
+};
+use crate::held::{Held, landed};
 use crate::numbers::{hold_bytes, hold_in, id_in, id_name, number_in};
+use crate::rules::{is_held, lease_end, next_number, was_given};
 use cloud_trait::grant::Grant;
 use cloud_trait::lease::Lease;
 use cloud_trait::message::Message;
@@ -14,9 +19,25 @@ use db_base::ids::MsgId;
 use db_base::names::{Lock, ObjName, QueueName};
 use folder_names::files::{file_of, folder_of, lock_of};
 use std::fs;
-use std::fs::{File, OpenOptions};
+use std::fs::File;
 use std::io::{ErrorKind, Write};
+use std::os::unix::fs::{FileExt, MetadataExt};
 use std::rt::Files;
+
+/// The parts of a folder, and the one file beside them.
+const OBJECTS: &str = "objects";
+
+const LOCKS: &str = "locks";
+
+const QUEUES: &str = "queues";
+
+const IN_USE: &str = "in-use";
+
+/// In each part: a file that is being written. No object, lock or message has this name.
+const ASIDE: &str = "aside";
+
+/// In the part of a queue: a number that no deleted message had a greater one than, but for those below one that is there.
+const LAST: &str = "last";
 
 /// A folder, by its path.
 #[derive(Drop)]
@@ -35,14 +56,31 @@ impl<R: Files<File = File> + AllocGlobal + Drop> Folder<R> {
         }
         let dir = String::from_str(rt.alloc(), dir)?;
         let folder = Folder { rt, dir };
-        for part in ["objects", "locks", "queues"] {
-            let path = folder.path(part, "")?;
-            fs::create_dir_all(&folder.rt, path.as_str())?;
+        let in_use = folder.path(IN_USE, "")?;
+        if look(&folder.rt, in_use.as_str())?.is_none() {
+            folder.make()?;
         }
         Ok(folder)
     }
 
-    // The path of a name in a part of the folder.
+    // Makes the folder, those above it and its parts, and flushes their names.
+    fn make(&self) -> Result<(), FolderFault> {
+        let dir = self.dir.as_str();
+        for (end, _) in dir.match_indices('/') {
+            match dir.get(..end) {
+                Some("") | None => {}
+                Some(above) => keep_folder(&self.rt, above)?,
+            }
+        }
+        keep_folder(&self.rt, dir)?;
+        for part in [OBJECTS, LOCKS, QUEUES] {
+            let path = self.path(part, "")?;
+            keep_folder(&self.rt, path.as_str())?;
+        }
+        Ok(())
+    }
+
+    // The path of a name in a part of the folder, or of the part.
     fn path(&self, part: &str, name: &str) -> Result<String, FolderFault> {
         let mut path = String::from_str(self.rt.alloc(), self.dir.as_str())?;
         path.push('/')?;
@@ -54,121 +92,119 @@ impl<R: Files<File = File> + AllocGlobal + Drop> Folder<R> {
         Ok(path)
     }
 
-    // Waits until no other process is at work here, and keeps others out until the file is let go.
-    fn hold(&self) -> Result<File, FolderFault> {
-        let path = self.path("in-use", "")?;
-        let mut options = OpenOptions::new();
-        options.write(true);
-        options.create(true);
-        let file = options.open(&self.rt, path.as_str())?;
-        file.lock()?;
-        Ok(file)
+    /// Waits until no other process is at work here. What a process that was killed changed and did not flush is flushed first, so
+    /// that nobody acts on what a power failure would take back.
+    pub fn hold(&self) -> Result<Held, FolderFault> {
+        let path = self.path(IN_USE, "")?;
+        let held = Held::of(&self.rt, path.as_str())?;
+        if let Some(part) = held.marked(self.rt.alloc())? {
+            self.flush_marked(part.as_str())?;
+            held.unmark()?;
+        }
+        Ok(held)
     }
 
-    // The bytes of a file; none where there is no file.
-    fn read(&self, path: &str) -> Result<Option<Vec<u8>>, FolderFault> {
-        match fs::read(&self.rt, path) {
-            Ok(bytes) => Ok(Some(bytes)),
-            Err(error) => match error.kind() {
-                ErrorKind::NotFound => Ok(None),
-                _ => Err(FolderFault::from(error)),
-            },
+    // Flushes the names in a part. A mark may be anything after a power failure, and need not name a part then.
+    fn flush_marked(&self, part: &str) -> Result<(), FolderFault> {
+        let path = self.path(part, "")?;
+        match look(&self.rt, path.as_str())? {
+            Some(there) if there.is_dir() => flush_names(&self.rt, path.as_str()),
+            _ => Ok(()),
         }
     }
 
-    // Puts a file in the place of the one that is there, if any: it is written aside and flushed, and then renamed.
-    fn write(&self, path: &str, bytes: &[u8]) -> Result<(), FolderFault> {
-        let aside = self.path("aside", "")?;
-        let mut file = fs::create(&self.rt, aside.as_str())?;
+    // A part of the folder, open to flush its names.
+    fn names(&self, part: &str) -> Result<File, FolderFault> {
+        let path = self.path(part, "")?;
+        Ok(fs::open(&self.rt, path.as_str())?)
+    }
+
+    // The bytes of a file in a part; none where there is no file.
+    fn read(&self, part: &str, name: &str) -> Result<Option<Vec<u8>>, FolderFault> {
+        let path = self.path(part, name)?;
+        read(&self.rt, path.as_str())
+    }
+
+    // Puts a file in the place of the one that is there, if any: it is made anew beside it and flushed, and then renamed. A
+    // leftover is removed and not written over, since after a power failure it may be one file with what it was renamed to.
+    fn write(&self, held: &Held, part: &str, name: &str, bytes: &[u8]) -> Result<(), FolderFault> {
+        let aside = self.path(part, ASIDE)?;
+        let path = self.path(part, name)?;
+        let names = self.names(part)?;
+        remove(&self.rt, aside.as_str())?;
+        let mut file = make_new(&self.rt, aside.as_str())?;
         file.write_all(bytes)?;
         file.sync_all()?;
-        fs::rename(&self.rt, aside.as_str(), path)?;
-        self.flush_names_beside(path)
-    }
-
-    // Flushes the names of the folder that a path lies in.
-    fn flush_names_beside(&self, path: &str) -> Result<(), FolderFault> {
-        if let Some((folder, _)) = path.rsplit_once('/') {
-            let names = fs::open(&self.rt, folder)?;
-            names.sync_all()?;
-        }
-        Ok(())
-    }
-
-    fn object_path(&self, name: &ObjName) -> Result<String, FolderFault> {
-        let file = file_of(self.rt.alloc(), *name)?;
-        self.path("objects", file.as_str())
-    }
-
-    fn lock_path(&self, lock: &Lock) -> Result<String, FolderFault> {
-        let file = lock_of(self.rt.alloc(), *lock)?;
-        self.path("locks", file.as_str())
-    }
-
-    fn queue_path(&self, queue: &QueueName) -> Result<String, FolderFault> {
-        let folder = folder_of(self.rt.alloc(), *queue)?;
-        self.path("queues", folder.as_str())
-    }
-
-    // The path of a message in the folder of its queue.
-    fn message_path(&self, queue: &str, id: u64) -> Result<String, FolderFault> {
-        let mut path = String::from_str(self.rt.alloc(), queue)?;
-        path.push('/')?;
-        let name = id_name(self.rt.alloc(), id)?;
-        path.push_str(name.as_str())?;
-        Ok(path)
+        held.mark(part)?;
+        fs::rename(&self.rt, aside.as_str(), path.as_str())?;
+        held.flush(&names)
     }
 
     /// The newest version of an object.
-    pub fn get(&self, name: &ObjName) -> Result<Option<Blob>, FolderFault> {
-        let _held = self.hold()?;
-        let path = self.object_path(name)?;
-        match self.read(path.as_str())? {
+    pub fn get(&self, _held: &Held, name: &ObjName) -> Result<Option<Blob>, FolderFault> {
+        let file = file_of(self.rt.alloc(), *name)?;
+        match self.read(OBJECTS, file.as_str())? {
             Some(bytes) => Ok(Some(Blob::of(bytes))),
             None => Ok(None),
         }
     }
 
     /// Puts a version of an object.
-    pub fn put(&self, name: &ObjName, bytes: &[u8]) -> Result<(), FolderFault> {
-        let _held = self.hold()?;
-        let path = self.object_path(name)?;
-        self.write(path.as_str(), bytes)
+    pub fn put(&self, held: &Held, name: &ObjName, bytes: &[u8]) -> Result<(), FolderFault> {
+        let file = file_of(self.rt.alloc(), *name)?;
+        self.write(held, OBJECTS, file.as_str(), bytes)
     }
 
-    // The last message that a queue gave a number to.
-    fn last_id(&self, path: &str) -> Result<u64, FolderFault> {
-        match self.read(path)? {
-            Some(bytes) => number_in(bytes.as_slice()).ok_or(FolderFault::Failed),
+    // The part of a queue.
+    fn queue_part(&self, queue: &QueueName) -> Result<String, FolderFault> {
+        let folder = folder_of(self.rt.alloc(), *queue)?;
+        let mut part = String::from_str(self.rt.alloc(), QUEUES)?;
+        part.push('/')?;
+        part.push_str(folder.as_str())?;
+        Ok(part)
+    }
+
+    // Makes the part of a queue, where there is none.
+    fn make_queue(&self, held: &Held, queue: &str) -> Result<(), FolderFault> {
+        let path = self.path(queue, "")?;
+        if look(&self.rt, path.as_str())?.is_some() {
+            return Ok(());
+        }
+        let names = self.names(QUEUES)?;
+        held.mark(QUEUES)?;
+        make_folder(&self.rt, path.as_str())?;
+        held.flush(&names)
+    }
+
+    // The number that was noted in a queue; 0 where none was, or what was is lost.
+    fn noted(&self, queue: &str) -> Result<u64, FolderFault> {
+        match self.read(queue, LAST)? {
+            Some(bytes) => Ok(number_in(bytes.as_slice()).unwrap_or(0)),
             None => Ok(0),
         }
     }
 
-    /// Sends a message. Its number is counted before it is written, so no number comes twice; where the count was set back, the message
-    /// that has the number stays, and the send fails.
-    pub fn send(&self, queue: &QueueName, bytes: &[u8]) -> Result<MsgId, FolderFault> {
-        let _held = self.hold()?;
-        let folder = self.queue_path(queue)?;
-        fs::create_dir_all(&self.rt, folder.as_str())?;
-        self.flush_names_beside(folder.as_str())?;
-        let mut counter = String::from_str(self.rt.alloc(), folder.as_str())?;
-        counter.push_str("/last")?;
-        let last = self.last_id(counter.as_str())?;
-        let id = last.checked_add(1).ok_or(FolderFault::Failed)?;
-        let path = self.message_path(folder.as_str(), id)?;
-        if self.read(path.as_str())?.is_some() {
-            return Err(FolderFault::Failed);
-        }
-        self.write(counter.as_str(), &id.to_be_bytes())?;
-        self.write(path.as_str(), bytes)?;
+    /// Sends a message, behind all that are there.
+    pub fn send(&self, held: &Held, queue: &QueueName, bytes: &[u8]) -> Result<MsgId, FolderFault> {
+        let queue = self.queue_part(queue)?;
+        self.make_queue(held, queue.as_str())?;
+        let newest = match self.ids(queue.as_str())?.last() {
+            Some(id) => *id,
+            None => 0,
+        };
+        let noted = self.noted(queue.as_str())?;
+        let id = next_number(noted, newest).ok_or(FolderFault::Failed)?;
+        let name = id_name(self.rt.alloc(), id)?;
+        self.write(held, queue.as_str(), name.as_str(), bytes)?;
         Ok(MsgId::new(id))
     }
 
     // The messages of a queue that are not deleted, in the order of sending.
-    fn ids(&self, folder: &str) -> Result<Vec<u64>, FolderFault> {
+    fn ids(&self, queue: &str) -> Result<Vec<u64>, FolderFault> {
         let mut ids = Vec::new(self.rt.alloc());
+        let path = self.path(queue, "")?;
         let rt = &self.rt;
-        let entries = match fs::read_dir(&rt, folder) {
+        let entries = match fs::read_dir(&rt, path.as_str()) {
             Ok(entries) => entries,
             Err(error) => match error.kind() {
                 ErrorKind::NotFound => return Ok(ids),
@@ -193,16 +229,20 @@ impl<R: Files<File = File> + AllocGlobal + Drop> Folder<R> {
     }
 
     /// The first messages of a queue that are not deleted, at most so many, in the order of sending.
-    pub fn receive(&self, queue: &QueueName, most: u16) -> Result<Vec<Message>, FolderFault>
+    pub fn receive(
+        &self,
+        _held: &Held,
+        queue: &QueueName,
+        most: u16,
+    ) -> Result<Vec<Message>, FolderFault>
         ensures { IfOk result (λ messages. length messages.items ≤ most) }
     {
-        let _held = self.hold()?;
-        let folder = self.queue_path(queue)?;
-        let ids = self.ids(folder.as_str())?;
+        let queue = self.queue_part(queue)?;
+        let ids = self.ids(queue.as_str())?;
         let mut messages = Vec::new(self.rt.alloc());
         for id in ids.iter().take(usize::from(most)) {
-            let path = self.message_path(folder.as_str(), *id)?;
-            if let Some(bytes) = self.read(path.as_str())? {
+            let name = id_name(self.rt.alloc(), *id)?;
+            if let Some(bytes) = self.read(queue.as_str(), name.as_str())? {
                 messages.push(Message {
                     id: MsgId::new(*id),
                     bytes: Blob::of(bytes),
@@ -214,30 +254,43 @@ impl<R: Files<File = File> + AllocGlobal + Drop> Folder<R> {
     }
 
     /// How many messages of a queue are not deleted.
-    pub fn backlog(&self, queue: &QueueName) -> Result<u64, FolderFault> {
-        let _held = self.hold()?;
-        let folder = self.queue_path(queue)?;
-        let ids = self.ids(folder.as_str())?;
+    pub fn backlog(&self, _held: &Held, queue: &QueueName) -> Result<u64, FolderFault> {
+        let queue = self.queue_part(queue)?;
+        let ids = self.ids(queue.as_str())?;
         Ok(ids.len() as u64)
     }
 
     /// Deletes a message, where it is there.
-    pub fn delete(&self, queue: &QueueName, id: MsgId) -> Result<(), FolderFault> {
-        let _held = self.hold()?;
-        let folder = self.queue_path(queue)?;
-        let path = self.message_path(folder.as_str(), id.get())?;
-        match fs::remove_file(&self.rt, path.as_str()) {
-            Ok(()) => Ok(()),
-            Err(error) => match error.kind() {
-                ErrorKind::NotFound => Ok(()),
-                _ => Err(FolderFault::from(error)),
-            },
+    pub fn delete(&self, held: &Held, queue: &QueueName, id: MsgId) -> Result<(), FolderFault> {
+        let queue = self.queue_part(queue)?;
+        let name = id_name(self.rt.alloc(), id.get())?;
+        let path = self.path(queue.as_str(), name.as_str())?;
+        if look(&self.rt, path.as_str())?.is_none() {
+            return Ok(());
         }
+        self.note(held, queue.as_str(), id.get())?;
+        let names = self.names(queue.as_str())?;
+        held.mark(queue.as_str())?;
+        fs::remove_file(&self.rt, path.as_str())?;
+        held.flush(&names)
     }
 
-    // How a lock stands.
-    fn hold_of(&self, path: &str) -> Result<Hold, FolderFault> {
-        match self.read(path)? {
+    // Notes the number of a message that is deleted, where it may be the greatest: no later one is to have it again.
+    fn note(&self, held: &Held, queue: &str, id: u64) -> Result<(), FolderFault> {
+        if id <= self.noted(queue)? {
+            return Ok(());
+        }
+        let behind = id_name(self.rt.alloc(), id.saturating_add(1))?;
+        let path = self.path(queue, behind.as_str())?;
+        if id < u64::MAX && look(&self.rt, path.as_str())?.is_some() {
+            return Ok(());
+        }
+        self.write(held, queue, LAST, &id.to_be_bytes())
+    }
+
+    // How a lock stands, by the name of its file.
+    fn hold_of(&self, lock: &str) -> Result<Hold, FolderFault> {
+        match self.read(LOCKS, lock)? {
             Some(bytes) => hold_in(bytes.as_slice()).ok_or(FolderFault::Failed),
             None => Ok(Hold {
                 generation: 0,
@@ -246,36 +299,71 @@ impl<R: Files<File = File> + AllocGlobal + Drop> Folder<R> {
         }
     }
 
-    fn set_hold(&self, path: &str, hold: Hold) -> Result<(), FolderFault> {
+    // Writes how a lock stands over how it stood, in one write, or in a new file where that has another name. A release need not be
+    // flushed: where it is lost, the lock is held until the end that it had.
+    fn set_hold(&self, held: &Held, lock: &str, hold: Hold) -> Result<(), FolderFault> {
         let bytes = hold_bytes(self.rt.alloc(), hold)?;
-        self.write(path, bytes.as_slice())
+        let path = self.path(LOCKS, lock)?;
+        let Some(file) = open_there(&self.rt, path.as_str(), true)? else {
+            return self.write(held, LOCKS, lock, bytes.as_slice());
+        };
+        if file.metadata()?.nlink() != 1 {
+            return self.write(held, LOCKS, lock, bytes.as_slice());
+        }
+        landed(file.write_all_at(bytes.as_slice(), 0))?;
+        if hold.until == 0 {
+            return Ok(());
+        }
+        landed(file.sync_data())
     }
 
-    /// Takes a lock until a moment, where it is free now.
-    pub fn take(&self, lock: &Lock, now: u64, until: u64) -> Result<Grant, FolderFault>
+    /// Takes a lock for some ticks, where it is free now. Where it was not given back, a put of its holder may not be flushed yet.
+    pub fn take(&self, held: &Held, lock: &Lock, now: u64, ticks: u64) -> Result<Grant, FolderFault>
         ensures { (l : Claim) → result ≡ Ok (Grant.Given l) → l.lock ≡ lock.now }
     {
-        let _held = self.hold()?;
-        let path = self.lock_path(lock)?;
-        let old = self.hold_of(path.as_str())?;
-        if old.until > now {
+        let name = lock_of(self.rt.alloc(), *lock)?;
+        let old = self.hold_of(name.as_str())?;
+        if is_held(now, old.until) {
             return Ok(Grant::Held(old.until));
         }
-        let generation = old.generation.saturating_add(1);
-        self.set_hold(path.as_str(), Hold { generation, until })?;
+        if old.until > 0 {
+            let path = self.path(OBJECTS, "")?;
+            flush_names(&self.rt, path.as_str())?;
+        }
+        let generation = old.generation.checked_add(1).ok_or(FolderFault::Failed)?;
+        let until = lease_end(now, ticks);
+        self.set_hold(held, name.as_str(), Hold { generation, until })?;
         Ok(Grant::Given(Lease::given(*lock, generation, until)))
     }
 
-    /// Moves the end of the lease's lock, where the lock was not given again since.
-    pub fn move_end(&self, lease: &Lease, until: u64) -> Result<(), FolderFault> {
-        let _held = self.hold()?;
-        let lock = lease.lock();
-        let path = self.lock_path(&lock)?;
-        let old = self.hold_of(path.as_str())?;
-        let generation = old.generation;
-        if generation > 0 && generation == lease.generation() {
-            self.set_hold(path.as_str(), Hold { generation, until })?;
+    /// Failed where the lease's lock was given to another since.
+    pub fn must_be_of(&self, lease: &Lease) -> Result<(), FolderFault> {
+        let name = lock_of(self.rt.alloc(), lease.lock())?;
+        let hold = self.hold_of(name.as_str())?;
+        if was_given(hold, lease) {
+            Ok(())
+        } else {
+            Err(FolderFault::Failed)
         }
-        Ok(())
+    }
+
+    /// Moves the end of the lock of a lease that it was given to last.
+    pub fn move_end(&self, held: &Held, lease: &Lease, until: u64) -> Result<(), FolderFault> {
+        let name = lock_of(self.rt.alloc(), lease.lock())?;
+        let generation = lease.generation();
+        self.set_hold(held, name.as_str(), Hold { generation, until })
+    }
+
+    /// Gives a lock back. Where it was given to another since, the lease is to be over.
+    pub fn release(&self, held: &Held, lease: &Lease, now: u64) -> Result<(), FolderFault> {
+        let name = lock_of(self.rt.alloc(), lease.lock())?;
+        if was_given(self.hold_of(name.as_str())?, lease) {
+            return self.move_end(held, lease, 0);
+        }
+        if lease.end() <= now {
+            Ok(())
+        } else {
+            Err(FolderFault::Failed)
+        }
     }
 }

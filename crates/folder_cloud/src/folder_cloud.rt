@@ -1,17 +1,15 @@
-ghost use Rattle.std.specs.Prelude.{◌≡◌, ◌≤◌, ℕ, length, Err, IfSome, OnOk};
-ghost use Rattle.std.specs.Option.{option_copied};
+ghost use Rattle.std.specs.Prelude.{◌≡◌, ◌≤◌, ℕ, length, Err, OnOk};
 ghost use Rattle.cloud_trait.specs.Answers.{fault_answer, held_fault_answer};
 ghost use Rattle.cloud_trait.specs.Ask.{Ask};
 ghost use Rattle.cloud_trait.specs.Bench.{Looks};
 ghost use Rattle.cloud_trait.specs.Caller.{Caller};
 ghost use Rattle.cloud_trait.specs.Claim.{Claim};
-ghost use Rattle.cloud_trait.specs.Weather.{Makes, RenewsLease, FirstOver};
+ghost use Rattle.cloud_trait.specs.Weather.{Makes, RenewsLease};
 ghost use Rattle.folder_cloud.specs.Counting.{counted};
 
-use crate::clock::Clock;
-use crate::fault::FolderFault;
-use crate::folder::Folder;
+use crate::fault::{FolderFault, HeldStop};
 use crate::ticks::Ticks;
+use crate::timed_folder::TimedFolder;
 use cloud_trait::cloud::{Bench, Cloud};
 use cloud_trait::fault::{CloudFault, HeldFault};
 use cloud_trait::grant::Grant;
@@ -25,12 +23,11 @@ use db_base::wish::Wish;
 use std::fs::File;
 use std::rt::Files;
 
-/// A cloud in a folder. Its clock is read at the opening and at the begin of each service call, in ticks, and never
-/// falls. It tells no state, and ignores wishes and waits.
+/// A cloud in a folder. Its clock is read at the opening, and in each service call once no other process is at work in the folder,
+/// in ticks; it never falls. It tells no state, and ignores wishes and waits.
 #[derive(Drop)]
 pub struct FolderCloud<R, K> {
-    folder: Folder<R>,
-    clock: Clock<K>,
+    folder: TimedFolder<R, K>,
     faults: u64,
     dark: u64,
 }
@@ -40,10 +37,9 @@ impl<R: Files<File = File> + AllocGlobal + Drop, K: Ticks + Drop> FolderCloud<R,
     pub fn open(rt: R, dir: &str, clock: K) -> Result<FolderCloud<R, K>, CloudFault>
         ensures named { OnOk result (1 ≤ length dir.now) }
     {
-        match Folder::open(rt, dir) {
+        match TimedFolder::open(rt, dir, clock) {
             Ok(folder) => Ok(FolderCloud {
                 folder,
-                clock: Clock::start(clock),
                 faults: 0,
                 dark: 0,
             }),
@@ -101,11 +97,10 @@ impl<R: Files<File = File> + AllocGlobal + Drop, K: Ticks + Drop> Cloud for Fold
     ghost seen = { λ c. counted c.faults c.dark };
 
     fn now(&self) -> u64 {
-        self.clock.latest()
+        self.folder.latest()
     }
 
     fn get(&mut self, _who: Who, name: ObjName) -> Result<Option<Blob>, CloudFault> {
-        self.clock.read();
         match self.folder.get(&name) {
             Ok(bytes) => Ok(bytes),
             Err(fault) => Err(self.fail(fault)),
@@ -118,16 +113,10 @@ impl<R: Files<File = File> + AllocGlobal + Drop, K: Ticks + Drop> Cloud for Fold
         name: ObjName,
         lease: &Lease,
     ) -> Result<Option<Blob>, HeldFault> {
-        let now = self.clock.read();
-        if lease.end() <= now {
-            return Err(HeldFault::Late {
-                end: lease.end(),
-                now,
-            });
-        }
-        match self.folder.get(&name) {
+        match self.folder.get_held(&name, lease) {
             Ok(bytes) => Ok(bytes),
-            Err(fault) => Err(self.fail_held(fault)),
+            Err(HeldStop::Late { end, now }) => Err(HeldFault::Late { end, now }),
+            Err(HeldStop::Fault(fault)) => Err(self.fail_held(fault)),
         }
     }
 
@@ -139,18 +128,14 @@ impl<R: Files<File = File> + AllocGlobal + Drop, K: Ticks + Drop> Cloud for Fold
         first: &Lease,
         second: Option<&Lease>,
     ) -> Result<(), HeldFault> {
-        let now = self.clock.read();
-        if let Some(end) = first_over(now, first, second) {
-            return Err(HeldFault::Late { end, now });
-        }
-        match self.folder.put(&name, bytes) {
+        match self.folder.put_held(&name, bytes, first, second) {
             Ok(()) => Ok(()),
-            Err(fault) => Err(self.fail_held(fault)),
+            Err(HeldStop::Late { end, now }) => Err(HeldFault::Late { end, now }),
+            Err(HeldStop::Fault(fault)) => Err(self.fail_held(fault)),
         }
     }
 
     fn send(&mut self, _who: Who, queue: QueueName, bytes: &[u8]) -> Result<MsgId, CloudFault> {
-        self.clock.read();
         match self.folder.send(&queue, bytes) {
             Ok(id) => Ok(id),
             Err(fault) => Err(self.fail(fault)),
@@ -163,7 +148,6 @@ impl<R: Files<File = File> + AllocGlobal + Drop, K: Ticks + Drop> Cloud for Fold
         queue: QueueName,
         max: u16,
     ) -> Result<Vec<Message>, CloudFault> {
-        self.clock.read();
         match self.folder.receive(&queue, max) {
             Ok(messages) => Ok(messages),
             Err(fault) => Err(self.fail(fault)),
@@ -171,7 +155,6 @@ impl<R: Files<File = File> + AllocGlobal + Drop, K: Ticks + Drop> Cloud for Fold
     }
 
     fn delete(&mut self, _who: Who, queue: QueueName, id: MsgId) -> Result<(), CloudFault> {
-        self.clock.read();
         match self.folder.delete(&queue, id) {
             Ok(()) => Ok(()),
             Err(fault) => Err(self.fail(fault)),
@@ -179,36 +162,25 @@ impl<R: Files<File = File> + AllocGlobal + Drop, K: Ticks + Drop> Cloud for Fold
     }
 
     fn take(&mut self, _who: Who, lock: Lock, ticks: u64) -> Result<Grant, CloudFault> {
-        let now = self.clock.read();
-        let until = now.saturating_add(ticks);
-        match self.folder.take(&lock, now, until) {
+        match self.folder.take(&lock, ticks) {
             Ok(grant) => Ok(grant),
             Err(fault) => Err(self.fail(fault)),
         }
     }
 
     fn renew(&mut self, _who: Who, lease: &mut Lease, ticks: u64) -> Result<(), HeldFault> {
-        let now = self.clock.read();
-        let end = lease.end();
-        if end <= now {
-            return Err(HeldFault::Late { end, now });
-        }
-        let until = now.saturating_add(ticks);
-        match self.folder.move_end(lease, until) {
-            Ok(()) => {
+        match self.folder.renew(lease, ticks) {
+            Ok(until) => {
                 lease.extend(until);
                 Ok(())
             }
-            Err(fault) => Err(self.fail_held(fault)),
+            Err(HeldStop::Late { end, now }) => Err(HeldFault::Late { end, now }),
+            Err(HeldStop::Fault(fault)) => Err(self.fail_held(fault)),
         }
     }
 
     fn release(&mut self, _who: Who, lease: Lease) -> Result<(), CloudFault> {
-        let now = self.clock.read();
-        if lease.end() <= now {
-            return Ok(());
-        }
-        match self.folder.move_end(&lease, now) {
+        match self.folder.release(&lease) {
             Ok(()) => Ok(()),
             Err(fault) => Err(self.fail(fault)),
         }
@@ -239,24 +211,5 @@ impl<R: Files<File = File> + AllocGlobal + Drop, K: Ticks + Drop> Bench for Fold
             Ok(count) => Ok(count),
             Err(fault) => Err(self.fail_look(fault)),
         }
-    }
-}
-
-// The end of the first lease that is over.
-fn first_over(now: u64, first: &Lease, second: Option<&Lease>) -> Option<u64>
-    ensures { IfSome result (λ end. FirstOver now first.now (option_copied second.entry) end) }
-{
-    if first.end() <= now {
-        return Some(first.end());
-    }
-    match second {
-        Some(lease) => {
-            if lease.end() <= now {
-                Some(lease.end())
-            } else {
-                None
-            }
-        }
-        None => None,
     }
 }

@@ -4,10 +4,14 @@
 
 mod clock;
 mod fault;
+mod files;
 mod folder;
 mod folder_cloud;
+mod held;
 mod numbers;
+mod rules;
 mod ticks;
+mod timed_folder;
 
 pub use folder_cloud::FolderCloud;
 pub use ticks::Ticks;

@@ -11,6 +11,7 @@ use db_base::ids::{ClientId, MsgId, PageId, SessionNo, TreeId};
 use db_base::names::{Lock, ObjName, QueueName};
 use std::fs;
 use std::fs::File;
+use std::os::unix::fs::symlink;
 use std::rt::Files;
 
 /// A step of a script: a call about one page, one queue or one lock, by one session, and its answer.
@@ -26,6 +27,26 @@ pub(crate) enum Step<'a> {
     Puts(&'a [u8]),
     /// A put that comes late: the end of the lease in hand, and the clock.
     PutsLate(&'a [u8], u64, u64),
+    /// A get under the lease in hand that comes late: the end of the lease, and the clock.
+    GetsLate(u64, u64),
+    /// A renewal that comes late: the end of the lease, and the clock.
+    RenewsLate(u64, u64),
+    /// A get that fails.
+    FailsToGet,
+    /// A get under the lease in hand that fails.
+    FailsToGetHeld,
+    /// A put under the lease in hand that fails.
+    FailsToPut(&'a [u8]),
+    /// A put under the lease in hand and the one that was kept, which fails.
+    FailsToPutUnderBoth(&'a [u8]),
+    /// A renewal of the lease in hand that fails, and leaves its end.
+    FailsToRenew,
+    /// A release of the lease in hand that fails.
+    FailsToRelease,
+    /// A receive that fails.
+    FailsToReceive,
+    /// The lease in hand and the one that was kept change places.
+    Swaps,
     /// A take for some ticks: the generation and the end of the lease, which is in hand then.
     Takes(u64, u64, u64),
     /// A take for some ticks, while the lock is held: until when.
@@ -49,9 +70,43 @@ pub(crate) enum Step<'a> {
     /// The clock.
     IsAt(u64),
     /// A file is written by another program.
-    Writes(&'a str, &'a str),
+    Writes(&'a str, &'a [u8]),
+    /// A file is removed by another program.
+    Removes(&'a str),
+    /// A folder is made by another program.
+    MakesFolder(&'a str),
+    /// A file of so many bytes, all 0, is made by another program.
+    MakesLarge(&'a str, u64),
+    /// A link to a path is made by another program.
+    Links(&'a str, &'a str),
     /// A file has this text.
     Has(&'a str, &'a str),
+    /// Nothing is there.
+    Lacks(&'a str),
+}
+
+/// The lease in hand, and one that was kept.
+#[derive(Drop)]
+pub(crate) struct Leases {
+    lease: Option<Lease>,
+    kept: Option<Lease>,
+}
+
+impl Leases {
+    /// None yet.
+    pub fn none() -> Leases {
+        Leases {
+            lease: None,
+            kept: None,
+        }
+    }
+
+    fn swap(&mut self) -> bool {
+        let lease = self.lease.take();
+        self.lease = self.kept.take();
+        self.kept = lease;
+        true
+    }
 }
 
 /// Who calls, and what about.
@@ -79,15 +134,15 @@ fn those() -> Option<Names> {
     })
 }
 
-/// Whether all steps of a script answer as they are to, with a lease in hand or none.
+/// Whether all steps of a script answer as they are to, with leases at hand or none.
 pub(crate) fn play<R: Files<File = File> + AllocGlobal, C: Bench>(
     rt: &R,
     cloud: &mut C,
-    lease: &mut Option<Lease>,
+    leases: &mut Leases,
     script: &[Step<'_>],
 ) -> bool {
     match those() {
-        Some(names) => play_all(rt, cloud, &names, lease, script),
+        Some(names) => play_all(rt, cloud, &names, leases, script),
         None => false,
     }
 }
@@ -96,11 +151,11 @@ fn play_all<R: Files<File = File> + AllocGlobal, C: Bench>(
     rt: &R,
     cloud: &mut C,
     names: &Names,
-    lease: &mut Option<Lease>,
+    leases: &mut Leases,
     script: &[Step<'_>],
 ) -> bool {
     for step in script {
-        if !play_step(rt, cloud, names, lease, *step) {
+        if !play_step(rt, cloud, names, leases, *step) {
             return false;
         }
     }
@@ -111,28 +166,52 @@ fn play_step<R: Files<File = File> + AllocGlobal, C: Bench>(
     rt: &R,
     cloud: &mut C,
     names: &Names,
-    lease: &mut Option<Lease>,
+    leases: &mut Leases,
     step: Step<'_>,
 ) -> bool {
     match step {
         Step::Gets(wanted) => gets(cloud, names, wanted),
-        Step::GetsHeld(wanted) => gets_held(cloud, names, lease, wanted),
+        Step::FailsToGet => fails_to_get(cloud, names),
         Step::Peeks(wanted) => peeks(cloud, names, wanted),
+        Step::Sends(bytes, id) => sends(cloud, names, bytes, id),
+        Step::FailsToSend(bytes) => fails_to_send(cloud, names, bytes),
+        Step::Receives(most, wanted) => receives(cloud, names, most, wanted),
+        Step::FailsToReceive => fails_to_receive(cloud, names),
+        Step::Deletes(id) => cloud.delete(names.who, names.queue, MsgId::new(id)).is_ok(),
+        Step::Counts(wanted) => counts(cloud, names, wanted),
+        Step::IsAt(wanted) => cloud.now() == wanted,
+        Step::Writes(path, bytes) => fs::write(rt, path, bytes).is_ok(),
+        Step::Removes(path) => fs::remove_file(rt, path).is_ok(),
+        Step::MakesFolder(path) => fs::create_dir(rt, path).is_ok(),
+        Step::MakesLarge(path, len) => makes_large(rt, path, len),
+        Step::Links(path, target) => symlink(rt, target, path).is_ok(),
+        Step::Has(path, text) => has(rt, path, text),
+        Step::Lacks(path) => fs::symlink_metadata(rt, path).is_err(),
+        _ => play_held(cloud, names, leases, step),
+    }
+}
+
+/// The same for a step that is about a lease.
+fn play_held<C: Cloud>(cloud: &mut C, names: &Names, leases: &mut Leases, step: Step<'_>) -> bool {
+    let lease = &mut leases.lease;
+    match step {
+        Step::GetsHeld(wanted) => gets_held(cloud, names, lease, wanted),
+        Step::GetsLate(end, now) => gets_late(cloud, names, lease, (end, now)),
+        Step::FailsToGetHeld => fails_to_get_held(cloud, names, lease),
         Step::Puts(bytes) => puts(cloud, names, lease, bytes),
         Step::PutsLate(bytes, end, now) => puts_late(cloud, names, lease, bytes, (end, now)),
+        Step::FailsToPut(bytes) => fails_to_put(cloud, names, lease, bytes),
+        Step::FailsToPutUnderBoth(bytes) => fails_to_put_both(cloud, names, leases, bytes),
         Step::Takes(ticks, generation, end) => takes(cloud, names, lease, ticks, (generation, end)),
         Step::FindsHeld(ticks, until) => finds_held(cloud, names, ticks, until),
         Step::FailsToTake(ticks) => fails_to_take(cloud, names, ticks),
         Step::Renews(ticks, end) => renews(cloud, names, lease, ticks, end),
+        Step::RenewsLate(end, now) => renews_late(cloud, names, lease, (end, now)),
+        Step::FailsToRenew => fails_to_renew(cloud, names, lease),
         Step::Releases => releases(cloud, names, lease),
-        Step::Sends(bytes, id) => sends(cloud, names, bytes, id),
-        Step::FailsToSend(bytes) => fails_to_send(cloud, names, bytes),
-        Step::Receives(most, wanted) => receives(cloud, names, most, wanted),
-        Step::Deletes(id) => cloud.delete(names.who, names.queue, MsgId::new(id)).is_ok(),
-        Step::Counts(wanted) => counts(cloud, names, wanted),
-        Step::IsAt(wanted) => cloud.now() == wanted,
-        Step::Writes(path, text) => fs::write(rt, path, text).is_ok(),
-        Step::Has(path, text) => has(rt, path, text),
+        Step::FailsToRelease => fails_to_release(cloud, names, lease),
+        Step::Swaps => leases.swap(),
+        _ => false,
     }
 }
 
@@ -317,6 +396,114 @@ fn counts<C: Bench>(cloud: &mut C, names: &Names, wanted: u64) -> bool {
 fn has<R: Files<File = File> + AllocGlobal>(rt: &R, path: &str, wanted: &str) -> bool {
     match fs::read_to_string(rt, path) {
         Ok(text) => text.as_str() == wanted,
+        Err(_) => false,
+    }
+}
+
+fn fails_to_get<C: Cloud>(cloud: &mut C, names: &Names) -> bool {
+    matches!(cloud.get(names.who, names.page), Err(CloudFault::Failed))
+}
+
+fn fails_to_receive<C: Cloud>(cloud: &mut C, names: &Names) -> bool {
+    matches!(
+        cloud.receive(names.who, names.queue, 256),
+        Err(CloudFault::Failed)
+    )
+}
+
+/// Whether a get under the lease in hand comes late: the end of the lease and the clock.
+fn gets_late<C: Cloud>(
+    cloud: &mut C,
+    names: &Names,
+    lease: &Option<Lease>,
+    wanted: (u64, u64),
+) -> bool {
+    let Some(lease) = lease else {
+        return false;
+    };
+    match cloud.get_held(names.who, names.page, lease) {
+        Err(HeldFault::Late { end, now }) => (end, now) == wanted,
+        _ => false,
+    }
+}
+
+fn fails_to_get_held<C: Cloud>(cloud: &mut C, names: &Names, lease: &Option<Lease>) -> bool {
+    match lease {
+        Some(lease) => matches!(
+            cloud.get_held(names.who, names.page, lease),
+            Err(HeldFault::Failed)
+        ),
+        None => false,
+    }
+}
+
+fn fails_to_put<C: Cloud>(
+    cloud: &mut C,
+    names: &Names,
+    lease: &Option<Lease>,
+    bytes: &[u8],
+) -> bool {
+    match lease {
+        Some(lease) => matches!(
+            cloud.put_held(names.who, names.page, bytes, lease, None),
+            Err(HeldFault::Failed)
+        ),
+        None => false,
+    }
+}
+
+/// Whether a put under the lease in hand fails, and one under both leases, whichever comes first.
+fn fails_to_put_both<C: Cloud>(
+    cloud: &mut C,
+    names: &Names,
+    leases: &Leases,
+    bytes: &[u8],
+) -> bool {
+    let (Some(lease), Some(kept)) = (&leases.lease, &leases.kept) else {
+        return false;
+    };
+    let one = cloud.put_held(names.who, names.page, bytes, lease, Some(kept));
+    let other = cloud.put_held(names.who, names.page, bytes, kept, Some(lease));
+    matches!(one, Err(HeldFault::Failed)) && matches!(other, Err(HeldFault::Failed))
+}
+
+/// Whether a renewal comes late, and leaves the lease: its end and the clock.
+fn renews_late<C: Cloud>(
+    cloud: &mut C,
+    names: &Names,
+    lease: &mut Option<Lease>,
+    wanted: (u64, u64),
+) -> bool {
+    let Some(lease) = lease else {
+        return false;
+    };
+    match cloud.renew(names.who, lease, 100) {
+        Err(HeldFault::Late { end, now }) => (end, now) == wanted && lease.end() == end,
+        _ => false,
+    }
+}
+
+/// Whether a renewal fails, and leaves the end of the lease.
+fn fails_to_renew<C: Cloud>(cloud: &mut C, names: &Names, lease: &mut Option<Lease>) -> bool {
+    let Some(lease) = lease else {
+        return false;
+    };
+    let end = lease.end();
+    let renewed = cloud.renew(names.who, lease, 100);
+    matches!(renewed, Err(HeldFault::Failed)) && lease.end() == end
+}
+
+fn fails_to_release<C: Cloud>(cloud: &mut C, names: &Names, lease: &mut Option<Lease>) -> bool {
+    match lease.take() {
+        Some(lease) => matches!(cloud.release(names.who, lease), Err(CloudFault::Failed)),
+        None => false,
+    }
+}
+
+/// Whether a file of so many bytes is made, which takes no space.
+fn makes_large<R: Files<File = File>>(rt: &R, path: &str, len: u64) -> bool {
+    match fs::create(rt, path) {
+        Ok(file) => file.set_len(len).is_ok(),
         Err(_) => false,
     }
 }

@@ -1,0 +1,131 @@
+//! How files and folders are made, read and flushed. No link is followed.
+
+use crate::fault::FolderFault;
+use std::fs;
+use std::fs::{DirBuilder, File, Metadata, OpenOptions};
+use std::io::{ErrorKind, Read};
+use std::os::unix::fs::{DirBuilderExt, MetadataExt, OpenOptionsExt};
+use std::rt::Files;
+
+/// The most bytes that a file may have which is read.
+const MOST_BYTES: u64 = 16 * 1024 * 1024;
+
+/// A file that is made is for its owner alone.
+const FILE_MODE: u32 = 0o600;
+
+/// A folder that is made is for its owner alone.
+const FOLDER_MODE: u32 = 0o700;
+
+/// What stands at a path, a link as itself; none where there is nothing.
+pub(crate) fn look<R: Files>(rt: &R, path: &str) -> Result<Option<Metadata>, FolderFault> {
+    match fs::symlink_metadata(rt, path) {
+        Ok(there) => Ok(Some(there)),
+        Err(error) => match error.kind() {
+            ErrorKind::NotFound => Ok(None),
+            _ => Err(FolderFault::from(error)),
+        },
+    }
+}
+
+/// Whether both are the same regular file.
+pub(crate) fn is_same_file(one: &Metadata, other: &Metadata) -> bool {
+    one.is_file() && other.is_file() && one.dev() == other.dev() && one.ino() == other.ino()
+}
+
+/// Opens the file at a path to read and write, and makes one where there is none.
+pub(crate) fn open_or_make<R: Files<File = File>>(rt: &R, path: &str) -> Result<File, FolderFault> {
+    let mut options = OpenOptions::new();
+    options.read(true).write(true).create(true).mode(FILE_MODE);
+    Ok(options.open(rt, path)?)
+}
+
+/// Makes a file at a path where nothing stands.
+pub(crate) fn make_new<R: Files<File = File>>(rt: &R, path: &str) -> Result<File, FolderFault> {
+    let mut options = OpenOptions::new();
+    options.write(true).create_new(true).mode(FILE_MODE);
+    Ok(options.open(rt, path)?)
+}
+
+/// Opens the regular file at a path, to write where asked; none where there is nothing. Failed where it is anything else or has
+/// too many bytes. To open a pipe would wait, so what stands there is looked at before.
+pub(crate) fn open_there<R: Files<File = File>>(
+    rt: &R,
+    path: &str,
+    write: bool,
+) -> Result<Option<File>, FolderFault> {
+    let Some(there) = look(rt, path)? else {
+        return Ok(None);
+    };
+    if !there.is_file() || there.len() > MOST_BYTES {
+        return Err(FolderFault::Failed);
+    }
+    let mut options = OpenOptions::new();
+    let file = options.read(true).write(write).open(rt, path)?;
+    if !is_same_file(&there, &file.metadata()?) {
+        return Err(FolderFault::Failed);
+    }
+    Ok(Some(file))
+}
+
+/// The bytes of the regular file at a path; none where there is nothing.
+pub(crate) fn read<R: Files<File = File> + AllocGlobal>(
+    rt: &R,
+    path: &str,
+) -> Result<Option<Vec<u8>>, FolderFault> {
+    let Some(file) = open_there(rt, path, false)? else {
+        return Ok(None);
+    };
+    let mut bytes = Vec::new(rt.alloc());
+    file.take(MOST_BYTES).read_to_end(&mut bytes)?;
+    Ok(Some(bytes))
+}
+
+/// Removes a file, where there is one.
+pub(crate) fn remove<R: Files>(rt: &R, path: &str) -> Result<(), FolderFault> {
+    match fs::remove_file(rt, path) {
+        Ok(()) => Ok(()),
+        Err(error) => match error.kind() {
+            ErrorKind::NotFound => Ok(()),
+            _ => Err(FolderFault::from(error)),
+        },
+    }
+}
+
+/// Makes a folder, where the one above it is there.
+pub(crate) fn make_folder<R: Files>(rt: &R, path: &str) -> Result<(), FolderFault> {
+    let mut builder = DirBuilder::new();
+    builder.mode(FOLDER_MODE);
+    builder.create(rt, path)?;
+    Ok(())
+}
+
+/// Makes a folder where there is none, and flushes its name.
+pub(crate) fn keep_folder<R: Files<File = File>>(rt: &R, path: &str) -> Result<(), FolderFault> {
+    match make_folder(rt, path) {
+        Ok(()) => flush_names(rt, above(path)),
+        Err(fault) => {
+            if !fs::metadata(rt, path)?.is_dir() {
+                return Err(fault);
+            }
+            // It may have been made by a process that was killed before it flushed the name; what another made is not ours to flush.
+            let _flushed = flush_names(rt, above(path));
+            Ok(())
+        }
+    }
+}
+
+// The folder that a path lies in.
+fn above(path: &str) -> &str {
+    match path.rsplit_once('/') {
+        Some(("", _)) => "/",
+        Some((folder, _)) => folder,
+        None => ".",
+    }
+}
+
+/// Flushes the names of the files and folders in a folder.
+pub(crate) fn flush_names<R: Files<File = File>>(rt: &R, folder: &str) -> Result<(), FolderFault> {
+    let names = fs::open(rt, folder)?;
+    names.sync_all()?;
+    Ok(())
+}

@@ -1,0 +1,65 @@
+use crate::fault::FolderFault;
+use crate::files::{is_same_file, open_or_make};
+use std::alloc::Global;
+use std::fs::File;
+use std::os::unix::fs::FileExt;
+use std::rt::Files;
+use std::{fs, io};
+
+/// The longest name of a part of a folder, in bytes.
+const MOST_MARK: usize = 64;
+
+/// That no other process is at work in a folder: the lock of its file `in-use`, which the system lets go with the process. While
+/// names in a part of the folder change, the file holds the part's name, so that whoever comes next knows what may not be flushed.
+#[derive(Drop)]
+pub(crate) struct Held {
+    file: File,
+}
+
+impl Held {
+    /// Waits until no other process is at work. Failed where another file stands at the path by then, since then others may be.
+    pub fn of<R: Files<File = File>>(rt: &R, path: &str) -> Result<Held, FolderFault> {
+        let file = open_or_make(rt, path)?;
+        file.lock()?;
+        let there = fs::symlink_metadata(rt, path)?;
+        if !is_same_file(&file.metadata()?, &there) {
+            return Err(FolderFault::Failed);
+        }
+        Ok(Held { file })
+    }
+
+    /// The part of the folder whose names a process changed that did not come to flush them, if any.
+    pub fn marked(&self, alloc: Global) -> Result<Option<String>, FolderFault> {
+        let mut bytes = [0; MOST_MARK];
+        let count = self.file.read_at(&mut bytes, 0)?;
+        match std::str::from_utf8(&bytes[..count]) {
+            Ok("") | Err(_) => Ok(None),
+            Ok(part) => Ok(Some(String::from_str(alloc, part)?)),
+        }
+    }
+
+    /// Notes that names in a part of the folder are about to change.
+    pub fn mark(&self, part: &str) -> Result<(), FolderFault> {
+        self.file.write_all_at(part.as_bytes(), 0)?;
+        Ok(())
+    }
+
+    /// Flushes the names that changed, and notes that. The change has landed by now, so want of memory is a failure too.
+    pub fn flush(&self, names: &File) -> Result<(), FolderFault> {
+        landed(names.sync_all())?;
+        self.unmark()
+    }
+
+    /// Notes that all names are flushed.
+    pub fn unmark(&self) -> Result<(), FolderFault> {
+        landed(self.file.set_len(0))
+    }
+}
+
+/// What a call answers that failed after its effect.
+pub(crate) fn landed(done: io::Result<()>) -> Result<(), FolderFault> {
+    match done {
+        Ok(()) => Ok(()),
+        Err(_) => Err(FolderFault::Failed),
+    }
+}

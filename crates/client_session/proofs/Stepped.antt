@@ -1,5 +1,5 @@
 -- What a session does with what it has in hand, and with its cache beside that, the session does.
-use Rattle.std.proofs.Common.{◌≡◌, ◌∙◌, List, Ok, subst, ap}
+use Rattle.std.proofs.Common.{◌≡◌, ◌∙◌, List, Ok, sym, subst, ap}
 use Rattle.txn_buffer.specs.Noted.{Noted}
 use Rattle.cloud_trait.specs.Caller.{Caller}
 use Rattle.cloud_trait.specs.Seen.{Seen}
@@ -10,21 +10,38 @@ use Rattle.client_work.specs.declared.phase.Phase.{Phase}
 use Rattle.client_work.specs.declared.shown.Shown.{Shown}
 use Rattle.client_work.specs.declared.work.Work.{Work}
 use Rattle.client_work.specs.Phase.{kept_in, noted_in, phase_of}
-use Rattle.client_work.specs.Session.{Acting, StepsSession, StepsAt, ShowsAt}
+use Rattle.client_work.specs.Session.{Acting, StepsSession, StepsAt, ShowsAt, ShowsWhole, noted_behind, shown_behind}
+use Rattle.client_work.specs.Showing.{IsKnown}
+use Rattle.client_work.proofs.Showing.{step_known}
 use Rattle.client_session.proofs.Phases.{kept_by, noted_by}
 
-pub stepped : (who : Caller) (before after : Seen) (old : Acting) (was work left : Work) (buffer noted : List Noted) (c d kept : Cache) (earlier shown : Shown) (turn : Turn Answer) (p q : Phase)
-    → (let s : Acting = record { buffer = buffer; work = work; cache = c; shown = earlier } in s ≡ old) → was ≡ work → p ≡ phase_of work → q ≡ phase_of left → noted ≡ noted_in p buffer → kept ≡ kept_in q d
-    → StepsAt who before after was left turn → ShowsAt who before after noted was c d left shown turn
-    → StepsSession who before after old (record { buffer = noted; work = left; cache = kept; shown = shown }) (Ok turn)
-stepped who before after old was work left buffer noted c d kept earlier shown turn p q is_old is_work is_p is_q is_noted is_kept steps shows =
-    let new : Acting = record { buffer = noted; work = left; cache = kept; shown = shown } in
-    subst (λ (s : Acting). StepsSession who before after s new (Ok turn)) is_old (record {
-      buffer = is_noted ∙ (ap (λ (z : Phase). noted_in z buffer) is_p ∙ noted_by work buffer);
-      work = subst (λ (w : Work). StepsAt who before after w left turn) is_work steps;
-      shown = (
-        d,
-        subst (λ (w : Work). ShowsAt who before after noted w c d left shown turn) is_work shows,
-        is_kept ∙ (ap (λ (z : Phase). kept_in z d) is_q ∙ kept_by left d),
-      );
-    })
+module _ (who : Caller) (before after : Seen) (work left : Work) (buffer noted : List Noted) (c d kept : Cache) (earlier shown : Shown) (turn : Turn Answer) (p q : Phase)
+    (is_p : p ≡ phase_of work) (is_q : q ≡ phase_of left) (is_noted : noted ≡ noted_in p buffer) (is_kept : kept ≡ kept_in q d) (known : IsKnown buffer work c)
+    (steps : StepsAt who before after work left turn) (shows : ShowsAt who before after noted work c d left shown turn) where
+  noted_so : noted ≡ noted_behind work buffer
+  noted_so = is_noted ∙ (ap (λ (z : Phase). noted_in z buffer) is_p ∙ noted_by work buffer)
+
+  kept_so : kept ≡ shown_behind left d
+  kept_so = is_kept ∙ (ap (λ (z : Phase). kept_in z d) is_q ∙ kept_by left d)
+
+  abbrev old_is : Acting
+  old_is = record { buffer = buffer; work = work; cache = c; shown = earlier }
+
+  abbrev new_with : Cache → Acting
+  new_with k = record { buffer = noted; work = left; cache = k; shown = shown }
+
+  both : IsKnown noted left (shown_behind left d) × ShowsWhole who before after old_is (new_with (shown_behind left d)) (Ok turn)
+  both = step_known who before after buffer noted c d earlier work left shown turn noted_so known steps shows
+
+  -- what is known of the session behind the step
+  pub known_on : IsKnown noted left kept
+  known_on = subst (IsKnown noted left) (sym kept_so) both.0
+
+  pub stepped : (old : Acting) → old_is ≡ old → StepsSession who before after old (new_with kept) (Ok turn)
+  stepped old is_old =
+      subst (λ (s : Acting). StepsSession who before after s (new_with kept) (Ok turn)) is_old (record {
+        buffer = noted_so;
+        work = steps;
+        shown = (d, shows, kept_so);
+        whole = subst (λ (k : Cache). ShowsWhole who before after old_is (new_with k) (Ok turn)) (sym kept_so) both.1;
+      })

@@ -47,10 +47,13 @@ impl<H: Hand> Drop for Session<H> {
 
 impl<H: Hand> Model for Session<H> {
     ghost use Rattle.client_work.specs.Session.{Acting};
+    ghost use Rattle.client_work.specs.Showing.{IsKnown};
 
     ghost Value = { Acting };
 
     ghost view = { λ s. record { buffer = s.buffer; work = H.work s.work; cache = s.cache; shown = s.shown } };
+
+    ghost invariant = { λ s. IsKnown s.buffer (H.work s.work) s.cache };
 }
 
 impl<H: Hand> Session<H> {

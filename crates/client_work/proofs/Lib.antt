@@ -5,3 +5,4 @@ pub mod Resting
 pub mod Settles
 pub mod Stepped
 pub mod Stopping
+pub mod Showing

@@ -3,3 +3,4 @@ pub mod Opening
 pub mod Phase
 pub mod Session
 pub mod Settling
+pub mod Showing

@@ -33,14 +33,16 @@ use Rattle.leaf_view.specs.Leaf.{Entry}
 use Rattle.page_cache.specs.Cache.{Cache, empty_cache}
 use Rattle.page_cache.specs.Held.{leaf_at}
 use Rattle.tree_walk.specs.Moves.{Moves}
-use Rattle.tree_walk.specs.Walk.{Walk, new_walk, asks, walk_ask, walk_ready, walk_next, KeepsNothing, calls_left as reading_left, IsAtLeaf}
+use Rattle.tree_walk.specs.Stepped.{Stepped as StepsWalk}
+use Rattle.tree_walk.specs.Walk.{Walk, new_walk, walk_ask, walk_ready, calls_left as reading_left, IsAtLeaf}
 use Rattle.commit_run.specs.Ending.{calls_left as commit_left}
 use Rattle.commit_run.specs.Run.{Run, new_run, home_of as home_of_run, run_ask, asks as run_asks, run_ready, run_next, run_opens, KeepsHome}
 use Rattle.commit_run.specs.Sound.{IsSoundRun}
 use Rattle.record_read.specs.Read.{read_value}
 use Rattle.range_scan.specs.Ending.{calls_left as scanning_left}
 use Rattle.range_scan.specs.Pairs.{AreItemsIn}
-use Rattle.range_scan.specs.Scan.{Scan, new_scan, scan_object, scan_ask, scan_asks, scan_ready, scan_next, goes_on, moved_on, KeepsNothing as KeepsNothingRead}
+use Rattle.range_scan.specs.Scan.{Scan, new_scan, scan_object, scan_ask, scan_ready, goes_on, moved_on}
+use Rattle.range_scan.specs.Stepped.{Stepped as StepsScan}
 use Rattle.page_ckpt.specs.Ending.{calls_left as paging_left}
 use Rattle.page_ckpt.specs.Paging.{new_paging, paging_ask, PagingLeads, KeepsLeases as KeepsPageLeases, Paging as Page}
 use Rattle.tree_moves.specs.Work.{applying_in}
@@ -61,6 +63,7 @@ use Rattle.client_work.specs.declared.op.Op.{Op}
 use Rattle.client_work.specs.declared.op.Op.TheVariants as op
 use Rattle.client_work.specs.declared.work.Work.{Work}
 use Rattle.client_work.specs.declared.work.Work.TheVariants.{Closed, Idle, Opening, Committing, Reading, Scanning, Paging, Folding, Closing, Renewing, Settling, Broken}
+use Rattle.client_work.specs.Showing.{pair_of, ShowsValue, ShowsRecords}
 
 -- a session: the changes that it noted, what it has in hand, what it keeps of the cloud, and what its newest operation shows beside its
 -- answer
@@ -211,10 +214,6 @@ ReadsIn tree key old home new begun = (new.buffer ≡ old.buffer) × ReadsOf hom
 
 -- ---- scans
 
--- a record of a leaf, as a scan shows it
-abbrev pub pair_of : Entry → Pair
-pair_of e = record { key = e.key; payload = e.payload }
-
 -- the records listed before with those of the leaf at which the scan ended, as the client sees them
 abbrev pub IsListed : Home → List Noted → Scan → Cache → List Pair → List Pair → Type 0
 IsListed home buffer m c pairs all = (items : List Entry) × AreItemsIn (leaf_at c (scan_object m)) m home.client home.head buffer items × (all ≡ pairs ++ map pair_of items)
@@ -335,11 +334,11 @@ StepsReading home who before after old work turn = ⊥
 -- the same beside the cache: what is got goes into it, and at the end the leaf whose range holds the key stands there
 abbrev pub ReadsBy : Home → Caller → Seen → Seen → Walk → Cache → Cache → Work → Shown → Turn Answer → Type 0
 ReadsBy home who before after old c d work shown More =
-    (m : Walk) × Steps asks (LeadsBy walk_next) KeepsNothing who before after (old, c) (m, d) More × (work ≡ Reading home m) × (shown ≡ Nothing)
+    (m : Walk) × StepsWalk who before after (old, c) (m, d) More × (work ≡ Reading home m) × (shown ≡ Nothing)
 ReadsBy home who before after old c d work shown (Ended answer.Value) =
-    (m : Walk) × (page : ℕ) × Steps asks (LeadsBy walk_next) KeepsNothing who before after (old, c) (m, d) (Ended page) × IsAtLeaf m d page × (work ≡ Idle home) × (shown ≡ Read m)
+    (m : Walk) × (page : ℕ) × StepsWalk who before after (old, c) (m, d) (Ended page) × IsAtLeaf m d page × (work ≡ Idle home) × (shown ≡ Read m)
 ReadsBy home who before after old c d work shown (Ended (answer.Trouble k)) =
-    (m : Walk) × Steps asks (LeadsBy walk_next) KeepsNothing who before after (old, c) (m, d) (Stopped k) × (work ≡ stopped_work k home) × (shown ≡ Nothing)
+    (m : Walk) × StepsWalk who before after (old, c) (m, d) (Stopped k) × (work ≡ stopped_work k home) × (shown ≡ Nothing)
 ReadsBy home who before after old c d work shown turn = ⊥
 
 -- a scan in hand has fewer calls left than so many
@@ -351,7 +350,7 @@ ScansLess left work = ⊥
 pub record StepsScanning (home : Home) (buffer : List Noted) (who : Caller) (before after : Seen) (old : Listing) (c d : Cache) (work : Work) (shown : Shown) (turn : Turn Answer) : Type 0 where
   pub scan : Scan
   pub moved : Turn ℕ
-  pub steps : Steps scan_asks (LeadsBy scan_next) KeepsNothingRead who before after (old.scan, c) (scan, d) moved
+  pub steps : StepsScan who before after (old.scan, c) (scan, d) moved
   pub follows : Follows home buffer (record { scan = scan; pairs = old.pairs }) d moved work shown turn
   pub less : turn ≡ More → ScansLess (scanning_left old.scan) work
 
@@ -483,11 +482,36 @@ Shows who before after old new (Ok turn) =
     (c : Cache) × ShowsAt who before after new.buffer old.work old.cache c new.work new.shown turn × (new.cache ≡ shown_behind new.work c)
 Shows who before after old new (Err e) = (new.cache ≡ old.cache) × (new.shown ≡ old.shown)
 
+-- the payload that the newest operation read, as the client sees it
+abbrev pub value_in : Work → Shown → Cache → List Noted → Option (List ℕ)
+value_in (Idle home) (Read m) c buffer = read_value m c home.client home.head buffer
+value_in work shown c buffer = None
+
+abbrev pub value_of : Acting → Option (List ℕ)
+value_of s = value_in s.work s.shown s.cache s.buffer
+
+-- the records that the newest operation listed
+abbrev pub items_in : Shown → List Pair
+items_in (Listed pairs) = pairs
+items_in shown = []
+
+abbrev pub items_of : Acting → List Pair
+items_of s = items_in s.shown
+
+-- what a session shows at the end of a read or of a scan, by all its calls
+abbrev pub ShowsWhole : Caller → Seen → Seen → Acting → Acting → Result (Turn Answer) Refused → Type 0
+ShowsWhole who before after old new (Ok (Ended answer.Value)) =
+    (home : Home) × (w : Walk) × (old.work ≡ Reading home w) × ShowsValue who before after home new.buffer w (value_of new)
+ShowsWhole who before after old new (Ok (Ended answer.Scan)) =
+    (home : Home) × (m : Listing) × (old.work ≡ Scanning home m) × ShowsRecords who before after home old.buffer m old.cache (items_of new)
+ShowsWhole who before after old new result = Unit {0}
+
 -- one step of a session
 pub record StepsSession (who : Caller) (before after : Seen) (old new : Acting) (result : Result (Turn Answer) Refused) : Type 0 where
   pub buffer : new.buffer ≡ noted_behind old.work old.buffer
   pub work : StepsWork who before after old.work new.work result
   pub shown : Shows who before after old new result
+  pub whole : ShowsWhole who before after old new result
 
 -- how many calls the work has left at most
 abbrev pub calls_left : Work → ℕ
@@ -563,19 +587,3 @@ applying_of (Closing lease) = []
 applying_of (Renewing home) = []
 applying_of (Settling m) = part_applying m.part
 applying_of (Broken lease) = []
-
--- the payload that the newest operation read, as the client sees it
-abbrev pub value_in : Work → Shown → Cache → List Noted → Option (List ℕ)
-value_in (Idle home) (Read m) c buffer = read_value m c home.client home.head buffer
-value_in work shown c buffer = None
-
-abbrev pub value_of : Acting → Option (List ℕ)
-value_of s = value_in s.work s.shown s.cache s.buffer
-
--- the records that the newest operation listed
-abbrev pub items_in : Shown → List Pair
-items_in (Listed pairs) = pairs
-items_in shown = []
-
-abbrev pub items_of : Acting → List Pair
-items_of s = items_in s.shown

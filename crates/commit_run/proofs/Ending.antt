@@ -22,7 +22,7 @@ use Rattle.recover_run.specs.declared.home.Home.{Home}
 use Rattle.page_cache.specs.Cache.{Cache}
 use Rattle.page_cache.specs.Held.{leaf_at, root_at}
 use Rattle.tree_walk.specs.Walk.{Walk, IsAtLeaf, sought, object_of, new_walk, walk_ready, walk_next}
-use Rattle.tree_walk.specs.Walk.{calls_left as walk_left, asks as walk_asks, KeepsNothing}
+use Rattle.tree_walk.specs.Walk.{calls_left as walk_left, asks as walk_asks, KeepsServed}
 use Rattle.commit_plan.specs.Ended.{ended_of}
 use Rattle.commit_plan.specs.Ended.{page_at as ended_page}
 use Rattle.commit_plan.specs.Plan.{Plan, pages_of}
@@ -302,7 +302,7 @@ led_below k x n result below led more = let At : Turn CommitAnswer → Type 0 = 
 
 -- it leaves fewer calls
 pub walk_less : (first : Bool) (d : Draft) (who : Caller) (before after : Seen) (from : Walk) (c : Cache) (w : Walk) (e : Cache) (turn : Turn ℕ) (n : Run × Cache) (result : Turn CommitAnswer)
-    → IsHeld d (held first from) → Steps walk_asks (LeadsBy walk_next) KeepsNothing who before after (from, c) (w, e) turn → (turn ≡ More → walk_left w < walk_left from)
+    → IsHeld d (held first from) → Steps walk_asks (LeadsBy walk_next) KeepsServed who before after (from, c) (w, e) turn → (turn ≡ More → walk_left w < walk_left from)
     → ((page : ℕ) → turn ≡ Ended page → IsAtLeaf w e page) → Led (walk_turned first d w e turn) n result → result ≡ More → calls_left n.0 < left_at (held first from) d
 walk_less first d who before after from c w e turn n result is steps less ends led more =
     subst (λ (k : ℕ). calls_left n.0 < k) (sym (held_with first d from))

@@ -16,7 +16,7 @@ use Rattle.page_cache.specs.Cache.{Cache}
 use Rattle.commit_writes.specs.Writing.{routing}
 use Rattle.tree_walk.specs.Moves.{Moves}
 use Rattle.tree_walk.specs.Walk.{Walk, sought, new_walk, walk_ready, walk_next}
-use Rattle.tree_walk.specs.Walk.{asks as walk_asks, KeepsNothing}
+use Rattle.tree_walk.specs.Walk.{asks as walk_asks, KeepsServed}
 use Rattle.commit_run.specs.Draft.{Draft, IsWithin, pruned_behind}
 use Rattle.commit_run.specs.Run.{Run, held, IsHeld, Led, target_of, next_target, wrote, seek, troubled, is_stale, stale_at, begun_turn, walk_stopped}
 use Rattle.commit_run.proofs.Aiming.{aim, moved_aims, ready_aims, next_aims}
@@ -81,7 +81,7 @@ held_same false d from w e is = (is.0, is.1 ∙ ap (λ (a : ℕ × Option (List 
 
 -- a walk that goes on is for what it was for
 pub steps_held : (first : Bool) (d : Draft) (who : Caller) (before after : Seen) (from : Walk) (c : Cache) (w : Walk) (e : Cache) (turn : Turn ℕ) → IsHeld d (held first from)
-    → Steps walk_asks (LeadsBy walk_next) KeepsNothing who before after (from, c) (w, e) turn → turn ≡ More → IsHeld d (held first w)
+    → Steps walk_asks (LeadsBy walk_next) KeepsServed who before after (from, c) (w, e) turn → turn ≡ More → IsHeld d (held first w)
 steps_held first d who before after from c w e turn is steps more =
     held_same first d from w
     (moved_aims (aim from) (walk_next (from, c) steps.answer) w e turn (next_aims (from, c) steps.answer) (took_moves (from, c) steps.answer (w, e) turn steps.took) (goes_more turn more)) is

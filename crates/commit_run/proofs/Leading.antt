@@ -12,7 +12,7 @@ use Rattle.recover_run.specs.declared.home.Home.{Home}
 use Rattle.page_cache.specs.Cache.{Cache}
 use Rattle.tree_walk.specs.Moves.{Moves}
 use Rattle.tree_walk.specs.Walk.{Walk, walk_next}
-use Rattle.tree_walk.specs.Walk.{asks as walk_asks, KeepsNothing}
+use Rattle.tree_walk.specs.Walk.{asks as walk_asks, KeepsServed}
 use Rattle.commit_writes.specs.Writing.{Writing, with_head, writing_ask, writing_next}
 use Rattle.commit_writes.specs.Writing.{KeepsHome as KeepsWritten}
 use Rattle.commit_run.specs.declared.hand.Hand.TheVariants.{Writes, First, Change}
@@ -29,7 +29,7 @@ by_turn_led on x w c (Stopped trouble.Memory) n result moves memory led =
 by_turn_led on x w c (Stopped t) n result moves memory led =
     let P : Next (Walk × Cache) ℕ → Type 0 = λ y. Led (by_turn on y) n result in subst P (sym (moves (λ e. cc))) led
 
-pub took_moves : (m : Walk × Cache) (a : Answer) (n : Walk × Cache) (turn : Turn ℕ) → Took (LeadsBy walk_next) KeepsNothing m a n turn → Moves (walk_next m a) n turn
+pub took_moves : (m : Walk × Cache) (a : Answer) (n : Walk × Cache) (turn : Turn ℕ) → Took (LeadsBy walk_next) KeepsServed m a n turn → Moves (walk_next m a) n turn
 took_moves m a n More h = h
 took_moves m a n (Ended page) h = h
 took_moves m a n (Stopped t) h = h.0
@@ -56,7 +56,7 @@ led_took m a n (Stopped t) led kept = (led, λ memory. kept)
 
 -- a step of the walk in hand is one of the commit
 pub walk_steps : (first : Bool) (d : Draft) (who : Caller) (before after : Seen) (from : Walk) (c : Cache) (w : Walk) (e : Cache) (turn : Turn ℕ) (n : Run × Cache) (result : Turn CommitAnswer)
-    → Steps walk_asks (LeadsBy walk_next) KeepsNothing who before after (from, c) (w, e) turn
+    → Steps walk_asks (LeadsBy walk_next) KeepsServed who before after (from, c) (w, e) turn
     → (turn ≡ Stopped trouble.Memory → result ≡ Stopped trouble.Memory) → Led (walk_turned first d w e turn) n result → Keeps d.writes.home (home_of n.0)
     → Steps asks (LeadsBy run_next) KeepsHome who before after (record { draft = d; hand = held first from }, c) n result
 walk_steps true d who before after from c w e turn n result steps memory led kept = record {

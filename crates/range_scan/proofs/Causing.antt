@@ -19,6 +19,7 @@ use Rattle.cloud_trait.specs.Seen.{Seen}
 use Rattle.cloud_trait.specs.State.{Counts}
 use Rattle.cloud_trait.specs.Views.{got_of}
 use Rattle.cloud_trait.specs.Weather.{Makes, Fits}
+use Rattle.calm_calls.specs.Calm.{IsCalm}
 use Rattle.page_cache.specs.Cache.{Cache, accepts}
 use Rattle.page_cache.specs.Held.{leaf_at}
 use Rattle.page_cache.proofs.ViewLemmas.{accept_leaf}
@@ -26,9 +27,9 @@ use Rattle.tree_walk.specs.Walk.{Spot, Walk, IsWalk, object_of, walk_next}
 use Rattle.tree_walk.specs.Causing.{Shows as WalkShows}
 use Rattle.tree_walk.proofs.Causing.{StopsBeside, next_stops}
 use Rattle.tree_walk.proofs.Refusing.{refused_shows}
-use Rattle.range_scan.specs.Scan.{Scan, scan_object_at, scan_object, scan_asks, right_in, scan_came_to, right_behind, ended_at, leaf_ended, first_in, scan_beside, walked_by, right_read_in, right_accepted, right_got, next_at, scan_next, KeepsNothing}
+use Rattle.range_scan.specs.Scan.{Scan, scan_object_at, scan_object, scan_asks, right_in, scan_came_to, right_behind, ended_at, leaf_ended, first_in, scan_beside, walked_by, right_read_in, right_accepted, right_got, next_at, scan_next, KeepsServed}
 use Rattle.range_scan.specs.Listing.{Range, Move, Scanned}
-use Rattle.range_scan.specs.Causing.{BreaksFence, ClosesLoop, ShowsAt, Shows, Causes}
+use Rattle.range_scan.specs.Causing.{BreaksFence, ClosesLoop, ShowsAt, Shows, Causes, deed_of}
 use Rattle.range_scan.proofs.Served.{IsServed, end_served}
 use Rattle.range_scan.proofs.Listing.{InHand, scanned_stands}
 
@@ -138,10 +139,10 @@ other_one : {A B : Type 0} → A ⊎ B → (A → ⊥) → B
 other_one (inl a) never = absurd (never a)
 other_one (inr b) never = b
 
-took_shows : (m n : Scan × Cache) (a : Answer) (turn : Turn ℕ) → StopsBy (Shows m a) (scan_next m a) → Took (LeadsBy scan_next) KeepsNothing m a n turn
+took_shows : (m n : Scan × Cache) (a : Answer) (turn : Turn ℕ) → StopsBy (Shows m a) (scan_next m a) → Took (LeadsBy scan_next) KeepsServed m a n turn
     → (t : Trouble) → turn ≡ Stopped t → t ≢ trouble.Memory → Shows m a n t
 took_shows m n a turn stops took t stopped other =
-    let At : Turn ℕ → Type 0 = Took (LeadsBy scan_next) KeepsNothing m a n in
+    let At : Turn ℕ → Type 0 = Took (LeadsBy scan_next) KeepsServed m a n in
     other_one (subst (StopsBy (Shows m a)) ((subst At stopped took).0 other) stops) other
 
 -- what stops as failed was answered so
@@ -166,16 +167,14 @@ failed_is : trouble.Failed ≢ trouble.Memory
 failed_is e = absurd (cc (e))
 
 pub next_causes : (r : Range) (h : List Move) (who : Caller) (before after : Seen) (m n : Scan × Cache) (a : Answer) (turn : Turn ℕ) → Scanned r h m
-    → Makes who (scan_asks m) a before after → Took (LeadsBy scan_next) KeepsNothing m a n turn → Causes who before after m n turn
+    → Makes who (scan_asks m) a before after → Took (LeadsBy scan_next) KeepsServed m a n turn → Causes m a n turn
 next_causes r h who before after m n a turn came made took =
-    let stops : StopsBy (Shows m a) (scan_next m a) = next_stops_by r _ m a (scanned_stands r h m came).holds.hand made.fits in
-    record {
-      answer = a;
-      made = made;
-      tells = took_shows m n a turn stops took;
-      well = λ calm stopped.
-          let failed : a ≡ answer.Failed = shows_failed m.0.spot m n a (took_shows m n a turn stops took trouble.Failed stopped failed_is) in
-          let rose : before.counts.faults < after.counts.faults = made.failed failed in
-          let same : after.counts.faults ≡ before.counts.faults = ap (λ (k : Counts). k.faults) calm.counts in
-          omega (arith, same, rose);
-    }
+    took_shows m n a turn (next_stops_by r _ m a (scanned_stands r h m came).holds.hand made.fits) took
+
+pub next_calm : (who : Caller) (before after : Seen) (m n : Scan × Cache) (a : Answer) (turn : Turn ℕ) → Makes who (scan_asks m) a before after → Causes m a n turn
+    → IsCalm (deed_of who m a before after) → turn ≢ Stopped trouble.Failed
+next_calm who before after m n a turn made causes calm stopped =
+    let failed : a ≡ answer.Failed = shows_failed m.0.spot m n a (causes trouble.Failed stopped failed_is) in
+    let rose : before.counts.faults < after.counts.faults = made.failed failed in
+    let same : after.counts.faults ≡ before.counts.faults = ap (λ (k : Counts). k.faults) calm.counts in
+    omega (arith, same, rose)

@@ -29,7 +29,7 @@ use Rattle.tree_walk.proofs.Causing.{spot_is, ready_shows}
 use Rattle.tree_walk.proofs.Leaves.{Unended, through_unended}
 use Rattle.tree_walk.proofs.Refusing.{old_refused, damaged_refused}
 use Rattle.tree_walk.proofs.Serving.{memory_or, answer_stops, brought_stops, looped_stops}
-use Rattle.range_scan.specs.Scan.{Scan, scan_object, scan_asks, right_in, scan_came_to, right_behind, ended_at, leaf_ended, first_in, scan_beside, walked_by, right_read_in, right_accepted, right_got, scan_ready, next_at, scan_next, KeepsNothing}
+use Rattle.range_scan.specs.Scan.{Scan, scan_object, scan_asks, right_in, scan_came_to, right_behind, ended_at, leaf_ended, first_in, scan_beside, walked_by, right_read_in, right_accepted, right_got, scan_ready, next_at, scan_next, KeepsServed}
 use Rattle.range_scan.specs.Listing.{Range, Move, Scanned}
 use Rattle.range_scan.specs.Causing.{BreaksFence, CausesReady, FirstLeadsBack, LeadsBack, IsExactWalk, IsExactRight, Exact}
 use Rattle.range_scan.proofs.Served.{IsServed, end_served}
@@ -47,7 +47,7 @@ moved_stopped next k n t (Stopped u) e moved = on (memory_or u) where
       let same : u ≡ t = cc (both) in
       inl (ap Stopped same)
 
-took_moves : (m : Scan × Cache) (a : Answer) (n : Scan × Cache) (turn : Turn ℕ) → Took (LeadsBy scan_next) KeepsNothing m a n turn → Moves (scan_next m a) n turn
+took_moves : (m : Scan × Cache) (a : Answer) (n : Scan × Cache) (turn : Turn ℕ) → Took (LeadsBy scan_next) KeepsServed m a n turn → Moves (scan_next m a) n turn
 took_moves m a n More h = h
 took_moves m a n (Ended page) h = h
 took_moves m a n (Stopped t) h = h.0
@@ -56,7 +56,7 @@ took_moves m a n (Stopped t) h = h.0
 StopsWith : Next (Scan × Cache) ℕ → Trouble → Type 0
 StopsWith x t = (k : Scan × Cache) × (x ≡ Stops k t)
 
-stopped : (m n : Scan × Cache) (a : Answer) (t : Trouble) (turn : Turn ℕ) → StopsWith (scan_next m a) t → Took (LeadsBy scan_next) KeepsNothing m a n turn → IsStopped turn t
+stopped : (m n : Scan × Cache) (a : Answer) (t : Trouble) (turn : Turn ℕ) → StopsWith (scan_next m a) t → Took (LeadsBy scan_next) KeepsServed m a n turn → IsStopped turn t
 unfolding StopsWith
 stopped m n a t turn h took = moved_stopped (scan_next m a) h.0 n t turn h.1 (took_moves m a n turn took)
 
@@ -116,7 +116,7 @@ first_back m a t ok none h =
           ∙ ended_loops (record m.0 { walk = k.0 }) h.leaf (spot_of w).page h.next k.1 t h.linked h.wanted h.came h.is,
     )
 
-walk_exact : (m n : Scan × Cache) (a : Answer) (turn : Turn ℕ) → IsWalk m.0.walk → m.0.spot ≡ None → Took (LeadsBy scan_next) KeepsNothing m a n turn → IsExactWalk m a turn
+walk_exact : (m n : Scan × Cache) (a : Answer) (turn : Turn ℕ) → IsWalk m.0.walk → m.0.spot ≡ None → Took (LeadsBy scan_next) KeepsServed m a n turn → IsExactWalk m a turn
 walk_exact m n a turn ok none took = record {
   answered = λ t shows. stopped m n a t turn (walk_stops m a (rested m.0.walk, left_by (rested m.0.walk) m.1) t none (answer_stops m.0.walk m.1 a t shows)) took;
   brought = λ d s t brings at h. stopped m n a t turn (walk_stops m a (rested m.0.walk, left_by (rested m.0.walk) d) t none (brought_stops m.0.walk m.1 a d s t brings at h)) took;
@@ -187,7 +187,7 @@ right_back m a spot t some h =
     (right_reads m h.got h.version h.cache h.leaf h.accepted h.kept ∙ by_fence m h.leaf h.cache true same
     ∙ ended_loops s h.leaf (right_in m.0).page h.next h.cache t h.linked h.wanted (came_still m.0 (right_in m.0).page h.next.page h.came) h.is)
 
-right_exact : (m n : Scan × Cache) (a : Answer) (spot : Spot) (turn : Turn ℕ) → m.0.spot ≡ Some spot → Took (LeadsBy scan_next) KeepsNothing m a n turn → IsExactRight m a spot turn
+right_exact : (m n : Scan × Cache) (a : Answer) (spot : Spot) (turn : Turn ℕ) → m.0.spot ≡ Some spot → Took (LeadsBy scan_next) KeepsServed m a n turn → IsExactRight m a spot turn
 right_exact m n a spot turn some took = record {
   failed = λ t h. stopped m n a t turn (right_stops m a spot (Err trouble.Failed) (m.0, m.1) t some (ap got_of h.1) (ap (λ (u : Trouble). Stops (m.0, m.1) u) (sym h.0))) took;
   refused = λ t h.
@@ -202,11 +202,8 @@ walk_of : (r : Range) (ls : List Leaf) (w : Walk) (o : Option Spot) → o ≡ No
 walk_of r ls w None e h = h.0
 walk_of r ls w (Some spot) e h = absurd (cc (e))
 
-pub next_exact : (r : Range) (h : List Move) (who : Caller) (before after : Seen) (m n : Scan × Cache) (a : Answer) (turn : Turn ℕ) → Scanned r h m
-    → Makes who (scan_asks m) a before after → Took (LeadsBy scan_next) KeepsNothing m a n turn → Exact who before after m turn
-next_exact r h who before after m n a turn came made took = record {
-  answer = a;
-  made = made;
+pub next_exact : (r : Range) (h : List Move) (m n : Scan × Cache) (a : Answer) (turn : Turn ℕ) → Scanned r h m → Took (LeadsBy scan_next) KeepsServed m a n turn → Exact m a turn
+next_exact r h m n a turn came took = record {
   walked = λ none. walk_exact m n a turn (walk_of r _ m.0.walk m.0.spot none (scanned_stands r h m came).holds.hand) none took;
   right = λ spot some. right_exact m n a spot turn some took;
 }
@@ -231,3 +228,16 @@ scan_ready_shows s c n turn moved t is other =
     let At : Turn ℕ → Type 0 = Moves (scan_ready (s, c)) n in
     let walk : walk_ready (s.walk, c) ≡ Stops (n.0.walk, n.1) t = subst (ReadyStops (s, c)) (subst At is moved other) (ready_stops (s, c)) in
     ready_shows s.walk c (n.0.walk, n.1) (Stopped t) (λ same. walk) t refl other
+
+-- it never ends before the first call, since a leaf is always got
+abbrev pub NeverEnds : Next (Scan × Cache) ℕ → Type 0
+NeverEnds (Goes n) = Unit {0}
+NeverEnds (Ends n page) = ⊥
+NeverEnds (Stops n t) = Unit {0}
+
+pub ready_unended : (m : Scan × Cache) → NeverEnds (scan_ready m)
+ready_unended m = by (goes_on m.1 (rested m.0.walk)) (through_unended m.1 64 (rested m.0.walk)) where
+  by : (x : Next Walk ℕ) → Unended x → NeverEnds (walked_by m.0 (beside (x, m.1)))
+  by (Goes w) h = tt
+  by (Ends w page) h = absurd h
+  by (Stops w t) h = tt

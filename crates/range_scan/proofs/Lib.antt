@@ -1,7 +1,6 @@
 pub mod ScanLemmas
 pub mod Ending
 pub mod Pairs
-pub mod Walking
 pub mod Served
 pub mod Listing
 pub mod Causing
@@ -9,3 +8,4 @@ pub mod Within
 pub mod Exactness
 pub mod Whole
 pub mod Fences
+pub mod Stepped

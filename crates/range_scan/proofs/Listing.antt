@@ -1,5 +1,5 @@
 -- A scan ends at leaves whose ranges meet from the first one on, each as its call got it.
-use Rattle.std.proofs.Common.{◌≡◌, ℕ, Bool, true, false, List, [], ◌∷◌, ◌++◌, Option, Some, None, Result, Ok, Err, unwrap_or, refl, ap, sym, subst, ◌∙◌}
+use Rattle.std.proofs.Common.{◌≡◌, ℕ, Bool, true, false, List, [], ◌∷◌, ◌++◌, Option, Some, None, Result, Ok, Err, unwrap_or, refl, ap, sym, subst, ◌∙◌, ◌⊎◌}
 use Rattle.std.specs.Prelude.{◌&&◌, if◌then◌else◌}
 use Rattle.byte_format.specs.Order.{bytes_same, below_bound}
 use Rattle.byte_format.proofs.OrderLemmas.{same_is}
@@ -14,18 +14,21 @@ use Rattle.cloud_trait.specs.declared.turn.Turn.{Turn}
 use Rattle.cloud_trait.specs.declared.turn.Turn.TheVariants.{More, Ended, Stopped}
 use Rattle.cloud_trait.specs.Ask.{Ask, Get}
 use Rattle.cloud_trait.specs.Caller.{Caller}
-use Rattle.cloud_trait.specs.Machine.{Next, Goes, Ends, Stops, LeadsBy, Took}
+use Rattle.cloud_trait.specs.Machine.{Next, Goes, Ends, Stops, LeadsBy, Took, Deed, IsMade}
 use Rattle.cloud_trait.specs.Seen.{Seen}
+use Rattle.cloud_trait.specs.State.{CloudState, newest, version_at}
 use Rattle.cloud_trait.specs.Views.{got_of}
-use Rattle.cloud_trait.specs.Weather.{Makes}
+use Rattle.cloud_trait.specs.Weather.{Makes, Rose}
 use Rattle.page_cache.specs.Cache.{Cache, accepts, kept_at}
 use Rattle.page_cache.specs.Held.{leaf_at, as_leaf}
 use Rattle.page_cache.proofs.CacheLemmas.{accept_kept}
 use Rattle.tree_walk.specs.Walk.{Spot, Walk, IsWalk, IsAtLeaf, object_of, walk_ready, walk_next}
 use Rattle.tree_walk.proofs.Leaves.{ends_at}
-use Rattle.range_scan.specs.Scan.{Scan, scan_object_at, scan_object, scan_asks, right_in, scan_came_to, right_behind, is_wanted, ended_at, leaf_ended, goes_on, moved_on, first_in, scan_beside, walked_by, right_read_in, right_accepted, right_got, scan_ready, next_at, scan_next, KeepsNothing}
-use Rattle.range_scan.specs.Listing.{Range, scan_of, Move, LedTo, Scanned, IsGot, leaves_of, AreGot, BeginsAt, Continues, AreMeeting, IsPast, Means}
-use Rattle.range_scan.proofs.Walking.{IsTo, WalksBeside, next_walks, ready_walks}
+use Rattle.range_scan.specs.Scan.{Scan, scan_object_at, scan_object, scan_asks, right_in, scan_came_to, right_behind, is_wanted, ended_at, leaf_ended, goes_on, moved_on, first_in, scan_beside, walked_by, right_read_in, right_accepted, right_got, scan_ready, next_at, scan_next, KeepsServed}
+use Rattle.range_scan.specs.Causing.{deed_of}
+use Rattle.range_scan.specs.Listing.{Range, scan_of, range_of, Move, LedTo, Scanned, IsGot, IsServed as IsServedBy, leaves_of, AreServed, BeginsAt, Continues, AreMeeting, IsPast, Means}
+use Rattle.tree_walk.proofs.Serving.{get_row, steady}
+use Rattle.tree_walk.proofs.Walking.{IsTo, WalksBeside, next_walks, ready_walks}
 use Rattle.range_scan.proofs.Served.{IsServed, end_served}
 
 -- ---- what holds of a scan
@@ -205,19 +208,34 @@ moved_holds r ls l s to walk next going =
       on None e page h = absurd (cc (h))
       on (Some high) e page h = (e, h)
 
--- the scan, its leaves, and what got them
+-- what a call answered that got a leaf landed, and is the newest where no stale get was counted
+pub served_by : (tree : ℕ) (d : Deed) (l : Leaf) → IsMade d → IsGot tree d.ask d.answer l → IsServedBy tree d l
+served_by tree d l made g = record {
+  is_got = g;
+  landed = λ s told. (row s told).0;
+  newest_one = λ s told same. steady g.got (newest s (object.Page tree g.page)) d.before.counts.stale d.after.counts.stale (row s told).1 same;
+}
+  where
+    got : Makes d.who (Get (object.Page tree g.page)) (Got g.got) d.before d.after
+    got = subst (λ (k : Ask). Makes d.who k (Got g.got) d.before d.after) g.asked (subst (λ (b : Answer). Makes d.who d.ask b d.before d.after) g.answered made)
+
+    row : (s : CloudState) → d.before.state ≡ Some s
+        → ((k : ℕ) × (g.got ≡ version_at (s.versions (object.Page tree g.page)) k)) × ((g.got ≡ newest s (object.Page tree g.page)) ⊎ Rose d.before.counts.stale d.after.counts.stale)
+    row s told = get_row d.who (object.Page tree g.page) g.got d.before d.after got s told
+
+-- the scan, its leaves, and what served them
 pub record Stands (r : Range) (h : List Move) (m : Scan × Cache) : Type 0 where
   pub holds : Holds r (leaves_of h) m.0
-  pub got : AreGot r.tree h
+  pub served : AreServed r.tree h
   pub meeting : AreMeeting r (leaves_of h)
 
-led_stands : (r : Range) (h : List Move) (m n : Scan × Cache) (x : Move) → Stands r h m → x.deed.ask ≡ scan_asks m → LedTo m x.deed.answer x.behind n → Stands r (x ∷ h) n
-led_stands r h m n x stands asked led = on x.behind led where
+led_stands : (r : Range) (h : List Move) (m n : Scan × Cache) (x : Move) → Stands r h m → x.deed.ask ≡ scan_asks m → IsMade x.deed → LedTo m x.deed.answer x.behind n → Stands r (x ∷ h) n
+led_stands r h m n x stands asked made led = on x.behind led where
   leads : Leads r (leaves_of h) m x.deed.answer (scan_next m x.deed.answer)
   leads = next_leads r (leaves_of h) m x.deed.answer stands.holds
 
   on : (o : Option Leaf) → LedTo m x.deed.answer o n → Stands r (record x { behind = o } ∷ h) n
-  on None e = record { holds = subst (Leads r (leaves_of h) m x.deed.answer) e leads; got = (tt, stands.got); meeting = stands.meeting }
+  on None e = record { holds = subst (Leads r (leaves_of h) m x.deed.answer) e leads; served = (tt, stands.served); meeting = stands.meeting }
   on (Some l) (s, (page, e, kept, going, moved)) =
       let end : EndsAt r (leaves_of h) m x.deed.answer (s, n.1) page = subst (Leads r (leaves_of h) m x.deed.answer) e leads in
       let same : ◌≡◌ {A = Option Leaf} (Some end.leaf) (Some l) = sym end.kept ∙ (ap (leaf_at n.1) (sym end.in_hand) ∙ kept) in
@@ -227,7 +245,7 @@ led_stands r h m n x stands asked led = on x.behind led where
       let next : s.next ≡ right_behind l.high (page_at l.right) = end.next ∙ ap (λ (k : Leaf). right_behind k.high (page_at k.right)) leaf in
       record {
         holds = subst (Holds r (l ∷ leaves_of h)) (sym moved) (moved_holds r (leaves_of h) l s end.to end.walk next going);
-        got = (subst A (sym asked) (subst G leaf end.got), stands.got);
+        served = (served_by r.tree x.deed l made (subst A (sym asked) (subst G leaf end.got)), stands.served);
         meeting = (subst (λ (k : Leaf). Continues r k (leaves_of h)) leaf end.continues, stands.meeting);
       }
 
@@ -254,8 +272,8 @@ ready_holds r c = on (walk_ready ((scan_of r).walk, c)) (ready_walks r.tree r.fr
   on (Stops w t) h = tt
 
 pub scanned_stands : (r : Range) (h : List Move) (m : Scan × Cache) → Scanned r h m → Stands r h m
-scanned_stands r [] m (c, e) = record { holds = subst (Begun r) e (ready_holds r c); got = tt; meeting = tt }
-scanned_stands r (x ∷ h) m (from, came, asked, made, led, follows) = led_stands r h from m x (scanned_stands r h from came) asked led
+scanned_stands r [] m (c, e) = record { holds = subst (Begun r) e (ready_holds r c); served = tt; meeting = tt }
+scanned_stands r (x ∷ h) m (from, came, asked, made, led) = led_stands r h from m x (scanned_stands r h from came) asked made led
 
 -- ---- what a step means
 
@@ -265,21 +283,32 @@ past_by to l o e h = on l.high (page_at l.right) (ap (is_wanted to) (sym e) ∙ 
   on None page h = tt
   on (Some high) page h = h
 
+pub of_range : (r : Range) (s : Scan) → s.to ≡ r.to → IsTo r.tree r.from s.walk → range_of s ≡ r
+of_range r s to walk =
+    ap (λ (t : ℕ). record { tree = t; from = s.walk.key; to = s.to }) walk.0
+    ∙ (ap (λ (k : Option (List ℕ)). record { tree = r.tree; from = k; to = s.to }) walk.1 ∙ ap (λ (k : Option (List ℕ)). record { tree = r.tree; from = r.from; to = k }) to)
+
+-- a scan is of its range at each of its calls
+pub scanned_range : (r : Range) (h : List Move) (m : Scan × Cache) → Scanned r h m → range_of m.0 ≡ r
+scanned_range r h m came = let stands : Stands r h m = scanned_stands r h m came in of_range r m.0 stands.holds.to stands.holds.walk
+
 pub next_means : (r : Range) (h : List Move) (who : Caller) (before after : Seen) (m n : Scan × Cache) (a : Answer) (turn : Turn ℕ) → Scanned r h m
-    → Makes who (scan_asks m) a before after → Took (LeadsBy scan_next) KeepsNothing m a n turn → Means r who before after m n h turn
-next_means r h who before after m n a More came made took = tt
+    → Makes who (scan_asks m) a before after → Took (LeadsBy scan_next) KeepsServed m a n turn → Means r (deed_of who m a before after) n h turn
+next_means r h who before after m n a More came made took =
+    let stands : Stands r h m = scanned_stands r h m came in
+    let holds : Holds r (leaves_of h) n.0 = subst (Leads r (leaves_of h) m a) took (next_leads r (leaves_of h) m a stands.holds) in
+    of_range r n.0 holds.to holds.walk
 next_means r h who before after m n a (Stopped t) came made took = tt
 next_means r h who before after m n a (Ended page) came made took =
     let stands : Stands r h m = scanned_stands r h m came in
     let end : EndsAt r (leaves_of h) m a n page = subst (Leads r (leaves_of h) m a) took (next_leads r (leaves_of h) m a stands.holds) in
     record {
       leaf = end.leaf;
-      answer = a;
-      made = made;
-      got = end.got;
+      served = served_by r.tree (deed_of who m a before after) end.leaf made end.got;
       in_hand = end.in_hand;
       kept = end.kept;
-      earlier = stands.got;
+      of = of_range r n.0 end.to end.walk;
+      earlier = stands.served;
       meeting = (end.continues, stands.meeting);
       last = λ off. past_by r.to end.leaf n.0.next end.next (ap (λ (k : Option (List ℕ)). is_wanted k n.0.next) (sym end.to) ∙ off);
     }

@@ -13,9 +13,9 @@ use Rattle.cloud_trait.specs.Views.{got_of}
 use Rattle.cloud_trait.specs.Weather.{Makes}
 use Rattle.page_cache.specs.Cache.{Cache}
 use Rattle.tree_walk.specs.Moves.{Moves, MovesBeside}
-use Rattle.tree_walk.specs.Walk.{Spot, Walk, asks, walk_next}
-use Rattle.tree_walk.specs.Walk.{KeepsNothing as KeepsNoWalk}
-use Rattle.range_scan.specs.Scan.{Scan, scan_asks, scan_object_at, scan_beside, walked_on, walked_by, right_got, next_at, scan_next, KeepsNothing}
+use Rattle.tree_walk.specs.Walk.{Spot, Walk, asks, walk_next, ServesOn}
+use Rattle.tree_walk.specs.Walk.{KeepsServed as KeepsWalked}
+use Rattle.range_scan.specs.Scan.{Scan, scan_asks, scan_object_at, scan_beside, walked_on, walked_by, right_got, next_at, scan_next, KeepsServed}
 
 -- what was done beside the cache
 beside_moves : (n : Next Scan ℕ) (c : Cache) (new : Scan) (turn : Turn ℕ) → Moves n new turn → Moves (scan_beside (n, c)) (new, c) turn
@@ -48,15 +48,15 @@ walked_moves s x w c (Stopped t) (Stopped u) new e h =
     λ other. ap (walked_by s) (e (λ m. other (sym (same_trouble (record s { walk = w }) new t u (h other)) ∙ m)))
     ∙ ap (λ (m : Next Scan ℕ). scan_beside (m, c)) (h other)
 
-took_moves : (m : Walk × Cache) (a : Answer) (n : Walk × Cache) (turn : Turn ℕ) → Took (LeadsBy walk_next) KeepsNoWalk m a n turn → Moves (walk_next m a) n turn
+took_moves : (m : Walk × Cache) (a : Answer) (n : Walk × Cache) (turn : Turn ℕ) → Took (LeadsBy walk_next) KeepsWalked m a n turn → Moves (walk_next m a) n turn
 took_moves m a n More h = h
 took_moves m a n (Ended page) h = h
 took_moves m a n (Stopped t) h = h.0
 
-moves_took : (m : Scan × Cache) (a : Answer) (n : Scan × Cache) (turn : Turn ℕ) → Moves (scan_next m a) n turn → Took (LeadsBy scan_next) KeepsNothing m a n turn
-moves_took m a n More h = h
-moves_took m a n (Ended page) h = h
-moves_took m a n (Stopped t) h = (h, λ memory. tt)
+moves_took : (m : Scan × Cache) (a : Answer) (n : Scan × Cache) (turn : Turn ℕ) → ServesOn m.1 n.1 → Moves (scan_next m a) n turn → Took (LeadsBy scan_next) KeepsServed m a n turn
+moves_took m a n More on h = h
+moves_took m a n (Ended page) on h = h
+moves_took m a n (Stopped t) on h = (h, λ memory. on)
 
 pub none_of : (o : Option Spot) → is_some o ≡ false → o ≡ None
 none_of None e = refl
@@ -64,14 +64,14 @@ none_of (Some spot) e = absurd (cc (e))
 
 -- a step of the walk is one of the scan
 pub walk_steps : (who : Caller) (before after : Seen) (s : Scan) (c : Cache) (w : Walk) (d : Cache) (turn result : Turn ℕ) (new : Scan) → s.spot ≡ None
-    → Steps asks (LeadsBy walk_next) KeepsNoWalk who before after (s.walk, c) (w, d) turn
-    → Moves (walked_on (record s { walk = w }) d turn) new result → Steps scan_asks (LeadsBy scan_next) KeepsNothing who before after (s, c) (new, d) result
-walk_steps who before after s c w d turn result new e h moved =
+    → Steps asks (LeadsBy walk_next) KeepsWalked who before after (s.walk, c) (w, d) turn → ServesOn c d
+    → Moves (walked_on (record s { walk = w }) d turn) new result → Steps scan_asks (LeadsBy scan_next) KeepsServed who before after (s, c) (new, d) result
+walk_steps who before after s c w d turn result new e h on moved =
     let P : Option Spot → Type 0 = λ o. Moves (next_at o (s, c) h.answer) (new, d) result in
     let Q : Option Spot → Type 0 = λ o. Makes who (Get (scan_object_at s o)) h.answer before after in
     let walked : Moves (walked_by s (walk_next (s.walk, c) h.answer)) (new, d) result =
     walked_moves s (walk_next (s.walk, c) h.answer) w d turn result new (took_moves (s.walk, c) h.answer (w, d) turn h.took) moved in
-    record { answer = h.answer; made = subst Q (sym e) h.made; took = moves_took (s, c) h.answer (new, d) result (subst P (sym e) walked) }
+    record { answer = h.answer; made = subst Q (sym e) h.made; took = moves_took (s, c) h.answer (new, d) result on (subst P (sym e) walked) }
 
 -- ---- a right page
 
@@ -86,8 +86,8 @@ beside_took x new d (Stopped t) h =
     λ other. ap scan_beside (ap (λ (n : Next Scan ℕ). (n, x.1)) (h other).0 ∙ ap (λ (c : Cache). (Stops new t, c)) (h other).1)
 
 pub right_took : (s : Scan) (c : Cache) (a : Answer) (g : Result (Option (List ℕ)) Trouble) (new : Scan) (d : Cache) (turn : Turn ℕ) → is_some s.spot ≡ true → g ≡ got_of a
-    → MovesBeside (right_got s c g) new d turn → Took (LeadsBy scan_next) KeepsNothing (s, c) a (new, d) turn
-right_took s c a g new d turn some is h =
+    → ServesOn c d → MovesBeside (right_got s c g) new d turn → Took (LeadsBy scan_next) KeepsServed (s, c) a (new, d) turn
+right_took s c a g new d turn some is on h =
     let P : Next (Scan × Cache) ℕ → Type 0 = λ y. Moves y (new, d) turn in
     let Q : Result (Option (List ℕ)) Trouble → Type 0 = λ r. MovesBeside (right_got s c r) new d turn in
-    moves_took (s, c) a (new, d) turn (subst P (sym (right_next s.spot s c a some)) (beside_took (right_got s c (got_of a)) new d turn (subst Q is h)))
+    moves_took (s, c) a (new, d) turn on (subst P (sym (right_next s.spot s c a some)) (beside_took (right_got s c (got_of a)) new d turn (subst Q is h)))

@@ -246,7 +246,7 @@ new_begins r c = on (walk_ready ((scan_of r).walk, c)) refl where
 
 scanned_counted : (r : Range) (h : List Move) (m : Scan × Cache) → Scanned r h m → IsCounted (length h) m.0
 scanned_counted r [] m (c, e) = subst Begins e (new_begins r c)
-scanned_counted r (x ∷ h) m (from, came, asked, made, led, follows) =
+scanned_counted r (x ∷ h) m (from, came, asked, made, led) =
     let before : IsCounted (length h) from.0 = scanned_counted r h from came in
     let after : IsCounted (length h + 1) m.0 = led_counted (length h) from m x.deed.answer x.behind before led in
     record { once = after.once; few = omega (arith, after.few); first = after.first }

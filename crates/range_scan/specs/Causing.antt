@@ -13,8 +13,6 @@ use Rattle.cloud_trait.specs.declared.turn.Turn.TheVariants.{Stopped}
 use Rattle.cloud_trait.specs.Caller.{Caller}
 use Rattle.cloud_trait.specs.Machine.{Deed}
 use Rattle.cloud_trait.specs.Seen.{Seen}
-use Rattle.cloud_trait.specs.Weather.{Makes}
-use Rattle.calm_calls.specs.Calm.{IsCalm}
 use Rattle.page_cache.specs.Cache.{Cache, accepts}
 use Rattle.page_cache.specs.Held.{leaf_at}
 use Rattle.page_cache.specs.Refused.{IsDamaged}
@@ -62,13 +60,9 @@ Shows m a n t = ShowsAt m.0.spot m a n t
 abbrev pub deed_of : Caller → Scan × Cache → Answer → Seen → Seen → Deed
 deed_of who old answer before after = record { who = who; ask = scan_asks old; answer = answer; before = before; after = after }
 
--- a step that stops, but for want of memory, shows its trouble by the answer that the cloud gave; and where its call is calm, it does not
--- stop as failed
-pub record Causes (who : Caller) (before after : Seen) (old new : Scan × Cache) (turn : Turn ℕ) : Type 0 where
-  pub answer : Answer
-  pub made : Makes who (scan_asks old) answer before after
-  pub tells : (t : Trouble) → turn ≡ Stopped t → t ≢ trouble.Memory → Shows old answer new t
-  pub well : IsCalm (deed_of who old answer before after) → turn ≢ Stopped trouble.Failed
+-- a step that stops, but for want of memory, shows its trouble by what its call answered
+abbrev pub Causes : Scan × Cache → Answer → Scan × Cache → Turn ℕ → Type 0
+Causes old a new turn = (t : Trouble) → turn ≡ Stopped t → t ≢ trouble.Memory → Shows old a new t
 
 -- the local work before the first call, but for want of memory, shows its trouble by the objects that the cache keeps and their links
 abbrev pub CausesReady : Scan × Cache → Scan × Cache → Turn ℕ → Type 0
@@ -127,8 +121,6 @@ pub record IsExactRight (m : Scan × Cache) (a : Answer) (spot : Spot) (turn : T
   pub led_back : (t : Trouble) → LeadsBack m a spot t → IsStopped turn t
 
 -- where the answer, or the object that was in hand and is kept now, shows a trouble, the step stops with it, if not for want of memory
-pub record Exact (who : Caller) (before after : Seen) (old : Scan × Cache) (turn : Turn ℕ) : Type 0 where
-  pub answer : Answer
-  pub made : Makes who (scan_asks old) answer before after
-  pub walked : old.0.spot ≡ None → IsExactWalk old answer turn
-  pub right : (spot : Spot) → old.0.spot ≡ Some spot → IsExactRight old answer spot turn
+pub record Exact (old : Scan × Cache) (a : Answer) (turn : Turn ℕ) : Type 0 where
+  pub walked : old.0.spot ≡ None → IsExactWalk old a turn
+  pub right : (spot : Spot) → old.0.spot ≡ Some spot → IsExactRight old a spot turn

@@ -5,3 +5,4 @@ pub mod Listing
 pub mod Causing
 pub mod Within
 pub mod Whole
+pub mod Stepped

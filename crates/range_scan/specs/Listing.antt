@@ -1,5 +1,5 @@
 -- What a scan comes to over its whole run: the leaves at which it ends, in turn.
-use Rattle.std.specs.Prelude.{ℕ, ◌≡◌, true, false, List, [], ◌∷◌, map, Option, Some, None}
+use Rattle.std.specs.Prelude.{ℕ, ◌≡◌, true, false, List, [], ◌∷◌, Option, Some, None}
 use Rattle.byte_format.specs.Order.{below_bound}
 use Rattle.db_base.specs.declared.names.ObjName.TheVariants as object
 use Rattle.leaf_view.specs.Leaf.{Leaf}
@@ -9,10 +9,8 @@ use Rattle.cloud_trait.specs.declared.answer.Answer.TheVariants.{Got}
 use Rattle.cloud_trait.specs.declared.turn.Turn.{Turn}
 use Rattle.cloud_trait.specs.declared.turn.Turn.TheVariants.{More, Ended, Stopped}
 use Rattle.cloud_trait.specs.Ask.{Ask, Get}
-use Rattle.cloud_trait.specs.Caller.{Caller}
-use Rattle.cloud_trait.specs.Machine.{Goes, Ends, Deed, IsMade, Follows}
-use Rattle.cloud_trait.specs.Seen.{Seen}
-use Rattle.cloud_trait.specs.Weather.{Makes}
+use Rattle.cloud_trait.specs.Machine.{Goes, Ends, Deed, IsMade}
+use Rattle.cloud_trait.specs.State.{CloudState, newest, version_at}
 use Rattle.page_cache.specs.Cache.{Cache}
 use Rattle.page_cache.specs.Held.{leaf_at, as_leaf}
 use Rattle.range_scan.specs.Scan.{Scan, new_scan, scan_object, scan_asks, goes_on, moved_on, scan_ready, scan_next}
@@ -27,6 +25,10 @@ pub record Range : Type 0 where
 abbrev pub scan_of : Range → Scan
 scan_of r = new_scan r.tree r.from r.to
 
+-- the range of a scan
+abbrev pub range_of : Scan → Range
+range_of s = record { tree = s.walk.tree; from = s.walk.key; to = s.to }
+
 -- a call that a scan went on from, and the leaf behind which it went on, where the call brought it to the end of one
 pub record Move : Type 0 where
   pub deed : Deed
@@ -38,14 +40,11 @@ LedTo m a None n = scan_next m a ≡ Goes n
 LedTo m a (Some l) n =
     (s : Scan) × ((page : ℕ) × (scan_next m a ≡ Ends (s, n.1) page) × (leaf_at n.1 (scan_object s) ≡ Some l) × (goes_on s ≡ true) × (n.0 ≡ moved_on s))
 
-abbrev pub deeds_of : List Move → List Deed
-deeds_of h = map (λ (x : Move). x.deed) h
-
--- the scan of a range came from its begin to this state by these moves, the newest first
+-- the scan of a range came from its begin to this state by these moves, the newest first, whatever others did between them
 abbrev pub Scanned : Range → List Move → Scan × Cache → Type 0
 Scanned r [] m = (c : Cache) × (scan_ready (scan_of r, c) ≡ Goes m)
 Scanned r (x ∷ h) m =
-    (from : Scan × Cache) × Scanned r h from × (x.deed.ask ≡ scan_asks from) × IsMade x.deed × LedTo from x.deed.answer x.behind m × Follows (deeds_of h) x.deed
+    (from : Scan × Cache) × Scanned r h from × (x.deed.ask ≡ scan_asks from) × IsMade x.deed × LedTo from x.deed.answer x.behind m
 
 -- ---- leaves
 
@@ -66,15 +65,21 @@ abbrev pub leaves_of : List Move → List Leaf
 leaves_of [] = []
 leaves_of (x ∷ h) = joined x.behind (leaves_of h)
 
--- a leaf behind which a scan went on is the one that its call got
-abbrev pub IsGotBy : ℕ → Deed → Option Leaf → Type 0
-IsGotBy tree d None = Unit {0}
-IsGotBy tree d (Some l) = IsGot tree d.ask d.answer l
+-- the leaf of a page as a call served it: a version that landed, and the newest where no count of stale gets rose
+pub record IsServed (tree : ℕ) (d : Deed) (l : Leaf) : Type 0 where
+  pub is_got : IsGot tree d.ask d.answer l
+  pub landed : (s : CloudState) → d.before.state ≡ Some s → (k : ℕ) × (is_got.got ≡ version_at (s.versions (object.Page tree is_got.page)) k)
+  pub newest_one : (s : CloudState) → d.before.state ≡ Some s → d.after.counts.stale ≡ d.before.counts.stale → is_got.got ≡ newest s (object.Page tree is_got.page)
+
+-- a leaf behind which a scan went on is the one that its call served
+abbrev pub IsServedBy : ℕ → Deed → Option Leaf → Type 0
+IsServedBy tree d None = Unit {0}
+IsServedBy tree d (Some l) = IsServed tree d l
 
 -- .. and so is each of them
-abbrev pub AreGot : ℕ → List Move → Type 0
-AreGot tree [] = Unit {0}
-AreGot tree (x ∷ h) = IsGotBy tree x.deed x.behind × AreGot tree h
+abbrev pub AreServed : ℕ → List Move → Type 0
+AreServed tree [] = Unit {0}
+AreServed tree (x ∷ h) = IsServedBy tree x.deed x.behind × AreServed tree h
 
 -- the first leaf holds the first key, or is at the tree's left end where there is none
 abbrev pub BeginsAt : Option (List ℕ) → Leaf → Type 0
@@ -96,21 +101,20 @@ abbrev pub IsPast : Option (List ℕ) → Option (List ℕ) → Type 0
 IsPast to None = Unit {0}
 IsPast to (Some high) = below_bound high to ≡ false
 
--- a scan at a leaf that its newest call got and that the cache keeps: with the leaves behind which it went on, each of which a call got, it
--- meets from the first one on, and where the scan does not go on, it is the last
-pub record IsAt (r : Range) (who : Caller) (before after : Seen) (old new : Scan × Cache) (h : List Move) (page : ℕ) : Type 0 where
+-- a scan at a leaf that its newest call served and that the cache keeps: with the leaves behind which it went on, each of which a call
+-- served, it meets from the first one on, and where the scan does not go on, it is the last
+pub record IsAt (r : Range) (d : Deed) (new : Scan × Cache) (h : List Move) (page : ℕ) : Type 0 where
   pub leaf : Leaf
-  pub answer : Answer
-  pub made : Makes who (scan_asks old) answer before after
-  pub got : IsGot r.tree (scan_asks old) answer leaf
+  pub served : IsServed r.tree d leaf
   pub in_hand : scan_object new.0 ≡ object.Page r.tree page
   pub kept : leaf_at new.1 (object.Page r.tree page) ≡ Some leaf
-  pub earlier : AreGot r.tree h
+  pub of : range_of new.0 ≡ r
+  pub earlier : AreServed r.tree h
   pub meeting : AreMeeting r (leaf ∷ leaves_of h)
   pub last : goes_on new.0 ≡ false → IsPast r.to leaf.high
 
--- what a step means: at its end the scan is at a leaf
-abbrev pub Means : Range → Caller → Seen → Seen → Scan × Cache → Scan × Cache → List Move → Turn ℕ → Type 0
-Means r who before after old new h More = Unit {0}
-Means r who before after old new h (Ended page) = IsAt r who before after old new h page
-Means r who before after old new h (Stopped t) = Unit {0}
+-- what a step means: the scan is of its range still, and at its end at a leaf
+abbrev pub Means : Range → Deed → Scan × Cache → List Move → Turn ℕ → Type 0
+Means r d new h More = range_of new.0 ≡ r
+Means r d new h (Ended page) = IsAt r d new h page
+Means r d new h (Stopped t) = Unit {0}

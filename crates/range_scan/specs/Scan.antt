@@ -15,7 +15,7 @@ use Rattle.cloud_trait.specs.Machine.{Next, Goes, Ends, Stops}
 use Rattle.cloud_trait.specs.Views.{got_of}
 use Rattle.page_cache.specs.Cache.{Cache, accepts}
 use Rattle.page_cache.specs.Held.{leaf_at}
-use Rattle.tree_walk.specs.Walk.{Spot, Walk, new_walk, object_of, is_page, is_among, came_to, walk_ready, walk_next}
+use Rattle.tree_walk.specs.Walk.{Spot, Walk, new_walk, object_of, is_page, is_among, came_to, walk_ready, walk_next, ServesOn}
 
 -- a scan: its walk, the key at which it stops, the right page in hand (its walk is in hand while there is none), the page to the
 -- right of the newest leaf, and the right pages that it got
@@ -148,6 +148,6 @@ next_at (Some spot) m a = scan_beside (right_got m.0 m.1 (got_of a))
 abbrev pub scan_next : Scan × Cache → Answer → Next (Scan × Cache) ℕ
 scan_next m a = next_at m.0.spot m a
 
--- want of memory keeps nothing in particular: a scan has no lease
-abbrev pub KeepsNothing : Scan × Cache → Answer → Scan × Cache → Type 0
-KeepsNothing m a n = Unit {0}
+-- want of memory keeps the versions that were served; a scan has no lease to keep
+abbrev pub KeepsServed : Scan × Cache → Answer → Scan × Cache → Type 0
+KeepsServed m a n = ServesOn m.1 n.1

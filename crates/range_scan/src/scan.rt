@@ -1,11 +1,11 @@
-ghost use Rattle.std.specs.Prelude.{◌≡◌, ◌≢◌, ◌<◌, ◌+◌, ℕ, true, false, List, length, Some, is_some, IfOk};
+ghost use Rattle.std.specs.Prelude.{◌≡◌, ◌≢◌, ◌<◌, ℕ, true, false, is_some, IfOk};
 ghost use Rattle.page_cache.specs.Held.{leaf_at};
 ghost use Rattle.std.specs.Option.{option_copied, option_map};
 ghost use Rattle.byte_format.specs.Order.{below_bound};
 ghost use Rattle.cloud_trait.specs.Call.{ask_of};
 ghost use Rattle.cloud_trait.specs.Machine.{LeadsBy, Steps};
 ghost use Rattle.tree_walk.specs.Moves.{Moves, MovesBeside};
-ghost use Rattle.tree_walk.specs.Walk.{Spot as Place};
+ghost use Rattle.tree_walk.specs.Walk.{Spot as Place, ServesOn};
 
 use crate::items::Items;
 use crate::sight::Sight;
@@ -63,12 +63,10 @@ impl Model for RangeScan {
 }
 
 impl RangeScan {
-    ghost use Rattle.range_scan.specs.Scan.{new_scan, scan_object, scan_ask, scan_asks, right_in, scan_came_to, leaf_ended, goes_on, moved_on, first_read, walked_on, right_read_in, right_read, right_got, scan_ready, scan_next, scan_beside, next_at, KeepsNothing};
+    ghost use Rattle.range_scan.specs.Scan.{new_scan, scan_object, scan_ask, scan_asks, right_in, scan_came_to, leaf_ended, goes_on, moved_on, first_read, walked_on, right_read_in, right_read, right_got, scan_ready, scan_next, scan_beside, next_at, KeepsServed};
     ghost use Rattle.range_scan.specs.Ending.{calls_left};
     ghost use Rattle.range_scan.specs.Pairs.{AreItemsIn};
-    ghost use Rattle.range_scan.specs.Listing.{Range, Move, Scanned, Means};
-    ghost use Rattle.range_scan.specs.Causing.{Causes, Exact};
-    ghost use Rattle.range_scan.specs.Within.{IsWithin};
+    ghost use Rattle.range_scan.specs.Stepped.{Stepped};
 
     /// The scan of a tree from a key on, or from its left end, and below a key, or to its right end. Takes no memory.
     pub fn new(alloc: Global, tree: TreeId, from: Option<Key>, to: Option<Key>) -> RangeScan
@@ -228,7 +226,8 @@ impl RangeScan {
         cache: &mut PageCache,
         got: Result<Option<Blob>, Trouble>,
     ) -> Turn<PageId>
-        ensures { MovesBeside (right_got self.old cache.old got) self.new cache.new result }
+        ensures moves { MovesBeside (right_got self.old cache.old got) self.new cache.new result }
+        ensures served { ServesOn cache.old cache.new }
     {
         match got {
             Ok(bytes) => match cache.accept(self.object(), bytes, true) {
@@ -241,7 +240,9 @@ impl RangeScan {
 
     /// Does the local work before the first call; it is called once.
     pub fn ready(&mut self, alloc: Global, cache: &mut PageCache) -> Turn<PageId>
-        ensures { Moves (scan_ready (self.old, cache.old)) (self.new, cache.new) result }
+        ensures moves { Moves (scan_ready (self.old, cache.old)) (self.new, cache.new) result }
+        // No version that was served falls, whatever it comes to.
+        ensures served { ServesOn cache.old cache.new }
     {
         let turn = self.walk.ready(alloc, cache);
         self.walked(alloc, cache, turn)
@@ -256,7 +257,8 @@ impl RangeScan {
         cache: &mut PageCache,
     ) -> Turn<PageId>
         requires { is_some self.old.spot ≡ true }
-        ensures steps { Steps scan_asks (LeadsBy scan_next) KeepsNothing who (C.seen cloud.old) (C.seen cloud.new) (self.old, cache.old) (self.new, cache.new) result }
+        ensures steps { Steps scan_asks (LeadsBy scan_next) KeepsServed who (C.seen cloud.old) (C.seen cloud.new) (self.old, cache.old) (self.new, cache.new) result }
+        ensures served { ServesOn cache.old cache.new }
         ensures less { result ≡ Turn.More → calls_left self.new < calls_left self.old }
         ensures further { (page : ℕ) → result ≡ Turn.Ended page → goes_on self.new ≡ true → calls_left (moved_on self.new) < calls_left self.old }
     {
@@ -275,7 +277,8 @@ impl RangeScan {
         cache: &mut PageCache,
     ) -> Turn<PageId>
         requires { is_some self.old.spot ≡ false }
-        ensures steps { Steps scan_asks (LeadsBy scan_next) KeepsNothing who (C.seen cloud.old) (C.seen cloud.new) (self.old, cache.old) (self.new, cache.new) result }
+        ensures steps { Steps scan_asks (LeadsBy scan_next) KeepsServed who (C.seen cloud.old) (C.seen cloud.new) (self.old, cache.old) (self.new, cache.new) result }
+        ensures served { ServesOn cache.old cache.new }
         ensures less { result ≡ Turn.More → calls_left self.new < calls_left self.old }
         ensures further { (page : ℕ) → result ≡ Turn.Ended page → goes_on self.new ≡ true → calls_left (moved_on self.new) < calls_left self.old }
     {
@@ -291,18 +294,11 @@ impl RangeScan {
         who: Who,
         cache: &mut PageCache,
     ) -> Turn<PageId>
-        ensures steps { Steps scan_asks (LeadsBy scan_next) KeepsNothing who (C.seen cloud.old) (C.seen cloud.new) (self.old, cache.old) (self.new, cache.new) result }
+        // Its one call, and what that comes to: where it leads, at which leaf it ends, why it stops and when it has to.
+        ensures stepped { Stepped who (C.seen cloud.old) (C.seen cloud.new) (self.old, cache.old) (self.new, cache.new) result }
         // Each call that it goes on from, in its walk or behind the leaf at which it ended, comes to one more page.
         ensures less { result ≡ Turn.More → calls_left self.new < calls_left self.old }
         ensures further { (page : ℕ) → result ≡ Turn.Ended page → goes_on self.new ≡ true → calls_left (moved_on self.new) < calls_left self.old }
-        // Where it ends, it is at a leaf that its call got; the ranges of its leaves meet, from the first key on.
-        ensures means { (r : Range) (h : List Move) → Scanned r h (self.old, cache.old) → Means r who (C.seen cloud.old) (C.seen cloud.new) (self.old, cache.old) (self.new, cache.new) h result }
-        // A trouble is shown by the answer to the call, or by the leaves that the cache keeps then and the links between them.
-        ensures causes { (r : Range) (h : List Move) → Scanned r h (self.old, cache.old) → Causes who (C.seen cloud.old) (C.seen cloud.new) (self.old, cache.old) (self.new, cache.new) result }
-        // Where the answer, or the object that it brought, shows a trouble, it stops with that.
-        ensures exact { (r : Range) (h : List Move) → Scanned r h (self.old, cache.old) → Exact who (C.seen cloud.old) (C.seen cloud.new) (self.old, cache.old) result }
-        // It comes to each page once, and one call more than these is all.
-        ensures within { (r : Range) (h : List Move) → Scanned r h (self.old, cache.old) → IsWithin (length h + 1) self.old }
     {
         if self.spot.is_some() {
             self.step_right(alloc, cloud, who, cache)

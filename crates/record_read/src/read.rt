@@ -1,11 +1,11 @@
 ghost use Rattle.std.specs.Prelude.{◌≡◌, ◌<◌, ◌+◌, ℕ, List, length, Some, false};
 ghost use Rattle.std.specs.Option.{option_copied};
 ghost use Rattle.cloud_trait.specs.Call.{ask_of};
-ghost use Rattle.cloud_trait.specs.Machine.{LeadsBy, Steps, Deed};
-ghost use Rattle.tree_walk.specs.Causing.{Causes, Exact};
+ghost use Rattle.cloud_trait.specs.Machine.{Deed};
 ghost use Rattle.tree_walk.specs.Moves.{Moves};
-ghost use Rattle.tree_walk.specs.Serving.{MustGet, Serves, GoesCalmly};
-ghost use Rattle.tree_walk.specs.Walk.{new_walk, asks, walk_ask, walk_ready, walk_next, KeepsNothing, calls_left, IsAtLeaf};
+ghost use Rattle.tree_walk.specs.Serving.{MustGet};
+ghost use Rattle.tree_walk.specs.Stepped.{Stepped};
+ghost use Rattle.tree_walk.specs.Walk.{new_walk, walk_ask, walk_ready, ServesOn, calls_left, IsAtLeaf};
 ghost use Rattle.tree_walk.specs.Within.{Went, IsWithin};
 ghost use Rattle.record_read.specs.Read.{read_value};
 
@@ -61,7 +61,9 @@ impl RecordRead {
 
     /// Does the local work before the first call; it is called once.
     pub fn ready(&mut self, alloc: Global, cache: &mut PageCache) -> Turn<PageId>
-        ensures { Moves (walk_ready (self.old, cache.old)) (self.new, cache.new) result }
+        ensures moves { Moves (walk_ready (self.old, cache.old)) (self.new, cache.new) result }
+        // No version that was served falls, whatever it comes to.
+        ensures served { ServesOn cache.old cache.new }
     {
         self.walk.ready(alloc, cache)
     }
@@ -75,21 +77,14 @@ impl RecordRead {
         who: Who,
         cache: &mut PageCache,
     ) -> Turn<PageId>
-        ensures steps { Steps asks (LeadsBy walk_next) KeepsNothing who (C.seen cloud.old) (C.seen cloud.new) (self.old, cache.old) (self.new, cache.new) result }
+        // Its one call, and what that comes to: where it leads, why it stops and when it has to, and the leaf that it brings.
+        ensures stepped { Stepped who (C.seen cloud.old) (C.seen cloud.new) (self.old, cache.old) (self.new, cache.new) result }
         ensures less { result ≡ Turn.More → calls_left self.new < calls_left self.old }
         ensures ends { (page : ℕ) → result ≡ Turn.Ended page → IsAtLeaf self.new cache.new page }
-        // A trouble is shown by the answer to the call, or by the objects that the cache keeps then and the links between them.
-        ensures causes { Causes who (C.seen cloud.old) (C.seen cloud.new) (self.old, cache.old) (self.new, cache.new) result }
         // It comes to each page once, and one call more than these is all.
         ensures within { (h : List Deed) → Went h (self.old, cache.old) → IsWithin (length h + 1) self.old self.new result }
-        // Where the answer, or the page that it brought, shows a trouble, it stops with that.
-        ensures exact { Exact who (C.seen cloud.old) (C.seen cloud.new) (self.old, cache.old) result }
         // What it gets next is a leaf, or what the cache does not keep.
         ensures gets { result ≡ Turn.More → MustGet self.new cache.new }
-        // At its end the leaf is what this call got: a version that landed, and the newest where `stale` did not rise.
-        ensures serves { Serves who (C.seen cloud.old) (C.seen cloud.new) (self.old, cache.old) (self.new, cache.new) result }
-        // A calm call does not fail, and what is stale then is so in its newest version.
-        ensures well { GoesCalmly who (C.seen cloud.old) (C.seen cloud.new) (self.old, cache.old) result }
     {
         self.walk.step(alloc, cloud, who, cache)
     }

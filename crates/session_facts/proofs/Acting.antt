@@ -12,7 +12,7 @@ use Rattle.cloud_trait.specs.Caller.{Caller}
 use Rattle.cloud_trait.specs.Seen.{Seen}
 use Rattle.cloud_trait.specs.Machine.{Goes, Ends, Stops, LeadsBy, Took}
 use Rattle.db_base.specs.declared.pair.Pair.{Pair}
-use Rattle.range_scan.specs.Scan.{Scan, scan_next, moved_on, KeepsNothing}
+use Rattle.range_scan.specs.Scan.{Scan, scan_next, moved_on, KeepsServed}
 use Rattle.recover_run.specs.declared.home.Home.{Home}
 use Rattle.recover_run.specs.declared.stage.RecoverAnswer.TheVariants.{Opened}
 use Rattle.commit_run.specs.Run.{Run, home_of as home_of_run}
@@ -57,7 +57,7 @@ works_same w z s e h = subst (λ x. WorksAs x s) (sym e) h
 
 -- a scan that goes on looks through the same range
 scan_goes_as : (home : Home) (buffer : List Noted) (l : Listing) (c d : Cache) (n : Scan) (a : Heard) (moved : Turn ℕ) (new : Work) (shows : Shown) (s : Standing)
-    → Took (LeadsBy scan_next) KeepsNothing (l.scan, c) a (n, d) moved → Follows home buffer (record { scan = n; pairs = l.pairs }) d moved new shows More
+    → Took (LeadsBy scan_next) KeepsServed (l.scan, c) a (n, d) moved → Follows home buffer (record { scan = n; pairs = l.pairs }) d moved new shows More
     → WorksAs (Scanning home l) s → WorksAs new s
 scan_goes_as home buffer l c d n a More new shows s took f acts =
     works_same new (Scanning home (record { scan = n; pairs = l.pairs })) s f.0 (acts.0 ∙ sym (scanning_goes l.scan n c d a took), acts.1)

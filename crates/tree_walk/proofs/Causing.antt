@@ -27,7 +27,7 @@ use Rattle.page_cache.specs.Held.{leaf_at, inner_at, root_at}
 use Rattle.page_cache.proofs.ViewLemmas.{accept_leaf, accept_inner, accept_root}
 use Rattle.tree_walk.specs.Moves.{Moves}
 use Rattle.tree_walk.specs.Walk.{Spot, Walk, sought, spot_of, is_leaf, is_leaf_at, is_got_at, is_among, object_at, object_of, came_to, use_of, entry_for, right_of, linked, bad_fence, bad_level, node_left, node_passed, leaf_left, leaf_passed, root_read, node_read, leaf_read, read_at, read_from, read_kept, follow, onward, goes_through, goes_on, got_read, accepted_by, got_by, beside, rested, walk_ask, walk_ready, walk_next}
-use Rattle.tree_walk.specs.Causing.{below, aside, node_link, node_link_by, IsLinked, WasLed, LinkShows, Brings, Shows, Causes, CausesReady}
+use Rattle.tree_walk.specs.Causing.{below, aside, node_link, node_link_by, IsLinked, WasLed, LinkShows, Brings, Shows, CausesReady}
 use Rattle.tree_walk.proofs.Refusing.{refused_shows}
 
 -- ---- through kept objects
@@ -242,9 +242,3 @@ ready_shows w c n turn moved t stopped other =
 -- a call of the walk's object
 pub asked : (who : Caller) (k : Ask) (w : Walk) (a : Answer) (before after : Seen) → k ≡ walk_ask w → Makes who k a before after → Makes who (walk_ask w) a before after
 asked who k w a before after is made = subst (λ (l : Ask). Makes who l a before after) is made
-
-pub moved_causes : (who : Caller) (k : Ask) (w : Walk) (c : Cache) (n : Walk × Cache) (a : Answer) (turn : Turn ℕ) (before after : Seen) → k ≡ walk_ask w
-    → Makes who k a before after → Moves (walk_next (w, c) a) n turn → Causes who before after (w, c) n turn
-moved_causes who k w c n a turn before after is made moved =
-    let so = asked who k w a before after is made in
-    record { answer = a; made = so; tells = moved_shows w c n a turn so.fits moved }

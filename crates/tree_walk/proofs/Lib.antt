@@ -6,3 +6,5 @@ pub mod Causing
 pub mod Onceness
 pub mod Serving
 pub mod Getting
+pub mod Walking
+pub mod Stepped

@@ -32,7 +32,7 @@ use Rattle.tree_walk.specs.Moves.{Moves}
 use Rattle.tree_walk.specs.Walk.{Spot, Walk, IsWalk, sought, spot_of, is_leaf, is_among, is_page, came_to, entry_for, linked, object_of, use_of, right_of, bad_fence, bad_level, node_left, node_passed, leaf_left, leaf_passed, root_read, node_read, leaf_read, read_at, read_from, follow, goes_on, got_read, accepted_by, left_by, beside, rested, walk_ask, walk_next}
 use Rattle.tree_walk.specs.Causing.{below, aside, node_link, node_link_by, LeadsTo, BreaksLevel, BreaksFence, IsOld, AnswerShows, LinkShows, Brings, Shows, IsStopped, Exact}
 use Rattle.tree_walk.specs.Serving.{IsServed, Serves, deed_of, GoesCalmly}
-use Rattle.tree_walk.proofs.Causing.{spot_is, asked, moved_shows}
+use Rattle.tree_walk.proofs.Causing.{spot_is, moved_shows}
 use Rattle.tree_walk.proofs.Leaves.{Unended, AtLeaf, linked_unended, node_unended, root_unended, through_unended, got_ends, kept_stays}
 use Rattle.tree_walk.proofs.Onceness.{or_right, node_still, leaf_still, at_spot}
 use Rattle.tree_walk.proofs.Refusing.{damaged_refused, old_refused}
@@ -224,11 +224,9 @@ looped_stops w c a d to brings leads came =
           ∙ ap (λ (o : Option (Next Walk ℕ)). beside (follow (goes_on d) (unwrap_or o (Stops (rested w) trouble.Failed)), d)) loops.1,
     )
 
-pub moved_exact : (who : Caller) (k : Ask) (w : Walk) (c : Cache) (n : Walk × Cache) (a : Answer) (turn : Turn ℕ) (before after : Seen) → k ≡ walk_ask w
-    → Makes who k a before after → Moves (walk_next (w, c) a) n turn → (a ≡ answer.Failed → turn ≡ Stopped trouble.Failed) → Exact who before after (w, c) turn
-moved_exact who k w c n a turn before after is made moved failed = record {
-  answer = a;
-  made = asked who k w a before after is made;
+pub moved_exact : (w : Walk) (c : Cache) (n : Walk × Cache) (a : Answer) (turn : Turn ℕ) → Moves (walk_next (w, c) a) n turn → (a ≡ answer.Failed → turn ≡ Stopped trouble.Failed)
+    → Exact (w, c) a turn
+moved_exact w c n a turn moved failed = record {
   failed = failed;
   answered = λ t shows. moved_stopped (walk_next (w, c) a) (rested w, left_by (rested w) c) n t turn (answer_stops w c a t shows) moved;
   brought = λ d s t brings at h. moved_stopped (walk_next (w, c) a) (rested w, left_by (rested w) d) n t turn (brought_stops w c a d s t brings at h) moved;
@@ -240,11 +238,11 @@ moved_exact who k w c n a turn before after is made moved failed = record {
 -- ---- the leaf at which it ends
 
 -- what a get answered landed, and is the newest where no stale get was counted
-get_row : (who : Caller) (name : ObjName) (got : Option (List ℕ)) (before after : Seen) → Makes who (Get name) (answer.Got got) before after → (s : CloudState) → before.state ≡ Some s
+pub get_row : (who : Caller) (name : ObjName) (got : Option (List ℕ)) (before after : Seen) → Makes who (Get name) (answer.Got got) before after → (s : CloudState) → before.state ≡ Some s
     → ((k : ℕ) × (got ≡ version_at (s.versions name) k)) × ((got ≡ newest s name) ⊎ Rose before.counts.stale after.counts.stale)
 get_row who name got before after made s told = let row = (made.state s told).row in (row.1, row.2)
 
-steady : (got : Option (List ℕ)) (new : Option (List ℕ)) (m n : ℕ) → (got ≡ new) ⊎ Rose m n → n ≡ m → got ≡ new
+pub steady : (got : Option (List ℕ)) (new : Option (List ℕ)) (m n : ℕ) → (got ≡ new) ⊎ Rose m n → n ≡ m → got ≡ new
 steady got new m n (inl is) same = is
 steady got new m n (inr rose) same = absurd (omega (arith, rose, same))
 
@@ -342,16 +340,11 @@ is_served who w c n a page before after made h =
       newest = λ s told same. steady h.0 (newest s (object_of w)) before.counts.stale after.counts.stale (row s told).1 same;
     }
 
-pub moved_serves : (who : Caller) (k : Ask) (w : Walk) (c : Cache) (n : Walk × Cache) (a : Answer) (turn : Turn ℕ) (before after : Seen) → IsWalk w → k ≡ walk_ask w
-    → Makes who k a before after → Moves (walk_next (w, c) a) n turn → Serves who before after (w, c) n turn
-moved_serves who k w c n a turn before after ok is made moved =
-    let so = asked who k w a before after is made in
+pub moved_serves : (who : Caller) (w : Walk) (c : Cache) (n : Walk × Cache) (a : Answer) (turn : Turn ℕ) (before after : Seen) → IsWalk w → Makes who (walk_ask w) a before after
+    → Moves (walk_next (w, c) a) n turn → Serves before after (w, c) n a turn
+moved_serves who w c n a turn before after ok made moved page ended =
     let At : Turn ℕ → Type 0 = Moves (walk_next (w, c) a) n in
-    record {
-      answer = a;
-      made = so;
-      serves = λ page ended. is_served who w c n a page before after so (subst (KeepsGot w a) (subst At ended moved) (next_keeps w c a ok));
-    }
+    is_served who w c n a page before after made (subst (KeepsGot w a) (subst At ended moved) (next_keeps w c a ok))
 
 -- ---- a calm call
 
@@ -391,11 +384,9 @@ shows_stale m a v page least found (inr h) = on h.2 where
     broken_is (inr fence) = absurd (cc (fence.is))
   on (inr loop) = absurd (cc (loop.is))
 
-pub moved_calmly : (who : Caller) (k : Ask) (w : Walk) (c : Cache) (n : Walk × Cache) (a : Answer) (turn : Turn ℕ) (before after : Seen) → k ≡ walk_ask w
-    → Makes who k a before after → Moves (walk_next (w, c) a) n turn → GoesCalmly who before after (w, c) turn
-moved_calmly who k w c n a turn before after is made moved =
-    let so = asked who k w a before after is made in
-    record { answer = a; made = so; well = well so; stale = stale so }
+pub moved_calmly : (who : Caller) (w : Walk) (c : Cache) (n : Walk × Cache) (a : Answer) (turn : Turn ℕ) (before after : Seen) → Makes who (walk_ask w) a before after
+    → Moves (walk_next (w, c) a) n turn → GoesCalmly who before after (w, c) a turn
+moved_calmly who w c n a turn before after made moved = record { well = well made; stale = stale made }
   where
     well : Makes who (walk_ask w) a before after → IsCalm (deed_of who (w, c) a before after) → turn ≢ Stopped trouble.Failed
     well so calm stopped =

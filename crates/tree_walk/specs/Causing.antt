@@ -16,14 +16,11 @@ use Rattle.cloud_trait.specs.declared.answer.Answer.{Answer}
 use Rattle.cloud_trait.specs.declared.answer.Answer.TheVariants as call
 use Rattle.cloud_trait.specs.declared.turn.Turn.{Turn}
 use Rattle.cloud_trait.specs.declared.turn.Turn.TheVariants.{Stopped}
-use Rattle.cloud_trait.specs.Caller.{Caller}
-use Rattle.cloud_trait.specs.Seen.{Seen}
-use Rattle.cloud_trait.specs.Weather.{Makes}
 use Rattle.page_cache.specs.Cache.{Cache, accepts, served_at}
 use Rattle.page_cache.specs.Held.{leaf_at, inner_at, root_at}
 use Rattle.page_cache.specs.Refused.{IsDamaged, least_of}
 use Rattle.page_cache.specs.Spelled.{version_read}
-use Rattle.tree_walk.specs.Walk.{Spot, Walk, sought, object_of, is_leaf, is_among, came_to, entry_for, right_of, asks}
+use Rattle.tree_walk.specs.Walk.{Spot, Walk, sought, object_of, is_leaf, is_among, came_to, entry_for, right_of}
 
 -- ---- links
 
@@ -140,11 +137,9 @@ Brings m a c = (got : Option (List ℕ)) × (version : ℕ) × (a ≡ call.Got g
 abbrev pub Shows : Walk × Cache → Answer → Walk → Trouble → Type 0
 Shows m a w t = AnswerShows m a t ⊎ ((c : Cache) × Brings m a c × LinkShows c m.0 w t)
 
--- a step that stops, but for want of memory, shows its trouble by the answer that the cloud gave
-pub record Causes (who : Caller) (before after : Seen) (old new : Walk × Cache) (turn : Turn ℕ) : Type 0 where
-  pub answer : Answer
-  pub made : Makes who (asks old) answer before after
-  pub tells : (t : Trouble) → turn ≡ Stopped t → t ≢ trouble.Memory → Shows old answer new.0 t
+-- a step that stops, but for want of memory, shows its trouble by what its call answered
+abbrev pub Causes : Walk × Cache → Answer → Walk → Turn ℕ → Type 0
+Causes old a new turn = (t : Trouble) → turn ≡ Stopped t → t ≢ trouble.Memory → Shows old a new t
 
 -- .. and so does the local work before the first call, by the objects that the cache keeps alone
 abbrev pub CausesReady : Walk × Cache → Walk → Turn ℕ → Type 0
@@ -166,12 +161,10 @@ LeadsTo c w (Some s) to =
     × (right_of (sought w) l.high (page_at l.right) ≡ Some next) × (to ≡ aside 0 next))
 
 -- where the answer, or the object that was in hand and is kept now, shows a trouble, the step stops with it
-pub record Exact (who : Caller) (before after : Seen) (old : Walk × Cache) (turn : Turn ℕ) : Type 0 where
-  pub answer : Answer
-  pub made : Makes who (asks old) answer before after
-  pub failed : answer ≡ call.Failed → turn ≡ Stopped trouble.Failed
-  pub answered : (t : Trouble) → AnswerShows old answer t → IsStopped turn t
-  pub brought : (c : Cache) (s : Spot) (t : Trouble) → Brings old answer c → old.0.spot ≡ Some s
+pub record Exact (old : Walk × Cache) (a : Answer) (turn : Turn ℕ) : Type 0 where
+  pub failed : a ≡ call.Failed → turn ≡ Stopped trouble.Failed
+  pub answered : (t : Trouble) → AnswerShows old a t → IsStopped turn t
+  pub brought : (c : Cache) (s : Spot) (t : Trouble) → Brings old a c → old.0.spot ≡ Some s
       → BreaksLevel c old.0.tree s t ⊎ BreaksFence c old.0.tree s t → IsStopped turn t
-  pub looped : (c : Cache) (to : Spot) → Brings old answer c → LeadsTo c old.0 old.0.spot to → came_to old.0 to.page ≡ true
+  pub looped : (c : Cache) (to : Spot) → Brings old a c → LeadsTo c old.0 old.0.spot to → came_to old.0 to.page ≡ true
       → IsStopped turn (trouble.Loop to.page)

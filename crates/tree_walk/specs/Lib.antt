@@ -3,3 +3,4 @@ pub mod Walk
 pub mod Causing
 pub mod Within
 pub mod Serving
+pub mod Stepped

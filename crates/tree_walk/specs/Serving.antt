@@ -10,7 +10,6 @@ use Rattle.cloud_trait.specs.Caller.{Caller}
 use Rattle.cloud_trait.specs.Machine.{Deed}
 use Rattle.cloud_trait.specs.Seen.{Seen}
 use Rattle.cloud_trait.specs.State.{CloudState, newest, version_at}
-use Rattle.cloud_trait.specs.Weather.{Makes}
 use Rattle.calm_calls.specs.Calm.{IsCalm}
 use Rattle.page_cache.specs.Cache.{Cache, kept_at}
 use Rattle.page_cache.specs.Held.{inner_at, root_at}
@@ -30,10 +29,8 @@ pub record IsServed (before after : Seen) (old new : Walk × Cache) (a : Answer)
   pub newest : (s : CloudState) → before.state ≡ Some s → after.counts.stale ≡ before.counts.stale → got ≡ newest s (object_of old.0)
 
 -- a walk ends at a leaf that it was served so
-pub record Serves (who : Caller) (before after : Seen) (old new : Walk × Cache) (turn : Turn ℕ) : Type 0 where
-  pub answer : Answer
-  pub made : Makes who (asks old) answer before after
-  pub serves : (page : ℕ) → turn ≡ Ended page → IsServed before after old new answer page
+abbrev pub Serves : Seen → Seen → Walk × Cache → Walk × Cache → Answer → Turn ℕ → Type 0
+Serves before after old new a turn = (page : ℕ) → turn ≡ Ended page → IsServed before after old new a page
 
 -- ---- what is got at all
 
@@ -53,9 +50,7 @@ abbrev pub deed_of : Caller → Walk × Cache → Answer → Seen → Seen → D
 deed_of who old answer before after = record { who = who; ask = asks old; answer = answer; before = before; after = after }
 
 -- where the call is calm, the step does not stop as failed, and a page that it calls stale is so in its newest version
-pub record GoesCalmly (who : Caller) (before after : Seen) (old : Walk × Cache) (turn : Turn ℕ) : Type 0 where
-  pub answer : Answer
-  pub made : Makes who (asks old) answer before after
-  pub well : IsCalm (deed_of who old answer before after) → turn ≢ Stopped trouble.Failed
-  pub stale : IsCalm (deed_of who old answer before after) → (page least found : ℕ) → turn ≡ Stopped (trouble.Stale page least found) → (s : CloudState)
+pub record GoesCalmly (who : Caller) (before after : Seen) (old : Walk × Cache) (a : Answer) (turn : Turn ℕ) : Type 0 where
+  pub well : IsCalm (deed_of who old a before after) → turn ≢ Stopped trouble.Failed
+  pub stale : IsCalm (deed_of who old a before after) → (page least found : ℕ) → turn ≡ Stopped (trouble.Stale page least found) → (s : CloudState)
       → before.state ≡ Some s → IsOld old.1 (object_of old.0) (is_leaf old.0) (newest s (object_of old.0)) (trouble.Stale page least found)

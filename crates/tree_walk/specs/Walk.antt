@@ -1,5 +1,5 @@
 -- A walk down a tree as a machine beside the cache: what it knows, what it asks, and where each answer leads.
-use Rattle.std.specs.Prelude.{ℕ, zero, suc, ◌≡◌, ◌+◌, ◌-◌, ◌^◌, ◌==◌, ◌||◌, Bool, true, false, List, [], ◌∷◌, ◌++◌, length, map, fold, Option, Some, None, Result, Ok, Err, if◌then◌else◌, unwrap_or}
+use Rattle.std.specs.Prelude.{ℕ, zero, suc, ◌≡◌, ◌≤◌, ◌+◌, ◌-◌, ◌^◌, ◌==◌, ◌||◌, Bool, true, false, List, [], ◌∷◌, ◌++◌, length, map, fold, Option, Some, None, Result, Ok, Err, if◌then◌else◌, unwrap_or}
 use Rattle.std.specs.List.{list_any}
 use Rattle.std.specs.Option.{option_map}
 use Rattle.byte_format.specs.Order.{bytes_below, bytes_same}
@@ -18,7 +18,7 @@ use Rattle.cloud_trait.specs.declared.answer.Answer.{Answer}
 use Rattle.cloud_trait.specs.Ask.{Ask, Get}
 use Rattle.cloud_trait.specs.Machine.{Next, Goes, Ends, Stops}
 use Rattle.cloud_trait.specs.Views.{got_of}
-use Rattle.page_cache.specs.Cache.{Cache, accepts, dropped}
+use Rattle.page_cache.specs.Cache.{Cache, accepts, dropped, served_at}
 use Rattle.page_cache.specs.Held.{leaf_at, inner_at, root_at}
 
 -- a page that a link led to: its level, 0 for a leaf, and the low key that the link promised
@@ -265,9 +265,13 @@ got_by w c (Ok got) = accepted_by w c (accepts c (object_of w) (is_leaf w) got)
 abbrev pub walk_next : Walk × Cache → Answer → Next (Walk × Cache) ℕ
 walk_next m a = beside (got_by (rested m.0) m.1 (got_of a))
 
--- want of memory keeps nothing in particular: a walk has no lease
-abbrev pub KeepsNothing : Walk × Cache → Answer → Walk × Cache → Type 0
-KeepsNothing m a n = Unit {0}
+-- no version that a session was served falls
+abbrev pub ServesOn : Cache → Cache → Type 0
+ServesOn c d = (name : ObjName) → served_at c name ≤ served_at d name
+
+-- .. at want of memory neither; a walk has no lease to keep
+abbrev pub KeepsServed : Walk × Cache → Answer → Walk × Cache → Type 0
+KeepsServed m a n = ServesOn m.1 n.1
 
 -- ---- what is said of it
 
@@ -282,6 +286,11 @@ pages w = (length w.nodes + length w.leaves) + spots w.spot
 -- how many calls it has left at most: no two lists are longer than this together
 abbrev pub calls_left : Walk → ℕ
 calls_left w = 2 ^ 66 - pages w
+
+-- a walk has the tree and the key of another: what it looks for does not change
+pub record HasAim (old new : Walk) : Type 0 where
+  pub tree : new.tree ≡ old.tree
+  pub key : new.key ≡ old.key
 
 -- the walk is at a leaf that the cache keeps and whose range holds the key; without a key it is the leaf at the left end
 pub record IsAtLeaf (w : Walk) (c : Cache) (page : ℕ) : Type 0 where

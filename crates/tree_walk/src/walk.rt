@@ -3,13 +3,13 @@ ghost use Rattle.db_base.specs.declared.trouble.Trouble.{Trouble as Failure};
 ghost use Rattle.std.specs.Option.{option_copied, option_map};
 ghost use Rattle.byte_format.specs.Order.{bytes_below, bytes_same};
 ghost use Rattle.cloud_trait.specs.Call.{ask_of};
-ghost use Rattle.cloud_trait.specs.Machine.{LeadsBy, Steps, Deed};
+ghost use Rattle.cloud_trait.specs.Machine.{Deed};
 ghost use Rattle.node_codec.specs.Node.{page_at as node_at};
 ghost use Rattle.page_cache.specs.Cache.{Cache, dropped};
-ghost use Rattle.tree_walk.specs.Causing.{Causes, Exact};
 ghost use Rattle.tree_walk.specs.Moves.{is_more, Moves, MovesIf, MovesBeside};
-ghost use Rattle.tree_walk.specs.Serving.{MustGet, Serves, GoesCalmly};
-ghost use Rattle.tree_walk.specs.Walk.{right_of};
+ghost use Rattle.tree_walk.specs.Serving.{MustGet};
+ghost use Rattle.tree_walk.specs.Stepped.{Stepped};
+ghost use Rattle.tree_walk.specs.Walk.{right_of, ServesOn};
 ghost use Rattle.tree_walk.specs.Within.{Went, IsWithin};
 
 use crate::spot::Spot;
@@ -108,7 +108,7 @@ fn right_of<'a>(
 }
 
 impl Walk {
-    ghost use Rattle.tree_walk.specs.Walk.{IsAtLeaf, calls_left, new_walk, asks, sought, object_of, walk_ask, spot_of, is_leaf, is_got, came_to, linked, right_to, down_to, bad_fence, bad_level, root_read, node_left, node_read, leaf_left, leaf_read, read_from, read_kept, goes_on, passed, left_by, beside, walk_ready, got_read, got_by, walk_next, KeepsNothing};
+    ghost use Rattle.tree_walk.specs.Walk.{IsAtLeaf, calls_left, new_walk, sought, object_of, walk_ask, spot_of, is_leaf, is_got, came_to, linked, right_to, down_to, bad_fence, bad_level, root_read, node_left, node_read, leaf_left, leaf_read, read_from, read_kept, goes_on, passed, left_by, beside, walk_ready, got_read, got_by, walk_next};
 
     /// A walk in a tree to a key, or without one to the tree's left end; a fresh one gets the tree object anew. Takes no memory.
     pub fn new(alloc: Global, tree: TreeId, key: Option<Key>, fresh: bool) -> Walk
@@ -414,6 +414,7 @@ impl Walk {
         got: Result<Option<Blob>, Trouble>,
     ) -> Turn<PageId>
         ensures moves { MovesBeside (got_by self.old cache.old got) self.new cache.new result }
+        ensures served { ServesOn cache.old cache.new }
         ensures failed { (t : Failure) → got ≡ Err t → result ≡ Turn.Stopped t }
     {
         match got {
@@ -453,7 +454,9 @@ impl Walk {
 
     /// Does the local work before the first call; it is called once.
     pub fn ready(&mut self, alloc: Global, cache: &mut PageCache) -> Turn<PageId>
-        ensures { Moves (walk_ready (self.old, cache.old)) (self.new, cache.new) result }
+        ensures moves { Moves (walk_ready (self.old, cache.old)) (self.new, cache.new) result }
+        // No version that was served falls, whatever it comes to.
+        ensures served { ServesOn cache.old cache.new }
     {
         self.used = None;
         let turn = self.go_on(alloc, cache);
@@ -464,6 +467,7 @@ impl Walk {
     /// Takes the answer of the call in hand.
     fn absorb(&mut self, alloc: Global, cache: &mut PageCache, answer: Answer) -> Turn<PageId>
         ensures moves { Moves (walk_next (self.old, cache.old) answer) (self.new, cache.new) result }
+        ensures served { ServesOn cache.old cache.new }
         ensures failed { answer ≡ Answer.Failed → result ≡ Turn.Stopped Trouble.Failed }
     {
         self.used = None;
@@ -480,22 +484,15 @@ impl Walk {
         who: Who,
         cache: &mut PageCache,
     ) -> Turn<PageId>
-        ensures steps { Steps asks (LeadsBy walk_next) KeepsNothing who (C.seen cloud.old) (C.seen cloud.new) (self.old, cache.old) (self.new, cache.new) result }
+        // Its one call, and what that comes to: where it leads, why it stops and when it has to, and the leaf that it brings.
+        ensures stepped { Stepped who (C.seen cloud.old) (C.seen cloud.new) (self.old, cache.old) (self.new, cache.new) result }
         // It comes to one more page with each call that it goes on from.
         ensures less { result ≡ Turn.More → calls_left self.new < calls_left self.old }
         ensures ends { (page : ℕ) → result ≡ Turn.Ended page → IsAtLeaf self.new cache.new page }
-        // A trouble is shown by the answer to the call, or by the objects that the cache keeps then and the links between them.
-        ensures causes { Causes who (C.seen cloud.old) (C.seen cloud.new) (self.old, cache.old) (self.new, cache.new) result }
         // It comes to each page once, and one call more than these is all.
         ensures within { (h : List Deed) → Went h (self.old, cache.old) → IsWithin (length h + 1) self.old self.new result }
-        // Where the answer, or the page that it brought, shows a trouble, it stops with that.
-        ensures exact { Exact who (C.seen cloud.old) (C.seen cloud.new) (self.old, cache.old) result }
         // What it gets next is a leaf, the tree object of a fresh walk, or what the cache does not keep.
         ensures gets { result ≡ Turn.More → MustGet self.new cache.new }
-        // At its end the leaf is what this call got: a version that landed, and the newest where `stale` did not rise.
-        ensures serves { Serves who (C.seen cloud.old) (C.seen cloud.new) (self.old, cache.old) (self.new, cache.new) result }
-        // A calm call does not fail, and what is stale then is so in its newest version.
-        ensures well { GoesCalmly who (C.seen cloud.old) (C.seen cloud.new) (self.old, cache.old) result }
     {
         // Read for the clauses `less` and `ends`.
         let _ = &self.nodes;

@@ -21,3 +21,4 @@ pub mod Settled
 pub mod AddedSteps
 pub mod AddedLines
 pub mod OpenedLines
+pub mod Shown

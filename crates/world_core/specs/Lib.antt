@@ -14,3 +14,4 @@ pub mod Settled
 pub mod Added
 pub mod Opened
 pub mod World
+pub mod Shown

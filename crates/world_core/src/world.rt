@@ -72,6 +72,7 @@ impl<S: SessionCalls> World<S> {
     ghost use Rattle.world_core.specs.Sound.{AnswersSoundly};
     ghost use Rattle.world_core.specs.Acknowledged.{AnswersDurably};
     ghost use Rattle.world_core.specs.Explained.{ExplainsSteps};
+    ghost use Rattle.world_core.specs.Shown.{ShowsSteps};
     ghost use Rattle.world_core.specs.Calm.{AnswersWell};
     ghost use Rattle.world_core.specs.Bounded.{MakesFewCalls};
     ghost use Rattle.world_core.specs.Settled.{SettlingEnds, SettlingIsRight, SettlingLeaves};
@@ -109,6 +110,7 @@ impl<S: SessionCalls> World<S> {
         ensures sound { AnswersSoundly n event.now (C.seen cloud.old) (C.seen cloud.new) self.old self.new result }
         ensures acknowledged { AnswersDurably n event.now (C.seen cloud.old) (C.seen cloud.new) self.old self.new result }
         ensures explained { ExplainsSteps n event.now (C.seen cloud.old) (C.seen cloud.new) self.old self.new result }
+        ensures shown { ShowsSteps n event.now (C.seen cloud.old) (C.seen cloud.new) self.old self.new result }
         ensures calm { AnswersWell n event.now (C.seen cloud.old) (C.seen cloud.new) self.old self.new result }
         ensures bounded { MakesFewCalls n event.now (C.seen cloud.old) (C.seen cloud.new) self.old self.new result }
         ensures settled { SettlingLeaves n event.now (C.seen cloud.old) (C.seen cloud.new) self.old self.new result }

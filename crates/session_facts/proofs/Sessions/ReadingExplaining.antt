@@ -24,7 +24,7 @@ use Rattle.db_base.specs.declared.trouble.CommitAnswer.TheVariants.{Committed, N
 use Rattle.db_base.specs.declared.trouble.Trouble.{Trouble}
 use Rattle.db_base.specs.declared.trouble.Trouble.TheVariants as trouble
 use Rattle.page_cache.specs.Cache.{Cache}
-use Rattle.range_scan.specs.Scan.{scan_ask, scan_next, KeepsNothing}
+use Rattle.range_scan.specs.Scan.{scan_ask, scan_next, KeepsServed}
 use Rattle.recover_run.specs.declared.home.Home.{Home}
 use Rattle.report_types.specs.declared.entry.Entry.{Entry}
 use Rattle.cloud_facts.specs.Book.Book.{Book}
@@ -161,10 +161,10 @@ module _ (who : Caller) (before after : Seen) (s t : CloudState) (book : Book) (
         leads : ScanLeads st ShowsScan (scan_next (l.scan, kept) p.steps.answer)
         leads = scan_shown book order s stands who before after t told told_after (leases_of (Scanning home l)) l.scan kept known p.steps.answer p.steps.made
 
-        stops : (q : Trouble) → Took (LeadsBy scan_next) KeepsNothing (l.scan, kept) p.steps.answer (p.scan, d) (Stopped q) → q ≢ trouble.Memory → ShowsScan q
+        stops : (q : Trouble) → Took (LeadsBy scan_next) KeepsServed (l.scan, kept) p.steps.answer (p.scan, d) (Stopped q) → q ≢ trouble.Memory → ShowsScan q
         stops q took other = (subst (ScanLeads st ShowsScan) (took.0 other) leads).1
 
-        on : (moved : Turn ℕ) → Took (LeadsBy scan_next) KeepsNothing (l.scan, kept) p.steps.answer (p.scan, d) moved
+        on : (moved : Turn ℕ) → Took (LeadsBy scan_next) KeepsServed (l.scan, kept) p.steps.answer (p.scan, d) moved
             → Follows home buffer (record { scan = p.scan; pairs = l.pairs }) d moved work shown turn → ScanExplained work turn
         on More took (work_is, none, more) =
             subst (λ x. ScanExplained work x) (sym more)

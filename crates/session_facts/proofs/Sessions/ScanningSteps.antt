@@ -22,7 +22,7 @@ use Rattle.db_base.specs.declared.trouble.Trouble.{Trouble}
 use Rattle.db_base.specs.declared.trouble.Trouble.TheVariants as trouble
 use Rattle.cloud_facts.specs.Homes.Homes.{Parts}
 use Rattle.page_cache.specs.Cache.{Cache}
-use Rattle.range_scan.specs.Scan.{Scan, scan_object, scan_ask, scan_next, moved_on, KeepsNothing}
+use Rattle.range_scan.specs.Scan.{Scan, scan_object, scan_ask, scan_next, moved_on, KeepsServed}
 use Rattle.recover_run.specs.declared.home.Home.{Home}
 use Rattle.report_types.specs.declared.entry.Entry.{Entry}
 use Rattle.session_facts.specs.Scans.Scans.{KnowsScan, KnowsScanning, IsAtScannedLeaf, ScanLeads}
@@ -105,7 +105,7 @@ module _ (who : Caller) (before after : Seen) (book : Book) (order : List Entry)
     lists m page work shown (Ended answer.Value) k at never = absurd never
     lists m page work shown (Ended (answer.Settled n)) k at never = absurd never
 
-    follows : (m : Scan) (moved : Turn ℕ) (work : Work) (shown : Shown) (turn : Turn Answer) → Took (LeadsBy scan_next) KeepsNothing (l.scan, c) reply (m, d) moved
+    follows : (m : Scan) (moved : Turn ℕ) (work : Work) (shown : Shown) (turn : Turn Answer) → Took (LeadsBy scan_next) KeepsServed (l.scan, c) reply (m, d) moved
         → Follows home buffer (record { scan = m; pairs = l.pairs }) d moved work shown turn → Stepped work
     follows m More work shown turn took (is, none, more) =
         let k : KnowsScanning st m d = subst (ScanLeads st MayStop) took leads in

@@ -33,7 +33,7 @@ use Rattle.page_cache.specs.Cache.{Cache}
 use Rattle.page_ckpt.specs.Paging.{paging_ask, Paging as Page}
 use Rattle.session_facts.specs.PageCheckpoints.Checkpoint.{MayStop as MayStopPage}
 use Rattle.session_facts.proofs.PageCheckpoints.Steps.{paging_stops}
-use Rattle.range_scan.specs.Scan.{scan_ask, scan_next, KeepsNothing}
+use Rattle.range_scan.specs.Scan.{scan_ask, scan_next, KeepsServed}
 use Rattle.recover_run.specs.declared.home.Home.{Home}
 use Rattle.recover_run.specs.Recovery.{Recovery, recovery_ask}
 use Rattle.report_types.specs.declared.entry.Entry.{Entry}
@@ -151,7 +151,7 @@ module _ (who : Caller) (before after : Seen) (s t : CloudState) (book : Book) (
       never : (let x : Turn Answer = Ended (answer.Trouble k) in let y : Turn Answer = More in x ≡ y) → ⊥
       never e = cc
 
-      on : (moved : Turn ℕ) → Took (LeadsBy scan_next) KeepsNothing (l.scan, kept) p.steps.answer (p.scan, d) moved
+      on : (moved : Turn ℕ) → Took (LeadsBy scan_next) KeepsServed (l.scan, kept) p.steps.answer (p.scan, d) moved
           → Follows home buffer (record { scan = p.scan; pairs = l.pairs }) d moved work shown (Ended (answer.Trouble k)) → MayStopWalk k
       on More took (work_is, none, more) = absurd (never more)
       on (Ended page) took (memory, broken, none) = subst MayStopWalk (sym memory) tt

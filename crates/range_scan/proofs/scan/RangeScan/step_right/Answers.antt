@@ -7,4 +7,4 @@ pub returns-clause-further : goal.returns-clause-further
 returns-clause-further g c =
     let few : length c.self.inside.passed.items < 2 ^ 64 = omega (arith, c.self.inside.passed.ok.0, c.self.inside.passed.ok.1, c.self.inside.passed.small) in
     λ page ended on. right_further c.args.self.now c.args.cache.now c.got.result c.take_right.new.self c.take_right.new.cache c.take_right.result page c.requires
-    (subst (λ (s : Scan). length s.passed < 2 ^ 64) c.self.view_is few) c.take_right.ensures ended on
+    (subst (λ (s : Scan). length s.passed < 2 ^ 64) c.self.view_is few) c.take_right.ensures.moves ended on

@@ -1,12 +1,16 @@
 use Rattle.std.proofs.Common.{◌+◌, ◌<◌, ◌^◌, length, subst, arith}
 use Rattle.tree_walk.specs.Walk.{Walk, IsWalk, pages, spots}
-use Rattle.tree_walk.proofs.Causing.{moved_causes}
 use Rattle.tree_walk.proofs.Ending.{moved_less, spots_most}
 use Rattle.tree_walk.proofs.Getting.{moved_gets}
 use Rattle.tree_walk.proofs.Leaves.{moved_ends}
 use Rattle.tree_walk.proofs.Onceness.{moved_within}
-use Rattle.tree_walk.proofs.Serving.{moved_exact, moved_serves, moved_calmly}
+use Rattle.tree_walk.proofs.Stepped.{moved_stepped}
 use Rattle.tree_walk.proofs.walk.Walk.step.Goals as goal
+
+pub returns-clause-stepped : goal.returns-clause-stepped
+returns-clause-stepped g c =
+    moved_stepped c.args.who _ c.args.self.now c.args.cache.now (c.absorb.new.self, c.absorb.new.cache) c.perform-answer.result c.absorb.result _ _ (subst IsWalk c.self.view_is c.self.invariant)
+    c.in_hand.ensures c.perform-answer.ensures c.absorb.ensures.moves c.absorb.ensures.served c.absorb.ensures.failed
 
 pub returns-clause-less : goal.returns-clause-less
 returns-clause-less g c =
@@ -21,26 +25,9 @@ returns-clause-ends g c =
     let ok : IsWalk c.args.self.now = subst IsWalk c.self.view_is c.self.invariant in
     λ page ended. moved_ends (c.args.self.now, c.args.cache.now) (c.absorb.new.self, c.absorb.new.cache) c.perform-answer.result c.absorb.result page ok c.absorb.ensures.moves ended
 
-pub returns-clause-causes : goal.returns-clause-causes
-returns-clause-causes g c =
-    moved_causes c.args.who _ c.args.self.now c.args.cache.now (c.absorb.new.self, c.absorb.new.cache) c.perform-answer.result c.absorb.result _ _ c.in_hand.ensures c.perform-answer.ensures c.absorb.ensures.moves
-
 pub returns-clause-within : goal.returns-clause-within
 returns-clause-within g c = λ h went.
     moved_within h c.args.self.now c.args.cache.now (c.absorb.new.self, c.absorb.new.cache) c.perform-answer.result c.absorb.result went c.absorb.ensures.moves
-
-pub returns-clause-exact : goal.returns-clause-exact
-returns-clause-exact g c =
-    moved_exact c.args.who _ c.args.self.now c.args.cache.now (c.absorb.new.self, c.absorb.new.cache) c.perform-answer.result c.absorb.result _ _ c.in_hand.ensures c.perform-answer.ensures c.absorb.ensures.moves c.absorb.ensures.failed
-
-pub returns-clause-serves : goal.returns-clause-serves
-returns-clause-serves g c =
-    moved_serves c.args.who _ c.args.self.now c.args.cache.now (c.absorb.new.self, c.absorb.new.cache) c.perform-answer.result c.absorb.result _ _ (subst IsWalk c.self.view_is c.self.invariant)
-    c.in_hand.ensures c.perform-answer.ensures c.absorb.ensures.moves
-
-pub returns-clause-well : goal.returns-clause-well
-returns-clause-well g c =
-    moved_calmly c.args.who _ c.args.self.now c.args.cache.now (c.absorb.new.self, c.absorb.new.cache) c.perform-answer.result c.absorb.result _ _ c.in_hand.ensures c.perform-answer.ensures c.absorb.ensures.moves
 
 pub returns-clause-gets : goal.returns-clause-gets
 returns-clause-gets g c = moved_gets (c.args.self.now, c.args.cache.now) (c.absorb.new.self, c.absorb.new.cache) c.perform-answer.result c.absorb.result c.absorb.ensures.moves

@@ -4,6 +4,7 @@ use Rattle.world_core.proofs.Calm.{well_after}
 use Rattle.world_core.proofs.Explained.{explained}
 use Rattle.world_core.proofs.Keeping.{keeps_book}
 use Rattle.world_core.proofs.Settled.{settling_ends, settling_leaves, settling_right}
+use Rattle.world_core.proofs.Shown.{shown}
 use Rattle.world_core.proofs.Sound.{sound_after}
 use Rattle.world_core.proofs.Acknowledged.{durable_after}
 use Rattle.world_core.proofs.world.World.event.Goals as goal
@@ -19,6 +20,9 @@ returns-clause-acknowledged g c = durable_after _ _ _ _ _ _ _ c.handle.ensures.h
 
 pub returns-clause-explained : goal.returns-clause-explained
 returns-clause-explained g c = explained _ _ _ _ _ _ _
+
+pub returns-clause-shown : goal.returns-clause-shown
+returns-clause-shown g c = shown _ _ _ _ _ _ _
 
 pub returns-clause-calm : goal.returns-clause-calm
 returns-clause-calm g c = well_after _ _ _ _ _ _ _

@@ -25,11 +25,11 @@ use Rattle.tree_walk.proofs.WalkLemmas.{child_at_most}
 abbrev pub IsTo : ℕ → Option (List ℕ) → Walk → Type 0
 IsTo tree key w = (w.tree ≡ tree) × (w.key ≡ key)
 
--- where a walk goes on, it is one to the same key
+-- wherever a walk goes, it is one to the same key
 abbrev pub Walks : ℕ → Option (List ℕ) → Next Walk ℕ → Type 0
 Walks tree key (Goes w) = IsWalk w × IsTo tree key w
 Walks tree key (Ends w page) = IsTo tree key w
-Walks tree key (Stops w t) = Unit {0}
+Walks tree key (Stops w t) = IsTo tree key w
 
 neither : (a b c : Bool) → (a || (b || c)) ≡ false → b ≡ false
 neither true b c e = absurd (cc (e))
@@ -39,7 +39,7 @@ neither false false c e = refl
 linked_walks : (tree : ℕ) (key : Option (List ℕ)) (w : Walk) (s : Spot) → IsTo tree key w → bytes_below (sought w) s.low ≡ false → Walks tree key (linked w s)
 linked_walks tree key w s to low = on (came_to w s.page) refl where
   on : (b : Bool) → came_to w s.page ≡ b → Walks tree key (if b then Stops w (trouble.Loop s.page) else Goes (record w { spot = Some s }))
-  on true e = tt
+  on true e = to
   on false e = (record { promised = low; apart = λ bottom. neither (is_page s.page w.spot) (is_among w.nodes s.page) (is_among w.leaves s.page) e }, to)
 
 -- no key is below the empty one
@@ -68,15 +68,15 @@ node_walks : (tree : ℕ) (key : Option (List ℕ)) (w : Walk) (n : Inner) → I
 node_walks tree key w n to = on (n.level == (spot_of w).level) (bytes_same n.low (spot_of w).low) (right_of (sought w) n.high (node_at n.right)) refl where
   on : (p q : Bool) (o : Option (ℕ × List ℕ)) → right_of (sought w) n.high (node_at n.right) ≡ o
       → Walks tree key (if p then (if q then node_left (node_passed w) n o else Stops w (bad_fence w n.low)) else Stops w (bad_level w))
-  on false q o e = tt
-  on true false o e = tt
+  on false q o e = to
+  on true false o e = to
   on true true (Some next) e = linked_walks tree key (record (node_passed w) { turned = true }) (record { page = next.0; level = (spot_of w).level; low = next.1 }) to (right_low (sought w) n.high (node_at n.right) next e)
   on true true None e = linked_walks tree key (node_passed w) (record { page = (entry_for (sought w) n.entries).1; level = (spot_of w).level - 1; low = (entry_for (sought w) n.entries).0 }) to (entry_low (sought w) n.entries)
 
 leaf_walks : (tree : ℕ) (key : Option (List ℕ)) (w : Walk) (l : Leaf) → IsTo tree key w → Walks tree key (leaf_read w l)
 leaf_walks tree key w l to = on (bytes_same l.low (spot_of w).low) (right_of (sought w) l.high (page_at l.right)) refl where
   on : (b : Bool) (o : Option (ℕ × List ℕ)) → right_of (sought w) l.high (page_at l.right) ≡ o → Walks tree key (if b then leaf_left (use_of w) o else Stops w (bad_fence w l.low))
-  on false o e = tt
+  on false o e = to
   on true (Some next) e = linked_walks tree key (record (leaf_passed (use_of w)) { turned = true }) (record { page = next.0; level = (spot_of w).level; low = next.1 }) to (right_low (sought w) l.high (page_at l.right) next e)
   on true None e = to
 
@@ -123,26 +123,26 @@ got_walks tree key w c to = on (read_from w c) (read_walks tree key w c to) wher
   follows (Stops v t) h = h
 
   on : (o : Option (Next Walk ℕ)) → IfSome o (Walks tree key) → Walks tree key (follow (goes_on c) (unwrap_or o (Stops w trouble.Failed)))
-  on None h = tt
+  on None h = to
   on (Some m) h = follows m h
 
 by_walks : (tree : ℕ) (key : Option (List ℕ)) (w : Walk) (c : Cache) (g : Result (Option (List ℕ)) Trouble) → IsTo tree key w → Walks tree key (got_by w c g).0
-by_walks tree key w c (Err t) to = tt
+by_walks tree key w c (Err t) to = to
 by_walks tree key w c (Ok got) to = on (accepts c (object_of w) (is_leaf w) got) where
   on : (r : Result (ℕ × Cache) Trouble) → Walks tree key (accepted_by w c r).0
-  on (Err t) = tt
+  on (Err t) = to
   on (Ok served) = got_walks tree key w served.1 to
 
 -- the same beside the cache
 abbrev pub WalksBeside : ℕ → Option (List ℕ) → Next (Walk × Cache) ℕ → Type 0
 WalksBeside tree key (Goes m) = IsWalk m.0 × IsTo tree key m.0
 WalksBeside tree key (Ends m page) = IsTo tree key m.0
-WalksBeside tree key (Stops m t) = Unit {0}
+WalksBeside tree key (Stops m t) = IsTo tree key m.0
 
 beside_walks : (tree : ℕ) (key : Option (List ℕ)) (x : Next Walk ℕ) (c : Cache) → Walks tree key x → WalksBeside tree key (beside (x, c))
 beside_walks tree key (Goes w) c e = e
 beside_walks tree key (Ends w page) c e = e
-beside_walks tree key (Stops w t) c e = tt
+beside_walks tree key (Stops w t) c e = e
 
 pub next_walks : (tree : ℕ) (key : Option (List ℕ)) (m : Walk × Cache) (answer : Answer) → IsTo tree key m.0 → WalksBeside tree key (walk_next m answer)
 next_walks tree key m answer to = on (got_by (rested m.0) m.1 (got_of answer)) (by_walks tree key (rested m.0) m.1 (got_of answer) to) where

@@ -1,0 +1,32 @@
+-- One step of a scan, read off where its answer leads.
+use Rattle.std.proofs.Common.{ℕ}
+use Rattle.cloud_trait.specs.declared.turn.Turn.{Turn}
+use Rattle.cloud_trait.specs.Caller.{Caller}
+use Rattle.cloud_trait.specs.Machine.{LeadsBy, Steps}
+use Rattle.cloud_trait.specs.Seen.{Seen}
+use Rattle.page_cache.specs.Cache.{Cache}
+use Rattle.tree_walk.specs.Walk.{ServesOn}
+use Rattle.range_scan.specs.Scan.{Scan, scan_asks, scan_next, KeepsServed}
+use Rattle.range_scan.specs.Stepped.{Stepped}
+use Rattle.range_scan.proofs.Causing.{next_causes, next_calm}
+use Rattle.range_scan.proofs.Exactness.{next_exact}
+use Rattle.range_scan.proofs.Listing.{next_means}
+use Rattle.range_scan.proofs.Within.{scanned_within}
+
+pub next_stepped : (who : Caller) (before after : Seen) (m n : Scan × Cache) (turn : Turn ℕ) → Steps scan_asks (LeadsBy scan_next) KeepsServed who before after m n turn → ServesOn m.1 n.1
+    → Stepped who before after m n turn
+next_stepped who before after m n turn steps on = record {
+  answer = steps.answer;
+  made = steps.made;
+  took = steps.took;
+  served = on;
+  meant = λ r h came.
+      let causes = next_causes r h who before after m n steps.answer turn came steps.made steps.took in
+      record {
+        within = scanned_within r h m came;
+        means = next_means r h who before after m n steps.answer turn came steps.made steps.took;
+        causes = causes;
+        exact = next_exact r h m n steps.answer turn came steps.took;
+        calm = next_calm who before after m n steps.answer turn steps.made causes;
+      };
+}

@@ -1,0 +1,44 @@
+-- One step of a scan, by the one call that it made: where it led, what it means by the whole run, and why it stopped.
+use Rattle.std.specs.Prelude.{ℕ, ◌≢◌, ◌+◌, List, length}
+use Rattle.db_base.specs.declared.trouble.Trouble.TheVariants as trouble
+use Rattle.cloud_trait.specs.declared.answer.Answer.{Answer}
+use Rattle.cloud_trait.specs.declared.turn.Turn.{Turn}
+use Rattle.cloud_trait.specs.declared.turn.Turn.TheVariants.{Stopped}
+use Rattle.cloud_trait.specs.Caller.{Caller}
+use Rattle.cloud_trait.specs.Machine.{LeadsBy, Took, Steps}
+use Rattle.cloud_trait.specs.Seen.{Seen}
+use Rattle.cloud_trait.specs.Weather.{Makes}
+use Rattle.calm_calls.specs.Calm.{IsCalm}
+use Rattle.page_cache.specs.Cache.{Cache}
+use Rattle.tree_walk.specs.Walk.{ServesOn}
+use Rattle.range_scan.specs.Scan.{Scan, scan_asks, scan_next, KeepsServed}
+use Rattle.range_scan.specs.Listing.{Range, Move, Scanned, Means}
+use Rattle.range_scan.specs.Causing.{Causes, Exact, deed_of}
+use Rattle.range_scan.specs.Within.{IsWithin}
+
+-- what a step is by the run that led to it
+pub record Meant (r : Range) (h : List Move) (who : Caller) (before after : Seen) (old new : Scan × Cache) (a : Answer) (turn : Turn ℕ) : Type 0 where
+  -- it came to each page once, and one call more than these is all
+  pub within : IsWithin (length h + 1) old.0
+  -- where it ends, it is at a leaf that this call served; the ranges of its leaves meet, from the first key on
+  pub means : Means r (deed_of who old a before after) new h turn
+  -- a trouble is shown by this answer, or by the leaves that the cache keeps then and the links between them
+  pub causes : Causes old a new turn
+  -- where this answer, or the object that it brought, shows a trouble, it stops with that
+  pub exact : Exact old a turn
+  -- a calm call does not fail
+  pub calm : IsCalm (deed_of who old a before after) → turn ≢ Stopped trouble.Failed
+
+pub record Stepped (who : Caller) (before after : Seen) (old new : Scan × Cache) (turn : Turn ℕ) : Type 0 where
+  pub answer : Answer
+  pub made : Makes who (scan_asks old) answer before after
+  -- it took the step that this answer leads to
+  pub took : Took (LeadsBy scan_next) KeepsServed old answer new turn
+  -- no version that was served falls
+  pub served : ServesOn old.1 new.1
+  pub meant : (r : Range) (h : List Move) → Scanned r h old → Meant r h who before after old new answer turn
+
+-- the call and the step alone
+abbrev pub steps_of : {who : Caller} {before after : Seen} {old new : Scan × Cache} {turn : Turn ℕ} → Stepped who before after old new turn
+    → Steps scan_asks (LeadsBy scan_next) KeepsServed who before after old new turn
+steps_of p = record { answer = p.answer; made = p.made; took = p.took }

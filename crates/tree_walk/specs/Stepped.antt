@@ -1,0 +1,36 @@
+-- One step of a walk, by the one call that it made: where it led, why it stopped, and what it brought.
+use Rattle.std.specs.Prelude.{ℕ, ◌≢◌}
+use Rattle.db_base.specs.declared.trouble.Trouble.TheVariants as trouble
+use Rattle.cloud_trait.specs.declared.answer.Answer.{Answer}
+use Rattle.cloud_trait.specs.declared.turn.Turn.{Turn}
+use Rattle.cloud_trait.specs.declared.turn.Turn.TheVariants.{Stopped}
+use Rattle.cloud_trait.specs.Caller.{Caller}
+use Rattle.cloud_trait.specs.Machine.{LeadsBy, Took, Steps}
+use Rattle.cloud_trait.specs.Seen.{Seen}
+use Rattle.cloud_trait.specs.Weather.{Makes}
+use Rattle.page_cache.specs.Cache.{Cache}
+use Rattle.tree_walk.specs.Walk.{Walk, asks, walk_next, ServesOn, KeepsServed, HasAim}
+use Rattle.tree_walk.specs.Causing.{Causes, Exact}
+use Rattle.tree_walk.specs.Serving.{Serves, GoesCalmly}
+
+pub record Stepped (who : Caller) (before after : Seen) (old new : Walk × Cache) (turn : Turn ℕ) : Type 0 where
+  pub answer : Answer
+  pub made : Makes who (asks old) answer before after
+  -- it took the step that this answer leads to
+  pub took : Took (LeadsBy walk_next) KeepsServed old answer new turn
+  -- what it looks for stays, and so do the versions that were served
+  pub aim : turn ≢ Stopped trouble.Memory → HasAim old.0 new.0
+  pub served : ServesOn old.1 new.1
+  -- a trouble is shown by this answer, or by the objects that the cache keeps then and the links between them
+  pub causes : Causes old answer new.0 turn
+  -- where this answer, or the page that it brought, shows a trouble, it stops with that
+  pub exact : Exact old answer turn
+  -- at its end the leaf is what this call got: a version that landed, and the newest where `stale` did not rise
+  pub serves : Serves before after old new answer turn
+  -- a calm call does not fail, and what is stale then is so in its newest version
+  pub calm : GoesCalmly who before after old answer turn
+
+-- the call and the step alone
+abbrev pub steps_of : {who : Caller} {before after : Seen} {old new : Walk × Cache} {turn : Turn ℕ} → Stepped who before after old new turn
+    → Steps asks (LeadsBy walk_next) KeepsServed who before after old new turn
+steps_of p = record { answer = p.answer; made = p.made; took = p.took }

@@ -6,8 +6,10 @@ use Rattle.std.proofs.lemmas.Option.{slice_get_within}
 use Rattle.std.proofs.lemmas.Bool.{cases_lt}
 use Rattle.cloud_trait.specs.State.{CloudState, IsEmptyCloud}
 use Rattle.cloud_trait.specs.Seen.{Seen}
+use Rattle.cloud_trait.specs.Traced.{IsTraced}
 use Rattle.cloud_trait.specs.Upto.{upto, AgreeUpto, IsUpto, posts_of}
 use Rattle.cloud_trait.proofs.StateLemmas.{slice_get-push}
+use Rattle.cloud_trait.proofs.TracedLemmas.{empty_traced}
 use Rattle.cloud_trait.proofs.UptoLemmas.{agree_itself, versions_upto-all, messages_upto-all, trace_upto-all}
 use Rattle.db_io.specs.Content.{Told, Adds, AddsPrefix}
 use Rattle.event_text.specs.declared.event.Event.{Event}
@@ -26,9 +28,10 @@ use Rattle.world_core.specs.Stands.{WorldStands, StandsOn, Grows}
 use Rattle.world_core.proofs.StartLemmas.{new_stands}
 use Rattle.schedule_run.specs.declared.replay.LineFault.{LineFault}
 use Rattle.schedule_run.specs.declared.replay.LineFault.TheVariants.{BadLine, WriteFault, Memory}
-use Rattle.schedule_run.specs.Answered.{IsNew, WentOn, start, further, AreAnswered, AreExplained, ReportsAreRight, RepliesAreSound, ActsByTheLines, AcknowledgedStay, KeepsTheTheorem}
+use Rattle.schedule_run.specs.Answered.{IsNew, WentOn, start, further, AreAnswered, AreExplained, ReportsAreRight, RepliesAreSound, ActsByTheLines, AcknowledgedStay, KeepsTheTheorem, ReportsCome}
 use Rattle.schedule_run.proofs.BehindLemmas.{lines_left, lines_settled}
 use Rattle.schedule_run.proofs.SoundLemmas.{get_before, take_whole, went_soundly, went_explained}
+use Rattle.schedule_run.proofs.SeeingLemmas.{went_comes}
 use Rattle.schedule_run.proofs.StayLemmas.{stay_upto, went_stay}
 use Rattle.run_text.specs.Written.{reply_line, replies_from, replies, bad_line}
 use Rattle.schedule_run.specs.Replayed.{AreSpelled, WroteFront, reply_cut, refusal_cut, EndedBy, between, writing, handling, Ended, WentThrough, Handles, IsAt, IsAnswered, LineWent, event_handled, refused, unread}
@@ -113,8 +116,8 @@ acts_now lines world u stands = acts_upto lines world u u stands (agree_itself (
 -- what stood and was right stands and is right with one line more
 pub stands_more : (lines : List Line) (line : Line) (n : ℕ) (t z : Seen) (old new : World) → n ≡ 1 + length lines
     → StandsOn n line.event t z old new (Ok line.reply) → Grows n t z → (u : CloudState) → t.state ≡ Some u → WorldStands lines old u → ReportsAreRight lines u
-    → (v : CloudState) × (z.state ≡ Some v) × WorldStands (lines ++ line ∷ []) new v × ReportsAreRight (lines ++ line ∷ []) v
-stands_more lines line n t z old new k on grows u told stands so =
+    → IsTraced u → (v : CloudState) × (z.state ≡ Some v) × WorldStands (lines ++ line ∷ []) new v × ReportsAreRight (lines ++ line ∷ []) v × IsTraced v
+stands_more lines line n t z old new k on grows u told stands so traced =
     let f = on lines u (omega arith) told stands in
     let g = grows u told in
     let same : Some f.after ≡ Some g.0 = sym f.told ∙ g.1 in
@@ -122,7 +125,7 @@ stands_more lines line n t z old new k on grows u told stands so =
     let agree : (j : ℕ) → j < length lines + 1 → AgreeUpto j u f.after = λ j less. subst (λ v. AgreeUpto j u v) is (g.2 j (omega arith)) in
     let m : length (lines ++ line ∷ []) ≡ length lines + 1 = omega (arith, length-append lines (line ∷ [])) in
     let upto_all : IsUpto (length lines + 1) f.after = subst (λ m. IsUpto m f.after) m f.stands.holds.cloud.upto in
-    (f.after, f.told, f.stands, reports_more lines line u f.after agree upto_all so f.right)
+    (f.after, f.told, f.stands, reports_more lines line u f.after agree upto_all so f.right, subst IsTraced is (g.3 traced))
 
 -- the lines that were handled, with one more
 lines_more : (texts : List (List ℕ)) (text : List ℕ) (n : ℕ) (w v u : Told) (s t z : Seen) (first old new : World) (line : Line)
@@ -137,7 +140,7 @@ lines_more texts text n w v u s t z first old new line count h spells a grows ad
       spelled = spelled_more texts h.lines text line h.spelled spells;
       wrote = subst (λ xs. Adds w u xs) (sym (replies_more 1 n h.lines line k)) (adds_more w v u (replies h.lines) (reply_line n line.reply) h.wrote adds);
       went = further h.lines line t z old new h.went (subst (λ j. Handled j line.event t z old new (Ok line.reply)) l a.handled);
-      stands = λ x told empty. let o = h.stands x told empty in stands_more h.lines line n t z old new k a.stands grows o.0 o.1 o.2 o.3;
+      stands = λ x told empty. let o = h.stands x told empty in stands_more h.lines line n t z old new k a.stands grows o.0 o.1 o.2 o.3 o.4;
     }
 
 -- a new world stands for no lines over an empty cloud
@@ -153,6 +156,11 @@ replies_sound lines s t first world x went fresh told empty = (went_soundly s fi
 pub lines_explained : (lines : List Line) (s t : Seen) (first world : World) (x : CloudState) → (went : WentOn s first lines t world) → IsNew first → s.state ≡ Some x → IsEmptyCloud x
     → AreExplained s first lines t world went
 lines_explained lines s t first world x went fresh told empty = went_explained s first x lines t world went told (fresh_stands first x fresh empty)
+
+-- and where no look failed reports come
+pub reports_come : (lines : List Line) (s t : Seen) (first world : World) (x : CloudState) → WentOn s first lines t world → IsNew first → s.state ≡ Some x → IsEmptyCloud x
+    → ReportsCome lines s t
+reports_come lines s t first world x went fresh told empty = went_comes s first x lines t world went told (fresh_stands first x fresh empty) fresh.sees
 
 -- and what they acknowledged stays committed
 pub acknowledged_stay : (lines : List Line) (s t : Seen) (first world : World) (x u : CloudState) → WentOn s first lines t world → IsNew first → s.state ≡ Some x → IsEmptyCloud x → t.state ≡ Some u
@@ -176,6 +184,7 @@ at_start text w s world fresh = record {
       told,
       fresh_stands world t fresh empty,
       λ k line at. absurd (cc),
+      empty_traced t empty,
     );
   };
 }
@@ -195,8 +204,8 @@ at_more text rest behind line n m w v u s t z first old new is split next (refus
 at_more text rest behind line n m w v u s t z first old new is split next (unread e f h) grows = absurd (cc)
 
 -- the theorem of lines behind which nothing landed
-keeps_now : (lines : List Line) (s t : Seen) (first world : World) → WentOn s first lines t world → IsNew first
-    → ((x : CloudState) → s.state ≡ Some x → IsEmptyCloud x → (u : CloudState) × (t.state ≡ Some u) × WorldStands lines world u × ReportsAreRight lines u) → KeepsTheTheorem lines s t
+pub keeps_now : (lines : List Line) (s t : Seen) (first world : World) → WentOn s first lines t world → IsNew first
+    → ((x : CloudState) → s.state ≡ Some x → IsEmptyCloud x → (u : CloudState) × (t.state ≡ Some u) × WorldStands lines world u × ReportsAreRight lines u × IsTraced u) → KeepsTheTheorem lines s t
 keeps_now lines s t first world went fresh stands x told empty =
     let o = stands x told empty in (
       o.0,
@@ -205,6 +214,7 @@ keeps_now lines s t first world went fresh stands x told empty =
       replies_sound lines s t first world x went fresh told empty,
       acts_now lines world o.0 o.2,
       acknowledged_stay lines s t first world x o.0 went fresh told empty o.1,
+      o.4,
     )
 
 abbrev answered : (texts : List (List ℕ)) (w v : Told) (s t : Seen) (first world : World) → IsNew first
@@ -217,6 +227,7 @@ answered texts w v s t first world fresh h = record {
   explained = λ x told empty. lines_explained h.lines s t first world x h.went fresh told empty;
   settled = lines_settled h.lines s t first world h.went fresh;
   left = lines_left h.lines s t first world h.went fresh;
+  reports = λ x told empty. reports_come h.lines s t first world x h.went fresh told empty;
 }
 
 pub at_end : (text rest : List ℕ) (n : ℕ) (w v : Told) (s t : Seen) (first world : World) → IsNew first
@@ -279,6 +290,7 @@ keeps {text} {rest} {behind} {line} {n} {m} {w} {v} {s} {t} {z} {first} {old} me
       replies_sound h.lines s t first old x h.went met.fresh told empty,
       acts_upto h.lines old o.0 g.0 o.2 (g.2 (length h.lines) (omega (arith, count))),
       stay_upto h.lines o.0 g.0 (λ j within. g.2 j (omega (arith, count))) (acknowledged_stay h.lines s t first old x o.0 h.went met.fresh told empty o.1),
+      g.3 o.4,
     )
 
 -- the run ends before a text that has no reply
@@ -315,6 +327,7 @@ with_answer {text} {rest} {behind} {line} {n} {m} {w} {v} {s} {t} {z} {first} {o
       explained = λ x told empty. lines_explained (met.is.handles.lines ++ one ∷ []) s z first new x went met.fresh told empty;
       settled = lines_settled (met.is.handles.lines ++ one ∷ []) s z first new went met.fresh;
       left = lines_left (met.is.handles.lines ++ one ∷ []) s z first new went met.fresh;
+      reports = λ x told empty. reports_come (met.is.handles.lines ++ one ∷ []) s z first new x went met.fresh told empty;
     }
 
 -- the run ends behind a text that has a reply
@@ -334,7 +347,7 @@ ends_behind {text} {rest} {behind} {line} {n} {m} {w} {v} {s} {t} {z} {first} {o
       so = so;
       theorem =
           keeps_now (h.lines ++ one ∷ []) s z first new (went_answer met new one a) met.fresh
-          (λ x told empty. let o = h.stands x told empty in stands_more h.lines one m t z old new (omega arith) a.stands met.grows o.0 o.1 o.2 o.3);
+          (λ x told empty. let o = h.stands x told empty in stands_more h.lines one m t z old new (omega arith) a.stands met.grows o.0 o.1 o.2 o.3 o.4);
     }
 
 -- the lines before the text, where no call was made at it

@@ -2,6 +2,7 @@ pub mod SoundLemmas
 pub mod BehindLemmas
 pub mod StayLemmas
 pub mod WriteLemmas
+pub mod SeeingLemmas
 pub mod GoingLemmas
 pub mod PlayLemmas
 pub mod ShellOnce

@@ -1,14 +1,16 @@
 -- A world that handles one event behind another.
 use Rattle.std.proofs.Common.{◌≡◌, ◌<◌, ◌+◌, ℕ, List, [], ◌∷◌, ◌++◌, length, take, Some, Result, Ok, Err, refl, sym, ap, subst, ◌∙◌, arith, length-append}
 use Rattle.std.proofs.lemmas.Option.{slice_get_within}
+use Rattle.cloud_trait.proofs.TracedLemmas.{empty_traced}
 use Rattle.cloud_trait.specs.Seen.{Seen}
+use Rattle.cloud_trait.specs.Traced.{IsTraced}
 use Rattle.cloud_trait.specs.Upto.{upto, AgreeUpto}
 use Rattle.event_text.specs.declared.event.Event.{Event}
 use Rattle.event_text.specs.declared.event.Event.TheVariants.{Run}
 use Rattle.reply_text.specs.declared.reply.Reply.{Reply}
 use Rattle.reply_text.specs.declared.reply.Reply.TheVariants.{Begun}
 use Rattle.client_work.specs.Session.{Acting, closed_session}
-use Rattle.cloud_trait.specs.State.{CloudState}
+use Rattle.cloud_trait.specs.State.{CloudState, IsEmptyCloud}
 use Rattle.replay_meaning.specs.Standing.{Line, unnamed}
 use Rattle.session_facts.specs.Facts.{session_at, ActsAs}
 use Rattle.session_facts.proofs.AddedRows.{adds_nothing as nothing_added}
@@ -19,12 +21,12 @@ use Rattle.world_core.proofs.AddedLines.{handled_adds}
 use Rattle.world_core.specs.declared.world.WorldFault.{WorldFault}
 use Rattle.world_core.specs.declared.world.WorldFault.TheVariants as world
 use Rattle.world_core.specs.Handled.{Handled}
-use Rattle.world_core.specs.Stands.{StandsOn, Grows}
+use Rattle.world_core.specs.Stands.{WorldStands, StandsOn, Grows}
 use Rattle.schedule_run.specs.InPlay.{Play}
-use Rattle.schedule_run.specs.Answered.{IsNew, WentOn, start, further, KeepsTheTheorem}
+use Rattle.schedule_run.specs.Answered.{IsNew, WentOn, start, further, ReportsAreRight, KeepsTheTheorem}
 use Rattle.schedule_run.specs.Play.{IsFresh, IsNext, RanOut, uncounted, no_answer, Takes, answered_run, stops_run, RunsWhole, Played, StoppedAt, stopped_before, stopped_within}
 use Rattle.schedule_run.proofs.BehindLemmas.{lines_left, lines_settled}
-use Rattle.schedule_run.proofs.GoingLemmas.{stands_more, fresh_stands, replies_sound, lines_explained, report_same, acts_upto, acknowledged_stay}
+use Rattle.schedule_run.proofs.GoingLemmas.{stands_more, fresh_stands, replies_sound, lines_explained, reports_come, report_same, acts_upto, acknowledged_stay, keeps_now}
 use Rattle.schedule_run.proofs.StayLemmas.{stay_upto}
 
 -- a new world added nothing to any cloud
@@ -48,14 +50,15 @@ played_nothing s play fresh = record {
   kinds = λ t told. fresh_adds s play.world t told fresh.world;
   settled = λ t told runs. tt;
   left = lines_left [] s s play.world play.world start fresh.world;
-  stands = λ t told empty. (
-    t,
-    told,
-    fresh_stands play.world t fresh.world empty,
-    λ k line at. absurd (cc),
-    acknowledged_stay [] s s play.world play.world t t start fresh.world told empty told,
-  );
+  stands = stands;
+  theorem = keeps_now [] s s play.world play.world start fresh.world stands;
+  explained = λ t told empty. tt;
+  reports = λ t told empty. reports_come [] s s play.world play.world t start fresh.world told empty;
 }
+  where
+    stands : (t : CloudState) → s.state ≡ Some t → IsEmptyCloud t
+        → (u : CloudState) × (s.state ≡ Some u) × WorldStands [] play.world u × ReportsAreRight [] u × IsTraced u
+    stands t told empty = (t, told, fresh_stands play.world t fresh.world empty, λ k line at. absurd (cc), empty_traced t empty)
 
 -- one event more
 pub played_more : (lines : List Line) (event : Event) (reply : Reply) (s t z : Seen) (old new : Play)
@@ -74,16 +77,18 @@ played_more lines event reply s t z old new p n =
       kinds = λ x told. handled_adds new.handled event t z old.world new.world reply lines x (omega arith) n.handled (p.kinds x told);
       settled = lines_settled (lines ++ line ∷ []) s z p.first new.world went p.fresh;
       left = lines_left (lines ++ line ∷ []) s z p.first new.world went p.fresh;
-      stands = λ x told empty.
-          let o = p.stands x told empty in
-          let f = stands_more lines line new.handled t z old.world new.world (omega arith) n.stands n.grows o.0 o.1 o.2 o.3 in (
-            f.0,
-            f.1,
-            f.2,
-            f.3,
-            acknowledged_stay (lines ++ line ∷ []) s z p.first new.world x f.0 went p.fresh told empty f.1,
-          );
+      stands = stands at;
+      theorem = keeps_now (lines ++ line ∷ []) s z p.first new.world went p.fresh (stands at);
+      explained = λ x told empty. lines_explained (lines ++ line ∷ []) s z p.first new.world x went p.fresh told empty;
+      reports = λ x told empty. reports_come (lines ++ line ∷ []) s z p.first new.world x went p.fresh told empty;
     }
+  where
+    one : Line
+    one = record { event = event; reply = reply }
+
+    stands : new.handled ≡ length lines + 1 → (x : CloudState) → s.state ≡ Some x → IsEmptyCloud x
+        → (u : CloudState) × (z.state ≡ Some u) × WorldStands (lines ++ one ∷ []) new.world u × ReportsAreRight (lines ++ one ∷ []) u × IsTraced u
+    stands at x told empty = let o = p.stands x told empty in stands_more lines one new.handled t z old.world new.world (omega (arith, at)) n.stands n.grows o.0 o.1 o.2 o.3 o.4
 
 -- what was handled keeps the theorem where a later event grew the cloud
 keeps_behind : (lines : List Line) (n : ℕ) (s t z : Seen) (play : Play) → Played lines s t play → n ≡ length lines + 1 → Grows n t z → KeepsTheTheorem lines s z
@@ -98,7 +103,8 @@ keeps_behind lines n s t z play p count grows x told empty =
           report_same (take (k + 1) lines) (upto o.0 (k + 1)) (upto g.0 (k + 1)) line.reply (record { versions = a.versions; messages = a.messages; trace = a.trace }) (o.3 k line at),
       replies_sound lines s t p.first play.world x p.went p.fresh told empty,
       acts_upto lines play.world o.0 g.0 o.2 (g.2 (length lines) (omega (arith, count))),
-      stay_upto lines o.0 g.0 (λ j within. g.2 j (omega (arith, count))) o.4,
+      stay_upto lines o.0 g.0 (λ j within. g.2 j (omega (arith, count))) (acknowledged_stay lines s t p.first play.world x o.0 p.went p.fresh told empty o.1),
+      g.3 o.4,
     )
 
 -- memory ran out at the next event
@@ -115,9 +121,10 @@ stopped_at lines event s t z old new p (no_answer handled grows) =
         fresh = p.fresh;
         last = old.world;
         went = p.went;
-        explained = λ x told empty. lines_explained lines s t p.first old.world x p.went p.fresh told empty;
+        explained = p.explained;
         settled = p.settled;
         left = p.left;
+        reports = p.reports;
       };
       last = new.world;
       handled = subst (λ j. Handled j event t z old.world new.world (Err world.Memory)) at handled;

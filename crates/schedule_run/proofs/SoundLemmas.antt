@@ -17,7 +17,7 @@ use Rattle.session_facts.specs.Facts.{session_at, SomeBookStands}
 use Rattle.world_core.specs.World.{World}
 use Rattle.world_core.specs.Handled.{Handled}
 use Rattle.world_core.specs.Settled.{SettlingLeaves, SettlingEnds}
-use Rattle.world_core.specs.Stands.{WorldStands}
+use Rattle.world_core.specs.Stands.{WorldStands, LeftIsRight}
 use Rattle.world_core.proofs.Acknowledged.{durable_after}
 use Rattle.world_core.proofs.Bounded.{few_calls}
 use Rattle.world_core.proofs.EveryLine.{stands_after}
@@ -124,5 +124,8 @@ went_explained before old t lines after new (further earlier line mid _ world _ 
             ends_so (length earlier + 1) line.event mid after world new line.reply
             (settling_ends (length earlier + 1) line.event mid after world new (Ok line.reply)) o.state o.told (on_book earlier world o.state o.stands) handled;
         kept = λ u seen. durable_after (length earlier + 1) line.event mid after world new (Ok line.reply) handled earlier o.state u refl o.told o.stands seen;
+        left = λ u seen.
+            let f = stands_after (length earlier + 1) line.event mid after world new (Ok line.reply) handled earlier o.state refl o.told o.stands in
+            subst (λ x. LeftIsRight x line.reply) (same_some f.after u (sym f.told ∙ seen)) f.left;
       },
     )

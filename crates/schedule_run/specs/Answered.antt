@@ -3,7 +3,9 @@ use Rattle.std.specs.Prelude.{ℕ, ◌≡◌, ◌+◌, ◌≤◌, ◌⊎◌, fal
 use Rattle.client_work.specs.Session.{closed_session}
 use Rattle.cloud_trait.specs.State.{CloudState, IsEmptyCloud}
 use Rattle.cloud_trait.specs.Seen.{Seen}
+use Rattle.cloud_trait.specs.Traced.{IsTraced}
 use Rattle.cloud_trait.specs.Upto.{upto}
+use Rattle.db_base.specs.Ids.{IsTree}
 use Rattle.event_text.specs.declared.event.Event.{Event}
 use Rattle.event_text.specs.declared.event.Event.TheVariants as event
 use Rattle.reply_text.specs.declared.reply.Reply.{Reply}
@@ -13,6 +15,7 @@ use Rattle.replay_meaning.specs.Standing.{Line, session_of, standing}
 use Rattle.replay_meaning.specs.Kinds.{KeepsKinds}
 use Rattle.replay_meaning.specs.Right.{ReportIsRight}
 use Rattle.report_types.specs.declared.entry.Entry.{Entry}
+use Rattle.report_types.specs.declared.report.Report.{Report}
 use Rattle.session_facts.specs.Acknowledged.{IsKeptReply}
 use Rattle.session_facts.specs.Facts.{WasLeft}
 use Rattle.session_facts.specs.Sessions.Untroubled.{IsUntroubled}
@@ -25,6 +28,7 @@ use Rattle.world_core.specs.Explained.{StepExplains}
 use Rattle.world_core.specs.Handled.{Handled}
 use Rattle.world_core.specs.Settled.{SettledLeaves, AnswersSettled, NoLockHeld, StepGoesWell}
 use Rattle.world_core.specs.Sound.{IsSoundFor}
+use Rattle.world_core.specs.Stands.{LeftIsRight}
 
 -- a world whose sessions are closed, and that saw nothing
 pub record IsNew (world : World) : Type 0 where
@@ -56,7 +60,7 @@ IsKeptLine entries before line = IsKeptReply entries (standing before (session_o
 
 -- a line that was handled explains the steps that it made; where its session was untroubled and each of these was calm, the session is untroubled
 -- behind it, and the line is answered well; a run of it makes few calls for a tree checkpoint; a settling leaves nothing and comes to its end so;
--- and a commit that it answers as committed is among what was committed
+-- a commit that it answers as committed is among what was committed; and the two numbers of a report count what is left then
 pub record IsExplained (lines : List Line) (line : Line) (before after : Seen) (old new : World) (handled : Handled (length lines + 1) line.event before after old new (Ok line.reply))
     : Type 0 where
   pub explains : EachStep StepExplains (length lines + 1) line.event before after old new (Ok line.reply) handled
@@ -66,6 +70,7 @@ pub record IsExplained (lines : List Line) (line : Line) (before after : Seen) (
   pub leaves : LeavesSo (length lines + 1) line.event before after old new line.reply handled
   pub ends : (t : CloudState) → before.state ≡ Some t → EndsSo t (length lines + 1) line.event before after old new line.reply handled
   pub kept : (u : CloudState) → after.state ≡ Some u → IsKeptLine (committed (lines ++ line ∷ []) u) lines line
+  pub left : (u : CloudState) → after.state ≡ Some u → LeftIsRight u line.reply
 
 -- and so does each line
 abbrev pub AreExplained : (before : Seen) (old : World) (lines : List Line) (after : Seen) (new : World) → WentOn before old lines after new → Type 0
@@ -96,8 +101,14 @@ IsOfRuns t = IsEmptyCloud t ⊎ WasLeft t
 abbrev pub LeavesOne : Seen → Seen → Type 0
 LeavesOne before after = (t : CloudState) → before.state ≡ Some t → IsOfRuns t → (u : CloudState) × (after.state ≡ Some u) × WasLeft u
 
--- these lines were handled from a new world on; over a cloud that was empty and told its state each of them explains itself, and over one that
--- earlier runs left each settling among them does
+-- where no look failed, each of these lines that asks for the report of a tree has one
+abbrev pub ReportsCome : List Line → Seen → Seen → Type 0
+ReportsCome lines before after =
+    after.counts.dark ≡ before.counts.dark → (k : ℕ) (line : Line) (tree : ℕ) → slice_get lines k ≡ Some line → line.event ≡ event.Report tree → IsTree tree
+    → (r : Report) × (line.reply ≡ reply.Report r)
+
+-- these lines were handled from a new world on; over a cloud that was empty and told its state each of them explains itself, and reports come; and
+-- over one that earlier runs left each settling among them explains itself
 pub record AreAnswered (lines : List Line) (before after : Seen) : Type 0 where
   pub first : World
   pub fresh : IsNew first
@@ -106,6 +117,7 @@ pub record AreAnswered (lines : List Line) (before after : Seen) : Type 0 where
   pub explained : (t : CloudState) → before.state ≡ Some t → IsEmptyCloud t → AreExplained before first lines after last went
   pub settled : (t : CloudState) → before.state ≡ Some t → IsOfRuns t → AreSettled before first lines after last went
   pub left : LeavesOne before after
+  pub reports : (t : CloudState) → before.state ≡ Some t → IsEmptyCloud t → ReportsCome lines before after
 
 -- behind these lines this event was handled, and has no reply, by this fault
 pub record IsUnanswered (lines : List Line) (event : Event) (fault : WorldFault) (before after : Seen) : Type 0 where
@@ -135,7 +147,8 @@ abbrev pub AcknowledgedStay : List Line → CloudState → Type 0
 AcknowledgedStay lines t = (n : ℕ) → n ≤ length lines → AreKept (take n lines) (committed (take n lines) (upto t n))
 
 -- over a cloud that was empty and told its state, every report of these lines is right for the state in which they left it, every reply is sound,
--- what was put and sent is what the lines allow, and what was acknowledged stays committed
+-- what was put and sent is what the lines allow, what was acknowledged stays committed, and each version and message has its row in the trace, so that
+-- the state up to a line has what the rows up to it say
 abbrev pub KeepsTheTheorem : List Line → Seen → Seen → Type 0
 KeepsTheTheorem lines before after =
-    (t : CloudState) → before.state ≡ Some t → IsEmptyCloud t → (u : CloudState) × (after.state ≡ Some u) × ReportsAreRight lines u × RepliesAreSound lines × ActsByTheLines lines u × AcknowledgedStay lines u
+    (t : CloudState) → before.state ≡ Some t → IsEmptyCloud t → (u : CloudState) × (after.state ≡ Some u) × ReportsAreRight lines u × RepliesAreSound lines × ActsByTheLines lines u × AcknowledgedStay lines u × IsTraced u

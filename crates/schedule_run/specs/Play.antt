@@ -2,6 +2,7 @@
 use Rattle.std.specs.Prelude.{◌≡◌, ◌+◌, List, length, Some, Result, Ok, Err}
 use Rattle.cloud_trait.specs.State.{CloudState, IsEmptyCloud}
 use Rattle.cloud_trait.specs.Seen.{Seen}
+use Rattle.cloud_trait.specs.Traced.{IsTraced}
 use Rattle.event_text.specs.declared.event.Event.{Event}
 use Rattle.event_text.specs.declared.event.Event.TheVariants.{Run}
 use Rattle.reply_text.specs.declared.reply.Reply.{Reply}
@@ -15,7 +16,7 @@ use Rattle.session_facts.specs.Added.{AddsTo}
 use Rattle.world_core.specs.Added.{WorldAdds}
 use Rattle.world_core.specs.Stands.{WorldStands, StandsOn, Grows}
 use Rattle.schedule_run.specs.InPlay.{Play}
-use Rattle.schedule_run.specs.Answered.{IsNew, WentOn, AreSettled, IsOfRuns, LeavesOne, IsUnanswered, ReportsAreRight, AcknowledgedStay, KeepsTheTheorem}
+use Rattle.schedule_run.specs.Answered.{IsNew, WentOn, AreSettled, IsOfRuns, LeavesOne, IsUnanswered, ReportsAreRight, AcknowledgedStay, KeepsTheTheorem, AreExplained, ReportsCome}
 
 -- a new world that has handled nothing
 pub record IsFresh (play : Play) : Type 0 where
@@ -63,7 +64,7 @@ RunsWhole event (Err fault) before after old new = StopsRun event before after o
 
 -- these lines were handled from a new world on; over any cloud that tells its state each row that they added is of a kind that its session's standing
 -- by them allows, over one that earlier runs left each settling among them explains itself and another one is left, and over one that was empty all
--- stands for them, every report is right, and what they acknowledged stays committed
+-- stands for them, they keep the theorem, each explains itself, and reports come
 pub record Played (lines : List Line) (start now : Seen) (play : Play) : Type 0 where
   pub count : play.handled ≡ length lines
   pub first : World
@@ -73,7 +74,10 @@ pub record Played (lines : List Line) (start now : Seen) (play : Play) : Type 0 
   pub settled : (t : CloudState) → start.state ≡ Some t → IsOfRuns t → AreSettled start first lines now play.world went
   pub left : LeavesOne start now
   pub stands : (t : CloudState) → start.state ≡ Some t → IsEmptyCloud t
-      → (u : CloudState) × (now.state ≡ Some u) × WorldStands lines play.world u × ReportsAreRight lines u × AcknowledgedStay lines u
+      → (u : CloudState) × (now.state ≡ Some u) × WorldStands lines play.world u × ReportsAreRight lines u × IsTraced u
+  pub theorem : KeepsTheTheorem lines start now
+  pub explained : (t : CloudState) → start.state ≡ Some t → IsEmptyCloud t → AreExplained start first lines now play.world went
+  pub reports : (t : CloudState) → start.state ≡ Some t → IsEmptyCloud t → ReportsCome lines start now
 
 -- behind these lines memory ran out: before this event did anything, or while it was handled. What was handled keeps the theorem, and what it added to
 -- any cloud is of its kind

@@ -2,6 +2,7 @@
 use Rattle.std.specs.Prelude.{ℕ, ◌≡◌, ◌+◌, ◌⊎◌, List, [], ◌∷◌, ◌++◌, length, Some, Result, Ok, Err}
 use Rattle.cloud_trait.specs.State.{CloudState, IsEmptyCloud}
 use Rattle.cloud_trait.specs.Seen.{Seen}
+use Rattle.cloud_trait.specs.Traced.{IsTraced}
 use Rattle.db_io.specs.Content.{Told, Adds, AddsPrefix}
 use Rattle.event_text.specs.declared.event.Event.{Event}
 use Rattle.event_text.specs.Event.{IsEvent}
@@ -84,7 +85,7 @@ pub record Handles (texts : List (List ℕ)) (written now_written : Told) (start
   pub wrote : Adds written now_written (replies lines)
   pub went : WentOn start first lines now world
   pub stands : (t : CloudState) → start.state ≡ Some t → IsEmptyCloud t
-      → (u : CloudState) × (now.state ≡ Some u) × WorldStands lines world u × ReportsAreRight lines u
+      → (u : CloudState) × (now.state ≡ Some u) × WorldStands lines world u × ReportsAreRight lines u × IsTraced u
 
 -- so many lines of the text stand before the rest, and were handled
 pub record IsAt (text rest : List ℕ) (n : ℕ) (written now_written : Told) (start now : Seen) (first world : World) : Type 0 where

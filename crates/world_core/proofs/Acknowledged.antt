@@ -47,6 +47,7 @@ use Rattle.world_core.specs.Replying.{declined, done_reply, unsettled_reply, val
 use Rattle.world_core.specs.Sessions.{Changes}
 use Rattle.world_core.specs.Stands.{WorldStands}
 use Rattle.world_core.specs.World.{World}
+use Rattle.world_core.proofs.Texts.{commit_is}
 use Rattle.world_core.proofs.StandsLemmas.{IsUnderWay, changed_was, way_begins, told_under, call, steps_own, went_on, no_stop, no_memory, replies_to}
 
 -- ---- replies
@@ -83,7 +84,7 @@ module _ (entries : List Entry) (client : ℕ) (posture : Posture) where
   answer_keeps answer.Closed left r e ends = plainly r reply.Closed e tt
   answer_keeps (answer.Renewed end) left r e ends = plainly r (reply.Renewed end) e tt
   answer_keeps (answer.Done n) left r e ends = plainly r (reply.Done n) e tt
-  answer_keeps (answer.Commit c) left r e ends = plainly r (reply.Commit c) e (ends c refl)
+  answer_keeps (answer.Commit c) left r e ends = subst Keeps (sym (commit_is c r e).0) (ends c refl)
   answer_keeps answer.Value left r e ends = value_keeps (value_of left) r e
   answer_keeps answer.Scan left r e ends = subst Keeps (sym e) tt
   answer_keeps (answer.Settled s) left r e ends = plainly r (reply.Settled s.calls) e tt

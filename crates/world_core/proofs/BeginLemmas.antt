@@ -59,6 +59,7 @@ use Rattle.world_core.specs.Sessions.{Changes, NotesIn, AbortsIn}
 use Rattle.world_core.specs.Replying.{declined, done_reply, trouble_reply, RepliesBegun}
 use Rattle.world_core.specs.Handled.{BeginsOp, NotesChange, DropsChanges}
 use Rattle.world_core.specs.Stands.{StandsFor}
+use Rattle.world_core.proofs.Texts.{commit_is}
 use Rattle.world_core.proofs.StandsLemmas.{IsNoReport, Ready, acts_before, changed_was, quiet_line, quiet_refused, replies_to}
 
 -- the reply of a line
@@ -133,7 +134,7 @@ commits_of k r lines buffer home c b Working same idle empty commits e =
     )
 commits_of k r lines buffer home c b (Answered (answer.Commit a)) same idle empty commits e =
     let end : RunsFor IsRefusal buffer home.client (Ends (commits.0, b.cache) a) = subst (RunsFor IsRefusal buffer home.client) commits.1 (run_begins home buffer c) in
-    let f : r ≡ reply.Commit a = cc in
+    let f = (commit_is a r e).0 in
     let is : r ≡ reply.Commit (NotCommitted end.1.0) = f ∙ ap (λ z. reply.Commit z) end.1.1 in
     let P : Reply → Type 0 = λ z. LeavesSession (event.Commit k) z k lines b in
     subst P (sym is)
@@ -148,7 +149,7 @@ commits_nothing : (k : ℕ) (r : Reply) (lines : List Line) (buffer : List Noted
     → WorksAs (work.Idle home) (standing lines k) → b.buffer ≡ [] → CommitsNothing home buffer c b.cache b.work begun → RepliesBegun (Ok begun) b (Ok r) → LeavesSession (event.Commit k) r k lines b
 commits_nothing k r lines buffer home c b begun same idle empty nothing e =
     let answered : RepliesBegun (Ok (Answered (answer.Commit (Committed 0)))) b (Ok r) = subst (λ x. RepliesBegun (Ok x) b (Ok r)) nothing.answer e in
-    let is : r ≡ reply.Commit (Committed 0) = cc in
+    let is = (commit_is (Committed 0) r answered).0 in
     let P : Reply → Type 0 = λ z. LeavesSession (event.Commit k) z k lines b in
     subst P (sym is) (acts_by b (work.Idle home) (standing lines k) nothing.work_is (empty ∙ sym nothing.none ∙ same) idle, tt)
 

@@ -67,6 +67,7 @@ use Rattle.world_core.specs.Sound.{IsSoundFor}
 use Rattle.world_core.specs.Stands.{WorldStands}
 use Rattle.world_core.proofs.Explained.{explained}
 use Rattle.world_core.proofs.Sound.{sound_after}
+use Rattle.world_core.proofs.Texts.{commit_is}
 use Rattle.world_core.proofs.StandsLemmas.{IsUnderWay, changed_at, changed_was, has_at, way_begins, steps_own, went_on, no_stop, no_memory, replies_to, settler}
 
 -- ---- troubles that no call brought
@@ -219,7 +220,7 @@ answer_well Opening (answer.Opened epoch) left r of sound e none = let is : r �
 answer_well Closing answer.Closed left r of sound e none = let is : r ≡ reply.Closed = cc in subst (DoesWell Closing) (sym is) tt
 answer_well Renewing (answer.Renewed end) left r of sound e none = let is : r ≡ reply.Renewed end = cc in subst (DoesWell Renewing) (sym is) tt
 answer_well (Committing changes) (answer.Commit c) left r of sound e none =
-    let is : r ≡ reply.Commit c = cc in
+    let is = (commit_is c r e).0 in
     subst (DoesWell (Committing changes)) (sym is) (commit_well c (none.told c refl) none.trouble (subst (IsSoundReply (Working (Committing changes))) is sound))
 answer_well (Reading tree key) answer.Value left r of sound e none = value_well tree key (value_of left) r e
 answer_well (Scanning tree from to) answer.Scan left r of sound e none = subst (DoesWell (Scanning tree from to)) (sym e) tt
@@ -440,7 +441,7 @@ module _ (lines : List Line) (n k : ℕ) (before after : Seen) (old new : World)
 
   op_answered : (o : Op) (a : Answer) (left : Acting) → IsAtOnce o a → RepliesTo a left (Ok r) → OpWell o r
   op_answered o (answer.Trouble q) left is e = absurd ((replies_to (answer.Trouble q) left r e).0.1 (memory_at_once o q is))
-  op_answered op.Commit (answer.Commit c) left is e = let same : r ≡ reply.Commit c = cc (e) in subst (BeginsWell (Committing [])) (sym same) is
+  op_answered op.Commit (answer.Commit c) left is e = subst (BeginsWell (Committing [])) (sym (commit_is c r e).0) is
   op_answered (op.Read tree key) answer.Value left is e = value_begins tree key (value_of left) e
   op_answered (op.Scan tree from to) answer.Scan left is e = λ first last. subst (BeginsWell (Scanning tree first last)) (sym e) tt
   op_answered (op.Open client) a left is e = absurd is

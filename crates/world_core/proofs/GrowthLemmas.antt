@@ -1,5 +1,7 @@
 -- What a line leaves of earlier ones, whatever its result.
-use Rattle.std.proofs.Common.{◌≡◌, ℕ, List, Some, Ok, refl, ap, ◌∙◌}
+use Rattle.std.proofs.Common.{◌≡◌, ℕ, List, Some, Ok, refl, sym, ap, ◌∙◌}
+use Rattle.db_base.specs.declared.names.ObjName.{ObjName}
+use Rattle.db_base.specs.declared.names.QueueName.{QueueName}
 use Rattle.db_base.specs.declared.wish.Wish.{Wish}
 use Rattle.cloud_trait.specs.Bench.{Waits}
 use Rattle.cloud_trait.specs.declared.answer.Answer.{Answer as CallAnswer}
@@ -7,9 +9,13 @@ use Rattle.cloud_trait.specs.declared.turn.Turn.{Turn}
 use Rattle.cloud_trait.specs.Ask.{Ask}
 use Rattle.cloud_trait.specs.Caller.{Caller}
 use Rattle.cloud_trait.specs.State.{CloudState}
+use Rattle.cloud_trait.specs.Traced.{object_rows, queue_rows, version_rows, post_rows, IsTraced}
+use Rattle.cloud_trait.specs.declared.state.Posted.{Posted}
+use Rattle.cloud_trait.specs.declared.state.Version.{Version}
 use Rattle.cloud_trait.specs.Seen.{Seen}
 use Rattle.cloud_trait.specs.Weather.{Makes}
 use Rattle.cloud_trait.proofs.RowLemmas.{leaves_agree}
+use Rattle.cloud_trait.proofs.TracedLemmas.{leaves_traced}
 use Rattle.cloud_trait.proofs.UptoLemmas.{agree_itself, agree_trans}
 use Rattle.client_work.specs.declared.answer.Answer.{Answer}
 use Rattle.client_work.specs.declared.work.Work.{Work}
@@ -21,9 +27,16 @@ use Rattle.world_core.specs.Sessions.{Changes}
 use Rattle.world_core.specs.Handled.{SetsWish, StepsLooked}
 use Rattle.world_core.specs.Stands.{Grows}
 
+-- a state that differs in neither versions, messages nor rows
+same_traced : (s t : CloudState) → t.versions ≡ s.versions → t.messages ≡ s.messages → t.trace ≡ s.trace → IsTraced s → IsTraced t
+same_traced s t versions messages trace h = record {
+  versions = λ name. ap (object_rows name) trace ∙ h.versions name ∙ ap (λ (f : ObjName → List Version). version_rows name 1 (f name)) (sym versions);
+  messages = λ queue. ap (queue_rows queue) trace ∙ h.messages queue ∙ ap (λ (f : QueueName → List Posted). post_rows queue 1 (f queue)) (sym messages);
+}
+
 -- a told state that stays as it is
 pub grows_not : (n : ℕ) (before after : Seen) → ((x : CloudState) → before.state ≡ Some x → after.state ≡ Some x) → Grows n before after
-grows_not n before after stays x told = (x, stays x told, λ k less. agree_itself k x x refl refl refl)
+grows_not n before after stays x told = (x, stays x told, λ k less. agree_itself k x x refl refl refl, λ h. h)
 
 pub grows_same : (n : ℕ) (before after : Seen) → after ≡ before → Grows n before after
 grows_same n before after same = grows_not n before after (λ x told. ap (λ (z : Seen). z.state) same ∙ told)
@@ -36,12 +49,17 @@ pub grows_on : (n : ℕ) (before mid after : Seen) → Grows n before mid → Gr
 grows_on n before mid after f g x told =
     let p = f x told in
     let q = g p.0 p.1 in
-    (q.0, q.1, λ k less. agree_trans k x p.0 q.0 (p.2 k less) (q.2 k less))
+    (q.0, q.1, λ k less. agree_trans k x p.0 q.0 (p.2 k less) (q.2 k less), λ h. q.3 (p.3 h))
 
 -- a call at the line
 pub grows_made : (who : Caller) (ask : Ask) (a : CallAnswer) (before after : Seen) → Makes who ask a before after → Grows who.event before after
 grows_made who ask a before after made x told =
-    let l = made.state x told in (l.after, l.told, λ k less. leaves_agree k who ask a before.counts after.counts x after.state l less)
+    let l = made.state x told in (
+      l.after,
+      l.told,
+      λ k less. leaves_agree k who ask a before.counts after.counts x after.state l less,
+      λ h. leaves_traced who ask a before.counts after.counts x after.state l h,
+    )
 
 grows_work : (who : Caller) (before after : Seen) (w new : Work) (turn : Turn Answer) → StepsAt who before after w new turn → Grows who.event before after
 grows_work who before after w new turn p = let call = made_call who before after w new turn p in grows_made who call.ask call.answer before after call.made
@@ -52,13 +70,21 @@ grows_step who before after old new turn p = grows_work who before after old.wor
 
 -- a wish that is set
 pub grows_wish : (n : ℕ) (wish : Wish) (before after : Seen) → SetsWish wish before after → Grows n before after
-grows_wish n wish before after sets x told = (record x { wish = wish }, sets.set x told, λ k less. agree_itself k x (record x { wish = wish }) refl refl refl)
+grows_wish n wish before after sets x told = (
+  record x { wish = wish },
+  sets.set x told,
+  λ k less. agree_itself k x (record x { wish = wish }) refl refl refl,
+  λ h. same_traced x (record x { wish = wish }) refl refl refl h,
+)
 
 -- a wait
 pub grows_wait : (n ticks : ℕ) (before after : Seen) → ((s : CloudState) → before.state ≡ Some s → Waits ticks s after.state) → Grows n before after
 grows_wait n ticks before after waits x told =
     let w = waits x told in
-    (w.after, w.told, λ k less. agree_itself k x w.after (ap (λ (z : CloudState). z.versions) w.rest) (ap (λ (z : CloudState). z.messages) w.rest) (ap (λ (z : CloudState). z.trace) w.rest))
+    let versions = ap (λ (z : CloudState). z.versions) w.rest in
+    let messages = ap (λ (z : CloudState). z.messages) w.rest in
+    let trace = ap (λ (z : CloudState). z.trace) w.rest in
+    (w.after, w.told, λ k less. agree_itself k x w.after versions messages trace, λ h. same_traced x w.after versions messages trace h)
 
 -- a step between two looks
 pub grows_between : (who : Caller) (wish : Wish) (before from under to after : Seen) (number : ℕ) (old new : List Acting) (turn : Turn Answer)

@@ -4,6 +4,7 @@ pub mod Placing
 pub mod Going
 pub mod Settling
 pub mod ReplyLemmas
+pub mod Texts
 pub mod Stopping
 pub mod Landing
 pub mod GrowthLemmas
@@ -18,6 +19,7 @@ pub mod Explained
 pub mod Bounded
 pub mod Calm
 pub mod Settled
+pub mod Seeing
 pub mod AddedSteps
 pub mod AddedLines
 pub mod OpenedLines

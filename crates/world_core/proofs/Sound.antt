@@ -35,6 +35,7 @@ use Rattle.session_facts.proofs.CallKinds.{IsSettling, IsSettlersRow}
 use Rattle.session_facts.proofs.LineLemmas.{line_of}
 use Rattle.session_facts.proofs.SettlerLemmas.{settler_row}
 use Rattle.session_facts.proofs.Steps.{CallLeaves, CallLeavesUpto, wish_holds}
+use Rattle.reply_text.specs.Reply.{HasText}
 use Rattle.reply_text.specs.declared.reply.Reply.{Reply}
 use Rattle.reply_text.specs.declared.reply.Reply.TheVariants as reply
 use Rattle.session_facts.specs.Sessions.Answering.{MaySettle, MayAnswer}
@@ -56,6 +57,7 @@ use Rattle.world_core.specs.Replying.{declined, done_reply, unsettled_reply, val
 use Rattle.world_core.specs.Sessions.{Changes}
 use Rattle.world_core.specs.Sound.{IsSoundReport, IsSoundFor, AnswersSoundly}
 use Rattle.world_core.specs.Stands.{WorldStands}
+use Rattle.world_core.proofs.Texts.{commit_is}
 use Rattle.world_core.proofs.StandsLemmas.{IsUnderWay, changed_was, way_begins, told_under, call, steps_own, went_on, no_stop, no_memory, replies_to, SettlerGoes, settler, settler_own, settler_call, settler_went, settler_begins, settled_plain}
 
 -- ---- replies
@@ -86,7 +88,7 @@ module _ (posture : Posture) where
   answer_sound answer.Closed left r e stops ends = let is : r ≡ reply.Closed = cc in subst Sound (sym is) tt
   answer_sound (answer.Renewed end) left r e stops ends = let is : r ≡ reply.Renewed end = cc in subst Sound (sym is) tt
   answer_sound (answer.Done n) left r e stops ends = let is : r ≡ reply.Done n = cc in subst Sound (sym is) tt
-  answer_sound (answer.Commit c) left r e stops ends = let is : r ≡ reply.Commit c = cc in subst Sound (sym is) (ends c refl)
+  answer_sound (answer.Commit c) left r e stops ends = subst Sound (sym (commit_is c r e).0) (ends c refl)
   answer_sound answer.Value left r e stops ends = value_sound (value_of left) r e
   answer_sound answer.Scan left r e stops ends = subst Sound (sym e) tt
   answer_sound (answer.Settled s) left r e stops ends = let is : r ≡ reply.Settled s.calls = cc in subst Sound (sym is) tt
@@ -310,9 +312,14 @@ report_sound lines tree (reply.Trouble q) before after old new t told stands h =
     cloud : StandsUnder stands.holds.book stands.holds.order t
     cloud = stands.holds.stand.cloud
 
-    on : (b : Bool) → old.blind ≡ b → IsSlip q
-    on true blind = inl (h.reply.1.blinded blind)
-    on false sees = only_slips t (store_of stands.holds.book stands.holds.order t) tree refl cloud.holds.chains h.reply.0 cloud.decodes q (h.reply.1.stands sees t told)
+    failed : (q : Trouble) → HasText q → IsSlip q → q ≡ trouble.Failed
+    failed q text (inl e) = e
+    failed q text (inr memory) = absurd (subst HasText memory text)
+
+    on : (b : Bool) → old.blind ≡ b → q ≡ trouble.Failed
+    on true blind = h.reply.2.blinded blind
+    on false sees =
+        failed q h.reply.1 (only_slips t (store_of stands.holds.book stands.holds.order t) tree refl cloud.holds.chains h.reply.0 cloud.decodes q (h.reply.2.stands sees t told))
 report_sound lines tree r before after old new t told stands h = tt
 
 -- ---- every line

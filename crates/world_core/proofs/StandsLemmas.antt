@@ -50,6 +50,7 @@ use Rattle.world_core.specs.Replying.{declined, trouble_reply, unsettled_reply, 
 use Rattle.world_core.specs.Sessions.{Changes}
 use Rattle.world_core.specs.Handled.{Declines, Has, MakesNoCall, StepsLooked, RefusesStep, MakesStep, Went, start, further, RunsTo, Runs, SettlesTo, SettlesOn, Settles, Dies, DiesDone, Crashes, WaitsFor, WaitsTooLong, Shows, Reports}
 use Rattle.world_core.specs.Stands.{WorldStands, StandsFor, IsLeft, LeftIsRight}
+use Rattle.world_core.proofs.Texts.{commit_is}
 
 -- ---- replies that are no report
 
@@ -285,7 +286,7 @@ replies_to (answer.Opened epoch) left r e = let is : r ≡ reply.Opened epoch = 
 replies_to answer.Closed left r e = let is : r ≡ reply.Closed = cc in (is, subst IsNoReport (sym is) tt)
 replies_to (answer.Renewed end) left r e = let is : r ≡ reply.Renewed end = cc in (is, subst IsNoReport (sym is) tt)
 replies_to (answer.Done n) left r e = let is : r ≡ reply.Done n = cc in (is, subst IsNoReport (sym is) tt)
-replies_to (answer.Commit a) left r e = let is : r ≡ reply.Commit a = cc in (is, subst IsNoReport (sym is) tt)
+replies_to (answer.Commit a) left r e = let is = (commit_is a r e).0 in (is, subst IsNoReport (sym is) tt)
 replies_to answer.Value left r e = value_shown (value_of left) r e
 replies_to answer.Scan left r e = ((items_of left, e), subst IsNoReport (sym e) tt)
 replies_to (answer.Settled n) left r e = let is : r ≡ reply.Settled n.calls = cc in (is, subst IsNoReport (sym is) tt)

@@ -1,5 +1,5 @@
 -- What a line does to the world, and its reply.
-use Rattle.std.specs.Prelude.{ℕ, ◌≡◌, ◌≤◌, ◌<◌, Bool, true, false, ◌⊎◌, Option, Some, Result, Ok, Err}
+use Rattle.std.specs.Prelude.{ℕ, ◌≡◌, ◌≤◌, ◌<◌, Bool, true, false, ◌⊎◌, Option, Some, Result, Ok, Err, IfOk}
 use Rattle.db_base.specs.Ids.{IsTree, IsSession}
 use Rattle.db_base.specs.declared.change.Change.{Change}
 use Rattle.db_base.specs.declared.refusal.Refusal.TheVariants as rule
@@ -11,6 +11,7 @@ use Rattle.db_base.specs.declared.wish.Wish.{Wish}
 use Rattle.db_base.specs.declared.wish.Wish.TheVariants.{Plain}
 use Rattle.event_text.specs.declared.event.Event.{Event}
 use Rattle.report_types.specs.declared.report.Report.{Report as ReportShown}
+use Rattle.reply_text.specs.Reply.{HasText, ReplyHasText}
 use Rattle.reply_text.specs.declared.reply.Reply.{Reply}
 use Rattle.reply_text.specs.declared.reply.Reply.TheVariants as reply
 use Rattle.cloud_trait.specs.Bench.{IsNoCall, Waits}
@@ -246,10 +247,10 @@ pub record StopsBy (tree : ℕ) (before after : Seen) (blind : Bool) (t : Troubl
   pub stands : blind ≡ false → (x : CloudState) → before.state ≡ Some x → StopsReport x tree t
   pub blinded : blind ≡ true → t ≡ trouble.Failed
 
--- the reply to the report of a tree; a number that is no tree's is refused
+-- the reply to the report of a tree; a number that is no tree's is refused, and want of memory is not told
 abbrev pub ReportReply : ℕ → Seen → Seen → World → Result Reply WorldFault → Type 0
 ReportReply tree before after world (Ok (reply.Report r)) = IsTree tree × (world.blind ≡ false) × Shows tree before.state world.audit r
-ReportReply tree before after world (Ok (reply.Trouble t)) = IsTree tree × StopsBy tree before after world.blind t
+ReportReply tree before after world (Ok (reply.Trouble t)) = IsTree tree × HasText t × StopsBy tree before after world.blind t
 ReportReply tree before after world (Ok (reply.Refused r)) = (r ≡ rule.BadNumber) × (IsTree tree → ⊥)
 ReportReply tree before after world (Ok r) = ⊥
 ReportReply tree before after world (Err why) = Unit {0}
@@ -274,8 +275,9 @@ Answers n (Wait ticks) before after old new result = (WaitsFor ticks before afte
 Answers n (Report tree) before after old new result = Reports tree before after old new result
 Answers n Settle before after old new result = Settles n before after old new result
 
--- what a line does
+-- what a line does; its reply has a text
 pub record Handled (n : ℕ) (event : Event) (before after : Seen) (old new : World) (result : Result Reply WorldFault) : Type 0 where
   pub asked : Asked
   pub asks : Asks event asked
   pub answers : Answers n asked before after old new result
+  pub text : IfOk result ReplyHasText

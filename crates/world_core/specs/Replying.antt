@@ -3,6 +3,8 @@ use Rattle.std.specs.Prelude.{ℕ, ◌≡◌, List, Option, Some, None, Result, 
 use Rattle.db_base.specs.declared.pair.Pair.{Pair}
 use Rattle.db_base.specs.declared.refusal.Refused.{Refused}
 use Rattle.db_base.specs.declared.refusal.Refused.TheVariants as refused
+use Rattle.db_base.specs.declared.trouble.CommitAnswer.{CommitAnswer}
+use Rattle.db_base.specs.declared.trouble.CommitAnswer.TheVariants.{NotCommitted, CommittedOpen}
 use Rattle.db_base.specs.declared.trouble.Trouble.{Trouble}
 use Rattle.db_base.specs.declared.trouble.Trouble.TheVariants as trouble
 use Rattle.cloud_trait.specs.declared.turn.Turn.{Turn}
@@ -41,7 +43,13 @@ told_by tell (Err why) = Err why
 abbrev pub trouble_reply : Trouble → Result Reply WorldFault
 trouble_reply t = told_by (λ k. reply.Trouble k) (told t)
 
--- and to that of a settling
+-- the reply to how a commit ended
+abbrev pub commit_reply : CommitAnswer → Result Reply WorldFault
+commit_reply (NotCommitted t) = told_by (λ k. reply.Commit (NotCommitted k)) (told t)
+commit_reply (CommittedOpen t) = told_by (λ k. reply.Commit (CommittedOpen k)) (told t)
+commit_reply a = Ok (reply.Commit a)
+
+-- and to the trouble of a settling
 abbrev pub unsettled_reply : Trouble → Result Reply WorldFault
 unsettled_reply t = told_by (λ k. reply.NotSettled k) (told t)
 
@@ -66,7 +74,7 @@ RepliesTo (answer.Opened epoch) left result = result ≡ Ok (reply.Opened epoch)
 RepliesTo answer.Closed left result = result ≡ Ok reply.Closed
 RepliesTo (answer.Renewed end) left result = result ≡ Ok (reply.Renewed end)
 RepliesTo (answer.Done n) left result = result ≡ Ok (reply.Done n)
-RepliesTo (answer.Commit a) left result = result ≡ Ok (reply.Commit a)
+RepliesTo (answer.Commit a) left result = result ≡ commit_reply a
 RepliesTo answer.Value left result = ShowsValue (value_of left) result
 RepliesTo answer.Scan left result = ShowsItems (items_of left) result
 RepliesTo (answer.Settled s) left result = result ≡ Ok (reply.Settled s.calls)

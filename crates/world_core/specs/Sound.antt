@@ -1,8 +1,8 @@
 -- No line is answered with a trouble that only damage could cause.
 use Rattle.std.specs.Prelude.{ℕ, ◌≡◌, ◌+◌, List, length, Some, Result, Ok, Err}
-use Rattle.cloud_facts.specs.Audits.Slip.{IsSlip}
 use Rattle.cloud_trait.specs.Seen.{Seen}
 use Rattle.cloud_trait.specs.State.{CloudState}
+use Rattle.db_base.specs.declared.trouble.Trouble.TheVariants.{Failed}
 use Rattle.event_text.specs.declared.event.Event.{Event}
 use Rattle.event_text.specs.declared.event.Event.TheVariants as event
 use Rattle.replay_meaning.specs.Standing.{Line, Posture, session_of, standing}
@@ -13,9 +13,9 @@ use Rattle.world_core.specs.World.{World}
 use Rattle.world_core.specs.declared.world.WorldFault.{WorldFault}
 use Rattle.world_core.specs.Stands.{WorldStands}
 
--- a report stops only where a look failed or memory ran out
+-- a report stops only where a look failed
 abbrev pub IsSoundReport : Reply → Type 0
-IsSoundReport (reply.Trouble t) = IsSlip t
+IsSoundReport (reply.Trouble t) = t ≡ Failed
 IsSoundReport reply = Unit {0}
 
 -- the reply to a line whose session stood so; a report is no session's

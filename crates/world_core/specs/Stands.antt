@@ -2,6 +2,7 @@
 use Rattle.std.specs.Prelude.{ℕ, ◌≡◌, ◌+◌, ◌<◌, List, [], ◌∷◌, ◌++◌, length, Some, Result, Ok, Err}
 use Rattle.cloud_trait.specs.State.{CloudState}
 use Rattle.cloud_trait.specs.Seen.{Seen}
+use Rattle.cloud_trait.specs.Traced.{IsTraced}
 use Rattle.cloud_trait.specs.Upto.{AgreeUpto}
 use Rattle.event_text.specs.declared.event.Event.{Event}
 use Rattle.report_types.specs.declared.report.Report.{Report}
@@ -49,6 +50,7 @@ KeepsABook before after old new (Ok reply) =
     → (u : CloudState) × (after.state ≡ Some u) × SomeBookStands (session_at new.sessions) u
 KeepsABook before after old new (Err fault) = Unit {0}
 
--- up to every earlier line nothing has changed that the cloud tells
+-- up to every earlier line nothing has changed that the cloud tells; and where each version and message had its row in the trace, each has it still
 abbrev pub Grows : ℕ → Seen → Seen → Type 0
-Grows n before after = (x : CloudState) → before.state ≡ Some x → (y : CloudState) × (after.state ≡ Some y) × ((k : ℕ) → k < n → AgreeUpto k x y)
+Grows n before after =
+    (x : CloudState) → before.state ≡ Some x → (y : CloudState) × (after.state ≡ Some y) × ((k : ℕ) → k < n → AgreeUpto k x y) × (IsTraced x → IsTraced y)

@@ -2,7 +2,7 @@
 
 ghost use Rattle.std.specs.Prelude.{◌≡◌, IfOk};
 ghost use Rattle.client_work.specs.Session.{items_of, value_of};
-ghost use Rattle.world_core.specs.Replying.{declined, done_reply, told, trouble_reply, unsettled_reply, IsOfSettling, ShowsItems, ShowsValue, RepliesTo, RepliesBegun, RepliesSettled, RepliesTurn};
+ghost use Rattle.world_core.specs.Replying.{commit_reply, declined, done_reply, told, trouble_reply, unsettled_reply, IsOfSettling, ShowsItems, ShowsValue, RepliesTo, RepliesBegun, RepliesSettled, RepliesTurn};
 
 use crate::world::WorldFault;
 use client_work::answer::{Answer, Begun};
@@ -11,7 +11,7 @@ use cloud_trait::turn::Turn;
 use db_base::blob::Blob;
 use db_base::pair::Pair;
 use db_base::refusal::Refused;
-use db_base::trouble::Trouble;
+use db_base::trouble::{CommitAnswer, Trouble};
 use reply_text::reply::Reply;
 use report_types::pair_list::PairList;
 use std::alloc::{AllocError, Global};
@@ -79,7 +79,7 @@ pub(crate) fn reply_of<S: SessionCalls>(
         Answer::Closed => Ok(Reply::Closed),
         Answer::Renewed { end } => Ok(Reply::Renewed { end }),
         Answer::Done(answer) => Ok(Reply::Done(answer)),
-        Answer::Commit(answer) => Ok(Reply::Commit(answer)),
+        Answer::Commit(answer) => commit_reply(answer),
         Answer::Value => value_reply(alloc, session),
         Answer::Scan => scan_reply(alloc, session),
         Answer::Settled(settled) => Ok(Reply::Settled {
@@ -125,6 +125,24 @@ fn copies(alloc: Global, pairs: &[Pair]) -> Result<PairList, AllocError>
         left = rest;
     }
     Ok(list)
+}
+
+/// The reply to how a commit ended; want of memory has none.
+fn commit_reply(answer: CommitAnswer) -> Result<Reply, WorldFault>
+    ensures { result ≡ commit_reply answer }
+{
+    match answer {
+        CommitAnswer::Committed { txn } => Ok(Reply::Commit(CommitAnswer::Committed { txn })),
+        CommitAnswer::NotCommitted(trouble) => match told(trouble) {
+            Ok(trouble) => Ok(Reply::Commit(CommitAnswer::NotCommitted(trouble))),
+            Err(fault) => Err(fault),
+        },
+        CommitAnswer::InDoubt => Ok(Reply::Commit(CommitAnswer::InDoubt)),
+        CommitAnswer::CommittedOpen(trouble) => match told(trouble) {
+            Ok(trouble) => Ok(Reply::Commit(CommitAnswer::CommittedOpen(trouble))),
+            Err(fault) => Err(fault),
+        },
+    }
 }
 
 /// The reply to the answer of a settling.

@@ -69,6 +69,7 @@ impl<S: SessionCalls> Model for World<S> {
 impl<S: SessionCalls> World<S> {
     ghost use Rattle.cloud_trait.specs.State.{CloudState, IsEmptyCloud};
     ghost use Rattle.client_work.specs.Session.{closed_session, settling_session, StepsSession};
+    ghost use Rattle.reply_text.specs.Reply.{ReplyHasText};
     ghost use Rattle.world_core.specs.Sound.{AnswersSoundly};
     ghost use Rattle.world_core.specs.Acknowledged.{AnswersDurably};
     ghost use Rattle.world_core.specs.Explained.{ExplainsSteps};
@@ -106,6 +107,7 @@ impl<S: SessionCalls> World<S> {
         event: &Event,
     ) -> Result<Reply, WorldFault>
         ensures handled { Handled n event.now (C.seen cloud.old) (C.seen cloud.new) self.old self.new result }
+        ensures text { IfOk result ReplyHasText }
         ensures stands { StandsOn n event.now (C.seen cloud.old) (C.seen cloud.new) self.old self.new result }
         ensures sound { AnswersSoundly n event.now (C.seen cloud.old) (C.seen cloud.new) self.old self.new result }
         ensures acknowledged { AnswersDurably n event.now (C.seen cloud.old) (C.seen cloud.new) self.old self.new result }
@@ -122,7 +124,7 @@ impl<S: SessionCalls> World<S> {
         self.handle(alloc, cloud, n, event)
     }
 
-    #[tactic(auto, using(crate::proofs::GrowthLemmas::grows_not))]
+    #[tactic(auto, using(crate::proofs::GrowthLemmas::grows_not, crate::proofs::Texts::has_text))]
     fn handle<C: Bench>(
         &mut self,
         alloc: Global,

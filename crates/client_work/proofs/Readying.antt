@@ -12,11 +12,11 @@ use Rattle.commit_run.specs.Meaning.{MeansReady}
 use Rattle.commit_run.specs.Run.{Run, new_run, run_ready, home_of, Keeps, Led}
 
 -- memory alone stops it, and then its lease is the home's
-pub memory_stops : (home : Home) (changes : List Noted) (start m : Run) (turn : Turn CommitAnswer) (t : Trouble) → start ≡ new_run home changes
-    → ((h : Home) (cs : List Noted) → start ≡ new_run h cs → MeansReady h cs (home_of m) turn) → Keeps (home_of start) (home_of m) → turn ≡ Stopped t
+pub memory_stops : (home : Home) (changes : List Noted) (start m : Run) (c : Cache) (turn : Turn CommitAnswer) (t : Trouble) → start ≡ new_run home changes
+    → ((h : Home) (cs : List Noted) → start ≡ new_run h cs → MeansReady h cs c (home_of m) turn) → Keeps (home_of start) (home_of m) → turn ≡ Stopped t
     → (t ≡ trouble.Memory) × ((home_of m).lease ≡ home.lease)
-memory_stops home changes start m turn t from means keeps is = (
-  subst (MeansReady home changes (home_of m)) is (means home changes from),
+memory_stops home changes start m c turn t from means keeps is = (
+  subst (MeansReady home changes c (home_of m)) is (means home changes from),
   ap (λ (h : Home). h.lease) keeps ∙ ap (λ (r : Run). (home_of r).lease) from,
 )
 

@@ -2,7 +2,6 @@
 use Rattle.std.proofs.Common.{◌≡◌, ◌≤◌, ◌+◌, ℕ, Bool, true, false, List, [], ◌∷◌, ◌++◌, length, Option, Some, None, refl, ap, sym, subst, ◌∙◌, inl, inr, ◌⊎◌, arith}
 use Rattle.std.specs.Prelude.{slice_get, if◌then◌else◌}
 use Rattle.std.specs.List.{AllByRecursion}
-use Rattle.std.proofs.lemmas.List.{append_assoc}
 use Rattle.db_base.specs.declared.names.ObjName.TheVariants as object
 use Rattle.db_base.specs.declared.names.QueueName.TheVariants as queue
 use Rattle.db_base.specs.declared.trouble.Trouble.{Trouble}
@@ -20,44 +19,52 @@ use Rattle.cloud_trait.specs.Ask.{Ask, Get, PutHeld, Send, Delete, PutsNothing}
 use Rattle.cloud_trait.specs.Caller.{Caller}
 use Rattle.cloud_trait.specs.Seen.{Seen}
 use Rattle.cloud_trait.specs.Machine.{Next, Goes, Ends, Stops, LeadsBy, Took, Steps, Deed}
-use Rattle.cloud_trait.specs.Weather.{Fits}
-use Rattle.calm_calls.specs.Calm.{GoesWell, AreCalm, ComesNext, AreAlone}
+use Rattle.cloud_trait.specs.Weather.{Fits, Makes}
+use Rattle.calm_calls.specs.Calm.{GoesWell, IsCalm, AreCalm, ComesNext, AreAlone}
 use Rattle.calm_calls.proofs.CalmLemmas.{goes_well}
 use Rattle.recover_run.specs.declared.home.Home.{Home}
 use Rattle.page_cache.specs.Cache.{Cache}
+use Rattle.tree_walk.specs.Causing.{LinkShows}
 use Rattle.tree_walk.specs.Walk.{Walk, new_walk, walk_ask, walk_ready, walk_next}
 use Rattle.commit_writes.specs.declared.stage.Stage.{Stage}
 use Rattle.commit_writes.specs.declared.stage.Stage.TheVariants.{Waiting, Logging, Opening, Sending, Settling, Deleting, Finished}
 use Rattle.commit_writes.specs.Writing.{Writing, waiting, numbered, is_spent, routing, passes, routed_of, begun, log_or_open, not_committed, writing_ask}
 use Rattle.commit_writes.specs.Calls.{Calls, told}
-use Rattle.commit_writes.specs.Exact.{IsPut, IsDeletion, NonePut, WasOpened, deletions_in, deletions, DemandsNot, Demands, Exactly}
-use Rattle.commit_writes.specs.Exact.{Exact as WritesExact}
+use Rattle.commit_writes.specs.Exact.{IsPut, NonePut, WasOpened, deletions_in, deletions, DemandsNot, Demands, Exactly}
+use Rattle.commit_writes.specs.Meaning.{MeansTurn as WritesTurn}
 use Rattle.commit_writes.specs.Names.{IsSentTo, IsOwnCall}
-use Rattle.commit_writes.specs.Well.{RaisesNoFault}
-use Rattle.commit_writes.specs.Well.{Well as WritesWell}
+use Rattle.commit_writes.specs.Stepped.{deed_of}
+use Rattle.commit_writes.specs.Stepped.{Stepped as WritesStepped}
+use Rattle.commit_writes.specs.Well.{RaisesNoFault, AreMarked, AreGone}
 use Rattle.commit_writes.specs.Well.{EndsWell as WritesEndWell}
 use Rattle.commit_writes.specs.Within.{Went as WritesWent}
 use Rattle.commit_writes.proofs.Knowing.{KnowsAt as WritesKnowAt}
 use Rattle.commit_writes.proofs.Knowing.{Knows as WritesKnow}
-use Rattle.commit_writes.proofs.Meaning.{went_knows, only_memory}
+use Rattle.commit_writes.proofs.Meaning.{only_memory}
+use Rattle.commit_writes.proofs.Meaning.{went_knows as writes_know}
 use Rattle.commit_writes.proofs.Counting.{opened_put}
 use Rattle.commit_writes.proofs.Exacting.{names_at}
 use Rattle.commit_writes.proofs.RoutedLaws.{routed_some, routed_length}
 use Rattle.commit_run.specs.declared.hand.Hand.{Hand}
 use Rattle.commit_run.specs.declared.hand.Hand.TheVariants.{Writes, First, Change}
 use Rattle.commit_run.specs.Draft.{Draft, new_draft, planned, pruned_behind, leaf_noted, paged}
-use Rattle.commit_run.specs.Run.{Run, held, new_run, home_of, asks, ask_at, next_target, wrote, refused, troubled, by_turn, begun_turn, walk_to, seek, plan_on, is_stale, stale_at, walk_turned, walked, begin_walks, run_ready, run_next, Led, KeepsHome}
-use Rattle.commit_run.specs.Meaning.{Use, walked_home, IsGet, WhyNot, MeansRun, MeansTurn, MeansReady}
-use Rattle.commit_writes.specs.Meaning.{WhyNot as WritesWhyNot}
-use Rattle.commit_run.specs.Causing.{IsOfLink, TellsOf}
-use Rattle.commit_run.specs.Exact.{IsOfCalls, StopsIn, IsRouted, FitsIn, Exact, ExactReady}
+use Rattle.commit_run.specs.Run.{Run, held, new_run, home_of, asks, ask_at, target_of, next_target, written, wrote, refused, troubled, by_turn, begun_turn, walk_to, seek, plan_on, is_stale, stale_at, walk_turned, walked, begin_walks, run_ready, run_next, Led, KeepsHome}
+use Rattle.commit_run.specs.Causing.{TellsOf, ShowsReady, CausesReady}
+use Rattle.commit_run.specs.Exact.{IsOfCalls, StopsIn, Exact, IsRefusing, ExactReady}
+use Rattle.commit_run.specs.Meaning.{walked_home, Refuses, MeansWalks}
 use Rattle.commit_run.specs.Names.{Names}
-use Rattle.commit_run.specs.Well.{IsMet, IsWell, EndsWell, Well}
+use Rattle.commit_run.specs.Plain.{IsPlain}
+use Rattle.commit_run.specs.Stepped.{MeansWrites, MeansIn, Whole, Stepped}
+use Rattle.commit_run.specs.Trips.{left_by_turn, Trip, uses_of}
+use Rattle.commit_run.specs.Well.{IsMet, IsWell, EndsWell}
 use Rattle.commit_run.specs.Within.{Went, GetsNothing}
-use Rattle.commit_run.proofs.Causing.{Shown, WalkCause, walked_shown}
-use Rattle.commit_run.proofs.Knowing.{KnowsWrites, KnowsAt}
-use Rattle.commit_run.proofs.Meaning.{came_knows, told_append, walk_meant, ready_means}
-use Rattle.commit_run.proofs.Stopping.{LinkBeside, ready_link}
+use Rattle.commit_run.proofs.Causing.{Shown, WalkCause, walked_shown, write_causes, walk_causes, ready_causes}
+use Rattle.commit_run.proofs.Knowing.{KnowsHeld, KnowsWrites, KnowsAt}
+use Rattle.commit_run.proofs.Leading.{wrote_took}
+use Rattle.commit_run.proofs.Meaning.{went_knows, went_held, walk_means, told_append, same_records, writing_so}
+use Rattle.commit_run.proofs.Plainly.{plain_walks, goes_plainly}
+use Rattle.commit_run.proofs.Tripping.{IsGet, walks_get}
+use Rattle.commit_run.proofs.Walked.{turned_by}
 
 -- ---- behind a walk a commit ends with nothing committed, or not yet
 
@@ -118,25 +125,29 @@ walked_not first d w c a = on (walk_next (w, c) a) where
 
 -- ---- what the get of a walk demands
 
-link_other : (t : Trouble) → IsOfLink t → IsOfCalls (NotCommitted t) → ⊥
-link_other trouble.Failed link of = link
-link_other (trouble.Late end now) link of = link
-link_other t link of = of
+link_other : (c : Cache) (old w : Walk) (t : Trouble) → LinkShows c old w t → IsOfCalls (NotCommitted t) → ⊥
+link_other c old w t (inl (s, at, led, inl level)) of = subst (λ (u : Trouble). IsOfCalls (NotCommitted u)) level.is of
+link_other c old w t (inl (s, at, led, inr fence)) of = subst (λ (u : Trouble). IsOfCalls (NotCommitted u)) fence.is of
+link_other c old w t (inr loop) of = subst (λ (u : Trouble). IsOfCalls (NotCommitted u)) loop.is of
 
 -- where the answer alone shows why, the get failed
-get_failed : (w : Walk) (a : Answer) (t : Trouble) → WalkCause w a t → IsOfCalls (NotCommitted t) → (t ≡ trouble.Failed) × (a ≡ answer.Failed)
-get_failed w a t (inl (inl both)) of = both
-get_failed w a t (inl (inr (inl (got, answered, damaged)))) of = absurd (subst (λ (u : Trouble). IsOfCalls (NotCommitted u)) damaged.is of)
-get_failed w a t (inl (inr (inr link))) of = absurd (link_other t link of)
-get_failed w a t (inr number) of = absurd (subst (λ (u : Trouble). IsOfCalls (NotCommitted u)) number of)
+get_failed : (w : Walk) (c : Cache) (a : Answer) (changes : List Noted) (n : Run) (t : Trouble) → WalkCause w c a changes n t → IsOfCalls (NotCommitted t) → (t ≡ trouble.Failed) × (a ≡ answer.Failed)
+get_failed w c a changes n t (inl (left, e, stale, inl (inl both))) of = both
+get_failed w c a changes n t (inl (left, e, stale, inl (inr (got, answered, inl old)))) of = absurd (subst (λ (u : Trouble). IsOfCalls (NotCommitted u)) old.is of)
+get_failed w c a changes n t (inl (left, e, stale, inl (inr (got, answered, inr damaged)))) of = absurd (subst (λ (u : Trouble). IsOfCalls (NotCommitted u)) damaged.is of)
+get_failed w c a changes n t (inl (left, e, stale, inr (d, brings, link))) of = absurd (link_other d w left.0 t link of)
+get_failed w c a changes n t (inr (inl (place, change, is, (left, e, link)))) of =
+    absurd (link_other (left_by_turn (walk_next (w, c) a)).1 (new_walk change.tree (Some (target_of change).1) false) left.0 t link of)
+get_failed w c a changes n t (inr (inr number)) of = absurd (subst (λ (u : Trouble). IsOfCalls (NotCommitted u)) number.0 of)
 
-get_shows : (n k : ℕ) (cs : Calls) (w : Walk) (a : Answer) → NonePut cs → (x : CommitAnswer) → IsNot x → TellsOf (WalkCause w a) x → IsOfCalls x → Demands n k cs (walk_ask w) a x
-get_shows n k cs w a none (Committed y) is tells of = absurd is
-get_shows n k cs w a none (NotCommitted t) is tells of =
-    let both : (t ≡ trouble.Failed) × (a ≡ answer.Failed) = get_failed w a t tells of in
+get_shows : (m k : ℕ) (cs : Calls) (w : Walk) (c : Cache) (a : Answer) (changes : List Noted) (n : Run) → NonePut cs → (x : CommitAnswer) → IsNot x → TellsOf (WalkCause w c a changes n) x → IsOfCalls x
+    → Demands m k cs (walk_ask w) a x
+get_shows m k cs w c a changes n none (Committed y) is tells of = absurd is
+get_shows m k cs w c a changes n none (NotCommitted t) is tells of =
+    let both : (t ≡ trouble.Failed) × (a ≡ answer.Failed) = get_failed w c a changes n t tells of in
     subst (λ (u : Trouble). DemandsNot cs (walk_ask w) a u) (sym both.0) (none, tt, both.1)
-get_shows n k cs w a none InDoubt is tells of = absurd is
-get_shows n k cs w a none (CommittedOpen t) is tells of = absurd is
+get_shows m k cs w c a changes n none InDoubt is tells of = absurd is
+get_shows m k cs w c a changes n none (CommittedOpen t) is tells of = absurd is
 
 -- a turn ends with this answer
 abbrev pub EndsSo : CommitAnswer → Next (Run × Cache) CommitAnswer → Type 0
@@ -181,8 +192,8 @@ get_exactly k n cs first d w c a m More none fits took x of = record {
   always = λ y. absurd (subst (EndsSo x) took (get_demands k n cs first d w c a none x y));
 }
 get_exactly k n cs first d w c a m (Ended z) none fits took x of = record {
-  only = λ e. get_shows k n cs w a none x (subst IsNot (the_answer z x e) (subst EndsNot took (walked_not first d w c a)))
-      (subst (TellsOf (WalkCause w a)) (the_answer z x e) (subst (Shown (WalkCause w a)) took (walked_shown first d w c a fits))) of;
+  only = λ e. get_shows k n cs w c a d.writes.changes m.0 none x (subst IsNot (the_answer z x e) (subst EndsNot took (walked_not first d w c a)))
+      (subst (TellsOf (WalkCause w c a d.writes.changes m.0)) (the_answer z x e) (subst (Shown (WalkCause w c a d.writes.changes)) took (walked_shown first d w c a fits))) of;
   always = λ y. inl (ap Ended (subst (EndsSo x) took (get_demands k n cs first d w c a none x y)));
 }
 get_exactly k n cs first d w c a m (Stopped t) none fits took x of = record {
@@ -221,40 +232,23 @@ gets_none : (cs : Calls) → AllByRecursion IsGet cs → NonePut cs
 gets_none [] all = tt
 gets_none ((q, a) ∷ cs) ((name, is), all) = (subst PutsNothing (sym is) tt, gets_none cs all)
 
-walk_none : (home : Home) (changes : List Noted) (h : List Deed) (first : Bool) (d : Draft) (w : Walk) → KnowsAt home changes h d (held first w) → NonePut (told h)
-walk_none home changes h true d w k = gets_none (told h) k.0.gets
-walk_none home changes h false d w k = gets_none (told h) k.0.gets
-
-walk_fits_in : (home : Home) (changes : List Noted) (first : Bool) (w : Walk) (v : Writing) → FitsIn home changes (held first w) v
-walk_fits_in home changes true w v = tt
-walk_fits_in home changes false w v = tt
-
 walk_asks_get : (first : Bool) (d : Draft) (w : Walk) (c : Cache) → walk_ask w ≡ asks (record { draft = d; hand = held first w }, c)
 walk_asks_get true d w c = refl
 walk_asks_get false d w c = refl
 
-walk_gets : (first : Bool) (d : Draft) (w : Walk) (c : Cache) → GetsNothing (asks (record { draft = d; hand = held first w }, c)) → ⊥
-walk_gets true d w c gets = gets
-walk_gets false d w c gets = gets
+pub walk_refuses : (first : Bool) (d : Draft) (w : Walk) (c : Cache) (a : Answer) (n : Run × Cache) (turn : Turn CommitAnswer) → Took (LeadsBy run_next) KeepsHome (record { draft = d; hand = held first w }, c) a n turn
+    → IsRefusing (record { draft = d; hand = held first w }, c) a turn
+walk_refuses first d w c a n turn took t s =
+    let stop : (e : Walk × Cache) × (walk_next (w, c) a ≡ Stops e t) × (is_stale t ≡ false) = stops_in first w c a t s in
+    took_by first d w c a n turn t (walk_took first d w c a n turn took) (stops_by first d w c a stop.0 t stop.1 stop.2)
 
-pub walk_exact : (first : Bool) (d : Draft) (w : Walk) (c : Cache) (who : Caller) (before after : Seen) (n : Run × Cache) (turn : Turn CommitAnswer)
-    → Steps asks (LeadsBy run_next) KeepsHome who before after (record { draft = d; hand = held first w }, c) n turn → Exact who before after (record { draft = d; hand = held first w }, c) turn
-walk_exact first d w c who before after n turn steps = record {
-  answer = steps.answer;
-  made = steps.made;
-  exact = λ home changes h went x of.
-      subst (λ (q : Ask). Exactly (Demands (length changes) (home.attempt + 1) (told h) q steps.answer x) x turn) (walk_asks_get first d w c)
-      (get_exactly (length changes) (home.attempt + 1) (told h) first d w c steps.answer n turn
-      (walk_none home changes h first d w (knows first home changes h went)) (subst (λ (q : Ask). Fits q steps.answer) (sym (walk_asks_get first d w c)) steps.made.fits)
-      (walk_took first d w c steps.answer n turn steps.took) x of);
-  refused = λ t s.
-      let stop : (e : Walk × Cache) × (walk_next (w, c) steps.answer ≡ Stops e t) × (is_stale t ≡ false) = stops_in first w c steps.answer t s in
-      took_by first d w c steps.answer n turn t (walk_took first d w c steps.answer n turn steps.took) (stops_by first d w c steps.answer stop.0 t stop.1 stop.2);
-  fits = λ home changes h went. walk_fits_in home changes first w d.writes;
-  ample = λ gets none refusal. absurd (walk_gets first d w c gets);
-} where
-  knows : (b : Bool) (home : Home) (changes : List Noted) (h : List Deed) → Went home changes h (record { draft = d; hand = held b w }, c) → KnowsAt home changes h d (held b w)
-  knows b home changes h (some, cache, start, begins, came) = came_knows home changes cache start begins h (record { draft = d; hand = held b w }, c) came
+walk_exact : (home : Home) (changes : List Noted) (begin : Cache) (h : List Deed) (first : Bool) (d : Draft) (w : Walk) (c : Cache) (a : Answer) (n : Run × Cache) (turn : Turn CommitAnswer) → Fits (walk_ask w) a
+    → Took (LeadsBy run_next) KeepsHome (record { draft = d; hand = held first w }, c) a n turn → KnowsHeld home changes begin (told h) d first (w, c)
+    → Exact home changes h (asks (record { draft = d; hand = held first w }, c)) a turn
+walk_exact home changes begin h first d w c a n turn fits took k x of =
+    subst (λ (q : Ask). Exactly (Demands (length changes) (home.attempt + 1) (told h) q a x) x turn) (walk_asks_get first d w c)
+    (get_exactly (length changes) (home.attempt + 1) (told h) first d w c a n turn (gets_none (told h) (walks_get home changes begin (k.earlier ++ k.trip ∷ []) (told h) k.walks)) fits
+    (walk_took first d w c a n turn took) x of)
 
 -- ---- what the writes demand, behind the gets of the walks
 
@@ -301,52 +295,32 @@ demands_front n m k gets cs ask a all same (NotCommitted t) d = not_front gets c
 demands_front n m k gets cs ask a all same InDoubt d = (none_front gets cs d.0, d.1, d.2)
 demands_front n m k gets cs ask a all same (CommittedOpen t) d = (opened_front gets cs all d.0, d.1, d.2)
 
-writes_went : (home : Home) (changes : List Noted) (h : List Deed) (w : Writing) → 1 ≤ length changes → (k : KnowsWrites home changes h w)
-    → WritesWent (walked_home home k.begun_so.uses) (routed_of (walked_home home k.begun_so.uses) changes k.begun_so.pages) k.later w
-writes_went home changes h w some k = (
-  routed_some (walked_home home k.begun_so.uses) changes k.begun_so.pages k.begun_so.known some,
+writes_went : (home : Home) (changes : List Noted) (c : Cache) (h : List Deed) (w : Writing) → 1 ≤ length changes → (k : KnowsWrites home changes c h w)
+    → WritesWent (walked_home home (uses_of k.begun_so.routed.trips)) k.begun_so.records k.later w
+writes_went home changes c h w some k = (
+  subst (λ (rs : List AtomicRec). 1 ≤ length rs) (sym k.begun_so.routed.are)
+      (routed_some (walked_home home (uses_of k.begun_so.routed.trips)) changes k.begun_so.routed.pages k.begun_so.routed.known some),
   changes,
   k.start,
   k.begun_so.begins,
   k.came,
 )
 
-write_knows_so : (d : Draft) (c : Cache) (home : Home) (changes : List Noted) (h : List Deed) → Went home changes h (record { draft = d; hand = Writes }, c) → KnowsWrites home changes h d.writes
-write_knows_so d c home changes h (some, cache, start, begins, came) = came_knows home changes cache start begins h (record { draft = d; hand = Writes }, c) came
-
-exact_behind : (home : Home) (changes : List Noted) (h : List Deed) (w : Writing) (a : Answer) (turn : Turn CommitAnswer) (k : KnowsWrites home changes h w) (x : CommitAnswer)
-    → Exactly (Demands (length (routed_of (walked_home home k.begun_so.uses) changes k.begun_so.pages)) (home.attempt + 1) (told k.later) (writing_ask w) a x) x turn
+exact_behind : (home : Home) (changes : List Noted) (c : Cache) (h : List Deed) (w : Writing) (a : Answer) (turn : Turn CommitAnswer) (k : KnowsWrites home changes c h w) (x : CommitAnswer)
+    → Exactly (Demands (length k.begun_so.records) (home.attempt + 1) (told k.later) (writing_ask w) a x) x turn
     → Exactly (Demands (length changes) (home.attempt + 1) (told h) (writing_ask w) a x) x turn
-exact_behind home changes h w a turn k x e =
+exact_behind home changes c h w a turn k x e =
     subst (λ (cs : Calls). Exactly (Demands (length changes) (home.attempt + 1) cs (writing_ask w) a x) x turn) (sym (ap told k.are ∙ told_append k.later k.first)) (record {
-      only = λ y. demands_behind (length records) (length changes) (home.attempt + 1) (told k.first) (told k.later) (writing_ask w) a k.begun_so.gets many x (e.only y);
-      always = λ y. e.always (demands_front (length records) (length changes) (home.attempt + 1) (told k.first) (told k.later) (writing_ask w) a k.begun_so.gets many x y);
+      only = λ y. demands_behind (length k.begun_so.records) (length changes) (home.attempt + 1) (told k.first) (told k.later) (writing_ask w) a gets many x (e.only y);
+      always = λ y. e.always (demands_front (length k.begun_so.records) (length changes) (home.attempt + 1) (told k.first) (told k.later) (writing_ask w) a gets many x y);
     }) where
-      records : List AtomicRec
-      records = routed_of (walked_home home k.begun_so.uses) changes k.begun_so.pages
+      many : length k.begun_so.records ≡ length changes
+      many =
+          ap length k.begun_so.routed.are
+          ∙ routed_length (walked_home home (uses_of k.begun_so.routed.trips)) changes k.begun_so.routed.pages k.begun_so.routed.known
 
-      many : length records ≡ length changes
-      many = routed_length (walked_home home k.begun_so.uses) changes k.begun_so.pages k.begun_so.known
-
-write_routed : (home : Home) (changes : List Noted) (h : List Deed) (w : Writing) → 1 ≤ length changes → KnowsWrites home changes h w → IsRouted home changes w
-write_routed home changes h w some k =
-    let knows : WritesKnow (walked_home home k.begun_so.uses) (routed_of (walked_home home k.begun_so.uses) changes k.begun_so.pages) (told k.later) w =
-    went_knows (walked_home home k.begun_so.uses) (routed_of (walked_home home k.begun_so.uses) changes k.begun_so.pages) k.later w (writes_went home changes h w some k) in
-    record { uses = k.begun_so.uses; pages = k.begun_so.pages; known = k.begun_so.known; are = knows.0; fits = ap passes knows.0 ∙ k.begun_so.fits }
-
-pub write_exact : (d : Draft) (c : Cache) (who : Caller) (before after : Seen) (turn : Turn CommitAnswer) → WritesExact who before after d.writes turn
-    → Exact who before after (record { draft = d; hand = Writes }, c) turn
-write_exact d c who before after turn e = record {
-  answer = e.answer;
-  made = e.made;
-  exact = λ home changes h went x of.
-      let k : KnowsWrites home changes h d.writes = write_knows_so d c home changes h went in
-      exact_behind home changes h d.writes e.answer turn k x
-      (e.exact (walked_home home k.begun_so.uses) (routed_of (walked_home home k.begun_so.uses) changes k.begun_so.pages) k.later (writes_went home changes h d.writes went.0 k) x);
-  refused = λ t s. absurd s;
-  fits = λ home changes h went. write_routed home changes h d.writes went.0 (write_knows_so d c home changes h went);
-  ample = λ gets none refusal. e.ample none refusal;
-}
+      gets : AllByRecursion IsGet (told k.first)
+      gets = walks_get home changes c k.begun_so.routed.trips (told k.first) k.begun_so.routed.walks
 
 -- ---- what calls name
 
@@ -368,66 +342,66 @@ home_at Deleting home cs w k = (ap (λ (x : Home). x.client) k.home, ap (λ (x :
 home_at Finished home cs w k = absurd k
 
 pub run_names : (m : Run × Cache) → Names m
-run_names m home changes h (some, cache, start, begins, came) = on m.0.draft m.0.hand (came_knows home changes cache start begins h m came) where
-  on : (d : Draft) (hand : Hand) → KnowsAt home changes h d hand → IsOwnCall home (ask_at hand d.writes)
+run_names m home changes c h some went = on m.0.draft m.0.hand (went_knows home changes c h m went) where
+  on : (d : Draft) (hand : Hand) → KnowsAt home changes c h d hand m.1 → IsOwnCall home (ask_at hand d.writes)
   on d Writes k =
-      let knows : WritesKnow (walked_home home k.begun_so.uses) (routed_of (walked_home home k.begun_so.uses) changes k.begun_so.pages) (told k.later) d.writes =
-      went_knows (walked_home home k.begun_so.uses) (routed_of (walked_home home k.begun_so.uses) changes k.begun_so.pages) k.later d.writes (writes_went home changes h d.writes some k) in
+      let knows : WritesKnow (walked_home home (uses_of k.begun_so.routed.trips)) k.begun_so.records (told k.later) d.writes =
+      writes_know (walked_home home (uses_of k.begun_so.routed.trips)) k.begun_so.records k.later d.writes (writes_went home changes c h d.writes some k) in
       let same : (d.writes.home.client ≡ home.client) × (d.writes.home.lease ≡ home.lease) =
-      home_at d.writes.stage (walked_home home k.begun_so.uses) (told k.later) d.writes knows.1 in
+      home_at d.writes.stage (walked_home home (uses_of k.begun_so.routed.trips)) (told k.later) d.writes knows.1 in
       own_by d.writes.home home same.0 same.1 (writing_ask d.writes) (names_at d.writes.stage d.writes)
   on d (First w) k = tt
   on d (Change w) k = tt
 
 -- ---- calm calls
 
-link_met : (t : Trouble) → IsOfLink t → IsMet t
-link_met (trouble.BadFence page expected found) link = tt
-link_met (trouble.Damaged where_it_is offset) link = tt
-link_met (trouble.Loop page) link = tt
-link_met t link = absurd link
+-- the troubles of links
+abbrev IsOfLink : Trouble → Type 0
+IsOfLink (trouble.BadFence page expected found) = Unit {0}
+IsOfLink (trouble.Damaged where_it_is offset) = Unit {0}
+IsOfLink (trouble.Loop page) = Unit {0}
+IsOfLink t = ⊥
 
-cause_met : (w : Walk) (a : Answer) (t : Trouble) → GoesWell a → WalkCause w a t → IsMet t
-cause_met w a t goes (inl (inl both)) = absurd (subst GoesWell both.1 goes)
-cause_met w a t goes (inl (inr (inl (got, answered, damaged)))) = subst IsMet (sym damaged.is) tt
-cause_met w a t goes (inl (inr (inr link))) = link_met t link
-cause_met w a t goes (inr number) = subst IsMet (sym number) tt
+link_is : (c : Cache) (old w : Walk) (t : Trouble) → LinkShows c old w t → IsOfLink t
+link_is c old w t (inl (s, at, led, inl level)) = subst IsOfLink (sym level.is) tt
+link_is c old w t (inl (s, at, led, inr fence)) = subst IsOfLink (sym fence.is) tt
+link_is c old w t (inr loop) = subst IsOfLink (sym loop.is) tt
 
-get_well : (w : Walk) (a : Answer) (x : CommitAnswer) → GoesWell a → IsNot x → TellsOf (WalkCause w a) x → IsWell x
-get_well w a (Committed y) goes is tells = tt
-get_well w a (NotCommitted t) goes is tells = cause_met w a t goes tells
-get_well w a InDoubt goes is tells = is
-get_well w a (CommittedOpen t) goes is tells = is
+is_met : (t : Trouble) → IsOfLink t → IsMet t
+is_met (trouble.BadFence page expected found) of = tt
+is_met (trouble.Damaged where_it_is offset) of = tt
+is_met (trouble.Loop page) of = tt
+is_met t of = absurd of
 
-walk_ends_well : (first : Bool) (d : Draft) (w : Walk) (c : Cache) (a : Answer) (m : Run × Cache) (turn : Turn CommitAnswer) → GoesWell a → Fits (walk_ask w) a → StepsWalk first d w c a m turn
+link_met : (c : Cache) (old w : Walk) (t : Trouble) → LinkShows c old w t → IsMet t
+link_met c old w t link = is_met t (link_is c old w t link)
+
+cause_met : (w : Walk) (c : Cache) (a : Answer) (changes : List Noted) (n : Run) (t : Trouble) → GoesWell a → WalkCause w c a changes n t → IsMet t
+cause_met w c a changes n t goes (inl (left, e, stale, inl (inl both))) = absurd (subst GoesWell both.1 goes)
+cause_met w c a changes n t goes (inl (left, e, stale, inl (inr (got, answered, inl old)))) = absurd (never_both (sym (ap is_stale old.is) ∙ stale)) where
+  never_both : true ≡ false → ⊥
+  never_both h = absurd (cc (h))
+cause_met w c a changes n t goes (inl (left, e, stale, inl (inr (got, answered, inr damaged)))) = subst IsMet (sym damaged.is) tt
+cause_met w c a changes n t goes (inl (left, e, stale, inr (d, brings, link))) = link_met d w left.0 t link
+cause_met w c a changes n t goes (inr (inl (place, change, is, (left, e, link)))) =
+    link_met (left_by_turn (walk_next (w, c) a)).1 (new_walk change.tree (Some (target_of change).1) false) left.0 t link
+cause_met w c a changes n t goes (inr (inr number)) = subst IsMet (sym number.0) tt
+
+get_well : (w : Walk) (c : Cache) (a : Answer) (changes : List Noted) (n : Run) (x : CommitAnswer) → GoesWell a → IsNot x → TellsOf (WalkCause w c a changes n) x → IsWell x
+get_well w c a changes n (Committed y) goes is tells = tt
+get_well w c a changes n (NotCommitted t) goes is tells = cause_met w c a changes n t goes tells
+get_well w c a changes n InDoubt goes is tells = is
+get_well w c a changes n (CommittedOpen t) goes is tells = is
+
+walk_well : (first : Bool) (d : Draft) (w : Walk) (c : Cache) (a : Answer) (m : Run × Cache) (turn : Turn CommitAnswer) → GoesWell a → Fits (walk_ask w) a → StepsWalk first d w c a m turn
     → ((t : Trouble) → turn ≡ Stopped t → t ≡ trouble.Memory) → EndsWell turn
-walk_ends_well first d w c a m More goes fits took stops = tt
-walk_ends_well first d w c a m (Ended x) goes fits took stops =
-    get_well w a x goes (subst EndsNot took (walked_not first d w c a)) (subst (Shown (WalkCause w a)) took (walked_shown first d w c a fits))
-walk_ends_well first d w c a m (Stopped t) goes fits took stops = stops t refl
+walk_well first d w c a m More goes fits took stops = tt
+walk_well first d w c a m (Ended x) goes fits took stops =
+    get_well w c a d.writes.changes m.0 x goes (subst EndsNot took (walked_not first d w c a)) (subst (Shown (WalkCause w c a d.writes.changes)) took (walked_shown first d w c a fits))
+walk_well first d w c a m (Stopped t) goes fits took stops = stops t refl
 
-turn_memory : (home : Home) (changes : List Noted) (cs : Calls) (left : Home) (turn : Turn CommitAnswer) → MeansTurn home changes cs left turn → (t : Trouble) → turn ≡ Stopped t → t ≡ trouble.Memory
-turn_memory home changes cs left turn means t e = subst (MeansTurn home changes cs left) e means
-
-no_deletion : (first : Bool) (d : Draft) (w : Walk) (c : Cache) → IsDeletion (asks (record { draft = d; hand = held first w }, c)) → ⊥
-no_deletion true d w c deletion = deletion
-no_deletion false d w c deletion = deletion
-
-pub walk_well : (first : Bool) (d : Draft) (w : Walk) (c : Cache) (who : Caller) (before after : Seen) (n : Run × Cache) (turn : Turn CommitAnswer)
-    → Steps asks (LeadsBy run_next) KeepsHome who before after (record { draft = d; hand = held first w }, c) n turn → Well who before after (record { draft = d; hand = held first w }, c) turn
-walk_well first d w c who before after n turn steps = record {
-  answer = steps.answer;
-  made = steps.made;
-  well = λ home changes h went calm.
-      walk_ends_well first d w c steps.answer n turn
-      (goes_well (record { who = who; ask = asks (record { draft = d; hand = held first w }, c); answer = steps.answer; before = before; after = after }) steps.made calm)
-      (subst (λ (q : Ask). Fits q steps.answer) (sym (walk_asks_get first d w c)) steps.made.fits) (walk_took first d w c steps.answer n turn steps.took)
-      (turn_memory home changes _ (home_of n.0) turn ((walk_meant first d w c who before after n turn steps).means home changes went.1 went.2 h went.3 went.4));
-  marked = λ home changes h went calm alone x ended s left.
-      absurd (no_deletion first d w c (((walk_exact first d w c who before after n turn steps).exact home changes h went (Committed x) tt).only ended).1);
-  gone = λ home changes h went none x ended.
-      absurd (no_deletion first d w c (((walk_exact first d w c who before after n turn steps).exact home changes h went (Committed x) tt).only ended).1);
-}
+turn_memory : (home : Home) (changes : List Noted) (trips : List Trip) (left : Home) (turn : Turn CommitAnswer) → Refuses home changes trips left turn → (t : Trouble) → turn ≡ Stopped t → t ≡ trouble.Memory
+turn_memory home changes trips left turn means t e = subst (Refuses home changes trips left) e means
 
 -- .. and of a commit that writes, behind the walks
 calm_front : (later first : List Deed) → AreCalm (later ++ first) → AreCalm later
@@ -454,81 +428,113 @@ ends_more (Ended InDoubt) well = well
 ends_more (Ended (CommittedOpen t)) well = well
 ends_more (Stopped t) well = well
 
-pub write_well : (d : Draft) (c : Cache) (who : Caller) (before after : Seen) (turn : Turn CommitAnswer) → WritesWell who before after d.writes turn
-    → Well who before after (record { draft = d; hand = Writes }, c) turn
-write_well d c who before after turn e = record {
-  answer = e.answer;
-  made = e.made;
-  well = λ home changes h went calm.
-      let k : KnowsWrites home changes h d.writes = write_knows_so d c home changes h went in
-      ends_more turn
-      (e.well (walked_home home k.begun_so.uses) (routed_of (walked_home home k.begun_so.uses) changes k.begun_so.pages) k.later (writes_went home changes h d.writes went.0 k) calm);
-  marked = λ home changes h went calm alone x ended s left.
-      let k : KnowsWrites home changes h d.writes = write_knows_so d c home changes h went in
-      let call : Deed = record { who = who; ask = writing_ask d.writes; answer = e.answer; before = before; after = after } in
-      let calm_all : AreCalm (call ∷ k.later) = (calm.0, calm_front k.later k.first (subst AreCalm k.are calm.1)) in
-      let alone_all : AreAlone (call ∷ k.later) =
-      (next_front k.later k.first call (subst (λ (l : List Deed). ComesNext l call) k.are alone.0), alone_front k.later k.first (subst AreAlone k.are alone.1)) in
-      record {
-        uses = k.begun_so.uses;
-        pages = k.begun_so.pages;
-        gets = told k.first;
-        writes = told k.later ++ (writing_ask d.writes, e.answer) ∷ [];
-        are =
-            ap (λ (l : Calls). l ++ (writing_ask d.writes, e.answer) ∷ []) (ap told k.are ∙ told_append k.later k.first)
-            ∙ append_assoc (told k.first) (told k.later) ((writing_ask d.writes, e.answer) ∷ []);
-        got = k.begun_so.gets;
-        marked =
-            e.marked (walked_home home k.begun_so.uses) (routed_of (walked_home home k.begun_so.uses) changes k.begun_so.pages) k.later (writes_went home changes h d.writes went.0 k)
-            calm_all alone_all x ended s left;
-      };
-  gone = λ home changes h went none x ended.
-      let k : KnowsWrites home changes h d.writes = write_knows_so d c home changes h went in
-      let call : Deed = record { who = who; ask = writing_ask d.writes; answer = e.answer; before = before; after = after } in
-      record {
-        uses = k.begun_so.uses;
-        pages = k.begun_so.pages;
-        gets = k.first;
-        writes = call ∷ k.later;
-        are = ap (λ (l : List Deed). call ∷ l) k.are;
-        got = k.begun_so.gets;
-        gone =
-            e.gone (walked_home home k.begun_so.uses) (routed_of (walked_home home k.begun_so.uses) changes k.begun_so.pages) k.later (writes_went home changes h d.writes went.0 k)
-            (none.0, faultless_front k.later k.first (subst (AllByRecursion RaisesNoFault) k.are none.1)) x ended;
-      };
-}
+-- ---- a step
 
--- ---- where the code's draft is another name of it
+-- of the walk in hand
+walk_whole : (home : Home) (changes : List Noted) (begin : Cache) (h : List Deed) (first : Bool) (d : Draft) (w : Walk) (c : Cache) (who : Caller) (before after : Seen) (a : Answer) (n : Run × Cache) (turn : Turn CommitAnswer)
+    → Makes who (walk_ask w) a before after → Took (LeadsBy run_next) KeepsHome (record { draft = d; hand = held first w }, c) a n turn → KnowsHeld home changes begin (told h) d first (w, c)
+    → (IsPlain home changes → ⊥) → Whole home changes begin h (deed_of who (asks (record { draft = d; hand = held first w }, c)) a before after) (record { draft = d; hand = held first w }, c) n turn
+walk_whole home changes begin h first d w c who before after a n turn made took k walks = record {
+  means = in_hand first means;
+  exact = λ some. walk_exact home changes begin h first d w c a n turn made.fits took k;
+  well = λ some calm.
+      walk_well first d w c a n turn (goes_well (deed_of who (walk_ask w) a before after) made (subst (λ (q : Ask). IsCalm (deed_of who q a before after)) (sym (walk_asks_get first d w c)) calm)) made.fits
+      (walk_took first d w c a n turn took) (turn_memory home changes means.trips (home_of n.0) turn means.means);
+  plain = λ plain. absurd (walks plain);
+} where
+  means : MeansWalks home changes begin (told h ++ (walk_ask w, a) ∷ []) (home_of n.0) turn
+  means = walk_means home changes begin (told h ++ (walk_ask w, a) ∷ []) (walked first d w c a) (record { draft = d; hand = held first w }, c) a n turn (turned_by home changes begin (told h) first d w c a k) (walk_took first d w c a n turn took)
 
-pub write_exact_at : (old d : Draft) → d ≡ old → (c : Cache) (who : Caller) (before after : Seen) (turn : Turn CommitAnswer) → WritesExact who before after d.writes turn
-    → Exact who before after (record { draft = old; hand = Writes }, c) turn
-write_exact_at old d is c who before after turn e = subst (λ (x : Draft). Exact who before after (record { draft = x; hand = Writes }, c) turn) is (write_exact d c who before after turn e)
+  in_hand : (b : Bool) → MeansWalks home changes begin (told h ++ (walk_ask w, a) ∷ []) (home_of n.0) turn
+      → MeansIn (held b w) home changes begin h (deed_of who (asks (record { draft = d; hand = held b w }, c)) a before after) d.writes (home_of n.0) turn
+  in_hand true m = m
+  in_hand false m = m
 
-pub write_well_at : (old d : Draft) → d ≡ old → (c : Cache) (who : Caller) (before after : Seen) (turn : Turn CommitAnswer) → WritesWell who before after d.writes turn
-    → Well who before after (record { draft = old; hand = Writes }, c) turn
-write_well_at old d is c who before after turn e = subst (λ (x : Draft). Well who before after (record { draft = x; hand = Writes }, c) turn) is (write_well d c who before after turn e)
+walk_gets : (first : Bool) (d : Draft) (w : Walk) (c : Cache) → GetsNothing (asks (record { draft = d; hand = held first w }, c)) → ⊥
+walk_gets true d w c gets = gets
+walk_gets false d w c gets = gets
+
+pub walk_stepped : (first : Bool) (d : Draft) (w : Walk) (c : Cache) (who : Caller) (before after : Seen) (n : Run × Cache) (turn : Turn CommitAnswer)
+    → Steps asks (LeadsBy run_next) KeepsHome who before after (record { draft = d; hand = held first w }, c) n turn → Stepped who before after (record { draft = d; hand = held first w }, c) n turn
+walk_stepped first d w c who before after n turn steps = record {
+  answer = steps.answer;
+  made = steps.made;
+  took = steps.took;
+  causes = walk_causes first d w c steps.answer n turn made.fits steps.took;
+  refused = walk_refuses first d w c steps.answer n turn steps.took;
+  ample = λ gets. absurd (walk_gets first d w c gets);
+  whole = λ home changes begin h went.
+      walk_whole home changes begin h first d w c who before after steps.answer n turn made steps.took (went_held home changes begin h first d w c went)
+      (λ plain. plain_walks home changes begin h first d w c plain went);
+} where
+  made : Makes who (walk_ask w) steps.answer before after
+  made = subst (λ (q : Ask). Makes who q steps.answer before after) (sym (walk_asks_get first d w c)) steps.made
+
+-- of what is written
+write_whole : (home : Home) (changes : List Noted) (begin : Cache) (h : List Deed) (d : Draft) (c : Cache) (who : Caller) (before after : Seen) (w : Writing) (turn : Turn CommitAnswer)
+    (s : WritesStepped who before after d.writes w turn) → Went home changes begin h (record { draft = d; hand = Writes }, c)
+    → Whole home changes begin h (deed_of who (writing_ask d.writes) s.answer before after) (record { draft = d; hand = Writes }, c) (written d w, c) turn
+write_whole home changes begin h d c who before after w turn s went = record {
+  means = so;
+  exact = λ some x of. exact_behind home changes begin h d.writes s.answer turn k x (s.exact from k.begun_so.records k.later (writes_went home changes begin h d.writes some k) x);
+  well = λ some calm. ends_more turn (s.well from k.begun_so.records k.later (writes_went home changes begin h d.writes some k) calm);
+  plain = λ plain. goes_plainly home changes begin h d c call w.home turn plain went refl so;
+} where
+  k : KnowsWrites home changes begin h d.writes
+  k = went_knows home changes begin h (record { draft = d; hand = Writes }, c) went
+
+  from : Home
+  from = walked_home home (uses_of k.begun_so.routed.trips)
+
+  call : Deed
+  call = deed_of who (writing_ask d.writes) s.answer before after
+
+  same : k.begun_so.records ≡ d.writes.records
+  same = sym (same_records home changes begin h d.writes k)
+
+  so : MeansWrites home changes begin h call d.writes w.home turn
+  so = record {
+    writing = writing_so home changes begin h d.writes k;
+    means =
+        subst (λ (rs : List AtomicRec). WritesTurn from rs (told (call ∷ k.later)) w.home turn) same
+        (s.means from changes k.begun_so.records k.start k.later k.begun_so.begins k.came);
+    marks = λ some calm alone x ended t left.
+        subst (λ (rs : List AtomicRec). AreMarked from rs (told (call ∷ k.later)) t) same
+        (s.marks from k.begun_so.records k.later (writes_went home changes begin h d.writes some k) (calm.0, calm_front k.later k.first (subst AreCalm k.are calm.1))
+        (next_front k.later k.first call (subst (λ (l : List Deed). ComesNext l call) k.are alone.0), alone_front k.later k.first (subst AreAlone k.are alone.1)) x ended t left);
+    clears = λ some none x ended.
+        subst (λ (rs : List AtomicRec). AreGone from rs (call ∷ k.later)) same
+        (s.clears from k.begun_so.records k.later (writes_went home changes begin h d.writes some k)
+        (none.0, faultless_front k.later k.first (subst (AllByRecursion RaisesNoFault) k.are none.1)) x ended);
+  }
+
+write_stepped : (d : Draft) (c : Cache) (who : Caller) (before after : Seen) (w : Writing) (turn : Turn CommitAnswer) → WritesStepped who before after d.writes w turn
+    → Stepped who before after (record { draft = d; hand = Writes }, c) (written d w, c) turn
+write_stepped d c who before after w turn s = record {
+  answer = s.answer;
+  made = s.made;
+  took = took;
+  causes = write_causes d c s.answer (written d w, c) turn took;
+  refused = λ t never. absurd never;
+  ample = λ gets. s.ample;
+  whole = λ home changes begin h went. write_whole home changes begin h d c who before after w turn s went;
+} where
+  took : Took (LeadsBy run_next) KeepsHome (record { draft = d; hand = Writes }, c) s.answer (written d w, c) turn
+  took = wrote_took d c s.answer w turn s.took
+
+-- where the code's draft is another name of it
+pub write_stepped_at : (old d : Draft) → d ≡ old → (c : Cache) (who : Caller) (before after : Seen) (w : Writing) (turn : Turn CommitAnswer) → WritesStepped who before after d.writes w turn
+    → Stepped who before after (record { draft = old; hand = Writes }, c) (written d w, c) turn
+write_stepped_at old d is c who before after w turn s =
+    subst (λ (x : Draft). Stepped who before after (record { draft = x; hand = Writes }, c) (written d w, c) turn) is (write_stepped d c who before after w turn s)
 
 -- ---- at the beginning
 
-kept_not : (x : Next (Walk × Cache) ℕ) (after : Walk × Cache) → LinkBeside x → x ≡ Stops after (trouble.Exhausted counter.Txn) → ⊥
-kept_not x after link e = subst LinkBeside e link
+never_number : trouble.Exhausted counter.Txn ≡ trouble.Exhausted counter.Number → ⊥
+never_number e = absurd (cc (e))
 
-why_not : (home : Home) (changes : List Noted) (uses : List Use) → WhyNot home changes uses [] (trouble.Exhausted counter.Txn) → ⊥
-why_not home changes uses (inl (stale, tree, key, s)) = absurd (cc (s.made))
-why_not home changes uses (inr (inl k)) = kept_not (walk_ready (new_walk k.tree (Some k.key) k.fresh, k.cache)) k.after (ready_link (new_walk k.tree (Some k.key) k.fresh) k.cache) k.stopped
-why_not home changes uses (inr (inr (pages, is, full))) = absurd (cc (is))
-
-written_not : (home : Home) (records : List AtomicRec) (cs : Calls) → WritesWhyNot home records cs (trouble.Exhausted counter.Txn) → ⊥
-written_not home records cs (inl both) = absurd (cc (both.0))
-written_not home records cs (inr (end, now, is, answered)) = absurd (cc (is))
-
-run_not : (home : Home) (changes : List Noted) (left : Home) → MeansRun home changes [] left (NotCommitted (trouble.Exhausted counter.Txn)) → ⊥
-run_not home changes left (inl r) = why_not home changes r.uses r.why
-run_not home changes left (inr w) = written_not (walked_home home w.uses) (routed_of (walked_home home w.uses) changes w.pages) w.writes w.means.0
-
-ready_spent : (home : Home) (changes : List Noted) (left : Home) → MeansReady home changes left (Ended (NotCommitted (trouble.Exhausted counter.Txn))) → is_spent home ≡ true
-ready_spent home changes left (inl h) = h.0
-ready_spent home changes left (inr h) = absurd (run_not home changes left h.1)
+never_link : (c : Cache) (old w : Walk) → LinkShows c old w (trouble.Exhausted counter.Txn) → ⊥
+never_link c old w link = link_is c old w (trouble.Exhausted counter.Txn) link
 
 spent_ready : (home : Home) (changes : List Noted) (c : Cache) (n : Run × Cache) (turn : Turn CommitAnswer) → EndsBy (trouble.Exhausted counter.Txn) (run_ready (new_run home changes, c)) → Led (run_ready (new_run home changes, c)) n turn
     → (turn ≡ Ended (NotCommitted (trouble.Exhausted counter.Txn))) ⊎ (turn ≡ Stopped trouble.Memory)
@@ -540,8 +546,15 @@ ends_spent : (home : Home) (changes : List Noted) (c : Cache) → is_spent home 
 ends_spent home changes c e =
     subst (λ (b : Bool). EndsBy (trouble.Exhausted counter.Txn) (if b then refused (new_draft (waiting home changes)) c (trouble.Exhausted counter.Txn) else begin_walks (new_draft (numbered (waiting home changes))) c)) (sym e) refl
 
+ready_other : (home : Home) (changes : List Noted) (c : Cache) (n : Run) → ShowsReady (new_run home changes, c) n (trouble.Exhausted counter.Txn) → is_spent home ≡ true
+ready_other home changes c n (inl spent) = spent.1
+ready_other home changes c n (inr (inl (to, long, left, e, link))) = absurd (never_link c (new_walk to.0 (Some to.1) true) left.0 link)
+ready_other home changes c n (inr (inr (inl (place, change, is, (left, e, link))))) = absurd (never_link c (new_walk change.tree (Some (target_of change).1) false) left.0 link)
+ready_other home changes c n (inr (inr (inr number))) = absurd (never_number number.0)
+
 pub ready_exact : (home : Home) (changes : List Noted) (c : Cache) (old : Run) (n : Run × Cache) (turn : Turn CommitAnswer) → old ≡ new_run home changes → Led (run_ready (old, c)) n turn → ExactReady home turn
 ready_exact home changes c old n turn new led = record {
-  only = λ e. ready_spent home changes (home_of n.0) (subst (MeansReady home changes (home_of n.0)) e (ready_means home changes c old n turn new led));
+  only = λ e. ready_other home changes c n.0
+      (subst (λ (r : Run). ShowsReady (r, c) n.0 (trouble.Exhausted counter.Txn)) new (subst (CausesReady (old, c) n.0) e (ready_causes home changes c old n turn new led)));
   always = λ e. spent_ready home changes c n turn (ends_spent home changes c e) (subst (λ (r : Run). Led (run_ready (r, c)) n turn) new led);
 }

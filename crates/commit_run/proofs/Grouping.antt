@@ -27,14 +27,15 @@ use Rattle.commit_run.specs.declared.hand.Hand.{Hand}
 use Rattle.commit_run.specs.declared.hand.Hand.TheVariants.{Writes, First, Change}
 use Rattle.commit_run.specs.Draft.{Draft, IsWithin as KnowsNoMore, new_draft, pruned_behind, planned, leaf_noted, paged}
 use Rattle.commit_run.specs.Run.{Run, held, new_run, next_target, asks, ask_at, written, wrote, refused, troubled, by_turn, begun_turn, walk_to, seek, plan_on, is_stale, stale_at, walk_turned, walked, long_walk, long_target, begin_walks, run_ready, next_at, run_next}
+use Rattle.commit_run.specs.Trips.{Use, used_in, Trip, uses_of}
 use Rattle.commit_run.specs.Meaning.{walked_home}
 use Rattle.commit_run.specs.Within.{AreOfWalk, joined, GetsNothing, IsNoGet, IsWithin, Within}
-use Rattle.commit_run.proofs.Knowing.{KnowsDraft, KnowsHand, KnowsAt}
+use Rattle.commit_run.proofs.Knowing.{KnowsDraft, KnowsHeld, KnowsAt}
 use Rattle.commit_run.proofs.Holding.{all_known, one_left}
 use Rattle.commit_run.proofs.Planning.{planned_within}
 use Rattle.commit_run.proofs.Aiming.{aim, AimsBeside, next_aims}
 use Rattle.commit_run.proofs.Ending.{noted_finds, noted_pages, behind_target}
-use Rattle.commit_run.proofs.Walked.{unended_ready, knows_pruned, draft_of, walk_of, target_at, same_target}
+use Rattle.commit_run.proofs.Walked.{unended_ready, knows_pruned, same_target}
 use Rattle.commit_run.proofs.Meaning.{came_knows, follows_part}
 
 -- all calls are those of so many walks at most
@@ -98,8 +99,8 @@ pub record IsPlain (n : ℕ) (d : Draft) : Type 0 where
   pub many : length changes ≡ n
   pub within : KnowsNoMore d
 
-plain_of : (home : Home) (changes : List Noted) (calls : Calls) (d : Draft) → KnowsDraft home changes calls d → IsPlain (length changes) d
-plain_of home changes calls d k = record { home = walked_home home k.uses; changes = changes; writes = k.writes; many = refl; within = k.within }
+plain_of : (home : Home) (changes : List Noted) (trips : List Trip) (uses : List Use) (d : Draft) → KnowsDraft home changes trips uses d → IsPlain (length changes) d
+plain_of home changes trips uses d k = record { home = walked_home home uses; changes = changes; writes = k.writes; many = refl; within = k.within }
 
 plain_planned : (n : ℕ) (d : Draft) → IsPlain n d → IsPlain n (planned d)
 plain_planned n d p = record {
@@ -266,11 +267,13 @@ stale_groups n h false d e c same p room g =
     plan_groups n (length d.plan.pages + 1 + 1) h (paged e 1) c (plain_paged n e p (room refl))
     (omega (arith, planned_more (paged e 1) 0 (omega arith), length-append e.plan.pages (1 ∷ []), ap (λ x. length x.pages) same)) g
 
-turned_groups : (home : Home) (changes : List Noted) (calls : Calls) (h : List Deed) (first : Bool) (d : Draft) (w : Walk) (c : Cache) (x : Deed) → KnowsHand home changes calls d (held first w)
+turned_groups : (home : Home) (changes : List Noted) (begin : Cache) (calls : Calls) (h : List Deed) (first : Bool) (d : Draft) (w : Walk) (c : Cache) (x : Deed) → KnowsHeld home changes begin calls d first (w, c)
     → WalkInHand (few_before first d) h (w, c) → x.ask ≡ walk_ask w → IsMade x → Follows h x → GroupedNext (length changes) (x ∷ h) (walked first d w c x.answer)
-turned_groups home changes calls h first d w c x k g asked made follows = on (walk_next (w, c) x.answer) refl (next_aims (w, c) x.answer) where
+turned_groups home changes begin calls h first d w c x k g asked made follows = on (walk_next (w, c) x.answer) refl (next_aims (w, c) x.answer) where
   behind : (m : Walk × Cache) → IsPlain (length changes) (pruned_behind d m.0 m.1)
-  behind m = plain_of home changes calls (pruned_behind d m.0 m.1) (knows_pruned home changes calls d m.0 m.1 (draft_of home changes calls first d w k))
+  behind m =
+      plain_of home changes k.earlier (uses_of (k.earlier ++ k.trip ∷ []) ++ used_in m.1 m.0.used) (pruned_behind d m.0 m.1)
+      (knows_pruned home changes k.earlier (uses_of (k.earlier ++ k.trip ∷ [])) d m.0 m.1 k.draft)
 
   made_so : WalksMade (few_before first d + 1) (x ∷ h)
   made_so = walk_made (few_before first d) h x (w, c) g asked
@@ -280,7 +283,7 @@ turned_groups home changes calls h first d w c x k g asked made follows = on (wa
   goes false m i = i
 
   target : first ≡ false → next_target d ≡ Some (w.tree, sought w)
-  target change = target_at home changes calls first d w k change
+  target change = k.aimed change
 
   stops : (m : Walk × Cache) (t : Trouble) (b : Bool) → GroupedNext (length changes) (x ∷ h) (if b then stale_at first (pruned_behind d m.0 m.1) m.1 else troubled (pruned_behind d m.0 m.1) m.1 t)
   stops m t true =
@@ -292,12 +295,12 @@ turned_groups home changes calls h first d w c x k g asked made follows = on (wa
   on (Goes m) e aims = goes first m (walk_on (few_before first d) h x (w, c) m g asked made follows e)
   on (Ends m page) e aims =
       ended_groups (length changes) (x ∷ h) first d m.0 m.1 page (behind m) (λ change. target change ∙ ap Some (same_target w m.0 aims))
-      (ends_at (w, c) m x.answer page (walk_of home changes calls first d w k) e) made_so
+      (ends_at (w, c) m x.answer page k.is e) made_so
   on (Stops m t) e aims = stops m t (is_stale t)
 
 -- ---- a step of what the commit writes
 
-no_get : (stage : Stage) (w : Writing) → GetsNothing (written_ask stage w)
+pub no_get : (stage : Stage) (w : Writing) → GetsNothing (written_ask stage w)
 no_get Waiting w = tt
 no_get Logging w = tt
 no_get Opening w = tt
@@ -336,13 +339,13 @@ write_groups n h x d c m g asked made follows (Stops w t) e goes = absurd (cc (g
 
 -- ---- from call to call
 
-step_groups : (home : Home) (changes : List Noted) (h : List Deed) (x : Deed) (d : Draft) (hand : Hand) (c : Cache) (m : Run × Cache) → KnowsAt home changes h d hand → GroupedAt (length changes) h d hand c
-    → x.ask ≡ ask_at hand d.writes → IsMade x → next_at hand d c x.answer ≡ Goes m → Follows h x → GroupedAt (length changes) (x ∷ h) m.0.draft m.0.hand m.1
-step_groups home changes h x d Writes c m k g asked made goes follows = write_groups (length changes) h x d c m g asked made follows (writing_next d.writes x.answer) refl goes
-step_groups home changes h x d (First w) c m k g asked made goes follows =
-    subst (GroupedNext (length changes) (x ∷ h)) goes (turned_groups home changes (told h) h true d w c x k g asked made follows)
-step_groups home changes h x d (Change w) c m k g asked made goes follows =
-    subst (GroupedNext (length changes) (x ∷ h)) goes (turned_groups home changes (told h) h false d w c x k g asked made follows)
+step_groups : (home : Home) (changes : List Noted) (begin : Cache) (h : List Deed) (x : Deed) (d : Draft) (hand : Hand) (c : Cache) (m : Run × Cache) → KnowsAt home changes begin h d hand c
+    → GroupedAt (length changes) h d hand c → x.ask ≡ ask_at hand d.writes → IsMade x → next_at hand d c x.answer ≡ Goes m → Follows h x → GroupedAt (length changes) (x ∷ h) m.0.draft m.0.hand m.1
+step_groups home changes begin h x d Writes c m k g asked made goes follows = write_groups (length changes) h x d c m g asked made follows (writing_next d.writes x.answer) refl goes
+step_groups home changes begin h x d (First w) c m k g asked made goes follows =
+    subst (GroupedNext (length changes) (x ∷ h)) goes (turned_groups home changes begin (told h) h true d w c x k g asked made follows)
+step_groups home changes begin h x d (Change w) c m k g asked made goes follows =
+    subst (GroupedNext (length changes) (x ∷ h)) goes (turned_groups home changes begin (told h) h false d w c x k g asked made follows)
 
 none_made : (few : ℕ) → WalksMade few []
 none_made few = record { walks = []; are = refl; each = tt; few_walks = omega arith }
@@ -372,16 +375,16 @@ came_groups : (home : Home) (changes : List Noted) (c : Cache) (start : Run × C
 came_groups home changes c start goes [] m came =
     subst (λ (r : Run × Cache). GroupedAt (length changes) [] r.0.draft r.0.hand r.1) (sym came) (subst (GroupedNext (length changes) []) goes (starts_grouped home changes c))
 came_groups home changes c start goes (x ∷ h) m (from, came, asked, made, leads, follows) =
-    step_groups home changes h x from.0.draft from.0.hand from.1 m (came_knows home changes c start goes h from came) (came_groups home changes c start goes h from came) asked made leads follows
+    step_groups home changes c h x from.0.draft from.0.hand from.1 m (came_knows home changes c start goes h from came) (came_groups home changes c start goes h from came) asked made leads follows
 
 -- ---- with the call in hand
 
 walks_within : (n : ℕ) (h : List Deed) → WalksMade (n + 1) h → IsWithin n h
 walks_within n h g = record { walks = g.walks; writes = []; are = g.are; each = g.each; written = tt; few_walks = g.few_walks; few_writes = omega arith }
 
-within_at : (home : Home) (changes : List Noted) (h : List Deed) (d : Draft) (hand : Hand) (c : Cache) (x : Deed) → 1 ≤ length changes → KnowsAt home changes h d hand → GroupedAt (length changes) h d hand c
-    → x.ask ≡ ask_at hand d.writes → IsWithin (length changes) (x ∷ h)
-within_at home changes h d Writes c x some k g asked = record {
+within_at : (home : Home) (changes : List Noted) (begin : Cache) (h : List Deed) (d : Draft) (hand : Hand) (c : Cache) (x : Deed) → 1 ≤ length changes → KnowsAt home changes begin h d hand c
+    → GroupedAt (length changes) h d hand c → x.ask ≡ ask_at hand d.writes → IsWithin (length changes) (x ∷ h)
+within_at home changes begin h d Writes c x some k g asked = record {
   walks = g.walks;
   writes = x ∷ g.own;
   are = ap (λ (l : List Deed). x ∷ l) g.are;
@@ -390,14 +393,14 @@ within_at home changes h d Writes c x some k g asked = record {
   few_walks = g.few_walks;
   few_writes = omega (arith, g.many, went_within g.home g.records g.own d.writes (omega (arith, some, g.many), g.changes, g.start, g.begins, g.came));
 }
-within_at home changes h d (First w) c x some k g asked =
+within_at home changes begin h d (First w) c x some k g asked =
     walks_within (length changes) (x ∷ h) (few_more (0 + 1) (length changes + 1) (x ∷ h) (omega arith) (walk_made 0 h x (w, c) g asked))
-within_at home changes h d (Change w) c x some k g asked =
+within_at home changes begin h d (Change w) c x some k g asked =
     walks_within (length changes) (x ∷ h)
     (few_more (length d.plan.pages + 1 + 1) (length changes + 1) (x ∷ h)
-    (omega (arith, one_left d (w.tree, sought w) (target_at home changes (told h) false d w k refl), plain_many (length changes) d (plain_of home changes (told h) d (draft_of home changes (told h) false d w k))))
+    (omega (arith, one_left d (w.tree, sought w) (k.aimed refl), plain_many (length changes) d (plain_of home changes k.earlier (uses_of (k.earlier ++ k.trip ∷ [])) d k.draft)))
     (walk_made (length d.plan.pages + 1) h x (w, c) g asked))
 
 pub run_within : (m : Run × Cache) → Within m
-run_within m home changes h (some, cache, start, begins, came) x asked =
-    within_at home changes h m.0.draft m.0.hand m.1 x some (came_knows home changes cache start begins h m came) (came_groups home changes cache start begins h m came) asked
+run_within m home changes begin h some (start, begins, came) x asked =
+    within_at home changes begin h m.0.draft m.0.hand m.1 x some (came_knows home changes begin start begins h m came) (came_groups home changes begin start begins h m came) asked

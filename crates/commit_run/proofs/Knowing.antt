@@ -1,79 +1,126 @@
 -- What is known of a commit at each of its calls, by its calls so far.
-use Rattle.std.proofs.Common.{◌≡◌, ℕ, ◌++◌, List, length, Some, false}
-use Rattle.std.specs.Prelude.{slice_get, Option}
+use Rattle.std.proofs.Common.{◌≡◌, ℕ, ◌∷◌, [], ◌++◌, List, Some, false}
+use Rattle.std.specs.Prelude.{slice_get, Option, Bool, true}
 use Rattle.std.specs.List.{AllByRecursion}
+use Rattle.db_base.specs.declared.names.ObjName.{ObjName}
 use Rattle.db_base.specs.declared.names.ObjName.TheVariants as object
-use Rattle.db_base.specs.declared.trouble.Trouble.TheVariants as trouble
 use Rattle.db_base.specs.declared.trouble.CommitAnswer.{CommitAnswer}
 use Rattle.leaf_view.specs.Leaf.{Leaf}
+use Rattle.log_codec.specs.declared.record.AtomicRec.{AtomicRec}
 use Rattle.txn_buffer.specs.Noted.{Noted}
 use Rattle.cloud_trait.specs.declared.answer.Answer.TheVariants.{Got}
+use Rattle.cloud_trait.specs.declared.turn.Turn.TheVariants.{Ended, Stopped}
 use Rattle.cloud_trait.specs.Ask.{Get}
 use Rattle.cloud_trait.specs.Machine.{Next, Goes, Ends, Stops, LeadsBy, Came, Deed}
 use Rattle.recover_run.specs.declared.home.Home.{Home}
 use Rattle.page_cache.specs.Cache.{Cache}
 use Rattle.page_cache.specs.Held.{as_leaf}
-use Rattle.tree_walk.specs.Walk.{IsWalk, sought}
-use Rattle.commit_plan.specs.Ended.{Ended}
-use Rattle.commit_writes.specs.Writing.{Writing, waiting, begun, routed_of, passes, writing_ask, writing_next}
+use Rattle.tree_walk.specs.Walk.{Walk, IsWalk, sought}
+use Rattle.commit_plan.specs.Ended.{Ended as EndedLeaf}
+use Rattle.commit_writes.specs.Writing.{Writing, waiting, begun, passes, writing_ask, writing_next}
 use Rattle.commit_writes.specs.Calls.{Calls, told}
 use Rattle.commit_run.specs.declared.hand.Hand.{Hand}
 use Rattle.commit_run.specs.declared.hand.Hand.TheVariants.{Writes, First, Change}
 use Rattle.commit_run.specs.Draft.{Draft, IsWithin}
 use Rattle.commit_run.specs.Run.{Run, home_of, next_target}
-use Rattle.commit_run.specs.Meaning.{Use, walked_home, IsGet, AreLeaves, MeansRun}
+use Rattle.commit_run.specs.Trips.{Use, Trip, cache_behind, uses_of, WasRead, AreWalks}
+use Rattle.commit_run.specs.Meaning.{walked_home, AreLeaves, IsRouted, MeansWalks}
 
--- a leaf at which a walk ended has the range of a version that was got
-pub record IsGotAt (calls : Calls) (e : Ended) : Type 0 where
+-- ---- what a cache keeps
+
+-- an object as a cache keeps it
+abbrev pub Kept : Type 0
+Kept = ObjName × Option (List ℕ)
+
+abbrev pub IsKeptRead : Cache → Calls → Kept → Type 0
+IsKeptRead c calls o = WasRead c calls o.0 o.1
+
+-- all that a cache keeps was read
+abbrev pub KeepsRead : Cache → Calls → Cache → Type 0
+KeepsRead c calls k = AllByRecursion (IsKeptRead c calls) k.objects
+
+-- ---- walks
+
+-- a leaf at which a walk ended has the range of the version that its newest call got
+pub record IsGotAt (trips : List Trip) (e : EndedLeaf) : Type 0 where
   pub place : ℕ
+  pub trip : Trip
+  pub among : slice_get trips place ≡ Some trip
+  pub in_tree : trip.tree ≡ e.tree
+  pub left : Walk × Cache
+  pub ended : trip.turn ≡ Ends left e.page
+  pub earlier : Calls
   pub bytes : Option (List ℕ)
+  pub got : trip.calls ≡ earlier ++ (Get (object.Page e.tree e.page), Got bytes) ∷ []
   pub leaf : Leaf
-  pub got : slice_get calls place ≡ Some (Get (object.Page e.tree e.page), Got bytes)
   pub spelled : as_leaf (Some bytes) ≡ Some leaf
   pub low : e.low ≡ leaf.low
   pub high : e.high ≡ leaf.high
 
--- between the walks
-pub record KnowsDraft (home : Home) (changes : List Noted) (calls : Calls) (d : Draft) : Type 0 where
-  pub uses : List Use
+-- what is planned behind walks that are over, where all that were made used these
+pub record KnowsDraft (home : Home) (changes : List Noted) (trips : List Trip) (uses : List Use) (d : Draft) : Type 0 where
   pub writes : d.writes ≡ waiting (walked_home home uses) changes
-  pub gets : AllByRecursion IsGet calls
   pub within : IsWithin d
-  pub leaves : AreLeaves calls changes d.plan.pages
-  pub ended : AllByRecursion (IsGotAt calls) d.plan.ended
+  pub leaves : AreLeaves trips changes d.plan.pages
+  pub ended : AllByRecursion (IsGotAt trips) d.plan.ended
 
--- behind the walks, the first record is sent
-pub record KnowsBegun (home : Home) (changes : List Noted) (calls : Calls) (w : Writing) : Type 0 where
-  pub uses : List Use
-  pub pages : List ℕ
-  pub gets : AllByRecursion IsGet calls
-  pub known : length pages ≡ length changes
-  pub leaves : AreLeaves calls changes pages
-  pub fits : passes (routed_of (walked_home home uses) changes pages) ≡ false
-  pub begins : begun (waiting (walked_home home uses) changes) (routed_of (walked_home home uses) changes pages) ≡ Goes w
+-- between the walks
+pub record KnowsOver (home : Home) (changes : List Noted) (c : Cache) (calls : Calls) (d : Draft) (k : Cache) : Type 0 where
+  pub trips : List Trip
+  pub walks : AreWalks home changes c trips calls
+  pub behind : cache_behind c trips ≡ k
+  pub reads : KeepsRead c calls k
+  pub draft : KnowsDraft home changes trips (uses_of trips) d
+
+-- with a walk in hand, which is for the next change or for the first of many pending entries
+pub record KnowsHeld (home : Home) (changes : List Noted) (c : Cache) (calls : Calls) (d : Draft) (first : Bool) (m : Walk × Cache) : Type 0 where
+  pub earlier : List Trip
+  pub trip : Trip
+  pub walks : AreWalks home changes c (earlier ++ trip ∷ []) calls
+  pub fresh : trip.fresh ≡ first
+  pub goes : trip.turn ≡ Goes m
+  pub reads : KeepsRead c calls m.1
+  pub draft : KnowsDraft home changes earlier (uses_of (earlier ++ trip ∷ [])) d
+  pub is : IsWalk m.0
+  pub to : ◌≡◌ {A = ℕ × List ℕ} (trip.tree, trip.key) (m.0.tree, sought m.0)
+  pub aimed : first ≡ false → next_target d ≡ Some (m.0.tree, sought m.0)
+
+-- ---- behind the walks
+
+-- the first record is sent
+pub record KnowsBegun (home : Home) (changes : List Noted) (c : Cache) (calls : Calls) (w : Writing) : Type 0 where
+  pub records : List AtomicRec
+  pub routed : IsRouted home changes c calls records
+  pub fits : passes records ≡ false
+  pub begins : begun (waiting (walked_home home (uses_of routed.trips)) changes) records ≡ Goes w
 
 -- .. and others after it
-pub record KnowsWrites (home : Home) (changes : List Noted) (h : List Deed) (w : Writing) : Type 0 where
+pub record KnowsWrites (home : Home) (changes : List Noted) (c : Cache) (h : List Deed) (w : Writing) : Type 0 where
   pub later : List Deed
   pub first : List Deed
   pub are : h ≡ later ++ first
   pub start : Writing
-  pub begun_so : KnowsBegun home changes (told first) start
+  pub begun_so : KnowsBegun home changes c (told first) start
   pub came : Came writing_ask (LeadsBy writing_next) start later w
 
--- where a turn behind walks leads: to a walk, or to the first write
-abbrev pub KnowsHand : Home → List Noted → Calls → Draft → Hand → Type 0
-KnowsHand home changes calls d Writes = KnowsBegun home changes calls d.writes
-KnowsHand home changes calls d (First w) = KnowsDraft home changes calls d × IsWalk w
-KnowsHand home changes calls d (Change w) = KnowsDraft home changes calls d × IsWalk w × (next_target d ≡ Some (w.tree, sought w))
+-- the home that writes
+abbrev pub home_at : {home : Home} {changes : List Noted} {c : Cache} {h : List Deed} {w : Writing} → KnowsWrites home changes c h w → Home
+home_at {home = home} k = walked_home home (uses_of k.begun_so.routed.trips)
 
-abbrev pub KnowsNext : Home → List Noted → Calls → Next (Run × Cache) CommitAnswer → Type 0
-KnowsNext home changes calls (Goes n) = KnowsHand home changes calls n.0.draft n.0.hand
-KnowsNext home changes calls (Ends n a) = MeansRun home changes calls (home_of n.0) a
-KnowsNext home changes calls (Stops n t) = t ≡ trouble.Memory
+-- ---- where a turn behind walks leads: to a walk, or to the first write
+
+abbrev pub KnowsHand : Home → List Noted → Cache → Calls → Draft → Hand → Cache → Type 0
+KnowsHand home changes c calls d Writes k = KnowsBegun home changes c calls d.writes
+KnowsHand home changes c calls d (First w) k = KnowsHeld home changes c calls d true (w, k)
+KnowsHand home changes c calls d (Change w) k = KnowsHeld home changes c calls d false (w, k)
+
+abbrev pub KnowsNext : Home → List Noted → Cache → Calls → Next (Run × Cache) CommitAnswer → Type 0
+KnowsNext home changes c calls (Goes n) = KnowsHand home changes c calls n.0.draft n.0.hand n.1
+KnowsNext home changes c calls (Ends n a) = MeansWalks home changes c calls (home_of n.0) (Ended a)
+KnowsNext home changes c calls (Stops n t) = MeansWalks home changes c calls (home_of n.0) (Stopped t)
 
 -- at each call
-abbrev pub KnowsAt : Home → List Noted → List Deed → Draft → Hand → Type 0
-KnowsAt home changes h d Writes = KnowsWrites home changes h d.writes
-KnowsAt home changes h d (First w) = KnowsHand home changes (told h) d (First w)
-KnowsAt home changes h d (Change w) = KnowsHand home changes (told h) d (Change w)
+abbrev pub KnowsAt : Home → List Noted → Cache → List Deed → Draft → Hand → Cache → Type 0
+KnowsAt home changes c h d Writes k = KnowsWrites home changes c h d.writes
+KnowsAt home changes c h d (First w) k = KnowsHeld home changes c (told h) d true (w, k)
+KnowsAt home changes c h d (Change w) k = KnowsHeld home changes c (told h) d false (w, k)

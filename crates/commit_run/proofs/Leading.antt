@@ -72,7 +72,7 @@ walk_steps false d who before after from c w e turn n result steps memory led ke
       (by_turn_led (walk_turned false d) (walk_next (from, c) steps.answer) w e turn n result (took_moves (from, c) steps.answer (w, e) turn steps.took) memory led) kept;
 }
 
-wrote_took : (d : Draft) (c : Cache) (a : Answer) (w : Writing) (turn : Turn CommitAnswer) → Took (LeadsBy writing_next) KeepsWritten d.writes a w turn
+pub wrote_took : (d : Draft) (c : Cache) (a : Answer) (w : Writing) (turn : Turn CommitAnswer) → Took (LeadsBy writing_next) KeepsWritten d.writes a w turn
     → Took (LeadsBy run_next) KeepsHome (record { draft = d; hand = Writes }, c) a (written d w, c) turn
 wrote_took d c a w More took = ap (wrote d c) took
 wrote_took d c a w (Ended x) took = ap (wrote d c) took

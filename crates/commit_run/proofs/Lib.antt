@@ -9,7 +9,9 @@ pub mod Finding
 pub mod Ending
 pub mod Walked
 pub mod Meaning
-pub mod Stopping
+pub mod Reading
+pub mod Tripping
 pub mod Causing
 pub mod Grouping
+pub mod Plainly
 pub mod Exacting

@@ -13,11 +13,11 @@ use Rattle.cloud_trait.specs.declared.answer.Answer.TheVariants.{Got}
 use Rattle.cloud_trait.specs.Ask.{Get}
 use Rattle.commit_plan.specs.Ended.{Ended, spans, page_at}
 use Rattle.commit_plan.specs.Plan.{is_update, has_pending, seeks, page_without, pages_of}
-use Rattle.commit_writes.specs.Calls.{Calls}
+use Rattle.commit_run.specs.Trips.{Trip}
 use Rattle.commit_run.specs.Meaning.{IsHeldAt, IsLeafOf, AreLeaves}
 use Rattle.commit_run.proofs.Knowing.{IsGotAt}
 
--- ---- more calls
+-- ---- more walks
 
 pub get_more : {X : Type 0} (xs ys : List X) (i : ℕ) (x : X) → slice_get xs i ≡ Some x → slice_get (xs ++ ys) i ≡ Some x
 get_more [] ys i x e = absurd (cc (e))
@@ -32,103 +32,132 @@ pub all_more : {X : Type 0} (P : X → Type 0) (xs ys : List X) → AllByRecursi
 all_more P [] ys all more = more
 all_more P (x ∷ xs) ys all more = (all.0, all_more P xs ys all.1 more)
 
-all_map : {X : Type 0} (P Q : X → Type 0) → ((x : X) → P x → Q x) → (xs : List X) → AllByRecursion P xs → AllByRecursion Q xs
+pub all_map : {X : Type 0} (P Q : X → Type 0) → ((x : X) → P x → Q x) → (xs : List X) → AllByRecursion P xs → AllByRecursion Q xs
 all_map P Q f [] all = tt
 all_map P Q f (x ∷ xs) all = (f x all.0, all_map P Q f xs all.1)
 
-got_more : (calls more : Calls) (e : Ended) → IsGotAt calls e → IsGotAt (calls ++ more) e
-got_more calls more e h =
-    record { place = h.place; bytes = h.bytes; leaf = h.leaf; got = get_more calls more h.place (Get (object.Page e.tree e.page), Got h.bytes) h.got; spelled = h.spelled; low = h.low; high = h.high }
+got_more : (trips more : List Trip) (e : Ended) → IsGotAt trips e → IsGotAt (trips ++ more) e
+got_more trips more e h = record {
+  place = h.place;
+  trip = h.trip;
+  among = get_more trips more h.place h.trip h.among;
+  in_tree = h.in_tree;
+  left = h.left;
+  ended = h.ended;
+  earlier = h.earlier;
+  bytes = h.bytes;
+  got = h.got;
+  leaf = h.leaf;
+  spelled = h.spelled;
+  low = h.low;
+  high = h.high;
+}
 
-pub ended_more : (calls more : Calls) (es : List Ended) → AllByRecursion (IsGotAt calls) es → AllByRecursion (IsGotAt (calls ++ more)) es
-ended_more calls more es all = all_map (IsGotAt calls) (IsGotAt (calls ++ more)) (got_more calls more) es all
+pub ended_more : (trips more : List Trip) (es : List Ended) → AllByRecursion (IsGotAt trips) es → AllByRecursion (IsGotAt (trips ++ more)) es
+ended_more trips more es all = all_map (IsGotAt trips) (IsGotAt (trips ++ more)) (got_more trips more) es all
 
-leaf_more : (calls more : Calls) (n : Noted) (page : ℕ) → IsLeafOf calls n page → IsLeafOf (calls ++ more) n page
-leaf_more calls more n page (inl h) =
-    inl (record { place = h.place; bytes = h.bytes; leaf = h.leaf; got = get_more calls more h.place (Get (object.Page n.tree page), Got h.bytes) h.got; spelled = h.spelled; holds = h.holds })
-leaf_more calls more n page (inr (one, (t, stale, s))) =
+leaf_more : (trips more : List Trip) (n : Noted) (page : ℕ) → IsLeafOf trips n page → IsLeafOf (trips ++ more) n page
+leaf_more trips more n page (inl h) =
+    inl (record {
+      place = h.place;
+      trip = h.trip;
+      among = get_more trips more h.place h.trip h.among;
+      in_tree = h.in_tree;
+      left = h.left;
+      ended = h.ended;
+      earlier = h.earlier;
+      bytes = h.bytes;
+      got = h.got;
+      leaf = h.leaf;
+      spelled = h.spelled;
+      holds = h.holds;
+    })
+leaf_more trips more n page (inr (one, s)) =
     inr (
       one,
-      (
-        t,
-        stale,
-        record {
-          place = s.place;
-          walk = s.walk;
-          cache = s.cache;
-          answer = s.answer;
-          after = s.after;
-          in_tree = s.in_tree;
-          to = s.to;
-          made = get_more calls more s.place _ s.made;
-          stopped = s.stopped;
-        },
-      ),
+      record {
+        place = s.place;
+        trip = s.trip;
+        among = get_more trips more s.place s.trip s.among;
+        in_tree = s.in_tree;
+        to = s.to;
+        own = s.own;
+        left = s.left;
+        trouble = s.trouble;
+        stopped = s.stopped;
+        stale = s.stale;
+      },
     )
 
-pub leaves_more : (calls more : Calls) (changes : List Noted) (pages : List ℕ) → AreLeaves calls changes pages → AreLeaves (calls ++ more) changes pages
-leaves_more calls more [] pages h = tt
-leaves_more calls more (n ∷ changes) [] h = tt
-leaves_more calls more (n ∷ changes) (page ∷ pages) h = (λ update. leaf_more calls more n page (h.0 update), leaves_more calls more changes pages h.1)
+pub leaves_more : (trips more : List Trip) (changes : List Noted) (pages : List ℕ) → AreLeaves trips changes pages → AreLeaves (trips ++ more) changes pages
+leaves_more trips more [] pages h = tt
+leaves_more trips more (n ∷ changes) [] h = tt
+leaves_more trips more (n ∷ changes) (page ∷ pages) h = (λ update. leaf_more trips more n page (h.0 update), leaves_more trips more changes pages h.1)
 
 -- ---- more pages
 
-pub no_leaves : (calls : Calls) (changes : List Noted) → AreLeaves calls changes []
-no_leaves calls [] = tt
-no_leaves calls (n ∷ changes) = tt
+pub no_leaves : (trips : List Trip) (changes : List Noted) → AreLeaves trips changes []
+no_leaves trips [] = tt
+no_leaves trips (n ∷ changes) = tt
 
-pub leaves_append : (calls : Calls) (changes : List Noted) (pages others : List ℕ) → AreLeaves calls changes pages → AreLeaves calls (drop (length pages) changes) others
-    → AreLeaves calls changes (pages ++ others)
-leaves_append calls changes [] others h more = more
-leaves_append calls [] (page ∷ pages) others h more = tt
-leaves_append calls (n ∷ changes) (page ∷ pages) others h more = (h.0, leaves_append calls changes pages others h.1 more)
+pub leaves_append : (trips : List Trip) (changes : List Noted) (pages others : List ℕ) → AreLeaves trips changes pages → AreLeaves trips (drop (length pages) changes) others
+    → AreLeaves trips changes (pages ++ others)
+leaves_append trips changes [] others h more = more
+leaves_append trips [] (page ∷ pages) others h more = tt
+leaves_append trips (n ∷ changes) (page ∷ pages) others h more = (h.0, leaves_append trips changes pages others h.1 more)
 
 -- a key of the tree in the range of a leaf that was got
 both_true : (a b c : Bool) → (a && (b && c)) ≡ true → (a ≡ true) × ((b && c) ≡ true)
 both_true true b c e = (refl, e)
 both_true false b c e = absurd (cc (e))
 
-spans_held : (calls : Calls) (tree : ℕ) (key : List ℕ) (e : Ended) → IsGotAt calls e → spans tree key e ≡ true → IsHeldAt calls tree e.page key
-spans_held calls tree key e h spanned =
+spans_held : (trips : List Trip) (tree : ℕ) (key : List ℕ) (e : Ended) → IsGotAt trips e → spans tree key e ≡ true → IsHeldAt trips tree e.page key
+spans_held trips tree key e h spanned =
     let both : ((e.tree == tree) ≡ true) × ((not (bytes_below key e.low) && below_bound key e.high) ≡ true) =
     both_true (e.tree == tree) (not (bytes_below key e.low)) (below_bound key e.high) spanned in
     let same : e.tree ≡ tree = eqb-true e.tree tree both.0 in
     record {
       place = h.place;
+      trip = h.trip;
+      among = h.among;
+      in_tree = h.in_tree ∙ same;
+      left = h.left;
+      ended = h.ended;
+      earlier = h.earlier;
       bytes = h.bytes;
+      got = h.got ∙ ap (λ (t : ℕ). h.earlier ++ (Get (object.Page t e.page), Got h.bytes) ∷ []) same;
       leaf = h.leaf;
-      got = h.got ∙ ap (λ (t : ℕ). Some (Get (object.Page t e.page), Got h.bytes)) same;
       spelled = h.spelled;
       holds =
           sym (ap (λ (low : List ℕ). not (bytes_below key low) && below_bound key e.high) h.low ∙ ap (λ (high : Option (List ℕ)). not (bytes_below key h.leaf.low) && below_bound key high) h.high)
           ∙ both.1;
     }
 
-found_held : (calls : Calls) (tree : ℕ) (key : List ℕ) (page : ℕ) (es : List Ended) → AllByRecursion (IsGotAt calls) es → page_at es tree key ≡ Some page → IsHeldAt calls tree page key
-found_held calls tree key page [] all e = absurd (cc (e))
-found_held calls tree key page (x ∷ es) all e = on (found_held calls tree key page es all.1) (spans tree key x) refl e where
-  on : (page_at es tree key ≡ Some page → IsHeldAt calls tree page key) → (b : Bool) → spans tree key x ≡ b → option_map (λ (y : Ended). y.page) (if b then Some x else find (spans tree key) es) ≡ Some page → IsHeldAt calls tree page key
-  on more true spanned e = let same : x.page ≡ page = cc (e) in subst (λ (p : ℕ). IsHeldAt calls tree p key) same (spans_held calls tree key x all.0 spanned)
+found_held : (trips : List Trip) (tree : ℕ) (key : List ℕ) (page : ℕ) (es : List Ended) → AllByRecursion (IsGotAt trips) es → page_at es tree key ≡ Some page → IsHeldAt trips tree page key
+found_held trips tree key page [] all e = absurd (cc (e))
+found_held trips tree key page (x ∷ es) all e = on (found_held trips tree key page es all.1) (spans tree key x) refl e where
+  on : (page_at es tree key ≡ Some page → IsHeldAt trips tree page key) → (b : Bool) → spans tree key x ≡ b → option_map (λ (y : Ended). y.page) (if b then Some x else find (spans tree key) es) ≡ Some page → IsHeldAt trips tree page key
+  on more true spanned e = let same : x.page ≡ page = cc (e) in subst (λ (p : ℕ). IsHeldAt trips tree p key) same (spans_held trips tree key x all.0 spanned)
   on more false spanned e = more e
 
 seeks_update : (a b : Bool) → a ≡ true → (a || b) ≡ true
 seeks_update true b e = refl
 seeks_update false b e = absurd (cc (e))
 
-page_held : (calls : Calls) (pending : List Pending) (es : List Ended) (n : Noted) (page : ℕ) → AllByRecursion (IsGotAt calls) es → page_without pending es n ≡ Some page → is_update n.change ≡ true
-    → IsLeafOf calls n page
-page_held calls pending es n page all e update =
+page_held : (trips : List Trip) (pending : List Pending) (es : List Ended) (n : Noted) (page : ℕ) → AllByRecursion (IsGotAt trips) es → page_without pending es n ≡ Some page → is_update n.change ≡ true
+    → IsLeafOf trips n page
+page_held trips pending es n page all e update =
     let seeking : seeks pending n ≡ true = seeks_update (is_update n.change) (has_pending pending n.tree (key_of n.change)) update in
-    inl (found_held calls n.tree (key_of n.change) page es all
+    inl (found_held trips n.tree (key_of n.change) page es all
     (sym (ap (λ (b : Bool). if b then page_at es n.tree (key_of n.change) else Some 1) seeking) ∙ e))
 
-pub pages_leaves : (calls : Calls) (pending : List Pending) (es : List Ended) → AllByRecursion (IsGotAt calls) es → (changes : List Noted) → AreLeaves calls changes (pages_of pending es changes)
-pages_leaves calls pending es all [] = tt
-pages_leaves calls pending es all (n ∷ changes) = on (page_without pending es n) refl (pages_leaves calls pending es all changes) where
-  on : (o : Option ℕ) → page_without pending es n ≡ o → AreLeaves calls changes (pages_of pending es changes)
-      → AreLeaves calls (n ∷ changes) (option_map_or (λ page. page ∷ pages_of pending es changes) o [])
+pub pages_leaves : (trips : List Trip) (pending : List Pending) (es : List Ended) → AllByRecursion (IsGotAt trips) es → (changes : List Noted) → AreLeaves trips changes (pages_of pending es changes)
+pages_leaves trips pending es all [] = tt
+pages_leaves trips pending es all (n ∷ changes) = on (page_without pending es n) refl (pages_leaves trips pending es all changes) where
+  on : (o : Option ℕ) → page_without pending es n ≡ o → AreLeaves trips changes (pages_of pending es changes)
+      → AreLeaves trips (n ∷ changes) (option_map_or (λ page. page ∷ pages_of pending es changes) o [])
   on None e more = tt
-  on (Some page) e more = (page_held calls pending es n page all e, more)
+  on (Some page) e more = (page_held trips pending es n page all e, more)
 
 pages_within : (pending : List Pending) (es : List Ended) (changes : List Noted) → length (pages_of pending es changes) ≤ length changes
 pages_within pending es [] = omega arith

@@ -4,7 +4,10 @@ pub mod Ending
 pub mod Exact
 pub mod Meaning
 pub mod Names
+pub mod Plain
 pub mod Run
 pub mod Sound
+pub mod Stepped
+pub mod Trips
 pub mod Well
 pub mod Within

@@ -1,5 +1,5 @@
 -- What the call in hand of a commit names.
-use Rattle.std.specs.Prelude.{List}
+use Rattle.std.specs.Prelude.{◌≤◌, List, length}
 use Rattle.txn_buffer.specs.Noted.{Noted}
 use Rattle.cloud_trait.specs.Machine.{Deed}
 use Rattle.recover_run.specs.declared.home.Home.{Home}
@@ -10,4 +10,4 @@ use Rattle.commit_run.specs.Within.{Went}
 
 -- it is one of the commit's own: no lock is taken or given back, and the lease of the home that was handed in is the only one that is named
 abbrev pub Names : Run × Cache → Type 0
-Names m = (home : Home) (changes : List Noted) (h : List Deed) → Went home changes h m → IsOwnCall home (asks m)
+Names m = (home : Home) (changes : List Noted) (c : Cache) (h : List Deed) → 1 ≤ length changes → Went home changes c h m → IsOwnCall home (asks m)

@@ -10,11 +10,9 @@ use Rattle.tree_walk.specs.Walk.{Walk, new_walk, walk_ready, walk_next}
 use Rattle.tree_walk.specs.Walk.{asks as walk_asks}
 use Rattle.commit_run.specs.Run.{Run, new_run, asks, run_ready, run_next}
 
--- the commit of changes, one at least, by a home came here by these calls, the newest first
-abbrev pub Went : Home → List Noted → List Deed → Run × Cache → Type 0
-Went home changes h m =
-    (1 ≤ length changes) × (cache : Cache) × (start : Run × Cache) × (run_ready (new_run home changes, cache) ≡ Goes start)
-    × Came asks (LeadsBy run_next) start h m
+-- the commit of changes by a home beside a cache came here by these calls, the newest first
+abbrev pub Went : Home → List Noted → Cache → List Deed → Run × Cache → Type 0
+Went home changes c h m = (start : Run × Cache) × (run_ready (new_run home changes, c) ≡ Goes start) × Came asks (LeadsBy run_next) start h m
 
 -- a walk that began by itself came on by the calls before, the newest first, and the call is the one that it had in hand then
 pub record IsCalledBy (call : Deed) (before : List Deed) : Type 0 where
@@ -59,4 +57,6 @@ pub record IsWithin (changes : ℕ) (h : List Deed) : Type 0 where
 
 -- so are the calls so far with the one in hand
 abbrev pub Within : Run × Cache → Type 0
-Within m = (home : Home) (changes : List Noted) (h : List Deed) → Went home changes h m → (call : Deed) → call.ask ≡ asks m → IsWithin (length changes) (call ∷ h)
+Within m =
+    (home : Home) (changes : List Noted) (c : Cache) (h : List Deed) → 1 ≤ length changes → Went home changes c h m → (call : Deed) → call.ask ≡ asks m
+    → IsWithin (length changes) (call ∷ h)

@@ -120,15 +120,11 @@ fn held(first: bool, walk: Walk) -> Hand
 impl Draft {
     ghost use Rattle.std.specs.Prelude.{◌≡◌, ◌≤◌, ◌<◌, length, OnOk, IfOk, Some, false};
     ghost use Rattle.commit_writes.specs.Writing.{with_head, routing};
-    ghost use Rattle.cloud_trait.specs.Machine.{LeadsBy, Steps};
     ghost use Rattle.page_cache.specs.Cache.{Cache};
     ghost use Rattle.db_base.specs.declared.trouble.Trouble.{Trouble as AnyTrouble};
     ghost use Rattle.commit_run.specs.Draft.{IsWithin, new_draft, pruned_behind, planned, leaf_noted, paged};
-    ghost use Rattle.commit_run.specs.Run.{Led, IsHeld, held, wrote, troubled, begun_turn, walk_to, seek, next_target, plan_on, stale_at, walk_stopped, walk_turned, long_target, begin_walks, asks, run_ready, run_next, Keeps, KeepsHome};
-    ghost use Rattle.commit_run.specs.Meaning.{Meant};
-    ghost use Rattle.commit_run.specs.Causing.{Causes};
-    ghost use Rattle.commit_run.specs.Exact.{Exact};
-    ghost use Rattle.commit_run.specs.Well.{Well};
+    ghost use Rattle.commit_run.specs.Run.{Led, IsHeld, held, wrote, troubled, begun_turn, walk_to, seek, next_target, plan_on, stale_at, walk_stopped, walk_turned, long_target, begin_walks, run_ready, Keeps};
+    ghost use Rattle.commit_run.specs.Stepped.{Stepped};
     ghost use Rattle.commit_run.specs.Ending.{left_at};
     ghost use Rattle.commit_writes.specs.Sound.{IsSound};
 
@@ -401,13 +397,9 @@ impl Draft {
         cloud: &mut C,
         who: Who,
     ) -> Turn<CommitAnswer>
-        ensures steps { (c : Cache) → Steps asks (LeadsBy run_next) KeepsHome who (C.seen cloud.old) (C.seen cloud.new) (record { draft = self.old; hand = Hand.Writes }, c) (record { draft = self.new; hand = Hand.Writes }, c) result }
-        ensures means { (c : Cache) → Meant who (C.seen cloud.old) (C.seen cloud.new) (record { draft = self.old; hand = Hand.Writes }, c) (record { draft = self.new; hand = Hand.Writes }, c) result }
-        ensures causes { (c : Cache) → Causes who (C.seen cloud.old) (C.seen cloud.new) (record { draft = self.old; hand = Hand.Writes }, c) result }
+        ensures stepped { (c : Cache) → Stepped who (C.seen cloud.old) (C.seen cloud.new) (record { draft = self.old; hand = Hand.Writes }, c) (record { draft = self.new; hand = Hand.Writes }, c) result }
         ensures sound { IsSound self.old.writes }
         ensures less { result ≡ Turn.More → left_at Hand.Writes self.new < left_at Hand.Writes self.old }
-        ensures exact { (c : Cache) → Exact who (C.seen cloud.old) (C.seen cloud.new) (record { draft = self.old; hand = Hand.Writes }, c) result }
-        ensures well { (c : Cache) → Well who (C.seen cloud.old) (C.seen cloud.new) (record { draft = self.old; hand = Hand.Writes }, c) result }
     {
         self.writes.step(alloc, cloud, who)
     }
@@ -423,13 +415,9 @@ impl Draft {
         walk: Walk,
     ) -> (Hand, Turn<CommitAnswer>)
         requires { IsHeld self.old (held first walk) }
-        ensures steps { Steps asks (LeadsBy run_next) KeepsHome who (C.seen cloud.old) (C.seen cloud.new) (record { draft = self.old; hand = held first walk }, cache.old) (record { draft = self.new; hand = result.0 }, cache.new) result.1 }
-        ensures means { Meant who (C.seen cloud.old) (C.seen cloud.new) (record { draft = self.old; hand = held first walk }, cache.old) (record { draft = self.new; hand = result.0 }, cache.new) result.1 }
-        ensures causes { Causes who (C.seen cloud.old) (C.seen cloud.new) (record { draft = self.old; hand = held first walk }, cache.old) result.1 }
+        ensures stepped { Stepped who (C.seen cloud.old) (C.seen cloud.new) (record { draft = self.old; hand = held first walk }, cache.old) (record { draft = self.new; hand = result.0 }, cache.new) result.1 }
         ensures held { IsHeld self.new result.0 }
         ensures less { result.1 ≡ Turn.More → left_at result.0 self.new < left_at (held first walk) self.old }
-        ensures exact { Exact who (C.seen cloud.old) (C.seen cloud.new) (record { draft = self.old; hand = held first walk }, cache.old) result.1 }
-        ensures well { Well who (C.seen cloud.old) (C.seen cloud.new) (record { draft = self.old; hand = held first walk }, cache.old) result.1 }
     {
         let mut walk = walk;
         let turn = walk.step(alloc, cloud, who, cache);

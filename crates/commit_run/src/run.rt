@@ -1,7 +1,6 @@
 ghost use Rattle.std.specs.Prelude.{◌≡◌, ◌≤◌, ◌<◌, List, length};
 ghost use Rattle.std.specs.Option.{option_copied};
 ghost use Rattle.cloud_trait.specs.Call.{ask_of};
-ghost use Rattle.cloud_trait.specs.Machine.{LeadsBy, Steps};
 
 use crate::draft::Draft;
 use crate::hand::Hand;
@@ -44,15 +43,15 @@ impl Model for CommitRun {
 }
 
 impl CommitRun {
-    ghost use Rattle.commit_run.specs.Run.{new_run, run_ask, asks, run_ready, run_next, run_opens, home_of, Led, Keeps, KeepsHome};
-    ghost use Rattle.commit_run.specs.Causing.{Causes};
-    ghost use Rattle.commit_run.specs.Exact.{Exact, ExactReady};
+    ghost use Rattle.commit_run.specs.Run.{new_run, run_ask, run_ready, run_opens, home_of, Led, Keeps};
+    ghost use Rattle.commit_run.specs.Causing.{CausesReady};
+    ghost use Rattle.commit_run.specs.Exact.{ExactReady};
     ghost use Rattle.commit_run.specs.Names.{Names};
-    ghost use Rattle.commit_run.specs.Well.{Well};
+    ghost use Rattle.commit_run.specs.Stepped.{Stepped};
     ghost use Rattle.commit_run.specs.Within.{Within};
     ghost use Rattle.commit_run.specs.Ending.{calls_left, most_calls};
     ghost use Rattle.commit_run.specs.Sound.{IsSoundRun};
-    ghost use Rattle.commit_run.specs.Meaning.{Meant, MeansReady};
+    ghost use Rattle.commit_run.specs.Meaning.{MeansReady};
     ghost use Rattle.recover_run.specs.declared.home.Home.{Home};
     ghost use Rattle.txn_buffer.specs.Noted.{Noted};
 
@@ -109,9 +108,11 @@ impl CommitRun {
     pub fn ready(&mut self, alloc: Global, cache: &mut PageCache) -> Turn<CommitAnswer>
         ensures led { Led (run_ready (self.old, cache.old)) (self.new, cache.new) result }
         ensures kept { Keeps (home_of self.old) (home_of self.new) }
-        ensures means { (home : Home) (changes : List Noted) → self.old ≡ new_run home changes → MeansReady home changes (home_of self.new) result }
+        ensures means { (home : Home) (changes : List Noted) → self.old ≡ new_run home changes → MeansReady home changes cache.old (home_of self.new) result }
         ensures calls { (home : Home) (changes : List Noted) → self.old ≡ new_run home changes → result ≡ Turn.More → calls_left self.new ≤ most_calls (length changes) }
         ensures exact { (home : Home) (changes : List Noted) → self.old ≡ new_run home changes → ExactReady home result }
+        // Where nothing is committed, what the cache keeps shows why.
+        ensures causes { (home : Home) (changes : List Noted) → self.old ≡ new_run home changes → CausesReady (self.old, cache.old) self.new result }
     {
         let (hand, turn) = self.draft.begin(alloc, cache);
         self.hand = hand;
@@ -126,18 +127,13 @@ impl CommitRun {
         who: Who,
         cache: &mut PageCache,
     ) -> Turn<CommitAnswer>
-        ensures steps { Steps asks (LeadsBy run_next) KeepsHome who (C.seen cloud.old) (C.seen cloud.new) (self.old, cache.old) (self.new, cache.new) result }
-        ensures means { Meant who (C.seen cloud.old) (C.seen cloud.new) (self.old, cache.old) (self.new, cache.new) result }
-        // Where nothing is committed, the answer of the call shows why.
-        ensures causes { Causes who (C.seen cloud.old) (C.seen cloud.new) (self.old, cache.old) result }
+        // One answer of the call, and all that is said of the step by it.
+        ensures stepped { Stepped who (C.seen cloud.old) (C.seen cloud.new) (self.old, cache.old) (self.new, cache.new) result }
         ensures sound { IsSoundRun self.old }
         ensures less { result ≡ Turn.More → calls_left self.new < calls_left self.old }
         // With this call it made those of one walk a change and one more at most, and three a change and two behind them.
         ensures within { Within (self.old, cache.old) }
         ensures names { Names (self.old, cache.old) }
-        // It ends with each answer exactly where the calls demand it.
-        ensures exact { Exact who (C.seen cloud.old) (C.seen cloud.new) (self.old, cache.old) result }
-        ensures well { Well who (C.seen cloud.old) (C.seen cloud.new) (self.old, cache.old) result }
     {
         match mem::replace(&mut self.hand, Hand::Writes) {
             Hand::Writes => self.draft.step_writes(alloc, cloud, who),

@@ -42,10 +42,12 @@ below_logged w (Ok id) within = on (slice_get w.records (w.place + 1)) refl wher
       → Below (left_at Logging (length w.records) w.place (length w.ids)) (log_or_open (record w { place = w.place + 1; ids = w.ids ++ id ∷ [] }) o)
   on (Some r) e = omega (arith, slice_get_within w.records (w.place + 1) r e, length-append w.ids (id ∷ []))
   on None e = omega (arith, length-append w.ids (id ∷ []))
+below_logged w (Err trouble.Memory) within = tt
 below_logged w (Err t) within = tt
 
 below_not_opened : (n : ℕ) (w : Writing) (t : Trouble) → Below n (not_opened w t)
 below_not_opened n w (trouble.Late end now) = tt
+below_not_opened n w trouble.Memory = tt
 below_not_opened n w t = tt
 
 below_opened : (w : Writing) (g : Result (Unit {0}) Trouble) → Below (length w.records + length w.ids + 2) (opened_by w g)
@@ -60,6 +62,7 @@ below_sent w (Ok _) within = on (slice_get w.records (w.place + 1)) refl where
   on : (o : Option AtomicRec) → slice_get w.records (w.place + 1) ≡ o → Below ((length w.records - w.place) + length w.ids + 1) (send_or_settle (record w { place = w.place + 1 }) o)
   on (Some r) e = omega (arith, slice_get_within w.records (w.place + 1) r e)
   on None e = omega arith
+below_sent w (Err trouble.Memory) within = tt
 below_sent w (Err t) within = tt
 
 below_settled : (w : Writing) (g : Result (Unit {0}) Trouble) → Below (length w.ids + 1) (settled_by w g)
@@ -67,6 +70,7 @@ below_settled w (Ok _) = on (slice_get w.ids 0) where
   on : (o : Option ℕ) → Below (length w.ids + 1) (delete_or_end (record w { place = 0 }) o)
   on (Some id) = omega arith
   on None = tt
+below_settled w (Err trouble.Memory) = tt
 below_settled w (Err t) = tt
 
 below_delete : (w : Writing) → w.place < length w.ids → (o : Option ℕ) → slice_get w.ids (w.place + 1) ≡ o → Below (length w.ids - w.place) (delete_or_end (record w { place = w.place + 1 }) o)

@@ -27,9 +27,10 @@ use Rattle.commit_writes.specs.declared.stage.Stage.TheVariants.{Waiting, Loggin
 use Rattle.commit_writes.specs.Writing.{Writing, writing_ask, writing_next, ask_at, next_at, head_ask, log_ask, send_ask, delete_ask, logged_by, opened_by, sent_by, settled_by, deleted_by, log_or_open, send_or_settle, delete_or_end, KeepsHome}
 use Rattle.commit_writes.specs.Calls.{Calls, told, post_of}
 use Rattle.commit_writes.specs.Meaning.{Refuses, MeansTurn}
-use Rattle.commit_writes.specs.Exact.{NonePut, WasOpened, deletions, DemandsNot, Demands, Exactly}
+use Rattle.commit_writes.specs.Exact.{NonePut, WasOpened, deletions, DemandsNot, Demands, Exactly, IsAmple}
 use Rattle.commit_writes.specs.Names.{IsOwnCall}
-use Rattle.commit_writes.specs.Well.{IsWell, EndsWell, Well}
+use Rattle.commit_writes.specs.Stepped.{deed_of, Stepped}
+use Rattle.commit_writes.specs.Well.{IsWell, EndsWell}
 use Rattle.commit_writes.specs.Within.{Went}
 use Rattle.commit_writes.proofs.Knowing.{KnowsAt, Knows}
 use Rattle.commit_writes.proofs.Meaning.{post_asked, went_knows, only_memory, came_means}
@@ -302,23 +303,31 @@ ends_well records attempt cs ask a (Stopped t) goes stops exact = stops t refl
 means_memory : (home : Home) (records : List AtomicRec) (cs : Calls) (left : Home) (turn : Turn CommitAnswer) → MeansTurn home records cs left turn → (t : Trouble) → turn ≡ Stopped t → t ≡ trouble.Memory
 means_memory home records cs left turn means t e = subst (MeansTurn home records cs left) e means
 
--- of a step of the code
-pub went_well : (who : Caller) (before after : Seen) (old new : Writing) (a : Answer) (turn : Turn CommitAnswer) → Makes who (writing_ask old) a before after → (a ≡ Memory → turn ≡ Stopped trouble.Memory)
-    → Took (LeadsBy writing_next) KeepsHome old a new turn → Well who before after old turn
-went_well who before after old new a turn made stops took = record {
+-- ---- a step of the code
+
+pub went_stepped : (who : Caller) (before after : Seen) (old new : Writing) (a : Answer) (turn : Turn CommitAnswer) → Makes who (writing_ask old) a before after → (a ≡ Memory → turn ≡ Stopped trouble.Memory)
+    → IsAmple (writing_ask old) a turn → Took (LeadsBy writing_next) KeepsHome old a new turn → Stepped who before after old new turn
+went_stepped who before after old new a turn made stops ample took = record {
   answer = a;
   made = made;
+  took = took;
+  means = came_means old new a turn made.fits stops took;
+  exact = went_exactly old new a turn made.fits stops took;
+  ample = ample;
   well = λ home records h went calm.
-      ends_well (length records) home.attempt (told h) (writing_ask old) a turn (goes_well (record { who = who; ask = writing_ask old; answer = a; before = before; after = after }) made calm)
+      ends_well (length records) home.attempt (told h) (writing_ask old) a turn (goes_well call made calm)
       (means_memory home records (told h ++ (writing_ask old, a) ∷ []) new.home turn
       (came_means old new a turn made.fits stops took home went.1 records went.2 h went.3 went.4))
       (went_exactly old new a turn made.fits stops took home records h went);
-  marked = λ home records h went calm alone x ended s left.
-      went_marked home records h old (record { who = who; ask = writing_ask old; answer = a; before = before; after = after }) x s went calm alone refl made
-      (λ memory. stopped_not trouble.Memory (Committed x) (sym (stops memory) ∙ ended))
+  marks = λ home records h went calm alone x ended s left.
+      went_marked home records h old call x s went calm alone refl made (found x ended)
       ((went_exactly old new a turn made.fits stops took home records h went (Committed x)).only ended) left;
-  gone = λ home records h went none x ended.
-      went_gone home records h old (record { who = who; ask = writing_ask old; answer = a; before = before; after = after }) x went none refl made
-      (λ memory. stopped_not trouble.Memory (Committed x) (sym (stops memory) ∙ ended))
+  clears = λ home records h went none x ended.
+      went_gone home records h old call x went none refl made (found x ended)
       ((went_exactly old new a turn made.fits stops took home records h went (Committed x)).only ended);
-}
+} where
+  call : Deed
+  call = deed_of who (writing_ask old) a before after
+
+  found : (x : ℕ) → turn ≡ Ended (Committed x) → a ≢ Memory
+  found x ended memory = stopped_not trouble.Memory (Committed x) (sym (stops memory) ∙ ended)

@@ -90,10 +90,12 @@ send_gone h w None = tt
 
 logged_gone : (h : List Deed) (w : Writing) (g : Result ℕ Trouble) → GoneNext h (logged_by w g)
 logged_gone h w (Ok id) = log_gone h (record w { ids = w.ids ++ id ∷ []; place = w.place + 1 }) (slice_get w.records (w.place + 1))
+logged_gone h w (Err trouble.Memory) = tt
 logged_gone h w (Err t) = tt
 
 not_opened_gone : (h : List Deed) (w : Writing) (t : Trouble) → GoneNext h (not_opened w t)
 not_opened_gone h w (trouble.Late end now) = tt
+not_opened_gone h w trouble.Memory = tt
 not_opened_gone h w t = tt
 
 opened_gone : (h : List Deed) (w : Writing) (g : Result (Unit {0}) Trouble) → GoneNext h (opened_by w g)
@@ -102,6 +104,7 @@ opened_gone h w (Err t) = not_opened_gone h w t
 
 sent_gone : (h : List Deed) (w : Writing) (g : Result ℕ Trouble) → GoneNext h (sent_by w g)
 sent_gone h w (Ok id) = send_gone h (record w { place = w.place + 1 }) (slice_get w.records (w.place + 1))
+sent_gone h w (Err trouble.Memory) = tt
 sent_gone h w (Err t) = tt
 
 none_gone : (P : ℕ → Type 0) (ids : List ℕ) → AllByRecursion P (take 0 ids)
@@ -113,6 +116,7 @@ settled_gone h w (Ok u) = on (slice_get w.ids 0) where
   on : (o : Option ℕ) → GoneNext h (delete_or_end (record w { place = 0 }) o)
   on (Some id) = none_gone (IsGone w.home.client h) w.ids
   on None = tt
+settled_gone h w (Err trouble.Memory) = tt
 settled_gone h w (Err t) = tt
 
 -- one message more

@@ -122,10 +122,12 @@ send_marks h w None = tt
 
 logged_marks : (h : List Deed) (w : Writing) (g : Result ℕ Trouble) → MarkedNext h (logged_by w g)
 logged_marks h w (Ok id) = log_marks h (record w { ids = w.ids ++ id ∷ []; place = w.place + 1 }) (slice_get w.records (w.place + 1))
+logged_marks h w (Err trouble.Memory) = tt
 logged_marks h w (Err t) = tt
 
 not_opened_marks : (h : List Deed) (w : Writing) (t : Trouble) → MarkedNext h (not_opened w t)
 not_opened_marks h w (trouble.Late end now) = tt
+not_opened_marks h w trouble.Memory = tt
 not_opened_marks h w t = tt
 
 opened_marks : (h : List Deed) (w : Writing) (g : Result (Unit {0}) Trouble) → MarkedNext h (opened_by w g)
@@ -134,6 +136,7 @@ opened_marks h w (Err t) = not_opened_marks h w t
 
 sent_marks : (h : List Deed) (w : Writing) (g : Result ℕ Trouble) → MarkedNext h (sent_by w g)
 sent_marks h w (Ok id) = send_marks h (record w { place = w.place + 1 }) (slice_get w.records (w.place + 1))
+sent_marks h w (Err trouble.Memory) = tt
 sent_marks h w (Err t) = tt
 
 none_marked : (P : ℕ → Type 0) (ids : List ℕ) → AllByRecursion P (take 0 ids)
@@ -145,6 +148,7 @@ settled_marks h w (Ok u) = on (slice_get w.ids 0) where
   on : (o : Option ℕ) → MarkedNext h (delete_or_end (record w { place = 0 }) o)
   on (Some id) = λ x s next told. none_marked (IsMarked (s.messages (queue.Atomic w.home.client))) w.ids
   on None = tt
+settled_marks h w (Err trouble.Memory) = tt
 settled_marks h w (Err t) = tt
 
 -- one message more

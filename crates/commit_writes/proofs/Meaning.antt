@@ -32,7 +32,7 @@ use Rattle.commit_writes.specs.declared.stage.Stage.{Stage}
 use Rattle.commit_writes.specs.declared.stage.Stage.TheVariants.{Waiting, Logging, Opening, Sending, Settling, Deleting, Finished}
 use Rattle.commit_writes.specs.Writing.{Writing, waiting, with_head, before_of, restored, begun, writing_ask, writing_next, ask_at, next_at, head_ask, log_ask, send_ask, delete_ask, logged_by, opened_by, sent_by, settled_by, deleted_by, log_or_open, send_or_settle, delete_or_end, KeepsHome}
 use Rattle.commit_writes.specs.Calls.{Calls, told, log_of, logged_calls, post_of, posted_calls, deleted_calls, put_of, opened_of, settled_of, all_logged, all_opened, all_posted, all_settled}
-use Rattle.commit_writes.specs.Meaning.{WasTried, IsOpenAnswered, IsSettleAnswered, MeansTurn}
+use Rattle.commit_writes.specs.Meaning.{WasTried, IsOpenAnswered, IsSettleAnswered, MeansTurn, Meant}
 use Rattle.commit_writes.specs.Within.{Went}
 use Rattle.commit_writes.proofs.Knowing.{KnowsLogging, KnowsOpening, KnowsSending, KnowsSettling, KnowsDeleting, KnowsAt, Knows, KnowsNext}
 
@@ -189,7 +189,7 @@ opening_next h cs w (Late end now) k fits ample = (
   inr (end, now, refl, open_answered h cs w (Late end now) k),
   ap (λ (x : Home). with_head x (restored x.head w.before)) k.home ∙ ap (λ b. with_head h (restored (opened_of h w.records) b)) k.before,
 )
-opening_next h cs w Failed k fits ample = open_answered h cs w Failed k
+opening_next h cs w Failed k fits ample = (open_answered h cs w Failed k, k.home)
 opening_next h cs w Memory k fits ample = absurd (ample refl)
 opening_next h cs w a k fits ample = absurd fits
 
@@ -220,7 +220,7 @@ sending_next h cs w (Sent id) k fits ample =
     ∙ (ap (λ l. all_opened h w.records w.ids ++ l) (sym (posted_push (take w.place w.records) k.posts k.r id front))
     ∙ ap (λ rs. all_posted h w.records w.ids rs (k.posts ++ id ∷ [])) (sym (take_more w.records w.place k.r k.here)))))
 sending_next h cs w Failed k fits ample =
-    inl (refl, record { sent = w.place; last = k.r; here = k.here; ids = w.ids; posts = k.posts; logged = k.logged; are = post_called h cs w Failed k })
+    inl (refl, record { sent = w.place; last = k.r; here = k.here; ids = w.ids; posts = k.posts; logged = k.logged; are = post_called h cs w Failed k }, k.home)
 sending_next h cs w Memory k fits ample = absurd (ample refl)
 sending_next h cs w a k fits ample = absurd fits
 
@@ -244,8 +244,8 @@ settling_next h cs w Done k fits ample =
     none_deleted : (ids : List ℕ) → [] ≡ deleted_calls h.client (take 0 ids) []
     none_deleted [] = refl
     none_deleted (id ∷ ids) = refl
-settling_next h cs w (Late end now) k fits ample = inr (Late end now, inr (end, now, refl, refl), settle_answered h cs w (Late end now) k)
-settling_next h cs w Failed k fits ample = inr (Failed, inl (refl, refl), settle_answered h cs w Failed k)
+settling_next h cs w (Late end now) k fits ample = inr (Late end now, inr (end, now, refl, refl), settle_answered h cs w (Late end now) k, k.home)
+settling_next h cs w Failed k fits ample = inr (Failed, inl (refl, refl), settle_answered h cs w Failed k, k.home)
 settling_next h cs w Memory k fits ample = absurd (ample refl)
 settling_next h cs w a k fits ample = absurd fits
 
@@ -354,6 +354,5 @@ step_means h rs cs old new a turn k fits stops took = ample_means h rs cs old ne
 
 -- what a step of the code means by the whole run
 pub came_means : (old new : Writing) (a : Answer) (turn : Turn CommitAnswer) → Fits (writing_ask old) a → (a ≡ Memory → turn ≡ Stopped trouble.Memory)
-    → Took (LeadsBy writing_next) KeepsHome old a new turn → (h : Home) (changes : List Noted) (rs : List AtomicRec) (start : Writing) (ds : List Deed) → begun (waiting h changes) rs ≡ Goes start
-    → Came writing_ask (LeadsBy writing_next) start ds old → MeansTurn h rs (told ds ++ (writing_ask old, a) ∷ []) new.home turn
+    → Took (LeadsBy writing_next) KeepsHome old a new turn → Meant old a new turn
 came_means old new a turn fits stops took h changes rs start ds goes came = step_means h rs (told ds) old new a turn (came_knows h changes rs start goes ds old came) fits stops took

@@ -11,9 +11,6 @@ use Rattle.cloud_trait.specs.declared.answer.Answer.TheVariants.{Done, Late, Fai
 use Rattle.cloud_trait.specs.declared.turn.Turn.{Turn}
 use Rattle.cloud_trait.specs.declared.turn.Turn.TheVariants.{Ended, Stopped}
 use Rattle.cloud_trait.specs.Ask.{Ask, PutHeld, Delete, PutsNothing}
-use Rattle.cloud_trait.specs.Caller.{Caller}
-use Rattle.cloud_trait.specs.Seen.{Seen}
-use Rattle.cloud_trait.specs.Weather.{Makes}
 use Rattle.cloud_trait.specs.Machine.{Deed}
 use Rattle.recover_run.specs.declared.home.Home.{Home}
 use Rattle.commit_writes.specs.Writing.{Writing, writing_ask}
@@ -76,10 +73,12 @@ pub record Exactly (why : Type 0) (answer : CommitAnswer) (turn : Turn CommitAns
   pub only : turn ≡ Ended answer → why
   pub always : why → (turn ≡ Ended answer) ⊎ (turn ≡ Stopped trouble.Memory)
 
--- what a step's answer says, by the calls so far and this one; want of memory never takes the place of what a refused send or put demands
-pub record Exact (who : Caller) (before after : Seen) (old : Writing) (turn : Turn CommitAnswer) : Type 0 where
-  pub answer : Answer
-  pub made : Makes who (writing_ask old) answer before after
-  pub exact : (home : Home) (records : List AtomicRec) (h : List Deed) → Went home records h old → (x : CommitAnswer)
-      → Exactly (Demands (length records) home.attempt (told h) (writing_ask old) answer x) x turn
-  pub ample : (IsDeletion (writing_ask old) → ⊥) → IsRefusal answer → turn ≢ Stopped trouble.Memory
+-- what a step's answer says, by the calls so far and this one
+abbrev pub Exact : Writing → Answer → Turn CommitAnswer → Type 0
+Exact old answer turn =
+    (home : Home) (records : List AtomicRec) (h : List Deed) → Went home records h old → (x : CommitAnswer)
+    → Exactly (Demands (length records) home.attempt (told h) (writing_ask old) answer x) x turn
+
+-- want of memory never takes the place of what a refused send or put demands
+abbrev pub IsAmple : Ask → Answer → Turn CommitAnswer → Type 0
+IsAmple ask answer turn = (IsDeletion ask → ⊥) → IsRefusal answer → turn ≢ Stopped trouble.Memory

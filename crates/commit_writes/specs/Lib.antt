@@ -4,6 +4,7 @@ pub mod Exact
 pub mod Meaning
 pub mod Names
 pub mod Sound
+pub mod Stepped
 pub mod Well
 pub mod Within
 pub mod Writing

@@ -10,9 +10,6 @@ use Rattle.cloud_trait.specs.declared.answer.Answer.{Answer}
 use Rattle.cloud_trait.specs.declared.answer.Answer.TheVariants.{Done, Late, Failed}
 use Rattle.cloud_trait.specs.declared.turn.Turn.{Turn}
 use Rattle.cloud_trait.specs.declared.turn.Turn.TheVariants.{More, Ended, Stopped}
-use Rattle.cloud_trait.specs.Caller.{Caller}
-use Rattle.cloud_trait.specs.Seen.{Seen}
-use Rattle.cloud_trait.specs.Weather.{Makes}
 use Rattle.cloud_trait.specs.Machine.{Goes, LeadsBy, Came, Deed}
 use Rattle.txn_buffer.specs.Noted.{Noted}
 use Rattle.recover_run.specs.declared.home.Home.{Home}
@@ -77,19 +74,19 @@ WhyNot home records calls t =
     ((t ≡ trouble.Failed) × IsLogFailed home records calls)
     ⊎ ((end : ℕ) × (now : ℕ) × (t ≡ trouble.Late end now) × IsOpenAnswered home records calls (Late end now))
 
--- the head stays open: a later send failed, or a later put failed or was late
-abbrev pub WhyOpen : Home → List AtomicRec → Calls → Trouble → Type 0
-WhyOpen home records calls t =
-    ((t ≡ trouble.Failed) × IsPostFailed home records calls)
-    ⊎ ((a : Answer) × Refuses t a × IsSettleAnswered home records calls a)
+-- the head stays open: a later send failed, or a later put failed or was late; the home that is left has the head of the newest put
+abbrev pub WhyOpen : Home → List AtomicRec → Calls → Home → Trouble → Type 0
+WhyOpen home records calls left t =
+    ((t ≡ trouble.Failed) × IsPostFailed home records calls × (left ≡ with_head home (opened_of home records)))
+    ⊎ ((a : Answer) × Refuses t a × IsSettleAnswered home records calls a × (left ≡ with_head home (settled_of home records)))
 
--- what an answer says of the calls up to it, and of the home that the commit leaves
+-- what an answer says of the calls up to it, and of the home that the commit leaves: but for its head it is the home that was handed in
 abbrev pub Means : Home → List AtomicRec → Calls → Home → CommitAnswer → Type 0
 Means home records calls left (Committed x) =
     (x ≡ home.attempt) × IsCommitted home records calls × (left ≡ with_head home (settled_of home records))
 Means home records calls left (NotCommitted t) = WhyNot home records calls t × (left ≡ home)
-Means home records calls left InDoubt = IsOpenAnswered home records calls Failed
-Means home records calls left (CommittedOpen t) = WhyOpen home records calls t
+Means home records calls left InDoubt = IsOpenAnswered home records calls Failed × (left ≡ with_head home (opened_of home records))
+Means home records calls left (CommittedOpen t) = WhyOpen home records calls left t
 
 -- the same of a turn; a stop is want of memory
 abbrev pub MeansTurn : Home → List AtomicRec → Calls → Home → Turn CommitAnswer → Type 0
@@ -98,8 +95,7 @@ MeansTurn home records calls left (Ended a) = Means home records calls left a
 MeansTurn home records calls left (Stopped t) = t ≡ trouble.Memory
 
 -- what a step means by the whole run: of the commit of records by a home, the calls so far with this step's
-pub record Meant (who : Caller) (before after : Seen) (old new : Writing) (turn : Turn CommitAnswer) : Type 0 where
-  pub answer : Answer
-  pub made : Makes who (writing_ask old) answer before after
-  pub means : (home : Home) (changes : List Noted) (records : List AtomicRec) (start : Writing) (h : List Deed) → begun (waiting home changes) records ≡ Goes start
-      → Came writing_ask (LeadsBy writing_next) start h old → MeansTurn home records (told h ++ (writing_ask old, answer) ∷ []) new.home turn
+abbrev pub Meant : Writing → Answer → Writing → Turn CommitAnswer → Type 0
+Meant old answer new turn =
+    (home : Home) (changes : List Noted) (records : List AtomicRec) (start : Writing) (h : List Deed) → begun (waiting home changes) records ≡ Goes start
+    → Came writing_ask (LeadsBy writing_next) start h old → MeansTurn home records (told h ++ (writing_ask old, answer) ∷ []) new.home turn

@@ -1,25 +1,21 @@
 -- How a commit ends with what it writes where its calls go well.
-use Rattle.std.specs.Prelude.{◌≡◌, ◌≤◌, ℕ, ◌-◌, List, ◌∷◌, [], ◌++◌, length, slice_get, true, Some}
+use Rattle.std.specs.Prelude.{◌≡◌, ◌≤◌, ℕ, ◌-◌, List, ◌∷◌, ◌++◌, length, slice_get, true, Some}
 use Rattle.std.specs.List.{AllByRecursion}
 use Rattle.db_base.specs.declared.names.QueueName.TheVariants as queue
 use Rattle.db_base.specs.declared.trouble.Trouble.TheVariants as trouble
 use Rattle.db_base.specs.declared.trouble.CommitAnswer.{CommitAnswer}
 use Rattle.db_base.specs.declared.trouble.CommitAnswer.TheVariants.{Committed, NotCommitted, InDoubt, CommittedOpen}
 use Rattle.log_codec.specs.declared.record.AtomicRec.{AtomicRec}
-use Rattle.cloud_trait.specs.declared.answer.Answer.{Answer}
 use Rattle.cloud_trait.specs.declared.answer.Answer.TheVariants.{Done}
 use Rattle.cloud_trait.specs.declared.state.Posted.{Posted}
 use Rattle.cloud_trait.specs.declared.turn.Turn.{Turn}
 use Rattle.cloud_trait.specs.declared.turn.Turn.TheVariants.{More, Ended, Stopped}
 use Rattle.cloud_trait.specs.Ask.{Delete}
-use Rattle.cloud_trait.specs.Caller.{Caller}
-use Rattle.cloud_trait.specs.Seen.{Seen}
 use Rattle.cloud_trait.specs.State.{CloudState}
-use Rattle.cloud_trait.specs.Weather.{Makes}
 use Rattle.cloud_trait.specs.Machine.{Deed}
 use Rattle.calm_calls.specs.Calm.{IsCalm, AreCalm, AreAlone}
 use Rattle.recover_run.specs.declared.home.Home.{Home}
-use Rattle.commit_writes.specs.Writing.{Writing, writing_ask}
+use Rattle.commit_writes.specs.Writing.{Writing}
 use Rattle.commit_writes.specs.Calls.{Calls, told, all_logged}
 use Rattle.commit_writes.specs.Within.{Went}
 
@@ -69,17 +65,18 @@ pub record AreGone (home : Home) (records : List AtomicRec) (h : List Deed) : Ty
   pub are : told h ≡ all_logged home records ids ++ later
   pub gone : AllByRecursion (IsGone home.client h) ids
 
--- where the call of the step is calm it ends no other way; where all calls were and nobody else acted between them, the ATOMIC messages of a commit
--- are marked in the state that its last call left; where no call raised the count of faults, each was marked by its own deletion, whoever else acted
-pub record Well (who : Caller) (before after : Seen) (old : Writing) (turn : Turn CommitAnswer) : Type 0 where
-  pub answer : Answer
-  pub made : Makes who (writing_ask old) answer before after
-  pub well : (home : Home) (records : List AtomicRec) (h : List Deed) → Went home records h old
-      → IsCalm (record { who = who; ask = writing_ask old; answer = answer; before = before; after = after }) → EndsWell turn
-  pub marked : (home : Home) (records : List AtomicRec) (h : List Deed) → Went home records h old
-      → AreCalm (record { who = who; ask = writing_ask old; answer = answer; before = before; after = after } ∷ h)
-      → AreAlone (record { who = who; ask = writing_ask old; answer = answer; before = before; after = after } ∷ h)
-      → (x : ℕ) → turn ≡ Ended (Committed x) → (s : CloudState) → after.state ≡ Some s → AreMarked home records (told h ++ (writing_ask old, answer) ∷ []) s
-  pub gone : (home : Home) (records : List AtomicRec) (h : List Deed) → Went home records h old
-      → AllByRecursion RaisesNoFault (record { who = who; ask = writing_ask old; answer = answer; before = before; after = after } ∷ h)
-      → (x : ℕ) → turn ≡ Ended (Committed x) → AreGone home records (record { who = who; ask = writing_ask old; answer = answer; before = before; after = after } ∷ h)
+-- where the newest call of a step is calm it ends no other way
+abbrev pub Well : Deed → Writing → Turn CommitAnswer → Type 0
+Well call old turn = (home : Home) (records : List AtomicRec) (h : List Deed) → Went home records h old → IsCalm call → EndsWell turn
+
+-- where all calls were calm and nobody else acted between them, the ATOMIC messages of a commit are marked in the state that its last call left
+abbrev pub Marks : Deed → Writing → Turn CommitAnswer → Type 0
+Marks call old turn =
+    (home : Home) (records : List AtomicRec) (h : List Deed) → Went home records h old → AreCalm (call ∷ h) → AreAlone (call ∷ h) → (x : ℕ) → turn ≡ Ended (Committed x)
+    → (s : CloudState) → call.after.state ≡ Some s → AreMarked home records (told (call ∷ h)) s
+
+-- where no call raised the count of faults, each was marked by its own deletion, whoever else acted
+abbrev pub Clears : Deed → Writing → Turn CommitAnswer → Type 0
+Clears call old turn =
+    (home : Home) (records : List AtomicRec) (h : List Deed) → Went home records h old → AllByRecursion RaisesNoFault (call ∷ h) → (x : ℕ) → turn ≡ Ended (Committed x)
+    → AreGone home records (call ∷ h)

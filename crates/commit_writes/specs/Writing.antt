@@ -109,7 +109,7 @@ ask_at Finished w = head_ask w
 abbrev pub writing_ask : Writing → Ask
 writing_ask w = ask_at w.stage w
 
--- ---- where each answer leads
+-- ---- where each answer leads: at want of memory to a stop, and to no answer
 
 abbrev pub finished : Writing → Writing
 finished w = record w { stage = Finished }
@@ -192,11 +192,13 @@ left_open w t = Ends (finished w) (CommittedOpen t)
 -- after a send to the ATOMIC queue
 abbrev pub logged_by : Writing → Result ℕ Trouble → Next Writing CommitAnswer
 logged_by w (Ok id) = log_at (record w { ids = w.ids ++ id ∷ [] }) (w.place + 1)
+logged_by w (Err trouble.Memory) = Stops w trouble.Memory
 logged_by w (Err t) = not_committed w t
 
 -- after the put that commits: a late one did not land, and a failed one may have
 abbrev pub not_opened : Writing → Trouble → Next Writing CommitAnswer
 not_opened w (trouble.Late end now) = not_committed (closed_again w) (trouble.Late end now)
+not_opened w trouble.Memory = Stops w trouble.Memory
 not_opened w t = Ends (finished w) InDoubt
 
 abbrev pub opened_by : {A : Type 0} → Writing → Result A Trouble → Next Writing CommitAnswer
@@ -206,11 +208,13 @@ opened_by w (Err t) = not_opened w t
 -- after a send to a pending update queue
 abbrev pub sent_by : {A : Type 0} → Writing → Result A Trouble → Next Writing CommitAnswer
 sent_by w (Ok _) = send_at w (w.place + 1)
+sent_by w (Err trouble.Memory) = Stops w trouble.Memory
 sent_by w (Err t) = left_open w t
 
 -- after the put that settles
 abbrev pub settled_by : {A : Type 0} → Writing → Result A Trouble → Next Writing CommitAnswer
 settled_by w (Ok _) = delete_at w 0
+settled_by w (Err trouble.Memory) = Stops w trouble.Memory
 settled_by w (Err t) = left_open w t
 
 -- after a deletion, whatever it answered

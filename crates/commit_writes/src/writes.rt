@@ -3,7 +3,7 @@ ghost use Rattle.std.specs.Option.{option_copied};
 ghost use Rattle.std.specs.List.{AllByRecursion};
 ghost use Rattle.log_codec.specs.Atomic.{HasPlace};
 ghost use Rattle.cloud_trait.specs.Call.{ask_of};
-ghost use Rattle.cloud_trait.specs.Machine.{LeadsBy, Took, Steps};
+ghost use Rattle.cloud_trait.specs.Machine.{LeadsBy, Took};
 ghost use Rattle.cloud_trait.specs.Weather.{Makes};
 
 use crate::pruning::{prune_home_leaf, prune_home_tree};
@@ -76,14 +76,13 @@ impl Model for CommitWrites {
 
 impl CommitWrites {
     ghost use Rattle.commit_writes.specs.Writing.{Writing, waiting, writing_ready, routing, begun, writing_ask, writing_next, log_at, opening, send_at, settling, delete_at, logged_by, opened_by, sent_by, settled_by, deleted_by, not_committed, left_open, closed_again, finished, KeepsHome, KeepsLease, is_spent, numbered, pruned, opens_at};
-    ghost use Rattle.commit_writes.specs.Meaning.{Meant};
     ghost use Rattle.route_plan.specs.Prune.{pruned_by_leaf, pruned_by_tree};
     ghost use Rattle.commit_writes.specs.Ending.{calls_left};
     ghost use Rattle.commit_writes.specs.Sound.{IsSound};
     ghost use Rattle.commit_writes.specs.Within.{Went, IsWithin};
-    ghost use Rattle.commit_writes.specs.Exact.{Exact, IsRefusal};
+    ghost use Rattle.commit_writes.specs.Exact.{IsRefusal};
     ghost use Rattle.commit_writes.specs.Names.{IsOwnCall};
-    ghost use Rattle.commit_writes.specs.Well.{Well};
+    ghost use Rattle.commit_writes.specs.Stepped.{Stepped};
     ghost use Rattle.recover_run.specs.declared.home.Home.{Home as AnyHome};
     ghost use Rattle.log_codec.specs.declared.record.AtomicRec.{AtomicRec as AnyRecord};
     ghost use Rattle.cloud_trait.specs.Machine.{Deed};
@@ -374,7 +373,7 @@ impl CommitWrites {
     fn logged(&mut self, alloc: Global, sent: Result<MsgId, Trouble>) -> Turn<CommitAnswer>
         requires { 1 ≤ length self.old.records }
         ensures took { Took (λ w _ n. logged_by w sent ≡ n) KeepsHome self.old Answer.Failed self.new result }
-        ensures refused { IfErr sent (λ t. result ≢ Turn.Stopped Trouble.Memory) }
+        ensures refused { IfErr sent (λ t. t ≢ Trouble.Memory → result ≢ Turn.Stopped Trouble.Memory) }
     {
         match sent {
             Ok(id) => {
@@ -386,6 +385,7 @@ impl CommitWrites {
                     None => Turn::Stopped(Trouble::Memory),
                 }
             }
+            Err(Trouble::Memory) => Turn::Stopped(Trouble::Memory),
             Err(trouble) => self.not_committed(trouble),
         }
     }
@@ -393,7 +393,7 @@ impl CommitWrites {
     /// After the put that commits: a late one did not land, and a failed one may have.
     fn opened(&mut self, alloc: Global, done: Result<(), Trouble>) -> Turn<CommitAnswer>
         ensures took { Took (λ w _ n. opened_by w done ≡ n) KeepsHome self.old Answer.Failed self.new result }
-        ensures refused { IfErr done (λ t. result ≢ Turn.Stopped Trouble.Memory) }
+        ensures refused { IfErr done (λ t. t ≢ Trouble.Memory → result ≢ Turn.Stopped Trouble.Memory) }
     {
         match done {
             Ok(()) => self.send_at(alloc, 0),
@@ -401,6 +401,7 @@ impl CommitWrites {
                 self.restore(alloc);
                 self.not_committed(Trouble::Late { end, now })
             }
+            Err(Trouble::Memory) => Turn::Stopped(Trouble::Memory),
             Err(_) => {
                 self.stage = Stage::Finished;
                 Turn::Ended(CommitAnswer::InDoubt)
@@ -424,13 +425,14 @@ impl CommitWrites {
     /// After a send to a pending update queue.
     fn sent(&mut self, alloc: Global, sent: Result<MsgId, Trouble>) -> Turn<CommitAnswer>
         ensures took { Took (λ w _ n. sent_by w sent ≡ n) KeepsHome self.old Answer.Failed self.new result }
-        ensures refused { IfErr sent (λ t. result ≢ Turn.Stopped Trouble.Memory) }
+        ensures refused { IfErr sent (λ t. t ≢ Trouble.Memory → result ≢ Turn.Stopped Trouble.Memory) }
     {
         match sent {
             Ok(_) => match self.place.checked_add(1) {
                 Some(place) => self.send_at(alloc, place),
                 None => Turn::Stopped(Trouble::Memory),
             },
+            Err(Trouble::Memory) => Turn::Stopped(Trouble::Memory),
             Err(trouble) => self.left_open(trouble),
         }
     }
@@ -438,10 +440,11 @@ impl CommitWrites {
     /// After the put that settles.
     fn settled(&mut self, done: Result<(), Trouble>) -> Turn<CommitAnswer>
         ensures took { Took (λ w _ n. settled_by w done ≡ n) KeepsHome self.old Answer.Failed self.new result }
-        ensures refused { IfErr done (λ t. result ≢ Turn.Stopped Trouble.Memory) }
+        ensures refused { IfErr done (λ t. t ≢ Trouble.Memory → result ≢ Turn.Stopped Trouble.Memory) }
     {
         match done {
             Ok(()) => self.delete_at(0),
+            Err(Trouble::Memory) => Turn::Stopped(Trouble::Memory),
             Err(trouble) => self.left_open(trouble),
         }
     }
@@ -504,15 +507,12 @@ impl CommitWrites {
 
     /// Makes the call in hand, and does the local work up to the next one.
     pub fn step<C: Cloud>(&mut self, alloc: Global, cloud: &mut C, who: Who) -> Turn<CommitAnswer>
-        ensures steps { Steps writing_ask (LeadsBy writing_next) KeepsHome who (C.seen cloud.old) (C.seen cloud.new) self.old self.new result }
-        ensures means { Meant who (C.seen cloud.old) (C.seen cloud.new) self.old self.new result }
+        // One answer of the call, and all that is said of the step by it.
+        ensures stepped { Stepped who (C.seen cloud.old) (C.seen cloud.new) self.old self.new result }
         ensures sound { IsSound self.old }
         ensures less { result ≡ Turn.More → calls_left self.new < calls_left self.old }
         ensures within { (home : AnyHome) (records : List AnyRecord) (h : List Deed) → Went home records h self.old → IsWithin records h }
-        // It ends with each answer exactly where the calls demand it.
-        ensures exact { Exact who (C.seen cloud.old) (C.seen cloud.new) self.old result }
         ensures names { IsOwnCall self.old.home (writing_ask self.old) }
-        ensures well { Well who (C.seen cloud.old) (C.seen cloud.new) self.old result }
     {
         let answer = self.call(cloud, who);
         self.absorb(alloc, answer)

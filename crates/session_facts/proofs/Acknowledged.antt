@@ -97,6 +97,7 @@ module _ (entries : List Entry) (client : ℕ) (changes : List Noted) where
 
   logged : (w : Writing) (v : Result ℕ Trouble) → Keeps (logged_by w v)
   logged w (Ok id) = logs (record w { ids = w.ids ++ id ∷ []; place = w.place + 1 }) (slice_get w.records (w.place + 1))
+  logged w (Err trouble.Memory) = tt
   logged w (Err t) = tt
 
   sends : (w : Writing) (o : Option AtomicRec) → Keeps (send_or_settle w o)
@@ -108,6 +109,7 @@ module _ (entries : List Entry) (client : ℕ) (changes : List Noted) where
 
   not_open : (w : Writing) (t : Trouble) → Keeps (not_opened w t)
   not_open w (trouble.Late end now) = tt
+  not_open w trouble.Memory = tt
   not_open w t = tt
 
   opened : (w : Writing) (v : Result (Unit {0}) Trouble) → Keeps (opened_by w v)
@@ -118,6 +120,7 @@ module _ (entries : List Entry) (client : ℕ) (changes : List Noted) where
   module _ (w : Writing) (has : HasEntries entries client w.home.attempt changes) where
     sent : (v : Result ℕ Trouble) → Keeps (sent_by w v)
     sent (Ok id) = sends_at w (w.place + 1)
+    sent (Err trouble.Memory) = tt
     sent (Err t) = (w.home.attempt, has)
 
     deletes : (n : ℕ) (o : Option ℕ) → Keeps (delete_or_end (record w { place = n }) o)
@@ -129,6 +132,7 @@ module _ (entries : List Entry) (client : ℕ) (changes : List Noted) where
 
     settled : (v : Result (Unit {0}) Trouble) → Keeps (settled_by w v)
     settled (Ok x) = deletes_at 0
+    settled (Err trouble.Memory) = tt
     settled (Err t) = (w.home.attempt, has)
 
     deleted : (v : Result (Unit {0}) Trouble) → Keeps (deleted_by w v)

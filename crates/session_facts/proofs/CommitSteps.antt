@@ -29,6 +29,7 @@ logs_or_opens w None as_many = (refl, refl, ap phase.Open as_many)
 
 logged : (w : Writing) (g : Result ℕ Trouble) → length w.records ≡ length w.changes → WritesFor w.changes w.home.client (logged_by w g)
 logged w (Ok id) as_many = logs_or_opens (record w { ids = w.ids ++ id ∷ []; place = w.place + 1 }) (slice_get w.records (w.place + 1)) as_many
+logged w (Err trouble.Memory) as_many = refl
 logged w (Err t) as_many = refl
 
 -- ---- the head that commits, and what comes behind it
@@ -42,6 +43,7 @@ sends w n = sends_or_settles (record w { place = n }) (slice_get w.records n)
 
 not_open : (w : Writing) (t : Trouble) → WritesFor w.changes w.home.client (not_opened w t)
 not_open w (trouble.Late end now) = refl
+not_open w trouble.Memory = refl
 not_open w t = refl
 
 opened : (w : Writing) (g : Result (Unit {0}) Trouble) → WritesFor w.changes w.home.client (opened_by w g)
@@ -50,6 +52,7 @@ opened w (Err t) = not_open w t
 
 sent : (w : Writing) (g : Result ℕ Trouble) → WritesFor w.changes w.home.client (sent_by w g)
 sent w (Ok _) = sends w (w.place + 1)
+sent w (Err trouble.Memory) = refl
 sent w (Err t) = refl
 
 deletes_or_ends : (w : Writing) (o : Option ℕ) → WritesFor w.changes w.home.client (delete_or_end w o)
@@ -61,6 +64,7 @@ deletes w n = deletes_or_ends (record w { place = n }) (slice_get w.ids n)
 
 settled : (w : Writing) (g : Result (Unit {0}) Trouble) → WritesFor w.changes w.home.client (settled_by w g)
 settled w (Ok _) = deletes w 0
+settled w (Err trouble.Memory) = refl
 settled w (Err t) = refl
 
 deleted : (w : Writing) (g : Result (Unit {0}) Trouble) → WritesFor w.changes w.home.client (deleted_by w g)

@@ -59,6 +59,7 @@ module _ (epoch bound : ℕ) where
 
   logged : (w : Writing) (g : Result ℕ Trouble) → IsFrom w.home → WritesFrom (logged_by w g)
   logged w (Ok id) f = logs_or_opens (record w { ids = w.ids ++ id ∷ []; place = w.place + 1 }) (slice_get w.records (w.place + 1)) f
+  logged w (Err trouble.Memory) f = tt
   logged w (Err t) f = let u = from_upto w.home f in (u.epoch_is, u.upto)
 
   sends_or_settles : (w : Writing) (o : Option AtomicRec) → IsUpto w.home → WritesFrom (send_or_settle w o)
@@ -70,6 +71,7 @@ module _ (epoch bound : ℕ) where
 
   not_open : (w : Writing) (t : Trouble) → IsUpto w.home → WritesFrom (not_opened w t)
   not_open w (trouble.Late end now) f = (f.epoch_is, f.upto)
+  not_open w trouble.Memory f = tt
   not_open w t f = (f.epoch_is, f.upto)
 
   opened : (w : Writing) (g : Result (Unit {0}) Trouble) → IsUpto w.home → WritesFrom (opened_by w g)
@@ -78,6 +80,7 @@ module _ (epoch bound : ℕ) where
 
   sent : (w : Writing) (g : Result ℕ Trouble) → IsUpto w.home → WritesFrom (sent_by w g)
   sent w (Ok _) f = sends w (w.place + 1) f
+  sent w (Err trouble.Memory) f = tt
   sent w (Err t) f = (f.epoch_is, f.upto)
 
   deletes_or_ends : (w : Writing) (o : Option ℕ) → IsUpto w.home → WritesFrom (delete_or_end w o)
@@ -89,6 +92,7 @@ module _ (epoch bound : ℕ) where
 
   settled : (w : Writing) (g : Result (Unit {0}) Trouble) → IsUpto w.home → WritesFrom (settled_by w g)
   settled w (Ok _) f = deletes w 0 f
+  settled w (Err trouble.Memory) f = tt
   settled w (Err t) f = (f.epoch_is, f.upto)
 
   deleted : (w : Writing) (g : Result (Unit {0}) Trouble) → IsUpto w.home → WritesFrom (deleted_by w g)

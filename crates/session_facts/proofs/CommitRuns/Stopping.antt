@@ -60,6 +60,7 @@ IsFair May (Err t) = May t
 -- a put that commits and was not late is in doubt: it failed
 abbrev pub MayDoubt : (Trouble → Type 0) → Trouble → Type 0
 MayDoubt May (trouble.Late end now) = May (trouble.Late end now)
+MayDoubt May trouble.Memory = May trouble.Memory
 MayDoubt May t = May trouble.Failed
 
 abbrev pub IsOpeningFair : {X : Type 0} → (Trouble → Type 0) → Result X Trouble → Type 0
@@ -102,6 +103,7 @@ module _ (May : Trouble → Type 0) (spent : (what : Counter) → May (trouble.E
 
   logged : (w : Writing) (g : Result ℕ Trouble) → IsFair May g → WritesWell May (logged_by w g)
   logged w (Ok id) may = logs (record w { ids = w.ids ++ id ∷ []; place = w.place + 1 }) (slice_get w.records (w.place + 1))
+  logged w (Err trouble.Memory) may = may
   logged w (Err t) may = may
 
   sends : (w : Writing) (n : ℕ) → WritesWell May (send_at w n)
@@ -113,6 +115,7 @@ module _ (May : Trouble → Type 0) (spent : (what : Counter) → May (trouble.E
 
   not_open : (w : Writing) (t : Trouble) → MayDoubt May t → WritesWell May (not_opened w t)
   not_open w (trouble.Late end now) may = may
+  not_open w trouble.Memory may = may
   not_open w t may = may
 
   opened : (w : Writing) (g : Result (Unit {0}) Trouble) → IsOpeningFair May g → WritesWell May (opened_by w g)
@@ -121,6 +124,7 @@ module _ (May : Trouble → Type 0) (spent : (what : Counter) → May (trouble.E
 
   sent : (w : Writing) (g : Result ℕ Trouble) → IsFair May g → WritesWell May (sent_by w g)
   sent w (Ok id) may = sends w (w.place + 1)
+  sent w (Err trouble.Memory) may = may
   sent w (Err t) may = may
 
   deletes : (w : Writing) (n : ℕ) → WritesWell May (delete_at w n)
@@ -132,6 +136,7 @@ module _ (May : Trouble → Type 0) (spent : (what : Counter) → May (trouble.E
 
   settled : (w : Writing) (g : Result (Unit {0}) Trouble) → IsFair May g → WritesWell May (settled_by w g)
   settled w (Ok x) may = deletes w 0
+  settled w (Err trouble.Memory) may = may
   settled w (Err t) may = may
 
   deleted : (w : Writing) (g : Result (Unit {0}) Trouble) → May trouble.Memory → WritesWell May (deleted_by w g)

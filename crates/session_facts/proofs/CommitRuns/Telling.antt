@@ -74,6 +74,7 @@ logs w None = tt
 
 logged : (w : Writing) (g : Result ℕ Trouble) → Refuses g → TellsWriting (logged_by w g)
 logged w (Ok id) of = logs (record w { ids = w.ids ++ id ∷ []; place = w.place + 1 }) (slice_get w.records (w.place + 1))
+logged w (Err trouble.Memory) of = tt
 logged w (Err t) of = of.1
 
 sends : (w : Writing) (n : ℕ) → TellsWriting (send_at w n)
@@ -85,6 +86,7 @@ sends w n = on (slice_get w.records n)
 
 not_open : (w : Writing) (t : Trouble) → TellsWriting (not_opened w t)
 not_open w (trouble.Late end now) = λ e. cc
+not_open w trouble.Memory = tt
 not_open w t = tt
 
 opened : (w : Writing) (g : Result (Unit {0}) Trouble) → TellsWriting (opened_by w g)
@@ -93,6 +95,7 @@ opened w (Err t) = not_open w t
 
 sent : (w : Writing) (g : Result ℕ Trouble) → Refuses g → TellsWriting (sent_by w g)
 sent w (Ok id) of = sends w (w.place + 1)
+sent w (Err trouble.Memory) of = tt
 sent w (Err t) of = of.0
 
 deletes : (w : Writing) (n : ℕ) → TellsWriting (delete_at w n)
@@ -104,6 +107,7 @@ deletes w n = on (slice_get w.ids n)
 
 settled : (w : Writing) (g : Result (Unit {0}) Trouble) → Refuses g → TellsWriting (settled_by w g)
 settled w (Ok x) of = deletes w 0
+settled w (Err trouble.Memory) of = tt
 settled w (Err t) of = of.0
 
 deleted : (w : Writing) (g : Result (Unit {0}) Trouble) → TellsWriting (deleted_by w g)

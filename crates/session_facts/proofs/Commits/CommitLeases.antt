@@ -26,6 +26,7 @@ logs w None = refl
 
 logged : (w : Writing) (g : Result ℕ Trouble) → LeaseStays w.home.lease (logged_by w g)
 logged w (Ok id) = logs (record w { ids = w.ids ++ id ∷ []; place = w.place + 1 }) (slice_get w.records (w.place + 1))
+logged w (Err trouble.Memory) = refl
 logged w (Err t) = refl
 
 sends : (w : Writing) (o : Option AtomicRec) → LeaseStays w.home.lease (send_or_settle w o)
@@ -52,6 +53,7 @@ opened w (Err t) = not_open w t
 
 sent : (w : Writing) (g : Result ℕ Trouble) → LeaseStays w.home.lease (sent_by w g)
 sent w (Ok id) = sends (record w { place = w.place + 1 }) (slice_get w.records (w.place + 1))
+sent w (Err trouble.Memory) = refl
 sent w (Err t) = refl
 
 deletes : (w : Writing) (o : Option ℕ) → LeaseStays w.home.lease (delete_or_end w o)
@@ -60,6 +62,7 @@ deletes w None = refl
 
 settled : (w : Writing) (g : Result (Unit {0}) Trouble) → LeaseStays w.home.lease (settled_by w g)
 settled w (Ok done) = deletes (record w { place = 0 }) (slice_get w.ids 0)
+settled w (Err trouble.Memory) = refl
 settled w (Err t) = refl
 
 deleted : (w : Writing) (g : Result (Unit {0}) Trouble) → LeaseStays w.home.lease (deleted_by w g)

@@ -186,10 +186,12 @@ module _ (u : Store) (now : ℕ) (w : Writing) (part : Part) where
   pub logged_known : (v : Result ℕ Trouble) → ((id : ℕ) → v ≡ Ok id → Known (log_at (record w { ids = w.ids ++ id ∷ [] }) (w.place + 1)) u now part) → IsLeft w.home.head
       → Known (logged_by w v) u now part
   logged_known (Ok id) done left = done id refl
+  logged_known (Err trouble.Memory) done left = refl
   logged_known (Err t) done left = left
 
   not_opened_known : (t : Trouble) → ((end late : ℕ) → t ≡ trouble.Late end late → IsLeft (restored w.home.head w.before)) → Known (not_opened w t) u now part
   not_opened_known (trouble.Late end late) left = left end late refl
+  not_opened_known trouble.Memory left = refl
   not_opened_known t left = refl
 
   abbrev err_of : Trouble → Result (Unit {0}) Trouble
@@ -202,10 +204,12 @@ module _ (u : Store) (now : ℕ) (w : Writing) (part : Part) where
 
   pub sent_known : (v : Result ℕ Trouble) → ((id : ℕ) → v ≡ Ok id → Known (send_at w (w.place + 1)) u now part) → Known (sent_by w v) u now part
   sent_known (Ok id) done = done id refl
+  sent_known (Err trouble.Memory) done = refl
   sent_known (Err t) done = refl
 
   pub settled_known : (v : Result (Unit {0}) Trouble) → (v ≡ Ok tt → Known (delete_at w 0) u now part) → Known (settled_by w v) u now part
   settled_known (Ok tt) done = done refl
+  settled_known (Err trouble.Memory) done = refl
   settled_known (Err t) done = refl
 
   pub deleted_known : (v : Result (Unit {0}) Trouble) → Known (delete_at w (w.place + 1)) u now part → Known (deleted_by w v) u now part

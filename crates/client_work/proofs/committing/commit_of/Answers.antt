@@ -15,5 +15,5 @@ returns-in-Ended c =
 
 pub returns-in-Stopped : goal.returns-in-Stopped
 returns-in-Stopped c =
-    let stops = memory_stops c.args.home c.args.changes c.new-commit.result c.ready.new.self c.ready.result c.in-Stopped.trouble c.new-commit.ensures c.ready.ensures.means c.ready.ensures.kept c.in-Stopped.is in
+    let stops = memory_stops c.args.home c.args.changes c.new-commit.result c.ready.new.self c.args.cache.now c.ready.result c.in-Stopped.trouble c.new-commit.ensures c.ready.ensures.means c.ready.ensures.kept c.in-Stopped.is in
     inr (c.requires, (stops.0, c.broken.ensures ∙ ap Broken stops.1))

@@ -1,5 +1,6 @@
 use Rattle.std.proofs.Common.{subst}
 use Rattle.commit_run.specs.Run.{Run, run_ready, Led}
+use Rattle.commit_run.proofs.Causing.{ready_causes}
 use Rattle.commit_run.proofs.Meaning.{ready_means}
 use Rattle.commit_run.proofs.Ending.{ready_most}
 use Rattle.commit_run.proofs.Exacting.{ready_exact}
@@ -18,4 +19,9 @@ returns-clause-calls c =
 pub returns-clause-exact : goal.returns-clause-exact
 returns-clause-exact c =
     λ home changes new. ready_exact home changes c.args.cache.now c.args.self.now (record { draft = c.begin-hand.new.self; hand = c.begin-hand.result.0 }, c.begin-hand.new.cache) c.begin-hand.result.1 new
+    (subst (λ (r : Run). Led (run_ready (r, c.args.cache.now)) (record { draft = c.begin-hand.new.self; hand = c.begin-hand.result.0 }, c.begin-hand.new.cache) c.begin-hand.result.1) c.self.view_is c.begin-hand.ensures.led)
+
+pub returns-clause-causes : goal.returns-clause-causes
+returns-clause-causes c =
+    λ home changes new. ready_causes home changes c.args.cache.now c.args.self.now (record { draft = c.begin-hand.new.self; hand = c.begin-hand.result.0 }, c.begin-hand.new.cache) c.begin-hand.result.1 new
     (subst (λ (r : Run). Led (run_ready (r, c.args.cache.now)) (record { draft = c.begin-hand.new.self; hand = c.begin-hand.result.0 }, c.begin-hand.new.cache) c.begin-hand.result.1) c.self.view_is c.begin-hand.ensures.led)

@@ -5,7 +5,7 @@ ghost use Rattle.cloud_trait.specs.Claim.{Claim};
 
 use crate::fault::FolderFault;
 use crate::files::{
-    flush_names, keep_folder, look, make_folder, make_new, open_there, read, remove,
+    flush_names, keep_folder, look, make_folder, make_new, open_or_make, open_there, read, remove,
 };
 use crate::held::{Held, landed};
 use crate::numbers::{hold_bytes, hold_in, id_in, id_name, number_in};
@@ -260,23 +260,21 @@ impl<R: Files<File = File> + AllocGlobal + Drop> Folder<R> {
         Ok(ids.len() as u64)
     }
 
-    /// Deletes a message, where it is there.
-    pub fn delete(&self, held: &Held, queue: &QueueName, id: MsgId) -> Result<(), FolderFault> {
+    /// Deletes a message, where it is there. Neither that nor the note of its number is flushed: a message that comes back after a
+    /// power failure is one that a receive may answer anyway, and nobody who knew a number that comes again is there any more.
+    pub fn delete(&self, _held: &Held, queue: &QueueName, id: MsgId) -> Result<(), FolderFault> {
         let queue = self.queue_part(queue)?;
         let name = id_name(self.rt.alloc(), id.get())?;
         let path = self.path(queue.as_str(), name.as_str())?;
         if look(&self.rt, path.as_str())?.is_none() {
             return Ok(());
         }
-        self.note(held, queue.as_str(), id.get())?;
-        let names = self.names(queue.as_str())?;
-        held.mark(queue.as_str())?;
-        fs::remove_file(&self.rt, path.as_str())?;
-        held.flush(&names)
+        self.note(queue.as_str(), id.get())?;
+        remove(&self.rt, path.as_str())
     }
 
-    // Notes the number of a message that is deleted, where it may be the greatest: no later one is to have it again.
-    fn note(&self, held: &Held, queue: &str, id: u64) -> Result<(), FolderFault> {
+    // Notes the number of a message that is to be deleted, where it may be the greatest, so that no later one has it again.
+    fn note(&self, queue: &str, id: u64) -> Result<(), FolderFault> {
         if id <= self.noted(queue)? {
             return Ok(());
         }
@@ -285,7 +283,10 @@ impl<R: Files<File = File> + AllocGlobal + Drop> Folder<R> {
         if id < u64::MAX && look(&self.rt, path.as_str())?.is_some() {
             return Ok(());
         }
-        self.write(held, queue, LAST, &id.to_be_bytes())
+        let path = self.path(queue, LAST)?;
+        let file = open_or_make(&self.rt, path.as_str())?;
+        file.write_all_at(&id.to_be_bytes(), 0)?;
+        Ok(())
     }
 
     // How a lock stands, by the name of its file.

@@ -30,7 +30,7 @@ use Rattle.session_facts.proofs.Runs.Runs.{run_in}
 use Rattle.session_facts.proofs.Settled.Draining.{item_ids}
 use Rattle.session_facts.proofs.Settled.PageDrains.{ending, story, turn, known, went as went_there, done, page_drains, right_read, same_rights}
 use Rattle.session_facts.proofs.Settled.PageStories.{GoesFrom, goes_from, turn_page}
-use Rattle.session_facts.proofs.Settled.PageVisits.{Comes, step_comes, came_apart}
+use Rattle.session_facts.proofs.Settled.PageVisits.{Visits, step_visits, came_apart}
 use Rattle.session_facts.proofs.Settled.Queues.{empty_of}
 use Rattle.session_facts.proofs.Settled.TreeLists.{pages_fit}
 use Rattle.session_facts.specs.PageCheckpoints.Checkpoint.{KnowsPagingAt}
@@ -67,7 +67,7 @@ story_linked first [] tree page p now told =
     let begun : new_paging tree page ≡ p = cc (told.0) in
     inr (subst (λ (x : Paging). AreLinked (store_at now) tree x.visited) begun (λ q is. absurd (none_in q is)))
 story_linked first (d ∷ h) tree page p now (from, (before, (told, turning, leads))) =
-    on (step_comes f.was d.answer (Goes p) f.leads) (linked_before (story_linked first h tree page f.was before (subst (λ (w : Part). PartStory first h w before) f.is told)))
+    on (step_visits f.was d.answer (Goes p) f.leads) (linked_before (story_linked first h tree page f.was before (subst (λ (w : Part). PartStory first h w before) f.is told)))
   where
     f : GoesFrom tree page from d.answer p
     f = goes_from tree page p from d.answer leads
@@ -79,7 +79,7 @@ story_linked first (d ∷ h) tree page p now (from, (before, (told, turning, lea
     linked_before (inl stage) = linked_on (store_at before) (store_at now) tree f.was.visited turned.grows (taking_linked d tree page f.was before now turned stage)
     linked_before (inr linked) = linked_on (store_at before) (store_at now) tree f.was.visited turned.grows linked
 
-    on : Comes f.was (Goes p) → AreLinked (store_at now) tree f.was.visited → (p.stage ≡ TakingRight) ⊎ AreLinked (store_at now) tree p.visited
+    on : Visits f.was (Goes p) → AreLinked (store_at now) tree f.was.visited → (p.stage ≡ TakingRight) ⊎ AreLinked (store_at now) tree p.visited
     on (inl same) linked = inr (subst (AreLinked (store_at now) tree) (sym same) linked)
     on (inr more) linked = inl more.0
 
@@ -176,8 +176,8 @@ module _ (tree page : ℕ) (m : Paging) (h : List Deed) (first last : Moment) (r
   abbrev was : Paging
   was = (ending tree page m h first last ran).was
 
-  over : Comes was (Ends m (ending tree page m h first last ran).answer)
-  over = step_comes was ran.end.answer (Ends m (ending tree page m h first last ran).answer) (ending tree page m h first last ran).leads
+  over : Visits was (Ends m (ending tree page m h first last ran).answer)
+  over = step_visits was ran.end.answer (Ends m (ending tree page m h first last ran).answer) (ending tree page m h first last ran).leads
 
   linked : AreLinked (store_at last) tree was.visited
   linked = on (story_linked first ran.earlier tree page was ran.before (story tree page m h first last ran))

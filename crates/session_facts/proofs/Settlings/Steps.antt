@@ -29,7 +29,7 @@ use Rattle.settle_run.specs.declared.part.Part.TheVariants.{Client, Tree, Page}
 use Rattle.settle_run.specs.Parts.{part_ask, IsSoundPart, recovers, makes, pages}
 use Rattle.settle_run.specs.Settling.{Settling, Step, settle_ask, moved}
 use Rattle.session_facts.specs.Settlings.Settling.{KnowsAtWork, KnowsSettling, KnowsNext, KnowsAfter, leases_at_work, leases_of_settling, note_at_work, settling_note}
-use Rattle.session_facts.proofs.Settlings.Pagings.{Keeps as KeepsPage, paging_keeps}
+use Rattle.session_facts.proofs.PagingPage.{Stays as StaysAtPage, paging_stays}
 use Rattle.session_facts.proofs.Settlings.Passing.{WorksNext, KnowsMoved, KnowsBehind, moved_knows}
 use Rattle.session_facts.proofs.Settlings.Rights.{way_stays}
 use Rattle.session_facts.proofs.Settlings.Ways.{WayIn, part_way, moved_way}
@@ -113,9 +113,9 @@ module _ (st : Store) (now : ℕ) (part : Part) where
   paging_moves : (u : Store) (before : Part) (tree page : ℕ) (m : Paging) (reply : Answer) → before ≡ Away → IsTree tree → IsPage page → m.tree ≡ tree → m.page ≡ page
       → Aside u before (KnowsPaged m reply) st now part → KnowsBehind (Page tree page m) reply st now part
   paging_moves u before tree page m reply away of_tree of_page tree_is page_is a n (step, leads, to) =
-      subst (λ q. KnowsMoved q st now part) (sym to) (on step (paging_keeps m reply step leads) (a.knows step leads))
+      subst (λ q. KnowsMoved q st now part) (sym to) (on step (paging_stays m reply step leads) (a.knows step leads))
     where
-      on : (step : PageStep) → KeepsPage m step → KnowsPagingNext st now m.page step → KnowsMoved (pages tree page step) st now part
+      on : (step : PageStep) → StaysAtPage m step → KnowsPagingNext st now m.page step → KnowsMoved (pages tree page step) st now part
       on (Goes q) keeps k = record { tree_is = keeps.0 ∙ tree_is; page_is = keeps.1 ∙ page_is; knows = k; away = a.part_is ∙ away }
       on (Ends q x) keeps k = ((of_tree, of_page), a.part_is ∙ away)
       on (Stops q t) keeps k = a.part_is ∙ away

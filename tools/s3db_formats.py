@@ -339,7 +339,8 @@ def lock_name(name):
 OBJECT_FILE = re.compile(r"(head|tree)-([0-9a-f]{2})|(page)-([0-9a-f]{2})([0-9a-f]{16})")
 QUEUE_FOLDER = re.compile(r"(atomic)-([0-9a-f]{2})|(updates)-([0-9a-f]{2})([0-9a-f]{16})")
 MESSAGE_FILE = re.compile(r"[0-9a-f]{16}")
-# Files that stand among others and are no object, lock or message: one that was being written, and the last number of a queue.
+# Files that stand among others and are no object, lock or message: one that was being written, and the greatest number that a queue gave
+# to a message that is gone.
 ASIDE, LAST = "aside", "last"
 
 
@@ -375,7 +376,9 @@ def object_file(name):
 
 
 def lock_in(data):
-    """How often a lock was taken and until when it is held, or None where it is no lock's file."""
+    """How often a lock was taken and until when it is held, or None where it is no lock's file. An empty one was never taken."""
+    if not data:
+        return 0, 0
     return (int.from_bytes(data[:8], "big"), int.from_bytes(data[8:], "big")) if len(data) == 16 else None
 
 

@@ -43,3 +43,4 @@ pub mod SettledLemmas
 pub mod ReportLemmas
 pub mod Answering
 pub mod Acknowledged
+pub mod LeftNone

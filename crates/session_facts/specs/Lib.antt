@@ -17,3 +17,4 @@ pub mod Answers
 pub mod Acknowledged
 pub mod Added
 pub mod Opened
+pub mod LeftNone

@@ -14,7 +14,9 @@ pub mod BeginLemmas
 pub mod EveryLine
 pub mod Keeping
 pub mod Sound
+pub mod CommitReplies
 pub mod Acknowledged
+pub mod LeftNone
 pub mod Explained
 pub mod Bounded
 pub mod Calm

@@ -6,6 +6,7 @@ pub mod Handled
 pub mod Stands
 pub mod Sound
 pub mod Acknowledged
+pub mod LeftNone
 pub mod EachStep
 pub mod Explained
 pub mod Bounded

@@ -7,6 +7,7 @@ use Rattle.world_core.proofs.Settled.{settling_ends, settling_leaves, settling_r
 use Rattle.world_core.proofs.Shown.{shown}
 use Rattle.world_core.proofs.Sound.{sound_after}
 use Rattle.world_core.proofs.Acknowledged.{durable_after}
+use Rattle.world_core.proofs.LeftNone.{nothing_after}
 use Rattle.world_core.proofs.world.World.event.Goals as goal
 
 pub returns-clause-stands : goal.returns-clause-stands
@@ -41,3 +42,5 @@ returns-clause-settling g c = settling_right _ _ _ _ _ _ _
 
 pub returns-clause-keeps : goal.returns-clause-keeps
 returns-clause-keeps g c = keeps_book _ _ _ _ _ _ _ c.handle.ensures.handled
+pub returns-clause-left_nothing : goal.returns-clause-left_nothing
+returns-clause-left_nothing g c = nothing_after _ _ _ _ _ _ _ c.handle.ensures.handled

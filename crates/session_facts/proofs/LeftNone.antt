@@ -1,0 +1,402 @@
+-- A commit that is answered `not-committed` left nothing among what was committed.
+use Rattle.std.proofs.Common.{◌≡◌, ◌+◌, ℕ, zero, suc, Bool, true, false, cond, List, [], ◌∷◌, ◌++◌, Option, Some, None, Result, Ok, Err, refl, sym, ap, subst, ◌∙◌, arith}
+use Rattle.std.specs.Prelude.{All, map, slice_get}
+use Rattle.std.proofs.lemmas.List.{append-nil}
+use Rattle.client_work.specs.Session.{Acting, StepsSession, StepsCommit, ShowsAt}
+use Rattle.client_work.specs.declared.answer.Answer.TheVariants as answer
+use Rattle.client_work.specs.declared.shown.Shown.{Shown}
+use Rattle.client_work.specs.declared.work.Work.{Work}
+use Rattle.client_work.specs.declared.work.Work.TheVariants as work
+use Rattle.cloud_facts.specs.Book.Messages.{IsLogMessage}
+use Rattle.cloud_facts.specs.Book.Records.{IsIn, entry_of, entries_of}
+use Rattle.cloud_facts.specs.Book.Tally.{Store}
+use Rattle.cloud_facts.specs.Homes.Homes.{Home, Part, Parts, HomeHolds, PartHolds, HomesHold}
+use Rattle.cloud_facts.specs.Lefts.Left.{WasLogged, Leaves as LeavesLog}
+use Rattle.cloud_facts.specs.Tellings.Told.{store_of}
+use Rattle.cloud_trait.proofs.RowLemmas.{leaves_by}
+use Rattle.cloud_trait.specs.Ask.{Ask, Get, PutHeld, Send}
+use Rattle.cloud_trait.specs.Caller.{Caller}
+use Rattle.cloud_trait.specs.Machine.{Next, Goes, Ends, Stops}
+use Rattle.cloud_trait.specs.Seen.{Seen}
+use Rattle.cloud_trait.specs.State.{CloudState, Counts, called}
+use Rattle.cloud_trait.specs.Views.{sent_of, done_of}
+use Rattle.cloud_trait.specs.Weather.{Leaves}
+use Rattle.cloud_trait.specs.declared.answer.Answer.{Answer as Reply}
+use Rattle.cloud_trait.specs.declared.answer.Answer.TheVariants.{Done, Late, Memory}
+use Rattle.cloud_trait.specs.declared.turn.Turn.TheVariants.{Ended}
+use Rattle.commit_run.specs.Draft.{Draft, pruned_by_root, pruned_by_kept, pruned_with, planned, pruned_behind, leaf_noted, paged}
+use Rattle.commit_run.specs.Run.{Run, home_of, wrote, troubled, by_turn, begun_turn, seek, plan_on, next_target, is_stale, stale_at, walk_stopped, walk_turned, walked, ask_at, next_at as run_next_at}
+use Rattle.commit_run.specs.declared.hand.Hand.{Hand}
+use Rattle.commit_run.specs.declared.hand.Hand.TheVariants.{Writes, First, Change}
+use Rattle.commit_writes.specs.Writing.{ask_at as written_ask}
+use Rattle.commit_writes.specs.Writing.{Writing, head_ask, log_or_open, not_committed, routed_of, passes, begun, routing, next_at, send_or_settle, delete_or_end, logged_by, opened_by, sent_by, settled_by, deleted_by}
+use Rattle.commit_writes.specs.declared.stage.Stage.{Stage}
+use Rattle.commit_writes.specs.declared.stage.Stage.TheVariants.{Waiting, Logging, Opening, Sending, Settling, Deleting, Finished}
+use Rattle.db_base.specs.declared.names.ObjName.{ObjName}
+use Rattle.db_base.specs.declared.names.ObjName.TheVariants as object
+use Rattle.db_base.specs.declared.trouble.CommitAnswer.{CommitAnswer}
+use Rattle.db_base.specs.declared.trouble.CommitAnswer.TheVariants.{Committed, NotCommitted, InDoubt, CommittedOpen}
+use Rattle.db_base.specs.declared.trouble.Counter.TheVariants as counter
+use Rattle.db_base.specs.declared.trouble.Trouble.{Trouble}
+use Rattle.db_base.specs.declared.trouble.Trouble.TheVariants as trouble
+use Rattle.history.specs.Audited.{Audited}
+use Rattle.leaf_view.specs.Leaf.{Leaf}
+use Rattle.log_codec.specs.declared.record.AtomicRec.{AtomicRec}
+use Rattle.node_codec.specs.Tree.{Tree}
+use Rattle.page_cache.specs.Cache.{Cache}
+use Rattle.recover_run.specs.declared.home.Home.{Home as Held}
+use Rattle.replay_meaning.specs.Committed.{committed}
+use Rattle.replay_meaning.specs.Standing.{Line, Posture, Working, Committing, Standing, standing}
+use Rattle.report_types.specs.declared.entry.Entry.{Entry}
+use Rattle.session_facts.proofs.CommittedLemmas.{put_entries, committed_effect, committed_called, placed_called}
+use Rattle.session_facts.specs.Commits.Committing.{Attempt, attempt_of, IsOfAttempt, KnowsTaken, KnowsCommitAt}
+use Rattle.session_facts.specs.CommitRuns.Running.{KnowsHand, KnowsRun}
+use Rattle.session_facts.specs.Facts.{IsPlaced, WorksAs, CloudHolds}
+use Rattle.session_facts.specs.LeftNone.{HasNone, HasLeftNone, LeavesNoneAt}
+use Rattle.session_facts.specs.Sessions.Sessions.{Sessions, KnowsWork}
+use Rattle.tree_walk.specs.Walk.{Walk, object_of, new_walk, walk_ready, walk_next}
+use Rattle.txn_buffer.specs.Noted.{Noted}
+
+-- ---- a commit keeps its transaction
+
+-- a home of the client, at this attempt of its epoch
+record IsOf (client epoch attempt : ℕ) (home : Held) : Type 0 where
+  client_is : home.client ≡ client
+  epoch_is : home.head.epoch ≡ epoch
+  attempt_is : home.attempt ≡ attempt
+
+module _ (client epoch attempt : ℕ) where
+  abbrev Own : Held → Type 0
+  Own home = IsOf client epoch attempt home
+
+  -- where a walk's turn leads, it ends so
+  abbrev RunsOf : Next (Run × Cache) CommitAnswer → Type 0
+  RunsOf (Goes m) = Unit {0}
+  RunsOf (Ends m a) = Own (home_of m.0)
+  RunsOf (Stops m t) = Unit {0}
+
+  by_root : (w : Writing) (tree : ℕ) (o : Option Tree) → Own w.home → Own (pruned_by_root w tree o).home
+  by_root w tree (Some root) f = record { client_is = f.client_is; epoch_is = f.epoch_is; attempt_is = f.attempt_is }
+  by_root w tree None f = f
+
+  by_leaf : (w : Writing) (tree : ℕ) (o : Option Leaf) → Own w.home → Own (pruned_by_kept w tree o).home
+  by_leaf w tree (Some leaf) f = record { client_is = f.client_is; epoch_is = f.epoch_is; attempt_is = f.attempt_is }
+  by_leaf w tree None f = f
+
+  by_use : (w : Writing) (c : Cache) (o : Option ObjName) → Own w.home → Own (pruned_with w c o).home
+  by_use w c None f = f
+  by_use w c (Some (object.Head k)) f = f
+  by_use w c (Some (object.Tree tree)) f = by_root w tree _ f
+  by_use w c (Some (object.Page tree page)) f = by_leaf w tree _ f
+
+  routes : (d : Draft) (c : Cache) → Own d.writes.home → RunsOf (wrote d c (routing d.writes d.plan.pages))
+  routes d c f = on (passes records)
+    where
+      records : List AtomicRec
+      records = routed_of d.writes.home d.writes.changes d.plan.pages
+
+      begins : (o : Option AtomicRec) → RunsOf (wrote d c (log_or_open (record d.writes { records = records; place = 0 }) o))
+      begins (Some r) = tt
+      begins None = tt
+
+      on : (b : Bool) → RunsOf (wrote d c (cond b (not_committed d.writes (trouble.Exhausted counter.Number)) (begun d.writes records)))
+      on true = f
+      on false = begins (slice_get records 0)
+
+  stops_so : (d : Draft) (c : Cache) (t : Trouble) → Own d.writes.home → RunsOf (troubled d c t)
+  stops_so d c trouble.Memory f = tt
+  stops_so d c t f = f
+
+  begins_walk : (d : Draft) (n : Next (Walk × Cache) ℕ) → Own d.writes.home → RunsOf (by_turn (begun_turn false d) n)
+  begins_walk d (Goes m) f = tt
+  begins_walk d (Ends m page) f = tt
+  begins_walk d (Stops m t) f = stops_so (pruned_behind d m.0 m.1) m.1 t (by_use d.writes m.1 m.0.used f)
+
+  seeks : (d : Draft) (c : Cache) (o : Option (ℕ × List ℕ)) → Own d.writes.home → RunsOf (seek d c o)
+  seeks d c (Some to) f = begins_walk d (walk_ready (new_walk to.0 (Some to.1) false, c)) f
+  seeks d c None f = routes d c f
+
+  plans : (d : Draft) (c : Cache) → Own d.writes.home → RunsOf (plan_on d c)
+  plans d c f = seeks (planned d) c (next_target (planned d)) f
+
+  stale_so : (first : Bool) (d : Draft) (c : Cache) → Own d.writes.home → RunsOf (stale_at first d c)
+  stale_so true d c f = plans d c f
+  stale_so false d c f = plans (paged d 1) c f
+
+  walk_stops : (first : Bool) (d : Draft) (c : Cache) (t : Trouble) → Own d.writes.home → RunsOf (walk_stopped first d c t)
+  walk_stops first d c t f = on (is_stale t)
+    where
+      on : (b : Bool) → RunsOf (cond b (stale_at first d c) (troubled d c t))
+      on true = stale_so first d c f
+      on false = stops_so d c t f
+
+  turns : (first : Bool) (d : Draft) (n : Next (Walk × Cache) ℕ) → Own d.writes.home → RunsOf (by_turn (walk_turned first d) n)
+  turns first d (Goes m) f = tt
+  turns first d (Ends m page) f = plans (leaf_noted (pruned_behind d m.0 m.1) m.0 m.1 page) m.1 (by_use d.writes m.1 m.0.used f)
+  turns first d (Stops m t) f = walk_stops first (pruned_behind d m.0 m.1) m.1 t (by_use d.writes m.1 m.0.used f)
+
+-- ---- what is written
+
+abbrev OwnOf : Held → Held → Type 0
+OwnOf h n = IsOf h.client h.head.epoch h.attempt n
+
+-- the stage and the answer at which nothing was committed: a record was sent, or the head's put was late
+abbrev RefusedAt : Stage → Reply → Type 0
+RefusedAt Logging a = Unit {0}
+RefusedAt Opening a = (end : ℕ) × (now : ℕ) × (a ≡ Late end now)
+RefusedAt stage a = ⊥
+
+abbrev RefusedOf : Stage → Reply → Held → Held → CommitAnswer → Type 0
+RefusedOf stage a h n (NotCommitted t) = OwnOf h n × RefusedAt stage a
+RefusedOf stage a h n x = Unit {0}
+
+abbrev Refused : Stage → Reply → Held → Next Writing CommitAnswer → Type 0
+Refused stage a h (Goes w) = Unit {0}
+Refused stage a h (Ends w x) = RefusedOf stage a h w.home x
+Refused stage a h (Stops w t) = Unit {0}
+
+own : (h : Held) → OwnOf h h
+own h = record { client_is = refl; epoch_is = refl; attempt_is = refl }
+
+log_goes : (stage : Stage) (a : Reply) (h : Held) (w : Writing) (o : Option AtomicRec) → Refused stage a h (log_or_open w o)
+log_goes stage a h w (Some r) = tt
+log_goes stage a h w None = tt
+
+send_goes : (stage : Stage) (a : Reply) (h : Held) (w : Writing) (o : Option AtomicRec) → Refused stage a h (send_or_settle w o)
+send_goes stage a h w (Some r) = tt
+send_goes stage a h w None = tt
+
+delete_goes : (stage : Stage) (a : Reply) (h : Held) (w : Writing) (o : Option ℕ) → Refused stage a h (delete_or_end w o)
+delete_goes stage a h w (Some id) = tt
+delete_goes stage a h w None = tt
+
+logged : (a : Reply) (w : Writing) (g : Result ℕ Trouble) → Refused Logging a w.home (logged_by w g)
+logged a w (Ok id) = log_goes Logging a w.home (record w { ids = w.ids ++ id ∷ []; place = w.place + 1 }) (slice_get w.records (w.place + 1))
+logged a w (Err trouble.Memory) = tt
+logged a w (Err t) = (own w.home, tt)
+
+opened : (a : Reply) (w : Writing) → Refused Opening a w.home (opened_by w (done_of a))
+opened Done w = send_goes Opening Done w.home (record w { place = 0 }) (slice_get w.records 0)
+opened (Late end now) w = (record { client_is = refl; epoch_is = refl; attempt_is = refl }, (end, now, refl))
+opened Memory w = tt
+opened a w = tt
+
+sent : (a : Reply) (w : Writing) (g : Result ℕ Trouble) → Refused Sending a w.home (sent_by w g)
+sent a w (Ok id) = send_goes Sending a w.home (record w { place = w.place + 1 }) (slice_get w.records (w.place + 1))
+sent a w (Err trouble.Memory) = tt
+sent a w (Err t) = tt
+
+settled : (a : Reply) (w : Writing) (g : Result (Unit {0}) Trouble) → Refused Settling a w.home (settled_by w g)
+settled a w (Ok x) = delete_goes Settling a w.home (record w { place = 0 }) (slice_get w.ids 0)
+settled a w (Err trouble.Memory) = tt
+settled a w (Err t) = tt
+
+deleted : (a : Reply) (w : Writing) (g : Result (Unit {0}) Trouble) → Refused Deleting a w.home (deleted_by w g)
+deleted a w (Err trouble.Memory) = tt
+deleted a w g = delete_goes Deleting a w.home (record w { place = w.place + 1 }) (slice_get w.ids (w.place + 1))
+
+refuses : (stage : Stage) (a : Reply) (w : Writing) → Refused stage a w.home (next_at stage w a)
+refuses Waiting a w = tt
+refuses Logging a w = logged a w (sent_of a)
+refuses Opening a w = opened a w
+refuses Sending a w = sent a w (sent_of a)
+refuses Settling a w = settled a w (done_of a)
+refuses Deleting a w = deleted a w (done_of a)
+refuses Finished a w = tt
+
+-- ---- of a run
+
+-- a call that commits nothing: it puts no head, or its put was late
+abbrev Commits : Ask → Reply → Type 0
+Commits (Get name) a = ⊥
+Commits (Send queue bytes) a = ⊥
+Commits (PutHeld name bytes one two) (Late end now) = ⊥
+Commits ask a = Unit {0}
+
+abbrev NoneOf : List AtomicRec → Attempt → Type 0
+NoneOf log x = (r : AtomicRec) → IsIn log r → IsOfAttempt x r → ⊥
+
+-- no record of a number that was just taken is in the log
+none_taken : (st : Store) (now : ℕ) (parts : Parts) (session : ℕ) (w : Writing) → KnowsTaken st now w.home (parts session) → HomesHold st.tally now parts → LeavesLog st → NoneOf st.book.log (attempt_of w)
+none_taken st now parts session w t homes left r logged of = on (left.sent r logged)
+  where
+    k : Home
+    k = t.home.at.home
+
+    holds : HomeHolds st.tally now k
+    holds = subst (λ (p : Part). PartHolds st.tally now p) t.home.at.part_is (homes.each session)
+
+    same_client : r.client ≡ k.client
+    same_client = of.client_is ∙ sym t.home.at.client_is
+
+    on : WasLogged st.tally r → ⊥
+    on (id, m) =
+        let within = holds.begun id r (subst (λ c. IsLogMessage (st.tally.logged c) id r) same_client m) (of.epoch_is ∙ sym t.home.at.epoch_is) in
+        let txn = of.txn_is in
+        let before = t.home.at.begun in
+        let taken = t.taken in
+        omega (arith, within, txn, before, taken)
+
+-- the run ends with nothing committed: it has its transaction still, of which nothing is in the log, and its newest call commits nothing
+record HasRefused (log : List AtomicRec) (r : Run) (ask : Ask) (a : Reply) (left : Held) : Type 0 where
+  own_is : OwnOf (home_of r) left
+  none : NoneOf log (attempt_of r.draft.writes)
+  call : Commits ask a → ⊥
+
+abbrev RefusedRun : List AtomicRec → Run → Ask → Reply → Held → CommitAnswer → Type 0
+RefusedRun log r ask a left (NotCommitted t) = HasRefused log r ask a left
+RefusedRun log r ask a left x = Unit {0}
+
+abbrev RunRefuses : List AtomicRec → Run → Ask → Reply → Next (Run × Cache) CommitAnswer → Type 0
+RunRefuses log r ask a (Goes m) = Unit {0}
+RunRefuses log r ask a (Ends m x) = RefusedRun log r ask a (home_of m.0) x
+RunRefuses log r ask a (Stops m t) = Unit {0}
+
+module _ (st : Store) (now : ℕ) (parts : Parts) (session : ℕ) (homes : HomesHold st.tally now parts) (left : LeavesLog st) (d : Draft) (c : Cache) (a : Reply) where
+  walk_ends : (hand : Hand) (name : ObjName) → NoneOf st.book.log (attempt_of d.writes) → (n : Next (Run × Cache) CommitAnswer) → RunsOf d.writes.home.client d.writes.home.head.epoch d.writes.home.attempt n
+      → RunRefuses st.book.log (record { draft = d; hand = hand }) (Get name) a n
+  walk_ends hand name none (Goes m) k = tt
+  walk_ends hand name none (Ends m (NotCommitted t)) k = record { own_is = k; none = none; call = λ commits. commits }
+  walk_ends hand name none (Ends m (Committed x)) k = tt
+  walk_ends hand name none (Ends m InDoubt) k = tt
+  walk_ends hand name none (Ends m (CommittedOpen t)) k = tt
+  walk_ends hand name none (Stops m t) k = tt
+
+  write_refused : (stage : Stage) (g : Home) (n : Held) (t : Trouble) → KnowsCommitAt stage st now d.writes g → RefusedOf stage a d.writes.home n (NotCommitted t)
+      → HasRefused st.book.log (record { draft = d; hand = Writes }) (written_ask stage d.writes) a n
+  write_refused Logging g n t k h = record { own_is = h.0; none = k.routes.uncommitted; call = λ commits. commits }
+  write_refused Opening g n t k h = record { own_is = h.0; none = k.routes.uncommitted; call = λ commits. subst (Commits (head_ask d.writes)) h.1.2 commits }
+  write_refused stage g n t k h = absurd h.1
+
+  write_ends : (stage : Stage) (g : Home) → KnowsCommitAt stage st now d.writes g → (x : Next Writing CommitAnswer) → Refused stage a d.writes.home x
+      → RunRefuses st.book.log (record { draft = d; hand = Writes }) (written_ask stage d.writes) a (wrote d c x)
+  write_ends stage g k (Goes w) h = tt
+  write_ends stage g k (Ends w (NotCommitted t)) h = write_refused stage g w.home t k h
+  write_ends stage g k (Ends w (Committed x)) h = tt
+  write_ends stage g k (Ends w InDoubt) h = tt
+  write_ends stage g k (Ends w (CommittedOpen t)) h = tt
+  write_ends stage g k (Stops w t) h = tt
+
+  hand_ends : (hand : Hand) → KnowsHand hand st now d (parts session) → RunRefuses st.book.log (record { draft = d; hand = hand }) (ask_at hand d.writes) a (run_next_at hand d c a)
+  hand_ends Writes k = write_ends d.writes.stage k.home k.at (next_at d.writes.stage d.writes a) (refuses d.writes.stage a d.writes)
+  hand_ends (First w) k =
+      walk_ends (First w) (object_of w) (none_taken st now parts session d.writes k.draft.taken homes left) (walked true d w c a)
+      (turns d.writes.home.client d.writes.home.head.epoch d.writes.home.attempt true d (walk_next (w, c) a) (own d.writes.home))
+  hand_ends (Change w) k =
+      walk_ends (Change w) (object_of w) (none_taken st now parts session d.writes k.draft.taken homes left) (walked false d w c a)
+      (turns d.writes.home.client d.writes.home.head.epoch d.writes.home.attempt false d (walk_next (w, c) a) (own d.writes.home))
+
+-- ---- what such a call leaves
+
+-- a call that lands no head adds nothing to what was committed
+none_lands : (lines : List Line) (who : Caller) (ask : Ask) (a : Reply) (c d : Counts) (x : CloudState) (new : Option CloudState) (l : Leaves who ask a c d x new)
+    → put_entries lines who ask ≡ [] → All (IsPlaced x.versions) x.trace → committed lines l.after ≡ committed lines x
+none_lands lines who ask a c d x new l none placed =
+    leaves_by (λ t. committed lines t ≡ committed lines x) who ask a c d x new l (committed_called lines who l.after.now x)
+    (λ permits. committed_effect lines who ask (called who l.after.now x) (placed_called who l.after.now x placed)
+    ∙ (ap (λ es. committed lines (called who l.after.now x) ++ es) none
+    ∙ (append-nil (committed lines (called who l.after.now x)) ∙ committed_called lines who l.after.now x)))
+
+none_added : (lines : List Line) (who : Caller) (ask : Ask) (a : Reply) (c d : Counts) (x : CloudState) (new : Option CloudState) (l : Leaves who ask a c d x new)
+    → (Commits ask a → ⊥) → All (IsPlaced x.versions) x.trace → committed lines l.after ≡ committed lines x
+none_added lines who (Get name) a c d x new l none placed = none_lands lines who (Get name) a c d x new l refl placed
+none_added lines who (Send queue bytes) a c d x new l none placed = none_lands lines who (Send queue bytes) a c d x new l refl placed
+none_added lines who (PutHeld name bytes one two) (Late end now) c d x new l none placed = ap (committed lines) l.row.0 ∙ committed_called lines who l.after.now x
+none_added lines who ask a c d x new l none placed = absurd (none tt)
+
+-- no record is of a transaction of which no entry is
+record_of : (log : List AtomicRec) (i : ℕ) (e : Entry) → slice_get (map entry_of log) i ≡ Some e → (r : AtomicRec) × (slice_get log i ≡ Some r) × (entry_of r ≡ e)
+record_of [] i e is = absurd (cc)
+record_of (r ∷ log) zero e is = (r, refl, cc)
+record_of (r ∷ log) (suc i) e is = record_of log i e is
+
+none_of : (log : List AtomicRec) (x : Attempt) → NoneOf log x → HasNone (entries_of log) x.client x.epoch x.txn
+none_of log x none e (i, is) client epoch txn =
+    let r : (r : AtomicRec) × (slice_get log i ≡ Some r) × (entry_of r ≡ e) = record_of log i e is in
+    none r.0 (i, r.1) (record {
+      client_is = ap (λ (f : Entry). f.client) r.2 ∙ client;
+      epoch_is = ap (λ (f : Entry). f.epoch) r.2 ∙ epoch;
+      txn_is = ap (λ (f : Entry). f.txn) r.2 ∙ txn;
+    })
+
+-- ---- a step of a session
+
+module _ (n : ℕ) (lines : List Line) (who : Caller) (before after : Seen) (x y : CloudState) (sessions : Sessions) (audit : Audited) (blind : Bool)
+    (h : CloudHolds n lines sessions audit blind x) (told : before.state ≡ Some x) (told_after : after.state ≡ Some y) where
+  abbrev st : Store
+  st = store_of h.book h.order x
+
+  abbrev kept : Cache
+  kept = (sessions who.session).cache
+
+  one : (a b : CloudState) → Some a ≡ Some b → a ≡ b
+  one a b e = cc
+
+  -- the home that a commit leaves
+  left_home : (r : Run) (a : Reply) (left : Held) → HasRefused h.book.log r (ask_at r.hand r.draft.writes) a left → Leaves who (ask_at r.hand r.draft.writes) a before.counts after.counts x after.state
+      → HasNone (committed lines y) left.client left.head.epoch left.attempt
+  left_home r a left k l =
+      λ e is client epoch txn.
+      none_of h.book.log (attempt_of r.draft.writes) k.none e
+      (subst (λ es. IsIn es e) (ap (committed lines) (one y l.after (sym told_after ∙ l.told)) ∙ (none_added lines who (ask_at r.hand r.draft.writes) a before.counts after.counts x after.state l k.call h.cloud.placed ∙ sym h.cloud.committed)) is)
+      (client ∙ k.own_is.client_is) (epoch ∙ k.own_is.epoch_is) (txn ∙ k.own_is.attempt_is)
+
+  commit_leaves : (r : Run) → (sessions who.session).work ≡ work.Committing r → (c : Cache) (new : Work) (t : Trouble) → StepsCommit who before after r kept c new (Ended (answer.Commit (NotCommitted t)))
+      → HasLeftNone (committed lines y) new
+  commit_leaves r is c new t (m, steps, left) = record {
+    home = home_of m;
+    rests = left;
+    none =
+        left_home r steps.answer (home_of m)
+        (subst (RunRefuses h.book.log r (ask_at r.hand r.draft.writes) steps.answer) steps.took
+        (hand_ends st x.now h.stand.parts who.session h.stand.homes h.stand.cloud.holds.leaves r.draft kept steps.answer r.hand knows.hand)) (steps.made.state x told);
+  }
+    where
+      knows : KnowsRun st x.now (r, kept) (h.stand.parts who.session)
+      knows = subst (λ w. KnowsWork st x.now kept w (h.stand.parts who.session)) is (h.stand.each who.session).work
+
+  by_commit : (buffer : List Noted) (w new : Work) (c : Cache) (shown : Shown) (t : Trouble) (s : Standing) → (sessions who.session).work ≡ w → WorksAs w s
+      → ShowsAt who before after buffer w kept c new shown (Ended (answer.Commit (NotCommitted t))) → LeavesNoneAt (committed lines y) s.posture new (NotCommitted t)
+  by_commit buffer w new c shown t s = on w
+    where
+      At : Posture → Type 0
+      At p = LeavesNoneAt (committed lines y) p new (NotCommitted t)
+
+      on : (w : Work) → (sessions who.session).work ≡ w → WorksAs w s → ShowsAt who before after buffer w kept c new shown (Ended (answer.Commit (NotCommitted t))) → At s.posture
+      on (work.Committing r) is acts shows = subst At (sym acts.0) (commit_leaves r is c new t shows.0)
+      on (work.Opening r) is acts shows = subst At (sym acts.0) tt
+      on (work.Reading home m) is acts shows = subst At (sym acts.0) tt
+      on (work.Scanning home l) is acts shows = subst At (sym acts.0) tt
+      on (work.Paging home p) is acts shows = subst At (sym acts.0) tt
+      on (work.Folding home f) is acts shows = subst At (sym acts.0) tt
+      on (work.Closing lease) is acts shows = subst At (sym acts) tt
+      on (work.Renewing home) is acts shows = subst At (sym acts.0) tt
+      on (work.Settling m) is acts shows = absurd acts
+      on work.Closed is acts shows = subst At (sym acts) tt
+      on (work.Idle home) is acts shows = subst At (sym acts.0) tt
+      on (work.Broken lease) is acts shows = subst At (sym acts) tt
+
+  -- a step that answers a commit so leaves nothing of it among what the lines committed
+  step_leaves : (new : Acting) (t : Trouble) → WorksAs (sessions who.session).work (standing lines who.session)
+      → StepsSession who before after (sessions who.session) new (Ok (Ended (answer.Commit (NotCommitted t)))) → LeavesNoneAt (committed lines y) (standing lines who.session).posture new.work (NotCommitted t)
+  step_leaves new t acts steps = by_commit new.buffer (sessions who.session).work new.work steps.shown.0 new.shown t (standing lines who.session) refl acts steps.shown.1
+
+  -- .. and of any other answer nothing is said
+  pub left_none : (new : Acting) (a : CommitAnswer) → WorksAs (sessions who.session).work (standing lines who.session)
+      → StepsSession who before after (sessions who.session) new (Ok (Ended (answer.Commit a))) → LeavesNoneAt (committed lines y) (standing lines who.session).posture new.work a
+  left_none new (NotCommitted t) acts steps = step_leaves new t acts steps
+  left_none new (Committed txn) acts steps = any (standing lines who.session).posture
+    where
+      any : (p : Posture) → LeavesNoneAt (committed lines y) p new.work (Committed txn)
+      any (Working (Committing changes)) = tt
+      any p = tt
+  left_none new InDoubt acts steps = any (standing lines who.session).posture
+    where
+      any : (p : Posture) → LeavesNoneAt (committed lines y) p new.work InDoubt
+      any (Working (Committing changes)) = tt
+      any p = tt
+  left_none new (CommittedOpen t) acts steps = any (standing lines who.session).posture
+    where
+      any : (p : Posture) → LeavesNoneAt (committed lines y) p new.work (CommittedOpen t)
+      any (Working (Committing changes)) = tt
+      any p = tt

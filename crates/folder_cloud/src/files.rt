@@ -1,11 +1,11 @@
 //! How files and folders are made, read and flushed. No link is followed.
 
 use crate::fault::FolderFault;
-use std::fs;
 use std::fs::{DirBuilder, File, Metadata, OpenOptions};
 use std::io::{ErrorKind, Read};
-use std::os::unix::fs::{DirBuilderExt, MetadataExt, OpenOptionsExt};
+use std::os::unix::fs::{DirBuilderExt, FileExt, MetadataExt, OpenOptionsExt};
 use std::rt::Files;
+use std::{fs, io};
 
 /// The most bytes that a file may have which is read.
 const MOST_BYTES: u64 = 16 * 1024 * 1024;
@@ -27,16 +27,49 @@ pub(crate) fn look<R: Files>(rt: &R, path: &str) -> Result<Option<Metadata>, Fol
     }
 }
 
-/// Whether both are the same regular file.
-pub(crate) fn is_same_file(one: &Metadata, other: &Metadata) -> bool {
+// Whether both are the same regular file.
+fn is_same_file(one: &Metadata, other: &Metadata) -> bool {
     one.is_file() && other.is_file() && one.dev() == other.dev() && one.ino() == other.ino()
 }
 
-/// Opens the file at a path to read and write, and makes one where there is none.
+/// Opens the file at a path to read and write, and makes one where there is none. What was opened is told by `is_own`.
 pub(crate) fn open_or_make<R: Files<File = File>>(rt: &R, path: &str) -> Result<File, FolderFault> {
     let mut options = OpenOptions::new();
     options.read(true).write(true).create(true).mode(FILE_MODE);
     Ok(options.open(rt, path)?)
+}
+
+/// Whether an open file is the regular file that stands at a path, and stands nowhere else.
+pub(crate) fn is_own<R: Files<File = File>>(
+    rt: &R,
+    path: &str,
+    file: &File,
+) -> Result<bool, FolderFault> {
+    let there = fs::symlink_metadata(rt, path)?;
+    let opened = file.metadata()?;
+    Ok(is_same_file(&there, &opened) && opened.nlink() == 1)
+}
+
+/// Writes bytes over the first ones of a file, which is made where there is none: so few that they are written whole or not at
+/// all. They are not flushed.
+pub(crate) fn write_over<R: Files<File = File>>(
+    rt: &R,
+    path: &str,
+    bytes: &[u8],
+) -> Result<(), FolderFault> {
+    let file = open_or_make(rt, path)?;
+    if !is_own(rt, path, &file)? {
+        return Err(FolderFault::Failed);
+    }
+    landed(file.write_all_at(bytes, 0))
+}
+
+/// What a call answers that may have failed after its effect: Failed, also for want of memory.
+pub(crate) fn landed(done: io::Result<()>) -> Result<(), FolderFault> {
+    match done {
+        Ok(()) => Ok(()),
+        Err(_) => Err(FolderFault::Failed),
+    }
 }
 
 /// Makes a file at a path where nothing stands.
@@ -46,35 +79,22 @@ pub(crate) fn make_new<R: Files<File = File>>(rt: &R, path: &str) -> Result<File
     Ok(options.open(rt, path)?)
 }
 
-/// Opens the regular file at a path, to write where asked; none where there is nothing. Failed where it is anything else or has
-/// too many bytes. To open a pipe would wait, so what stands there is looked at before.
-pub(crate) fn open_there<R: Files<File = File>>(
+/// The bytes of the regular file at a path; none where there is nothing. Failed where it is anything else or has too many bytes. To
+/// open a pipe would wait, so what stands there is looked at before.
+pub(crate) fn read<R: Files<File = File> + AllocGlobal>(
     rt: &R,
     path: &str,
-    write: bool,
-) -> Result<Option<File>, FolderFault> {
+) -> Result<Option<Vec<u8>>, FolderFault> {
     let Some(there) = look(rt, path)? else {
         return Ok(None);
     };
     if !there.is_file() || there.len() > MOST_BYTES {
         return Err(FolderFault::Failed);
     }
-    let mut options = OpenOptions::new();
-    let file = options.read(true).write(write).open(rt, path)?;
+    let file = fs::open(rt, path)?;
     if !is_same_file(&there, &file.metadata()?) {
         return Err(FolderFault::Failed);
     }
-    Ok(Some(file))
-}
-
-/// The bytes of the regular file at a path; none where there is nothing.
-pub(crate) fn read<R: Files<File = File> + AllocGlobal>(
-    rt: &R,
-    path: &str,
-) -> Result<Option<Vec<u8>>, FolderFault> {
-    let Some(file) = open_there(rt, path, false)? else {
-        return Ok(None);
-    };
     let mut bytes = Vec::new(rt.alloc());
     file.take(MOST_BYTES).read_to_end(&mut bytes)?;
     Ok(Some(bytes))

@@ -5,9 +5,9 @@ ghost use Rattle.cloud_trait.specs.Claim.{Claim};
 
 use crate::fault::FolderFault;
 use crate::files::{
-    flush_names, keep_folder, look, make_folder, make_new, open_or_make, open_there, read, remove,
+    flush_names, keep_folder, look, make_folder, make_new, read, remove, write_over,
 };
-use crate::held::{Held, landed};
+use crate::held::Held;
 use crate::numbers::{hold_bytes, hold_in, id_in, id_name, number_in};
 use crate::rules::{is_held, lease_end, next_number, was_given};
 use cloud_trait::grant::Grant;
@@ -21,7 +21,6 @@ use folder_names::files::{file_of, folder_of, lock_of};
 use std::fs;
 use std::fs::File;
 use std::io::{ErrorKind, Write};
-use std::os::unix::fs::{FileExt, MetadataExt};
 use std::rt::Files;
 
 /// The parts of a folder, and the one file beside them.
@@ -283,39 +282,29 @@ impl<R: Files<File = File> + AllocGlobal + Drop> Folder<R> {
         if id < u64::MAX && look(&self.rt, path.as_str())?.is_some() {
             return Ok(());
         }
-        let path = self.path(queue, LAST)?;
-        let file = open_or_make(&self.rt, path.as_str())?;
-        file.write_all_at(&id.to_be_bytes(), 0)?;
-        Ok(())
+        let last = self.path(queue, LAST)?;
+        write_over(&self.rt, last.as_str(), &id.to_be_bytes())
     }
 
-    // How a lock stands, by the name of its file.
+    // How a lock stands, by the name of its file. One that is empty was made by a process that came no further, or it lost what was
+    // written at a power failure, which nobody outlived who had a lease.
     fn hold_of(&self, lock: &str) -> Result<Hold, FolderFault> {
         match self.read(LOCKS, lock)? {
-            Some(bytes) => hold_in(bytes.as_slice()).ok_or(FolderFault::Failed),
-            None => Ok(Hold {
+            Some(bytes) if !bytes.is_empty() => {
+                hold_in(bytes.as_slice()).ok_or(FolderFault::Failed)
+            }
+            _ => Ok(Hold {
                 generation: 0,
                 until: 0,
             }),
         }
     }
 
-    // Writes how a lock stands over how it stood, in one write, or in a new file where that has another name. A release need not be
-    // flushed: where it is lost, the lock is held until the end that it had.
-    fn set_hold(&self, held: &Held, lock: &str, hold: Hold) -> Result<(), FolderFault> {
+    // Writes how a lock stands.
+    fn set_hold(&self, lock: &str, hold: Hold) -> Result<(), FolderFault> {
         let bytes = hold_bytes(self.rt.alloc(), hold)?;
         let path = self.path(LOCKS, lock)?;
-        let Some(file) = open_there(&self.rt, path.as_str(), true)? else {
-            return self.write(held, LOCKS, lock, bytes.as_slice());
-        };
-        if file.metadata()?.nlink() != 1 {
-            return self.write(held, LOCKS, lock, bytes.as_slice());
-        }
-        landed(file.write_all_at(bytes.as_slice(), 0))?;
-        if hold.until == 0 {
-            return Ok(());
-        }
-        landed(file.sync_data())
+        write_over(&self.rt, path.as_str(), bytes.as_slice())
     }
 
     /// Takes a lock for some ticks, where it is free now. Where it was not given back, a put of its holder may not be flushed yet.
@@ -333,7 +322,7 @@ impl<R: Files<File = File> + AllocGlobal + Drop> Folder<R> {
         }
         let generation = old.generation.checked_add(1).ok_or(FolderFault::Failed)?;
         let until = lease_end(now, ticks);
-        self.set_hold(held, name.as_str(), Hold { generation, until })?;
+        self.set_hold(name.as_str(), Hold { generation, until })?;
         Ok(Grant::Given(Lease::given(*lock, generation, until)))
     }
 
@@ -349,10 +338,10 @@ impl<R: Files<File = File> + AllocGlobal + Drop> Folder<R> {
     }
 
     /// Moves the end of the lock of a lease that it was given to last.
-    pub fn move_end(&self, held: &Held, lease: &Lease, until: u64) -> Result<(), FolderFault> {
+    pub fn move_end(&self, _held: &Held, lease: &Lease, until: u64) -> Result<(), FolderFault> {
         let name = lock_of(self.rt.alloc(), lease.lock())?;
         let generation = lease.generation();
-        self.set_hold(held, name.as_str(), Hold { generation, until })
+        self.set_hold(name.as_str(), Hold { generation, until })
     }
 
     /// Gives a lock back. Where it was given to another since, the lease is to be over.

@@ -1,5 +1,5 @@
 use crate::fault::FolderFault;
-use crate::files::{is_same_file, open_or_make};
+use crate::files::{is_own, landed, open_or_make};
 use std::alloc::Global;
 use std::fs::File;
 use std::os::unix::fs::FileExt;
@@ -21,8 +21,7 @@ impl Held {
     pub fn of<R: Files<File = File>>(rt: &R, path: &str) -> Result<Held, FolderFault> {
         let file = open_or_make(rt, path)?;
         file.lock()?;
-        let there = fs::symlink_metadata(rt, path)?;
-        if !is_same_file(&file.metadata()?, &there) {
+        if !is_own(rt, path, &file)? {
             return Err(FolderFault::Failed);
         }
         Ok(Held { file })
@@ -53,13 +52,5 @@ impl Held {
     /// Notes that all names are flushed.
     pub fn unmark(&self) -> Result<(), FolderFault> {
         landed(self.file.set_len(0))
-    }
-}
-
-/// What a call answers that failed after its effect.
-pub(crate) fn landed(done: io::Result<()>) -> Result<(), FolderFault> {
-    match done {
-        Ok(()) => Ok(()),
-        Err(_) => Err(FolderFault::Failed),
     }
 }

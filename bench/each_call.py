@@ -6,7 +6,9 @@ and waiting messages. A case is one call, and a hit: the process is killed befor
 Behind each case the dead leases are ended, all clients are opened again, the store is settled and each tree is scanned: what was
 answered `committed` is there, what was answered `not-committed` is not, and all else is there whole or not at all.
 
-It wants strace. Usage: bench/each_call.py PROGRAM [NAME..]     (commit, cut, settle: all three where none is given)
+Then a pipe is put in the place of each file in turn: a shell and a settling end by themselves.
+
+It wants strace. Usage: bench/each_call.py PROGRAM [NAME..]     (commit, cut, settle, pipe: all four where none is given)
 The stores stand under /dev/shm, where a flush costs nothing: TMPDIR names another place.
 """
 
@@ -157,12 +159,28 @@ def run(program, name, work):
     return len(wrong)
 
 
+def pipes(program, work):
+    """Puts a pipe in the place of each file of a store, and runs a shell and a settling, which end by themselves."""
+    template = prepare(program, "settle", work)
+    files = [path.relative_to(template) for path in template.rglob("*") if path.is_file()]
+    for file in files:
+        store = Store(program, work / "store")
+        shutil.copytree(template, store.folder)
+        (store.folder / file).unlink()
+        os.mkfifo(store.folder / file)
+        for client in (1, None):
+            store.run(client, [*THREE, "commit", "tree 1"])
+        shutil.rmtree(store.folder)
+    print(f"pipe: in the place of each of {len(files)} files, and nothing hung")
+    return 0
+
+
 def main(words):
-    program, names = os.path.abspath(words[0]), words[1:] or list(OPERATIONS)
+    program, names = os.path.abspath(words[0]), words[1:] or [*OPERATIONS, "pipe"]
     wrong = 0
     for name in names:
         with tempfile.TemporaryDirectory(dir=os.environ.get("TMPDIR", "/dev/shm")) as work:
-            wrong += run(program, name, Path(work))
+            wrong += pipes(program, Path(work)) if name == "pipe" else run(program, name, Path(work))
     return min(wrong, 1)
 
 

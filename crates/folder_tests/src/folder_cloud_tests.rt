@@ -289,6 +289,9 @@ const ENDS: &[Step<'static>] = &[
     // No lease is longer.
     Step::Removes("ends-test/locks/head-02"),
     Step::Takes(700, 1, 614),
+    // An empty file was never taken.
+    Step::Writes("ends-test/locks/head-02", b""),
+    Step::Takes(5, 1, 20),
 ];
 
 #[test]

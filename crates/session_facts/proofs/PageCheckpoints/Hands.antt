@@ -14,7 +14,7 @@ use Rattle.cloud_trait.specs.Ask.{Ask, GetHeld, PutHeld, Receive, Delete, Releas
 use Rattle.cloud_trait.specs.Caller.{Caller}
 use Rattle.cloud_trait.specs.Claim.{Claim}
 use Rattle.cloud_trait.specs.State.{CloudState}
-use Rattle.cloud_trait.specs.Views.{given_of, got_of, received_of, done_of}
+use Rattle.cloud_trait.specs.Views.{given_of}
 use Rattle.cloud_trait.specs.declared.answer.Answer.{Answer}
 use Rattle.db_base.specs.Ids.{IsTree}
 use Rattle.db_base.specs.declared.names.Lock.TheVariants as lock
@@ -23,7 +23,7 @@ use Rattle.db_base.specs.declared.trouble.Trouble.{Trouble}
 use Rattle.cloud_facts.specs.Leases.Guards.{guard}
 use Rattle.cloud_facts.specs.Leases.Leases.{AreOne, KeptBy, GainedBy}
 use Rattle.cloud_facts.specs.Homes.Homes.{Parts}
-use Rattle.page_ckpt.specs.Paging.{Paging, Step, ask_at, paging_ask, under, delete_next, take_home, home_name, own_queue, held_after, home_taken_by, GoesOn, take_right, right_name, right_taken_by, without_right, without_onward, right_put_by, home_put_by, deleted_by, finished_by, released_by, AbsorbsAt, PagingLeads}
+use Rattle.page_ckpt.specs.Paging.{Paging, Step, ask_at, paging_ask, under, delete_next, take_home, home_name, own_queue, held_after, home_taken_by, take_right, right_name, right_taken_by, without_right, finished_by, released_by, AbsorbsAt, PagingLeads}
 use Rattle.page_ckpt.specs.declared.stage.Stage.{Stage}
 use Rattle.page_ckpt.specs.declared.stage.Stage.TheVariants.{TakingHome, GettingHome, Receiving, TakingRight, GettingRight, PuttingRight, ReleasingRight, PuttingHome, Deleting as DeletingNext, Releasing, Finished}
 use Rattle.report_types.specs.declared.entry.Entry.{Entry}
@@ -34,7 +34,7 @@ use Rattle.cloud_facts.specs.Tellings.Taking.{IsLinked}
 use Rattle.cloud_facts.specs.Tellings.Told.{store_of}
 use Rattle.cloud_facts.proofs.Book.Places.{get_single, in_behind, in_none}
 use Rattle.session_facts.specs.PageCheckpoints.Checkpoint.{HoldsRight, HasPage, HasRight, HasLeases, HasIds, KnowsPagingAt, KnowsPaging, leases_of_paging, leases_next}
-use Rattle.session_facts.proofs.PageCheckpoints.Held.{Within, within, got_on, goes_on, received_on, right_got_on, right_put_on, home_put_on, deleted_on}
+use Rattle.session_facts.proofs.PageCheckpoints.Held.{Within, within, step_on}
 use Rattle.session_facts.proofs.PageCheckpoints.PagingOthers.{in_held, in_both}
 
 finished_none : (p : Paging) (t : Option Trouble) → leases_next (finished_by p t) ≡ []
@@ -110,10 +110,9 @@ module _ (who : Caller) (s t : CloudState) (book : Book) (order : List Entry) (c
     leads_at stage e next leads = subst (λ (g : Stage). AbsorbsAt g (record p { held = held_after g p.held }) reply next) e leads
 
     -- a call that takes no lease, and gives none back
-    simple : (stage : Stage) → p.stage ≡ stage → (ask : Ask) → ((x : Claim) → KeptBy ask x)
-        → ((next : Step) → AbsorbsAt stage (record p { held = held_after stage p.held }) reply next → Within (leases_of_paging p) next)
+    simple : (ask : Ask) → ((x : Claim) → KeptBy ask x) → ((next : Step) → PagingLeads p reply next → Within (leases_of_paging p) next)
         → (x : Claim) → IsIn (home ∷ ls) x → (IsIn mine x × KeptBy ask x) ⊎ GainedBy ask reply home x
-    simple stage e ask kept within = own_cases ask (kept home) (λ next x leads is. inl (in_mine x (within next (leads_at stage e next leads) x is), kept x))
+    simple ask kept within = own_cases ask (kept home) (λ next x leads is. inl (in_mine x (within next leads x is), kept x))
 
     at_taking_home : p.stage ≡ TakingHome → Does (paging_ask p)
     at_taking_home e = by_ask (take_home p) (asks TakingHome e) (record {
@@ -131,7 +130,7 @@ module _ (who : Caller) (s t : CloudState) (book : Book) (order : List Entry) (c
       guarded = tt;
       renewed = home;
       renews = tt;
-      own = simple GettingHome e (GetHeld (home_name p) has.lease) (λ x. tt) (λ next leads. within p next (got_on p (got_of reply) next leads));
+      own = simple (GetHeld (home_name p) has.lease) (λ x. tt) (λ next leads. within p next (step_on p reply next GettingHome e tt leads));
     })
 
     at_receiving : p.stage ≡ Receiving → Does (paging_ask p)
@@ -140,7 +139,7 @@ module _ (who : Caller) (s t : CloudState) (book : Book) (order : List Entry) (c
       guarded = tt;
       renewed = home;
       renews = tt;
-      own = simple Receiving e (Receive (own_queue p) 256) (λ x. tt) (λ next leads. within p next (received_on p (received_of reply) next leads));
+      own = simple (Receive (own_queue p) 256) (λ x. tt) (λ next leads. within p next (step_on p reply next Receiving e tt leads));
     })
 
     -- ---- right pages
@@ -168,7 +167,7 @@ module _ (who : Caller) (s t : CloudState) (book : Book) (order : List Entry) (c
           guarded = tt;
           renewed = home;
           renews = tt;
-          own = simple GettingRight e (GetHeld (right_name p) has.second) (λ x. tt) (λ next leads. within p next (right_got_on p (got_of reply) next leads));
+          own = simple (GetHeld (right_name p) has.second) (λ x. tt) (λ next leads. within p next (step_on p reply next GettingRight e tt leads));
         })
 
     -- a page of the leaf chain is guarded by its own lock
@@ -185,8 +184,7 @@ module _ (who : Caller) (s t : CloudState) (book : Book) (order : List Entry) (c
           guarded = λ lasts. inr (has.second_is ∙ own_guard (record { low = p.at.low; page = p.at.page }) linked p.at.page refl);
           renewed = home;
           renews = tt;
-          own = simple PuttingRight e (PutHeld (right_name p) p.out has.lease (Some has.second)) (λ x. tt)
-              (λ next leads. subst (Within (leases_of_paging p)) (sym leads) (within p (right_put_by p (done_of reply)) (right_put_on p (done_of reply))));
+          own = simple (PutHeld (right_name p) p.out has.lease (Some has.second)) (λ x. tt) (λ next leads. within p next (step_on p reply next PuttingRight e tt leads));
         })
 
     -- the right page's lease is given back, and the page's stays
@@ -208,13 +206,13 @@ module _ (who : Caller) (s t : CloudState) (book : Book) (order : List Entry) (c
       renewed = home;
       renews = tt;
       own = own_cases (Release has.second) (not_home has.second p.at.page has.second_is)
-          (λ next x leads is. given_back p.at.page has x (left next x (leads_at ReleasingRight e next leads) is));
+          (λ next x leads is. given_back p.at.page has x (left next x leads is));
     })
       where
-        left : (next : Step) (x : Claim) → GoesOn (without_onward (record p { held = without_right p.held })) p.onward next → IsIn (leases_next next) x → IsIn (has.lease ∷ []) x
-        left next x goes is =
+        left : (next : Step) (x : Claim) → PagingLeads p reply next → IsIn (leases_next next) x → IsIn (has.lease ∷ []) x
+        left next x leads is =
             subst (λ (l : Leases). IsIn (claims_of (without_right l)) x) has.is
-            (within (without_onward (record p { held = without_right p.held })) next (goes_on (without_onward (record p { held = without_right p.held })) p.onward next goes) x is)
+            (within (record p { held = without_right p.held }) next (step_on p reply next ReleasingRight e tt leads) x is)
 
     -- ---- the page itself
 
@@ -225,8 +223,7 @@ module _ (who : Caller) (s t : CloudState) (book : Book) (order : List Entry) (c
           guarded = λ lasts. inl (has.lock_is ∙ own_guard linked.link (linked.place, linked.linked) p.page linked.page_is);
           renewed = home;
           renews = tt;
-          own = simple PuttingHome e (PutHeld (home_name p) p.out has.lease None) (λ x. tt)
-              (λ next leads. subst (Within (leases_of_paging p)) (sym leads) (within p (home_put_by p (done_of reply)) (home_put_on p (done_of reply))));
+          own = simple (PutHeld (home_name p) p.out has.lease None) (λ x. tt) (λ next leads. within p next (step_on p reply next PuttingHome e tt leads));
         })
 
     at_deleting : p.stage ≡ DeletingNext → HasIds p → Does (paging_ask p)
@@ -236,7 +233,7 @@ module _ (who : Caller) (s t : CloudState) (book : Book) (order : List Entry) (c
           guarded = tt;
           renewed = home;
           renews = tt;
-          own = simple DeletingNext e (Delete (own_queue p) id) (λ x. tt) (λ next leads. subst (Within (leases_of_paging p)) (sym leads) (within p (deleted_by p (done_of reply)) (deleted_on p (done_of reply))));
+          own = simple (Delete (own_queue p) id) (λ x. tt) (λ next leads. within p next (step_on p reply next DeletingNext e tt leads));
         })
 
     -- ---- the end

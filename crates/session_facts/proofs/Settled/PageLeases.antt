@@ -9,16 +9,16 @@ use Rattle.cloud_trait.specs.declared.answer.Answer.TheVariants.{Done}
 use Rattle.cloud_trait.specs.Ask.{Ask, GetHeld, PutHeld, Release, MovesNoLock}
 use Rattle.cloud_trait.specs.Claim.{Claim}
 use Rattle.cloud_trait.specs.Machine.{Goes, Ends, Stops}
-use Rattle.cloud_trait.specs.Views.{given_of, got_of, received_of, done_of}
+use Rattle.cloud_trait.specs.Views.{given_of}
 use Rattle.cloud_trait.proofs.ViewLemmas.{given_of-ok}
 use Rattle.db_base.specs.declared.names.Lock.TheVariants as lock
 use Rattle.db_base.specs.declared.trouble.Trouble.{Trouble}
 use Rattle.page_ckpt.specs.declared.stage.Stage.{Stage}
 use Rattle.page_ckpt.specs.declared.stage.Stage.TheVariants.{TakingHome, GettingHome, Receiving, TakingRight, GettingRight, PuttingRight, ReleasingRight, PuttingHome, Deleting as DeletingNext, Releasing, Finished}
-use Rattle.page_ckpt.specs.Paging.{Paging, Step, ask_at, paging_ask, under, take_home, take_right, home_name, right_name, delete_next, put_right, held_after, without_right, home_taken_by, right_taken_by, without_onward, finished_by, released_by, AbsorbsAt, PagingLeads}
+use Rattle.page_ckpt.specs.Paging.{Paging, Step, ask_at, paging_ask, under, take_home, take_right, home_name, right_name, delete_next, put_right, held_after, without_right, home_taken_by, right_taken_by, finished_by, released_by, AbsorbsAt, PagingLeads}
 use Rattle.session_facts.specs.PageCheckpoints.Checkpoint.{HasPage, HasRight, HasLeases, HasIds, KnowsPagingAt, KnowsPaging, leases_of_paging}
 use Rattle.session_facts.specs.Settled.Locks.{HasNone, UsesOwn}
-use Rattle.session_facts.proofs.PageCheckpoints.Held.{On, got_on, goes_on, received_on, right_got_on, right_put_on, home_put_on, deleted_on}
+use Rattle.session_facts.proofs.PageCheckpoints.Held.{On, step_on}
 use Rattle.session_facts.proofs.Settled.Locks.{HoldsNext, quiet_holds, quiet_uses, not_given, none_of, one_of}
 
 on_next : (held : Leases) (next : Step) → On held next → HoldsNext leases_of_paging (claims_of held) next
@@ -106,35 +106,43 @@ module _ (st : Store) (now : ℕ) (p : Paging) (a : Answer) where
   quiet_at : (stage : Stage) (next : Step) → MovesNoLock (ask_at stage p) → On p.held next → Behind stage next
   quiet_at stage next quiet on = quiet_holds leases_of_paging (ask_at stage p) a (leases_of_paging p) next quiet (on_next p.held next on)
 
-  holds_at : (stage : Stage) → KnowsPagingAt stage st now p → (next : Step) → AbsorbsAt stage (record p { held = held_after stage p.held }) a next → Behind stage next
-  holds_at TakingHome k next e =
+  leads_at : (stage : Stage) → p.stage ≡ stage → (next : Step) → PagingLeads p a next → AbsorbsAt stage (record p { held = held_after stage p.held }) a next
+  leads_at stage e next leads = subst (λ (g : Stage). AbsorbsAt g (record p { held = held_after g p.held }) a next) e leads
+
+  holds_at : (stage : Stage) → p.stage ≡ stage → KnowsPagingAt stage st now p → (next : Step) → PagingLeads p a next → Behind stage next
+  holds_at TakingHome e k next leads =
       subst (λ (h : Leases). HoldsNext leases_of_paging (outstanding_after (take_home p) a (claims_of h)) next) (sym k.0)
-      (subst (HoldsNext leases_of_paging (outstanding_after (take_home p) a [])) (sym e) (home_taken_on p a (given_of (lock.Page p.tree p.page) a) refl))
-  holds_at GettingHome k next goes = quiet_at GettingHome next (first_quiet (λ l. GetHeld (home_name p) l) (λ l. tt) k.0) (got_on p (got_of a) next goes)
-  holds_at Receiving k next goes = quiet_at Receiving next tt (received_on p (received_of a) next goes)
-  holds_at TakingRight k next e =
-      subst (HoldsNext leases_of_paging (outstanding_after (take_right p) a (leases_of_paging p))) (sym e) (right_taken_on p k.0 a (given_of (lock.Page p.tree p.at.page) a) refl)
-  holds_at GettingRight k next goes = quiet_at GettingRight next (second_quiet (λ l. GetHeld (right_name p) l) (λ l. tt) k.0) (right_got_on p (got_of a) next goes)
-  holds_at PuttingRight k next e = quiet_at PuttingRight next (put_quiet k.0) (subst (On p.held) (sym e) (right_put_on p (done_of a)))
-  holds_at ReleasingRight k next goes =
+      (subst (HoldsNext leases_of_paging (outstanding_after (take_home p) a [])) (sym (leads_at TakingHome e next leads))
+      (home_taken_on p a (given_of (lock.Page p.tree p.page) a) refl))
+  holds_at GettingHome e k next leads =
+      quiet_at GettingHome next (first_quiet (λ l. GetHeld (home_name p) l) (λ l. tt) k.0) (step_on p a next GettingHome e tt leads)
+  holds_at Receiving e k next leads = quiet_at Receiving next tt (step_on p a next Receiving e tt leads)
+  holds_at TakingRight e k next leads =
+      subst (HoldsNext leases_of_paging (outstanding_after (take_right p) a (leases_of_paging p))) (sym (leads_at TakingRight e next leads))
+      (right_taken_on p k.0 a (given_of (lock.Page p.tree p.at.page) a) refl)
+  holds_at GettingRight e k next leads =
+      quiet_at GettingRight next (second_quiet (λ l. GetHeld (right_name p) l) (λ l. tt) k.0) (step_on p a next GettingRight e tt leads)
+  holds_at PuttingRight e k next leads = quiet_at PuttingRight next (put_quiet k.0) (step_on p a next PuttingRight e tt leads)
+  holds_at ReleasingRight e k next leads =
       subst (λ (cs : List Claim). HoldsNext leases_of_paging cs next) (sym gone)
-      (on_next (without_right p.held) next (goes_on (without_onward (record p { held = without_right p.held })) p.onward next goes))
+      (on_next (without_right p.held) next (step_on p a next ReleasingRight e tt leads))
     where
       gone : outstanding_after (under p p.held.second Release) a (leases_of_paging p) ≡ claims_of (without_right p.held)
       gone = subst (λ (h : Leases). outstanding_after (under p h.second Release) a (claims_of h) ≡ claims_of (without_right h)) (sym k.0.is) refl
-  holds_at PuttingHome k next e =
-      quiet_at PuttingHome next (first_quiet (λ l. PutHeld (home_name p) p.out l None) (λ l. tt) k.0) (subst (On p.held) (sym e) (home_put_on p (done_of a)))
-  holds_at DeletingNext k next e = quiet_at DeletingNext next (delete_quiet k.2) (subst (On p.held) (sym e) (deleted_on p (done_of a)))
-  holds_at Releasing k next e = subst (HoldsNext leases_of_paging (outstanding_after (under p (newest_lease p.held) Release) a (leases_of_paging p))) (sym e) (on k)
+  holds_at PuttingHome e k next leads =
+      quiet_at PuttingHome next (first_quiet (λ l. PutHeld (home_name p) p.out l None) (λ l. tt) k.0) (step_on p a next PuttingHome e tt leads)
+  holds_at DeletingNext e k next leads = quiet_at DeletingNext next (delete_quiet k.2) (step_on p a next DeletingNext e tt leads)
+  holds_at Releasing e k next leads =
+      subst (HoldsNext leases_of_paging (outstanding_after (under p (newest_lease p.held) Release) a (leases_of_paging p))) (sym (leads_at Releasing e next leads)) (on k)
     where
       on : HasLeases p → Released p a p.held
       on (inl has) = subst (Released p a) (sym has.is) (one_released p a has.lease)
       on (inr (right, has)) = subst (Released p a) (sym has.is) (two_released p a has.lease has.second)
-  holds_at Finished k next e = absurd k
+  holds_at Finished e k next leads = absurd k
 
 pub paging_uses : (st : Store) (now : ℕ) (p : Paging) → KnowsPaging st now p → UsesOwn (paging_ask p) (leases_of_paging p)
 paging_uses st now p k = uses_at st now p Done p.stage k.at
 
 pub paging_holds : (st : Store) (now : ℕ) (p : Paging) → KnowsPaging st now p → (a : Answer) (next : Step) → PagingLeads p a next
     → HoldsNext leases_of_paging (outstanding_after (paging_ask p) a (leases_of_paging p)) next
-paging_holds st now p k a next leads = holds_at st now p a p.stage k.at next leads
+paging_holds st now p k a next leads = holds_at st now p a p.stage refl k.at next leads

@@ -1,23 +1,24 @@
 -- What a checkpoint of a page has of the page once it read it, and that it stops for no page, stay so behind its steps.
-use Rattle.std.proofs.Common.{◌≡◌, ℕ, Bool, true, false, inl, inr, List, Option, Some, None, Result, Ok, Err, refl, sym, subst}
-use Rattle.ckpt_parts.specs.Deleting.{next_id, tried}
-use Rattle.ckpt_parts.specs.Intakes.{ids_of, has_items, items_of, message_damage, TakesItems, TakesIn}
+use Rattle.std.proofs.Common.{◌≡◌, ◌⊎◌, ℕ, inl, inr, List, Option, Some, None, Result, Ok, Err, refl, subst}
+use Rattle.ckpt_parts.specs.Intakes.{items_of, message_damage, TakesItems, TakesIn}
 use Rattle.ckpt_parts.specs.Leaves.{HoldsLinked}
 use Rattle.ckpt_parts.specs.declared.intake.Intake.{Intake}
+use Rattle.cloud_trait.specs.declared.answer.Answer.{Answer}
+use Rattle.cloud_trait.specs.declared.answer.Answer.TheVariants.{Got}
 use Rattle.cloud_trait.specs.declared.message.Message.{Message}
-use Rattle.cloud_trait.specs.Claim.{Claim}
 use Rattle.cloud_trait.specs.Machine.{Goes, Ends, Stops}
+use Rattle.cloud_trait.specs.Views.{given_of, got_of, received_of, done_of}
+use Rattle.db_base.specs.declared.names.Lock.{Lock}
+use Rattle.db_base.specs.declared.names.Lock.TheVariants as lock
 use Rattle.db_base.specs.declared.names.QueueName.{QueueName}
-use Rattle.db_base.specs.declared.trouble.Counter.TheVariants as counter
 use Rattle.db_base.specs.declared.trouble.Trouble.{Trouble}
-use Rattle.db_base.specs.declared.trouble.Trouble.TheVariants as trouble
-use Rattle.leaf_edit.specs.Lacked.{lacked}
 use Rattle.leaf_view.specs.Leaf.{Leaf}
 use Rattle.log_codec.specs.declared.record.PuItem.{PuItem}
-use Rattle.page_ckpt.specs.Paging.{Paging, Step, stopping, own_queue, deleting_by, home_taken_by, HoldsNamed, HomeGot, home_read, LeafPut, link_of, is_visited, to_right, GoesOn, RunStarted, with_intake, IntakeTaken, ReceivedBy, right_taken_by, RightLacks, RightRead, RightGot, without_applying, right_put_by, with_applied, home_put_by, went, deleted_by, finished_by, released_by}
+use Rattle.page_ckpt.specs.Paging.{Paging, Step, own_queue, HoldsNamed, PagingLeads}
 use Rattle.page_ckpt.specs.declared.link.Link.{Link}
-use Rattle.page_ckpt.specs.declared.stage.Stage.{Stage}
-use Rattle.page_ckpt.specs.declared.stage.Stage.TheVariants.{PuttingRight, PuttingHome}
+use Rattle.page_ckpt.specs.declared.stage.Stage.TheVariants.{GettingHome, GettingRight}
+use Rattle.page_ckpt.proofs.Outcomes.{Onward, Clears, Fails, Comes, comes}
+use Rattle.page_ckpt.proofs.Outcomes as step
 use Rattle.session_facts.specs.Settlings.Settling.{IsPast, IsOfNoPage}
 
 -- a trouble that is kept is of no page
@@ -44,107 +45,75 @@ takes_fair q cursor ms taken takes t e = on (items_of ms) takes
     on (Err m) is = subst IsOfNoPage (err_is (message_damage q m) t is e) tt
     on (Ok items) (run, is_run, is) = absurd (cc)
 
-module _ (L : Leaf → Type 0) where
-  -- what is known of a leaf that was read, or of why none was
-  abbrev pub IsRead : Result Leaf Trouble → Type 0
-  IsRead (Ok l) = L l
-  IsRead (Err t) = IsOfNoPage t
+-- ---- why it stops
 
+-- what a call brought in place of what it asked for: nothing, a page that is no leaf, or something else that is of no page
+pub data Lacks (p : Paging) (a : Answer) (t : Trouble) : Type 0 where
+  no_bytes : got_of a ≡ Err t → Lacks p a t
+  no_messages : received_of a ≡ Err t → Lacks p a t
+  no_lease : (taken : Lock) → given_of taken a ≡ Err t → Lacks p a t
+  not_done : done_of a ≡ Err t → Lacks p a t
+  no_home : (got : Option (List ℕ)) → p.stage ≡ GettingHome → a ≡ Got got → HoldsNamed p.tree p.page got (Err t) → Lacks p a t
+  no_right : (got : Option (List ℕ)) → p.stage ≡ GettingRight → a ≡ Got got → HoldsLinked p.tree p.at.page p.at.low got (Err t) → Lacks p a t
+  other : IsOfNoPage t → Lacks p a t
+
+lacks : {p q : Paging} {a : Answer} {t : Trouble} → Fails p a q t → Lacks p a t
+lacks (step.no_home p first second a t e) = no_bytes e
+lacks (step.no_messages p first second a t e) = no_messages e
+lacks (step.no_lease p first second a t e) = no_lease (lock.Page p.tree p.at.page) e
+lacks (step.no_right p first second a t e) = no_bytes e
+lacks (step.right_not_put p first second a t e) = not_done e
+lacks (step.home_not_put p first second a t e) = not_done e
+lacks (step.bad_home p first second got t holds) = no_home got refl refl holds
+lacks (step.bad_message p first second ms t read) = other (takes_fair (own_queue p) read.cursor ms (Err t) read.takes t refl)
+lacks (step.bad_right p first second got t holds) = no_right got refl refl holds
+lacks (step.round link on seen) = other tt
+lacks (step.home_spent on spent) = other tt
+lacks (step.right_spent p first second got l holds some spent) = other tt
+
+-- ---- a step
+
+module _ (L : Leaf → Type 0) where
   -- where a step leads
   abbrev pub HasRead : Step → Type 0
   HasRead (Goes n) = (n.trouble ≡ None → IsPast n.stage → L n.home) × IsFair n.trouble
   HasRead (Ends n x) = L n.home
   HasRead (Stops n t) = IsOfNoPage t
 
-  has_at : (next to : Step) → next ≡ to → HasRead to → HasRead next
-  has_at next to e h = subst HasRead (sym e) h
+  abbrev Had : Paging → Type 0
+  Had p = (p.trouble ≡ None → IsPast p.stage → L p.home) × IsFair p.trouble
 
-  stops_has : (p : Paging) (t : Trouble) → IsOfNoPage t → HasRead (stopping p t)
-  stops_has p t fair = (λ none past. absurd (never_none t none), one_fair t fair)
+  -- .. at a stage behind the get of the page
+  abbrev Has : Paging → Type 0
+  Has q = (q.trouble ≡ None → L q.home) × IsFair q.trouble
 
-  module _ (p : Paging) (had : p.trouble ≡ None → L p.home) (fair : IsFair p.trouble) where
-    deletes_has : (o : Option ℕ) → HasRead (deleting_by p o)
-    deletes_has (Some id) = (λ none past. had none, fair)
-    deletes_has None = (λ none past. had none, fair)
+  onward_has : {p q : Paging} {a : Answer} {o : Option Link} → Onward p a q o → Had p → Has q
+  onward_has (step.with_run p first second ms i read some) had = (λ none. had.0 none tt, had.1)
+  onward_has (step.from_right p first second a) had = (λ none. had.0 none tt, had.1)
 
-    put_has : (stage : Stage) (l : Leaf) (next : Step) → LeafPut p stage l next → HasRead next
-    put_has stage l next (inl spent) = has_at next _ spent.1 (stops_has p (trouble.Exhausted counter.Version) tt)
-    put_has stage l next (inr put) = has_at next _ put.1.2 (λ none past. had none, fair)
+  clears_has : {p q : Paging} {a : Answer} → Clears p a q → Had p → Has q
+  clears_has (step.no_run p first second ms i read none) had = (λ none. had.0 none tt, had.1)
+  clears_has (step.home_put p first second) had = (λ none. had.0 none tt, had.1)
+  clears_has (step.one_tried p first second a) had = (λ none. had.0 none tt, had.1)
 
-    right_has : (l : Link) (b : Bool) → HasRead (to_right p l b)
-    right_has l true = stops_has p (trouble.Loop l.page) tt
-    right_has l false = (λ none past. had none, fair)
+  -- the get of the page brought a leaf
+  abbrev pub ReadsLeaf : Paging → Answer → Type 0
+  ReadsLeaf p a = (got : Option (List ℕ)) (home : Leaf) → p.stage ≡ GettingHome → a ≡ Got got → HoldsNamed p.tree p.page got (Ok home) → L home
 
-    pub on_has : (o : Option Link) (next : Step) → GoesOn p o next → HasRead next
-    on_has (Some l) next e = has_at next _ e (right_has l (is_visited p l.page))
-    on_has None next put = put_has PuttingHome p.home next put
+  has_read : {p : Paging} {a : Answer} {next : Step} → Comes p a next → Had p → ReadsLeaf p a → ((t : Trouble) → Lacks p a t → IsOfNoPage t) → HasRead next
+  has_read (step.takes_home p first second l) had reads fair = (λ none past. absurd past, had.1)
+  has_read (step.refused p first second a t e) had reads fair = fair t (no_lease (lock.Page p.tree p.page) e)
+  has_read (step.stops q t f) had reads fair = (λ none past. absurd (never_none t none), one_fair t (fair t (lacks f)))
+  has_read (step.reads_home p first second got home holds) had reads fair = (λ none past. reads got home refl refl holds, had.1)
+  has_read (step.turns q link on new) had reads fair = let has = onward_has on had in (λ none past. has.0 none, has.1)
+  has_read (step.puts_home q out on fresh is) had reads fair = let has = onward_has on had in (λ none past. has.0 none, has.1)
+  has_read (step.deletes q id c some) had reads fair = let has = clears_has c had in (λ none past. has.0 none, has.1)
+  has_read (step.rests q c none) had reads fair = let has = clears_has c had in (λ none past. has.0 none, has.1)
+  has_read (step.ends p first second a last none) had reads fair = had.0 none tt
+  has_read (step.stopped p first second a t last kept) had reads fair = had.1 t kept
+  has_read (step.nothing p first second a) had reads fair = tt
+  has_read c had reads fair = (λ none past. had.0 none tt, had.1)
 
-    run_has : (b : Bool) (next : Step) → RunStarted p b next → HasRead next
-    run_has true next goes = on_has (link_of p.home p.run.items) next goes
-    run_has false next e = has_at next _ e (deletes_has (next_id p.deletions.ids))
-
-    finished_has : (o : Option Trouble) → p.trouble ≡ o → HasRead (finished_by p o)
-    finished_has (Some t) e = fair t e
-    finished_has None e = had e
-
-    pub released_has : (o : Option Claim) → HasRead (released_by p o)
-    released_has (Some l) = (λ none past. had none, fair)
-    released_has None = finished_has p.trouble refl
-
-    pub right_taken_has : (g : Result Claim Trouble) → ((t : Trouble) → g ≡ Err t → IsOfNoPage t) → HasRead (right_taken_by p g)
-    right_taken_has (Ok l) refused = (λ none past. had none, fair)
-    right_taken_has (Err t) refused = stops_has p t (refused t refl)
-
-  module _ (p : Paging) (had : p.trouble ≡ None → L p.home) (fair : IsFair p.trouble) where
-    intake_has : (g : Result Intake Trouble) (next : Step) → ((t : Trouble) → g ≡ Err t → IsOfNoPage t) → IntakeTaken p g next → HasRead next
-    intake_has (Ok i) next refused goes = run_has (with_intake p i) had fair (has_items i.run.items) next goes
-    intake_has (Err t) next refused e = has_at next _ e (stops_has p t (refused t refl))
-
-    right_lacks_has : (l : Leaf) (b : Bool) (next : Step) → RightLacks p l b next → HasRead next
-    right_lacks_has l true next put = put_has p had fair PuttingRight l next put
-    right_lacks_has l false next e = has_at next _ e (λ none past. had none, fair)
-
-    pub right_put_has : {A : Type 0} → (g : Result A Trouble) → ((t : Trouble) → g ≡ Err t → IsOfNoPage t) → HasRead (right_put_by p g)
-    right_put_has (Ok a) refused = (λ none past. had none, fair)
-    right_put_has (Err t) refused = stops_has (without_applying p) t (refused t refl)
-
-    pub home_put_has : {A : Type 0} → (g : Result A Trouble) → ((t : Trouble) → g ≡ Err t → IsOfNoPage t) → HasRead (home_put_by p g)
-    home_put_has (Ok a) refused = deletes_has (with_applied p) had fair (next_id p.deletions.ids)
-    home_put_has (Err t) refused = stops_has (without_applying p) t (refused t refl)
-
-    pub deleted_has : {A : Type 0} → (g : Result A Trouble) → HasRead (deleted_by p g)
-    deleted_has g = deletes_has (record p { deletions = tried p.deletions (went g) }) had fair (next_id (tried p.deletions (went g)).ids)
-
-  module _ (p : Paging) (had : p.trouble ≡ None → L p.home) (fair : IsFair p.trouble) where
-    pub received_has : (g : Result (List Message) Trouble) (next : Step) → ((t : Trouble) → g ≡ Err t → IsOfNoPage t) → ReceivedBy p g next → HasRead next
-    received_has (Ok ms) next refused (cursor, own, (taken, takes, goes)) =
-        intake_has (record p { received = ids_of ms }) had fair taken next (takes_fair (own_queue p) cursor ms taken takes) goes
-    received_has (Err t) next refused e = has_at next _ e (stops_has p t (refused t refl))
-
-    pub right_got_has : (g : Result (Option (List ℕ)) Trouble) (next : Step)
-        → ((got : Option (List ℕ)) (found : Result Leaf Trouble) → g ≡ Ok got → HoldsLinked p.tree p.at.page p.at.low got found → (t : Trouble) → found ≡ Err t → IsOfNoPage t)
-        → ((t : Trouble) → g ≡ Err t → IsOfNoPage t) → RightGot p g next → HasRead next
-    right_got_has (Ok got) next linked refused (found, holds, goes) = on found (linked got found refl holds) goes
-      where
-        on : (g : Result Leaf Trouble) → ((t : Trouble) → g ≡ Err t → IsOfNoPage t) → RightRead p g next → HasRead next
-        on (Ok l) fails goes =
-            right_lacks_has (record p { onward = link_of l p.run.items }) had fair l (has_items (lacked l p.page p.run.items)) next goes
-        on (Err t) fails e = has_at next _ e (stops_has p t (fails t refl))
-    right_got_has (Err t) next linked refused e = has_at next _ e (stops_has p t (refused t refl))
-
-  -- ---- before the page is read
-
-  module _ (p : Paging) (fair : IsFair p.trouble) where
-    pub home_taken_has : (g : Result Claim Trouble) → ((t : Trouble) → g ≡ Err t → IsOfNoPage t) → HasRead (home_taken_by p g)
-    home_taken_has (Ok l) refused = (λ none past. absurd past, fair)
-    home_taken_has (Err t) refused = refused t refl
-
-    home_has : (g : Result Leaf Trouble) → IsRead g → HasRead (home_read p g)
-    home_has (Ok l) is = (λ none past. is, fair)
-    home_has (Err t) is = stops_has p t is
-
-    pub home_got_has : (g : Result (Option (List ℕ)) Trouble) (next : Step)
-        → ((got : Option (List ℕ)) (found : Result Leaf Trouble) → g ≡ Ok got → HoldsNamed p.tree p.page got found → IsRead found) → ((t : Trouble) → g ≡ Err t → IsOfNoPage t)
-        → HomeGot p g next → HasRead next
-    home_got_has (Ok got) next named refused (found, holds, e) = has_at next _ e (home_has found (named got found refl holds))
-    home_got_has (Err t) next named refused e = has_at next _ e (stops_has p t (refused t refl))
+  pub step_has : (p : Paging) (a : Answer) (next : Step) → (p.trouble ≡ None → IsPast p.stage → L p.home) → IsFair p.trouble → ReadsLeaf p a
+      → ((t : Trouble) → Lacks p a t → IsOfNoPage t) → PagingLeads p a next → HasRead next
+  step_has p a next had kept reads fair leads = has_read (comes p a next leads) (had, kept) reads fair

@@ -38,7 +38,8 @@ use Rattle.session_facts.specs.PageCheckpoints.Rights.{IsLanded}
 use Rattle.session_facts.proofs.PageCheckpoints.Fences.{newest_landed}
 use Rattle.session_facts.proofs.PageCheckpoints.PageReads.{IsNamed, IsLinkedLeaf, named_is, named_leaf, linked_is}
 use Rattle.session_facts.proofs.PageCheckpoints.Steps.{got_may, received_may, done_may, given_may}
-use Rattle.session_facts.proofs.Settlings.PageSteps.{IsRead, HasRead, home_taken_has, home_got_has, received_has, right_taken_has, right_got_has, right_put_has, on_has, home_put_has, deleted_has, released_has}
+use Rattle.session_facts.proofs.Settlings.PageSteps.{HasRead, Lacks, step_has}
+use Rattle.session_facts.proofs.Settlings.PageSteps as lacks
 use Rattle.session_facts.proofs.Settlings.Rights.{reads_nothing, first_comes, right_comes, right_unvisited}
 use Rattle.session_facts.specs.Settlings.Settling.{IsPast, IsOfNoPage, ReadsPage, ComesTo, KnowsAtWork, KnowsWay}
 use Rattle.settle_run.specs.declared.part.Part.{Part as AtWork}
@@ -70,18 +71,20 @@ module _ (who : Caller) (s t : CloudState) (book : Book) (order : List Entry) (p
   abbrev link : Link
   link = record { low = comes.low; page = p.page }
 
+  -- what is known of a leaf that was read, or of why none was
+  abbrev IsRead : Result Leaf Trouble → Type 0
+  IsRead (Ok l) = L l
+  IsRead (Err t) = IsOfNoPage t
+
   call_at : (ask : Ask) → paging_ask p ≡ ask → IsCall who ask reply s t
   call_at ask is = subst (λ (q : Ask). IsCall who q reply s t) is call
 
   asks : (stage : Stage) → p.stage ≡ stage → paging_ask p ≡ ask_at stage p
   asks stage e = ap (λ (g : Stage). ask_at g p) e
 
-  had : (stage : Stage) → p.stage ≡ stage → IsPast stage → p.trouble ≡ None → L p.home
-  had stage e past none = reads.landed none (subst IsPast (sym e) past)
-
   -- the page that a link names is a leaf
   named : (e : p.stage ≡ GettingHome) (has : HasPage p) (got : Option (List ℕ)) (found : Result Leaf Trouble) → got_of reply ≡ Ok got → HoldsNamed p.tree p.page got found
-      → IsRead L found
+      → IsRead found
   named e has got found is holds =
       on found (newest_leaf (nodes_of s) p.tree p.page) (named_leaf book order s setting.cloud p.tree k.tree link comes.linked got found newest_is holds)
       (named_is book order s setting.cloud p.tree k.tree p.page got found newest_is holds)
@@ -92,7 +95,7 @@ module _ (who : Caller) (s t : CloudState) (book : Book) (order : List Entry) (p
       newest_is : newest s (home_name p) ≡ got
       newest_is = sym (held_seen who (home_name p) has.lease reply s t (call_at (GetHeld (home_name p) has.lease) get) got is)
 
-      on : (g : Result Leaf Trouble) (l : Leaf) → g ≡ Ok l → IsNamed (nodes_of s p.tree) p.page g → IsRead L g
+      on : (g : Result Leaf Trouble) (l : Leaf) → g ≡ Ok l → IsNamed (nodes_of s p.tree) p.page g → IsRead g
       on (Ok m) l leaf newest = newest_landed (nodes_of s p.tree) p.page m newest
       on (Err x) l leaf newest = absurd (cc)
 
@@ -111,34 +114,27 @@ module _ (who : Caller) (s t : CloudState) (book : Book) (order : List Entry) (p
       leaf = linked_is book order s setting.cloud p.tree k.tree (record { low = p.at.low; page = p.at.page }) comes_on.linked got found
           (sym (held_seen who (right_name p) has.second reply s t (call_at (GetHeld (right_name p) has.second) get) got is)) holds
 
+  known_at : (stage : Stage) → p.stage ≡ stage → KnowsPagingAt stage (store_of book order s) s.now p
+  known_at stage e = subst (λ (g : Stage). KnowsPagingAt g (store_of book order s) s.now p) e k.at
+
+  home_at : p.stage ≡ GettingHome → HasPage p
+  home_at e = (known_at GettingHome e).0
+
+  right_at : p.stage ≡ GettingRight → (has : HasRight p) × ComesOn (store_of book order s) s.now p has.lease
+  right_at e = known_at GettingRight e
+
+  no_leaf : (x : Trouble) → Lacks p reply x → IsOfNoPage x
+  no_leaf x (lacks.no_bytes e) = fair_of x (λ page. got_may page reply x e)
+  no_leaf x (lacks.no_messages e) = fair_of x (λ page. received_may page reply x e)
+  no_leaf x (lacks.no_lease taken e) = fair_of x (λ page. given_may page taken reply x e)
+  no_leaf x (lacks.not_done e) = fair_of x (λ page. done_may page reply x e)
+  no_leaf x (lacks.no_home got e is holds) = named e (home_at e) got (Err x) (ap got_of is) holds
+  no_leaf x (lacks.no_right got e is holds) = right_named e (right_at e).0 (right_at e).1 got (Err x) (ap got_of is) holds x refl
+  no_leaf x (lacks.other fair) = fair
+
   pub page_has : (next : PageStep) → PagingLeads p reply next → HasRead L next
-  page_has next leads = on p.stage refl k.at leads
-    where
-      on : (stage : Stage) → p.stage ≡ stage → KnowsPagingAt stage (store_of book order s) s.now p → AbsorbsAt stage (record p { held = held_after stage p.held }) reply next → HasRead L next
-      on TakingHome e a goes =
-          subst (HasRead L) (sym goes)
-          (home_taken_has L p reads.fair (given_of (lock.Page p.tree p.page) reply) (λ x is. fair_of x (λ page. given_may page (lock.Page p.tree p.page) reply x is)))
-      on GettingHome e a goes =
-          home_got_has L p reads.fair (got_of reply) next (named e a.0) (λ x is. fair_of x (λ page. got_may page reply x is)) goes
-      on Receiving e a goes =
-          received_has L p (had Receiving e tt) reads.fair (received_of reply) next (λ x is. fair_of x (λ page. received_may page reply x is)) goes
-      on TakingRight e a goes =
-          subst (HasRead L) (sym goes)
-          (right_taken_has L p (had TakingRight e tt) reads.fair (given_of (lock.Page p.tree p.at.page) reply)
-          (λ x is. fair_of x (λ page. given_may page (lock.Page p.tree p.at.page) reply x is)))
-      on GettingRight e a goes =
-          right_got_has L p (had GettingRight e tt) reads.fair (got_of reply) next (right_named e a.0 a.1) (λ x is. fair_of x (λ page. got_may page reply x is)) goes
-      on PuttingRight e a goes =
-          subst (HasRead L) (sym goes) (right_put_has L p (had PuttingRight e tt) reads.fair (done_of reply) (λ x is. fair_of x (λ page. done_may page reply x is)))
-      on ReleasingRight e a goes =
-          on_has L (without_onward (record p { held = held_after ReleasingRight p.held })) (had ReleasingRight e tt) reads.fair p.onward next goes
-      on PuttingHome e a goes =
-          subst (HasRead L) (sym goes) (home_put_has L p (had PuttingHome e tt) reads.fair (done_of reply) (λ x is. fair_of x (λ page. done_may page reply x is)))
-      on DeletingNext e a goes = subst (HasRead L) (sym goes) (deleted_has L p (had DeletingNext e tt) reads.fair (done_of reply))
-      on Releasing e a goes =
-          subst (HasRead L) (sym goes)
-          (released_has L (record p { held = without_newest p.held }) (had Releasing e tt) reads.fair (newest_lease (without_newest p.held)))
-      on Finished e never goes = absurd never
+  page_has next leads =
+      step_has L p reply next reads.landed reads.fair (λ got home e is holds. named e (home_at e) got (Ok home) (ap got_of is) holds) no_leaf leads
 
 -- ---- a step of the part at work
 

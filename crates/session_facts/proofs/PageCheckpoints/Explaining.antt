@@ -37,6 +37,8 @@ use Rattle.leaf_view.specs.Lookup.{empty_leaf}
 use Rattle.log_codec.specs.declared.record.PuItem.{PuItem}
 use Rattle.page_ckpt.specs.Paging.{Paging, Step, ask_at, paging_ask, under, take_home, take_right, home_name, right_name, delete_next, held_after, handed, stopping, deleting_by, home_taken_by, HoldsNamed, HomeGot, home_read, link_of, is_visited, LeafPut, to_right, GoesOn, RunStarted, with_intake, IntakeTaken, ReceivedBy, right_taken_by, RightLacks, RightRead, RightGot, right_put_by, home_put_by, with_applied, without_applying, without_onward, went, finished_by, released_by, AbsorbsAt, PagingLeads, own_queue}
 use Rattle.page_ckpt.specs.declared.link.Link.{Link}
+use Rattle.page_ckpt.proofs.Outcomes.{Onward, Clears, Fails, Comes, comes}
+use Rattle.page_ckpt.proofs.Outcomes as step
 use Rattle.page_ckpt.specs.declared.stage.Stage.{Stage}
 use Rattle.page_ckpt.specs.declared.stage.Stage.TheVariants.{TakingHome, GettingHome, Receiving, TakingRight, GettingRight, PuttingRight, ReleasingRight, PuttingHome, Deleting as DeletingNext, Releasing, Finished}
 
@@ -68,9 +70,6 @@ module _ (Sh : Trouble → Type 0) (lets : Lets Sh) (most tree page : ℕ) where
   -- a view of the answer brings such a trouble alone
   abbrev pub Refused : {X : Type 0} → Result X Trouble → Type 0
   Refused {X} g = (k : Trouble) → g ≡ Err k → Sh k
-
-  by_built : (next built : Step) → next ≡ built → Brings built → Brings next
-  by_built next built e b = subst Brings (sym e) b
 
   err_is : {X : Type 0} (a b : Trouble) → ◌≡◌ {A = Result X Trouble} (Err a) (Err b) → a ≡ b
   err_is a b e = cc
@@ -118,90 +117,14 @@ module _ (Sh : Trouble → Type 0) (lets : Lets Sh) (most tree page : ℕ) where
   linked_lets tree page low got k (plain, holds, is) =
       fenced_lets page low plain k (λ j e. holds_lets tree page got j (subst (HoldsLeaf tree page got) e holds)) is
 
-  -- ---- on to the next page
+  items_lets : (q : QueueName) (cursor : List (ℕ × ℕ)) (read : Result (List PuItem) Message) (k : Trouble) → TakesItems q cursor read (Err k) → Sh k
+  items_lets q cursor (Ok items) k (run, is_run, is) = never_ok k _ is
+  items_lets q cursor (Err m) k is = subst Sh (sym (err_is k _ is)) (lets.damaged _ _)
 
-  put_brings : (p : Paging) (stage : Stage) (l : Leaf) (next : Step) → Keeps p → LeafPut p stage l next → Brings next
-  put_brings p stage l next keeps (inl h) = by_built next _ h.1 (stops p (trouble.Exhausted counter.Version) keeps (lets.spent counter.Version))
-  put_brings p stage l next keeps (inr h) = by_built next _ h.1.2 keeps
-
-  right_brings : (p : Paging) (l : Link) (b : Bool) → Keeps p → Brings (to_right p l b)
-  right_brings p l true keeps = stops p (trouble.Loop l.page) keeps (lets.loop l.page)
-  right_brings p l false keeps = keeps
-
-  on_brings : (p : Paging) (o : Option Link) (next : Step) → Keeps p → GoesOn p o next → Brings next
-  on_brings p (Some l) next keeps is = by_built next _ is (right_brings p l (is_visited p l.page) keeps)
-  on_brings p None next keeps put = put_brings p PuttingHome p.home next keeps put
-
-  deleting_brings : (p : Paging) (id : Option ℕ) → Keeps p → Brings (deleting_by p id)
-  deleting_brings p (Some id) keeps = keeps
-  deleting_brings p None keeps = keeps
-
-  run_brings : (p : Paging) (b : Bool) (next : Step) → Keeps p → RunStarted p b next → Brings next
-  run_brings p true next keeps goes = on_brings p (link_of p.home p.run.items) next keeps goes
-  run_brings p false next keeps is = by_built next _ is (deleting_brings p (next_id p.deletions.ids) keeps)
-
-  intake_brings : (p : Paging) (q : QueueName) (cursor : List (ℕ × ℕ)) (read : Result (List PuItem) Message) (taken : Result Intake Trouble) (next : Step) → Keeps p
-      → TakesItems q cursor read taken → IntakeTaken p taken next → Brings next
-  intake_brings p q cursor (Ok items) (Ok i) next keeps (run, is_run, is) goes =
-      run_brings (with_intake p i) (has_items i.run.items) next (keeps.0, subst (λ (j : Intake). j.deletions.left ≤ most) (sym (ok_is i (intake_of items run) is)) (omega arith), keeps.2, keeps.3) goes
-  intake_brings p q cursor (Ok items) (Err k) next keeps (run, is_run, is) goes = never_ok k _ is
-  intake_brings p q cursor (Err m) (Ok i) next keeps is goes = absurd (cc (is))
-  intake_brings p q cursor (Err m) (Err k) next keeps is goes =
-      by_built next _ goes (stops p k keeps (subst Sh (sym (err_is k _ is)) (lets.damaged _ _)))
-
-  received_brings : (p : Paging) (g : Result (List Message) Trouble) (next : Step) → Keeps p → Refused g → ReceivedBy p g next → Brings next
-  received_brings p (Ok ms) next keeps refused (cursor, own, (taken, takes, goes)) =
-      intake_brings (record p { received = ids_of ms }) (own_queue p) cursor (items_of ms) taken next keeps takes goes
-  received_brings p (Err k) next keeps refused is = by_built next _ is (stops p k keeps (refused k refl))
-
-  lacks_brings : (p : Paging) (l : Leaf) (b : Bool) (next : Step) → Keeps p → RightLacks p l b next → Brings next
-  lacks_brings p l true next keeps put = put_brings p PuttingRight l next keeps put
-  lacks_brings p l false next keeps is = by_built next _ is keeps
-
-  read_brings : (p : Paging) (found : Result Leaf Trouble) (next : Step) → Keeps p → Refused found → RightRead p found next → Brings next
-  read_brings p (Ok l) next keeps refused read =
-      lacks_brings (record p { onward = link_of l p.run.items }) l (has_items (lacked l p.page p.run.items)) next keeps read
-  read_brings p (Err k) next keeps refused is = by_built next _ is (stops p k keeps (refused k refl))
-
-  -- ---- by the answer
-
-  home_taken_brings : (p : Paging) (g : Result Claim Trouble) → Keeps p → Refused g → Brings (home_taken_by p g)
-  home_taken_brings p (Ok l) keeps refused = keeps
-  home_taken_brings p (Err k) keeps refused = refused k refl
-
-  home_read_brings : (p : Paging) (found : Result Leaf Trouble) → Keeps p → Refused found → Brings (home_read p found)
-  home_read_brings p (Ok l) keeps refused = keeps
-  home_read_brings p (Err k) keeps refused = stops p k keeps (refused k refl)
-
-  home_got_brings : (p : Paging) (g : Result (Option (List ℕ)) Trouble) (next : Step) → Keeps p → Refused g → HomeGot p g next → Brings next
-  home_got_brings p (Ok got) next keeps refused (found, named, is) =
-      by_built next _ is (home_read_brings p found keeps (λ k e. named_lets p.tree p.page got k (subst (HoldsNamed p.tree p.page got) e named)))
-  home_got_brings p (Err k) next keeps refused is = by_built next _ is (stops p k keeps (refused k refl))
-
-  right_taken_brings : (p : Paging) (g : Result Claim Trouble) → Keeps p → Refused g → Brings (right_taken_by p g)
-  right_taken_brings p (Ok l) keeps refused = keeps
-  right_taken_brings p (Err k) keeps refused = stops p k keeps (refused k refl)
-
-  right_got_brings : (p : Paging) (g : Result (Option (List ℕ)) Trouble) (next : Step) → Keeps p → Refused g → RightGot p g next → Brings next
-  right_got_brings p (Ok got) next keeps refused (found, linked, read) =
-      read_brings p found next keeps (λ k e. linked_lets p.tree p.at.page p.at.low got k (subst (HoldsLinked p.tree p.at.page p.at.low got) e linked)) read
-  right_got_brings p (Err k) next keeps refused is = by_built next _ is (stops p k keeps (refused k refl))
-
-  right_put_brings : (p : Paging) (g : Result (Unit {0}) Trouble) → Keeps p → Refused g → Brings (right_put_by p g)
-  right_put_brings p (Ok x) keeps refused = keeps
-  right_put_brings p (Err k) keeps refused = stops (without_applying p) k keeps (refused k refl)
-
-  home_put_brings : (p : Paging) (g : Result (Unit {0}) Trouble) → Keeps p → Refused g → Brings (home_put_by p g)
-  home_put_brings p (Ok x) keeps refused = deleting_brings (with_applied p) (next_id p.deletions.ids) keeps
-  home_put_brings p (Err k) keeps refused = stops (without_applying p) k keeps (refused k refl)
-
-  finished_brings : (p : Paging) (o : Option Trouble) → p.trouble ≡ o → Keeps p → Brings (finished_by p o)
-  finished_brings p (Some k) is keeps = keeps.0 k is
-  finished_brings p None is keeps = (keeps.1, keeps.2, keeps.3)
-
-  released_brings : (p : Paging) (o : Option Claim) → Keeps p → Brings (released_by p o)
-  released_brings p (Some l) keeps = keeps
-  released_brings p None keeps = finished_brings p p.trouble refl keeps
+  -- a run begins with no deletion that failed
+  none_left : (q : QueueName) (cursor : List (ℕ × ℕ)) (read : Result (List PuItem) Message) (i : Intake) → TakesItems q cursor read (Ok i) → i.deletions.left ≤ most
+  none_left q cursor (Ok items) i (run, is_run, is) = subst (λ (j : Intake). j.deletions.left ≤ most) (sym (ok_is i (intake_of items run) is)) (omega arith)
+  none_left q cursor (Err m) i is = absurd (cc (is))
 
   -- what is to be known of the answer, by the tree, the page, the right page at hand and the deletions
   abbrev pub Answered : Stage → ℕ → ℕ → ℕ → Deleting → Answer → Type 0
@@ -217,23 +140,54 @@ module _ (Sh : Trouble → Type 0) (lets : Lets Sh) (most tree page : ℕ) where
   Answered Releasing tree page right d a = Unit {0}
   Answered Finished tree page right d a = Sh trouble.Failed
 
-  brings : (stage : Stage) (p : Paging) (a : Answer) (next : Step) → Keeps p → Answered stage p.tree p.page p.at.page p.deletions a → AbsorbsAt stage p a next → Brings next
-  brings TakingHome p a next keeps refused is = by_built next _ is (home_taken_brings p (given_of (lock.Page p.tree p.page) a) keeps refused)
-  brings GettingHome p a next keeps refused got = home_got_brings p (got_of a) next keeps refused got
-  brings Receiving p a next keeps refused got = received_brings p (received_of a) next keeps refused got
-  brings TakingRight p a next keeps refused is = by_built next _ is (right_taken_brings p (given_of (lock.Page p.tree p.at.page) a) keeps refused)
-  brings GettingRight p a next keeps refused got = right_got_brings p (got_of a) next keeps refused got
-  brings PuttingRight p a next keeps refused is = by_built next _ is (right_put_brings p (done_of a) keeps refused)
-  brings ReleasingRight p a next keeps refused goes = on_brings (without_onward p) p.onward next keeps goes
-  brings PuttingHome p a next keeps refused is = by_built next _ is (home_put_brings p (done_of a) keeps refused)
-  brings DeletingNext p a next keeps few is =
-      by_built next _ is
-      (deleting_brings (record p { deletions = tried p.deletions (went (done_of a)) }) (next_id (tried p.deletions (went (done_of a))).ids) (keeps.0, few, keeps.2, keeps.3))
-  brings Releasing p a next keeps refused is = by_built next _ is (released_brings p (newest_lease p.held) keeps)
-  brings Finished p a next keeps failed is = by_built next _ is failed
+  -- so it is known at the stage of the call
+  abbrev pub IsAnswered : Paging → Answer → Type 0
+  IsAnswered p a = Answered p.stage p.tree p.page p.at.page p.deletions a
+
+  -- ---- local work
+
+  onward_keeps : {p q : Paging} {a : Answer} {o : Option Link} → Onward p a q o → Keeps p → Keeps q
+  onward_keeps (step.with_run p first second ms i read some) keeps =
+      (keeps.0, none_left (own_queue p) read.cursor (items_of ms) i read.takes, keeps.2, keeps.3)
+  onward_keeps (step.from_right p first second a) keeps = keeps
+
+  clears_keeps : {p q : Paging} {a : Answer} → Clears p a q → Keeps p → IsAnswered p a → Keeps q
+  clears_keeps (step.no_run p first second ms i read none) keeps answered =
+      (keeps.0, none_left (own_queue p) read.cursor (items_of ms) i read.takes, keeps.2, keeps.3)
+  clears_keeps (step.home_put p first second) keeps answered = keeps
+  clears_keeps (step.one_tried p first second a) keeps few = (keeps.0, few, keeps.2, keeps.3)
+
+  fails_brings : {p q : Paging} {a : Answer} {t : Trouble} → Fails p a q t → Keeps p → IsAnswered p a → Brings (stopping q t)
+  fails_brings {q = q} (step.no_home p first second a t e) keeps refused = stops q t keeps (refused t e)
+  fails_brings {q = q} (step.no_messages p first second a t e) keeps refused = stops q t keeps (refused t e)
+  fails_brings {q = q} (step.no_lease p first second a t e) keeps refused = stops q t keeps (refused t e)
+  fails_brings {q = q} (step.no_right p first second a t e) keeps refused = stops q t keeps (refused t e)
+  fails_brings {q = q} (step.right_not_put p first second a t e) keeps refused = stops q t keeps (refused t e)
+  fails_brings {q = q} (step.home_not_put p first second a t e) keeps refused = stops q t keeps (refused t e)
+  fails_brings {q = q} (step.bad_home p first second got t holds) keeps refused = stops q t keeps (named_lets p.tree p.page got t holds)
+  fails_brings {q = q} (step.bad_message p first second ms t read) keeps refused = stops q t keeps (items_lets (own_queue p) read.cursor (items_of ms) t read.takes)
+  fails_brings {q = q} (step.bad_right p first second got t holds) keeps refused = stops q t keeps (linked_lets p.tree p.at.page p.at.low got t holds)
+  fails_brings {q = q} (step.round link on seen) keeps refused = stops q (trouble.Loop link.page) (onward_keeps on keeps) (lets.loop link.page)
+  fails_brings {q = q} (step.home_spent on spent) keeps refused = stops q (trouble.Exhausted counter.Version) (onward_keeps on keeps) (lets.spent counter.Version)
+  fails_brings {q = q} (step.right_spent p first second got l holds some spent) keeps refused =
+      stops q (trouble.Exhausted counter.Version) keeps (lets.spent counter.Version)
+
+  -- ---- a step
+
+  brings : {p : Paging} {a : Answer} {next : Step} → Comes p a next → Keeps p → IsAnswered p a → Brings next
+  brings (step.refused p first second a t e) keeps refused = refused t e
+  brings (step.stops q t f) keeps answered = fails_brings f keeps answered
+  brings (step.turns q link on new) keeps answered = onward_keeps on keeps
+  brings (step.puts_home q out on fresh is) keeps answered = onward_keeps on keeps
+  brings (step.deletes q id c some) keeps answered = clears_keeps c keeps answered
+  brings (step.rests q c none) keeps answered = clears_keeps c keeps answered
+  brings (step.ends p first second a last none) keeps answered = (keeps.1, keeps.2, keeps.3)
+  brings (step.stopped p first second a t last kept) keeps answered = keeps.0 t kept
+  brings (step.nothing p first second a) keeps failed = failed
+  brings c keeps answered = keeps
 
   pub step_brings : (p : Paging) (a : Answer) (next : Step) → Keeps p → Answered p.stage p.tree p.page p.at.page p.deletions a → PagingLeads p a next → Brings next
-  step_brings p a next keeps answered leads = brings p.stage (handed p) a next keeps answered leads
+  step_brings p a next keeps answered leads = brings (comes p a next leads) keeps answered
 
 -- ---- by what is known of the checkpoint
 

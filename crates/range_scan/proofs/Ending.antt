@@ -18,7 +18,7 @@ use Rattle.range_scan.specs.Scan.{Scan, scan_object, right_in, scan_came_to, rig
 use Rattle.range_scan.specs.Ending.{calls_left_at, calls_left}
 
 -- it does not go on by itself, and where it ends it came to these right pages
-abbrev EndsAt : List ℕ → Next Scan ℕ → Type 0
+abbrev pub EndsAt : List ℕ → Next Scan ℕ → Type 0
 EndsAt passed (Goes s) = ⊥
 EndsAt passed (Ends s page) = s.passed ≡ passed
 EndsAt passed (Stops s t) = Unit {0}
@@ -38,7 +38,7 @@ first_end s page None = tt
 first_end s page (Some l) = leaf_end s l page
 
 -- the right pages with the one in hand
-abbrev with_right : Scan → List ℕ
+abbrev pub with_right : Scan → List ℕ
 with_right s = s.passed ++ (right_in s).page ∷ []
 
 right_end : (s : Scan) (o : Option Leaf) → EndsAt (with_right s) (right_read_in s o)
@@ -49,7 +49,7 @@ right_end s (Some l) = on (bytes_same l.low (right_in s).low) where
   on true = leaf_end (record s { passed = with_right s }) l (right_in s).page
   on false = tt
 
-got_end : (s : Scan) (c : Cache) (g : Result (Option (List ℕ)) Trouble) → EndsAt (with_right s) (right_got s c g).0
+pub got_end : (s : Scan) (c : Cache) (g : Result (Option (List ℕ)) Trouble) → EndsAt (with_right s) (right_got s c g).0
 got_end s c (Err t) = tt
 got_end s c (Ok got) = on (accepts c (scan_object s) true got) where
   on : (r : Result (ℕ × Cache) Trouble) → EndsAt (with_right s) (right_accepted s c r).0

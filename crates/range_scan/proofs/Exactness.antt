@@ -18,19 +18,20 @@ use Rattle.cloud_trait.specs.Machine.{Next, Goes, Ends, Stops, LeadsBy, Took}
 use Rattle.cloud_trait.specs.Seen.{Seen}
 use Rattle.cloud_trait.specs.Views.{got_of}
 use Rattle.cloud_trait.specs.Weather.{Makes}
-use Rattle.page_cache.specs.Cache.{Cache, accepts, kept_at}
+use Rattle.page_cache.specs.Cache.{Cache, IsCache, accepts, kept_at}
 use Rattle.page_cache.specs.Held.{leaf_at, inner_at, as_leaf}
 use Rattle.page_cache.specs.Refused.{IsDamaged}
 use Rattle.page_cache.proofs.CacheLemmas.{accept_kept}
 use Rattle.tree_walk.specs.Moves.{Moves}
 use Rattle.tree_walk.specs.Walk.{Spot, Walk, IsWalk, sought, spot_of, is_leaf, object_at, object_of, is_page, is_among, came_to, use_of, right_of, bad_fence, leaf_left, leaf_read, node_read, read_at, read_from, follow, goes_on, accepted_by, left_by, beside, rested, walk_ready, walk_next}
-use Rattle.tree_walk.specs.Causing.{IsOld, IsStopped}
+use Rattle.tree_walk.specs.Causing.{IsOld, IsStopped, Meets}
 use Rattle.tree_walk.proofs.Causing.{spot_is, ready_shows}
 use Rattle.tree_walk.proofs.Leaves.{Unended, through_unended}
 use Rattle.tree_walk.proofs.Refusing.{old_refused, damaged_refused}
-use Rattle.tree_walk.proofs.Serving.{memory_or, answer_stops, brought_stops, looped_stops}
+use Rattle.tree_walk.proofs.Meeting.{brought_meets, ready_meets}
+use Rattle.tree_walk.proofs.Serving.{memory_or, answer_stops}
 use Rattle.range_scan.specs.Scan.{Scan, scan_object, scan_asks, right_in, scan_came_to, right_behind, ended_at, leaf_ended, first_in, scan_beside, walked_by, right_read_in, right_accepted, right_got, scan_ready, next_at, scan_next, KeepsServed}
-use Rattle.range_scan.specs.Listing.{Range, Move, Scanned}
+use Rattle.range_scan.specs.Listing.{Range, Move, Scanned, scan_of}
 use Rattle.range_scan.specs.Causing.{BreaksFence, CausesReady, FirstLeadsBack, LeadsBack, IsExactWalk, IsExactRight, Exact}
 use Rattle.range_scan.proofs.Served.{IsServed, end_served}
 use Rattle.range_scan.proofs.Listing.{InHand, scanned_stands}
@@ -119,10 +120,7 @@ first_back m a t ok none h =
 walk_exact : (m n : Scan × Cache) (a : Answer) (turn : Turn ℕ) → IsWalk m.0.walk → m.0.spot ≡ None → Took (LeadsBy scan_next) KeepsServed m a n turn → IsExactWalk m a turn
 walk_exact m n a turn ok none took = record {
   answered = λ t shows. stopped m n a t turn (walk_stops m a (rested m.0.walk, left_by (rested m.0.walk) m.1) t none (answer_stops m.0.walk m.1 a t shows)) took;
-  brought = λ d s t brings at h. stopped m n a t turn (walk_stops m a (rested m.0.walk, left_by (rested m.0.walk) d) t none (brought_stops m.0.walk m.1 a d s t brings at h)) took;
-  looped = λ d to brings leads came.
-      let stops = looped_stops m.0.walk m.1 a d to brings leads came in
-      stopped m n a (trouble.Loop to.page) turn (walk_stops m a stops.0 (trouble.Loop to.page) none stops.1) took;
+  met = λ d t brings meets. let stops = brought_meets m.0.walk m.1 a d t brings meets in stopped m n a t turn (walk_stops m a stops.0 t none stops.1) took;
   led_back = λ t back. stopped m n a t turn (first_back m a t ok none back) took;
 }
 
@@ -241,3 +239,10 @@ ready_unended m = by (goes_on m.1 (rested m.0.walk)) (through_unended m.1 64 (re
   by (Goes w) h = tt
   by (Ends w page) h = absurd h
   by (Stops w t) h = tt
+
+-- where the objects that the cache keeps show a trouble on the way of its walk, it stops with that
+pub scan_ready_exact : (r : Range) (c : Cache) (n : Scan × Cache) (turn : Turn ℕ) (t : Trouble) → IsCache c → Moves (scan_ready (scan_of r, c)) n turn → Meets c (scan_of r).walk t
+    → IsStopped turn t
+scan_ready_exact r c n turn t ok moved meets =
+    let stops = ready_meets r.tree r.from c t ok meets in
+    moved_stopped (scan_ready (scan_of r, c)) (record (scan_of r) { walk = stops.0.0 }, stops.0.1) n t turn (ap (walked_by (scan_of r)) stops.1) moved

@@ -8,4 +8,5 @@ pub mod Within
 pub mod Exactness
 pub mod Whole
 pub mod Fences
+pub mod Walked
 pub mod Stepped

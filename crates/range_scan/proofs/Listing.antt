@@ -26,7 +26,7 @@ use Rattle.tree_walk.specs.Walk.{Spot, Walk, IsWalk, IsAtLeaf, object_of, walk_r
 use Rattle.tree_walk.proofs.Leaves.{ends_at}
 use Rattle.range_scan.specs.Scan.{Scan, scan_object_at, scan_object, scan_asks, right_in, scan_came_to, right_behind, is_wanted, ended_at, leaf_ended, goes_on, moved_on, first_in, scan_beside, walked_by, right_read_in, right_accepted, right_got, scan_ready, next_at, scan_next, KeepsServed}
 use Rattle.range_scan.specs.Causing.{deed_of}
-use Rattle.range_scan.specs.Listing.{Range, scan_of, range_of, Move, LedTo, Scanned, IsGot, IsServed as IsServedBy, leaves_of, AreServed, BeginsAt, Continues, AreMeeting, IsPast, Means}
+use Rattle.range_scan.specs.Listing.{Range, scan_of, range_of, Move, LedTo, Scanned, IsGot, IsServed as IsServedBy, leaves_of, AreServed, BeginsAt, Continues, AreMeeting, IsPast, IsLed, Means}
 use Rattle.tree_walk.proofs.Serving.{get_row, steady}
 use Rattle.tree_walk.proofs.Walking.{IsTo, WalksBeside, next_walks, ready_walks}
 use Rattle.range_scan.proofs.Served.{IsServed, end_served}
@@ -38,7 +38,7 @@ use Rattle.range_scan.proofs.Served.{IsServed, end_served}
 abbrev pub InHand : Range → List Leaf → Walk → Option Spot → Type 0
 InHand r ls w None = IsWalk w × (ls ≡ [])
 InHand r [] w (Some spot) = ⊥
-InHand r (l ∷ ls) w (Some spot) = (l.high ≡ Some spot.low) × (below_bound spot.low r.to ≡ true)
+InHand r (l ∷ ls) w (Some spot) = (l.high ≡ Some spot.low) × (below_bound spot.low r.to ≡ true) × (right_behind l.high (page_at l.right) ≡ Some spot)
 
 pub record Holds (r : Range) (ls : List Leaf) (s : Scan) : Type 0 where
   pub to : s.to ≡ r.to
@@ -201,12 +201,13 @@ moved_holds : (r : Range) (ls : List Leaf) (l : Leaf) (s : Scan) → s.to ≡ r.
 moved_holds r ls l s to walk next going =
     let is : moved_on s ≡ record s { spot = s.next; next = None } = ap (λ (b : Bool). if b then record s { spot = s.next; next = None } else s) going in
     let wanted : is_wanted r.to (right_behind l.high (page_at l.right)) ≡ true = ap (λ (k : Option (List ℕ)). is_wanted k (right_behind l.high (page_at l.right))) (sym to) ∙ (ap (is_wanted s.to) (sym next) ∙ going) in
-    let hand : InHand r (l ∷ ls) s.walk s.next = subst (InHand r (l ∷ ls) s.walk) (sym next) (on l.high refl (page_at l.right) wanted) in
+    let hand : InHand r (l ∷ ls) s.walk s.next = subst (InHand r (l ∷ ls) s.walk) (sym next) (on l.high refl (page_at l.right) refl wanted) in
     let P : Scan → Type 0 = Holds r (l ∷ ls) in
     subst P (sym is) (record { to = to; walk = walk; hand = hand }) where
-      on : (high : Option (List ℕ)) → l.high ≡ high → (page : Option ℕ) → is_wanted r.to (right_behind high page) ≡ true → InHand r (l ∷ ls) s.walk (right_behind high page)
-      on None e page h = absurd (cc (h))
-      on (Some high) e page h = (e, h)
+      on : (high : Option (List ℕ)) → l.high ≡ high → (page : Option ℕ) → page_at l.right ≡ page → is_wanted r.to (right_behind high page) ≡ true
+          → InHand r (l ∷ ls) s.walk (right_behind high page)
+      on None e page right h = absurd (cc (h))
+      on (Some high) e page right h = (e, h, ap (λ (k : Option (List ℕ)). right_behind k (page_at l.right)) e ∙ ap (right_behind (Some high)) right)
 
 -- what a call answered that got a leaf landed, and is the newest where no stale get was counted
 pub served_by : (tree : ℕ) (d : Deed) (l : Leaf) → IsMade d → IsGot tree d.ask d.answer l → IsServedBy tree d l
@@ -287,6 +288,15 @@ pub of_range : (r : Range) (s : Scan) → s.to ≡ r.to → IsTo r.tree r.from s
 of_range r s to walk =
     ap (λ (t : ℕ). record { tree = t; from = s.walk.key; to = s.to }) walk.0
     ∙ (ap (λ (k : Option (List ℕ)). record { tree = r.tree; from = k; to = s.to }) walk.1 ∙ ap (λ (k : Option (List ℕ)). record { tree = r.tree; from = r.from; to = k }) to)
+
+-- what led to the right page in hand
+in_hand_led : (r : Range) (ls : List Leaf) (w : Walk) (o : Option Spot) → InHand r ls w o → IsLed ls o
+in_hand_led r ls w None h = tt
+in_hand_led r [] w (Some spot) h = absurd h
+in_hand_led r (l ∷ ls) w (Some spot) h = h.2
+
+pub scanned_led : (r : Range) (h : List Move) (m : Scan × Cache) → Scanned r h m → IsLed (leaves_of h) m.0.spot
+scanned_led r h m came = let stands : Stands r h m = scanned_stands r h m came in in_hand_led r (leaves_of h) m.0.walk m.0.spot stands.holds.hand
 
 -- a scan is of its range at each of its calls
 pub scanned_range : (r : Range) (h : List Move) (m : Scan × Cache) → Scanned r h m → range_of m.0 ≡ r

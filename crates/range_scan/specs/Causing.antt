@@ -16,9 +16,9 @@ use Rattle.cloud_trait.specs.Seen.{Seen}
 use Rattle.page_cache.specs.Cache.{Cache, accepts}
 use Rattle.page_cache.specs.Held.{leaf_at}
 use Rattle.page_cache.specs.Refused.{IsDamaged}
-use Rattle.tree_walk.specs.Walk.{Spot, sought, right_of, came_to}
-use Rattle.tree_walk.specs.Causing.{FailsSo, IsOld, AnswerShows, Brings, BreaksLevel, LeadsTo, LinkShows, IsStopped}
-use Rattle.tree_walk.specs.Causing.{Shows as WalkShows, BreaksFence as BreaksWalkFence}
+use Rattle.tree_walk.specs.Walk.{Spot, sought, right_of}
+use Rattle.tree_walk.specs.Causing.{FailsSo, IsOld, AnswerShows, Brings, LinkShows, Meets, IsStopped}
+use Rattle.tree_walk.specs.Causing.{Shows as WalkShows}
 use Rattle.range_scan.specs.Scan.{Scan, scan_object, scan_asks, scan_came_to, right_behind}
 
 -- the answer to the get of a right page is too old, or in no spelling of a leaf
@@ -104,13 +104,11 @@ pub record LeadsBack (m : Scan × Cache) (a : Answer) (spot : Spot) (t : Trouble
   pub came : scan_came_to m.0 next.page ≡ true
   pub is : t ≡ trouble.Loop next.page
 
--- while the walk is in hand: where the answer shows a trouble, or the object that it brings does, or the link of the first leaf
+-- while the walk is in hand: where the answer shows a trouble, or the objects on its way that the cache keeps with the one that it brings do, or
+-- the link of the first leaf
 pub record IsExactWalk (m : Scan × Cache) (a : Answer) (turn : Turn ℕ) : Type 0 where
   pub answered : (t : Trouble) → AnswerShows (m.0.walk, m.1) a t → IsStopped turn t
-  pub brought : (c : Cache) (s : Spot) (t : Trouble) → Brings (m.0.walk, m.1) a c → m.0.walk.spot ≡ Some s
-      → BreaksLevel c m.0.walk.tree s t ⊎ BreaksWalkFence c m.0.walk.tree s t → IsStopped turn t
-  pub looped : (c : Cache) (to : Spot) → Brings (m.0.walk, m.1) a c → LeadsTo c m.0.walk m.0.walk.spot to → came_to m.0.walk to.page ≡ true
-      → IsStopped turn (trouble.Loop to.page)
+  pub met : (c : Cache) (t : Trouble) → Brings (m.0.walk, m.1) a c → Meets c m.0.walk t → IsStopped turn t
   pub led_back : (t : Trouble) → FirstLeadsBack m a t → IsStopped turn t
 
 -- at a right page: where the answer shows a trouble, or the low key of the leaf that it brings, or that leaf's link

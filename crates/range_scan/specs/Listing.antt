@@ -3,7 +3,7 @@ use Rattle.std.specs.Prelude.{ℕ, ◌≡◌, true, false, List, [], ◌∷◌, 
 use Rattle.byte_format.specs.Order.{below_bound}
 use Rattle.db_base.specs.declared.names.ObjName.TheVariants as object
 use Rattle.leaf_view.specs.Leaf.{Leaf}
-use Rattle.leaf_view.specs.Lookup.{holds}
+use Rattle.leaf_view.specs.Lookup.{holds, page_at}
 use Rattle.cloud_trait.specs.declared.answer.Answer.{Answer}
 use Rattle.cloud_trait.specs.declared.answer.Answer.TheVariants.{Got}
 use Rattle.cloud_trait.specs.declared.turn.Turn.{Turn}
@@ -13,7 +13,10 @@ use Rattle.cloud_trait.specs.Machine.{Goes, Ends, Deed, IsMade}
 use Rattle.cloud_trait.specs.State.{CloudState, newest, version_at}
 use Rattle.page_cache.specs.Cache.{Cache}
 use Rattle.page_cache.specs.Held.{leaf_at, as_leaf}
-use Rattle.range_scan.specs.Scan.{Scan, new_scan, scan_object, scan_asks, goes_on, moved_on, scan_ready, scan_next}
+use Rattle.tree_walk.specs.Walk.{Spot, Walk}
+use Rattle.tree_walk.specs.Led.{Walked}
+use Rattle.tree_walk.specs.Within.{IsBegun}
+use Rattle.range_scan.specs.Scan.{Scan, new_scan, scan_object, scan_asks, right_behind, goes_on, moved_on, scan_ready, scan_next}
 
 -- what is asked for: a tree, the key from which on and the one below which pairs are listed
 pub record Range : Type 0 where
@@ -112,6 +115,22 @@ pub record IsAt (r : Range) (d : Deed) (new : Scan × Cache) (h : List Move) (pa
   pub earlier : AreServed r.tree h
   pub meeting : AreMeeting r (leaf ∷ leaves_of h)
   pub last : goes_on new.0 ≡ false → IsPast r.to leaf.high
+
+-- the right page in hand is the one behind the newest leaf, and begins at its high key
+abbrev pub IsLed : List Leaf → Option Spot → Type 0
+IsLed ls None = Unit {0}
+IsLed [] (Some spot) = ⊥
+IsLed (l ∷ ls) (Some spot) = right_behind l.high (page_at l.right) ≡ Some spot
+
+abbrev pub deeds_of : List Move → List Deed
+deeds_of [] = []
+deeds_of (x ∷ h) = x.deed ∷ deeds_of h
+
+-- the walk in hand came from its begin by all calls of the scan
+pub record IsWalked (h : List Move) (m : Scan × Cache) : Type 0 where
+  pub start : Walk × Cache
+  pub begun : IsBegun start
+  pub walked : Walked start (deeds_of h) (m.0.walk, m.1)
 
 -- what a step means: the scan is of its range still, and at its end at a leaf
 abbrev pub Means : Range → Deed → Scan × Cache → List Move → Turn ℕ → Type 0

@@ -1,5 +1,5 @@
 -- One step of a scan, by the one call that it made: where it led, what it means by the whole run, and why it stopped.
-use Rattle.std.specs.Prelude.{ℕ, ◌≢◌, ◌+◌, List, length}
+use Rattle.std.specs.Prelude.{ℕ, ◌≡◌, ◌≢◌, ◌+◌, List, length, Option, None}
 use Rattle.db_base.specs.declared.trouble.Trouble.TheVariants as trouble
 use Rattle.cloud_trait.specs.declared.answer.Answer.{Answer}
 use Rattle.cloud_trait.specs.declared.turn.Turn.{Turn}
@@ -12,7 +12,8 @@ use Rattle.calm_calls.specs.Calm.{IsCalm}
 use Rattle.page_cache.specs.Cache.{Cache}
 use Rattle.tree_walk.specs.Walk.{ServesOn}
 use Rattle.range_scan.specs.Scan.{Scan, scan_asks, scan_next, KeepsServed}
-use Rattle.range_scan.specs.Listing.{Range, Move, Scanned, Means}
+use Rattle.tree_walk.specs.Led.{LedBy, began_with}
+use Rattle.range_scan.specs.Listing.{Range, Move, Scanned, Means, IsLed, IsWalked, leaves_of, deeds_of}
 use Rattle.range_scan.specs.Causing.{Causes, Exact, deed_of}
 use Rattle.range_scan.specs.Within.{IsWithin}
 
@@ -22,6 +23,10 @@ pub record Meant (r : Range) (h : List Move) (who : Caller) (before after : Seen
   pub within : IsWithin (length h + 1) old.0
   -- where it ends, it is at a leaf that this call served; the ranges of its leaves meet, from the first key on
   pub means : Means r (deed_of who old a before after) new h turn
+  -- what led to the page in hand is the link of the newest leaf; and while the walk is in hand, that of an object that the walk found in the
+  -- cache when it began, or that one of these calls got
+  pub led : IsLed (leaves_of h) old.0.spot
+  pub walked : old.0.spot ≡ None → (w : IsWalked h old) × LedBy (began_with w.start w.begun) (deeds_of h) (deed_of who old a before after) (old.0.walk, old.1) a
   -- a trouble is shown by this answer, or by the leaves that the cache keeps then and the links between them
   pub causes : Causes old a new turn
   -- where this answer, or the object that it brought, shows a trouble, it stops with that

@@ -4,18 +4,22 @@ ghost use Rattle.std.specs.Prelude.{◌≡◌, ℕ, List, Option, Some};
 ghost use Rattle.std.specs.List.{AllByRecursion};
 ghost use Rattle.cloud_trait.specs.declared.turn.Turn.{Turn as TurnOf};
 ghost use Rattle.leaf_view.specs.Leaf.{Leaf, IsLeaf};
-ghost use Rattle.page_cache.specs.Cache.{Cache};
+ghost use Rattle.db_base.specs.declared.trouble.Trouble.{Trouble};
+ghost use Rattle.page_cache.specs.Cache.{Cache, IsCache};
 ghost use Rattle.page_cache.specs.Held.{as_leaf};
+ghost use Rattle.tree_walk.specs.Causing.{IsStopped, Meets};
 ghost use Rattle.tree_walk.specs.Moves.{Moves};
 ghost use Rattle.range_scan.specs.Causing.{CausesReady};
-ghost use Rattle.range_scan.specs.Listing.{Range, AreMeeting};
+ghost use Rattle.range_scan.specs.Listing.{Range, scan_of, AreMeeting};
 ghost use Rattle.range_scan.specs.Scan.{Scan, scan_ready};
 ghost use Rattle.range_scan.specs.Whole.{Listed, leaves_in, IsFenced, IsListed, IsWhole};
 
 /// What the local work before the first call comes to.
 pub fn ready_laws()
     // A trouble is shown by the objects that the cache keeps and the links between them.
-    ensures { (s : Scan) (c : Cache) (n : Scan × Cache) (t : TurnOf ℕ) → Moves (scan_ready (s, c)) n t → CausesReady (s, c) n t }
+    ensures causes { (s : Scan) (c : Cache) (n : Scan × Cache) (t : TurnOf ℕ) → Moves (scan_ready (s, c)) n t → CausesReady (s, c) n t }
+    // Where those show a trouble on the way of its walk, it stops with that.
+    ensures exact { (r : Range) (c : Cache) (n : Scan × Cache) (t : TurnOf ℕ) (k : Trouble) → IsCache c → Moves (scan_ready (scan_of r, c)) n t → Meets c (scan_of r).walk k → IsStopped t k }
 {}
 
 /// What the lists of a scan's leaves come to over the whole scan.

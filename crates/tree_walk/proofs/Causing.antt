@@ -155,7 +155,7 @@ got_there w c got version d e = at w.spot e where
   at None h = root false h
   at (Some s) h = page s (s.level == 0) h
 
-got_fine : (w : Walk) (c : Cache) → IsThere (read_from (rested w) c) → Fine c w (got_read (rested w) c)
+pub got_fine : (w : Walk) (c : Cache) → IsThere (read_from (rested w) c) → Fine c w (got_read (rested w) c)
 got_fine w c there = on (read_from (rested w) c) there (read_fine c w (rested w) (λ s e. inl e)) where
   follows : (m : Next Walk ℕ) → Fine c w m → Fine c w (follow (goes_on c) m)
   follows (Goes v) h = through_fine c w 64 v h

@@ -303,7 +303,7 @@ through_must c (suc k) w few free = on (through_must c k) (read_kept w c) refl (
   on more None e h = must_none c w e
   on more (Some m) e h = follows more m h
 
-on_must : (c : Cache) (w : Walk) → length c.objects ≤ 64 → IsFree w → MustIn c (goes_on c w)
+pub on_must : (c : Cache) (w : Walk) → length c.objects ≤ 64 → IsFree w → MustIn c (goes_on c w)
 unfolding left_in
 on_must c w few free = through_must c 64 w (most few) free where
   most : length c.objects ≤ 64 → left_in c w ≤ 64
@@ -339,7 +339,7 @@ read_free w c = on w.spot where
   on None = if_map FreeIn (root_read w) (root_at c (object.Tree w.tree)) (λ t h. root_free w t)
   on (Some s) = page s (s.level == 0)
 
-got_must : (w : Walk) (c : Cache) → length c.objects ≤ 64 → MustIn c (got_read w c)
+pub got_must : (w : Walk) (c : Cache) → length c.objects ≤ 64 → MustIn c (got_read w c)
 got_must w c few = on (read_from w c) (read_free w c) where
   follows : (m : Next Walk ℕ) → FreeIn m → MustIn c (follow (goes_on c) m)
   follows (Goes v) h = on_must c v few h
@@ -351,7 +351,7 @@ got_must w c few = on (read_from w c) (read_free w c) where
   on (Some m) h = follows m h
 
 -- an accept keeps 64 objects at most
-accepted_few : (c : Cache) (name : ObjName) (as_leaf : Bool) (got : Option (List ℕ)) (version : ℕ) (d : Cache) → accepts c name as_leaf got ≡ Ok (version, d) → length d.objects ≤ 64
+pub accepted_few : (c : Cache) (name : ObjName) (as_leaf : Bool) (got : Option (List ℕ)) (version : ℕ) (d : Cache) → accepts c name as_leaf got ≡ Ok (version, d) → length d.objects ≤ 64
 accepted_few c name as_leaf got version d e =
     subst (λ (os : List (ObjName × Option (List ℕ))). length os ≤ 64) (sym (accept_first c name as_leaf got version d e))
     (take_few 64 ((name, got) ∷ remove_entry (same_name name) c.objects))

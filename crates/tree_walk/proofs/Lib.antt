@@ -7,4 +7,6 @@ pub mod Onceness
 pub mod Serving
 pub mod Getting
 pub mod Walking
+pub mod Leading
+pub mod Meeting
 pub mod Stepped

@@ -30,7 +30,7 @@ use Rattle.page_cache.specs.Refused.{IsDamaged}
 use Rattle.page_cache.proofs.CacheLemmas.{accept_kept}
 use Rattle.tree_walk.specs.Moves.{Moves}
 use Rattle.tree_walk.specs.Walk.{Spot, Walk, IsWalk, sought, spot_of, is_leaf, is_among, is_page, came_to, entry_for, linked, object_of, use_of, right_of, bad_fence, bad_level, node_left, node_passed, leaf_left, leaf_passed, root_read, node_read, leaf_read, read_at, read_from, follow, goes_on, got_read, accepted_by, left_by, beside, rested, walk_ask, walk_next}
-use Rattle.tree_walk.specs.Causing.{below, aside, node_link, node_link_by, LeadsTo, BreaksLevel, BreaksFence, IsOld, AnswerShows, LinkShows, Brings, Shows, IsStopped, Exact}
+use Rattle.tree_walk.specs.Causing.{below, aside, node_link, node_link_by, LeadsTo, BreaksLevel, BreaksFence, IsOld, AnswerShows, LinkShows, Shows, IsStopped}
 use Rattle.tree_walk.specs.Serving.{IsServed, Serves, deed_of, GoesCalmly}
 use Rattle.tree_walk.proofs.Causing.{spot_is, moved_shows}
 use Rattle.tree_walk.proofs.Leaves.{Unended, AtLeaf, linked_unended, node_unended, root_unended, through_unended, got_ends, kept_stays}
@@ -94,7 +94,7 @@ leaf_fence_stops w l t differs is =
     ap (λ (b : Bool). if b then leaf_left (use_of w) (right_of (sought w) l.high (page_at l.right)) else Stops w (bad_fence w l.low)) differs ∙ ap (λ (u : Trouble). Stops w u) (sym is)
 
 -- what is read of the page in hand
-read_node_at : (w : Walk) (d : Cache) (s : Spot) (n : Inner) → w.spot ≡ Some s → (s.level == 0) ≡ false → inner_at d (object.Page w.tree s.page) ≡ Some n → read_from w d ≡ Some (node_read w n)
+pub read_node_at : (w : Walk) (d : Cache) (s : Spot) (n : Inner) → w.spot ≡ Some s → (s.level == 0) ≡ false → inner_at d (object.Page w.tree s.page) ≡ Some n → read_from w d ≡ Some (node_read w n)
 read_node_at w d s n at above kept =
     ap (read_at w d) at
     ∙ ap (λ (b : Bool). if b then option_map (leaf_read w) (leaf_at d (object.Page w.tree s.page)) else option_map (node_read w) (inner_at d (object.Page w.tree s.page))) above
@@ -134,15 +134,9 @@ breaks_fence w d s t at h = on h.found h.has h.differs h.is where
       let level = subst (λ (x : Spot). (n.level == x.level) ≡ true) is k.3 in
       read_node_at w d s n at k.1 k.2 ∙ ap (λ (x : Next Walk ℕ). Some x) (node_fence_stops w n t level different is_so)
 
-broken : (w : Walk) (d : Cache) (s : Spot) (t : Trouble) → w.spot ≡ Some s → BreaksLevel d w.tree s t ⊎ BreaksFence d w.tree s t → read_from w d ≡ Some (Stops w t)
+pub broken : (w : Walk) (d : Cache) (s : Spot) (t : Trouble) → w.spot ≡ Some s → BreaksLevel d w.tree s t ⊎ BreaksFence d w.tree s t → read_from w d ≡ Some (Stops w t)
 broken w d s t at (inl h) = breaks_level w d s t at h
 broken w d s t at (inr h) = breaks_fence w d s t at h
-
-pub brought_stops : (w : Walk) (c : Cache) (a : Answer) (d : Cache) (s : Spot) (t : Trouble) → Brings (w, c) a d → w.spot ≡ Some s → BreaksLevel d w.tree s t ⊎ BreaksFence d w.tree s t
-    → walk_next (w, c) a ≡ Stops (rested w, left_by (rested w) d) t
-brought_stops w c a d s t brings at h =
-    ap (walk_next (w, c)) brings.2 ∙ ap (λ (r : Result (ℕ × Cache) Trouble). beside (accepted_by (rested w) c r)) brings.3
-    ∙ ap (λ (o : Option (Next Walk ℕ)). beside (follow (goes_on d) (unwrap_or o (Stops (rested w) trouble.Failed)), d)) (broken (rested w) d s t at h)
 
 -- where a link leads back
 Loops : Next Walk ℕ → ℕ → Type 0
@@ -156,7 +150,7 @@ unfolding Loops
 loops_at x w s to is page came =
     (w, is ∙ linked_loops w s (ap (came_to w) page ∙ came) ∙ ap (λ (p : ℕ). Stops w (trouble.Loop p)) page)
 
-node_goes : (w : Walk) (n : Inner) (o : Option (ℕ × List ℕ)) → (n.level == (spot_of w).level) ≡ true → bytes_same n.low (spot_of w).low ≡ true → right_of (sought w) n.high (node_at n.right) ≡ o
+pub node_goes : (w : Walk) (n : Inner) (o : Option (ℕ × List ℕ)) → (n.level == (spot_of w).level) ≡ true → bytes_same n.low (spot_of w).low ≡ true → right_of (sought w) n.high (node_at n.right) ≡ o
     → node_read w n ≡ node_left (node_passed w) n o
 node_goes w n o level same r =
     ap (λ (b : Bool). if b then (if bytes_same n.low (spot_of w).low then node_left (node_passed w) n (right_of (sought w) n.high (node_at n.right)) else Stops w (bad_fence w n.low)) else Stops w (bad_level w)) level
@@ -187,14 +181,14 @@ leaf_loops w l next to at same r led came =
     loops_at (leaf_read w l) (record v { turned = true }) (aside (spot_of w).level next) to goes (sym (ap (λ (s : Spot). s.page) led))
     (or_right (is_page to.page w.spot) (is_among v.nodes to.page || is_among v.leaves to.page) (leaf_still w at to.page came))
 
-ReadLoops : Walk → Cache → ℕ → Type 0
+unfoldable pub ReadLoops : Walk → Cache → ℕ → Type 0
 ReadLoops w d page = (v : Walk) × (read_from w d ≡ Some (Stops v (trouble.Loop page)))
 
 some_loops : (w : Walk) (d : Cache) (x : Next Walk ℕ) (page : ℕ) → read_from w d ≡ Some x → Loops x page → ReadLoops w d page
 unfolding Loops ReadLoops
 some_loops w d x page is h = (h.0, is ∙ ap (λ (y : Next Walk ℕ). Some y) h.1)
 
-leads_loops : (w : Walk) (d : Cache) (to : Spot) → LeadsTo d w w.spot to → came_to w to.page ≡ true → ReadLoops w d to.page
+pub leads_loops : (w : Walk) (d : Cache) (to : Spot) → LeadsTo d w w.spot to → came_to w to.page ≡ true → ReadLoops w d to.page
 leads_loops w d to h came = on w.spot refl h where
   root : w.spot ≡ None → (t : Tree) → root_at d (object.Tree w.tree) ≡ Some t → to ≡ below t.level (entry_for (sought w) t.entries) → ReadLoops w d to.page
   root none t kept is =
@@ -213,27 +207,6 @@ leads_loops w d to h came = on w.spot refl h where
       let l = k.0 in
       some_loops w d (leaf_read w l) to.page (read_leaf_at w d s l e k.2 k.3)
       (leaf_loops w l k.1 to (at_spot w s e) (subst (λ (x : Spot). bytes_same l.low x.low ≡ true) is k.4) k.5 k.6 came)
-
-pub looped_stops : (w : Walk) (c : Cache) (a : Answer) (d : Cache) (to : Spot) → Brings (w, c) a d → LeadsTo d w w.spot to → came_to w to.page ≡ true
-    → (k : Walk × Cache) × (walk_next (w, c) a ≡ Stops k (trouble.Loop to.page))
-unfolding ReadLoops
-looped_stops w c a d to brings leads came =
-    let loops : ReadLoops (rested w) d to.page = leads_loops (rested w) d to leads came in (
-      (loops.0, left_by loops.0 d),
-      ap (walk_next (w, c)) brings.2 ∙ ap (λ (r : Result (ℕ × Cache) Trouble). beside (accepted_by (rested w) c r)) brings.3
-          ∙ ap (λ (o : Option (Next Walk ℕ)). beside (follow (goes_on d) (unwrap_or o (Stops (rested w) trouble.Failed)), d)) loops.1,
-    )
-
-pub moved_exact : (w : Walk) (c : Cache) (n : Walk × Cache) (a : Answer) (turn : Turn ℕ) → Moves (walk_next (w, c) a) n turn → (a ≡ answer.Failed → turn ≡ Stopped trouble.Failed)
-    → Exact (w, c) a turn
-moved_exact w c n a turn moved failed = record {
-  failed = failed;
-  answered = λ t shows. moved_stopped (walk_next (w, c) a) (rested w, left_by (rested w) c) n t turn (answer_stops w c a t shows) moved;
-  brought = λ d s t brings at h. moved_stopped (walk_next (w, c) a) (rested w, left_by (rested w) d) n t turn (brought_stops w c a d s t brings at h) moved;
-  looped = λ d to brings leads came.
-      let stops = looped_stops w c a d to brings leads came in
-      moved_stopped (walk_next (w, c) a) stops.0 n (trouble.Loop to.page) turn stops.1 moved;
-}
 
 -- ---- the leaf at which it ends
 

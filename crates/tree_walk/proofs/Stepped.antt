@@ -16,10 +16,13 @@ use Rattle.cloud_trait.specs.Weather.{Makes}
 use Rattle.page_cache.specs.Cache.{Cache, Did, accepts, dropped, served_at}
 use Rattle.page_cache.proofs.CacheLemmas.{accept_rises}
 use Rattle.tree_walk.specs.Moves.{Moves}
-use Rattle.tree_walk.specs.Walk.{Walk, IsWalk, ServesOn, KeepsServed, HasAim, walk_ask, walk_next, left_by, passed}
+use Rattle.tree_walk.specs.Walk.{Walk, IsWalk, ServesOn, KeepsServed, HasAim, walk_ask, walk_next, left_by, passed, rested}
 use Rattle.tree_walk.specs.Stepped.{Stepped}
+use Rattle.tree_walk.specs.Serving.{deed_of}
 use Rattle.tree_walk.proofs.Causing.{asked, moved_shows}
-use Rattle.tree_walk.proofs.Serving.{moved_exact, moved_serves, moved_calmly}
+use Rattle.tree_walk.proofs.Leading.{walked_led}
+use Rattle.tree_walk.proofs.Meeting.{brought_meets}
+use Rattle.tree_walk.proofs.Serving.{answer_stops, moved_stopped, moved_serves, moved_calmly}
 use Rattle.tree_walk.proofs.Walking.{WalksBeside, next_walks}
 
 -- ---- served versions
@@ -79,7 +82,12 @@ moved_stepped who k w c n a turn before after ok is made moved on failed =
       aim = same_aim (w, c) n a turn moved;
       served = on;
       causes = moved_shows w c n a turn so.fits moved;
-      exact = moved_exact w c n a turn moved failed;
+      led = λ start begun h walked. walked_led start begun h (w, c) (deed_of who (w, c) a before after) walked refl;
+      exact = record {
+        failed = failed;
+        answered = λ t shows. moved_stopped (walk_next (w, c) a) (rested w, left_by (rested w) c) n t turn (answer_stops w c a t shows) moved;
+        met = λ d t brings meets. let stops = brought_meets w c a d t brings meets in moved_stopped (walk_next (w, c) a) stops.0 n t turn stops.1 moved;
+      };
       serves = moved_serves who w c n a turn before after ok so moved;
       calm = moved_calmly who w c n a turn before after so moved;
     }

@@ -1,5 +1,5 @@
 -- Why a walk stops: the answer to its get shows it, or the objects that the cache keeps and the links between them do.
-use Rattle.std.specs.Prelude.{ℕ, ◌≡◌, ◌≢◌, ◌<◌, ◌==◌, ◌-◌, ◌⊎◌, Bool, true, false, List, Option, Some, None, Ok}
+use Rattle.std.specs.Prelude.{ℕ, ◌≡◌, ◌≢◌, ◌<◌, ◌==◌, ◌-◌, ◌⊎◌, ◌++◌, Bool, true, false, List, [], ◌∷◌, Option, Some, None, Ok}
 use Rattle.byte_format.specs.Order.{bytes_same}
 use Rattle.db_base.specs.declared.names.ObjName.{ObjName}
 use Rattle.db_base.specs.declared.names.ObjName.TheVariants as object
@@ -160,11 +160,24 @@ LeadsTo c w (Some s) to =
     ⊎ ((l : Leaf) × (next : ℕ × List ℕ) × ((s.level == 0) ≡ true) × (leaf_at c (object.Page w.tree s.page) ≡ Some l) × (bytes_same l.low s.low ≡ true)
     × (right_of (sought w) l.high (page_at l.right) ≡ Some next) × (to ≡ aside 0 next))
 
--- where the answer, or the object that was in hand and is kept now, shows a trouble, the step stops with it
+-- the pages that a walk passed, with the one in hand
+abbrev pub passed_with : List ℕ → Option Spot → List ℕ
+passed_with pages None = pages
+passed_with pages (Some s) = pages ++ s.page ∷ []
+
+-- the walk at the page to which the object in hand leads
+abbrev pub led_on : Walk → Spot → Walk
+led_on w to = record w { spot = Some to; nodes = passed_with w.nodes w.spot }
+
+-- The objects that the cache keeps show a trouble on the walk's way: the page in hand is not what its link promised, or its link leads back to a
+-- page that the walk had come to; or it leads on to an inner node, which is passed without a call, and the trouble is met there or further on.
+pub data Meets (c : Cache) : Walk → Trouble → Type 0 where
+  breaks : (w : Walk) (s : Spot) (t : Trouble) → w.spot ≡ Some s → BreaksLevel c w.tree s t ⊎ BreaksFence c w.tree s t → Meets c w t
+  leads_back : (w : Walk) (to : Spot) → LeadsTo c w w.spot to → came_to w to.page ≡ true → Meets c w (trouble.Loop to.page)
+  beyond : (w : Walk) (to : Spot) (t : Trouble) → LeadsTo c w w.spot to → came_to w to.page ≡ false → (to.level == 0) ≡ false → Meets c (led_on w to) t → Meets c w t
+
+-- where the answer shows a trouble, or the objects that the cache keeps with what it brought, the step stops with that
 pub record Exact (old : Walk × Cache) (a : Answer) (turn : Turn ℕ) : Type 0 where
   pub failed : a ≡ call.Failed → turn ≡ Stopped trouble.Failed
   pub answered : (t : Trouble) → AnswerShows old a t → IsStopped turn t
-  pub brought : (c : Cache) (s : Spot) (t : Trouble) → Brings old a c → old.0.spot ≡ Some s
-      → BreaksLevel c old.0.tree s t ⊎ BreaksFence c old.0.tree s t → IsStopped turn t
-  pub looped : (c : Cache) (to : Spot) → Brings old a c → LeadsTo c old.0 old.0.spot to → came_to old.0 to.page ≡ true
-      → IsStopped turn (trouble.Loop to.page)
+  pub met : (c : Cache) (t : Trouble) → Brings old a c → Meets c old.0 t → IsStopped turn t

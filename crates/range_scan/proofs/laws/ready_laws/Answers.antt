@@ -1,5 +1,5 @@
-use Rattle.range_scan.proofs.Exactness.{scan_ready_shows}
+use Rattle.range_scan.proofs.Exactness.{scan_ready_exact, scan_ready_shows}
 use Rattle.range_scan.proofs.laws.ready_laws.Goals as goal
 
 pub returns : goal.returns
-returns c = scan_ready_shows
+returns c = record { causes = scan_ready_shows; exact = scan_ready_exact }

@@ -1,6 +1,7 @@
 use Rattle.tree_walk.proofs.Causing.{ready_shows}
 use Rattle.tree_walk.proofs.Getting.{ready_gets}
+use Rattle.tree_walk.proofs.Meeting.{ready_exact}
 use Rattle.tree_walk.proofs.laws.ready_laws.Goals as goal
 
 pub returns : goal.returns
-returns c = record { causes = ready_shows; gets = ready_gets }
+returns c = record { causes = ready_shows; exact = ready_exact; gets = ready_gets }

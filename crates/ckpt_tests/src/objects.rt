@@ -35,3 +35,7 @@ pub(crate) const ROOT: &[u8] =
 /// A tree object up to its entries, of version 1 with next free page 65 and level 1.
 pub(crate) const ROOT_65: &[u8] =
     b"T\x01\x00\x00\x00\x00\x00\x00\x00\x01\x00\x00\x00\x00\x00\x00\x00\x41\x01\x00";
+
+/// The same at the last version but two.
+pub(crate) const ROOT_65_LATE: &[u8] =
+    b"T\x01\xff\xff\xff\xff\xff\xff\xff\xfd\x00\x00\x00\x00\x00\x00\x00\x41\x01\x00";

@@ -1,5 +1,5 @@
 use crate::bench::{play, play_over};
-use crate::objects::{LEFT, RIGHT, ROOT, ROOT_65};
+use crate::objects::{LEFT, RIGHT, ROOT, ROOT_65, ROOT_65_LATE};
 use crate::script::{Mishap, Step};
 use std::alloc::Global;
 use std::test::Fail;
@@ -380,9 +380,9 @@ const LEVELS: &[Step<'static>] = &[
     Step::Root(6, 69, 2),
 ];
 
-/// A tree object of 64 entries: page 1, which is absent, and pages 2 to 64 from key f on, to which no test comes.
-fn full_root(alloc: Global) -> Result<Vec<u8>, Fail> {
-    let mut bytes = ROOT_65.to_vec(alloc)?;
+/// A tree object of 64 entries behind this head: page 1, which is absent, and pages 2 to 64 from key f on, to which no test comes.
+fn full_root(alloc: Global, head: &[u8]) -> Result<Vec<u8>, Fail> {
+    let mut bytes = head.to_vec(alloc)?;
     bytes.extend_from_slice(&[1, 0, 0, 0, 0, 0, 0, 0, 0, 1])?;
     for byte in 2..65u8 {
         let key = byte.saturating_add(100);
@@ -394,8 +394,41 @@ fn full_root(alloc: Global) -> Result<Vec<u8>, Fail> {
 
 #[test]
 fn cuts_the_root(rt: HostRuntime) -> Result<(), Fail> {
-    let root = full_root(rt.alloc())?;
+    let root = full_root(rt.alloc(), ROOT_65)?;
     play_over(rt.alloc(), root.as_slice(), LEVELS)
+}
+
+/// The same cuts where the tree object stands at the last version but one behind the first: its reservation takes the last one.
+const ROOT_CUT_SHORT: &str = "take tree:1
+get_held tree:1
+receive pu:1:0
+take page:1:1
+get_held page:1:1
+put_held tree:1
+put_held page:1:65
+put_held page:1:1
+release page:1:1
+put_held tree:1
+put_held page:1:67
+put_held page:1:66
+release tree:1
+exhausted version
+";
+
+/// The pieces are put, and the tree object that stands is the reservation, which names none of them.
+const LAST_VERSION: &[Step<'static>] = &[
+    Step::Inserts(1, 0x21, 65),
+    Step::Tree(&[], ROOT_CUT_SHORT),
+    Step::Root(18446744073709551615, 68, 1),
+    Step::Leads(&[0x21], 1),
+    Step::Node(66, 33),
+    Step::Node(67, 32),
+];
+
+#[test]
+fn stops_behind_the_pieces_of_a_root_at_the_last_version(rt: HostRuntime) -> Result<(), Fail> {
+    let root = full_root(rt.alloc(), ROOT_65_LATE)?;
+    play_over(rt.alloc(), root.as_slice(), LAST_VERSION)
 }
 
 /// A put of page 1 when its lease is over.

@@ -64,7 +64,7 @@ use Rattle.tree_ckpt.specs.Stepped.{Tells}
 use Rattle.tree_ckpt.proofs.Brought.{Charted, OnWay, chart_more, way_more}
 use Rattle.tree_ckpt.proofs.Folds.{not_empty}
 use Rattle.tree_ckpt.proofs.Plots.{KnowsLeaf, LeafSpends, LeafTells, PlacedTells, HasPut, leaf_got_tells, leaf_put_tells}
-use Rattle.tree_ckpt.proofs.Rises.{IsRising, UpSpends, RiseTells, PutTells, rise_tells, rise_put_tells}
+use Rattle.tree_ckpt.proofs.Rises.{IsRising, KnowsSpent, UpSpends, RiseTells, PutStops, PutTells, rise_tells, rise_put_tells}
 use Rattle.tree_ckpt.proofs.Spending.{IsSpentFor}
 use Rattle.tree_ckpt.proofs.Ways.{KnowsWay, WayTells, NodeBreaks, GotTells, down_tells, node_got_tells}
 
@@ -88,7 +88,7 @@ KnowsAt tree (work.TakingPage h c) cs = KnowsComing tree c cs
 KnowsAt tree (work.Folding h f) cs = KnowsLeaf tree f cs
 KnowsAt tree (work.ReleasingPage h l o) cs = KnowsOnward tree o cs
 KnowsAt tree (work.LeftPage h o) cs = ⊥
-KnowsAt tree (work.Rising h r) cs = Charted tree r.chart cs × IsRising r
+KnowsAt tree (work.Rising h r) cs = Charted tree r.chart cs × IsRising r × KnowsSpent tree r cs
 KnowsAt tree (work.Deleting h applied) cs = Unit {0}
 KnowsAt tree (work.Releasing held end) cs = Unit {0}
 KnowsAt tree work.Finished cs = ⊥
@@ -116,18 +116,18 @@ placed_told tree cs ask a f (Stops g t) k = absurd k
 
 -- what the way up tells of its call
 abbrev RiseTold : ℕ → Calls → Ask → Answer → Rising → Next Rising (Unit {0}) → Type 0
-RiseTold tree cs ask a r (Goes n) = Charted tree n.chart cs × IsRising n
+RiseTold tree cs ask a r (Goes n) = Charted tree n.chart cs × IsRising n × KnowsSpent tree n cs
 RiseTold tree cs ask a r (Ends n x) = Unit {0}
 RiseTold tree cs ask a r (Stops n t) =
     Shows tree cs ask a t
     × (t ≢ trouble.Memory
     → Refuses ask a t
-    ⊎ ((a ≡ call.Done) × (has_nothing r.placing ≡ false) × (has_nothing (rise.landed r).placing ≡ true) × (r.last ≡ None) × UpSpends (rise.landed r) t))
+    ⊎ ((a ≡ call.Done) × PutStops tree cs ask a r t))
 
 risen_told : (tree : ℕ) (cs : Calls) (ask : Ask) (a : Answer) (r : Rising) → a ≡ call.Done → (next : Next Rising (Unit {0})) → PutTells tree cs ask a r next → RiseTold tree cs ask a r next
 risen_told tree cs ask a r done (Goes n) k = k
 risen_told tree cs ask a r done (Ends n x) k = k
-risen_told tree cs ask a r done (Stops n t) k = (k.0, λ other. inr (done, k.1.0, k.1.1, k.1.2, k.1.3))
+risen_told tree cs ask a r done (Stops n t) k = (k.0, λ other. inr (done, k.1))
 
 -- a way over nodes that were got before is not stopped where none was
 no_kept : (d : Descent) (n : Inner) → d.chart.nodes ≡ [] → WasKept d n → ⊥
@@ -168,7 +168,7 @@ first_key (x ∷ xs) e =
 
 -- what is due has something spent
 spends : (w : Work) (a : Answer) (due : Due) (t : Trouble) → IsDue w a due → IsSpentFor due t → Spends w a t
-spends w a due (trouble.Exhausted counter.Version) is h = (due, is, h)
+spends w a due (trouble.Exhausted counter.Version) is h = inl (due, is, h)
 spends w a due (trouble.Exhausted counter.Pages) is h = (due, is, h)
 spends w a due (trouble.Exhausted counter.Epoch) is h = h
 spends w a due (trouble.Exhausted counter.Txn) is h = h
@@ -267,7 +267,7 @@ module _ (tree : ℕ) (w : Work) (cs : Calls) (a : Answer) where
         (down_from (record c { key = key }) (root_entry (record c { key = key }))) (down_tells tree cs ask a (record c { key = key }) (key_known c key k))
     on None e =
         rising_tells h (rise.begun c) (inl (record { held = h; lease = l; chart = c; stands = stands; none = e; is = refl })) (rise.rise (rise.begun c))
-        (rise_tells tree cs ask a (rise.begun c) k)
+        (rise_tells tree cs ask a (rise.begun c) k (λ e. absurd (cc (e))))
 
   folding_tells : (h : Held) (f : Folding) → w ≡ work.Folding h f → (next : Next Folding Left) → LeafTold tree cs ask a f next → NextTells (folding_on h next)
   folding_tells h f stands (Goes g) k = (k, none_kept None refl)
@@ -371,7 +371,7 @@ intake_told tree cs l root ms (Err t) w takes =
     let shown = message_shown tree (now (receive tree) (call.Received ms) cs) l root (tree_held root).cursor ms (items_of ms) t refl takes in
     stop_told tree (work.Receiving l root) cs (call.Received ms) l t (λ other. shown.1) shown.0
 
-root_more : (tree : ℕ) (t : Tree) (c : Ask × Answer) (cs : Calls) → WasRoot tree t cs → WasRoot tree t (c ∷ cs)
+pub root_more : (tree : ℕ) (t : Tree) (c : Ask × Answer) (cs : Calls) → WasRoot tree t cs → WasRoot tree t (c ∷ cs)
 root_more tree t c cs (inl h) = inl (h.0, h.1, inr h.2)
 root_more tree t c cs (inr h) = inr (h.0, h.1, inr h.2)
 
@@ -505,34 +505,37 @@ leaf_told tree cs l f a k fits = on f.placing.reserved f.placing.puts k fits whe
 
 -- ---- the way up
 
-up_told : (tree : ℕ) (cs : Calls) (r : Rising) (name : ObjName) (bytes : List ℕ) (one : Claim) (two : Option Claim) (a : Answer) → Charted tree r.chart cs
+spent_more : (tree : ℕ) (r : Rising) (c : Ask × Answer) (cs : Calls) → KnowsSpent tree r cs → KnowsSpent tree r (c ∷ cs)
+spent_more tree r c cs k = λ e. ((k e).0, root_more tree (k e).0 c cs (k e).1, (k e).2)
+
+up_told : (tree : ℕ) (cs : Calls) (r : Rising) (name : ObjName) (bytes : List ℕ) (one : Claim) (two : Option Claim) (a : Answer) → Charted tree r.chart cs → KnowsSpent tree r cs
     → (a ≡ call.Done → HasPut tree (now (PutHeld name bytes one two) a cs) (PutHeld name bytes one two) a r.placing.reserved) → Fits (PutHeld name bytes one two) a
     → RiseTold tree (now (PutHeld name bytes one two) a cs) (PutHeld name bytes one two) a r (rise.rising_next r a)
-up_told tree cs r name bytes one two call.Done k put fits =
+up_told tree cs r name bytes one two call.Done k spent put fits =
     risen_told tree (now (PutHeld name bytes one two) call.Done cs) (PutHeld name bytes one two) call.Done r refl (rise.put_landed r)
-    (rise_put_tells tree (now (PutHeld name bytes one two) call.Done cs) (PutHeld name bytes one two) call.Done r (chart_more tree r.chart _ cs k) (put refl))
-up_told tree cs r name bytes one two (call.Late until now) k put fits = (refl, λ other. inl refl)
-up_told tree cs r name bytes one two call.Failed k put fits = (refl, λ other. inl (refl, tt))
-up_told tree cs r name bytes one two call.Memory k put fits = (tt, no_memory)
-up_told tree cs r name bytes one two (call.Got v) k put fits = absurd fits
-up_told tree cs r name bytes one two (call.Given m) k put fits = absurd fits
-up_told tree cs r name bytes one two (call.Held until) k put fits = absurd fits
-up_told tree cs r name bytes one two (call.Sent id) k put fits = absurd fits
-up_told tree cs r name bytes one two (call.Received ms) k put fits = absurd fits
-up_told tree cs r name bytes one two (call.Renewed until) k put fits = absurd fits
+    (rise_put_tells tree (now (PutHeld name bytes one two) call.Done cs) (PutHeld name bytes one two) call.Done r (chart_more tree r.chart _ cs k) (spent_more tree r _ cs spent) (put refl))
+up_told tree cs r name bytes one two (call.Late until now) k spent put fits = (refl, λ other. inl refl)
+up_told tree cs r name bytes one two call.Failed k spent put fits = (refl, λ other. inl (refl, tt))
+up_told tree cs r name bytes one two call.Memory k spent put fits = (tt, no_memory)
+up_told tree cs r name bytes one two (call.Got v) k spent put fits = absurd fits
+up_told tree cs r name bytes one two (call.Given m) k spent put fits = absurd fits
+up_told tree cs r name bytes one two (call.Held until) k spent put fits = absurd fits
+up_told tree cs r name bytes one two (call.Sent id) k spent put fits = absurd fits
+up_told tree cs r name bytes one two (call.Received ms) k spent put fits = absurd fits
+up_told tree cs r name bytes one two (call.Renewed until) k spent put fits = absurd fits
 
-rise_told : (tree : ℕ) (cs : Calls) (l : Claim) (r : Rising) (a : Answer) → Charted tree r.chart cs → IsRising r → Fits (rise.rising_ask r l) a
+rise_told : (tree : ℕ) (cs : Calls) (l : Claim) (r : Rising) (a : Answer) → Charted tree r.chart cs → IsRising r → KnowsSpent tree r cs → Fits (rise.rising_ask r l) a
     → RiseTold tree (now (rise.rising_ask r l) a cs) (rise.rising_ask r l) a r (rise.rising_next r a)
-rise_told tree cs l r a k some fits = on r.placing.reserved r.placing.puts r.last some fits where
+rise_told tree cs l r a k some spent fits = on r.placing.reserved r.placing.puts r.last some fits where
   with_placing : Option (List ℕ) → List PagePut → Option (List ℕ) → Rising
   with_placing reserved puts last = record r { placing = record { reserved = reserved; puts = puts }; last = last }
 
   on : (reserved : Option (List ℕ)) (puts : List PagePut) (last : Option (List ℕ)) → IsRising (with_placing reserved puts last) → Fits (rise.rising_ask (with_placing reserved puts last) l) a
       → RiseTold tree (now (rise.rising_ask (with_placing reserved puts last) l) a cs) (rise.rising_ask (with_placing reserved puts last) l) a (with_placing reserved puts last) (rise.rising_next (with_placing reserved puts last) a)
   on (Some bytes) puts last some fits =
-      up_told tree cs (with_placing (Some bytes) puts last) (object.Tree r.chart.tree) bytes l None a k (root_put tree r.chart.tree cs bytes l a k.same) fits
-  on None (x ∷ xs) last some fits = up_told tree cs (with_placing None (x ∷ xs) last) (object.Page r.chart.tree x.page) x.bytes l None a k (λ done. tt) fits
-  on None [] (Some bytes) some fits = up_told tree cs (with_placing None [] (Some bytes)) (object.Tree r.chart.tree) bytes l None a k (λ done. tt) fits
+      up_told tree cs (with_placing (Some bytes) puts last) (object.Tree r.chart.tree) bytes l None a k spent (root_put tree r.chart.tree cs bytes l a k.same) fits
+  on None (x ∷ xs) last some fits = up_told tree cs (with_placing None (x ∷ xs) last) (object.Page r.chart.tree x.page) x.bytes l None a k spent (λ done. tt) fits
+  on None [] (Some bytes) some fits = up_told tree cs (with_placing None [] (Some bytes)) (object.Tree r.chart.tree) bytes l None a k spent (λ done. tt) fits
   on None [] None some fits = absurd (cc (some))
 
 -- ---- all
@@ -545,12 +548,15 @@ up_leads tree cs h r a (Ends n x) k =
     deleting_tells tree (work.Rising h r) (now (rise.rising_ask r h.lease) a cs) a h n.chart.applied (next_id h.deletions.ids)
 up_leads tree cs h r a (Stops n t) k = stop_told tree (work.Rising h r) cs a h.lease t (λ other. on (k.1 other)) k.0 where
   on : Refuses (rise.rising_ask r h.lease) a t
-      ⊎ ((a ≡ call.Done) × (has_nothing r.placing ≡ false) × (has_nothing (rise.landed r).placing ≡ true) × (r.last ≡ None) × UpSpends (rise.landed r) t)
+      ⊎ ((a ≡ call.Done) × PutStops tree (now (rise.rising_ask r h.lease) a cs) (rise.rising_ask r h.lease) a r t)
       → Demands tree (work.Rising h r) a t
   on (inl refuses) = inl refuses
-  on (inr (done, some, nothing, between, spent)) =
+  on (inr (done, (some, nothing, inl (between, spent)))) =
       inr (inr (inr (inr (inr (inr (up_spends (work.Rising h r) a (rise.landed r) t
       (inr (record { held = h; from = r; stands = refl; put = done; some = some; nothing = nothing; between = between; is = refl })) spent))))))
+  on (inr (done, (some, nothing, inr (behind, spent, is)))) =
+      inr (inr (inr (inr (inr (inr (subst (Spends (work.Rising h r) a) (sym is)
+      (inr (record { held = h; from = r; stands = refl; put = done; some = some; nothing = nothing; behind = behind; spent = spent }))))))))
 
 TellsBy : ℕ → Work → Calls → Answer → Step → Type 0
 TellsBy tree w cs a next = KnowsAt tree w cs → Fits (work_ask tree w) a → Leads tree w a next → Told tree w cs a next
@@ -574,7 +580,7 @@ tells_by tree (work.ReleasingPage h l o) cs a next k fits e =
     (left_tells tree (work.ReleasingPage h l o) (now (Release l) a cs) a h l o refl (onward_later tree o (Release l, a) cs k))
 tells_by tree (work.LeftPage h o) cs a next k fits e = absurd k
 tells_by tree (work.Rising h r) cs a next k fits e =
-    by_told tree (work.Rising h r) cs a next _ e (up_leads tree cs h r a (rise.rising_next r a) (rise_told tree cs h.lease r a k.0 k.1 fits))
+    by_told tree (work.Rising h r) cs a next _ e (up_leads tree cs h r a (rise.rising_next r a) (rise_told tree cs h.lease r a k.0 k.1 k.2 fits))
 tells_by tree (work.Deleting h applied) cs a next k fits e =
     by_told tree (work.Deleting h applied) cs a next _ e (deleting_tells tree (work.Deleting h applied) (now (work_ask tree (work.Deleting h applied)) a cs) a (record h { deletions = tried h.deletions (went (done_of a)) }) applied (next_id (tried h.deletions (went (done_of a))).ids))
 tells_by tree (work.Releasing held end) cs a next k fits e =

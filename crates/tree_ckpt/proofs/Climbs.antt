@@ -1,6 +1,6 @@
 -- How the work of a tree checkpoint goes up.
 use Rattle.std.proofs.Common.{◌≡◌, ◌+◌, ℕ, Bool, true, false, cond, List, [], ◌∷◌, ◌++◌, length, Option, Some, None, Result, Ok, Err, refl, sym, ap, subst, ◌∙◌, inl, inr, arith}
-use Rattle.std.specs.Prelude.{◌==◌, ◌||◌, drop, not, is_some, unwrap_or}
+use Rattle.std.specs.Prelude.{◌==◌, ◌||◌, ◌&&◌, drop, not, is_some, unwrap_or}
 use Rattle.std.specs.List.{AllByRecursion}
 use Rattle.db_base.specs.declared.names.ObjName.TheVariants as object
 use Rattle.db_base.specs.declared.names.QueueName.TheVariants as queue
@@ -19,6 +19,7 @@ use Rattle.tree_parts.specs.declared.link.Link.{Link}
 use Rattle.tree_parts.specs.declared.placing.Placing.{Placing}
 use Rattle.tree_parts.specs.Kept.{links_at}
 use Rattle.tree_parts.specs.Placing.{put_in_hand, landed_root, landed_placing, has_nothing}
+use Rattle.tree_parts.specs.Reserve.{version_spent}
 use Rattle.tree_parts.specs.Read.{tree_held}
 use Rattle.tree_rising.specs.declared.node.NodePlan.{NodePlan}
 use Rattle.tree_rising.specs.declared.rising.Rising.{Rising}
@@ -83,16 +84,16 @@ abbrev pub UpsAt : Claim → Chart → Opening → Type 0
 UpsAt lease c o = Ups lease c.tree c.run c.applied c.nodes c.links o
 
 -- the puts of the newest plan are under way, those of a node or of the tree object
-abbrev UpTo : ℕ → Claim → List (ℕ × ℕ) → Placing → Option (List ℕ) → Option (List ℕ) → List Link → Calls → Calls → Option (List ℕ) → Type 0
-UpTo tree lease top p root stood links below work None = (landed_root p root ≡ stood) × (done_over (puts_of tree lease None p) work ≡ below)
-UpTo tree lease top p root stood links below work (Some bytes) =
-    (last : RootPlan) × (bytes ≡ last.last) × PutsRoot (tree_held stood) (raised_root (tree_held stood) links top) last
+abbrev UpTo : Bool → ℕ → Claim → List (ℕ × ℕ) → Placing → Option (List ℕ) → Option (List ℕ) → List Link → Calls → Calls → Option (List ℕ) → Type 0
+UpTo spent tree lease top p root stood links below work None = (landed_root p root ≡ stood) × (done_over (puts_of tree lease None p) work ≡ below)
+UpTo spent tree lease top p root stood links below work (Some bytes) =
+    (last : RootPlan) × (bytes ≡ last.last) × (spent ≡ false → PutsRoot (tree_held stood) (raised_root (tree_held stood) links top) last)
     × (done_over (puts_of tree lease None p) work ≡ done_over (puts_of tree lease None last.placing) below)
 
 pub record Climbs (lease : Claim) (r : Rising) (o : Opening) (work : Calls) : Type 0 where
   pub ups : UpsAt lease r.chart o
   pub placed : Placed r.chart.tree ups.visits ups.climbs r.chart.nodes r.at r.last
-  pub upto : UpTo r.chart.tree lease r.chart.run.top r.placing r.chart.root (root_above (root_behind o.got ups.visits) ups.climbs) (links_above (links_behind ups.visits) ups.climbs)
+  pub upto : UpTo r.is_spent r.chart.tree lease r.chart.run.top r.placing r.chart.root (root_above (root_behind o.got ups.visits) ups.climbs) (links_above (links_behind ups.visits) ups.climbs)
       (climbs_over r.chart.tree lease ups.climbs (visits_over r.chart.tree lease ups.visits [])) work r.last
 
 -- all was put that was planned
@@ -144,7 +145,7 @@ module _ (lease : Claim) (r : Rising) (o : Opening) (work : Calls) (none : r.las
             Placed r.chart.tree k.ups.visits (record { node = n; plan = p } ∷ k.ups.climbs) r.chart.nodes (rise.next_touched r + 1) last) (sym none)
             (placed_there r.chart.tree (links_behind k.ups.visits) (record { node = n; plan = p }) k.ups.climbs r.chart.nodes (rise.next_touched r) placed_now there);
         upto = subst (λ (last : Option (List ℕ)).
-            UpTo r.chart.tree lease r.chart.run.top p.placing r.chart.root (landed_root p.placing stood) (links ++ links_at (n.level + 1) p.entries)
+            UpTo r.is_spent r.chart.tree lease r.chart.run.top p.placing r.chart.root (landed_root p.placing stood) (links ++ links_at (n.level + 1) p.entries)
             (done_over (puts_of r.chart.tree lease None p.placing) below) work last) (sym none)
             (ap (landed_root p.placing) k.root, ap (done_over (puts_of r.chart.tree lease None p.placing)) k.calls);
       }
@@ -169,9 +170,9 @@ module _ (lease : Claim) (r : Rising) (o : Opening) (work : Calls) (none : r.las
         upto = (
           p,
           refl,
-          subst (λ (ls : List Link). PutsRoot (tree_held stood) (raised_root (tree_held stood) ls r.chart.run.top) p) k.ups.linked
+          λ whole. subst (λ (ls : List Link). PutsRoot (tree_held stood) (raised_root (tree_held stood) ls r.chart.run.top) p) k.ups.linked
               (subst (λ (root : Option (List ℕ)). PutsRoot (tree_held root) (raised_root (tree_held root) r.chart.links r.chart.run.top) p) k.root
-              (root_puts (tree_held r.chart.root) r.chart.links r.chart.run.top p e)),
+              (root_puts (tree_held r.chart.root) r.chart.links r.chart.run.top p e whole)),
           ap (done_over (puts_of r.chart.tree lease None p.placing)) k.calls,
         );
       }
@@ -242,21 +243,23 @@ neither : (a b : Bool) → (not a || b) ≡ false → (a ≡ true) × (b ≡ fal
 neither true b e = (refl, e)
 neither false b e = absurd (cc (e))
 
-some_last : (a b : Bool) → a ≡ true → (not a || b) ≡ true → b ≡ true
-some_last true b e h = h
-some_last false b e h = absurd (cc (e))
+some_last : (a b spent : Bool) → a ≡ true → (not a || (b && not spent)) ≡ true → (b ≡ true) × (spent ≡ false)
+some_last true true true e h = absurd (cc (h))
+some_last true true false e h = (refl, refl)
+some_last true false spent e h = absurd (cc (h))
+some_last false b spent e h = absurd (cc (e))
 
 module _ (lease : Claim) (r : Rising) (o : Opening) (work : Calls) (k : Climbs lease r o work) where
   abbrev UpBy : Placing → Option (List ℕ) → Calls → Option (List ℕ) → Type 0
   UpBy p root calls last =
-      UpTo r.chart.tree lease r.chart.run.top p root (root_above (root_behind o.got k.ups.visits) k.ups.climbs) (links_above (links_behind k.ups.visits) k.ups.climbs)
+      UpTo r.is_spent r.chart.tree lease r.chart.run.top p root (root_above (root_behind o.got k.ups.visits) k.ups.climbs) (links_above (links_behind k.ups.visits) k.ups.climbs)
       (climbs_over r.chart.tree lease k.ups.climbs (visits_over r.chart.tree lease k.ups.visits [])) calls last
 
   -- the put of the tree object
-  last_climbs : has_nothing r.placing ≡ true → (last : Option (List ℕ)) → is_some last ≡ true
+  last_climbs : has_nothing r.placing ≡ true → r.is_spent ≡ false → (last : Option (List ℕ)) → is_some last ≡ true
       → Placed r.chart.tree k.ups.visits k.ups.climbs r.chart.nodes r.at last → UpBy r.placing r.chart.root work last
       → Risen lease r.chart.tree r.chart.run r.chart.applied o ((rise.last_ask r lease last, call.Done) ∷ work)
-  last_climbs nothing (Some bytes) some placed up = record {
+  last_climbs nothing whole (Some bytes) some placed up = record {
     worked = record { visits = k.ups.visits; climbs = k.ups.climbs; last = up.0 };
     is = record {
       visits = k.ups.are;
@@ -264,7 +267,7 @@ module _ (lease : Claim) (r : Rising) (o : Opening) (work : Calls) (k : Climbs l
       climbs = k.ups.climbed;
       raises = λ page bytes n got e touched.
           noted_put r.chart.tree (links_behind k.ups.visits) k.ups.climbs r.chart.nodes page bytes n placed (k.ups.noted page bytes got) e touched;
-      last = up.2;
+      last = up.2 whole;
     };
     calls =
         ap (λ (bs : List ℕ). (PutHeld (object.Tree r.chart.tree) bs lease None, call.Done) ∷ work) up.1
@@ -272,7 +275,7 @@ module _ (lease : Claim) (r : Rising) (o : Opening) (work : Calls) (k : Climbs l
         (sym (none_left r.placing r.chart.tree lease None work nothing) ∙ up.3);
     applied = k.ups.applied;
   }
-  last_climbs nothing None some placed up = absurd (cc (some))
+  last_climbs nothing whole None some placed up = absurd (cc (some))
 
   put_call : Ask × Answer
   put_call = (rise.rising_ask r lease, call.Done)
@@ -326,9 +329,13 @@ module _ (lease : Claim) (r : Rising) (o : Opening) (work : Calls) (k : Climbs l
 
   after_climbs : has_nothing r.placing ≡ false → RiseClimbs lease r (rise.after_put (rise.landed r)) o (put_call ∷ work)
   after_climbs some = on (not (has_nothing (landed_placing r.placing)) || is_some r.last) refl where
+    next : (b : Bool) → RiseClimbs lease r (cond b (Stops (rise.landed r) version_spent) (Goes (rise.landed r))) o (put_call ∷ work)
+    next true = tt
+    next false = landed_climbs some
+
     on : (b : Bool) → (not (has_nothing (landed_placing r.placing)) || is_some r.last) ≡ b
-        → RiseClimbs lease r (cond b (Goes (rise.landed r)) (rise.rise (rise.landed r))) o (put_call ∷ work)
-    on true e = landed_climbs some
+        → RiseClimbs lease r (cond b (rise.put_next (rise.landed r)) (rise.rise (rise.landed r))) o (put_call ∷ work)
+    on true e = next (has_nothing (landed_placing r.placing) && r.is_spent)
     on false e =
         let both = neither (has_nothing (landed_placing r.placing)) (is_some r.last) e in
         goes_up lease r (rise.rise (rise.landed r)) o (put_call ∷ work)
@@ -342,7 +349,7 @@ module _ (lease : Claim) (r : Rising) (o : Opening) (work : Calls) (k : Climbs l
     on true e =
         subst (λ (ask : Ask). Risen lease r.chart.tree r.chart.run r.chart.applied o ((ask, call.Done) ∷ work))
         (sym (none_in_hand r.placing r.chart.tree lease None (rise.last_ask r lease r.last) e))
-        (last_climbs e r.last (some_last (has_nothing r.placing) (is_some r.last) e rising) k.placed k.upto)
+        (let both = some_last (has_nothing r.placing) (is_some r.last) r.is_spent e rising in last_climbs e both.1 r.last both.0 k.placed k.upto)
     on false e = after_climbs e
 
   risen_climbs : (a : Answer) → IsRising r → (done : Result (Unit {0}) Trouble) → done_of a ≡ done

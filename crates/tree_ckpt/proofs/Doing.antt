@@ -1,6 +1,6 @@
 -- What a tree checkpoint knows of its calls.
 use Rattle.std.proofs.Common.{◌≡◌, ◌+◌, ℕ, Bool, true, false, cond, List, [], ◌∷◌, ◌++◌, length, Option, Some, None, Result, Ok, Err, refl, sym, ap, subst, ◌∙◌, arith}
-use Rattle.std.specs.Prelude.{◌==◌, ◌||◌, not, is_some, unwrap_or}
+use Rattle.std.specs.Prelude.{◌==◌, ◌||◌, ◌&&◌, not, is_some, unwrap_or}
 use Rattle.db_base.specs.declared.names.Lock.TheVariants as lock
 use Rattle.db_base.specs.declared.names.ObjName.TheVariants as object
 use Rattle.db_base.specs.declared.names.QueueName.TheVariants as queue
@@ -29,6 +29,7 @@ use Rattle.ckpt_parts.specs.Intakes.{has_items, items_of, intake_of, TakesIn, Ta
 use Rattle.ckpt_parts.specs.Leasing.{newest_lease, without_newest}
 use Rattle.tree_parts.specs.declared.chart.Chart.{Chart}
 use Rattle.tree_parts.specs.Placing.{has_nothing, put_first, put_next}
+use Rattle.tree_parts.specs.Reserve.{version_spent}
 use Rattle.tree_parts.specs.Read.{tree_held}
 use Rattle.tree_descent.specs.declared.descent.Descent.{Descent}
 use Rattle.tree_descent.specs.Descent.{descent_ask, descent_next}
@@ -363,8 +364,12 @@ up_goes r l a (Stops e t) h = tt
 
 after_up : (r : Rising) → GoesUp (rise.after_put r)
 after_up r = on (not (has_nothing r.placing) || is_some r.last) where
-  on : (b : Bool) → GoesUp (cond b (Goes r) (rise.rise r))
-  on true = tt
+  next : (b : Bool) → GoesUp (cond b (Stops r version_spent) (Goes r))
+  next true = tt
+  next false = tt
+
+  on : (b : Bool) → GoesUp (cond b (rise.put_next r) (rise.rise r))
+  on true = next (has_nothing r.placing && r.is_spent)
   on false = rise_up r
 
 landed_ends : (l : Claim) (r : Rising) → IsRising r → UpEnds r l call.Done (rise.put_landed r)

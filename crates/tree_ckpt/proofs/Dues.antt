@@ -16,12 +16,12 @@ use Rattle.tree_rising.specs.Rising.{rising_ask, landed, next_touched}
 use Rattle.tree_moves.specs.declared.work.Work.{Work}
 use Rattle.tree_moves.specs.declared.work.Work.TheVariants as work
 use Rattle.tree_moves.specs.Work.{work_ask}
-use Rattle.tree_ckpt.specs.Making.{Making}
+use Rattle.tree_ckpt.specs.Making.{Making, making_ask}
 use Rattle.tree_ckpt.specs.Causing.{Calls, WasGot, WasRoot, WasLeaf}
-use Rattle.tree_ckpt.specs.Due.{Due, LeafDue, NodeDue, RootDue, GetsLeaf, IsUp, IsDue, WasBrought}
+use Rattle.tree_ckpt.specs.Due.{Due, LeafDue, NodeDue, RootDue, GetsLeaf, IsUp, IsDue, IsCutShort, WasBrought, WasLastButOne}
 use Rattle.tree_ckpt.specs.Stepped.{calls_with}
 use Rattle.tree_ckpt.proofs.Brought.{Charted, IsKept, chart_more}
-use Rattle.tree_ckpt.proofs.Causing.{KnowsAt, root_put}
+use Rattle.tree_ckpt.proofs.Causing.{KnowsAt, root_more, root_put}
 use Rattle.tree_ckpt.proofs.Folds.{not_empty}
 use Rattle.tree_ckpt.proofs.Plots.{HasPut, chart_landed}
 use Rattle.tree_ckpt.proofs.Rises.{kept_at}
@@ -89,6 +89,11 @@ module _ (tree : ℕ) (cs : Calls) (a : Answer) where
   brought_at w k (RootDue root links top) is =
       let charted : Charted tree is.up.chart (after w) = up_charted w is.up k is.is_up in
       subst (λ (t : _). WasRoot tree t (after w)) (sym is.root_is) charted.root
+
+pub cut_last_but_one : (m : Making) (h : List Deed) (a : Answer) → KnowsAt m.tree m.work (calls_of h) → IsCutShort m.work a → WasLastButOne m.tree (calls_with m h a)
+cut_last_but_one m h a k is =
+    let root : WasLastButOne m.tree (calls_of h) = (subst (λ (x : Work). KnowsAt m.tree x (calls_of h)) is.stands k).2 is.spent in
+    (root.0, root_more m.tree root.0 (making_ask m, a) (calls_of h) root.1, root.2)
 
 pub due_brought : (m : Making) (h : List Deed) (a : Answer) → KnowsAt m.tree m.work (calls_of h) → (due : Due) → IsDue m.work a due → WasBrought m.tree due (calls_with m h a)
 due_brought m h a k due is = brought_at m.tree (calls_of h) a m.work k due is

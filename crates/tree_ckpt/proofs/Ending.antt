@@ -1,6 +1,6 @@
 -- A tree checkpoint ends: each step that goes on leaves fewer calls.
 use Rattle.std.proofs.Common.{◌≡◌, ◌<◌, ◌≤◌, ◌+◌, ◌-◌, ◌*◌, ℕ, Bool, true, false, cond, List, [], ◌∷◌, length, Option, Some, None, Result, Ok, Err, refl, sym, ap, subst, ◌∙◌, arith}
-use Rattle.std.specs.Prelude.{◌||◌, not, is_some}
+use Rattle.std.specs.Prelude.{◌||◌, ◌&&◌, not, is_some}
 use Rattle.std.proofs.lemmas.Option.{slice_get_within}
 use Rattle.db_base.specs.declared.names.Lock.TheVariants as lock
 use Rattle.db_base.specs.declared.names.QueueName.TheVariants as queue
@@ -25,6 +25,7 @@ use Rattle.tree_parts.specs.declared.chart.Chart.{Chart}
 use Rattle.tree_parts.specs.declared.kept.KeptNode.{KeptNode}
 use Rattle.tree_parts.specs.declared.placing.Placing.{Placing}
 use Rattle.tree_parts.specs.Placing.{has_nothing, landed_placing}
+use Rattle.tree_parts.specs.Reserve.{version_spent}
 use Rattle.tree_parts.specs.Read.{tree_held}
 use Rattle.tree_descent.specs.declared.descent.Descent.{Descent}
 use Rattle.tree_descent.specs.Descent.{descent_next}
@@ -287,8 +288,12 @@ up_none (Some bytes) at puts e = absurd (cc (e))
 landed_up : (r : Rising) → has_nothing r.placing ≡ false → BelowUp (up_left r) (rise.after_put (rise.landed r))
 unfolding BelowUp
 landed_up r e = on (not (has_nothing (landed_placing r.placing)) || is_some r.last) refl where
-  on : (b : Bool) → (not (has_nothing (landed_placing r.placing)) || is_some r.last) ≡ b → BelowUp (up_left r) (cond b (Goes (rise.landed r)) (rise.rise (rise.landed r)))
-  on true f = λ nodes puts. fewer_up r.last r.at (puts_left (landed_placing r.placing)) (puts_left r.placing) (one_fewer r.placing e)
+  next : (b : Bool) → BelowUp (up_left r) (cond b (Stops (rise.landed r) version_spent) (Goes (rise.landed r)))
+  next true = tt
+  next false = λ nodes puts. fewer_up r.last r.at (puts_left (landed_placing r.placing)) (puts_left r.placing) (one_fewer r.placing e)
+
+  on : (b : Bool) → (not (has_nothing (landed_placing r.placing)) || is_some r.last) ≡ b → BelowUp (up_left r) (cond b (rise.put_next (rise.landed r)) (rise.rise (rise.landed r)))
+  on true f = next (has_nothing (landed_placing r.placing) && r.is_spent)
   on false f =
       let none : r.last ≡ None = none_of r.last (or_right (not (has_nothing (landed_placing r.placing))) (is_some r.last) f) in
       up_more ((most + 3) * (most - r.at) + (most + 3)) (up_left r) (rise.rise (rise.landed r)) (up_none r.last r.at (puts_left r.placing) none) (rise_up (rise.landed r) none)

@@ -1,6 +1,6 @@
 -- A tree checkpoint stops for what the answer of its call demands.
 use Rattle.std.proofs.Common.{◌≡◌, ◌≢◌, ◌⊎◌, ℕ, Bool, true, false, cond, List, [], ◌∷◌, Option, Some, None, Result, Ok, Err, refl, sym, ap, subst, inl, inr, ◌∙◌}
-use Rattle.std.specs.Prelude.{◌==◌, ◌||◌, ◌+◌, not, is_some}
+use Rattle.std.specs.Prelude.{◌==◌, ◌||◌, ◌&&◌, ◌+◌, not, is_some}
 use Rattle.std.proofs.lemmas.Bool.{eq-eqb, ne_eqb}
 use Rattle.db_base.specs.declared.names.Lock.{Lock}
 use Rattle.db_base.specs.declared.names.Lock.TheVariants as lock
@@ -65,7 +65,7 @@ use Rattle.tree_ckpt.specs.Making.{Making, making_ask, MakingLeads, KeepsLeases}
 use Rattle.tree_ckpt.specs.Standing.{HasIds, HoldsOne, HoldsAt, Stands}
 use Rattle.tree_ckpt.specs.Causing.{Calls, GoesRight, ticks_of, kept_trouble}
 use Rattle.tree_ckpt.specs.Way.{behind, BreaksFrom, from_root, BreaksWay}
-use Rattle.tree_ckpt.specs.Due.{Due, LeafDue, NodeDue, RootDue, IsSpent, HasNoPages, GetsLeaf, IsUp, IsDue, Spends}
+use Rattle.tree_ckpt.specs.Due.{Due, LeafDue, NodeDue, RootDue, IsSpent, HasNoPages, GetsLeaf, IsUp, IsDue, IsCutShort, Spends}
 use Rattle.tree_ckpt.specs.Demands.{Matters, Refuses, BreaksRoot, BreaksRecord, BreaksNode, BreaksLeaf, Demands}
 use Rattle.tree_ckpt.specs.Stepped.{Owes}
 use Rattle.tree_ckpt.proofs.Causing.{KnowsAt}
@@ -463,8 +463,8 @@ up_owes tree w a next t up leads (inr g) owes =
     let two : Leads tree (work.Rising g.held g.from) call.Done next = subst (λ (x : Answer). Leads tree (work.Rising g.held g.from) x next) g.put one in
     owes_by t next _ two
     (subst (λ (b : Bool). NextOwes (rising_on g.held (cond b (Ends g.from tt) (after_put (landed g.from)))) t) (sym g.some)
-    (subst (λ (b : Bool). NextOwes (rising_on g.held (cond (not b || is_some g.from.last) (Goes (landed g.from)) (rise (landed g.from)))) t) (sym g.nothing)
-    (subst (λ (o : Option (List ℕ)). NextOwes (rising_on g.held (cond (is_some o) (Goes (landed g.from)) (rise (landed g.from)))) t) (sym g.between)
+    (subst (λ (b : Bool). NextOwes (rising_on g.held (cond (not b || is_some g.from.last) (cond (b && g.from.is_spent) (Stops (landed g.from) version_spent) (Goes (landed g.from))) (rise (landed g.from)))) t) (sym g.nothing)
+    (subst (λ (o : Option (List ℕ)). NextOwes (rising_on g.held (cond (is_some o) (cond g.from.is_spent (Stops (landed g.from) version_spent) (Goes (landed g.from))) (rise (landed g.from)))) t) (sym g.between)
     (subst (λ (r : Rising). NextOwes (rising_on g.held (rise r)) t) g.is (owes g.held)))))
 
 -- what is due cannot be planned
@@ -512,8 +512,20 @@ full_stops (LeafDue root l run) s = λ page. leaf_plan_full root page l run s
 full_stops (NodeDue root n links) s = λ tree k reads. node_plan_full root tree k n links reads s
 full_stops (RootDue root links top) s = last_plan_full root links top s
 
+-- behind the last piece there is no version for the tree object
+short_owes : (tree : ℕ) (w : Work) (a : Answer) (next : Step) → Leads tree w a next → IsCutShort w a → NextOwes next version_spent
+short_owes tree w a next leads is =
+    let one : Leads tree (work.Rising is.held is.from) a next = subst (λ (x : Work). Leads tree x a next) is.stands leads in
+    let two : Leads tree (work.Rising is.held is.from) call.Done next = subst (λ (x : Answer). Leads tree (work.Rising is.held is.from) x next) is.put one in
+    owes_by version_spent next _ two
+    (subst (λ (b : Bool). NextOwes (rising_on is.held (cond b (Ends is.from tt) (after_put (landed is.from)))) version_spent) (sym is.some)
+    (subst (λ (b : Bool). NextOwes (rising_on is.held (cond (not b || is_some is.from.last) (cond (b && is.from.is_spent) (Stops (landed is.from) version_spent) (Goes (landed is.from))) (rise (landed is.from)))) version_spent) (sym is.nothing)
+    (subst (λ (b : Bool). NextOwes (rising_on is.held (cond b (cond is.from.is_spent (Stops (landed is.from) version_spent) (Goes (landed is.from))) (rise (landed is.from)))) version_spent) (sym is.behind)
+    (subst (λ (b : Bool). NextOwes (rising_on is.held (cond b (Stops (landed is.from) version_spent) (Goes (landed is.from)))) version_spent) (sym is.spent) refl))))
+
 spent_owes : (tree : ℕ) (w : Work) (a : Answer) (next : Step) (t : Trouble) → Leads tree w a next → Spends w a t → NextOwes next t
-spent_owes tree w a next (trouble.Exhausted counter.Version) leads (due, is, s) = due_owes tree w a next version_spent leads due is (spent_stops due s)
+spent_owes tree w a next (trouble.Exhausted counter.Version) leads (inl (due, is, s)) = due_owes tree w a next version_spent leads due is (spent_stops due s)
+spent_owes tree w a next (trouble.Exhausted counter.Version) leads (inr is) = short_owes tree w a next leads is
 spent_owes tree w a next (trouble.Exhausted counter.Pages) leads (due, is, s) = due_owes tree w a next pages_spent leads due is (full_stops due s)
 spent_owes tree w a next (trouble.Exhausted counter.Epoch) leads k = absurd k
 spent_owes tree w a next (trouble.Exhausted counter.Txn) leads k = absurd k

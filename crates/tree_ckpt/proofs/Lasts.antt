@@ -20,7 +20,7 @@ use Rattle.tree_rising.specs.declared.root.RootPlan.{RootPlan}
 use Rattle.tree_rising.specs.Nodes.{node_plan}
 use Rattle.tree_rising.specs.Root.{is_named, with_named, new_pages, lowered, cut_at, cut_by, cut_behind, root_cut, root_plan, uncut}
 use Rattle.tree_rising.specs.Root as root
-use Rattle.tree_rising.specs.Rising.{Step, next_touched, touched_node, put_node, plan_of, last_plan, put_root, rise_at, rise, landed, after_put, risen_by}
+use Rattle.tree_rising.specs.Rising.{Step, next_touched, touched_node, put_node, plan_of, last_plan, put_root, rise_at, rise, landed, put_next, after_put, risen_by}
 
 -- bytes of a tree object whose cursor is raised to the run's top
 abbrev pub IsLastRoot : Taken → List ℕ → Type 0
@@ -52,16 +52,17 @@ abbrev PlanLasts : Taken → Result RootPlan Trouble → Type 0
 PlanLasts run (Ok p) = IsLastRoot run p.last
 PlanLasts run (Err t) = Unit {0}
 
-cut_lasts : (run : Taken) (before : List (ℕ × ℕ)) (t : Tree) (put : Option (List ℕ)) (count : ℕ) → t.cursor ≡ raised before run.top → PlanLasts run (cut_at put count t)
-cut_lasts run before t put count e = on (nat_lt 18446744073709551615 (t.next + count)) where
-  on : (b : Bool) → PlanLasts run (cond b (Err pages_spent) (Ok (lowered put (record t { next = t.next + count }) t.next)))
+cut_lasts : (run : Taken) (before : List (ℕ × ℕ)) (t : Tree) (put : Option (List ℕ)) (count : ℕ) (spent : Bool) → t.cursor ≡ raised before run.top
+    → PlanLasts run (cut_at put count spent t)
+cut_lasts run before t put count spent e = on (nat_lt 18446744073709551615 (t.next + count)) where
+  on : (b : Bool) → PlanLasts run (cond b (Err pages_spent) (Ok (lowered put spent (record t { next = t.next + count }) t.next)))
   on true = tt
   on false = (root_above (new_pages t.next (record t { next = t.next + count })) (record t { next = t.next + count }), before, refl, e)
 
 next_lasts : (run : Taken) (before : List (ℕ × ℕ)) (t : Tree) (put : Option (List ℕ)) (count : ℕ) (b : Bool) → t.cursor ≡ raised before run.top
-    → PlanLasts run (cut_by put count (cond b (Err version_spent) (Ok (record t { version = t.version + 1 }))))
-next_lasts run before t put count true e = tt
-next_lasts run before t put count false e = cut_lasts run before (record t { version = t.version + 1 }) put count e
+    → PlanLasts run (cut_by put count t (cond b (Err version_spent) (Ok (record t { version = t.version + 1 }))))
+next_lasts run before t put count true e = cut_lasts run before t put count true e
+next_lasts run before t put count false e = cut_lasts run before (record t { version = t.version + 1 }) put count false e
 
 behind_lasts : (run : Taken) (before : List (ℕ × ℕ)) (t : Tree) (r : Result Reserved Trouble) → t.cursor ≡ raised before run.top → PlanLasts run (cut_behind t r)
 behind_lasts run before t (Ok r) e = next_lasts run before t r.put (count_of (length t.entries)) (t.version == 18446744073709551615) e
@@ -117,8 +118,12 @@ from_landed r (Stops e t) h = tt
 pub risen_keeps : (r : Rising) (done : Result (Unit {0}) Trouble) → LastIs r → UpKeeps r (risen_by r done)
 risen_keeps r (Err t) last = tt
 risen_keeps r (Ok x) last = on (has_nothing r.placing) where
-  further : (b : Bool) → UpKeeps (landed r) (cond b (Goes (landed r)) (rise (landed r)))
-  further true = (refl, last)
+  next : (b : Bool) → UpKeeps (landed r) (cond b (Stops (landed r) version_spent) (Goes (landed r)))
+  next true = tt
+  next false = (refl, last)
+
+  further : (b : Bool) → UpKeeps (landed r) (cond b (put_next (landed r)) (rise (landed r)))
+  further true = next (has_nothing (landed r).placing && r.is_spent)
   further false = rise_keeps (landed r) last
 
   on : (b : Bool) → UpKeeps r (cond b (Ends r tt) (after_put (landed r)))

@@ -1,5 +1,5 @@
 -- What is put for a page are the pieces that it is cut into, none of them long.
-use Rattle.std.proofs.Common.{◌≡◌, ℕ, zero, suc, ◌+◌, ◌-◌, ◌*◌, ◌/◌, ◌%◌, ◌<◌, ◌≤◌, Bool, true, false, cond, List, [], ◌∷◌, ◌++◌, length, Option, Some, None, Result, Ok, Err, refl, sym, ap, subst, ◌∙◌, inl, inr, arith}
+use Rattle.std.proofs.Common.{◌≡◌, ℕ, zero, suc, ◌+◌, ◌-◌, ◌*◌, ◌/◌, ◌%◌, ◌<◌, ◌≤◌, Bool, true, false, cond, List, [], ◌∷◌, ◌++◌, length, Option, Some, None, Result, Ok, Err, refl, ◌⊎◌, sym, ap, subst, ◌∙◌, inl, inr, arith}
 use Rattle.std.specs.Prelude.{◌==◌, ◌&&◌, nat_lt, map, reverse, drop, replicate}
 use Rattle.std.specs.List.{AllByRecursion}
 use Rattle.std.proofs.Math.Nat.{div-add-mod}
@@ -10,7 +10,7 @@ use Rattle.leaf_view.specs.Leaf.{Leaf}
 use Rattle.leaf_edit.specs.Applied.{applied}
 use Rattle.log_codec.specs.declared.record.PuItem.{PuItem}
 use Rattle.node_codec.specs.Inner.{Inner, inner_of, inner_format, node_of_root}
-use Rattle.node_codec.specs.Node.{raised}
+use Rattle.node_codec.specs.Node.{Entry, raised}
 use Rattle.node_codec.specs.Tree.{Tree, tree_bytes}
 use Rattle.split_plan.specs.Cut.{back_part, cut_by, pieces_of}
 use Rattle.split_plan.specs.Part.{Part, NodePart, record_key, entry_key, part_of_leaf, part_of_node}
@@ -28,8 +28,9 @@ use Rattle.leaf_fold.specs.Plan as fold
 use Rattle.tree_rising.specs.declared.node.NodePlan.{NodePlan}
 use Rattle.tree_rising.specs.Nodes as nodes
 use Rattle.tree_rising.specs.declared.root.RootPlan.{RootPlan}
+use Rattle.leaf_fold.specs.Folding.{no_placing}
 use Rattle.tree_rising.specs.Rising.{plan_of}
-use Rattle.tree_rising.specs.Root.{raised_root as planned_root, risen_by, lowered, cut_behind, cut_by as cut_by_count, root_cut, root_plan, uncut}
+use Rattle.tree_rising.specs.Root.{raised_root as planned_root, risen_by, lowered, cut_at, cut_behind, cut_by as cut_by_count, root_cut, root_plan, uncut}
 use Rattle.tree_ckpt.specs.Working.{Reserves, PutsPieces, PutsLeaf, PutsNode, linked_node, raised_root, PutsWhole, PutsBelow, PutsRoot}
 use Rattle.tree_ckpt.proofs.Spending.{named_numbered}
 
@@ -180,9 +181,16 @@ reserves_at : (root : Tree) (first other count : ℕ) (put : Option (List ℕ)) 
 reserves_at root first other count None e h = h
 reserves_at root first other count (Some bytes) e h = (e, h.1)
 
+-- the pieces of a tree object, all on reserved numbers
+pub record PutsParts (root t : Tree) (p : RootPlan) : Type 0 where
+  pub first : ℕ
+  pub pieces : List NodePart
+  pub numbers : Reserves root first (length pieces) p.placing.reserved
+  pub puts : p.placing.puts ≡ reverse (map (put_of node_bytes) (on_pages first (first + 1) pieces))
+
 module _ (root t : Tree) (same : t.next ≡ root.next) where
   below_put : (put : Option (List ℕ)) → Reserves root t.next (count_of (length t.entries)) put
-      → PutsBelow root t (lowered put (record t { version = t.version + 1; next = t.next + count_of (length t.entries) }) t.next)
+      → PutsBelow root t (lowered put false (record t { version = t.version + 1; next = t.next + count_of (length t.entries) }) t.next)
   below_put put numbers =
       let pieces : List NodePart = pieces_of entry_key (t.next + 1) (part_of_node (node_of_root t)) in
       let count : length pieces ≡ count_of (length t.entries) =
@@ -196,11 +204,40 @@ module _ (root t : Tree) (same : t.next ≡ root.next) where
         last = ap (λ (n : ℕ). tree_bytes (root_above (map entry_of (on_pages t.next (t.next + 1) pieces)) (record t { version = t.version + 1; next = t.next + n }))) (sym count);
       }
 
-  cut_put : (p : RootPlan) (r : Result Reserved Trouble) → reservation root 1 (count_of (length t.entries)) ≡ r → cut_behind t r ≡ Ok p → PutsBelow root t p
-  cut_put p (Err f) is e = absurd (cc (e))
-  cut_put p (Ok r) is e = next (t.version == 18446744073709551615) e where
+  -- whether it is put behind its pieces or no version is left for it, they are put so
+  cut_places : (p : RootPlan) (r : Result Reserved Trouble) → reservation root 1 (count_of (length t.entries)) ≡ r → cut_behind t r ≡ Ok p → PutsParts root t p
+  cut_places p (Err f) is e = absurd (cc (e))
+  cut_places p (Ok r) is e = next (t.version == 18446744073709551615) e where
+    at : (spent : Bool) (u : Tree) → u.next ≡ t.next → u.entries ≡ t.entries → cut_at r.put (count_of (length t.entries)) spent u ≡ Ok p → PutsParts root t p
+    at spent u nexts entries f = placed (nat_lt 18446744073709551615 (u.next + count_of (length t.entries))) f where
+      made : RootPlan
+      made = lowered r.put spent (record u { next = u.next + count_of (length t.entries) }) u.next
+
+      placed : (b : Bool) → cond b (Err pages_spent) (Ok made) ≡ Ok p → PutsParts root t p
+      placed true g = absurd (cc (g))
+      placed false g =
+          let is_made : made ≡ p = cc (g) in
+          let pieces : List NodePart = pieces_of entry_key (u.next + 1) (part_of_node (node_of_root u)) in
+          let count : length pieces ≡ count_of (length t.entries) =
+          length_cut entry_key (cuts_of (length u.entries)) (u.next + 1) (part_of_node (node_of_root u)) ∙ length-cuts (length u.entries) ∙ ap (λ (es : List Entry). count_of (length es)) entries in
+          subst (PutsParts root t) is_made
+          (record {
+            first = u.next;
+            pieces = pieces;
+            numbers = subst (λ (n : ℕ). Reserves root u.next n r.put) (sym count)
+                (reserves_at root r.first u.next (count_of (length t.entries)) r.put (nexts ∙ same) (reserves_of root 1 (count_of (length t.entries)) r is));
+            puts = refl;
+          })
+
+    next : (b : Bool) → cut_by_count r.put (count_of (length t.entries)) t (cond b (Err version_spent) (Ok (record t { version = t.version + 1 }))) ≡ Ok p → PutsParts root t p
+    next true f = at true t refl refl f
+    next false f = at false (record t { version = t.version + 1 }) refl refl f
+
+  cut_put : (p : RootPlan) (r : Result Reserved Trouble) → p.is_spent ≡ false → reservation root 1 (count_of (length t.entries)) ≡ r → cut_behind t r ≡ Ok p → PutsBelow root t p
+  cut_put p (Err f) whole is e = absurd (cc (e))
+  cut_put p (Ok r) whole is e = next (t.version == 18446744073709551615) e where
     made : RootPlan
-    made = lowered r.put (record t { version = t.version + 1; next = t.next + count_of (length t.entries) }) t.next
+    made = lowered r.put false (record t { version = t.version + 1; next = t.next + count_of (length t.entries) }) t.next
 
     at : (b : Bool) → cond b (Err pages_spent) (Ok made) ≡ Ok p → PutsBelow root t p
     at true f = absurd (cc (f))
@@ -209,29 +246,49 @@ module _ (root t : Tree) (same : t.next ≡ root.next) where
         subst (PutsBelow root t) is_made
         (below_put r.put (reserves_at root r.first t.next (count_of (length t.entries)) r.put same (reserves_of root 1 (count_of (length t.entries)) r is)))
 
-    next : (b : Bool) → cut_by_count r.put (count_of (length t.entries)) (cond b (Err version_spent) (Ok (record t { version = t.version + 1 }))) ≡ Ok p → PutsBelow root t p
-    next true f = absurd (cc (f))
+    -- where no version is left it is not put
+    spent : (b : Bool) → cond b (Err pages_spent) (Ok (lowered r.put true (record t { next = t.next + count_of (length t.entries) }) t.next)) ≡ Ok p → PutsBelow root t p
+    spent true f = absurd (cc (f))
+    spent false f =
+        let is_made : lowered r.put true (record t { next = t.next + count_of (length t.entries) }) t.next ≡ p = cc (f) in
+        let both : true ≡ false = ap (λ (q : RootPlan). q.is_spent) is_made ∙ whole in
+        absurd (cc (both))
+
+    next : (b : Bool) → cut_by_count r.put (count_of (length t.entries)) t (cond b (Err version_spent) (Ok (record t { version = t.version + 1 }))) ≡ Ok p → PutsBelow root t p
+    next true f = spent (nat_lt 18446744073709551615 (t.next + count_of (length t.entries))) f
     next false f = at (nat_lt 18446744073709551615 (t.next + count_of (length t.entries))) f
 
   whole_put : (p : RootPlan) → uncut t ≡ p → PutsWhole t p
   whole_put p e = (sym (ap (λ (q : RootPlan). q.placing) e), sym (ap (λ (q : RootPlan). q.last) e))
 
-  plan_put : (p : RootPlan) → root_plan root t ≡ Ok p → PutsRoot root t p
-  plan_put p e = on (nat_lt 64 (length t.entries)) refl (nat_lt root.level 255) refl e where
+  plan_put : (p : RootPlan) → p.is_spent ≡ false → root_plan root t ≡ Ok p → PutsRoot root t p
+  plan_put p whole e = on (nat_lt 64 (length t.entries)) refl (nat_lt root.level 255) refl e where
     on : (long : Bool) → nat_lt 64 (length t.entries) ≡ long → (low : Bool) → nat_lt root.level 255 ≡ low → cond (long && low) (root_cut root t) (Ok (uncut t)) ≡ Ok p
         → PutsRoot root t p
     on true l true h f =
-        inr (ltb-true 64 (length t.entries) l, ltb-true root.level 255 h, cut_put p (reservation root 1 (count_of (length t.entries))) refl f)
+        inr (ltb-true 64 (length t.entries) l, ltb-true root.level 255 h, cut_put p (reservation root 1 (count_of (length t.entries))) whole refl f)
     on true l false h f = inl (inr (ltb-false root.level 255 h), whole_put p (cc (f)))
     on false l low h f = inl (inl (ltb-false 64 (length t.entries) l), whole_put p (cc (f)))
 
-pub root_puts : (root : Tree) (ls : List Link) (top : List (ℕ × ℕ)) (p : RootPlan) → plan_of root (planned_root root ls top) ≡ Ok p
-    → PutsRoot root (raised_root root ls top) p
-root_puts root ls top p e = on (root.version == 18446744073709551615) e where
-  same : (raised_root root ls top).next ≡ root.next
-  same = (named_numbered root.level ls (record (record root { version = root.version + 1 }) { cursor = raised root.cursor top })).1
+  plan_places : (p : RootPlan) → root_plan root t ≡ Ok p → (p.placing ≡ no_placing) ⊎ PutsParts root t p
+  plan_places p e = on (nat_lt 64 (length t.entries) && nat_lt root.level 255) e where
+    on : (b : Bool) → cond b (root_cut root t) (Ok (uncut t)) ≡ Ok p → (p.placing ≡ no_placing) ⊎ PutsParts root t p
+    on true f = inr (cut_places p (reservation root 1 (count_of (length t.entries))) refl f)
+    on false f = inl (whole_put p (cc (f))).0
 
-  on : (b : Bool) → plan_of root (risen_by root.level ls top (cond b (Err version_spent) (Ok (record root { version = root.version + 1 })))) ≡ Ok p
-      → PutsRoot root (raised_root root ls top) p
-  on true f = absurd (cc (f))
-  on false f = plan_put root (raised_root root ls top) same p f
+module _ (root : Tree) (ls : List Link) (top : List (ℕ × ℕ)) (p : RootPlan) (e : plan_of root (planned_root root ls top) ≡ Ok p) where
+  same_next : (raised_root root ls top).next ≡ root.next
+  same_next = (named_numbered root.level ls (record (record root { version = root.version + 1 }) { cursor = raised root.cursor top })).1
+
+  made_plan : root_plan root (raised_root root ls top) ≡ Ok p
+  made_plan = on (root.version == 18446744073709551615) e where
+    on : (b : Bool) → plan_of root (risen_by root.level ls top (cond b (Err version_spent) (Ok (record root { version = root.version + 1 })))) ≡ Ok p
+        → root_plan root (raised_root root ls top) ≡ Ok p
+    on true f = absurd (cc (f))
+    on false f = f
+
+  pub root_puts : p.is_spent ≡ false → PutsRoot root (raised_root root ls top) p
+  root_puts whole = plan_put root (raised_root root ls top) same_next p whole made_plan
+
+  pub root_places : (p.placing ≡ no_placing) ⊎ PutsParts root (raised_root root ls top) p
+  root_places = plan_places root (raised_root root ls top) same_next p made_plan

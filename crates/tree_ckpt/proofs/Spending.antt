@@ -1,7 +1,8 @@
 -- What is planned stops exactly where a version or the numbers of new pages are spent.
-use Rattle.std.proofs.Common.{◌≡◌, ◌≢◌, ◌+◌, ◌<◌, ◌≤◌, ℕ, Bool, true, false, cond, List, [], ◌∷◌, length, Option, Some, None, Result, Ok, Err, refl, sym, ap, subst, ◌∙◌, inl, inr, arith}
-use Rattle.std.specs.Prelude.{◌==◌, ◌&&◌, ◌-◌, nat_lt}
-use Rattle.std.proofs.lemmas.Bool.{eqb-true, eqb-false, eq-eqb, ne_eqb, ltb-true, ltb-false, lt-ltb, le-ltb}
+use Rattle.std.proofs.Common.{◌≡◌, ◌≢◌, ◌+◌, ◌<◌, ℕ, Bool, true, false, cond, List, [], ◌∷◌, length, Option, Some, None, Result, Ok, Err, refl, sym, ap, subst, ◌∙◌, inl, inr, arith}
+use Rattle.std.specs.Prelude.{◌==◌, ◌&&◌, ◌-◌, nat_lt, map}
+use Rattle.std.proofs.lemmas.Bool.{eqb-true, eqb-false, eq-eqb, ne_eqb, ltb-true, lt-ltb}
+use Rattle.std.proofs.lemmas.List.{length-map, length-reverse}
 use Rattle.byte_format.specs.Format.{greatest}
 use Rattle.byte_format.specs.Whole.{offset}
 use Rattle.db_base.specs.declared.trouble.Trouble.{Trouble}
@@ -10,11 +11,14 @@ use Rattle.db_base.specs.declared.trouble.Counter.TheVariants as counter
 use Rattle.leaf_view.specs.Leaf.{Leaf}
 use Rattle.leaf_edit.specs.Applied.{applied}
 use Rattle.log_codec.specs.declared.record.PuItem.{PuItem}
-use Rattle.node_codec.specs.Inner.{Inner, inner_of, inner_format}
+use Rattle.node_codec.specs.Inner.{Inner, inner_of, inner_format, node_of_root}
 use Rattle.node_codec.specs.Node.{with_entry}
 use Rattle.node_codec.specs.Node.{raised as raised_cursor}
 use Rattle.node_codec.specs.Tree.{Tree, tree_bytes, with_child}
-use Rattle.split_plan.specs.Sizes.{count_of}
+use Rattle.split_plan.specs.Cut.{cut_by as pieces_by}
+use Rattle.split_plan.specs.Part.{NodePart, entry_key, part_of_node}
+use Rattle.split_plan.specs.Plan.{put_of, on_pages, node_bytes, root_pieces}
+use Rattle.split_plan.specs.Sizes.{count_of, cuts_of}
 use Rattle.tree_parts.specs.declared.kept.KeptNode.{KeptNode}
 use Rattle.tree_parts.specs.declared.link.Link.{Link}
 use Rattle.tree_parts.specs.declared.reserve.Reserved.{Reserved}
@@ -58,7 +62,7 @@ reservation_tells due page spare = on (pages_of due == 0) refl where
 
   next : pages_of due ≢ 0 → (b : Bool) → (root.version == greatest) ≡ b
       → PlanTells due (reserved_by (pages_of due) (cond b (Err version_spent) (Ok (record root { version = root.version + 1 }))))
-  next some true e = inr ((spare, some), inl (eqb-true root.version greatest e))
+  next some true e = inr ((spare, some), eqb-true root.version greatest e)
   next some false e = reserved_tells due (spare, some) (eqb-false root.version greatest e)
 
   on : (b : Bool) → (pages_of due == 0) ≡ b
@@ -127,24 +131,6 @@ named_numbered level (l ∷ ls) t = on (is_named level l) (λ u. named_numbered 
       (more.0 ∙ one.0, more.1 ∙ one.1)
   on false rest = rest t
 
--- what was reserved is within the greatest number
-reserved_room : (t : Tree) (count : ℕ) (q : Reserved) → reserved count t ≡ Ok q → t.next + count ≤ greatest
-reserved_room t count q e = on (nat_lt greatest (t.next + count)) refl e where
-  on : (b : Bool) → nat_lt greatest (t.next + count) ≡ b
-      → (let made : Reserved = record { put = Some (tree_bytes (record t { next = t.next + count })); first = t.next } in cond b (Err pages_spent) (Ok made)) ≡ Ok q
-      → t.next + count ≤ greatest
-  on true f g = absurd (cc (g))
-  on false f g = ltb-false greatest (t.next + count) f
-
-reservation_room : (root : Tree) (page count : ℕ) (q : Reserved) → count ≢ 0 → reservation root page count ≡ Ok q → root.next + count ≤ greatest
-reservation_room root page count q some e = next (root.version == greatest) (sym (ap (λ (b : Bool). kept b) (ne_eqb count 0 some)) ∙ e) where
-  kept : Bool → Result Reserved Trouble
-  kept b = let none : Reserved = record { put = None; first = page } in cond b (Ok none) (reserved_by count (next_tree root))
-
-  next : (b : Bool) → reserved_by count (cond b (Err version_spent) (Ok (record root { version = root.version + 1 }))) ≡ Ok q → root.next + count ≤ greatest
-  next true f = absurd (cc (f))
-  next false f = reserved_room (record root { version = root.version + 1 }) count q f
-
 module _ (root : Tree) (ls : List Link) (top : List (ℕ × ℕ)) where
   abbrev due : Due
   due = RootDue root ls top
@@ -164,24 +150,19 @@ module _ (root : Tree) (ls : List Link) (top : List (ℕ × ℕ)) where
   some_pages : pages_of due ≡ count → pages_of due ≢ 0
   some_pages e none = absurd (omega (arith, e, none))
 
-  at_tells : root.version ≢ greatest → pages_of due ≡ count → (put : Option (List ℕ)) → PlanTells due (cut_at put count (record t { version = t.version + 1 }))
-  at_tells spare e put = on (nat_lt greatest (t.next + count)) refl where
-    on : (b : Bool) → nat_lt greatest (t.next + count) ≡ b
-        → PlanTells due (cond b (Err pages_spent) (Ok (lowered put (record t { version = t.version + 1; next = t.next + count }) t.next)))
-    on true f =
-        ((spare, some_pages e), spare, let less = ltb-true greatest (t.next + count) f in omega (arith, less, same.1, e))
+  at_tells : root.version ≢ greatest → pages_of due ≡ count → (put : Option (List ℕ)) (spent : Bool) (u : Tree) → u.next ≡ t.next → PlanTells due (cut_at put count spent u)
+  at_tells spare e put spent u next = on (nat_lt greatest (u.next + count)) refl where
+    on : (b : Bool) → nat_lt greatest (u.next + count) ≡ b → PlanTells due (cond b (Err pages_spent) (Ok (lowered put spent (record u { next = u.next + count }) u.next)))
+    on true f = ((spare, some_pages e), spare, let less = ltb-true greatest (u.next + count) f in omega (arith, less, next, same.1, e))
     on false f = tt
 
   behind_tells : root.version ≢ greatest → pages_of due ≡ count → (r : Result Reserved Trouble) → reservation root 1 count ≡ r → PlanTells due (cut_behind t r)
   behind_tells spare e (Err f) is =
       subst (λ (r : Result Reserved Trouble). PlanTells due r) (ap (reservation root 1) e ∙ is) (reservation_tells due 1 spare)
-  behind_tells spare e (Ok q) is = on (t.version == greatest) refl where
-    room : root.next + pages_of due ≤ greatest
-    room = reservation_room root 1 (pages_of due) q (some_pages e) (ap (reservation root 1) e ∙ is)
-
-    on : (b : Bool) → (t.version == greatest) ≡ b → PlanTells due (cut_by q.put count (cond b (Err version_spent) (Ok (record t { version = t.version + 1 }))))
-    on true f = inr ((spare, some_pages e), inr (room, sym same.0 ∙ eqb-true t.version greatest f))
-    on false f = at_tells spare e q.put
+  behind_tells spare e (Ok q) is = on (t.version == greatest) where
+    on : (b : Bool) → PlanTells due (cut_by q.put count t (cond b (Err version_spent) (Ok (record t { version = t.version + 1 }))))
+    on true = at_tells spare e q.put true t refl
+    on false = at_tells spare e q.put false (record t { version = t.version + 1 }) refl
 
   root_tells : root.version ≢ greatest → PlanTells due (root_plan root t)
   root_tells spare = on is_cut refl where
@@ -228,13 +209,6 @@ reservation_full t page count some spare more =
       made : Bool → Result Reserved Trouble
       made b = cond b (Err pages_spent) (Ok (made_reservation count (record t { version = t.version + 1 })))
 
-reservation_made : (t : Tree) (page count : ℕ) → count ≢ 0 → t.version ≢ greatest → t.next + count ≤ greatest
-    → reservation t page count ≡ Ok (made_reservation count (record t { version = t.version + 1 }))
-reservation_made t page count some spare room =
-    reserving t page count some ∙ ap (reserved_by count) (next_made t spare) ∙ ap (λ (b : Bool). made b) (le-ltb greatest (t.next + count) room) where
-      made : Bool → Result Reserved Trouble
-      made b = cond b (Err pages_spent) (Ok (made_reservation count (record t { version = t.version + 1 })))
-
 -- a leaf's
 module _ (root : Tree) (page : ℕ) (l : Leaf) (run : List PuItem) where
   abbrev leaf_due : Due
@@ -248,8 +222,7 @@ module _ (root : Tree) (page : ℕ) (l : Leaf) (run : List PuItem) where
 
   pub leaf_plan_spent : IsSpent leaf_due → plan.leaf_plan root page l run ≡ Err version_spent
   leaf_plan_spent (inl e) = ap (λ (b : Bool). leaf_by b) (eq-eqb l.version greatest e)
-  leaf_plan_spent (inr (some, inl e)) = leaf_goes some.0 ∙ ap (plan.planned_by page (applied l 0 run)) (reservation_spent root page (pages_of leaf_due) some.1 e)
-  leaf_plan_spent (inr (some, inr twice)) = absurd twice.1
+  leaf_plan_spent (inr (some, e)) = leaf_goes some.0 ∙ ap (plan.planned_by page (applied l 0 run)) (reservation_spent root page (pages_of leaf_due) some.1 e)
 
   pub leaf_plan_full : HasNoPages leaf_due → plan.leaf_plan root page l run ≡ Err pages_spent
   leaf_plan_full (some, spare, more) =
@@ -276,8 +249,7 @@ module _ (root : Tree) (tree : ℕ) (k : KeptNode) (n : Inner) (ls : List Link) 
 
   pub node_plan_spent : IsSpent node_due → nodes.node_plan root tree k ls ≡ Err version_spent
   node_plan_spent (inl e) = node_read true (eq-eqb n.version greatest e)
-  node_plan_spent (inr (some, inl e)) = node_goes some.0 ∙ ap (nodes.planned_by k.page linked_node) (reservation_spent root k.page (pages_of node_due) some.1 e)
-  node_plan_spent (inr (some, inr twice)) = absurd twice.1
+  node_plan_spent (inr (some, e)) = node_goes some.0 ∙ ap (nodes.planned_by k.page linked_node) (reservation_spent root k.page (pages_of node_due) some.1 e)
 
   pub node_plan_full : HasNoPages node_due → nodes.node_plan root tree k ls ≡ Err pages_spent
   node_plan_full (some, spare, more) =
@@ -297,9 +269,6 @@ module _ (root : Tree) (ls : List Link) (top : List (ℕ × ℕ)) where
   abbrev whole_plan : Result RootPlan Trouble
   whole_plan = plan_of root (risen_by root.level ls top (next_tree root))
 
-  same_next : Numbered (record root { version = root.version + 1 }) put_next
-  same_next = named_numbered root.level ls (record (record root { version = root.version + 1 }) { cursor = raised_cursor root.cursor top })
-
   -- where it needs pages it is cut
   pages_cut : pages_of root_due ≢ 0 → (pages_of root_due ≡ its_pages) × (root_plan root put_next ≡ root_cut root put_next)
   pages_cut some = on (nat_lt 64 (length put_next.entries) && nat_lt root.level 255) refl where
@@ -317,19 +286,66 @@ module _ (root : Tree) (ls : List Link) (top : List (ℕ × ℕ)) where
   some_of : Reserves root_due → its_pages ≢ 0
   some_of some = subst (λ (n : ℕ). n ≢ 0) (pages_cut some.1).0 some.1
 
-  twice_spent : Reserves root_due → root.next + its_pages ≤ greatest → root.version + 1 ≡ greatest → whole_plan ≡ Err version_spent
-  twice_spent some room e =
-      root_goes some
-      ∙ ap (cut_behind put_next) (reservation_made root 1 its_pages (some_of some) some.0 room)
-      ∙ ap (cut_by (made_reservation its_pages (record root { version = root.version + 1 })).put its_pages) (next_spent put_next (same_next.0 ∙ e))
-
   pub last_plan_spent : IsSpent root_due → whole_plan ≡ Err version_spent
   last_plan_spent (inl e) = ap (λ (t : Result Tree Trouble). plan_of root (risen_by root.level ls top t)) (next_spent root e)
-  last_plan_spent (inr (some, inl e)) = absurd (some.0 e)
-  last_plan_spent (inr (some, inr (room, e))) = twice_spent some (subst (λ (n : ℕ). root.next + n ≤ greatest) (pages_cut some.1).0 room) e
+  last_plan_spent (inr (some, e)) = absurd (some.0 e)
 
   pub last_plan_full : HasNoPages root_due → whole_plan ≡ Err pages_spent
   last_plan_full (some, spare, more) =
       root_goes some
       ∙ ap (cut_behind put_next)
       (reservation_full root 1 its_pages (some_of some) spare (subst (λ (n : ℕ). greatest < root.next + n) (pages_cut some.1).0 more))
+
+-- ---- a cut for which the last version is reserved
+
+-- where it is marked so the tree object stands at the last version but one, and it has pieces
+abbrev pub CutsShort : Tree → Result RootPlan Trouble → Type 0
+CutsShort root (Ok p) = p.is_spent ≡ true → (root.version + 1 ≡ greatest) × (0 < length p.placing.puts)
+CutsShort root (Err t) = Unit {0}
+
+pages_some : (page free : ℕ) (ps : List NodePart) → length (on_pages page free ps) ≡ length ps
+pages_some page free [] = refl
+pages_some page free (p ∷ ps) = omega (arith, pages_some free (free + 1) ps)
+
+parts_some : (sizes : List ℕ) (free : ℕ) (p : NodePart) → 0 < length (pieces_by entry_key sizes free p)
+parts_some [] free p = omega arith
+parts_some (n ∷ sizes) free p = omega arith
+
+module _ (root t : Tree) (same : t.version ≡ root.version + 1) where
+  cut_at_short : (put : Option (List ℕ)) (count : ℕ) (spent : Bool) (u : Tree) → (spent ≡ true → root.version + 1 ≡ greatest) → CutsShort root (cut_at put count spent u)
+  cut_at_short put count spent u last = on (nat_lt greatest (u.next + count)) where
+    on : (b : Bool) → CutsShort root (cond b (Err pages_spent) (Ok (lowered put spent (record u { next = u.next + count }) u.next)))
+    on true = tt
+    on false = λ e.
+        let ps : List NodePart = root_pieces u.next (record u { next = u.next + count }) in
+        (
+          last e,
+          omega (
+            arith,
+            length-reverse (map (put_of node_bytes) (on_pages u.next (u.next + 1) ps)),
+            length-map (on_pages u.next (u.next + 1) ps) (put_of node_bytes),
+            pages_some u.next (u.next + 1) ps,
+            parts_some (cuts_of (length u.entries)) (u.next + 1) (part_of_node (node_of_root (record u { next = u.next + count }))),
+          ),
+        )
+
+  cut_by_short : (put : Option (List ℕ)) (count : ℕ) (b : Bool) → (t.version == greatest) ≡ b
+      → CutsShort root (cut_by put count t (cond b (Err version_spent) (Ok (record t { version = t.version + 1 }))))
+  cut_by_short put count true e = cut_at_short put count true t (λ is. sym same ∙ eqb-true t.version greatest e)
+  cut_by_short put count false e = cut_at_short put count false (record t { version = t.version + 1 }) (λ is. absurd (cc (is)))
+
+  behind_short : (r : Result Reserved Trouble) → CutsShort root (cut_behind t r)
+  behind_short (Ok q) = cut_by_short q.put (count_of (length t.entries)) (t.version == greatest) refl
+  behind_short (Err f) = tt
+
+  plan_short : CutsShort root (root_plan root t)
+  plan_short = on (nat_lt 64 (length t.entries) && nat_lt root.level 255) where
+    on : (b : Bool) → CutsShort root (cond b (root_cut root t) (Ok (uncut t)))
+    on true = behind_short (reservation root 1 (count_of (length t.entries)))
+    on false = λ is. absurd (cc (is))
+
+pub last_plan_short : (root : Tree) (ls : List Link) (top : List (ℕ × ℕ)) → CutsShort root (plan_of root (risen_by root.level ls top (next_tree root)))
+last_plan_short root ls top = on (root.version == greatest) where
+  on : (b : Bool) → CutsShort root (plan_of root (risen_by root.level ls top (cond b (Err version_spent) (Ok (record root { version = root.version + 1 })))))
+  on true = tt
+  on false = plan_short root (raised root ls top) (named_numbered root.level ls (record (record root { version = root.version + 1 }) { cursor = raised_cursor root.cursor top })).0

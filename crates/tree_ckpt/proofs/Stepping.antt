@@ -15,7 +15,7 @@ use Rattle.tree_ckpt.specs.Making.{Making, making_ask, MakingLeads, KeepsLeases}
 use Rattle.tree_ckpt.specs.Stepped.{Stepped}
 use Rattle.tree_ckpt.proofs.Causing.{went_brought, took_tells}
 use Rattle.tree_ckpt.proofs.Doing.{went_done, took_done}
-use Rattle.tree_ckpt.proofs.Dues.{due_brought}
+use Rattle.tree_ckpt.proofs.Dues.{due_brought, cut_last_but_one}
 use Rattle.tree_ckpt.proofs.Exactly.{took_owes}
 use Rattle.tree_ckpt.proofs.Failing.{took_fails}
 use Rattle.tree_ckpt.proofs.Standing.{went_stands}
@@ -30,6 +30,7 @@ stepped_by who before after old new turn a made took memory = record {
   exact = λ h went t k. took_owes old new h a turn t (went_stands old h went) (went_brought old h went) made.fits took k;
   fails = λ h went k. took_fails old new h a turn (went_stands old h went) (went_brought old h went) took k;
   brought = λ h went due is. due_brought old h a (went_brought old h went) due is;
+  cut_short = λ h went is. cut_last_but_one old h a (went_brought old h went) is;
   done = λ h went. took_done old new h a turn went (went_brought old h went) (went_done old h went) took;
   well = λ h went calm had. took_well old new h a turn went calm.1 had (goes_well _ made calm.0)
       (took_tells old new h a turn (went_brought old h went) made.fits took)

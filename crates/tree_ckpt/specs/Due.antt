@@ -1,5 +1,5 @@
 -- What a step of a tree checkpoint comes to put, where a version or numbers of new pages may be spent.
-use Rattle.std.specs.Prelude.{ℕ, ◌≡◌, ◌≢◌, ◌<◌, ◌≤◌, ◌+◌, ◌-◌, ◌&&◌, nat_lt, true, false, List, length, Some, None, Ok, ◌⊎◌, if◌then◌else◌}
+use Rattle.std.specs.Prelude.{ℕ, ◌≡◌, ◌≢◌, ◌<◌, ◌+◌, ◌-◌, ◌&&◌, nat_lt, is_some, true, false, List, length, Some, None, Ok, ◌⊎◌, if◌then◌else◌}
 use Rattle.byte_format.specs.Format.{greatest}
 use Rattle.byte_format.specs.Order.{below_bound, bytes_same}
 use Rattle.byte_format.specs.Whole.{whole}
@@ -75,16 +75,9 @@ pages_of (RootDue root links top) = pages_of_root root (raised root links top)
 abbrev pub Reserves : Due → Type 0
 Reserves due = (version_of due ≢ greatest) × (pages_of due ≢ 0)
 
--- a tree object that is cut is put twice
-abbrev pub IsPutTwice : Due → Type 0
-IsPutTwice (RootDue root links top) = root.version + 1 ≡ greatest
-IsPutTwice due = ⊥
-
 -- the version to raise is the greatest one: its own, or that of the tree object which reserves
 abbrev pub IsSpent : Due → Type 0
-IsSpent due =
-    (version_of due ≡ greatest)
-    ⊎ (Reserves due × (((root_of due).version ≡ greatest) ⊎ (((root_of due).next + pages_of due ≤ greatest) × IsPutTwice due)))
+IsSpent due = (version_of due ≡ greatest) ⊎ (Reserves due × ((root_of due).version ≡ greatest))
 
 -- the numbers of its new pages pass the greatest one
 abbrev pub HasNoPages : Due → Type 0
@@ -157,9 +150,20 @@ IsDue w a (LeafDue root l run) = IsLeafDue w a root l run
 IsDue w a (NodeDue root n links) = IsNodeDue w a root n links
 IsDue w a (RootDue root links top) = IsRootDue w a root links top
 
+-- The last piece of a tree object is put for which the reservation took the last version: that which names the pieces has none.
+pub record IsCutShort (w : Work) (a : Answer) : Type 0 where
+  pub held : Held
+  pub from : Rising
+  pub stands : w ≡ work.Rising held from
+  pub put : a ≡ call.Done
+  pub some : has_nothing from.placing ≡ false
+  pub nothing : has_nothing (landed from).placing ≡ true
+  pub behind : is_some from.last ≡ true
+  pub spent : from.is_spent ≡ true
+
 -- what is due has no version left, or no numbers for its new pages
 abbrev pub Spends : Work → Answer → Trouble → Type 0
-Spends w a (trouble.Exhausted counter.Version) = (due : Due) × IsDue w a due × IsSpent due
+Spends w a (trouble.Exhausted counter.Version) = ((due : Due) × IsDue w a due × IsSpent due) ⊎ IsCutShort w a
 Spends w a (trouble.Exhausted counter.Pages) = (due : Due) × IsDue w a due × HasNoPages due
 Spends w a t = ⊥
 
@@ -168,3 +172,7 @@ abbrev pub WasBrought : ℕ → Due → Calls → Type 0
 WasBrought tree (LeafDue root l run) cs = WasRoot tree root cs × ((page : ℕ) × WasLeaf tree page l cs)
 WasBrought tree (NodeDue root n links) cs = WasRoot tree root cs × ((page : ℕ) × WasNode tree page n cs)
 WasBrought tree (RootDue root links top) cs = WasRoot tree root cs
+
+-- a tree object at the last version but one was
+abbrev pub WasLastButOne : ℕ → Calls → Type 0
+WasLastButOne tree cs = (root : Tree) × WasRoot tree root cs × (root.version + 1 ≡ greatest)

@@ -15,7 +15,7 @@ use Rattle.calm_calls.specs.Plenty.{HadMemory}
 use Rattle.tree_ckpt.specs.Making.{Making, making_ask, MakingLeads, KeepsLeases}
 use Rattle.tree_ckpt.specs.Standing.{Went}
 use Rattle.tree_ckpt.specs.Causing.{Calls, Shows, kept_trouble}
-use Rattle.tree_ckpt.specs.Due.{Due, IsDue, WasBrought}
+use Rattle.tree_ckpt.specs.Due.{Due, IsDue, IsCutShort, WasBrought, WasLastButOne}
 use Rattle.tree_ckpt.specs.Demands.{Matters, Demands}
 use Rattle.tree_ckpt.specs.Meaning.{MeansDone}
 use Rattle.tree_ckpt.specs.Well.{IsWell}
@@ -65,6 +65,7 @@ pub record Stepped (who : Caller) (before after : Seen) (old new : Making) (turn
   pub exact : (h : List Deed) → Went h old → (t : Trouble) → (kept_trouble old.work ≡ Some t) ⊎ Demands old.tree old.work steps.answer t → Owes new turn t
   pub fails : (h : List Deed) → Went h old → ComesToFail old new turn → Matters (making_ask old)
   pub brought : (h : List Deed) → Went h old → (due : Due) → IsDue old.work steps.answer due → WasBrought old.tree due (calls_with old h steps.answer)
+  pub cut_short : (h : List Deed) → Went h old → IsCutShort old.work steps.answer → WasLastButOne old.tree (calls_with old h steps.answer)
   pub done : (h : List Deed) → Went h old → MeansDone (making_ask old) old h turn
   pub well : (h : List Deed) → Went h old
       → AreCalm (record { who = who; ask = making_ask old; answer = steps.answer; before = before; after = after } ∷ h) → HadMemory h

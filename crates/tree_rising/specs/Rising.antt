@@ -1,5 +1,5 @@
 -- What was found and made below goes up, as a machine.
-use Rattle.std.specs.Prelude.{ℕ, ◌≡◌, ◌+◌, ◌||◌, not, Bool, List, [], ◌++◌, drop, slice_get, Option, Some, None, is_some, Result, Ok, Err, unwrap_or, if◌then◌else◌}
+use Rattle.std.specs.Prelude.{ℕ, ◌≡◌, ◌+◌, ◌||◌, ◌&&◌, not, Bool, false, List, [], ◌++◌, drop, slice_get, Option, Some, None, is_some, Result, Ok, Err, unwrap_or, if◌then◌else◌}
 use Rattle.db_base.specs.declared.names.ObjName.TheVariants as object
 use Rattle.db_base.specs.declared.trouble.Trouble.{Trouble}
 use Rattle.cloud_trait.specs.declared.answer.Answer.{Answer}
@@ -15,6 +15,7 @@ use Rattle.tree_parts.specs.declared.kept.KeptNode.{KeptNode}
 use Rattle.tree_parts.specs.Kept.{links_at}
 use Rattle.tree_parts.specs.Placing.{put_in_hand, landed_root, landed_placing, has_nothing}
 use Rattle.tree_parts.specs.Read.{tree_held}
+use Rattle.tree_parts.specs.Reserve.{version_spent}
 use Rattle.tree_rising.specs.declared.node.NodePlan.{NodePlan}
 use Rattle.tree_rising.specs.declared.rising.Rising.{Rising}
 use Rattle.tree_rising.specs.declared.root.RootPlan.{RootPlan}
@@ -26,7 +27,7 @@ Step = Next Rising (Unit {0})
 
 -- behind the last leaf
 abbrev pub begun : Chart → Rising
-begun chart = record { chart = chart; at = 0; placing = record { reserved = None; puts = [] }; last = None }
+begun chart = record { chart = chart; at = 0; placing = record { reserved = None; puts = [] }; last = None; is_spent = false }
 
 -- the put in hand, all under the tree's lease: what is to be put before the tree object, and then that
 abbrev pub last_ask : Rising → Claim → Option (List ℕ) → Ask
@@ -61,7 +62,7 @@ abbrev pub last_plan : Rising → Result RootPlan Trouble
 last_plan r = plan_of (tree_held r.chart.root) (raised_root (tree_held r.chart.root) r.chart.links r.chart.run.top)
 
 abbrev pub put_root : Rising → Result RootPlan Trouble → Step
-put_root r (Ok p) = Goes (record r { placing = p.placing; last = Some p.last })
+put_root r (Ok p) = Goes (record r { placing = p.placing; last = Some p.last; is_spent = p.is_spent })
 put_root r (Err t) = Stops r t
 
 abbrev pub finish : Rising → Step
@@ -92,9 +93,13 @@ rise r = rise_at r (next_touched r) (touched_node r)
 abbrev pub landed : Rising → Rising
 landed r = record r { chart = record r.chart { root = landed_root r.placing r.chart.root }; placing = landed_placing r.placing }
 
+-- where no version is left for the tree object, it stops behind the last piece
+abbrev pub put_next : Rising → Step
+put_next r = if has_nothing r.placing && r.is_spent then Stops r version_spent else Goes r
+
 -- once all is put that was planned for a node, the way up goes on
 abbrev pub after_put : Rising → Step
-after_put r = if not (has_nothing r.placing) || is_some r.last then Goes r else rise r
+after_put r = if not (has_nothing r.placing) || is_some r.last then put_next r else rise r
 
 abbrev pub put_landed : Rising → Step
 put_landed r = if has_nothing r.placing then Ends r tt else after_put (landed r)

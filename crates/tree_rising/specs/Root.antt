@@ -1,5 +1,5 @@
 -- The tree object as it is put last.
-use Rattle.std.specs.Prelude.{ℕ, ◌+◌, ◌==◌, ◌&&◌, nat_le, nat_lt, Bool, List, [], ◌∷◌, length, map, reverse, Option, None, Result, Ok, Err, if◌then◌else◌}
+use Rattle.std.specs.Prelude.{ℕ, ◌+◌, ◌==◌, ◌&&◌, nat_le, nat_lt, Bool, true, false, List, [], ◌∷◌, length, map, reverse, Option, None, Result, Ok, Err, if◌then◌else◌}
 use Rattle.db_base.specs.declared.trouble.Trouble.{Trouble}
 use Rattle.node_codec.specs.Node.{raised}
 use Rattle.node_codec.specs.Tree.{Tree, tree_bytes, with_child}
@@ -38,26 +38,28 @@ abbrev pub new_pages : ℕ → Tree → List NewEntry
 new_pages first t = map entry_of (on_pages first (first + 1) (root_pieces first t))
 
 -- the pieces are put behind the reservation, the rightmost first; the tree object that names them is one level higher
-abbrev pub lowered : Option (List ℕ) → Tree → ℕ → RootPlan
-lowered put t first = record {
+abbrev pub lowered : Option (List ℕ) → Bool → Tree → ℕ → RootPlan
+lowered put spent t first = record {
   placing = record { reserved = put; puts = reverse (map (put_of node_bytes) (on_pages first (first + 1) (root_pieces first t))) };
   last = tree_bytes (root_above (new_pages first t) t);
+  is_spent = spent;
 }
 
 -- on so many numbers from `next` on
-abbrev pub cut_at : Option (List ℕ) → ℕ → Tree → Result RootPlan Trouble
-cut_at put count t =
+abbrev pub cut_at : Option (List ℕ) → ℕ → Bool → Tree → Result RootPlan Trouble
+cut_at put count spent t =
     if nat_lt 18446744073709551615 (t.next + count)
     then Err pages_spent
-    else Ok (lowered put (record t { next = t.next + count }) t.next)
+    else Ok (lowered put spent (record t { next = t.next + count }) t.next)
 
-abbrev pub cut_by : Option (List ℕ) → ℕ → Result Tree Trouble → Result RootPlan Trouble
-cut_by put count (Ok t) = cut_at put count t
-cut_by put count (Err f) = Err f
+-- the last put has the version behind the reservation's; where there is none, the pieces are put all the same
+abbrev pub cut_by : Option (List ℕ) → ℕ → Tree → Result Tree Trouble → Result RootPlan Trouble
+cut_by put count t (Ok next) = cut_at put count false next
+cut_by put count t (Err f) = cut_at put count true t
 
--- the reservation is the next version of the tree object that stands, and the last put the version behind it
+-- the reservation is the next version of the tree object that stands
 abbrev pub cut_behind : Tree → Result Reserved Trouble → Result RootPlan Trouble
-cut_behind t (Ok r) = cut_by r.put (count_of (length t.entries)) (next_tree t)
+cut_behind t (Ok r) = cut_by r.put (count_of (length t.entries)) t (next_tree t)
 cut_behind t (Err f) = Err f
 
 abbrev pub root_cut : Tree → Tree → Result RootPlan Trouble
@@ -66,7 +68,7 @@ root_cut root t = cut_behind t (reservation root 1 (count_of (length t.entries))
 -- ---- the last put
 
 abbrev pub uncut : Tree → RootPlan
-uncut t = record { placing = record { reserved = None; puts = [] }; last = tree_bytes t }
+uncut t = record { placing = record { reserved = None; puts = [] }; last = tree_bytes t; is_spent = false }
 
 -- what is put for a raised tree object; one of level 255 is not cut
 abbrev pub root_plan : Tree → Tree → Result RootPlan Trouble

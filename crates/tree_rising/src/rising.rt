@@ -4,7 +4,7 @@ ghost use Rattle.cloud_trait.specs.Call.{ask_of};
 ghost use Rattle.tree_parts.specs.Going.{Finds, Went};
 ghost use Rattle.tree_rising.specs.declared.node.NodePlan.{NodePlan};
 ghost use Rattle.tree_rising.specs.declared.root.RootPlan.{RootPlan};
-ghost use Rattle.tree_rising.specs.Rising.{begun, rising_ask, rising_next, next_touched, touched_node, FindsPlan, rise, finish, put_node, last_plan, put_root, put_landed};
+ghost use Rattle.tree_rising.specs.Rising.{begun, rising_ask, rising_next, next_touched, touched_node, FindsPlan, rise, finish, put_node, last_plan, put_root, put_next, put_landed};
 
 use crate::node::{NodePlan, node_plan, touched_at};
 use crate::root::{RootPlan, raised_root, root_plan};
@@ -21,6 +21,7 @@ use tree_parts::link::add_links;
 use tree_parts::pace::Pace;
 use tree_parts::placing::Placing;
 use tree_parts::read::tree_view;
+use tree_parts::reserve::version_spent;
 
 /// What was found and made below goes up.
 #[derive(Drop)]
@@ -33,6 +34,8 @@ pub struct Rising {
     pub placing: Placing,
     /// The bytes of the tree object that is put last, once they are known.
     pub last: Option<Blob>,
+    /// Whether no version is left for it, so that the way up stops behind its pieces.
+    pub is_spent: bool,
 }
 
 impl Rising {
@@ -45,6 +48,7 @@ impl Rising {
             at: 0,
             placing: Placing::new(alloc),
             last: None,
+            is_spent: false,
         }
     }
 
@@ -167,9 +171,14 @@ impl Rising {
     {
         match plan {
             Ok(plan) => {
-                let RootPlan { placing, last } = plan;
+                let RootPlan {
+                    placing,
+                    last,
+                    is_spent,
+                } = plan;
                 self.placing = placing;
                 self.last = Some(last);
+                self.is_spent = is_spent;
                 Pace::More
             }
             Err(Fault::Stops(trouble)) => Pace::Stopped(trouble),
@@ -187,6 +196,16 @@ impl Rising {
         }
     }
 
+    /// Goes on to the next put; behind the pieces of a tree object for which no version is left there is none.
+    fn put_next(&self) -> Pace<()>
+        ensures { Went (put_next self.now) self.now result }
+    {
+        if self.placing.is_empty() && self.is_spent {
+            return Pace::Stopped(version_spent());
+        }
+        Pace::More
+    }
+
     /// The put in hand landed; the tree object's is the last one.
     fn landed(&mut self, alloc: Global) -> Pace<()>
         ensures { Went (put_landed self.old) self.new result }
@@ -196,7 +215,7 @@ impl Rising {
         }
         self.placing.land(&mut self.chart.root);
         if !self.placing.is_empty() || self.last.is_some() {
-            return Pace::More;
+            return self.put_next();
         }
         self.rise(alloc)
     }

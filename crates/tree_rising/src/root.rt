@@ -27,6 +27,8 @@ pub struct RootPlan {
     pub placing: Placing,
     /// The bytes of the tree object.
     pub last: Blob,
+    /// Whether the reservation takes the last version, so that the tree object is not put behind its pieces.
+    pub is_spent: bool,
 }
 
 /// Whether the tree object is to name the link's page.
@@ -98,10 +100,11 @@ fn lowered(
     buf: TreeBuf,
     first: PageId,
     reserved: Option<Blob>,
+    is_spent: bool,
 ) -> Result<RootPlan, Fault>
     requires level { buf.level < 255 }
     requires reserved { first + count_of (length buf.entries) ≤ buf.next }
-    ensures { Finds result (Ok (lowered reserved buf first)) }
+    ensures { Finds result (Ok (lowered reserved is_spent buf first)) }
 {
     match plan_root(alloc, buf, first) {
         Ok((pieces, root)) => match tree_spelled(alloc, &root) {
@@ -111,6 +114,7 @@ fn lowered(
                     puts: PutQueue::of(pieces.puts),
                 },
                 last,
+                is_spent,
             }),
             Err(_) => Err(Fault::Memory),
         },
@@ -124,14 +128,15 @@ fn cut_at(
     buf: TreeBuf,
     count: u64,
     reserved: Option<Blob>,
+    is_spent: bool,
 ) -> Result<RootPlan, Fault>
     requires level { buf.level < 255 }
     requires count { count_of (length buf.entries) ≤ count }
-    ensures { Finds result (cut_at reserved count buf) }
+    ensures { Finds result (cut_at reserved count is_spent buf) }
 {
     let mut buf = buf;
     match buf.reserve(count) {
-        Ok(first) => lowered(alloc, buf, first, reserved),
+        Ok(first) => lowered(alloc, buf, first, reserved, is_spent),
         Err(_) => Err(Fault::Stops(pages_spent())),
     }
 }
@@ -144,8 +149,8 @@ fn root_cut(alloc: Global, root: &TreeView<'_>, buf: TreeBuf) -> Result<RootPlan
     let count = pieces(buf.len() as u64);
     match reserve(alloc, root, PageId::first(), count) {
         Ok(reserved) => match again(alloc, &buf) {
-            Ok(buf) => cut_at(alloc, buf, count, reserved.put),
-            Err(Fault::Stops(trouble)) => Err(Fault::Stops(trouble)),
+            Ok(next) => cut_at(alloc, next, count, reserved.put, false),
+            Err(Fault::Stops(_)) => cut_at(alloc, buf, count, reserved.put, true),
             Err(Fault::Memory) => Err(Fault::Memory),
         },
         Err(Fault::Stops(trouble)) => Err(Fault::Stops(trouble)),
@@ -165,6 +170,7 @@ pub(crate) fn root_plan(alloc: Global, root: &TreeView<'_>, buf: TreeBuf) -> Res
         Ok(last) => Ok(RootPlan {
             placing: Placing::new(alloc),
             last,
+            is_spent: false,
         }),
         Err(_) => Err(Fault::Memory),
     }

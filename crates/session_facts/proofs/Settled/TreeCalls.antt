@@ -1,6 +1,6 @@
 -- How many calls of a tree checkpoint are left, where its tree has so many pages: each step that goes on leaves fewer.
 use Rattle.std.proofs.Common.{◌≡◌, ◌<◌, ◌≤◌, ◌+◌, ◌-◌, ◌*◌, ◌⊎◌, inl, inr, ℕ, Bool, true, false, cond, List, [], ◌∷◌, ◌++◌, length, length-append, Option, Some, None, Result, Ok, Err, refl, sym, ap, subst, ◌∙◌, arith, add-mul, mul-add, mul-le-mul_right}
-use Rattle.std.specs.Prelude.{◌==◌, ◌||◌, not, is_some, if◌then◌else◌}
+use Rattle.std.specs.Prelude.{◌==◌, ◌||◌, ◌&&◌, not, is_some, if◌then◌else◌}
 use Rattle.std.proofs.lemmas.Option.{slice_get_within}
 use Rattle.byte_format.specs.Order.{bytes_below}
 use Rattle.ckpt_parts.specs.declared.intake.Intake.{Intake}
@@ -52,6 +52,7 @@ use Rattle.tree_rising.specs.declared.node.NodePlan.{NodePlan}
 use Rattle.tree_rising.specs.declared.rising.Rising.{Rising}
 use Rattle.tree_rising.specs.declared.root.RootPlan.{RootPlan}
 use Rattle.tree_rising.specs.Nodes.{node_plan}
+use Rattle.tree_parts.specs.Reserve.{version_spent}
 use Rattle.tree_rising.specs.Rising as rise
 use Rattle.session_facts.proofs.Settled.TreePieces.{piece_calls, node_few, last_few, GotLeaf, got_leaf}
 
@@ -305,9 +306,13 @@ landed_up p r reserves e = on (not (has_nothing (landed_placing r.placing)) || i
       (subst (λ (last : Option (List ℕ)). 2 * (length r.chart.nodes - r.at) + (p + 1 - next_of (rise.landed r).chart) + 4 ≤ up_left p last r) (sym none) most)
       (rise_up p (rise.landed r) none)
 
+  next : (b : Bool) → BelowUp p (up_left p r.last r) (cond b (Stops (rise.landed r) version_spent) (Goes (rise.landed r)))
+  next true = tt
+  next false = λ room more. goes r.last reserves room
+
   on : (b : Bool) → (not (has_nothing (landed_placing r.placing)) || is_some r.last) ≡ b
-      → BelowUp p (up_left p r.last r) (cond b (Goes (rise.landed r)) (rise.rise (rise.landed r)))
-  on true f = λ next more. goes r.last reserves next
+      → BelowUp p (up_left p r.last r) (cond b (rise.put_next (rise.landed r)) (rise.rise (rise.landed r)))
+  on true f = next (has_nothing (landed_placing r.placing) && r.is_spent)
   on false f =
       let both = no_more (has_nothing (landed_placing r.placing)) (is_some r.last) f in
       rises (none_of r.last both.1) both.0

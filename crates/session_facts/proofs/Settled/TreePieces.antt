@@ -1,5 +1,5 @@
 -- How many pages the plans of a tree checkpoint put, beside those for which they reserve a number.
-use Rattle.std.proofs.Common.{◌≡◌, ◌+◌, ◌-◌, ◌≤◌, inl, inr, ℕ, Bool, true, false, cond, List, [], ◌∷◌, ◌++◌, length, map, reverse, Option, Some, None, Result, Ok, Err, refl, sym, ap, subst, ◌∙◌, arith}
+use Rattle.std.proofs.Common.{◌≡◌, ◌+◌, ◌-◌, ◌≤◌, ◌⊎◌, inl, inr, ℕ, Bool, true, false, cond, List, [], ◌∷◌, ◌++◌, length, map, reverse, Option, Some, None, Result, Ok, Err, refl, sym, ap, subst, ◌∙◌, arith}
 use Rattle.std.specs.Prelude.{◌==◌, ◌||◌}
 use Rattle.std.proofs.lemmas.List.{length-map, length-reverse}
 use Rattle.byte_format.specs.Order.{bytes_below, bytes_same}
@@ -11,7 +11,7 @@ use Rattle.leaf_fold.specs.declared.folding.Folding.{Folding}
 use Rattle.leaf_fold.specs.declared.folding.Left.TheVariants.{Right, Handled}
 use Rattle.leaf_fold.specs.declared.plan.LeafPlan.{LeafPlan}
 use Rattle.leaf_fold.specs.Plan.{leaf_plan}
-use Rattle.leaf_fold.specs.Folding.{Step, turned, to_right, planned, handled_by, handle, leaf_side, leaf_at, leaf_found, leaf_got, bad_low}
+use Rattle.leaf_fold.specs.Folding.{Step, no_placing, turned, to_right, planned, handled_by, handle, leaf_side, leaf_at, leaf_found, leaf_got, bad_low}
 use Rattle.leaf_view.specs.Leaf.{Leaf}
 use Rattle.leaf_view.specs.Lookup.{empty_leaf, page_at}
 use Rattle.log_codec.specs.declared.record.PuItem.{PuItem}
@@ -20,8 +20,8 @@ use Rattle.run_cursor.specs.Covered.{is_seen}
 use Rattle.split_plan.specs.declared.entry_list.NewEntry.{NewEntry}
 use Rattle.split_plan.specs.Part.{Part}
 use Rattle.split_plan.specs.Plan.{put_of, on_pages}
-use Rattle.tree_ckpt.proofs.Pieces.{leaf_puts, node_puts, root_puts}
-use Rattle.tree_ckpt.specs.Working.{Reserves, PutsPieces, PutsRoot, raised_root}
+use Rattle.tree_ckpt.proofs.Pieces.{PutsParts, leaf_puts, node_puts, root_places}
+use Rattle.tree_ckpt.specs.Working.{Reserves, PutsPieces, raised_root}
 use Rattle.tree_parts.specs.declared.kept.KeptNode.{KeptNode}
 use Rattle.tree_parts.specs.declared.link.Link.{Link}
 use Rattle.tree_parts.specs.declared.placing.Placing.{Placing}
@@ -62,12 +62,11 @@ pieces_few key bytes root page whole placing named p =
     few_by root p.first (length p.pieces - 1) placing.reserved 2 (length placing.puts) p.numbers
     (λ none. let many = ap length p.puts ∙ puts_as_many bytes page p.first p.pieces in omega (arith, many, none))
 
-root_few : (root t : Tree) (p : RootPlan) → PutsRoot root t p → piece_calls 1 p.placing ≤ 1
-root_few root t p (inl h) = subst (λ (q : Placing). piece_calls 1 q ≤ 1) (sym h.1.0) (omega arith)
-root_few root t p (inr h) =
-    let b = h.2 in
-    few_by root t.next (length b.pieces) p.placing.reserved 1 (length p.placing.puts) b.numbers
-    (λ none. let many = ap length b.puts ∙ puts_as_many _ t.next (t.next + 1) b.pieces in omega (arith, many, none))
+root_few : (root t : Tree) (p : RootPlan) → (p.placing ≡ no_placing) ⊎ PutsParts root t p → piece_calls 1 p.placing ≤ 1
+root_few root t p (inl h) = subst (λ (q : Placing). piece_calls 1 q ≤ 1) (sym h) (omega arith)
+root_few root t p (inr b) =
+    few_by root b.first (length b.pieces) p.placing.reserved 1 (length p.placing.puts) b.numbers
+    (λ none. let many = ap length b.puts ∙ puts_as_many _ b.first (b.first + 1) b.pieces in omega (arith, many, none))
 
 -- ---- plans
 
@@ -78,7 +77,7 @@ pub node_few : (root : Tree) (tree : ℕ) (k : KeptNode) (ls : List Link) (p : N
 node_few root tree k ls p e = let puts = node_puts root tree k ls p e in pieces_few _ _ root k.page _ p.placing p.entries puts.2
 
 pub last_few : (root : Tree) (ls : List Link) (top : List (ℕ × ℕ)) (p : RootPlan) → plan_of root (planned_root root ls top) ≡ Ok p → piece_calls 1 p.placing ≤ 1
-last_few root ls top p e = root_few root (raised_root root ls top) p (root_puts root ls top p e)
+last_few root ls top p e = root_few root (raised_root root ls top) p (root_places root ls top p e)
 
 -- ---- the get of a leaf
 

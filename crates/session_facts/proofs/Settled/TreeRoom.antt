@@ -153,10 +153,10 @@ node_reserves st now lease tree c first front middle behind placing many reserve
     let next = reserved_next (tree_held c.root) (length middle) first bytes r.1 in
     omega (arith, many, next)
 
-root_reserves : (st : Store) (now : ℕ) (lease : Claim) (tree : ℕ) (c : Chart) (t : Tree) (first : ℕ) (middle behind : List NodePart) (placing : Placing)
-    → length placing.puts ≡ length middle → ReservesRoot st now lease tree (tree_held c.root) t first middle behind placing.reserved → Reserving 0 c placing
-root_reserves st now lease tree c t first middle behind placing many reserves bytes e =
-    let r = subst (ReservesRoot st now lease tree (tree_held c.root) t first middle behind) e reserves in
+root_reserves : (spent : Bool) (st : Store) (now : ℕ) (lease : Claim) (tree : ℕ) (c : Chart) (t : Tree) (first : ℕ) (middle behind : List NodePart) (placing : Placing)
+    → length placing.puts ≡ length middle → ReservesRoot spent st now lease tree (tree_held c.root) t first middle behind placing.reserved → Reserving 0 c placing
+root_reserves spent st now lease tree c t first middle behind placing many reserves bytes e =
+    let r = subst (ReservesRoot spent st now lease tree (tree_held c.root) t first middle behind) e reserves in
     let next = reserved_next (tree_held c.root) (length middle) first bytes r.1 in
     omega (arith, many, next)
 
@@ -181,7 +181,7 @@ up_fits st now lease r None k =
     (ap length k.placing.puts_are ∙ puts_as_many node_bytes k.kept.page k.first (k.placing.front ∷ k.placing.middle)) k.reserves
 up_fits st now lease r (Some bytes) (whole k) = λ b e. absurd (let none : Some b ≡ None = sym e ∙ k.nothing_reserved in cc)
 up_fits st now lease r (Some bytes) (cut k) =
-    root_reserves st now lease r.chart.tree r.chart k.root k.first k.middle k.behind r.placing
+    root_reserves r.is_spent st now lease r.chart.tree r.chart k.root k.first k.middle k.behind r.placing
     (ap length k.puts_are ∙ puts_as_many node_bytes k.first (k.first + 1) k.middle) k.reserves
 
 -- ---- wherever it stands

@@ -1,6 +1,6 @@
 -- The tree object that a tree checkpoint has in hand, from step to step.
 use Rattle.std.proofs.Common.{◌≡◌, ◌+◌, ℕ, Bool, true, false, cond, List, Option, Some, None, Result, Ok, Err, refl, sym, ap, subst, ◌∙◌}
-use Rattle.std.specs.Prelude.{◌||◌, not, is_some}
+use Rattle.std.specs.Prelude.{◌||◌, ◌&&◌, not, is_some}
 use Rattle.ckpt_parts.specs.declared.intake.Intake.{Intake}
 use Rattle.ckpt_parts.specs.declared.leases.Leases.{Leases}
 use Rattle.ckpt_parts.specs.Deleting.{next_id, tried}
@@ -38,6 +38,7 @@ use Rattle.tree_rising.specs.declared.node.NodePlan.{NodePlan}
 use Rattle.tree_rising.specs.declared.rising.Rising.{Rising}
 use Rattle.tree_rising.specs.declared.root.RootPlan.{RootPlan}
 use Rattle.tree_rising.specs.Nodes.{node_plan}
+use Rattle.tree_parts.specs.Reserve.{version_spent}
 use Rattle.tree_rising.specs.Rising as rise
 
 -- the tree object in hand is this one
@@ -109,8 +110,12 @@ up_rise got r is = on (rise.touched_node r) where
 
 up_landed : (got : Option (List ℕ)) (r : Rising) → (rise.landed r).chart.root ≡ got → UpRoot got (rise.after_put (rise.landed r))
 up_landed got r is = on (not (has_nothing (landed_placing r.placing)) || is_some r.last) where
-  on : (b : Bool) → UpRoot got (cond b (Goes (rise.landed r)) (rise.rise (rise.landed r)))
-  on true = is
+  next : (b : Bool) → UpRoot got (cond b (Stops (rise.landed r) version_spent) (Goes (rise.landed r)))
+  next true = tt
+  next false = is
+
+  on : (b : Bool) → UpRoot got (cond b (rise.put_next (rise.landed r)) (rise.rise (rise.landed r)))
+  on true = next (has_nothing (landed_placing r.placing) && r.is_spent)
   on false = up_rise got (rise.landed r) is
 
 up_risen : (got new : Option (List ℕ)) (r : Rising) (done : Result (Unit {0}) Trouble) → r.chart.root ≡ got

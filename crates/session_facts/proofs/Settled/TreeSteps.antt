@@ -309,7 +309,7 @@ module _ (who : Caller) (a : Answer) (s t : CloudState) (tree : ℕ) where
   last_more st l r bytes (cut k) none =
       let held = ap (λ (b : List ℕ). (tree_held (Some b)).next) k.bytes_are ∙ ap (λ (x : Tree). x.next)
       (held_root (root_above (new_pages k.first k.root) k.root) k.fits) in
-      let reserves = subst (ReservesRoot st s.now l r.chart.tree (tree_held r.chart.root) k.root k.first k.middle k.behind)
+      let reserves = subst (ReservesRoot r.is_spent st s.now l r.chart.tree (tree_held r.chart.root) k.root k.first k.middle k.behind)
       (nothing_reserved r.placing none) k.reserves in
       let same = reserves.1 in
       omega (arith, held, same)

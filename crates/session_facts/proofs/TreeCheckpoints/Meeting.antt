@@ -55,7 +55,8 @@ use Rattle.tree_rising.specs.declared.node.NodePlan.{NodePlan}
 use Rattle.tree_rising.specs.declared.rising.Rising.{Rising}
 use Rattle.tree_rising.specs.declared.root.RootPlan.{RootPlan}
 use Rattle.tree_rising.specs.Nodes.{planned_of, linked_by, node_plan}
-use Rattle.tree_rising.specs.Rising.{put_node, last_plan, put_root, next_touched, touched_node, rise_at, rise, landed, after_put, put_landed, risen_by}
+use Rattle.tree_rising.specs.Rising.{put_node, last_plan, put_root, next_touched, touched_node, rise_at, rise, landed, put_next, after_put, put_landed, risen_by}
+use Rattle.tree_parts.specs.Reserve.{version_spent}
 use Rattle.tree_rising.specs.Rising as up
 
 -- what it comes to is no other trouble
@@ -269,8 +270,12 @@ module _ (Met : Trouble → Type 0) (free : (t : Trouble) → IsFree t → Met t
   pub risen_for : (r : Rising) (g : Result (Unit {0}) Trouble) → ((t : Trouble) → g ≡ Err t → Met t) → StopsFor Met (risen_by r g)
   risen_for r (Ok x) refused = on (has_nothing r.placing)
     where
-      further : (b : Bool) → StopsFor Met (cond b (Goes (landed r)) (rise (landed r)))
-      further true = tt
+      next : (b : Bool) → (let to : Next Rising (Unit {0}) = cond b (Stops (landed r) version_spent) (Goes (landed r)) in StopsFor Met to)
+      next true = free version_spent tt
+      next false = tt
+
+      further : (b : Bool) → StopsFor Met (cond b (put_next (landed r)) (rise (landed r)))
+      further true = next (has_nothing (landed r).placing && r.is_spent)
       further false = rise_for (landed r)
 
       on : (b : Bool) → StopsFor Met (cond b (Ends r tt) (after_put (landed r)))

@@ -75,7 +75,7 @@ module _ (book : Book) (order : List Entry) (s : CloudState) (stands : StandsUnd
           → AreReserved inner_node (book.chain tree) (nodes_of s tree) (top_of (roots_of s tree)).next c.first middle c.behind
       root_free middle is lasts =
           subst (λ (m : List NodePart). AreReserved inner_node (book.chain tree) (nodes_of s tree) (top_of (roots_of s tree)).next c.first m c.behind) is
-          ((subst (λ (o : Option (List ℕ)). ReservesRoot st now lease tree (tree_held r.chart.root) c.root c.first c.middle c.behind o) none c.reserves).2 lasts)
+          ((subst (λ (o : Option (List ℕ)). ReservesRoot r.is_spent st now lease tree (tree_held r.chart.root) c.root c.first c.middle c.behind o) none c.reserves).2 lasts)
 
       at_piece : (front : List NodePart) (last : NodePart) → c.middle ≡ front ++ last ∷ [] → Guarded
       at_piece [] last is =

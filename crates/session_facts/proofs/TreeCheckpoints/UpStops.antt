@@ -3,7 +3,7 @@ use Rattle.std.proofs.Common.{◌≡◌, ◌+◌, ◌-◌, ◌==◌, ◌&&◌, �
 use Rattle.std.specs.Prelude.{not, nat_lt, is_some}
 use Rattle.cloud_trait.specs.declared.answer.Answer.{Answer}
 use Rattle.cloud_trait.specs.Claim.{Claim}
-use Rattle.cloud_trait.specs.Machine.{Goes, Ends}
+use Rattle.cloud_trait.specs.Machine.{Next, Goes, Ends, Stops}
 use Rattle.cloud_trait.specs.Views.{done_of}
 use Rattle.db_base.specs.declared.trouble.Trouble.{Trouble}
 use Rattle.node_codec.specs.Inner.{Inner}
@@ -26,8 +26,8 @@ use Rattle.tree_rising.specs.declared.node.NodePlan.{NodePlan}
 use Rattle.tree_rising.specs.declared.rising.Rising.{Rising}
 use Rattle.tree_rising.specs.declared.root.RootPlan.{RootPlan}
 use Rattle.tree_rising.specs.Nodes.{touched_at, with_links, planned_by, planned_of, linked_by, node_plan}
-use Rattle.tree_rising.specs.Rising.{put_node, plan_of, last_plan, put_root, next_touched, touched_node, rise_at, rise, landed, after_put, risen_by, rising_next}
-use Rattle.tree_rising.specs.Root.{risen_by as root_risen, lowered, cut_by, cut_behind, root_cut, uncut, root_plan}
+use Rattle.tree_rising.specs.Rising.{put_node, plan_of, last_plan, put_root, next_touched, touched_node, rise_at, rise, landed, put_next, after_put, risen_by, rising_next}
+use Rattle.tree_rising.specs.Root.{risen_by as root_risen, lowered, cut_at, cut_by, cut_behind, root_cut, uncut, root_plan}
 
 -- ---- the plan of a node
 
@@ -52,16 +52,19 @@ node_fair st now lease tree root kept links k =
 
 -- ---- that of the tree object
 
-cut_fair : (put : Option (List ℕ)) (count : ℕ) (t : Result Tree Trouble) → IsFair t → IsFair (cut_by put count t)
-cut_fair put count (Err f) may = may
-cut_fair put count (Ok t) may = on (nat_lt 18446744073709551615 (t.next + count))
+at_fair : (put : Option (List ℕ)) (count : ℕ) (spent : Bool) (t : Tree) → IsFair (cut_at put count spent t)
+at_fair put count spent t = on (nat_lt 18446744073709551615 (t.next + count))
   where
-    on : (b : Bool) → (let kept : Result RootPlan Trouble = Ok (lowered put (record t { next = t.next + count }) t.next) in IsFair (cond b (Err pages_spent) kept))
+    on : (b : Bool) → (let kept : Result RootPlan Trouble = Ok (lowered put spent (record t { next = t.next + count }) t.next) in IsFair (cond b (Err pages_spent) kept))
     on true = tt
     on false = tt
 
+cut_fair : (put : Option (List ℕ)) (count : ℕ) (t : Tree) (next : Result Tree Trouble) → IsFair (cut_by put count t next)
+cut_fair put count t (Err f) = at_fair put count true t
+cut_fair put count t (Ok next) = at_fair put count false next
+
 behind_fair : (t : Tree) (r : Result Reserved Trouble) → IsFair r → IsFair (cut_behind t r)
-behind_fair t (Ok r) may = cut_fair r.put (count_of (length t.entries)) (next_tree t) (next_fair t)
+behind_fair t (Ok r) may = cut_fair r.put (count_of (length t.entries)) t (next_tree t)
 behind_fair t (Err f) may = may
 
 root_fair : (root t : Tree) → IsFair (root_plan root t)
@@ -104,14 +107,18 @@ rise_may st now lease r nodes = on (touched_node r) refl
 pub rising_may : (st : Store) (now : ℕ) (lease : Claim) (r : Rising) (ids : List ℕ) → KnowsRising st now lease r ids → (reply : Answer) → StopsWell (rising_next r reply)
 rising_may st now lease r ids k reply = on (done_of reply) (done_may reply)
   where
-    further : (b : Bool) (last : Option (List ℕ)) → PutsOf st now lease r last → StopsWell (cond (not b || is_some last) (Goes (landed r)) (rise (landed r)))
+    next : (b : Bool) → (let to : Next Rising (Unit {0}) = cond b (Stops (landed r) version_spent) (Goes (landed r)) in StopsWell to)
+    next true = tt
+    next false = tt
+
+    further : (b : Bool) (last : Option (List ℕ)) → PutsOf st now lease r last → StopsWell (cond (not b || is_some last) (put_next (landed r)) (rise (landed r)))
     further b (Some bytes) puts = sent (not b)
       where
-        sent : (c : Bool) → StopsWell (cond (c || true) (Goes (landed r)) (rise (landed r)))
-        sent true = tt
-        sent false = tt
+        sent : (c : Bool) → StopsWell (cond (c || true) (put_next (landed r)) (rise (landed r)))
+        sent true = next (has_nothing (landed r).placing && r.is_spent)
+        sent false = next (has_nothing (landed r).placing && r.is_spent)
     further true None puts = rise_may st now lease (landed r) puts.nodes
-    further false None puts = tt
+    further false None puts = next (has_nothing (landed r).placing && r.is_spent)
 
     put : (b : Bool) → StopsWell (cond b (Ends r tt) (after_put (landed r)))
     put true = tt

@@ -1,6 +1,6 @@
 -- The way up stays in its tree.
 use Rattle.std.proofs.Common.{◌≡◌, ◌+◌, ℕ, Bool, true, false, cond, Option, Some, None, Result, Ok, Err, refl}
-use Rattle.std.specs.Prelude.{◌||◌, not, is_some}
+use Rattle.std.specs.Prelude.{◌||◌, ◌&&◌, not, is_some}
 use Rattle.cloud_trait.specs.declared.answer.Answer.{Answer}
 use Rattle.cloud_trait.specs.Machine.{Goes, Ends, Stops}
 use Rattle.cloud_trait.specs.Views.{done_of}
@@ -12,7 +12,8 @@ use Rattle.tree_rising.specs.declared.node.NodePlan.{NodePlan}
 use Rattle.tree_rising.specs.declared.rising.Rising.{Rising}
 use Rattle.tree_rising.specs.declared.root.RootPlan.{RootPlan}
 use Rattle.tree_rising.specs.Nodes.{node_plan}
-use Rattle.tree_rising.specs.Rising.{Step, put_node, last_plan, put_root, next_touched, touched_node, rise_at, rise, landed, after_put, put_landed, risen_by, rising_next}
+use Rattle.tree_parts.specs.Reserve.{version_spent}
+use Rattle.tree_rising.specs.Rising.{Step, put_node, last_plan, put_root, next_touched, touched_node, rise_at, rise, landed, put_next, after_put, put_landed, risen_by, rising_next}
 
 abbrev pub StaysIn : ℕ → Step → Type 0
 StaysIn tree (Goes r) = r.chart.tree ≡ tree
@@ -37,8 +38,12 @@ rise_stays r = at_stays r (next_touched r) (touched_node r)
 after_stays : (r : Rising) → StaysIn r.chart.tree (after_put r)
 after_stays r = on (not (has_nothing r.placing) || is_some r.last)
   where
-    on : (b : Bool) → StaysIn r.chart.tree (cond b (Goes r) (rise r))
-    on true = refl
+    next : (b : Bool) → StaysIn r.chart.tree (cond b (Stops r version_spent) (Goes r))
+    next true = tt
+    next false = refl
+
+    on : (b : Bool) → StaysIn r.chart.tree (cond b (put_next r) (rise r))
+    on true = next (has_nothing r.placing && r.is_spent)
     on false = rise_stays r
 
 put_stays : (r : Rising) → StaysIn r.chart.tree (put_landed r)

@@ -100,6 +100,19 @@ reserving_fits count root (inr fits) spare room =
       entries = fits_to_last [] None (root.next - 1) (root.next + count - 1) false None root.entries (omega arith) f.entries;
     })
 
+-- and so has one whose version stays
+pub numbered_fits : (count : ℕ) (root : Tree) → HasTreeSpelling root → root.next + count ≤ greatest → HasTreeSpelling (record root { next = root.next + count })
+numbered_fits count root fits room =
+    let f = tree_fits root fits in
+    let least = (in_range_parts 2 greatest root.next f.next).0 in
+    fit_tree (record root { next = root.next + count }) (record {
+      version = f.version;
+      next = in_range_from 2 greatest (root.next + count) (omega (arith, least)) room;
+      level = f.level;
+      cursor = f.cursor;
+      entries = fits_to_last [] None (root.next - 1) (root.next + count - 1) false None root.entries (omega arith) f.entries;
+    })
+
 -- ---- a root with the newest one's cursor
 
 module _ (book : Book) (order : List Entry) (s : CloudState) (stands : StandsUnder book order s) (tree : ℕ) (of_tree : IsTree tree) where

@@ -1,5 +1,5 @@
 -- The puts of the way up: which is in hand, and what is owed for it where it lands.
-use Rattle.std.proofs.Common.{◌≡◌, ◌<◌, ◌==◌, ℕ, Bool, true, false, cond, not, ◌&&◌, ◌||◌, List, [], ◌∷◌, length, map, reverse, Option, Some, None, refl, sym, ap, ◌∙◌, arith}
+use Rattle.std.proofs.Common.{◌≡◌, ◌<◌, ◌≤◌, ◌==◌, ℕ, Bool, true, false, cond, not, ◌&&◌, ◌||◌, List, [], ◌∷◌, length, map, reverse, Option, Some, None, refl, sym, ap, ◌∙◌, arith}
 use Rattle.std.specs.Prelude.{unwrap_or, is_none, is_some}
 use Rattle.std.proofs.lemmas.Bool.{ne_eqb}
 use Rattle.std.proofs.lemmas.List.{length-reverse}
@@ -11,7 +11,7 @@ use Rattle.cloud_facts.specs.Calls.Standing.{StandsUnder, Follows, Commits}
 use Rattle.cloud_trait.specs.Ask.{PutHeld}
 use Rattle.cloud_trait.specs.Caller.{Caller}
 use Rattle.cloud_trait.specs.Claim.{Claim}
-use Rattle.cloud_trait.specs.Machine.{Goes, Ends}
+use Rattle.cloud_trait.specs.Machine.{Goes, Ends, Stops}
 use Rattle.cloud_trait.specs.State.{CloudState}
 use Rattle.db_base.specs.Ids.{IsTree}
 use Rattle.db_base.specs.declared.names.ObjName.{ObjName}
@@ -32,8 +32,9 @@ use Rattle.cloud_facts.specs.Book.Telling.{last_or, nodes_of, roots_of}
 use Rattle.cloud_facts.proofs.Tellings.Ready.{branch_first}
 use Rattle.cloud_facts.specs.Tellings.Told.{store_of}
 use Rattle.tree_parts.specs.Placing.{put_next, put_first, has_nothing}
+use Rattle.tree_parts.specs.Reserve.{version_spent}
 use Rattle.tree_rising.specs.declared.rising.Rising.{Rising}
-use Rattle.tree_rising.specs.Rising.{last_ask, rising_ask, rise, landed, after_put, put_landed}
+use Rattle.tree_rising.specs.Rising.{last_ask, rising_ask, rise, landed, put_next as put_then, after_put, put_landed}
 use Rattle.cloud_facts.specs.Calls.Links.{OwesLease}
 use Rattle.session_facts.specs.Trees.Risings.{RisesOn}
 
@@ -76,24 +77,42 @@ goes r full = ap (λ (b : Bool). cond b (Ends r tt) (after_put (landed r))) full
 
 -- another page
 pub goes_on : (r : Rising) → has_nothing r.placing ≡ false → ((landed r).placing.puts ≡ [] → ⊥) → put_landed r ≡ Goes (landed r)
-goes_on r full more = goes r full ∙ ap (λ (b : Bool). cond (not b || is_some r.last) (Goes (landed r)) (rise (landed r))) (some_left (landed r).placing.puts more)
+goes_on r full more =
+    goes r full
+    ∙ ap (λ (b : Bool). cond (not b || is_some r.last) (cond (b && r.is_spent) (Stops (landed r) version_spent) (Goes (landed r))) (rise (landed r)))
+    (some_left (landed r).placing.puts more)
 
 -- what is left is put before the last root
-pub goes_last : (r : Rising) (bytes : List ℕ) → has_nothing r.placing ≡ false → r.last ≡ Some bytes → put_landed r ≡ Goes (landed r)
-goes_last r bytes full last =
+last_next : (r : Rising) (bytes : List ℕ) → has_nothing r.placing ≡ false → r.last ≡ Some bytes → put_landed r ≡ put_then (landed r)
+last_next r bytes full last =
     goes r full
-    ∙ (ap (λ (o : Option (List ℕ)). cond (not (has_nothing (landed r).placing) || is_some o) (Goes (landed r)) (rise (landed r))) last ∙ either (not (has_nothing (landed r).placing)))
+    ∙ (ap (λ (o : Option (List ℕ)). cond (not (has_nothing (landed r).placing) || is_some o) (put_then (landed r)) (rise (landed r))) last ∙ either (not (has_nothing (landed r).placing)))
   where
-    either : (b : Bool) → cond (b || true) (Goes (landed r)) (rise (landed r)) ≡ Goes (landed r)
+    either : (b : Bool) → cond (b || true) (put_then (landed r)) (rise (landed r)) ≡ put_then (landed r)
     either true = refl
     either false = refl
+
+next_by : (r : Rising) (b : Bool) → (has_nothing (landed r).placing && r.is_spent) ≡ b → put_then (landed r) ≡ cond b (Stops (landed r) version_spent) (Goes (landed r))
+next_by r b e = ap (λ (c : Bool). cond c (Stops (landed r) version_spent) (Goes (landed r))) e
+
+pub goes_last : (r : Rising) (bytes : List ℕ) → has_nothing r.placing ≡ false → r.last ≡ Some bytes → (has_nothing (landed r).placing && r.is_spent) ≡ false → put_landed r ≡ Goes (landed r)
+goes_last r bytes full last more = last_next r bytes full last ∙ next_by r false more
+
+-- no version is left for it
+pub stops_last : (r : Rising) (bytes : List ℕ) → has_nothing r.placing ≡ false → r.last ≡ Some bytes → (has_nothing (landed r).placing && r.is_spent) ≡ true
+    → put_landed r ≡ Stops (landed r) version_spent
+stops_last r bytes full last none = last_next r bytes full last ∙ next_by r true none
+
+pub never_both : (b spent : Bool) → spent ≡ false → (b && spent) ≡ false
+never_both true spent e = e
+never_both false spent e = refl
 
 -- nothing is left of a node
 pub goes_up : (r : Rising) → has_nothing r.placing ≡ false → (landed r).placing.puts ≡ [] → r.last ≡ None → put_landed r ≡ rise (landed r)
 goes_up r full empty none =
     goes r full
-    ∙ (ap (λ (l : List PagePut). cond (not (length l == 0) || is_some r.last) (Goes (landed r)) (rise (landed r))) empty
-    ∙ ap (λ (o : Option (List ℕ)). cond (is_some o) (Goes (landed r)) (rise (landed r))) none)
+    ∙ (ap (λ (l : List PagePut). cond (not (length l == 0) || is_some r.last) (cond ((length l == 0) && r.is_spent) (Stops (landed r) version_spent) (Goes (landed r))) (rise (landed r))) empty
+    ∙ ap (λ (o : Option (List ℕ)). cond (is_some o) (cond r.is_spent (Stops (landed r) version_spent) (Goes (landed r))) (rise (landed r))) none)
 
 -- nothing is left at all
 pub ends_now : (r : Rising) → r.placing.reserved ≡ None → r.placing.puts ≡ [] → put_landed r ≡ Ends r tt
@@ -106,6 +125,11 @@ pub some_puts : (bytes : NodePart → List ℕ) (page first : ℕ) (front : Node
 some_puts bytes page first front middle e =
     let n = sym (length-reverse (map (put_of bytes) (on_pages page first (front ∷ middle)))) ∙ ap length e in
     absurd (omega (arith, n))
+
+-- a list of some pieces has some puts
+pub no_puts : (bytes : NodePart → List ℕ) (page first : ℕ) (middle : List NodePart) → 1 ≤ length middle → reverse (map (put_of bytes) (on_pages page first middle)) ≡ [] → ⊥
+no_puts bytes page first [] some e = absurd (omega (arith, some))
+no_puts bytes page first (front ∷ middle) some e = some_puts bytes page first front middle e
 
 -- ---- where it lands
 

@@ -100,7 +100,7 @@ module _ (book : Book) (order : List Entry) (s : CloudState) (stands : StandsUnd
             (p.puts_are ∙ (ap (λ (m : List NodePart). reverse (map (put_of node_bytes) (on_pages p.first (p.first + 1) m))) q.2 ∙ new_puts node_bytes p.first q.0 q.1));
         guarded = λ lasts.
             free_guard p.first q.0 q.1 p.middle p.behind q.2
-            ((subst (λ (o : Option (List ℕ)). ReservesRoot st now lease tree (tree_held r.chart.root) p.root p.first p.middle p.behind o) nothing p.reserves).2 lasts);
+            ((subst (λ (o : Option (List ℕ)). ReservesRoot r.is_spent st now lease tree (tree_held r.chart.root) p.root p.first p.middle p.behind o) nothing p.reserves).2 lasts);
       }
 
       on : (o : Option (List ℕ)) → r.placing.reserved ≡ o → IsTreePut s now lease r

@@ -1,5 +1,5 @@
 -- The last puts of the way up: the pieces of a root that is cut, and the root itself.
-use Rattle.std.proofs.Common.{◌≡◌, ◌≢◌, ◌+◌, ◌-◌, ◌<◌, ◌≤◌, ℕ, zero, suc, List, [], ◌∷◌, ◌++◌, length, map, reverse, drop, Option, Some, None, refl, sym, ap, subst, ◌∙◌, arith, append_assoc, length-append}
+use Rattle.std.proofs.Common.{◌≡◌, ◌≢◌, ◌+◌, ◌-◌, ◌<◌, ◌≤◌, ◌==◌, ◌&&◌, ℕ, zero, suc, Bool, true, false, List, [], ◌∷◌, ◌++◌, length, map, reverse, drop, Option, Some, None, refl, sym, ap, subst, ◌∙◌, arith, append_assoc, length-append}
 use Rattle.std.specs.List.{AllByRecursion}
 use Rattle.cloud_facts.specs.Chains.Chain.{IsUnlinked}
 use Rattle.cloud_facts.specs.Chains.Cuts.{links_on, HaveLanded, inner_node}
@@ -35,7 +35,7 @@ use Rattle.cloud_facts.specs.Book.Telling.{nodes_of, roots_of}
 use Rattle.cloud_facts.proofs.Book.Places.{in_front, in_behind}
 use Rattle.cloud_facts.proofs.Tellings.Names.{at2_same, at2_beside}
 use Rattle.cloud_facts.specs.Tellings.Told.{store_of}
-use Rattle.tree_parts.specs.Placing.{puts_after}
+use Rattle.tree_parts.specs.Placing.{puts_after, has_nothing}
 use Rattle.tree_parts.specs.Read.{tree_held}
 use Rattle.tree_rising.specs.declared.rising.Rising.{Rising}
 use Rattle.tree_rising.specs.Rising.{landed, put_landed}
@@ -46,7 +46,7 @@ use Rattle.session_facts.proofs.Trees.LastRoot.{last_landing, raise_landing, may
 use Rattle.session_facts.proofs.Trees.NodePieces.{pieces_name}
 use Rattle.session_facts.proofs.Trees.PlacingLemmas.{puts_more, on_range, piece_landed}
 use Rattle.session_facts.proofs.Trees.Reservations.{spelled_root}
-use Rattle.session_facts.proofs.Trees.RisingEffects.{RisingEffect, goes_last, ends_now, has_page, piece_after, piece_lands}
+use Rattle.session_facts.proofs.Trees.RisingEffects.{RisingEffect, goes_last, ends_now, has_page, piece_after, piece_lands, stops_last}
 use Rattle.session_facts.proofs.Trees.RisingOthers.{raised_stays}
 use Rattle.session_facts.proofs.Trees.RisingPuts.{root_is, root_behind, run_behind}
 
@@ -109,8 +109,8 @@ module _ (book : Book) (order : List Entry) (s : CloudState) (stands : StandsUnd
     abbrev Free : List NodePart → List NodePart → Type 0
     Free ps qs = AreReserved inner_node (book.chain tree) (nodes_of s tree) (top_of (roots_of s tree)).next p.first ps qs
 
-    planned : (p.root.version ≡ root.version + 1) × (p.root.next ≡ root.next) × (Lasts now lease → Free p.middle p.behind)
-    planned = subst (λ (o : Option (List ℕ)). ReservesRoot st now lease tree root p.root p.first p.middle p.behind o) none p.reserves
+    planned : (r.is_spent ≡ false → p.root.version ≡ root.version + 1) × (p.root.next ≡ root.next) × (Lasts now lease → Free p.middle p.behind)
+    planned = subst (λ (o : Option (List ℕ)). ReservesRoot r.is_spent st now lease tree root p.root p.first p.middle p.behind o) none p.reserves
 
     abbrev node : NodePart
     node = part_of_node (node_of_root p.root)
@@ -194,8 +194,8 @@ module _ (book : Book) (order : List Entry) (s : CloudState) (stands : StandsUnd
       same_root : tree_held (landed r).chart.root ≡ root
       same_root = ap (λ (o : Option (List ℕ)). tree_held o) (root_is st su now lease r ids k grows refl none)
 
-      puts_then : PutsCut su now lease (landed r) bytes
-      puts_then = record {
+      puts_then : (r.is_spent ≡ true → 1 ≤ length middle) → PutsCut su now lease (landed r) bytes
+      puts_then left = record {
         root = p.root;
         raises = subst (λ (t : Tree). IsRaised (su.book.chain tree) t r.chart.run.top p.root) (sym same_root) (raised_stays st su tree root r.chart.run.top p.root grows p.raises);
         first = p.first;
@@ -206,8 +206,9 @@ module _ (book : Book) (order : List Entry) (s : CloudState) (stands : StandsUnd
         pieces_are = pieces ∙ append_assoc middle (last ∷ []) p.behind;
         puts_are = ap (λ (o : Option (List ℕ)). puts_after o r.placing.puts) none ∙ ap (λ (l : List PagePut). drop 1 l) cut_puts;
         fit = p.fit;
+        left = left;
         reserves = (
-          planned.0 ∙ ap (λ (t : Tree). t.version + 1) (sym same_root),
+          λ whole. planned.0 whole ∙ ap (λ (t : Tree). t.version + 1) (sym same_root),
           planned.1 ∙ ap (λ (t : Tree). t.next) (sym same_root),
           λ still.
               piece_landed inner_node (book.chain tree) (nodes_of s tree) (su.tally.nodes tree) (top_of (roots_of s tree)).next p.first middle last p.behind
@@ -215,19 +216,34 @@ module _ (book : Book) (order : List Entry) (s : CloudState) (stands : StandsUnd
         );
       }
 
-      leads : put_landed r ≡ Goes (landed r)
-      leads = goes_last r bytes (has_page r (λ e. never (sym cut_puts ∙ e))) is_last
+      full : has_nothing r.placing ≡ false
+      full = has_page r (λ e. never (sym cut_puts ∙ e))
         where
           never : record { page = number; bytes = node_bytes last } ∷ others ≡ [] → ⊥
           never e = cc
 
-      then_known : KnowsRising su now lease (landed r) ids
-      then_known = record {
+      then_known : (r.is_spent ≡ true → 1 ≤ length middle) → KnowsRising su now lease (landed r) ids
+      then_known left = record {
         tree = k.tree;
         root = root_behind st su now lease r ids k grows refl none;
         run = run_behind st su now lease r ids k grows refl none;
-        puts = subst (λ (o : Option (List ℕ)). PutsOf su now lease (landed r) o) (sym is_last) (cut puts_then);
+        puts = subst (λ (o : Option (List ℕ)). PutsOf su now lease (landed r) o) (sym is_last) (cut (puts_then left));
       }
+
+      -- where the last version is reserved and a piece is left, one is to be put
+      piece_left : (has_nothing (landed r).placing && r.is_spent) ≡ false → r.is_spent ≡ true → 1 ≤ length middle
+      piece_left more spent = on middle (ap (λ (o : Option (List ℕ)). puts_after o r.placing.puts) none ∙ ap (λ (l : List PagePut). drop 1 l) cut_puts)
+        where
+          on : (ms : List NodePart) → (landed r).placing.puts ≡ reverse (map (put_of node_bytes) (on_pages p.first (p.first + 1) ms)) → 1 ≤ length ms
+          on (m ∷ ms) e = omega arith
+          on [] e =
+              let empty : has_nothing (landed r).placing ≡ true = ap (λ (l : List PagePut). length l == 0) e in
+              absurd (let both : true ≡ false = sym (ap (λ (b : Bool). b && r.is_spent) empty ∙ spent) ∙ more in cc (both))
+
+      -- it goes on, or no version is left behind the last piece
+      then_leads : (b : Bool) → (has_nothing (landed r).placing && r.is_spent) ≡ b → RisesOn su now lease ids (put_landed r)
+      then_leads false more = subst (RisesOn su now lease ids) (sym (goes_last r bytes full is_last more)) (then_known (piece_left more))
+      then_leads true end = subst (RisesOn su now lease ids) (sym (stops_last r bytes full is_last end)) tt
 
       pub cut_piece_effect : RisingEffect book order s who own mine now lease r ids (object.Page tree number) (node_bytes last)
       cut_piece_effect = record {
@@ -239,7 +255,7 @@ module _ (book : Book) (order : List Entry) (s : CloudState) (stands : StandsUnd
         heads = refl;
         logged = refl;
         noted = refl;
-        known = λ u stands_then told. subst (RisesOn su now lease ids) (sym leads) then_known;
+        known = λ u stands_then told. then_leads (has_nothing (landed r).placing && r.is_spent) refl;
       }
 
     -- ---- the root above them
@@ -274,12 +290,20 @@ module _ (book : Book) (order : List Entry) (s : CloudState) (stands : StandsUnd
           let high = q.1 in
           reserved_none.unlinked piece.page q.0 (omega (arith, high))
 
+      -- it is put, since no piece is left
+      put_whole : r.is_spent ≡ false
+      put_whole = on r.is_spent refl
+        where
+          on : (b : Bool) → r.is_spent ≡ b → r.is_spent ≡ false
+          on false e = e
+          on true e = let some = p.left e in let n = ap length is in absurd (omega (arith, some, n))
+
       pub above_effect : RisingEffect book order s who own mine now lease r ids (object.Tree tree) bytes
       above_effect = record {
         after = after_raise tree above_root p.root.level links st;
         lands = raise_landing book order s stands tree k.tree root newest r.chart.run.top p.root p.raises rises k.run.took.received r.chart.run.items k.run.took.is_run k.run.took.items
             k.run.done who bytes lease None p.first pieces_landed new_links (subst (λ (b : List ℕ). SpellsTree b above_root) (sym p.bytes_are) (spelled_root above_root p.fits));
-        follows = planned.0 ∙ ap (λ (t : Tree). t.version + 1) (sym newest);
+        follows = planned.0 put_whole ∙ ap (λ (t : Tree). t.version + 1) (sym newest);
         commits = tt;
         owes = record { lease = lease; held = held; lock_is = lock_is; lasts = lasts };
         heads = refl;

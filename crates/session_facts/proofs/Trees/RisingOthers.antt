@@ -137,10 +137,11 @@ module _ (st su : Store) (now later : ℕ) (lease : Claim) (r : Rising) (ids : L
     pieces_are = k.pieces_are;
     puts_are = k.puts_are;
     fit = k.fit;
+    left = k.left;
     reserves = reserves r.placing.reserved k.reserves;
   }
     where
-      reserves : (o : Option (List ℕ)) → ReservesRoot st now lease tree root k.root k.first k.middle k.behind o → ReservesRoot su later lease tree root k.root k.first k.middle k.behind o
+      reserves : (o : Option (List ℕ)) → ReservesRoot r.is_spent st now lease tree root k.root k.first k.middle k.behind o → ReservesRoot r.is_spent su later lease tree root k.root k.first k.middle k.behind o
       reserves (Some bytes) e = e
       reserves None e = (e.0, e.1, λ lasts. free k.first k.middle k.behind lasts (e.2 (before lasts)))
 

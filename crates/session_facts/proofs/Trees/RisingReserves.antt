@@ -1,5 +1,5 @@
 -- The put that reserves the numbers of new pieces on the way up, of a node's and of the root's.
-use Rattle.std.proofs.Common.{◌≡◌, ◌+◌, ℕ, List, [], length, drop, Option, Some, None, refl, sym, ap, subst, ◌∙◌, arith}
+use Rattle.std.proofs.Common.{◌≡◌, ◌+◌, ◌&&◌, ℕ, Bool, true, false, List, [], length, drop, Option, Some, None, refl, sym, ap, subst, ◌∙◌, arith}
 use Rattle.cloud_facts.specs.Chains.Cuts.{inner_node}
 use Rattle.cloud_facts.specs.Chains.Links.{top_of}
 use Rattle.cloud_facts.specs.Calls.Standing.{StandsUnder}
@@ -24,7 +24,7 @@ use Rattle.cloud_facts.specs.Book.Growth.{Grows}
 use Rattle.cloud_facts.specs.Book.Tally.{Store}
 use Rattle.cloud_facts.specs.Book.Telling.{roots_of}
 use Rattle.cloud_facts.specs.Tellings.Told.{store_of}
-use Rattle.tree_parts.specs.Placing.{root_after, puts_after}
+use Rattle.tree_parts.specs.Placing.{root_after, puts_after, has_nothing}
 use Rattle.tree_parts.specs.Read.{tree_held}
 use Rattle.tree_rising.specs.declared.rising.Rising.{Rising}
 use Rattle.tree_rising.specs.Rising.{landed, put_landed}
@@ -34,7 +34,7 @@ use Rattle.session_facts.specs.Trees.Risings.{AppliesRun, ReservesNodes, Reserve
 use Rattle.session_facts.proofs.Trees.ChartOthers.{nodes_stay}
 use Rattle.session_facts.proofs.Trees.FoldOthers.{done_stays}
 use Rattle.session_facts.proofs.Trees.Reservations.{reservation_landing, reservation_held, reserved_then, root_known}
-use Rattle.session_facts.proofs.Trees.RisingEffects.{RisingEffect, has_reservation, goes_on, goes_last, some_puts}
+use Rattle.session_facts.proofs.Trees.RisingEffects.{RisingEffect, has_reservation, goes_on, goes_last, some_puts, some_left, never_both, no_puts}
 use Rattle.session_facts.proofs.Trees.RisingOthers.{node_stays}
 
 module _ (book : Book) (order : List Entry) (s : CloudState) (stands : StandsUnder book order s) (who : Caller) (own : Home) (mine : List Claim) (now : ℕ) (lease : Claim) (r : Rising) (ids : List ℕ)
@@ -108,7 +108,7 @@ module _ (book : Book) (order : List Entry) (s : CloudState) (stands : StandsUnd
           (subst (λ (n : ℕ). AreReserved inner_node (su.book.chain tree) (su.tally.nodes tree) (top_of (su.tally.roots tree)).next n p.placing.middle []) (sym at) (free p.placing.middle many));
     }
 
-    cut_then : (last : List ℕ) (p : PutsCut st now lease r last) → (p.behind ≡ []) → length p.middle ≡ count → p.first ≡ first → p.root.version ≡ root.version + 1 + 1 → p.root.next ≡ root.next + count
+    cut_then : (last : List ℕ) (p : PutsCut st now lease r last) → (p.behind ≡ []) → length p.middle ≡ count → p.first ≡ first → (r.is_spent ≡ false → p.root.version ≡ root.version + 1 + 1) → p.root.next ≡ root.next + count
         → PutsCut su now lease (landed r) last
     cut_then last p none many at version next = record {
       root = p.root;
@@ -121,8 +121,9 @@ module _ (book : Book) (order : List Entry) (s : CloudState) (stands : StandsUnd
       pieces_are = p.pieces_are;
       puts_are = left_is ∙ p.puts_are;
       fit = p.fit;
+      left = p.left;
       reserves = (
-        version ∙ ap (λ (t : Tree). t.version + 1) (sym held),
+        λ whole. version whole ∙ ap (λ (t : Tree). t.version + 1) (sym held),
         next ∙ ap (λ (t : Tree). t.next) (sym held),
         λ still.
             subst (λ (b : List NodePart). AreReserved inner_node (su.book.chain tree) (su.tally.nodes tree) (top_of (su.tally.roots tree)).next p.first p.middle b) (sym none)
@@ -171,14 +172,22 @@ module _ (book : Book) (order : List Entry) (s : CloudState) (stands : StandsUnd
   pub root_reserves : (last : List ℕ) (p : PutsCut st now lease r last) → r.last ≡ Some last → RisingEffect book order s who own mine now lease r ids (object.Tree tree) bytes
   root_reserves last p is_last = effect (length p.middle) p.first planned.1 (subst (RisesOn after now lease ids) (sym leads) then_known)
     where
-      planned : (p.behind ≡ []) × IsReservation root (length p.middle) p.first bytes × (p.root.version ≡ root.version + 1 + 1) × (p.root.next ≡ root.next + length p.middle)
-      planned = subst (λ (o : Option (List ℕ)). ReservesRoot st now lease tree root p.root p.first p.middle p.behind o) some p.reserves
+      planned : (p.behind ≡ []) × IsReservation root (length p.middle) p.first bytes × (r.is_spent ≡ false → p.root.version ≡ root.version + 1 + 1) × (p.root.next ≡ root.next + length p.middle)
+      planned = subst (λ (o : Option (List ℕ)). ReservesRoot r.is_spent st now lease tree root p.root p.first p.middle p.behind o) some p.reserves
 
       after : Store
       after = after_root tree (reserving (length p.middle) root) st
 
       leads : put_landed r ≡ Goes (landed r)
-      leads = goes_last r last (has_reservation r bytes some) is_last
+      leads = goes_last r last (has_reservation r bytes some) is_last (on r.is_spent refl)
+        where
+          pages : r.is_spent ≡ true → (landed r).placing.puts ≡ [] → ⊥
+          pages spent e =
+              no_puts node_bytes p.first (p.first + 1) p.middle (p.left spent) (sym p.puts_are ∙ (sym (left_is (length p.middle) p.first planned.1) ∙ e))
+
+          on : (b : Bool) → r.is_spent ≡ b → (has_nothing (landed r).placing && r.is_spent) ≡ false
+          on true e = ap (λ (c : Bool). c && r.is_spent) (some_left (landed r).placing.puts (pages e))
+          on false e = never_both (has_nothing (landed r).placing) r.is_spent e
 
       then_known : KnowsRising after now lease (landed r) ids
       then_known =

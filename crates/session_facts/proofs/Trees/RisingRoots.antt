@@ -11,6 +11,7 @@ use Rattle.cloud_trait.specs.State.{CloudState}
 use Rattle.db_base.specs.declared.trouble.Trouble.{Trouble}
 use Rattle.node_codec.specs.Inner.{node_of_root}
 use Rattle.node_codec.specs.Node.{raised}
+use Rattle.node_codec.specs.Node.{Entry as Named}
 use Rattle.node_codec.specs.Tree.{Tree, HasTreeSpelling, IsSoundTree}
 use Rattle.report_types.specs.declared.entry.Entry.{Entry}
 use Rattle.split_plan.specs.Part.{entry_key, part_of_node}
@@ -26,12 +27,12 @@ use Rattle.tree_parts.specs.Reserve.{version_spent, pages_spent, next_tree, rese
 use Rattle.tree_rising.specs.declared.rising.Rising.{Rising}
 use Rattle.tree_rising.specs.declared.root.RootPlan.{RootPlan}
 use Rattle.tree_rising.specs.Rising.{plan_of, put_root, finish}
-use Rattle.tree_rising.specs.Root.{with_named, risen_by, lowered, cut_by, cut_behind, root_cut, uncut, root_plan}
-use Rattle.session_facts.specs.Trees.Placings.{reserving, IsReservation}
+use Rattle.tree_rising.specs.Root.{with_named, risen_by, lowered, cut_at, cut_by, cut_behind, root_cut, uncut, root_plan}
+use Rattle.session_facts.specs.Trees.Placings.{IsReservation}
 use Rattle.session_facts.specs.Trees.Risings.{KnowsUpward, IsRaised, PutsCut, PutsRoot, whole, cut, RisesOn}
 use Rattle.session_facts.proofs.Trees.FoldReads.{Reserving, none, some, reservation_is}
 use Rattle.session_facts.proofs.Trees.Naming.{KeepsRest, named_names, named_rest}
-use Rattle.session_facts.proofs.Trees.Reservations.{root_names, reserving_fits}
+use Rattle.session_facts.proofs.Trees.Reservations.{root_names, reserving_fits, numbered_fits}
 use Rattle.session_facts.proofs.Trees.RisingGrounds.{found_pages, top_numbers}
 use Rattle.session_facts.proofs.Trees.RisingPlaces.{parts_count}
 use Rattle.session_facts.proofs.Trees.RisingSpells.{named_spelled, root_sound, root_version, root_next, root_numbers, raised_spelled, root_pieces_fit, above_spelled}
@@ -87,7 +88,7 @@ module _ (book : Book) (order : List Entry) (s : CloudState) (stands : StandsUnd
   Leads p = RisesOn st now lease ids (put_root r p)
 
   abbrev with_plan : RootPlan → Rising
-  with_plan p = record r { placing = p.placing; last = Some p.last }
+  with_plan p = record r { placing = p.placing; last = Some p.last; is_spent = p.is_spent }
 
   known : (p : RootPlan) → PutsRoot st now lease (with_plan p) p.last → Leads (Ok p)
   known p puts = record { tree = k.tree; root = k.root; run = record { took = k.run.took; done = k.run.done }; puts = puts }
@@ -113,14 +114,22 @@ module _ (book : Book) (order : List Entry) (s : CloudState) (stands : StandsUnd
   abbrev count : ℕ
   count = count_of (length whole_root.entries)
 
-  abbrev cut_root : Tree
-  cut_root = reserving count whole_root
+  -- with the numbers of its pieces, at its next version or, where there is none, at the last one
+  abbrev CutRoot : Bool → Tree → Type 0
+  CutRoot spent t =
+      (t.next ≡ whole_root.next + count) × (t.level ≡ whole_root.level) × (t.cursor ≡ whole_root.cursor) × (t.entries ≡ whole_root.entries)
+      × (spent ≡ false → t.version ≡ whole_root.version + 1) × HasTreeSpelling t
 
-  cut_known : (bytes : List ℕ) (first : ℕ) → IsReservation root count first bytes → root.level < 255 → HasTreeSpelling cut_root
-      → PutsCut st now lease (with_plan (lowered (Some bytes) cut_root whole_root.next)) (lowered (Some bytes) cut_root whole_root.next).last
-  cut_known bytes first is higher fits = record {
+  cut_known : (bytes : List ℕ) (first : ℕ) → IsReservation root count first bytes → root.level < 255 → (spent : Bool) (cut_root : Tree) → CutRoot spent cut_root
+      → PutsCut st now lease (with_plan (lowered (Some bytes) spent cut_root whole_root.next)) (lowered (Some bytes) spent cut_root whole_root.next).last
+  cut_known bytes first is higher spent cut_root (nexts, levels, cursors, entries, versions, fits) = record {
     root = cut_root;
-    raises = record { level = rest.level; cursor = rest.cursor; names = names };
+    raises = record {
+      level = levels ∙ rest.level;
+      cursor = cursors ∙ rest.cursor;
+      names = subst (λ (l : ℕ). NamesBelow (book.chain tree) l [] cut_root.entries) (sym levels)
+          (subst (λ (es : List Named). NamesBelow (book.chain tree) whole_root.level [] es) (sym entries) names);
+    };
     first = whole_root.next;
     fits = above_spelled whole_root.next cut_root low room below fits;
     bytes_are = refl;
@@ -129,16 +138,17 @@ module _ (book : Book) (order : List Entry) (s : CloudState) (stands : StandsUnd
     pieces_are = sym (append-nil (root_pieces whole_root.next cut_root));
     puts_are = refl;
     fit = root_pieces_fit whole_root.next cut_root room fits;
+    left = λ is_spent. let some : 1 ≤ count = omega arith in omega (arith, counted, some);
     reserves = (
       refl,
       record { first_is = rest.next; bytes_are = reserved.bytes_are; fits = reserved.fits },
-      ap (λ (n : ℕ). n + 1) rest.version,
-      ap (λ (n : ℕ). n + count) rest.next ∙ ap (λ (n : ℕ). root.next + n) (sym counted),
+      λ put. versions put ∙ ap (λ (n : ℕ). n + 1) rest.version,
+      nexts ∙ ap (λ (n : ℕ). n + count) rest.next ∙ ap (λ (n : ℕ). root.next + n) (sym counted),
     );
   }
     where
       counted : length (root_pieces whole_root.next cut_root) ≡ count
-      counted = parts_count entry_key (whole_root.next + 1) (part_of_node (node_of_root cut_root))
+      counted = parts_count entry_key (whole_root.next + 1) (part_of_node (node_of_root cut_root)) ∙ ap (λ (es : List Named). count_of (length es)) entries
 
       reserved : IsReservation root (length (root_pieces whole_root.next cut_root)) first bytes
       reserved = subst (λ (n : ℕ). IsReservation root n first bytes) (sym counted) is
@@ -146,28 +156,39 @@ module _ (book : Book) (order : List Entry) (s : CloudState) (stands : StandsUnd
       low : 1 ≤ whole_root.next
       low = let n = (root_next root sound).0 in let e = rest.next in omega (arith, n, e)
 
-      room : whole_root.next + count ≤ cut_root.next
-      room = omega arith
+      room : whole_root.next + count_of (length cut_root.entries) ≤ cut_root.next
+      room = let many = ap (λ (es : List Named). count_of (length es)) entries in omega (arith, nexts, many)
 
       below : cut_root.level < 255
-      below = subst (λ (l : ℕ). l < 255) (sym rest.level) higher
+      below = subst (λ (l : ℕ). l < 255) (sym (levels ∙ rest.level)) higher
+
+  -- where the numbers are there it is cut so
+  at_leads : (bytes : List ℕ) (first : ℕ) → IsReservation root count first bytes → root.level < 255 → (spent : Bool) (t : Tree) → t.next ≡ whole_root.next
+      → (t.next + count ≤ greatest → CutRoot spent (record t { next = t.next + count })) → Leads (cut_at (Some bytes) count spent t)
+  at_leads bytes first is higher spent t same cuts = on (nat_lt 18446744073709551615 (t.next + count)) refl
+    where
+      cut_root : Tree
+      cut_root = record t { next = t.next + count }
+
+      on : (b : Bool) → nat_lt 18446744073709551615 (t.next + count) ≡ b → Leads (cond b (Err pages_spent) (Ok (lowered (Some bytes) spent (record t { next = t.next + count }) t.next)))
+      on true e = tt
+      on false e =
+          subst (λ (n : ℕ). Leads (Ok (lowered (Some bytes) spent (record t { next = t.next + count }) n))) (sym same)
+          (known (lowered (Some bytes) spent (record t { next = t.next + count }) whole_root.next)
+          (cut (cut_known bytes first is higher spent (record t { next = t.next + count }) (cuts (ltb-false 18446744073709551615 (t.next + count) e)))))
 
   cut_leads : (bytes : List ℕ) (first : ℕ) → IsReservation root count first bytes → root.level < 255 → HasTreeSpelling whole_root
-      → Leads (cut_by (Some bytes) count (next_tree whole_root))
+      → Leads (cut_by (Some bytes) count whole_root (next_tree whole_root))
   cut_leads bytes first is higher fits = on (whole_root.version == 18446744073709551615) refl
     where
-      room : whole_root.version ≢ greatest → (b : Bool) → nat_lt 18446744073709551615 (whole_root.next + count) ≡ b
-          → Leads (cond b (Err pages_spent) (Ok (lowered (Some bytes) cut_root whole_root.next)))
-      room spare true e = tt
-      room spare false e =
-          known (lowered (Some bytes) cut_root whole_root.next)
-          (cut (cut_known bytes first is higher
-          (reserving_fits count whole_root (inr fits) spare (ltb-false 18446744073709551615 (whole_root.next + count) e))))
-
       on : (b : Bool) → (whole_root.version == 18446744073709551615) ≡ b
-          → Leads (cut_by (Some bytes) count (cond b (Err version_spent) (Ok (record whole_root { version = whole_root.version + 1 }))))
-      on true e = tt
-      on false e = room (eqb-false whole_root.version 18446744073709551615 e) (nat_lt 18446744073709551615 (whole_root.next + count)) refl
+          → Leads (cut_by (Some bytes) count whole_root (cond b (Err version_spent) (Ok (record whole_root { version = whole_root.version + 1 }))))
+      on true e =
+          at_leads bytes first is higher true whole_root refl
+          (λ room. (refl, refl, refl, refl, (λ put. absurd (cc (put))), numbered_fits count whole_root fits room))
+      on false e =
+          at_leads bytes first is higher false (record whole_root { version = whole_root.version + 1 }) refl
+          (λ room. (refl, refl, refl, refl, (λ put. refl), reserving_fits count whole_root (inr fits) (eqb-false whole_root.version 18446744073709551615 e) room))
 
   reserved_leads : root.level < 255 → HasTreeSpelling whole_root → (q : Reserved) → Reserving root 1 count q → Leads (cut_behind whole_root (Ok q))
   reserved_leads higher fits q (none e) = let some : 1 ≤ count = omega arith in absurd (omega (arith, some, e))

@@ -1,5 +1,5 @@
 -- What a checkpoint of a tree knows on its way up: the run is applied, and the nodes and the root that take the links are put in pieces.
-use Rattle.std.specs.Prelude.{ℕ, ◌≡◌, ◌≢◌, ◌+◌, List, [], ◌∷◌, ◌++◌, length, map, reverse, drop, Option, Some, None}
+use Rattle.std.specs.Prelude.{ℕ, ◌≡◌, ◌≢◌, ◌+◌, ◌≤◌, Bool, true, false, List, [], ◌∷◌, ◌++◌, length, map, reverse, drop, Option, Some, None}
 use Rattle.std.specs.List.{AllByRecursion}
 use Rattle.cloud_facts.specs.Chains.Cuts.{inner_node}
 use Rattle.cloud_facts.specs.Chains.Links.{top_of, NamesBelow}
@@ -101,14 +101,14 @@ pub record PutsWhole (st : Store) (r : Rising) (bytes : List ℕ) : Type 0 where
   pub no_page : r.placing.puts ≡ []
 
 -- so many numbers are reserved for its pieces by the put in hand, or they were while the tree's lease lasts
-abbrev pub ReservesRoot : Store → ℕ → Claim → ℕ → Tree → Tree → ℕ → List NodePart → List NodePart → Option (List ℕ) → Type 0
-ReservesRoot st now lease tree root t first middle behind (Some bytes) =
-    (behind ≡ []) × IsReservation root (length middle) first bytes × (t.version ≡ root.version + 1 + 1) × (t.next ≡ root.next + length middle)
-ReservesRoot st now lease tree root t first middle behind None =
-    (t.version ≡ root.version + 1) × (t.next ≡ root.next)
+abbrev pub ReservesRoot : Bool → Store → ℕ → Claim → ℕ → Tree → Tree → ℕ → List NodePart → List NodePart → Option (List ℕ) → Type 0
+ReservesRoot spent st now lease tree root t first middle behind (Some bytes) =
+    (behind ≡ []) × IsReservation root (length middle) first bytes × (spent ≡ false → t.version ≡ root.version + 1 + 1) × (t.next ≡ root.next + length middle)
+ReservesRoot spent st now lease tree root t first middle behind None =
+    (spent ≡ false → t.version ≡ root.version + 1) × (t.next ≡ root.next)
     × (Lasts now lease → AreReserved inner_node (st.book.chain tree) (st.tally.nodes tree) (top_of (st.tally.roots tree)).next first middle behind)
 
--- it is cut: its pieces are put, all of them new and the rightmost first, and then a root that names them, one level higher
+-- it is cut: its pieces are put, all of them new and the rightmost first, and then a root that names them, one level higher, unless no version is left
 pub record PutsCut (st : Store) (now : ℕ) (lease : Claim) (r : Rising) (bytes : List ℕ) : Type 0 where
   pub root : Tree
   pub raises : IsRaised (st.book.chain r.chart.tree) (tree_held r.chart.root) r.chart.run.top root
@@ -120,7 +120,8 @@ pub record PutsCut (st : Store) (now : ℕ) (lease : Claim) (r : Rising) (bytes 
   pub pieces_are : root_pieces first root ≡ middle ++ behind
   pub puts_are : r.placing.puts ≡ reverse (map (put_of node_bytes) (on_pages first (first + 1) middle))
   pub fit : AllByRecursion IsNodePart (root_pieces first root)
-  pub reserves : ReservesRoot st now lease r.chart.tree (tree_held r.chart.root) root first middle behind r.placing.reserved
+  pub left : r.is_spent ≡ true → 1 ≤ length middle
+  pub reserves : ReservesRoot r.is_spent st now lease r.chart.tree (tree_held r.chart.root) root first middle behind r.placing.reserved
 
 pub data PutsRoot (st : Store) (now : ℕ) (lease : Claim) (r : Rising) (bytes : List ℕ) : Type 0 where
   whole : PutsWhole st r bytes → PutsRoot st now lease r bytes

@@ -1,11 +1,12 @@
 -- What a tree checkpoint knows of the tree was brought by its calls.
-use Rattle.std.proofs.Common.{◌≡◌, ℕ, Bool, true, false, cond, List, [], ◌∷◌, ◌++◌, Some, refl, sym, subst, inl, inr}
-use Rattle.std.specs.Prelude.{◌==◌, ◌||◌, find, take, drop}
+use Rattle.std.proofs.Common.{◌≡◌, ℕ, Bool, true, false, cond, List, [], ◌∷◌, ◌++◌, Some, Result, Ok, Err, refl, sym, subst, inl, inr}
+use Rattle.std.specs.Prelude.{◌==◌, ◌||◌, ◌&&◌, not, find, take, drop}
 use Rattle.std.proofs.lemmas.Bool.{eqb-true}
 use Rattle.std.proofs.lemmas.List.{take-append-drop}
+use Rattle.byte_format.specs.Order.{bytes_below, bytes_same}
 use Rattle.db_base.specs.declared.names.ObjName.TheVariants as object
 use Rattle.leaf_view.specs.Leaf.{Leaf}
-use Rattle.node_codec.specs.Inner.{Inner, inner_of}
+use Rattle.node_codec.specs.Inner.{Inner}
 use Rattle.node_codec.specs.Tree.{Tree}
 use Rattle.cloud_trait.specs.declared.answer.Answer.{Answer}
 use Rattle.cloud_trait.specs.Ask.{Ask}
@@ -13,14 +14,19 @@ use Rattle.run_cursor.specs.Covered.{is_seen}
 use Rattle.tree_parts.specs.declared.chart.Chart.{Chart}
 use Rattle.tree_parts.specs.declared.kept.KeptNode.{KeptNode}
 use Rattle.tree_parts.specs.Kept.{place_of, with_kept}
-use Rattle.tree_parts.specs.Read.{tree_held}
+use Rattle.tree_parts.specs.Read.{damaged, tree_held}
+use Rattle.tree_descent.specs.declared.descent.Descent.{Descent}
+use Rattle.tree_descent.specs.declared.fork.Fork.{Fork}
+use Rattle.tree_descent.specs.Descent.{forked}
+use Rattle.tree_descent.specs.Fork.{bad_fence, forked_on}
+use Rattle.tree_ckpt.specs.Working.{HasLevel}
 use Rattle.tree_ckpt.specs.Causing.{Calls, WasGot, WasRoot, WasNode, WasLeaf, WasRead, IsLink}
 
 -- ---- what is known
 
--- a node that was kept was got, and it is an inner node
+-- a node that was kept was got, and it is an inner node of its level
 abbrev pub IsKept : ℕ → KeptNode → Calls → Type 0
-IsKept tree k cs = WasGot (object.Page tree k.page) (Some k.bytes) cs × ((n : Inner) × (inner_of k.bytes ≡ Some n))
+IsKept tree k cs = WasGot (object.Page tree k.page) (Some k.bytes) cs × HasLevel k
 
 abbrev pub AreKept : ℕ → List KeptNode → Calls → Type 0
 AreKept tree [] cs = Unit {0}
@@ -114,3 +120,12 @@ kept_found tree page (x ∷ xs) k cs h e = on (x.page == page) refl (kept_found 
       let is : x ≡ k = cc (f) in
       subst (λ (n : KeptNode). IsKept tree n cs × (n.page ≡ page)) is (h.0, eqb-true x.page page same)
   on false same rest f = rest f
+
+-- a node that leads on has the level of the link to it
+pub forked_level : (d : Descent) (n : Inner) (f : Fork) → forked d n ≡ Ok f → n.level ≡ d.level
+forked_level d n f e = on (n.level == d.level) refl e where
+  on : (b : Bool) → (n.level == d.level) ≡ b
+      → cond b (cond (bytes_same n.low d.low && not (bytes_below d.chart.key n.low)) (Ok (forked_on d.chart.key n)) (Err (bad_fence d.page d.low n.low))) (Err (damaged d.chart.tree d.page 10)) ≡ Ok f
+      → n.level ≡ d.level
+  on true same g = eqb-true n.level d.level same
+  on false same g = absurd (cc (g))

@@ -134,6 +134,7 @@ module _ (lease : Claim) (r : Rising) (o : Opening) (work : Calls) (none : r.las
           climbs = record { node = n; plan = p } ∷ k.ups.climbs;
           climbed = (
             kept.0,
+            kept.1,
             subst (λ (ls : List Link). PutsNode (tree_held stood) n ls p) k.ups.linked
                 (subst (λ (root : Option (List ℕ)). PutsNode (tree_held root) n r.chart.links p) k.root
                 (node_puts (tree_held r.chart.root) r.chart.tree n r.chart.links p e)),

@@ -169,7 +169,7 @@ module _ (tree : ℕ) (cs : Calls) (ask : Ask) (a : Answer) where
     last_tells some nothing behind false e = (
       after,
       ap (λ (b : Bool). not (has_nothing (landed r).placing) || (b && not r.is_spent)) behind
-      ∙ (ap (λ (b : Bool). not (has_nothing (landed r).placing) || not b) e ∙ either_true (not (has_nothing (landed r).placing))),
+          ∙ (ap (λ (b : Bool). not (has_nothing (landed r).placing) || not b) e ∙ either_true (not (has_nothing (landed r).placing))),
       spent,
     )
 

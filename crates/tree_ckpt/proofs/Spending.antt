@@ -317,8 +317,7 @@ module _ (root t : Tree) (same : t.version ≡ root.version + 1) where
     on : (b : Bool) → CutsShort root (cond b (Err pages_spent) (Ok (lowered put spent (record u { next = u.next + count }) u.next)))
     on true = tt
     on false = λ e.
-        let ps : List NodePart = root_pieces u.next (record u { next = u.next + count }) in
-        (
+        let ps : List NodePart = root_pieces u.next (record u { next = u.next + count }) in (
           last e,
           omega (
             arith,

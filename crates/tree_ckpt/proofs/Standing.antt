@@ -41,7 +41,7 @@ use Rattle.tree_moves.specs.declared.work.Work.TheVariants as work
 use Rattle.tree_moves.specs.Work.{work_ask, take_tree, delete_ask, release_ask, claims_in}
 use Rattle.tree_moves.specs.Moves.{Step, stopping, finished, released_by, deleting, deleting_by, deleted_by, went, rising_on, descending_on, root_entry, down_from, next_key, going, going_by, page_taken, folding_on, page_left, tree_taken, tree_read, tree_got, chart_of, started, intake_taken, ReceivedBy, Leads}
 use Rattle.tree_ckpt.specs.Making.{Making, new_making, making_ask, MakingLeads, KeepsLeases}
-use Rattle.tree_ckpt.specs.Standing.{Went, OfTree, OfLeaf, HasIds, HoldsOne, HoldsAt, StandsAt, Stands, Names, GivesBack}
+use Rattle.tree_ckpt.specs.Standing.{Went, OfTree, OfLeaf, HasIds, HoldsOne, HoldsAt, StandsAt, Stands, Names, GivesBack, AreReturned}
 use Rattle.tree_ckpt.proofs.Folds.{PlansAfter, plans_after}
 use Rattle.tree_ckpt.proofs.Leaving.{SameLeaf, LeavesLeaf, next_leaves}
 
@@ -311,3 +311,14 @@ stands_gives old new h a (Ended x) s fits took =
 stands_gives old new h a (Stopped t) s fits took = λ memory.
     let stops : NextStands old.tree (outstanding_after (making_ask old) a (outstanding h)) (Stops new.work t) =
     step_stands old.tree old.work (outstanding h) a (Stops new.work t) s fits (took.0 memory).1 in stops.0
+
+-- and by its calls all were given back
+pub stands_returns : (old new : Making) (h : List Deed) (a : Answer) (turn : Turn CkptAnswer) → Stands old h → Fits (making_ask old) a
+    → Took MakingLeads KeepsLeases old a new turn → AreReturned (outstanding_after (making_ask old) a (outstanding h)) turn
+stands_returns old new h a More s fits took = tt
+stands_returns old new h a (Ended x) s fits took =
+    let ends : NextStands old.tree (outstanding_after (making_ask old) a (outstanding h)) (Ends new.work x) =
+    step_stands old.tree old.work (outstanding h) a (Ends new.work x) s fits took.1 in ends.1
+stands_returns old new h a (Stopped t) s fits took = λ memory.
+    let stops : NextStands old.tree (outstanding_after (making_ask old) a (outstanding h)) (Stops new.work t) =
+    step_stands old.tree old.work (outstanding h) a (Stops new.work t) s fits (took.0 memory).1 in stops.1

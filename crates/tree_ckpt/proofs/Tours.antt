@@ -1,16 +1,16 @@
 -- How the work of a tree checkpoint goes from leaf to leaf.
 use Rattle.std.proofs.Common.{◌≡◌, ◌<◌, ◌+◌, ℕ, Bool, true, false, cond, List, [], ◌∷◌, ◌++◌, length, Option, Some, None, Result, Ok, Err, refl, sym, ap, subst, ◌∙◌, inl, inr, ◌⊎◌, arith, append_assoc}
-use Rattle.std.specs.Prelude.{◌==◌, ◌||◌, ◌&&◌, is_none, unwrap_or}
+use Rattle.std.specs.Prelude.{◌==◌, ◌||◌, ◌&&◌, not, is_none, unwrap_or}
 use Rattle.std.proofs.lemmas.Bool.{eqb-true}
 use Rattle.std.proofs.lemmas.List.{append-nil}
-use Rattle.byte_format.specs.Order.{bytes_below, bytes_same}
+use Rattle.byte_format.specs.Order.{below_bound, bytes_below, bytes_same}
 use Rattle.byte_format.specs.Whole.{whole, offset}
 use Rattle.db_base.specs.declared.names.Lock.TheVariants as lock
 use Rattle.db_base.specs.declared.names.ObjName.TheVariants as object
 use Rattle.db_base.specs.declared.trouble.Trouble.{Trouble}
 use Rattle.db_base.specs.declared.trouble.Trouble.TheVariants as trouble
 use Rattle.leaf_view.specs.Leaf.{Leaf, leaf}
-use Rattle.leaf_view.specs.Lookup.{empty_leaf, page_at}
+use Rattle.leaf_view.specs.Lookup.{empty_leaf, page_at, holds}
 use Rattle.leaf_edit.specs.Lacked.{lacked}
 use Rattle.log_codec.specs.declared.record.PuItem.{PuItem}
 use Rattle.cloud_trait.specs.declared.answer.Answer.{Answer}
@@ -40,7 +40,7 @@ use Rattle.leaf_fold.specs.Plan.{leaf_plan}
 use Rattle.leaf_fold.specs.Folding as fold
 use Rattle.tree_ckpt.specs.Causing.{Calls, WasGot, GoesRight}
 use Rattle.tree_ckpt.specs.Meaning.{Opening}
-use Rattle.tree_ckpt.specs.Working.{done_over, puts_of, Visit, held_over, visits_over, AreLooks, HoldsLeaf, IsLeft, IsVisit, root_behind, links_behind, looks_of, AreVisits, lacked_on, IsSettled, PutsLeaf, AreTurns, Outcome, Planned, Spared, Passed}
+use Rattle.tree_ckpt.specs.Working.{done_over, puts_of, Visit, held_over, visits_over, AreLooks, HoldsLeaf, IsLeft, IsFor, IsVisit, root_behind, links_behind, looks_of, AreVisits, lacked_on, IsSettled, PutsLeaf, AreTurns, Outcome, Planned, Spared, Passed}
 use Rattle.tree_ckpt.proofs.Answers.{got_is, done_is}
 use Rattle.tree_ckpt.proofs.Brought.{AreKept, kept_more}
 use Rattle.tree_ckpt.proofs.Turns.{Turned, WayTurned, turns_more, turns_both, node_got, descent_turned}
@@ -49,6 +49,7 @@ use Rattle.tree_ckpt.proofs.Charts.{IsFurther, GoesFurther, descent_further}
 use Rattle.tree_ckpt.proofs.Covers.{IsLeast, AreHandledTo, none_handled, handled_more, handled_here, low_upto}
 use Rattle.tree_ckpt.proofs.Folds.{not_empty, plan_some}
 use Rattle.tree_ckpt.proofs.Pieces.{leaf_puts}
+use Rattle.tree_ckpt.proofs.Fences.{HasSides, read_sides}
 use Rattle.tree_ckpt.proofs.Lows.{IsUpto, ComesUpto, WayUpto, descent_upto}
 
 -- ---- between leaves
@@ -323,7 +324,7 @@ module _ (lease : Claim) (f : Folding) (got : Option (List ℕ)) (l : Leaf) (o :
   -- the visit that it is, with what was planned
   visit_with : Outcome → Visit
   visit_with outcome =
-      record { looks = k.tours.looks; turns = k.tours.turns; page = f.page; lease = f.lease; got = got; leaf = l; outcome = outcome; freed = call.Done }
+      record { key = f.chart.key; looks = k.tours.looks; turns = k.tours.turns; page = f.page; lease = f.lease; got = got; leaf = l; outcome = outcome; freed = call.Done }
 
   visit_calls : Calls
   visit_calls =
@@ -341,13 +342,14 @@ module _ (lease : Claim) (f : Folding) (got : Option (List ℕ)) (l : Leaf) (o :
   tour_calls = k.tours.calls ∙ ap (λ (cs : Calls). k.tours.looks ++ cs) k.tours.rests.calls
 
   -- it is the visit that it is
-  seen : (outcome : Outcome) → IsLeft f.chart.run (root_behind o.got k.tours.rests.visits) f.page l outcome
+  seen : (outcome : Outcome) → IsFor f.chart.key l outcome → IsLeft f.chart.run (root_behind o.got k.tours.rests.visits) f.page l outcome
       → IsVisit f.chart.tree lease f.chart.run (root_behind o.got k.tours.rests.visits) (visits_over f.chart.tree lease k.tours.rests.visits []) (visit_with outcome)
   unfolding visit_with
-  seen outcome left = record {
+  seen outcome is_for left = record {
     looks = k.tours.looked;
     turns = subst (λ (cs : Calls). AreTurns f.chart.tree cs k.tours.turns) tour_calls k.tours.turned;
     holds = k.holds;
+    is_for = is_for;
     left = left;
   }
 
@@ -362,14 +364,14 @@ module _ (lease : Claim) (f : Folding) (got : Option (List ℕ)) (l : Leaf) (o :
       handled_here f.chart.run.items f.chart.from f.chart.key (visit_with outcome) k.tours.rests.visits settled low k.tours.least k.tours.rests.handled
 
   -- it lacks nothing
-  spared : IsUpto l.low f.chart.key → has_items (lacked l 0 f.chart.run.items) ≡ false
+  spared : IsUpto l.low f.chart.key → holds l f.chart.key ≡ true → has_items (lacked l 0 f.chart.run.items) ≡ false
       → Visits lease f.lease f.chart.tree f.chart.run f.chart.root f.chart.applied l.high f.chart.links f.chart.nodes o work
   unfolding visit_with visit_calls
-  spared low none = record {
+  spared low here none = record {
     visits = k.tours.rests.visits;
     are = k.tours.rests.are;
     visit = visit_with Spared;
-    is = seen Spared none;
+    is = seen Spared here none;
     linked = links_seen;
     noted = k.tours.noted;
     own = refl;
@@ -380,14 +382,14 @@ module _ (lease : Claim) (f : Folding) (got : Option (List ℕ)) (l : Leaf) (o :
   }
 
   -- it is left by its right link
-  passed : (link : Link) → link.level ≡ 1 → GoesRight l.high (page_at l.right) link.low link.page
+  passed : (link : Link) → link.level ≡ 1 → IsUpto link.low f.chart.key → GoesRight l.high (page_at l.right) link.low link.page
       → Visits lease f.lease f.chart.tree f.chart.run f.chart.root f.chart.applied f.chart.from (f.chart.links ++ link ∷ []) f.chart.nodes o work
   unfolding visit_with visit_calls
-  passed link level goes = record {
+  passed link level upto goes = record {
     visits = k.tours.rests.visits;
     are = k.tours.rests.are;
     visit = visit_with (Passed link);
-    is = seen (Passed link) (level, goes);
+    is = seen (Passed link) upto (level, goes);
     linked = ap (λ (ls : List Link). ls ++ link ∷ []) links_seen;
     noted = k.tours.noted;
     own = refl;
@@ -397,14 +399,14 @@ module _ (lease : Claim) (f : Folding) (got : Option (List ℕ)) (l : Leaf) (o :
     calls = got_calls;
   }
 
-  planned_tours : IsUpto l.low f.chart.key → (items : List PuItem) → lacked l 0 f.chart.run.items ≡ items → has_items items ≡ true → (p : Result LeafPlan Trouble)
+  planned_tours : IsUpto l.low f.chart.key → holds l f.chart.key ≡ true → (items : List PuItem) → lacked l 0 f.chart.run.items ≡ items → has_items items ≡ true → (p : Result LeafPlan Trouble)
       → leaf_plan (tree_held f.chart.root) f.page l f.chart.run.items ≡ p → LeafTours lease (fold.planned f l.high items p) o work
   unfolding visit_with visit_calls
-  planned_tours low items same some (Ok p) e = inr (record {
+  planned_tours low here items same some (Ok p) e = inr (record {
     visits = k.tours.rests.visits;
     are = k.tours.rests.are;
     visit = visit_with (Planned p);
-    is = seen (Planned p) (
+    is = seen (Planned p) here (
       ap has_items same ∙ some,
       subst (λ (r : Option (List ℕ)). PutsLeaf (tree_held r) f.page l f.chart.run.items p) k.tours.rests.root
           (leaf_puts (tree_held f.chart.root) f.page l f.chart.run.items p e),
@@ -418,24 +420,36 @@ module _ (lease : Claim) (f : Folding) (got : Option (List ℕ)) (l : Leaf) (o :
     calls = ap (done_over (puts_of f.chart.tree lease (Some f.lease) p.placing)) got_calls;
     some = plan_some (tree_held f.chart.root) f.page l f.chart.run.items p e;
   })
-  planned_tours low items same some (Err t) e = tt
+  planned_tours low here items same some (Err t) e = tt
 
-  handled_tours : IsUpto l.low f.chart.key → (items : List PuItem) → lacked l 0 f.chart.run.items ≡ items → LeafTours lease (fold.handled_by f l items) o work
-  handled_tours low [] same = (spared low (ap has_items same), tt)
-  handled_tours low (x ∷ xs) same = planned_tours low (x ∷ xs) same refl (leaf_plan (tree_held f.chart.root) f.page l f.chart.run.items) refl
+  handled_tours : IsUpto l.low f.chart.key → holds l f.chart.key ≡ true → (items : List PuItem) → lacked l 0 f.chart.run.items ≡ items → LeafTours lease (fold.handled_by f l items) o work
+  handled_tours low here [] same = (spared low here (ap has_items same), tt)
+  handled_tours low here (x ∷ xs) same = planned_tours low here (x ∷ xs) same refl (leaf_plan (tree_held f.chart.root) f.page l f.chart.run.items) refl
 
   right_tours : (high : List ℕ) (right : ℕ) → GoesRight l.high (page_at l.right) high right → IsUpto high f.chart.key → LeafTours lease (fold.to_right f high right) o work
   right_tours high right goes upto = on ((right == f.page) || is_seen f.visited right) where
     on : (b : Bool) → LeafTours lease (cond b (Stops f (trouble.Loop right)) (Ends (fold.turned f high right) (Right high right))) o work
     on true = tt
-    on false = (passed (record { level = 1; low = high; page = right }) refl goes, (k.tours.least, upto))
+    on false = (passed (record { level = 1; low = high; page = right }) refl upto goes, (k.tours.least, upto))
+
+  -- a key that is not below its low key and is below its high key is in its range
+  in_range : IsUpto l.low f.chart.key → (high : Option (List ℕ)) → l.high ≡ high → below_bound f.chart.key high ≡ true → holds l f.chart.key ≡ true
+  in_range low high h below =
+      ap (λ (b : Bool). not b && below_bound f.chart.key l.high) low ∙ (ap (below_bound f.chart.key) h ∙ below)
+
+  -- there is no high key without a right page
+  sides : HasSides l.right l.high
+  sides = on got k.holds where
+    on : (g : Option (List ℕ)) → HoldsLeaf f.page l g → HasSides l.right l.high
+    on (Some bytes) e = read_sides bytes l e
+    on None e = λ none. ap (λ (m : Leaf). m.high) e.1
 
   side_tours : IsUpto l.low f.chart.key → (high : Option (List ℕ)) → l.high ≡ high → (right : Option ℕ) → page_at l.right ≡ right → LeafTours lease (fold.leaf_side f l high right) o work
-  side_tours low None h right e = handled_tours low (lacked l 0 f.chart.run.items) refl
-  side_tours low (Some high) h None e = handled_tours low (lacked l 0 f.chart.run.items) refl
+  side_tours low None h right e = handled_tours low (in_range low None h refl) (lacked l 0 f.chart.run.items) refl
+  side_tours low (Some high) h None e = absurd (let none : None ≡ Some high = sym (sides e) ∙ h in cc (none))
   side_tours low (Some high) h (Some right) e = on (bytes_below f.chart.key high) refl where
     on : (b : Bool) → bytes_below f.chart.key high ≡ b → LeafTours lease (cond b (fold.handle f l) (fold.to_right f high right)) o work
-    on true under = handled_tours low (lacked l 0 f.chart.run.items) refl
+    on true under = handled_tours low (in_range low (Some high) h under) (lacked l 0 f.chart.run.items) refl
     on false under = right_tours high right (h, e) under
 
   at_tours : LeafTours lease (fold.leaf_at f l) o work
@@ -555,7 +569,7 @@ left_rests lease own c a o work k =
     let freed : Visit = record k.visit { freed = a } in
     record {
       visits = freed ∷ k.visits;
-      are = (record { looks = k.is.looks; turns = k.is.turns; holds = k.is.holds; left = k.is.left }, k.are);
+      are = (record { looks = k.is.looks; turns = k.is.turns; holds = k.is.holds; is_for = k.is.is_for; left = k.is.left }, k.are);
       linked = k.linked;
       noted = k.noted;
       root = k.root;

@@ -30,7 +30,7 @@ use Rattle.tree_descent.specs.Descent.{begun, forked, forked_by, passed, fork_of
 use Rattle.tree_moves.specs.Moves.{root_entry}
 use Rattle.tree_ckpt.specs.Causing.{Calls, WasGot, WasNode}
 use Rattle.tree_ckpt.specs.Working.{IsTurn, AreTurns}
-use Rattle.tree_ckpt.proofs.Brought.{IsKept, AreKept, kept_found, kept_with}
+use Rattle.tree_ckpt.proofs.Brought.{IsKept, AreKept, kept_found, kept_with, forked_level}
 
 -- ---- lists of turns
 
@@ -169,22 +169,22 @@ got_turned tree cs d bytes kept got = on (inner_of bytes) refl where
   same_fork (Right low page) t = t
   same_fork (Down low page) t = t
 
-  found : (n : Inner) → inner_of bytes ≡ Some n → (f : Result Fork Trouble) → FoundTurns tree cs d.chart.links nodes d f
+  found : (n : Inner) → inner_of bytes ≡ Some n → (f : Result Fork Trouble) → forked d n ≡ f → FoundTurns tree cs d.chart.links nodes d f
       → WayTurned tree cs d.chart.links nodes (got_node d bytes f)
-  found n e (Ok f) h =
+  found n e (Ok f) is h =
       arrive_turned tree cs d.chart.links nodes (passed (with_node d bytes) f)
       (passed_turned tree cs d.chart.links nodes (with_node d bytes) f (record {
-        kept = kept_with tree (node_got d bytes) d.chart.nodes cs (got, (n, e)) kept;
+        kept = kept_with tree (node_got d bytes) d.chart.nodes cs (got, (n, e, forked_level d n f is)) kept;
         same = refl;
         rest = [];
         linked = sym (append-nil d.chart.links);
         are = tt;
       }) (same_fork f h))
-  found n e (Err t) h = tt
+  found n e (Err t) is h = tt
 
   on : (o : Option Inner) → inner_of bytes ≡ o
       → WayTurned tree cs d.chart.links nodes (got_node d bytes (forked_by d (inner_or d.chart.tree d.page (offset inner_format bytes) o)))
-  on (Some n) e = found n e (forked d n) (forked_turns tree cs d.chart.links nodes d n (bytes, e, got))
+  on (Some n) e = found n e (forked d n) refl (forked_turns tree cs d.chart.links nodes d n (bytes, e, got))
   on None e = tt
 
 -- from the tree object

@@ -267,7 +267,7 @@ module _ (tree : ℕ) (cs : Calls) (ask : Ask) (a : Answer) where
   GotTells d (Ends e x) = KnowsWay tree e cs × (e.level ≡ 0)
   GotTells d (Stops e t) = Shows tree cs ask a t × NodeBreaks d t
 
-  breaks_node : (d : Descent) (bytes : List ℕ) (n : Inner) (t : Trouble) → a ≡ call.Got (Some bytes) → inner_of bytes ≡ Some n → ForkBreaks (with_node d bytes) n t → BreaksNode tree d a t
+  breaks_node : (d : Descent) (bytes : List ℕ) (n : Inner) (t : Trouble) → a ≡ call.Got (Some bytes) → inner_of bytes ≡ Some n → ForkBreaks d n t → BreaksNode tree d a t
   breaks_node d bytes n (trouble.Damaged where_it_is at) e reads b = (b.1, inr (b.2, (n, (bytes, e, reads), b.0)))
   breaks_node d bytes n (trouble.BadFence page expected found) e reads b = (b.1, b.2, (n, (bytes, e, reads), b.0.0, b.0.1, b.0.2))
   breaks_node d bytes n trouble.Failed e reads b = absurd b
@@ -287,16 +287,26 @@ module _ (tree : ℕ) (cs : Calls) (ask : Ask) (a : Answer) where
     inl (object.Page d.chart.tree d.page, refl, (k.chart.same, inl (bytes, new, inr (e, refl)))),
     inl (ap (λ (t : ℕ). place.Object (object.Page t d.page)) k.chart.same, inl (inr (bytes, ap (λ (c : Ask × Answer). c.1) new.1, e, refl))),
   )
-  got_node_tells d bytes k got new (Some n) e = on (forked d n) (forked_tells (with_node d bytes) n known (bytes, e, got)) where
-    known : KnowsWay tree (with_node d bytes) cs
-    known = record {
+  got_node_tells d bytes k got new (Some n) e = on (forked d n) (forked_tells d n k (bytes, e, got)) where
+    -- it is kept where it leads on
+    known : (fork : Fork) → n.level ≡ d.level → KnowsWay tree (passed d fork) cs → KnowsWay tree (passed (with_node d bytes) fork) cs
+    known (Right low page) level h = record {
       chart = record {
         same = k.chart.same;
         root = k.chart.root;
-        nodes = kept_with tree (record { page = d.page; level = d.level; low = d.low; bytes = bytes }) d.chart.nodes cs (got, (n, e)) k.chart.nodes;
+        nodes = kept_with tree (record { page = d.page; level = d.level; low = d.low; bytes = bytes }) d.chart.nodes cs (got, (n, e, level)) k.chart.nodes;
       };
-      way = k.way;
-      upto = k.upto;
+      way = h.way;
+      upto = h.upto;
+    }
+    known (Down low page) level h = record {
+      chart = record {
+        same = k.chart.same;
+        root = k.chart.root;
+        nodes = kept_with tree (record { page = d.page; level = d.level; low = d.low; bytes = bytes }) d.chart.nodes cs (got, (n, e, level)) k.chart.nodes;
+      };
+      way = h.way;
+      upto = h.upto;
     }
 
     brought : a ≡ call.Got (Some bytes)
@@ -308,8 +318,8 @@ module _ (tree : ℕ) (cs : Calls) (ask : Ask) (a : Answer) where
     goes fork promised is (Stops f t) h =
         (h.0, inr (bytes, n, brought, e, promised, subst (λ (g : Fork). BreaksFrom tree (passed (with_node d bytes) g) t) is h.1))
 
-    on : (r : Result Fork Trouble) → ForkTells (with_node d bytes) n r → GotTells d (got_node d bytes r)
-    on (Ok fork) h = goes fork h.1 h.2 (arrive (passed (with_node d bytes) fork)) (arrive_tells (passed (with_node d bytes) fork) h.0)
+    on : (r : Result Fork Trouble) → ForkTells d n r → GotTells d (got_node d bytes r)
+    on (Ok fork) h = goes fork h.1 h.2 (arrive (passed (with_node d bytes) fork)) (arrive_tells (passed (with_node d bytes) fork) (known fork h.1.0 h.0))
     on (Err t) h = (h.0, inl (breaks_node d bytes n t brought e h.1))
 
   absent_tells : (d : Descent) → KnowsWay tree d cs → Brings (object.Page tree d.page) None (ask, a)

@@ -104,3 +104,9 @@ abbrev pub GivesBack : Making → Turn CkptAnswer → Type 0
 GivesBack n More = Unit {0}
 GivesBack n (Ended a) = claims_in n.work ≡ []
 GivesBack n (Stopped t) = t ≢ trouble.Memory → claims_in n.work ≡ []
+
+-- the same of the leases that calls took and did not give back
+abbrev pub AreReturned : List Claim → Turn CkptAnswer → Type 0
+AreReturned claims More = Unit {0}
+AreReturned claims (Ended a) = claims ≡ []
+AreReturned claims (Stopped t) = t ≢ trouble.Memory → claims ≡ []

@@ -1,4 +1,4 @@
--- What a step of a tree checkpoint says, of the one answer that its call had.
+-- What a step of a tree checkpoint is, all of it by the one answer that the cloud gave.
 use Rattle.std.specs.Prelude.{◌≡◌, ◌≢◌, List, ◌∷◌, Some, None, ◌⊎◌}
 use Rattle.db_base.specs.declared.trouble.Trouble.{Trouble}
 use Rattle.db_base.specs.declared.trouble.Trouble.TheVariants as trouble
@@ -12,8 +12,9 @@ use Rattle.cloud_trait.specs.Machine.{Deed, Steps, calls_of}
 use Rattle.cloud_trait.specs.Seen.{Seen}
 use Rattle.calm_calls.specs.Calm.{AreCalm}
 use Rattle.calm_calls.specs.Plenty.{HadMemory}
+use Rattle.ckpt_parts.specs.Leasing.{outstanding}
 use Rattle.tree_ckpt.specs.Making.{Making, making_ask, MakingLeads, KeepsLeases}
-use Rattle.tree_ckpt.specs.Standing.{Went}
+use Rattle.tree_ckpt.specs.Standing.{Went, AreReturned}
 use Rattle.tree_ckpt.specs.Causing.{Calls, Shows, kept_trouble}
 use Rattle.tree_ckpt.specs.Due.{Due, IsDue, IsCutShort, WasBrought, WasLastButOne}
 use Rattle.tree_ckpt.specs.Demands.{Matters, Demands}
@@ -23,6 +24,10 @@ use Rattle.tree_ckpt.specs.Well.{IsWell}
 -- the calls with the newest one
 abbrev pub calls_with : Making → List Deed → Answer → Calls
 calls_with m h a = (making_ask m, a) ∷ calls_of h
+
+-- the call in hand and its answer, before others
+abbrev pub and_then : Caller → Seen → Seen → Making → Answer → List Deed → List Deed
+and_then who before after old answer h = record { who = who; ask = making_ask old; answer = answer; before = before; after = after } ∷ h
 
 -- ---- why it stops
 
@@ -55,18 +60,24 @@ ComesToFail m n (Stopped t) = (kept_trouble m.work ≡ None) × (t ≡ trouble.F
 
 -- ---- a step
 
--- By the one answer that the cloud gave: where it leads; each trouble that is kept or answered was kept before or is shown; each that was kept, or that
--- the answer demands, is kept or answered; no failed deletion or release brings one; what is due was brought; what an end means; and what comes where
--- all calls were calm. Where the answer is want of memory, the step stops for it.
+-- What this answer came to behind these calls. Each trouble that is kept or answered was kept before or is shown (`tells`), and each that was kept, or
+-- that the answer demands, is kept or answered (`owes`); no failed deletion or release brings one (`fails`). What is due was brought by gets and puts,
+-- and a tree object that is cut short stood at the last version but one. At an end the calls were those of a checkpoint that is done, in their order
+-- (`done`), and before it each lease that a call took was given back by a call (`returned`). Where all calls were calm, and those before this one were
+-- not answered for want of memory, an end leaves no message, and a stop is for what the cloud holds (`well`).
+pub record Means (who : Caller) (before after : Seen) (h : List Deed) (old : Making) (answer : Answer) (new : Making) (turn : Turn CkptAnswer) : Type 0 where
+  pub tells : Tells old h answer new turn
+  pub owes : (t : Trouble) → (kept_trouble old.work ≡ Some t) ⊎ Demands old.tree old.work answer t → Owes new turn t
+  pub fails : ComesToFail old new turn → Matters (making_ask old)
+  pub brought : (due : Due) → IsDue old.work answer due → WasBrought old.tree due (calls_with old h answer)
+  pub cut_short : IsCutShort old.work answer → WasLastButOne old.tree (calls_with old h answer)
+  pub done : MeansDone (making_ask old) old h turn
+  pub returned : AreReturned (outstanding (and_then who before after old answer h)) turn
+  pub well : AreCalm (and_then who before after old answer h) → HadMemory h → IsWell old.tree (calls_with old h answer) turn
+
+-- The code made the call in hand and took a step that its answer leads to. Where the answer is want of memory, it stops for it. Whichever calls the
+-- checkpoint came by, the answer came to this behind them.
 pub record Stepped (who : Caller) (before after : Seen) (old new : Making) (turn : Turn CkptAnswer) : Type 0 where
-  pub steps : Steps making_ask MakingLeads KeepsLeases who before after old new turn
-  pub memory : steps.answer ≡ call.Memory → turn ≡ Stopped trouble.Memory
-  pub causes : (h : List Deed) → Went h old → Tells old h steps.answer new turn
-  pub exact : (h : List Deed) → Went h old → (t : Trouble) → (kept_trouble old.work ≡ Some t) ⊎ Demands old.tree old.work steps.answer t → Owes new turn t
-  pub fails : (h : List Deed) → Went h old → ComesToFail old new turn → Matters (making_ask old)
-  pub brought : (h : List Deed) → Went h old → (due : Due) → IsDue old.work steps.answer due → WasBrought old.tree due (calls_with old h steps.answer)
-  pub cut_short : (h : List Deed) → Went h old → IsCutShort old.work steps.answer → WasLastButOne old.tree (calls_with old h steps.answer)
-  pub done : (h : List Deed) → Went h old → MeansDone (making_ask old) old h turn
-  pub well : (h : List Deed) → Went h old
-      → AreCalm (record { who = who; ask = making_ask old; answer = steps.answer; before = before; after = after } ∷ h) → HadMemory h
-      → IsWell old.tree (calls_with old h steps.answer) turn
+  pub did : Steps making_ask MakingLeads KeepsLeases who before after old new turn
+  pub memory : did.answer ≡ call.Memory → turn ≡ Stopped trouble.Memory
+  pub means : (h : List Deed) → Went h old → Means who before after h old did.answer new turn

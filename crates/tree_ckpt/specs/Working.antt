@@ -4,6 +4,7 @@ use Rattle.std.specs.List.{AllByRecursion}
 use Rattle.db_base.specs.Change.{key_of}
 use Rattle.db_base.specs.declared.names.Lock.TheVariants as lock
 use Rattle.db_base.specs.declared.names.ObjName.TheVariants as object
+use Rattle.byte_format.specs.Order.{bytes_below}
 use Rattle.byte_format.specs.Whole.{whole}
 use Rattle.leaf_view.specs.Leaf.{Leaf, leaf}
 use Rattle.leaf_view.specs.Lookup.{empty_leaf, page_at, holds}
@@ -101,9 +102,10 @@ pub data Outcome : Type 0 where
   Spared : Outcome
   Passed : (link : Link) → Outcome
 
--- A leaf that was come to: what was got on the way down to it, the right links that were followed there, its page and lease, what its get brought, the
--- leaf that this is, how it was left, and what its release answered.
+-- A leaf that was come to for a key: what was got on the way down to it, the right links that were followed there, its page and lease, what its get
+-- brought, the leaf that this is, how it was left, and what its release answered.
 pub record Visit : Type 0 where
+  pub key : List ℕ
   pub looks : Calls
   pub turns : List Link
   pub page : ℕ
@@ -157,11 +159,18 @@ IsLeft run root page l (Planned plan) = (has_items (lacked l 0 run.items) ≡ tr
 IsLeft run root page l Spared = has_items (lacked l 0 run.items) ≡ false
 IsLeft run root page l (Passed link) = (link.level ≡ 1) × GoesRight l.high (page_at l.right) link.low link.page
 
+-- A leaf that is put, or that lacks nothing, has the key in its range; one that is left for the page on its right has only keys below it.
+abbrev pub IsFor : List ℕ → Leaf → Outcome → Type 0
+IsFor key l (Planned plan) = holds l key ≡ true
+IsFor key l Spared = holds l key ≡ true
+IsFor key l (Passed link) = bytes_below key link.low ≡ false
+
 -- a visit behind these calls
 pub record IsVisit (tree : ℕ) (one : Claim) (run : Taken) (root : Option (List ℕ)) (before : Calls) (v : Visit) : Type 0 where
   pub looks : AreLooks tree one v.looks
   pub turns : AreTurns tree (v.looks ++ before) v.turns
   pub holds : HoldsLeaf v.page v.leaf v.got
+  pub is_for : IsFor v.key v.leaf v.outcome
   pub left : IsLeft run root v.page v.leaf v.outcome
 
 -- ---- leaf by leaf
@@ -232,11 +241,15 @@ abbrev pub links_above : List Link → List Climb → List Link
 links_above links [] = links
 links_above links (u ∷ us) = links_above links us ++ links_at (u.node.level + 1) u.plan.entries
 
+-- a node is kept at the level that its bytes have
+abbrev pub HasLevel : KeptNode → Type 0
+HasLevel k = (n : Inner) × (inner_of k.bytes ≡ Some n) × (n.level ≡ k.level)
+
 -- what is planned is a node that was got among these calls, with the links that go to it, with the tree object that stands
 abbrev pub AreClimbs : ℕ → Calls → Option (List ℕ) → List Link → List Climb → Type 0
 AreClimbs tree cs root links [] = Unit {0}
 AreClimbs tree cs root links (u ∷ us) =
-    WasGot (object.Page tree u.node.page) (Some u.node.bytes) cs × PutsNode (tree_held (root_above root us)) u.node (links_above links us) u.plan
+    WasGot (object.Page tree u.node.page) (Some u.node.bytes) cs × HasLevel u.node × PutsNode (tree_held (root_above root us)) u.node (links_above links us) u.plan
     × AreClimbs tree cs root links us
 
 -- the tree object's next version, with its cursor raised to the run's top and with the links of its level

@@ -170,7 +170,7 @@ impl TreeCkpt {
     /// Makes the call in hand, and does the local work up to the next one.
     pub fn step<C: Cloud>(&mut self, alloc: Global, cloud: &mut C, who: Who) -> Turn<CkptAnswer>
         // By one answer: where it leads, why it stops and what makes it stop, what Done means, and what comes where all calls were calm.
-        ensures stepped { Stepped who (C.seen cloud.old) (C.seen cloud.new) self.old self.new result }
+        ensures steps { Stepped who (C.seen cloud.old) (C.seen cloud.new) self.old self.new result }
         // Each step that goes on leaves fewer calls.
         ensures less { result ≡ Turn.More → calls_in self.new.work < calls_in self.old.work }
         // The leases that it holds are those that it took and has not given back.

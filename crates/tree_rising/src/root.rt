@@ -106,20 +106,20 @@ fn lowered(
     requires reserved { first + count_of (length buf.entries) ≤ buf.next }
     ensures { Finds result (Ok (lowered reserved is_spent buf first)) }
 {
-    match plan_root(alloc, buf, first) {
-        Ok((pieces, root)) => match tree_spelled(alloc, &root) {
-            Ok(last) => Ok(RootPlan {
-                placing: Placing {
-                    reserved,
-                    puts: PutQueue::of(pieces.puts),
-                },
-                last,
-                is_spent,
-            }),
-            Err(_) => Err(Fault::Memory),
+    let Ok((pieces, root)) = plan_root(alloc, buf, first) else {
+        return Err(Fault::Memory);
+    };
+    let Ok(last) = tree_spelled(alloc, &root) else {
+        return Err(Fault::Memory);
+    };
+    Ok(RootPlan {
+        placing: Placing {
+            reserved,
+            puts: PutQueue::of(pieces.puts),
         },
-        Err(_) => Err(Fault::Memory),
-    }
+        last,
+        is_spent,
+    })
 }
 
 /// The pieces on numbers that the reservation made free.

@@ -13,7 +13,7 @@ returns-in-Client-clause-less g c = λ h went.
 
 pub returns-in-Tree-clause-steps : goal.returns-in-Tree-clause-steps
 returns-in-Tree-clause-steps g c =
-    making_steps c.in-Tree.field-0 _ _ _ c.in-Tree.machine _ _ _ _ c.in-Tree.is c.left_turn.ensures c.step-in-Tree.ensures.stepped.steps
+    making_steps c.in-Tree.field-0 _ _ _ c.in-Tree.machine _ _ _ _ c.in-Tree.is c.left_turn.ensures c.step-in-Tree.ensures.steps.did
 
 pub returns-in-Tree-clause-less : goal.returns-in-Tree-clause-less
 returns-in-Tree-clause-less g c = λ h went.

@@ -4,8 +4,8 @@ use Rattle.tree_ckpt.proofs.Stepping.{stepped_by}
 use Rattle.tree_ckpt.proofs.Standing.{went_stands, stands_names, stands_gives}
 use Rattle.tree_ckpt.proofs.checkpoint.TreeCkpt.step.Goals as goal
 
-pub returns-clause-stepped : goal.returns-clause-stepped
-returns-clause-stepped g c =
+pub returns-clause-steps : goal.returns-clause-steps
+returns-clause-steps g c =
     stepped_by c.args.who (g.C.Cloud.seen c.args.cloud.now) _ c.args.self.now _ _ c.call-answer.result c.call-answer.ensures.made
     (took_handed c.args.self.now _ _ c.call-answer.result _ c.call-answer.ensures.left c.absorb.ensures.took) c.absorb.ensures.memory
 

@@ -23,7 +23,7 @@ use Rattle.session_facts.proofs.Steps.{CallLeaves, wish_holds}
 use Rattle.session_facts.specs.LeftNone.{LeavesNoneAt, IsLeftReply}
 use Rattle.session_facts.specs.Facts.{session_at, CloudHolds}
 use Rattle.world_core.specs.declared.world.WorldFault.{WorldFault}
-use Rattle.world_core.specs.LeftNone.{LeavesNothing}
+use Rattle.world_core.specs.LeftNone.{LeavesNoCommit}
 use Rattle.world_core.specs.Handled.{StepsLooked, Handled}
 use Rattle.world_core.specs.World.{World}
 use Rattle.world_core.proofs.CommitReplies.{OfReply, SaysNothing, asked_keeps}
@@ -73,7 +73,7 @@ left_reply entries p left (reply.Commit a) h = h
 left_reply entries p left r h = tt
 
 pub nothing_after : (n : ℕ) (event : Event) (before after : Seen) (old new : World) (result : Result Reply WorldFault)
-    → Handled n event before after old new result → LeavesNothing n event before after old new result
+    → Handled n event before after old new result → LeavesNoCommit n event before after old new result
 nothing_after n event before after old new (Ok r) h = λ lines t u at told stands seen.
     let entries : List Entry = committed (lines ++ line_of event r ∷ []) u in
     left_reply entries (standing lines (session_of event)).posture (session_at new.sessions (session_of event)).work r

@@ -14,8 +14,8 @@ use Rattle.world_core.specs.Stands.{WorldStands}
 
 -- whatever lines a world and a cloud stood for before a line, where its reply says that a commit which made calls committed nothing, its client is
 -- idle, and no entry that these and the line committed is of the client's last attempt, which was this commit
-abbrev pub LeavesNothing : ℕ → Event → Seen → Seen → World → World → Result Reply WorldFault → Type 0
-LeavesNothing n event before after old new (Ok reply) =
+abbrev pub LeavesNoCommit : ℕ → Event → Seen → Seen → World → World → Result Reply WorldFault → Type 0
+LeavesNoCommit n event before after old new (Ok reply) =
     (lines : List Line) (t u : CloudState) → length lines + 1 ≡ n → before.state ≡ Some t → WorldStands lines old t → after.state ≡ Some u
     → IsLeftReply (committed (lines ++ record { event = event; reply = reply } ∷ []) u) (standing lines (session_of event)).posture (session_at new.sessions (session_of event)).work reply
-LeavesNothing n event before after old new (Err fault) = Unit {0}
+LeavesNoCommit n event before after old new (Err fault) = Unit {0}

@@ -72,7 +72,7 @@ impl<S: SessionCalls> World<S> {
     ghost use Rattle.reply_text.specs.Reply.{ReplyHasText};
     ghost use Rattle.world_core.specs.Sound.{AnswersSoundly};
     ghost use Rattle.world_core.specs.Acknowledged.{AnswersDurably};
-    ghost use Rattle.world_core.specs.LeftNone.{LeavesNothing};
+    ghost use Rattle.world_core.specs.LeftNone.{LeavesNoCommit};
     ghost use Rattle.world_core.specs.Explained.{ExplainsSteps};
     ghost use Rattle.world_core.specs.Shown.{ShowsSteps};
     ghost use Rattle.world_core.specs.Calm.{AnswersWell};
@@ -113,7 +113,7 @@ impl<S: SessionCalls> World<S> {
         ensures sound { AnswersSoundly n event.now (C.seen cloud.old) (C.seen cloud.new) self.old self.new result }
         ensures acknowledged { AnswersDurably n event.now (C.seen cloud.old) (C.seen cloud.new) self.old self.new result }
         // A commit that is answered as not committed left nothing among what was committed.
-        ensures left_nothing { LeavesNothing n event.now (C.seen cloud.old) (C.seen cloud.new) self.old self.new result }
+        ensures left_nothing { LeavesNoCommit n event.now (C.seen cloud.old) (C.seen cloud.new) self.old self.new result }
         ensures explained { ExplainsSteps n event.now (C.seen cloud.old) (C.seen cloud.new) self.old self.new result }
         ensures shown { ShowsSteps n event.now (C.seen cloud.old) (C.seen cloud.new) self.old self.new result }
         ensures calm { AnswersWell n event.now (C.seen cloud.old) (C.seen cloud.new) self.old self.new result }

@@ -1,27 +1,19 @@
 -- A page checkpoint keeps a trouble only while leases are given back, and where its calls go well it ends well.
 use Rattle.std.proofs.Common.{◌≡◌, ◌≢◌, ◌⊎◌, ℕ, List, [], ◌∷◌, Option, Some, None, refl, sym, subst, inl, inr, ◌∙◌}
 use Rattle.db_base.specs.declared.names.QueueName.{QueueName}
-use Rattle.db_base.specs.declared.trouble.Trouble.{Trouble}
 use Rattle.db_base.specs.declared.trouble.Trouble.TheVariants as trouble
-use Rattle.cloud_trait.specs.declared.answer.Answer.{Answer}
 use Rattle.cloud_trait.specs.declared.answer.Answer.TheVariants as call
-use Rattle.cloud_trait.specs.declared.turn.CkptAnswer.{CkptAnswer}
-use Rattle.cloud_trait.specs.declared.turn.Turn.{Turn}
-use Rattle.cloud_trait.specs.declared.turn.Turn.TheVariants.{More, Ended, Stopped}
 use Rattle.cloud_trait.specs.Ask.{Ask, Delete}
-use Rattle.cloud_trait.specs.Machine.{Goes, Ends, Stops, Took, Deed, Came, calls_of}
-use Rattle.cloud_trait.specs.Views.{done_of}
-use Rattle.cloud_trait.specs.Weather.{Fits}
 use Rattle.calm_calls.specs.Calm.{GoesWell, AreCalm}
 use Rattle.calm_calls.specs.Plenty.{HadMemory}
 use Rattle.calm_calls.proofs.CalmLemmas.{goes_well}
-use Rattle.page_ckpt.specs.declared.link.Link.{Link}
 use Rattle.page_ckpt.specs.declared.stage.Stage.TheVariants.{Releasing}
 use Rattle.page_ckpt.specs.Paging.{Paging, Step, new_paging, paging_ask, went, PagingLeads, KeepsLeases}
 use Rattle.page_ckpt.specs.Standing.{Went}
 use Rattle.page_ckpt.specs.Meaning.{Calls, Scene, Tried, scene, scene_queue, deletes_over, one_less, failed_count, main_calls, IsDone, MeansDone}
 use Rattle.page_ckpt.specs.Causing.{Reads, Shows, IsShown, Tells}
 use Rattle.page_ckpt.specs.Well.{IsLeft, IsWell}
+use Rattle.page_ckpt.proofs.Words.{Trouble, Answer, CkptAnswer, Turn, More, Ended, Stopped, Goes, Ends, Stops, Took, Deed, Came, calls_of, done_of, Fits, Link}
 use Rattle.page_ckpt.proofs.Outcomes.{Onward, Clears, Fails, Comes, comes}
 use Rattle.page_ckpt.proofs.Outcomes as step
 use Rattle.page_ckpt.proofs.Leases.{came_stands}

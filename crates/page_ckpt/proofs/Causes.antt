@@ -6,32 +6,20 @@ use Rattle.db_base.specs.declared.names.Lock.{Lock}
 use Rattle.db_base.specs.declared.names.Lock.TheVariants as lock
 use Rattle.db_base.specs.declared.names.ObjName.{ObjName}
 use Rattle.db_base.specs.declared.names.QueueName.{QueueName}
-use Rattle.db_base.specs.declared.trouble.Trouble.{Trouble}
 use Rattle.db_base.specs.declared.trouble.Trouble.TheVariants as trouble
 use Rattle.byte_format.specs.Order.{bytes_same}
 use Rattle.byte_format.specs.Whole.{offset}
 use Rattle.leaf_view.specs.Leaf.{Leaf, leaf}
 use Rattle.leaf_view.specs.Lookup.{empty_leaf}
-use Rattle.log_codec.specs.declared.record.PuItem.{PuItem}
-use Rattle.cloud_trait.specs.declared.answer.Answer.{Answer}
 use Rattle.cloud_trait.specs.declared.answer.Answer.TheVariants as call
-use Rattle.cloud_trait.specs.declared.message.Message.{Message}
-use Rattle.cloud_trait.specs.declared.turn.CkptAnswer.{CkptAnswer}
-use Rattle.cloud_trait.specs.declared.turn.Turn.{Turn}
-use Rattle.cloud_trait.specs.declared.turn.Turn.TheVariants.{More, Ended, Stopped}
 use Rattle.cloud_trait.specs.Ask.{GetHeld, PutHeld, Receive, Take}
-use Rattle.cloud_trait.specs.Claim.{Claim}
-use Rattle.cloud_trait.specs.Machine.{Goes, Ends, Stops, Took, Deed}
-use Rattle.cloud_trait.specs.Views.{given_of, got_of, received_of, done_of}
-use Rattle.cloud_trait.specs.Weather.{Fits}
-use Rattle.ckpt_parts.specs.declared.intake.Intake.{Intake}
 use Rattle.ckpt_parts.specs.Intakes.{items_of, message_damage, TakesItems}
 use Rattle.ckpt_parts.specs.Leaves.{page_damage, absent_leaf, HoldsLeaf, bad_fence, fenced}
-use Rattle.page_ckpt.specs.declared.link.Link.{Link}
 use Rattle.page_ckpt.specs.declared.stage.Stage.TheVariants.{GettingHome, Receiving, GettingRight, Releasing}
 use Rattle.page_ckpt.specs.Paging.{Paging, Step, paging_ask, own_queue, home_name, right_name, HoldsNamed, is_visited, PagingLeads, KeepsLeases}
 use Rattle.page_ckpt.specs.Standing.{HoldsAt, Stands}
 use Rattle.page_ckpt.specs.Causing.{Matters, Shows, IsShown, Tells, LeadsOn}
+use Rattle.page_ckpt.proofs.Words.{Trouble, PuItem, Answer, Message, CkptAnswer, Turn, More, Ended, Stopped, Claim, Goes, Ends, Stops, Took, Deed, given_of, got_of, received_of, done_of, Fits, Intake, Link}
 use Rattle.page_ckpt.proofs.Outcomes.{leased, noted, Onward, Clears, Fails, Comes, comes}
 use Rattle.page_ckpt.proofs.Outcomes as step
 use Rattle.page_ckpt.proofs.Links.{link_taken}

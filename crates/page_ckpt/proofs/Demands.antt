@@ -5,7 +5,6 @@ use Rattle.std.proofs.lemmas.Bool.{eqb-true}
 use Rattle.db_base.specs.declared.names.ObjName.TheVariants as object
 use Rattle.db_base.specs.declared.names.Place.{Place}
 use Rattle.db_base.specs.declared.names.Place.TheVariants as place
-use Rattle.db_base.specs.declared.trouble.Trouble.{Trouble}
 use Rattle.db_base.specs.declared.trouble.Trouble.TheVariants as trouble
 use Rattle.db_base.specs.declared.trouble.Counter.TheVariants as counter
 use Rattle.byte_format.specs.Order.{bytes_same}
@@ -15,32 +14,21 @@ use Rattle.leaf_view.specs.Leaf.{Leaf, leaf}
 use Rattle.leaf_view.specs.Lookup.{empty_leaf}
 use Rattle.leaf_view.proofs.Exactness.{leaf_exact}
 use Rattle.leaf_edit.specs.Lacked.{lacked}
-use Rattle.log_codec.specs.declared.record.PuItem.{PuItem}
 use Rattle.node_codec.specs.Inner.{Inner, IsInner}
 use Rattle.run_cursor.specs.Run.{Taken}
-use Rattle.cloud_trait.specs.declared.answer.Answer.{Answer}
 use Rattle.cloud_trait.specs.declared.answer.Answer.TheVariants as call
-use Rattle.cloud_trait.specs.declared.message.Message.{Message}
-use Rattle.cloud_trait.specs.declared.turn.CkptAnswer.{CkptAnswer}
-use Rattle.cloud_trait.specs.declared.turn.Turn.{Turn}
-use Rattle.cloud_trait.specs.declared.turn.Turn.TheVariants.{More, Ended, Stopped}
 use Rattle.cloud_trait.specs.Ask.{Ask, Delete, Take, Release}
-use Rattle.cloud_trait.specs.Claim.{Claim}
-use Rattle.cloud_trait.specs.Machine.{Goes, Ends, Stops, Took, Deed}
 use Rattle.cloud_trait.specs.Views.{trouble_of, given_of, got_of, received_of, done_of}
-use Rattle.cloud_trait.specs.Weather.{Fits}
-use Rattle.ckpt_parts.specs.declared.intake.Intake.{Intake}
 use Rattle.ckpt_parts.specs.Deleting.{next_id}
 use Rattle.ckpt_parts.specs.Intakes.{items_of, message_damage, has_items, TakesItems}
 use Rattle.ckpt_parts.specs.Leaves.{absent_leaf, page_damage, IsNoLeaf, HoldsLeaf, HoldsLinked, bad_fence, fenced}
 use Rattle.ckpt_parts.specs.Leasing.{newest_lease}
-use Rattle.page_ckpt.specs.declared.link.Link.{Link}
-use Rattle.page_ckpt.specs.declared.stage.Stage.{Stage}
 use Rattle.page_ckpt.specs.declared.stage.Stage.TheVariants.{GettingHome, Receiving, GettingRight, ReleasingRight, PuttingHome, Deleting as DeletingNext, Releasing}
 use Rattle.page_ckpt.specs.Paging.{Paging, Step, paging_ask, own_queue, under, stopping, delete_next, HoldsNamed, link_of, is_visited, PagingLeads, KeepsLeases}
 use Rattle.page_ckpt.specs.Standing.{HoldsFirst, HasIds, Stands}
 use Rattle.page_ckpt.specs.Causing.{Matters, Reads, LeadsOn, Shows, IsShown, greatest_number}
 use Rattle.page_ckpt.specs.Exact.{Owes}
+use Rattle.page_ckpt.proofs.Words.{Trouble, PuItem, Answer, Message, CkptAnswer, Turn, More, Ended, Stopped, Claim, Goes, Ends, Stops, Took, Deed, Fits, Intake, Link, Stage}
 use Rattle.page_ckpt.proofs.Outcomes.{leased, IsLast, AreRead, Onward, Clears, Fails, Comes, comes}
 use Rattle.page_ckpt.proofs.Outcomes as step
 use Rattle.page_ckpt.proofs.Links.{one_link}

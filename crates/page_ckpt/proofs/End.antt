@@ -3,28 +3,16 @@ use Rattle.std.proofs.Common.{◌≡◌, ℕ, ◌<◌, ◌≤◌, ◌+◌, ◌-�
 use Rattle.std.specs.Prelude.{map, filter}
 use Rattle.std.proofs.lemmas.List.{length-map}
 use Rattle.db_base.specs.declared.names.QueueName.{QueueName}
-use Rattle.db_base.specs.declared.trouble.Trouble.{Trouble}
-use Rattle.log_codec.specs.declared.record.PuItem.{PuItem}
 use Rattle.log_codec.specs.declared.record.PuRec.{PuRec}
 use Rattle.log_codec.specs.Pu.{pu_of}
 use Rattle.run_cursor.specs.Run.{Taken}
 use Rattle.run_cursor.specs.Covered.{covered_ids, new_ones, is_seen, is_covered}
-use Rattle.cloud_trait.specs.declared.answer.Answer.{Answer}
-use Rattle.cloud_trait.specs.declared.message.Message.{Message}
-use Rattle.cloud_trait.specs.declared.turn.CkptAnswer.{CkptAnswer}
-use Rattle.cloud_trait.specs.declared.turn.Turn.{Turn}
-use Rattle.cloud_trait.specs.declared.turn.Turn.TheVariants.{More}
-use Rattle.cloud_trait.specs.Claim.{Claim}
-use Rattle.cloud_trait.specs.Machine.{Goes, Ends, Stops, Took}
-use Rattle.cloud_trait.specs.Views.{done_of}
-use Rattle.cloud_trait.specs.Weather.{Fits}
-use Rattle.ckpt_parts.specs.declared.intake.Intake.{Intake}
 use Rattle.ckpt_parts.specs.declared.leases.Leases.{Leases}
 use Rattle.ckpt_parts.specs.Deleting.{next_id, tried}
 use Rattle.ckpt_parts.specs.Intakes.{item_with, with_first, items_of, intake_of, TakesIn, TakesItems}
-use Rattle.page_ckpt.specs.declared.link.Link.{Link}
 use Rattle.page_ckpt.specs.Paging.{Paging, Step, paging_ask, own_queue, went, PagingLeads, KeepsLeases}
 use Rattle.page_ckpt.specs.Ending.{held_count, calls_left}
+use Rattle.page_ckpt.proofs.Words.{Trouble, PuItem, Answer, Message, CkptAnswer, Turn, More, Claim, Goes, Ends, Stops, Took, done_of, Fits, Intake, Link}
 use Rattle.page_ckpt.proofs.Outcomes.{Onward, Clears, Fails, Comes, comes, AreRead}
 use Rattle.page_ckpt.proofs.Outcomes as step
 

@@ -5,25 +5,15 @@ use Rattle.std.specs.List.{list_any}
 use Rattle.std.proofs.lemmas.Bool.{eqb-false}
 use Rattle.db_base.specs.declared.names.Lock.{Lock}
 use Rattle.db_base.specs.declared.names.Lock.TheVariants as lock
-use Rattle.db_base.specs.declared.trouble.Trouble.{Trouble}
-use Rattle.cloud_trait.specs.declared.answer.Answer.{Answer}
 use Rattle.cloud_trait.specs.declared.answer.Answer.TheVariants as call
-use Rattle.cloud_trait.specs.declared.turn.CkptAnswer.{CkptAnswer}
-use Rattle.cloud_trait.specs.declared.turn.Turn.{Turn}
-use Rattle.cloud_trait.specs.declared.turn.Turn.TheVariants.{More, Ended, Stopped}
 use Rattle.cloud_trait.specs.Ask.{Ask, Take}
-use Rattle.cloud_trait.specs.Claim.{Claim}
-use Rattle.cloud_trait.specs.Machine.{Goes, Ends, Stops, Took, Deed, Came}
-use Rattle.cloud_trait.specs.Views.{given_of, done_of}
-use Rattle.cloud_trait.specs.Weather.{Fits}
 use Rattle.ckpt_parts.specs.Deleting.{next_id, tried}
 use Rattle.ckpt_parts.specs.Leasing.{claims_of, outstanding, outstanding_after}
-use Rattle.page_ckpt.specs.declared.link.Link.{Link}
-use Rattle.page_ckpt.specs.declared.stage.Stage.{Stage}
 use Rattle.page_ckpt.specs.declared.stage.Stage.TheVariants.{TakingHome, GettingHome, Receiving, TakingRight, GettingRight, PuttingRight, ReleasingRight, PuttingHome, Deleting as DeletingNext, Releasing, Finished}
 use Rattle.page_ckpt.specs.Paging.{Paging, Step, new_paging, paging_ask, ask_at, delete_next, is_visited, went, PagingLeads, KeepsLeases}
 use Rattle.page_ckpt.specs.Ending.{held_count}
 use Rattle.page_ckpt.specs.Standing.{Went, HoldsNone, HoldsHome, HoldsBoth, HoldsFirst, HasIds, HoldsAt, DueAt, tries, StandsAt, Stands, Names, GivesBack, AreReturned, AreFew}
+use Rattle.page_ckpt.proofs.Words.{Trouble, Answer, CkptAnswer, Turn, More, Ended, Stopped, Claim, Goes, Ends, Stops, Took, Deed, Came, given_of, done_of, Fits, Link, Stage}
 use Rattle.page_ckpt.proofs.Outcomes.{leased, Onward, Clears, Fails, Comes, comes}
 use Rattle.page_ckpt.proofs.Outcomes as step
 

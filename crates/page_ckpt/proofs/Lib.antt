@@ -1,4 +1,5 @@
 pub mod Leading
+pub mod Words
 pub mod Outcomes
 pub mod Links
 pub mod End

@@ -1,32 +1,20 @@
 -- What a page checkpoint knows of its calls, stage by stage.
 use Rattle.std.proofs.Common.{◌≡◌, ℕ, ◌+◌, Bool, true, false, List, [], ◌∷◌, length, Option, Some, None, Result, Ok, Err, inl, inr, refl, sym, ap, subst, ◌∙◌, arith}
 use Rattle.db_base.specs.declared.names.QueueName.{QueueName}
-use Rattle.db_base.specs.declared.trouble.Trouble.{Trouble}
 use Rattle.leaf_view.specs.Leaf.{Leaf, IsLeaf}
-use Rattle.log_codec.specs.declared.record.PuItem.{PuItem}
 use Rattle.run_cursor.specs.Run.{IsRun}
 use Rattle.run_cursor.specs.Covered.{covered_ids}
-use Rattle.cloud_trait.specs.declared.answer.Answer.{Answer}
 use Rattle.cloud_trait.specs.declared.answer.Answer.TheVariants as call
-use Rattle.cloud_trait.specs.declared.message.Message.{Message}
-use Rattle.cloud_trait.specs.declared.turn.CkptAnswer.{CkptAnswer}
-use Rattle.cloud_trait.specs.declared.turn.Turn.{Turn}
-use Rattle.cloud_trait.specs.declared.turn.Turn.TheVariants.{More, Ended, Stopped}
 use Rattle.cloud_trait.specs.Ask.{Ask, GetHeld, Receive, Delete, Release}
-use Rattle.cloud_trait.specs.Claim.{Claim}
-use Rattle.cloud_trait.specs.Machine.{Goes, Ends, Stops, Took, Deed, Came, calls_of}
-use Rattle.cloud_trait.specs.Views.{done_of}
-use Rattle.ckpt_parts.specs.declared.intake.Intake.{Intake}
 use Rattle.ckpt_parts.specs.Deleting.{Deleting, to_delete, next_id, tried}
 use Rattle.ckpt_parts.specs.Intakes.{has_items, ids_of, items_of, intake_of, TakesItems}
 use Rattle.ckpt_parts.specs.Leaves.{HoldsLinked}
-use Rattle.page_ckpt.specs.declared.link.Link.{Link}
-use Rattle.page_ckpt.specs.declared.stage.Stage.{Stage}
 use Rattle.page_ckpt.specs.declared.stage.Stage.TheVariants.{TakingHome, GettingHome, Receiving, TakingRight, GettingRight, PuttingRight, ReleasingRight, PuttingHome, Deleting as DeletingNext, Releasing, Finished}
 use Rattle.page_ckpt.specs.Paging.{Paging, Step, new_paging, paging_ask, own_queue, delete_next, HoldsNamed, link_of, with_intake, went, answer_of, PagingLeads, KeepsLeases}
 use Rattle.page_ckpt.specs.Standing.{Went, HasIds}
 use Rattle.page_ckpt.specs.Meaning.{Calls, Scene, scene, page_name, take_page, scene_queue, lacked_by, applied_to, Opening, opening_calls, IsOpened, Visit, put_over, right_put, home_put, visits_over, PutsLacked, LeadsOn, lacked_on, Works, applied_count, Tried, deletes_over, tried_before, one_more, one_less, went_count, failed_count, main_calls, IsDone, MeansDone}
 use Rattle.page_ckpt.specs.Exact.{WasGot, HomeWasGot, OnwardWasGot, WasBrought}
+use Rattle.page_ckpt.proofs.Words.{Trouble, PuItem, Answer, Message, CkptAnswer, Turn, More, Ended, Stopped, Claim, Goes, Ends, Stops, Took, Deed, Came, calls_of, done_of, Intake, Link, Stage}
 use Rattle.page_ckpt.proofs.Outcomes.{leased, noted, IsLast, AreRead, Onward, Clears, Comes, comes}
 use Rattle.page_ckpt.proofs.Outcomes as step
 use Rattle.page_ckpt.proofs.Links.{link_taken, takes_link}

@@ -2,29 +2,21 @@
 use Rattle.std.proofs.Common.{◌≡◌, ◌≢◌, ℕ, Bool, true, false, List, [], ◌∷◌, ◌++◌, Option, Some, None, Result, Ok, Err, refl, sym, subst, inl, inr}
 use Rattle.db_base.specs.Cursor.{number_of}
 use Rattle.db_base.specs.declared.names.Lock.TheVariants as lock
-use Rattle.db_base.specs.declared.trouble.Trouble.{Trouble}
 use Rattle.db_base.specs.declared.trouble.Trouble.TheVariants as trouble
 use Rattle.db_base.specs.declared.trouble.Counter.TheVariants as counter
 use Rattle.leaf_view.specs.Leaf.{Leaf, IsLeaf}
 use Rattle.leaf_view.specs.Lookup.{AreNumbers}
 use Rattle.leaf_edit.specs.Applied.{applied}
 use Rattle.leaf_edit.specs.Lacked.{lacked}
-use Rattle.cloud_trait.specs.declared.answer.Answer.{Answer}
 use Rattle.cloud_trait.specs.declared.answer.Answer.TheVariants as call
-use Rattle.cloud_trait.specs.declared.message.Message.{Message}
-use Rattle.cloud_trait.specs.Claim.{Claim}
-use Rattle.cloud_trait.specs.Machine.{Goes, Ends, Stops}
-use Rattle.cloud_trait.specs.Views.{given_of, got_of, done_of, received_of}
 use Rattle.cloud_trait.proofs.ViewLemmas.{given_of-ok, got_of-ok, received_of-ok, done_of-ok}
-use Rattle.ckpt_parts.specs.declared.intake.Intake.{Intake}
 use Rattle.ckpt_parts.specs.Deleting.{next_id, tried}
 use Rattle.ckpt_parts.specs.Intakes.{has_items, ids_of, TakesIn}
 use Rattle.ckpt_parts.specs.Leaves.{HoldsLinked}
-use Rattle.page_ckpt.specs.declared.link.Link.{Link}
-use Rattle.page_ckpt.specs.declared.stage.Stage.{Stage}
 use Rattle.page_ckpt.specs.declared.stage.Stage.TheVariants.{TakingHome, GettingHome, Receiving, TakingRight, GettingRight, PuttingRight, ReleasingRight, PuttingHome, Deleting as DeletingNext, Releasing, Finished}
 use Rattle.page_ckpt.specs.Paging.{Paging, Step, own_queue, handed, stopping, goes_to, deleting_by, home_taken_by, HoldsNamed, HomeGot, home_read, link_of, is_visited, without_onward, to_right, GoesOn, RunStarted, with_intake, IntakeTaken, ReceivedBy, right_taken_by, RightLacks, RightRead, RightGot, with_applied, without_applying, right_put_by, home_put_by, went, answer_of, finished_by, AbsorbsAt, PagingLeads}
 use Rattle.page_ckpt.specs.Causing.{greatest_number}
+use Rattle.page_ckpt.proofs.Words.{Trouble, Answer, Message, Claim, Goes, Ends, Stops, given_of, got_of, done_of, received_of, Intake, Link, Stage}
 
 -- ---- local work between the call and where the step ends
 

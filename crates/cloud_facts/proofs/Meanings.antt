@@ -4,6 +4,7 @@ pub mod Stale
 pub mod Pages
 pub mod Walking
 pub mod Contents
+pub mod Ascending
 pub mod Leaves
 pub mod Finding
 pub mod Reports

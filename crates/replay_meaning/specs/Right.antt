@@ -1,13 +1,14 @@
--- When a report is right: it shows what was committed by the lines, an order of it that is legal, and records that are those of the index and what
--- this order comes to; where nothing is left the order holds all, and it goes on from the orders that were reported before; and all puts and sends
+-- When a report is right: it shows what was committed by the lines, an order of it that is legal, and records in the order of their keys that are
+-- those of the index and what this order comes to; where nothing is left the order holds all, and it goes on from the orders that were reported before; and all puts and sends
 -- are of kinds that their sessions' standing allows.
-use Rattle.std.specs.Prelude.{ℕ, ◌≡◌, List, [], ◌∷◌, Option, Some, None, slice_get, if◌then◌else◌}
-use Rattle.byte_format.specs.Order.{bytes_same}
+use Rattle.std.specs.Prelude.{ℕ, ◌≡◌, Bool, List, [], ◌∷◌, Option, Some, None, slice_get, if◌then◌else◌}
+use Rattle.byte_format.specs.Order.{bytes_below, bytes_same}
 use Rattle.db_base.specs.declared.pair.Pair.{Pair}
 use Rattle.cloud_trait.specs.Growth.{BeginsWith}
 use Rattle.cloud_trait.specs.State.{CloudState}
 use Rattle.history.specs.Fold.{fold, of_tree}
 use Rattle.history.specs.Legal.{IsLegal, StandsAt}
+use Rattle.leaf_view.specs.Fits.{Ascend}
 use Rattle.leaf_view.specs.Leaf.{Leaf}
 use Rattle.report_types.specs.declared.entry.Entry.{Entry}
 use Rattle.report_types.specs.declared.report.Report.{Report}
@@ -24,6 +25,10 @@ abbrev pub payload_at : List ℕ → List Pair → Option (List ℕ)
 payload_at key [] = None
 payload_at key (pair ∷ pairs) = if bytes_same pair.key key then Some pair.payload else payload_at key pairs
 
+-- a record is below another one by its key
+abbrev pub pair_below : Pair → Pair → Bool
+pair_below a b = bytes_below a.key b.key
+
 -- an order holds all committed entries
 abbrev pub HoldsAll : List Entry → List Entry → Type 0
 HoldsAll order committed = (place : ℕ) (entry : Entry) → StandsAt committed place entry → (at : ℕ) × StandsAt order at entry
@@ -39,6 +44,7 @@ pub record IsRight (lines : List Line) (t : CloudState) (r : Report) : Type 0 wh
   pub leaves : List Leaf
   pub chain : AreLeaves t r.tree leaves
   pub contents : r.contents ≡ records_of leaves
+  pub ascending : Ascend pair_below None r.contents
   pub found : (key : List ℕ) → Finds t r.tree key (payload_at key r.contents)
   pub folded : (key : List ℕ) → payload_at key r.contents ≡ fold r.order r.tree key
   pub legal : IsLegal r.order r.committed

@@ -141,18 +141,18 @@ module _ (n : ℕ) (before after : Seen) (old new : World) (r : Reply) where
   lands_made : (k : ℕ) (wish : Wish) → MakesStep n k wish before after old new (Ok r) → Lands n before after
   lands_made k wish (inl refuses) = lands_same n before after refuses.declines.seen
   lands_made k wish (inr (inl made)) = lands_stepped (who k) wish before after old new made.turn made.steps
-  lands_made k wish (inr (inr memory)) = absurd (no_memory r memory)
+  lands_made k wish (inr (inr memory)) = absurd (no_memory r memory.0)
 
   lands_run : (k : ℕ) → Runs n k before after old new (Ok r) → Lands n before after
   lands_run k (inl refuses) = lands_same n before after refuses.declines.seen
   lands_run k (inr (inl run)) = lands_come (who k) before after old new run.answer run.comes
-  lands_run k (inr (inr memory)) = absurd (no_memory r memory)
+  lands_run k (inr (inr memory)) = absurd (no_memory r memory.0)
 
   lands_crash : (k : ℕ) (done : Bool) → Crashes n k done before after old new (Ok r) → Lands n before after
   lands_crash k false dies = lands_same n before after dies.quiet.seen
   lands_crash k true (inl idle) = lands_same n before after idle.dies.quiet.seen
   lands_crash k true (inr (inl dies)) = lands_stepped (who k) _ before after old dies.world dies.turn dies.steps
-  lands_crash k true (inr (inr memory)) = absurd (no_memory r memory)
+  lands_crash k true (inr (inr memory)) = absurd (no_memory r memory.0)
 
   lands_does : (k : ℕ) (request : Request) → Does n k request before after old new (Ok r) → Lands n before after
   lands_does k (Begin o) h = lands_same n before after h.0.seen
@@ -164,11 +164,11 @@ module _ (n : ℕ) (before after : Seen) (old new : World) (r : Reply) where
 
   lands_settled : (begun : World) → SettlesOn (who 0) before after begun new (Ok r) → Lands n before after
   lands_settled begun (inl s) = lands_come (who 0) before after begun s.left s.answer s.comes
-  lands_settled begun (inr memory) = absurd (no_memory r memory)
+  lands_settled begun (inr memory) = absurd (no_memory r memory.0)
 
   lands_settles : Settles n before after old new (Ok r) → Lands n before after
   lands_settles (inl h) = lands_settled h.begun h.settles
-  lands_settles (inr memory) = absurd (no_memory r memory)
+  lands_settles (inr memory) = absurd (no_memory r memory.0)
 
   lands_asked : (asked : Asked) → Answers n asked before after old new (Ok r) → Lands n before after
   lands_asked (Session k (Ok request)) (inl served) = lands_does k request served.1

@@ -1,10 +1,11 @@
 -- A report by an audit that saw all, and by looks at a cloud that stands, is right.
-use Rattle.std.proofs.Common.{◌≡◌, ℕ, List, length, refl, sym, ap, subst, ◌∙◌, false}
+use Rattle.std.proofs.Common.{◌≡◌, ℕ, List, None, length, refl, sym, ap, subst, ◌∙◌, false}
 use Rattle.db_base.specs.Ids.{IsTree}
 use Rattle.db_base.specs.declared.pair.Pair.{Pair}
 use Rattle.cloud_trait.specs.Growth.{BeginsWith}
 use Rattle.cloud_trait.specs.State.{CloudState}
 use Rattle.history.specs.Audited.{Audited}
+use Rattle.leaf_view.specs.Fits.{Ascend}
 use Rattle.history.specs.Fold.{fold, of_tree}
 use Rattle.history.specs.Legal.{IsLegal}
 use Rattle.report_types.specs.declared.entry.Entry.{Entry}
@@ -28,7 +29,7 @@ use Rattle.session_facts.proofs.Sessions.Laws.{reports as reports_well, chains, 
 use Rattle.replay_meaning.specs.Standing.{Line}
 use Rattle.replay_meaning.specs.Committed.{committed}
 use Rattle.replay_meaning.specs.Kinds.{KeepsKinds}
-use Rattle.replay_meaning.specs.Right.{IsRight, HoldsAll, GoesOnFrom, payload_at}
+use Rattle.replay_meaning.specs.Right.{IsRight, HoldsAll, GoesOnFrom, pair_below, payload_at}
 use Rattle.session_facts.specs.Facts.{CloudStands, IsFrontOf, Reported, Stands}
 use Rattle.session_facts.proofs.LeftLemmas.{nothing_left}
 
@@ -49,6 +50,7 @@ shown_right n lines tree book order sessions t r stand cloud reported is shown =
   leaves = w.leaves;
   chain = subst (λ k. AreLeaves t k w.leaves) at w.lead;
   contents = w.are;
+  ascending = subst (λ (ps : List Pair). Ascend pair_below None ps) (sym w.are) read.ascending;
   found = λ key. subst (λ k. Finds t k key (payload_at key r.contents)) at (found key);
   folded = λ key. folded key ∙ ap (λ es. fold es tree key) (sym shown.order) ∙ ap (λ k. fold r.order k key) at;
   legal = of_lists IsLegal reportable.legal;

@@ -66,6 +66,7 @@ right_same lines s t r alike h =
       chain = leads_same s t same r.tree 1 h.leaves 0 h.chain;
       contents = h.contents;
       found = λ key. finds_same s t same r.tree key (payload_at key r.contents) (h.found key);
+      ascending = h.ascending;
       folded = h.folded;
       legal = h.legal;
       complete = h.complete;

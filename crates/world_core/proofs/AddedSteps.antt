@@ -28,6 +28,7 @@ use Rattle.session_facts.proofs.CallKinds.{IsSettling, IsSettlersRow, settling_g
 use Rattle.session_facts.proofs.CommittedLemmas.{standing_line}
 use Rattle.session_facts.proofs.LineLemmas.{line_of, AllActWith, own_line, still_line, refused_own, acts_set}
 use Rattle.session_facts.proofs.SettlerLemmas.{settler_row}
+use Rattle.world_audit.specs.Look.{Looked}
 use Rattle.world_core.specs.World.{World}
 use Rattle.world_core.specs.Replying.{RepliesTo, RepliesTurn}
 use Rattle.world_core.specs.Sessions.{Changes}
@@ -42,7 +43,7 @@ pub record IsAdding (lines : List Line) (first : CloudState) (world : World) (se
   pub rows : AddsTo (length lines + 1) lines first seen
   pub acts : AllAct lines (session_at world.sessions)
 
-rows_begin : (lines : List Line) (first : CloudState) (seen : Seen) → AddsTo (length lines) lines first seen → AddsTo (length lines + 1) lines first seen
+pub rows_begin : (lines : List Line) (first : CloudState) (seen : Seen) → AddsTo (length lines) lines first seen → AddsTo (length lines + 1) lines first seen
 rows_begin lines first seen a = record { state = a.state; told = a.told; adds = adds_later (length lines) (length lines + 1) lines first a.state (omega arith) a.adds }
 
 pub adding_begins : (lines : List Line) (first : CloudState) (world : World) (seen : Seen) → WorldAdds lines first world seen → IsAdding lines first world seen
@@ -65,11 +66,11 @@ through lines line first world seen a acts rests = record {
     whole = omega (arith, length-append lines (line ∷ []))
 
 -- a state that stays
-rows_stay : (n : ℕ) (lines : List Line) (first : CloudState) (before after : Seen) → ((x : CloudState) → before.state ≡ Some x → after.state ≡ Some x) → AddsTo n lines first before
+pub rows_stay : (n : ℕ) (lines : List Line) (first : CloudState) (before after : Seen) → ((x : CloudState) → before.state ≡ Some x → after.state ≡ Some x) → AddsTo n lines first before
     → AddsTo n lines first after
 rows_stay n lines first before after stays a = record { state = a.state; told = stays a.state a.told; adds = a.adds }
 
-rows_seen : (n : ℕ) (lines : List Line) (first : CloudState) (before after : Seen) → after ≡ before → AddsTo n lines first before → AddsTo n lines first after
+pub rows_seen : (n : ℕ) (lines : List Line) (first : CloudState) (before after : Seen) → after ≡ before → AddsTo n lines first before → AddsTo n lines first after
 rows_seen n lines first before after same a = subst (AddsTo n lines first) (sym same) a
 
 -- a line that changes neither the world nor the rows
@@ -111,24 +112,32 @@ rows_wished n lines first wish before after sets a = record {
   adds = adds_same n lines first a.state (record a.state { wish = wish }) refl refl a.adds;
 }
 
+-- a session's call under a wish, between two looks
+module _ (lines : List Line) (first : CloudState) (who : Caller) (wish : Wish) (before from under to after : Seen) (old new : World) (turn : Turn Answer)
+    (event : who.event ≡ length lines + 1) (way : IsAdding lines first old before) (look_before : Looked before from) (wishes : SetsWish wish from under)
+    (session : Changes who.session (λ a b. StepsSession who under to a b (Ok turn)) old.sessions new.sessions) (look_after : Looked to after) where
+  called_step : StepsSession who under to (session_at old.sessions who.session) session.after (Ok turn)
+  called_step = subst (λ a. StepsSession who under to a session.after (Ok turn)) (sym (changed_was who.session _ old.sessions new.sessions session)) session.does
+
+  rows_under : AddsTo (length lines + 1) lines first under
+  rows_under = rows_wished (length lines + 1) lines first wish from under wishes (rows_stay (length lines + 1) lines first before from look_before.stays way.rows)
+
+  pub rows_called : AddsTo (length lines + 1) lines first after
+  rows_called =
+      rows_stay (length lines + 1) lines first to after look_after.stays
+      (session_adds lines who under to first rows_under.state (session_at old.sessions who.session).work session.after.work turn event rows_under.told (way.acts who.session).work
+      called_step.work rows_under.adds)
+
 module _ (lines : List Line) (first : CloudState) (who : Caller) (wish : Wish) (before after : Seen) (old new : World) (turn : Turn Answer)
     (event : who.event ≡ length lines + 1) (way : IsAdding lines first old before) (p : StepsLooked who wish before after old new turn) where
   abbrev f : Sessions
   f = session_at old.sessions
 
-  was : f who.session ≡ p.session.before
-  was = changed_was who.session _ old.sessions new.sessions p.session
-
   own_step : StepsSession who p.under p.to (f who.session) p.session.after (Ok turn)
-  own_step = subst (λ a. StepsSession who p.under p.to a p.session.after (Ok turn)) (sym was) p.session.does
+  own_step = called_step lines first who wish before p.from p.under p.to after old new turn event way p.look_before p.wishes p.session p.look_after
 
-  under : AddsTo (length lines + 1) lines first p.under
-  under = rows_wished (length lines + 1) lines first wish p.from p.under p.wishes (rows_stay (length lines + 1) lines first before p.from p.look_before.stays way.rows)
-
-  rows_stepped : AddsTo (length lines + 1) lines first after
-  rows_stepped =
-      rows_stay (length lines + 1) lines first p.to after p.look_after.stays
-      (session_adds lines who p.under p.to first under.state (f who.session).work p.session.after.work turn event under.told (way.acts who.session).work own_step.work under.adds)
+  pub rows_stepped : AddsTo (length lines + 1) lines first after
+  rows_stepped = rows_called lines first who wish before p.from p.under p.to after old new turn event way p.look_before p.wishes p.session p.look_after
 
   sessions_after : (n : ℕ) → session_at new.sessions n ≡ at who.session p.session.after f n
   sessions_after = changed_at who.session _ old.sessions new.sessions p.session
@@ -189,7 +198,7 @@ pub adds_run : (lines : List Line) (first : CloudState) (k n : ℕ) (r : Reply) 
     → WorldAdds lines first old before → Runs n k before after old new (Ok r) → WorldAdds (lines ++ line_of (event.Run k) r ∷ []) first new after
 adds_run lines first k n r before after old new at some w (inl refuses) = adds_declined lines (event.Run k) r _ first before after old new refuses.declines w
 adds_run lines first k n r before after old new at some w (inr (inl run)) = runs_adding lines first k n r before after old new at some w run
-adds_run lines first k n r before after old new at some w (inr (inr memory)) = absurd (no_memory r memory)
+adds_run lines first k n r before after old new at some w (inr (inr memory)) = absurd (no_memory r memory.0)
 
 -- a step that goes on
 called_adding : (lines : List Line) (first : CloudState) (k n : ℕ) (wish : Wish) (before after : Seen) (old new : World) → length lines + 1 ≡ n → 1 ≤ k
@@ -217,7 +226,7 @@ pub adds_step : (lines : List Line) (first : CloudState) (k n : ℕ) (wish : Wis
     → WorldAdds lines first old before → MakesStep n k wish before after old new (Ok r) → WorldAdds (lines ++ line_of (event.Step k wish) r ∷ []) first new after
 adds_step lines first k n wish r before after old new at some w (inl refuses) = adds_declined lines (event.Step k wish) r _ first before after old new refuses.declines w
 adds_step lines first k n wish r before after old new at some w (inr (inl step)) = step_adding lines first k n wish r before after old new step.turn at some w step.steps step.replies
-adds_step lines first k n wish r before after old new at some w (inr (inr memory)) = absurd (no_memory r memory)
+adds_step lines first k n wish r before after old new at some w (inr (inr memory)) = absurd (no_memory r memory.0)
 
 -- ---- a session that dies
 
@@ -263,29 +272,39 @@ pub adds_crash : (lines : List Line) (first : CloudState) (k n : ℕ) (done : Bo
 adds_crash lines first k n false r before after old new at some w h = dies_adding lines first k false r before after old new some w h
 adds_crash lines first k n true r before after old new at some w (inl idle) = dies_adding lines first k true r before after old new some w idle.dies
 adds_crash lines first k n true r before after old new at some w (inr (inl done)) = done_adding lines first k n r before after old new at some w done
-adds_crash lines first k n true r before after old new at some w (inr (inr memory)) = absurd (no_memory r memory)
+adds_crash lines first k n true r before after old new at some w (inr (inr memory)) = absurd (no_memory r memory.0)
 
 -- ---- a settling
 
 -- the settler is under way within its line, which is one of these lines from its begin on, and the other sessions rest
-record SettlerAdds (n : ℕ) (lines : List Line) (first : CloudState) (others : Sessions) (world : World) (seen : Seen) : Type 0 where
-  rows : AddsTo n lines first seen
-  works : IsSettling (session_at world.sessions 0).work
-  rest : (m : ℕ) → m ≢ 0 → session_at world.sessions m ≡ others m
+pub record SettlerAdds (n : ℕ) (lines : List Line) (first : CloudState) (others : Sessions) (world : World) (seen : Seen) : Type 0 where
+  pub rows : AddsTo n lines first seen
+  pub works : IsSettling (session_at world.sessions 0).work
+  pub rest : (m : ℕ) → m ≢ 0 → session_at world.sessions m ≡ others m
+
+-- its call, between two looks
+module _ (n : ℕ) (lines : List Line) (first : CloudState) (others : Sessions) (row : IsSettlersRow lines (settler n)) (before from under to after : Seen) (old new : World)
+    (turn : Turn Answer) (way : SettlerAdds n lines first others old before) (look_before : Looked before from) (wishes : SetsWish Plain from under)
+    (session : Changes 0 (λ a b. StepsSession (settler n) under to a b (Ok turn)) old.sessions new.sessions) (look_after : Looked to after) where
+  settler_called : StepsSession (settler n) under to (session_at old.sessions 0) session.after (Ok turn)
+  settler_called = subst (λ a. StepsSession (settler n) under to a session.after (Ok turn)) (sym (changed_was 0 _ old.sessions new.sessions session)) session.does
+
+  settler_under : AddsTo n lines first under
+  settler_under = rows_wished n lines first Plain from under wishes (rows_stay n lines first before from look_before.stays way.rows)
+
+  pub settler_rows_called : AddsTo n lines first after
+  settler_rows_called =
+      rows_stay n lines first to after look_after.stays
+      (settler_adds n lines (settler n) under to first settler_under.state (session_at old.sessions 0).work session.after.work turn (omega arith) settler_under.told way.works row
+      settler_called.work settler_under.adds)
 
 module _ (n : ℕ) (lines : List Line) (first : CloudState) (others : Sessions) (row : IsSettlersRow lines (settler n)) (before after : Seen) (old new : World) (turn : Turn Answer)
     (way : SettlerAdds n lines first others old before) (p : StepsLooked (settler n) Plain before after old new turn) where
   settler_step : StepsSession (settler n) p.under p.to (session_at old.sessions 0) p.session.after (Ok turn)
-  settler_step = subst (λ a. StepsSession (settler n) p.under p.to a p.session.after (Ok turn)) (sym (changed_was 0 _ old.sessions new.sessions p.session)) p.session.does
+  settler_step = settler_called n lines first others row before p.from p.under p.to after old new turn way p.look_before p.wishes p.session p.look_after
 
-  settler_under : AddsTo n lines first p.under
-  settler_under = rows_wished n lines first Plain p.from p.under p.wishes (rows_stay n lines first before p.from p.look_before.stays way.rows)
-
-  settler_rows : AddsTo n lines first after
-  settler_rows =
-      rows_stay n lines first p.to after p.look_after.stays
-      (settler_adds n lines (settler n) p.under p.to first settler_under.state (session_at old.sessions 0).work p.session.after.work turn (omega arith) settler_under.told way.works row
-      settler_step.work settler_under.adds)
+  pub settler_rows : AddsTo n lines first after
+  settler_rows = settler_rows_called n lines first others row before p.from p.under p.to after old new turn way p.look_before p.wishes p.session p.look_after
 
   settler_rest : (m : ℕ) → m ≢ 0 → session_at new.sessions m ≡ others m
   settler_rest m ne = changed_at 0 _ old.sessions new.sessions p.session m ∙ at_other 0 p.session.after (session_at old.sessions) m ne ∙ way.rest m ne
@@ -301,11 +320,27 @@ settler_more n lines first others row before after old new way p =
       rest = settler_rest n lines first others row before after old new More way p;
     }
 
-settler_went : (n : ℕ) (lines : List Line) (first : CloudState) (others : Sessions) → IsSettlersRow lines (settler n) → (before : Seen) (old : World) (after : Seen) (new : World)
+pub settler_went : (n : ℕ) (lines : List Line) (first : CloudState) (others : Sessions) → IsSettlersRow lines (settler n) → (before : Seen) (old : World) (after : Seen) (new : World)
     → SettlerAdds n lines first others old before → Went (settler n) before old after new → SettlerAdds n lines first others new after
 settler_went n lines first others row before old after new way start = way
 settler_went n lines first others row before old after new way (further mid _ world _ went step) =
     settler_more n lines first others row mid after world new (settler_went n lines first others row before old mid world way went) step
+
+-- a line that settles begins
+module _ (lines : List Line) (first : CloudState) (n : ℕ) (r : Reply) (before : Seen) (old begun : World) (number : length lines + 1 ≡ n) (w : WorldAdds lines first old before)
+    (begins : Has 0 settling_session old begun) where
+  begun_rows : AddsTo n (lines ++ line_of event.Settle r ∷ []) first before
+  begun_rows =
+      let a = rows_begin lines first before w.rows in
+      subst (λ m. AddsTo m (lines ++ line_of event.Settle r ∷ []) first before) number
+      (record { state = a.state; told = a.told; adds = adds_line (length lines + 1) lines (line_of event.Settle r) first a.state refl a.adds })
+
+  pub begun_way : SettlerAdds n (lines ++ line_of event.Settle r ∷ []) first (session_at old.sessions) begun before
+  begun_way = record {
+    rows = begun_rows;
+    works = subst (λ (a : Acting). IsSettling a.work) (sym (has_at 0 settling_session old begun begins 0 ∙ at_same 0 settling_session (session_at old.sessions) 0 refl)) refl;
+    rest = λ m ne. has_at 0 settling_session old begun begins m ∙ at_other 0 settling_session (session_at old.sessions) m ne;
+  }
 
 settles_adding : (lines : List Line) (first : CloudState) (n : ℕ) (r : Reply) (before after : Seen) (old begun new : World) → length lines + 1 ≡ n → WorldAdds lines first old before
     → Has 0 settling_session old begun → SettlesTo (settler n) before after begun new (Ok r) → WorldAdds (lines ++ line_of event.Settle r ∷ []) first new after
@@ -328,21 +363,8 @@ settles_adding lines first n r before after old begun new number w begins h = re
     row : IsSettlersRow all (settler n)
     row = settler_row lines r (settler n) refl (sym number)
 
-    begun_rows : AddsTo n all first before
-    begun_rows =
-        let a = rows_begin lines first before w.rows in
-        subst (λ m. AddsTo m all first before) number
-        (record { state = a.state; told = a.told; adds = adds_line (length lines + 1) lines (line_of event.Settle r) first a.state refl a.adds })
-
-    begun_way : SettlerAdds n all first others begun before
-    begun_way = record {
-      rows = begun_rows;
-      works = subst (λ (a : Acting). IsSettling a.work) (sym (has_at 0 settling_session old begun begins 0 ∙ at_same 0 settling_session others 0 refl)) refl;
-      rest = λ m ne. has_at 0 settling_session old begun begins m ∙ at_other 0 settling_session others m ne;
-    }
-
     way : SettlerAdds n all first others h.comes.world h.comes.mid
-    way = settler_went n all first others row before begun h.comes.mid h.comes.world begun_way h.comes.went
+    way = settler_went n all first others row before begun h.comes.mid h.comes.world (begun_way lines first n r before old begun number w begins) h.comes.went
 
     s : AddsTo n all first after
     s = settler_rows n all first others row h.comes.mid after h.comes.world h.left (Ended h.answer) way h.comes.steps
@@ -366,12 +388,12 @@ settles_adding lines first n r before after old begun new number w begins h = re
 settles_on : (lines : List Line) (first : CloudState) (n : ℕ) (r : Reply) (before after : Seen) (old begun new : World) → length lines + 1 ≡ n → WorldAdds lines first old before
     → Has 0 settling_session old begun → SettlesOn (settler n) before after begun new (Ok r) → WorldAdds (lines ++ line_of event.Settle r ∷ []) first new after
 settles_on lines first n r before after old begun new number w begins (inl h) = settles_adding lines first n r before after old begun new number w begins h
-settles_on lines first n r before after old begun new number w begins (inr memory) = absurd (no_memory r memory)
+settles_on lines first n r before after old begun new number w begins (inr memory) = absurd (no_memory r memory.0)
 
 pub adds_settle : (lines : List Line) (first : CloudState) (n : ℕ) (r : Reply) (before after : Seen) (old new : World) → length lines + 1 ≡ n → WorldAdds lines first old before
     → Settles n before after old new (Ok r) → WorldAdds (lines ++ line_of event.Settle r ∷ []) first new after
 adds_settle lines first n r before after old new number w (inl h) = settles_on lines first n r before after old h.begun new number w h.begins h.settles
-adds_settle lines first n r before after old new number w (inr memory) = absurd (no_memory r memory)
+adds_settle lines first n r before after old new number w (inr memory) = absurd (no_memory r memory.0)
 
 -- ---- waits and reports
 

@@ -357,7 +357,7 @@ module _ (lines : List Line) (n k : ℕ) (before after : Seen) (old new : World)
       on (Ended a) p e calm explains =
           (answers_rest who wish before after old new a p, steps_of posture r (ended_well wish before old a way p calm explains well sound e))
       on (Stopped q) p e calm explains = absurd (no_stop _ p.under p.to p.session.before p.session.after q p.session.does)
-  makes_well wish (inr (inr memory)) calm explains sound = absurd (no_memory r memory)
+  makes_well wish (inr (inr memory)) calm explains sound = absurd (no_memory r memory.0)
 
   runs_well : (h : Runs n k before after old new (Ok r)) → EachRun StepIsCalm n k before after old new (Ok r) h → EachRun StepExplains n k before after old new (Ok r) h
       → IsSoundReply posture r → IsUntroubled (work_at new k) × RunsWell posture r
@@ -368,7 +368,7 @@ module _ (lines : List Line) (n k : ℕ) (before after : Seen) (old new : World)
         ended_well Plain c.mid c.world run.answer (went_on lines who before old c.mid c.world (sym number) way c.went) c.steps calm.1 explains.1
             (went_calmly who before old c.mid c.world c.went calm.0 explains.0 well) sound run.replies,
       )
-  runs_well (inr (inr memory)) calm explains sound = absurd (no_memory r memory)
+  runs_well (inr (inr memory)) calm explains sound = absurd (no_memory r memory.0)
 
   dies_well : (Changes k (λ a b. b ≡ closed_session) old.sessions new.sessions) → IsUntroubled (work_at new k)
   dies_well c = rests_after k _ old new c (λ w. subst (λ (a : Acting). IsUntroubled a.work) (sym c.does) closed_rests) well
@@ -377,7 +377,7 @@ module _ (lines : List Line) (n k : ℕ) (before after : Seen) (old new : World)
   crash_well false h = dies_well h.closed
   crash_well true (inl idle) = dies_well idle.dies.closed
   crash_well true (inr (inl h)) = has_closed k h.world new h.closes
-  crash_well true (inr (inr memory)) = absurd (no_memory r memory)
+  crash_well true (inr (inr memory)) = absurd (no_memory r memory.0)
 
   notes_well : (tree : ℕ) (change : Change) → Changes k (NotesChange tree change (Ok r)) old.sessions new.sessions → IsUntroubled (work_at new k)
   notes_well tree change c = rests_after k _ old new c (λ was. on was c.does.noted c.does.notes) well
@@ -533,12 +533,12 @@ module _ (lines : List Line) (n : ℕ) (before after : Seen) (old new : World) (
 
   pub settles_well : (h : Settles n before after old new (Ok r)) → EachSettling StepIsCalm n before after old new (Ok r) h → EachSettling StepExplains n before after old new (Ok r) h
       → IsUntroubled (work_at new 0) × SettlesWell r
-  settles_well (inr memory) calm explains = absurd (no_memory r memory)
+  settles_well (inr memory) calm explains = absurd (no_memory r memory.0)
   settles_well (inl h) calm explains = on h.settles calm explains
     where
       on : (s : SettlesOn first before after h.begun new (Ok r)) → EachSettlingOn StepIsCalm first before after h.begun new (Ok r) s
           → EachSettlingOn StepExplains first before after h.begun new (Ok r) s → IsUntroubled (work_at new 0) × SettlesWell r
-      on (inr memory) calm explains = absurd (no_memory r memory)
+      on (inr memory) calm explains = absurd (no_memory r memory.0)
       on (inl s) calm explains =
           let c = s.comes in (
             has_closed 0 s.left new s.closes,

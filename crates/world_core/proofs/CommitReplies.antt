@@ -188,20 +188,20 @@ module _ (Holds : Posture → Work → CommitAnswer → Type 0) (nothing : SaysN
       on More p e = plain reply.Called e tt
       on (Ended a) p e = step_keeps wish before old a way p e
       on (Stopped q) p e = absurd (no_stop _ p.under p.to p.session.before p.session.after q p.session.does)
-  makes_keeps wish (inr (inr memory)) = absurd (no_memory r memory)
+  makes_keeps wish (inr (inr memory)) = absurd (no_memory r memory.0)
 
   runs_keeps : Runs n k before after old new (Ok r) → Kept r
   runs_keeps (inl refuses) = not_done _ refuses.declines
   runs_keeps (inr (inl run)) =
       step_keeps Plain run.comes.mid run.comes.world run.answer
       (went_on lines who before old run.comes.mid run.comes.world (sym number) way run.comes.went) run.comes.steps run.replies
-  runs_keeps (inr (inr memory)) = absurd (no_memory r memory)
+  runs_keeps (inr (inr memory)) = absurd (no_memory r memory.0)
 
   crash_keeps : (done : Bool) → Crashes n k done before after old new (Ok r) → Kept r
   crash_keeps false h = plain reply.Crashed h.replies tt
   crash_keeps true (inl idle) = plain reply.Crashed idle.dies.replies tt
   crash_keeps true (inr (inl h)) = plain reply.Crashed h.replies tt
-  crash_keeps true (inr (inr memory)) = absurd (no_memory r memory)
+  crash_keeps true (inr (inr memory)) = absurd (no_memory r memory.0)
 
   does_keeps : (request : Request) → Does n k request before after old new (Ok r) → Kept r
   does_keeps (Begin o) h = begin_keeps o h.1
@@ -228,7 +228,7 @@ module _ (Holds : Posture → Work → CommitAnswer → Type 0) (posture : Postu
   wait_keeps ticks n before after old new r (inr long) = declines_keeps Holds posture hand r _ before after old new long.declines
 
   settle_keeps : (n : ℕ) (before after : Seen) (old new : World) (r : Reply) → Settles n before after old new (Ok r) → OfReply Holds posture hand r
-  settle_keeps n before after old new r (inr memory) = absurd (no_memory r memory)
+  settle_keeps n before after old new r (inr memory) = absurd (no_memory r memory.0)
   settle_keeps n before after old new r (inl h) = by_end h.settles
     where
       on : (a : Answer) → RepliesSettled a (Ok r) → OfReply Holds posture hand r
@@ -237,7 +237,7 @@ module _ (Holds : Posture → Work → CommitAnswer → Type 0) (posture : Postu
       on a e = absurd e
 
       by_end : SettlesOn (record { session = 0; event = n }) before after h.begun new (Ok r) → OfReply Holds posture hand r
-      by_end (inr memory) = absurd (no_memory r memory)
+      by_end (inr memory) = absurd (no_memory r memory.0)
       by_end (inl s) = on s.answer s.replies
 
   report_keeps : (tree : ℕ) (before after : Seen) (old new : World) (r : Reply) → Reports tree before after old new (Ok r) → OfReply Holds posture hand r

@@ -268,7 +268,7 @@ module _ (n k : ℕ) (before after : Seen) (old new : World) (r : Reply) (some :
   step_still : (wish : Wish) → MakesStep n k wish before after old new (Ok r) → IsStill new after
   step_still wish (inl refuses) = declined_still _ before after old new (Ok r) still refuses.declines
   step_still wish (inr (inl step)) = changed_still _ step.steps.session (step_on who wish before after old new step.turn still.0 step.steps)
-  step_still wish (inr (inr memory)) = absurd (no_memory r memory)
+  step_still wish (inr (inr memory)) = absurd (no_memory r memory.0)
 
   run_still : Runs n k before after old new (Ok r) → IsStill new after
   run_still (inl refuses) = declined_still _ before after old new (Ok r) still refuses.declines
@@ -277,7 +277,7 @@ module _ (n k : ℕ) (before after : Seen) (old new : World) (r : Reply) (some :
         step_on who Plain c.mid after c.world new (Ended run.answer) (went_on who before old c.mid c.world still.0 c.went) c.steps,
         changed_rests k _ c.world.sessions new.sessions some c.steps.session (went_rests who before old c.mid c.world some c.went still.1),
       )
-  run_still (inr (inr memory)) = absurd (no_memory r memory)
+  run_still (inr (inr memory)) = absurd (no_memory r memory.0)
 
   dies_still : Dies k before after old new (Ok r) → IsStill new after
   dies_still h = changed_still _ h.closed (crash_on k before after old new _ still.0 h.quiet h.closed h.closed.does)
@@ -289,7 +289,7 @@ module _ (n k : ℕ) (before after : Seen) (old new : World) (r : Reply) (some :
     close_on k after h.world new (step_on who Plain before after old h.world h.turn still.0 h.steps) h.closes,
     changed_rests k _ h.world.sessions new.sessions some h.closes.session_is (changed_rests k _ old.sessions h.world.sessions some h.steps.session still.1),
   )
-  crash_still true (inr (inr memory)) = absurd (no_memory r memory)
+  crash_still true (inr (inr memory)) = absurd (no_memory r memory.0)
 
   does_still : (request : Request) → IsRight request → Does n k request before after old new (Ok r) → IsStill new after
   does_still (Begin o) right h = changed_still _ h.1 (begin_on k before after old new o (Ok r) right still.0 h.0 h.1)
@@ -302,7 +302,7 @@ module _ (n k : ℕ) (before after : Seen) (old new : World) (r : Reply) (some :
 -- ---- the settler
 
 settle_still : (n : ℕ) (before after : Seen) (old new : World) (r : Reply) → IsStill old before → Settles n before after old new (Ok r) → IsStill new after
-settle_still n before after old new r still (inr memory) = absurd (no_memory r memory)
+settle_still n before after old new r still (inr memory) = absurd (no_memory r memory.0)
 settle_still n before after old new r still (inl h) = by h.settles
   where
     who : Caller
@@ -314,7 +314,7 @@ settle_still n before after old new r still (inl h) = by h.settles
         (settling_begins_session still.0.book still.0.order still.0.state (session_at old.sessions) 0 still.1 still.0.stand)
 
     by : SettlesOn who before after h.begun new (Ok r) → IsStill new after
-    by (inr memory) = absurd (no_memory r memory)
+    by (inr memory) = absurd (no_memory r memory.0)
     by (inl s) =
         let c = s.comes in (
           close_on 0 after s.left new (step_on who Plain c.mid after c.world s.left (Ended s.answer) (went_on who before h.begun c.mid c.world begun c.went) c.steps) s.closes,

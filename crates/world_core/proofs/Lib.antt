@@ -24,5 +24,7 @@ pub mod Settled
 pub mod Seeing
 pub mod AddedSteps
 pub mod AddedLines
+pub mod AddedShort
 pub mod OpenedLines
 pub mod Shown
+pub mod OpenedShort

@@ -36,6 +36,7 @@ use Rattle.session_facts.specs.Facts.{session_at}
 use Rattle.session_facts.specs.Opened.{IsOpenedBy, MayHaveOpened, TakesNumber, AddsOpenedTo, AddsOnce}
 use Rattle.session_facts.proofs.OpenedCalls.{Leads, scan_leads, stopped_leads, opened_same, opened_weaker, session_once}
 use Rattle.session_facts.proofs.OpenedRuns.{RunsFrom, run_begins_from}
+use Rattle.world_audit.specs.Look.{Looked}
 use Rattle.world_core.specs.World.{World}
 use Rattle.world_core.specs.declared.asked.Request.{Request}
 use Rattle.world_core.specs.declared.asked.Request.TheVariants.{Begin, Note, Abort, Step, Run, Crash}
@@ -52,7 +53,7 @@ use Rattle.world_core.proofs.StandsLemmas.{changed_at, changed_was, no_memory}
 
 -- ---- what is no call
 
-once_stays : (first : CloudState) (w : Work) (before after : Seen) → ((x : CloudState) → before.state ≡ Some x → after.state ≡ Some x) → AddsOnce first w before → AddsOnce first w after
+pub once_stays : (first : CloudState) (w : Work) (before after : Seen) → ((x : CloudState) → before.state ≡ Some x → after.state ≡ Some x) → AddsOnce first w before → AddsOnce first w after
 once_stays first w before after stays h = record {
   rows = record { state = h.rows.state; told = stays h.rows.state h.rows.told; adds = h.rows.adds };
   takes = h.takes;
@@ -104,18 +105,25 @@ module _ (lines : List Line) (first : CloudState) (n : ℕ) (at : length lines +
   abbrev who : Caller
   who = record { session = 1; event = n }
 
-  once_stepped : (wish : Wish) (before after : Seen) (old new : World) (turn : Turn Answer) → IsAdding lines first old before → StepsLooked who wish before after old new turn
+  -- its call under a wish, between two looks
+  pub once_called : (wish : Wish) (before from under to after : Seen) (old new : World) (turn : Turn Answer) → IsAdding lines first old before → Looked before from
+      → SetsWish wish from under → Changes 1 (λ a b. StepsSession who under to a b (Ok turn)) old.sessions new.sessions → Looked to after → WorldOnce first old before
+      → WorldOnce first new after
+  once_called wish before from under to after old new turn way look_before wishes session look_after h =
+      subst (λ (a : Acting). AddsOnce first a.work after) (sym (changed_first _ old new session))
+      (once_stays first session.after.work to after look_after.stays
+      (session_once lines who under to first (session_at old.sessions 1).work session.after.work turn (sym at) (way.acts 1).work own.work
+      (once_wished first (session_at old.sessions 1).work wish from under wishes (once_stays first (session_at old.sessions 1).work before from look_before.stays h))))
+    where
+      own : StepsSession who under to (session_at old.sessions 1) session.after (Ok turn)
+      own = subst (λ a. StepsSession who under to a session.after (Ok turn)) (sym (changed_was 1 _ old.sessions new.sessions session)) session.does
+
+  pub once_stepped : (wish : Wish) (before after : Seen) (old new : World) (turn : Turn Answer) → IsAdding lines first old before → StepsLooked who wish before after old new turn
       → WorldOnce first old before → WorldOnce first new after
   once_stepped wish before after old new turn way p h =
-      subst (λ (a : Acting). AddsOnce first a.work after) (sym (changed_first _ old new p.session))
-      (once_stays first p.session.after.work p.to after p.look_after.stays
-      (session_once lines who p.under p.to first (session_at old.sessions 1).work p.session.after.work turn (sym at) (way.acts 1).work own.work
-      (once_wished first (session_at old.sessions 1).work wish p.from p.under p.wishes (once_stays first (session_at old.sessions 1).work before p.from p.look_before.stays h))))
-    where
-      own : StepsSession who p.under p.to (session_at old.sessions 1) p.session.after (Ok turn)
-      own = subst (λ a. StepsSession who p.under p.to a p.session.after (Ok turn)) (sym (changed_was 1 _ old.sessions new.sessions p.session)) p.session.does
+      once_called wish before p.from p.under p.to after old new turn way p.look_before p.wishes p.session p.look_after h
 
-  once_went : (before : Seen) (old : World) (after : Seen) (new : World) → IsAdding lines first old before → Went who before old after new → WorldOnce first old before → WorldOnce first new after
+  pub once_went : (before : Seen) (old : World) (after : Seen) (new : World) → IsAdding lines first old before → Went who before old after new → WorldOnce first old before → WorldOnce first new after
   once_went before old after new way start h = h
   once_went before old after new way (further mid _ world _ went step) h =
       once_stepped Plain mid after world new More (went_adding lines first who before old mid world (sym at) way went) step (once_went before old mid world way went h)
@@ -127,7 +135,7 @@ module _ (lines : List Line) (first : CloudState) (n : ℕ) (at : length lines +
       let c = run.comes in
       once_stepped Plain c.mid after c.world new (Ended run.answer) (went_adding lines first who before old c.mid c.world (sym at) way c.went) c.steps
       (once_went before old c.mid c.world way c.went h)
-  once_run r before after old new w (inr (inr memory)) h = absurd (no_memory r memory)
+  once_run r before after old new w (inr (inr memory)) h = absurd (no_memory r memory.0)
 
 -- ---- an operation begins
 
@@ -208,7 +216,7 @@ aborts_so a b (Err why) h takes = same_session a b h.0 takes
 -- ---- the lines of a shell
 
 -- what such a line asks of session 1
-abbrev IsAskable : Request → Type 0
+abbrev pub IsAskable : Request → Type 0
 IsAskable (Begin o) = IsWithin o
 IsAskable (Note tree change) = Unit {0}
 IsAskable Abort = Unit {0}
@@ -216,7 +224,7 @@ IsAskable Run = Unit {0}
 IsAskable (Step wish) = ⊥
 IsAskable (Crash done) = ⊥
 
-noted_askable : (tree : ℕ) (Is : Result Change Refused → Type 0) (request : Request) → IsNoted tree Is (Ok request) → IsAskable request
+pub noted_askable : (tree : ℕ) (Is : Result Change Refused → Type 0) (request : Request) → IsNoted tree Is (Ok request) → IsAskable request
 noted_askable tree Is (Note other change) noted = tt
 noted_askable tree Is (Begin o) noted = absurd noted
 noted_askable tree Is Abort noted = absurd noted
@@ -224,7 +232,7 @@ noted_askable tree Is (Step wish) noted = absurd noted
 noted_askable tree Is Run noted = absurd noted
 noted_askable tree Is (Crash d) noted = absurd noted
 
-is_askable : (request own : Request) → request ≡ own → IsAskable own → IsAskable request
+pub is_askable : (request own : Request) → request ≡ own → IsAskable own → IsAskable request
 is_askable request own e may = subst IsAskable (sym e) may
 
 module _ (n : ℕ) (before after : Seen) (old new : World) (r : Reply) (lines : List Line) (first : CloudState) (at : length lines + 1 ≡ n) (w : WorldAdds lines first old before)

@@ -100,19 +100,19 @@ module _ (n : ℕ) (before after : Seen) (old new : World) (r : Reply) where
   made_sees : (k : ℕ) (wish : Wish) → MakesStep n k wish before after old new (Ok r) → SeesOn before after old new
   made_sees k wish (inl refuses) = declines_sees _ before after old new (Ok r) refuses.declines
   made_sees k wish (inr (inl step)) = step_sees _ wish before after old new step.turn step.steps
-  made_sees k wish (inr (inr memory)) = absurd (no_memory r memory)
+  made_sees k wish (inr (inr memory)) = absurd (no_memory r memory.0)
 
   run_sees : (k : ℕ) → Runs n k before after old new (Ok r) → SeesOn before after old new
   run_sees k (inl refuses) = declines_sees _ before after old new (Ok r) refuses.declines
   run_sees k (inr (inl run)) = comes_sees _ before after old new run.answer run.comes
-  run_sees k (inr (inr memory)) = absurd (no_memory r memory)
+  run_sees k (inr (inr memory)) = absurd (no_memory r memory.0)
 
   crash_sees : (k : ℕ) (done : Bool) → Crashes n k done before after old new (Ok r) → SeesOn before after old new
   crash_sees k false h = quiet_sees before after old new h.quiet
   crash_sees k true (inl idle) = quiet_sees before after old new idle.dies.quiet
   crash_sees k true (inr (inl h)) =
       sees_further before after after old h.world new (step_sees _ _ before after old h.world h.turn h.steps) (has_sees after k _ h.world new h.closes)
-  crash_sees k true (inr (inr memory)) = absurd (no_memory r memory)
+  crash_sees k true (inr (inr memory)) = absurd (no_memory r memory.0)
 
   does_sees : (k : ℕ) (request : Request) → Does n k request before after old new (Ok r) → SeesOn before after old new
   does_sees k (Begin op) h = quiet_sees before after old new h.0
@@ -126,7 +126,7 @@ module _ (n : ℕ) (before after : Seen) (old new : World) (r : Reply) where
   settling_sees who begun begins (inl s) =
       sees_further before before after old begun new begins
       (sees_further before after after begun s.left new (comes_sees who before after begun s.left s.answer s.comes) (has_sees after who.session _ s.left new s.closes))
-  settling_sees who begun begins (inr memory) = absurd (no_memory r memory)
+  settling_sees who begun begins (inr memory) = absurd (no_memory r memory.0)
 
   asked_sees : (asked : Asked) → Answers n asked before after old new (Ok r) → SeesOn before after old new
   asked_sees (Session k (Ok request)) (inl h) = does_sees k request h.1
@@ -136,7 +136,7 @@ module _ (n : ℕ) (before after : Seen) (old new : World) (r : Reply) where
   asked_sees (Wait ticks) (inr long) = declines_sees _ before after old new (Ok r) long.declines
   asked_sees (Report tree) h = record { dark = h.looked.dark; blinded = λ b. inl (sym (ap (λ (w : World). w.blind) h.world) ∙ b) }
   asked_sees Settle (inl h) = settling_sees _ h.begun (has_sees before 0 _ old h.begun h.begins) h.settles
-  asked_sees Settle (inr memory) = absurd (no_memory r memory)
+  asked_sees Settle (inr memory) = absurd (no_memory r memory.0)
 
 -- a line that was handled sees on
 pub handled_sees : (n : ℕ) (e : Event) (before after : Seen) (old new : World) (r : Reply) → Handled n e before after old new (Ok r) → SeesOn before after old new

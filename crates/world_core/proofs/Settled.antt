@@ -367,11 +367,11 @@ module _ (n : ℕ) where
     unsettled_sound posture q e may = let is : r ≡ reply.NotSettled q = cc (e) in subst (IsSoundReply posture) (sym is) may
 
     settling_sound : SettlesLine n before after old new (Ok r) → (posture : Posture) → IsSoundReply posture r
-    settling_sound (inr memory) posture = absurd (no_memory r memory)
+    settling_sound (inr memory) posture = absurd (no_memory r memory.0)
     settling_sound (inl h) posture = by_end h.settles
       where
         by_end : SettlesOn (settler n) before after h.begun new (Ok r) → IsSoundReply posture r
-        by_end (inr memory) = absurd (no_memory r memory)
+        by_end (inr memory) = absurd (no_memory r memory.0)
         by_end (inl s) = on s.answer s.comes.steps s.replies
           where
             way : SettlerOnWay s.comes.world s.comes.mid
@@ -398,22 +398,22 @@ module _ (trees : TreesRun) (pages : PagesRun) (clients : RecoveriesRun) (n : �
   answered = Ok (reply.Settled calls)
 
   line_leaves : (h : SettlesLine n before after old new answered) → EachSettling StepDelivers n before after old new answered h → LeftNothing after
-  line_leaves (inr memory) each = absurd (no_memory (reply.Settled calls) memory)
+  line_leaves (inr memory) each = absurd (no_memory (reply.Settled calls) memory.0)
   line_leaves (inl h) each = on h.settles each
     where
       on : (s : SettlesOn (settler n) before after h.begun new answered) → EachSettlingOn StepDelivers (settler n) before after h.begun new answered s → LeftNothing after
-      on (inr memory) steps = absurd (no_memory (reply.Settled calls) memory)
+      on (inr memory) steps = absurd (no_memory (reply.Settled calls) memory.0)
       on (inl s) steps =
           let end = (world_settles StepDelivers Left NothingWaits IsDelivered (left_hands trees pages clients) n (delivers_gives n) before old h.begun t told stands h.begins
           (left_begins stands.book stands.order t (session_at old.sessions) stands.rests stands.stand) after new calls s steps) in
           record { state = end.1.1.now.state; told = end.1.1.told; nothing = leaves_nothing end.1.1.now end.1.1.settling end.0 end.1.1.holds }
 
   line_within : (h : SettlesLine n before after old new answered) → EachSettling StepIsCalm n before after old new answered h → SettledWithin t after calls
-  line_within (inr memory) each = absurd (no_memory (reply.Settled calls) memory)
+  line_within (inr memory) each = absurd (no_memory (reply.Settled calls) memory.0)
   line_within (inl h) each = on h.settles each
     where
       on : (s : SettlesOn (settler n) before after h.begun new answered) → EachSettlingOn StepIsCalm (settler n) before after h.begun new answered s → SettledWithin t after calls
-      on (inr memory) steps = absurd (no_memory (reply.Settled calls) memory)
+      on (inr memory) steps = absurd (no_memory (reply.Settled calls) memory.0)
       on (inl s) steps =
           let end = (world_settles StepIsCalm (LeftAndCost t) (SettledWell t) GoesCalmly (cost_hands t trees pages clients) n (calm_gives n) before old h.begun t told stands h.begins
           (both_begin stands.book stands.order t (session_at old.sessions) stands.rests stands.stand) after new calls s steps) in

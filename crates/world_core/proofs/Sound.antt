@@ -196,20 +196,20 @@ module _ (lines : List Line) (n k : ℕ) (before after : Seen) (old new : World)
       on More p e = plainly reply.Called e tt
       on (Ended a) p e = step_sound lines who wish before after old new a r (sym number) way p e
       on (Stopped q) p e = absurd (no_stop _ p.under p.to p.session.before p.session.after q p.session.does)
-  makes_sound wish (inr (inr memory)) = absurd (no_memory r memory)
+  makes_sound wish (inr (inr memory)) = absurd (no_memory r memory.0)
 
   runs_sound : Runs n k before after old new (Ok r) → Sounds r
   runs_sound (inl refuses) = not_done _ refuses.declines
   runs_sound (inr (inl run)) =
       step_sound lines who Plain run.comes.mid after run.comes.world new run.answer r (sym number)
       (went_on lines who before old run.comes.mid run.comes.world (sym number) way run.comes.went) run.comes.steps run.replies
-  runs_sound (inr (inr memory)) = absurd (no_memory r memory)
+  runs_sound (inr (inr memory)) = absurd (no_memory r memory.0)
 
   crash_sound : (done : Bool) → Crashes n k done before after old new (Ok r) → Sounds r
   crash_sound false h = plainly reply.Crashed h.replies tt
   crash_sound true (inl idle) = plainly reply.Crashed idle.dies.replies tt
   crash_sound true (inr (inl h)) = plainly reply.Crashed h.replies tt
-  crash_sound true (inr (inr memory)) = absurd (no_memory r memory)
+  crash_sound true (inr (inr memory)) = absurd (no_memory r memory.0)
 
   -- an operation that begins is a right one
   abbrev IsRight : Request → Type 0
@@ -280,11 +280,11 @@ module _ (lines : List Line) (n : ℕ) (before after : Seen) (old new : World) (
   unsettled q e may = let is : r ≡ reply.NotSettled q = cc in subst Settled (sym is) may
 
   settle_sound : Settles n before after old new (Ok r) → Settled r
-  settle_sound (inr memory) = absurd (no_memory r memory)
+  settle_sound (inr memory) = absurd (no_memory r memory.0)
   settle_sound (inl h) = by_end h.settles
     where
       by_end : SettlesOn (settler n) before after h.begun new (Ok r) → Settled r
-      by_end (inr memory) = absurd (no_memory r memory)
+      by_end (inr memory) = absurd (no_memory r memory.0)
       by_end (inl s) = on s.answer s.comes.steps s.replies
         where
           all : List Line

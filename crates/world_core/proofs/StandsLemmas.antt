@@ -353,7 +353,7 @@ pub runs : (lines : List Line) (k n : ℕ) (r : Reply) (before after : Seen) (ol
     → before.state ≡ Some t → WorldStands lines old t → Runs n k before after old new (Ok r) → StandsFor (lines ++ line_of (event.Run k) r ∷ []) new after r
 runs lines k n r before after old new t at some told stands (inl refused) = refused_step lines (event.Run k) r k before after old new t refused told stands
 runs lines k n r before after old new t at some told stands (inr (inl run)) = runs_to lines k n r before after old new t at some told stands run
-runs lines k n r before after old new t at some told stands (inr (inr memory)) = absurd (no_memory r memory)
+runs lines k n r before after old new t at some told stands (inr (inr memory)) = absurd (no_memory r memory.0)
 
 -- a step that goes on
 called_line : (lines : List Line) (event : Event) (who : Caller) (wish : Wish) (before after : Seen) (old new : World)
@@ -383,7 +383,7 @@ pub makes_step : (lines : List Line) (k n : ℕ) (wish : Wish) (r : Reply) (befo
 makes_step lines k n wish r before after old new t at some told stands (inl refused) = refused_step lines (event.Step k wish) r k before after old new t refused told stands
 makes_step lines k n wish r before after old new t at some told stands (inr (inl step)) =
     step_to lines k n wish r before after old new t step.turn at some told stands step.steps step.replies
-makes_step lines k n wish r before after old new t at some told stands (inr (inr memory)) = absurd (no_memory r memory)
+makes_step lines k n wish r before after old new t at some told stands (inr (inr memory)) = absurd (no_memory r memory.0)
 
 -- ---- a session that dies
 
@@ -469,7 +469,7 @@ pub crashes : (lines : List Line) (k n : ℕ) (done : Bool) (r : Reply) (before 
 crashes lines k n false r before after old new t at some told stands h = dies lines k false r before after old new t some told stands h
 crashes lines k n true r before after old new t at some told stands (inl idle) = dies lines k true r before after old new t some told stands idle.dies
 crashes lines k n true r before after old new t at some told stands (inr (inl done)) = dies_done lines k n r before after old new t at some told stands done
-crashes lines k n true r before after old new t at some told stands (inr (inr memory)) = absurd (no_memory r memory)
+crashes lines k n true r before after old new t at some told stands (inr (inr memory)) = absurd (no_memory r memory.0)
 
 -- ---- a settling
 
@@ -624,12 +624,12 @@ module _ (lines : List Line) (n : ℕ) (before : Seen) (old begun : World) (t : 
   settler_on : (after : Seen) (new : World) (r : Reply) → SettlesOn (settler n) before after begun new (Ok r)
       → StandsFor (lines ++ line_of event.Settle r ∷ []) new after r
   settler_on after new r (inl h) = settler_ends after new r h
-  settler_on after new r (inr memory) = absurd (no_memory r memory)
+  settler_on after new r (inr memory) = absurd (no_memory r memory.0)
 
 pub settles : (lines : List Line) (n : ℕ) (r : Reply) (before after : Seen) (old new : World) (t : CloudState) → length lines + 1 ≡ n → before.state ≡ Some t → WorldStands lines old t
     → Settles n before after old new (Ok r) → StandsFor (lines ++ line_of event.Settle r ∷ []) new after r
 settles lines n r before after old new t at told stands (inl h) = settler_on lines n before old h.begun t (sym at) told stands h.begins after new r h.settles
-settles lines n r before after old new t at told stands (inr memory) = absurd (no_memory r memory)
+settles lines n r before after old new t at told stands (inr memory) = absurd (no_memory r memory.0)
 
 -- ---- waits
 

@@ -118,18 +118,18 @@ module _ (n : ℕ) (before after : Seen) (old new : World) (r : Reply) where
   step_text : (k : ℕ) (wish : Wish) → MakesStep n k wish before after old new (Ok r) → ReplyHasText r
   step_text k wish (inl refuses) = declines_text r _ before after old new refuses.declines
   step_text k wish (inr (inl step)) = turn_text step.turn step.steps.session.after r step.replies
-  step_text k wish (inr (inr memory)) = absurd (no_memory r memory)
+  step_text k wish (inr (inr memory)) = absurd (no_memory r memory.0)
 
   run_text : (k : ℕ) → Runs n k before after old new (Ok r) → ReplyHasText r
   run_text k (inl refuses) = declines_text r _ before after old new refuses.declines
   run_text k (inr (inl run)) = answer_text run.answer run.comes.steps.session.after r run.replies
-  run_text k (inr (inr memory)) = absurd (no_memory r memory)
+  run_text k (inr (inr memory)) = absurd (no_memory r memory.0)
 
   crash_text : (k : ℕ) (done : Bool) → Crashes n k done before after old new (Ok r) → ReplyHasText r
   crash_text k false h = plain_text r reply.Crashed h.replies tt
   crash_text k true (inl idle) = plain_text r reply.Crashed idle.dies.replies tt
   crash_text k true (inr (inl h)) = plain_text r reply.Crashed h.replies tt
-  crash_text k true (inr (inr memory)) = absurd (no_memory r memory)
+  crash_text k true (inr (inr memory)) = absurd (no_memory r memory.0)
 
   does_text : (k : ℕ) (request : Request) → Does n k request before after old new (Ok r) → ReplyHasText r
   does_text k (Begin op) h = begun_text h.1.does.begun h.1.after r h.1.does.replies
@@ -141,7 +141,7 @@ module _ (n : ℕ) (before after : Seen) (old new : World) (r : Reply) where
 
   settling_text : (who : Caller) (begun : World) → SettlesOn who before after begun new (Ok r) → ReplyHasText r
   settling_text who begun (inl settles) = settled_text settles.answer r settles.replies
-  settling_text who begun (inr memory) = absurd (no_memory r memory)
+  settling_text who begun (inr memory) = absurd (no_memory r memory.0)
 
 report_text : (tree : ℕ) (before after : Seen) (world : World) (r : Reply) → ReportReply tree before after world (Ok r) → ReplyHasText r
 report_text tree before after world (reply.Report shown) h = tt
@@ -158,5 +158,5 @@ has_text n (Wait ticks) before after old new (Ok r) (inl h) = plain_text r reply
 has_text n (Wait ticks) before after old new (Ok r) (inr long) = declines_text r _ before after old new long.declines
 has_text n (Report tree) before after old new (Ok r) h = report_text tree before after old r h.reply
 has_text n Settle before after old new (Ok r) (inl h) = settling_text n before after old new r _ h.begun h.settles
-has_text n Settle before after old new (Ok r) (inr memory) = absurd (no_memory r memory)
+has_text n Settle before after old new (Ok r) (inr memory) = absurd (no_memory r memory.0)
 has_text n asked before after old new (Err fault) h = tt

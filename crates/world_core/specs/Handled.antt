@@ -121,15 +121,45 @@ pub record StepsTo (n number : ℕ) (wish : Wish) (before after : Seen) (old new
 abbrev pub FindsNoMemory : Result Reply WorldFault → Type 0
 FindsNoMemory result = result ≡ Err fault.Memory
 
--- a step is refused, or it is made; or memory ran out on its way
+-- no call of the session was made, and looks at most
+pub record IsUncalled (before after : Seen) (old new : World) : Type 0 where
+  pub looked : Looked before after
+  pub sessions : new.sessions ≡ old.sessions
+  pub blind : new.blind ≡ old.blind
+
+-- its call was made, and the look behind it was not
+pub record IsUnlooked (who : Caller) (wish : Wish) (before after : Seen) (old new : World) : Type 0 where
+  pub from : Seen
+  pub under : Seen
+  pub to : Seen
+  pub turn : Turn Answer
+  pub look_before : Looked before from
+  pub wishes : SetsWish wish from under
+  pub session : Changes who.session (λ a b. StepsSession who under to a b (Ok turn)) old.sessions new.sessions
+  pub look_after : Looked to after
+  pub blind : new.blind ≡ old.blind
+
+-- memory ran out beside a step: before its call, or at the look behind it
+abbrev pub RunsShort : Caller → Wish → Seen → Seen → World → World → Type 0
+RunsShort who wish before after old new = IsUncalled before after old new ⊎ IsUnlooked who wish before after old new
+
+-- a step is refused, or it is made; or memory ran out beside it
 abbrev pub MakesStep : ℕ → ℕ → Wish → Seen → Seen → World → World → Result Reply WorldFault → Type 0
 MakesStep n number wish before after old new result =
-    RefusesStep number before after old new result ⊎ (StepsTo n number wish before after old new result ⊎ FindsNoMemory result)
+    RefusesStep number before after old new result
+    ⊎ (StepsTo n number wish before after old new result ⊎ (FindsNoMemory result × RunsShort (record { session = number; event = n }) wish before after old new))
 
 -- the world went on by some plain steps, each one service call
 pub data Went (who : Caller) (before : Seen) (old : World) : Seen → World → Type 0 where
   start : Went who before old before old
   further : (mid after : Seen) (world new : World) → Went who before old mid world → StepsLooked who Plain mid after world new More → Went who before old after new
+
+-- memory ran out behind some plain steps
+pub record StopsShort (who : Caller) (before after : Seen) (old new : World) : Type 0 where
+  pub mid : Seen
+  pub world : World
+  pub went : Went who before old mid world
+  pub short : RunsShort who Plain mid after world new
 
 -- plain steps up to the first answer
 pub record ComesTo (who : Caller) (before after : Seen) (old new : World) (answer : Answer) : Type 0 where
@@ -147,7 +177,8 @@ pub record RunsTo (n number : ℕ) (before after : Seen) (old new : World) (resu
 -- a run is refused, or it comes to its answer; or memory ran out on the way
 abbrev pub Runs : ℕ → ℕ → Seen → Seen → World → World → Result Reply WorldFault → Type 0
 Runs n number before after old new result =
-    RefusesStep number before after old new result ⊎ (RunsTo n number before after old new result ⊎ FindsNoMemory result)
+    RefusesStep number before after old new result
+    ⊎ (RunsTo n number before after old new result ⊎ (FindsNoMemory result × StopsShort (record { session = number; event = n }) before after old new))
 
 -- ---- a settling
 
@@ -159,9 +190,14 @@ pub record SettlesTo (who : Caller) (before after : Seen) (old new : World) (res
   pub closes : Has who.session closed_session left new
   pub replies : RepliesSettled answer result
 
--- or memory ran out on the way
+-- memory ran out on the way, and it is closed then
+pub record SettlesShort (who : Caller) (before after : Seen) (old new : World) : Type 0 where
+  pub left : World
+  pub stops : StopsShort who before after old left
+  pub closes : Has who.session closed_session left new
+
 abbrev pub SettlesOn : Caller → Seen → Seen → World → World → Result Reply WorldFault → Type 0
-SettlesOn who before after old new result = SettlesTo who before after old new result ⊎ FindsNoMemory result
+SettlesOn who before after old new result = SettlesTo who before after old new result ⊎ (FindsNoMemory result × SettlesShort who before after old new)
 
 -- session 0 is the settler, and settles
 pub record SettlerSettles (n : ℕ) (before after : Seen) (old new : World) (result : Result Reply WorldFault) : Type 0 where
@@ -169,8 +205,14 @@ pub record SettlerSettles (n : ℕ) (before after : Seen) (old new : World) (res
   pub begins : Has 0 settling_session old begun
   pub settles : SettlesOn (record { session = 0; event = n }) before after begun new result
 
+-- nothing was done
+pub record DoesNothing (before after : Seen) (old new : World) : Type 0 where
+  pub seen : after ≡ before
+  pub world : new ≡ old
+
+-- or there was no memory for a settler
 abbrev pub Settles : ℕ → Seen → Seen → World → World → Result Reply WorldFault → Type 0
-Settles n before after old new result = SettlerSettles n before after old new result ⊎ FindsNoMemory result
+Settles n before after old new result = SettlerSettles n before after old new result ⊎ (FindsNoMemory result × DoesNothing before after old new)
 
 -- ---- a session that dies
 
@@ -193,9 +235,10 @@ pub record DiesIdle (number : ℕ) (before after : Seen) (old new : World) (resu
   pub idle : IsNotWorking number old.sessions
   pub dies : Dies number before after old new result
 
--- or memory ran out
+-- or memory ran out beside that call
 abbrev pub CrashesDone : Caller → Seen → Seen → World → World → Result Reply WorldFault → Type 0
-CrashesDone who before after old new result = DiesDone who.event who.session before after old new result ⊎ FindsNoMemory result
+CrashesDone who before after old new result =
+    DiesDone who.event who.session before after old new result ⊎ (FindsNoMemory result × RunsShort who Plain before after old new)
 
 abbrev pub Crashes : ℕ → ℕ → Bool → Seen → Seen → World → World → Result Reply WorldFault → Type 0
 Crashes n number false before after old new result = Dies number before after old new result

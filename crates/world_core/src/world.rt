@@ -1,4 +1,4 @@
-ghost use Rattle.std.specs.Prelude.{◌≡◌, ℕ, ◌≤◌, ◌<◌, ◌⊎◌, true, false, [], replicate, slice_get, Some, None, Ok, IfOk, IfErr, OnOk};
+ghost use Rattle.std.specs.Prelude.{◌≡◌, ℕ, ◌≤◌, ◌<◌, ◌⊎◌, true, false, [], replicate, slice_get, Some, None, Ok, IfOk, IfErr, OnErr, OnOk};
 ghost use Rattle.world_core.specs.Put.{is_blind};
 ghost use Rattle.world_core.specs.Stands.{Grows};
 ghost use Rattle.world_core.specs.Handled.{WaitsFor};
@@ -80,7 +80,7 @@ impl<S: SessionCalls> World<S> {
     ghost use Rattle.world_core.specs.Settled.{SettlingEnds, SettlingIsRight, SettlingLeaves};
     ghost use Rattle.world_core.specs.Stands.{KeepsABook, WorldStands, StandsOn};
     ghost use Rattle.world_core.specs.Sessions.{Changes, IsNotWorking, IsAtWork, HasPut};
-    ghost use Rattle.world_core.specs.Handled.{Handled, Answers, Does, BeginsOp, NotesChange, DropsChanges, MakesStep, ComesTo, Runs, Settles, SettlesOn, Has, Crashes, CrashesDone, StepsLooked, Reports};
+    ghost use Rattle.world_core.specs.Handled.{Handled, Answers, Does, BeginsOp, NotesChange, DropsChanges, MakesStep, ComesTo, Runs, Settles, SettlesOn, Has, Crashes, CrashesDone, StepsLooked, StopsShort, RunsShort, Reports};
 
     /// A world whose sessions are closed, and that saw nothing: over an empty cloud it stands for no lines. Refused for memory
     /// alone.
@@ -223,7 +223,8 @@ impl<S: SessionCalls> World<S> {
 
     /// Has the session settle from now on. Refused for memory alone.
     fn begin_settling(&mut self, alloc: Global, number: SessionNo) -> Result<(), Refused>
-        ensures { OnOk result (Has number settling_session self.old self.new) }
+        ensures ok { OnOk result (Has number settling_session self.old self.new) }
+        ensures err { OnErr result (self.new ≡ self.old) }
     {
         self.sessions.settle(alloc, number)
     }
@@ -296,6 +297,7 @@ impl<S: SessionCalls> World<S> {
     ) -> Result<Answer, WorldFault>
         requires { IsAtWork who.session self.old.sessions }
         ensures comes { IfOk result (λ answer. ComesTo who (C.seen cloud.old) (C.seen cloud.new) self.old self.new answer) }
+        ensures short { OnErr result (StopsShort who (C.seen cloud.old) (C.seen cloud.new) self.old self.new) }
         ensures grows { Grows who.event (C.seen cloud.old) (C.seen cloud.new) }
     {
         'steps: loop {
@@ -391,6 +393,7 @@ impl<S: SessionCalls> World<S> {
     ) -> Result<Turn<Answer>, WorldFault>
         requires works { IsAtWork who.session self.old.sessions }
         ensures looked { IfOk result (λ turn. StepsLooked who wish (C.seen cloud.old) (C.seen cloud.new) self.old self.new turn) }
+        ensures short { OnErr result (RunsShort who wish (C.seen cloud.old) (C.seen cloud.new) self.old self.new) }
         ensures grows { Grows who.event (C.seen cloud.old) (C.seen cloud.new) }
     {
         match put_in_hand(alloc, self.session(who.session)) {
@@ -411,6 +414,7 @@ impl<S: SessionCalls> World<S> {
         requires works { IsAtWork who.session self.old.sessions }
         requires no_put { HasPut who.session self.old.sessions None }
         ensures looked { IfOk result (λ turn. StepsLooked who wish (C.seen cloud.old) (C.seen cloud.new) self.old self.new turn) }
+        ensures short { OnErr result (RunsShort who wish (C.seen cloud.old) (C.seen cloud.new) self.old self.new) }
         ensures grows { Grows who.event (C.seen cloud.old) (C.seen cloud.new) }
     {
         cloud.wish(wish);
@@ -429,6 +433,7 @@ impl<S: SessionCalls> World<S> {
         requires works { IsAtWork who.session self.old.sessions }
         requires puts { HasPut who.session self.old.sessions (Some put.now) }
         ensures looked { IfOk result (λ turn. StepsLooked who wish (C.seen cloud.old) (C.seen cloud.new) self.old self.new turn) }
+        ensures short { OnErr result (RunsShort who wish (C.seen cloud.old) (C.seen cloud.new) self.old self.new) }
         ensures grows { Grows who.event (C.seen cloud.old) (C.seen cloud.new) }
     {
         let before = is_newest(cloud, put)?;

@@ -5,7 +5,7 @@ use Rattle.std.specs.List.{AllByRecursion}
 use Rattle.byte_format.specs.Order.{bytes_below, bytes_same, below_bound}
 use Rattle.byte_format.proofs.OrderLemmas.{same_is}
 use Rattle.db_base.specs.declared.pair.Pair.{Pair}
-use Rattle.leaf_view.specs.Fits.{Ascend, IsEntryIn}
+use Rattle.leaf_view.specs.Fits.{Ascend, IsEntryIn, entry_below}
 use Rattle.leaf_view.specs.Leaf.{Entry, Leaf}
 use Rattle.leaf_view.specs.Lookup.{payload_of}
 use Rattle.node_codec.proofs.EntryLemmas.{below_chain}
@@ -55,11 +55,12 @@ past_all key low high (e ∷ es) are past = (differs key e.key (λ k. below_boun
 
 -- ---- the leaves of links
 
--- a leaf's records are from its link's low key on and below that of the next link
+-- a leaf's records ascend, from its link's low key on and below that of the next link
 pub record IsRanged (leaf : ℕ → Leaf) (link : Link) (next : Option Link) : Type 0 where
   pub low : (leaf link.page).low ≡ link.low
   pub high : (leaf link.page).high ≡ low_after next
   pub records : AllByRecursion (IsEntryIn (leaf link.page).low (leaf link.page).high) (leaf link.page).records
+  pub ascend : Ascend entry_below None (leaf link.page).records
 
 abbrev pub AreRanged : (ℕ → Leaf) → List Link → Type 0
 AreRanged leaf links = (place : ℕ) (link : Link) → StandsAt links place link → IsRanged leaf link (slice_get links (suc place))

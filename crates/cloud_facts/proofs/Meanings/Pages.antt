@@ -6,7 +6,7 @@ use Rattle.std.specs.List.{AllByRecursion}
 use Rattle.cloud_trait.specs.State.{CloudState, newest, newest_of}
 use Rattle.cloud_trait.specs.declared.state.Version.{Version}
 use Rattle.db_base.specs.declared.names.ObjName.TheVariants as object
-use Rattle.leaf_view.specs.Fits.{IsEntryIn}
+use Rattle.leaf_view.specs.Fits.{IsEntryIn, Ascend, entry_below}
 use Rattle.leaf_view.specs.Leaf.{Leaf, IsLeaf}
 use Rattle.leaf_view.specs.Lookup.{empty_leaf}
 use Rattle.leaf_view.proofs.Split.{leaf_fits}
@@ -57,6 +57,11 @@ read_as tree page (Some b) l none some = some b refl
 pub read_range : (tree page : ℕ) (bytes : Option (List ℕ)) (l : Leaf) → IsReadAs tree page bytes (Ok l) → AllByRecursion (IsEntryIn l.low l.high) l.records
 read_range tree page None l is = subst (λ (x : Leaf). AllByRecursion (IsEntryIn x.low x.high) x.records) (sym is.1) tt
 read_range tree page (Some bytes) l is = (leaf_fits l is.fits).1.records
+
+-- and ascend
+pub read_ascends : (tree page : ℕ) (bytes : Option (List ℕ)) (l : Leaf) → IsReadAs tree page bytes (Ok l) → Ascend entry_below None l.records
+read_ascends tree page None l is = subst (λ (x : Leaf). Ascend entry_below None x.records) (sym is.1) tt
+read_ascends tree page (Some bytes) l is = (leaf_fits l is.fits).1.records_ascend
 
 -- ---- the pages of links
 

@@ -15,10 +15,11 @@ use Rattle.cloud_facts.specs.Decoding.Decodes.{Decodes}
 use Rattle.tree_meaning.specs.Chain.{AreLeaves, records_of}
 use Rattle.tree_meaning.specs.Index.{Finds}
 use Rattle.cloud_facts.specs.Meanings.Contents.{leaves_of, IsRead}
+use Rattle.cloud_facts.proofs.Meanings.Ascending.{records_ascend}
 use Rattle.cloud_facts.proofs.Meanings.Contents.{AreRanged, contents_from}
 use Rattle.cloud_facts.proofs.Meanings.Finding.{finds}
 use Rattle.cloud_facts.proofs.Meanings.Leaves.{links_are_leaves, one_way}
-use Rattle.cloud_facts.proofs.Meanings.Pages.{leaf_at, read_range}
+use Rattle.cloud_facts.proofs.Meanings.Pages.{leaf_at, read_ascends, read_range}
 
 -- the links of a leaf chain begin with the first leaf
 contents_all : (key : List ℕ) (leaf : ℕ → Leaf) (links rest : List Link) → links ≡ first_link ∷ rest → Ascends links → AreRanged leaf links
@@ -35,6 +36,7 @@ pub chained_reads : (s : CloudState) (tree : ℕ) (chain : ℕ → List Link) (d
     → IsRead s tree (leaves_of (newest_leaf (nodes_of s) tree) (chain 0)) (λ key. payload_of key (newest_leaf (nodes_of s) tree (page_from 1 key (chain 0))).records)
 chained_reads s tree chain done cursor h d = record {
   chain = links_are_leaves s tree chain done cursor h d;
+  ascending = records_ascend (newest_leaf (nodes_of s) tree) (chain 0) (h.levels.ascends 0) ranged;
   contents = λ key. contents_all key (newest_leaf (nodes_of s) tree) (chain 0) h.levels.leaves.0 h.levels.leaves.1 (h.levels.ascends 0) ranged;
   found = λ key. finds s tree chain done cursor h d key;
 }
@@ -44,6 +46,7 @@ chained_reads s tree chain done cursor h d = record {
       low = at.low;
       high = at.ends.high;
       records = read_range tree link.page _ (newest_leaf (nodes_of s) tree link.page) at.newest;
+      ascend = read_ascends tree link.page _ (newest_leaf (nodes_of s) tree link.page) at.newest;
     }
 
 -- the leaves of a tree that a store tells

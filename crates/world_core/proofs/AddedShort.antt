@@ -1,0 +1,150 @@
+-- What a line adds to the trace of any cloud for which memory ran out is of its kind too.
+use Rattle.std.proofs.Common.{◌≡◌, ◌+◌, ◌⊎◌, ℕ, List, [], ◌∷◌, ◌++◌, length, Bool, true, false, Some, Result, Ok, Err, refl, sym, ap, subst, ◌∙◌, inl, inr, arith}
+use Rattle.cloud_trait.specs.Caller.{Caller}
+use Rattle.cloud_trait.specs.Seen.{Seen}
+use Rattle.cloud_trait.specs.State.{CloudState}
+use Rattle.client_work.specs.Session.{settling_session}
+use Rattle.db_base.specs.declared.wish.Wish.{Wish}
+use Rattle.db_base.specs.declared.wish.Wish.TheVariants.{Plain}
+use Rattle.event_text.specs.declared.event.Event.{Event}
+use Rattle.event_text.specs.declared.event.Event.TheVariants as event
+use Rattle.replay_meaning.specs.Standing.{Line}
+use Rattle.reply_text.specs.declared.reply.Reply.{Reply}
+use Rattle.session_facts.specs.Added.{AddsTo}
+use Rattle.session_facts.specs.Facts.{session_at}
+use Rattle.session_facts.specs.Sessions.Sessions.{Sessions}
+use Rattle.session_facts.proofs.AddedRows.{adds_same, adds_line}
+use Rattle.session_facts.proofs.CallKinds.{IsSettlersRow}
+use Rattle.session_facts.proofs.LineLemmas.{line_of}
+use Rattle.session_facts.proofs.SettlerLemmas.{settler_row}
+use Rattle.world_core.specs.World.{World}
+use Rattle.world_core.specs.declared.asked.Asked.{Asked}
+use Rattle.world_core.specs.declared.asked.Asked.TheVariants.{Session, Wait, Report, Settle}
+use Rattle.world_core.specs.declared.asked.Request.{Request}
+use Rattle.world_core.specs.declared.asked.Request.TheVariants.{Begin, Note, Abort, Step, Run, Crash}
+use Rattle.world_core.specs.declared.world.WorldFault.{WorldFault}
+use Rattle.world_core.specs.Added.{WorldAdds}
+use Rattle.world_core.specs.Asked.{Asks}
+use Rattle.world_core.specs.Handled.{Has, RunsShort, MakesStep, StopsShort, Runs, SettlesOn, Settles, Crashes, Does, Answers, Handled}
+use Rattle.world_core.proofs.AddedSteps.{IsAdding, SettlerAdds, adding_begins, begun_way, rows_begin, rows_called, rows_seen, rows_stay, rows_stepped, settler_rows, settler_rows_called, settler_went, went_adding}
+use Rattle.world_core.proofs.StandsLemmas.{settler}
+
+-- ---- a session
+
+module _ (lines : List Line) (first : CloudState) (who : Caller) (number : who.event ≡ length lines + 1) where
+  abbrev Rows : Seen → Type 0
+  Rows seen = AddsTo (length lines + 1) lines first seen
+
+  short_rows : (wish : Wish) (before after : Seen) (old new : World) → IsAdding lines first old before → RunsShort who wish before after old new → Rows after
+  short_rows wish before after old new way (inl un) = rows_stay (length lines + 1) lines first before after un.looked.stays way.rows
+  short_rows wish before after old new way (inr p) = rows_called lines first who wish before p.from p.under p.to after old new p.turn number way p.look_before p.wishes p.session p.look_after
+
+  stops_rows : (before after : Seen) (old new : World) → IsAdding lines first old before → StopsShort who before after old new → Rows after
+  stops_rows before after old new way s = short_rows Plain s.mid after s.world new (went_adding lines first who before old s.mid s.world number way s.went) s.short
+
+module _ (lines : List Line) (first : CloudState) (n : ℕ) (before after : Seen) (old new : World) (result : Result Reply WorldFault) (number : length lines + 1 ≡ n)
+    (w : WorldAdds lines first old before) where
+  abbrev RowsNow : Type 0
+  RowsNow = AddsTo (length lines + 1) lines first after
+
+  way : IsAdding lines first old before
+  way = adding_begins lines first old before w
+
+  as_seen : after ≡ before → RowsNow
+  as_seen same = rows_seen (length lines + 1) lines first before after same way.rows
+
+  step_rows : (k : ℕ) (wish : Wish) → MakesStep n k wish before after old new result → RowsNow
+  step_rows k wish (inl refuses) = as_seen refuses.declines.seen
+  step_rows k wish (inr (inl step)) = rows_stepped lines first _ wish before after old new step.turn (sym number) way step.steps
+  step_rows k wish (inr (inr memory)) = short_rows lines first _ (sym number) wish before after old new way memory.1
+
+  run_rows : (k : ℕ) → Runs n k before after old new result → RowsNow
+  run_rows k (inl refuses) = as_seen refuses.declines.seen
+  run_rows k (inr (inl run)) =
+      rows_stepped lines first _ Plain run.comes.mid after run.comes.world new _ (sym number)
+      (went_adding lines first _ before old run.comes.mid run.comes.world (sym number) way run.comes.went) run.comes.steps
+  run_rows k (inr (inr memory)) = stops_rows lines first _ (sym number) before after old new way memory.1
+
+  crash_rows : (k : ℕ) (done : Bool) → Crashes n k done before after old new result → RowsNow
+  crash_rows k false h = as_seen h.quiet.seen
+  crash_rows k true (inl idle) = as_seen idle.dies.quiet.seen
+  crash_rows k true (inr (inl h)) = rows_stepped lines first _ Plain before after old h.world h.turn (sym number) way h.steps
+  crash_rows k true (inr (inr memory)) = short_rows lines first _ (sym number) Plain before after old new way memory.1
+
+  does_rows : (k : ℕ) (request : Request) → Does n k request before after old new result → RowsNow
+  does_rows k (Begin op) h = as_seen h.0.seen
+  does_rows k (Note tree change) h = as_seen h.0.seen
+  does_rows k Abort h = as_seen h.0.seen
+  does_rows k (Step wish) h = step_rows k wish h
+  does_rows k Run h = run_rows k h
+  does_rows k (Crash done) h = crash_rows k done h
+
+  -- ---- a settling
+
+  settling_rows : (r : Reply) (begun : World) → Has 0 settling_session old begun → SettlesOn (settler n) before after begun new result
+      → AddsTo n (lines ++ line_of event.Settle r ∷ []) first after
+  settling_rows r begun begins on = by_end on
+    where
+      all : List Line
+      all = lines ++ line_of event.Settle r ∷ []
+
+      others : Sessions
+      others = session_at old.sessions
+
+      row : IsSettlersRow all (settler n)
+      row = settler_row lines r (settler n) refl (sym number)
+
+      begun_so : SettlerAdds n all first others begun before
+      begun_so = begun_way lines first n r before old begun number w begins
+
+      short : (mid : Seen) (world left : World) → SettlerAdds n all first others world mid → RunsShort (settler n) Plain mid after world left → AddsTo n all first after
+      short mid world left so (inl un) = rows_stay n all first mid after un.looked.stays so.rows
+      short mid world left so (inr p) =
+          settler_rows_called n all first others row mid p.from p.under p.to after world left p.turn so p.look_before p.wishes p.session p.look_after
+
+      by_end : SettlesOn (settler n) before after begun new result → AddsTo n all first after
+      by_end (inl s) =
+          settler_rows n all first others row s.comes.mid after s.comes.world s.left _
+          (settler_went n all first others row before begun s.comes.mid s.comes.world begun_so s.comes.went) s.comes.steps
+      by_end (inr memory) =
+          let s = memory.1.stops in
+          short s.mid s.world memory.1.left (settler_went n all first others row before begun s.mid s.world begun_so s.went) s.short
+
+  -- ---- every line
+
+  with_line : (event : Event) (r : Reply) → RowsNow → AddsTo n (lines ++ line_of event r ∷ []) first after
+  with_line event r a =
+      subst (λ m. AddsTo m (lines ++ line_of event r ∷ []) first after) number
+      (record { state = a.state; told = a.told; adds = adds_line (length lines + 1) lines (line_of event r) first a.state refl a.adds })
+
+  settles_rows : (r : Reply) → Settles n before after old new result → AddsTo n (lines ++ line_of event.Settle r ∷ []) first after
+  settles_rows r (inl h) = settling_rows r h.begun h.begins h.settles
+  settles_rows r (inr memory) = with_line event.Settle r (as_seen memory.1.seen)
+
+  wait_rows : (ticks : ℕ) → Answers n (Wait ticks) before after old new result → RowsNow
+  wait_rows ticks (inl h) =
+      let waited = h.0.waited way.rows.state way.rows.told in
+      record {
+        state = waited.after;
+        told = waited.told;
+        adds = adds_same (length lines + 1) lines first way.rows.state waited.after (ap (λ (z : CloudState). z.versions) waited.rest) (ap (λ (z : CloudState). z.trace) waited.rest)
+            way.rows.adds;
+      }
+  wait_rows ticks (inr long) = as_seen long.declines.seen
+
+  -- whatever reply the line would have had
+  asked_rows : (e : Event) (r : Reply) (asked : Asked) → Asks e asked → Answers n asked before after old new result → AddsTo n (lines ++ line_of e r ∷ []) first after
+  asked_rows e r (Session k (Ok request)) asks (inl h) = with_line e r (does_rows k request h.1)
+  asked_rows e r (Session k (Err why)) asks (inl h) = with_line e r (as_seen h.1.seen)
+  asked_rows e r (Session k request) asks (inr none) = with_line e r (as_seen none.declines.seen)
+  asked_rows e r (Wait ticks) asks h = with_line e r (wait_rows ticks h)
+  asked_rows e r (Report tree) asks h = with_line e r (rows_stay (length lines + 1) lines first before after h.looked.stays way.rows)
+  asked_rows event.Settle r Settle asks h = settles_rows r h
+  asked_rows (event.Wait ticks) r Settle asks h = absurd (cc)
+  asked_rows (event.Report tree) r Settle asks h = absurd (cc)
+  asked_rows e r Settle asks h = absurd asks
+
+-- a line that was handled, whatever its result and whatever reply it would have had
+pub handled_rows : (n : ℕ) (event : Event) (before after : Seen) (old new : World) (result : Result Reply WorldFault) (lines : List Line) (first : CloudState) → length lines + 1 ≡ n
+    → Handled n event before after old new result → WorldAdds lines first old before → (r : Reply) → AddsTo n (lines ++ line_of event r ∷ []) first after
+handled_rows n event before after old new result lines first number h w r = asked_rows lines first n before after old new result number w event r h.asked h.asks h.answers

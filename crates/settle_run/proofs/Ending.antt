@@ -10,20 +10,19 @@ use Rattle.cloud_trait.specs.declared.answer.Answer.TheVariants.{Failed}
 use Rattle.cloud_trait.specs.declared.turn.Turn.{Turn}
 use Rattle.cloud_trait.specs.declared.turn.Turn.TheVariants.{More, Ended, Stopped}
 use Rattle.cloud_trait.specs.declared.turn.CkptAnswer.{CkptAnswer}
-use Rattle.cloud_trait.specs.Machine.{Next, Goes, Ends, Stops, Took, Deed, Came}
+use Rattle.cloud_trait.specs.Machine.{Next, Goes, Ends, Stops, Took}
 use Rattle.recover_run.specs.declared.stage.RecoverAnswer.{RecoverAnswer}
 use Rattle.recover_run.specs.Ids.{new_ids}
 use Rattle.recover_run.specs.Recovery.{Recovery}
 use Rattle.page_ckpt.specs.Paging.{Paging}
-use Rattle.tree_ckpt.specs.Making.{Making, new_making, making_ask, MakingLeads}
-use Rattle.tree_ckpt.specs.Standing.{Went as TreeWent}
+use Rattle.tree_ckpt.specs.Making.{Making}
 use Rattle.recover_run.specs.Bound.{calls_left as recovery_left}
 use Rattle.page_ckpt.specs.Ending.{calls_left as paging_left}
 use Rattle.tree_ckpt.specs.Ending.{calls_in}
 use Rattle.settle_run.specs.declared.part.Part.{Part}
 use Rattle.settle_run.specs.declared.part.Part.TheVariants.{Client, Tree, Page}
 use Rattle.settle_run.specs.declared.settled.Settled.{Settled}
-use Rattle.settle_run.specs.Parts.{recovered_turn, left_turn, KeepsPart, PartWent, part_of_client, part_of_tree, part_of_page, part_again, part_received, recovers, makes, pages, PartLeads}
+use Rattle.settle_run.specs.Parts.{recovered_turn, left_turn, KeepsPart, part_of_client, part_of_tree, part_of_page, part_again, part_received, recovers, makes, pages, PartLeads}
 use Rattle.settle_run.specs.Settling.{Settling, Step, begins, behind_client, to_page, behind_tree, is_visited, goes_right, goes_on, passed_with, passed, ended_by, counted, with_part, after_turn, moved, SamePart}
 use Rattle.settle_run.specs.Ending.{part_left, places_left, parts_left, calls_left}
 

@@ -1,5 +1,6 @@
 pub mod Causing
 pub mod Ending
 pub mod Holding
+pub mod Wholes
 pub mod Ranging
 pub mod Stepping

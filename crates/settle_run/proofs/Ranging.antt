@@ -20,6 +20,7 @@ use Rattle.settle_run.specs.Parts.{part_of_client, part_of_tree, part_ask, part_
 use Rattle.settle_run.specs.Settling.{Settling, Step, new_settling, settle_ask, begins, behind_client, to_page, behind_tree, is_visited, goes_right, goes_on, passed_with, passed, ended_by, counted, with_part, moved, SettleLeads, KeepsSettling}
 use Rattle.settle_run.specs.Meaning.{Went, Run, IsRun, behind, Ran, deeds_of, IsSettled, MeansTurn}
 use Rattle.settle_run.proofs.Ending.{part_stays}
+use Rattle.settle_run.proofs.Wholes.{ran_whole}
 
 -- ---- what comes next
 
@@ -214,6 +215,7 @@ module _ (h : List Deed) (d : Deed) (s : Settling) (st : Stands h s) (asked : d.
         ends = run_is p no_left;
         place = part_stays s.part d.answer (Ends p 0) no_left ∙ st.place;
         passes = passes_with p (Ends n x) z.1;
+        whole = ran_whole (run_of p) st.runs st.from n x st.ran (part_stays s.part d.answer (Ends p 0) no_left ∙ st.place) (passes_with p (Ends n x) z.1);
         all = all_with;
         counts = counts_with x.calls ended ∙ sym (ap length all_with);
       }

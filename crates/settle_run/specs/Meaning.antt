@@ -1,5 +1,6 @@
 -- What a settling did, as its calls tell it.
 use Rattle.std.specs.Prelude.{ℕ, ◌≡◌, ◌≢◌, ◌+◌, ◌⊎◌, true, List, [], ◌∷◌, ◌++◌, length, Some}
+use Rattle.std.specs.List.{AllByRecursion}
 use Rattle.db_base.specs.declared.trouble.Trouble.{Trouble}
 use Rattle.db_base.specs.declared.trouble.Trouble.TheVariants as trouble
 use Rattle.leaf_view.specs.Lookup.{page_at}
@@ -9,14 +10,17 @@ use Rattle.cloud_trait.specs.declared.turn.Turn.TheVariants.{More, Ended, Stoppe
 use Rattle.cloud_trait.specs.Caller.{Caller}
 use Rattle.cloud_trait.specs.Seen.{Seen}
 use Rattle.cloud_trait.specs.Weather.{Makes}
-use Rattle.cloud_trait.specs.Machine.{Goes, Ends, Stops, Deed, Came, IsMade}
-use Rattle.recover_run.specs.Ids.{new_ids}
+use Rattle.cloud_trait.specs.Machine.{Next, Goes, Ends, Stops, Deed, Came, IsMade}
+use Rattle.db_base.specs.Ids.{IsClient, IsTree}
+use Rattle.recover_run.specs.Ids.{has_id, new_ids}
+use Rattle.recover_run.specs.Recovery.{Recovery}
 use Rattle.page_ckpt.specs.Paging.{Paging}
 use Rattle.settle_run.specs.declared.part.Part.{Part}
-use Rattle.settle_run.specs.declared.part.Part.TheVariants.{Page}
+use Rattle.settle_run.specs.declared.part.Part.TheVariants.{Client, Tree, Page}
 use Rattle.settle_run.specs.declared.settled.Settled.{Settled}
-use Rattle.settle_run.specs.Parts.{part_ask, part_again, PartLeads, PartWent}
+use Rattle.settle_run.specs.Parts.{part_ask, part_again, part_received, PartLeads, PartWent}
 use Rattle.settle_run.specs.Settling.{Settling, new_settling, settle_ask, SettleLeads, passed, is_visited}
+use Rattle.tree_ckpt.specs.Making.{Making}
 
 -- the settling came here from its first call on by these calls, the newest first
 abbrev pub Went : List Deed → Settling → Type 0
@@ -55,6 +59,39 @@ abbrev pub deeds_of : List Run → List Deed
 deeds_of [] = []
 deeds_of (r ∷ rs) = r.deeds ++ deeds_of rs
 
+-- ---- what they were together
+
+-- a part ran, and stood so at its end
+abbrev pub RanTo : List Run → Part → Type 0
+RanTo [] part = ⊥
+RanTo (r ∷ rs) part = (r.part ≡ part) ⊎ RanTo rs part
+
+-- a checkpoint of a queue received this
+abbrev pub Received : List Run → Part → ℕ → Type 0
+Received runs queue id = (part : Part) × (RanTo runs part × ((part_again part ≡ queue) × (has_id (part_received part) id ≡ true)))
+
+-- a checkpoint of a queue ran that received nothing new: what it received, an earlier one of that queue had received
+abbrev pub Empties : List Run → Part → Type 0
+Empties [] part = ⊥
+Empties (r ∷ rs) part = ((r.part ≡ part) × AllByRecursion (Received rs (part_again part)) (part_received part)) ⊎ Empties rs part
+
+-- so the queues of these pages of a tree were emptied, and each of those checkpoints read the next page as its right page
+abbrev pub EmptiesPages : List Run → ℕ → ℕ → List ℕ → ℕ → Type 0
+EmptiesPages runs tree from [] to = from ≡ to
+EmptiesPages runs tree from (page ∷ pages) to = (page ≡ from) × ((m : Paging) × (Empties runs (Page tree page m) × EmptiesPages runs tree m.home.right pages to))
+
+-- and so was a tree's own, and those of its pages from page 1 up to one without a right page
+pub record EmptiesTree (runs : List Run) (tree : ℕ) : Type 0 where
+  pub making : Making
+  pub own : Empties runs (Tree tree making)
+  pub pages : List ℕ
+  pub all : EmptiesPages runs tree 1 pages 0
+
+-- every client was recovered, and every tree emptied
+pub record IsWhole (runs : List Run) : Type 0 where
+  pub clients : (client : ℕ) → IsClient client → (m : Recovery) × RanTo runs (Client client m)
+  pub trees : (tree : ℕ) → IsTree tree → EmptiesTree runs tree
+
 -- ---- the end
 
 -- all parts ran, and nothing comes behind the last; these were all calls, and the answer counts them
@@ -66,6 +103,7 @@ pub record IsSettled (h : List Deed) (left : Settling) (answer : Settled) : Type
   pub ends : IsRun last
   pub place : part_again last.part ≡ from.part
   pub passes : passed (behind from last) ≡ Ends left answer
+  pub whole : IsWhole (last ∷ runs)
   pub all : h ≡ deeds_of (last ∷ runs)
   pub counts : answer.calls ≡ length h
 
@@ -106,8 +144,37 @@ Tells s a More = Unit {0}
 Tells s a (Ended answer) = Unit {0}
 Tells s a (Stopped t) = t ≢ trouble.Memory → Stopping s a t
 
+-- ---- both ways
+
+-- the last checkpoint of a page received nothing new, and its right page is this one, whose own checkpoints were made
+abbrev pub RoundTo : Settling → Part → ℕ → Type 0
+RoundTo s (Page tree page m) right = (new_ids s.known m.received ≡ []) × ((page_at m.home.right ≡ Some right) × (is_visited s right ≡ true))
+RoundTo s part right = ⊥
+
+-- with which trouble a step of the part at work has to stop the settling: with its own, with Failed where deletions had failed, with Loop where the
+-- way would go round, and else with none
+abbrev pub MustStop : Settling → Next Part ℕ → Trouble → Type 0
+MustStop s (Goes part) t = ⊥
+MustStop s (Stops part k) t = t ≡ k
+MustStop s (Ends part left) t =
+    ((left ≢ 0) × (t ≡ trouble.Failed)) ⊎ ((left ≡ 0) × ((right : ℕ) × (RoundTo s part right × (t ≡ trouble.Loop right))))
+
+-- the part at work took a step that has to stop it with none, or so
+abbrev pub MustNotStop : Settling → Answer → Type 0
+MustNotStop s a = (next : Next Part ℕ) × (PartLeads s.part a next × ((t : Trouble) → MustStop s next t → ⊥))
+
+abbrev pub HasToStop : Settling → Answer → Trouble → Type 0
+HasToStop s a t = (next : Next Part ℕ) × (PartLeads s.part a next × MustStop s next t)
+
+-- it stops where it has to, and nowhere else
+abbrev pub StopsExactly : Settling → Answer → Turn Settled → Type 0
+StopsExactly s a More = MustNotStop s a
+StopsExactly s a (Ended answer) = MustNotStop s a
+StopsExactly s a (Stopped t) = t ≢ trouble.Memory → HasToStop s a t
+
 -- why a step stops, by what the cloud answered; want of memory is free
 pub record Causes (who : Caller) (before after : Seen) (old : Settling) (turn : Turn Settled) : Type 0 where
   pub answer : Answer
   pub made : Makes who (settle_ask old) answer before after
   pub tells : Tells old answer turn
+  pub exact : StopsExactly old answer turn

@@ -6,7 +6,7 @@ use Rattle.settle_run.specs.Meaning.{Went, Meant, Causes}
 use Rattle.settle_run.specs.Settling.{Settling, settle_ask, SettleLeads, KeepsSettling}
 use Rattle.settle_run.specs.Standing.{GivesBack}
 use Rattle.settle_run.specs.contracts.settle.SettleRun.{the_view}
-use Rattle.settle_run.proofs.Causing.{took_tells}
+use Rattle.settle_run.proofs.Causing.{took_tells, took_exact}
 use Rattle.settle_run.proofs.Ending.{turn_less}
 use Rattle.settle_run.proofs.Holding.{went_holds, took_gives}
 use Rattle.settle_run.proofs.Ranging.{went_stands, own_calls, took_means}
@@ -75,6 +75,8 @@ returns-clause-causes g c =
     (record {
       answer = s.answer;
       made = s.made;
+      exact = took_exact (the_view c.self.inside) c.follow-next.new.self s.answer c.follow-next.result
+          (followed (the_view c.self.inside) c.follow-next.new.self c.step-turn.new.self s.answer c.step-turn.result c.follow-next.result s.took c.follow-next.ensures);
       tells = took_tells (the_view c.self.inside) c.follow-next.new.self s.answer c.follow-next.result
           (followed (the_view c.self.inside) c.follow-next.new.self c.step-turn.new.self s.answer c.step-turn.result c.follow-next.result s.took c.follow-next.ensures);
     })

@@ -18,4 +18,6 @@ mod shells;
 #[cfg(test)]
 mod sizes;
 #[cfg(test)]
+mod theorem;
+#[cfg(test)]
 mod trees;

@@ -18,6 +18,7 @@ use Rattle.session_facts.proofs.StartLemmas.{closed_at}
 use Rattle.world_core.specs.World.{World}
 use Rattle.world_core.specs.Added.{WorldAdds}
 use Rattle.world_core.proofs.AddedLines.{handled_adds}
+use Rattle.world_core.proofs.AddedShort.{handled_rows}
 use Rattle.world_core.specs.declared.world.WorldFault.{WorldFault}
 use Rattle.world_core.specs.declared.world.WorldFault.TheVariants as world
 use Rattle.world_core.specs.Handled.{Handled}
@@ -129,7 +130,7 @@ stopped_at lines event s t z old new p (no_answer handled grows) =
       last = new.world;
       handled = subst (λ j. Handled j event t z old.world new.world (Err world.Memory)) at handled;
     })
-    (λ x told. (p.kinds x told).rows)
+    (λ x reply told. handled_rows (length lines + 1) event t z old.world new.world (Err world.Memory) lines x refl (subst (λ j. Handled j event t z old.world new.world (Err world.Memory)) at handled) (p.kinds x told) reply)
     (keeps_behind lines (old.handled + 1) s t z old p at grows)
 
 -- an event under the next number has no reply

@@ -18,15 +18,18 @@ use Rattle.words.specs.declared.fault.TextFault.TheVariants.{NotInGrammar}
 use Rattle.schedule_run.specs.InPlay.{Play}
 use Rattle.schedule_run.specs.declared.shell.ShellFault.{ShellFault}
 use Rattle.schedule_run.specs.declared.shell.ShellFault.TheVariants.{NotOpened, BadLine, WriteFault, Memory}
-use Rattle.schedule_run.specs.Play.{IsFresh, IsNext, IsRun, answered, answered_run, StopsRun, stops_event, stops_run, Played}
+use Rattle.schedule_run.specs.Play.{IsFresh, IsNext, IsRun, answered, answered_run, RanOut, uncounted, no_answer, StopsRun, stops_event, stops_run, Played}
 use Rattle.run_text.specs.Written.{AddsFront, NothingRan, reply_line, shown_from, bad_line}
-use Rattle.schedule_run.specs.Shell.{AreShellLines, IsBad, alone, with_run, no_events, more_events, WereRun, in_event, in_run, WereStopped, Opens, WasCut, cut_opening, cut_line, cut_closing, cut_refusal, out_before, out_writing, out_between, out_opening, out_next, ShellEnded, ShellWent, IsAt, RanOutAt, out_reply, out_event, EventRan, shown_by, ended, is_opened, opened_by, OpeningRan, ClosingRan, LineRefused, LineRan, event_run, refused, unread}
+use Rattle.schedule_run.specs.Shell.{AreShellLines, IsBad, alone, with_run, no_events, more_events, WereRun, in_event, in_run, WereStopped, Opens, WasCut, cut_opening, cut_line, cut_closing, cut_refusal, IsNextOf, ShellRanOut, out_before, out_writing, out_between, out_opening, out_next, ShellEnded, ShellWent, IsAt, RanOutAt, out_reply, out_event, EventRan, shown_by, ended, is_opened, opened_by, OpeningRan, ClosingRan, LineRefused, LineRan, event_run, refused, unread}
 use Rattle.schedule_run.proofs.GoingLemmas.{adds_more}
-use Rattle.schedule_run.proofs.ShellOnce.{of_shell, shells_more, once_nothing, once_more, once_behind, none_twice}
+use Rattle.schedule_run.proofs.ShellOnce.{of_shell, shells_more, once_nothing, once_more, once_behind, none_twice, stops_once, twice_nothing}
 use Rattle.schedule_run.specs.ShellOnce.{AllShells, AreShells}
 use Rattle.session_facts.specs.Opened.{AddsNoneTwice}
-use Rattle.world_core.specs.Opened.{WorldOnce}
+use Rattle.world_core.specs.Opened.{IsShells, WorldOnce}
+use Rattle.world_core.specs.Added.{WorldAdds}
+use Rattle.world_core.specs.declared.world.WorldFault.TheVariants as world
 use Rattle.world_core.proofs.OpenedLines.{handled_once}
+use Rattle.world_core.proofs.OpenedShort.{handled_none_twice}
 use Rattle.cloud_trait.specs.State.{CloudState}
 use Rattle.schedule_run.proofs.PlayLemmas.{played_nothing, played_more, stopped_at}
 
@@ -80,20 +83,38 @@ run_more events replies event reply s t z old new w (answered_run mid play first
           last.handled (p.kinds x told) (once_next events replies event Begun s t mid old play w first shells x told));
     }
 
+-- how many lines a play has handled
+count_of : (lines : List Line) (s t : Seen) (play : Play) → Played lines s t play → length lines + 1 ≡ play.handled + 1
+count_of lines s t play p = let c : play.handled ≡ length lines = p.count in omega arith
+
+-- memory ran out at the run of what an event began
+run_stops : (lines : List Line) (x : CloudState) (t z : Seen) (old new : Play) → length lines + 1 ≡ old.handled + 1 → RanOut (Run 1) t z old new → WorldAdds lines x old.world t
+    → WorldOnce x old.world t → AddsNoneTwice x z
+run_stops lines x t z old new at (uncounted same) w h = subst (AddsNoneTwice x) (sym same) (none_twice x old.world t h)
+run_stops lines x t z old new at (no_answer handled grows) w h =
+    handled_none_twice (old.handled + 1) (Run 1) t z old.world new.world (Err world.Memory) lines x at refl handled w h
+
 run_stopped : (events : List Event) (replies : List Reply) (event : Event) (s t z : Seen) (old new : Play)
     → WereRun events replies s t old → StopsRun event t z old new → WereStopped events replies event s z
 run_stopped events replies event s t z old new w (stops_event out) = record {
   lines = w.lines;
   whole = w.whole;
   stopped = in_event (stopped_at w.lines event s t z old new w.played out);
+  once = λ shells x told. stops_once events event w.lines x t z old new (count_of w.lines s t old w.played) shells out (w.played.kinds x told) (λ own. w.once own x told);
 }
 run_stopped events replies event s t z old new w (stops_run mid play first out) = record {
   lines = w.lines;
   whole = w.whole;
-  stopped = in_run
-      (stopped_at (w.lines ++ record { event = event; reply = Begun } ∷ []) (Run 1) s mid z play new
-      (played_more w.lines event Begun s t mid old play w.played first) out);
+  stopped = in_run (stopped_at began (Run 1) s mid z play new so_far out);
+  once = λ shells x told.
+      run_stops began x mid z play new (count_of began s mid play so_far) out (so_far.kinds x told) (once_next events replies event Begun s t mid old play w first shells x told);
 }
+  where
+    began : List Line
+    began = w.lines ++ record { event = event; reply = Begun } ∷ []
+
+    so_far : Played began s mid play
+    so_far = played_more w.lines event Begun s t mid old play w.played first
 
 run_same : (events : List Event) (replies : List Reply) (s t z : Seen) (play : Play) → z ≡ t → WereRun events replies s t play → WereRun events replies s z play
 run_same events replies s t z play same w = subst (λ x. WereRun events replies s x play) (sym same) w
@@ -146,6 +167,11 @@ all_shells [] (e ∷ events) spelled = absurd spelled
 all_shells (t ∷ texts) [] spelled = absurd spelled
 all_shells (t ∷ texts) (e ∷ events) spelled = (of_shell t e spelled.0, all_shells texts events spelled.1)
 
+-- what a shell runs next is a shell's
+next_shells : (later : List (List ℕ)) (event : Event) → IsNextOf later event → IsShells event
+next_shells [] event is = subst IsShells (sym is) refl
+next_shells (text ∷ texts) event is = of_shell text event is
+
 module _ (client : ℕ) (events : List Event) (s z : Seen) (x : CloudState) (told : s.state ≡ Some x) (shells : AllShells events) where
   opened_behind : (later : List Event) (replies : List Reply) (play : Play) → AllShells later → WereRun (Open 1 client ∷ later) replies s z play → AddsNoneTwice x z
   opened_behind later replies play all run = none_twice x play.world z (run.once ((client, refl), all) x told)
@@ -159,12 +185,20 @@ module _ (client : ℕ) (events : List Event) (s z : Seen) (x : CloudState) (tol
   cut_once later w u (cut_closing replies reply play none run opens front) = opened_behind (events ++ Close 1 ∷ []) (replies ++ reply ∷ []) play closed_behind run
   cut_once later w u (cut_refusal replies play bad run opens front) = opened_behind events replies play shells run
 
-  ended_once : (result : Result (Unit {0}) ShellFault) (later : List (List ℕ)) (w u : Told) → ShellEnded result client events later w u s z → (result ≡ Err Memory → ⊥) → AddsNoneTwice x z
-  ended_once (Ok done) later w u so finds = opened_behind (events ++ Close 1 ∷ []) so.1.replies so.1.play closed_behind so.1.run
-  ended_once (Err NotOpened) later w u so finds = opened_behind [] (so.reply ∷ []) so.play tt so.run
-  ended_once (Err BadLine) later w u so finds = opened_behind events so.1.replies so.1.play shells so.1.run
-  ended_once (Err WriteFault) later w u so finds = cut_once later w u so
-  ended_once (Err Memory) later w u so finds = absurd (finds refl)
+  -- where memory ran out
+  out_once : (later : List (List ℕ)) (w u : Told) → ShellRanOut client events later w u s z → AddsNoneTwice x z
+  out_once later w u (out_before nothing) = subst (AddsNoneTwice x) (sym nothing.seen) (twice_nothing x s told)
+  out_once later w u (out_writing cut) = cut_once later w u cut
+  out_once later w u (out_between replies play run opens wrote) = opened_behind events replies play shells run
+  out_once later w u (out_opening stopped same) = stopped.once ((client, refl), tt) x told
+  out_once later w u (out_next replies event next stopped opens wrote) = stopped.once ((client, refl), shells_more events event shells (next_shells later event next)) x told
+
+  ended_once : (result : Result (Unit {0}) ShellFault) (later : List (List ℕ)) (w u : Told) → ShellEnded result client events later w u s z → AddsNoneTwice x z
+  ended_once (Ok done) later w u so = opened_behind (events ++ Close 1 ∷ []) so.1.replies so.1.play closed_behind so.1.run
+  ended_once (Err NotOpened) later w u so = opened_behind [] (so.reply ∷ []) so.play tt so.run
+  ended_once (Err BadLine) later w u so = opened_behind events so.1.replies so.1.play shells so.1.run
+  ended_once (Err WriteFault) later w u so = cut_once later w u so
+  ended_once (Err Memory) later w u so = out_once later w u so
 
 -- how it went, by how it ended
 shell_went : {client : ℕ} {text : List ℕ} {result : Result (Unit {0}) ShellFault} {w u : Told} {s z : Seen} → (events : List Event) (earlier later : List (List ℕ))
@@ -176,7 +210,7 @@ shell_went {client} {text} {result} {w} {u} {s} {z} events earlier later at spel
   at = at;
   spelled = spelled;
   so = so;
-  opens_once = λ finds x told. ended_once client events s z x told (all_shells earlier events spelled) result later w u so finds;
+  opens_once = λ x told. ended_once client events s z x told (all_shells earlier events spelled) result later w u so;
 }
 
 -- ---- one event

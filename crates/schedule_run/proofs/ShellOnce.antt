@@ -1,5 +1,5 @@
 -- The events of a shell open no transaction twice.
-use Rattle.std.proofs.Common.{◌≡◌, ◌<◌, ◌^◌, ◌+◌, ℕ, List, [], ◌∷◌, ◌++◌, length, Some, Ok, true, false, refl, sym, ap, subst, ◌∙◌, lit<}
+use Rattle.std.proofs.Common.{◌≡◌, ◌<◌, ◌^◌, ◌+◌, ℕ, List, [], ◌∷◌, ◌++◌, length, Some, Ok, Err, true, false, refl, sym, ap, subst, ◌∙◌, lit<}
 use Rattle.std.specs.Fmt.{decimal}
 use Rattle.std.proofs.lemmas.Fmt.{decimal_injective}
 use Rattle.cloud_trait.specs.State.{CloudState}
@@ -19,11 +19,15 @@ use Rattle.session_facts.specs.Opened.{TakesNumber, AddsNoneTwice}
 use Rattle.session_facts.proofs.OpenedCalls.{opened_nothing}
 use Rattle.session_facts.proofs.StartLemmas.{closed_at}
 use Rattle.world_core.specs.World.{World}
+use Rattle.world_core.specs.declared.world.WorldFault.TheVariants as fault
 use Rattle.world_core.specs.Added.{WorldAdds}
 use Rattle.world_core.specs.Handled.{Handled}
 use Rattle.world_core.specs.Opened.{IsShells, WorldOnce, WorldOpenedNone}
 use Rattle.world_core.proofs.OpenedLines.{handled_once, opening_once}
+use Rattle.world_core.proofs.OpenedShort.{adds_none, handled_none_twice, opening_none_twice}
 use Rattle.schedule_run.specs.Answered.{IsNew}
+use Rattle.schedule_run.specs.InPlay.{Play}
+use Rattle.schedule_run.specs.Play.{RanOut, uncounted, no_answer}
 use Rattle.schedule_run.specs.ShellOnce.{AllShells, AreShells, OnceBehind}
 
 -- ---- a shell's line is of session 1 and opens no client
@@ -140,3 +144,33 @@ none_twice t world seen h = record {
   trace = h.rows.adds.trace;
   once = h.rows.adds.once;
 }
+
+-- where nothing was done nothing was opened
+pub twice_nothing : (t : CloudState) (s : Seen) → s.state ≡ Some t → AddsNoneTwice t s
+twice_nothing t s told = adds_none (λ (head : Head). ⊥) t s (record { state = t; told = told; adds = opened_nothing (λ (head : Head). ⊥) t })
+
+-- what was opened behind events is opened once
+behind_once : (events : List Event) (t : CloudState) (world : World) (seen : Seen) → OnceBehind events t world seen → AddsNoneTwice t seen
+behind_once [] t world seen h = adds_none (λ (head : Head). ⊥) t seen h.0
+behind_once (e ∷ events) t world seen h = none_twice t world seen h
+
+-- memory ran out at an event
+stops_handled : (events : List Event) (e : Event) (n : ℕ) (lines : List Line) (t : CloudState) (before after : Seen) (old new : World) → length lines + 1 ≡ n
+    → AreShells (events ++ e ∷ []) → Handled n e before after old new (Err fault.Memory) → WorldAdds lines t old before → (AreShells events → OnceBehind events t old before)
+    → AddsNoneTwice t after
+stops_handled [] e n lines t before after old new at shells handled kinds once = opening_none_twice n e before after old new (Err fault.Memory) t shells.0 handled (once tt)
+stops_handled (x ∷ events) e n lines t before after old new at shells handled kinds once =
+    let h = shells_behind events e shells.1 in
+    handled_none_twice n e before after old new (Err fault.Memory) lines t at h.1 handled kinds (once (shells.0, h.0))
+
+own_behind : (events : List Event) (e : Event) → AreShells (events ++ e ∷ []) → AreShells events
+own_behind [] e shells = tt
+own_behind (x ∷ events) e shells = (shells.0, (shells_behind events e shells.1).0)
+
+pub stops_once : (events : List Event) (e : Event) (lines : List Line) (t : CloudState) (before after : Seen) (old new : Play) → length lines + 1 ≡ old.handled + 1
+    → AreShells (events ++ e ∷ []) → RanOut e before after old new → WorldAdds lines t old.world before → (AreShells events → OnceBehind events t old.world before)
+    → AddsNoneTwice t after
+stops_once events e lines t before after old new at shells (uncounted same) kinds once =
+    subst (AddsNoneTwice t) (sym same) (behind_once events t old.world before (once (own_behind events e shells)))
+stops_once events e lines t before after old new at shells (no_answer handled grows) kinds once =
+    stops_handled events e (old.handled + 1) lines t before after old.world new.world at shells handled kinds once

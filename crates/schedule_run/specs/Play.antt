@@ -1,5 +1,5 @@
 -- A world that handles one event behind another, from a new one on.
-use Rattle.std.specs.Prelude.{◌≡◌, ◌+◌, List, length, Some, Result, Ok, Err}
+use Rattle.std.specs.Prelude.{◌≡◌, ◌+◌, List, [], ◌∷◌, ◌++◌, length, Some, Result, Ok, Err}
 use Rattle.cloud_trait.specs.State.{CloudState, IsEmptyCloud}
 use Rattle.cloud_trait.specs.Seen.{Seen}
 use Rattle.cloud_trait.specs.Traced.{IsTraced}
@@ -80,8 +80,8 @@ pub record Played (lines : List Line) (start now : Seen) (play : Play) : Type 0 
   pub reports : (t : CloudState) → start.state ≡ Some t → IsEmptyCloud t → ReportsCome lines start now
 
 -- behind these lines memory ran out: before this event did anything, or while it was handled. What was handled keeps the theorem, and what it added to
--- any cloud is of its kind
+-- any cloud is of its kind, also what the event added, whatever its reply would have been
 pub data StoppedAt (event : Event) (lines : List Line) (start now : Seen) : Type 0 where
   stopped_before : (play : Play) → Played lines start now play → StoppedAt event lines start now
-  stopped_within : (out : IsUnanswered lines event world.Memory start now) → ((t : CloudState) → start.state ≡ Some t → AddsTo (length lines) lines t out.mid)
+  stopped_within : (out : IsUnanswered lines event world.Memory start now) → ((t : CloudState) (reply : Reply) → start.state ≡ Some t → AddsTo (length lines + 1) (lines ++ record { event = event; reply = reply } ∷ []) t now)
       → KeepsTheTheorem lines start now → StoppedAt event lines start now

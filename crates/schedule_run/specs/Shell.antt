@@ -73,11 +73,13 @@ pub data StoppedIn (event : Event) (lines : List Line) (start now : Seen) : Type
   in_event : StoppedAt event lines start now → StoppedIn event lines start now
   in_run : StoppedAt (Run 1) (lines ++ record { event = event; reply = Begun } ∷ []) start now → StoppedIn event lines start now
 
--- these events were run whole, and memory ran out at this one
+-- these events were run whole, and memory ran out at this one; where they are a shell's, no transaction was opened twice, over any cloud that tells its
+-- state
 pub record WereStopped (events : List Event) (replies : List Reply) (event : Event) (start now : Seen) : Type 0 where
   pub lines : List Line
   pub whole : AreWhole events lines replies
   pub stopped : StoppedIn event lines start now
+  pub once : AreShells (events ++ event ∷ []) → (t : CloudState) → start.state ≡ Some t → AddsNoneTwice t now
 
 -- ---- how a shell ended
 
@@ -153,8 +155,8 @@ ShellEnded (Err BadLine) client events later written now_written start now =
 ShellEnded (Err WriteFault) client events later written now_written start now = WasCut client events later written now_written start now
 ShellEnded (Err Memory) client events later written now_written start now = ShellRanOut client events later written now_written start now
 
--- the lines of a text were run up to this end; where memory did not run out, no two of the rows that they added to the trace of a cloud put open heads that
--- agree in client, epoch and transaction, whatever was in the cloud before
+-- the lines of a text were run up to this end; no two of the rows that they added to the trace of a cloud put open heads that agree in client, epoch and
+-- transaction, whatever was in the cloud before
 pub record ShellWent (client : ℕ) (text : List ℕ) (ended : Result (Unit {0}) ShellFault) (written now_written : Told) (start now : Seen) : Type 0 where
   pub events : List Event
   pub earlier : List (List ℕ)
@@ -162,7 +164,7 @@ pub record ShellWent (client : ℕ) (text : List ℕ) (ended : Result (Unit {0})
   pub at : lines_of text ≡ earlier ++ later
   pub spelled : AreShellLines earlier events
   pub so : ShellEnded ended client events later written now_written start now
-  pub opens_once : ended ≢ Err Memory → (t : CloudState) → start.state ≡ Some t → AddsNoneTwice t now
+  pub opens_once : (t : CloudState) → start.state ≡ Some t → AddsNoneTwice t now
 
 -- ---- between two lines
 

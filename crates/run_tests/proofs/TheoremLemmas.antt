@@ -14,7 +14,6 @@ use Rattle.schedule_run.specs.Run.{Ran, Replays, replay_unread, replay_went}
 use Rattle.schedule_run.specs.Status.{status_of_input, status_of_line}
 use Rattle.schedule_run.specs.declared.replay.LineFault.{LineFault}
 use Rattle.schedule_run.specs.declared.replay.LineFault.TheVariants as line
-use Rattle.schedule_run.specs.declared.status.Status.{Status}
 use Rattle.schedule_run.specs.declared.status.Status.TheVariants.{Done}
 use Rattle.run_tests.specs.Theorem.{IsReplayOf}
 

@@ -8,5 +8,5 @@ use Rattle.run_tests.proofs.theorem.replay_into.Goals as goal
 pub returns-in-Done : goal.returns-in-Done
 returns-in-Done c = λ done.
     is_replay c.args.text.now c.run.new.sink.content (told_by c.in-Ok-new.source) (told_by c.run.new.source) (told_by c.args.sink.now) (told_by c.run.new.sink)
-    (seen_of c.new-cloud.result) (seen_of c.run.new.cloud) (state_of c.new-cloud.result) (ap (λ (e : MemoryEnd). Some e.content) c.in-Ok-new.ensures.ok) (ap Some c.requires) refl refl
+    (seen_of c.new-cloud.result) (seen_of c.run.new.cloud) (state_of c.new-cloud.result) (ap (λ (e : MemoryEnd). Some e.content) c.in-Ok-new.ensures.ok) (ap Some c.requires) refl c.new-cloud.ensures.told
     c.new-cloud.ensures.empty (map string_bytes c.as_slice.result.now) (ap (map string_bytes) c.as_slice.ensures.value ∙ c.in-Ok.ensures) c.in-Done.ensures.ran

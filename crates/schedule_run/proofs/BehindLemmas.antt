@@ -16,14 +16,18 @@ use Rattle.report_types.specs.declared.entry.Entry.{Entry}
 use Rattle.session_facts.proofs.BookLemmas.{was_left, empty_left}
 use Rattle.session_facts.proofs.StartLemmas.{closed_at}
 use Rattle.session_facts.specs.Acknowledged.{IsKeptReply}
+use Rattle.client_work.specs.declared.work.Work.{Work}
 use Rattle.session_facts.specs.Facts.{session_at, SomeBookStands, WasLeft}
+use Rattle.session_facts.specs.LeftNone.{IsLeftReply}
 use Rattle.session_facts.specs.Sessions.Sessions.{Sessions}
 use Rattle.world_core.proofs.Keeping.{keeps_book}
+use Rattle.world_core.proofs.Shown.{shown}
 use Rattle.world_core.proofs.Settled.{settling_leaves, settling_ends, settling_right}
 use Rattle.world_core.proofs.StandsLemmas.{no_memory}
 use Rattle.world_core.specs.Bounded.{AnswersSoon}
 use Rattle.world_core.specs.Handled.{SettlesOn, Settles as SettlesLine, Answers, Handled}
 use Rattle.world_core.specs.Replying.{RepliesSettled, unsettled_reply}
+use Rattle.world_core.specs.Stands.{LeftIsRight}
 use Rattle.world_core.specs.World.{World}
 use Rattle.world_core.specs.declared.asked.Asked.{Asked}
 use Rattle.world_core.specs.declared.asked.Asked.TheVariants.{Session, Wait, Report, Settle}
@@ -57,25 +61,36 @@ no_run n (Session k request) before after old new result is answers = absurd (cc
 no_run n (Wait ticks) before after old new result is answers = tt
 no_run n (Report tree) before after old new result is answers = tt
 
--- its reply acknowledges nothing
-unsettled_keeps : (entries : List Entry) (client : ℕ) (posture : Posture) (r : Reply) (q : Trouble) → (let result : Result Reply WorldFault = Ok r in result ≡ unsettled_reply q)
-    → IsKeptReply entries client posture r
-unsettled_keeps entries client posture r trouble.Memory e = absurd (cc (e))
-unsettled_keeps entries client posture r q e = let is : r ≡ reply.NotSettled q = cc (e) in subst (IsKeptReply entries client posture) (sym is) tt
+-- what holds of each reply to a settling holds of its own
+unsettled_is : (P : Reply → Type 0) (r : Reply) (q : Trouble) → ((k : Trouble) → P (reply.NotSettled k)) → (let result : Result Reply WorldFault = Ok r in result ≡ unsettled_reply q) → P r
+unsettled_is P r trouble.Memory each e = absurd (cc (e))
+unsettled_is P r q each e = let is : r ≡ reply.NotSettled q = cc (e) in subst P (sym is) (each q)
 
-settled_keeps : (entries : List Entry) (client : ℕ) (posture : Posture) (n : ℕ) (before after : Seen) (old new : World) (r : Reply) → SettlesLine n before after old new (Ok r)
-    → IsKeptReply entries client posture r
-settled_keeps entries client posture n before after old new r (inr memory) = absurd (no_memory r memory)
-settled_keeps entries client posture n before after old new r (inl h) = by_end h.settles
+settled_is : (P : Reply → Type 0) → ((calls : ℕ) → P (reply.Settled calls)) → ((k : Trouble) → P (reply.NotSettled k)) → (n : ℕ) (before after : Seen) (old new : World) (r : Reply)
+    → SettlesLine n before after old new (Ok r) → P r
+settled_is P settled unsettled n before after old new r (inr memory) = absurd (no_memory r memory.0)
+settled_is P settled unsettled n before after old new r (inl h) = by_end h.settles
   where
-    replied : (a : Answer) → RepliesSettled a (Ok r) → IsKeptReply entries client posture r
-    replied (answer.Settled x) e = let is : r ≡ reply.Settled x.calls = cc (e) in subst (IsKeptReply entries client posture) (sym is) tt
-    replied (answer.Trouble q) e = unsettled_keeps entries client posture r q e
+    replied : (a : Answer) → RepliesSettled a (Ok r) → P r
+    replied (answer.Settled x) e = let is : r ≡ reply.Settled x.calls = cc (e) in subst P (sym is) (settled x.calls)
+    replied (answer.Trouble q) e = unsettled_is P r q unsettled e
     replied a e = absurd e
 
-    by_end : SettlesOn (record { session = 0; event = n }) before after h.begun new (Ok r) → IsKeptReply entries client posture r
-    by_end (inr memory) = absurd (no_memory r memory)
+    by_end : SettlesOn (record { session = 0; event = n }) before after h.begun new (Ok r) → P r
+    by_end (inr memory) = absurd (no_memory r memory.0)
     by_end (inl s) = replied s.answer s.replies
+
+-- it acknowledges nothing, ends no commit, and is no report
+settled_keeps : (entries : List Entry) (client : ℕ) (posture : Posture) (n : ℕ) (before after : Seen) (old new : World) (r : Reply) → SettlesLine n before after old new (Ok r)
+    → IsKeptReply entries client posture r
+settled_keeps entries client posture = settled_is (IsKeptReply entries client posture) (λ calls. tt) (λ k. tt)
+
+settled_counts : (u : CloudState) (n : ℕ) (before after : Seen) (old new : World) (r : Reply) → SettlesLine n before after old new (Ok r) → LeftIsRight u r
+settled_counts u = settled_is (LeftIsRight u) (λ calls. tt) (λ k. tt)
+
+settled_commits : (entries : List Entry) (posture : Posture) (work : Work) (n : ℕ) (before after : Seen) (old new : World) (r : Reply) → SettlesLine n before after old new (Ok r)
+    → IsLeftReply entries posture work r
+settled_commits entries posture work = settled_is (IsLeftReply entries posture work) (λ calls. tt) (λ k. tt)
 
 pub settles_so : (lines : List Line) (e : Event) (r : Reply) (before after : Seen) (old new : World) (t : CloudState) → before.state ≡ Some t → SomeBookStands (session_at old.sessions) t
     → (handled : Handled (length lines + 1) e before after old new (Ok r)) → SettlesSo lines e r before after old new handled
@@ -91,6 +106,12 @@ settles_so lines event.Settle r before after old new t told stands handled =
         kept = λ u seen.
             settled_keeps _ (standing lines 0).client (standing lines 0).posture (length lines + 1) before after old new r
             (subst (λ z. Answers (length lines + 1) z before after old new (Ok r)) handled.asks handled.answers);
+        left_none = λ u seen.
+            settled_commits _ (standing lines 0).posture (session_at new.sessions 0).work (length lines + 1) before after old new r
+            (subst (λ z. Answers (length lines + 1) z before after old new (Ok r)) handled.asks handled.answers);
+        shows = shown (length lines + 1) event.Settle before after old new (Ok r) handled;
+        left = λ u seen.
+            settled_counts u (length lines + 1) before after old new r (subst (λ z. Answers (length lines + 1) z before after old new (Ok r)) handled.asks handled.answers);
       },
     )
 settles_so lines e r before after old new t told stands handled = tt

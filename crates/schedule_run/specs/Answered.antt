@@ -17,7 +17,8 @@ use Rattle.replay_meaning.specs.Right.{ReportIsRight}
 use Rattle.report_types.specs.declared.entry.Entry.{Entry}
 use Rattle.report_types.specs.declared.report.Report.{Report}
 use Rattle.session_facts.specs.Acknowledged.{IsKeptReply}
-use Rattle.session_facts.specs.Facts.{WasLeft}
+use Rattle.session_facts.specs.Facts.{session_at, WasLeft}
+use Rattle.session_facts.specs.LeftNone.{IsLeftReply}
 use Rattle.session_facts.specs.Sessions.Untroubled.{IsUntroubled}
 use Rattle.world_core.specs.World.{World}
 use Rattle.world_core.specs.declared.world.WorldFault.{WorldFault}
@@ -26,6 +27,7 @@ use Rattle.world_core.specs.Calm.{StepIsCalm, RepliesWell, work_at}
 use Rattle.world_core.specs.EachStep.{EachStep}
 use Rattle.world_core.specs.Explained.{StepExplains}
 use Rattle.world_core.specs.Handled.{Handled}
+use Rattle.world_core.specs.Shown.{StepShows}
 use Rattle.world_core.specs.Settled.{SettledLeaves, AnswersSettled, NoLockHeld, StepGoesWell}
 use Rattle.world_core.specs.Sound.{IsSoundFor}
 use Rattle.world_core.specs.Stands.{LeftIsRight}
@@ -60,7 +62,8 @@ IsKeptLine entries before line = IsKeptReply entries (standing before (session_o
 
 -- a line that was handled explains the steps that it made; where its session was untroubled and each of these was calm, the session is untroubled
 -- behind it, and the line is answered well; a run of it makes few calls for a tree checkpoint; a settling leaves nothing and comes to its end so;
--- a commit that it answers as committed is among what was committed; and the two numbers of a report count what is left then
+-- a commit that it answers as committed is among what was committed, and of one that it answers as not committed nothing is; the two numbers of a
+-- report count what is left then; and a read and a scan show what their own calls served
 pub record IsExplained (lines : List Line) (line : Line) (before after : Seen) (old new : World) (handled : Handled (length lines + 1) line.event before after old new (Ok line.reply))
     : Type 0 where
   pub explains : EachStep StepExplains (length lines + 1) line.event before after old new (Ok line.reply) handled
@@ -70,7 +73,10 @@ pub record IsExplained (lines : List Line) (line : Line) (before after : Seen) (
   pub leaves : LeavesSo (length lines + 1) line.event before after old new line.reply handled
   pub ends : (t : CloudState) → before.state ≡ Some t → EndsSo t (length lines + 1) line.event before after old new line.reply handled
   pub kept : (u : CloudState) → after.state ≡ Some u → IsKeptLine (committed (lines ++ line ∷ []) u) lines line
+  pub left_none : (u : CloudState) → after.state ≡ Some u
+      → IsLeftReply (committed (lines ++ line ∷ []) u) (standing lines (session_of line.event)).posture (session_at new.sessions (session_of line.event)).work line.reply
   pub left : (u : CloudState) → after.state ≡ Some u → LeftIsRight u line.reply
+  pub shows : EachStep StepShows (length lines + 1) line.event before after old new (Ok line.reply) handled
 
 -- and so does each line
 abbrev pub AreExplained : (before : Seen) (old : World) (lines : List Line) (after : Seen) (new : World) → WentOn before old lines after new → Type 0

@@ -42,5 +42,6 @@ returns-clause-settling g c = settling_right _ _ _ _ _ _ _
 
 pub returns-clause-keeps : goal.returns-clause-keeps
 returns-clause-keeps g c = keeps_book _ _ _ _ _ _ _ c.handle.ensures.handled
+
 pub returns-clause-left_nothing : goal.returns-clause-left_nothing
 returns-clause-left_nothing g c = nothing_after _ _ _ _ _ _ _ c.handle.ensures.handled

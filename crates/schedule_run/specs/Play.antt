@@ -16,7 +16,7 @@ use Rattle.session_facts.specs.Added.{AddsTo}
 use Rattle.world_core.specs.Added.{WorldAdds}
 use Rattle.world_core.specs.Stands.{WorldStands, StandsOn, Grows}
 use Rattle.schedule_run.specs.InPlay.{Play}
-use Rattle.schedule_run.specs.Answered.{IsNew, WentOn, AreSettled, IsOfRuns, LeavesOne, IsUnanswered, ReportsAreRight, AcknowledgedStay, KeepsTheTheorem, AreExplained, ReportsCome}
+use Rattle.schedule_run.specs.Answered.{IsNew, WentOn, AreSettled, IsOfRuns, LeavesOne, IsUnanswered, ReportsAreRight, KeepsTheTheorem, AreExplained, ReportsCome}
 
 -- a new world that has handled nothing
 pub record IsFresh (play : Play) : Type 0 where

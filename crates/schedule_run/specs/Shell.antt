@@ -1,5 +1,5 @@
 -- What a shell writes and leaves, line by line.
-use Rattle.std.specs.Prelude.{ℕ, ◌≡◌, ◌≢◌, Some, Bool, true, false, if◌then◌else◌, List, [], ◌∷◌, ◌++◌, length, Result, Ok, Err}
+use Rattle.std.specs.Prelude.{ℕ, ◌≡◌, Some, Bool, true, false, if◌then◌else◌, List, [], ◌∷◌, ◌++◌, length, Result, Ok, Err}
 use Rattle.cloud_trait.specs.Seen.{Seen}
 use Rattle.cloud_trait.specs.State.{CloudState}
 use Rattle.db_io.specs.Content.{Told, Adds, AddsPrefix}

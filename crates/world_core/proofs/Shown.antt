@@ -15,7 +15,7 @@ use Rattle.world_core.specs.declared.asked.Request.TheVariants.{Begin, Note, Abo
 use Rattle.world_core.specs.World.{World}
 use Rattle.world_core.specs.declared.world.WorldFault.{WorldFault}
 use Rattle.world_core.specs.EachStep.{EachWent, EachCome, EachMade, EachRun, EachCrashed, EachSettlingOn, EachSettling, EachDone, EachServed, EachAsked}
-use Rattle.world_core.specs.Handled.{StepsLooked, MakesStep, Went, start, further, ComesTo, Runs, SettlesOn, Settles, Crashes, Does, Serves, Answers, Handled}
+use Rattle.world_core.specs.Handled.{StepsLooked, MakesStep, Went, start, further, ComesTo, Runs, SettlesOn, Settles, Crashes, Does, Serves, Answers}
 use Rattle.world_core.specs.Shown.{StepShows, ShowsSteps}
 
 step_shows : (who : Caller) (wish : Wish) (before after : Seen) (old new : World) (turn : Turn Answer) (p : StepsLooked who wish before after old new turn)

@@ -3,7 +3,7 @@ use Rattle.std.proofs.Common.{◌≡◌, ◌≢◌, ◌≤◌, ◌⊎◌, inl, i
 use Rattle.std.specs.Prelude.{◌==◌}
 use Rattle.byte_format.specs.Order.{bytes_same}
 use Rattle.ckpt_parts.specs.Deleting.{Deleting, next_id, tried, tried_of}
-use Rattle.ckpt_parts.specs.Intakes.{has_items, ids_of, items_of, intake_of, TakesItems}
+use Rattle.ckpt_parts.specs.Intakes.{items_of, intake_of, TakesItems}
 use Rattle.ckpt_parts.specs.Leasing.{newest_lease}
 use Rattle.ckpt_parts.specs.Leaves.{absent_leaf, bad_fence, fenced, HoldsLeaf, HoldsLinked, ReadsLeaf}
 use Rattle.ckpt_parts.specs.declared.intake.Intake.{Intake}
@@ -31,11 +31,10 @@ use Rattle.db_base.specs.declared.trouble.Counter.{Counter}
 use Rattle.db_base.specs.declared.trouble.Counter.TheVariants as counter
 use Rattle.db_base.specs.declared.trouble.Trouble.{Trouble}
 use Rattle.db_base.specs.declared.trouble.Trouble.TheVariants as trouble
-use Rattle.leaf_edit.specs.Lacked.{lacked}
 use Rattle.leaf_view.specs.Leaf.{Leaf}
 use Rattle.leaf_view.specs.Lookup.{empty_leaf}
 use Rattle.log_codec.specs.declared.record.PuItem.{PuItem}
-use Rattle.page_ckpt.specs.Paging.{Paging, Step, ask_at, paging_ask, under, take_home, take_right, home_name, right_name, delete_next, held_after, handed, stopping, deleting_by, home_taken_by, HoldsNamed, HomeGot, home_read, link_of, is_visited, LeafPut, to_right, GoesOn, RunStarted, with_intake, IntakeTaken, ReceivedBy, right_taken_by, RightLacks, RightRead, RightGot, right_put_by, home_put_by, with_applied, without_applying, without_onward, went, finished_by, released_by, AbsorbsAt, PagingLeads, own_queue}
+use Rattle.page_ckpt.specs.Paging.{Paging, Step, ask_at, paging_ask, under, take_home, take_right, home_name, right_name, delete_next, held_after, stopping, HoldsNamed, went, finished_by, released_by, AbsorbsAt, PagingLeads, own_queue}
 use Rattle.page_ckpt.specs.declared.link.Link.{Link}
 use Rattle.page_ckpt.proofs.Outcomes.{Onward, Clears, Fails, Comes, comes}
 use Rattle.page_ckpt.proofs.Outcomes as step

@@ -1,5 +1,5 @@
 -- What a checkpoint of a page has of the page once it read it, and that it stops for no page, stay so behind its steps.
-use Rattle.std.proofs.Common.{◌≡◌, ◌⊎◌, ℕ, inl, inr, List, Option, Some, None, Result, Ok, Err, refl, subst}
+use Rattle.std.proofs.Common.{◌≡◌, ℕ, List, Option, Some, None, Result, Ok, Err, refl, subst}
 use Rattle.ckpt_parts.specs.Intakes.{items_of, message_damage, TakesItems, TakesIn}
 use Rattle.ckpt_parts.specs.Leaves.{HoldsLinked}
 use Rattle.ckpt_parts.specs.declared.intake.Intake.{Intake}

@@ -2,7 +2,6 @@
 use Rattle.std.proofs.Common.{◌≡◌, ◌∙◌, ◌+◌, ℕ, suc, Bool, true, false, cond, List, [], ◌∷◌, Option, Some, None, Result, Ok, Err, refl, sym, ap, subst, arith}
 use Rattle.std.specs.Prelude.{◌==◌, nat_lt}
 use Rattle.ckpt_parts.specs.Leaves.{HoldsLinked}
-use Rattle.ckpt_parts.specs.Leasing.{newest_lease, without_newest}
 use Rattle.ckpt_parts.specs.declared.leases.Leases.{Leases}
 use Rattle.cloud_facts.specs.Book.Book.{Book, Link}
 use Rattle.cloud_facts.specs.Book.Tally.{Store}
@@ -18,18 +17,17 @@ use Rattle.cloud_trait.specs.Caller.{Caller}
 use Rattle.cloud_trait.specs.Claim.{Claim}
 use Rattle.cloud_trait.specs.Machine.{Next, Goes, Ends, Stops}
 use Rattle.cloud_trait.specs.State.{CloudState, newest}
-use Rattle.cloud_trait.specs.Views.{given_of, got_of, received_of, done_of}
+use Rattle.cloud_trait.specs.Views.{got_of}
 use Rattle.cloud_trait.specs.declared.answer.Answer.{Answer}
 use Rattle.cloud_trait.specs.declared.turn.CkptAnswer.{CkptAnswer}
 use Rattle.db_base.specs.Ids.{IsTree}
-use Rattle.db_base.specs.declared.names.Lock.TheVariants as lock
 use Rattle.db_base.specs.declared.trouble.Trouble.{Trouble}
 use Rattle.db_base.specs.declared.trouble.Trouble.TheVariants as trouble
 use Rattle.leaf_view.specs.Leaf.{Leaf}
 use Rattle.leaf_view.specs.Lookup.{page_at}
-use Rattle.page_ckpt.specs.Paging.{Paging, Step as PageStep, ask_at, paging_ask, under, home_name, right_name, held_after, without_onward, HoldsNamed, AbsorbsAt, PagingLeads}
+use Rattle.page_ckpt.specs.Paging.{Paging, Step as PageStep, ask_at, paging_ask, under, home_name, right_name, HoldsNamed, PagingLeads}
 use Rattle.page_ckpt.specs.declared.stage.Stage.{Stage}
-use Rattle.page_ckpt.specs.declared.stage.Stage.TheVariants.{TakingHome, GettingHome, Receiving, TakingRight, GettingRight, PuttingRight, ReleasingRight, PuttingHome, Deleting as DeletingNext, Releasing, Finished}
+use Rattle.page_ckpt.specs.declared.stage.Stage.TheVariants.{GettingHome, GettingRight}
 use Rattle.recover_run.specs.Ids.{new_ids}
 use Rattle.recover_run.specs.Recovery.{Step as RecoveryStep}
 use Rattle.report_types.specs.declared.entry.Entry.{Entry}
@@ -41,7 +39,7 @@ use Rattle.session_facts.proofs.PageCheckpoints.Steps.{got_may, received_may, do
 use Rattle.session_facts.proofs.Settlings.PageSteps.{HasRead, Lacks, step_has}
 use Rattle.session_facts.proofs.Settlings.PageSteps as lacks
 use Rattle.session_facts.proofs.Settlings.Rights.{reads_nothing, first_comes, right_comes, right_unvisited}
-use Rattle.session_facts.specs.Settlings.Settling.{IsPast, IsOfNoPage, ReadsPage, ComesTo, KnowsAtWork, KnowsWay}
+use Rattle.session_facts.specs.Settlings.Settling.{IsOfNoPage, ReadsPage, ComesTo, KnowsAtWork, KnowsWay}
 use Rattle.settle_run.specs.declared.part.Part.{Part as AtWork}
 use Rattle.settle_run.specs.declared.part.Part.TheVariants.{Client, Tree, Page}
 use Rattle.settle_run.specs.Parts.{part_of_client, part_of_tree, part_again, part_ask, part_received, recovers, makes, pages, PartLeads}

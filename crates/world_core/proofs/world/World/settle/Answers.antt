@@ -1,4 +1,4 @@
-use Rattle.std.proofs.Common.{◌≡◌, ℕ, inl, subst}
+use Rattle.std.proofs.Common.{ℕ, inl, subst}
 use Rattle.client_work.specs.Session.{settling_session}
 use Rattle.world_core.specs.Handled.{Has, SettlesOn}
 use Rattle.world_core.proofs.world.World.settle.Goals as goal

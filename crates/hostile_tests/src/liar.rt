@@ -1,0 +1,281 @@
+//! What the cloud answers: mostly what fits, and at its rate a lie or a fault.
+
+use crate::objects::{HEADS, LEAF_1, LEAF_2, LEAF_3, LEAF_4, LIES, NODE_7, NODE_8, ROOT};
+use cloud_trait::message::Message;
+use db_base::blob::Blob;
+use db_base::ids::MsgId;
+use db_base::names::{ObjName, QueueName};
+use db_base::trouble::Trouble;
+use sched_gen::draws::Draws;
+use std::alloc::{AllocError, Global};
+
+/// How a call fares.
+#[derive(Clone, Copy, PartialEq, Eq)]
+pub(crate) enum Fate {
+    /// It has an answer that fits.
+    Fits,
+    /// It has a lie.
+    Lies,
+    /// It has none, since a lease is over, a lock is held or an object is absent.
+    Misses,
+    /// It fails.
+    Fails,
+    /// Memory runs out.
+    Starves,
+}
+
+/// The causes that the answers since the begin of a machine showed.
+#[derive(Clone, Copy)]
+struct Causes {
+    failed: bool,
+    late: bool,
+    held: bool,
+    starved: bool,
+    told: bool,
+}
+
+/// No cause.
+const NONE: Causes = Causes {
+    failed: false,
+    late: false,
+    held: false,
+    starved: false,
+    told: false,
+};
+
+/// The generator with what it answered.
+#[derive(Drop)]
+pub(crate) struct Liar {
+    alloc: Global,
+    draws: Draws,
+    rate: u64,
+    causes: Causes,
+    /// The leases that were given out and did not come back.
+    pub(crate) owed: u64,
+}
+
+/// Client 1's record of a commit of three in tree 1, an insert: epoch, transaction, index, page and number.
+fn atomic_record(epoch: u8, txn: u8, index: u8, page: u8, number: u8) -> [u8; 44] {
+    [
+        0x41, 1, 1, 0, 0, 0, 0, 0, 0, 0, epoch, 0, 0, 0, 0, 0, 0, 0, txn, index, 3, 1, 0, 0, 0, 0,
+        0, 0, 0, page, 0, 0, 0, 0, 0, 0, 0, number, 1, 1, 0x6b, 0, 1, 0x76,
+    ]
+}
+
+/// A client's pending insert (1) or update (2) of a key of two bytes, the second of which is its number.
+fn pending_record(client: u8, number: u8, kind: u8, key: u8) -> [u8; 34] {
+    [
+        0x50, 1, client, 0, 0, 0, 0, 0, 0, 0, 1, 0, 0, 0, 0, 0, 0, 0, 1, 0, 0, 0, 0, 0, 0, 0,
+        number, kind, 2, key, number, 0, 1, 0x76,
+    ]
+}
+
+/// Sets so many bytes from a place on, as far as there are any.
+fn fill(bytes: &mut Vec<u8>, from: usize, count: usize, value: u8) {
+    for offset in 0..count {
+        if let Some(byte) = bytes.get_mut(from.saturating_add(offset)) {
+            *byte = value;
+        }
+    }
+}
+
+/// The object of a page of the tree.
+fn page_bytes(page: u64) -> &'static [u8] {
+    match page {
+        1 => LEAF_1,
+        2 => LEAF_2,
+        3 => LEAF_3,
+        4 => LEAF_4,
+        7 => NODE_7,
+        8 => NODE_8,
+        _ => b"",
+    }
+}
+
+impl Liar {
+    /// The liar of a number. One of 2, 8, 64 or 1024 calls fares badly.
+    pub(crate) fn new(alloc: Global, number: u64) -> Liar {
+        Liar {
+            alloc,
+            draws: Draws::new(number),
+            rate: match number % 4 {
+                0 => 2,
+                1 => 8,
+                2 => 64,
+                _ => 1024,
+            },
+            causes: NONE,
+            owed: 0,
+        }
+    }
+
+    /// Begins anew with the causes. What objects and messages told stays, since caches and heads keep it.
+    pub(crate) fn forget(&mut self) {
+        self.causes = Causes {
+            told: self.causes.told,
+            ..NONE
+        };
+    }
+
+    /// Whether an answer showed what a machine stopped for.
+    pub(crate) fn shows(&self, trouble: &Trouble) -> bool {
+        match trouble {
+            Trouble::Failed => self.causes.failed,
+            Trouble::Late { end: _, now: _ } => self.causes.late,
+            Trouble::Busy { lock: _, until: _ } => self.causes.held,
+            Trouble::Memory => self.causes.starved,
+            _ => self.causes.told,
+        }
+    }
+
+    fn small(&mut self) -> u8 {
+        (self.draws.draw() % 256) as u8
+    }
+
+    /// How the next call fares.
+    pub(crate) fn fate(&mut self) -> Fate {
+        if self.rate == 0 || self.draws.draw() % self.rate != 0 {
+            return Fate::Fits;
+        }
+        match self.draws.draw() % 16 {
+            0 => {
+                self.causes.starved = true;
+                Fate::Starves
+            }
+            1 | 2 => {
+                self.causes.failed = true;
+                Fate::Fails
+            }
+            3 | 4 | 5 => {
+                self.causes.late = true;
+                self.causes.held = true;
+                Fate::Misses
+            }
+            _ => Fate::Lies,
+        }
+    }
+
+    /// One of the lies, or no byte.
+    fn lie(&mut self) -> &'static [u8] {
+        match LIES.get((self.draws.draw() % 13) as usize) {
+            Some(bytes) => bytes,
+            None => b"",
+        }
+    }
+
+    fn head(&mut self) -> &'static [u8] {
+        match HEADS.get((self.draws.draw() % 5) as usize) {
+            Some(bytes) => bytes,
+            None => b"",
+        }
+    }
+
+    /// The object of a name.
+    fn truth(&mut self, name: ObjName) -> &'static [u8] {
+        match name {
+            ObjName::Head(_) => self.head(),
+            ObjName::Tree(_) => ROOT,
+            ObjName::Page(_, page) => page_bytes(page.get()),
+        }
+    }
+
+    /// Spoils bytes: one of them, what is behind a place, the version or epoch, another number, or the last byte of the version.
+    fn spoil(&mut self, bytes: &mut Vec<u8>) {
+        let place = (self.draws.draw() % 48) as usize;
+        let value = self.small();
+        match self.draws.draw() % 6 {
+            0 => fill(bytes, place, 1, value),
+            1 => bytes.truncate(place),
+            2 => fill(bytes, 2, 8, 255),
+            3 => fill(bytes, place, 8, 255),
+            _ => fill(bytes, 9, 1, value % 4),
+        }
+    }
+
+    /// A copy of bytes, which a lie spoils.
+    fn copy(&mut self, bytes: &[u8], fate: Fate) -> Result<Blob, AllocError> {
+        let mut copy = bytes.to_vec(self.alloc)?;
+        if fate == Fate::Lies {
+            self.spoil(&mut copy);
+        }
+        Ok(Blob::of(copy))
+    }
+
+    /// What a get answers.
+    pub(crate) fn object(&mut self, name: ObjName, fate: Fate) -> Result<Option<Blob>, AllocError> {
+        self.causes.told = true;
+        if fate == Fate::Misses {
+            return Ok(None);
+        }
+        let bytes = self.truth(name);
+        if fate == Fate::Lies && self.draws.draw() % 2 == 0 {
+            let lie = self.lie();
+            return Ok(Some(self.copy(lie, Fate::Fits)?));
+        }
+        Ok(Some(self.copy(bytes, fate)?))
+    }
+
+    /// The bytes of a message of this number.
+    fn message(&mut self, queue: &QueueName, number: u8, fate: Fate) -> Result<Blob, AllocError> {
+        let (one, two) = (self.small(), self.small());
+        match queue {
+            QueueName::Atomic(_) => {
+                let bytes = atomic_record(2, 5 - one % 8 / 7, 1 + number % 3, two % 3, number);
+                self.copy(&bytes, fate)
+            }
+            _ => {
+                let bytes = pending_record(1 + one % 2, number, 1 + two % 2, b'b' + one % 22);
+                self.copy(&bytes, fate)
+            }
+        }
+    }
+
+    /// How many messages come, at most so many.
+    fn count(&mut self, most: u16) -> u16 {
+        let count = match self.draws.draw() % 8 {
+            0 => self.draws.draw() % 90,
+            _ => self.draws.draw() % 5,
+        };
+        (count as u16).min(most)
+    }
+
+    /// What a receive answers: the first messages of a queue, at most so many. Of a lie each has its own fate.
+    pub(crate) fn messages(
+        &mut self,
+        queue: &QueueName,
+        most: u16,
+        fate: Fate,
+    ) -> Result<Vec<Message>, AllocError> {
+        self.causes.told = true;
+        let count = self.count(most);
+        let mut messages = Vec::new(self.alloc);
+        for index in 0..count {
+            let message = self.one_of(queue, index, fate)?;
+            messages.push(message)?;
+        }
+        Ok(messages)
+    }
+
+    fn one_of(&mut self, queue: &QueueName, index: u16, fate: Fate) -> Result<Message, AllocError> {
+        let number = (index % 250) as u8 + 1;
+        if fate == Fate::Fits {
+            let bytes = self.message(queue, number, fate)?;
+            return Ok(Message {
+                id: MsgId::new(u64::from(number)),
+                bytes,
+            });
+        }
+        let id = self.id();
+        let own = self.fate();
+        let bytes = self.message(queue, number, own)?;
+        Ok(Message { id, bytes })
+    }
+
+    /// The id of a message, some of them the greatest.
+    pub(crate) fn id(&mut self) -> MsgId {
+        match self.draws.draw() % 40 {
+            0 => MsgId::new(u64::MAX),
+            id => MsgId::new(id),
+        }
+    }
+}

@@ -1,0 +1,221 @@
+//! The machines as one kind of thing, and what is wanted of each.
+
+use crate::hostile_cloud::Hostile;
+use cloud_trait::cloud::Cloud;
+use cloud_trait::turn::Turn;
+use cloud_trait::who::Who;
+use commit_run::CommitRun;
+use db_base::ids::{ClientId, TreeId};
+use db_base::trouble::{CommitAnswer, Trouble};
+use page_cache::PageCache;
+use page_ckpt::PageCkpt;
+use range_scan::RangeScan;
+use recover_run::recover::RecoverRun;
+use settle_run::SettleRun;
+use std::alloc::Global;
+use tree_ckpt::TreeCkpt;
+use tree_walk::Walk;
+
+/// The most calls of a machine.
+const MOST_CALLS: u64 = 10_000;
+
+/// A machine.
+pub(crate) trait Machine {
+    /// Does the local work before the first call.
+    fn begin(&mut self, alloc: Global, cache: &mut PageCache) -> Turn<u64>;
+
+    /// Makes the call in hand. At its end it tells how many leases it keeps.
+    fn make<C: Cloud>(
+        &mut self,
+        alloc: Global,
+        cloud: &mut C,
+        who: Who,
+        cache: &mut PageCache,
+    ) -> Turn<u64>;
+}
+
+/// Who runs machines, for which client and in which tree.
+#[derive(Clone, Copy)]
+pub(crate) struct Bench {
+    pub(crate) alloc: Global,
+    pub(crate) who: Who,
+    pub(crate) client: ClientId,
+    pub(crate) tree: TreeId,
+}
+
+/// Whether a machine ends within its bound, its answer has its cause, and it gives back what it took.
+pub(crate) fn ends<M: Machine, H: Hostile>(
+    machine: &mut M,
+    bench: &Bench,
+    cloud: &mut H,
+    cache: &mut PageCache,
+) -> bool {
+    cloud.begin();
+    let owed = cloud.owed();
+    let mut turn = machine.begin(bench.alloc, cache);
+    for _ in 0..MOST_CALLS {
+        if is_over(&turn) {
+            return is_right(cloud, owed, &turn);
+        }
+        turn = machine.make(bench.alloc, cloud, bench.who, cache);
+    }
+    false
+}
+
+/// Whether no call follows.
+fn is_over(turn: &Turn<u64>) -> bool {
+    !matches!(turn, Turn::More)
+}
+
+/// Whether an end is right, where so many leases were owed when the machine began.
+fn is_right<H: Hostile>(cloud: &H, owed: u64, turn: &Turn<u64>) -> bool {
+    match turn {
+        Turn::More => false,
+        Turn::Ended(kept) => cloud.owed() == owed.saturating_add(*kept),
+        Turn::Stopped(trouble) => cloud.shows(trouble) && is_given_back(cloud, owed, trouble),
+    }
+}
+
+/// Whether no more leases are owed. A machine that has no memory keeps what it holds.
+fn is_given_back<H: Hostile>(cloud: &H, owed: u64, trouble: &Trouble) -> bool {
+    matches!(trouble, Trouble::Memory) || cloud.owed() == owed
+}
+
+/// The turn of a machine that keeps so many leases at its end.
+fn keeping<A: Drop>(turn: Turn<A>, kept: u64) -> Turn<u64> {
+    match turn {
+        Turn::More => Turn::More,
+        Turn::Ended(_) => Turn::Ended(kept),
+        Turn::Stopped(trouble) => Turn::Stopped(trouble),
+    }
+}
+
+impl Machine for Walk {
+    fn begin(&mut self, alloc: Global, cache: &mut PageCache) -> Turn<u64> {
+        keeping(self.ready(alloc, cache), 0)
+    }
+
+    fn make<C: Cloud>(
+        &mut self,
+        alloc: Global,
+        cloud: &mut C,
+        who: Who,
+        cache: &mut PageCache,
+    ) -> Turn<u64> {
+        keeping(self.step(alloc, cloud, who, cache), 0)
+    }
+}
+
+impl Machine for RangeScan {
+    fn begin(&mut self, alloc: Global, cache: &mut PageCache) -> Turn<u64> {
+        keeping(self.ready(alloc, cache), 0)
+    }
+
+    // It ends behind its last leaf.
+    fn make<C: Cloud>(
+        &mut self,
+        alloc: Global,
+        cloud: &mut C,
+        who: Who,
+        cache: &mut PageCache,
+    ) -> Turn<u64> {
+        let turn = keeping(self.step(alloc, cloud, who, cache), 0);
+        if matches!(&turn, Turn::Ended(_)) && self.go_on() {
+            return Turn::More;
+        }
+        turn
+    }
+}
+
+impl Machine for RecoverRun {
+    fn begin(&mut self, _alloc: Global, _cache: &mut PageCache) -> Turn<u64> {
+        Turn::More
+    }
+
+    // An opening.
+    fn make<C: Cloud>(
+        &mut self,
+        alloc: Global,
+        cloud: &mut C,
+        who: Who,
+        _cache: &mut PageCache,
+    ) -> Turn<u64> {
+        keeping(self.step(alloc, cloud, who), 1)
+    }
+}
+
+/// A commit's turn, which stops where it is not done.
+fn committing(turn: Turn<CommitAnswer>) -> Turn<u64> {
+    match turn {
+        Turn::More => Turn::More,
+        Turn::Ended(CommitAnswer::Committed { txn: _ }) => Turn::Ended(0),
+        Turn::Ended(CommitAnswer::NotCommitted(trouble)) => Turn::Stopped(trouble),
+        Turn::Ended(CommitAnswer::InDoubt) => Turn::Stopped(Trouble::Failed),
+        Turn::Ended(CommitAnswer::CommittedOpen(trouble)) => Turn::Stopped(trouble),
+        Turn::Stopped(trouble) => Turn::Stopped(trouble),
+    }
+}
+
+impl Machine for CommitRun {
+    fn begin(&mut self, alloc: Global, cache: &mut PageCache) -> Turn<u64> {
+        committing(self.ready(alloc, cache))
+    }
+
+    fn make<C: Cloud>(
+        &mut self,
+        alloc: Global,
+        cloud: &mut C,
+        who: Who,
+        cache: &mut PageCache,
+    ) -> Turn<u64> {
+        committing(self.step(alloc, cloud, who, cache))
+    }
+}
+
+impl Machine for PageCkpt {
+    fn begin(&mut self, _alloc: Global, _cache: &mut PageCache) -> Turn<u64> {
+        Turn::More
+    }
+
+    fn make<C: Cloud>(
+        &mut self,
+        alloc: Global,
+        cloud: &mut C,
+        who: Who,
+        _cache: &mut PageCache,
+    ) -> Turn<u64> {
+        keeping(self.step(alloc, cloud, who), 0)
+    }
+}
+
+impl Machine for TreeCkpt {
+    fn begin(&mut self, _alloc: Global, _cache: &mut PageCache) -> Turn<u64> {
+        Turn::More
+    }
+
+    fn make<C: Cloud>(
+        &mut self,
+        alloc: Global,
+        cloud: &mut C,
+        who: Who,
+        _cache: &mut PageCache,
+    ) -> Turn<u64> {
+        keeping(self.step(alloc, cloud, who), 0)
+    }
+}
+
+impl Machine for SettleRun {
+    fn begin(&mut self, _alloc: Global, _cache: &mut PageCache) -> Turn<u64> {
+        Turn::More
+    }
+
+    fn make<C: Cloud>(
+        &mut self,
+        alloc: Global,
+        cloud: &mut C,
+        who: Who,
+        _cache: &mut PageCache,
+    ) -> Turn<u64> {
+        keeping(self.step(alloc, cloud, who), 0)
+    }
+}

@@ -1,6 +1,6 @@
 -- How the work of a tree checkpoint goes up.
-use Rattle.std.proofs.Common.{◌≡◌, ◌+◌, ℕ, Bool, true, false, cond, List, [], ◌∷◌, ◌++◌, length, Option, Some, None, Result, Ok, Err, refl, sym, ap, subst, ◌∙◌, inl, inr, arith}
-use Rattle.std.specs.Prelude.{◌==◌, ◌||◌, ◌&&◌, drop, not, is_some, unwrap_or}
+use Rattle.std.proofs.Common.{◌≡◌, ◌≤◌, ◌+◌, ℕ, Bool, true, false, cond, List, [], ◌∷◌, ◌++◌, length, Option, Some, None, Result, Ok, Err, refl, sym, ap, subst, ◌∙◌, inl, inr, arith}
+use Rattle.std.specs.Prelude.{◌==◌, ◌||◌, ◌&&◌, drop, not, is_some, slice_get, unwrap_or}
 use Rattle.std.specs.List.{AllByRecursion}
 use Rattle.db_base.specs.declared.names.ObjName.TheVariants as object
 use Rattle.db_base.specs.declared.names.QueueName.TheVariants as queue
@@ -30,7 +30,7 @@ use Rattle.tree_moves.specs.Moves.{next_key}
 use Rattle.tree_moves.specs.Work.{take_tree}
 use Rattle.tree_ckpt.specs.Causing.{Calls, WasGot}
 use Rattle.tree_ckpt.specs.Meaning.{Opening, opening_calls}
-use Rattle.tree_ckpt.specs.Working.{done_over, puts_of, Visit, visits_over, root_behind, links_behind, looks_of, AreVisits, lacked_on, Climb, climbs_over, root_above, links_above, AreClimbs, PutsNode, raised_root, PutsRoot, Worked, worked_calls, IsWorked}
+use Rattle.tree_ckpt.specs.Working.{done_over, puts_of, Visit, visits_over, root_behind, links_behind, looks_of, AreVisits, lacked_on, Climb, climbs_over, root_above, links_above, AreClimbs, HasLevel, PutsNode, raised_root, PutsRoot, Worked, worked_calls, IsWorked}
 use Rattle.tree_ckpt.proofs.Answers.{done_is}
 use Rattle.tree_ckpt.proofs.Brought.{IsKept, AreKept}
 use Rattle.tree_ckpt.proofs.Covers.{AreHandled, all_handled}
@@ -38,7 +38,9 @@ use Rattle.tree_ckpt.proofs.Folds.{not_empty}
 use Rattle.tree_ckpt.proofs.Pieces.{node_puts, root_puts}
 use Rattle.tree_ckpt.proofs.Rises.{IsRising, kept_at}
 use Rattle.tree_ckpt.proofs.Tours.{AreNoted, RestsAt, put_in_turn, none_left}
-use Rattle.tree_ckpt.proofs.Whole.{IsPlacedIn, PlacedTo, none_placed, placed_next, placed_there, all_placed, noted_put}
+use Rattle.tree_ckpt.proofs.Named.{climbs_name, known_touches}
+use Rattle.tree_ckpt.proofs.Entries.{root_names}
+use Rattle.tree_ckpt.proofs.Whole.{IsPlacedIn, PlacedTo, AllFrom, from_later, from_there, rising_from, none_placed, placed_next, placed_there, all_placed, noted_put}
 
 -- ---- what was got was got by the work
 
@@ -75,9 +77,26 @@ pub record Ups (lease : Claim) (tree : ℕ) (run : Taken) (count : ℕ) (nodes :
   pub climbed : AreClimbs tree (visits_over tree lease visits []) (root_behind o.got visits) (links_behind visits) climbs
   pub linked : found ≡ links_above (links_behind visits) climbs
 
+-- nodes that are put have no higher level than those from a place on
+abbrev AreUnder : List Climb → List KeptNode → ℕ → Type 0
+AreUnder climbs nodes at = AllByRecursion (λ u. AllFrom (λ k. u.node.level ≤ k.level) nodes at) climbs
+
+under_later : (climbs : List Climb) (nodes : List KeptNode) (at more : ℕ) → AreUnder climbs nodes at → AreUnder climbs nodes (at + more)
+under_later [] nodes at more h = tt
+under_later (u ∷ us) nodes at more h = (from_later (λ k. u.node.level ≤ k.level) nodes at more h.0, under_later us nodes at more h.1)
+
+all_under : (climbs : List Climb) (nodes : List KeptNode) (at : ℕ) (n : KeptNode) → AreUnder climbs nodes at → slice_get nodes at ≡ Some n
+    → AllByRecursion (λ v. v.node.level ≤ n.level) climbs
+all_under [] nodes at n h e = tt
+all_under (u ∷ us) nodes at n h e = (from_there (λ k. u.node.level ≤ k.level) nodes at n h.0 e, all_under us nodes at n h.1 e)
+
+kept_levels : (tree : ℕ) (ks : List KeptNode) (cs : Calls) → AreKept tree ks cs → AllByRecursion HasLevel ks
+kept_levels tree [] cs h = tt
+kept_levels tree (k ∷ ks) cs h = (h.0.1, kept_levels tree ks cs h.1)
+
 -- which nodes were put: those up to a place before the last plan, and all behind it
 abbrev Placed : ℕ → List Visit → List Climb → List KeptNode → ℕ → Option (List ℕ) → Type 0
-Placed tree visits climbs nodes at None = PlacedTo tree (links_behind visits) climbs nodes at
+Placed tree visits climbs nodes at None = PlacedTo tree (links_behind visits) climbs nodes at × AreUnder climbs nodes at
 Placed tree visits climbs nodes at (Some bytes) = AllByRecursion (IsPlacedIn tree (links_behind visits) climbs) nodes
 
 abbrev pub UpsAt : Claim → Chart → Opening → Type 0
@@ -100,6 +119,7 @@ pub record Climbs (lease : Claim) (r : Rising) (o : Opening) (work : Calls) : Ty
 pub record Ready (lease : Claim) (r : Rising) (o : Opening) (work : Calls) : Type 0 where
   pub ups : UpsAt lease r.chart o
   pub placed : PlacedTo r.chart.tree (links_behind ups.visits) ups.climbs r.chart.nodes r.at
+  pub under : AreUnder ups.climbs r.chart.nodes r.at
   pub root : r.chart.root ≡ root_above (root_behind o.got ups.visits) ups.climbs
   pub calls : work ≡ climbs_over r.chart.tree lease ups.climbs (visits_over r.chart.tree lease ups.visits [])
 
@@ -116,6 +136,9 @@ module _ (lease : Claim) (r : Rising) (o : Opening) (work : Calls) (none : r.las
   placed_now =
       subst (λ (ls : List Link). PlacedTo r.chart.tree (links_behind k.ups.visits) k.ups.climbs r.chart.nodes (r.at + touched_at r.chart.tree ls (drop r.at r.chart.nodes)))
       (sym k.ups.linked) (placed_next r.chart.tree (links_behind k.ups.visits) k.ups.climbs r.chart.nodes r.at k.placed)
+
+  under_now : AreUnder k.ups.climbs r.chart.nodes (rise.next_touched r)
+  under_now = under_later k.ups.climbs r.chart.nodes r.at (touched_at r.chart.tree r.chart.links (drop r.at r.chart.nodes)) k.under
 
   node_climbs : (n : KeptNode) → rise.touched_node r ≡ Some n → IsKept r.chart.tree n (visits_over r.chart.tree lease k.ups.visits []) → (p : Result NodePlan Trouble)
       → node_plan (tree_held r.chart.root) r.chart.tree n r.chart.links ≡ p → UpClimbs lease (rise.put_node r (rise.next_touched r + 1) (n.level + 1) p) o work
@@ -135,6 +158,7 @@ module _ (lease : Claim) (r : Rising) (o : Opening) (work : Calls) (none : r.las
           climbed = (
             kept.0,
             kept.1,
+            all_under k.ups.climbs r.chart.nodes (rise.next_touched r) n under_now there,
             subst (λ (ls : List Link). PutsNode (tree_held stood) n ls p) k.ups.linked
                 (subst (λ (root : Option (List ℕ)). PutsNode (tree_held root) n r.chart.links p) k.root
                 (node_puts (tree_held r.chart.root) r.chart.tree n r.chart.links p e)),
@@ -143,8 +167,11 @@ module _ (lease : Claim) (r : Rising) (o : Opening) (work : Calls) (none : r.las
           linked = ap (λ (ls : List Link). ls ++ links_at (n.level + 1) p.entries) k.ups.linked;
         };
         placed = subst (λ (last : Option (List ℕ)).
-            Placed r.chart.tree k.ups.visits (record { node = n; plan = p } ∷ k.ups.climbs) r.chart.nodes (rise.next_touched r + 1) last) (sym none)
-            (placed_there r.chart.tree (links_behind k.ups.visits) (record { node = n; plan = p }) k.ups.climbs r.chart.nodes (rise.next_touched r) placed_now there);
+            Placed r.chart.tree k.ups.visits (record { node = n; plan = p } ∷ k.ups.climbs) r.chart.nodes (rise.next_touched r + 1) last) (sym none) (
+              placed_there r.chart.tree (links_behind k.ups.visits) (record { node = n; plan = p }) k.ups.climbs r.chart.nodes (rise.next_touched r) k.ups.noted.1
+                  (kept_levels r.chart.tree r.chart.nodes (visits_over r.chart.tree lease k.ups.visits []) k.ups.kept) placed_now there,
+              (rising_from r.chart.nodes (rise.next_touched r) n k.ups.noted.1 there, under_later k.ups.climbs r.chart.nodes (rise.next_touched r) 1 under_now),
+            );
         upto = subst (λ (last : Option (List ℕ)).
             UpTo r.is_spent r.chart.tree lease r.chart.run.top p.placing r.chart.root (landed_root p.placing stood) (links ++ links_at (n.level + 1) p.entries)
             (done_over (puts_of r.chart.tree lease None p.placing) below) work last) (sym none)
@@ -203,6 +230,7 @@ begun_climbs lease c o work all kept k = rise_climbs lease (rise.begun c) o work
     linked = k.linked;
   };
   placed = none_placed c.tree (links_behind k.visits) [] c.nodes;
+  under = tt;
   root = k.root;
   calls = k.calls;
 })
@@ -267,7 +295,15 @@ module _ (lease : Claim) (r : Rising) (o : Opening) (work : Calls) (k : Climbs l
       covers = k.ups.covers;
       climbs = k.ups.climbed;
       raises = λ page bytes n got e touched.
-          noted_put r.chart.tree (links_behind k.ups.visits) k.ups.climbs r.chart.nodes page bytes n placed (k.ups.noted page bytes got) e touched;
+          noted_put r.chart.tree (links_behind k.ups.visits) k.ups.climbs r.chart.nodes page bytes n placed (k.ups.noted.0 page bytes got) e touched;
+      named = λ l known page bytes n got e range.
+          climbs_name r.chart.tree (visits_over r.chart.tree lease k.ups.visits []) (root_behind o.got k.ups.visits) (links_behind k.ups.visits) k.ups.climbs page bytes n l
+          k.ups.climbed
+          (noted_put r.chart.tree (links_behind k.ups.visits) k.ups.climbs r.chart.nodes page bytes n placed (k.ups.noted.0 page bytes got) e (known_touches n l _ known range))
+          e range known;
+      named_last = λ l known is.
+          root_names (tree_held (root_above (root_behind o.got k.ups.visits) k.ups.climbs)) (links_above (links_behind k.ups.visits) k.ups.climbs) r.chart.run.top up.0 l
+          (up.2 whole) is known;
       last = up.2 whole;
     };
     calls =
@@ -323,7 +359,8 @@ module _ (lease : Claim) (r : Rising) (o : Opening) (work : Calls) (k : Climbs l
       climbed = k.ups.climbed;
       linked = k.ups.linked;
     };
-    placed = placed;
+    placed = placed.0;
+    under = placed.1;
     root = up.0;
     calls = sym (none_left (landed_placing r.placing) r.chart.tree lease None (put_call ∷ work) nothing) ∙ turn some ∙ up.1;
   }

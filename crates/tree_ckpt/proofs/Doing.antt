@@ -523,7 +523,7 @@ items_done tree l root ms i (Ok items) e h =
     let is : i ≡ intake_of items run = cc (h.2) in
     let o : Opening = record { got = root; messages = ms; items = items; run = run } in
     started_done tree l o i (chart_of tree root i.run) (has_items i.run.items) refl refl (record { read = e; run = h.1 })
-    (sym (ap (λ (j : Intake). j.run) is)) (ap (λ (j : Intake). j.deletions) is) tt (first_rests l (chart_of tree root i.run) o refl refl refl refl)
+    (sym (ap (λ (j : Intake). j.run) is)) (ap (λ (j : Intake). j.deletions) is) tt (first_rests l (chart_of tree root i.run) o refl refl refl refl refl)
 
 received_done : (tree : ℕ) (l : Claim) (root : Option (List ℕ)) (a : Answer) (g : Result (List Message) Trouble) (next : Step) → received_of a ≡ g
     → ReceivedBy tree l root g next → GoesDone tree (received_calls tree l root a) next

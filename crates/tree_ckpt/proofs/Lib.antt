@@ -19,6 +19,8 @@ pub mod Answers
 pub mod Lows
 pub mod Covers
 pub mod Pieces
+pub mod Entries
+pub mod Named
 pub mod Turns
 pub mod Whole
 pub mod Tours

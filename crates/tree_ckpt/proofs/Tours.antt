@@ -44,7 +44,7 @@ use Rattle.tree_ckpt.specs.Working.{done_over, puts_of, Visit, held_over, visits
 use Rattle.tree_ckpt.proofs.Answers.{got_is, done_is}
 use Rattle.tree_ckpt.proofs.Brought.{AreKept, kept_more}
 use Rattle.tree_ckpt.proofs.Turns.{Turned, WayTurned, turns_more, turns_both, node_got, descent_turned}
-use Rattle.tree_ckpt.proofs.Whole.{IsNoted, noted_new, noted_with}
+use Rattle.tree_ckpt.proofs.Whole.{AreRising, IsNoted, noted_new, noted_with, rising_with}
 use Rattle.tree_ckpt.proofs.Charts.{IsFurther, GoesFurther, descent_further}
 use Rattle.tree_ckpt.proofs.Covers.{IsLeast, AreHandledTo, none_handled, handled_more, handled_here, low_upto}
 use Rattle.tree_ckpt.proofs.Folds.{not_empty, plan_some}
@@ -54,9 +54,12 @@ use Rattle.tree_ckpt.proofs.Lows.{IsUpto, ComesUpto, WayUpto, descent_upto}
 
 -- ---- between leaves
 
--- what was got is kept
+-- what was got is kept, by level
+abbrev AreAllNoted : ℕ → Calls → List KeptNode → Type 0
+AreAllNoted tree looks nodes = (page : ℕ) (bytes : List ℕ) → WasGot (object.Page tree page) (Some bytes) looks → IsNoted page bytes nodes
+
 abbrev pub AreNoted : ℕ → Calls → List KeptNode → Type 0
-AreNoted tree looks nodes = (page : ℕ) (bytes : List ℕ) → WasGot (object.Page tree page) (Some bytes) looks → IsNoted page bytes nodes
+AreNoted tree looks nodes = AreAllNoted tree looks nodes × AreRising nodes
 
 -- behind visits
 pub record Rests (lease : Claim) (tree : ℕ) (run : Taken) (stood : Option (List ℕ)) (count : ℕ) (from : Option (List ℕ)) (found : List Link) (nodes : List KeptNode) (o : Opening) (work : Calls) : Type 0 where
@@ -107,12 +110,12 @@ rests_tours lease c o work least k = record {
 }
 
 -- before the first leaf
-pub first_rests : (lease : Claim) (c : Chart) (o : Opening) → c.root ≡ o.got → c.applied ≡ 0 → c.from ≡ Some [] → c.links ≡ [] → RestsAt lease c o []
-first_rests lease c o root applied from links = record {
+pub first_rests : (lease : Claim) (c : Chart) (o : Opening) → c.root ≡ o.got → c.applied ≡ 0 → c.from ≡ Some [] → c.links ≡ [] → c.nodes ≡ [] → RestsAt lease c o []
+first_rests lease c o root applied from links nodes = record {
   visits = [];
   are = tt;
   linked = links;
-  noted = λ page bytes h. absurd h;
+  noted = (λ page bytes h. absurd h, subst AreRising (sym nodes) tt);
   root = root;
   applied = applied;
   handled = subst (λ (b : Option (List ℕ)). AreHandledTo c.run.items b []) (sym from) (none_handled c.run.items);
@@ -135,7 +138,7 @@ further_tours lease n c nodes d o work f t k =
       least = k.least;
       looks = k.looks;
       looked = k.looked;
-      noted = λ page bytes h. subst (IsNoted page bytes) (sym t.same) (k.noted page bytes h);
+      noted = subst (AreNoted c.tree (k.looks ++ looks_of k.rests.visits)) (sym t.same) k.noted;
       calls = k.calls;
     } in
     subst (λ (key : List ℕ). Tours lease e.tree e.run e.root e.applied e.from key e.links e.nodes o work) (sym f.key)
@@ -158,16 +161,20 @@ way_tours lease n c nodes (Ends d x) o work f upto t k = (further_tours lease n 
 way_tours lease n c nodes (Stops d t) o work f upto turned k = tt
 
 -- a node more is got, and kept
-noted_got : (tree : ℕ) (d : Descent) (got : List ℕ) (l : Claim) (a : Answer) (looks : Calls) → d.chart.tree ≡ tree → a ≡ call.Got (Some got) → AreNoted tree looks d.chart.nodes
-    → AreNoted tree ((descent_ask d l, a) ∷ looks) (with_kept (node_got d got) d.chart.nodes)
-noted_got tree d got l a looks same e h page bytes (inr g) = noted_with page bytes (node_got d got) d.chart.nodes (h page bytes g)
-noted_got tree d got l a looks same e h page bytes (inl b) =
+all_noted_got : (tree : ℕ) (d : Descent) (got : List ℕ) (l : Claim) (a : Answer) (looks : Calls) → d.chart.tree ≡ tree → a ≡ call.Got (Some got) → AreAllNoted tree looks d.chart.nodes
+    → AreAllNoted tree ((descent_ask d l, a) ∷ looks) (with_kept (node_got d got) d.chart.nodes)
+all_noted_got tree d got l a looks same e h page bytes (inr g) = noted_with page bytes (node_got d got) d.chart.nodes (h page bytes g)
+all_noted_got tree d got l a looks same e h page bytes (inl b) =
     let ask : GetHeld (object.Page d.chart.tree d.page) l ≡ GetHeld (object.Page tree page) b.0 = ap (λ (c : Ask × Answer). c.0) b.1 in
     let answer : call.Got (Some got) ≡ call.Got (Some bytes) = sym e ∙ ap (λ (c : Ask × Answer). c.1) b.1 in
     let at : d.page ≡ page = cc (ask) in
     let is : got ≡ bytes = cc (answer) in
     subst (λ (p : ℕ). IsNoted p bytes (with_kept (node_got d got) d.chart.nodes)) at
     (subst (λ (bs : List ℕ). IsNoted d.page bs (with_kept (node_got d got) d.chart.nodes)) is (noted_new (node_got d got) d.chart.nodes))
+
+noted_got : (tree : ℕ) (d : Descent) (got : List ℕ) (l : Claim) (a : Answer) (looks : Calls) → d.chart.tree ≡ tree → a ≡ call.Got (Some got) → AreNoted tree looks d.chart.nodes
+    → AreNoted tree ((descent_ask d l, a) ∷ looks) (with_kept (node_got d got) d.chart.nodes)
+noted_got tree d got l a looks same e h = (all_noted_got tree d got l a looks same e h.0, rising_with (node_got d got) d.chart.nodes h.1)
 
 pub descent_tours : (lease : Claim) (d : Descent) (a : Answer) (o : Opening) (work : Calls) → AreKept d.chart.tree d.chart.nodes work → ToursAt lease d.chart o work
     → WayTours lease (descent_next d a) o ((descent_ask d lease, a) ∷ work)

@@ -4,11 +4,12 @@ use Rattle.std.specs.List.{AllByRecursion}
 use Rattle.db_base.specs.Change.{key_of}
 use Rattle.db_base.specs.declared.names.Lock.TheVariants as lock
 use Rattle.db_base.specs.declared.names.ObjName.TheVariants as object
-use Rattle.byte_format.specs.Order.{bytes_below}
+use Rattle.byte_format.specs.Order.{bytes_below, below_bound}
 use Rattle.byte_format.specs.Whole.{whole}
 use Rattle.leaf_view.specs.Leaf.{Leaf, leaf}
 use Rattle.leaf_view.specs.Lookup.{empty_leaf, page_at, holds}
 use Rattle.node_codec.specs.Inner.{Inner, inner_of, node_of_root}
+use Rattle.node_codec.specs.Node.{Entry}
 use Rattle.node_codec.specs.Node as node
 use Rattle.node_codec.specs.Tree.{Tree, tree_bytes}
 use Rattle.log_codec.specs.declared.record.PuItem.{PuItem}
@@ -245,12 +246,13 @@ links_above links (u ∷ us) = links_above links us ++ links_at (u.node.level + 
 abbrev pub HasLevel : KeptNode → Type 0
 HasLevel k = (n : Inner) × (inner_of k.bytes ≡ Some n) × (n.level ≡ k.level)
 
--- what is planned is a node that was got among these calls, with the links that go to it, with the tree object that stands
+-- what is planned is a node that was got among these calls, with the links that go to it, with the tree object that stands; no node is put behind one
+-- of a higher level
 abbrev pub AreClimbs : ℕ → Calls → Option (List ℕ) → List Link → List Climb → Type 0
 AreClimbs tree cs root links [] = Unit {0}
 AreClimbs tree cs root links (u ∷ us) =
-    WasGot (object.Page tree u.node.page) (Some u.node.bytes) cs × HasLevel u.node × PutsNode (tree_held (root_above root us)) u.node (links_above links us) u.plan
-    × AreClimbs tree cs root links us
+    WasGot (object.Page tree u.node.page) (Some u.node.bytes) cs × HasLevel u.node × AllByRecursion (λ v. v.node.level ≤ u.node.level) us
+    × PutsNode (tree_held (root_above root us)) u.node (links_above links us) u.plan × AreClimbs tree cs root links us
 
 -- the tree object's next version, with its cursor raised to the run's top and with the links of its level
 abbrev pub raised_root : Tree → List Link → List (ℕ × ℕ) → Tree
@@ -281,6 +283,44 @@ abbrev pub IsPut : ℕ → List ℕ → List Climb → Type 0
 IsPut page bytes [] = ⊥
 IsPut page bytes (u ∷ us) = ((u.node.page ≡ page) × (u.node.bytes ≡ bytes)) ⊎ IsPut page bytes us
 
+-- ---- what the level above names
+
+abbrev pub IsAmong : {A : Type 0} → A → List A → Type 0
+IsAmong x [] = ⊥
+IsAmong x (y ∷ ys) = (y ≡ x) ⊎ IsAmong x ys
+
+-- one of these puts is that of an inner node of this level with this entry
+abbrev pub PutsEntry : ℕ → Entry → List PagePut → Type 0
+PutsEntry level e [] = ⊥
+PutsEntry level e (x ∷ xs) = ((q : NodePart) × (x.bytes ≡ node_bytes q) × (q.common ≡ level) × IsAmong e q.items) ⊎ PutsEntry level e xs
+
+-- what was put for this page on the way up has the entry
+abbrev pub HasClimbed : ℕ → ℕ → List Climb → Entry → Type 0
+HasClimbed page level [] e = ⊥
+HasClimbed page level (u ∷ us) e = ((u.node.page ≡ page) × PutsEntry level e u.plan.placing.puts) ⊎ HasClimbed page level us e
+
+-- the tree object that was put last has the entry, or else a node of its level into which it was cut
+abbrev pub HasRisen : ℕ → RootPlan → Entry → Type 0
+HasRisen level p e = ((t : Tree) × (p.last ≡ tree_bytes t) × (t.level ≡ level) × IsAmong e t.entries) ⊎ PutsEntry level e p.placing.puts
+
+-- A link's page is named with its low key by what was put. A low key is named once: where it stood there before, or two links have it, the page is that
+-- which it had there, or that of one of these links.
+abbrev pub IsNamed : (Entry → Type 0) → List Entry → List Link → Link → Type 0
+IsNamed Has old links l = (page : ℕ) × Has (l.low, page) × (IsAmong (l.low, page) old ⊎ IsAmong (record l { page = page }) links)
+
+-- a link is one of the node's level, and its low key lies in the node's range
+pub record IsInRange (n : Inner) (l : Link) : Type 0 where
+  pub level : l.level ≡ n.level
+  pub short : length l.low ≤ 64
+  pub from : bytes_below l.low n.low ≡ false
+  pub to : below_bound l.low n.high ≡ true
+
+-- a link is one of the tree object's level, to a page that was reserved
+pub record IsOfRoot (t : Tree) (l : Link) : Type 0 where
+  pub level : l.level ≡ t.level
+  pub short : length l.low ≤ 64
+  pub page : l.page < t.next
+
 -- ---- the whole work
 
 -- the visits, the nodes that were put on the way up, and the tree object that was put last; the newest first
@@ -304,13 +344,18 @@ abbrev pub last_links : Worked → List Link
 last_links w = links_above (links_behind w.visits) w.climbs
 
 -- Each put is as planned from what was got before it; the first tree object is what the get brought. Each item of the run lies in the range of a leaf
--- that was put, or lacked nothing. An inner node that was got is put where a link that the visits found goes to it.
+-- that was put, or lacked nothing. An inner node that was got is put where a link that is known goes to it, one of a piece of a node below it too. So
+-- each link that is known is named by what was put for such a node, or by the tree object.
 pub record IsWorked (tree : ℕ) (one : Claim) (run : Taken) (got : Option (List ℕ)) (w : Worked) : Type 0 where
   pub visits : AreVisits tree one run got w.visits
   pub covers : AllByRecursion (λ x. IsHandled (key_of x.rec.change) w.visits) run.items
   pub climbs : AreClimbs tree (fold_calls tree one w) (root_behind got w.visits) (links_behind w.visits) w.climbs
   pub raises : (page : ℕ) (bytes : List ℕ) (n : Inner) → WasGot (object.Page tree page) (Some bytes) (looks_of w.visits) → inner_of bytes ≡ Some n
-      → is_touched n (links_behind w.visits) ≡ true → IsPut page bytes w.climbs
+      → is_touched n (last_links w) ≡ true → IsPut page bytes w.climbs
+  pub named : (l : Link) → IsAmong l (last_links w) → (page : ℕ) (bytes : List ℕ) (n : Inner) → WasGot (object.Page tree page) (Some bytes) (looks_of w.visits)
+      → inner_of bytes ≡ Some n → IsInRange n l → IsNamed (HasClimbed page l.level w.climbs) n.entries (last_links w) l
+  pub named_last : (l : Link) → IsAmong l (last_links w) → IsOfRoot (last_root got w) l
+      → IsNamed (HasRisen l.level w.last) (last_root got w).entries (last_links w) l
   pub last : PutsRoot (last_root got w) (raised_root (last_root got w) (last_links w) run.top) w.last
 
 -- the work is such where the run has an item, and there is none where it is empty

@@ -15,27 +15,27 @@ HasSides right high = page_at right ≡ None → high ≡ None
 
 -- ---- what parts of a format were read
 
-bound : {A B : Type 0} (r : Result A ℕ) (next : A → Result B ℕ) (y : B) → (r >>= next) ≡ Ok y → (x : A) × (r ≡ Ok x) × (next x ≡ Ok y)
+pub bound : {A B : Type 0} (r : Result A ℕ) (next : A → Result B ℕ) (y : B) → (r >>= next) ≡ Ok y → (x : A) × (r ≡ Ok x) × (next x ≡ Ok y)
 bound (Ok x) next y e = (x, refl, e)
 bound (Err left) next y e = absurd (cc (e))
 
-abbrev read_as : {A : Type 0} → A → Result A ℕ
+abbrev pub read_as : {A : Type 0} → A → Result A ℕ
 read_as x = Ok x
 
-of_ok : {A : Type 0} (x y : A) → read_as x ≡ read_as y → x ≡ y
+pub of_ok : {A : Type 0} (x y : A) → read_as x ≡ read_as y → x ≡ y
 of_ok x y e = cc (e)
 
-seen_read : {A B : Type 0} (view : A → B) (back : B → A) (f : Format A) (bytes : List ℕ) (y : B × List ℕ) → (seen_as view back f).reading bytes ≡ Ok y
+pub seen_read : {A B : Type 0} (view : A → B) (back : B → A) (f : Format A) (bytes : List ℕ) (y : B × List ℕ) → (seen_as view back f).reading bytes ≡ Ok y
     → (x : A × List ℕ) × (f.reading bytes ≡ Ok x) × (view x.0 ≡ y.0)
 seen_read {A} {B} view back f bytes y e =
     let b = bound (f.reading bytes) (λ (x : A × List ℕ). Ok (view x.0, x.1)) y e in
     (b.0, b.1, ap (λ (p : B × List ℕ). p.0) (of_ok (view b.0.0, b.0.1) y b.2))
 
-behind_read : {A : Type 0} (mark : ℕ) (f : Format A) (bytes : List ℕ) (y : A × List ℕ) → (behind mark f).reading bytes ≡ Ok y → (rest : List ℕ) × (f.reading rest ≡ Ok y)
+pub behind_read : {A : Type 0} (mark : ℕ) (f : Format A) (bytes : List ℕ) (y : A × List ℕ) → (behind mark f).reading bytes ≡ Ok y → (rest : List ℕ) × (f.reading rest ≡ Ok y)
 behind_read mark f bytes y e = let b = bound (mark_at mark bytes) f.reading y e in (b.0, b.2)
 
 -- both parts of a sequence
-then_read : {A B : Type 0} (f : Format A) (g : A → Format B) (bytes : List ℕ) (y : (A × B) × List ℕ) → (f then g).reading bytes ≡ Ok y
+pub then_read : {A B : Type 0} (f : Format A) (g : A → Format B) (bytes : List ℕ) (y : (A × B) × List ℕ) → (f then g).reading bytes ≡ Ok y
     → (rest : List ℕ) × (f.reading bytes ≡ Ok (y.0.0, rest)) × ((g y.0.0).reading rest ≡ Ok (y.0.1, y.1))
 then_read {A} {B} f g bytes y e =
     let first = bound (f.reading bytes) (λ (a : A × List ℕ). (g a.0).reading a.1 >>= λ (b : B × List ℕ). Ok ((a.0, b.0), b.1)) y e in
@@ -43,7 +43,7 @@ then_read {A} {B} f g bytes y e =
     let P : (A × B) × List ℕ → Type 0 = λ z. (rest : List ℕ) × (f.reading bytes ≡ Ok (z.0.0, rest)) × ((g z.0.0).reading rest ≡ Ok (z.0.1, z.1)) in
     subst P (of_ok ((first.0.0, second.0.0), second.0.1) y second.2) (first.0.1, first.1, second.1)
 
-whole_read : {A : Type 0} (f : Format A) (bytes : List ℕ) (y : A) → whole f bytes ≡ Ok y → (x : A × List ℕ) × (f.reading bytes ≡ Ok x) × (x.0 ≡ y)
+pub whole_read : {A : Type 0} (f : Format A) (bytes : List ℕ) (y : A) → whole f bytes ≡ Ok y → (x : A × List ℕ) × (f.reading bytes ≡ Ok x) × (x.0 ≡ y)
 whole_read {A} f bytes y e =
     let b = bound (f.reading bytes) (λ (x : A × List ℕ). cond (length x.1 == 0) (Ok x.0) (Err (length x.1))) y e in
     (b.0, b.1, on b.0 (length b.0.1 == 0) b.2) where
@@ -51,7 +51,7 @@ whole_read {A} f bytes y e =
       on x true h = of_ok x.0 y h
       on x false h = absurd (cc (h))
 
-option_read : (f : Format (List ℕ)) (bytes : List ℕ) (right : ℕ) (x : Option (List ℕ) × List ℕ) → option_at (not (right == 0)) f bytes ≡ Ok x → HasSides right x.0
+pub option_read : (f : Format (List ℕ)) (bytes : List ℕ) (right : ℕ) (x : Option (List ℕ) × List ℕ) → option_at (not (right == 0)) f bytes ≡ Ok x → HasSides right x.0
 option_read f bytes zero x e = λ none. sym (ap (λ (p : Option (List ℕ) × List ℕ). p.0) (of_ok (None, bytes) x e))
 option_read f bytes (suc n) x e = λ none. absurd (cc (none))
 
@@ -66,7 +66,7 @@ from_low = text w8 0 64 then λ low. from_right low
 abbrev from_version : Format Heads
 from_version = number w64 1 greatest then λ version. from_low
 
-head_sides : (bytes : List ℕ) (x : Head × List ℕ) → leaf_head.reading bytes ≡ Ok x → HasSides x.0.right x.0.high
+pub head_sides : (bytes : List ℕ) (x : Head × List ℕ) → leaf_head.reading bytes ≡ Ok x → HasSides x.0.right x.0.high
 unfolding leaf_head
 head_sides bytes x e =
     let s = seen_read head_of head_parts (behind 76 (behind 1 from_version)) bytes x e in

@@ -4,6 +4,7 @@ pub mod Standing
 pub mod Receiving
 pub mod Keys
 pub mod Fences
+pub mod Nodes
 pub mod Charts
 pub mod Folds
 pub mod Ending

@@ -1,5 +1,5 @@
 -- What a tree checkpoint knows of its calls.
-use Rattle.std.proofs.Common.{◌≡◌, ◌+◌, ℕ, Bool, true, false, cond, List, [], ◌∷◌, ◌++◌, length, Option, Some, None, Result, Ok, Err, refl, sym, ap, subst, ◌∙◌, arith}
+use Rattle.std.proofs.Common.{◌≡◌, ◌+◌, ℕ, Bool, true, false, cond, List, [], ◌∷◌, ◌++◌, length, Option, Some, None, Result, Ok, Err, refl, sym, ap, subst, ◌∙◌, inl, inr, arith}
 use Rattle.std.specs.Prelude.{◌==◌, ◌||◌, ◌&&◌, not, is_some, unwrap_or}
 use Rattle.db_base.specs.declared.names.Lock.TheVariants as lock
 use Rattle.db_base.specs.declared.names.ObjName.TheVariants as object
@@ -54,7 +54,7 @@ use Rattle.tree_moves.specs.Moves.{Step, released_by, answer_of, deleting, went,
 use Rattle.tree_ckpt.specs.Making.{Making, new_making, making_ask, MakingLeads, KeepsLeases}
 use Rattle.tree_ckpt.specs.Standing.{Went, HasIds}
 use Rattle.tree_ckpt.specs.Causing.{Calls}
-use Rattle.tree_ckpt.specs.Working.{Worked, WorksBy, applied_count}
+use Rattle.tree_ckpt.specs.Working.{Visit, Worked, WorksBy, leaf_place, below_root, IsLeftFor, applied_count}
 use Rattle.tree_ckpt.specs.Meaning.{Opening, opening_calls, IsOpened, IsAtWork, AreAtWork, IsRootPut, Works, Tried, deletes_over, tried_before, one_more, one_less, went_count, failed_count, IsDone, MeansDone}
 use Rattle.leaf_fold.specs.declared.folding.Left.TheVariants.{Right, Handled}
 use Rattle.tree_descent.specs.Descent.{begun}
@@ -68,7 +68,7 @@ use Rattle.tree_ckpt.proofs.Climbs.{kept_at_work, Climbs, UpClimbs, RiseClimbs, 
 use Rattle.tree_ckpt.proofs.Covers.{IsLeast, least_is}
 use Rattle.tree_ckpt.proofs.Lows.{IsUpto, ComesUpto, begun_upto}
 use Rattle.tree_ckpt.proofs.Telling.{went_told}
-use Rattle.tree_ckpt.proofs.Turns.{begun_turned}
+use Rattle.tree_ckpt.proofs.Turns.{place_of, begun_turned}
 use Rattle.tree_ckpt.proofs.Tours.{RestsAt, ToursAt, WayTours, AtLeaf, VisitsAt, LeavesUpto, LeafTours, rests_tours, first_rests, way_tours, descent_tours, leaf_tours, taken_tours, left_rests}
 use Rattle.tree_ckpt.proofs.Folds.{not_empty}
 use Rattle.tree_ckpt.proofs.Rises.{IsRising}
@@ -121,18 +121,23 @@ chart_onward (onward.Right c) = c.chart
 chart_onward (onward.Handled c) = c
 
 -- a leaf on the right has a low key not above the least key that is not handled
-abbrev GoesUpto : Onward → Type 0
-GoesUpto (onward.Right c) = IsLeast c.chart.run.items c.chart.from c.chart.key × IsUpto c.low c.chart.key
-GoesUpto (onward.Handled c) = Unit {0}
+abbrev GoesUpto : Onward → List Visit → Type 0
+GoesUpto (onward.Right c) vs = IsLeast c.chart.run.items c.chart.from c.chart.key × IsUpto c.low c.chart.key × IsLeftFor c.chart.key (leaf_place c.low c.page) vs
+GoesUpto (onward.Handled c) vs = Unit {0}
+
+-- the release answered
+freed_upto : (x : Onward) (v : Visit) (a : Answer) (vs : List Visit) → GoesUpto x (v ∷ vs) → GoesUpto x (record v { freed = a } ∷ vs)
+freed_upto (onward.Right c) v a vs h = h
+freed_upto (onward.Handled c) v a vs h = tt
 
 abbrev pub DoneAt : ℕ → Work → Calls → Type 0
 DoneAt tree work.TakingTree cs = cs ≡ []
 DoneAt tree (work.GettingTree l) cs = cs ≡ (take_tree tree, call.Given l) ∷ []
 DoneAt tree (work.Receiving l root) cs = cs ≡ (GetHeld (object.Tree tree) l, call.Got root) ∷ (take_tree tree, call.Given l) ∷ []
-DoneAt tree (work.Descending h d) cs = Amid tree h d.chart.run (λ o w. ToursAt h.lease d.chart o w × ComesUpto d) cs
-DoneAt tree (work.TakingPage h c) cs = Amid tree h c.chart.run (λ o w. ToursAt h.lease c.chart o w × IsUpto c.low c.chart.key) cs
+DoneAt tree (work.Descending h d) cs = Amid tree h d.chart.run (λ o w. ToursAt h.lease d.chart (place_of d) o w × ComesUpto d) cs
+DoneAt tree (work.TakingPage h c) cs = Amid tree h c.chart.run (λ o w. ToursAt h.lease c.chart (leaf_place c.low c.page) o w × IsUpto c.low c.chart.key) cs
 DoneAt tree (work.Folding h f) cs = Amid tree h f.chart.run (λ o w. AtLeaf h.lease f o w) cs
-DoneAt tree (work.ReleasingPage h l x) cs = Amid tree h (chart_onward x).run (λ o w. VisitsAt h.lease l (chart_onward x) o w × GoesUpto x) cs
+DoneAt tree (work.ReleasingPage h l x) cs = Amid tree h (chart_onward x).run (λ o w. (k : VisitsAt h.lease l (chart_onward x) o w) × GoesUpto x (k.visit ∷ k.visits)) cs
 DoneAt tree (work.LeftPage h x) cs = ⊥
 DoneAt tree (work.Rising h r) cs = Amid tree h r.chart.run (λ o w. Climbs h.lease r o w) cs × LastIs r
 DoneAt tree (work.Deleting h applied) cs = Late tree h.lease h.deletions applied cs × HasIds h.deletions.ids
@@ -252,8 +257,8 @@ amid_same tree h run other Is cs e k = amid_as tree h run other Is Is cs e (λ o
 
 descending_done : (tree : ℕ) (h : Held) (c : Chart) (n : ℕ) (cs : Calls) (next : Next Descent (Unit {0})) → GoesFurther n c next
     → Amid tree h c.run (λ o w. WayTours h.lease next o w) cs → GoesDone tree cs (descending_on h next)
-descending_done tree h c n cs (Goes d) f k = amid_same tree h c.run d.chart.run (λ o w. ToursAt h.lease d.chart o w × ComesUpto d) cs f.run k
-descending_done tree h c n cs (Ends d x) f k = amid_same tree h c.run d.chart.run (λ o w. ToursAt h.lease d.chart o w × ComesUpto d) cs f.run k
+descending_done tree h c n cs (Goes d) f k = amid_same tree h c.run d.chart.run (λ o w. ToursAt h.lease d.chart (place_of d) o w × ComesUpto d) cs f.run k
+descending_done tree h c n cs (Ends d x) f k = amid_same tree h c.run d.chart.run (λ o w. ToursAt h.lease d.chart (leaf_place d.low d.page) o w × ComesUpto d) cs f.run k
 descending_done tree h c n cs (Stops d t) f k = tt
 
 -- the work between two puts of the way up does not end it
@@ -294,8 +299,9 @@ going_by_done tree h c cs (Some key) e got k =
     let further : GoesFurther 0 keyed next = arrive_further (begun keyed (root_entry keyed).0 (root_entry keyed).1) in
     descending_done tree h keyed 0 cs next further
     (amid_as tree h c.run c.run (λ o w. RestsAt h.lease c o w) (λ o w. WayTours h.lease next o w) cs refl
-    (λ o w same rises is. way_tours h.lease 0 keyed keyed.nodes next o w further (begun_upto keyed)
-    (begun_turned c.tree w keyed (kept_at_work c.tree c.nodes tree h.lease o w (subst (HasGot c) same got))) (rests_tours h.lease keyed o w (least_is c.from key c.run.items rises e) is)) k)
+    (λ o w same rises is. way_tours h.lease 0 keyed keyed.nodes (below_root key c.root) next o w further (begun_upto keyed)
+    (begun_turned c.tree w keyed (kept_at_work c.tree c.nodes tree h.lease o w (subst (HasGot c) same got)))
+    (rests_tours h.lease keyed (below_root key c.root) o w (least_is c.from key c.run.items rises e) is (inl refl))) k)
 going_by_done tree h c cs None e got k =
     let next : Next Rising (Unit {0}) = rise.rise (rise.begun c) in
     rising_begun tree h (rise.begun c) cs next (rise_up (rise.begun c)) (rise_keeps (rise.begun c) (none_last (rise.begun c) refl))
@@ -311,21 +317,22 @@ onward_more tree (onward.Right y) c cs k = chart_got tree y.chart (c ∷ cs) (ch
 onward_more tree (onward.Handled y) c cs k = chart_got tree y (c ∷ cs) (chart_more tree y c cs k)
 
 left_done : (tree : ℕ) (h : Held) (x : Onward) (cs : Calls) → HasGot (chart_onward x) cs
-    → Amid tree h (chart_onward x).run (λ o w. RestsAt h.lease (chart_onward x) o w × GoesUpto x) cs → GoesDone tree cs (page_left h x)
+    → Amid tree h (chart_onward x).run (λ o w. (r : RestsAt h.lease (chart_onward x) o w) × GoesUpto x r.visits) cs → GoesDone tree cs (page_left h x)
 left_done tree h (onward.Right c) cs got k =
-    amid_as tree h c.chart.run c.chart.run (λ o w. RestsAt h.lease c.chart o w × GoesUpto (onward.Right c)) (λ o w. ToursAt h.lease c.chart o w × IsUpto c.low c.chart.key) cs refl
-    (λ o w same rises is. (rests_tours h.lease c.chart o w is.1.0 is.0, is.1.1)) k
+    amid_as tree h c.chart.run c.chart.run (λ o w. (r : RestsAt h.lease c.chart o w) × GoesUpto (onward.Right c) r.visits)
+    (λ o w. ToursAt h.lease c.chart (leaf_place c.low c.page) o w × IsUpto c.low c.chart.key) cs refl
+    (λ o w same rises is. (rests_tours h.lease c.chart (leaf_place c.low c.page) o w is.1.0 is.0 (inr is.1.2), is.1.1)) k
 left_done tree h (onward.Handled c) cs got k =
     going_by_done tree h c cs (next_key c) refl got
-    (amid_as tree h c.run c.run (λ o w. RestsAt h.lease c o w × GoesUpto (onward.Handled c)) (λ o w. RestsAt h.lease c o w) cs refl (λ o w same rises is. is.0) k)
+    (amid_as tree h c.run c.run (λ o w. (r : RestsAt h.lease c o w) × GoesUpto (onward.Handled c) r.visits) (λ o w. RestsAt h.lease c o w) cs refl (λ o w same rises is. is.0) k)
 
 folding_done : (tree : ℕ) (h : Held) (f : Folding) (cs : Calls) (next : Next Folding Left) → LeavesLeaf f next
     → Amid tree h f.chart.run (λ o w. LeafTours h.lease next o w) cs → GoesDone tree cs (folding_on h next)
 folding_done tree h f cs (Goes g) s k = amid_same tree h f.chart.run g.chart.run (λ o w. AtLeaf h.lease g o w) cs s.run k
 folding_done tree h f cs (Ends g (Right low page)) s k =
-    amid_same tree h f.chart.run g.chart.run (λ o w. VisitsAt h.lease g.lease g.chart o w × LeavesUpto g.chart (Right low page)) cs s.run k
+    amid_same tree h f.chart.run g.chart.run (λ o w. (v : VisitsAt h.lease g.lease g.chart o w) × LeavesUpto g.chart (Right low page) (v.visit ∷ v.visits)) cs s.run k
 folding_done tree h f cs (Ends g Handled) s k =
-    amid_same tree h f.chart.run g.chart.run (λ o w. VisitsAt h.lease g.lease g.chart o w × LeavesUpto g.chart Handled) cs s.run k
+    amid_same tree h f.chart.run g.chart.run (λ o w. (v : VisitsAt h.lease g.lease g.chart o w) × LeavesUpto g.chart Handled (v.visit ∷ v.visits)) cs s.run k
 folding_done tree h f cs (Stops g t) s k = tt
 
 -- a leaf's lease was given
@@ -334,7 +341,7 @@ TakenTours lease c (Ok l) o w = AtLeaf lease (fold.begun c.chart l c.page c.low 
 TakenTours lease c (Err t) o w = Unit {0}
 
 given_tours : (tree : ℕ) (h : Held) (c : Coming) (a : Answer) (given : Result Claim Trouble) → given_of (lock.Page c.chart.tree c.page) a ≡ given → (o : Opening) (w : Calls)
-    → ToursAt h.lease c.chart o w × IsUpto c.low c.chart.key → TakenTours h.lease c given o ((work_ask tree (work.TakingPage h c), a) ∷ w)
+    → ToursAt h.lease c.chart (leaf_place c.low c.page) o w × IsUpto c.low c.chart.key → TakenTours h.lease c given o ((work_ask tree (work.TakingPage h c), a) ∷ w)
 given_tours tree h c a (Ok l) e o w k =
     subst (λ (b : Answer). TakenTours h.lease c (Ok l) o ((work_ask tree (work.TakingPage h c), b) ∷ w)) (sym (given_is (lock.Page c.chart.tree c.page) a l e))
     (taken_tours h.lease c.chart l c.page c.low c.visited o w k.1 k.0)
@@ -569,12 +576,12 @@ done_by tree (work.Receiving l root) cs a next k d h =
 done_by tree (work.Descending h w) cs a next k d e =
     by_made tree cs (descent_ask w h.lease) a next _ e
     (descending_done tree h w.chart 1 ((descent_ask w h.lease, a) ∷ cs) (descent_next w a) (descent_further w a)
-    (amid_more tree h w.chart.run (λ o x. ToursAt h.lease w.chart o x × ComesUpto w) (λ o x. WayTours h.lease (descent_next w a) o x) (descent_ask w h.lease) a cs tt
+    (amid_more tree h w.chart.run (λ o x. ToursAt h.lease w.chart (place_of w) o x × ComesUpto w) (λ o x. WayTours h.lease (descent_next w a) o x) (descent_ask w h.lease) a cs tt
     (λ o x same is. descent_tours h.lease w a o x (kept_at_work w.chart.tree w.chart.nodes tree h.lease o x (subst (HasGot w.chart) same (chart_got tree w.chart cs k.chart))) is.0) d))
 done_by tree (work.TakingPage h c) cs a next k d e =
     by_made tree cs (work_ask tree (work.TakingPage h c)) a next _ e
     (taken_done tree h c ((work_ask tree (work.TakingPage h c), a) ∷ cs) (given_of (lock.Page c.chart.tree c.page) a)
-    (amid_more tree h c.chart.run (λ o x. ToursAt h.lease c.chart o x × IsUpto c.low c.chart.key) (λ o x. TakenTours h.lease c (given_of (lock.Page c.chart.tree c.page) a) o x)
+    (amid_more tree h c.chart.run (λ o x. ToursAt h.lease c.chart (leaf_place c.low c.page) o x × IsUpto c.low c.chart.key) (λ o x. TakenTours h.lease c (given_of (lock.Page c.chart.tree c.page) a) o x)
     (work_ask tree (work.TakingPage h c)) a cs tt (λ o w same is. given_tours tree h c a (given_of (lock.Page c.chart.tree c.page) a) refl o w is) d))
 done_by tree (work.Folding h f) cs a next k d e =
     by_made tree cs (folding_ask f h.lease) a next _ e
@@ -585,8 +592,10 @@ done_by tree (work.Folding h f) cs a next k d e =
 done_by tree (work.ReleasingPage h l x) cs a next k d e =
     by_made tree cs (Release l) a next _ e
     (left_done tree h x ((Release l, a) ∷ cs) (onward_more tree x (Release l, a) cs k)
-    (amid_more tree h (chart_onward x).run (λ o w. VisitsAt h.lease l (chart_onward x) o w × GoesUpto x) (λ o w. RestsAt h.lease (chart_onward x) o w × GoesUpto x) (Release l) a cs tt
-    (λ o w same is. (left_rests h.lease l (chart_onward x) a o w is.0, is.1)) d))
+    (amid_more tree h (chart_onward x).run (λ o w. (k : VisitsAt h.lease l (chart_onward x) o w) × GoesUpto x (k.visit ∷ k.visits))
+    (λ o w. (r : RestsAt h.lease (chart_onward x) o w) × GoesUpto x r.visits) (Release l) a cs tt
+    (λ o w same is. let rests = left_rests h.lease l (chart_onward x) a o w is.0 in
+    (rests.0, subst (GoesUpto x) (sym rests.1) (freed_upto x is.0.visit a is.0.visits is.1))) d))
 done_by tree (work.LeftPage h x) cs a next k d e = absurd k
 done_by tree (work.Rising h r) cs a next k d e =
     by_made tree cs (rise.rising_ask r h.lease) a next _ e

@@ -4,7 +4,7 @@ use Rattle.std.specs.Prelude.{◌==◌, ◌&&◌, not, nat_le, take, drop}
 use Rattle.std.specs.Int.{Width, w8, w64}
 use Rattle.std.specs.List.{AllByRecursion}
 use Rattle.std.specs.Result.{result_ok}
-use Rattle.std.proofs.lemmas.Bool.{leb-true}
+use Rattle.std.proofs.lemmas.Bool.{eqb-true, leb-true}
 use Rattle.std.proofs.lemmas.List.{length-take-le}
 use Rattle.byte_format.specs.Format.{Format, Reading, ◌>>=◌, greatest, guarded, in_range, number, number_at, unsigned_at, text, text_at, ruled, behind, ◌then◌, seen_as, option_at, list_of, list_from, list_at, more_at}
 use Rattle.byte_format.specs.HighKey.{key_above, high_key}
@@ -13,6 +13,8 @@ use Rattle.byte_format.specs.Whole.{whole}
 use Rattle.byte_format.proofs.OrderLemmas.{same_is}
 use Rattle.node_codec.proofs.EntryLemmas.{below_chain}
 use Rattle.node_codec.specs.Inner.{Inner, inner_of, inner_format, inner_fields, inner_of_fields, fields_of_inner, InnerFields}
+use Rattle.leaf_view.specs.Lookup.{page_at}
+use Rattle.node_codec.specs.Node as node
 use Rattle.node_codec.specs.Node.{Entry, entry, may_stand, follows, child_of, later_of}
 use Rattle.tree_ckpt.proofs.Fences.{HasSides, bound, of_ok, seen_read, behind_read, then_read, whole_read, option_read}
 use Rattle.tree_ckpt.proofs.Keys.{not_itself}
@@ -106,8 +108,8 @@ list_areFrom zero may_end low high last before bytes y e h = absurd (cc (e))
 list_areFrom (suc room) may_end low high last before bytes y e h =
     let items : Option Entry → Format Entry = entry low high last in
     let m = bound (more_at may_end bytes) (λ (more : Bool × List ℕ). cond more.0
-        ((items before).reading more.1 >>= λ (x : Entry × List ℕ). list_from room true items (Some x.0) x.1 >>= λ (xs : List Entry × List ℕ). Ok (x.0 ∷ xs.0, xs.1))
-        (Ok ([], more.1))) y e in
+    ((items before).reading more.1 >>= λ (x : Entry × List ℕ). list_from room true items (Some x.0) x.1 >>= λ (xs : List Entry × List ℕ). Ok (x.0 ∷ xs.0, xs.1))
+    (Ok ([], more.1))) y e in
     on m.0.0 m.0.1 m.2 (λ b rest z f k. list_areFrom room true low high last b rest z f k) where
       on : (more : Bool) (then_on : List ℕ)
           → cond more
@@ -125,6 +127,13 @@ list_areFrom (suc room) may_end low high last before bytes y e h =
           subst (λ (x : List Entry × List ℕ). AreFrom low x.0) (of_ok (first.0.0 ∷ second.0.0, second.0.1) y second.2) all
 
 -- ---- a whole node
+
+-- a node names no right page where the number is 0
+pub no_page : (right : ℕ) → node.page_at right ≡ None → page_at right ≡ None
+no_page right e = on (right == 0) refl e where
+  on : (b : Bool) → (right == 0) ≡ b → cond b None (Some right) ≡ None → page_at right ≡ None
+  on true f g = ap page_at (eqb-true right 0 f)
+  on false f g = absurd (cc (g))
 
 pub record IsSound (n : Inner) : Type 0 where
   pub level : 1 ≤ n.level

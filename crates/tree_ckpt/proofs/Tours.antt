@@ -5,6 +5,7 @@ use Rattle.std.proofs.lemmas.Bool.{eqb-true}
 use Rattle.std.proofs.lemmas.List.{append-nil}
 use Rattle.byte_format.specs.Order.{below_bound, bytes_below, bytes_same}
 use Rattle.byte_format.specs.Whole.{whole, offset}
+use Rattle.byte_format.proofs.OrderLemmas.{same_is}
 use Rattle.db_base.specs.declared.names.Lock.TheVariants as lock
 use Rattle.db_base.specs.declared.names.ObjName.TheVariants as object
 use Rattle.db_base.specs.declared.trouble.Trouble.{Trouble}
@@ -40,10 +41,10 @@ use Rattle.leaf_fold.specs.Plan.{leaf_plan}
 use Rattle.leaf_fold.specs.Folding as fold
 use Rattle.tree_ckpt.specs.Causing.{Calls, WasGot, GoesRight}
 use Rattle.tree_ckpt.specs.Meaning.{Opening}
-use Rattle.tree_ckpt.specs.Working.{done_over, puts_of, Visit, held_over, visits_over, AreLooks, HoldsLeaf, IsLeft, IsFor, IsVisit, root_behind, links_behind, looks_of, AreVisits, lacked_on, IsSettled, PutsLeaf, AreTurns, Outcome, Planned, Spared, Passed}
+use Rattle.tree_ckpt.specs.Working.{done_over, puts_of, Visit, held_over, visits_over, AreLooks, HoldsLeaf, IsLeft, IsFor, IsVisit, Place, leaf_place, IsLeftFor, IsStart, IsCome, root_behind, links_behind, looks_of, AreVisits, lacked_on, IsSettled, PutsLeaf, AreTurns, Outcome, Planned, Spared, Passed}
 use Rattle.tree_ckpt.proofs.Answers.{got_is, done_is}
 use Rattle.tree_ckpt.proofs.Brought.{AreKept, kept_more}
-use Rattle.tree_ckpt.proofs.Turns.{Turned, WayTurned, turns_more, turns_both, node_got, descent_turned}
+use Rattle.tree_ckpt.proofs.Turns.{Turned, WayTurned, place_of, turns_more, turns_both, come_more, way_both, node_got, descent_turned}
 use Rattle.tree_ckpt.proofs.Whole.{AreRising, IsNoted, noted_new, noted_with, rising_with}
 use Rattle.tree_ckpt.proofs.Charts.{IsFurther, GoesFurther, descent_further}
 use Rattle.tree_ckpt.proofs.Covers.{IsLeast, AreHandledTo, none_handled, handled_more, handled_here, low_upto}
@@ -72,14 +73,15 @@ pub record Rests (lease : Claim) (tree : ℕ) (run : Taken) (stood : Option (Lis
   pub handled : AreHandledTo run.items from visits
   pub calls : work ≡ visits_over tree lease visits []
 
--- behind visits, and on the way down to the leaf of the least key that is not handled
-pub record Tours (lease : Claim) (tree : ℕ) (run : Taken) (stood : Option (List ℕ)) (count : ℕ) (from : Option (List ℕ)) (key : List ℕ) (found : List Link) (nodes : List KeptNode) (o : Opening) (work : Calls) : Type 0 where
+-- behind visits, and on the way down to the leaf of the least key that is not handled, at a place
+pub record Tours (lease : Claim) (tree : ℕ) (run : Taken) (stood : Option (List ℕ)) (count : ℕ) (from : Option (List ℕ)) (key : List ℕ) (found : List Link) (nodes : List KeptNode) (place : Place) (o : Opening) (work : Calls) : Type 0 where
   pub before : Calls
   pub known : List Link
   pub olds : List KeptNode
   pub rests : Rests lease tree run stood count from known olds o before
   pub turns : List Link
   pub turned : AreTurns tree work turns
+  pub come : IsCome tree stood key work rests.visits turns place
   pub linked : found ≡ known ++ turns
   pub least : IsLeast run.items from key
   pub looks : Calls
@@ -90,17 +92,19 @@ pub record Tours (lease : Claim) (tree : ℕ) (run : Taken) (stood : Option (Lis
 abbrev pub RestsAt : Claim → Chart → Opening → Calls → Type 0
 RestsAt lease c o work = Rests lease c.tree c.run c.root c.applied c.from c.links c.nodes o work
 
-abbrev pub ToursAt : Claim → Chart → Opening → Calls → Type 0
-ToursAt lease c o work = Tours lease c.tree c.run c.root c.applied c.from c.key c.links c.nodes o work
+abbrev pub ToursAt : Claim → Chart → Place → Opening → Calls → Type 0
+ToursAt lease c place o work = Tours lease c.tree c.run c.root c.applied c.from c.key c.links c.nodes place o work
 
-pub rests_tours : (lease : Claim) (c : Chart) (o : Opening) (work : Calls) → IsLeast c.run.items c.from c.key → RestsAt lease c o work → ToursAt lease c o work
-rests_tours lease c o work least k = record {
+pub rests_tours : (lease : Claim) (c : Chart) (start : Place) (o : Opening) (work : Calls) → IsLeast c.run.items c.from c.key → (k : RestsAt lease c o work)
+    → IsStart c.root c.key k.visits start → ToursAt lease c start o work
+rests_tours lease c start o work least k begins = record {
   before = work;
   known = c.links;
   olds = c.nodes;
   rests = k;
   turns = [];
   turned = tt;
+  come = (start, begins, ([], (refl, refl)));
   linked = sym (append-nil c.links);
   least = least;
   looks = [];
@@ -122,18 +126,20 @@ first_rests lease c o root applied from links nodes = record {
   calls = refl;
 }
 
-further_tours : (lease : Claim) (n : ℕ) (c : Chart) (nodes : List KeptNode) (d : Descent) (o : Opening) (work : Calls) → IsFurther n c d.chart → Turned c.tree work c.links nodes d
-    → Tours lease c.tree c.run c.root c.applied c.from c.key c.links nodes o work
-    → ToursAt lease d.chart o work
-further_tours lease n c nodes d o work f t k =
+further_tours : (lease : Claim) (n : ℕ) (c : Chart) (nodes : List KeptNode) (start : Place) (d : Descent) (o : Opening) (work : Calls) → IsFurther n c d.chart
+    → Turned c.tree work c.links nodes c.key start d → Tours lease c.tree c.run c.root c.applied c.from c.key c.links nodes start o work
+    → ToursAt lease d.chart (place_of d) o work
+further_tours lease n c nodes start d o work f t k =
     let e : Chart = d.chart in
-    let turned : Tours lease c.tree c.run c.root c.applied c.from c.key e.links e.nodes o work = record {
+    let q : Place = place_of d in
+    let turned : Tours lease c.tree c.run c.root c.applied c.from c.key e.links e.nodes q o work = record {
       before = k.before;
       known = k.known;
       olds = k.olds;
       rests = k.rests;
       turns = k.turns ++ t.rest;
       turned = turns_both c.tree k.turns t.rest work k.turned t.are;
+      come = (k.come.0, k.come.1, (t.over ++ k.come.2.0, way_both c.tree c.key work k.come.0 k.come.2.0 start k.turns t.over q t.rest k.come.2.1 t.way));
       linked = t.linked ∙ ap (λ (ls : List Link). ls ++ t.rest) k.linked ∙ append_assoc k.known k.turns t.rest;
       least = k.least;
       looks = k.looks;
@@ -141,24 +147,32 @@ further_tours lease n c nodes d o work f t k =
       noted = subst (AreNoted c.tree (k.looks ++ looks_of k.rests.visits)) (sym t.same) k.noted;
       calls = k.calls;
     } in
-    subst (λ (key : List ℕ). Tours lease e.tree e.run e.root e.applied e.from key e.links e.nodes o work) (sym f.key)
-    (subst (λ (b : Option (List ℕ)). Tours lease e.tree e.run e.root e.applied b c.key e.links e.nodes o work) (sym f.from)
-    (subst (λ (m : ℕ). Tours lease e.tree e.run e.root m c.from c.key e.links e.nodes o work) (sym f.applied)
-    (subst (λ (r : Option (List ℕ)). Tours lease e.tree e.run r c.applied c.from c.key e.links e.nodes o work) (sym f.root)
-    (subst (λ (r : Taken). Tours lease e.tree r c.root c.applied c.from c.key e.links e.nodes o work) (sym f.run)
-    (subst (λ (t : ℕ). Tours lease t c.run c.root c.applied c.from c.key e.links e.nodes o work) (sym f.tree) turned)))))
+    subst (λ (key : List ℕ). Tours lease e.tree e.run e.root e.applied e.from key e.links e.nodes q o work) (sym f.key)
+    (subst (λ (b : Option (List ℕ)). Tours lease e.tree e.run e.root e.applied b c.key e.links e.nodes q o work) (sym f.from)
+    (subst (λ (m : ℕ). Tours lease e.tree e.run e.root m c.from c.key e.links e.nodes q o work) (sym f.applied)
+    (subst (λ (r : Option (List ℕ)). Tours lease e.tree e.run r c.applied c.from c.key e.links e.nodes q o work) (sym f.root)
+    (subst (λ (r : Taken). Tours lease e.tree r c.root c.applied c.from c.key e.links e.nodes q o work) (sym f.run)
+    (subst (λ (t : ℕ). Tours lease t c.run c.root c.applied c.from c.key e.links e.nodes q o work) (sym f.tree) turned)))))
 
--- where the way down goes on or ends
-abbrev pub WayTours : {A : Type 0} → Claim → Next Descent A → Opening → Calls → Type 0
-WayTours lease (Goes d) o work = ToursAt lease d.chart o work × ComesUpto d
-WayTours lease (Ends d x) o work = ToursAt lease d.chart o work × ComesUpto d
+-- where the way down goes on, or ends at a leaf
+abbrev pub WayTours : Claim → Next Descent (Unit {0}) → Opening → Calls → Type 0
+WayTours lease (Goes d) o work = ToursAt lease d.chart (place_of d) o work × ComesUpto d
+WayTours lease (Ends d x) o work = ToursAt lease d.chart (leaf_place d.low d.page) o work × ComesUpto d
 WayTours lease (Stops d t) o work = Unit {0}
 
-pub way_tours : {A : Type 0} (lease : Claim) (n : ℕ) (c : Chart) (nodes : List KeptNode) (next : Next Descent A) (o : Opening) (work : Calls) → GoesFurther n c next
-    → WayUpto next → WayTurned c.tree work c.links nodes next → Tours lease c.tree c.run c.root c.applied c.from c.key c.links nodes o work → WayTours lease next o work
-way_tours lease n c nodes (Goes d) o work f upto t k = (further_tours lease n c nodes d o work f t k, upto)
-way_tours lease n c nodes (Ends d x) o work f upto t k = (further_tours lease n c nodes d o work f t k, upto)
-way_tours lease n c nodes (Stops d t) o work f upto turned k = tt
+at_level : Descent → ℕ → Place
+at_level d level = record { level = level; low = d.low; page = d.page }
+
+pub way_tours : (lease : Claim) (n : ℕ) (c : Chart) (nodes : List KeptNode) (start : Place) (next : Next Descent (Unit {0})) (o : Opening) (work : Calls)
+    → GoesFurther n c next → WayUpto next → WayTurned c.tree work c.links nodes c.key start next
+    → Tours lease c.tree c.run c.root c.applied c.from c.key c.links nodes start o work → WayTours lease next o work
+unfolding at_level
+way_tours lease n c nodes start (Goes d) o work f upto t k = (further_tours lease n c nodes start d o work f t k, upto)
+way_tours lease n c nodes start (Ends d x) o work f upto t k = (
+  subst (λ (level : ℕ). ToursAt lease d.chart (at_level d level) o work) t.1 (further_tours lease n c nodes start d o work f t.0 k),
+  upto,
+)
+way_tours lease n c nodes start (Stops d t) o work f upto turned k = tt
 
 -- a node more is got, and kept
 all_noted_got : (tree : ℕ) (d : Descent) (got : List ℕ) (l : Claim) (a : Answer) (looks : Calls) → d.chart.tree ≡ tree → a ≡ call.Got (Some got) → AreAllNoted tree looks d.chart.nodes
@@ -176,7 +190,7 @@ noted_got : (tree : ℕ) (d : Descent) (got : List ℕ) (l : Claim) (a : Answer)
     → AreNoted tree ((descent_ask d l, a) ∷ looks) (with_kept (node_got d got) d.chart.nodes)
 noted_got tree d got l a looks same e h = (all_noted_got tree d got l a looks same e h.0, rising_with (node_got d got) d.chart.nodes h.1)
 
-pub descent_tours : (lease : Claim) (d : Descent) (a : Answer) (o : Opening) (work : Calls) → AreKept d.chart.tree d.chart.nodes work → ToursAt lease d.chart o work
+pub descent_tours : (lease : Claim) (d : Descent) (a : Answer) (o : Opening) (work : Calls) → AreKept d.chart.tree d.chart.nodes work → ToursAt lease d.chart (place_of d) o work
     → WayTours lease (descent_next d a) o ((descent_ask d lease, a) ∷ work)
 descent_tours lease d a o work kept k = on (got_of a) refl (descent_further d a) (descent_upto d a) where
   ask : Ask
@@ -186,7 +200,7 @@ descent_tours lease d a o work kept k = on (got_of a) refl (descent_further d a)
       → WayTours lease (descent_got d g) o ((ask, a) ∷ work)
   on (Ok (Some bytes)) e f upto =
       let is : a ≡ call.Got (Some bytes) = got_is a (Some bytes) e in
-      way_tours lease 1 d.chart (with_kept (node_got d bytes) d.chart.nodes) (got_node d bytes (fork_of d bytes)) o ((ask, a) ∷ work) f upto
+      way_tours lease 1 d.chart (with_kept (node_got d bytes) d.chart.nodes) (place_of d) (got_node d bytes (fork_of d bytes)) o ((ask, a) ∷ work) f upto
       (descent_turned d.chart.tree ((ask, a) ∷ work) d bytes (kept_more d.chart.tree d.chart.nodes (ask, a) work kept) (inl (lease, ap (λ (x : Answer). (ask, x)) is))) (record {
         before = k.before;
         known = k.known;
@@ -194,6 +208,7 @@ descent_tours lease d a o work kept k = on (got_of a) refl (descent_further d a)
         rests = k.rests;
         turns = k.turns;
         turned = turns_more d.chart.tree k.turns (ask, a) work k.turned;
+        come = come_more d.chart.tree d.chart.root d.chart.key k.rests.visits k.turns (place_of d) (ask, a) work k.come;
         linked = k.linked;
         least = k.least;
         looks = (ask, a) ∷ k.looks;
@@ -266,7 +281,7 @@ more_left p some e = on p.reserved p.puts some e where
 -- it is taken, and was not got yet
 pub record Begins (lease : Claim) (f : Folding) (o : Opening) (work : Calls) : Type 0 where
   pub before : Calls
-  pub tours : ToursAt lease f.chart o before
+  pub tours : ToursAt lease f.chart (leaf_place f.low f.page) o before
   pub empty : f.placing ≡ fold.no_placing
   pub upto : IsUpto f.low f.chart.key
   pub calls : work ≡ (Take (lock.Page f.chart.tree f.page) 30, call.Given f.lease) ∷ before
@@ -276,7 +291,7 @@ pub record Puts (lease : Claim) (f : Folding) (o : Opening) (work : Calls) : Typ
   pub visits : List Visit
   pub are : AreVisits f.chart.tree lease f.chart.run o.got visits
   pub visit : Visit
-  pub is : IsVisit f.chart.tree lease f.chart.run (root_behind o.got visits) (visits_over f.chart.tree lease visits []) visit
+  pub is : IsVisit f.chart.tree lease f.chart.run o.got visits visit
   pub linked : f.chart.links ≡ links_behind (visit ∷ visits)
   pub noted : AreNoted f.chart.tree (looks_of (visit ∷ visits)) f.chart.nodes
   pub own : visit.lease ≡ f.lease
@@ -294,7 +309,7 @@ pub record Visits (lease l : Claim) (tree : ℕ) (run : Taken) (stood : Option (
   pub visits : List Visit
   pub are : AreVisits tree lease run o.got visits
   pub visit : Visit
-  pub is : IsVisit tree lease run (root_behind o.got visits) (visits_over tree lease visits []) visit
+  pub is : IsVisit tree lease run o.got visits visit
   pub linked : found ≡ links_behind (visit ∷ visits)
   pub noted : AreNoted tree (looks_of (visit ∷ visits)) nodes
   pub own : visit.lease ≡ l
@@ -307,14 +322,14 @@ abbrev pub VisitsAt : Claim → Claim → Chart → Opening → Calls → Type 0
 VisitsAt lease own c o work = Visits lease own c.tree c.run c.root c.applied c.from c.links c.nodes o work
 
 -- a leaf that is left for its right page, which has a low key not above the key at hand
-abbrev pub LeavesUpto : Chart → Left → Type 0
-LeavesUpto c (Right low page) = IsLeast c.run.items c.from c.key × IsUpto low c.key
-LeavesUpto c Handled = Unit {0}
+abbrev pub LeavesUpto : Chart → Left → List Visit → Type 0
+LeavesUpto c (Right low page) vs = IsLeast c.run.items c.from c.key × IsUpto low c.key × IsLeftFor c.key (leaf_place low page) vs
+LeavesUpto c Handled vs = Unit {0}
 
 -- where the work at it leads
 abbrev pub LeafTours : Claim → Next Folding Left → Opening → Calls → Type 0
 LeafTours lease (Goes f) o work = AtLeaf lease f o work
-LeafTours lease (Ends f out) o work = VisitsAt lease f.lease f.chart o work × LeavesUpto f.chart out
+LeafTours lease (Ends f out) o work = (k : VisitsAt lease f.lease f.chart o work) × LeavesUpto f.chart out (k.visit ∷ k.visits)
 LeafTours lease (Stops f t) o work = Unit {0}
 
 -- ---- the get
@@ -322,12 +337,12 @@ LeafTours lease (Stops f t) o work = Unit {0}
 -- this leaf was got
 record IsGot (lease : Claim) (f : Folding) (got : Option (List ℕ)) (l : Leaf) (o : Opening) (work : Calls) : Type 0 where
   before : Calls
-  tours : ToursAt lease f.chart o before
+  tours : ToursAt lease f.chart (leaf_place f.low f.page) o before
   holds : HoldsLeaf f.page l got
   upto : IsUpto f.low f.chart.key
   calls : work ≡ (GetHeld (object.Page f.chart.tree f.page) f.lease, call.Got got) ∷ (Take (lock.Page f.chart.tree f.page) 30, call.Given f.lease) ∷ before
 
-module _ (lease : Claim) (f : Folding) (got : Option (List ℕ)) (l : Leaf) (o : Opening) (work : Calls) (k : IsGot lease f got l o work) where
+module _ (lease : Claim) (f : Folding) (got : Option (List ℕ)) (l : Leaf) (o : Opening) (work : Calls) (k : IsGot lease f got l o work) (same_low : l.low ≡ f.low) where
   -- the visit that it is, with what was planned
   visit_with : Outcome → Visit
   visit_with outcome =
@@ -350,11 +365,17 @@ module _ (lease : Claim) (f : Folding) (got : Option (List ℕ)) (l : Leaf) (o :
 
   -- it is the visit that it is
   seen : (outcome : Outcome) → IsFor f.chart.key l outcome → IsLeft f.chart.run (root_behind o.got k.tours.rests.visits) f.page l outcome
-      → IsVisit f.chart.tree lease f.chart.run (root_behind o.got k.tours.rests.visits) (visits_over f.chart.tree lease k.tours.rests.visits []) (visit_with outcome)
+      → IsVisit f.chart.tree lease f.chart.run o.got k.tours.rests.visits (visit_with outcome)
   unfolding visit_with
   seen outcome is_for left = record {
     looks = k.tours.looked;
     turns = subst (λ (cs : Calls). AreTurns f.chart.tree cs k.tours.turns) tour_calls k.tours.turned;
+    come =
+        subst (λ (low : List ℕ). IsCome f.chart.tree (root_behind o.got k.tours.rests.visits) f.chart.key (k.tours.looks ++ visits_over f.chart.tree lease k.tours.rests.visits [])
+        k.tours.rests.visits k.tours.turns (leaf_place low f.page)) (sym same_low)
+        (subst (λ (cs : Calls). IsCome f.chart.tree (root_behind o.got k.tours.rests.visits) f.chart.key cs k.tours.rests.visits k.tours.turns (leaf_place f.low f.page)) tour_calls
+        (subst (λ (root : Option (List ℕ)). IsCome f.chart.tree root f.chart.key k.before k.tours.rests.visits k.tours.turns (leaf_place f.low f.page)) k.tours.rests.root
+        k.tours.come));
     holds = k.holds;
     is_for = is_for;
     left = left;
@@ -390,21 +411,25 @@ module _ (lease : Claim) (f : Folding) (got : Option (List ℕ)) (l : Leaf) (o :
 
   -- it is left by its right link
   passed : (link : Link) → link.level ≡ 1 → IsUpto link.low f.chart.key → GoesRight l.high (page_at l.right) link.low link.page
-      → Visits lease f.lease f.chart.tree f.chart.run f.chart.root f.chart.applied f.chart.from (f.chart.links ++ link ∷ []) f.chart.nodes o work
+      → (v : Visits lease f.lease f.chart.tree f.chart.run f.chart.root f.chart.applied f.chart.from (f.chart.links ++ link ∷ []) f.chart.nodes o work)
+      × IsLeftFor f.chart.key (leaf_place link.low link.page) (v.visit ∷ v.visits)
   unfolding visit_with visit_calls
-  passed link level upto goes = record {
-    visits = k.tours.rests.visits;
-    are = k.tours.rests.are;
-    visit = visit_with (Passed link);
-    is = seen (Passed link) upto (level, goes);
-    linked = ap (λ (ls : List Link). ls ++ link ∷ []) links_seen;
-    noted = k.tours.noted;
-    own = refl;
-    root = k.tours.rests.root;
-    applied = omega (arith, k.tours.rests.applied);
-    handled = handled_more f.chart.run.items f.chart.from (visit_with (Passed link)) k.tours.rests.visits k.tours.rests.handled;
-    calls = got_calls;
-  }
+  passed link level upto goes = (
+    record {
+      visits = k.tours.rests.visits;
+      are = k.tours.rests.are;
+      visit = visit_with (Passed link);
+      is = seen (Passed link) upto (level, goes);
+      linked = ap (λ (ls : List Link). ls ++ link ∷ []) links_seen;
+      noted = k.tours.noted;
+      own = refl;
+      root = k.tours.rests.root;
+      applied = omega (arith, k.tours.rests.applied);
+      handled = handled_more f.chart.run.items f.chart.from (visit_with (Passed link)) k.tours.rests.visits k.tours.rests.handled;
+      calls = got_calls;
+    },
+    (refl, refl),
+  )
 
   planned_tours : IsUpto l.low f.chart.key → holds l f.chart.key ≡ true → (items : List PuItem) → lacked l 0 f.chart.run.items ≡ items → has_items items ≡ true → (p : Result LeafPlan Trouble)
       → leaf_plan (tree_held f.chart.root) f.page l f.chart.run.items ≡ p → LeafTours lease (fold.planned f l.high items p) o work
@@ -437,7 +462,9 @@ module _ (lease : Claim) (f : Folding) (got : Option (List ℕ)) (l : Leaf) (o :
   right_tours high right goes upto = on ((right == f.page) || is_seen f.visited right) where
     on : (b : Bool) → LeafTours lease (cond b (Stops f (trouble.Loop right)) (Ends (fold.turned f high right) (Right high right))) o work
     on true = tt
-    on false = (passed (record { level = 1; low = high; page = right }) refl upto goes, (k.tours.least, upto))
+    on false =
+        let left = passed (record { level = 1; low = high; page = right }) refl upto goes in
+        (left.0, (k.tours.least, upto, left.1))
 
   -- a key that is not below its low key and is below its high key is in its range
   in_range : IsUpto l.low f.chart.key → (high : Option (List ℕ)) → l.high ≡ high → below_bound f.chart.key high ≡ true → holds l f.chart.key ≡ true
@@ -459,11 +486,12 @@ module _ (lease : Claim) (f : Folding) (got : Option (List ℕ)) (l : Leaf) (o :
     on true under = handled_tours low (in_range low (Some high) h under) (lacked l 0 f.chart.run.items) refl
     on false under = right_tours high right (h, e) under
 
-  at_tours : LeafTours lease (fold.leaf_at f l) o work
-  at_tours = on (bytes_same l.low f.low) refl where
-    on : (b : Bool) → bytes_same l.low f.low ≡ b → LeafTours lease (cond b (fold.leaf_side f l l.high (page_at l.right)) (Stops f (fold.bad_low f l.low))) o work
-    on true same = side_tours (low_upto l f.low f.chart.key same k.upto) l.high refl (page_at l.right) refl
-    on false same = tt
+at_tours : (lease : Claim) (f : Folding) (got : Option (List ℕ)) (l : Leaf) (o : Opening) (work : Calls) → IsGot lease f got l o work → LeafTours lease (fold.leaf_at f l) o work
+at_tours lease f got l o work k = on (bytes_same l.low f.low) refl where
+  on : (b : Bool) → bytes_same l.low f.low ≡ b → LeafTours lease (cond b (fold.leaf_side f l l.high (page_at l.right)) (Stops f (fold.bad_low f l.low))) o work
+  on true same =
+      side_tours lease f got l o work k (same_is l.low f.low same) (low_upto l f.low f.chart.key same k.upto) l.high refl (page_at l.right) refl
+  on false same = tt
 
 -- the get of a leaf that is taken
 abbrev get_of : Folding → Ask
@@ -562,7 +590,7 @@ leaf_tours lease f a o work (inr k) =
 
 -- ---- from one to the next
 
-pub taken_tours : (lease : Claim) (c : Chart) (l : Claim) (page : ℕ) (low visited : List ℕ) (o : Opening) (work : Calls) → IsUpto low c.key → ToursAt lease c o work
+pub taken_tours : (lease : Claim) (c : Chart) (l : Claim) (page : ℕ) (low visited : List ℕ) (o : Opening) (work : Calls) → IsUpto low c.key → ToursAt lease c (leaf_place low page) o work
     → AtLeaf lease (fold.begun c l page low visited) o ((Take (lock.Page c.tree page) 30, call.Given l) ∷ work)
 taken_tours lease c l page low visited o work upto k = inl (record { before = work; tours = k; empty = refl; upto = upto; calls = refl })
 
@@ -571,16 +599,19 @@ freed_handled : (xs : List PuItem) (from : Option (List ℕ)) (v : Visit) (a : A
 freed_handled [] from v a visits h = tt
 freed_handled (x ∷ xs) from v a visits h = (h.0, freed_handled xs from v a visits h.1)
 
-pub left_rests : (lease own : Claim) (c : Chart) (a : Answer) (o : Opening) (work : Calls) → VisitsAt lease own c o work → RestsAt lease c o ((Release own, a) ∷ work)
+pub left_rests : (lease own : Claim) (c : Chart) (a : Answer) (o : Opening) (work : Calls) (k : VisitsAt lease own c o work)
+    → (r : RestsAt lease c o ((Release own, a) ∷ work)) × (r.visits ≡ record k.visit { freed = a } ∷ k.visits)
 left_rests lease own c a o work k =
-    let freed : Visit = record k.visit { freed = a } in
-    record {
-      visits = freed ∷ k.visits;
-      are = (record { looks = k.is.looks; turns = k.is.turns; holds = k.is.holds; is_for = k.is.is_for; left = k.is.left }, k.are);
-      linked = k.linked;
-      noted = k.noted;
-      root = k.root;
-      applied = k.applied;
-      handled = freed_handled c.run.items c.from k.visit a k.visits k.handled;
-      calls = ap (λ (cs : Calls). (Release own, a) ∷ cs) k.calls ∙ ap (λ (l : Claim). (Release l, a) ∷ held_over c.tree lease k.visit (visits_over c.tree lease k.visits [])) (sym k.own);
-    }
+    let freed : Visit = record k.visit { freed = a } in (
+      record {
+        visits = freed ∷ k.visits;
+        are = (record { looks = k.is.looks; turns = k.is.turns; come = k.is.come; holds = k.is.holds; is_for = k.is.is_for; left = k.is.left }, k.are);
+        linked = k.linked;
+        noted = k.noted;
+        root = k.root;
+        applied = k.applied;
+        handled = freed_handled c.run.items c.from k.visit a k.visits k.handled;
+        calls = ap (λ (cs : Calls). (Release own, a) ∷ cs) k.calls ∙ ap (λ (l : Claim). (Release l, a) ∷ held_over c.tree lease k.visit (visits_over c.tree lease k.visits [])) (sym k.own);
+      },
+      refl,
+    )

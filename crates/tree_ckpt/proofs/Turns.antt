@@ -1,10 +1,11 @@
 -- What is noted on the way down are right links of nodes that were got.
-use Rattle.std.proofs.Common.{◌≡◌, ℕ, zero, suc, ◌+◌, Bool, true, false, cond, List, [], ◌∷◌, ◌++◌, length, Option, Some, None, Result, Ok, Err, refl, sym, ap, subst, ◌∙◌, inr, append_assoc}
+use Rattle.std.proofs.Common.{◌≡◌, ℕ, zero, suc, ◌+◌, ◌-◌, Bool, true, false, cond, List, [], ◌∷◌, ◌++◌, length, Option, Some, None, Result, Ok, Err, refl, sym, ap, subst, ◌∙◌, inl, inr, append_assoc}
 use Rattle.std.specs.Prelude.{◌==◌, ◌&&◌, not}
 use Rattle.std.proofs.lemmas.Bool.{eqb-true}
 use Rattle.std.proofs.lemmas.List.{append-nil}
-use Rattle.byte_format.specs.Order.{bytes_below, bytes_same}
+use Rattle.byte_format.specs.Order.{bytes_below, bytes_same, below_bound}
 use Rattle.byte_format.specs.Whole.{offset}
+use Rattle.byte_format.proofs.OrderLemmas.{same_is}
 use Rattle.db_base.specs.declared.names.ObjName.TheVariants as object
 use Rattle.db_base.specs.declared.trouble.Trouble.{Trouble}
 use Rattle.db_base.specs.declared.trouble.Trouble.TheVariants as trouble
@@ -27,9 +28,11 @@ use Rattle.tree_descent.specs.declared.fork.Fork.TheVariants.{Right, Down}
 use Rattle.tree_descent.specs.Fork.{bad_fence, down_to, fork_at, forked_on}
 use Rattle.tree_descent.specs.Fork as fork
 use Rattle.tree_descent.specs.Descent.{begun, forked, forked_by, passed, fork_of, go_on, stride_at, kept_at, stride, follow, walk, arrived, arrive, with_node, got_node}
-use Rattle.tree_moves.specs.Moves.{root_entry}
-use Rattle.tree_ckpt.specs.Causing.{Calls, WasGot, WasNode}
-use Rattle.tree_ckpt.specs.Working.{IsTurn, AreTurns}
+use Rattle.tree_moves.specs.Moves.{entry_or, root_entry}
+use Rattle.tree_ckpt.specs.Causing.{Calls, WasGot, WasNode, GoesRight}
+use Rattle.tree_ckpt.specs.Working.{IsTurn, AreTurns, Visit, Place, child_place, below_root, link_to, LeadsOn, IsWay, IsCome}
+use Rattle.tree_ckpt.proofs.Fences.{HasSides}
+use Rattle.tree_ckpt.proofs.Nodes.{no_page, node_sound}
 use Rattle.tree_ckpt.proofs.Brought.{IsKept, AreKept, kept_found, kept_with, forked_level}
 
 -- ---- lists of turns
@@ -42,110 +45,187 @@ pub turns_both : (tree : ℕ) (xs ys : List Link) (cs : Calls) → AreTurns tree
 turns_both tree [] ys cs h k = k
 turns_both tree (x ∷ xs) ys cs h k = (h.0, turns_both tree xs ys cs h.1 k)
 
-module _ (tree : ℕ) (cs : Calls) (links : List Link) (nodes : List KeptNode) where
-  -- on the way down from such links, with nodes that were got
+-- ---- ways
+
+-- a call more
+pub way_more : (tree : ℕ) (key : List ℕ) (start : Place) (ns : List Inner) (q : Place) (turns : List Link) (c : Ask × Answer) (cs : Calls) → IsWay tree key cs start ns q turns
+    → IsWay tree key (c ∷ cs) start ns q turns
+way_more tree key start [] q turns c cs h = h
+way_more tree key start (n ∷ ns) q turns c cs h =
+    (h.0, h.1, way_more tree key start ns h.0 h.1 c cs h.2, (h.3.0, h.3.1, inr h.3.2), h.4, h.5, h.6)
+
+pub come_more : (tree : ℕ) (root : Option (List ℕ)) (key : List ℕ) (vs : List Visit) (turns : List Link) (q : Place) (c : Ask × Answer) (cs : Calls)
+    → IsCome tree root key cs vs turns q → IsCome tree root key (c ∷ cs) vs turns q
+come_more tree root key vs turns q c cs h = (h.0, h.1, (h.2.0, way_more tree key h.0 h.2.0 q turns c cs h.2.1))
+
+leads_behind : (key : List ℕ) (n : Inner) (level : ℕ) (first before : List Link) (q : Place) (turns : List Link) → LeadsOn key n level before q turns
+    → LeadsOn key n level (first ++ before) q (first ++ turns)
+leads_behind key n level first before q turns (inl h) =
+    inl (h.0, h.1, h.2, ap (λ (ls : List Link). first ++ ls) h.3 ∙ sym (append_assoc first before (link_to q ∷ [])))
+leads_behind key n level first before q turns (inr h) = inr (h.0, h.1, ap (λ (ls : List Link). first ++ ls) h.2)
+
+-- one way behind another
+pub way_both : (tree : ℕ) (key : List ℕ) (cs : Calls) (start : Place) (ms : List Inner) (p : Place) (first : List Link) (ns : List Inner) (q : Place) (turns : List Link)
+    → IsWay tree key cs start ms p first → IsWay tree key cs p ns q turns → IsWay tree key cs start (ns ++ ms) q (first ++ turns)
+way_both tree key cs start ms p first [] q turns h k =
+    subst (λ (x : Place). IsWay tree key cs start ms x (first ++ turns)) (sym k.0)
+    (subst (λ (ls : List Link). IsWay tree key cs start ms p ls) (sym (append-nil first) ∙ ap (λ (ls : List Link). first ++ ls) (sym k.1)) h)
+way_both tree key cs start ms p first (n ∷ ns) q turns h k =
+    (k.0, first ++ k.1, way_both tree key cs start ms p first ns k.0 k.1 h k.2, k.3, k.4, k.5, leads_behind key n k.0.level first k.1 q turns k.6)
+
+-- where a way down stands
+abbrev pub place_of : Descent → Place
+place_of d = record { level = d.level; low = d.low; page = d.page }
+
+-- a child at a level
+child_at : Entry → ℕ → Place
+child_at e level = record { level = level; low = e.0; page = e.1 }
+
+module _ (tree : ℕ) (cs : Calls) (links : List Link) (nodes : List KeptNode) (key : List ℕ) (start : Place) where
+  -- on the way down from such links and this place, with nodes that were got
   pub record Turned (d : Descent) : Type 0 where
     pub kept : AreKept tree d.chart.nodes cs
     pub same : d.chart.nodes ≡ nodes
+    pub asks : d.chart.key ≡ key
     pub rest : List Link
     pub linked : d.chart.links ≡ links ++ rest
     pub are : AreTurns tree cs rest
+    pub over : List Inner
+    pub way : IsWay tree key cs start over (place_of d) rest
 
-  abbrev pub WayTurned : {A : Type 0} → Next Descent A → Type 0
+  -- where it goes on, and where it ends at a leaf
+  abbrev pub WayTurned : Next Descent (Unit {0}) → Type 0
   WayTurned (Goes d) = Turned d
-  WayTurned (Ends d x) = Turned d
+  WayTurned (Ends d x) = Turned d × (d.level ≡ 0)
   WayTurned (Stops d t) = Unit {0}
+
+  abbrev StrideTurned : Next Descent Reach → Type 0
+  StrideTurned (Goes d) = Turned d
+  StrideTurned (Ends d Node) = Turned d
+  StrideTurned (Ends d Leaf) = Turned d × (d.level ≡ 0)
+  StrideTurned (Stops d t) = Unit {0}
 
   -- ---- a node
 
-  turn_of : Descent → List ℕ → ℕ → Link
-  turn_of d low page = record { level = d.level + 1; low = low; page = page }
+  -- a node leads on for the key
+  abbrev ForkLeads : List ℕ → Inner → Fork → Type 0
+  ForkLeads k n (Right low page) = GoesRight n.high (page_at n.right) low page × (bytes_below k low ≡ false)
+  ForkLeads k n (Down low page) = (below_bound k n.high ≡ true) × (entry_or (child_of k n.entries) ≡ (low, page))
 
   abbrev ForkTurns : Descent → Fork → Type 0
-  ForkTurns d (Right low page) = IsTurn tree cs (turn_of d low page)
-  ForkTurns d (Down low page) = Unit {0}
+  ForkTurns d f = (n : Inner) × WasNode tree d.page n cs × (n.level ≡ d.level) × (n.low ≡ d.low) × ForkLeads d.chart.key n f
 
   abbrev FoundTurns : Descent → Result Fork Trouble → Type 0
   FoundTurns d (Ok f) = ForkTurns d f
   FoundTurns d (Err t) = Unit {0}
 
-  down_turns : (d : Descent) (o : Option Entry) → ForkTurns d (down_to o)
-  down_turns d (Some e) = tt
-  down_turns d None = tt
+  down_leads : (k : List ℕ) (n : Inner) → below_bound k n.high ≡ true → (o : Option Entry) → child_of k n.entries ≡ o → ForkLeads k n (down_to o)
+  down_leads k n under (Some e) is = (under, ap entry_or is)
+  down_leads k n under None is = (under, ap entry_or is)
 
-  fork_turns : (d : Descent) (n : Inner) → WasNode tree d.page n cs → n.level ≡ d.level → (down : Fork) → ForkTurns d down → (high : Option (List ℕ)) → n.high ≡ high
-      → (right : Option ℕ) → page_at n.right ≡ right → ForkTurns d (fork_at d.chart.key down high right)
-  unfolding turn_of
-  fork_turns d n w level down below None h right r = below
-  fork_turns d n w level down below (Some high) h None r = below
-  fork_turns d n w level down below (Some high) h (Some right) r = on (bytes_below d.chart.key high) where
-    on : (b : Bool) → ForkTurns d (cond b down (Right high right))
-    on true = below
-    on false = (d.page, n, w, ap (λ (m : ℕ). m + 1) (sym level), (h, r))
+  fork_leads : (k : List ℕ) (n : Inner) → HasSides n.right n.high → (high : Option (List ℕ)) → n.high ≡ high → (right : Option ℕ) → page_at n.right ≡ right
+      → ForkLeads k n (fork_at k (fork.down_from k n) high right)
+  fork_leads k n sides None h right r = down_leads k n (ap (below_bound k) h) (child_of k n.entries) refl
+  fork_leads k n sides (Some high) h None r = absurd (let none : None ≡ Some high = sym (sides (no_page n.right r)) ∙ h in cc (none))
+  fork_leads k n sides (Some high) h (Some right) r = on (bytes_below k high) refl where
+    on : (b : Bool) → bytes_below k high ≡ b → ForkLeads k n (cond b (fork.down_from k n) (Right high right))
+    on true e = down_leads k n (ap (below_bound k) h ∙ e) (child_of k n.entries) refl
+    on false e = ((h, r), e)
 
-  forked_turns : (d : Descent) (n : Inner) → WasNode tree d.page n cs → FoundTurns d (forked d n)
-  forked_turns d n w = on (n.level == d.level) refl where
-    fenced : n.level ≡ d.level → (b : Bool) → FoundTurns d (cond b (Ok (forked_on d.chart.key n)) (Err (bad_fence d.page d.low n.low)))
-    fenced level true =
-        fork_turns d n w level (fork.down_from d.chart.key n) (down_turns d (child_of d.chart.key n.entries)) n.high refl (page_at n.right) refl
-    fenced level false = tt
+  forked_turns : (d : Descent) (n : Inner) → WasNode tree d.page n cs → HasSides n.right n.high → FoundTurns d (forked d n)
+  forked_turns d n w sides = on (n.level == d.level) refl where
+    fenced : n.level ≡ d.level → (b c : Bool) → bytes_same n.low d.low ≡ b → FoundTurns d (cond (b && c) (Ok (forked_on d.chart.key n)) (Err (bad_fence d.page d.low n.low)))
+    fenced level true true e = (n, w, level, same_is n.low d.low e, fork_leads d.chart.key n sides n.high refl (page_at n.right) refl)
+    fenced level true false e = tt
+    fenced level false c e = tt
 
     on : (b : Bool) → (n.level == d.level) ≡ b
         → FoundTurns d (cond b (cond (bytes_same n.low d.low && not (bytes_below d.chart.key n.low)) (Ok (forked_on d.chart.key n)) (Err (bad_fence d.page d.low n.low)))
         (Err (damaged d.chart.tree d.page 10)))
-    on true e = fenced (eqb-true n.level d.level e) (bytes_same n.low d.low && not (bytes_below d.chart.key n.low))
+    on true e = fenced (eqb-true n.level d.level e) (bytes_same n.low d.low) (not (bytes_below d.chart.key n.low)) refl
     on false e = tt
 
   found_turns : (d : Descent) (bytes : List ℕ) → WasGot (object.Page tree d.page) (Some bytes) cs → FoundTurns d (fork_of d bytes)
   found_turns d bytes got = on (inner_of bytes) refl where
     on : (o : Option Inner) → inner_of bytes ≡ o → FoundTurns d (forked_by d (inner_or d.chart.tree d.page (offset inner_format bytes) o))
-    on (Some n) e = forked_turns d n (bytes, e, got)
+    on (Some n) e = forked_turns d n (bytes, e, got) (node_sound bytes n e).sides
     on None e = tt
 
   -- ---- the way
 
+  turn_of : Descent → List ℕ → ℕ → Link
+  turn_of d low page = record { level = d.level + 1; low = low; page = page }
+
   passed_turned : (d : Descent) (f : Fork) → Turned d → ForkTurns d f → Turned (passed d f)
-  unfolding turn_of
+  unfolding turn_of child_at
   passed_turned d (Right low page) k h = record {
     kept = k.kept;
     same = k.same;
+    asks = k.asks;
     rest = k.rest ++ turn_of d low page ∷ [];
     linked = ap (λ (ls : List Link). ls ++ turn_of d low page ∷ []) k.linked ∙ append_assoc links k.rest (turn_of d low page ∷ []);
-    are = turns_both tree k.rest (turn_of d low page ∷ []) cs k.are (h, tt);
+    are = turns_both tree k.rest (turn_of d low page ∷ []) cs k.are ((d.page, h.0, h.1, ap (λ (m : ℕ). m + 1) (sym h.2), h.4.0), tt);
+    over = h.0 ∷ k.over;
+    way = (place_of d, k.rest, k.way, h.1, h.2, h.3, inl (h.4.0, subst (λ (x : List ℕ). bytes_below x low ≡ false) k.asks h.4.1, refl, refl));
   }
-  passed_turned d (Down low page) k h = record { kept = k.kept; same = k.same; rest = k.rest; linked = k.linked; are = k.are }
+  passed_turned d (Down low page) k h = record {
+    kept = k.kept;
+    same = k.same;
+    asks = k.asks;
+    rest = k.rest;
+    linked = k.linked;
+    are = k.are;
+    over = h.0 ∷ k.over;
+    way = (
+      place_of d,
+      k.rest,
+      k.way,
+      h.1,
+      h.2,
+      h.3,
+      inr (
+        subst (λ (x : List ℕ). below_bound x h.0.high ≡ true) k.asks h.4.0,
+        sym (ap (λ (e : Entry). child_at e (d.level - 1)) (subst (λ (x : List ℕ). entry_or (child_of x h.0.entries) ≡ (low, page)) k.asks h.4.1)),
+        refl,
+      ),
+    );
+  }
 
-  go_on_turned : (d : Descent) (f : Result Fork Trouble) → Turned d → FoundTurns d f → WayTurned (go_on d f)
+  go_on_turned : (d : Descent) (f : Result Fork Trouble) → Turned d → FoundTurns d f → StrideTurned (go_on d f)
   go_on_turned d (Ok f) k h = passed_turned d f k h
   go_on_turned d (Err t) k h = tt
 
-  stride_at_turned : (d : Descent) (o : Option KeptNode) → kept_at d ≡ o → Turned d → WayTurned (stride_at d o)
+  stride_at_turned : (d : Descent) (o : Option KeptNode) → kept_at d ≡ o → Turned d → StrideTurned (stride_at d o)
   stride_at_turned d (Some n) e k =
       let found : IsKept tree n cs × (n.page ≡ d.page) = kept_found tree d.page d.chart.nodes n cs k.kept e in
       go_on_turned d (fork_of d n.bytes) k
       (found_turns d n.bytes (subst (λ (page : ℕ). WasGot (object.Page tree page) (Some n.bytes) cs) found.1 found.0.0))
   stride_at_turned d None e k = k
 
-  either_turned : {A : Type 0} (b : Bool) (x y : Next Descent A) → WayTurned x → WayTurned y → WayTurned (cond b x y)
+  either_turned : (b : Bool) (x y : Next Descent Reach) → StrideTurned x → StrideTurned y → StrideTurned (cond b x y)
   either_turned true x y h k = h
   either_turned false x y h k = k
 
-  stride_turned : (d : Descent) → Turned d → WayTurned (stride d)
-  stride_turned d k =
-      either_turned (d.level == 0) (Ends d Leaf) (cond (is_seen d.visited d.page) (Stops d (trouble.Loop d.page)) (stride_at d (kept_at d))) k
-      (either_turned (is_seen d.visited d.page) (Stops d (trouble.Loop d.page)) (stride_at d (kept_at d)) tt (stride_at_turned d (kept_at d) refl k))
+  stride_turned : (d : Descent) → Turned d → StrideTurned (stride d)
+  stride_turned d k = on (d.level == 0) refl where
+    on : (b : Bool) → (d.level == 0) ≡ b
+        → StrideTurned (cond b (Ends d Leaf) (cond (is_seen d.visited d.page) (Stops d (trouble.Loop d.page)) (stride_at d (kept_at d))))
+    on true e = (k, eqb-true d.level 0 e)
+    on false e = either_turned (is_seen d.visited d.page) (Stops d (trouble.Loop d.page)) (stride_at d (kept_at d)) tt (stride_at_turned d (kept_at d) refl k)
 
-  follow_turned : (next : Descent → Next Descent Reach) → ((e : Descent) → Turned e → WayTurned (next e)) → (s : Next Descent Reach) → WayTurned s → WayTurned (follow next s)
+  follow_turned : (next : Descent → Next Descent Reach) → ((e : Descent) → Turned e → StrideTurned (next e)) → (s : Next Descent Reach) → StrideTurned s
+      → StrideTurned (follow next s)
   follow_turned next each (Goes e) h = each e h
-  follow_turned next each (Ends e reach) h = h
+  follow_turned next each (Ends e Node) h = h
+  follow_turned next each (Ends e Leaf) h = h
   follow_turned next each (Stops e t) h = tt
 
-  walk_turned : (n : ℕ) (d : Descent) → Turned d → WayTurned (walk n d)
+  walk_turned : (n : ℕ) (d : Descent) → Turned d → StrideTurned (walk n d)
   unfolding walk
   walk_turned zero d h = follow_turned (λ e. Stops e (trouble.Loop e.page)) (λ e k. tt) (stride d) (stride_turned d h)
   walk_turned (suc n) d h = follow_turned (walk n) (walk_turned n) (stride d) (stride_turned d h)
 
-  arrived_turned : (s : Next Descent Reach) → WayTurned s → WayTurned (arrived s)
+  arrived_turned : (s : Next Descent Reach) → StrideTurned s → WayTurned (arrived s)
   arrived_turned (Goes d) h = h
   arrived_turned (Ends d Node) h = h
   arrived_turned (Ends d Leaf) h = h
@@ -158,42 +238,45 @@ module _ (tree : ℕ) (cs : Calls) (links : List Link) (nodes : List KeptNode) w
 abbrev pub node_got : Descent → List ℕ → KeptNode
 node_got d bytes = record { page = d.page; level = d.level; low = d.low; bytes = bytes }
 
+-- the way from where a node is got
+abbrev GotTurned : ℕ → Calls → Descent → List ℕ → Next Descent (Unit {0}) → Type 0
+GotTurned tree cs d bytes next = WayTurned tree cs d.chart.links (with_kept (node_got d bytes) d.chart.nodes) d.chart.key (place_of d) next
+
 got_turned : (tree : ℕ) (cs : Calls) (d : Descent) (bytes : List ℕ) → AreKept tree d.chart.nodes cs → WasGot (object.Page tree d.page) (Some bytes) cs
-    → WayTurned tree cs d.chart.links (with_kept (node_got d bytes) d.chart.nodes) (got_node d bytes (fork_of d bytes))
-unfolding turn_of
+    → GotTurned tree cs d bytes (got_node d bytes (fork_of d bytes))
 got_turned tree cs d bytes kept got = on (inner_of bytes) refl where
   nodes : List KeptNode
   nodes = with_kept (node_got d bytes) d.chart.nodes
 
-  same_fork : (g : Fork) → ForkTurns tree cs d.chart.links nodes d g → ForkTurns tree cs d.chart.links nodes (with_node d bytes) g
-  same_fork (Right low page) t = t
-  same_fork (Down low page) t = t
-
-  found : (n : Inner) → inner_of bytes ≡ Some n → (f : Result Fork Trouble) → forked d n ≡ f → FoundTurns tree cs d.chart.links nodes d f
-      → WayTurned tree cs d.chart.links nodes (got_node d bytes f)
+  found : (n : Inner) → inner_of bytes ≡ Some n → (f : Result Fork Trouble) → forked d n ≡ f → FoundTurns tree cs d.chart.links nodes d.chart.key (place_of d) d f
+      → GotTurned tree cs d bytes (got_node d bytes f)
   found n e (Ok f) is h =
-      arrive_turned tree cs d.chart.links nodes (passed (with_node d bytes) f)
-      (passed_turned tree cs d.chart.links nodes (with_node d bytes) f (record {
+      arrive_turned tree cs d.chart.links nodes d.chart.key (place_of d) (passed (with_node d bytes) f)
+      (passed_turned tree cs d.chart.links nodes d.chart.key (place_of d) (with_node d bytes) f (record {
         kept = kept_with tree (node_got d bytes) d.chart.nodes cs (got, (n, e, forked_level d n f is)) kept;
         same = refl;
+        asks = refl;
         rest = [];
         linked = sym (append-nil d.chart.links);
         are = tt;
-      }) (same_fork f h))
+        over = [];
+        way = (refl, refl);
+      }) h)
   found n e (Err t) is h = tt
 
-  on : (o : Option Inner) → inner_of bytes ≡ o
-      → WayTurned tree cs d.chart.links nodes (got_node d bytes (forked_by d (inner_or d.chart.tree d.page (offset inner_format bytes) o)))
-  on (Some n) e = found n e (forked d n) refl (forked_turns tree cs d.chart.links nodes d n (bytes, e, got))
+  on : (o : Option Inner) → inner_of bytes ≡ o → GotTurned tree cs d bytes (got_node d bytes (forked_by d (inner_or d.chart.tree d.page (offset inner_format bytes) o)))
+  on (Some n) e =
+      found n e (forked d n) refl (forked_turns tree cs d.chart.links nodes d.chart.key (place_of d) d n (bytes, e, got) (node_sound bytes n e).sides)
   on None e = tt
 
 -- from the tree object
-pub begun_turned : (tree : ℕ) (cs : Calls) (c : Chart) → AreKept tree c.nodes cs → WayTurned tree cs c.links c.nodes (arrive (begun c (root_entry c).0 (root_entry c).1))
+pub begun_turned : (tree : ℕ) (cs : Calls) (c : Chart) → AreKept tree c.nodes cs
+    → WayTurned tree cs c.links c.nodes c.key (below_root c.key c.root) (arrive (begun c (root_entry c).0 (root_entry c).1))
 begun_turned tree cs c kept =
-    arrive_turned tree cs c.links c.nodes (begun c (root_entry c).0 (root_entry c).1)
-    (record { kept = kept; same = refl; rest = []; linked = sym (append-nil c.links); are = tt })
+    arrive_turned tree cs c.links c.nodes c.key (below_root c.key c.root) (begun c (root_entry c).0 (root_entry c).1)
+    (record { kept = kept; same = refl; asks = refl; rest = []; linked = sym (append-nil c.links); are = tt; over = []; way = (refl, refl) })
 
 -- behind the get of a node
 pub descent_turned : (tree : ℕ) (cs : Calls) (d : Descent) (bytes : List ℕ) → AreKept tree d.chart.nodes cs → WasGot (object.Page tree d.page) (Some bytes) cs
-    → WayTurned tree cs d.chart.links (with_kept (node_got d bytes) d.chart.nodes) (got_node d bytes (fork_of d bytes))
+    → GotTurned tree cs d bytes (got_node d bytes (fork_of d bytes))
 descent_turned tree cs d bytes kept got = got_turned tree cs d bytes kept got

@@ -9,7 +9,7 @@ use Rattle.byte_format.specs.Whole.{whole}
 use Rattle.leaf_view.specs.Leaf.{Leaf, leaf}
 use Rattle.leaf_view.specs.Lookup.{empty_leaf, page_at, holds}
 use Rattle.node_codec.specs.Inner.{Inner, inner_of, node_of_root}
-use Rattle.node_codec.specs.Node.{Entry}
+use Rattle.node_codec.specs.Node.{Entry, child_of}
 use Rattle.node_codec.specs.Node as node
 use Rattle.node_codec.specs.Tree.{Tree, tree_bytes}
 use Rattle.log_codec.specs.declared.record.PuItem.{PuItem}
@@ -39,6 +39,7 @@ use Rattle.tree_rising.specs.declared.node.NodePlan.{NodePlan}
 use Rattle.tree_rising.specs.declared.root.RootPlan.{RootPlan}
 use Rattle.tree_rising.specs.Nodes.{with_links, is_touched}
 use Rattle.tree_rising.specs.Root.{risen}
+use Rattle.tree_moves.specs.Moves.{entry_or}
 use Rattle.tree_ckpt.specs.Causing.{Calls, WasGot, WasNode, GoesRight}
 
 -- ---- puts
@@ -94,6 +95,44 @@ linked_node n ls = record n { version = n.version + 1; entries = with_links n ls
 abbrev pub PutsNode : Tree → KeptNode → List Link → NodePlan → Type 0
 PutsNode root k ls p =
     (n : Inner) × (inner_of k.bytes ≡ Some n) × PutsPieces entry_key node_bytes root k.page (part_of_node (linked_node n ls)) p.placing p.entries
+
+-- ---- a way down
+
+-- a page that was come to, with the level and the low key that the link to it promises
+pub record Place : Type 0 where
+  pub level : ℕ
+  pub low : List ℕ
+  pub page : ℕ
+
+-- the child for a key, at this level
+abbrev pub child_place : List ℕ → List Entry → ℕ → Place
+child_place key entries level = record { level = level; low = (entry_or (child_of key entries)).0; page = (entry_or (child_of key entries)).1 }
+
+-- the child of the tree object
+abbrev pub below_root : List ℕ → Option (List ℕ) → Place
+below_root key root = child_place key (tree_held root).entries ((tree_held root).level - 1)
+
+-- a leaf
+abbrev pub leaf_place : List ℕ → ℕ → Place
+leaf_place low page = record { level = 0; low = low; page = page }
+
+-- the link to a page that was come to by a right link, for the level above
+abbrev pub link_to : Place → Link
+link_to p = record { level = p.level + 1; low = p.low; page = p.page }
+
+-- An inner node leads on for a key: to its right page where the key is not below its high key, which is a turn, and else to its child.
+abbrev pub LeadsOn : List ℕ → Inner → ℕ → List Link → Place → List Link → Type 0
+LeadsOn key n level turns q more =
+    (GoesRight n.high (node.page_at n.right) q.low q.page × (bytes_below key q.low ≡ false) × (q.level ≡ level) × (more ≡ turns ++ link_to q ∷ []))
+    ⊎ ((below_bound key n.high ≡ true) × (q ≡ child_place key n.entries (level - 1)) × (more ≡ turns))
+
+-- A way for a key leads from one page to another over inner nodes that were got, the newest first. Each has the level and the low key that the link to it
+-- promised. Its turns are all right links that it followed.
+abbrev pub IsWay : ℕ → List ℕ → Calls → Place → List Inner → Place → List Link → Type 0
+IsWay tree key cs start [] q turns = (q ≡ start) × (turns ≡ [])
+IsWay tree key cs start (n ∷ ns) q turns =
+    (p : Place) × (before : List Link) × IsWay tree key cs start ns p before × WasNode tree p.page n cs × (n.level ≡ p.level) × (n.low ≡ p.low)
+    × LeadsOn key n p.level before q turns
 
 -- ---- a leaf
 
@@ -166,14 +205,6 @@ IsFor key l (Planned plan) = holds l key ≡ true
 IsFor key l Spared = holds l key ≡ true
 IsFor key l (Passed link) = bytes_below key link.low ≡ false
 
--- a visit behind these calls
-pub record IsVisit (tree : ℕ) (one : Claim) (run : Taken) (root : Option (List ℕ)) (before : Calls) (v : Visit) : Type 0 where
-  pub looks : AreLooks tree one v.looks
-  pub turns : AreTurns tree (v.looks ++ before) v.turns
-  pub holds : HoldsLeaf v.page v.leaf v.got
-  pub is_for : IsFor v.key v.leaf v.outcome
-  pub left : IsLeft run root v.page v.leaf v.outcome
-
 -- ---- leaf by leaf
 
 -- what was got on all ways down
@@ -186,9 +217,35 @@ abbrev pub root_behind : Option (List ℕ) → List Visit → Option (List ℕ)
 root_behind got [] = got
 root_behind got (v ∷ vs) = landed_root (placing_of v.outcome) (root_behind got vs)
 
+-- the newest leaf was left for this page on its right, which has the key too
+abbrev pub IsLeftTo : Place → Outcome → Type 0
+IsLeftTo p (Planned plan) = ⊥
+IsLeftTo p Spared = ⊥
+IsLeftTo p (Passed link) = p ≡ leaf_place link.low link.page
+
+abbrev pub IsLeftFor : List ℕ → Place → List Visit → Type 0
+IsLeftFor key p [] = ⊥
+IsLeftFor key p (v ∷ vs) = (v.key ≡ key) × IsLeftTo p v.outcome
+
+-- a way for a key begins at the tree object's child, or at the page for which the newest leaf was left
+abbrev pub IsStart : Option (List ℕ) → List ℕ → List Visit → Place → Type 0
+IsStart root key vs p = (p ≡ below_root key root) ⊎ IsLeftFor key p vs
+
+abbrev pub IsCome : ℕ → Option (List ℕ) → List ℕ → Calls → List Visit → List Link → Place → Type 0
+IsCome tree root key cs vs turns q = (start : Place) × IsStart root key vs start × ((ns : List Inner) × IsWay tree key cs start ns q turns)
+
+-- a visit behind others
+pub record IsVisit (tree : ℕ) (one : Claim) (run : Taken) (got : Option (List ℕ)) (vs : List Visit) (v : Visit) : Type 0 where
+  pub looks : AreLooks tree one v.looks
+  pub turns : AreTurns tree (v.looks ++ visits_over tree one vs []) v.turns
+  pub come : IsCome tree (root_behind got vs) v.key (v.looks ++ visits_over tree one vs []) vs v.turns (leaf_place v.leaf.low v.page)
+  pub holds : HoldsLeaf v.page v.leaf v.got
+  pub is_for : IsFor v.key v.leaf v.outcome
+  pub left : IsLeft run (root_behind got vs) v.page v.leaf v.outcome
+
 abbrev pub AreVisits : ℕ → Claim → Taken → Option (List ℕ) → List Visit → Type 0
 AreVisits tree one run got [] = Unit {0}
-AreVisits tree one run got (v ∷ vs) = IsVisit tree one run (root_behind got vs) (visits_over tree one vs []) v × AreVisits tree one run got vs
+AreVisits tree one run got (v ∷ vs) = IsVisit tree one run got vs v × AreVisits tree one run got vs
 
 -- the links that are known then, for the levels above: right links that were followed, and new pieces
 abbrev pub links_from : Outcome → List Link → List Link

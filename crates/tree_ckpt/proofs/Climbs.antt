@@ -39,6 +39,7 @@ use Rattle.tree_ckpt.proofs.Pieces.{node_puts, root_puts}
 use Rattle.tree_ckpt.proofs.Rises.{IsRising, kept_at}
 use Rattle.tree_ckpt.proofs.Tours.{AreNoted, RestsAt, put_in_turn, none_left}
 use Rattle.tree_ckpt.proofs.Named.{climbs_name, known_touches}
+use Rattle.tree_ckpt.proofs.Under.{visits_level, climbs_level, followed_under, leaves_under}
 use Rattle.tree_ckpt.proofs.Entries.{root_names}
 use Rattle.tree_ckpt.proofs.Whole.{IsPlacedIn, PlacedTo, AllFrom, from_later, from_there, rising_from, none_placed, placed_next, placed_there, all_placed, noted_put}
 
@@ -284,6 +285,11 @@ module _ (lease : Claim) (r : Rising) (o : Opening) (work : Calls) (k : Climbs l
       UpTo r.is_spent r.chart.tree lease r.chart.run.top p root (root_above (root_behind o.got k.ups.visits) k.ups.climbs) (links_above (links_behind k.ups.visits) k.ups.climbs)
       (climbs_over r.chart.tree lease k.ups.climbs (visits_over r.chart.tree lease k.ups.visits [])) calls last
 
+  same_level : (tree_held o.got).level ≡ (tree_held (root_above (root_behind o.got k.ups.visits) k.ups.climbs)).level
+  same_level =
+      sym (visits_level r.chart.tree lease r.chart.run o.got k.ups.visits k.ups.are)
+      ∙ sym (climbs_level r.chart.tree (visits_over r.chart.tree lease k.ups.visits []) (root_behind o.got k.ups.visits) (links_behind k.ups.visits) k.ups.climbs k.ups.climbed)
+
   -- the put of the tree object
   last_climbs : has_nothing r.placing ≡ true → r.is_spent ≡ false → (last : Option (List ℕ)) → is_some last ≡ true
       → Placed r.chart.tree k.ups.visits k.ups.climbs r.chart.nodes r.at last → UpBy r.placing r.chart.root work last
@@ -304,6 +310,8 @@ module _ (lease : Claim) (r : Rising) (o : Opening) (work : Calls) (k : Climbs l
       named_last = λ l known is.
           root_names (tree_held (root_above (root_behind o.got k.ups.visits) k.ups.climbs)) (links_above (links_behind k.ups.visits) k.ups.climbs) r.chart.run.top up.0 l
           (up.2 whole) is known;
+      followed = λ l h. followed_under r.chart.tree lease r.chart.run o.got (tree_held (root_above (root_behind o.got k.ups.visits) k.ups.climbs)) same_level k.ups.visits l k.ups.are h;
+      under = λ v h. leaves_under r.chart.tree lease r.chart.run o.got (tree_held (root_above (root_behind o.got k.ups.visits) k.ups.climbs)) same_level k.ups.visits v k.ups.are h;
       last = up.2 whole;
     };
     calls =

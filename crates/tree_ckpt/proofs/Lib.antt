@@ -5,6 +5,10 @@ pub mod Receiving
 pub mod Keys
 pub mod Fences
 pub mod Nodes
+pub mod Fits
+pub mod Roots
+pub mod Sound
+pub mod Under
 pub mod Charts
 pub mod Folds
 pub mod Ending

@@ -41,14 +41,14 @@ later_upto : (key : List ℕ) (a b : Option Entry) → IfUpto key a → IfUpto k
 later_upto key a None h k = h
 later_upto key a (Some e) h k = k
 
-child_upto : (key : List ℕ) (es : List Entry) → IfUpto key (child_of key es)
+pub child_upto : (key : List ℕ) (es : List Entry) → IfUpto key (child_of key es)
 child_upto key [] = tt
 child_upto key (e ∷ es) = later_upto key (cond (bytes_below key e.0) None (Some e)) (child_of key es) (on (bytes_below key e.0) refl) (child_upto key es) where
   on : (b : Bool) → bytes_below key e.0 ≡ b → IfUpto key (cond b None (Some e))
   on true h = tt
   on false h = h
 
-entry_upto : (key : List ℕ) (o : Option Entry) → IfUpto key o → IsUpto (entry_or o).0 key
+pub entry_upto : (key : List ℕ) (o : Option Entry) → IfUpto key o → IsUpto (entry_or o).0 key
 entry_upto key (Some e) h = h
 entry_upto key None h = none_below key
 

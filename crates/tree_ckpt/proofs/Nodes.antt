@@ -1,4 +1,4 @@
--- What an inner node that was read has: a level above the leaves, a high key exactly beside a right page and above its low key, and entries from its low key on.
+-- What parts of an inner node that was read have: a high key is above the low key, and the entries are from the low key on.
 use Rattle.std.proofs.Common.{◌≡◌, ◌≤◌, ℕ, zero, suc, Bool, true, false, cond, List, [], ◌∷◌, length, Option, Some, None, Result, Ok, Err, refl, sym, ap, subst, ◌∙◌, arith}
 use Rattle.std.specs.Prelude.{◌==◌, ◌&&◌, not, nat_le, take, drop}
 use Rattle.std.specs.Int.{Width, w8, w64}
@@ -22,15 +22,15 @@ use Rattle.tree_moves.specs.Moves.{entry_or}
 
 -- ---- parts of a format
 
-guard_read : {A : Type 0} (b : Bool) (bytes : List ℕ) (x y : A × List ℕ) → guarded b bytes x ≡ Ok y → (b ≡ true) × (x ≡ y)
+pub guard_read : {A : Type 0} (b : Bool) (bytes : List ℕ) (x y : A × List ℕ) → guarded b bytes x ≡ Ok y → (b ≡ true) × (x ≡ y)
 guard_read true bytes x y e = (refl, of_ok x y e)
 guard_read false bytes x y e = absurd (cc (e))
 
-and_both : (a b : Bool) → (a && b) ≡ true → (a ≡ true) × (b ≡ true)
+pub and_both : (a b : Bool) → (a && b) ≡ true → (a ≡ true) × (b ≡ true)
 and_both true b e = (refl, e)
 and_both false b e = absurd (cc (e))
 
-number_read : (w : Width) (least most : ℕ) (bytes : List ℕ) (y : ℕ × List ℕ) → number_at w least most bytes ≡ Ok y → (least ≤ y.0) × (y.0 ≤ most)
+pub number_read : (w : Width) (least most : ℕ) (bytes : List ℕ) (y : ℕ × List ℕ) → number_at w least most bytes ≡ Ok y → (least ≤ y.0) × (y.0 ≤ most)
 unfolding number_at
 number_read w least most bytes y e =
     let b = bound (unsigned_at w bytes) (λ (n : ℕ × List ℕ). guarded (in_range least most n.0) bytes n) y e in
@@ -49,7 +49,7 @@ text_read w least most bytes y e =
     let short : length (take b.0.0 b.0.1) ≡ b.0.0 = length-take-le b.0.0 b.0.1 (leb-true b.0.0 (length b.0.1) g.0) in
     subst (λ (t : List ℕ). length t ≤ most) same (omega (arith, short, n.1))
 
-ruled_read : {A : Type 0} (rule : A → Bool) (f : Format A) (bytes : List ℕ) (y : A × List ℕ) → (ruled rule f).reading bytes ≡ Ok y → (f.reading bytes ≡ Ok y) × (rule y.0 ≡ true)
+pub ruled_read : {A : Type 0} (rule : A → Bool) (f : Format A) (bytes : List ℕ) (y : A × List ℕ) → (ruled rule f).reading bytes ≡ Ok y → (f.reading bytes ≡ Ok y) × (rule y.0 ≡ true)
 ruled_read {A} rule f bytes y e =
     let b = bound (f.reading bytes) (λ (x : A × List ℕ). guarded (rule x.0) bytes x) y e in
     let g = guard_read (rule b.0.0) bytes b.0 y b.2 in
@@ -82,7 +82,7 @@ abbrev BehindFrom : List ℕ → Option Entry → Type 0
 BehindFrom low None = Unit {0}
 BehindFrom low (Some e) = bytes_below e.0 low ≡ false
 
-not_under : (a b c : List ℕ) → bytes_below a b ≡ true → bytes_below a c ≡ false → bytes_below b c ≡ false
+pub not_under : (a b c : List ℕ) → bytes_below a b ≡ true → bytes_below a c ≡ false → bytes_below b c ≡ false
 not_under a b c h k = on (bytes_below b c) refl where
   on : (x : Bool) → bytes_below b c ≡ x → bytes_below b c ≡ false
   on false e = e
@@ -102,15 +102,15 @@ entry_from low high last before bytes y e behind_it =
       stands true f g = placed before behind_it f
       stands false f g = absurd (cc (g))
 
-list_areFrom : (room : ℕ) (may_end : Bool) (low : List ℕ) (high : Option (List ℕ)) (last : ℕ) (before : Option Entry) (bytes : List ℕ) (y : List Entry × List ℕ)
+pub list_from_low : (room : ℕ) (may_end : Bool) (low : List ℕ) (high : Option (List ℕ)) (last : ℕ) (before : Option Entry) (bytes : List ℕ) (y : List Entry × List ℕ)
     → list_from room may_end (entry low high last) before bytes ≡ Ok y → BehindFrom low before → AreFrom low y.0
-list_areFrom zero may_end low high last before bytes y e h = absurd (cc (e))
-list_areFrom (suc room) may_end low high last before bytes y e h =
+list_from_low zero may_end low high last before bytes y e h = absurd (cc (e))
+list_from_low (suc room) may_end low high last before bytes y e h =
     let items : Option Entry → Format Entry = entry low high last in
     let m = bound (more_at may_end bytes) (λ (more : Bool × List ℕ). cond more.0
     ((items before).reading more.1 >>= λ (x : Entry × List ℕ). list_from room true items (Some x.0) x.1 >>= λ (xs : List Entry × List ℕ). Ok (x.0 ∷ xs.0, xs.1))
     (Ok ([], more.1))) y e in
-    on m.0.0 m.0.1 m.2 (λ b rest z f k. list_areFrom room true low high last b rest z f k) where
+    on m.0.0 m.0.1 m.2 (λ b rest z f k. list_from_low room true low high last b rest z f k) where
       on : (more : Bool) (then_on : List ℕ)
           → cond more
           ((entry low high last before).reading then_on >>= λ (x : Entry × List ℕ). list_from room true (entry low high last) (Some x.0) x.1 >>= λ (xs : List Entry × List ℕ). Ok (x.0 ∷ xs.0, xs.1))
@@ -125,63 +125,3 @@ list_areFrom (suc room) may_end low high last before bytes y e h =
           let stands : bytes_below first.0.0.0 low ≡ false = entry_from low high last before then_on first.0 first.1 h in
           let all : AreFrom low (first.0.0 ∷ second.0.0) = (stands, rest (Some first.0.0) first.0.1 second.0 second.1 stands) in
           subst (λ (x : List Entry × List ℕ). AreFrom low x.0) (of_ok (first.0.0 ∷ second.0.0, second.0.1) y second.2) all
-
--- ---- a whole node
-
--- a node names no right page where the number is 0
-pub no_page : (right : ℕ) → node.page_at right ≡ None → page_at right ≡ None
-no_page right e = on (right == 0) refl e where
-  on : (b : Bool) → (right == 0) ≡ b → cond b None (Some right) ≡ None → page_at right ≡ None
-  on true f g = ap page_at (eqb-true right 0 f)
-  on false f g = absurd (cc (g))
-
-pub record IsSound (n : Inner) : Type 0 where
-  pub level : 1 ≤ n.level
-  pub sides : HasSides n.right n.high
-  pub high : IsAbove n.low n.high
-  pub entries : AreFrom n.low n.entries
-
-abbrev from_high : List ℕ → Option (List ℕ) → Format (List Entry)
-from_high low high = list_of false (entry low high greatest) None
-
-abbrev from_right : List ℕ → Format (ℕ × (Option (List ℕ) × List Entry))
-from_right low = number w64 0 greatest then λ right. high_key low right then λ high. from_high low high
-
-abbrev from_low : Format (List ℕ × (ℕ × (Option (List ℕ) × List Entry)))
-from_low = text w8 0 64 then λ low. from_right low
-
-abbrev from_level : Format (ℕ × (List ℕ × (ℕ × (Option (List ℕ) × List Entry))))
-from_level = number w8 1 255 then λ level. from_low
-
-abbrev from_version : Format InnerFields
-from_version = number w64 1 greatest then λ version. from_level
-
-whole_sound : (bytes : List ℕ) (n : Inner) → whole inner_format bytes ≡ Ok n → IsSound n
-unfolding list_at
-whole_sound bytes n e =
-    let w = whole_read inner_format bytes n e in
-    let s = seen_read inner_of_fields fields_of_inner inner_fields bytes w.0 w.1 in
-    let b = behind_read 0x49 (behind 1 from_version) bytes s.0 s.1 in
-    let c = behind_read 1 from_version b.0 s.0 b.1 in
-    let v = then_read (number w64 1 greatest) (λ version. from_level) c.0 s.0 c.1 in
-    let k = then_read (number w8 1 255) (λ level. from_low) v.0 (s.0.0.1, s.0.1) v.2 in
-    let l = then_read (text w8 0 64) from_right k.0 (s.0.0.1.1, s.0.1) k.2 in
-    let low : List ℕ = s.0.0.1.1.0 in
-    let r = then_read (number w64 0 greatest) (λ right. high_key low right then λ high. from_high low high) l.0 (s.0.0.1.1.1, s.0.1) l.2 in
-    let right : ℕ = s.0.0.1.1.1.0 in
-    let h = then_read (high_key low right) (from_high low) r.0 (s.0.0.1.1.1.1, s.0.1) r.2 in
-    let high : Option (List ℕ) = s.0.0.1.1.1.1.0 in
-    let made : IsSound (inner_of_fields s.0.0) = record {
-      level = (number_read w8 1 255 v.0 (s.0.0.1.0, k.0) k.1).0;
-      sides = option_read (key_above low) r.0 right (high, h.0) h.1;
-      high = above_read low right r.0 (high, h.0) h.1;
-      entries = list_areFrom (suc (length h.0)) false low high greatest None h.0 (s.0.0.1.1.1.1.1, s.0.1) h.2 tt;
-    } in
-    subst IsSound (s.2 ∙ w.2) made
-
-pub node_sound : (bytes : List ℕ) (n : Inner) → inner_of bytes ≡ Some n → IsSound n
-unfolding inner_of
-node_sound bytes n e = on (whole inner_format bytes) refl e where
-  on : (r : Result Inner ℕ) → whole inner_format bytes ≡ r → result_ok r ≡ Some n → IsSound n
-  on (Ok m) f g = let same : m ≡ n = cc (g) in subst IsSound same (whole_sound bytes m f)
-  on (Err left) f g = absurd (cc (g))

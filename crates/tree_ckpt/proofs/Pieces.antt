@@ -1,9 +1,9 @@
 -- What is put for a page are the pieces that it is cut into, none of them long.
-use Rattle.std.proofs.Common.{◌≡◌, ℕ, zero, suc, ◌+◌, ◌-◌, ◌*◌, ◌/◌, ◌%◌, ◌<◌, ◌≤◌, Bool, true, false, cond, List, [], ◌∷◌, ◌++◌, length, Option, Some, None, Result, Ok, Err, refl, ◌⊎◌, sym, ap, subst, ◌∙◌, inl, inr, arith}
+use Rattle.std.proofs.Common.{◌≡◌, ◌≢◌, ℕ, zero, suc, ◌+◌, ◌-◌, ◌*◌, ◌/◌, ◌%◌, ◌<◌, ◌≤◌, Bool, true, false, cond, List, [], ◌∷◌, ◌++◌, length, Option, Some, None, Result, Ok, Err, refl, ◌⊎◌, sym, ap, subst, ◌∙◌, inl, inr, arith}
 use Rattle.std.specs.Prelude.{◌==◌, ◌&&◌, nat_lt, map, reverse, drop, replicate}
 use Rattle.std.specs.List.{AllByRecursion}
 use Rattle.std.proofs.Math.Nat.{div-add-mod}
-use Rattle.std.proofs.lemmas.Bool.{eqb-true, ltb-true, ltb-false}
+use Rattle.std.proofs.lemmas.Bool.{eqb-true, eqb-false, ltb-true, ltb-false}
 use Rattle.db_base.specs.declared.trouble.Trouble.{Trouble}
 use Rattle.byte_format.specs.Whole.{offset}
 use Rattle.leaf_view.specs.Leaf.{Leaf}
@@ -99,22 +99,27 @@ reserves_of root page count r e = on (count == 0) refl e where
   made : Tree → Reserved
   made u = record { put = Some (tree_bytes (record u { next = u.next + count })); first = u.next }
 
-  over : (u : Tree) (b : Bool) → u ≡ record root { version = root.version + 1 } → cond b (Err pages_spent) (Ok (made u)) ≡ Ok r → Reserves root r.first count r.put
-  over u true same f = absurd (cc (f))
-  over u false same f =
+  over : (u : Tree) (b : Bool) → nat_lt 18446744073709551615 (u.next + count) ≡ b → u ≡ record root { version = root.version + 1 } → root.version ≢ 18446744073709551615
+      → cond b (Err pages_spent) (Ok (made u)) ≡ Ok r → Reserves root r.first count r.put
+  over u true most same spare f = absurd (cc (f))
+  over u false most same spare f =
       let is : made u ≡ r = cc (f) in
+      let within : root.next + count ≤ 18446744073709551615 =
+      subst (λ (t : Tree). t.next + count ≤ 18446744073709551615) same (ltb-false 18446744073709551615 (u.next + count) most) in
       subst (λ (x : Reserved). Reserves root x.first count x.put) is
-      (subst (λ (t : Tree). Reserves root (made t).first count (made t).put) (sym same) (refl, refl))
+      (subst (λ (t : Tree). Reserves root (made t).first count (made t).put) (sym same) (refl, spare, within, refl))
 
-  next : (b : Bool) → reserved_by count (cond b (Err version_spent) (Ok (record root { version = root.version + 1 }))) ≡ Ok r → Reserves root r.first count r.put
-  next true f = absurd (cc (f))
-  next false f = over (record root { version = root.version + 1 }) (nat_lt 18446744073709551615 (root.next + count)) refl f
+  next : (b : Bool) → (root.version == 18446744073709551615) ≡ b → reserved_by count (cond b (Err version_spent) (Ok (record root { version = root.version + 1 }))) ≡ Ok r
+      → Reserves root r.first count r.put
+  next true same f = absurd (cc (f))
+  next false same f =
+      over (record root { version = root.version + 1 }) (nat_lt 18446744073709551615 (root.next + count)) refl refl (eqb-false root.version 18446744073709551615 same) f
 
   on : (b : Bool) → (count == 0) ≡ b → cond b (Ok (record { put = None; first = page })) (reserved_by count (next_tree root)) ≡ Ok r → Reserves root r.first count r.put
   on true none f =
       let is : record { put = None; first = page } ≡ r = cc (f) in
       subst (λ (x : Reserved). Reserves root x.first count x.put) is (eqb-true count 0 none)
-  on false none f = next (root.version == 18446744073709551615) f
+  on false none f = next (root.version == 18446744073709551615) refl f
 
 -- ---- a leaf
 
@@ -179,7 +184,7 @@ node_puts root tree k ls p e = on (inner_of k.bytes) refl e where
 
 reserves_at : (root : Tree) (first other count : ℕ) (put : Option (List ℕ)) → other ≡ root.next → Reserves root first count put → Reserves root other count put
 reserves_at root first other count None e h = h
-reserves_at root first other count (Some bytes) e h = (e, h.1)
+reserves_at root first other count (Some bytes) e h = (e, h.1, h.2, h.3)
 
 -- the pieces of a tree object, all on reserved numbers
 pub record PutsParts (root t : Tree) (p : RootPlan) : Type 0 where

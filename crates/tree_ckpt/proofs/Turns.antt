@@ -32,7 +32,7 @@ use Rattle.tree_moves.specs.Moves.{entry_or, root_entry}
 use Rattle.tree_ckpt.specs.Causing.{Calls, WasGot, WasNode, GoesRight}
 use Rattle.tree_ckpt.specs.Working.{IsTurn, AreTurns, Visit, Place, child_place, below_root, link_to, LeadsOn, IsWay, IsCome}
 use Rattle.tree_ckpt.proofs.Fences.{HasSides}
-use Rattle.tree_ckpt.proofs.Nodes.{no_page, node_sound}
+use Rattle.tree_ckpt.proofs.Sound.{no_page, node_sound}
 use Rattle.tree_ckpt.proofs.Brought.{IsKept, AreKept, kept_found, kept_with, forked_level}
 
 -- ---- lists of turns

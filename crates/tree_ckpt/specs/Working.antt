@@ -1,9 +1,10 @@
 -- The work of a tree checkpoint, as its calls tell it: from leaf to leaf, and then up.
-use Rattle.std.specs.Prelude.{ℕ, ◌≡◌, ◌<◌, ◌≤◌, ◌+◌, ◌-◌, true, false, List, [], ◌∷◌, ◌++◌, map, reverse, drop, length, Option, Some, None, Ok, ◌⊎◌}
+use Rattle.std.specs.Prelude.{ℕ, ◌≡◌, ◌≢◌, ◌<◌, ◌≤◌, ◌+◌, ◌-◌, true, false, List, [], ◌∷◌, ◌++◌, map, reverse, drop, length, Option, Some, None, Ok, ◌⊎◌}
 use Rattle.std.specs.List.{AllByRecursion}
 use Rattle.db_base.specs.Change.{key_of}
 use Rattle.db_base.specs.declared.names.Lock.TheVariants as lock
 use Rattle.db_base.specs.declared.names.ObjName.TheVariants as object
+use Rattle.byte_format.specs.Format.{greatest}
 use Rattle.byte_format.specs.Order.{bytes_below, below_bound}
 use Rattle.byte_format.specs.Whole.{whole}
 use Rattle.leaf_view.specs.Leaf.{Leaf, leaf}
@@ -64,12 +65,13 @@ puts_of tree one two p = reserved_before tree one p.reserved (page_puts tree one
 
 -- ---- pieces
 
--- So many numbers of new pages are those from the tree object's next number on. Its next version, with that number raised by so many and nothing else
--- changed, is put before them.
+-- So many numbers of new pages are those from the tree object's next number on, where it has so many left. Its next version, with that number raised by so
+-- many and nothing else changed, is put before them.
 abbrev pub Reserves : Tree → ℕ → ℕ → Option (List ℕ) → Type 0
 Reserves root first count None = count ≡ 0
 Reserves root first count (Some bytes) =
-    (first ≡ root.next) × (bytes ≡ tree_bytes (record root { version = root.version + 1; next = root.next + count }))
+    (first ≡ root.next) × (root.version ≢ greatest) × (root.next + count ≤ greatest)
+    × (bytes ≡ tree_bytes (record root { version = root.version + 1; next = root.next + count }))
 
 -- What is put for a page, and named above it: the pieces that it is cut into, of at most 64 items each, the rightmost first and that on its own page
 -- last, the new ones on the numbers that are reserved for them.
@@ -372,6 +374,16 @@ pub record IsInRange (n : Inner) (l : Link) : Type 0 where
   pub from : bytes_below l.low n.low ≡ false
   pub to : below_bound l.low n.high ≡ true
 
+-- A page that was come to lies under the level above it: its link is of the tree object's level, or its low key lies in the range of a node of the link's
+-- level that was got among these calls.
+abbrev pub IsUnder : ℕ → Tree → Calls → Link → Type 0
+IsUnder tree root cs l = ((l.level ≡ root.level) × (length l.low ≤ 64)) ⊎ ((page : ℕ) × (n : Inner) × WasNode tree page n cs × IsInRange n l)
+
+-- a right link that was followed, on a way down or from a leaf
+abbrev pub IsFollowed : Link → List Visit → Type 0
+IsFollowed l [] = ⊥
+IsFollowed l (v ∷ vs) = (IsAmong l v.turns ⊎ (v.outcome ≡ Passed l)) ⊎ IsFollowed l vs
+
 -- a link is one of the tree object's level, to a page that was reserved
 pub record IsOfRoot (t : Tree) (l : Link) : Type 0 where
   pub level : l.level ≡ t.level
@@ -413,6 +425,8 @@ pub record IsWorked (tree : ℕ) (one : Claim) (run : Taken) (got : Option (List
       → inner_of bytes ≡ Some n → IsInRange n l → IsNamed (HasClimbed page l.level w.climbs) n.entries (last_links w) l
   pub named_last : (l : Link) → IsAmong l (last_links w) → IsOfRoot (last_root got w) l
       → IsNamed (HasRisen l.level w.last) (last_root got w).entries (last_links w) l
+  pub followed : (l : Link) → IsFollowed l w.visits → IsUnder tree (last_root got w) (looks_of w.visits) l
+  pub under : (v : Visit) → IsAmong v w.visits → IsUnder tree (last_root got w) (looks_of w.visits) (link_to (leaf_place v.leaf.low v.page))
   pub last : PutsRoot (last_root got w) (raised_root (last_root got w) (last_links w) run.top) w.last
 
 -- the work is such where the run has an item, and there is none where it is empty

@@ -39,7 +39,7 @@ use Rattle.tree_ckpt.proofs.Pieces.{node_puts, root_puts}
 use Rattle.tree_ckpt.proofs.Rises.{IsRising, kept_at}
 use Rattle.tree_ckpt.proofs.Tours.{AreNoted, RestsAt, put_in_turn, none_left}
 use Rattle.tree_ckpt.proofs.Named.{climbs_name, known_touches}
-use Rattle.tree_ckpt.proofs.Under.{visits_level, climbs_level, followed_under, leaves_under}
+use Rattle.tree_ckpt.proofs.Under.{visits_level, climbs_level, followed_under, leaves_under, nodes_under}
 use Rattle.tree_ckpt.proofs.Entries.{root_names}
 use Rattle.tree_ckpt.proofs.Whole.{IsPlacedIn, PlacedTo, AllFrom, from_later, from_there, rising_from, none_placed, placed_next, placed_there, all_placed, noted_put}
 
@@ -311,6 +311,8 @@ module _ (lease : Claim) (r : Rising) (o : Opening) (work : Calls) (k : Climbs l
           root_names (tree_held (root_above (root_behind o.got k.ups.visits) k.ups.climbs)) (links_above (links_behind k.ups.visits) k.ups.climbs) r.chart.run.top up.0 l
           (up.2 whole) is known;
       followed = λ l h. followed_under r.chart.tree lease r.chart.run o.got (tree_held (root_above (root_behind o.got k.ups.visits) k.ups.climbs)) same_level k.ups.visits l k.ups.are h;
+      under_nodes = λ page bytes n h e.
+          nodes_under r.chart.tree lease r.chart.run o.got (tree_held (root_above (root_behind o.got k.ups.visits) k.ups.climbs)) same_level k.ups.visits page bytes n k.ups.are h e;
       under = λ v h. leaves_under r.chart.tree lease r.chart.run o.got (tree_held (root_above (root_behind o.got k.ups.visits) k.ups.climbs)) same_level k.ups.visits v k.ups.are h;
       last = up.2 whole;
     };

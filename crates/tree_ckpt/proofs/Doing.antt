@@ -299,7 +299,7 @@ going_by_done tree h c cs (Some key) e got k =
     let further : GoesFurther 0 keyed next = arrive_further (begun keyed (root_entry keyed).0 (root_entry keyed).1) in
     descending_done tree h keyed 0 cs next further
     (amid_as tree h c.run c.run (λ o w. RestsAt h.lease c o w) (λ o w. WayTours h.lease next o w) cs refl
-    (λ o w same rises is. way_tours h.lease 0 keyed keyed.nodes (below_root key c.root) next o w further (begun_upto keyed)
+    (λ o w same rises is. way_tours h.lease 0 keyed keyed.nodes (below_root key c.root) [] next o w further (begun_upto keyed)
     (begun_turned c.tree w keyed (kept_at_work c.tree c.nodes tree h.lease o w (subst (HasGot c) same got)))
     (rests_tours h.lease keyed (below_root key c.root) o w (least_is c.from key c.run.items rises e) is (inl refl))) k)
 going_by_done tree h c cs None e got k =

@@ -29,7 +29,7 @@ among_front x [] ys h = absurd h
 among_front x (y ∷ xs) ys (inl e) = inl e
 among_front x (y ∷ xs) ys (inr h) = inr (among_front x xs ys h)
 
-among_back : {A : Type 0} (x : A) (xs ys : List A) → IsAmong x ys → IsAmong x (xs ++ ys)
+pub among_back : {A : Type 0} (x : A) (xs ys : List A) → IsAmong x ys → IsAmong x (xs ++ ys)
 among_back x [] ys h = h
 among_back x (y ∷ xs) ys h = inr (among_back x xs ys h)
 

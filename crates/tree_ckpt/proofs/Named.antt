@@ -23,7 +23,7 @@ known_touches n l (x ∷ ls) (inr h) k = ap (λ (b : Bool). goes_to n x || b) (k
   or_true true = refl
   or_true false = refl
 
-same_node : (bytes : List ℕ) (n m : Inner) → inner_of bytes ≡ Some n → inner_of bytes ≡ Some m → n ≡ m
+pub same_node : (bytes : List ℕ) (n m : Inner) → inner_of bytes ≡ Some n → inner_of bytes ≡ Some m → n ≡ m
 same_node bytes n m e f = some_same n m (sym e ∙ f) where
   some_same : (a b : Inner) → Some a ≡ Some b → a ≡ b
   some_same a b g = cc (g)

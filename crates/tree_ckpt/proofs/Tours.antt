@@ -29,10 +29,12 @@ use Rattle.tree_parts.specs.declared.kept.KeptNode.{KeptNode}
 use Rattle.tree_parts.specs.declared.link.Link.{Link}
 use Rattle.tree_parts.specs.declared.placing.Placing.{Placing}
 use Rattle.tree_parts.specs.Kept.{links_at, with_kept}
+use Rattle.node_codec.specs.Inner.{Inner, inner_of, inner_format}
 use Rattle.tree_parts.specs.Placing.{put_in_hand, landed_root, landed_placing, has_nothing, has_one_page}
-use Rattle.tree_parts.specs.Read.{leaf_or, tree_held}
+use Rattle.tree_parts.specs.Read.{inner_or, leaf_or, tree_held}
 use Rattle.tree_descent.specs.declared.descent.Descent.{Descent}
-use Rattle.tree_descent.specs.Descent.{descent_ask, descent_got, descent_next, got_node, fork_of}
+use Rattle.tree_descent.specs.Descent.{descent_ask, descent_got, descent_next, got_node, fork_of, forked_by}
+use Rattle.tree_descent.specs.declared.fork.Fork.{Fork}
 use Rattle.leaf_fold.specs.declared.folding.Folding.{Folding}
 use Rattle.leaf_fold.specs.declared.folding.Left.{Left}
 use Rattle.leaf_fold.specs.declared.folding.Left.TheVariants.{Right, Handled}
@@ -41,10 +43,11 @@ use Rattle.leaf_fold.specs.Plan.{leaf_plan}
 use Rattle.leaf_fold.specs.Folding as fold
 use Rattle.tree_ckpt.specs.Causing.{Calls, WasGot, GoesRight}
 use Rattle.tree_ckpt.specs.Meaning.{Opening}
-use Rattle.tree_ckpt.specs.Working.{done_over, puts_of, Visit, held_over, visits_over, AreLooks, HoldsLeaf, IsLeft, IsFor, IsVisit, Place, leaf_place, IsLeftFor, IsStart, IsCome, root_behind, links_behind, looks_of, AreVisits, lacked_on, IsSettled, PutsLeaf, AreTurns, Outcome, Planned, Spared, Passed}
+use Rattle.tree_ckpt.specs.Working.{done_over, puts_of, Visit, held_over, visits_over, AreLooks, HoldsLeaf, IsLeft, IsFor, IsVisit, Place, leaf_place, IsLeftFor, IsStart, IsCome, IsWay, IsOver, IsAmong, root_behind, links_behind, looks_of, AreVisits, lacked_on, IsSettled, PutsLeaf, AreTurns, Outcome, Planned, Spared, Passed}
 use Rattle.tree_ckpt.proofs.Answers.{got_is, done_is}
 use Rattle.tree_ckpt.proofs.Brought.{AreKept, kept_more}
-use Rattle.tree_ckpt.proofs.Turns.{Turned, WayTurned, place_of, turns_more, turns_both, come_more, way_both, node_got, descent_turned}
+use Rattle.tree_ckpt.proofs.Turns.{Turned, WayTurned, place_of, turns_more, turns_both, way_more, way_both, node_got, descent_turned}
+use Rattle.tree_ckpt.proofs.Entries.{among_front, among_back}
 use Rattle.tree_ckpt.proofs.Whole.{AreRising, IsNoted, noted_new, noted_with, rising_with}
 use Rattle.tree_ckpt.proofs.Charts.{IsFurther, GoesFurther, descent_further}
 use Rattle.tree_ckpt.proofs.Covers.{IsLeast, AreHandledTo, none_handled, handled_more, handled_here, low_upto}
@@ -73,8 +76,12 @@ pub record Rests (lease : Claim) (tree : ℕ) (run : Taken) (stood : Option (Lis
   pub handled : AreHandledTo run.items from visits
   pub calls : work ≡ visits_over tree lease visits []
 
--- behind visits, and on the way down to the leaf of the least key that is not handled, at a place
-pub record Tours (lease : Claim) (tree : ℕ) (run : Taken) (stood : Option (List ℕ)) (count : ℕ) (from : Option (List ℕ)) (key : List ℕ) (found : List Link) (nodes : List KeptNode) (place : Place) (o : Opening) (work : Calls) : Type 0 where
+-- each node that was got is one that the way led over, or the first that it leads over now
+abbrev pub AreOver : ℕ → Calls → List Inner → List Inner → Type 0
+AreOver tree looks ns first = (page : ℕ) (bytes : List ℕ) → WasGot (object.Page tree page) (Some bytes) looks → IsOver bytes ns ⊎ IsOver bytes first
+
+-- behind visits, and on the way down to the leaf of the least key that is not handled, at a place from which it leads over this first node
+pub record Tours (lease : Claim) (tree : ℕ) (run : Taken) (stood : Option (List ℕ)) (count : ℕ) (from : Option (List ℕ)) (key : List ℕ) (found : List Link) (nodes : List KeptNode) (place : Place) (first : List Inner) (o : Opening) (work : Calls) : Type 0 where
   pub before : Calls
   pub known : List Link
   pub olds : List KeptNode
@@ -86,6 +93,7 @@ pub record Tours (lease : Claim) (tree : ℕ) (run : Taken) (stood : Option (Lis
   pub least : IsLeast run.items from key
   pub looks : Calls
   pub looked : AreLooks tree lease looks
+  pub over : AreOver tree looks come.2.0 first
   pub noted : AreNoted tree (looks ++ looks_of rests.visits) nodes
   pub calls : work ≡ looks ++ before
 
@@ -93,7 +101,7 @@ abbrev pub RestsAt : Claim → Chart → Opening → Calls → Type 0
 RestsAt lease c o work = Rests lease c.tree c.run c.root c.applied c.from c.links c.nodes o work
 
 abbrev pub ToursAt : Claim → Chart → Place → Opening → Calls → Type 0
-ToursAt lease c place o work = Tours lease c.tree c.run c.root c.applied c.from c.key c.links c.nodes place o work
+ToursAt lease c place o work = Tours lease c.tree c.run c.root c.applied c.from c.key c.links c.nodes place [] o work
 
 pub rests_tours : (lease : Claim) (c : Chart) (start : Place) (o : Opening) (work : Calls) → IsLeast c.run.items c.from c.key → (k : RestsAt lease c o work)
     → IsStart c.root c.key k.visits start → ToursAt lease c start o work
@@ -109,6 +117,7 @@ rests_tours lease c start o work least k begins = record {
   least = least;
   looks = [];
   looked = tt;
+  over = λ page bytes h. absurd h;
   noted = k.noted;
   calls = refl;
 }
@@ -126,13 +135,18 @@ first_rests lease c o root applied from links nodes = record {
   calls = refl;
 }
 
-further_tours : (lease : Claim) (n : ℕ) (c : Chart) (nodes : List KeptNode) (start : Place) (d : Descent) (o : Opening) (work : Calls) → IsFurther n c d.chart
-    → Turned c.tree work c.links nodes c.key start d → Tours lease c.tree c.run c.root c.applied c.from c.key c.links nodes start o work
+over_now : (bytes : List ℕ) (first new old : List Inner) → ((n : Inner) → IsAmong n first → IsAmong n new) → IsOver bytes old ⊎ IsOver bytes first
+    → IsOver bytes (new ++ old) ⊎ IsOver bytes []
+over_now bytes first new old seen (inl h) = inl (h.0, h.1, among_back h.0 new old h.2)
+over_now bytes first new old seen (inr h) = inl (h.0, h.1, among_front h.0 new old (seen h.0 h.2))
+
+further_tours : (lease : Claim) (n : ℕ) (c : Chart) (nodes : List KeptNode) (start : Place) (first : List Inner) (d : Descent) (o : Opening) (work : Calls) → IsFurther n c d.chart
+    → Turned c.tree work c.links nodes c.key start first d → Tours lease c.tree c.run c.root c.applied c.from c.key c.links nodes start first o work
     → ToursAt lease d.chart (place_of d) o work
-further_tours lease n c nodes start d o work f t k =
+further_tours lease n c nodes start first d o work f t k =
     let e : Chart = d.chart in
     let q : Place = place_of d in
-    let turned : Tours lease c.tree c.run c.root c.applied c.from c.key e.links e.nodes q o work = record {
+    let turned : Tours lease c.tree c.run c.root c.applied c.from c.key e.links e.nodes q [] o work = record {
       before = k.before;
       known = k.known;
       olds = k.olds;
@@ -144,15 +158,16 @@ further_tours lease n c nodes start d o work f t k =
       least = k.least;
       looks = k.looks;
       looked = k.looked;
+      over = λ page bytes h. over_now bytes first t.over k.come.2.0 t.seen (k.over page bytes h);
       noted = subst (AreNoted c.tree (k.looks ++ looks_of k.rests.visits)) (sym t.same) k.noted;
       calls = k.calls;
     } in
-    subst (λ (key : List ℕ). Tours lease e.tree e.run e.root e.applied e.from key e.links e.nodes q o work) (sym f.key)
-    (subst (λ (b : Option (List ℕ)). Tours lease e.tree e.run e.root e.applied b c.key e.links e.nodes q o work) (sym f.from)
-    (subst (λ (m : ℕ). Tours lease e.tree e.run e.root m c.from c.key e.links e.nodes q o work) (sym f.applied)
-    (subst (λ (r : Option (List ℕ)). Tours lease e.tree e.run r c.applied c.from c.key e.links e.nodes q o work) (sym f.root)
-    (subst (λ (r : Taken). Tours lease e.tree r c.root c.applied c.from c.key e.links e.nodes q o work) (sym f.run)
-    (subst (λ (t : ℕ). Tours lease t c.run c.root c.applied c.from c.key e.links e.nodes q o work) (sym f.tree) turned)))))
+    subst (λ (key : List ℕ). Tours lease e.tree e.run e.root e.applied e.from key e.links e.nodes q [] o work) (sym f.key)
+    (subst (λ (b : Option (List ℕ)). Tours lease e.tree e.run e.root e.applied b c.key e.links e.nodes q [] o work) (sym f.from)
+    (subst (λ (m : ℕ). Tours lease e.tree e.run e.root m c.from c.key e.links e.nodes q [] o work) (sym f.applied)
+    (subst (λ (r : Option (List ℕ)). Tours lease e.tree e.run r c.applied c.from c.key e.links e.nodes q [] o work) (sym f.root)
+    (subst (λ (r : Taken). Tours lease e.tree r c.root c.applied c.from c.key e.links e.nodes q [] o work) (sym f.run)
+    (subst (λ (t : ℕ). Tours lease t c.run c.root c.applied c.from c.key e.links e.nodes q [] o work) (sym f.tree) turned)))))
 
 -- where the way down goes on, or ends at a leaf
 abbrev pub WayTours : Claim → Next Descent (Unit {0}) → Opening → Calls → Type 0
@@ -163,16 +178,16 @@ WayTours lease (Stops d t) o work = Unit {0}
 at_level : Descent → ℕ → Place
 at_level d level = record { level = level; low = d.low; page = d.page }
 
-pub way_tours : (lease : Claim) (n : ℕ) (c : Chart) (nodes : List KeptNode) (start : Place) (next : Next Descent (Unit {0})) (o : Opening) (work : Calls)
-    → GoesFurther n c next → WayUpto next → WayTurned c.tree work c.links nodes c.key start next
-    → Tours lease c.tree c.run c.root c.applied c.from c.key c.links nodes start o work → WayTours lease next o work
+pub way_tours : (lease : Claim) (n : ℕ) (c : Chart) (nodes : List KeptNode) (start : Place) (first : List Inner) (next : Next Descent (Unit {0})) (o : Opening) (work : Calls)
+    → GoesFurther n c next → WayUpto next → WayTurned c.tree work c.links nodes c.key start first next
+    → Tours lease c.tree c.run c.root c.applied c.from c.key c.links nodes start first o work → WayTours lease next o work
 unfolding at_level
-way_tours lease n c nodes start (Goes d) o work f upto t k = (further_tours lease n c nodes start d o work f t k, upto)
-way_tours lease n c nodes start (Ends d x) o work f upto t k = (
-  subst (λ (level : ℕ). ToursAt lease d.chart (at_level d level) o work) t.1 (further_tours lease n c nodes start d o work f t.0 k),
+way_tours lease n c nodes start first (Goes d) o work f upto t k = (further_tours lease n c nodes start first d o work f t k, upto)
+way_tours lease n c nodes start first (Ends d x) o work f upto t k = (
+  subst (λ (level : ℕ). ToursAt lease d.chart (at_level d level) o work) t.1 (further_tours lease n c nodes start first d o work f t.0 k),
   upto,
 )
-way_tours lease n c nodes start (Stops d t) o work f upto turned k = tt
+way_tours lease n c nodes start first (Stops d t) o work f upto turned k = tt
 
 -- a node more is got, and kept
 all_noted_got : (tree : ℕ) (d : Descent) (got : List ℕ) (l : Claim) (a : Answer) (looks : Calls) → d.chart.tree ≡ tree → a ≡ call.Got (Some got) → AreAllNoted tree looks d.chart.nodes
@@ -190,32 +205,52 @@ noted_got : (tree : ℕ) (d : Descent) (got : List ℕ) (l : Claim) (a : Answer)
     → AreNoted tree ((descent_ask d l, a) ∷ looks) (with_kept (node_got d got) d.chart.nodes)
 noted_got tree d got l a looks same e h = (all_noted_got tree d got l a looks same e h.0, rising_with (node_got d got) d.chart.nodes h.1)
 
+-- the node that was got is the first that the way leads over now
+got_over : (tree : ℕ) (d : Descent) (got : List ℕ) (n : Inner) (l : Claim) (a : Answer) (looks : Calls) (ns : List Inner) → a ≡ call.Got (Some got) → inner_of got ≡ Some n
+    → AreOver tree looks ns [] → AreOver tree ((descent_ask d l, a) ∷ looks) ns (n ∷ [])
+got_over tree d got n l a looks ns e is h page bytes (inl b) =
+    let answer : call.Got (Some got) ≡ call.Got (Some bytes) = sym e ∙ ap (λ (c : Ask × Answer). c.1) b.1 in
+    let same : got ≡ bytes = cc (answer) in
+    inr (n, ap inner_of (sym same) ∙ is, inl refl)
+got_over tree d got n l a looks ns e is h page bytes (inr g) = on (h page bytes g) where
+  on : IsOver bytes ns ⊎ IsOver bytes [] → IsOver bytes ns ⊎ IsOver bytes (n ∷ [])
+  on (inl x) = inl x
+  on (inr x) = absurd x.2
+
 pub descent_tours : (lease : Claim) (d : Descent) (a : Answer) (o : Opening) (work : Calls) → AreKept d.chart.tree d.chart.nodes work → ToursAt lease d.chart (place_of d) o work
     → WayTours lease (descent_next d a) o ((descent_ask d lease, a) ∷ work)
 descent_tours lease d a o work kept k = on (got_of a) refl (descent_further d a) (descent_upto d a) where
   ask : Ask
   ask = descent_ask d lease
 
-  on : (g : Result (Option (List ℕ)) Trouble) → got_of a ≡ g → GoesFurther 1 d.chart (descent_got d g) → WayUpto (descent_got d g)
-      → WayTours lease (descent_got d g) o ((ask, a) ∷ work)
-  on (Ok (Some bytes)) e f upto =
+  read : (bytes : List ℕ) → got_of a ≡ Ok (Some bytes) → GoesFurther 1 d.chart (got_node d bytes (fork_of d bytes)) → WayUpto (got_node d bytes (fork_of d bytes))
+      → (n : Option Inner) → inner_of bytes ≡ n → WayTours lease (got_node d bytes (fork_of d bytes)) o ((ask, a) ∷ work)
+  read bytes e f upto (Some n) spelt =
       let is : a ≡ call.Got (Some bytes) = got_is a (Some bytes) e in
-      way_tours lease 1 d.chart (with_kept (node_got d bytes) d.chart.nodes) (place_of d) (got_node d bytes (fork_of d bytes)) o ((ask, a) ∷ work) f upto
-      (descent_turned d.chart.tree ((ask, a) ∷ work) d bytes (kept_more d.chart.tree d.chart.nodes (ask, a) work kept) (inl (lease, ap (λ (x : Answer). (ask, x)) is))) (record {
+      way_tours lease 1 d.chart (with_kept (node_got d bytes) d.chart.nodes) (place_of d) (n ∷ []) (got_node d bytes (fork_of d bytes)) o ((ask, a) ∷ work) f upto
+      (descent_turned d.chart.tree ((ask, a) ∷ work) d bytes n spelt (kept_more d.chart.tree d.chart.nodes (ask, a) work kept) (inl (lease, ap (λ (x : Answer). (ask, x)) is))) (record {
         before = k.before;
         known = k.known;
         olds = k.olds;
         rests = k.rests;
         turns = k.turns;
         turned = turns_more d.chart.tree k.turns (ask, a) work k.turned;
-        come = come_more d.chart.tree d.chart.root d.chart.key k.rests.visits k.turns (place_of d) (ask, a) work k.come;
+        come = (k.come.0, k.come.1, (k.come.2.0, way_more d.chart.tree d.chart.key k.come.0 k.come.2.0 (place_of d) k.turns (ask, a) work k.come.2.1));
         linked = k.linked;
         least = k.least;
         looks = (ask, a) ∷ k.looks;
         looked = ((d.page, bytes, ap (λ (x : Answer). (ask, x)) is), k.looked);
+        over = got_over d.chart.tree d bytes n lease a k.looks k.come.2.0 is spelt k.over;
         noted = noted_got d.chart.tree d bytes lease a (k.looks ++ looks_of k.rests.visits) refl is k.noted;
         calls = ap (λ (cs : Calls). (ask, a) ∷ cs) k.calls;
       })
+  read bytes e f upto None spelt =
+      subst (λ (r : Result Fork Trouble). WayTours lease (got_node d bytes r) o ((ask, a) ∷ work))
+      (sym (ap (λ (n : Option Inner). forked_by d (inner_or d.chart.tree d.page (offset inner_format bytes) n)) spelt)) tt
+
+  on : (g : Result (Option (List ℕ)) Trouble) → got_of a ≡ g → GoesFurther 1 d.chart (descent_got d g) → WayUpto (descent_got d g)
+      → WayTours lease (descent_got d g) o ((ask, a) ∷ work)
+  on (Ok (Some bytes)) e f upto = read bytes e f upto (inner_of bytes) refl
   on (Ok None) e f upto = tt
   on (Err t) e f upto = tt
 
@@ -334,6 +369,10 @@ LeafTours lease (Stops f t) o work = Unit {0}
 
 -- ---- the get
 
+now_over : (bytes : List ℕ) (ns : List Inner) → IsOver bytes ns ⊎ IsOver bytes [] → IsOver bytes ns
+now_over bytes ns (inl h) = h
+now_over bytes ns (inr h) = absurd h.2
+
 -- this leaf was got
 record IsGot (lease : Claim) (f : Folding) (got : Option (List ℕ)) (l : Leaf) (o : Opening) (work : Calls) : Type 0 where
   before : Calls
@@ -370,12 +409,17 @@ module _ (lease : Claim) (f : Folding) (got : Option (List ℕ)) (l : Leaf) (o :
   seen outcome is_for left = record {
     looks = k.tours.looked;
     turns = subst (λ (cs : Calls). AreTurns f.chart.tree cs k.tours.turns) tour_calls k.tours.turned;
-    come =
-        subst (λ (low : List ℕ). IsCome f.chart.tree (root_behind o.got k.tours.rests.visits) f.chart.key (k.tours.looks ++ visits_over f.chart.tree lease k.tours.rests.visits [])
-        k.tours.rests.visits k.tours.turns (leaf_place low f.page)) (sym same_low)
-        (subst (λ (cs : Calls). IsCome f.chart.tree (root_behind o.got k.tours.rests.visits) f.chart.key cs k.tours.rests.visits k.tours.turns (leaf_place f.low f.page)) tour_calls
-        (subst (λ (root : Option (List ℕ)). IsCome f.chart.tree root f.chart.key k.before k.tours.rests.visits k.tours.turns (leaf_place f.low f.page)) k.tours.rests.root
-        k.tours.come));
+    come = (
+      k.tours.come.0,
+      subst (λ (root : Option (List ℕ)). IsStart root f.chart.key k.tours.rests.visits k.tours.come.0) k.tours.rests.root k.tours.come.1,
+      (
+        k.tours.come.2.0,
+        subst (λ (low : List ℕ). IsWay f.chart.tree f.chart.key (k.tours.looks ++ visits_over f.chart.tree lease k.tours.rests.visits []) k.tours.come.0 k.tours.come.2.0
+            (leaf_place low f.page) k.tours.turns) (sym same_low)
+            (subst (λ (cs : Calls). IsWay f.chart.tree f.chart.key cs k.tours.come.0 k.tours.come.2.0 (leaf_place f.low f.page) k.tours.turns) tour_calls k.tours.come.2.1),
+      ),
+    );
+    over = λ page bytes h. now_over bytes k.tours.come.2.0 (k.tours.over page bytes h);
     holds = k.holds;
     is_for = is_for;
     left = left;
@@ -605,7 +649,7 @@ left_rests lease own c a o work k =
     let freed : Visit = record k.visit { freed = a } in (
       record {
         visits = freed ∷ k.visits;
-        are = (record { looks = k.is.looks; turns = k.is.turns; come = k.is.come; holds = k.is.holds; is_for = k.is.is_for; left = k.is.left }, k.are);
+        are = (record { looks = k.is.looks; turns = k.is.turns; come = k.is.come; over = k.is.over; holds = k.is.holds; is_for = k.is.is_for; left = k.is.left }, k.are);
         linked = k.linked;
         noted = k.noted;
         root = k.root;

@@ -30,7 +30,7 @@ use Rattle.tree_descent.specs.Fork as fork
 use Rattle.tree_descent.specs.Descent.{begun, forked, forked_by, passed, fork_of, go_on, stride_at, kept_at, stride, follow, walk, arrived, arrive, with_node, got_node}
 use Rattle.tree_moves.specs.Moves.{entry_or, root_entry}
 use Rattle.tree_ckpt.specs.Causing.{Calls, WasGot, WasNode, GoesRight}
-use Rattle.tree_ckpt.specs.Working.{IsTurn, AreTurns, Visit, Place, child_place, below_root, link_to, LeadsOn, IsWay, IsCome}
+use Rattle.tree_ckpt.specs.Working.{IsAmong, IsTurn, AreTurns, Visit, Place, child_place, below_root, link_to, LeadsOn, IsWay, IsCome}
 use Rattle.tree_ckpt.proofs.Fences.{HasSides}
 use Rattle.tree_ckpt.proofs.Sound.{no_page, node_sound}
 use Rattle.tree_ckpt.proofs.Brought.{IsKept, AreKept, kept_found, kept_with, forked_level}
@@ -81,8 +81,8 @@ place_of d = record { level = d.level; low = d.low; page = d.page }
 child_at : Entry → ℕ → Place
 child_at e level = record { level = level; low = e.0; page = e.1 }
 
-module _ (tree : ℕ) (cs : Calls) (links : List Link) (nodes : List KeptNode) (key : List ℕ) (start : Place) where
-  -- on the way down from such links and this place, with nodes that were got
+module _ (tree : ℕ) (cs : Calls) (links : List Link) (nodes : List KeptNode) (key : List ℕ) (start : Place) (first : List Inner) where
+  -- on the way down from such links and this place, over this first node, with nodes that were got
   pub record Turned (d : Descent) : Type 0 where
     pub kept : AreKept tree d.chart.nodes cs
     pub same : d.chart.nodes ≡ nodes
@@ -92,6 +92,7 @@ module _ (tree : ℕ) (cs : Calls) (links : List Link) (nodes : List KeptNode) (
     pub are : AreTurns tree cs rest
     pub over : List Inner
     pub way : IsWay tree key cs start over (place_of d) rest
+    pub seen : (n : Inner) → IsAmong n first → IsAmong n over
 
   -- where it goes on, and where it ends at a leaf
   abbrev pub WayTurned : Next Descent (Unit {0}) → Type 0
@@ -112,12 +113,20 @@ module _ (tree : ℕ) (cs : Calls) (links : List Link) (nodes : List KeptNode) (
   ForkLeads k n (Right low page) = GoesRight n.high (page_at n.right) low page × (bytes_below k low ≡ false)
   ForkLeads k n (Down low page) = (below_bound k n.high ≡ true) × (entry_or (child_of k n.entries) ≡ (low, page))
 
-  abbrev ForkTurns : Descent → Fork → Type 0
-  ForkTurns d f = (n : Inner) × WasNode tree d.page n cs × (n.level ≡ d.level) × (n.low ≡ d.low) × ForkLeads d.chart.key n f
+  abbrev ForkTurns : Descent → Inner → Fork → Type 0
+  ForkTurns d n f = WasNode tree d.page n cs × (n.level ≡ d.level) × (n.low ≡ d.low) × ForkLeads d.chart.key n f
+
+  abbrev NodeTurns : Descent → Inner → Result Fork Trouble → Type 0
+  NodeTurns d n (Ok f) = ForkTurns d n f
+  NodeTurns d n (Err t) = Unit {0}
 
   abbrev FoundTurns : Descent → Result Fork Trouble → Type 0
-  FoundTurns d (Ok f) = ForkTurns d f
+  FoundTurns d (Ok f) = (n : Inner) × ForkTurns d n f
   FoundTurns d (Err t) = Unit {0}
+
+  some_found : (d : Descent) (n : Inner) (r : Result Fork Trouble) → NodeTurns d n r → FoundTurns d r
+  some_found d n (Ok f) h = (n, h)
+  some_found d n (Err t) h = tt
 
   down_leads : (k : List ℕ) (n : Inner) → below_bound k n.high ≡ true → (o : Option Entry) → child_of k n.entries ≡ o → ForkLeads k n (down_to o)
   down_leads k n under (Some e) is = (under, ap entry_or is)
@@ -132,15 +141,15 @@ module _ (tree : ℕ) (cs : Calls) (links : List Link) (nodes : List KeptNode) (
     on true e = down_leads k n (ap (below_bound k) h ∙ e) (child_of k n.entries) refl
     on false e = ((h, r), e)
 
-  forked_turns : (d : Descent) (n : Inner) → WasNode tree d.page n cs → HasSides n.right n.high → FoundTurns d (forked d n)
+  forked_turns : (d : Descent) (n : Inner) → WasNode tree d.page n cs → HasSides n.right n.high → NodeTurns d n (forked d n)
   forked_turns d n w sides = on (n.level == d.level) refl where
-    fenced : n.level ≡ d.level → (b c : Bool) → bytes_same n.low d.low ≡ b → FoundTurns d (cond (b && c) (Ok (forked_on d.chart.key n)) (Err (bad_fence d.page d.low n.low)))
-    fenced level true true e = (n, w, level, same_is n.low d.low e, fork_leads d.chart.key n sides n.high refl (page_at n.right) refl)
+    fenced : n.level ≡ d.level → (b c : Bool) → bytes_same n.low d.low ≡ b → NodeTurns d n (cond (b && c) (Ok (forked_on d.chart.key n)) (Err (bad_fence d.page d.low n.low)))
+    fenced level true true e = (w, level, same_is n.low d.low e, fork_leads d.chart.key n sides n.high refl (page_at n.right) refl)
     fenced level true false e = tt
     fenced level false c e = tt
 
     on : (b : Bool) → (n.level == d.level) ≡ b
-        → FoundTurns d (cond b (cond (bytes_same n.low d.low && not (bytes_below d.chart.key n.low)) (Ok (forked_on d.chart.key n)) (Err (bad_fence d.page d.low n.low)))
+        → NodeTurns d n (cond b (cond (bytes_same n.low d.low && not (bytes_below d.chart.key n.low)) (Ok (forked_on d.chart.key n)) (Err (bad_fence d.page d.low n.low)))
         (Err (damaged d.chart.tree d.page 10)))
     on true e = fenced (eqb-true n.level d.level e) (bytes_same n.low d.low) (not (bytes_below d.chart.key n.low)) refl
     on false e = tt
@@ -148,7 +157,7 @@ module _ (tree : ℕ) (cs : Calls) (links : List Link) (nodes : List KeptNode) (
   found_turns : (d : Descent) (bytes : List ℕ) → WasGot (object.Page tree d.page) (Some bytes) cs → FoundTurns d (fork_of d bytes)
   found_turns d bytes got = on (inner_of bytes) refl where
     on : (o : Option Inner) → inner_of bytes ≡ o → FoundTurns d (forked_by d (inner_or d.chart.tree d.page (offset inner_format bytes) o))
-    on (Some n) e = forked_turns d n (bytes, e, got) (node_sound bytes n e).sides
+    on (Some n) e = some_found d n (forked d n) (forked_turns d n (bytes, e, got) (node_sound bytes n e).sides)
     on None e = tt
 
   -- ---- the way
@@ -156,43 +165,45 @@ module _ (tree : ℕ) (cs : Calls) (links : List Link) (nodes : List KeptNode) (
   turn_of : Descent → List ℕ → ℕ → Link
   turn_of d low page = record { level = d.level + 1; low = low; page = page }
 
-  passed_turned : (d : Descent) (f : Fork) → Turned d → ForkTurns d f → Turned (passed d f)
+  passed_turned : (d : Descent) (n : Inner) (f : Fork) → Turned d → ForkTurns d n f → Turned (passed d f)
   unfolding turn_of child_at
-  passed_turned d (Right low page) k h = record {
+  passed_turned d n (Right low page) k h = record {
     kept = k.kept;
     same = k.same;
     asks = k.asks;
     rest = k.rest ++ turn_of d low page ∷ [];
     linked = ap (λ (ls : List Link). ls ++ turn_of d low page ∷ []) k.linked ∙ append_assoc links k.rest (turn_of d low page ∷ []);
-    are = turns_both tree k.rest (turn_of d low page ∷ []) cs k.are ((d.page, h.0, h.1, ap (λ (m : ℕ). m + 1) (sym h.2), h.4.0), tt);
-    over = h.0 ∷ k.over;
-    way = (place_of d, k.rest, k.way, h.1, h.2, h.3, inl (h.4.0, subst (λ (x : List ℕ). bytes_below x low ≡ false) k.asks h.4.1, refl, refl));
+    are = turns_both tree k.rest (turn_of d low page ∷ []) cs k.are ((d.page, n, h.0, ap (λ (m : ℕ). m + 1) (sym h.1), h.3.0), tt);
+    over = n ∷ k.over;
+    way = (place_of d, k.rest, k.way, h.0, h.1, h.2, inl (h.3.0, subst (λ (x : List ℕ). bytes_below x low ≡ false) k.asks h.3.1, refl, refl));
+    seen = λ m b. inr (k.seen m b);
   }
-  passed_turned d (Down low page) k h = record {
+  passed_turned d n (Down low page) k h = record {
     kept = k.kept;
     same = k.same;
     asks = k.asks;
     rest = k.rest;
     linked = k.linked;
     are = k.are;
-    over = h.0 ∷ k.over;
+    over = n ∷ k.over;
     way = (
       place_of d,
       k.rest,
       k.way,
+      h.0,
       h.1,
       h.2,
-      h.3,
       inr (
-        subst (λ (x : List ℕ). below_bound x h.0.high ≡ true) k.asks h.4.0,
-        sym (ap (λ (e : Entry). child_at e (d.level - 1)) (subst (λ (x : List ℕ). entry_or (child_of x h.0.entries) ≡ (low, page)) k.asks h.4.1)),
+        subst (λ (x : List ℕ). below_bound x n.high ≡ true) k.asks h.3.0,
+        sym (ap (λ (e : Entry). child_at e (d.level - 1)) (subst (λ (x : List ℕ). entry_or (child_of x n.entries) ≡ (low, page)) k.asks h.3.1)),
         refl,
       ),
     );
+    seen = λ m b. inr (k.seen m b);
   }
 
   go_on_turned : (d : Descent) (f : Result Fork Trouble) → Turned d → FoundTurns d f → StrideTurned (go_on d f)
-  go_on_turned d (Ok f) k h = passed_turned d f k h
+  go_on_turned d (Ok f) k h = passed_turned d h.0 f k h.1
   go_on_turned d (Err t) k h = tt
 
   stride_at_turned : (d : Descent) (o : Option KeptNode) → kept_at d ≡ o → Turned d → StrideTurned (stride_at d o)
@@ -239,44 +250,59 @@ abbrev pub node_got : Descent → List ℕ → KeptNode
 node_got d bytes = record { page = d.page; level = d.level; low = d.low; bytes = bytes }
 
 -- the way from where a node is got
-abbrev GotTurned : ℕ → Calls → Descent → List ℕ → Next Descent (Unit {0}) → Type 0
-GotTurned tree cs d bytes next = WayTurned tree cs d.chart.links (with_kept (node_got d bytes) d.chart.nodes) d.chart.key (place_of d) next
+abbrev GotTurned : ℕ → Calls → Descent → List ℕ → List Inner → Next Descent (Unit {0}) → Type 0
+GotTurned tree cs d bytes first next = WayTurned tree cs d.chart.links (with_kept (node_got d bytes) d.chart.nodes) d.chart.key (place_of d) first next
 
-got_turned : (tree : ℕ) (cs : Calls) (d : Descent) (bytes : List ℕ) → AreKept tree d.chart.nodes cs → WasGot (object.Page tree d.page) (Some bytes) cs
-    → GotTurned tree cs d bytes (got_node d bytes (fork_of d bytes))
-got_turned tree cs d bytes kept got = on (inner_of bytes) refl where
-  nodes : List KeptNode
-  nodes = with_kept (node_got d bytes) d.chart.nodes
-
-  found : (n : Inner) → inner_of bytes ≡ Some n → (f : Result Fork Trouble) → forked d n ≡ f → FoundTurns tree cs d.chart.links nodes d.chart.key (place_of d) d f
-      → GotTurned tree cs d bytes (got_node d bytes f)
-  found n e (Ok f) is h =
-      arrive_turned tree cs d.chart.links nodes d.chart.key (place_of d) (passed (with_node d bytes) f)
-      (passed_turned tree cs d.chart.links nodes d.chart.key (place_of d) (with_node d bytes) f (record {
-        kept = kept_with tree (node_got d bytes) d.chart.nodes cs (got, (n, e, forked_level d n f is)) kept;
-        same = refl;
-        asks = refl;
-        rest = [];
-        linked = sym (append-nil d.chart.links);
-        are = tt;
-        over = [];
-        way = (refl, refl);
-      }) h)
-  found n e (Err t) is h = tt
-
-  on : (o : Option Inner) → inner_of bytes ≡ o → GotTurned tree cs d bytes (got_node d bytes (forked_by d (inner_or d.chart.tree d.page (offset inner_format bytes) o)))
-  on (Some n) e =
-      found n e (forked d n) refl (forked_turns tree cs d.chart.links nodes d.chart.key (place_of d) d n (bytes, e, got) (node_sound bytes n e).sides)
-  on None e = tt
+-- it leads over that node first
+first_turned : (tree : ℕ) (cs : Calls) (d : Descent) (bytes : List ℕ) (n : Inner) (f : Fork) → AreKept tree (with_kept (node_got d bytes) d.chart.nodes) cs
+    → ForkTurns tree cs d.chart.links (with_kept (node_got d bytes) d.chart.nodes) d.chart.key (place_of d) (n ∷ []) d n f
+    → Turned tree cs d.chart.links (with_kept (node_got d bytes) d.chart.nodes) d.chart.key (place_of d) (n ∷ []) (passed (with_node d bytes) f)
+unfolding child_at
+first_turned tree cs d bytes n (Right low page) kept h =
+    let turn : Link = record { level = d.level + 1; low = low; page = page } in
+    record {
+      kept = kept;
+      same = refl;
+      asks = refl;
+      rest = turn ∷ [];
+      linked = refl;
+      are = ((d.page, n, h.0, ap (λ (m : ℕ). m + 1) (sym h.1), h.3.0), tt);
+      over = n ∷ [];
+      way = (place_of d, [], (refl, refl), h.0, h.1, h.2, inl (h.3.0, h.3.1, refl, refl));
+      seen = λ m b. b;
+    }
+first_turned tree cs d bytes n (Down low page) kept h = record {
+  kept = kept;
+  same = refl;
+  asks = refl;
+  rest = [];
+  linked = sym (append-nil d.chart.links);
+  are = tt;
+  over = n ∷ [];
+  way = (place_of d, [], (refl, refl), h.0, h.1, h.2, inr (h.3.0, sym (ap (λ (e : Entry). child_at e (d.level - 1)) h.3.1), refl));
+  seen = λ m b. b;
+}
 
 -- from the tree object
 pub begun_turned : (tree : ℕ) (cs : Calls) (c : Chart) → AreKept tree c.nodes cs
-    → WayTurned tree cs c.links c.nodes c.key (below_root c.key c.root) (arrive (begun c (root_entry c).0 (root_entry c).1))
+    → WayTurned tree cs c.links c.nodes c.key (below_root c.key c.root) [] (arrive (begun c (root_entry c).0 (root_entry c).1))
 begun_turned tree cs c kept =
-    arrive_turned tree cs c.links c.nodes c.key (below_root c.key c.root) (begun c (root_entry c).0 (root_entry c).1)
-    (record { kept = kept; same = refl; asks = refl; rest = []; linked = sym (append-nil c.links); are = tt; over = []; way = (refl, refl) })
+    arrive_turned tree cs c.links c.nodes c.key (below_root c.key c.root) [] (begun c (root_entry c).0 (root_entry c).1)
+    (record { kept = kept; same = refl; asks = refl; rest = []; linked = sym (append-nil c.links); are = tt; over = []; way = (refl, refl); seen = λ m b. b })
 
 -- behind the get of a node
-pub descent_turned : (tree : ℕ) (cs : Calls) (d : Descent) (bytes : List ℕ) → AreKept tree d.chart.nodes cs → WasGot (object.Page tree d.page) (Some bytes) cs
-    → GotTurned tree cs d bytes (got_node d bytes (fork_of d bytes))
-descent_turned tree cs d bytes kept got = got_turned tree cs d bytes kept got
+pub descent_turned : (tree : ℕ) (cs : Calls) (d : Descent) (bytes : List ℕ) (n : Inner) → inner_of bytes ≡ Some n → AreKept tree d.chart.nodes cs
+    → WasGot (object.Page tree d.page) (Some bytes) cs → GotTurned tree cs d bytes (n ∷ []) (got_node d bytes (fork_of d bytes))
+descent_turned tree cs d bytes n e kept got =
+    subst (λ (r : Result Fork Trouble). GotTurned tree cs d bytes (n ∷ []) (got_node d bytes r))
+    (sym (ap (λ (o : Option Inner). forked_by d (inner_or d.chart.tree d.page (offset inner_format bytes) o)) e))
+    (found (forked d n) refl (forked_turns tree cs d.chart.links nodes d.chart.key (place_of d) (n ∷ []) d n (bytes, e, got) (node_sound bytes n e).sides)) where
+      nodes : List KeptNode
+      nodes = with_kept (node_got d bytes) d.chart.nodes
+
+      found : (f : Result Fork Trouble) → forked d n ≡ f → NodeTurns tree cs d.chart.links nodes d.chart.key (place_of d) (n ∷ []) d n f
+          → GotTurned tree cs d bytes (n ∷ []) (got_node d bytes f)
+      found (Ok f) is h =
+          arrive_turned tree cs d.chart.links nodes d.chart.key (place_of d) (n ∷ []) (passed (with_node d bytes) f)
+          (first_turned tree cs d bytes n f (kept_with tree (node_got d bytes) d.chart.nodes cs (got, (n, e, forked_level d n f is)) kept) h)
+      found (Err t) is h = tt

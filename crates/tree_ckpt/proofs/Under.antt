@@ -23,8 +23,9 @@ use Rattle.tree_parts.specs.declared.link.Link.{Link}
 use Rattle.tree_parts.specs.declared.placing.Placing.{Placing}
 use Rattle.tree_parts.specs.Read.{tree_held}
 use Rattle.tree_ckpt.specs.Causing.{Calls, WasGot, WasNode, GoesRight}
-use Rattle.tree_ckpt.specs.Working.{Place, child_place, below_root, leaf_place, link_to, LeadsOn, IsWay, IsLeftFor, IsStart, IsCome, Visit, Outcome, Planned, Spared, Passed, IsVisit, AreVisits, IsAmong, IsInRange, IsUnder, IsFollowed, HoldsLeaf, IsLeft, IsFor, placing_of, root_behind, looks_of, visits_over, held_over, done_over, puts_of, page_puts, reserved_before, Climb, AreClimbs, root_above}
+use Rattle.tree_ckpt.specs.Working.{Place, child_place, below_root, leaf_place, link_to, LeadsOn, IsWay, IsLeftFor, IsStart, IsCome, Visit, Outcome, Planned, Spared, Passed, IsVisit, AreVisits, IsAmong, IsOver, node_place, IsInRange, IsUnder, IsFollowed, HoldsLeaf, IsLeft, IsFor, placing_of, root_behind, looks_of, visits_over, held_over, done_over, puts_of, page_puts, reserved_before, Climb, AreClimbs, root_above}
 use Rattle.tree_ckpt.proofs.Entries.{among_either}
+use Rattle.tree_ckpt.proofs.Named.{same_node}
 use Rattle.tree_ckpt.proofs.Lows.{IsUpto, child_upto, entry_upto}
 use Rattle.tree_ckpt.proofs.Nodes.{IsAbove, not_under, and_both}
 use Rattle.tree_ckpt.proofs.Roots.{IsHeld, is_held, held_after, child_all, entries_short}
@@ -103,6 +104,30 @@ module _ (tree : ℕ) (key : List ℕ) (cs : Calls) (root : Tree) where
         on : LeadsOn key n h.0.level h.1 q turns → (IsAmong l h.1 → IsUnder tree root cs l) → Lies q → IsUnder tree root cs l
         on (inl a) rest lies = apart h.1 (among_either l h.1 (link_to q ∷ []) (subst (λ (ls : List Link). IsAmong l ls) a.3 g)) rest lies
         on (inr a) rest lies = rest (subst (λ (ls : List Link). IsAmong l ls) a.2 g)
+
+-- a link's page is not looked at
+other_page : (tree : ℕ) (root : Tree) (cs : Calls) (l m : Link) → m.level ≡ l.level → m.low ≡ l.low → IsUnder tree root cs l → IsUnder tree root cs m
+other_page tree root cs l m level low (inl h) = inl (level ∙ h.0, subst (λ (x : List ℕ). length x ≤ 64) (sym low) h.1)
+other_page tree root cs l m level low (inr h) = inr (
+  h.0,
+  h.1,
+  h.2,
+  record {
+    level = level ∙ h.3.level;
+    short = subst (λ (x : List ℕ). length x ≤ 64) (sym low) h.3.short;
+    from = subst (λ (x : List ℕ). bytes_below x h.1.low ≡ false) (sym low) h.3.from;
+    to = subst (λ (x : List ℕ). below_bound x h.1.high ≡ true) (sym low) h.3.to;
+  },
+)
+
+-- each node that a way led over
+over_under : (tree : ℕ) (key : List ℕ) (cs : Calls) (root : Tree) (start : Place) (ns : List Inner) (q : Place) (turns : List Link) (page : ℕ) (n : Inner)
+    → Lies tree key cs root start → IsWay tree key cs start ns q turns → IsAmong n ns → IsUnder tree root cs (link_to (node_place page n))
+over_under tree key cs root start [] q turns page n k h g = absurd g
+over_under tree key cs root start (m ∷ ns) q turns page n k h (inr g) = over_under tree key cs root start ns h.0 h.1 page n k h.2 g
+over_under tree key cs root start (m ∷ ns) q turns page n k h (inl same) =
+    other_page tree root cs (link_to h.0) (link_to (node_place page n)) (ap (λ (x : Inner). x.level + 1) (sym same) ∙ ap (λ (x : ℕ). x + 1) h.4)
+    (ap (λ (x : Inner). x.low) (sym same) ∙ h.5) (lies_under tree key cs root h.0 (way_lies tree key cs root start ns h.0 h.1 k h.2))
 
 -- below the tree object
 root_lies : (tree : ℕ) (key : List ℕ) (cs : Calls) (root : Tree) (held : Option (List ℕ)) → (tree_held held).level ≡ root.level → Lies tree key cs root (below_root key held)
@@ -303,6 +328,27 @@ module _ (tree : ℕ) (one : Claim) (run : Taken) (got : Option (List ℕ)) wher
     followed_under (v ∷ vs) l are (inr h) = under_more v.looks (looks_of vs) l (followed_under vs l are.1 h)
     followed_under (v ∷ vs) l are (inl (inl h)) = turn_under v vs l are h
     followed_under (v ∷ vs) l are (inl (inr h)) = passed_under v vs l v.outcome are.0 h (looks_of (v ∷ vs)) (newest_lies (v ∷ vs) are)
+
+    -- each inner node that was got
+    pub nodes_under : (vs : List Visit) (page : ℕ) (bytes : List ℕ) (n : Inner) → AreVisits tree one run got vs → WasGot (object.Page tree page) (Some bytes) (looks_of vs)
+        → inner_of bytes ≡ Some n → IsUnder tree root (looks_of vs) (link_to (node_place page n))
+    nodes_under [] page bytes n are h e = absurd h
+    nodes_under (v ∷ vs) page bytes n are h e =
+        on (got_either (object.Page tree page) (Some bytes) v.looks (looks_of vs) h) (λ g. nodes_under vs page bytes n are.1 g e) where
+          here : IsOver bytes are.0.come.2.0 → IsUnder tree root (looks_of (v ∷ vs)) (link_to (node_place page n))
+          here o =
+              let come : IsCome tree (root_behind got vs) v.key (v.looks ++ visits_over tree one vs []) vs v.turns (leaf_place v.leaf.low v.page) = are.0.come in
+              let same : o.0 ≡ n = same_node bytes o.0 n o.1 e in
+              over_under tree v.key (looks_of (v ∷ vs)) root come.0 come.2.0 (leaf_place v.leaf.low v.page) v.turns page n
+              (start_lies v.key vs come.0 v.looks are.1 (newest_lies vs are.1) come.1)
+              (way_by v.key (v.looks ++ visits_over tree one vs []) (looks_of (v ∷ vs)) (looks_into v vs are.1) come.0 come.2.0 (leaf_place v.leaf.low v.page) v.turns come.2.1)
+              (subst (λ (m : Inner). IsAmong m come.2.0) same o.2)
+
+          on : WasGot (object.Page tree page) (Some bytes) v.looks ⊎ WasGot (object.Page tree page) (Some bytes) (looks_of vs)
+              → (WasGot (object.Page tree page) (Some bytes) (looks_of vs) → IsUnder tree root (looks_of vs) (link_to (node_place page n)))
+              → IsUnder tree root (v.looks ++ looks_of vs) (link_to (node_place page n))
+          on (inl g) rest = here (are.0.over page bytes g)
+          on (inr g) rest = under_more v.looks (looks_of vs) (link_to (node_place page n)) (rest g)
 
 -- so does a put of an inner node
 pub climbs_level : (tree : ℕ) (cs : Calls) (root : Option (List ℕ)) (links : List Link) (climbs : List Climb) → AreClimbs tree cs root links climbs

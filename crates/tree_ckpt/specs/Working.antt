@@ -43,6 +43,12 @@ use Rattle.tree_rising.specs.Root.{risen}
 use Rattle.tree_moves.specs.Moves.{entry_or}
 use Rattle.tree_ckpt.specs.Causing.{Calls, WasGot, WasNode, GoesRight}
 
+-- ---- lists
+
+abbrev pub IsAmong : {A : Type 0} → A → List A → Type 0
+IsAmong x [] = ⊥
+IsAmong x (y ∷ ys) = (y ≡ x) ⊎ IsAmong x ys
+
 -- ---- puts
 
 -- these calls answered Done one after another, the newest first, over the calls before them
@@ -117,6 +123,10 @@ below_root key root = child_place key (tree_held root).entries ((tree_held root)
 -- a leaf
 abbrev pub leaf_place : List ℕ → ℕ → Place
 leaf_place low page = record { level = 0; low = low; page = page }
+
+-- an inner node
+abbrev pub node_place : ℕ → Inner → Place
+node_place page n = record { level = n.level; low = n.low; page = page }
 
 -- the link to a page that was come to by a right link, for the level above
 abbrev pub link_to : Place → Link
@@ -236,11 +246,16 @@ IsStart root key vs p = (p ≡ below_root key root) ⊎ IsLeftFor key p vs
 abbrev pub IsCome : ℕ → Option (List ℕ) → List ℕ → Calls → List Visit → List Link → Place → Type 0
 IsCome tree root key cs vs turns q = (start : Place) × IsStart root key vs start × ((ns : List Inner) × IsWay tree key cs start ns q turns)
 
--- a visit behind others
+-- these bytes are those of one of the nodes
+abbrev pub IsOver : List ℕ → List Inner → Type 0
+IsOver bytes ns = (n : Inner) × (inner_of bytes ≡ Some n) × IsAmong n ns
+
+-- a visit behind others; each node that was got on the way down is one that it led over
 pub record IsVisit (tree : ℕ) (one : Claim) (run : Taken) (got : Option (List ℕ)) (vs : List Visit) (v : Visit) : Type 0 where
   pub looks : AreLooks tree one v.looks
   pub turns : AreTurns tree (v.looks ++ visits_over tree one vs []) v.turns
   pub come : IsCome tree (root_behind got vs) v.key (v.looks ++ visits_over tree one vs []) vs v.turns (leaf_place v.leaf.low v.page)
+  pub over : (page : ℕ) (bytes : List ℕ) → WasGot (object.Page tree page) (Some bytes) v.looks → IsOver bytes come.2.0
   pub holds : HoldsLeaf v.page v.leaf v.got
   pub is_for : IsFor v.key v.leaf v.outcome
   pub left : IsLeft run (root_behind got vs) v.page v.leaf v.outcome
@@ -344,10 +359,6 @@ IsPut page bytes (u ∷ us) = ((u.node.page ≡ page) × (u.node.bytes ≡ bytes
 
 -- ---- what the level above names
 
-abbrev pub IsAmong : {A : Type 0} → A → List A → Type 0
-IsAmong x [] = ⊥
-IsAmong x (y ∷ ys) = (y ≡ x) ⊎ IsAmong x ys
-
 -- one of these puts is that of an inner node of this level with this entry
 abbrev pub PutsEntry : ℕ → Entry → List PagePut → Type 0
 PutsEntry level e [] = ⊥
@@ -427,6 +438,8 @@ pub record IsWorked (tree : ℕ) (one : Claim) (run : Taken) (got : Option (List
       → IsNamed (HasRisen l.level w.last) (last_root got w).entries (last_links w) l
   pub followed : (l : Link) → IsFollowed l w.visits → IsUnder tree (last_root got w) (looks_of w.visits) l
   pub under : (v : Visit) → IsAmong v w.visits → IsUnder tree (last_root got w) (looks_of w.visits) (link_to (leaf_place v.leaf.low v.page))
+  pub under_nodes : (page : ℕ) (bytes : List ℕ) (n : Inner) → WasGot (object.Page tree page) (Some bytes) (looks_of w.visits) → inner_of bytes ≡ Some n
+      → IsUnder tree (last_root got w) (looks_of w.visits) (link_to (node_place page n))
   pub last : PutsRoot (last_root got w) (raised_root (last_root got w) (last_links w) run.top) w.last
 
 -- the work is such where the run has an item, and there is none where it is empty

@@ -24,13 +24,15 @@ use Rattle.tree_parts.specs.Read.{tree_held}
 use Rattle.tree_rising.specs.declared.node.NodePlan.{NodePlan}
 use Rattle.tree_rising.specs.declared.rising.Rising.{Rising}
 use Rattle.tree_rising.specs.declared.root.RootPlan.{RootPlan}
-use Rattle.tree_rising.specs.Nodes.{node_plan, touched_at}
+use Rattle.node_codec.specs.Inner.{Inner, inner_of}
+use Rattle.node_codec.specs.Tree.{Tree}
+use Rattle.tree_rising.specs.Nodes.{node_plan, is_touched, touched_at}
 use Rattle.tree_rising.specs.Rising as rise
 use Rattle.tree_moves.specs.Moves.{next_key}
 use Rattle.tree_moves.specs.Work.{take_tree}
 use Rattle.tree_ckpt.specs.Causing.{Calls, WasGot}
 use Rattle.tree_ckpt.specs.Meaning.{Opening, opening_calls}
-use Rattle.tree_ckpt.specs.Working.{done_over, puts_of, Visit, visits_over, root_behind, links_behind, looks_of, AreVisits, lacked_on, Climb, climbs_over, root_above, links_above, AreClimbs, HasLevel, PutsNode, raised_root, PutsRoot, Worked, worked_calls, IsWorked}
+use Rattle.tree_ckpt.specs.Working.{done_over, puts_of, Visit, visits_over, root_behind, links_behind, looks_of, AreVisits, lacked_on, Climb, climbs_over, root_above, links_above, AreClimbs, HasLevel, PutsNode, raised_root, PutsRoot, IsAmong, IsInRange, IsNamed, HasClimbed, HasRisen, IsOfRoot, IsPut, Worked, worked_calls, IsWorked}
 use Rattle.tree_ckpt.proofs.Answers.{done_is}
 use Rattle.tree_ckpt.proofs.Brought.{IsKept, AreKept}
 use Rattle.tree_ckpt.proofs.Covers.{AreHandled, all_handled}
@@ -39,6 +41,7 @@ use Rattle.tree_ckpt.proofs.Pieces.{node_puts, root_puts}
 use Rattle.tree_ckpt.proofs.Rises.{IsRising, kept_at}
 use Rattle.tree_ckpt.proofs.Tours.{AreNoted, RestsAt, put_in_turn, none_left}
 use Rattle.tree_ckpt.proofs.Named.{climbs_name, known_touches}
+use Rattle.tree_ckpt.proofs.Above.{right_known, new_known, new_page, named_above}
 use Rattle.tree_ckpt.proofs.Under.{visits_level, climbs_level, followed_under, leaves_under, nodes_under}
 use Rattle.tree_ckpt.proofs.Entries.{root_names}
 use Rattle.tree_ckpt.proofs.Whole.{IsPlacedIn, PlacedTo, AllFrom, from_later, from_there, rising_from, none_placed, placed_next, placed_there, all_placed, noted_put}
@@ -294,34 +297,48 @@ module _ (lease : Claim) (r : Rising) (o : Opening) (work : Calls) (k : Climbs l
   last_climbs : has_nothing r.placing ≡ true → r.is_spent ≡ false → (last : Option (List ℕ)) → is_some last ≡ true
       → Placed r.chart.tree k.ups.visits k.ups.climbs r.chart.nodes r.at last → UpBy r.placing r.chart.root work last
       → Risen lease r.chart.tree r.chart.run r.chart.applied o ((rise.last_ask r lease last, call.Done) ∷ work)
-  last_climbs nothing whole (Some bytes) some placed up = record {
-    worked = record { visits = k.ups.visits; climbs = k.ups.climbs; last = up.0 };
-    is = record {
-      visits = k.ups.are;
-      covers = k.ups.covers;
-      climbs = k.ups.climbed;
-      raises = λ page bytes n got e touched.
-          noted_put r.chart.tree (links_behind k.ups.visits) k.ups.climbs r.chart.nodes page bytes n placed (k.ups.noted.0 page bytes got) e touched;
-      named = λ l known page bytes n got e range.
-          climbs_name r.chart.tree (visits_over r.chart.tree lease k.ups.visits []) (root_behind o.got k.ups.visits) (links_behind k.ups.visits) k.ups.climbs page bytes n l
-          k.ups.climbed
-          (noted_put r.chart.tree (links_behind k.ups.visits) k.ups.climbs r.chart.nodes page bytes n placed (k.ups.noted.0 page bytes got) e (known_touches n l _ known range))
-          e range known;
-      named_last = λ l known is.
-          root_names (tree_held (root_above (root_behind o.got k.ups.visits) k.ups.climbs)) (links_above (links_behind k.ups.visits) k.ups.climbs) r.chart.run.top up.0 l
-          (up.2 whole) is known;
-      followed = λ l h. followed_under r.chart.tree lease r.chart.run o.got (tree_held (root_above (root_behind o.got k.ups.visits) k.ups.climbs)) same_level k.ups.visits l k.ups.are h;
-      under_nodes = λ page bytes n h e.
-          nodes_under r.chart.tree lease r.chart.run o.got (tree_held (root_above (root_behind o.got k.ups.visits) k.ups.climbs)) same_level k.ups.visits page bytes n k.ups.are h e;
-      under = λ v h. leaves_under r.chart.tree lease r.chart.run o.got (tree_held (root_above (root_behind o.got k.ups.visits) k.ups.climbs)) same_level k.ups.visits v k.ups.are h;
-      last = up.2 whole;
-    };
-    calls =
-        ap (λ (bs : List ℕ). (PutHeld (object.Tree r.chart.tree) bs lease None, call.Done) ∷ work) up.1
-        ∙ ap (λ (cs : Calls). (PutHeld (object.Tree r.chart.tree) up.0.last lease None, call.Done) ∷ cs)
-        (sym (none_left r.placing r.chart.tree lease None work nothing) ∙ up.3);
-    applied = k.ups.applied;
-  }
+  last_climbs nothing whole (Some bytes) some placed up =
+      let root : Tree = tree_held (root_above (root_behind o.got k.ups.visits) k.ups.climbs) in
+      let links : List Link = links_above (links_behind k.ups.visits) k.ups.climbs in
+      let worked : Worked = record { visits = k.ups.visits; climbs = k.ups.climbs; last = up.0 } in
+      let put : (page : ℕ) (bytes : List ℕ) (n : Inner) → WasGot (object.Page r.chart.tree page) (Some bytes) (looks_of k.ups.visits) → inner_of bytes ≡ Some n
+      → is_touched n links ≡ true → IsPut page bytes k.ups.climbs =
+      λ page bytes n got e touched.
+      noted_put r.chart.tree (links_behind k.ups.visits) k.ups.climbs r.chart.nodes page bytes n placed (k.ups.noted.0 page bytes got) e touched in
+      let named : (l : Link) → IsAmong l links → (page : ℕ) (bytes : List ℕ) (n : Inner) → WasGot (object.Page r.chart.tree page) (Some bytes) (looks_of k.ups.visits)
+      → inner_of bytes ≡ Some n → IsInRange n l → IsNamed (HasClimbed page l.level k.ups.climbs) n.entries links l =
+      λ l known page bytes n got e range.
+      climbs_name r.chart.tree (visits_over r.chart.tree lease k.ups.visits []) (root_behind o.got k.ups.visits) (links_behind k.ups.visits) k.ups.climbs page bytes n l
+      k.ups.climbed (put page bytes n got e (known_touches n l links known range)) e range known in
+      let named_last : (l : Link) → IsAmong l links → IsOfRoot root l → IsNamed (HasRisen l.level up.0) root.entries links l =
+      λ l known is. root_names root links r.chart.run.top up.0 l (up.2 whole) is known in
+      record {
+        worked = worked;
+        is = record {
+          visits = k.ups.are;
+          covers = k.ups.covers;
+          climbs = k.ups.climbed;
+          raises = put;
+          named = named;
+          named_last = named_last;
+          rights = λ l h.
+              named_above r.chart.tree o.got worked l (followed_under r.chart.tree lease r.chart.run o.got root same_level k.ups.visits l k.ups.are h)
+              (named l (right_known l k.ups.visits k.ups.climbs h)) (named_last l (right_known l k.ups.visits k.ups.climbs h));
+          reserved = λ l h. (
+            new_known l k.ups.visits k.ups.climbs h,
+            new_page r.chart.tree lease r.chart.run o.got (visits_over r.chart.tree lease k.ups.visits []) (links_behind k.ups.visits) k.ups.visits k.ups.climbs l k.ups.are
+                k.ups.climbed h,
+          );
+          under = λ v h. leaves_under r.chart.tree lease r.chart.run o.got root same_level k.ups.visits v k.ups.are h;
+          under_nodes = λ page bytes n h e. nodes_under r.chart.tree lease r.chart.run o.got root same_level k.ups.visits page bytes n k.ups.are h e;
+          last = up.2 whole;
+        };
+        calls =
+            ap (λ (bs : List ℕ). (PutHeld (object.Tree r.chart.tree) bs lease None, call.Done) ∷ work) up.1
+            ∙ ap (λ (cs : Calls). (PutHeld (object.Tree r.chart.tree) up.0.last lease None, call.Done) ∷ cs)
+            (sym (none_left r.placing r.chart.tree lease None work nothing) ∙ up.3);
+        applied = k.ups.applied;
+      }
   last_climbs nothing whole None some placed up = absurd (cc (some))
 
   put_call : Ask × Answer

@@ -55,15 +55,24 @@ next_fits t count k spare within =
       entries = fits_to_last [] None (t.next - 1) (t.next + count - 1) false None t.entries (omega arith) k.fits.entries;
     })
 
--- what stands behind a reservation
+-- what stands behind a reservation: the level stays, and the next number is behind those that were reserved
+pub record IsBehind (t u : Tree) (count : ℕ) (first : ℕ) : Type 0 where
+  pub level : u.level ≡ t.level
+  pub next : t.next ≤ u.next
+  pub beyond : 1 ≤ count → first + count ≤ u.next
+
 pub held_after : (root : Option (List ℕ)) (first count : ℕ) (o : Option (List ℕ)) → Reserves (tree_held root) first count o
-    → ((tree_held (root_after o root)).level ≡ (tree_held root).level) × ((tree_held root).next ≤ (tree_held (root_after o root)).next)
-held_after root first count None h = (refl, omega arith)
+    → IsBehind (tree_held root) (tree_held (root_after o root)) count first
+held_after root first count None h = record { level = refl; next = omega arith; beyond = λ some. absurd (omega (arith, some, h)) }
 held_after root first count (Some bytes) h =
     let fits : HasTreeSpelling (reserving (tree_held root) count) = next_fits (tree_held root) count (is_held root) h.1 h.2 in
     let stands : tree_held (Some bytes) ≡ reserving (tree_held root) count =
     ap (λ (b : List ℕ). unwrap_or (tree_of b) empty_tree) h.3 ∙ ap (λ (t : Option Tree). unwrap_or t empty_tree) (tree_again (reserving (tree_held root) count) fits) in
-    (ap (λ (t : Tree). t.level) stands, subst (λ (t : Tree). (tree_held root).next ≤ t.next) (sym stands) (omega arith))
+    record {
+      level = ap (λ (t : Tree). t.level) stands;
+      next = subst (λ (t : Tree). (tree_held root).next ≤ t.next) (sym stands) (omega arith);
+      beyond = λ some. subst (λ (t : Tree). first + count ≤ t.next) (sym stands) (omega (arith, h.0));
+    }
 
 module _ (key : List ℕ) where
   -- the child for a key is one of the entries

@@ -231,7 +231,7 @@ module _ (tree : ℕ) (one : Claim) (run : Taken) (got : Option (List ℕ)) wher
 
   left_level : (v : Visit) (vs : List Visit) (outcome : Outcome) → IsLeft run (root_behind got vs) v.page v.leaf outcome
       → (tree_held (root_behind got (record v { outcome = outcome } ∷ vs))).level ≡ (tree_held (root_behind got vs)).level
-  left_level v vs (Planned plan) h = (held_after (root_behind got vs) h.1.first (length h.1.pieces - 1) plan.placing.reserved h.1.numbers).0
+  left_level v vs (Planned plan) h = (held_after (root_behind got vs) h.1.first (length h.1.pieces - 1) plan.placing.reserved h.1.numbers).level
   left_level v vs Spared h = refl
   left_level v vs (Passed link) h = refl
 
@@ -355,5 +355,5 @@ pub climbs_level : (tree : ℕ) (cs : Calls) (root : Option (List ℕ)) (links :
     → (tree_held (root_above root climbs)).level ≡ (tree_held root).level
 climbs_level tree cs root links [] are = refl
 climbs_level tree cs root links (u ∷ us) are =
-    (held_after (root_above root us) are.3.2.first (length are.3.2.pieces - 1) u.plan.placing.reserved are.3.2.numbers).0
+    (held_after (root_above root us) are.3.2.first (length are.3.2.pieces - 1) u.plan.placing.reserved are.3.2.numbers).level
     ∙ climbs_level tree cs root links us are.4

@@ -395,6 +395,20 @@ abbrev pub IsFollowed : Link → List Visit → Type 0
 IsFollowed l [] = ⊥
 IsFollowed l (v ∷ vs) = (IsAmong l v.turns ⊎ (v.outcome ≡ Passed l)) ⊎ IsFollowed l vs
 
+-- a link to a new piece of a leaf, or of a node on the way up
+abbrev pub IsPieceOf : Link → Outcome → Type 0
+IsPieceOf l (Planned p) = IsAmong l (links_at 1 p.entries)
+IsPieceOf l Spared = ⊥
+IsPieceOf l (Passed link) = ⊥
+
+abbrev pub IsLeafPiece : Link → List Visit → Type 0
+IsLeafPiece l [] = ⊥
+IsLeafPiece l (v ∷ vs) = IsPieceOf l v.outcome ⊎ IsLeafPiece l vs
+
+abbrev pub IsNodePiece : Link → List Climb → Type 0
+IsNodePiece l [] = ⊥
+IsNodePiece l (u ∷ us) = IsAmong l (links_at (u.node.level + 1) u.plan.entries) ⊎ IsNodePiece l us
+
 -- a link is one of the tree object's level, to a page that was reserved
 pub record IsOfRoot (t : Tree) (l : Link) : Type 0 where
   pub level : l.level ≡ t.level
@@ -423,9 +437,18 @@ last_root got w = tree_held (root_above (root_behind got w.visits) w.climbs)
 abbrev pub last_links : Worked → List Link
 last_links w = links_above (links_behind w.visits) w.climbs
 
+-- What the level above has of a link: what was put for a node that was got there, in whose range its low key lies, names it; or it is of the tree object's
+-- level, and what was put for that names it, where its page was reserved.
+abbrev pub IsNamedAbove : ℕ → Option (List ℕ) → Worked → Link → Type 0
+IsNamedAbove tree got w l =
+    ((page : ℕ) × (n : Inner) × WasNode tree page n (looks_of w.visits) × IsInRange n l × IsNamed (HasClimbed page l.level w.climbs) n.entries (last_links w) l)
+    ⊎ ((l.level ≡ (last_root got w).level) × (l.page < (last_root got w).next → IsNamed (HasRisen l.level w.last) (last_root got w).entries (last_links w) l))
+
 -- Each put is as planned from what was got before it; the first tree object is what the get brought. Each item of the run lies in the range of a leaf
--- that was put, or lacked nothing. An inner node that was got is put where a link that is known goes to it, one of a piece of a node below it too. So
--- each link that is known is named by what was put for such a node, or by the tree object.
+-- that was put, or lacked nothing. An inner node that was got is put where a link that is known goes to it. So each link that is known, to a new piece or
+-- to a page on the right, is named by what was put for a node of its level that was got and has its low key in its range (`named`), or by the tree object
+-- where it is of its level (`named_last`). One of the two has each page that was come to by a right link (`rights`). The page of a new piece was reserved
+-- (`reserved`), and the leaf or node that it is cut from lies itself under such a node or the tree object (`under`, `under_nodes`).
 pub record IsWorked (tree : ℕ) (one : Claim) (run : Taken) (got : Option (List ℕ)) (w : Worked) : Type 0 where
   pub visits : AreVisits tree one run got w.visits
   pub covers : AllByRecursion (λ x. IsHandled (key_of x.rec.change) w.visits) run.items
@@ -436,7 +459,8 @@ pub record IsWorked (tree : ℕ) (one : Claim) (run : Taken) (got : Option (List
       → inner_of bytes ≡ Some n → IsInRange n l → IsNamed (HasClimbed page l.level w.climbs) n.entries (last_links w) l
   pub named_last : (l : Link) → IsAmong l (last_links w) → IsOfRoot (last_root got w) l
       → IsNamed (HasRisen l.level w.last) (last_root got w).entries (last_links w) l
-  pub followed : (l : Link) → IsFollowed l w.visits → IsUnder tree (last_root got w) (looks_of w.visits) l
+  pub rights : (l : Link) → IsFollowed l w.visits → IsNamedAbove tree got w l
+  pub reserved : (l : Link) → IsLeafPiece l w.visits ⊎ IsNodePiece l w.climbs → IsAmong l (last_links w) × (l.page < (last_root got w).next)
   pub under : (v : Visit) → IsAmong v w.visits → IsUnder tree (last_root got w) (looks_of w.visits) (link_to (leaf_place v.leaf.low v.page))
   pub under_nodes : (page : ℕ) (bytes : List ℕ) (n : Inner) → WasGot (object.Page tree page) (Some bytes) (looks_of w.visits) → inner_of bytes ≡ Some n
       → IsUnder tree (last_root got w) (looks_of w.visits) (link_to (node_place page n))

@@ -1,0 +1,149 @@
+-- Each page that was come to by a right link is named above, and the pages of new pieces were reserved.
+use Rattle.std.proofs.Common.{◌≡◌, ◌<◌, ◌≤◌, ◌+◌, ◌-◌, ◌⊎◌, ℕ, Bool, true, false, List, [], ◌∷◌, ◌++◌, length, Option, Some, None, refl, sym, ap, subst, ◌∙◌, inl, inr, arith}
+use Rattle.std.specs.Prelude.{map, drop}
+use Rattle.db_base.specs.declared.names.ObjName.TheVariants as object
+use Rattle.node_codec.specs.Inner.{Inner, inner_of}
+use Rattle.node_codec.specs.Tree.{Tree}
+use Rattle.cloud_trait.specs.Claim.{Claim}
+use Rattle.run_cursor.specs.Run.{Taken}
+use Rattle.split_plan.specs.declared.entry_list.NewEntry.{NewEntry}
+use Rattle.split_plan.specs.Part.{Part}
+use Rattle.split_plan.specs.Plan.{entry_of, on_pages}
+use Rattle.tree_parts.specs.declared.link.Link.{Link}
+use Rattle.tree_parts.specs.declared.placing.Placing.{Placing}
+use Rattle.tree_parts.specs.Kept.{link_at, links_at}
+use Rattle.tree_parts.specs.Placing.{landed_root}
+use Rattle.tree_parts.specs.Read.{tree_held}
+use Rattle.tree_ckpt.specs.Causing.{Calls, WasGot}
+use Rattle.tree_ckpt.specs.Working.{IsAmong, PutsPieces, Outcome, Planned, Spared, Passed, Visit, AreVisits, IsLeft, placing_of, root_behind, links_from, links_behind, Climb, AreClimbs, root_above, links_above, IsFollowed, IsPieceOf, IsLeafPiece, IsNodePiece, Worked, last_root, last_links, looks_of, IsUnder, IsInRange, IsOfRoot, IsNamed, HasClimbed, HasRisen, IsNamedAbove}
+use Rattle.tree_ckpt.proofs.Entries.{among_front, among_back}
+use Rattle.tree_ckpt.proofs.Roots.{held_after}
+
+-- ---- what is known
+
+from_before : (l : Link) (outcome : Outcome) (links : List Link) → IsAmong l links → IsAmong l (links_from outcome links)
+from_before l (Planned p) links h = among_front l links (links_at 1 p.entries) h
+from_before l Spared links h = h
+from_before l (Passed link) links h = among_front l links (link ∷ []) h
+
+from_passed : (l : Link) (outcome : Outcome) (links : List Link) → outcome ≡ Passed l → IsAmong l (links_from outcome links)
+from_passed l (Planned p) links e = absurd (cc (e))
+from_passed l Spared links e = absurd (cc (e))
+from_passed l (Passed link) links e = among_back l links (link ∷ []) (inl (cc (e)))
+
+from_piece : (l : Link) (outcome : Outcome) (links : List Link) → IsPieceOf l outcome → IsAmong l (links_from outcome links)
+from_piece l (Planned p) links h = among_back l links (links_at 1 p.entries) h
+from_piece l Spared links h = absurd h
+from_piece l (Passed link) links h = absurd h
+
+followed_known : (l : Link) (vs : List Visit) → IsFollowed l vs → IsAmong l (links_behind vs)
+followed_known l [] h = absurd h
+followed_known l (v ∷ vs) (inl (inl h)) = from_before l v.outcome (links_behind vs ++ v.turns) (among_back l (links_behind vs) v.turns h)
+followed_known l (v ∷ vs) (inl (inr e)) = from_passed l v.outcome (links_behind vs ++ v.turns) e
+followed_known l (v ∷ vs) (inr h) = from_before l v.outcome (links_behind vs ++ v.turns) (among_front l (links_behind vs) v.turns (followed_known l vs h))
+
+piece_known : (l : Link) (vs : List Visit) → IsLeafPiece l vs → IsAmong l (links_behind vs)
+piece_known l [] h = absurd h
+piece_known l (v ∷ vs) (inl h) = from_piece l v.outcome (links_behind vs ++ v.turns) h
+piece_known l (v ∷ vs) (inr h) = from_before l v.outcome (links_behind vs ++ v.turns) (among_front l (links_behind vs) v.turns (piece_known l vs h))
+
+known_above : (l : Link) (links : List Link) (us : List Climb) → IsAmong l links → IsAmong l (links_above links us)
+known_above l links [] h = h
+known_above l links (u ∷ us) h = among_front l (links_above links us) (links_at (u.node.level + 1) u.plan.entries) (known_above l links us h)
+
+node_known : (l : Link) (links : List Link) (us : List Climb) → IsNodePiece l us → IsAmong l (links_above links us)
+node_known l links [] h = absurd h
+node_known l links (u ∷ us) (inl h) = among_back l (links_above links us) (links_at (u.node.level + 1) u.plan.entries) h
+node_known l links (u ∷ us) (inr h) = among_front l (links_above links us) (links_at (u.node.level + 1) u.plan.entries) (node_known l links us h)
+
+pub right_known : (l : Link) (vs : List Visit) (us : List Climb) → IsFollowed l vs → IsAmong l (links_above (links_behind vs) us)
+right_known l vs us h = known_above l (links_behind vs) us (followed_known l vs h)
+
+pub new_known : (l : Link) (vs : List Visit) (us : List Climb) → IsLeafPiece l vs ⊎ IsNodePiece l us → IsAmong l (links_above (links_behind vs) us)
+new_known l vs us (inl h) = known_above l (links_behind vs) us (piece_known l vs h)
+new_known l vs us (inr h) = node_known l (links_behind vs) us h
+
+-- ---- the pages of pieces
+
+-- pieces behind the first stand on the numbers from the first free one on
+pages_of : {A X : Type 0} (level : ℕ) (l : Link) (free : ℕ) (ps : List (Part A X)) → IsAmong l (links_at level (map entry_of (on_pages free (free + 1) ps))) → l.page < free + length ps
+pages_of level l free [] h = absurd h
+pages_of {A} {X} level l free (p ∷ ps) (inl same) =
+    let at : free ≡ l.page = ap (λ (m : Link). m.page) same in
+    omega (arith, at)
+pages_of level l free (p ∷ ps) (inr h) = let rest : l.page < free + 1 + length ps = pages_of level l (free + 1) ps h in omega (arith, rest)
+
+new_pages : {A X : Type 0} (level : ℕ) (l : Link) (page first : ℕ) (ps : List (Part A X)) → IsAmong l (links_at level (drop 1 (map entry_of (on_pages page first ps))))
+    → (1 ≤ length ps - 1) × (l.page < first + (length ps - 1))
+new_pages level l page first [] h = absurd h
+new_pages level l page first (p ∷ []) h = absurd h
+new_pages level l page first (p ∷ q ∷ ps) h = let under : l.page < first + length (q ∷ ps) = pages_of level l first (q ∷ ps) h in (omega arith, omega (arith, under))
+
+-- so they are below the next number of the tree object that stands behind the reservation
+put_page : {A X : Type 0} (key : A → List ℕ) (bytes : Part A X → List ℕ) (root : Option (List ℕ)) (page : ℕ) (whole : Part A X) (placing : Placing) (entries : List NewEntry)
+    (level : ℕ) (l : Link) → PutsPieces key bytes (tree_held root) page whole placing entries → IsAmong l (links_at level entries) → l.page < (tree_held (landed_root placing root)).next
+put_page key bytes root page whole placing entries level l put h =
+    let new = new_pages level l page put.first put.pieces (subst (λ (es : List NewEntry). IsAmong l (links_at level es)) put.entries h) in
+    let behind = held_after root put.first (length put.pieces - 1) placing.reserved put.numbers in
+    omega (arith, new.1, behind.beyond new.0)
+
+-- ---- numbers that were reserved stay so
+
+module _ (tree : ℕ) (one : Claim) (run : Taken) (got : Option (List ℕ)) where
+  left_next : (v : Visit) (vs : List Visit) (outcome : Outcome) → IsLeft run (root_behind got vs) v.page v.leaf outcome
+      → (tree_held (root_behind got vs)).next ≤ (tree_held (landed_root (placing_of outcome) (root_behind got vs))).next
+  left_next v vs (Planned plan) h = (held_after (root_behind got vs) h.1.first (length h.1.pieces - 1) plan.placing.reserved h.1.numbers).next
+  left_next v vs Spared h = omega arith
+  left_next v vs (Passed link) h = omega arith
+
+  piece_page : (v : Visit) (vs : List Visit) (l : Link) (outcome : Outcome) → IsLeft run (root_behind got vs) v.page v.leaf outcome → IsPieceOf l outcome
+      → l.page < (tree_held (landed_root (placing_of outcome) (root_behind got vs))).next
+  piece_page v vs l (Planned plan) h g = put_page _ _ (root_behind got vs) v.page _ plan.placing plan.entries 1 l h.1 g
+  piece_page v vs l Spared h g = absurd g
+  piece_page v vs l (Passed link) h g = absurd g
+
+  leaf_page : (vs : List Visit) (l : Link) → AreVisits tree one run got vs → IsLeafPiece l vs → l.page < (tree_held (root_behind got vs)).next
+  leaf_page [] l are h = absurd h
+  leaf_page (v ∷ vs) l are (inl h) = piece_page v vs l v.outcome are.0.left h
+  leaf_page (v ∷ vs) l are (inr h) =
+      let before : l.page < (tree_held (root_behind got vs)).next = leaf_page vs l are.1 h in
+      omega (arith, before, left_next v vs v.outcome are.0.left)
+
+climb_next : (tree : ℕ) (cs : Calls) (root : Option (List ℕ)) (links : List Link) (us : List Climb) → AreClimbs tree cs root links us
+    → (tree_held root).next ≤ (tree_held (root_above root us)).next
+climb_next tree cs root links [] are = omega arith
+climb_next tree cs root links (u ∷ us) are =
+    omega (
+      arith,
+      climb_next tree cs root links us are.4,
+      (held_after (root_above root us) are.3.2.first (length are.3.2.pieces - 1) u.plan.placing.reserved are.3.2.numbers).next,
+    )
+
+node_page : (tree : ℕ) (cs : Calls) (root : Option (List ℕ)) (links : List Link) (us : List Climb) (l : Link) → AreClimbs tree cs root links us → IsNodePiece l us
+    → l.page < (tree_held (root_above root us)).next
+node_page tree cs root links [] l are h = absurd h
+node_page tree cs root links (u ∷ us) l are (inl h) =
+    put_page _ _ (root_above root us) u.node.page _ u.plan.placing u.plan.entries (u.node.level + 1) l are.3.2 h
+node_page tree cs root links (u ∷ us) l are (inr h) =
+    let before : l.page < (tree_held (root_above root us)).next = node_page tree cs root links us l are.4 h in
+    omega (
+      arith,
+      before,
+      (held_after (root_above root us) are.3.2.first (length are.3.2.pieces - 1) u.plan.placing.reserved are.3.2.numbers).next,
+    )
+
+pub new_page : (tree : ℕ) (one : Claim) (run : Taken) (got : Option (List ℕ)) (cs : Calls) (links : List Link) (vs : List Visit) (us : List Climb) (l : Link)
+    → AreVisits tree one run got vs → AreClimbs tree cs (root_behind got vs) links us → IsLeafPiece l vs ⊎ IsNodePiece l us
+    → l.page < (tree_held (root_above (root_behind got vs) us)).next
+new_page tree one run got cs links vs us l are climbs (inl h) =
+    let under : l.page < (tree_held (root_behind got vs)).next = leaf_page tree one run got vs l are h in
+    omega (arith, under, climb_next tree cs (root_behind got vs) links us climbs)
+new_page tree one run got cs links vs us l are climbs (inr h) = node_page tree cs (root_behind got vs) links us l climbs h
+
+-- a link that lies under the level above is named there
+pub named_above : (tree : ℕ) (got : Option (List ℕ)) (w : Worked) (l : Link) → IsUnder tree (last_root got w) (looks_of w.visits) l
+    → ((page : ℕ) (bytes : List ℕ) (n : Inner) → WasGot (object.Page tree page) (Some bytes) (looks_of w.visits) → inner_of bytes ≡ Some n → IsInRange n l
+    → IsNamed (HasClimbed page l.level w.climbs) n.entries (last_links w) l)
+    → (IsOfRoot (last_root got w) l → IsNamed (HasRisen l.level w.last) (last_root got w).entries (last_links w) l) → IsNamedAbove tree got w l
+named_above tree got w l (inl h) node root = inr (h.0, λ page. root (record { level = h.0; short = h.1; page = page }))
+named_above tree got w l (inr h) node root = inl (h.0, h.1, h.2, h.3, node h.0 h.2.0 h.1 h.2.2 h.2.1 h.3)

@@ -15,8 +15,9 @@ use Rattle.tree_parts.specs.Kept.{link_at, links_at}
 use Rattle.tree_parts.specs.Placing.{landed_root}
 use Rattle.tree_parts.specs.Read.{tree_held}
 use Rattle.tree_ckpt.specs.Causing.{Calls, WasGot}
-use Rattle.tree_ckpt.specs.Working.{IsAmong, PutsPieces, Outcome, Planned, Spared, Passed, Visit, AreVisits, IsLeft, placing_of, root_behind, links_from, links_behind, Climb, AreClimbs, root_above, links_above, IsFollowed, IsPieceOf, IsLeafPiece, IsNodePiece, Worked, last_root, last_links, looks_of, IsUnder, IsInRange, IsOfRoot, IsNamed, HasClimbed, HasRisen, IsNamedAbove}
+use Rattle.tree_ckpt.specs.Working.{IsAmong, PutsPieces, Outcome, Planned, Spared, Passed, Visit, AreVisits, IsLeft, placing_of, root_behind, links_from, links_behind, Climb, AreClimbs, root_above, links_above, IsFollowed, IsPieceOf, IsLeafPiece, IsNodePiece, Worked, last_root, last_links, looks_of, IsUnder, IsInRange, IsOfRoot, IsNamed, HasClimbed, HasRisen, HoldsLow, IsNamedAbove}
 use Rattle.tree_ckpt.proofs.Entries.{among_front, among_back}
+use Rattle.tree_ckpt.proofs.Inside.{node_piece_holds}
 use Rattle.tree_ckpt.proofs.Roots.{held_after}
 
 -- ---- what is known
@@ -147,3 +148,16 @@ pub named_above : (tree : ℕ) (got : Option (List ℕ)) (w : Worked) (l : Link)
     → (IsOfRoot (last_root got w) l → IsNamed (HasRisen l.level w.last) (last_root got w).entries (last_links w) l) → IsNamedAbove tree got w l
 named_above tree got w l (inl h) node root = inr (h.0, λ page. root (record { level = h.0; short = h.1; page = page }))
 named_above tree got w l (inr h) node root = inl (h.0, h.1, h.2, h.3, node h.0 h.2.0 h.1 h.2.2 h.2.1 h.3)
+
+-- the low key of a piece of a node lies in the node's range
+pub climb_holds : (tree : ℕ) (cs : Calls) (root : Option (List ℕ)) (links : List Link) (us : List Climb) (u : Climb) (l : Link) → AreClimbs tree cs root links us → IsAmong u us
+    → IsAmong l (links_at (u.node.level + 1) u.plan.entries) → (n : Inner) × (inner_of u.node.bytes ≡ Some n) × HoldsLow n l.low
+climb_holds tree cs root links [] u l are h g = absurd h
+climb_holds tree cs root links (x ∷ us) u l are (inr h) g = climb_holds tree cs root links us u l are.4 h g
+climb_holds tree cs root links (x ∷ us) u l are (inl same) g =
+    subst (λ (y : Climb). IsAmong l (links_at (y.node.level + 1) y.plan.entries) → (n : Inner) × (inner_of y.node.bytes ≡ Some n) × HoldsLow n l.low) same
+    (λ k. (
+      are.3.0,
+      are.3.1,
+      node_piece_holds (tree_held (root_above root us)) x.node.page x.node.bytes are.3.0 (links_above links us) x.plan.placing x.plan.entries (x.node.level + 1) l are.3.1 are.3.2 k,
+    )) g

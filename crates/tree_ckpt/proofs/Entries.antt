@@ -71,14 +71,14 @@ has low page (x ∷ xs) = on (bytes_below low x.0) (bytes_same low x.0) refl (ha
       (x.1, inl same, inr (inl same))
   on false false e rest = (rest.0, inr rest.1, behind rest.0 rest.2)
 
-abbrev entry_at : List ℕ → ℕ → Entry
+abbrev pub entry_at : List ℕ → ℕ → Entry
 entry_at low page = (low, page)
 
 -- what stands there stood there, or is the new one
-from : (e : Entry) (low : List ℕ) (page : ℕ) (es : List Entry) → IsAmong e (with_entry low page es) → IsAmong e es ⊎ (entry_at low page ≡ e)
-from e low page [] (inl g) = inr g
-from e low page [] (inr g) = absurd g
-from e low page (x ∷ xs) h = on (bytes_below low x.0) (bytes_same low x.0) (λ g. from e low page xs g) h where
+pub with_from : (e : Entry) (low : List ℕ) (page : ℕ) (es : List Entry) → IsAmong e (with_entry low page es) → IsAmong e es ⊎ (entry_at low page ≡ e)
+with_from e low page [] (inl g) = inr g
+with_from e low page [] (inr g) = absurd g
+with_from e low page (x ∷ xs) h = on (bytes_below low x.0) (bytes_same low x.0) (λ g. with_from e low page xs g) h where
   later : IsAmong e xs ⊎ (entry_at low page ≡ e) → IsAmong e (x ∷ xs) ⊎ (entry_at low page ≡ e)
   later (inl g) = inl (inr g)
   later (inr g) = inr g
@@ -143,7 +143,7 @@ one_from n x l page es level h = on (goes_to n x) refl h where
   found e (inr g) = inr (link_same x l page (e ∙ sym level) g)
 
   on : (b : Bool) → goes_to n x ≡ b → IsAmong (l.low, page) (cond b (with_entry x.low x.page es) es) → IsAmong (l.low, page) es ⊎ (x ≡ record l { page = page })
-  on true e g = found (goes_level n x e) (from (l.low, page) x.low x.page es g)
+  on true e g = found (goes_level n x e) (with_from (l.low, page) x.low x.page es g)
   on false e g = inl g
 
 named_here : (n : Inner) (l : Link) (ls : List Link) (es : List Entry) → goes_to n l ≡ true → Named (with_links n (l ∷ ls) es) es (l ∷ ls) l
@@ -219,7 +219,7 @@ child_keeps e low page t h = on (nat_lt page t.next) where
 child_from : (e : Entry) (low : List ℕ) (page : ℕ) (t : Tree) → IsAmong e (with_child low page t).entries → IsAmong e t.entries ⊎ (entry_at low page ≡ e)
 child_from e low page t h = on (nat_lt page t.next) h where
   on : (b : Bool) → IsAmong e (cond b (record t { entries = with_entry low page t.entries }) t).entries → IsAmong e t.entries ⊎ (entry_at low page ≡ e)
-  on true g = from e low page t.entries g
+  on true g = with_from e low page t.entries g
   on false g = inl g
 
 named_keep : (level : ℕ) (ls : List Link) (e : Entry) (t : Tree) → IsAmong e t.entries → IsAmong e (with_named level ls t).entries

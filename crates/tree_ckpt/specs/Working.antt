@@ -378,6 +378,12 @@ HasRisen level p e = ((t : Tree) × (p.last ≡ tree_bytes t) × (t.level ≡ le
 abbrev pub IsNamed : (Entry → Type 0) → List Entry → List Link → Link → Type 0
 IsNamed Has old links l = (page : ℕ) × Has (l.low, page) × (IsAmong (l.low, page) old ⊎ IsAmong (record l { page = page }) links)
 
+-- a low key lies in the node's range
+pub record HoldsLow (n : Inner) (low : List ℕ) : Type 0 where
+  pub short : length low ≤ 64
+  pub from : bytes_below low n.low ≡ false
+  pub to : below_bound low n.high ≡ true
+
 -- a link is one of the node's level, and its low key lies in the node's range
 pub record IsInRange (n : Inner) (l : Link) : Type 0 where
   pub level : l.level ≡ n.level
@@ -448,7 +454,8 @@ IsNamedAbove tree got w l =
 -- that was put, or lacked nothing. An inner node that was got is put where a link that is known goes to it. So each link that is known, to a new piece or
 -- to a page on the right, is named by what was put for a node of its level that was got and has its low key in its range (`named`), or by the tree object
 -- where it is of its level (`named_last`). One of the two has each page that was come to by a right link (`rights`). The page of a new piece was reserved
--- (`reserved`), and the leaf or node that it is cut from lies itself under such a node or the tree object (`under`, `under_nodes`).
+-- (`reserved`), that of an inner node has its low key in the node's range (`inside`), and the leaf or node that it is cut from lies itself under such a
+-- node or the tree object (`under`, `under_nodes`).
 pub record IsWorked (tree : ℕ) (one : Claim) (run : Taken) (got : Option (List ℕ)) (w : Worked) : Type 0 where
   pub visits : AreVisits tree one run got w.visits
   pub covers : AllByRecursion (λ x. IsHandled (key_of x.rec.change) w.visits) run.items
@@ -461,6 +468,8 @@ pub record IsWorked (tree : ℕ) (one : Claim) (run : Taken) (got : Option (List
       → IsNamed (HasRisen l.level w.last) (last_root got w).entries (last_links w) l
   pub rights : (l : Link) → IsFollowed l w.visits → IsNamedAbove tree got w l
   pub reserved : (l : Link) → IsLeafPiece l w.visits ⊎ IsNodePiece l w.climbs → IsAmong l (last_links w) × (l.page < (last_root got w).next)
+  pub inside : (u : Climb) (l : Link) → IsAmong u w.climbs → IsAmong l (links_at (u.node.level + 1) u.plan.entries)
+      → (n : Inner) × (inner_of u.node.bytes ≡ Some n) × HoldsLow n l.low
   pub under : (v : Visit) → IsAmong v w.visits → IsUnder tree (last_root got w) (looks_of w.visits) (link_to (leaf_place v.leaf.low v.page))
   pub under_nodes : (page : ℕ) (bytes : List ℕ) (n : Inner) → WasGot (object.Page tree page) (Some bytes) (looks_of w.visits) → inner_of bytes ≡ Some n
       → IsUnder tree (last_root got w) (looks_of w.visits) (link_to (node_place page n))

@@ -1,0 +1,137 @@
+-- The low key of a new piece of an inner node lies in the node's range.
+use Rattle.std.proofs.Common.{◌≡◌, ◌<◌, ◌≤◌, ◌+◌, ◌-◌, ◌/◌, ◌⊎◌, ℕ, zero, suc, Bool, true, false, cond, List, [], ◌∷◌, ◌++◌, length, Option, Some, None, refl, sym, ap, subst, ◌∙◌, inl, inr, arith}
+use Rattle.std.specs.Prelude.{◌==◌, ◌&&◌, not, map, drop, nat_le}
+use Rattle.std.specs.List.{AllByRecursion, flat_map}
+use Rattle.std.proofs.lemmas.Bool.{leb-true}
+use Rattle.byte_format.specs.Format.{greatest, in_range, list_fits}
+use Rattle.byte_format.specs.Order.{bytes_below, below_bound}
+use Rattle.node_codec.specs.Inner.{Inner, inner_of}
+use Rattle.node_codec.specs.Node.{Entry, entry, may_stand, follows, with_entry}
+use Rattle.split_plan.specs.declared.entry_list.NewEntry.{NewEntry}
+use Rattle.split_plan.specs.Cut.{IsCut, IsNewPart, BeginAs, first_key_of}
+use Rattle.split_plan.specs.Part.{Part, entry_key, part_of_node}
+use Rattle.split_plan.specs.Plan.{entry_of, on_pages, node_bytes}
+use Rattle.split_plan.specs.Sizes.{count_of, sizes_of, cuts_of, CanCut}
+use Rattle.split_plan.proofs.Counting.{can-cuts, cuts-and-last}
+use Rattle.tree_parts.specs.declared.link.Link.{Link}
+use Rattle.tree_parts.specs.declared.placing.Placing.{Placing}
+use Rattle.tree_parts.specs.Kept.{links_at}
+use Rattle.tree_rising.specs.Nodes.{goes_to, with_links}
+use Rattle.node_codec.specs.Tree.{Tree}
+use Rattle.tree_ckpt.specs.Working.{IsAmong, PutsPieces, linked_node, HoldsLow}
+use Rattle.tree_ckpt.proofs.Entries.{among_front, among_back, entry_at, with_from}
+use Rattle.tree_ckpt.proofs.Nodes.{AreFrom, and_both}
+use Rattle.tree_ckpt.proofs.Roots.{entries_short}
+use Rattle.tree_ckpt.proofs.Sound.{IsSound, node_sound}
+
+-- ---- no piece is empty
+
+abbrev AreSome : List ℕ → Type 0
+AreSome ns = AllByRecursion (λ n. 1 ≤ n) ns
+
+cuts_some : (sizes : List ℕ) (last len : ℕ) → CanCut sizes last len → 1 ≤ len → AreSome (sizes ++ last ∷ [])
+cuts_some [] last len h some = (omega (arith, h, some), tt)
+cuts_some (n ∷ sizes) last len h some = (h.0, cuts_some sizes last (len - n) h.2 (omega (arith, h.1)))
+
+sizes_some : (len : ℕ) → 1 ≤ len → AreSome (sizes_of len)
+sizes_some len some = subst AreSome (cuts-and-last len) (cuts_some (cuts_of len) (len / count_of len) len (can-cuts len) some)
+
+-- ---- a piece begins with one of its items
+
+first_among : {A : Type 0} (key : A → List ℕ) (xs : List A) → 1 ≤ length xs → (x : A) × IsAmong x xs × (first_key_of key xs ≡ key x)
+first_among key [] some = absurd (omega (arith, some))
+first_among key (x ∷ xs) some = (x, inl refl, refl)
+
+piece_low : {A X : Type 0} (key : A → List ℕ) (e : NewEntry) (page free : ℕ) (ps : List (Part A X)) → IsAmong e (map entry_of (on_pages page free ps))
+    → AllByRecursion (λ (p : Part A X). IsNewPart key p) ps → AreSome (map (λ (p : Part A X). length p.items) ps)
+    → (x : A) × IsAmong x (flat_map (λ (p : Part A X). p.items) ps) × (e.low ≡ key x)
+piece_low key e page free [] h new some = absurd h
+piece_low {A} {X} key e page free (p ∷ ps) (inl same) new some =
+    let first = first_among key p.items some.0 in (
+      first.0,
+      among_front first.0 p.items (flat_map (λ (q : Part A X). q.items) ps) first.1,
+      ap (λ (y : NewEntry). y.low) (sym same) ∙ (new.0.low ∙ first.2),
+    )
+piece_low {A} {X} key e page free (p ∷ ps) (inr h) new some =
+    let rest = piece_low key e free (free + 1) ps h new.1 some.1 in
+    (rest.0, among_back rest.0 p.items (flat_map (λ (q : Part A X). q.items) ps) rest.1, rest.2)
+
+module _ {A X : Type 0} (key : A → List ℕ) (first : ℕ) (whole : Part A X) where
+  new_low : (page : ℕ) (e : NewEntry) (ps : List (Part A X)) → IsCut key first whole ps → IsAmong e (drop 1 (map entry_of (on_pages page first ps)))
+      → (x : A) × IsAmong x whole.items × (e.low ≡ key x)
+  new_low page e [] cut h = absurd h
+  new_low page e (p ∷ ps) cut h = on (length whole.items) cut.sizes where
+    found : AreSome (map (λ (q : Part A X). length q.items) (p ∷ ps)) → (x : A) × IsAmong x whole.items × (e.low ≡ key x)
+    found some =
+        let low = piece_low key e first (first + 1) ps h cut.begins.2 some.1 in
+        (low.0, subst (λ (xs : List A). IsAmong low.0 xs) cut.items (among_back low.0 p.items (flat_map (λ (q : Part A X). q.items) ps) low.1), low.2)
+
+    alone : (ms : List ℕ) → length p.items ∷ ms ≡ 0 ∷ [] → ms ≡ []
+    alone ms e = ap (λ (ns : List ℕ). drop 1 ns) e
+
+    nothing : (qs : List (Part A X)) → map (λ (q : Part A X). length q.items) qs ≡ [] → IsAmong e (map entry_of (on_pages first (first + 1) qs)) → (x : A) × IsAmong x whole.items × (e.low ≡ key x)
+    nothing [] none g = absurd g
+    nothing (q ∷ qs) none g = absurd (cc (none))
+
+    on : (len : ℕ) → map (λ (q : Part A X). length q.items) (p ∷ ps) ≡ sizes_of len → (x : A) × IsAmong x whole.items × (e.low ≡ key x)
+    on zero sizes = nothing ps (alone (map (λ (q : Part A X). length q.items) ps) sizes) h
+    on (suc n) sizes = found (subst AreSome (sym sizes) (sizes_some (suc n) (omega arith)))
+
+-- ---- the entries of a node lie in its range
+
+entries_within : (low : List ℕ) (high : Option (List ℕ)) (last : ℕ) (may_end : Bool) (before : Option Entry) (es : List Entry) → list_fits may_end (entry low high last) before es ≡ true
+    → AllByRecursion (λ (e : Entry). below_bound e.0 high ≡ true) es
+entries_within low high last may_end before [] h = tt
+entries_within low high last may_end before (e ∷ es) h =
+    let parts = and_both ((entry low high last before).fits e) (list_fits true (entry low high last) (Some e) es) h in
+    let own = and_both (in_range 0 64 (length e.0) && may_stand low high before e.0) _ parts.0 in
+    let text = and_both (in_range 0 64 (length e.0)) (may_stand low high before e.0) own.0 in
+    (on (follows low before e.0) text.1, entries_within low high last true (Some e) es parts.1) where
+      on : (b : Bool) → cond b (below_bound e.0 high) false ≡ true → below_bound e.0 high ≡ true
+      on true g = g
+      on false g = absurd (cc (g))
+
+among_all : {A : Type 0} (P : A → Type 0) (x : A) (xs : List A) → AllByRecursion P xs → IsAmong x xs → P x
+among_all P x [] all h = absurd h
+among_all P x (y ∷ ys) all (inl e) = subst P e all.0
+among_all P x (y ∷ ys) all (inr h) = among_all P x ys all.1 h
+
+own_holds : (n : Inner) (e : Entry) → IsSound n → IsAmong e n.entries → HoldsLow n e.0
+own_holds n e k h = record {
+  short = among_all (λ (x : Entry). length x.0 ≤ 64) e n.entries (entries_short n.low n.high greatest false None n.entries k.fits) h;
+  from = among_all (λ (x : Entry). bytes_below x.0 n.low ≡ false) e n.entries k.entries h;
+  to = among_all (λ (x : Entry). below_bound x.0 n.high ≡ true) e n.entries (entries_within n.low n.high greatest false None n.entries k.fits) h;
+}
+
+goes_holds : (n : Inner) (l : Link) → goes_to n l ≡ true → HoldsLow n l.low
+goes_holds n l h =
+    let a = and_both (l.level == n.level) (nat_le (length l.low) 64 && (not (bytes_below l.low n.low) && below_bound l.low n.high)) h in
+    let b = and_both (nat_le (length l.low) 64) (not (bytes_below l.low n.low) && below_bound l.low n.high) a.1 in
+    let c = and_both (not (bytes_below l.low n.low)) (below_bound l.low n.high) b.1 in
+    record { short = leb-true (length l.low) 64 b.0; from = turned (bytes_below l.low n.low) c.0; to = c.1 } where
+      turned : (b : Bool) → not b ≡ true → b ≡ false
+      turned true e = absurd (cc (e))
+      turned false e = refl
+
+linked_holds : (n : Inner) (ls : List Link) (e : Entry) (es : List Entry) → ((x : Entry) → IsAmong x es → HoldsLow n x.0) → IsAmong e (with_links n ls es) → HoldsLow n e.0
+linked_holds n [] e es each h = each e h
+linked_holds n (l ∷ ls) e es each h = linked_holds n ls e (cond (goes_to n l) (with_entry l.low l.page es) es) (λ x g. on (goes_to n l) refl x g) h where
+  new : goes_to n l ≡ true → (x : Entry) → IsAmong x es ⊎ (entry_at l.low l.page ≡ x) → HoldsLow n x.0
+  new goes x (inl g) = each x g
+  new goes x (inr same) = subst (λ (y : Entry). HoldsLow n y.0) same (goes_holds n l goes)
+
+  on : (b : Bool) → goes_to n l ≡ b → (x : Entry) → IsAmong x (cond b (with_entry l.low l.page es) es) → HoldsLow n x.0
+  on true goes x g = new goes x (with_from x l.low l.page es g)
+  on false goes x g = each x g
+
+low_of : (level : ℕ) (l : Link) (es : List NewEntry) → IsAmong l (links_at level es) → (e : NewEntry) × IsAmong e es × (l.low ≡ e.low)
+low_of level l [] h = absurd h
+low_of level l (e ∷ es) (inl same) = (e, inl refl, ap (λ (m : Link). m.low) (sym same))
+low_of level l (e ∷ es) (inr h) = let rest = low_of level l es h in (rest.0, inr rest.1, rest.2)
+
+pub node_piece_holds : (root : Tree) (page : ℕ) (bytes : List ℕ) (n : Inner) (ls : List Link) (placing : Placing) (entries : List NewEntry) (level : ℕ) (l : Link)
+    → inner_of bytes ≡ Some n → PutsPieces entry_key node_bytes root page (part_of_node (linked_node n ls)) placing entries → IsAmong l (links_at level entries) → HoldsLow n l.low
+node_piece_holds root page bytes n ls placing entries level l spelt put h =
+    let e = low_of level l entries h in
+    let x = new_low entry_key put.first (part_of_node (linked_node n ls)) page e.0 put.pieces put.cut (subst (λ (es : List NewEntry). IsAmong e.0 es) put.entries e.1) in
+    subst (HoldsLow n) (sym (e.2 ∙ x.2)) (linked_holds n ls x.0 n.entries (λ y g. own_holds n y (node_sound bytes n spelt) g) x.1)

@@ -2,6 +2,7 @@
 use Rattle.std.proofs.Common.{◌≡◌, ◌<◌, ◌≤◌, ◌+◌, ◌-◌, ◌⊎◌, ℕ, Bool, true, false, List, [], ◌∷◌, ◌++◌, length, Option, Some, None, refl, sym, ap, subst, ◌∙◌, inl, inr, arith}
 use Rattle.std.specs.Prelude.{map, drop}
 use Rattle.db_base.specs.declared.names.ObjName.TheVariants as object
+use Rattle.leaf_view.specs.Lookup.{holds}
 use Rattle.node_codec.specs.Inner.{Inner, inner_of}
 use Rattle.node_codec.specs.Tree.{Tree}
 use Rattle.cloud_trait.specs.Claim.{Claim}
@@ -15,9 +16,9 @@ use Rattle.tree_parts.specs.Kept.{link_at, links_at}
 use Rattle.tree_parts.specs.Placing.{landed_root}
 use Rattle.tree_parts.specs.Read.{tree_held}
 use Rattle.tree_ckpt.specs.Causing.{Calls, WasGot}
-use Rattle.tree_ckpt.specs.Working.{IsAmong, PutsPieces, Outcome, Planned, Spared, Passed, Visit, AreVisits, IsLeft, placing_of, root_behind, links_from, links_behind, Climb, AreClimbs, root_above, links_above, IsFollowed, IsPieceOf, IsLeafPiece, IsNodePiece, Worked, last_root, last_links, looks_of, IsUnder, IsInRange, IsOfRoot, IsNamed, HasClimbed, HasRisen, HoldsLow, IsNamedAbove}
+use Rattle.tree_ckpt.specs.Working.{IsAmong, PutsPieces, Outcome, Planned, Spared, Passed, Visit, AreVisits, IsLeft, placing_of, root_behind, links_from, links_behind, Climb, AreClimbs, root_above, links_above, IsFollowed, IsPieceOf, IsLeafPiece, IsNodePiece, Worked, last_root, last_links, looks_of, IsUnder, IsInRange, IsOfRoot, IsNamed, HasClimbed, HasRisen, HoldsLow, HoldsLeaf, IsNamedAbove}
 use Rattle.tree_ckpt.proofs.Entries.{among_front, among_back}
-use Rattle.tree_ckpt.proofs.Inside.{node_piece_holds}
+use Rattle.tree_ckpt.proofs.Inside.{node_piece_holds, leaf_piece_holds}
 use Rattle.tree_ckpt.proofs.Roots.{held_after}
 
 -- ---- what is known
@@ -161,3 +162,18 @@ climb_holds tree cs root links (x ∷ us) u l are (inl same) g =
       are.3.1,
       node_piece_holds (tree_held (root_above root us)) x.node.page x.node.bytes are.3.0 (links_above links us) x.plan.placing x.plan.entries (x.node.level + 1) l are.3.1 are.3.2 k,
     )) g
+
+-- and that of a piece of a leaf lies in the leaf's
+visit_holds : (run : Taken) (v : Visit) (l : Link) (outcome : Outcome) (held : Option (List ℕ)) → HoldsLeaf v.page v.leaf v.got → IsLeft run held v.page v.leaf outcome
+    → IsPieceOf l outcome → holds v.leaf l.low ≡ true
+visit_holds run v l (Planned plan) held is h g = leaf_piece_holds (tree_held held) v.page v.leaf v.got run.items plan 1 l is h.1 g
+visit_holds run v l Spared held is h g = absurd g
+visit_holds run v l (Passed link) held is h g = absurd g
+
+pub leaf_holds : (tree : ℕ) (one : Claim) (run : Taken) (got : Option (List ℕ)) (vs : List Visit) (v : Visit) (l : Link) → AreVisits tree one run got vs → IsAmong v vs
+    → IsPieceOf l v.outcome → holds v.leaf l.low ≡ true
+leaf_holds tree one run got [] v l are h g = absurd h
+leaf_holds tree one run got (x ∷ vs) v l are (inr h) g = leaf_holds tree one run got vs v l are.1 h g
+leaf_holds tree one run got (x ∷ vs) v l are (inl same) g =
+    subst (λ (y : Visit). IsPieceOf l y.outcome → holds y.leaf l.low ≡ true) same
+    (λ k. visit_holds run x l x.outcome (root_behind got vs) are.0.holds are.0.left k) g

@@ -41,7 +41,7 @@ use Rattle.tree_ckpt.proofs.Pieces.{node_puts, root_puts}
 use Rattle.tree_ckpt.proofs.Rises.{IsRising, kept_at}
 use Rattle.tree_ckpt.proofs.Tours.{AreNoted, RestsAt, put_in_turn, none_left}
 use Rattle.tree_ckpt.proofs.Named.{climbs_name, known_touches}
-use Rattle.tree_ckpt.proofs.Above.{right_known, new_known, new_page, named_above, climb_holds}
+use Rattle.tree_ckpt.proofs.Above.{right_known, new_known, new_page, named_above, climb_holds, leaf_holds}
 use Rattle.tree_ckpt.proofs.Under.{visits_level, climbs_level, followed_under, leaves_under, nodes_under}
 use Rattle.tree_ckpt.proofs.Entries.{root_names}
 use Rattle.tree_ckpt.proofs.Whole.{IsPlacedIn, PlacedTo, AllFrom, from_later, from_there, rising_from, none_placed, placed_next, placed_there, all_placed, noted_put}
@@ -329,6 +329,7 @@ module _ (lease : Claim) (r : Rising) (o : Opening) (work : Calls) (k : Climbs l
             new_page r.chart.tree lease r.chart.run o.got (visits_over r.chart.tree lease k.ups.visits []) (links_behind k.ups.visits) k.ups.visits k.ups.climbs l k.ups.are
                 k.ups.climbed h,
           );
+          inside_leaf = λ v l h g. leaf_holds r.chart.tree lease r.chart.run o.got k.ups.visits v l k.ups.are h g;
           inside = λ u l h g.
               climb_holds r.chart.tree (visits_over r.chart.tree lease k.ups.visits []) (root_behind o.got k.ups.visits) (links_behind k.ups.visits) k.ups.climbs u l k.ups.climbed h g;
           under = λ v h. leaves_under r.chart.tree lease r.chart.run o.got root same_level k.ups.visits v k.ups.are h;

@@ -28,7 +28,7 @@ number_fits w least most bytes y e =
     let g = guard_read (in_range least most b.0.0) bytes b.0 y b.2 in
     subst (λ (n : ℕ × List ℕ). in_range least most n.0 ≡ true) g.1 g.0
 
-text_fits : (w : Width) (least most : ℕ) → ReadsFit (text w least most)
+pub text_fits : (w : Width) (least most : ℕ) → ReadsFit (text w least most)
 unfolding text_at
 text_fits w least most bytes y e =
     let b = bound (number_at w least most bytes) (λ (n : ℕ × List ℕ). guarded (nat_le n.0 (length n.1)) bytes (take n.0 n.1, drop n.0 n.1)) y e in
@@ -37,12 +37,12 @@ text_fits w least most bytes y e =
     let whole : length (take b.0.0 b.0.1) ≡ b.0.0 = length-take-le b.0.0 b.0.1 (leb-true b.0.0 (length b.0.1) g.0) in
     subst (λ (x : List ℕ × List ℕ). in_range least most (length x.0) ≡ true) g.1 (ap (in_range least most) whole ∙ n)
 
-ruled_fits : {A : Type 0} (rule : A → Bool) (f : Format A) → ReadsFit f → ReadsFit (ruled rule f)
+pub ruled_fits : {A : Type 0} (rule : A → Bool) (f : Format A) → ReadsFit f → ReadsFit (ruled rule f)
 ruled_fits rule f h bytes y e =
     let r = ruled_read rule f bytes y e in
     and_from (f.fits y.0) (rule y.0) (h bytes y r.0) r.1
 
-then_fits : {A B : Type 0} (f : Format A) (g : A → Format B) → ReadsFit f → ((a : A) → ReadsFit (g a)) → ReadsFit (f then g)
+pub then_fits : {A B : Type 0} (f : Format A) (g : A → Format B) → ReadsFit f → ((a : A) → ReadsFit (g a)) → ReadsFit (f then g)
 then_fits f g h k bytes y e =
     let t = then_read f g bytes y e in
     and_from (f.fits y.0.0) ((g y.0.0).fits y.0.1) (h bytes (y.0.0, t.0) t.1) (k y.0.0 t.0 (y.0.1, y.1) t.2)
@@ -50,7 +50,7 @@ then_fits f g h k bytes y e =
 behind_fits : {A : Type 0} (mark : ℕ) (f : Format A) → ReadsFit f → ReadsFit (behind mark f)
 behind_fits mark f h bytes y e = let b = behind_read mark f bytes y e in h b.0 y b.1
 
-seen_fits : {A B : Type 0} (view : A → B) (back : B → A) (f : Format A) → ((x : A) → back (view x) ≡ x) → ReadsFit f → ReadsFit (seen_as view back f)
+pub seen_fits : {A B : Type 0} (view : A → B) (back : B → A) (f : Format A) → ((x : A) → back (view x) ≡ x) → ReadsFit f → ReadsFit (seen_as view back f)
 seen_fits {A} {B} view back f again h bytes y e =
     let s = seen_read view back f bytes y e in
     subst (λ (x : B). f.fits (back x) ≡ true) s.2 (ap f.fits (again s.0.0) ∙ h bytes s.0 s.1)
@@ -88,7 +88,7 @@ items_fit {A} item each (suc room) may_end before bytes y e =
           (and_from ((item before).fits first.0.0) (list_fits true item (Some first.0.0) second.0.0) (each before then_on first.0 first.1)
           (rest (Some first.0.0) first.0.1 second.0 second.1))
 
-list_of_fits : {A : Type 0} (may_end : Bool) (item : Option A → Format A) (before : Option A) → ((b : Option A) → ReadsFit (item b)) → ReadsFit (list_of may_end item before)
+pub list_of_fits : {A : Type 0} (may_end : Bool) (item : Option A → Format A) (before : Option A) → ((b : Option A) → ReadsFit (item b)) → ReadsFit (list_of may_end item before)
 unfolding list_at
 list_of_fits may_end item before each bytes y e = items_fit item each (suc (length bytes)) may_end before bytes y e
 

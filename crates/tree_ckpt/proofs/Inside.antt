@@ -1,15 +1,28 @@
--- The low key of a new piece of an inner node lies in the node's range.
-use Rattle.std.proofs.Common.{◌≡◌, ◌<◌, ◌≤◌, ◌+◌, ◌-◌, ◌/◌, ◌⊎◌, ℕ, zero, suc, Bool, true, false, cond, List, [], ◌∷◌, ◌++◌, length, Option, Some, None, refl, sym, ap, subst, ◌∙◌, inl, inr, arith}
+-- The low key of a new piece of a leaf or an inner node lies in its range.
+use Rattle.std.proofs.Common.{◌≡◌, ◌<◌, ◌≤◌, ◌+◌, ◌-◌, ◌/◌, ◌⊎◌, ℕ, zero, suc, Bool, true, false, cond, List, [], ◌∷◌, ◌++◌, length, Option, Some, None, Ok, refl, sym, ap, subst, ◌∙◌, inl, inr, arith}
 use Rattle.std.specs.Prelude.{◌==◌, ◌&&◌, not, map, drop, nat_le}
+use Rattle.std.specs.Int.{w8, w16}
 use Rattle.std.specs.List.{AllByRecursion, flat_map}
 use Rattle.std.proofs.lemmas.Bool.{leb-true}
-use Rattle.byte_format.specs.Format.{greatest, in_range, list_fits}
+use Rattle.byte_format.specs.Format.{greatest, in_range, list_fits, list_of, ruled, text, ◌then◌}
 use Rattle.byte_format.specs.Order.{bytes_below, below_bound}
+use Rattle.byte_format.specs.Whole.{whole}
+use Rattle.db_base.specs.Change.{key_of}
+use Rattle.leaf_view.specs.Leaf.{Leaf, leaf, leaf_head, leaf_of, leaf_parts, done_item, record_item, key_stands}
+use Rattle.leaf_view.specs.Leaf.{Entry as Rec, entry_of as record_of, entry_parts as record_parts}
+use Rattle.leaf_view.specs.Fits.{IsEntryIn}
+use Rattle.leaf_view.specs.Lookup.{holds}
+use Rattle.leaf_view.proofs.Split.{records_fit}
+use Rattle.leaf_edit.specs.Applied.{applied}
+use Rattle.leaf_edit.specs.Lacked.{is_lacked, lacked}
+use Rattle.leaf_edit.proofs.Edits.{Sets, edited_by-all}
+use Rattle.log_codec.specs.declared.record.PuItem.{PuItem}
+use Rattle.leaf_fold.specs.declared.plan.LeafPlan.{LeafPlan}
 use Rattle.node_codec.specs.Inner.{Inner, inner_of}
 use Rattle.node_codec.specs.Node.{Entry, entry, may_stand, follows, with_entry}
 use Rattle.split_plan.specs.declared.entry_list.NewEntry.{NewEntry}
 use Rattle.split_plan.specs.Cut.{IsCut, IsNewPart, BeginAs, first_key_of}
-use Rattle.split_plan.specs.Part.{Part, entry_key, part_of_node}
+use Rattle.split_plan.specs.Part.{Part, entry_key, record_key, part_of_leaf, part_of_node}
 use Rattle.split_plan.specs.Plan.{entry_of, on_pages, node_bytes}
 use Rattle.split_plan.specs.Sizes.{count_of, sizes_of, cuts_of, CanCut}
 use Rattle.split_plan.proofs.Counting.{can-cuts, cuts-and-last}
@@ -18,7 +31,9 @@ use Rattle.tree_parts.specs.declared.placing.Placing.{Placing}
 use Rattle.tree_parts.specs.Kept.{links_at}
 use Rattle.tree_rising.specs.Nodes.{goes_to, with_links}
 use Rattle.node_codec.specs.Tree.{Tree}
-use Rattle.tree_ckpt.specs.Working.{IsAmong, PutsPieces, linked_node, HoldsLow}
+use Rattle.tree_ckpt.specs.Working.{IsAmong, PutsPieces, PutsLeaf, HoldsLeaf, linked_node, HoldsLow}
+use Rattle.tree_ckpt.proofs.Fences.{seen_read, then_read, whole_read}
+use Rattle.tree_ckpt.proofs.Fits.{ReadsFit, text_fits, ruled_fits, then_fits, seen_fits, list_of_fits}
 use Rattle.tree_ckpt.proofs.Entries.{among_front, among_back, entry_at, with_from}
 use Rattle.tree_ckpt.proofs.Nodes.{AreFrom, and_both}
 use Rattle.tree_ckpt.proofs.Roots.{entries_short}
@@ -135,3 +150,67 @@ node_piece_holds root page bytes n ls placing entries level l spelt put h =
     let e = low_of level l entries h in
     let x = new_low entry_key put.first (part_of_node (linked_node n ls)) page e.0 put.pieces put.cut (subst (λ (es : List NewEntry). IsAmong e.0 es) put.entries e.1) in
     subst (HoldsLow n) (sym (e.2 ∙ x.2)) (linked_holds n ls x.0 n.entries (λ y g. own_holds n y (node_sound bytes n spelt) g) x.1)
+
+-- ---- a leaf
+
+-- a record's key is from a low key on and below a bound
+abbrev KeyWithin : List ℕ → Option (List ℕ) → Rec → Type 0
+KeyWithin low high e = (bytes_below e.key low ≡ false) × (below_bound e.key high ≡ true)
+
+turned_false : (b : Bool) → not b ≡ true → b ≡ false
+turned_false true e = absurd (cc (e))
+turned_false false e = refl
+
+record_fits : (low : List ℕ) (high : Option (List ℕ)) (before : Option Rec) → ReadsFit (record_item low high before)
+unfolding record_item
+record_fits low high before =
+    seen_fits record_of record_parts (ruled (key_stands low high before) (text w8 1 64) then λ (key : List ℕ). text w16 0 1024) (λ x. refl)
+    (then_fits (ruled (key_stands low high before) (text w8 1 64)) (λ (key : List ℕ). text w16 0 1024)
+    (ruled_fits (key_stands low high before) (text w8 1 64) (text_fits w8 1 64)) (λ key. text_fits w16 0 1024))
+
+within_all : (low : List ℕ) (high : Option (List ℕ)) (es : List Rec) → AllByRecursion (IsEntryIn low high) es → AllByRecursion (KeyWithin low high) es
+within_all low high [] h = tt
+within_all low high (e ∷ es) h = ((turned_false (bytes_below e.key low) h.0.from_low, h.0.to_high), within_all low high es h.1)
+
+read_within : (bytes : List ℕ) (l : Leaf) → whole leaf bytes ≡ Ok l → AllByRecursion (KeyWithin l.low l.high) l.records
+unfolding leaf
+read_within bytes l e =
+    let w = whole_read leaf bytes l e in
+    let s = seen_read leaf_of leaf_parts (leaf_head then λ head. list_of true done_item None then λ done. list_of true (record_item head.low head.high) None) bytes w.0 w.1 in
+    let t = then_read leaf_head (λ head. list_of true done_item None then λ done. list_of true (record_item head.low head.high) None) bytes s.0 s.1 in
+    let low : List ℕ = s.0.0.0.low in
+    let high : Option (List ℕ) = s.0.0.0.high in
+    let d = then_read (list_of true done_item None) (λ done. list_of true (record_item low high) None) t.0 (s.0.0.1, s.0.1) t.2 in
+    let fit : list_fits true (record_item low high) None s.0.0.1.1 ≡ true = list_of_fits true (record_item low high) None (record_fits low high) d.0 (s.0.0.1.1, s.0.1) d.2 in
+    let all : AllByRecursion (KeyWithin low high) s.0.0.1.1 = within_all low high s.0.0.1.1 (records_fit low high None s.0.0.1.1 fit).0 in
+    let read : AllByRecursion (KeyWithin w.0.0.low w.0.0.high) w.0.0.records = subst (λ (k : Leaf). AllByRecursion (KeyWithin k.low k.high) k.records) s.2 all in
+    subst (λ (k : Leaf). AllByRecursion (KeyWithin k.low k.high) k.records) w.2 read
+
+held_within : (page : ℕ) (l : Leaf) (got : Option (List ℕ)) → HoldsLeaf page l got → AllByRecursion (KeyWithin l.low l.high) l.records
+held_within page l (Some bytes) h = read_within bytes l h
+held_within page l None h = subst (λ (k : Leaf). AllByRecursion (KeyWithin k.low k.high) k.records) (sym h.1) tt
+
+lacked_within : (l : Leaf) (run : List PuItem) → AllByRecursion (Sets (KeyWithin l.low l.high)) (lacked l 0 run)
+lacked_within l [] = tt
+lacked_within l (x ∷ xs) = on (is_lacked l 0 x) refl (lacked_within l xs) where
+  here : is_lacked l 0 x ≡ true → Sets (KeyWithin l.low l.high) x
+  here e =
+      let p = and_both (holds l (key_of x.rec.change)) _ e in
+      let q = and_both (not (bytes_below (key_of x.rec.change) l.low)) (below_bound (key_of x.rec.change) l.high) p.0 in
+      (turned_false (bytes_below (key_of x.rec.change) l.low) q.0, q.1)
+
+  on : (b : Bool) → is_lacked l 0 x ≡ b → AllByRecursion (Sets (KeyWithin l.low l.high)) (lacked l 0 xs)
+      → AllByRecursion (Sets (KeyWithin l.low l.high)) (cond b (x ∷ lacked l 0 xs) (lacked l 0 xs))
+  on true e again = (here e, again)
+  on false e again = again
+
+-- the low key of a new piece of a leaf lies in the leaf's range
+pub leaf_piece_holds : (root : Tree) (page : ℕ) (l : Leaf) (got : Option (List ℕ)) (run : List PuItem) (p : LeafPlan) (level : ℕ) (m : Link) → HoldsLeaf page l got
+    → PutsLeaf root page l run p → IsAmong m (links_at level p.entries) → holds l m.low ≡ true
+leaf_piece_holds root page l got run p level m holding put h =
+    let e = low_of level m p.entries h in
+    let x = new_low record_key put.first (part_of_leaf (applied l 0 run)) page e.0 put.pieces put.cut (subst (λ (es : List NewEntry). IsAmong e.0 es) put.entries e.1) in
+    let all : AllByRecursion (KeyWithin l.low l.high) (applied l 0 run).records =
+    edited_by-all (KeyWithin l.low l.high) l.records (lacked l 0 run) (lacked_within l run) (held_within page l got holding) in
+    let within : KeyWithin l.low l.high x.0 = among_all (KeyWithin l.low l.high) x.0 (applied l 0 run).records all x.1 in
+    ap (holds l) (e.2 ∙ x.2) ∙ (ap (λ (b : Bool). not b && below_bound x.0.key l.high) within.0 ∙ within.1)

@@ -454,8 +454,8 @@ IsNamedAbove tree got w l =
 -- that was put, or lacked nothing. An inner node that was got is put where a link that is known goes to it. So each link that is known, to a new piece or
 -- to a page on the right, is named by what was put for a node of its level that was got and has its low key in its range (`named`), or by the tree object
 -- where it is of its level (`named_last`). One of the two has each page that was come to by a right link (`rights`). The page of a new piece was reserved
--- (`reserved`), that of an inner node has its low key in the node's range (`inside`), and the leaf or node that it is cut from lies itself under such a
--- node or the tree object (`under`, `under_nodes`).
+-- (`reserved`), its low key lies in the range of the leaf or node that it is cut from (`inside_leaf`, `inside`), and that lies itself under such a node or
+-- the tree object (`under`, `under_nodes`).
 pub record IsWorked (tree : ℕ) (one : Claim) (run : Taken) (got : Option (List ℕ)) (w : Worked) : Type 0 where
   pub visits : AreVisits tree one run got w.visits
   pub covers : AllByRecursion (λ x. IsHandled (key_of x.rec.change) w.visits) run.items
@@ -468,6 +468,7 @@ pub record IsWorked (tree : ℕ) (one : Claim) (run : Taken) (got : Option (List
       → IsNamed (HasRisen l.level w.last) (last_root got w).entries (last_links w) l
   pub rights : (l : Link) → IsFollowed l w.visits → IsNamedAbove tree got w l
   pub reserved : (l : Link) → IsLeafPiece l w.visits ⊎ IsNodePiece l w.climbs → IsAmong l (last_links w) × (l.page < (last_root got w).next)
+  pub inside_leaf : (v : Visit) (l : Link) → IsAmong v w.visits → IsPieceOf l v.outcome → holds v.leaf l.low ≡ true
   pub inside : (u : Climb) (l : Link) → IsAmong u w.climbs → IsAmong l (links_at (u.node.level + 1) u.plan.entries)
       → (n : Inner) × (inner_of u.node.bytes ≡ Some n) × HoldsLow n l.low
   pub under : (v : Visit) → IsAmong v w.visits → IsUnder tree (last_root got w) (looks_of w.visits) (link_to (leaf_place v.leaf.low v.page))

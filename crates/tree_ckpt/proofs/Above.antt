@@ -1,6 +1,9 @@
 -- Each page that was come to by a right link is named above, and the pages of new pieces were reserved.
 use Rattle.std.proofs.Common.{◌≡◌, ◌<◌, ◌≤◌, ◌+◌, ◌-◌, ◌⊎◌, ℕ, Bool, true, false, List, [], ◌∷◌, ◌++◌, length, Option, Some, None, refl, sym, ap, subst, ◌∙◌, inl, inr, arith}
-use Rattle.std.specs.Prelude.{map, drop}
+use Rattle.std.specs.Prelude.{◌&&◌, not, map, drop}
+use Rattle.byte_format.specs.Order.{bytes_below, below_bound}
+use Rattle.leaf_view.specs.Leaf.{Leaf}
+use Rattle.leaf_edit.proofs.InOrder.{below_upto}
 use Rattle.db_base.specs.declared.names.ObjName.TheVariants as object
 use Rattle.leaf_view.specs.Lookup.{holds}
 use Rattle.node_codec.specs.Inner.{Inner, inner_of}
@@ -16,9 +19,11 @@ use Rattle.tree_parts.specs.Kept.{link_at, links_at}
 use Rattle.tree_parts.specs.Placing.{landed_root}
 use Rattle.tree_parts.specs.Read.{tree_held}
 use Rattle.tree_ckpt.specs.Causing.{Calls, WasGot}
-use Rattle.tree_ckpt.specs.Working.{IsAmong, PutsPieces, Outcome, Planned, Spared, Passed, Visit, AreVisits, IsLeft, placing_of, root_behind, links_from, links_behind, Climb, AreClimbs, root_above, links_above, IsFollowed, IsPieceOf, IsLeafPiece, IsNodePiece, Worked, last_root, last_links, looks_of, IsUnder, IsInRange, IsOfRoot, IsNamed, HasClimbed, HasRisen, HoldsLow, HoldsLeaf, IsNamedAbove}
+use Rattle.tree_ckpt.specs.Working.{IsAmong, PutsPieces, Outcome, Planned, Spared, Passed, Visit, AreVisits, IsLeft, placing_of, root_behind, links_from, links_behind, Climb, AreClimbs, root_above, links_above, IsFollowed, IsPieceOf, IsLeafPiece, IsNodePiece, Worked, last_root, last_links, looks_of, IsUnder, IsInRange, IsOfRoot, IsNamed, HasClimbed, HasRisen, HoldsLow, HoldsLeaf, HasLevel, IsNamedAbove, IsNewNamed, leaf_place, node_place, link_to, visits_over}
 use Rattle.tree_ckpt.proofs.Entries.{among_front, among_back}
 use Rattle.tree_ckpt.proofs.Inside.{node_piece_holds, leaf_piece_holds}
+use Rattle.tree_ckpt.proofs.Named.{level_of, same_node}
+use Rattle.tree_ckpt.proofs.Under.{on_ways}
 use Rattle.tree_ckpt.proofs.Roots.{held_after}
 
 -- ---- what is known
@@ -177,3 +182,86 @@ leaf_holds tree one run got (x ∷ vs) v l are (inr h) g = leaf_holds tree one r
 leaf_holds tree one run got (x ∷ vs) v l are (inl same) g =
     subst (λ (y : Visit). IsPieceOf l y.outcome → holds y.leaf l.low ≡ true) same
     (λ k. visit_holds run x l x.outcome (root_behind got vs) are.0.holds are.0.left k) g
+
+-- ---- new pieces are named above
+
+not_under_either : (low base from : List ℕ) → bytes_below low base ≡ false → bytes_below base from ≡ false → bytes_below low from ≡ false
+not_under_either low base from h k = on (bytes_below low from) refl where
+  on : (b : Bool) → bytes_below low from ≡ b → bytes_below low from ≡ false
+  on false e = e
+  on true e = absurd (let other : bytes_below low base ≡ true = below_upto low from base e k in cc)
+
+-- where the page that they are cut from lies under the level above
+new_named : (tree : ℕ) (got : Option (List ℕ)) (w : Worked) (base l : Link) → IsUnder tree (last_root got w) (looks_of w.visits) base → l.level ≡ base.level
+    → bytes_below l.low base.low ≡ false → l.page < (last_root got w).next
+    → ((page : ℕ) (bytes : List ℕ) (n : Inner) → WasGot (object.Page tree page) (Some bytes) (looks_of w.visits) → inner_of bytes ≡ Some n → IsInRange n l
+    → IsNamed (HasClimbed page l.level w.climbs) n.entries (last_links w) l)
+    → (IsOfRoot (last_root got w) l → IsNamed (HasRisen l.level w.last) (last_root got w).entries (last_links w) l) → IsNewNamed tree got w l
+new_named tree got w base l (inl h) level from page node root =
+    inl (level ∙ h.0, λ short. root (record { level = level ∙ h.0; short = short; page = page }))
+new_named tree got w base l (inr h) level from page node root =
+    let above : bytes_below l.low h.1.low ≡ false = not_under_either l.low base.low h.1.low from h.3.from in
+    inr (
+      h.0,
+      h.1,
+      h.2,
+      level ∙ h.3.level,
+      above,
+      λ short to. node h.0 h.2.0 h.1 h.2.2 h.2.1 (record { level = level ∙ h.3.level; short = short; from = above; to = to }),
+    )
+
+piece_level : (l : Link) (outcome : Outcome) → IsPieceOf l outcome → l.level ≡ 1
+piece_level l (Planned p) h = level_of 1 l p.entries h
+piece_level l Spared h = absurd h
+piece_level l (Passed link) h = absurd h
+
+cut_leaf : (l : Link) (vs : List Visit) → IsLeafPiece l vs → (v : Visit) × IsAmong v vs × IsPieceOf l v.outcome
+cut_leaf l [] h = absurd h
+cut_leaf l (v ∷ vs) (inl h) = (v, inl refl, h)
+cut_leaf l (v ∷ vs) (inr h) = let rest = cut_leaf l vs h in (rest.0, inr rest.1, rest.2)
+
+cut_node : (l : Link) (us : List Climb) → IsNodePiece l us → (u : Climb) × IsAmong u us × IsAmong l (links_at (u.node.level + 1) u.plan.entries)
+cut_node l [] h = absurd h
+cut_node l (u ∷ us) (inl h) = (u, inl refl, h)
+cut_node l (u ∷ us) (inr h) = let rest = cut_node l us h in (rest.0, inr rest.1, rest.2)
+
+climb_got : (tree : ℕ) (cs : Calls) (root : Option (List ℕ)) (links : List Link) (us : List Climb) (u : Climb) → AreClimbs tree cs root links us → IsAmong u us
+    → WasGot (object.Page tree u.node.page) (Some u.node.bytes) cs × HasLevel u.node
+climb_got tree cs root links [] u are h = absurd h
+climb_got tree cs root links (x ∷ us) u are (inr h) = climb_got tree cs root links us u are.4 h
+climb_got tree cs root links (x ∷ us) u are (inl same) =
+    subst (λ (y : Climb). WasGot (object.Page tree y.node.page) (Some y.node.bytes) cs × HasLevel y.node) same (are.0, are.1)
+
+held_low : (l : Leaf) (low : List ℕ) → holds l low ≡ true → bytes_below low l.low ≡ false
+held_low l low h = on (bytes_below low l.low) refl h where
+  on : (b : Bool) → bytes_below low l.low ≡ b → (not b && below_bound low l.high) ≡ true → bytes_below low l.low ≡ false
+  on false e g = e
+  on true e g = absurd (cc (g))
+
+module _ (tree : ℕ) (one : Claim) (run : Taken) (got : Option (List ℕ)) (w : Worked) (are : AreVisits tree one run got w.visits)
+    (climbs : AreClimbs tree (visits_over tree one w.visits []) (root_behind got w.visits) (links_behind w.visits) w.climbs)
+    (under : (v : Visit) → IsAmong v w.visits → IsUnder tree (last_root got w) (looks_of w.visits) (link_to (leaf_place v.leaf.low v.page)))
+    (under_nodes : (page : ℕ) (bytes : List ℕ) (n : Inner) → WasGot (object.Page tree page) (Some bytes) (looks_of w.visits) → inner_of bytes ≡ Some n
+    → IsUnder tree (last_root got w) (looks_of w.visits) (link_to (node_place page n))) (l : Link)
+    (named : (page : ℕ) (bytes : List ℕ) (n : Inner) → WasGot (object.Page tree page) (Some bytes) (looks_of w.visits) → inner_of bytes ≡ Some n → IsInRange n l
+    → IsNamed (HasClimbed page l.level w.climbs) n.entries (last_links w) l)
+    (named_last : IsOfRoot (last_root got w) l → IsNamed (HasRisen l.level w.last) (last_root got w).entries (last_links w) l) where
+  pub news_named : IsLeafPiece l w.visits ⊎ IsNodePiece l w.climbs → IsNewNamed tree got w l
+  news_named (inl h) =
+      let cut = cut_leaf l w.visits h in
+      new_named tree got w (link_to (leaf_place cut.0.leaf.low cut.0.page)) l (under cut.0 cut.1) (piece_level l cut.0.outcome cut.2)
+      (held_low cut.0.leaf l.low (leaf_holds tree one run got w.visits cut.0 l are cut.1 cut.2))
+      (new_page tree one run got (visits_over tree one w.visits []) (links_behind w.visits) w.visits w.climbs l are climbs (inl h)) named named_last
+  news_named (inr h) =
+      let cut = cut_node l w.climbs h in
+      let cs : Calls = visits_over tree one w.visits [] in
+      let node = climb_got tree cs (root_behind got w.visits) (links_behind w.visits) w.climbs cut.0 climbs cut.1 in
+      let n : Inner = node.1.0 in
+      let inside = climb_holds tree cs (root_behind got w.visits) (links_behind w.visits) w.climbs cut.0 l climbs cut.1 cut.2 in
+      let same : inside.0 ≡ n = same_node cut.0.node.bytes inside.0 n inside.1 node.1.1 in
+      let looked : WasGot (object.Page tree cut.0.node.page) (Some cut.0.node.bytes) (looks_of w.visits) =
+      on_ways tree one run got cut.0.node.page cut.0.node.bytes n w.visits are node.1.1 node.0 in
+      new_named tree got w (link_to (node_place cut.0.node.page n)) l (under_nodes cut.0.node.page cut.0.node.bytes n looked node.1.1)
+      (level_of (cut.0.node.level + 1) l cut.0.plan.entries cut.2 ∙ ap (λ (m : ℕ). m + 1) (sym node.1.2))
+      (subst (λ (m : Inner). bytes_below l.low m.low ≡ false) same inside.2.from)
+      (new_page tree one run got cs (links_behind w.visits) w.visits w.climbs l are climbs (inr h)) named named_last

@@ -32,7 +32,7 @@ use Rattle.tree_moves.specs.Moves.{next_key}
 use Rattle.tree_moves.specs.Work.{take_tree}
 use Rattle.tree_ckpt.specs.Causing.{Calls, WasGot}
 use Rattle.tree_ckpt.specs.Meaning.{Opening, opening_calls}
-use Rattle.tree_ckpt.specs.Working.{done_over, puts_of, Visit, visits_over, root_behind, links_behind, looks_of, AreVisits, lacked_on, Climb, climbs_over, root_above, links_above, AreClimbs, HasLevel, PutsNode, raised_root, PutsRoot, IsAmong, IsInRange, IsNamed, HasClimbed, HasRisen, IsOfRoot, IsPut, Worked, worked_calls, IsWorked}
+use Rattle.tree_ckpt.specs.Working.{done_over, puts_of, Visit, visits_over, root_behind, links_behind, looks_of, AreVisits, lacked_on, Climb, climbs_over, root_above, links_above, AreClimbs, HasLevel, PutsNode, raised_root, PutsRoot, IsAmong, IsUnder, link_to, leaf_place, node_place, IsInRange, IsNamed, HasClimbed, HasRisen, IsOfRoot, IsPut, Worked, worked_calls, IsWorked}
 use Rattle.tree_ckpt.proofs.Answers.{done_is}
 use Rattle.tree_ckpt.proofs.Brought.{IsKept, AreKept}
 use Rattle.tree_ckpt.proofs.Covers.{AreHandled, all_handled}
@@ -41,7 +41,7 @@ use Rattle.tree_ckpt.proofs.Pieces.{node_puts, root_puts}
 use Rattle.tree_ckpt.proofs.Rises.{IsRising, kept_at}
 use Rattle.tree_ckpt.proofs.Tours.{AreNoted, RestsAt, put_in_turn, none_left}
 use Rattle.tree_ckpt.proofs.Named.{climbs_name, known_touches}
-use Rattle.tree_ckpt.proofs.Above.{right_known, new_known, new_page, named_above, climb_holds, leaf_holds}
+use Rattle.tree_ckpt.proofs.Above.{right_known, new_known, new_page, named_above, climb_holds, leaf_holds, news_named}
 use Rattle.tree_ckpt.proofs.Under.{visits_level, climbs_level, followed_under, leaves_under, nodes_under}
 use Rattle.tree_ckpt.proofs.Entries.{root_names}
 use Rattle.tree_ckpt.proofs.Whole.{IsPlacedIn, PlacedTo, AllFrom, from_later, from_there, rising_from, none_placed, placed_next, placed_there, all_placed, noted_put}
@@ -312,6 +312,11 @@ module _ (lease : Claim) (r : Rising) (o : Opening) (work : Calls) (k : Climbs l
       k.ups.climbed (put page bytes n got e (known_touches n l links known range)) e range known in
       let named_last : (l : Link) → IsAmong l links → IsOfRoot root l → IsNamed (HasRisen l.level up.0) root.entries links l =
       λ l known is. root_names root links r.chart.run.top up.0 l (up.2 whole) is known in
+      let under : (v : Visit) → IsAmong v k.ups.visits → IsUnder r.chart.tree root (looks_of k.ups.visits) (link_to (leaf_place v.leaf.low v.page)) =
+      λ v h. leaves_under r.chart.tree lease r.chart.run o.got root same_level k.ups.visits v k.ups.are h in
+      let under_nodes : (page : ℕ) (bytes : List ℕ) (n : Inner) → WasGot (object.Page r.chart.tree page) (Some bytes) (looks_of k.ups.visits) → inner_of bytes ≡ Some n
+      → IsUnder r.chart.tree root (looks_of k.ups.visits) (link_to (node_place page n)) =
+      λ page bytes n h e. nodes_under r.chart.tree lease r.chart.run o.got root same_level k.ups.visits page bytes n k.ups.are h e in
       record {
         worked = worked;
         is = record {
@@ -332,8 +337,11 @@ module _ (lease : Claim) (r : Rising) (o : Opening) (work : Calls) (k : Climbs l
           inside_leaf = λ v l h g. leaf_holds r.chart.tree lease r.chart.run o.got k.ups.visits v l k.ups.are h g;
           inside = λ u l h g.
               climb_holds r.chart.tree (visits_over r.chart.tree lease k.ups.visits []) (root_behind o.got k.ups.visits) (links_behind k.ups.visits) k.ups.climbs u l k.ups.climbed h g;
-          under = λ v h. leaves_under r.chart.tree lease r.chart.run o.got root same_level k.ups.visits v k.ups.are h;
-          under_nodes = λ page bytes n h e. nodes_under r.chart.tree lease r.chart.run o.got root same_level k.ups.visits page bytes n k.ups.are h e;
+          under = under;
+          under_nodes = under_nodes;
+          news = λ l h.
+              news_named r.chart.tree lease r.chart.run o.got worked k.ups.are k.ups.climbed under under_nodes l (named l (new_known l k.ups.visits k.ups.climbs h))
+              (named_last l (new_known l k.ups.visits k.ups.climbs h)) h;
           last = up.2 whole;
         };
         calls =

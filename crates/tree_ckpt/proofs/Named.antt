@@ -29,7 +29,7 @@ same_node bytes n m e f = some_same n m (sym e ∙ f) where
   some_same a b g = cc (g)
 
 -- links of one level
-level_of : (level : ℕ) (l : Link) (es : List NewEntry) → IsAmong l (links_at level es) → l.level ≡ level
+pub level_of : (level : ℕ) (l : Link) (es : List NewEntry) → IsAmong l (links_at level es) → l.level ≡ level
 level_of level l [] h = absurd h
 level_of level l (e ∷ es) (inl same) = sym (ap (λ (m : Link). m.level) same)
 level_of level l (e ∷ es) (inr h) = level_of level l es h

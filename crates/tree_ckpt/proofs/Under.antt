@@ -184,7 +184,7 @@ got_puts name v tree one two (Some bytes) xs cs h = on (got_pages name v tree on
 
 module _ (tree : ℕ) (one : Claim) (run : Taken) (got : Option (List ℕ)) where
   -- an inner node that was got was got on a way down
-  on_ways : (page : ℕ) (bytes : List ℕ) (n : Inner) (vs : List Visit) → AreVisits tree one run got vs → inner_of bytes ≡ Some n
+  pub on_ways : (page : ℕ) (bytes : List ℕ) (n : Inner) (vs : List Visit) → AreVisits tree one run got vs → inner_of bytes ≡ Some n
       → WasGot (object.Page tree page) (Some bytes) (visits_over tree one vs []) → WasGot (object.Page tree page) (Some bytes) (looks_of vs)
   on_ways page bytes n [] are e h = h
   on_ways page bytes n (v ∷ vs) are e (inl b) = absurd (let f : Release v.lease ≡ GetHeld (object.Page tree page) b.0 = ap (λ (c : Ask × Answer). c.0) b.1 in cc (f))

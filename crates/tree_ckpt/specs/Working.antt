@@ -450,12 +450,19 @@ IsNamedAbove tree got w l =
     ((page : ℕ) × (n : Inner) × WasNode tree page n (looks_of w.visits) × IsInRange n l × IsNamed (HasClimbed page l.level w.climbs) n.entries (last_links w) l)
     ⊎ ((l.level ≡ (last_root got w).level) × (l.page < (last_root got w).next → IsNamed (HasRisen l.level w.last) (last_root got w).entries (last_links w) l))
 
+-- What it has of the link to a new piece: the same, where the low key is below the high key of the node that was got there. Its other bound is known.
+abbrev pub IsNewNamed : ℕ → Option (List ℕ) → Worked → Link → Type 0
+IsNewNamed tree got w l =
+    ((l.level ≡ (last_root got w).level) × (length l.low ≤ 64 → IsNamed (HasRisen l.level w.last) (last_root got w).entries (last_links w) l))
+    ⊎ ((page : ℕ) × (n : Inner) × WasNode tree page n (looks_of w.visits) × (l.level ≡ n.level) × (bytes_below l.low n.low ≡ false)
+    × (length l.low ≤ 64 → below_bound l.low n.high ≡ true → IsNamed (HasClimbed page l.level w.climbs) n.entries (last_links w) l))
+
 -- Each put is as planned from what was got before it; the first tree object is what the get brought. Each item of the run lies in the range of a leaf
 -- that was put, or lacked nothing. An inner node that was got is put where a link that is known goes to it. So each link that is known, to a new piece or
 -- to a page on the right, is named by what was put for a node of its level that was got and has its low key in its range (`named`), or by the tree object
--- where it is of its level (`named_last`). One of the two has each page that was come to by a right link (`rights`). The page of a new piece was reserved
--- (`reserved`), its low key lies in the range of the leaf or node that it is cut from (`inside_leaf`, `inside`), and that lies itself under such a node or
--- the tree object (`under`, `under_nodes`).
+-- where it is of its level (`named_last`). Each page that was come to by a right link has one of the two (`rights`), and so has each new piece of a leaf
+-- or of an inner node (`news`). The page of a new piece was reserved (`reserved`), its low key lies in the range of the leaf or node that it is cut from
+-- (`inside_leaf`, `inside`), and that lies itself under such a node or the tree object (`under`, `under_nodes`).
 pub record IsWorked (tree : ℕ) (one : Claim) (run : Taken) (got : Option (List ℕ)) (w : Worked) : Type 0 where
   pub visits : AreVisits tree one run got w.visits
   pub covers : AllByRecursion (λ x. IsHandled (key_of x.rec.change) w.visits) run.items
@@ -467,6 +474,7 @@ pub record IsWorked (tree : ℕ) (one : Claim) (run : Taken) (got : Option (List
   pub named_last : (l : Link) → IsAmong l (last_links w) → IsOfRoot (last_root got w) l
       → IsNamed (HasRisen l.level w.last) (last_root got w).entries (last_links w) l
   pub rights : (l : Link) → IsFollowed l w.visits → IsNamedAbove tree got w l
+  pub news : (l : Link) → IsLeafPiece l w.visits ⊎ IsNodePiece l w.climbs → IsNewNamed tree got w l
   pub reserved : (l : Link) → IsLeafPiece l w.visits ⊎ IsNodePiece l w.climbs → IsAmong l (last_links w) × (l.page < (last_root got w).next)
   pub inside_leaf : (v : Visit) (l : Link) → IsAmong v w.visits → IsPieceOf l v.outcome → holds v.leaf l.low ≡ true
   pub inside : (u : Climb) (l : Link) → IsAmong u w.climbs → IsAmong l (links_at (u.node.level + 1) u.plan.entries)

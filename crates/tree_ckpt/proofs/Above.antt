@@ -1,5 +1,5 @@
 -- Each page that was come to by a right link is named above, and the pages of new pieces were reserved.
-use Rattle.std.proofs.Common.{◌≡◌, ◌<◌, ◌≤◌, ◌+◌, ◌-◌, ◌⊎◌, ℕ, Bool, true, false, List, [], ◌∷◌, ◌++◌, length, Option, Some, None, refl, sym, ap, subst, ◌∙◌, inl, inr, arith}
+use Rattle.std.proofs.Common.{◌≡◌, ◌<◌, ◌≤◌, ◌+◌, ◌-◌, ◌⊎◌, ℕ, Bool, true, false, List, [], ◌∷◌, ◌++◌, length, Option, Some, refl, sym, ap, subst, ◌∙◌, inl, inr, arith}
 use Rattle.std.specs.Prelude.{◌&&◌, not, map, drop}
 use Rattle.byte_format.specs.Order.{bytes_below, below_bound}
 use Rattle.leaf_view.specs.Leaf.{Leaf}
@@ -7,7 +7,6 @@ use Rattle.leaf_edit.proofs.InOrder.{below_upto}
 use Rattle.db_base.specs.declared.names.ObjName.TheVariants as object
 use Rattle.leaf_view.specs.Lookup.{holds}
 use Rattle.node_codec.specs.Inner.{Inner, inner_of}
-use Rattle.node_codec.specs.Tree.{Tree}
 use Rattle.cloud_trait.specs.Claim.{Claim}
 use Rattle.run_cursor.specs.Run.{Taken}
 use Rattle.split_plan.specs.declared.entry_list.NewEntry.{NewEntry}
@@ -15,7 +14,7 @@ use Rattle.split_plan.specs.Part.{Part}
 use Rattle.split_plan.specs.Plan.{entry_of, on_pages}
 use Rattle.tree_parts.specs.declared.link.Link.{Link}
 use Rattle.tree_parts.specs.declared.placing.Placing.{Placing}
-use Rattle.tree_parts.specs.Kept.{link_at, links_at}
+use Rattle.tree_parts.specs.Kept.{links_at}
 use Rattle.tree_parts.specs.Placing.{landed_root}
 use Rattle.tree_parts.specs.Read.{tree_held}
 use Rattle.tree_ckpt.specs.Causing.{Calls, WasGot}

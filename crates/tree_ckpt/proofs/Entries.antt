@@ -1,5 +1,5 @@
 -- What was put for a node, or for the tree object, names the links that go to it.
-use Rattle.std.proofs.Common.{◌≡◌, ◌<◌, ◌≤◌, ◌+◌, ◌-◌, ◌⊎◌, ℕ, Bool, true, false, cond, List, [], ◌∷◌, ◌++◌, length, Option, Some, None, refl, sym, ap, subst, ◌∙◌, inl, inr, arith}
+use Rattle.std.proofs.Common.{◌≡◌, ◌<◌, ◌+◌, ◌⊎◌, ℕ, Bool, true, false, cond, List, [], ◌∷◌, ◌++◌, length, refl, sym, ap, subst, ◌∙◌, inl, inr}
 use Rattle.std.specs.Prelude.{◌==◌, ◌&&◌, not, map, reverse, nat_le, nat_lt}
 use Rattle.std.specs.List.{AllByRecursion, flat_map}
 use Rattle.std.proofs.lemmas.Grind.{reverse_onto}
@@ -8,7 +8,7 @@ use Rattle.byte_format.specs.Order.{bytes_below, bytes_same, below_bound}
 use Rattle.byte_format.proofs.OrderLemmas.{same_is}
 use Rattle.node_codec.specs.Inner.{Inner, node_of_root}
 use Rattle.node_codec.specs.Node.{Entry, raised, with_entry}
-use Rattle.node_codec.specs.Tree.{Tree, tree_bytes, with_child}
+use Rattle.node_codec.specs.Tree.{Tree, with_child}
 use Rattle.split_plan.specs.declared.entry_list.NewEntry.{NewEntry}
 use Rattle.split_plan.specs.declared.put_list.PagePut.{PagePut}
 use Rattle.split_plan.specs.Cut.{IsCut}
@@ -19,8 +19,7 @@ use Rattle.tree_parts.specs.declared.placing.Placing.{Placing}
 use Rattle.tree_rising.specs.Nodes.{goes_to, with_links}
 use Rattle.tree_rising.specs.Root.{is_named, with_named}
 use Rattle.tree_rising.specs.declared.root.RootPlan.{RootPlan}
-use Rattle.leaf_fold.specs.Folding.{no_placing}
-use Rattle.tree_ckpt.specs.Working.{IsAmong, PutsEntry, PutsPieces, PutsBelow, PutsRoot, HasRisen, IsNamed, IsInRange, IsOfRoot, linked_node, raised_root}
+use Rattle.tree_ckpt.specs.Working.{IsAmong, PutsEntry, PutsPieces, PutsRoot, HasRisen, IsNamed, IsInRange, IsOfRoot, linked_node, raised_root}
 
 -- ---- lists
 

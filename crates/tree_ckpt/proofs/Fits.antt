@@ -1,21 +1,16 @@
 -- What was read fits, whatever the bytes are.
-use Rattle.std.proofs.Common.{◌≡◌, ◌<◌, ◌≤◌, ◌+◌, ◌-◌, ℕ, zero, suc, Bool, true, false, cond, List, [], ◌∷◌, length, Option, Some, None, Result, Ok, Err, refl, sym, ap, subst, ◌∙◌, arith}
-use Rattle.std.specs.Prelude.{◌==◌, ◌&&◌, not, nat_le, take, drop, IsSome}
+use Rattle.std.proofs.Common.{◌≡◌, ◌-◌, ℕ, zero, suc, Bool, true, false, cond, List, [], ◌∷◌, length, Option, Some, None, Result, Ok, Err, refl, sym, ap, subst, ◌∙◌}
+use Rattle.std.specs.Prelude.{◌==◌, ◌&&◌, nat_le, take, drop}
 use Rattle.std.specs.Int.{Width, w8, w64}
-use Rattle.std.specs.List.{AllByRecursion}
 use Rattle.std.specs.Result.{result_ok}
 use Rattle.std.proofs.lemmas.Bool.{and_from, leb-true}
 use Rattle.std.proofs.lemmas.List.{length-take-le}
-use Rattle.byte_format.specs.Format.{Format, Reading, ◌>>=◌, greatest, guarded, in_range, number, number_at, unsigned_at, text, text_at, ruled, behind, ◌then◌, seen_as, list_of, list_from, list_at, list_fits, more_at}
+use Rattle.byte_format.specs.Format.{Format, ◌>>=◌, greatest, guarded, in_range, number, number_at, unsigned_at, text, text_at, ruled, behind, ◌then◌, seen_as, list_of, list_from, list_at, list_fits, more_at}
 use Rattle.byte_format.specs.Whole.{whole}
-use Rattle.node_codec.specs.Inner.{Inner, inner_of, inner_format, inner_fields, inner_of_fields, fields_of_inner}
 use Rattle.node_codec.specs.Node.{Entry, entry, may_stand, client_number, least_client}
-use Rattle.node_codec.specs.Tree.{Tree, tree_of, tree_format, tree_fields, tree_of_fields, fields_of_tree, empty_tree, HasTreeSpelling, TreeFields}
-use Rattle.node_codec.proofs.NodeLemmas.{in_range_parts}
-use Rattle.node_codec.proofs.TreeLemmas.{TreeFits, tree_fits}
-use Rattle.tree_parts.specs.Read.{tree_held}
+use Rattle.node_codec.specs.Tree.{Tree, tree_of, tree_format, tree_fields, tree_of_fields, fields_of_tree, HasTreeSpelling, TreeFields}
 use Rattle.tree_ckpt.proofs.Fences.{bound, of_ok, seen_read, behind_read, then_read, whole_read}
-use Rattle.tree_ckpt.proofs.Nodes.{guard_read, and_both, ruled_read}
+use Rattle.tree_ckpt.proofs.Nodes.{guard_read, ruled_read}
 
 -- a format reads what fits alone
 abbrev pub ReadsFit : {A : Type 0} → Format A → Type 0

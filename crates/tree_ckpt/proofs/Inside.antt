@@ -1,5 +1,5 @@
 -- The low key of a new piece of a leaf or an inner node lies in its range.
-use Rattle.std.proofs.Common.{◌≡◌, ◌<◌, ◌≤◌, ◌+◌, ◌-◌, ◌/◌, ◌⊎◌, ℕ, zero, suc, Bool, true, false, cond, List, [], ◌∷◌, ◌++◌, length, Option, Some, None, Ok, refl, sym, ap, subst, ◌∙◌, inl, inr, arith}
+use Rattle.std.proofs.Common.{◌≡◌, ◌≤◌, ◌+◌, ◌-◌, ◌/◌, ◌⊎◌, ℕ, zero, suc, Bool, true, false, cond, List, [], ◌∷◌, ◌++◌, length, Option, Some, None, Ok, refl, sym, ap, subst, ◌∙◌, inl, inr, arith}
 use Rattle.std.specs.Prelude.{◌==◌, ◌&&◌, not, map, drop, nat_le}
 use Rattle.std.specs.Int.{w8, w16}
 use Rattle.std.specs.List.{AllByRecursion, flat_map}
@@ -21,7 +21,7 @@ use Rattle.leaf_fold.specs.declared.plan.LeafPlan.{LeafPlan}
 use Rattle.node_codec.specs.Inner.{Inner, inner_of}
 use Rattle.node_codec.specs.Node.{Entry, entry, may_stand, follows, with_entry}
 use Rattle.split_plan.specs.declared.entry_list.NewEntry.{NewEntry}
-use Rattle.split_plan.specs.Cut.{IsCut, IsNewPart, BeginAs, first_key_of}
+use Rattle.split_plan.specs.Cut.{IsCut, IsNewPart, first_key_of}
 use Rattle.split_plan.specs.Part.{Part, entry_key, record_key, part_of_leaf, part_of_node}
 use Rattle.split_plan.specs.Plan.{entry_of, on_pages, node_bytes}
 use Rattle.split_plan.specs.Sizes.{count_of, sizes_of, cuts_of, CanCut}
@@ -35,7 +35,7 @@ use Rattle.tree_ckpt.specs.Working.{IsAmong, PutsPieces, PutsLeaf, HoldsLeaf, li
 use Rattle.tree_ckpt.proofs.Fences.{seen_read, then_read, whole_read}
 use Rattle.tree_ckpt.proofs.Fits.{ReadsFit, text_fits, ruled_fits, then_fits, seen_fits, list_of_fits}
 use Rattle.tree_ckpt.proofs.Entries.{among_front, among_back, entry_at, with_from}
-use Rattle.tree_ckpt.proofs.Nodes.{AreFrom, and_both}
+use Rattle.tree_ckpt.proofs.Nodes.{and_both}
 use Rattle.tree_ckpt.proofs.Roots.{entries_short}
 use Rattle.tree_ckpt.proofs.Sound.{IsSound, node_sound}
 

@@ -5,7 +5,6 @@ use Rattle.std.specs.List.{AllByRecursion}
 use Rattle.node_codec.specs.Inner.{Inner, inner_of}
 use Rattle.node_codec.specs.Node.{Entry}
 use Rattle.split_plan.specs.declared.entry_list.NewEntry.{NewEntry}
-use Rattle.split_plan.specs.declared.put_list.PagePut.{PagePut}
 use Rattle.tree_parts.specs.declared.link.Link.{Link}
 use Rattle.tree_parts.specs.Kept.{links_at}
 use Rattle.tree_parts.specs.Read.{tree_held}

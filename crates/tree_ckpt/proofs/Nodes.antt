@@ -1,24 +1,18 @@
 -- What parts of an inner node that was read have: a high key is above the low key, and the entries are from the low key on.
-use Rattle.std.proofs.Common.{◌≡◌, ◌≤◌, ℕ, zero, suc, Bool, true, false, cond, List, [], ◌∷◌, length, Option, Some, None, Result, Ok, Err, refl, sym, ap, subst, ◌∙◌, arith}
+use Rattle.std.proofs.Common.{◌≡◌, ◌≤◌, ℕ, zero, suc, Bool, true, false, cond, List, [], ◌∷◌, length, Option, Some, None, Ok, refl, sym, ap, subst, ◌∙◌, arith}
 use Rattle.std.specs.Prelude.{◌==◌, ◌&&◌, not, nat_le, take, drop}
 use Rattle.std.specs.Int.{Width, w8, w64}
 use Rattle.std.specs.List.{AllByRecursion}
-use Rattle.std.specs.Result.{result_ok}
-use Rattle.std.proofs.lemmas.Bool.{eqb-true, leb-true}
+use Rattle.std.proofs.lemmas.Bool.{leb-true}
 use Rattle.std.proofs.lemmas.List.{length-take-le}
-use Rattle.byte_format.specs.Format.{Format, Reading, ◌>>=◌, greatest, guarded, in_range, number, number_at, unsigned_at, text, text_at, ruled, behind, ◌then◌, seen_as, option_at, list_of, list_from, list_at, more_at}
+use Rattle.byte_format.specs.Format.{Format, ◌>>=◌, greatest, guarded, in_range, number, number_at, unsigned_at, text, text_at, ruled, option_at, list_from, more_at}
 use Rattle.byte_format.specs.HighKey.{key_above, high_key}
-use Rattle.byte_format.specs.Order.{bytes_below, bytes_same, below_bound}
-use Rattle.byte_format.specs.Whole.{whole}
+use Rattle.byte_format.specs.Order.{bytes_below, below_bound}
 use Rattle.byte_format.proofs.OrderLemmas.{same_is}
 use Rattle.node_codec.proofs.EntryLemmas.{below_chain}
-use Rattle.node_codec.specs.Inner.{Inner, inner_of, inner_format, inner_fields, inner_of_fields, fields_of_inner, InnerFields}
-use Rattle.leaf_view.specs.Lookup.{page_at}
-use Rattle.node_codec.specs.Node as node
-use Rattle.node_codec.specs.Node.{Entry, entry, may_stand, follows, child_of, later_of}
-use Rattle.tree_ckpt.proofs.Fences.{HasSides, bound, of_ok, seen_read, behind_read, then_read, whole_read, option_read}
+use Rattle.node_codec.specs.Node.{Entry, entry, may_stand, follows}
+use Rattle.tree_ckpt.proofs.Fences.{bound, of_ok, then_read}
 use Rattle.tree_ckpt.proofs.Keys.{not_itself}
-use Rattle.tree_moves.specs.Moves.{entry_or}
 
 -- ---- parts of a format
 

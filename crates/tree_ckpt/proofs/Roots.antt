@@ -1,11 +1,11 @@
 -- A reservation leaves the level of the tree object as it is.
-use Rattle.std.proofs.Common.{◌≡◌, ◌≢◌, ◌<◌, ◌≤◌, ◌+◌, ◌-◌, ◌⊎◌, ℕ, Bool, true, false, cond, List, [], ◌∷◌, length, Option, Some, None, refl, sym, ap, subst, ◌∙◌, inl, inr, arith}
+use Rattle.std.proofs.Common.{◌≡◌, ◌≢◌, ◌<◌, ◌≤◌, ◌+◌, ◌-◌, ℕ, Bool, true, false, cond, List, [], ◌∷◌, length, Option, Some, None, refl, sym, ap, subst, ◌∙◌, arith}
 use Rattle.std.specs.Prelude.{◌&&◌, unwrap_or}
 use Rattle.std.specs.List.{AllByRecursion}
 use Rattle.byte_format.specs.Format.{greatest, in_range, list_fits}
 use Rattle.byte_format.specs.Order.{bytes_below}
-use Rattle.node_codec.specs.Node.{Entry, entry, may_stand, client_number, child_of, later_of}
-use Rattle.node_codec.specs.Tree.{Tree, tree_of, tree_bytes, empty_tree, HasTreeSpelling, IsSoundTree}
+use Rattle.node_codec.specs.Node.{Entry, entry, may_stand, child_of, later_of}
+use Rattle.node_codec.specs.Tree.{Tree, tree_of, empty_tree, HasTreeSpelling}
 use Rattle.node_codec.proofs.EntryLemmas.{fits_to_last}
 use Rattle.node_codec.proofs.NodeLemmas.{in_range_from, in_range_parts}
 use Rattle.node_codec.proofs.SpellingLaws.{tree_again}

@@ -1,12 +1,11 @@
 -- What an inner node or a leaf that was read has: a level above the leaves, a high key exactly beside a right page and above its low key, and entries from
 -- its low key on.
-use Rattle.std.proofs.Common.{◌≡◌, ◌≤◌, ◌-◌, ℕ, zero, suc, Bool, true, false, cond, List, [], ◌∷◌, length, Option, Some, None, Result, Ok, Err, refl, sym, ap, subst, ◌∙◌, arith}
-use Rattle.std.specs.Prelude.{◌==◌, ◌&&◌, not, IsSome}
+use Rattle.std.proofs.Common.{◌≡◌, ◌≤◌, ℕ, suc, Bool, true, false, cond, List, [], ◌∷◌, length, Option, Some, None, Result, Ok, Err, refl, sym, ap, subst, ◌∙◌, arith}
+use Rattle.std.specs.Prelude.{◌==◌, IsSome}
 use Rattle.std.specs.Int.{w8, w64}
-use Rattle.std.specs.List.{AllByRecursion}
 use Rattle.std.specs.Result.{result_ok}
 use Rattle.std.proofs.lemmas.Bool.{eqb-true}
-use Rattle.byte_format.specs.Format.{Format, greatest, number, text, mark_at, behind, ◌then◌, seen_as, list_of, list_at, list_fits}
+use Rattle.byte_format.specs.Format.{Format, greatest, number, text, mark_at, behind, ◌then◌, list_of, list_at, list_fits}
 use Rattle.byte_format.specs.HighKey.{key_above, high_key}
 use Rattle.byte_format.specs.Order.{bytes_below}
 use Rattle.byte_format.specs.Whole.{whole}

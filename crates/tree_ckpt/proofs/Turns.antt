@@ -30,7 +30,7 @@ use Rattle.tree_descent.specs.Fork as fork
 use Rattle.tree_descent.specs.Descent.{begun, forked, forked_by, passed, fork_of, go_on, stride_at, kept_at, stride, follow, walk, arrived, arrive, with_node, got_node}
 use Rattle.tree_moves.specs.Moves.{entry_or, root_entry}
 use Rattle.tree_ckpt.specs.Causing.{Calls, WasGot, WasNode, GoesRight}
-use Rattle.tree_ckpt.specs.Working.{IsAmong, IsTurn, AreTurns, Visit, Place, child_place, below_root, link_to, LeadsOn, IsWay, IsCome}
+use Rattle.tree_ckpt.specs.Working.{IsAmong, AreTurns, Place, below_root, link_to, LeadsOn, IsWay}
 use Rattle.tree_ckpt.proofs.Fences.{HasSides}
 use Rattle.tree_ckpt.proofs.Sound.{no_page, node_sound}
 use Rattle.tree_ckpt.proofs.Brought.{IsKept, AreKept, kept_found, kept_with, forked_level}
@@ -53,10 +53,6 @@ pub way_more : (tree : ℕ) (key : List ℕ) (start : Place) (ns : List Inner) (
 way_more tree key start [] q turns c cs h = h
 way_more tree key start (n ∷ ns) q turns c cs h =
     (h.0, h.1, way_more tree key start ns h.0 h.1 c cs h.2, (h.3.0, h.3.1, inr h.3.2), h.4, h.5, h.6)
-
-pub come_more : (tree : ℕ) (root : Option (List ℕ)) (key : List ℕ) (vs : List Visit) (turns : List Link) (q : Place) (c : Ask × Answer) (cs : Calls)
-    → IsCome tree root key cs vs turns q → IsCome tree root key (c ∷ cs) vs turns q
-come_more tree root key vs turns q c cs h = (h.0, h.1, (h.2.0, way_more tree key h.0 h.2.0 q turns c cs h.2.1))
 
 leads_behind : (key : List ℕ) (n : Inner) (level : ℕ) (first before : List Link) (q : Place) (turns : List Link) → LeadsOn key n level before q turns
     → LeadsOn key n level (first ++ before) q (first ++ turns)

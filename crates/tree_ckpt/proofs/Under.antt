@@ -1,14 +1,11 @@
 -- Each page that was come to lies under the level above it.
 use Rattle.std.proofs.Common.{◌≡◌, ◌≤◌, ◌+◌, ◌-◌, ◌⊎◌, ℕ, Bool, true, false, List, [], ◌∷◌, ◌++◌, length, Option, Some, None, refl, sym, ap, subst, ◌∙◌, inl, inr, arith}
-use Rattle.byte_format.specs.Format.{greatest}
 use Rattle.byte_format.specs.Order.{bytes_below, below_bound}
 use Rattle.leaf_edit.proofs.InOrder.{below_upto}
 use Rattle.db_base.specs.declared.names.Lock.TheVariants as lock
 use Rattle.db_base.specs.declared.names.ObjName.{ObjName}
 use Rattle.db_base.specs.declared.names.ObjName.TheVariants as object
-use Rattle.leaf_view.specs.Lookup.{page_at}
 use Rattle.node_codec.specs.Inner.{Inner, inner_of}
-use Rattle.node_codec.specs.Node as node
 use Rattle.node_codec.specs.Node.{Entry, child_of}
 use Rattle.node_codec.specs.Tree.{Tree}
 use Rattle.node_codec.proofs.NodeLemmas.{in_range_parts}
@@ -20,14 +17,13 @@ use Rattle.run_cursor.specs.Run.{Taken}
 use Rattle.split_plan.specs.declared.put_list.PagePut.{PagePut}
 use Rattle.tree_moves.specs.Moves.{entry_or}
 use Rattle.tree_parts.specs.declared.link.Link.{Link}
-use Rattle.tree_parts.specs.declared.placing.Placing.{Placing}
 use Rattle.tree_parts.specs.Read.{tree_held}
-use Rattle.tree_ckpt.specs.Causing.{Calls, WasGot, WasNode, GoesRight}
-use Rattle.tree_ckpt.specs.Working.{Place, child_place, below_root, leaf_place, link_to, LeadsOn, IsWay, IsLeftFor, IsStart, IsCome, Visit, Outcome, Planned, Spared, Passed, IsVisit, AreVisits, IsAmong, IsOver, node_place, IsInRange, IsUnder, IsFollowed, HoldsLeaf, IsLeft, IsFor, placing_of, root_behind, looks_of, visits_over, held_over, done_over, puts_of, page_puts, reserved_before, Climb, AreClimbs, root_above}
+use Rattle.tree_ckpt.specs.Causing.{Calls, WasGot, WasNode}
+use Rattle.tree_ckpt.specs.Working.{Place, child_place, below_root, leaf_place, link_to, LeadsOn, IsWay, IsLeftFor, IsStart, IsCome, Visit, Outcome, Planned, Spared, Passed, IsVisit, AreVisits, IsAmong, IsOver, node_place, IsUnder, IsFollowed, HoldsLeaf, IsLeft, IsFor, placing_of, root_behind, looks_of, visits_over, done_over, page_puts, reserved_before, Climb, AreClimbs, root_above}
 use Rattle.tree_ckpt.proofs.Entries.{among_either}
 use Rattle.tree_ckpt.proofs.Named.{same_node}
 use Rattle.tree_ckpt.proofs.Lows.{IsUpto, child_upto, entry_upto}
-use Rattle.tree_ckpt.proofs.Nodes.{IsAbove, not_under, and_both}
+use Rattle.tree_ckpt.proofs.Nodes.{IsAbove, not_under}
 use Rattle.tree_ckpt.proofs.Roots.{IsHeld, is_held, held_after, child_all, entries_short}
 use Rattle.tree_ckpt.proofs.Sound.{IsSound, node_sound, child_sound, leaf_above, leaf_no_node}
 

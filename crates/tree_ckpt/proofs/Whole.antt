@@ -1,5 +1,5 @@
 -- Each node that was got and that a link of below goes to is put.
-use Rattle.std.proofs.Common.{◌≡◌, ◌<◌, ◌≤◌, ℕ, zero, suc, ◌+◌, Bool, true, false, cond, List, [], ◌∷◌, ◌++◌, length, Some, None, Result, Ok, Err, refl, sym, ap, subst, ◌∙◌, inl, inr, ◌⊎◌, arith}
+use Rattle.std.proofs.Common.{◌≡◌, ◌<◌, ◌≤◌, ℕ, zero, suc, ◌+◌, Bool, true, false, cond, List, [], ◌∷◌, ◌++◌, length, Some, None, Ok, refl, sym, ap, subst, ◌∙◌, inl, inr, ◌⊎◌, arith}
 use Rattle.std.specs.Prelude.{◌==◌, ◌||◌, ◌&&◌, not, nat_le, nat_lt, take, drop, insert, slice_get}
 use Rattle.std.specs.List.{AllByRecursion}
 use Rattle.std.proofs.lemmas.Bool.{eqb-true, ltb-true, ltb-false, ne_eqb}
@@ -7,7 +7,6 @@ use Rattle.std.proofs.lemmas.List.{take-append-drop}
 use Rattle.std.proofs.lemmas.List.Folds.{list_any-append}
 use Rattle.byte_format.specs.Order.{bytes_below, below_bound}
 use Rattle.byte_format.specs.Whole.{offset}
-use Rattle.db_base.specs.declared.trouble.Trouble.{Trouble}
 use Rattle.node_codec.specs.Inner.{Inner, inner_of, inner_format}
 use Rattle.split_plan.specs.declared.entry_list.NewEntry.{NewEntry}
 use Rattle.tree_parts.specs.declared.kept.KeptNode.{KeptNode}

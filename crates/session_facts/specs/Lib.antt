@@ -1,3 +1,4 @@
+pub mod Few
 pub mod Walks
 pub mod Scans
 pub mod Openings

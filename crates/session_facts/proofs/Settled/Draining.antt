@@ -28,7 +28,7 @@ use Rattle.run_cursor.specs.Covered.{is_covered, is_seen, new_ones, covered_ids}
 use Rattle.run_cursor.specs.Run.{IsRun}
 use Rattle.session_facts.proofs.Runs.Received.{each_in, all_in, items_sent, item_client, new_in, covered_in}
 use Rattle.session_facts.proofs.Settled.Queues.{empty_of}
-use Rattle.session_facts.proofs.Settled.TreeLists.{Apart}
+use Rattle.session_facts.specs.TreeCheckpoints.Counting.{Apart}
 use Rattle.session_facts.proofs.Trees.RisingGrounds.{in_dropped}
 use Rattle.session_facts.proofs.Trees.Unseen.{seen_in}
 use Rattle.session_facts.specs.Runs.Runs.{IsSentItem}

@@ -19,7 +19,8 @@ use Rattle.log_codec.specs.declared.record.PuItem.{PuItem}
 use Rattle.run_cursor.specs.Run.{Taken, is_at, IsRun, IsWithin}
 use Rattle.session_facts.proofs.Runs.Received.{all_in}
 use Rattle.session_facts.proofs.Runs.Runs.{run_in}
-use Rattle.session_facts.proofs.Settled.TreeLists.{Apart, apart_fits}
+use Rattle.session_facts.proofs.Settled.TreeLists.{apart_fits}
+use Rattle.session_facts.specs.TreeCheckpoints.Counting.{Apart}
 use Rattle.session_facts.proofs.Settled.TreeSteps.{IsQuiet, TouchesQueue, work_quiet}
 use Rattle.tree_ckpt.proofs.Receiving.{items_length, takes_length}
 use Rattle.tree_ckpt.specs.Making.{received_after}

@@ -23,7 +23,8 @@ use Rattle.node_codec.specs.Tree.{Tree, empty_tree}
 use Rattle.report_types.specs.declared.entry.Entry.{Entry}
 use Rattle.run_cursor.specs.Covered.{is_seen}
 use Rattle.session_facts.proofs.Settled.TreeCalls.{next_of, HasRoom, Reserving, own_of, FitsLeaf, FitsWork}
-use Rattle.session_facts.proofs.Settled.TreeLists.{Apart, pages_fit}
+use Rattle.session_facts.proofs.Settled.TreeLists.{pages_fit}
+use Rattle.session_facts.specs.TreeCheckpoints.Counting.{Apart}
 use Rattle.session_facts.proofs.Settled.TreePieces.{puts_as_many}
 use Rattle.session_facts.proofs.Settled.TreeRoots.{HasRoot}
 use Rattle.session_facts.proofs.Settled.TreeVisits.{Once, IsNew}

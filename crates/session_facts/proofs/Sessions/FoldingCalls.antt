@@ -1,124 +1,253 @@
--- The tree checkpoint of a session from call to call: it makes few.
-use Rattle.std.proofs.Common.{◌≡◌, ◌+◌, ◌≤◌, ℕ, List, Some, Ok, refl, subst, ◌∙◌, arith}
-use Rattle.client_work.specs.Session.{Acting, Asks, StepsSession, StepsAt, StepsFolding}
+-- The tree checkpoints of sessions from call to call: each makes few.
+use Rattle.std.proofs.Common.{◌≡◌, ◌≢◌, ◌+◌, ◌≤◌, ◌⊎◌, inl, inr, ℕ, List, Option, Some, None, Ok, refl, sym, ap, subst, ◌∙◌, arith}
+use Rattle.std.proofs.lemmas.Bool.{cases_eq}
+use Rattle.client_work.specs.Session.{Acting, Asks, Follows, ScansLess, StepsSession, StepsAt, StepsFolding, opened_work, committed_work, stopped_work}
 use Rattle.client_work.specs.declared.answer.Answer.{Answer}
 use Rattle.client_work.specs.declared.answer.Answer.TheVariants as answer
+use Rattle.client_work.specs.declared.listing.Listing.{Listing}
+use Rattle.client_work.specs.declared.shown.Shown.{Shown}
 use Rattle.client_work.specs.declared.work.Work.{Work}
-use Rattle.client_work.specs.declared.work.Work.TheVariants.{Folding}
-use Rattle.cloud_facts.proofs.Book.Names.{at_same}
+use Rattle.client_work.specs.declared.work.Work.TheVariants.{Closed, Idle, Opening, Committing, Reading, Scanning, Paging, Folding, Closing, Renewing, Settling, Broken}
+use Rattle.cloud_facts.proofs.Book.Names.{at_same, at_other}
 use Rattle.cloud_facts.proofs.Calls.Calls.{call_of}
 use Rattle.cloud_facts.specs.Book.Book.{Book}
 use Rattle.cloud_facts.specs.Book.Tally.{at}
 use Rattle.cloud_facts.specs.Calls.Call.{IsCall}
 use Rattle.cloud_facts.specs.Tellings.Told.{store_of}
 use Rattle.cloud_trait.specs.Caller.{Caller}
-use Rattle.cloud_trait.specs.Machine.{Goes}
+use Rattle.cloud_trait.specs.Machine.{Goes as GoesOn}
 use Rattle.cloud_trait.specs.Seen.{Seen}
 use Rattle.cloud_trait.specs.State.{CloudState}
-use Rattle.cloud_trait.specs.Weather.{Fits, Makes}
+use Rattle.cloud_trait.specs.Weather.{Makes}
 use Rattle.cloud_trait.specs.declared.answer.Answer.{Answer as Reply}
 use Rattle.cloud_trait.specs.declared.turn.Turn.{Turn}
-use Rattle.cloud_trait.specs.declared.turn.Turn.TheVariants.{More, Ended}
-use Rattle.db_base.specs.declared.wish.Wish.{Wish}
+use Rattle.cloud_trait.specs.declared.turn.Turn.TheVariants.{More, Ended, Stopped}
+use Rattle.db_base.specs.declared.trouble.CommitAnswer.{CommitAnswer}
+use Rattle.db_base.specs.declared.trouble.CommitAnswer.TheVariants.{Committed, NotCommitted, InDoubt, CommittedOpen}
+use Rattle.db_base.specs.declared.trouble.Trouble.{Trouble}
+use Rattle.db_base.specs.declared.trouble.Trouble.TheVariants as trouble
+use Rattle.page_cache.specs.Cache.{Cache}
 use Rattle.recover_run.specs.declared.home.Home.{Home}
 use Rattle.report_types.specs.declared.entry.Entry.{Entry}
+use Rattle.session_facts.proofs.Sessions.Calling.{session_keeps}
 use Rattle.session_facts.proofs.Settled.TreeReceives.{IsReceiving}
-use Rattle.session_facts.proofs.Settled.TreeTurns.{Stays, stays_first, stays_on, ends_few}
+use Rattle.session_facts.proofs.Settled.TreeTurns.{first_few, few_beside, few_on, ends_few}
+use Rattle.session_facts.specs.Counted.{CountsWork, CountsAll}
+use Rattle.session_facts.specs.Few.{next_page, IsFew}
 use Rattle.session_facts.specs.Sessions.Sessions.{KnowsWork, Knows, Sessions, SessionsStand}
-use Rattle.session_facts.specs.Settled.Runs.{IsFew}
 use Rattle.session_facts.specs.TreeCheckpoints.Checkpoint.{KnowsWork as KnowsMoves, KnowsMaking}
+use Rattle.session_facts.specs.TreeCheckpoints.Counting.{MadeFew, IsCounted}
 use Rattle.tree_ckpt.specs.Ending.{calls_in}
 use Rattle.tree_ckpt.specs.Making.{Making, new_making, making_ask}
-use Rattle.tree_moves.specs.Moves.{Leads}
 use Rattle.tree_moves.specs.Work.{work_ask}
 use Rattle.tree_moves.specs.declared.work.Work.{Work as Moving}
 use Rattle.tree_moves.specs.declared.work.Work.TheVariants as moving
+use Rattle.txn_buffer.specs.Noted.{Noted}
 
--- behind so many calls the checkpoint of the tree is in hand, and they were few
-pub record IsMaking (tree calls : ℕ) (first s : CloudState) (home : Home) (work : Work) : Type 0 where
-  pub making : Making
-  pub works : work ≡ Folding home making
-  pub tree_is : making.tree ≡ tree
-  pub early : calls + calls_in making.work ≤ calls_in moving.TakingTree
-  pub stays : Stays tree calls first s making.work making.received
+-- ---- beside other calls
 
--- before its first call
-pub making_first : (tree : ℕ) (first : CloudState) (home : Home) (work : Work) → work ≡ Folding home (new_making tree) → IsMaking tree 0 first first home work
-making_first tree first home work is = record { making = new_making tree; works = is; tree_is = refl; early = omega arith; stays = stays_first tree first }
+-- a checkpoint before its first call
+pub begun_counts : (s : CloudState) (home : Home) (tree : ℕ) → CountsWork 0 s (Folding home (new_making tree))
+begun_counts s home tree = record { early = omega arith; made = first_few tree s }
 
--- under another wish
-pub making_wishes : (tree calls : ℕ) (first s : CloudState) (wish : Wish) (home : Home) (work : Work) → IsMaking tree calls first s home work
-    → IsMaking tree calls first (record s { wish = wish }) home work
-making_wishes tree calls first s wish home work k = record {
-  making = k.making;
-  works = k.works;
-  tree_is = k.tree_is;
-  early = k.early;
-  stays = record { root = k.stays.root; once = k.stays.once; grows = k.stays.grows; few = k.stays.few };
-}
+-- where no next free page falls, what is in hand is counted as before
+pub counts_beside : (calls : ℕ) (s t : CloudState) (w : Work) → ((tree : ℕ) → next_page s tree ≤ next_page t tree) → CountsWork calls s w → CountsWork calls t w
+counts_beside calls s t (Folding home m) grows k = record { early = k.early; made = few_beside m.tree calls s t m.work m.received (grows m.tree) k.made }
+counts_beside calls s t Closed grows k = tt
+counts_beside calls s t (Idle home) grows k = tt
+counts_beside calls s t (Opening m) grows k = tt
+counts_beside calls s t (Committing m) grows k = tt
+counts_beside calls s t (Reading home m) grows k = tt
+counts_beside calls s t (Scanning home m) grows k = tt
+counts_beside calls s t (Paging home m) grows k = tt
+counts_beside calls s t (Closing l) grows k = tt
+counts_beside calls s t (Renewing home) grows k = tt
+counts_beside calls s t (Settling m) grows k = tt
+counts_beside calls s t (Broken l) grows k = tt
+
+-- ---- what is no tree checkpoint
+
+abbrev pub IsOther : Work → Type 0
+IsOther (Folding home m) = ⊥
+IsOther w = Unit {0}
+
+pub other_counts : (calls : ℕ) (s : CloudState) (w : Work) → IsOther w → CountsWork calls s w
+other_counts calls s (Folding home m) is = absurd is
+other_counts calls s w is = tt
+
+stopped_other : (t : Trouble) (home : Home) → IsOther (stopped_work t home)
+stopped_other trouble.Memory home = tt
+stopped_other t home = tt
+
+opened_other : (o : Option Home) → IsOther (opened_work o)
+opened_other (Some home) = tt
+opened_other None = tt
+
+committed_other : (a : CommitAnswer) (home : Home) → IsOther (committed_work a home)
+committed_other InDoubt home = tt
+committed_other (CommittedOpen t) home = tt
+committed_other (Committed txn) home = tt
+committed_other (NotCommitted t) home = tt
+
+scans_other : (left : ℕ) (w : Work) → ScansLess left w → IsOther w
+scans_other left (Scanning home m) less = tt
+scans_other left w less = absurd less
+
+other_by : (w v : Work) → w ≡ v → IsOther v → IsOther w
+other_by w v e is = subst IsOther (sym e) is
+
+-- a step of it is none either
+pub other_goes : (who : Caller) (before after : Seen) (w new : Work) → IsOther w → StepsAt who before after w new More → IsOther new
+other_goes who before after (Opening m) new is p = other_by new (Opening p.1.0) p.1.2 tt
+other_goes who before after (Committing m) new is (sound, c, d, p) = other_by new (Committing p.0) p.2 tt
+other_goes who before after (Reading home m) new is p = other_by new (Reading home p.0) p.2 tt
+other_goes who before after (Scanning home m) new is (buffer, c, d, shown, p) = scans_other _ new (p.less refl)
+other_goes who before after (Paging home m) new is p = other_by new (Paging home p.0) p.2 tt
+other_goes who before after (Folding home m) new is p = absurd is
+other_goes who before after (Closing l) new is p = absurd p
+other_goes who before after (Renewing home) new is p = absurd p
+other_goes who before after (Settling m) new is p = other_by new (Settling p.1.0) p.1.2 tt
+other_goes who before after Closed new is p = absurd p
+other_goes who before after (Idle home) new is p = absurd p
+other_goes who before after (Broken l) new is p = absurd p
+
+scan_ended : (home : Home) (buffer : List Noted) (m : Listing) (c : Cache) (moved : Turn ℕ) (new : Work) (shown : Shown) (a : Answer)
+    → Follows home buffer m c moved new shown (Ended a) → IsOther new
+scan_ended home buffer m c More new shown a f = absurd (cc (f.2))
+scan_ended home buffer m c (Ended page) new shown answer.Scan (all, listed, over, e, shows) = other_by new (Idle home) e tt
+scan_ended home buffer m c (Ended page) new shown (answer.Trouble t) f = other_by new (Broken home.lease) f.1 tt
+scan_ended home buffer m c (Ended page) new shown a f = absurd f
+scan_ended home buffer m c (Stopped t) new shown a f = other_by new (stopped_work t home) f.0 (stopped_other t home)
+
+-- behind an answer none is in hand
+pub ended_other : (who : Caller) (before after : Seen) (w new : Work) (a : Answer) → StepsAt who before after w new (Ended a) → IsOther new
+ended_other who before after (Opening m) new (answer.Opened epoch) p = other_by new _ p.1.2 (opened_other _)
+ended_other who before after (Opening m) new (answer.Trouble t) p = other_by new Closed p.1.2 tt
+ended_other who before after (Opening m) new a p = absurd p.1
+ended_other who before after (Committing m) new (answer.Commit a) (sound, c, d, p) = other_by new _ p.2 (committed_other a _)
+ended_other who before after (Committing m) new (answer.Trouble t) (sound, c, d, p) = other_by new (Broken _) p.2 tt
+ended_other who before after (Committing m) new a (sound, c, d, p) = absurd p
+ended_other who before after (Reading home m) new answer.Value p = other_by new (Idle home) p.1 tt
+ended_other who before after (Reading home m) new (answer.Trouble t) p = other_by new (stopped_work t home) p.1 (stopped_other t home)
+ended_other who before after (Reading home m) new a p = absurd p
+ended_other who before after (Scanning home m) new a (buffer, c, d, shown, p) =
+    scan_ended home buffer (record { scan = p.scan; pairs = m.pairs }) d p.moved new shown a p.follows
+ended_other who before after (Paging home m) new (answer.Done n) p = other_by new (Idle home) p.2 tt
+ended_other who before after (Paging home m) new (answer.Trouble t) p = other_by new (stopped_work t home) p.2 (stopped_other t home)
+ended_other who before after (Paging home m) new a p = absurd p
+ended_other who before after (Folding home m) new (answer.Done n) p = other_by new (Idle home) p.2 tt
+ended_other who before after (Folding home m) new (answer.Trouble t) p = other_by new (stopped_work t home) p.2 (stopped_other t home)
+ended_other who before after (Folding home m) new a p = absurd p
+ended_other who before after (Closing l) new answer.Closed p = other_by new Closed p.1 tt
+ended_other who before after (Closing l) new (answer.Trouble t) p = other_by new Closed p.1 tt
+ended_other who before after (Closing l) new a p = absurd p
+ended_other who before after (Renewing home) new (answer.Renewed end) p = other_by new (Idle p.0) p.2 tt
+ended_other who before after (Renewing home) new (answer.Trouble t) p = other_by new (stopped_work t p.0) p.2 (stopped_other t p.0)
+ended_other who before after (Renewing home) new a p = absurd p
+ended_other who before after (Settling m) new (answer.Settled n) p = other_by new Closed p.1.3 tt
+ended_other who before after (Settling m) new (answer.Trouble t) p = other_by new Closed p.1.2 tt
+ended_other who before after (Settling m) new a p = absurd p.1
+ended_other who before after Closed new a p = absurd p
+ended_other who before after (Idle home) new a p = absurd p
+ended_other who before after (Broken l) new a p = absurd p
+
+-- ---- a call of a session
 
 -- the receive is its third call
 receives_early : (w : Moving) (calls : ℕ) → calls + calls_in w ≤ calls_in moving.TakingTree → IsReceiving w → calls ≤ 2
 receives_early (moving.Receiving l root) calls early is = omega (arith, early)
 receives_early w calls early is = absurd is
 
+-- so many calls are few for what a tree checkpoint received, by the pages of its tree
+abbrev pub FewFor : ℕ → CloudState → Work → Type 0
+FewFor calls last (Folding home m) = IsFew calls m.received last m.tree
+FewFor calls last w = Unit {0}
+
 module _ (who : Caller) (before after : Seen) (s t : CloudState) (book : Book) (order : List Entry) (sessions : Sessions) (told : before.state ≡ Some s) (told_after : after.state ≡ Some t)
-    (stand : SessionsStand book order s sessions) (tree calls : ℕ) (first : CloudState) (home : Home) (k : IsMaking tree calls first s home (sessions who.session).work) where
-  abbrev m : Making
-  m = k.making
+    (stand : SessionsStand book order s sessions) where
+  -- no next free page falls
+  pub pages_grow : (new : Acting) (turn : Turn Answer) → StepsSession who before after (sessions who.session) new (Ok turn) → (tree : ℕ)
+      → next_page s tree ≤ next_page t tree
+  pages_grow new turn steps tree = (session_keeps who before after s t book order sessions new (Ok turn) told told_after stand steps).grows.next tree
 
-  known : KnowsMoves (store_of book order s) s.now tree m.work
-  known =
-      subst (λ (n : ℕ). KnowsMoves (store_of book order s) s.now n m.work) k.tree_is
-      (subst (λ (w : Work). KnowsWork (store_of book order s) s.now (sessions who.session).cache w (stand.parts who.session)) k.works (stand.each who.session).work).1.work
+  module _ (grows : (tree : ℕ) → next_page s tree ≤ next_page t tree) (calls : ℕ) (home : Home) (m : Making) (is : (sessions who.session).work ≡ Folding home m)
+      (k : IsCounted calls s m) where
+    known : KnowsMoves (store_of book order s) s.now m.tree m.work
+    known = (subst (λ (w : Work). KnowsWork (store_of book order s) s.now (sessions who.session).cache w (stand.parts who.session)) is (stand.each who.session).work).1.work
 
-  asked : (reply : Reply) → Makes who (making_ask m) reply before after → IsCall who (work_ask tree m.work) reply s t
-  asked reply made =
-      subst (λ (n : ℕ). IsCall who (work_ask n m.work) reply s t) k.tree_is (call_of who (making_ask m) reply before after s t made told told_after)
+    asked : (reply : Reply) → Makes who (making_ask m) reply before after → IsCall who (work_ask m.tree m.work) reply s t
+    asked reply made = call_of who (making_ask m) reply before after s t made told told_after
 
-  fits : (reply : Reply) → Makes who (making_ask m) reply before after → Fits (work_ask tree m.work) reply
-  fits reply made = subst (λ (n : ℕ). Fits (work_ask n m.work) reply) k.tree_is made.fits
+    -- a step that goes on
+    module _ (new : Acting) (next : Book) (order_next : List Entry) (stand_next : SessionsStand next order_next t (at who.session new sessions)) where
+      knows : (n : Making) → new.work ≡ Folding home n → KnowsMaking (store_of next order_next t) t.now n
+      knows n works = (subst (λ (w : Work). KnowsWork (store_of next order_next t) t.now new.cache w (stand_next.parts who.session)) works own.work).1
+        where
+          own : Knows (store_of next order_next t) t.now new (stand_next.parts who.session)
+          own =
+              subst (λ (a : Acting). Knows (store_of next order_next t) t.now a (stand_next.parts who.session)) (at_same who.session new sessions who.session refl)
+              (stand_next.each who.session)
 
-  stepped : (new : Acting) (turn : Turn Answer) → StepsSession who before after (sessions who.session) new (Ok turn) → StepsFolding home who before after m new.work turn
-  stepped new turn steps = subst (λ (w : Work). StepsAt who before after w new.work turn) k.works steps.work
+      goes_by : StepsFolding home who before after m new.work More → CountsWork (calls + 1) t new.work
+      goes_by (n, steps, works, less) = subst (λ (w : Work). CountsWork (calls + 1) t w) (sym works) (record {
+        early = let was = k.early in omega (arith, was, less);
+        made = subst (λ (tree : ℕ). MadeFew tree (calls + 1) t n.work n.received) (sym steps.took.0.0)
+            (few_on m.tree calls s t who steps.answer m.work m.received book order stand.cloud known (asked steps.answer steps.made) (grows m.tree) k.made n.work n.received next
+            order_next stand_next.cloud
+            (subst (λ (x : ℕ). KnowsMoves (store_of next order_next t) t.now x n.work) steps.took.0.0 (knows n works).work)
+            steps.made.fits steps.took.1 steps.took.0.1 (receives_early m.work calls k.early));
+      })
 
-  -- ---- a step that goes on
+    -- whatever a step comes to
+    call_made : (work : Work) (turn : Turn Answer) → StepsFolding home who before after m work turn → Asks (making_ask m) who before after
+    call_made work More (n, steps, works, less) = record { answer = steps.answer; made = steps.made }
+    call_made work (Ended (answer.Done done)) (n, steps, works) = record { answer = steps.answer; made = steps.made }
+    call_made work (Ended (answer.Trouble t)) (n, steps, works) = record { answer = steps.answer; made = steps.made }
+    call_made work turn never = absurd never
 
-  module _ (new : Acting) (next : Book) (order_next : List Entry) (stand_next : SessionsStand next order_next t (at who.session new sessions)) where
-    knows : (n : Making) → new.work ≡ Folding home n → KnowsMaking (store_of next order_next t) t.now n
-    knows n is = (subst (λ (w : Work). KnowsWork (store_of next order_next t) t.now new.cache w (stand_next.parts who.session)) is own.work).1
+    few_by : (work : Work) (turn : Turn Answer) → StepsFolding home who before after m work turn → IsFew (calls + 1) m.received t m.tree
+    few_by work turn steps =
+        let asks = call_made work turn steps in
+        ends_few m.tree calls s t who asks.answer m.work m.received book order stand.cloud known (asked asks.answer asks.made) (grows m.tree) k.made
+
+  -- what the session has in hand is counted behind a step that goes on
+  goes_at : (calls : ℕ) (new : Acting) (next : Book) (order_next : List Entry) → SessionsStand next order_next t (at who.session new sessions)
+      → ((tree : ℕ) → next_page s tree ≤ next_page t tree) → (w : Work) → (sessions who.session).work ≡ w → CountsWork calls s w
+      → StepsAt who before after w new.work More → CountsWork (calls + 1) t new.work
+  goes_at calls new next order_next stand_next grows (Folding home m) is k p = goes_by grows calls home m is k new next order_next stand_next p
+  goes_at calls new next order_next stand_next grows w is k p = other_counts (calls + 1) t new.work (other_goes who before after w new.work tt p)
+
+  -- and however it ends, its calls were few
+  few_at : (calls : ℕ) (new : Acting) (turn : Turn Answer) → ((tree : ℕ) → next_page s tree ≤ next_page t tree) → (w : Work) → (sessions who.session).work ≡ w
+      → CountsWork calls s w → StepsAt who before after w new.work turn → FewFor (calls + 1) t w
+  few_at calls new turn grows (Folding home m) is k p = few_by grows calls home m is k new.work turn p
+  few_at calls new turn grows w is k p = tt
+
+  pub session_few : (calls : ℕ → ℕ) (new : Acting) (turn : Turn Answer) → CountsAll calls s sessions → StepsSession who before after (sessions who.session) new (Ok turn)
+      → FewFor (calls who.session + 1) t (sessions who.session).work
+  session_few calls new turn all p = few_at (calls who.session) new turn (pages_grow new turn p) (sessions who.session).work refl (all who.session) p.work
+
+  -- a step leaves each session counted
+  module _ (calls : ℕ → ℕ) (all : CountsAll calls s sessions) (new : Acting) where
+    steps_count : (turn : Turn Answer) (own : ℕ) → StepsSession who before after (sessions who.session) new (Ok turn) → CountsWork own t new.work
+        → CountsAll (at who.session own calls) t (at who.session new sessions)
+    steps_count turn own p mine n = on (cases_eq n who.session)
       where
-        own : Knows (store_of next order_next t) t.now new (stand_next.parts who.session)
-        own =
-            subst (λ (a : Acting). Knows (store_of next order_next t) t.now a (stand_next.parts who.session)) (at_same who.session new sessions who.session refl)
-            (stand_next.each who.session)
+        on : (n ≡ who.session) ⊎ (n ≢ who.session) → CountsWork (at who.session own calls n) t (at who.session new sessions n).work
+        on (inl e) =
+            subst (λ (c : ℕ). CountsWork c t (at who.session new sessions n).work) (sym (at_same who.session own calls n e))
+            (subst (λ (a : Acting). CountsWork own t a.work) (sym (at_same who.session new sessions n e)) mine)
+        on (inr ne) =
+            subst (λ (c : ℕ). CountsWork c t (at who.session new sessions n).work) (sym (at_other who.session own calls n ne))
+            (subst (λ (a : Acting). CountsWork (calls n) t a.work) (sym (at_other who.session new sessions n ne))
+            (counts_beside (calls n) s t (sessions n).work (pages_grow new turn p) (all n)))
 
-    goes_by : StepsFolding home who before after m new.work More → IsMaking tree (calls + 1) first t home new.work
-    goes_by (n, steps, is, less) = record {
-      making = n;
-      works = is;
-      tree_is = steps.took.0.0 ∙ k.tree_is;
-      early = let was = k.early in omega (arith, was, less);
-      stays = stays_on tree calls first s t who steps.answer m.work m.received book order stand.cloud known (asked steps.answer steps.made) k.stays n.work n.received next
-          order_next stand_next.cloud
-          (subst (λ (x : ℕ). KnowsMoves (store_of next order_next t) t.now x n.work) (steps.took.0.0 ∙ k.tree_is) (knows n is).work)
-          (fits steps.answer steps.made)
-          (subst (λ (x : ℕ). Leads x m.work steps.answer (Goes n.work)) k.tree_is steps.took.1)
-          steps.took.0.1 (receives_early m.work calls k.early);
-    }
+    pub more_counts : (next : Book) (order_next : List Entry) → SessionsStand next order_next t (at who.session new sessions)
+        → StepsSession who before after (sessions who.session) new (Ok More) → CountsAll (at who.session (calls who.session + 1) calls) t (at who.session new sessions)
+    more_counts next order_next stand_next p =
+        steps_count More (calls who.session + 1) p
+        (goes_at (calls who.session) new next order_next stand_next (pages_grow new More p) (sessions who.session).work refl (all who.session) p.work)
 
-    pub making_goes : StepsSession who before after (sessions who.session) new (Ok More) → IsMaking tree (calls + 1) first t home new.work
-    making_goes steps = goes_by (stepped new More steps)
-
-  -- ---- whatever a step comes to
-
-  call_made : (work : Work) (turn : Turn Answer) → StepsFolding home who before after m work turn → Asks (making_ask m) who before after
-  call_made work More (n, steps, is, less) = record { answer = steps.answer; made = steps.made }
-  call_made work (Ended (answer.Done done)) (n, steps, is) = record { answer = steps.answer; made = steps.made }
-  call_made work (Ended (answer.Trouble t)) (n, steps, is) = record { answer = steps.answer; made = steps.made }
-  call_made work turn never = absurd never
-
-  pub making_few : (new : Acting) (turn : Turn Answer) → StepsSession who before after (sessions who.session) new (Ok turn) → IsFew (calls + 1) m.received t tree
-  making_few new turn steps =
-      let asks = call_made new.work turn (stepped new turn steps) in
-      ends_few tree calls first s t who asks.answer m.work m.received book order stand.cloud known (asked asks.answer asks.made) k.stays
+    pub end_counts : (a : Answer) (own : ℕ) → StepsSession who before after (sessions who.session) new (Ok (Ended a))
+        → CountsAll (at who.session own calls) t (at who.session new sessions)
+    end_counts a own p = steps_count (Ended a) own p (other_counts own t new.work (ended_other who before after (sessions who.session).work new.work a p.work))

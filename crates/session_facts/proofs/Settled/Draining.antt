@@ -246,7 +246,7 @@ are_items (m ∷ ms) items e = on (pu_of m.bytes) refl (items_of ms) (are_items 
     on (Some rec) reads (Err bad) again h = absurd (cc (h))
 
 -- each number is among those that were seen, or among the new ones
-new_all : (seen ns : List ℕ) (n : ℕ) → IsIn ns n → IsIn seen n ⊎ IsIn (new_ones seen ns) n
+pub new_all : (seen ns : List ℕ) (n : ℕ) → IsIn ns n → IsIn seen n ⊎ IsIn (new_ones seen ns) n
 new_all seen [] n is = absurd (none_in n is)
 new_all seen (x ∷ ns) n is = on (is_seen seen x) refl (new_all seen ns n) (new_all (seen ++ x ∷ []) ns n) (in_cases x ns n is)
   where

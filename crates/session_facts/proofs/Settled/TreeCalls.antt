@@ -508,7 +508,7 @@ before_step p (work.Receiving l root) d = 14 + d * (8 * p + 16)
 before_step p w d = calls_left p w
 
 below_at : (p d tree : ℕ) (w : Work) (a : Answer) (next : Step) → FitsWork p w
-    → ((i : Intake) (ms : List Message) (cursor : List (ℕ × ℕ)) → received_of a ≡ Ok ms → TakesIn (queue.TreePu tree) cursor ms (Ok i)
+    → ((l : Claim) (root : Option (List ℕ)) → w ≡ work.Receiving l root → (i : Intake) (ms : List Message) (cursor : List (ℕ × ℕ)) → received_of a ≡ Ok ms → TakesIn (queue.TreePu tree) cursor ms (Ok i)
     → (length i.deletions.ids ≤ d) × (length i.run.items ≤ d))
     → Leads tree w a next → Below p (before_step p w d) next
 unfolding Below
@@ -519,7 +519,7 @@ below_at p d tree (work.Receiving l root) a next fits few h = on (received_of a)
   on (Ok ms) e r =
       below_by p _ next _ r.2
       (below_intake p d tree l root r.0
-      (λ i is. few i ms (tree_held root).cursor e (subst (TakesIn (queue.TreePu tree) (tree_held root).cursor ms) is r.1)))
+      (λ i is. few l root refl i ms (tree_held root).cursor e (subst (TakesIn (queue.TreePu tree) (tree_held root).cursor ms) is r.1)))
   on (Err t) e r = below_by p _ next _ r (below_stop p (14 + d * (8 * p + 16)) l t (omega arith))
 below_at p d tree (work.Descending k way) a next fits few e =
     below_by p _ next _ e (below_descending p _ 1 k way.chart (descent_next way a) (descent_further way a) (λ nodes. omega (arith, nodes)) (omega arith))
@@ -536,7 +536,7 @@ below_at p d tree work.Finished a next fits few e = below_by p _ next _ e tt
 
 -- a step that goes on leaves fewer calls
 pub goes_fewer : (p d tree : ℕ) (w : Work) (a : Answer) (v : Work) → FitsWork p w → FitsWork p v
-    → ((i : Intake) (ms : List Message) (cursor : List (ℕ × ℕ)) → received_of a ≡ Ok ms → TakesIn (queue.TreePu tree) cursor ms (Ok i)
+    → ((l : Claim) (root : Option (List ℕ)) → w ≡ work.Receiving l root → (i : Intake) (ms : List Message) (cursor : List (ℕ × ℕ)) → received_of a ≡ Ok ms → TakesIn (queue.TreePu tree) cursor ms (Ok i)
     → (length i.deletions.ids ≤ d) × (length i.run.items ≤ d))
     → Leads tree w a (Goes v) → calls_left p v < before_step p w d
 unfolding Below

@@ -6,6 +6,7 @@ use Rattle.cloud_trait.specs.State.{CloudState}
 use Rattle.replay_meaning.specs.Standing.{Line, session_of}
 use Rattle.reply_text.specs.declared.reply.Reply.{Reply}
 use Rattle.reply_text.specs.declared.reply.Reply.TheVariants as reply
+use Rattle.session_facts.specs.Few.{IsFew}
 use Rattle.session_facts.specs.Sessions.Sessions.{Sessions}
 use Rattle.session_facts.specs.TreeCheckpoints.Counting.{IsCounted}
 
@@ -40,3 +41,8 @@ CountsWork calls s work = Unit {0}
 -- each session made so many
 abbrev pub CountsAll : (ℕ → ℕ) → CloudState → Sessions → Type 0
 CountsAll calls s sessions = (session : ℕ) → CountsWork (calls session) s (sessions session).work
+
+-- so many calls were few for what is in hand where it is a tree checkpoint, by the distinct ids that it received and the pages of its tree
+abbrev pub FewFor : ℕ → CloudState → Work → Type 0
+FewFor calls last (Folding home m) = IsFew calls m.received last m.tree
+FewFor calls last work = Unit {0}

@@ -32,7 +32,7 @@ use Rattle.report_types.specs.declared.entry.Entry.{Entry}
 use Rattle.session_facts.proofs.Sessions.Calling.{session_keeps}
 use Rattle.session_facts.proofs.Settled.TreeReceives.{IsReceiving}
 use Rattle.session_facts.proofs.Settled.TreeTurns.{first_few, few_beside, few_on, ends_few}
-use Rattle.session_facts.specs.Counted.{CountsWork, CountsAll}
+use Rattle.session_facts.specs.Counted.{CountsWork, CountsAll, FewFor}
 use Rattle.session_facts.specs.Few.{next_page, IsFew}
 use Rattle.session_facts.specs.Sessions.Sessions.{KnowsWork, Knows, Sessions, SessionsStand}
 use Rattle.session_facts.specs.TreeCheckpoints.Checkpoint.{KnowsWork as KnowsMoves, KnowsMaking}
@@ -157,11 +157,6 @@ ended_other who before after (Broken l) new a p = absurd p
 receives_early : (w : Moving) (calls : ℕ) → calls + calls_in w ≤ calls_in moving.TakingTree → IsReceiving w → calls ≤ 2
 receives_early (moving.Receiving l root) calls early is = omega (arith, early)
 receives_early w calls early is = absurd is
-
--- so many calls are few for what a tree checkpoint received, by the pages of its tree
-abbrev pub FewFor : ℕ → CloudState → Work → Type 0
-FewFor calls last (Folding home m) = IsFew calls m.received last m.tree
-FewFor calls last w = Unit {0}
 
 module _ (who : Caller) (before after : Seen) (s t : CloudState) (book : Book) (order : List Entry) (sessions : Sessions) (told : before.state ≡ Some s) (told_after : after.state ≡ Some t)
     (stand : SessionsStand book order s sessions) where

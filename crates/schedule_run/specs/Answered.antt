@@ -61,7 +61,7 @@ abbrev pub IsKeptLine : List Entry → List Line → Line → Type 0
 IsKeptLine entries before line = IsKeptReply entries (standing before (session_of line.event)).client (standing before (session_of line.event)).posture line.reply
 
 -- a line that was handled explains the steps that it made; where its session was untroubled and each of these was calm, the session is untroubled
--- behind it, and the line is answered well; the calls of a tree checkpoint are few up to it; a settling leaves nothing and comes to its end so;
+-- behind it, and the line is answered well; the calls of a checkpoint are few up to it; a settling leaves nothing and comes to its end so;
 -- a commit that it answers as committed is among what was committed, and of one that it answers as not committed nothing is; the two numbers of a
 -- report count what is left then; and a read and a scan show what their own calls served
 pub record IsExplained (lines : List Line) (line : Line) (before after : Seen) (old new : World) (handled : Handled (length lines + 1) line.event before after old new (Ok line.reply))

@@ -2,7 +2,7 @@
 use Rattle.std.proofs.Common.{◌≡◌, ◌≢◌, ◌+◌, ◌≤◌, ◌⊎◌, inl, inr, ℕ, Bool, true, false, cond, List, [], ◌∷◌, ◌++◌, length, Option, Some, None, Result, Ok, Err, refl, sym, ap, subst, ◌∙◌, arith, ne_eqb}
 use Rattle.std.specs.Prelude.{◌==◌}
 use Rattle.std.proofs.lemmas.Bool.{cases_eq, eq-eqb}
-use Rattle.client_work.specs.Session.{Acting, Follows, Begins, BeginsWith, HasInHand, CommitsNoted, CommitsOf, ReadsOf, StepsSession, closed_session, settling_session, stopped_work}
+use Rattle.client_work.specs.Session.{Acting, Follows, Begins, BeginsWith, HasInHand, CommitsNoted, CommitsOf, ReadsOf, StepsSession, closed_session, settling_session, stopped_work, paging_begun_by, folding_begun_by}
 use Rattle.client_work.specs.declared.answer.Answer.{Answer}
 use Rattle.client_work.specs.declared.answer.Answer.TheVariants as answer
 use Rattle.client_work.specs.declared.answer.Begun.{Begun}
@@ -18,7 +18,9 @@ use Rattle.cloud_facts.specs.Book.Book.{Book}
 use Rattle.cloud_facts.specs.Book.Tally.{at}
 use Rattle.cloud_trait.specs.Caller.{Caller}
 use Rattle.cloud_trait.specs.Seen.{Seen}
-use Rattle.cloud_trait.specs.State.{CloudState}
+use Rattle.cloud_trait.proofs.EffectLemmas.{begins_itself, grown_itself}
+use Rattle.cloud_trait.specs.State.{CloudState, greatest, end_after}
+use Rattle.cloud_trait.specs.Upto.{posts_of}
 use Rattle.cloud_trait.specs.declared.turn.Turn.TheVariants.{More, Ended, Stopped}
 use Rattle.cloud_trait.specs.declared.turn.Turn.{Turn}
 use Rattle.db_base.specs.declared.change.Change.{Change}
@@ -38,7 +40,7 @@ use Rattle.reply_text.specs.declared.reply.Reply.{Reply}
 use Rattle.reply_text.specs.declared.reply.Reply.TheVariants as reply
 use Rattle.report_types.specs.declared.entry.Entry.{Entry}
 use Rattle.session_facts.proofs.LineLemmas.{line_of}
-use Rattle.session_facts.proofs.Sessions.FoldingCalls.{IsOther, begun_counts, counts_beside, other_counts, session_few, more_counts, end_counts}
+use Rattle.session_facts.proofs.Sessions.FoldingCalls.{IsOther, Leads, begun_counts, page_begun, counts_beside, other_counts, session_few, more_counts, end_counts}
 use Rattle.session_facts.proofs.SettlerLemmas.{settler_row}
 use Rattle.session_facts.proofs.Steps.{CallLeaves, CallLeavesUpto, wish_holds}
 use Rattle.session_facts.proofs.CallKinds.{IsSettlersRow}
@@ -68,6 +70,21 @@ state_is x y e = cc
 
 no_more : (n : ℕ) → n ≤ n
 no_more n = omega arith
+
+end_later : (now ticks after : ℕ) → now ≤ greatest → end_after now ticks ≤ after → now ≤ after
+end_later now ticks after within later = omega arith
+
+-- a wait loses nothing
+wait_leads : (t : CloudState) (now waits : ℕ) → t.now ≤ now → Leads t (record t { now = now; waits = waits })
+wait_leads t now waits later = record {
+  next = λ tree. no_more (next_page t tree);
+  grown = record {
+    versions = λ name. begins_itself (t.versions name);
+    messages = λ queue. begins_itself (posts_of (t.messages queue));
+    trace = begins_itself t.trace;
+    later = later;
+  };
+}
 
 -- ---- counts that agree
 
@@ -143,21 +160,23 @@ module _ (r : Reply) (calls : ℕ) (s : CloudState) (a b : Acting) where
   refused_counts rule e same k =
       subst (λ (q : Reply). CountsWork (counted q calls) s b.work) (sym (refused_is r rule e)) (subst (λ (x : Acting). CountsWork calls s x.work) (sym same) k)
 
-  -- what an open client begins that is no tree checkpoint
+  -- what an open client begins that is no checkpoint
   hand_counts : (own : Home → Work) (begun : Result Begun Refused) → ((home : Home) → IsOther (own home)) → BeginsWith (λ home. HasInHand a (own home)) a b begun
       → RepliesBegun begun b (Ok r) → CountsWork calls s a.work → Left
   hand_counts own (Ok begun) is begins e k = other_by (counted r calls) s b.work (own begins.0) (ap (λ (x : Acting). x.work) begins.2.1) (is begins.0)
   hand_counts own (Err (refused.Rule rule)) is begins e k = refused_counts rule e begins.1 k
   hand_counts own (Err refused.Memory) is begins e k = absurd begins
 
-  tree_counts : (tree : ℕ) (begun : Result Begun Refused) → Begins (op.Tree tree) a b begun → RepliesBegun begun b (Ok r) → CountsWork calls s a.work → Left
-  tree_counts tree (Ok begun) begins e k =
+  -- a checkpoint has made no call
+  first_counts : (own : Home → Work) → ((home : Home) → CountsWork 0 s (own home)) → (begun : Result Begun Refused) → BeginsWith (λ home. HasInHand a (own home)) a b begun
+      → RepliesBegun begun b (Ok r) → CountsWork calls s a.work → Left
+  first_counts own first (Ok begun) begins e k =
       let answered : RepliesBegun (Ok Working) b (Ok r) = subst (λ x. RepliesBegun (Ok x) b (Ok r)) begins.2.0 e in
       let is : r ≡ reply.Begun = cc (answered) in
       subst (λ (q : Reply). CountsWork (counted q calls) s b.work) (sym is)
-      (subst (λ (x : Acting). CountsWork 0 s x.work) (sym begins.2.1) (begun_counts s begins.0 tree))
-  tree_counts tree (Err (refused.Rule rule)) begins e k = refused_counts rule e begins.1 k
-  tree_counts tree (Err refused.Memory) begins e k = absurd begins
+      (subst (λ (x : Acting). CountsWork 0 s x.work) (sym begins.2.1) (first begins.0))
+  first_counts own first (Err (refused.Rule rule)) begins e k = refused_counts rule e begins.1 k
+  first_counts own first (Err refused.Memory) begins e k = absurd begins
 
   open_counts : (client : ℕ) (begun : Result Begun Refused) → Begins (op.Open client) a b begun → RepliesBegun begun b (Ok r) → CountsWork calls s a.work → Left
   open_counts client (Ok Working) begins e k = other_by (counted r calls) s b.work _ (ap (λ (x : Acting). x.work) begins.1) tt
@@ -210,8 +229,8 @@ module _ (r : Reply) (calls : ℕ) (s : CloudState) (a b : Acting) where
   begin_counts op.Commit begun begins e k = commit_counts begun begins e k
   begin_counts (op.Read tree key) begun begins e k = read_counts tree key begun begins e k
   begin_counts (op.Scan tree from to) begun begins e k = scan_counts tree from to begun begins e k
-  begin_counts (op.Page tree page) begun begins e k = hand_counts _ begun (λ home. tt) begins e k
-  begin_counts (op.Tree tree) begun begins e k = tree_counts tree begun begins e k
+  begin_counts (op.Page tree page) begun begins e k = first_counts (paging_begun_by tree page) (λ home. page_begun s home tree page) begun begins e k
+  begin_counts (op.Tree tree) begun begins e k = first_counts (folding_begun_by tree) (λ home. begun_counts s home tree) begun begins e k
 
   -- a change that is noted, and changes that are dropped
   kept_counts : (buffer : List Noted) → ((n : ℕ) → counted r n ≡ n) → b ≡ record a { buffer = buffer } → CountsWork calls s a.work → Left
@@ -231,7 +250,8 @@ module _ (who : Caller) (wish : Wish) (before after : Seen) (old new : World) (t
   told_wished = p.wishes.set x (p.look_before.stays x told)
 
   under_wish : CountsAll calls wished (session_at old.sessions)
-  under_wish n = counts_beside (calls n) x wished (session_at old.sessions n).work (λ tree. no_more (next_page x tree)) (all n)
+  under_wish n = counts_beside (calls n) x wished (session_at old.sessions n).work
+      (record { next = λ tree. no_more (next_page x tree); grown = grown_itself x wished refl refl refl refl }) (all n)
 
   last_is : y ≡ last
   last_is = state_is y last (sym (p.look_after.stays y left) ∙ seen)
@@ -601,7 +621,7 @@ module _ (lines : List Line) (n : ℕ) (number : length lines + 1 ≡ n) (before
       subst (λ (z : CloudState). CountsAll (calls_told (lines ++ line_of e r ∷ [])) z (session_at new.sessions)) (sym w.rest ∙ same)
       (counts_like (calls_told lines) (calls_told (lines ++ line_of e r ∷ [])) _ (session_at old.sessions) (session_at new.sessions)
       (still_tells lines e r (λ (calls : ℕ). ap (λ (q : Reply). counted q calls) is)) (λ k. ap (λ (x : World). session_at x.sessions k) h.1)
-      (λ k. counts_beside (calls_told lines k) t _ (session_at old.sessions k).work (λ tree. no_more (next_page t tree)) (all k)))
+      (λ k. counts_beside (calls_told lines k) t _ (session_at old.sessions k).work (wait_leads t w.after.now _ (end_later t.now ticks w.after.now (h.0.clock t told) w.later)) (all k)))
   waited ticks (inr long) = declined_counts _ long.declines
 
   report_still : (q : Reply) (tree : ℕ) → ReportReply tree before after old (Ok q) → (calls : ℕ) → counted q calls ≡ calls

@@ -1,4 +1,4 @@
--- How many service calls the tree checkpoint of a session makes at most, whichever lines make them.
+-- How many service calls the checkpoint of a session makes at most, whichever lines make them.
 use Rattle.std.specs.Prelude.{ℕ, ◌≡◌, ◌+◌, Bool, true, false, List, length, Some, Result, Ok, Err}
 use Rattle.std.proofs.Common.{inl, inr}
 use Rattle.client_work.specs.declared.answer.Answer.{Answer}
@@ -81,8 +81,8 @@ AnswersSoon lines n (Session number request) before after old new result (inl se
 AnswersSoon lines n (Session number request) before after old new result (inr none) = Unit {0}
 AnswersSoon lines n asked before after old new result answers = Unit {0}
 
--- Whatever lines a world and a cloud stood for before a line, however it was handled: the calls of a tree checkpoint up to the last one that the line
--- made, those of steps of earlier lines among them, are few for the distinct ids that it received and for the pages of its tree then.
+-- Whatever lines a world and a cloud stood for before a line, however it was handled: the calls of a checkpoint up to the last one that the line made,
+-- those of steps of earlier lines among them, are few: those of a tree for the distinct ids that it received and for the pages of its tree then.
 abbrev pub MakesFewCalls : ℕ → Event → Seen → Seen → World → World → Result Reply WorldFault → Type 0
 MakesFewCalls n event before after old new result =
     (lines : List Line) (t : CloudState) → length lines + 1 ≡ n → before.state ≡ Some t → WorldStands lines old t

@@ -25,7 +25,7 @@ abbrev pub LeftIsRight : CloudState → Reply → Type 0
 LeftIsRight t (reply.Report r) = IsLeft t r
 LeftIsRight t reply = Unit {0}
 
--- a world and a cloud stand for these lines; and of what each session has in hand so many calls were made as these tell, few for a tree checkpoint
+-- a world and a cloud stand for these lines; and of what each session has in hand so many calls were made as these tell, few for a checkpoint
 pub record WorldStands (lines : List Line) (world : World) (t : CloudState) : Type 0 where
   pub by_lines : Stands lines (session_at world.sessions) world.audit world.blind t
   pub counted : CountsAll (calls_told lines) t (session_at world.sessions)

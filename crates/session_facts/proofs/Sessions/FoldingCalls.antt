@@ -1,7 +1,7 @@
--- The tree checkpoints of sessions from call to call: each makes few.
-use Rattle.std.proofs.Common.{◌≡◌, ◌≢◌, ◌+◌, ◌≤◌, ◌⊎◌, inl, inr, ℕ, List, Option, Some, None, Ok, refl, sym, ap, subst, ◌∙◌, arith}
+-- The checkpoints of sessions from call to call: each makes few.
+use Rattle.std.proofs.Common.{◌≡◌, ◌≢◌, ◌+◌, ◌≤◌, ◌⊎◌, inl, inr, ℕ, List, [], ◌∷◌, Option, Some, None, Ok, refl, sym, ap, subst, ◌∙◌, arith}
 use Rattle.std.proofs.lemmas.Bool.{cases_eq}
-use Rattle.client_work.specs.Session.{Acting, Asks, Follows, ScansLess, StepsSession, StepsAt, StepsFolding, opened_work, committed_work, stopped_work}
+use Rattle.client_work.specs.Session.{Acting, Asks, Follows, ScansLess, StepsSession, StepsAt, StepsFolding, StepsPaging, opened_work, committed_work, stopped_work}
 use Rattle.client_work.specs.declared.answer.Answer.{Answer}
 use Rattle.client_work.specs.declared.answer.Answer.TheVariants as answer
 use Rattle.client_work.specs.declared.listing.Listing.{Listing}
@@ -10,15 +10,20 @@ use Rattle.client_work.specs.declared.work.Work.{Work}
 use Rattle.client_work.specs.declared.work.Work.TheVariants.{Closed, Idle, Opening, Committing, Reading, Scanning, Paging, Folding, Closing, Renewing, Settling, Broken}
 use Rattle.cloud_facts.proofs.Book.Names.{at_same, at_other}
 use Rattle.cloud_facts.proofs.Calls.Calls.{call_of}
+use Rattle.cloud_facts.proofs.Calls.Copies.{begins_on}
 use Rattle.cloud_facts.specs.Book.Book.{Book}
 use Rattle.cloud_facts.specs.Book.Tally.{at}
 use Rattle.cloud_facts.specs.Calls.Call.{IsCall}
 use Rattle.cloud_facts.specs.Tellings.Told.{store_of}
 use Rattle.cloud_trait.specs.Caller.{Caller}
-use Rattle.cloud_trait.specs.Machine.{Goes as GoesOn}
+use Rattle.cloud_trait.proofs.EffectLemmas.{grown_itself}
+use Rattle.cloud_trait.proofs.RowLemmas.{leaves_grown}
+use Rattle.cloud_trait.specs.Growth.{HasGrown}
+use Rattle.cloud_trait.specs.Machine.{Deed, Follows as ComesBehind}
 use Rattle.cloud_trait.specs.Seen.{Seen}
 use Rattle.cloud_trait.specs.State.{CloudState}
-use Rattle.cloud_trait.specs.Weather.{Makes}
+use Rattle.cloud_trait.specs.Upto.{posts_of}
+use Rattle.cloud_trait.specs.Weather.{Makes, Leaves}
 use Rattle.cloud_trait.specs.declared.answer.Answer.{Answer as Reply}
 use Rattle.cloud_trait.specs.declared.turn.Turn.{Turn}
 use Rattle.cloud_trait.specs.declared.turn.Turn.TheVariants.{More, Ended, Stopped}
@@ -27,12 +32,16 @@ use Rattle.db_base.specs.declared.trouble.CommitAnswer.TheVariants.{Committed, N
 use Rattle.db_base.specs.declared.trouble.Trouble.{Trouble}
 use Rattle.db_base.specs.declared.trouble.Trouble.TheVariants as trouble
 use Rattle.page_cache.specs.Cache.{Cache}
+use Rattle.page_ckpt.proofs.Leases.{came_stands, stands_few}
+use Rattle.page_ckpt.specs.Paging.{Paging as Page, new_paging, paging_ask}
+use Rattle.page_ckpt.specs.Standing.{AreFew}
 use Rattle.recover_run.specs.declared.home.Home.{Home}
 use Rattle.report_types.specs.declared.entry.Entry.{Entry}
 use Rattle.session_facts.proofs.Sessions.Calling.{session_keeps}
+use Rattle.session_facts.proofs.Steps.{MadeCall, made_call}
 use Rattle.session_facts.proofs.Settled.TreeReceives.{IsReceiving}
 use Rattle.session_facts.proofs.Settled.TreeTurns.{first_few, few_beside, few_on, ends_few}
-use Rattle.session_facts.specs.Counted.{CountsWork, CountsAll, FewFor}
+use Rattle.session_facts.specs.Counted.{IsBehind, CameBy, CountsWork, CountsAll, FewFor}
 use Rattle.session_facts.specs.Few.{next_page, IsFew}
 use Rattle.session_facts.specs.Sessions.Sessions.{KnowsWork, Knows, Sessions, SessionsStand}
 use Rattle.session_facts.specs.TreeCheckpoints.Checkpoint.{KnowsWork as KnowsMoves, KnowsMaking}
@@ -50,29 +59,58 @@ use Rattle.txn_buffer.specs.Noted.{Noted}
 pub begun_counts : (s : CloudState) (home : Home) (tree : ℕ) → CountsWork 0 s (Folding home (new_making tree))
 begun_counts s home tree = record { early = omega arith; made = first_few tree s }
 
--- where no next free page falls, what is in hand is counted as before
-pub counts_beside : (calls : ℕ) (s t : CloudState) (w : Work) → ((tree : ℕ) → next_page s tree ≤ next_page t tree) → CountsWork calls s w → CountsWork calls t w
-counts_beside calls s t (Folding home m) grows k = record { early = k.early; made = few_beside m.tree calls s t m.work m.received (grows m.tree) k.made }
+pub page_begun : (s : CloudState) (home : Home) (tree page : ℕ) → CountsWork 0 s (Paging home (new_paging tree page))
+page_begun s home tree page = record { tree = tree; page = page; made = []; came = refl; many = refl; behind = tt }
+
+-- what calls leave of a cloud: no next free page falls, and nothing that landed is lost
+pub record Leads (s t : CloudState) : Type 0 where
+  pub next : (tree : ℕ) → next_page s tree ≤ next_page t tree
+  pub grown : HasGrown s t
+
+grown_on : (r s t : CloudState) → HasGrown r s → HasGrown s t → HasGrown r t
+grown_on r s t one other = record {
+  versions = λ name. begins_on (r.versions name) (s.versions name) (t.versions name) (one.versions name) (other.versions name);
+  messages = λ queue. begins_on (posts_of (r.messages queue)) (posts_of (s.messages queue)) (posts_of (t.messages queue)) (one.messages queue) (other.messages queue);
+  trace = begins_on r.trace s.trace t.trace one.trace other.trace;
+  later = let a = one.later in let b = other.later in omega (arith, a, b);
+}
+
+behind_on : (h : List Deed) (s t : CloudState) → HasGrown s t → IsBehind h s → IsBehind h t
+behind_on [] s t grown is = tt
+behind_on (last ∷ h) s t grown is = λ x seen. grown_on x s t (is x seen) grown
+
+-- and so what is in hand is counted as before
+pub counts_beside : (calls : ℕ) (s t : CloudState) (w : Work) → Leads s t → CountsWork calls s w → CountsWork calls t w
+counts_beside calls s t (Folding home m) leads k = record { early = k.early; made = few_beside m.tree calls s t m.work m.received (leads.next m.tree) k.made }
+counts_beside calls s t (Paging home p) leads k = record {
+  tree = k.tree;
+  page = k.page;
+  made = k.made;
+  came = k.came;
+  many = k.many;
+  behind = behind_on k.made s t leads.grown k.behind;
+}
 counts_beside calls s t Closed grows k = tt
 counts_beside calls s t (Idle home) grows k = tt
 counts_beside calls s t (Opening m) grows k = tt
 counts_beside calls s t (Committing m) grows k = tt
 counts_beside calls s t (Reading home m) grows k = tt
 counts_beside calls s t (Scanning home m) grows k = tt
-counts_beside calls s t (Paging home m) grows k = tt
 counts_beside calls s t (Closing l) grows k = tt
 counts_beside calls s t (Renewing home) grows k = tt
 counts_beside calls s t (Settling m) grows k = tt
 counts_beside calls s t (Broken l) grows k = tt
 
--- ---- what is no tree checkpoint
+-- ---- what is no checkpoint
 
 abbrev pub IsOther : Work → Type 0
 IsOther (Folding home m) = ⊥
+IsOther (Paging home p) = ⊥
 IsOther w = Unit {0}
 
 pub other_counts : (calls : ℕ) (s : CloudState) (w : Work) → IsOther w → CountsWork calls s w
 other_counts calls s (Folding home m) is = absurd is
+other_counts calls s (Paging home p) is = absurd is
 other_counts calls s w is = tt
 
 stopped_other : (t : Trouble) (home : Home) → IsOther (stopped_work t home)
@@ -102,7 +140,7 @@ other_goes who before after (Opening m) new is p = other_by new (Opening p.1.0) 
 other_goes who before after (Committing m) new is (sound, c, d, p) = other_by new (Committing p.0) p.2 tt
 other_goes who before after (Reading home m) new is p = other_by new (Reading home p.0) p.2 tt
 other_goes who before after (Scanning home m) new is (buffer, c, d, shown, p) = scans_other _ new (p.less refl)
-other_goes who before after (Paging home m) new is p = other_by new (Paging home p.0) p.2 tt
+other_goes who before after (Paging home m) new is p = absurd is
 other_goes who before after (Folding home m) new is p = absurd is
 other_goes who before after (Closing l) new is p = absurd p
 other_goes who before after (Renewing home) new is p = absurd p
@@ -160,10 +198,21 @@ receives_early w calls early is = absurd is
 
 module _ (who : Caller) (before after : Seen) (s t : CloudState) (book : Book) (order : List Entry) (sessions : Sessions) (told : before.state ≡ Some s) (told_after : after.state ≡ Some t)
     (stand : SessionsStand book order s sessions) where
-  -- no next free page falls
-  pub pages_grow : (new : Acting) (turn : Turn Answer) → StepsSession who before after (sessions who.session) new (Ok turn) → (tree : ℕ)
-      → next_page s tree ≤ next_page t tree
-  pages_grow new turn steps tree = (session_keeps who before after s t book order sessions new (Ok turn) told told_after stand steps).grows.next tree
+  -- what the call leaves
+  call_leads : (new : Acting) (turn : Turn Answer) → StepsSession who before after (sessions who.session) new (Ok turn) → Leads s t
+  call_leads new turn steps = record {
+    next = λ tree. (session_keeps who before after s t book order sessions new (Ok turn) told told_after stand steps).grows.next tree;
+    grown = subst (λ (z : CloudState). HasGrown s z) (same l.after t (sym l.told ∙ told_after)) (leaves_grown who c.ask c.answer before.counts after.counts s after.state l);
+  }
+    where
+      c : MadeCall who before after (sessions who.session).work
+      c = made_call who before after (sessions who.session).work new.work turn steps.work
+
+      l : Leaves who c.ask c.answer before.counts after.counts s after.state
+      l = c.made.state s told
+
+      same : (x y : CloudState) → Some x ≡ Some y → x ≡ y
+      same x y e = cc
 
   module _ (grows : (tree : ℕ) → next_page s tree ≤ next_page t tree) (calls : ℕ) (home : Home) (m : Making) (is : (sessions who.session).work ≡ Folding home m)
       (k : IsCounted calls s m) where
@@ -205,22 +254,50 @@ module _ (who : Caller) (before after : Seen) (s t : CloudState) (book : Book) (
         let asks = call_made work turn steps in
         ends_few m.tree calls s t who asks.answer m.work m.received book order stand.cloud known (asked asks.answer asks.made) (grows m.tree) k.made
 
+  -- ---- the checkpoint of a page
+
+  state_is : (x y : CloudState) → Some x ≡ Some y → x ≡ y
+  state_is x y e = cc
+
+  module _ (calls : ℕ) (home : Home) (p : Page) (k : CameBy calls s p) where
+    page_goes : (work : Work) → StepsPaging home who before after p work More → CountsWork (calls + 1) t work
+    page_goes work (n, steps, works, less) = subst (λ (w : Work). CountsWork (calls + 1) t w) (sym works) (record {
+      tree = k.tree;
+      page = k.page;
+      made = deed ∷ k.made;
+      came = (p, k.came, refl, steps.made, steps.took, follows k.made k.behind);
+      many = let was = k.many in omega (arith, was);
+      behind = λ x seen. subst (λ (y : CloudState). HasGrown y t) (state_is t x (sym told_after ∙ seen)) (grown_itself t t refl refl refl refl);
+    })
+      where
+        deed : Deed
+        deed = record { who = who; ask = paging_ask p; answer = steps.answer; before = before; after = after }
+
+        follows : (h : List Deed) → IsBehind h s → ComesBehind h deed
+        follows [] is = tt
+        follows (last ∷ h) is = λ x y seen now. subst (HasGrown x) (state_is s y (sym told ∙ now)) (is x seen)
+
+    page_few : AreFew p (calls + 1)
+    page_few = subst (λ (n : ℕ). AreFew p (n + 1)) k.many (stands_few p k.made (came_stands k.tree k.page k.made p k.came))
+
   -- what the session has in hand is counted behind a step that goes on
   goes_at : (calls : ℕ) (new : Acting) (next : Book) (order_next : List Entry) → SessionsStand next order_next t (at who.session new sessions)
       → ((tree : ℕ) → next_page s tree ≤ next_page t tree) → (w : Work) → (sessions who.session).work ≡ w → CountsWork calls s w
       → StepsAt who before after w new.work More → CountsWork (calls + 1) t new.work
   goes_at calls new next order_next stand_next grows (Folding home m) is k p = goes_by grows calls home m is k new next order_next stand_next p
+  goes_at calls new next order_next stand_next grows (Paging home q) is k p = page_goes calls home q k new.work p
   goes_at calls new next order_next stand_next grows w is k p = other_counts (calls + 1) t new.work (other_goes who before after w new.work tt p)
 
   -- and however it ends, its calls were few
   few_at : (calls : ℕ) (new : Acting) (turn : Turn Answer) → ((tree : ℕ) → next_page s tree ≤ next_page t tree) → (w : Work) → (sessions who.session).work ≡ w
       → CountsWork calls s w → StepsAt who before after w new.work turn → FewFor (calls + 1) t w
   few_at calls new turn grows (Folding home m) is k p = few_by grows calls home m is k new.work turn p
+  few_at calls new turn grows (Paging home q) is k p = page_few calls home q k
   few_at calls new turn grows w is k p = tt
 
   pub session_few : (calls : ℕ → ℕ) (new : Acting) (turn : Turn Answer) → CountsAll calls s sessions → StepsSession who before after (sessions who.session) new (Ok turn)
       → FewFor (calls who.session + 1) t (sessions who.session).work
-  session_few calls new turn all p = few_at (calls who.session) new turn (pages_grow new turn p) (sessions who.session).work refl (all who.session) p.work
+  session_few calls new turn all p = few_at (calls who.session) new turn ((call_leads new turn p).next) (sessions who.session).work refl (all who.session) p.work
 
   -- a step leaves each session counted
   module _ (calls : ℕ → ℕ) (all : CountsAll calls s sessions) (new : Acting) where
@@ -235,13 +312,13 @@ module _ (who : Caller) (before after : Seen) (s t : CloudState) (book : Book) (
         on (inr ne) =
             subst (λ (c : ℕ). CountsWork c t (at who.session new sessions n).work) (sym (at_other who.session own calls n ne))
             (subst (λ (a : Acting). CountsWork (calls n) t a.work) (sym (at_other who.session new sessions n ne))
-            (counts_beside (calls n) s t (sessions n).work (pages_grow new turn p) (all n)))
+            (counts_beside (calls n) s t (sessions n).work (call_leads new turn p) (all n)))
 
     pub more_counts : (next : Book) (order_next : List Entry) → SessionsStand next order_next t (at who.session new sessions)
         → StepsSession who before after (sessions who.session) new (Ok More) → CountsAll (at who.session (calls who.session + 1) calls) t (at who.session new sessions)
     more_counts next order_next stand_next p =
         steps_count More (calls who.session + 1) p
-        (goes_at (calls who.session) new next order_next stand_next (pages_grow new More p) (sessions who.session).work refl (all who.session) p.work)
+        (goes_at (calls who.session) new next order_next stand_next ((call_leads new More p).next) (sessions who.session).work refl (all who.session) p.work)
 
     pub end_counts : (a : Answer) (own : ℕ) → StepsSession who before after (sessions who.session) new (Ok (Ended a))
         → CountsAll (at who.session own calls) t (at who.session new sessions)

@@ -17,7 +17,7 @@ pub mod ScanningSteps
 pub mod SettlingSteps
 pub mod SettlingExplaining
 pub mod Calling
-pub mod FoldingCalls
+pub mod CheckpointCalls
 pub mod HeadPuts
 pub mod SettlingStops
 pub mod Stopping

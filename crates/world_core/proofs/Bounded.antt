@@ -22,7 +22,7 @@ use Rattle.world_core.specs.declared.asked.Request.{Request}
 use Rattle.world_core.specs.declared.asked.Request.TheVariants.{Begin, Note, Abort, Step, Run, Crash}
 use Rattle.world_core.specs.World.{World}
 use Rattle.world_core.specs.declared.world.WorldFault.{WorldFault}
-use Rattle.world_core.specs.Bounded.{steps_of, calls_of, WereFew, StepsSoon, RunsSoon, CrashesSoon, DoesSoon, ServesSoon, AnswersSoon, MakesFewCalls}
+use Rattle.world_core.specs.Bounded.{steps_of, WereFew, StepsSoon, RunsSoon, CrashesSoon, DoesSoon, ServesSoon, AnswersSoon, MakesFewCalls}
 use Rattle.world_core.specs.Handled.{StepsLooked, MakesStep, Runs, Crashes, Does, Serves, Answers}
 use Rattle.world_core.specs.Stands.{WorldStands}
 

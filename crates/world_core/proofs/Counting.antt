@@ -1,8 +1,8 @@
 -- Each line leaves each session with as many calls as the lines tell, and those of a tree checkpoint are few.
-use Rattle.std.proofs.Common.{◌≡◌, ◌≢◌, ◌+◌, ◌≤◌, ◌⊎◌, inl, inr, ℕ, Bool, true, false, cond, List, [], ◌∷◌, ◌++◌, length, Option, Some, None, Result, Ok, Err, refl, sym, ap, subst, ◌∙◌, arith, ne_eqb}
+use Rattle.std.proofs.Common.{◌≡◌, ◌≢◌, ◌+◌, ◌≤◌, ◌⊎◌, inl, inr, ℕ, Bool, true, false, cond, List, [], ◌∷◌, ◌++◌, length, Option, Some, Result, Ok, Err, refl, sym, ap, subst, ◌∙◌, arith, ne_eqb}
 use Rattle.std.specs.Prelude.{◌==◌}
 use Rattle.std.proofs.lemmas.Bool.{cases_eq, eq-eqb}
-use Rattle.client_work.specs.Session.{Acting, Follows, Begins, BeginsWith, HasInHand, CommitsNoted, CommitsOf, ReadsOf, StepsSession, closed_session, settling_session, stopped_work, paging_begun_by, folding_begun_by}
+use Rattle.client_work.specs.Session.{Acting, Follows, Begins, BeginsWith, HasInHand, CommitsNoted, CommitsOf, StepsSession, closed_session, settling_session, stopped_work, paging_begun_by, folding_begun_by}
 use Rattle.client_work.specs.declared.answer.Answer.{Answer}
 use Rattle.client_work.specs.declared.answer.Answer.TheVariants as answer
 use Rattle.client_work.specs.declared.answer.Begun.{Begun}
@@ -12,7 +12,7 @@ use Rattle.client_work.specs.declared.op.Op.{Op}
 use Rattle.client_work.specs.declared.op.Op.TheVariants as op
 use Rattle.client_work.specs.declared.shown.Shown.{Shown}
 use Rattle.client_work.specs.declared.work.Work.{Work}
-use Rattle.client_work.specs.declared.work.Work.TheVariants.{Idle, Broken, Opening, Committing, Reading, Scanning, Paging, Folding, Closing, Renewing}
+use Rattle.client_work.specs.declared.work.Work.TheVariants.{Idle, Broken, Committing, Reading, Scanning, Closing, Renewing}
 use Rattle.cloud_facts.proofs.Book.Names.{at_same, at_other}
 use Rattle.cloud_facts.specs.Book.Book.{Book}
 use Rattle.cloud_facts.specs.Book.Tally.{at}
@@ -40,7 +40,7 @@ use Rattle.reply_text.specs.declared.reply.Reply.{Reply}
 use Rattle.reply_text.specs.declared.reply.Reply.TheVariants as reply
 use Rattle.report_types.specs.declared.entry.Entry.{Entry}
 use Rattle.session_facts.proofs.LineLemmas.{line_of}
-use Rattle.session_facts.proofs.Sessions.FoldingCalls.{IsOther, Leads, begun_counts, page_begun, counts_beside, other_counts, session_few, more_counts, end_counts}
+use Rattle.session_facts.proofs.Sessions.CheckpointCalls.{IsOther, Leads, begun_counts, page_begun, counts_beside, other_counts, session_few, more_counts, end_counts}
 use Rattle.session_facts.proofs.SettlerLemmas.{settler_row}
 use Rattle.session_facts.proofs.Steps.{CallLeaves, CallLeavesUpto, wish_holds}
 use Rattle.session_facts.proofs.CallKinds.{IsSettlersRow}
@@ -51,10 +51,10 @@ use Rattle.session_facts.specs.Sessions.Sessions.{Sessions, SessionsStand}
 use Rattle.txn_buffer.specs.Noted.{Noted}
 use Rattle.world_core.proofs.Behind.{LinesStand}
 use Rattle.world_core.proofs.EveryLine.{line_leaves}
-use Rattle.world_core.proofs.StandsLemmas.{IsUnderWay, IsNoReport, SettlerGoes, changed_at, changed_was, has_at, way_begins, went_on, call, told_under, steps_own, no_stop, no_memory, refused_is, settler, settler_went, settler_own, settler_call, settler_begins, settled_plain}
+use Rattle.world_core.proofs.StandsLemmas.{IsUnderWay, IsNoReport, SettlerGoes, changed_at, changed_was, has_at, way_begins, went_on, call, steps_own, no_stop, no_memory, refused_is, settler, settler_went, settler_own, settler_call, settler_begins, settled_plain}
 use Rattle.world_core.specs.Asked.{Asks}
 use Rattle.world_core.specs.Bounded.{steps_of}
-use Rattle.world_core.specs.Handled.{Declines, Has, MakesNoCall, BeginsOp, NotesChange, DropsChanges, StepsLooked, MakesStep, Went, start, further, ComesTo, Runs, SettlesOn, Settles, Dies, DiesDone, Crashes, Does, Serves, ReportReply, Reports, Answers, Handled}
+use Rattle.world_core.specs.Handled.{Declines, Has, MakesNoCall, BeginsOp, NotesChange, DropsChanges, StepsLooked, MakesStep, Went, start, further, ComesTo, Runs, SettlesOn, Settles, Dies, Crashes, Does, Serves, ReportReply, Reports, Answers, Handled}
 use Rattle.world_core.specs.Replying.{declined, done_reply, unsettled_reply, RepliesBegun, RepliesTurn, RepliesSettled}
 use Rattle.world_core.specs.Sessions.{Changes, NotesIn, AbortsIn}
 use Rattle.world_core.specs.Stands.{StandsOn}
@@ -586,7 +586,7 @@ module _ (lines : List Line) (n : ℕ) (number : length lines + 1 ≡ n) (before
         let one = step_on mid end prior world More g step (at 0 was.0 (calls_told lines)) was.1 s at_end (inl refl) in (
           one.0,
           counts_like (at 0 one.0 (at 0 was.0 (calls_told lines))) (at 0 one.0 (calls_told lines)) s (session_at world.sessions) (session_at world.sessions)
-          (λ m. sym (own_twice 0 was.0 one.0 (calls_told lines) m)) (λ m. refl) one.1,
+              (λ m. sym (own_twice 0 was.0 one.0 (calls_told lines) m)) (λ m. refl) one.1,
         )
 
     settled_counts : (left : World) (a : Answer) → ComesTo (settler n) before after begun left a → Has 0 closed_session left new → Behind

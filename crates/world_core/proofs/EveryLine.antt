@@ -15,7 +15,6 @@ use Rattle.client_work.specs.declared.op.Op.TheVariants as op
 use Rattle.replay_meaning.specs.Standing.{Line, Standing, after_own, session_of, notes as notes_own}
 use Rattle.session_facts.proofs.LineLemmas.{line_of}
 use Rattle.world_core.specs.World.{World}
-use Rattle.world_core.specs.declared.world.WorldFault.{WorldFault}
 use Rattle.world_core.specs.declared.asked.Request.{Request}
 use Rattle.world_core.specs.declared.asked.Request.TheVariants.{Begin, Note, Abort, Step, Run, Crash}
 use Rattle.world_core.specs.declared.asked.Asked.{Asked}

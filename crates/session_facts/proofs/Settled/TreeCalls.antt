@@ -1,6 +1,6 @@
 -- How many calls of a tree checkpoint are left, where its tree has so many pages: each step that goes on leaves fewer.
 use Rattle.std.proofs.Common.{◌≡◌, ◌<◌, ◌≤◌, ◌+◌, ◌-◌, ◌*◌, ◌⊎◌, inl, inr, ℕ, Bool, true, false, cond, List, [], ◌∷◌, ◌++◌, length, length-append, Option, Some, None, Result, Ok, Err, refl, sym, ap, subst, ◌∙◌, arith, add-mul, mul-add, mul-le-mul_right}
-use Rattle.std.specs.Prelude.{◌==◌, ◌||◌, ◌&&◌, not, is_some, if◌then◌else◌}
+use Rattle.std.specs.Prelude.{◌==◌, ◌||◌, ◌&&◌, not, is_some}
 use Rattle.std.proofs.lemmas.Option.{slice_get_within}
 use Rattle.byte_format.specs.Order.{bytes_below}
 use Rattle.ckpt_parts.specs.declared.intake.Intake.{Intake}

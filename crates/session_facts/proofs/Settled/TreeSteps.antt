@@ -1,14 +1,12 @@
 -- What each call of a checkpoint of a tree leaves of the tree object and of the queues.
-use Rattle.std.proofs.Common.{◌≡◌, ◌≤◌, ◌⊎◌, inl, inr, ℕ, true, false, List, [], ◌∷◌, ◌++◌, length, Option, Some, None, Ok, refl, sym, ap, subst, ◌∙◌, arith}
+use Rattle.std.proofs.Common.{◌≡◌, ◌⊎◌, inl, inr, ℕ, true, false, List, [], ◌∷◌, ◌++◌, Option, Some, None, Ok, refl, sym, ap, subst, ◌∙◌, arith}
 use Rattle.std.specs.Prelude.{unwrap_or}
 use Rattle.ckpt_parts.specs.Deleting.{next_id}
 use Rattle.ckpt_parts.specs.Leasing.{newest_lease}
 use Rattle.cloud_facts.proofs.Calls.Calls.{landed_or_not, put_cases}
 use Rattle.cloud_facts.proofs.Calls.Heads.{held_seen}
 use Rattle.cloud_facts.specs.Book.Tally.{Store}
-use Rattle.cloud_facts.specs.Book.Telling.{roots_of}
 use Rattle.cloud_facts.specs.Calls.Call.{IsCall}
-use Rattle.cloud_facts.specs.Chains.Links.{top_of}
 use Rattle.cloud_trait.proofs.NameLemmas.{object_cmp-equal, object_cmp-total}
 use Rattle.cloud_trait.proofs.RowLemmas.{row_versions}
 use Rattle.cloud_trait.proofs.StateLemmas.{put_at_by, put_at_same, newest_of-push}
@@ -22,27 +20,16 @@ use Rattle.cloud_trait.specs.declared.answer.Answer.{Answer}
 use Rattle.cloud_trait.specs.declared.state.Version.{Version}
 use Rattle.db_base.specs.declared.names.ObjName.{ObjName}
 use Rattle.db_base.specs.declared.names.ObjName.TheVariants as object
-use Rattle.leaf_fold.specs.Folding.{folding_ask}
-use Rattle.leaf_fold.specs.declared.folding.Folding.{Folding}
-use Rattle.node_codec.specs.Tree.{Tree}
 use Rattle.session_facts.proofs.Settled.TreeRoots.{NewestBy}
-use Rattle.session_facts.proofs.Trees.Reservations.{held_root}
 use Rattle.session_facts.specs.TreeCheckpoints.Checkpoint.{KnowsWork}
-use Rattle.session_facts.specs.Trees.Leaves.{KnowsLeaf}
-use Rattle.session_facts.specs.Trees.Risings.{ReservesRoot, PutsRoot, whole, cut, PutsOf, KnowsRising}
 use Rattle.split_plan.specs.declared.put_list.PagePut.{PagePut}
-use Rattle.split_plan.specs.Plan.{node_bytes, root_above}
 use Rattle.tree_ckpt.proofs.Tours.{page_left as has_page}
 use Rattle.tree_moves.specs.Work.{delete_ask, release_ask, work_ask}
-use Rattle.tree_moves.specs.declared.work.Held.{Held}
 use Rattle.tree_moves.specs.declared.work.Work.{Work}
 use Rattle.tree_moves.specs.declared.work.Work.TheVariants as work
 use Rattle.tree_parts.specs.Placing.{put_first, put_next, put_in_hand, has_nothing, landed_root}
-use Rattle.tree_parts.specs.Read.{tree_held}
-use Rattle.tree_parts.specs.declared.chart.Chart.{Chart}
 use Rattle.tree_parts.specs.declared.placing.Placing.{Placing}
-use Rattle.tree_rising.specs.Rising.{last_ask, rising_ask}
-use Rattle.tree_rising.specs.Root.{new_pages}
+use Rattle.tree_rising.specs.Rising.{last_ask}
 use Rattle.tree_rising.specs.declared.rising.Rising.{Rising}
 
 -- ---- the newest version behind a call

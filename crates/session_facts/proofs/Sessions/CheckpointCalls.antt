@@ -1,5 +1,5 @@
 -- The checkpoints of sessions from call to call: each makes few.
-use Rattle.std.proofs.Common.{◌≡◌, ◌≢◌, ◌+◌, ◌≤◌, ◌⊎◌, inl, inr, ℕ, List, [], ◌∷◌, Option, Some, None, Ok, refl, sym, ap, subst, ◌∙◌, arith}
+use Rattle.std.proofs.Common.{◌≡◌, ◌≢◌, ◌+◌, ◌≤◌, ◌⊎◌, inl, inr, ℕ, List, [], ◌∷◌, Option, Some, None, Ok, refl, sym, subst, ◌∙◌, arith}
 use Rattle.std.proofs.lemmas.Bool.{cases_eq}
 use Rattle.client_work.specs.Session.{Acting, Asks, Follows, ScansLess, StepsSession, StepsAt, StepsFolding, StepsPaging, opened_work, committed_work, stopped_work}
 use Rattle.client_work.specs.declared.answer.Answer.{Answer}

@@ -54,12 +54,12 @@ new_on_book world t fresh runs = subst (λ (f : Sessions). SomeBookStands f t) (
 -- ---- a settling
 
 -- no run is a settling
-no_run : (n : ℕ) (asked : Asked) (before after : Seen) (old new : World) (result : Result Reply WorldFault) → asked ≡ Settle → (answers : Answers n asked before after old new result)
-    → AnswersSoon n asked before after old new result answers
-no_run n Settle before after old new result is answers = tt
-no_run n (Session k request) before after old new result is answers = absurd (cc (is))
-no_run n (Wait ticks) before after old new result is answers = tt
-no_run n (Report tree) before after old new result is answers = tt
+no_run : (lines : List Line) (n : ℕ) (asked : Asked) (before after : Seen) (old new : World) (result : Result Reply WorldFault) → asked ≡ Settle → (answers : Answers n asked before after old new result)
+    → AnswersSoon lines n asked before after old new result answers
+no_run lines n Settle before after old new result is answers = tt
+no_run lines n (Session k request) before after old new result is answers = absurd (cc (is))
+no_run lines n (Wait ticks) before after old new result is answers = tt
+no_run lines n (Report tree) before after old new result is answers = tt
 
 -- what holds of each reply to a settling holds of its own
 unsettled_is : (P : Reply → Type 0) (r : Reply) (q : Trouble) → ((k : Trouble) → P (reply.NotSettled k)) → (let result : Result Reply WorldFault = Ok r in result ≡ unsettled_reply q) → P r
@@ -100,7 +100,7 @@ settles_so lines event.Settle r before after old new t told stands handled =
       record {
         explains = right.explains;
         calm = λ each well. right.calm each;
-        bounded = no_run (length lines + 1) handled.asked before after old new (Ok r) handled.asks handled.answers;
+        bounded = no_run lines (length lines + 1) handled.asked before after old new (Ok r) handled.asks handled.answers;
         leaves = leaves_so (length lines + 1) event.Settle before after old new r (settling_leaves (length lines + 1) event.Settle before after old new (Ok r)) t told stands handled;
         ends = ends_so (length lines + 1) event.Settle before after old new r (settling_ends (length lines + 1) event.Settle before after old new (Ok r)) t told stands handled;
         kept = λ u seen.

@@ -106,7 +106,7 @@ reports_more lines line u v agree all so new k l at = on (cases_lt k (length lin
 -- what was put and sent is what the lines allow, in every later state
 
 pub acts_upto : (lines : List Line) (world : World) (u v : CloudState) → WorldStands lines world u → AgreeUpto (length lines) u v → ActsByTheLines lines v
-acts_upto lines world u v stands agree = let cloud = stands.holds.cloud in kinds_upto (length lines) lines u v cloud.upto agree cloud.kinds cloud.once
+acts_upto lines world u v stands agree = let cloud = stands.by_lines.holds.cloud in kinds_upto (length lines) lines u v cloud.upto agree cloud.kinds cloud.once
 
 acts_now : (lines : List Line) (world : World) (u : CloudState) → WorldStands lines world u → ActsByTheLines lines u
 acts_now lines world u stands = acts_upto lines world u u stands (agree_itself (length lines) u u refl refl refl)
@@ -124,7 +124,7 @@ stands_more lines line n t z old new k on grows u told stands so traced =
     let is : g.0 ≡ f.after = cc in
     let agree : (j : ℕ) → j < length lines + 1 → AgreeUpto j u f.after = λ j less. subst (λ v. AgreeUpto j u v) is (g.2 j (omega arith)) in
     let m : length (lines ++ line ∷ []) ≡ length lines + 1 = omega (arith, length-append lines (line ∷ [])) in
-    let upto_all : IsUpto (length lines + 1) f.after = subst (λ m. IsUpto m f.after) m f.stands.holds.cloud.upto in
+    let upto_all : IsUpto (length lines + 1) f.after = subst (λ m. IsUpto m f.after) m f.stands.by_lines.holds.cloud.upto in
     (f.after, f.told, f.stands, reports_more lines line u f.after agree upto_all so f.right, subst IsTraced is (g.3 traced))
 
 -- the lines that were handled, with one more

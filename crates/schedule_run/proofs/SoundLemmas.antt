@@ -20,7 +20,7 @@ use Rattle.world_core.specs.Settled.{SettlingLeaves, SettlingEnds}
 use Rattle.world_core.specs.Stands.{WorldStands, LeftIsRight}
 use Rattle.world_core.proofs.Acknowledged.{durable_after}
 use Rattle.world_core.proofs.Bounded.{few_calls}
-use Rattle.world_core.proofs.EveryLine.{stands_after}
+use Rattle.world_core.proofs.Counting.{stands_after}
 use Rattle.world_core.proofs.Calm.{well_after}
 use Rattle.world_core.proofs.Explained.{explained}
 use Rattle.world_core.proofs.LeftNone.{nothing_after}
@@ -84,7 +84,7 @@ went_soundly before old t lines after new (further earlier line mid _ world _ we
 
 -- some book stands where lines do
 on_book : (lines : List Line) (world : World) (t : CloudState) → WorldStands lines world t → SomeBookStands (session_at world.sessions) t
-on_book lines world t stands = book_of lines (session_at world.sessions) world.audit world.blind t stands
+on_book lines world t stands = book_of lines (session_at world.sessions) world.audit world.blind t stands.by_lines
 
 -- what a settling among them left, and how it ended
 pub leaves_so : (n : ℕ) (e : Event) (before after : Seen) (old new : World) (r : Reply) → SettlingLeaves n e before after old new (Ok r)

@@ -45,7 +45,7 @@ use Rattle.world_core.specs.declared.asked.Request.TheVariants.{Begin, Note, Abo
 use Rattle.world_core.specs.Handled.{SetsWish, StepsLooked, Went, start as went_start, further as went_further, ComesTo, MakesStep, Runs, Crashes, SettlesOn, Settles, Does, Answers}
 use Rattle.world_core.specs.Stands.{WorldStands}
 use Rattle.world_core.proofs.Acknowledged.{durable_after}
-use Rattle.world_core.proofs.EveryLine.{stands_after}
+use Rattle.world_core.proofs.Counting.{stands_after}
 use Rattle.world_core.proofs.StandsLemmas.{no_memory}
 use Rattle.schedule_run.specs.Answered.{WentOn, start, further, IsKeptLine, AreKept, AcknowledgedStay}
 use Rattle.schedule_run.proofs.SoundLemmas.{each_more, take_whole, same_some, went_soundly}
@@ -290,8 +290,8 @@ went_stay before old t lines after new u (further earlier line mid _ world _ wen
     let f = stands_after (length earlier + 1) line.event mid after world new (Ok line.reply) handled earlier o.state refl o.told o.stands in
     let g = lands_asked (length earlier + 1) mid after world new line.reply handled.asked handled.answers o.state o.told in
     let long : length (earlier ++ line ∷ []) ≡ length earlier + 1 = omega (arith, length-append earlier (line ∷ [])) in
-    let whole : IsUpto (length earlier + 1) f.after = subst (λ m. IsUpto m f.after) long f.stands.holds.cloud.upto in
-    stay_more earlier line o.state u o.stands.holds.cloud.placed o.stands.holds.cloud.upto
+    let whole : IsUpto (length earlier + 1) f.after = subst (λ m. IsUpto m f.after) long f.stands.by_lines.holds.cloud.upto in
+    stay_more earlier line o.state u o.stands.by_lines.holds.cloud.placed o.stands.by_lines.holds.cloud.upto
     (subst (IsUpto (length earlier + 1)) (same_some f.after u (sym f.told ∙ seen)) whole)
     (subst (HasLanded (length earlier + 1) o.state) (same_some g.0 u (sym g.1 ∙ seen)) g.2)
     (durable_after (length earlier + 1) line.event mid after world new (Ok line.reply) handled earlier o.state u refl o.told o.stands seen)

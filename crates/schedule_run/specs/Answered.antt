@@ -61,7 +61,7 @@ abbrev pub IsKeptLine : List Entry → List Line → Line → Type 0
 IsKeptLine entries before line = IsKeptReply entries (standing before (session_of line.event)).client (standing before (session_of line.event)).posture line.reply
 
 -- a line that was handled explains the steps that it made; where its session was untroubled and each of these was calm, the session is untroubled
--- behind it, and the line is answered well; a run of it makes few calls for a tree checkpoint; a settling leaves nothing and comes to its end so;
+-- behind it, and the line is answered well; the calls of a checkpoint are few up to it; a settling leaves nothing and comes to its end so;
 -- a commit that it answers as committed is among what was committed, and of one that it answers as not committed nothing is; the two numbers of a
 -- report count what is left then; and a read and a scan show what their own calls served
 pub record IsExplained (lines : List Line) (line : Line) (before after : Seen) (old new : World) (handled : Handled (length lines + 1) line.event before after old new (Ok line.reply))
@@ -69,7 +69,7 @@ pub record IsExplained (lines : List Line) (line : Line) (before after : Seen) (
   pub explains : EachStep StepExplains (length lines + 1) line.event before after old new (Ok line.reply) handled
   pub calm : EachStep StepIsCalm (length lines + 1) line.event before after old new (Ok line.reply) handled → IsUntroubled (work_at old (session_of line.event))
       → IsUntroubled (work_at new (session_of line.event)) × RepliesWell line.event (standing lines (session_of line.event)).posture line.reply
-  pub bounded : AnswersSoon (length lines + 1) handled.asked before after old new (Ok line.reply) handled.answers
+  pub bounded : AnswersSoon lines (length lines + 1) handled.asked before after old new (Ok line.reply) handled.answers
   pub leaves : LeavesSo (length lines + 1) line.event before after old new line.reply handled
   pub ends : (t : CloudState) → before.state ≡ Some t → EndsSo t (length lines + 1) line.event before after old new line.reply handled
   pub kept : (u : CloudState) → after.state ≡ Some u → IsKeptLine (committed (lines ++ line ∷ []) u) lines line

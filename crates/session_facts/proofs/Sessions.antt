@@ -10,7 +10,6 @@ pub mod OpeningSteps
 pub mod CommitSteps
 pub mod FoldingSteps
 pub mod FoldingExplaining
-pub mod FoldingCalls
 pub mod PagingSteps
 pub mod GettingSteps
 pub mod ReadingSteps
@@ -18,6 +17,7 @@ pub mod ScanningSteps
 pub mod SettlingSteps
 pub mod SettlingExplaining
 pub mod Calling
+pub mod CheckpointCalls
 pub mod HeadPuts
 pub mod SettlingStops
 pub mod Stopping

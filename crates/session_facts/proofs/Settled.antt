@@ -21,6 +21,7 @@ pub mod TreeRoots
 pub mod TreeVisits
 pub mod TreeRoom
 pub mod Draining
+pub mod Distinct
 pub mod TreeSteps
 pub mod TreeReceives
 pub mod TreeTurns

@@ -1,3 +1,4 @@
+pub mod Few
 pub mod Walks
 pub mod Scans
 pub mod Openings
@@ -12,6 +13,7 @@ pub mod Settled
 pub mod Sessions
 pub mod RowKinds
 pub mod Running
+pub mod Counted
 pub mod Facts
 pub mod Answers
 pub mod Acknowledged

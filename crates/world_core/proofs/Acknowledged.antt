@@ -71,7 +71,7 @@ durable_after n event before after old new (Ok r) h = λ lines t u at told stand
     let entries : List Entry = committed (lines ++ line_of event r ∷ []) u in
     let client : ℕ = (standing lines (session_of event)).client in
     kept_reply entries client (standing lines (session_of event)).posture (session_at new.sessions (session_of event)).work r
-    (asked_keeps (λ p left a. IsKeptAt entries client p a) (kept_nothing entries client) n before after old new r lines t at told stands event
+    (asked_keeps (λ p left a. IsKeptAt entries client p a) (kept_nothing entries client) n before after old new r lines t at told stands.by_lines event
     (λ wish mid world c way p. step_commits lines (line_of event r) (record { session = session_of event; event = n }) wish mid after world new u c (sym at) way seen p)
     h.asked h.asks h.answers)
 durable_after n event before after old new (Err fault) h = tt

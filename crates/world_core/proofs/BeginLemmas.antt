@@ -58,7 +58,7 @@ use Rattle.world_core.specs.Asked.{bound_of}
 use Rattle.world_core.specs.Sessions.{Changes, NotesIn, AbortsIn}
 use Rattle.world_core.specs.Replying.{declined, done_reply, trouble_reply, RepliesBegun}
 use Rattle.world_core.specs.Handled.{BeginsOp, NotesChange, DropsChanges}
-use Rattle.world_core.specs.Stands.{StandsFor}
+use Rattle.world_core.proofs.Behind.{LineLeaves}
 use Rattle.world_core.proofs.Texts.{commit_is}
 use Rattle.world_core.proofs.StandsLemmas.{IsNoReport, Ready, acts_before, changed_was, quiet_line, quiet_refused, replies_to}
 
@@ -270,7 +270,7 @@ scans k tree first last r lines a b (Err refused.Memory) acts begins e = absurd 
 
 pub opening_begun : (lines : List Line) (k client : ℕ) (r : Reply) (before after : Seen) (old new : World) (t : CloudState) → IsClient client
     → Ready lines (event.Open k client) k before after old new t → Changes k (BeginsOp (op.Open client) (Ok r)) old.sessions new.sessions
-    → StandsFor (lines ++ line_of (event.Open k client) r ∷ []) new after r
+    → LineLeaves (lines ++ line_of (event.Open k client) r ∷ []) new after r
 opening_begun lines k client r before after old new t is ready c =
     let left = opens k client r lines c.before c.after c.does.begun (acts_before lines (event.Open k client) k before after old new t _ ready c) c.does.begins c.does.replies in
     quiet_line lines (event.Open k client) r k before after old new t _ ready c (begun_stands lines (event.Open k client) k before after old new t (op.Open client) (Ok r) is ready c) left.0 left.1
@@ -279,7 +279,7 @@ opening_begun lines k client r before after old new t is ready c =
 module _ (lines : List Line) (event : Event) (k : ℕ) (r : Reply) (before after : Seen) (old new : World) (t : CloudState) (ready : Ready lines event k before after old new t) where
   in_hand_begun : (o : Op) (own : Home → Work) → IsRightOp o → (c : Changes k (BeginsOp o (Ok r)) old.sessions new.sessions)
       → ((home : Home) → WorksAs (work.Idle home) (standing lines k) → ActsAs (record c.before { work = own home; shown = Nothing }) (after_own event reply.Begun (standing lines k)))
-      → BeginsWith (λ home. HasInHand c.before (own home)) c.before c.after c.does.begun → StandsFor (lines ++ line_of event r ∷ []) new after r
+      → BeginsWith (λ home. HasInHand c.before (own home)) c.before c.after c.does.begun → LineLeaves (lines ++ line_of event r ∷ []) new after r
   in_hand_begun o own right c stands begins =
       let left = has_in_hand event k r lines own c.before c.after c.does.begun (acts_before lines event k before after old new t _ ready c) stands begins c.does.replies in
       quiet_line lines event r k before after old new t _ ready c (begun_stands lines event k before after old new t o (Ok r) right ready c) left.0 left.1
@@ -290,42 +290,42 @@ module _ (lines : List Line) (event : Event) (k : ℕ) (r : Reply) (before after
 
 pub folding_begun : (lines : List Line) (k tree : ℕ) (r : Reply) (before after : Seen) (old new : World) (t : CloudState) → IsTree tree
     → Ready lines (event.Tree k tree) k before after old new t → Changes k (BeginsOp (op.Tree tree) (Ok r)) old.sessions new.sessions
-    → StandsFor (lines ++ line_of (event.Tree k tree) r ∷ []) new after r
+    → LineLeaves (lines ++ line_of (event.Tree k tree) r ∷ []) new after r
 folding_begun lines k tree r before after old new t is ready c =
     in_hand_begun lines (event.Tree k tree) k r before after old new t ready (op.Tree tree) (folding_begun_by tree) is c
     (λ home idle. record { buffer = same_buffer lines (event.Tree k tree) k r before after old new t ready (op.Tree tree) c; work = (refl, idle.1, tt) }) c.does.begins
 
 pub paging_begun : (lines : List Line) (k tree page : ℕ) (r : Reply) (before after : Seen) (old new : World) (t : CloudState) → IsTree tree → IsPage page
     → Ready lines (event.Page k tree page) k before after old new t → Changes k (BeginsOp (op.Page tree page) (Ok r)) old.sessions new.sessions
-    → StandsFor (lines ++ line_of (event.Page k tree page) r ∷ []) new after r
+    → LineLeaves (lines ++ line_of (event.Page k tree page) r ∷ []) new after r
 paging_begun lines k tree page r before after old new t is_tree is_page ready c =
     in_hand_begun lines (event.Page k tree page) k r before after old new t ready (op.Page tree page) (paging_begun_by tree page) (is_tree, is_page) c
     (λ home idle. record { buffer = same_buffer lines (event.Page k tree page) k r before after old new t ready (op.Page tree page) c; work = (refl, idle.1) }) c.does.begins
 
 pub close_begun : (lines : List Line) (k : ℕ) (r : Reply) (before after : Seen) (old new : World) (t : CloudState)
     → Ready lines (event.Close k) k before after old new t → Changes k (BeginsOp op.Close (Ok r)) old.sessions new.sessions
-    → StandsFor (lines ++ line_of (event.Close k) r ∷ []) new after r
+    → LineLeaves (lines ++ line_of (event.Close k) r ∷ []) new after r
 close_begun lines k r before after old new t ready c =
     in_hand_begun lines (event.Close k) k r before after old new t ready op.Close (λ home. work.Closing home.lease) tt c
     (λ home idle. record { buffer = same_buffer lines (event.Close k) k r before after old new t ready op.Close c; work = refl }) c.does.begins
 
 pub renewal_begun : (lines : List Line) (k : ℕ) (r : Reply) (before after : Seen) (old new : World) (t : CloudState)
     → Ready lines (event.Renew k) k before after old new t → Changes k (BeginsOp op.Renew (Ok r)) old.sessions new.sessions
-    → StandsFor (lines ++ line_of (event.Renew k) r ∷ []) new after r
+    → LineLeaves (lines ++ line_of (event.Renew k) r ∷ []) new after r
 renewal_begun lines k r before after old new t ready c =
     in_hand_begun lines (event.Renew k) k r before after old new t ready op.Renew (λ home. work.Renewing home) tt c
     (λ home idle. record { buffer = same_buffer lines (event.Renew k) k r before after old new t ready op.Renew c; work = (refl, idle.1) }) c.does.begins
 
 pub commit_begun : (lines : List Line) (k : ℕ) (r : Reply) (before after : Seen) (old new : World) (t : CloudState)
     → Ready lines (event.Commit k) k before after old new t → Changes k (BeginsOp op.Commit (Ok r)) old.sessions new.sessions
-    → StandsFor (lines ++ line_of (event.Commit k) r ∷ []) new after r
+    → LineLeaves (lines ++ line_of (event.Commit k) r ∷ []) new after r
 commit_begun lines k r before after old new t ready c =
     let left = commits k r lines c.before c.after c.does.begun (acts_before lines (event.Commit k) k before after old new t _ ready c) c.does.begins c.does.replies in
     quiet_line lines (event.Commit k) r k before after old new t _ ready c (begun_stands lines (event.Commit k) k before after old new t op.Commit (Ok r) tt ready c) left.0 left.1
 
 pub read_begun : (lines : List Line) (k tree : ℕ) (key : List ℕ) (r : Reply) (before after : Seen) (old new : World) (t : CloudState) → IsTree tree
     → Ready lines (event.Read k tree key) k before after old new t → Changes k (BeginsOp (op.Read tree key) (Ok r)) old.sessions new.sessions
-    → StandsFor (lines ++ line_of (event.Read k tree key) r ∷ []) new after r
+    → LineLeaves (lines ++ line_of (event.Read k tree key) r ∷ []) new after r
 read_begun lines k tree key r before after old new t is ready c =
     let left = reads k tree key r lines c.before c.after c.does.begun (acts_before lines (event.Read k tree key) k before after old new t _ ready c) c.does.begins c.does.replies in
     quiet_line lines (event.Read k tree key) r k before after old new t _ ready c
@@ -333,7 +333,7 @@ read_begun lines k tree key r before after old new t is ready c =
 
 pub scan_begun : (lines : List Line) (k tree : ℕ) (first last : List ℕ) (r : Reply) (before after : Seen) (old new : World) (t : CloudState) → IsTree tree
     → Ready lines (event.Scan k tree first last) k before after old new t → Changes k (BeginsOp (op.Scan tree (bound_of first) (bound_of last)) (Ok r)) old.sessions new.sessions
-    → StandsFor (lines ++ line_of (event.Scan k tree first last) r ∷ []) new after r
+    → LineLeaves (lines ++ line_of (event.Scan k tree first last) r ∷ []) new after r
 scan_begun lines k tree first last r before after old new t is ready c =
     let left = scans k tree first last r lines c.before c.after c.does.begun (acts_before lines (event.Scan k tree first last) k before after old new t _ ready c) c.does.begins c.does.replies in
     quiet_line lines (event.Scan k tree first last) r k before after old new t _ ready c
@@ -364,7 +364,7 @@ works_with w s buffer opened works = absurd (cc)
 -- another buffer of an open client
 buffer_line : (lines : List Line) (event : Event) (r : Reply) (k : ℕ) (before after : Seen) (old new : World) (t : CloudState) (Does : Acting → Acting → Type 0) (buffer : List Noted)
     → (ready : Ready lines event k before after old new t) → (c : Changes k Does old.sessions new.sessions) → c.after ≡ record c.before { buffer = buffer } → rule_of c.before.work ≡ None
-    → MayCommit buffer → after_own event r (standing lines k) ≡ record (standing lines k) { buffer = buffer } → IsNoReport r → StandsFor (lines ++ line_of event r ∷ []) new after r
+    → MayCommit buffer → after_own event r (standing lines k) ≡ record (standing lines k) { buffer = buffer } → IsNoReport r → LineLeaves (lines ++ line_of event r ∷ []) new after r
 buffer_line lines event r k before after old new t Does buffer ready c is opened may own plain =
     quiet_line lines event r k before after old new t Does ready c stand (subst (ActsAs c.after) (sym own) acts) plain
   where
@@ -389,16 +389,16 @@ buffer_line lines event r k before after old new t Does buffer ready c is opened
 -- a line that notes a change
 pub notes : (lines : List Line) (event : Event) (k tree : ℕ) (change : Change) (r : Reply) (before after : Seen) (old new : World) (t : CloudState) → IsTree tree → IsChange change
     → ((q : Reply) (s : Standing) → after_own event q s ≡ notes_own tree change q s)
-    → Ready lines event k before after old new t → Changes k (NotesChange tree change (Ok r)) old.sessions new.sessions → StandsFor (lines ++ line_of event r ∷ []) new after r
+    → Ready lines event k before after old new t → Changes k (NotesChange tree change (Ok r)) old.sessions new.sessions → LineLeaves (lines ++ line_of event r ∷ []) new after r
 notes lines event k tree change r before after old new t is_tree is_change own ready c = on c.does.noted c.does.notes c.does.replies
   where
     s : Standing
     s = standing lines k
 
-    on : (noted : Result (Unit {0}) Refused) → NotesIn tree change c.before c.after noted → IsOk r (done_reply reply.Noted noted) → StandsFor (lines ++ line_of event r ∷ []) new after r
+    on : (noted : Result (Unit {0}) Refused) → NotesIn tree change c.before c.after noted → IsOk r (done_reply reply.Noted noted) → LineLeaves (lines ++ line_of event r ∷ []) new after r
     on (Ok done) h e =
         let is : r ≡ reply.Noted = cc in
-        let P : Reply → Type 0 = λ z. StandsFor (lines ++ line_of event z ∷ []) new after z in
+        let P : Reply → Type 0 = λ z. LineLeaves (lines ++ line_of event z ∷ []) new after z in
         let had = acts_before lines event k before after old new t _ ready c in
         let few : length (noted_in c.before.buffer tree change) ≤ 200 = subst (λ (a : Acting). length a.buffer ≤ 200) h.0 h.2 in
         let may : MayCommit c.before.buffer =
@@ -412,13 +412,13 @@ notes lines event k tree change r before after old new t is_tree is_change own r
 
 -- a line that drops what was noted
 pub aborts : (lines : List Line) (k : ℕ) (r : Reply) (before after : Seen) (old new : World) (t : CloudState)
-    → Ready lines (event.Abort k) k before after old new t → Changes k (DropsChanges (Ok r)) old.sessions new.sessions → StandsFor (lines ++ line_of (event.Abort k) r ∷ []) new after r
+    → Ready lines (event.Abort k) k before after old new t → Changes k (DropsChanges (Ok r)) old.sessions new.sessions → LineLeaves (lines ++ line_of (event.Abort k) r ∷ []) new after r
 aborts lines k r before after old new t ready c = on c.does.dropped c.does.drops c.does.replies
   where
-    on : (dropped : Result (Unit {0}) Refused) → AbortsIn c.before c.after dropped → IsOk r (done_reply reply.Aborted dropped) → StandsFor (lines ++ line_of (event.Abort k) r ∷ []) new after r
+    on : (dropped : Result (Unit {0}) Refused) → AbortsIn c.before c.after dropped → IsOk r (done_reply reply.Aborted dropped) → LineLeaves (lines ++ line_of (event.Abort k) r ∷ []) new after r
     on (Ok done) h e =
         let is : r ≡ reply.Aborted = cc in
-        let P : Reply → Type 0 = λ z. StandsFor (lines ++ line_of (event.Abort k) z ∷ []) new after z in
+        let P : Reply → Type 0 = λ z. LineLeaves (lines ++ line_of (event.Abort k) z ∷ []) new after z in
         subst P (sym is) (buffer_line lines (event.Abort k) reply.Aborted k before after old new t _ [] ready c h.0 h.1 may_none refl tt)
     on (Err (refused.Rule rule)) h e =
         quiet_refused lines (event.Abort k) r rule k before after old new t _ ready c (same_stands lines (event.Abort k) k before after old new t _ ready c h.0) (refused_is r rule e) h.0

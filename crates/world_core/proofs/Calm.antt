@@ -64,7 +64,7 @@ use Rattle.world_core.specs.Handled.{Declines, Has, BeginsOp, NotesChange, Drops
 use Rattle.world_core.specs.Replying.{RepliesTo, RepliesBegun, RepliesSettled, RepliesTurn, value_reply}
 use Rattle.world_core.specs.Sessions.{Changes, NotesIn, AbortsIn}
 use Rattle.world_core.specs.Sound.{IsSoundFor}
-use Rattle.world_core.specs.Stands.{WorldStands}
+use Rattle.world_core.proofs.Behind.{LinesStand}
 use Rattle.world_core.proofs.Explained.{explained}
 use Rattle.world_core.proofs.Sound.{sound_after}
 use Rattle.world_core.proofs.Texts.{commit_is}
@@ -319,7 +319,7 @@ has_closed k old new has =
     subst (λ (a : Acting). IsUntroubled a.work) (sym (has_at k closed_session old new has k ∙ at_same k closed_session (session_at old.sessions) k refl)) closed_rests
 
 module _ (lines : List Line) (n k : ℕ) (before after : Seen) (old new : World) (r : Reply) (t : CloudState) (number : length lines + 1 ≡ n) (told : before.state ≡ Some t)
-    (stands : WorldStands lines old t) (well : IsUntroubled (work_at old k)) where
+    (stands : LinesStand lines old t) (well : IsUntroubled (work_at old k)) where
   abbrev who : Caller
   who = record { session = k; event = n }
 
@@ -551,7 +551,7 @@ module _ (lines : List Line) (n : ℕ) (before after : Seen) (old new : World) (
 -- ---- every line
 
 module _ (lines : List Line) (n : ℕ) (before after : Seen) (old new : World) (r : Reply) (t : CloudState) (number : length lines + 1 ≡ n) (told : before.state ≡ Some t)
-    (stands : WorldStands lines old t) where
+    (stands : LinesStand lines old t) where
   abbrev Well : Event → Type 0
   Well e = IsUntroubled (work_at new (session_of e)) × RepliesWell e (standing lines (session_of e)).posture r
 
@@ -626,7 +626,7 @@ module _ (lines : List Line) (n : ℕ) (before after : Seen) (old new : World) (
 
 pub well_after : (n : ℕ) (e : Event) (before after : Seen) (old new : World) (result : Result Reply WorldFault) → AnswersWell n e before after old new result
 well_after n e before after old new (Ok r) = λ lines t number told stands handled calm well.
-    asked_well lines n before after old new r t number told stands e handled.asked handled.asks handled.answers calm
+    asked_well lines n before after old new r t number told stands.by_lines e handled.asked handled.asks handled.answers calm
     (explained n e before after old new (Ok r) lines t number told stands handled)
     (sound_after n e before after old new (Ok r) handled lines t number told stands) well
 well_after n e before after old new (Err fault) = tt

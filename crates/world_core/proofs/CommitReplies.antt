@@ -37,7 +37,7 @@ use Rattle.world_core.specs.Asked.{Asks, OfSession, IsOpening, IsReading, IsScan
 use Rattle.world_core.specs.Handled.{Declines, BeginsOp, StepsLooked, MakesStep, Runs, Settles, SettlesOn, Crashes, Reports, Does, Answers}
 use Rattle.world_core.specs.Replying.{declined, done_reply, unsettled_reply, value_reply, RepliesTo, RepliesSettled, RepliesBegun, RepliesTurn}
 use Rattle.world_core.specs.Sessions.{Changes}
-use Rattle.world_core.specs.Stands.{WorldStands}
+use Rattle.world_core.proofs.Behind.{LinesStand}
 use Rattle.world_core.specs.World.{World}
 use Rattle.world_core.proofs.Texts.{commit_is}
 use Rattle.world_core.proofs.StandsLemmas.{IsUnderWay, changed_was, way_begins, went_on, no_stop, no_memory, replies_to}
@@ -130,7 +130,7 @@ begin_rests (op.Tree tree) old new begun does = subst IsAtRest (sym does.1) tt
 -- ---- what a line asks of a session
 
 module _ (Holds : Posture → Work → CommitAnswer → Type 0) (nothing : SaysNothing Holds) (lines : List Line) (n k : ℕ) (before after : Seen) (old new : World) (r : Reply) (t : CloudState)
-    (number : length lines + 1 ≡ n) (told : before.state ≡ Some t) (stands : WorldStands lines old t)
+    (number : length lines + 1 ≡ n) (told : before.state ≡ Some t) (stands : LinesStand lines old t)
     (ends : (wish : Wish) (mid : Seen) (world : World) (c : CommitAnswer) → IsUnderWay lines world mid
     → StepsLooked (record { session = k; event = n }) wish mid after world new (Ended (answer.Commit c)) → Holds (standing lines k).posture (session_at new.sessions k).work c) where
   abbrev stood : Standing
@@ -252,7 +252,7 @@ EndsSo Holds lines n event after new =
     → Holds (standing lines (session_of event)).posture (session_at new.sessions (session_of event)).work c
 
 module _ (Holds : Posture → Work → CommitAnswer → Type 0) (nothing : SaysNothing Holds) (n : ℕ) (before after : Seen) (old new : World) (r : Reply) (lines : List Line) (t : CloudState)
-    (at : length lines + 1 ≡ n) (told : before.state ≡ Some t) (stands : WorldStands lines old t) where
+    (at : length lines + 1 ≡ n) (told : before.state ≡ Some t) (stands : LinesStand lines old t) where
   abbrev KeptFor : Event → Type 0
   KeptFor e = OfReply Holds (standing lines (session_of e)).posture (session_at new.sessions (session_of e)).work r
 

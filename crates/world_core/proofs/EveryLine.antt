@@ -15,14 +15,13 @@ use Rattle.client_work.specs.declared.op.Op.TheVariants as op
 use Rattle.replay_meaning.specs.Standing.{Line, Standing, after_own, session_of, notes as notes_own}
 use Rattle.session_facts.proofs.LineLemmas.{line_of}
 use Rattle.world_core.specs.World.{World}
-use Rattle.world_core.specs.declared.world.WorldFault.{WorldFault}
 use Rattle.world_core.specs.declared.asked.Request.{Request}
 use Rattle.world_core.specs.declared.asked.Request.TheVariants.{Begin, Note, Abort, Step, Run, Crash}
 use Rattle.world_core.specs.declared.asked.Asked.{Asked}
 use Rattle.world_core.specs.declared.asked.Asked.TheVariants.{Session, Wait, Report, Settle}
 use Rattle.world_core.specs.Asked.{bound_of, IsOpening, IsReading, IsScanning, IsPaging, IsFolding, IsInsert, IsUpdate, IsDelete, IsNoted, IsStep, OfSession, Asks}
 use Rattle.world_core.specs.Handled.{MakesNoCall, Does, Answers, Handled}
-use Rattle.world_core.specs.Stands.{WorldStands, StandsFor, StandsOn}
+use Rattle.world_core.proofs.Behind.{LinesStand, LineLeaves}
 use Rattle.world_core.proofs.StandsLemmas.{Ready, declines, runs, makes_step, crashes, settles, waits, reports}
 use Rattle.world_core.proofs.BeginLemmas.{opening_begun, read_begun, scan_begun, paging_begun, close_begun, renewal_begun, folding_begun, commit_begun, notes, aborts}
 
@@ -31,7 +30,7 @@ pub record Served (lines : List Line) (n k : ℕ) (t : CloudState) (before : See
   pub session : IsSession k
   pub at : length lines + 1 ≡ n
   pub told : before.state ≡ Some t
-  pub stands : WorldStands lines old t
+  pub stands : LinesStand lines old t
 
 ready_of : (lines : List Line) (event : Event) (n k : ℕ) (before after : Seen) (old new : World) (t : CloudState) → session_of event ≡ k → Served lines n k t before old
     → MakesNoCall before after old new → Ready lines event k before after old new t
@@ -39,9 +38,9 @@ ready_of lines event n k before after old new t own s quiet = record { own = own
 
 -- a request to a session is served, or it is not done
 request_stands : (n k : ℕ) (event : Event) (Is : Result Request Refused → Type 0) (asked : Asked) (before after : Seen) (old new : World) (r : Reply) (lines : List Line) (t : CloudState)
-    → OfSession k Is asked → Answers n asked before after old new (Ok r) → length lines + 1 ≡ n → before.state ≡ Some t → WorldStands lines old t
-    → ((request : Request) → Served lines n k t before old → Is (Ok request) → Does n k request before after old new (Ok r) → StandsFor (lines ++ line_of event r ∷ []) new after r)
-    → StandsFor (lines ++ line_of event r ∷ []) new after r
+    → OfSession k Is asked → Answers n asked before after old new (Ok r) → length lines + 1 ≡ n → before.state ≡ Some t → LinesStand lines old t
+    → ((request : Request) → Served lines n k t before old → Is (Ok request) → Does n k request before after old new (Ok r) → LineLeaves (lines ++ line_of event r ∷ []) new after r)
+    → LineLeaves (lines ++ line_of event r ∷ []) new after r
 request_stands n k event Is (Session number (Ok request)) before after old new r lines t belongs (inl p) at told stands served =
     served request
     (record { session = subst IsSession belongs.0 p.0; at = at; told = told; stands = stands }) belongs.1
@@ -67,7 +66,7 @@ delete_is key k = record { key = k; payload = omega arith }
 
 noted_line : (lines : List Line) (event : Event) (n k tree : ℕ) (change : Change) (request : Request) (before after : Seen) (old new : World) (r : Reply) (t : CloudState) (Is : Result Change Refused → Type 0)
     → session_of event ≡ k → ((q : Reply) (s : Standing) → after_own event q s ≡ notes_own tree change q s) → ((c : Change) → Is (Ok c) → (c ≡ change) × IsChange change)
-    → Served lines n k t before old → IsNoted tree Is (Ok request) → Does n k request before after old new (Ok r) → StandsFor (lines ++ line_of event r ∷ []) new after r
+    → Served lines n k t before old → IsNoted tree Is (Ok request) → Does n k request before after old new (Ok r) → LineLeaves (lines ++ line_of event r ∷ []) new after r
 noted_line lines event n k tree change (Note tree_of c) before after old new r t Is own does is_change s noted done =
     let is = is_change c noted.2 in
     let Own : ℕ → Change → Type 0 = λ j d. Does n k (Note j d) before after old new (Ok r) in
@@ -88,8 +87,8 @@ pub asked_is : (request own : Request) → (let a : Result Request Refused = Ok 
 asked_is request own e = cc
 
 asked_stands : (n : ℕ) (event : Event) (asked : Asked) (before after : Seen) (old new : World) (r : Reply) (lines : List Line) (t : CloudState)
-    → Asks event asked → Answers n asked before after old new (Ok r) → length lines + 1 ≡ n → before.state ≡ Some t → WorldStands lines old t
-    → StandsFor (lines ++ line_of event r ∷ []) new after r
+    → Asks event asked → Answers n asked before after old new (Ok r) → length lines + 1 ≡ n → before.state ≡ Some t → LinesStand lines old t
+    → LineLeaves (lines ++ line_of event r ∷ []) new after r
 asked_stands n (event.Open k client) asked before after old new r lines t asks answers at told stands =
     request_stands n k (event.Open k client) (IsOpening client) asked before after old new r lines t asks answers at told stands
     (λ request s is done.
@@ -164,7 +163,6 @@ asked_stands n (event.Report tree) asked before after old new r lines t asks ans
 asked_stands n event.Settle asked before after old new r lines t asks answers at told stands =
     settles lines n r before after old new t at told stands (subst (λ z. Answers n z before after old new (Ok r)) asks answers)
 
-pub stands_after : (n : ℕ) (event : Event) (before after : Seen) (old new : World) (result : Result Reply WorldFault)
-    → Handled n event before after old new result → StandsOn n event before after old new result
-stands_after n event before after old new (Ok r) h = λ lines t at told stands. asked_stands n event h.asked before after old new r lines t h.asks h.answers at told stands
-stands_after n event before after old new (Err fault) h = tt
+pub line_leaves : (n : ℕ) (event : Event) (before after : Seen) (old new : World) (r : Reply) → Handled n event before after old new (Ok r)
+    → (lines : List Line) (t : CloudState) → length lines + 1 ≡ n → before.state ≡ Some t → LinesStand lines old t → LineLeaves (lines ++ line_of event r ∷ []) new after r
+line_leaves n event before after old new r h lines t at told stands = asked_stands n event h.asked before after old new r lines t h.asks h.answers at told stands

@@ -30,7 +30,7 @@ use Rattle.world_core.specs.declared.world.WorldFault.{WorldFault}
 use Rattle.world_core.specs.EachStep.{EachWent, EachCome, EachMade, EachRun, EachCrashed, EachSettlingOn, EachSettling, EachDone, EachServed, EachAsked}
 use Rattle.world_core.specs.Explained.{StepExplains, ExplainsSteps}
 use Rattle.world_core.specs.Handled.{StepsLooked, MakesStep, Went, start, further, ComesTo, Runs, SettlesOn, Settles, Crashes, Does, Serves, Answers}
-use Rattle.world_core.specs.Stands.{WorldStands}
+use Rattle.world_core.proofs.Behind.{LinesStand}
 use Rattle.world_core.proofs.StandsLemmas.{IsUnderWay, changed_was, way_begins, told_under, went_on, SettlerGoes, settler, settler_went, settler_begins}
 
 -- ---- one step
@@ -69,7 +69,7 @@ module _ (lines : List Line) where
   )
 
   module _ (n : ℕ) (before after : Seen) (old new : World) (result : Result Reply WorldFault) (t : CloudState) (number : length lines + 1 ≡ n) (told : before.state ≡ Some t)
-      (stands : WorldStands lines old t) where
+      (stands : LinesStand lines old t) where
     way : IsUnderWay lines old before
     way = way_begins lines before old t told stands
 
@@ -133,7 +133,7 @@ module _ (n : ℕ) (lines : List Line) (first : Sessions) (row : IsSettlersRow l
   )
 
 module _ (lines : List Line) (n : ℕ) (before after : Seen) (old new : World) (result : Result Reply WorldFault) (t : CloudState) (number : length lines + 1 ≡ n) (told : before.state ≡ Some t)
-    (stands : WorldStands lines old t) where
+    (stands : LinesStand lines old t) where
   -- the lines with its own behind them, whatever is replied to that
   abbrev r : Reply
   r = reply.Settled 0
@@ -151,7 +151,7 @@ module _ (lines : List Line) (n : ℕ) (before after : Seen) (old new : World) (
 -- ---- every line
 
 asked_explains : (lines : List Line) (n : ℕ) (asked : Asked) (before after : Seen) (old new : World) (result : Result Reply WorldFault) (t : CloudState) → length lines + 1 ≡ n
-    → before.state ≡ Some t → WorldStands lines old t → (h : Answers n asked before after old new result) → EachAsked StepExplains n asked before after old new result h
+    → before.state ≡ Some t → LinesStand lines old t → (h : Answers n asked before after old new result) → EachAsked StepExplains n asked before after old new result h
 asked_explains lines n (Session k request) before after old new result t number told stands (inl served) =
     serves_explains lines n before after old new result t number told stands k request served.1
 asked_explains lines n (Session k request) before after old new result t number told stands (inr none) = tt
@@ -161,4 +161,4 @@ asked_explains lines n Settle before after old new result t number told stands s
 
 pub explained : (n : ℕ) (event : Event) (before after : Seen) (old new : World) (result : Result Reply WorldFault) → ExplainsSteps n event before after old new result
 explained n event before after old new result lines t number told stands handled =
-    asked_explains lines n handled.asked before after old new result t number told stands handled.answers
+    asked_explains lines n handled.asked before after old new result t number told stands.by_lines handled.answers

@@ -77,7 +77,7 @@ pub nothing_after : (n : ℕ) (event : Event) (before after : Seen) (old new : W
 nothing_after n event before after old new (Ok r) h = λ lines t u at told stands seen.
     let entries : List Entry = committed (lines ++ line_of event r ∷ []) u in
     left_reply entries (standing lines (session_of event)).posture (session_at new.sessions (session_of event)).work r
-    (asked_keeps (LeavesNoneAt entries) (left_nothing entries) n before after old new r lines t at told stands event
+    (asked_keeps (LeavesNoneAt entries) (left_nothing entries) n before after old new r lines t at told stands.by_lines event
     (λ wish mid world c way p. step_leaves lines (line_of event r) (record { session = session_of event; event = n }) wish mid after world new u c (sym at) way seen p)
     h.asked h.asks h.answers)
 nothing_after n event before after old new (Err fault) h = tt

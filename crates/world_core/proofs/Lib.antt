@@ -9,6 +9,7 @@ pub mod Stopping
 pub mod Landing
 pub mod GrowthLemmas
 pub mod Marks
+pub mod Behind
 pub mod StandsLemmas
 pub mod BeginLemmas
 pub mod EveryLine
@@ -18,6 +19,7 @@ pub mod CommitReplies
 pub mod Acknowledged
 pub mod LeftNone
 pub mod Explained
+pub mod Counting
 pub mod Bounded
 pub mod Calm
 pub mod Settled

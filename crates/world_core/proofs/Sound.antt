@@ -56,7 +56,7 @@ use Rattle.world_core.specs.Handled.{Declines, BeginsOp, MakesNoCall, StepsLooke
 use Rattle.world_core.specs.Replying.{declined, done_reply, unsettled_reply, value_reply, RepliesTo, RepliesSettled, RepliesBegun, RepliesTurn}
 use Rattle.world_core.specs.Sessions.{Changes}
 use Rattle.world_core.specs.Sound.{IsSoundReport, IsSoundFor, AnswersSoundly}
-use Rattle.world_core.specs.Stands.{WorldStands}
+use Rattle.world_core.proofs.Behind.{LinesStand}
 use Rattle.world_core.proofs.Texts.{commit_is}
 use Rattle.world_core.proofs.StandsLemmas.{IsUnderWay, changed_was, way_begins, told_under, call, steps_own, went_on, no_stop, no_memory, replies_to, SettlerGoes, settler, settler_own, settler_call, settler_went, settler_begins, settled_plain}
 
@@ -145,7 +145,7 @@ step_sound lines who wish before after old new a r number way p replies =
 -- ---- what a line asks of a session
 
 module _ (lines : List Line) (n k : ℕ) (before after : Seen) (old new : World) (r : Reply) (t : CloudState) (number : length lines + 1 ≡ n) (told : before.state ≡ Some t)
-    (stands : WorldStands lines old t) where
+    (stands : LinesStand lines old t) where
   abbrev Sounds : Reply → Type 0
   Sounds q = IsSoundReply (standing lines k).posture q
 
@@ -271,7 +271,7 @@ settler_stops n lines first row before after old new t way p =
     own = settler_own n lines first row before after old new (Ended (answer.Trouble t)) way p
 
 module _ (lines : List Line) (n : ℕ) (before after : Seen) (old new : World) (r : Reply) (t : CloudState) (number : length lines + 1 ≡ n) (told : before.state ≡ Some t)
-    (stands : WorldStands lines old t) where
+    (stands : LinesStand lines old t) where
   abbrev Settled : Reply → Type 0
   Settled q = IsSoundReply (standing lines 0).posture q
 
@@ -305,7 +305,7 @@ module _ (lines : List Line) (n : ℕ) (before after : Seen) (old new : World) (
 
 -- ---- a report
 
-report_sound : (lines : List Line) (tree : ℕ) (r : Reply) (before after : Seen) (old new : World) (t : CloudState) → before.state ≡ Some t → WorldStands lines old t
+report_sound : (lines : List Line) (tree : ℕ) (r : Reply) (before after : Seen) (old new : World) (t : CloudState) → before.state ≡ Some t → LinesStand lines old t
     → Reports tree before after old new (Ok r) → IsSoundReport r
 report_sound lines tree (reply.Trouble q) before after old new t told stands h = on old.blind refl
   where
@@ -325,7 +325,7 @@ report_sound lines tree r before after old new t told stands h = tt
 -- ---- every line
 
 asked_sound : (n : ℕ) (event : Event) (asked : Asked) (before after : Seen) (old new : World) (r : Reply) (lines : List Line) (t : CloudState)
-    → Asks event asked → Answers n asked before after old new (Ok r) → length lines + 1 ≡ n → before.state ≡ Some t → WorldStands lines old t
+    → Asks event asked → Answers n asked before after old new (Ok r) → length lines + 1 ≡ n → before.state ≡ Some t → LinesStand lines old t
     → IsSoundFor event (standing lines (session_of event)).posture r
 asked_sound n (event.Open k client) asked before after old new r lines t asks answers at told stands =
     request_sound lines n k before after old new r t at told stands (IsOpening client) asked asks answers
@@ -384,5 +384,5 @@ asked_sound n event.Settle asked before after old new r lines t asks answers at 
 
 pub sound_after : (n : ℕ) (event : Event) (before after : Seen) (old new : World) (result : Result Reply WorldFault)
     → Handled n event before after old new result → AnswersSoundly n event before after old new result
-sound_after n event before after old new (Ok r) h = λ lines t at told stands. asked_sound n event h.asked before after old new r lines t h.asks h.answers at told stands
+sound_after n event before after old new (Ok r) h = λ lines t at told stands. asked_sound n event h.asked before after old new r lines t h.asks h.answers at told stands.by_lines
 sound_after n event before after old new (Err fault) h = tt

@@ -49,7 +49,8 @@ use Rattle.world_core.specs.declared.world.WorldFault.TheVariants.{Memory}
 use Rattle.world_core.specs.Replying.{declined, trouble_reply, unsettled_reply, value_reply, RepliesTo, RepliesSettled, RepliesTurn}
 use Rattle.world_core.specs.Sessions.{Changes}
 use Rattle.world_core.specs.Handled.{Declines, Has, MakesNoCall, StepsLooked, RefusesStep, MakesStep, Went, start, further, RunsTo, Runs, SettlesTo, SettlesOn, Settles, Dies, DiesDone, Crashes, WaitsFor, WaitsTooLong, Shows, Reports}
-use Rattle.world_core.specs.Stands.{WorldStands, StandsFor, IsLeft, LeftIsRight}
+use Rattle.world_core.specs.Stands.{IsLeft, LeftIsRight}
+use Rattle.world_core.proofs.Behind.{LinesStand, LineLeaves}
 use Rattle.world_core.proofs.Texts.{commit_is}
 
 -- ---- replies that are no report
@@ -75,7 +76,7 @@ no_report_front order r h = tt
 -- where all holds within a line, each session stands as the line says, and the settler rests, it is one of the lines
 pub through : (lines : List Line) (event : Event) (r : Reply) (after : Seen) (new : World) (t : CloudState) → after.state ≡ Some t
     → CloudHolds (length lines + 1) lines (session_at new.sessions) new.audit new.blind t → AllActWith lines (line_of event r) (session_at new.sessions)
-    → SettlerRests (session_at new.sessions) → IsNoReport r → StandsFor (lines ++ line_of event r ∷ []) new after r
+    → SettlerRests (session_at new.sessions) → IsNoReport r → LineLeaves (lines ++ line_of event r ∷ []) new after r
 through lines event r after new t told holds acts rests plain = record {
   after = t;
   told = told;
@@ -85,27 +86,27 @@ through lines event r after new t told holds acts rests plain = record {
 }
 
 -- a world that stays
-world_holds : (lines : List Line) (old new : World) (t : CloudState) → new ≡ old → WorldStands lines old t
+world_holds : (lines : List Line) (old new : World) (t : CloudState) → new ≡ old → LinesStand lines old t
     → CloudHolds (length lines + 1) lines (session_at new.sessions) new.audit new.blind t
 world_holds lines old new t same stands =
     let P : World → Type 0 = λ w. CloudHolds (length lines + 1) lines (session_at w.sessions) w.audit w.blind t in
     subst P (sym same) (begins_line lines (session_at old.sessions) old.audit old.blind t stands).holds
 
-world_acts : (lines : List Line) (old new : World) (t : CloudState) → new ≡ old → WorldStands lines old t → AllAct lines (session_at new.sessions)
+world_acts : (lines : List Line) (old new : World) (t : CloudState) → new ≡ old → LinesStand lines old t → AllAct lines (session_at new.sessions)
 world_acts lines old new t same stands =
     let P : World → Type 0 = λ w. AllAct lines (session_at w.sessions) in
     subst P (sym same) stands.acts
 
-world_rests : (lines : List Line) (old new : World) (t : CloudState) → new ≡ old → WorldStands lines old t → SettlerRests (session_at new.sessions)
+world_rests : (lines : List Line) (old new : World) (t : CloudState) → new ≡ old → LinesStand lines old t → SettlerRests (session_at new.sessions)
 world_rests lines old new t same stands =
     let P : World → Type 0 = λ w. SettlerRests (session_at w.sessions) in
     subst P (sym same) stands.rests
 
 -- a line that is refused leaves all
 pub refuses : (lines : List Line) (event : Event) (r : Reply) (rule : Refusal) (before after : Seen) (old new : World) (t : CloudState)
-    → r ≡ reply.Refused rule → after ≡ before → new ≡ old → before.state ≡ Some t → WorldStands lines old t → StandsFor (lines ++ line_of event r ∷ []) new after r
+    → r ≡ reply.Refused rule → after ≡ before → new ≡ old → before.state ≡ Some t → LinesStand lines old t → LineLeaves (lines ++ line_of event r ∷ []) new after r
 refuses lines event r rule before after old new t is same world told stands =
-    let P : Reply → Type 0 = λ z. StandsFor (lines ++ line_of event z ∷ []) new after z in
+    let P : Reply → Type 0 = λ z. LineLeaves (lines ++ line_of event z ∷ []) new after z in
     subst P (sym is) (through lines event (reply.Refused rule) after new t (ap (λ (z : Seen). z.state) same ∙ told)
     (world_holds lines old new t world stands)
     (still_line lines event (reply.Refused rule) (session_at new.sessions) (refused_own event rule) (world_acts lines old new t world stands)) (world_rests lines old new t world stands) tt)
@@ -114,7 +115,7 @@ pub refused_is : (r : Reply) (rule : Refusal) → (let result : Result Reply Wor
 refused_is r rule e = cc
 
 pub declines : (lines : List Line) (event : Event) (r : Reply) (why : Refused) (before after : Seen) (old new : World) (t : CloudState)
-    → Declines why before after old new (Ok r) → before.state ≡ Some t → WorldStands lines old t → StandsFor (lines ++ line_of event r ∷ []) new after r
+    → Declines why before after old new (Ok r) → before.state ≡ Some t → LinesStand lines old t → LineLeaves (lines ++ line_of event r ∷ []) new after r
 declines lines event r (refused.Rule rule) before after old new t is told stands =
     refuses lines event r rule before after old new t (refused_is r rule is.reply) is.seen is.world told stands
 declines lines event r refused.Memory before after old new t is told stands = absurd (cc (is.reply))
@@ -140,7 +141,7 @@ pub record Ready (lines : List Line) (event : Event) (number : ℕ) (before afte
   pub some : 1 ≤ number
   pub quiet : MakesNoCall before after old new
   pub told : before.state ≡ Some t
-  pub stands : WorldStands lines old t
+  pub stands : LinesStand lines old t
 
 -- how the session stood before
 pub acts_before : (lines : List Line) (event : Event) (number : ℕ) (before after : Seen) (old new : World) (t : CloudState) (Does : Acting → Acting → Type 0)
@@ -152,7 +153,7 @@ acts_before lines event number before after old new t Does ready c =
 pub quiet_line : (lines : List Line) (event : Event) (r : Reply) (number : ℕ) (before after : Seen) (old new : World) (t : CloudState) (Does : Acting → Acting → Type 0)
     → (ready : Ready lines event number before after old new t) → (c : Changes number Does old.sessions new.sessions)
     → SessionsStand ready.stands.holds.book ready.stands.holds.order t (at number c.after (session_at old.sessions))
-    → ActsAs c.after (after_own event r (standing lines number)) → IsNoReport r → StandsFor (lines ++ line_of event r ∷ []) new after r
+    → ActsAs c.after (after_own event r (standing lines number)) → IsNoReport r → LineLeaves (lines ++ line_of event r ∷ []) new after r
 quiet_line lines event r number before after old new t Does ready c stand acts plain =
     through lines event r after new t (ap (λ (z : Seen). z.state) ready.quiet.seen ∙ ready.told) holds
     (λ n. subst (λ a. ActsAs a (after_line n (standing lines n) (line_of event r))) (sym (same n)) (own_line lines number event r (session_at old.sessions) c.after ready.own ready.stands.acts acts n))
@@ -176,9 +177,9 @@ quiet_line lines event r number before after old new t Does ready c stand acts p
 pub quiet_refused : (lines : List Line) (event : Event) (r : Reply) (rule : Refusal) (number : ℕ) (before after : Seen) (old new : World) (t : CloudState) (Does : Acting → Acting → Type 0)
     → (ready : Ready lines event number before after old new t) → (c : Changes number Does old.sessions new.sessions)
     → SessionsStand ready.stands.holds.book ready.stands.holds.order t (at number c.after (session_at old.sessions))
-    → r ≡ reply.Refused rule → c.after ≡ c.before → StandsFor (lines ++ line_of event r ∷ []) new after r
+    → r ≡ reply.Refused rule → c.after ≡ c.before → LineLeaves (lines ++ line_of event r ∷ []) new after r
 quiet_refused lines event r rule number before after old new t Does ready c stand is same =
-    let P : Reply → Type 0 = λ z. StandsFor (lines ++ line_of event z ∷ []) new after z in
+    let P : Reply → Type 0 = λ z. LineLeaves (lines ++ line_of event z ∷ []) new after z in
     subst P (sym is) (quiet_line lines event (reply.Refused rule) number before after old new t Does ready c stand
     (subst (λ z. ActsAs c.after z) (sym (refused_own event rule (standing lines number)))
     (subst (λ a. ActsAs a (standing lines number)) (sym same) (acts_before lines event number before after old new t Does ready c))) tt)
@@ -191,7 +192,7 @@ pub record IsUnderWay (lines : List Line) (world : World) (seen : Seen) : Type 0
   pub told : seen.state ≡ Some after
   pub goes : GoesOn lines (session_at world.sessions) world.audit world.blind after
 
-pub way_begins : (lines : List Line) (before : Seen) (old : World) (t : CloudState) → before.state ≡ Some t → WorldStands lines old t → IsUnderWay lines old before
+pub way_begins : (lines : List Line) (before : Seen) (old : World) (t : CloudState) → before.state ≡ Some t → LinesStand lines old t → IsUnderWay lines old before
 way_begins lines before old t told stands = record { after = t; told = told; goes = begins_line lines (session_at old.sessions) old.audit old.blind t stands }
 
 -- what a step leaves, but for how its session stands
@@ -310,7 +311,7 @@ replies_to (answer.Trouble t) left r e = on t e
 step_ends : (lines : List Line) (event : Event) (who : Caller) (wish : Wish) (before after : Seen) (old new : World) (a : Answer) (r : Reply)
     → session_of event ≡ who.session → ((s : Standing) → after_own event r s ≡ steps r s) → who.event ≡ length lines + 1 → 1 ≤ who.session
     → IsUnderWay lines old before → SettlerRests (session_at old.sessions) → (p : StepsLooked who wish before after old new (Ended a)) → RepliesTo a p.session.after (Ok r)
-    → StandsFor (lines ++ line_of event r ∷ []) new after r
+    → LineLeaves (lines ++ line_of event r ∷ []) new after r
 step_ends lines event who wish before after old new a r own_is does number some way rests p replies =
     let f : Sessions = session_at old.sessions in
     let s = stepped lines who wish before after old new (Ended a) number way p in
@@ -334,14 +335,14 @@ pub no_stop : (who : Caller) (before after : Seen) (old new : Acting) (t : Troub
 no_stop who before after old new t p = never_stops who before after old.work new.work t p.work
 
 refused_step : (lines : List Line) (event : Event) (r : Reply) (number : ℕ) (before after : Seen) (old new : World) (t : CloudState)
-    → RefusesStep number before after old new (Ok r) → before.state ≡ Some t → WorldStands lines old t → StandsFor (lines ++ line_of event r ∷ []) new after r
+    → RefusesStep number before after old new (Ok r) → before.state ≡ Some t → LinesStand lines old t → LineLeaves (lines ++ line_of event r ∷ []) new after r
 refused_step lines event r number before after old new t h told stands = declines lines event r _ before after old new t h.declines told stands
 
 pub no_memory : (r : Reply) → (let result : Result Reply WorldFault = Ok r in let fault : Result Reply WorldFault = Err Memory in result ≡ fault) → ⊥
 no_memory r e = absurd (cc)
 
 runs_to : (lines : List Line) (k n : ℕ) (r : Reply) (before after : Seen) (old new : World) (t : CloudState) → length lines + 1 ≡ n → 1 ≤ k
-    → before.state ≡ Some t → WorldStands lines old t → RunsTo n k before after old new (Ok r) → StandsFor (lines ++ line_of (event.Run k) r ∷ []) new after r
+    → before.state ≡ Some t → LinesStand lines old t → RunsTo n k before after old new (Ok r) → LineLeaves (lines ++ line_of (event.Run k) r ∷ []) new after r
 runs_to lines k n r before after old new t at some told stands run =
     let who : Caller = record { session = k; event = n } in
     let c = run.comes in
@@ -350,7 +351,7 @@ runs_to lines k n r before after old new t at some told stands run =
     (went_rests who before old c.mid c.world some c.went stands.rests) c.steps run.replies
 
 pub runs : (lines : List Line) (k n : ℕ) (r : Reply) (before after : Seen) (old new : World) (t : CloudState) → length lines + 1 ≡ n → 1 ≤ k
-    → before.state ≡ Some t → WorldStands lines old t → Runs n k before after old new (Ok r) → StandsFor (lines ++ line_of (event.Run k) r ∷ []) new after r
+    → before.state ≡ Some t → LinesStand lines old t → Runs n k before after old new (Ok r) → LineLeaves (lines ++ line_of (event.Run k) r ∷ []) new after r
 runs lines k n r before after old new t at some told stands (inl refused) = refused_step lines (event.Run k) r k before after old new t refused told stands
 runs lines k n r before after old new t at some told stands (inr (inl run)) = runs_to lines k n r before after old new t at some told stands run
 runs lines k n r before after old new t at some told stands (inr (inr memory)) = absurd (no_memory r memory.0)
@@ -358,18 +359,18 @@ runs lines k n r before after old new t at some told stands (inr (inr memory)) =
 -- a step that goes on
 called_line : (lines : List Line) (event : Event) (who : Caller) (wish : Wish) (before after : Seen) (old new : World)
     → ((s : Standing) → after_own event reply.Called s ≡ s) → who.event ≡ length lines + 1 → 1 ≤ who.session
-    → IsUnderWay lines old before → SettlerRests (session_at old.sessions) → StepsLooked who wish before after old new More → StandsFor (lines ++ line_of event reply.Called ∷ []) new after reply.Called
+    → IsUnderWay lines old before → SettlerRests (session_at old.sessions) → StepsLooked who wish before after old new More → LineLeaves (lines ++ line_of event reply.Called ∷ []) new after reply.Called
 called_line lines event who wish before after old new still number some way rests p =
     let on = step_more lines who wish before after old new number way p in
     through lines event reply.Called after new on.after on.told on.goes.holds (still_line lines event reply.Called (session_at new.sessions) still on.goes.acts)
     (changed_rests who.session _ old.sessions new.sessions some p.session rests) tt
 
 step_to : (lines : List Line) (k n : ℕ) (wish : Wish) (r : Reply) (before after : Seen) (old new : World) (t : CloudState) (turn : Turn Answer) → length lines + 1 ≡ n → 1 ≤ k
-    → before.state ≡ Some t → WorldStands lines old t → (p : StepsLooked (record { session = k; event = n }) wish before after old new turn)
-    → RepliesTurn turn p.session.after (Ok r) → StandsFor (lines ++ line_of (event.Step k wish) r ∷ []) new after r
+    → before.state ≡ Some t → LinesStand lines old t → (p : StepsLooked (record { session = k; event = n }) wish before after old new turn)
+    → RepliesTurn turn p.session.after (Ok r) → LineLeaves (lines ++ line_of (event.Step k wish) r ∷ []) new after r
 step_to lines k n wish r before after old new t More at some told stands p replies =
     let is : r ≡ reply.Called = cc in
-    let P : Reply → Type 0 = λ z. StandsFor (lines ++ line_of (event.Step k wish) z ∷ []) new after z in
+    let P : Reply → Type 0 = λ z. LineLeaves (lines ++ line_of (event.Step k wish) z ∷ []) new after z in
     subst P (sym is) (called_line lines (event.Step k wish) (record { session = k; event = n }) wish before after old new (λ s. refl) (sym at) some
     (way_begins lines before old t told stands) stands.rests p)
 step_to lines k n wish r before after old new t (Ended a) at some told stands p replies =
@@ -379,7 +380,7 @@ step_to lines k n wish r before after old new t (Stopped trouble) at some told s
     absurd (no_stop _ p.under p.to p.session.before p.session.after trouble p.session.does)
 
 pub makes_step : (lines : List Line) (k n : ℕ) (wish : Wish) (r : Reply) (before after : Seen) (old new : World) (t : CloudState) → length lines + 1 ≡ n → 1 ≤ k
-    → before.state ≡ Some t → WorldStands lines old t → MakesStep n k wish before after old new (Ok r) → StandsFor (lines ++ line_of (event.Step k wish) r ∷ []) new after r
+    → before.state ≡ Some t → LinesStand lines old t → MakesStep n k wish before after old new (Ok r) → LineLeaves (lines ++ line_of (event.Step k wish) r ∷ []) new after r
 makes_step lines k n wish r before after old new t at some told stands (inl refused) = refused_step lines (event.Step k wish) r k before after old new t refused told stands
 makes_step lines k n wish r before after old new t at some told stands (inr (inl step)) =
     step_to lines k n wish r before after old new t step.turn at some told stands step.steps step.replies
@@ -391,10 +392,10 @@ pub crashed_own : (k : ℕ) (done : Bool) (s : Standing) → ActsAs closed_sessi
 crashed_own k done s = record { buffer = refl; work = refl }
 
 dies : (lines : List Line) (k : ℕ) (done : Bool) (r : Reply) (before after : Seen) (old new : World) (t : CloudState) → 1 ≤ k
-    → before.state ≡ Some t → WorldStands lines old t → Dies k before after old new (Ok r) → StandsFor (lines ++ line_of (event.Crash k done) r ∷ []) new after r
+    → before.state ≡ Some t → LinesStand lines old t → Dies k before after old new (Ok r) → LineLeaves (lines ++ line_of (event.Crash k done) r ∷ []) new after r
 dies lines k done r before after old new t some told stands h =
     let is : r ≡ reply.Crashed = cc (h.replies) in
-    let P : Reply → Type 0 = λ z. StandsFor (lines ++ line_of (event.Crash k done) z ∷ []) new after z in
+    let P : Reply → Type 0 = λ z. LineLeaves (lines ++ line_of (event.Crash k done) z ∷ []) new after z in
     let ready : Ready lines (event.Crash k done) k before after old new t = record { own = refl; some = some; quiet = h.quiet; told = told; stands = stands } in
     let S : Acting → Type 0 = λ a. SessionsStand stands.holds.book stands.holds.order t (at k a (session_at old.sessions)) in
     subst P (sym is) (quiet_line lines (event.Crash k done) reply.Crashed k before after old new t _ ready h.closed
@@ -435,10 +436,10 @@ closed_holds n lines k world new t h is = subst (λ a. At a new.blind) (sym is.a
     }
 
 dies_done : (lines : List Line) (k n : ℕ) (r : Reply) (before after : Seen) (old new : World) (t : CloudState) → length lines + 1 ≡ n → 1 ≤ k
-    → before.state ≡ Some t → WorldStands lines old t → DiesDone n k before after old new (Ok r) → StandsFor (lines ++ line_of (event.Crash k true) r ∷ []) new after r
+    → before.state ≡ Some t → LinesStand lines old t → DiesDone n k before after old new (Ok r) → LineLeaves (lines ++ line_of (event.Crash k true) r ∷ []) new after r
 dies_done lines k n r before after old new t at_n some told stands h =
     let is : r ≡ reply.Crashed = cc (h.replies) in
-    let P : Reply → Type 0 = λ z. StandsFor (lines ++ line_of (event.Crash k true) z ∷ []) new after z in
+    let P : Reply → Type 0 = λ z. LineLeaves (lines ++ line_of (event.Crash k true) z ∷ []) new after z in
     subst P (sym is) (through lines (event.Crash k true) reply.Crashed after new s.state s.told (closed_holds (length lines + 1) lines k h.world new s.state s.holds h.closes) acts rests tt)
   where
     who : Caller
@@ -465,7 +466,7 @@ dies_done lines k n r before after old new t at_n some told stands h =
         (changed_rests k _ old.sessions h.world.sessions some h.steps.session stands.rests)
 
 pub crashes : (lines : List Line) (k n : ℕ) (done : Bool) (r : Reply) (before after : Seen) (old new : World) (t : CloudState) → length lines + 1 ≡ n → 1 ≤ k
-    → before.state ≡ Some t → WorldStands lines old t → Crashes n k done before after old new (Ok r) → StandsFor (lines ++ line_of (event.Crash k done) r ∷ []) new after r
+    → before.state ≡ Some t → LinesStand lines old t → Crashes n k done before after old new (Ok r) → LineLeaves (lines ++ line_of (event.Crash k done) r ∷ []) new after r
 crashes lines k n false r before after old new t at some told stands h = dies lines k false r before after old new t some told stands h
 crashes lines k n true r before after old new t at some told stands (inl idle) = dies lines k true r before after old new t some told stands idle.dies
 crashes lines k n true r before after old new t at some told stands (inr (inl done)) = dies_done lines k n r before after old new t at some told stands done
@@ -554,7 +555,7 @@ settler_went n lines first row before old after new way (further mid _ world _ w
     settler_more n lines first row mid after world new (settler_went n lines first row before old mid world way went) step
 
 module _ (lines : List Line) (n : ℕ) (before : Seen) (old begun : World) (t : CloudState)
-    (number : n ≡ length lines + 1) (told : before.state ≡ Some t) (stands : WorldStands lines old t) (begins : Has 0 settling_session old begun) where
+    (number : n ≡ length lines + 1) (told : before.state ≡ Some t) (stands : LinesStand lines old t) (begins : Has 0 settling_session old begun) where
   abbrev before_it : Sessions
   before_it = session_at old.sessions
 
@@ -584,7 +585,7 @@ module _ (lines : List Line) (n : ℕ) (before : Seen) (old begun : World) (t : 
   }
 
   settler_ends : (after : Seen) (new : World) (r : Reply) → SettlesTo (settler n) before after begun new (Ok r)
-      → StandsFor (lines ++ line_of event.Settle r ∷ []) new after r
+      → LineLeaves (lines ++ line_of event.Settle r ∷ []) new after r
   settler_ends after new r h = record {
     after = s.state;
     told = s.told;
@@ -622,12 +623,12 @@ module _ (lines : List Line) (n : ℕ) (before : Seen) (old begun : World) (t : 
               (sym (has_at 0 closed_session h.left new h.closes m ∙ at_other 0 closed_session (session_at h.left.sessions) m ne ∙ s.others m ne)) (stands.acts m)
 
   settler_on : (after : Seen) (new : World) (r : Reply) → SettlesOn (settler n) before after begun new (Ok r)
-      → StandsFor (lines ++ line_of event.Settle r ∷ []) new after r
+      → LineLeaves (lines ++ line_of event.Settle r ∷ []) new after r
   settler_on after new r (inl h) = settler_ends after new r h
   settler_on after new r (inr memory) = absurd (no_memory r memory.0)
 
-pub settles : (lines : List Line) (n : ℕ) (r : Reply) (before after : Seen) (old new : World) (t : CloudState) → length lines + 1 ≡ n → before.state ≡ Some t → WorldStands lines old t
-    → Settles n before after old new (Ok r) → StandsFor (lines ++ line_of event.Settle r ∷ []) new after r
+pub settles : (lines : List Line) (n : ℕ) (r : Reply) (before after : Seen) (old new : World) (t : CloudState) → length lines + 1 ≡ n → before.state ≡ Some t → LinesStand lines old t
+    → Settles n before after old new (Ok r) → LineLeaves (lines ++ line_of event.Settle r ∷ []) new after r
 settles lines n r before after old new t at told stands (inl h) = settler_on lines n before old h.begun t (sym at) told stands h.begins after new r h.settles
 settles lines n r before after old new t at told stands (inr memory) = absurd (no_memory r memory.0)
 
@@ -636,12 +637,12 @@ settles lines n r before after old new t at told stands (inr memory) = absurd (n
 end_later : (now ticks after : ℕ) → now ≤ greatest → end_after now ticks ≤ after → now ≤ after
 end_later now ticks after within later = omega arith
 
-pub waits : (lines : List Line) (ticks : ℕ) (r : Reply) (before after : Seen) (old new : World) (t : CloudState) → before.state ≡ Some t → WorldStands lines old t
-    → (WaitsFor ticks before after (Ok r) × (new ≡ old)) ⊎ WaitsTooLong ticks before after old new (Ok r) → StandsFor (lines ++ line_of (event.Wait ticks) r ∷ []) new after r
+pub waits : (lines : List Line) (ticks : ℕ) (r : Reply) (before after : Seen) (old new : World) (t : CloudState) → before.state ≡ Some t → LinesStand lines old t
+    → (WaitsFor ticks before after (Ok r) × (new ≡ old)) ⊎ WaitsTooLong ticks before after old new (Ok r) → LineLeaves (lines ++ line_of (event.Wait ticks) r ∷ []) new after r
 waits lines ticks r before after old new t told stands (inl h) =
     let is : r ≡ reply.Waited = cc (h.0.replies) in
     let w = h.0.waited t told in
-    let P : Reply → Type 0 = λ z. StandsFor (lines ++ line_of (event.Wait ticks) z ∷ []) new after z in
+    let P : Reply → Type 0 = λ z. LineLeaves (lines ++ line_of (event.Wait ticks) z ∷ []) new after z in
     let S : CloudState → Type 0 = λ u. CloudHolds (length lines + 1) lines (session_at new.sessions) new.audit new.blind u in
     let later : t.now ≤ w.after.now = end_later t.now ticks w.after.now (h.0.clock t told) w.later in
     subst P (sym is) (through lines (event.Wait ticks) reply.Waited after new w.after w.told
@@ -671,8 +672,8 @@ shown_of tree audit s t r shows told = record {
 }
 
 report_shown : (lines : List Line) (tree : ℕ) (r : ReportShown) (before after : Seen) (world : World) (t : CloudState)
-    → before.state ≡ Some t → after.state ≡ Some t → WorldStands lines world t → IsTree tree → world.blind ≡ false → Shows tree before.state world.audit r
-    → StandsFor (lines ++ line_of (event.Report tree) (reply.Report r) ∷ []) world after (reply.Report r)
+    → before.state ≡ Some t → after.state ≡ Some t → LinesStand lines world t → IsTree tree → world.blind ≡ false → Shows tree before.state world.audit r
+    → LineLeaves (lines ++ line_of (event.Report tree) (reply.Report r) ∷ []) world after (reply.Report r)
 report_shown lines tree r before after world t told still stands is sees shows = record {
   after = t;
   told = still;
@@ -693,15 +694,15 @@ report_shown lines tree r before after world t told still stands is sees shows =
         begins_same r.order (of_tree r.tree h.order)
         (ap (λ k. of_tree k h.order) shows.tree_is ∙ ap (λ (a : Audited). of_tree tree a.order) (sym (h.seen sees)) ∙ sym shows.order)
 
-    stood : WorldStands (lines ++ line ∷ []) world t
+    stood : LinesStand (lines ++ line ∷ []) world t
     stood =
         line_through lines line (session_at world.sessions) world.audit world.blind t h
         (still_line lines (event.Report tree) (reply.Report r) (session_at world.sessions) (λ s. refl) stands.acts) stands.rests front
 
-pub reports : (lines : List Line) (tree : ℕ) (r : Reply) (before after : Seen) (old new : World) (t : CloudState) → before.state ≡ Some t → WorldStands lines old t
-    → Reports tree before after old new (Ok r) → StandsFor (lines ++ line_of (event.Report tree) r ∷ []) new after r
+pub reports : (lines : List Line) (tree : ℕ) (r : Reply) (before after : Seen) (old new : World) (t : CloudState) → before.state ≡ Some t → LinesStand lines old t
+    → Reports tree before after old new (Ok r) → LineLeaves (lines ++ line_of (event.Report tree) r ∷ []) new after r
 reports lines tree (reply.Report r) before after old new t told stands h =
-    let P : World → Type 0 = λ w. StandsFor (lines ++ line_of (event.Report tree) (reply.Report r) ∷ []) w after (reply.Report r) in
+    let P : World → Type 0 = λ w. LineLeaves (lines ++ line_of (event.Report tree) (reply.Report r) ∷ []) w after (reply.Report r) in
     subst P (sym h.world) (report_shown lines tree r before after old t told (h.looked.stays t told) stands h.reply.0 h.reply.1 h.reply.2)
 reports lines tree (reply.Trouble trouble) before after old new t told stands h =
     through lines (event.Report tree) (reply.Trouble trouble) after new t (h.looked.stays t told) (world_holds lines old new t h.world stands)

@@ -5,13 +5,29 @@ use Rattle.client_work.specs.Session.{Acting, closed_session}
 use Rattle.cloud_trait.specs.State.{CloudState, IsEmptyCloud}
 use Rattle.history.specs.Audited.{Audited}
 use Rattle.session_facts.specs.Facts.{session_at, Stands}
-use Rattle.session_facts.proofs.StartLemmas.{nothing_stands_yet}
+use Rattle.session_facts.proofs.StartLemmas.{closed_at, nothing_stands_yet}
+use Rattle.session_facts.specs.Counted.{calls_told, CountsWork, CountsAll}
+use Rattle.world_core.specs.Stands.{WorldStands}
 
 -- a world whose sessions are closed and that saw nothing stands for no lines over an empty cloud
-pub new_stands : (sessions : List Acting) (audit : Audited) (blind : Bool) (t : CloudState)
+lines_stand : (sessions : List Acting) (audit : Audited) (blind : Bool) (t : CloudState)
     → sessions ≡ replicate 17 closed_session → audit ≡ record { committed = []; order = [] } → blind ≡ false → IsEmptyCloud t
     → Stands [] (session_at sessions) audit blind t
-new_stands sessions audit blind t closed nothing sees empty =
+lines_stand sessions audit blind t closed nothing sees empty =
     subst (λ b. Stands [] (session_at sessions) audit b t) (sym sees)
     (subst (λ l. Stands [] (session_at l) audit false t) (sym closed)
     (subst (λ a. Stands [] (session_at (replicate 17 closed_session)) a false t) (sym nothing) (nothing_stands_yet 17 t empty)))
+
+-- and none of them has anything in hand
+none_counted : (sessions : List Acting) (t : CloudState) → sessions ≡ replicate 17 closed_session → CountsAll (calls_told []) t (session_at sessions)
+none_counted sessions t closed n =
+    subst (λ (l : List Acting). CountsWork (calls_told [] n) t (session_at l n).work) (sym closed)
+    (subst (λ (a : Acting). CountsWork (calls_told [] n) t a.work) (sym (closed_at 17 n)) tt)
+
+pub new_stands : (sessions : List Acting) (audit : Audited) (blind : Bool) (t : CloudState)
+    → sessions ≡ replicate 17 closed_session → audit ≡ record { committed = []; order = [] } → blind ≡ false → IsEmptyCloud t
+    → WorldStands [] (record { sessions = sessions; audit = audit; blind = blind }) t
+new_stands sessions audit blind t closed nothing sees empty = record {
+  by_lines = lines_stand sessions audit blind t closed nothing sees empty;
+  counted = none_counted sessions t closed;
+}

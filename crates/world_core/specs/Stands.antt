@@ -11,6 +11,7 @@ use Rattle.reply_text.specs.declared.reply.Reply.TheVariants as reply
 use Rattle.world_audit.specs.Counts.{heads_upto, AreWaiting}
 use Rattle.replay_meaning.specs.Standing.{Line}
 use Rattle.replay_meaning.specs.Right.{ReportIsRight}
+use Rattle.session_facts.specs.Counted.{calls_told, CountsAll}
 use Rattle.session_facts.specs.Facts.{session_at, Stands, SomeBookStands}
 use Rattle.world_core.specs.World.{World}
 use Rattle.world_core.specs.declared.world.WorldFault.{WorldFault}
@@ -24,9 +25,10 @@ abbrev pub LeftIsRight : CloudState → Reply → Type 0
 LeftIsRight t (reply.Report r) = IsLeft t r
 LeftIsRight t reply = Unit {0}
 
--- a world and a cloud stand for these lines
-abbrev pub WorldStands : List Line → World → CloudState → Type 0
-WorldStands lines world t = Stands lines (session_at world.sessions) world.audit world.blind t
+-- a world and a cloud stand for these lines; and of what each session has in hand so many calls were made as these tell, few for a checkpoint
+pub record WorldStands (lines : List Line) (world : World) (t : CloudState) : Type 0 where
+  pub by_lines : Stands lines (session_at world.sessions) world.audit world.blind t
+  pub counted : CountsAll (calls_told lines) t (session_at world.sessions)
 
 -- the world and a cloud that is told stand for these lines, the last of which has this reply; a report is right
 pub record StandsFor (lines : List Line) (world : World) (seen : Seen) (reply : Reply) : Type 0 where

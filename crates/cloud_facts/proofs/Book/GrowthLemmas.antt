@@ -1,5 +1,5 @@
 -- Each call that lands only adds to what is told.
-use Rattle.std.proofs.Common.{◌≡◌, ◌≢◌, ◌≤◌, ◌⊎◌, inl, inr, ℕ, zero, suc, Bool, true, false, cond, ◌==◌, ◌&&◌, max, List, [], ◌∷◌, ◌++◌, Some, refl, sym, subst, ◌∙◌, arith}
+use Rattle.std.proofs.Common.{◌≡◌, ◌≢◌, ◌≤◌, ◌⊎◌, inl, inr, ℕ, zero, suc, Bool, true, false, cond, ◌==◌, ◌&&◌, max, List, [], ◌∷◌, ◌++◌, Some, refl, sym, ap, subst, ◌∙◌, arith}
 use Rattle.std.proofs.lemmas.Bool.{eqb-true, and_parts}
 use Rattle.std.proofs.lemmas.List.{map-append}
 use Rattle.std.specs.Prelude.{slice_get}
@@ -15,15 +15,17 @@ use Rattle.head_codec.specs.declared.head.Head.{Head}
 use Rattle.leaf_edit.specs.Raised.{greatest_of}
 use Rattle.log_codec.specs.declared.record.AtomicRec.{AtomicRec}
 use Rattle.node_codec.specs.Inner.{Inner}
-use Rattle.node_codec.specs.Tree.{Tree}
+use Rattle.node_codec.specs.Tree.{Tree, empty_tree}
 use Rattle.cloud_facts.specs.Book.Book.{Link, with_pieces}
 use Rattle.cloud_facts.specs.Book.Effects.{after_head, after_logged, after_posted, after_log_mark, after_post_mark, after_leaf, after_page, after_inner, after_root, after_raise, Taking, done_after, cursor_after}
 use Rattle.cloud_facts.specs.Book.Growth.{Grows, IsLater}
 use Rattle.cloud_facts.specs.Book.Premises.{CoversApplied}
 use Rattle.cloud_facts.specs.Book.Records.{IsIn, IsApplied, key_in}
 use Rattle.cloud_facts.specs.Book.Tally.{Store, Node, at, at2}
+use Rattle.cloud_facts.specs.Chains.Links.{top_of}
 use Rattle.cloud_facts.proofs.Book.Names.{at_by, at2_by}
 use Rattle.cloud_facts.proofs.Book.Places.{in_behind}
+use Rattle.cloud_facts.proofs.Chains.Names.{last_added}
 
 -- ---- nothing changes
 
@@ -39,6 +41,7 @@ grows_itself st = record {
   cursor = λ tree page client is. omega arith;
   nodes = λ tree page. begins_itself (st.tally.nodes tree page);
   roots = λ tree. begins_itself (st.tally.roots tree);
+  next = λ tree. omega arith;
   unlinked = λ tree page some none. refl;
 }
 
@@ -57,6 +60,7 @@ head_grows st client head more later = record {
   cursor = λ tree page c is. omega arith;
   nodes = λ tree page. begins_itself (st.tally.nodes tree page);
   roots = λ tree. begins_itself (st.tally.roots tree);
+  next = λ tree. omega arith;
   unlinked = λ tree page some none. refl;
 }
 
@@ -76,6 +80,7 @@ with_logged_grows st client posts begins = record {
   cursor = λ tree page c is. omega arith;
   nodes = λ tree page. begins_itself (st.tally.nodes tree page);
   roots = λ tree. begins_itself (st.tally.roots tree);
+  next = λ tree. omega arith;
   unlinked = λ tree page some none. refl;
 }
 
@@ -92,6 +97,7 @@ with_posts_grows st tree page posts begins = record {
   cursor = λ t q c is. omega arith;
   nodes = λ t q. begins_itself (st.tally.nodes t q);
   roots = λ t. begins_itself (st.tally.roots t);
+  next = λ t. omega arith;
   unlinked = λ t q some none. refl;
 }
 
@@ -178,6 +184,7 @@ leaf_grows st p link is page_is = record {
   cursor = λ tree page client is. cursor_rises p st.tally.cursor tree page client;
   nodes = at2_by (λ t q ns. BeginsWith (st.tally.nodes t q) ns) p.tree p.page _ st.tally.nodes (_, refl) (λ t q. begins_itself (st.tally.nodes t q));
   roots = λ tree. begins_itself (st.tally.roots tree);
+  next = λ tree. omega arith;
   unlinked = λ tree page some none. other_page st.tally.nodes p.tree p.page _ tree page (λ t q. none_of tree page none t q);
 }
   where
@@ -206,6 +213,7 @@ page_grows st tree page node own rises first = record {
   cursor = λ t q client is. at2_by (λ t q f. st.tally.cursor t q client ≤ f client) tree page own st.tally.cursor (rises client is) (λ t q. omega arith) t q;
   nodes = at2_by (λ t q ns. BeginsWith (st.tally.nodes t q) ns) tree page _ st.tally.nodes (_, refl) (λ t q. begins_itself (st.tally.nodes t q));
   roots = λ t. begins_itself (st.tally.roots t);
+  next = λ t. omega arith;
   unlinked = λ t q some none. other_page st.tally.nodes tree page (node ∷ []) t q (λ a b. some (subst (λ k. st.tally.nodes k q ≡ []) (sym a) (subst (λ k. st.tally.nodes tree k ≡ []) (sym b) first)));
 }
 
@@ -222,6 +230,7 @@ inner_grows st tree page inner pieces link is page_is = record {
   cursor = λ t q client is. omega arith;
   nodes = at2_by (λ t q ns. BeginsWith (st.tally.nodes t q) ns) tree page _ st.tally.nodes (_, refl) (λ t q. begins_itself (st.tally.nodes t q));
   roots = λ t. begins_itself (st.tally.roots t);
+  next = λ t. omega arith;
   unlinked = λ t q some none. other_page st.tally.nodes tree page _ t q (λ a b. none_of t q none a b);
 }
   where
@@ -235,8 +244,19 @@ inner_grows st tree page inner pieces link is page_is = record {
     none_of t q none a b =
         none inner.level link (subst (λ k. IsIn (at2 tree inner.level (with_pieces page pieces (st.book.chain tree inner.level)) st.book.chain k inner.level) link) (sym a) (chain tree inner.level link is)) (page_is ∙ sym b)
 
-pub root_grows : (st : Store) (tree : ℕ) (root : Tree) → CoversApplied st tree root → Grows st (after_root tree root st)
-root_grows st tree root covers = record {
+-- the cursor of a tree never falls
+pub cursor_grows : (st : Store) (tree : ℕ) (root : Tree) → CoversApplied st tree root → (t page client : ℕ) → IsClient client
+    → st.tally.cursor t page client ≤ (after_root tree root st).tally.cursor t page client
+cursor_grows st tree root covers t page client is =
+    at2_by (λ u q f. st.tally.cursor u q client ≤ f client) tree 0 (λ c. number_of root.cursor c) st.tally.cursor (covers.rises client is) (λ u q. omega arith) t page
+
+-- nor does its next free page
+next_grows : (roots : List Tree) (root : Tree) → (top_of roots).next ≤ root.next → (top_of roots).next ≤ (top_of (roots ++ root ∷ [])).next
+next_grows roots root more = let newest = ap (λ (t : Tree). t.next) (last_added empty_tree roots root) in omega (arith, more, newest)
+
+pub root_grows : (st : Store) (tree : ℕ) (root : Tree) → CoversApplied st tree root → (top_of (st.tally.roots tree)).next ≤ root.next
+    → Grows st (after_root tree root st)
+root_grows st tree root covers more = record {
   log = begins_itself st.book.log;
   order = begins_itself st.order;
   links = λ t level link is. is;
@@ -244,15 +264,17 @@ root_grows st tree root covers = record {
   logged = λ client. begins_itself (posts_of (st.tally.logged client));
   posts = λ t q. begins_itself (posts_of (st.tally.posts t q));
   done = λ t key q client is. omega arith;
-  cursor = λ t q client is. at2_by (λ t q f. st.tally.cursor t q client ≤ f client) tree 0 (λ c. number_of root.cursor c) st.tally.cursor (covers.rises client is) (λ t q. omega arith) t q;
+  cursor = cursor_grows st tree root covers;
   nodes = λ t q. begins_itself (st.tally.nodes t q);
   roots = at_by (λ t rs. BeginsWith (st.tally.roots t) rs) tree _ st.tally.roots (_, refl) (λ t. begins_itself (st.tally.roots t));
+  next = at_by (λ t rs. (top_of (st.tally.roots t)).next ≤ (top_of rs).next) tree _ st.tally.roots (next_grows (st.tally.roots tree) root more) (λ t. omega arith);
   unlinked = λ t q some none. refl;
 }
 
 -- a level that had no page gets some
-pub raise_grows : (st : Store) (tree : ℕ) (root : Tree) (level : ℕ) (links : List Link) → CoversApplied st tree root → st.book.chain tree level ≡ [] → Grows st (after_raise tree root level links st)
-raise_grows st tree root level links covers empty = let g = root_grows st tree root covers in record {
+pub raise_grows : (st : Store) (tree : ℕ) (root : Tree) (level : ℕ) (links : List Link) → CoversApplied st tree root → (top_of (st.tally.roots tree)).next ≤ root.next
+    → st.book.chain tree level ≡ [] → Grows st (after_raise tree root level links st)
+raise_grows st tree root level links covers more empty = let g = root_grows st tree root covers more in record {
   log = g.log;
   order = g.order;
   links = λ t k link is. at2_by (λ t k ls. IsIn (st.book.chain t k) link → IsIn ls link) tree level links st.book.chain (λ there. absurd (none link there)) (λ t k there. there) t k is;
@@ -263,6 +285,7 @@ raise_grows st tree root level links covers empty = let g = root_grows st tree r
   cursor = g.cursor;
   nodes = g.nodes;
   roots = g.roots;
+  next = g.next;
   unlinked = λ t q some no. refl;
 }
   where

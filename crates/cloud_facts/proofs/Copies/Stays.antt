@@ -8,7 +8,7 @@ use Rattle.cloud_facts.proofs.Numbers.Known.{cursor_unlinked}
 use Rattle.node_codec.specs.Inner.{Inner}
 use Rattle.node_codec.specs.Tree.{Tree}
 use Rattle.cloud_facts.proofs.Book.Empty.{empty_store}
-use Rattle.cloud_facts.proofs.Book.GrowthLemmas.{leaf_grows, root_grows}
+use Rattle.cloud_facts.proofs.Book.GrowthLemmas.{leaf_grows, cursor_grows}
 use Rattle.cloud_facts.proofs.Book.Names.{at2_by}
 use Rattle.cloud_facts.proofs.Book.Places.{in_none}
 use Rattle.cloud_facts.specs.Book.Book.{Link, empty_book}
@@ -59,7 +59,7 @@ pub root_keeps : (st : Store) (tree : ℕ) (root : Tree) → CoversApplied st tr
 root_keeps st tree root covers h = record {
   in_turn = h.in_turn;
   unmarked = λ t p client number place is above first.
-      h.unmarked t p client number place is (let rises = (root_grows st tree root covers).cursor t p client is in omega (arith, rises, above)) first;
+      h.unmarked t p client number place is (let rises = cursor_grows st tree root covers t p client is in omega (arith, rises, above)) first;
   ways = h.ways;
 }
 

@@ -9,6 +9,7 @@ use Rattle.head_codec.specs.declared.head.Phase.TheVariants.{Settled, Open}
 use Rattle.cloud_facts.specs.Book.Book.{Link}
 use Rattle.cloud_facts.specs.Book.Records.{IsIn}
 use Rattle.cloud_facts.specs.Book.Tally.{Store}
+use Rattle.cloud_facts.specs.Chains.Links.{top_of}
 
 -- within a transaction an open head comes before a settled one
 abbrev pub PhaseRises : Phase → Phase → Type 0
@@ -36,6 +37,8 @@ pub record Grows (st su : Store) : Type 0 where
   -- versions are appended
   pub nodes : (tree page : ℕ) → BeginsWith (st.tally.nodes tree page) (su.tally.nodes tree page)
   pub roots : (tree : ℕ) → BeginsWith (st.tally.roots tree) (su.tally.roots tree)
+  -- the next free page of a tree never falls
+  pub next : (tree : ℕ) → (top_of (st.tally.roots tree)).next ≤ (top_of (su.tally.roots tree)).next
   -- a page in no chain that has a version stays as it is
   pub unlinked : (tree page : ℕ) → st.tally.nodes tree page ≢ [] → ((level : ℕ) (link : Link) → IsIn (su.book.chain tree level) link → link.page ≢ page)
       → su.tally.nodes tree page ≡ st.tally.nodes tree page

@@ -33,9 +33,11 @@ use Rattle.session_facts.proofs.Settled.LeftHands.{IsDelivered, IsOfTree, works_
 use Rattle.session_facts.proofs.Settled.Lefts.{LeftAt, Left, NothingWaits, again_left, left_again}
 use Rattle.session_facts.proofs.Settled.Queues.{none_told, some_told}
 use Rattle.session_facts.proofs.Settled.Stories.{calm_delivered, part_known}
+use Rattle.session_facts.proofs.Settled.Distinct.{few_of}
 use Rattle.session_facts.proofs.Settled.Sums.{sum_next, sum_over_more, some_received, none_received}
+use Rattle.session_facts.specs.Few.{next_page}
 use Rattle.session_facts.specs.Settled.Bound.{sum_upto, sum_over, newest_head, client_calls, queue_calls, tree_calls, LeadAlong, AreLeafPages, IsWithin}
-use Rattle.session_facts.specs.Settled.Runs.{AreDelivered, waiting, next_page, right_at, Drains, TreeRun, PageRun, RecoveryRun, TreesRun, PagesRun, RecoveriesRun}
+use Rattle.session_facts.specs.Settled.Runs.{AreDelivered, waiting, right_at, Drains, TreeRun, PageRun, RecoveryRun, TreesRun, PagesRun, RecoveriesRun}
 use Rattle.session_facts.specs.Settled.Story.{Moment, store_at, IsAtWork, PartRan}
 use Rattle.session_facts.specs.Settlings.Settling.{KnowsAtWork}
 use Rattle.settle_run.specs.Parts.{part_again, part_of_client, part_of_tree}
@@ -314,7 +316,7 @@ module _ (begin : CloudState) (trees : TreesRun) (pages : PagesRun) (clients : R
                   (λ messages pages. sum_zero (queue_calls (messages (queue.TreePu tree)) (pages tree)) (queue_calls (messages (queue.PagePu tree 1)) (pages tree))) first_page
                   (tree_moves nothing
                   (λ pages fits. no_more (length h) s.calls (queue_calls (length (waiting first.state (queue.TreePu tree))) (pages tree))
-                  (none_received (length h) (length r.received) (length (waiting first.state (queue.TreePu tree))) (pages tree) (tree_run.few calm memory (pages tree) fits) none))),
+                  (none_received (length h) (length r.received) (length (waiting first.state (queue.TreePu tree))) (pages tree) (few_of (length h) (pages tree) r.received (tree_run.few calm memory (pages tree) fits)) none))),
             )
         on (id ∷ ids) e =
             let some : 1 ≤ length r.received = some_told (queue.TreePu tree) s.known r.received first.state last.state left.1.1 tree_drains id ids e in (
@@ -323,7 +325,7 @@ module _ (begin : CloudState) (trees : TreesRun) (pages : PagesRun) (clients : R
                   (λ pages fits. some_more (length h) s.calls (queue_calls (length (waiting last.state (queue.TreePu tree))) (pages tree))
                   (queue_calls (length (waiting first.state (queue.TreePu tree))) (pages tree))
                   (some_received (length h) (length r.received) (length (waiting last.state (queue.TreePu tree))) (length (waiting first.state (queue.TreePu tree))) (pages tree)
-                  (tree_run.few calm memory (pages tree) fits) some tree_drains.count)),
+                  (few_of (length h) (pages tree) r.received (tree_run.few calm memory (pages tree) fits)) some tree_drains.count)),
             )
 
   -- ---- the queue of a page
@@ -364,7 +366,7 @@ module _ (begin : CloudState) (trees : TreesRun) (pages : PagesRun) (clients : R
         let none : length r.received ≡ 0 = ap length (none_told (queue.PagePu tree page) s.known r.received first.state last.state left.1.1.0 page_drains e) in
         page_moves nothing
         (λ counts fits. no_more (length h) s.calls (queue_calls (length (waiting first.state (queue.PagePu tree page))) (counts tree))
-        (none_received (length h) (length r.received) (length (waiting first.state (queue.PagePu tree page))) (counts tree) (page_run.few calm memory (counts tree) fits) none))
+        (none_received (length h) (length r.received) (length (waiting first.state (queue.PagePu tree page))) (counts tree) (few_of (length h) (counts tree) r.received (page_run.few calm memory (counts tree) fits)) none))
 
     -- the tree is over
     leaf_pages : page_at r.home.right ≡ None → AreLeafPages last.state tree s.visited
@@ -438,7 +440,7 @@ module _ (begin : CloudState) (trees : TreesRun) (pages : PagesRun) (clients : R
                   (λ counts fits. some_more (length h) s.calls (queue_calls (length (waiting last.state (queue.PagePu tree page))) (counts tree))
                   (queue_calls (length (waiting first.state (queue.PagePu tree page))) (counts tree))
                   (some_received (length h) (length r.received) (length (waiting last.state (queue.PagePu tree page))) (length (waiting first.state (queue.PagePu tree page))) (counts tree)
-                  (page_run.few calm memory (counts tree) fits) some page_drains.count)),
+                  (few_of (length h) (counts tree) r.received (page_run.few calm memory (counts tree) fits)) some page_drains.count)),
             )
 
   part_cost : (w : Part) → IsOfTree w → IsOfClient w → LeftAt w s.known s.visited first → CostAt begin w s.visited s.calls first → PartRan w h first last

@@ -12,7 +12,8 @@ use Rattle.session_facts.proofs.Settled.Frames.{IsPending}
 use Rattle.session_facts.proofs.Settled.LeafPages.{one_way, same_most}
 use Rattle.session_facts.proofs.Settled.Sums.{sum_same, sum_next, sum_eights}
 use Rattle.session_facts.specs.Settled.Bound.{sum_upto, client_calls, to_settle, queue_calls, tree_calls, LeadAlong, AreLeafPages, AreAllLeafPages, most_calls, IsWithin}
-use Rattle.session_facts.specs.Settled.Runs.{waiting, next_page, right_at}
+use Rattle.session_facts.specs.Few.{next_page}
+use Rattle.session_facts.specs.Settled.Runs.{waiting, right_at}
 
 -- ---- what is counted
 

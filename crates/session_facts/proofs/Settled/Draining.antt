@@ -28,7 +28,7 @@ use Rattle.run_cursor.specs.Covered.{is_covered, is_seen, new_ones, covered_ids}
 use Rattle.run_cursor.specs.Run.{IsRun}
 use Rattle.session_facts.proofs.Runs.Received.{each_in, all_in, items_sent, item_client, new_in, covered_in}
 use Rattle.session_facts.proofs.Settled.Queues.{empty_of}
-use Rattle.session_facts.proofs.Settled.TreeLists.{Apart}
+use Rattle.session_facts.specs.TreeCheckpoints.Counting.{Apart}
 use Rattle.session_facts.proofs.Trees.RisingGrounds.{in_dropped}
 use Rattle.session_facts.proofs.Trees.Unseen.{seen_in}
 use Rattle.session_facts.specs.Runs.Runs.{IsSentItem}
@@ -246,7 +246,7 @@ are_items (m ∷ ms) items e = on (pu_of m.bytes) refl (items_of ms) (are_items 
     on (Some rec) reads (Err bad) again h = absurd (cc (h))
 
 -- each number is among those that were seen, or among the new ones
-new_all : (seen ns : List ℕ) (n : ℕ) → IsIn ns n → IsIn seen n ⊎ IsIn (new_ones seen ns) n
+pub new_all : (seen ns : List ℕ) (n : ℕ) → IsIn ns n → IsIn seen n ⊎ IsIn (new_ones seen ns) n
 new_all seen [] n is = absurd (none_in n is)
 new_all seen (x ∷ ns) n is = on (is_seen seen x) refl (new_all seen ns n) (new_all (seen ++ x ∷ []) ns n) (in_cases x ns n is)
   where

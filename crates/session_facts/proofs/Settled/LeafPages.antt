@@ -5,7 +5,7 @@ use Rattle.cloud_trait.specs.State.{CloudState}
 use Rattle.db_base.specs.Ids.{IsTree}
 use Rattle.session_facts.proofs.Settled.Sums.{sum_same}
 use Rattle.session_facts.specs.Settled.Bound.{sum_upto, client_calls, to_settle, tree_calls, LeadAlong, most_calls}
-use Rattle.session_facts.specs.Settled.Runs.{next_page}
+use Rattle.session_facts.specs.Few.{next_page}
 
 -- right pages lead along one list alone from a page to none
 pub one_way : (right : ℕ → ℕ) (from : ℕ) (ps qs : List ℕ) → LeadAlong right from ps 0 → LeadAlong right from qs 0 → ps ≡ qs

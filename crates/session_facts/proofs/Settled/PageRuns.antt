@@ -27,14 +27,17 @@ use Rattle.page_ckpt.specs.declared.stage.Stage.TheVariants.{TakingRight, Releas
 use Rattle.run_cursor.specs.Covered.{is_covered, is_seen, new_ones, covered_ids}
 use Rattle.run_cursor.specs.Run.{IsRun}
 use Rattle.session_facts.proofs.Runs.Runs.{run_in}
+use Rattle.session_facts.proofs.Settled.Distinct.{distinct_none}
 use Rattle.session_facts.proofs.Settled.Draining.{item_ids}
 use Rattle.session_facts.proofs.Settled.PageDrains.{ending, story, turn, known, went as went_there, done, page_drains, right_read, same_rights}
 use Rattle.session_facts.proofs.Settled.PageStories.{GoesFrom, goes_from, turn_page}
 use Rattle.session_facts.proofs.Settled.PageVisits.{Visits, step_visits, came_apart}
 use Rattle.session_facts.proofs.Settled.Queues.{empty_of}
 use Rattle.session_facts.proofs.Settled.TreeLists.{pages_fit}
+use Rattle.session_facts.proofs.Settled.TreeReceives.{covered_fits}
+use Rattle.session_facts.specs.Few.{distinct, next_page, IsFew}
 use Rattle.session_facts.specs.PageCheckpoints.Checkpoint.{KnowsPagingAt}
-use Rattle.session_facts.specs.Settled.Runs.{IsFew, PagesRun, next_page}
+use Rattle.session_facts.specs.Settled.Runs.{PagesRun}
 use Rattle.session_facts.specs.Settled.Story.{Moment, store_at, IsTurn, PartStory, PartRan}
 use Rattle.session_facts.specs.Settlings.Settling.{MakesPage}
 use Rattle.settle_run.specs.declared.part.Part.{Part}
@@ -124,7 +127,8 @@ deletes_long s (t ∷ ts) rest =
     omega (arith, more, one)
 
 -- so many deletions were tried and are left, where the leases are given back and no trouble waits
-tried_few : (p : Paging) (cs : Calls) → Knows p cs → p.stage ≡ Releasing → p.trouble ≡ None → tries p.deletions + length p.deletions.ids ≤ length p.received
+tried_few : (p : Paging) (cs : Calls) → Knows p cs → p.stage ≡ Releasing → p.trouble ≡ None
+    → tries p.deletions + length p.deletions.ids ≤ length (distinct p.received)
 tried_few p cs knows stage none = on p.held.first p.held.second quiet
   where
     releasing : KnowsAt Releasing p p.held.first p.held.second cs
@@ -133,17 +137,16 @@ tried_few p cs knows stage none = on p.held.first p.held.second quiet
     quiet : KnowsAt Releasing (record p { trouble = None }) p.held.first p.held.second cs
     quiet = subst (λ o. KnowsAt Releasing (record p { trouble = o }) p.held.first p.held.second cs) none releasing
 
-    on : (first second : Option Claim) → KnowsAt Releasing (record p { trouble = None }) first second cs → tries p.deletions + length p.deletions.ids ≤ length p.received
+    on : (first second : Option Claim) → KnowsAt Releasing (record p { trouble = None }) first second cs
+        → tries p.deletions + length p.deletions.ids ≤ length (distinct p.received)
     on (Some l) None (late, all) =
         let long = before_long late.tries p.deletions.ids in
         let went_is = late.deleted in
         let left_is = late.left in
         let covered = ap length late.covered in
-        let few = covered_few p.run.top late.opening.items in
-        let items = items_long late.opening.messages late.opening.items late.opened.read in
-        let ids = length-map late.opening.messages (λ (m : Message). m.id) in
-        let told = ap length late.opened.told in
-        omega (arith, long, went_is, left_is, covered, few, items, ids, told)
+        let few = covered_fits late.opening.messages late.opening.items p.run.top late.opened.read in
+        let told = ap (λ (ids : List ℕ). length (distinct ids)) late.opened.told in
+        omega (arith, long, went_is, left_is, covered, few, told)
     on (Some l) (Some r) k = absurd k
     on None second k = absurd k
 
@@ -207,10 +210,10 @@ module _ (tree page : ℕ) (m : Paging) (h : List Deed) (first last : Moment) (r
       let long = ap length ran.is in
       omega (arith, few, long)
 
-  deletions_few : tries was.deletions + length was.deletions.ids ≤ length m.received
+  deletions_few : tries was.deletions + length was.deletions.ids ≤ length (distinct m.received)
   deletions_few =
       let few = tried_few was (calls_of ran.earlier) (went_knows was ran.earlier (went_there tree page m h first last ran)) over.0 over.1 in
-      let same = ap length over.2 in
+      let same = ap (λ (ids : List ℕ). length (distinct ids)) over.2 in
       omega (arith, few, same)
 
   none_few : length m.received ≡ 0 → length h ≡ 4
@@ -231,13 +234,13 @@ module _ (tree page : ℕ) (m : Paging) (h : List Deed) (first last : Moment) (r
       omega (arith, none, told, ids, items, main, shape, deletes, before, covered, few, calls, long)
 
   is_few : IsFew (length h) m.received last.state tree
-  is_few pages room = on (cases_lt 0 (length m.received))
+  is_few pages room = on (cases_lt 0 (length (distinct m.received)))
     where
-      on : (0 < length m.received) ⊎ (length m.received ≤ 0) → length h ≤ 16 + length m.received * (8 * pages + 16)
+      on : (0 < length (distinct m.received)) ⊎ (length (distinct m.received) ≤ 0) → length h ≤ 16 + length (distinct m.received) * (8 * pages + 16)
       on (inl some) =
-          few_with (length h) (length m.received) (tries was.deletions + length was.deletions.ids) (length was.visited) pages calls_few deletions_few (visits_few pages room)
-          (omega (arith, some))
-      on (inr none) = let four = none_few (omega (arith, none)) in omega (arith, four)
+          few_with (length h) (length (distinct m.received)) (tries was.deletions + length was.deletions.ids) (length was.visited) pages calls_few deletions_few
+          (visits_few pages room) (omega (arith, some))
+      on (inr none) = let four = none_few (distinct_none m.received (omega (arith, none))) in omega (arith, four)
 
 pub pages_run : PagesRun
 pages_run tree page m h first last ran = record {

@@ -13,7 +13,8 @@ use Rattle.page_ckpt.specs.declared.stage.Stage.TheVariants.{TakingRight, Releas
 use Rattle.page_ckpt.specs.Paging.{Paging, Step, new_paging, paging_ask, PagingLeads}
 use Rattle.page_ckpt.proofs.Outcomes.{Onward, Clears, Fails, Comes, comes}
 use Rattle.page_ckpt.proofs.Outcomes as step
-use Rattle.session_facts.proofs.Settled.TreeLists.{Apart, apart_more}
+use Rattle.session_facts.proofs.Settled.TreeLists.{apart_more}
+use Rattle.session_facts.specs.TreeCheckpoints.Counting.{Apart}
 
 -- one page more, which was not among them
 pub record OneMore (old new : List ℕ) : Type 0 where

@@ -1,6 +1,6 @@
 -- How many calls of a tree checkpoint are left, where its tree has so many pages: each step that goes on leaves fewer.
 use Rattle.std.proofs.Common.{◌≡◌, ◌<◌, ◌≤◌, ◌+◌, ◌-◌, ◌*◌, ◌⊎◌, inl, inr, ℕ, Bool, true, false, cond, List, [], ◌∷◌, ◌++◌, length, length-append, Option, Some, None, Result, Ok, Err, refl, sym, ap, subst, ◌∙◌, arith, add-mul, mul-add, mul-le-mul_right}
-use Rattle.std.specs.Prelude.{◌==◌, ◌||◌, ◌&&◌, not, is_some, if◌then◌else◌}
+use Rattle.std.specs.Prelude.{◌==◌, ◌||◌, ◌&&◌, not, is_some}
 use Rattle.std.proofs.lemmas.Option.{slice_get_within}
 use Rattle.byte_format.specs.Order.{bytes_below}
 use Rattle.ckpt_parts.specs.declared.intake.Intake.{Intake}
@@ -54,48 +54,8 @@ use Rattle.tree_rising.specs.declared.root.RootPlan.{RootPlan}
 use Rattle.tree_rising.specs.Nodes.{node_plan}
 use Rattle.tree_parts.specs.Reserve.{version_spent}
 use Rattle.tree_rising.specs.Rising as rise
-use Rattle.session_facts.proofs.Settled.TreePieces.{piece_calls, node_few, last_few, GotLeaf, got_leaf}
-
--- ---- what is left
-
--- the calls of so many keys: a take, a get and a release of each leaf on the way right, and those of the one that is put
-pub for_keys : ℕ → ℕ → ℕ
-for_keys p keys = keys * (3 * p + 8)
-
--- the next number of a new page
-abbrev pub next_of : Chart → ℕ
-next_of c = (tree_held c.root).next
-
--- the deletions, the way up, inner nodes that were not got, and pages that may still be new
-abbrev pub around : ℕ → Held → Chart → ℕ
-around p h c = ids_in h + (2 * p + 8) + (p - length c.nodes) + ((p + 1) - next_of c)
-
-abbrev pub at_leaves : ℕ → Held → Chart → ℕ → ℕ
-at_leaves p h c visited = around p h c + for_keys p (behind_key c) + 3 * (p - visited)
-
-abbrev pub up_left : ℕ → Option (List ℕ) → Rising → ℕ
-up_left p None r = 2 * (length r.chart.nodes - r.at) + piece_calls 2 r.placing + ((p + 1) - next_of r.chart) + 3
-up_left p (Some last) r = piece_calls 1 r.placing + ((p + 1) - next_of r.chart) + 1
-
--- the calls that are left of a tree checkpoint, for so many pages
-abbrev pub calls_left : ℕ → Work → ℕ
-calls_left p work.TakingTree = 16
-calls_left p (work.GettingTree l) = 15
-calls_left p (work.Receiving l root) = 14
-calls_left p (work.Descending h d) = at_leaves p h d.chart 0 + 6
-calls_left p (work.TakingPage h c) = at_leaves p h c.chart (length c.visited) + 6
-calls_left p (work.Folding h f) =
-    if length f.placing.puts == 0
-    then at_leaves p h f.chart (length f.visited) + 5
-    else around p h f.chart + for_keys p (unhandled f.chart) + piece_calls 2 f.placing + 2
-calls_left p (work.ReleasingPage h l (onward.Right c)) = at_leaves p h c.chart (length c.visited) + 7
-calls_left p (work.ReleasingPage h l (onward.Handled c)) = around p h c + for_keys p (unhandled c) + 1
-calls_left p (work.LeftPage h (onward.Right c)) = at_leaves p h c.chart (length c.visited) + 7
-calls_left p (work.LeftPage h (onward.Handled c)) = around p h c + for_keys p (unhandled c) + 1
-calls_left p (work.Rising h r) = ids_in h + 4 + up_left p r.last r
-calls_left p (work.Deleting h applied) = ids_in h + 3
-calls_left p (work.Releasing held end) = length (claims_of held) + 1
-calls_left p work.Finished = 1
+use Rattle.session_facts.specs.TreeCheckpoints.Counting.{piece_calls, for_keys, next_of, around, at_leaves, up_left, calls_left}
+use Rattle.session_facts.proofs.Settled.TreePieces.{node_few, last_few, GotLeaf, got_leaf}
 
 -- ---- what its tree leaves room for
 
@@ -548,7 +508,7 @@ before_step p (work.Receiving l root) d = 14 + d * (8 * p + 16)
 before_step p w d = calls_left p w
 
 below_at : (p d tree : ℕ) (w : Work) (a : Answer) (next : Step) → FitsWork p w
-    → ((i : Intake) (ms : List Message) (cursor : List (ℕ × ℕ)) → received_of a ≡ Ok ms → TakesIn (queue.TreePu tree) cursor ms (Ok i)
+    → ((l : Claim) (root : Option (List ℕ)) → w ≡ work.Receiving l root → (i : Intake) (ms : List Message) (cursor : List (ℕ × ℕ)) → received_of a ≡ Ok ms → TakesIn (queue.TreePu tree) cursor ms (Ok i)
     → (length i.deletions.ids ≤ d) × (length i.run.items ≤ d))
     → Leads tree w a next → Below p (before_step p w d) next
 unfolding Below
@@ -559,7 +519,7 @@ below_at p d tree (work.Receiving l root) a next fits few h = on (received_of a)
   on (Ok ms) e r =
       below_by p _ next _ r.2
       (below_intake p d tree l root r.0
-      (λ i is. few i ms (tree_held root).cursor e (subst (TakesIn (queue.TreePu tree) (tree_held root).cursor ms) is r.1)))
+      (λ i is. few l root refl i ms (tree_held root).cursor e (subst (TakesIn (queue.TreePu tree) (tree_held root).cursor ms) is r.1)))
   on (Err t) e r = below_by p _ next _ r (below_stop p (14 + d * (8 * p + 16)) l t (omega arith))
 below_at p d tree (work.Descending k way) a next fits few e =
     below_by p _ next _ e (below_descending p _ 1 k way.chart (descent_next way a) (descent_further way a) (λ nodes. omega (arith, nodes)) (omega arith))
@@ -576,7 +536,7 @@ below_at p d tree work.Finished a next fits few e = below_by p _ next _ e tt
 
 -- a step that goes on leaves fewer calls
 pub goes_fewer : (p d tree : ℕ) (w : Work) (a : Answer) (v : Work) → FitsWork p w → FitsWork p v
-    → ((i : Intake) (ms : List Message) (cursor : List (ℕ × ℕ)) → received_of a ≡ Ok ms → TakesIn (queue.TreePu tree) cursor ms (Ok i)
+    → ((l : Claim) (root : Option (List ℕ)) → w ≡ work.Receiving l root → (i : Intake) (ms : List Message) (cursor : List (ℕ × ℕ)) → received_of a ≡ Ok ms → TakesIn (queue.TreePu tree) cursor ms (Ok i)
     → (length i.deletions.ids ≤ d) × (length i.run.items ≤ d))
     → Leads tree w a (Goes v) → calls_left p v < before_step p w d
 unfolding Below

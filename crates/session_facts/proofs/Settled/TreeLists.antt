@@ -5,11 +5,7 @@ use Rattle.std.proofs.lemmas.Bool.{eqb-true, eqb-false}
 use Rattle.cloud_facts.proofs.Chains.Pieces.{none_in, in_first, in_rest, in_cases, in_both}
 use Rattle.cloud_facts.proofs.Chains.Names.{in_single}
 use Rattle.cloud_facts.specs.Book.Records.{IsIn}
-
--- nothing comes twice
-abbrev pub Apart : {X : Type 0} → List X → Type 0
-Apart [] = Unit {0}
-Apart {X} (x ∷ xs) = ((y : X) → IsIn xs y → y ≢ x) × Apart xs
+use Rattle.session_facts.specs.TreeCheckpoints.Counting.{Apart}
 
 -- ---- one element less
 

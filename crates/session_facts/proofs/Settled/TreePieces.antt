@@ -17,6 +17,7 @@ use Rattle.leaf_view.specs.Lookup.{empty_leaf, page_at}
 use Rattle.log_codec.specs.declared.record.PuItem.{PuItem}
 use Rattle.node_codec.specs.Tree.{Tree}
 use Rattle.run_cursor.specs.Covered.{is_seen}
+use Rattle.session_facts.specs.TreeCheckpoints.Counting.{pieces_by, piece_calls}
 use Rattle.split_plan.specs.declared.entry_list.NewEntry.{NewEntry}
 use Rattle.split_plan.specs.Part.{Part}
 use Rattle.split_plan.specs.Plan.{put_of, on_pages}
@@ -31,14 +32,6 @@ use Rattle.tree_rising.specs.declared.root.RootPlan.{RootPlan}
 use Rattle.tree_rising.specs.Nodes.{node_plan}
 use Rattle.tree_rising.specs.Rising.{plan_of}
 use Rattle.tree_rising.specs.Root.{raised_root as planned_root}
-
--- the puts of what is planned, but for those of pages whose numbers are reserved
-abbrev pub pieces_by : ℕ → Option (List ℕ) → ℕ → ℕ
-pieces_by least (Some bytes) puts = least
-pieces_by least None puts = puts
-
-abbrev pub piece_calls : ℕ → Placing → ℕ
-piece_calls least p = pieces_by least p.reserved (length p.puts)
 
 -- ---- pieces
 

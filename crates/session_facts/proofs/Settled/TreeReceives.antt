@@ -1,33 +1,48 @@
 -- What a tree checkpoint received, and how long the run is that it took of it.
 use Rattle.std.proofs.Common.{◌≡◌, ◌≢◌, ◌+◌, ◌≤◌, ◌⊎◌, inl, inr, ℕ, Bool, true, cond, ◌==◌, List, [], ◌∷◌, length, Option, Some, None, Result, Ok, Err, refl, sym, ap, subst, ◌∙◌, arith}
-use Rattle.std.specs.Prelude.{count_by}
+use Rattle.std.specs.Prelude.{count_by, map, slice_get}
+use Rattle.std.specs.List.{AllByRecursion}
 use Rattle.std.proofs.lemmas.Bool.{and_from, eq-eqb}
+use Rattle.std.proofs.lemmas.List.{length-map}
+use Rattle.std.proofs.lemmas.List.Elements.{recursion_from_All}
 use Rattle.std.proofs.lemmas.List.Sums.{sum_by-cons}
 use Rattle.ckpt_parts.specs.Deleting.{next_id}
 use Rattle.ckpt_parts.specs.declared.intake.Intake.{Intake}
-use Rattle.ckpt_parts.specs.Intakes.{items_of, intake_of, TakesItems, TakesIn}
+use Rattle.ckpt_parts.specs.Intakes.{ids_of, items_of, intake_of, TakesItems, TakesIn}
+use Rattle.cloud_facts.proofs.Book.Places.{get_map}
 use Rattle.cloud_facts.proofs.Chains.Pieces.{none_in, in_first, in_rest, in_cases}
 use Rattle.cloud_facts.specs.Book.Records.{IsIn}
+use Rattle.cloud_facts.specs.Calls.Call.{IsCall}
 use Rattle.cloud_trait.specs.Ask.{Ask, Get, GetHeld, PutHeld, Send, Receive, Delete, Take, Renew, Release}
+use Rattle.cloud_trait.specs.Caller.{Caller}
+use Rattle.cloud_trait.specs.Delivery.{WasSent}
+use Rattle.cloud_trait.specs.State.{CloudState}
+use Rattle.cloud_trait.specs.Views.{received_of}
 use Rattle.cloud_trait.specs.Weather.{Fits}
+use Rattle.cloud_trait.specs.declared.state.Posted.{Posted}
 use Rattle.cloud_trait.specs.declared.answer.Answer.{Answer}
 use Rattle.cloud_trait.specs.declared.answer.Answer.TheVariants as call
 use Rattle.cloud_trait.specs.declared.message.Message.{Message}
 use Rattle.db_base.specs.declared.names.QueueName.{QueueName}
 use Rattle.db_base.specs.declared.names.QueueName.TheVariants as queue
+use Rattle.log_codec.specs.Pu.{pu_of}
 use Rattle.log_codec.specs.declared.record.PuItem.{PuItem}
+use Rattle.run_cursor.specs.Covered.{covered_ids}
 use Rattle.run_cursor.specs.Run.{Taken, is_at, IsRun, IsWithin}
-use Rattle.session_facts.proofs.Runs.Received.{all_in}
+use Rattle.session_facts.proofs.Runs.Received.{all_in, each_in, items_sent}
 use Rattle.session_facts.proofs.Runs.Runs.{run_in}
-use Rattle.session_facts.proofs.Settled.TreeLists.{Apart, apart_fits}
+use Rattle.session_facts.proofs.Settled.Distinct.{new_apart, apart_distinct}
+use Rattle.session_facts.proofs.Settled.Draining.{item_ids, covered_received}
+use Rattle.session_facts.specs.Few.{distinct}
+use Rattle.session_facts.specs.Runs.Runs.{IsSentItem}
+use Rattle.session_facts.specs.TreeCheckpoints.Counting.{Apart}
 use Rattle.session_facts.proofs.Settled.TreeSteps.{IsQuiet, TouchesQueue, work_quiet}
-use Rattle.tree_ckpt.proofs.Receiving.{items_length, takes_length}
 use Rattle.tree_ckpt.specs.Making.{received_after}
 use Rattle.tree_moves.specs.Work.{delete_ask, work_ask}
 use Rattle.tree_moves.specs.declared.work.Work.{Work}
 use Rattle.tree_moves.specs.declared.work.Work.TheVariants as work
 
--- ---- a run is no longer than what it was taken of
+-- ---- a run has no item twice
 
 counted_first : (p : PuItem → Bool) (x : PuItem) (xs : List PuItem) → p x ≡ true → count_by p (x ∷ xs) ≡ 1 + count_by p xs
 counted_first p x xs e = sum_by-cons _ x xs ∙ ap (λ (b : Bool). cond b 1 0 + count_by p xs) e
@@ -65,8 +80,8 @@ apart_items (x ∷ xs) once = (other, apart_items xs (λ y is. less y is))
         let some = counted_some (is_at x.rec.client x.rec.number) xs y is test in
         absurd (omega (arith, one, first, some))
 
-run_length : (cursor : List (ℕ × ℕ)) (items run : List PuItem) (top : List (ℕ × ℕ)) → IsRun cursor items run top → length run ≤ length items
-run_length cursor items run top is_run = apart_fits run items (apart_items run one) (run_in cursor items run top is_run)
+run_apart : (cursor : List (ℕ × ℕ)) (items run : List PuItem) (top : List (ℕ × ℕ)) → IsRun cursor items run top → Apart run
+run_apart cursor items run top is_run = apart_items run one
   where
     one : (x : PuItem) → IsIn run x → count_by (is_at x.rec.client x.rec.number) run ≤ 1
     one x is =
@@ -74,21 +89,97 @@ run_length cursor items run top is_run = apart_fits run items (apart_items run o
         let once = is_run.once x.rec.client x.rec.number within in
         omega (arith, once)
 
-items_run : (q : QueueName) (cursor : List (ℕ × ℕ)) (read : Result (List PuItem) Message) (n : ℕ) (i : Intake)
-    → ((items : List PuItem) → read ≡ Ok items → length items ≤ n) → TakesItems q cursor read (Ok i) → length i.run.items ≤ n
-items_run q cursor (Err m) n i most h = absurd (cc (h))
-items_run q cursor (Ok items) n i most h =
-    let run : Taken = h.0 in
-    let whole : i ≡ intake_of items run = cc (h.2) in
-    let same = ap (λ (j : Intake). length j.run.items) whole in
-    let few = run_length cursor items run.items run.top h.1 in
-    let all = most items refl in
-    omega (arith, same, few, all)
+-- ---- ids
 
--- the run of an intake, and what it is to delete, are no longer than the messages
-pub intake_fits : (q : QueueName) (cursor : List (ℕ × ℕ)) (ms : List Message) (i : Intake) → TakesIn q cursor ms (Ok i)
-    → (length i.deletions.ids ≤ length ms) × (length i.run.items ≤ length ms)
-intake_fits q cursor ms i h = (takes_length q cursor ms i h, items_run q cursor (items_of ms) (length ms) i (items_length ms) h)
+bytes_of : (p q : Posted) → Some p ≡ Some q → p.bytes ≡ q.bytes
+bytes_of p q e = cc (e)
+
+id_there : (xs : List PuItem) (x : PuItem) → IsIn xs x → IsIn (map (λ (y : PuItem). y.id) xs) x.id
+id_there xs x is = (is.0, get_map (λ (y : PuItem). y.id) xs is.0 x is.1)
+
+item_at : (xs : List PuItem) (n : ℕ) → IsIn (map (λ (y : PuItem). y.id) xs) n → (x : PuItem) × IsIn xs x × (x.id ≡ n)
+item_at [] n is = absurd (none_in n is)
+item_at (x ∷ xs) n is = on (item_at xs n) (in_cases x.id (map (λ (y : PuItem). y.id) xs) n is)
+  where
+    on : (IsIn (map (λ (y : PuItem). y.id) xs) n → (y : PuItem) × IsIn xs y × (y.id ≡ n)) → (x.id ≡ n) ⊎ IsIn (map (λ (y : PuItem). y.id) xs) n
+        → (y : PuItem) × IsIn (x ∷ xs) y × (y.id ≡ n)
+    on again (inl same) = (x, in_first x xs, same)
+    on again (inr there) = let y = again there in (y.0, in_rest x xs y.0 y.1, y.2)
+
+-- items of one id are one item
+same_item : (posts : List Posted) (x y : PuItem) → IsSentItem posts x → IsSentItem posts y → x.id ≡ y.id → x ≡ y
+same_item posts x y a b e = λ i. record { id = e i; rec = rec_is i }
+  where
+    place_is : a.place ≡ b.place
+    place_is = let one = a.id in let other = b.id in omega (arith, one, other, e)
+
+    message_is : Some a.message ≡ Some b.message
+    message_is = sym a.there ∙ ap (slice_get posts) place_is ∙ b.there
+
+    rec_is : x.rec ≡ y.rec
+    rec_is = let reads : Some x.rec ≡ Some y.rec = sym a.reads ∙ ap pu_of (bytes_of a.message b.message message_is) ∙ b.reads in cc (reads)
+
+ids_apart : (posts : List Posted) (xs : List PuItem) → ((x : PuItem) → IsIn xs x → IsSentItem posts x) → Apart xs → Apart (map (λ (x : PuItem). x.id) xs)
+ids_apart posts [] sent apart = tt
+ids_apart posts (x ∷ xs) sent apart = (other, ids_apart posts xs (λ y is. sent y (in_rest x xs y is)) apart.1)
+  where
+    other : (n : ℕ) → IsIn (map (λ (y : PuItem). y.id) xs) n → n ≢ x.id
+    other n is same =
+        let y = item_at xs n is in
+        apart.0 y.0 y.1 (same_item posts y.0 x (sent y.0 (in_rest x xs y.0 y.1)) (sent x (in_first x xs)) (y.2 ∙ same))
+
+-- the ids of a run are distinct ones of what it was taken of
+run_fits : (posts : List Posted) (ms : List Message) (cursor : List (ℕ × ℕ)) (items run : List PuItem) (top : List (ℕ × ℕ))
+    → AllByRecursion (WasSent posts) ms → items_of ms ≡ Ok items → IsRun cursor items run top → length run ≤ length (distinct (ids_of ms))
+run_fits posts ms cursor items run top was read is_run =
+    let few = apart_distinct (map (λ (x : PuItem). x.id) run) (ids_of ms) (ids_apart posts run sent (run_apart cursor items run top is_run)) within in
+    let long = length-map run (λ (x : PuItem). x.id) in
+    omega (arith, few, long)
+  where
+    sent : (x : PuItem) → IsIn run x → IsSentItem posts x
+    sent x is = each_in (IsSentItem posts) items (items_sent posts ms items was read) x (run_in cursor items run top is_run x is)
+
+    within : (n : ℕ) → IsIn (map (λ (x : PuItem). x.id) run) n → IsIn (ids_of ms) n
+    within n is =
+        let x = item_at run n is in
+        subst (λ (l : List ℕ). IsIn l n) (item_ids ms items read)
+        (subst (IsIn (map (λ (y : PuItem). y.id) items)) x.2 (id_there items x.0 (run_in cursor items run top is_run x.0 x.1)))
+
+-- and so are those that its top covers
+pub covered_fits : (ms : List Message) (items : List PuItem) (top : List (ℕ × ℕ)) → items_of ms ≡ Ok items
+    → length (covered_ids top items) ≤ length (distinct (ids_of ms))
+covered_fits ms items top read = apart_distinct (covered_ids top items) (ids_of ms) (new_apart [] _) (covered_received ms items top read)
+
+takes_fits : (posts : List Posted) (q : QueueName) (cursor : List (ℕ × ℕ)) (ms : List Message) (read : Result (List PuItem) Message) (i : Intake)
+    → AllByRecursion (WasSent posts) ms → items_of ms ≡ read → TakesItems q cursor read (Ok i)
+    → (length i.deletions.ids ≤ length (distinct (ids_of ms))) × (length i.run.items ≤ length (distinct (ids_of ms)))
+takes_fits posts q cursor ms (Err m) i was e h = absurd (cc (h))
+takes_fits posts q cursor ms (Ok items) i was e h =
+    let run : Taken = h.0 in
+    let whole : intake_of items run ≡ i = cc (h.2) in
+    subst (λ (j : Intake). (length j.deletions.ids ≤ length (distinct (ids_of ms))) × (length j.run.items ≤ length (distinct (ids_of ms)))) whole
+    (covered_fits ms items run.top e, run_fits posts ms cursor items run.items run.top was e h.1)
+
+-- the run of an intake, and what it is to delete, are no longer than the distinct ids of the messages
+pub intake_fits : (posts : List Posted) (q : QueueName) (cursor : List (ℕ × ℕ)) (ms : List Message) (i : Intake) → AllByRecursion (WasSent posts) ms
+    → TakesIn q cursor ms (Ok i) → (length i.deletions.ids ≤ length (distinct (ids_of ms))) × (length i.run.items ≤ length (distinct (ids_of ms)))
+intake_fits posts q cursor ms i was h = takes_fits posts q cursor ms (items_of ms) i was refl h
+
+-- the messages of a receive were sent
+pub received_sent : (who : Caller) (queue : QueueName) (most : ℕ) (a : Answer) (s t : CloudState) → IsCall who (Receive queue most) a s t
+    → (ms : List Message) → received_of a ≡ Ok ms → AllByRecursion (WasSent (s.messages queue)) ms
+received_sent who queue most (call.Received got) s t c ms e =
+    let same : got ≡ ms = cc (e) in
+    subst (AllByRecursion (WasSent (s.messages queue))) same (recursion_from_All (WasSent (s.messages queue)) got c.row.1)
+received_sent who queue most call.Failed s t c ms e = absurd (cc (e))
+received_sent who queue most call.Memory s t c ms e = absurd (cc (e))
+received_sent who queue most (call.Got v) s t c ms e = absurd (cc (e))
+received_sent who queue most (call.Sent id) s t c ms e = absurd (cc (e))
+received_sent who queue most call.Done s t c ms e = absurd (cc (e))
+received_sent who queue most (call.Given l) s t c ms e = absurd (cc (e))
+received_sent who queue most (call.Held until) s t c ms e = absurd (cc (e))
+received_sent who queue most (call.Renewed until) s t c ms e = absurd (cc (e))
+received_sent who queue most (call.Late until now) s t c ms e = absurd (cc (e))
 
 -- ---- what was received stays
 

@@ -22,14 +22,14 @@ use Rattle.leaf_fold.specs.declared.folding.Folding.{Folding}
 use Rattle.node_codec.specs.Tree.{Tree, empty_tree}
 use Rattle.report_types.specs.declared.entry.Entry.{Entry}
 use Rattle.run_cursor.specs.Covered.{is_seen}
-use Rattle.session_facts.proofs.Settled.TreeCalls.{next_of, HasRoom, Reserving, own_of, FitsLeaf, FitsWork}
-use Rattle.session_facts.proofs.Settled.TreeLists.{Apart, pages_fit}
+use Rattle.session_facts.proofs.Settled.TreeCalls.{HasRoom, Reserving, own_of, FitsLeaf, FitsWork}
+use Rattle.session_facts.proofs.Settled.TreeLists.{pages_fit}
 use Rattle.session_facts.proofs.Settled.TreePieces.{puts_as_many}
-use Rattle.session_facts.proofs.Settled.TreeRoots.{HasRoot}
-use Rattle.session_facts.proofs.Settled.TreeVisits.{Once, IsNew}
+use Rattle.session_facts.proofs.Settled.TreeVisits.{IsNew}
 use Rattle.session_facts.proofs.Trees.Reservations.{held_root}
 use Rattle.session_facts.proofs.Trees.Unseen.{seen_in}
 use Rattle.session_facts.specs.TreeCheckpoints.Checkpoint.{IsUnder, KnowsWork}
+use Rattle.session_facts.specs.TreeCheckpoints.Counting.{Apart, next_of, HasRoot, Once}
 use Rattle.session_facts.specs.Trees.Charts.{KnowsNodes}
 use Rattle.session_facts.specs.Trees.Folds.{Reserves}
 use Rattle.session_facts.specs.Trees.Leaves.{KnowsRest, IsCome, IsPutting, KnowsLeaf}
@@ -131,11 +131,8 @@ module _ (book : Book) (order : List Entry) (s : CloudState) (stands : StandsUnd
 
   -- ---- a chart
 
-  next_fits : (c : Chart) → c.root ≡ newest s (object.Tree tree) → next_of c ≤ p + 1
-  next_fits c root = let same = held_top s tree c.root root in omega (arith, same, room)
-
-  chart_fits : (lease : Claim) (c : Chart) → c.root ≡ newest s (object.Tree tree) → KnowsNodes st now lease tree c.nodes → AreApart c.nodes → HasRoom p c
-  chart_fits lease c root known apart = record { nodes = nodes_fit lease c.nodes known apart; next = next_fits c root }
+  chart_fits : (lease : Claim) (c : Chart) → next_of c ≤ p + 1 → KnowsNodes st now lease tree c.nodes → AreApart c.nodes → HasRoom p c
+  chart_fits lease c next known apart = record { nodes = nodes_fit lease c.nodes known apart; next = next }
 
 -- ---- what is put
 
@@ -191,61 +188,60 @@ module _ (book : Book) (order : List Entry) (s : CloudState) (stands : StandsUnd
   at = store_of book order s
 
   module _ (room : (top_of (roots_of s tree)).next ≤ p + 1) where
-    -- the tree that is known of is this one
-    root_at : (known : ℕ) (root : Option (List ℕ)) → known ≡ tree → root ≡ newest s (object.Tree tree) → root ≡ newest s (object.Tree known)
-    root_at known root same is = is ∙ ap (λ (n : ℕ). newest s (object.Tree n)) (sym same)
-
     room_at : (known : ℕ) → known ≡ tree → (top_of (roots_of s known)).next ≤ p + 1
     room_at known same = subst (λ (n : ℕ). (top_of (roots_of s n)).next ≤ p + 1) (sym same) room
 
-    rest_fits : (lease : Claim) (c : Chart) (ids : List ℕ) → IsUnder tree lease c.tree → c.root ≡ newest s (object.Tree tree)
-        → KnowsRest at now lease c ids → HasRoom p c
-    rest_fits lease c ids under root k =
-        chart_fits book order s stands now p c.tree k.chart.tree (room_at c.tree under.tree_is) lease c
-        (root_at c.tree c.root under.tree_is root) k.chart.nodes k.apart
+    module _ (got : Option (List ℕ)) (within : (tree_held got).next ≤ (top_of (roots_of s tree)).next) where
+      -- no tree object in hand has more pages
+      next_fits : (c : Chart) → c.root ≡ got → next_of c ≤ p + 1
+      next_fits c root = let same = ap (λ (g : Option (List ℕ)). (tree_held g).next) root in omega (arith, same, within, room)
 
-    come_fits : (lease : Claim) (c : Chart) (page : ℕ) (low visited ids : List ℕ) → IsUnder tree lease c.tree → c.root ≡ newest s (object.Tree tree) → Apart visited
-        → IsCome at now lease c page low visited ids → HasRoom p c × (length visited ≤ p)
-    come_fits lease c page low visited ids under root once k = (
-      rest_fits lease c ids under root k.rest,
-      visits_fit book order s stands now p c.tree k.rest.chart.tree (room_at c.tree under.tree_is) 0 page low c.key visited k.way once,
-    )
+      rest_fits : (lease : Claim) (c : Chart) (ids : List ℕ) → IsUnder tree lease c.tree → c.root ≡ got
+          → KnowsRest at now lease c ids → HasRoom p c
+      rest_fits lease c ids under root k =
+          chart_fits book order s stands now p c.tree k.chart.tree (room_at c.tree under.tree_is) lease c
+          (next_fits c root) k.chart.nodes k.apart
 
-    leaf_fits : (h : Held) (f : Folding) → IsUnder tree h.lease f.chart.tree → f.chart.root ≡ newest s (object.Tree tree) → Apart f.visited
-        → KnowsLeaf at now h.lease f h.deletions.ids → HasRoom p f.chart × FitsLeaf p f
-    leaf_fits h f under root once (inl k) = (
-      chart_fits book order s stands now p f.chart.tree k.at.chart.tree (room_at f.chart.tree under.tree_is) h.lease f.chart
-          (root_at f.chart.tree f.chart.root under.tree_is root) k.at.chart.nodes k.apart,
-      inl (
-        k.placing_is,
-        visits_fit book order s stands now p f.chart.tree k.at.chart.tree (room_at f.chart.tree under.tree_is) 0 f.page f.low f.chart.key f.visited k.at.way once,
-      ),
-    )
-    leaf_fits h f under root once (inr k) = (
-      chart_fits book order s stands now p f.chart.tree k.tree (room_at f.chart.tree under.tree_is) h.lease f.chart
-          (root_at f.chart.tree f.chart.root under.tree_is root) k.nodes k.apart,
-      leaf_put_fits at now p h.lease f h.deletions.ids k,
-    )
+      come_fits : (lease : Claim) (c : Chart) (page : ℕ) (low visited ids : List ℕ) → IsUnder tree lease c.tree → c.root ≡ got → Apart visited
+          → IsCome at now lease c page low visited ids → HasRoom p c × (length visited ≤ p)
+      come_fits lease c page low visited ids under root once k = (
+        rest_fits lease c ids under root k.rest,
+        visits_fit book order s stands now p c.tree k.rest.chart.tree (room_at c.tree under.tree_is) 0 page low c.key visited k.way once,
+      )
 
-    pub work_fits : (w : Work) → HasRoot (newest s (object.Tree tree)) w → Once w → KnowsWork at now tree w → FitsWork p w
-    work_fits work.TakingTree root once k = tt
-    work_fits (work.GettingTree l) root once k = tt
-    work_fits (work.Receiving l got) root once k = tt
-    work_fits (work.Descending h d) root once k = rest_fits h.lease d.chart h.deletions.ids k.0 root k.1.rest
-    work_fits (work.TakingPage h c) root once k = come_fits h.lease c.chart c.page c.low c.visited h.deletions.ids k.0 root once k.1
-    work_fits (work.Folding h f) root once k = leaf_fits h f k.0 root once k.1
-    work_fits (work.ReleasingPage h l (onward.Right c)) root once k = come_fits h.lease c.chart c.page c.low c.visited h.deletions.ids k.1.0 root once k.1.1
-    work_fits (work.ReleasingPage h l (onward.Handled c)) root once k = rest_fits h.lease c h.deletions.ids k.1.0 root k.1.1
-    work_fits (work.LeftPage h o) root once k = absurd k
-    work_fits (work.Rising h r) root once k = (
-      (let same = held_top s r.chart.tree r.chart.root (root_at r.chart.tree r.chart.root k.0.tree_is root) in
-          let most = room_at r.chart.tree k.0.tree_is in
-          omega (arith, same, most)),
-      up_fits at now h.lease r r.last k.1.puts,
-    )
-    work_fits (work.Deleting h applied) root once k = tt
-    work_fits (work.Releasing held end) root once k = tt
-    work_fits work.Finished root once k = tt
+      leaf_fits : (h : Held) (f : Folding) → IsUnder tree h.lease f.chart.tree → f.chart.root ≡ got → Apart f.visited
+          → KnowsLeaf at now h.lease f h.deletions.ids → HasRoom p f.chart × FitsLeaf p f
+      leaf_fits h f under root once (inl k) = (
+        chart_fits book order s stands now p f.chart.tree k.at.chart.tree (room_at f.chart.tree under.tree_is) h.lease f.chart
+            (next_fits f.chart root) k.at.chart.nodes k.apart,
+        inl (
+          k.placing_is,
+          visits_fit book order s stands now p f.chart.tree k.at.chart.tree (room_at f.chart.tree under.tree_is) 0 f.page f.low f.chart.key f.visited k.at.way once,
+        ),
+      )
+      leaf_fits h f under root once (inr k) = (
+        chart_fits book order s stands now p f.chart.tree k.tree (room_at f.chart.tree under.tree_is) h.lease f.chart
+            (next_fits f.chart root) k.nodes k.apart,
+        leaf_put_fits at now p h.lease f h.deletions.ids k,
+      )
+
+      pub work_fits : (w : Work) → HasRoot got w → Once w → KnowsWork at now tree w → FitsWork p w
+      work_fits work.TakingTree root once k = tt
+      work_fits (work.GettingTree l) root once k = tt
+      work_fits (work.Receiving l got) root once k = tt
+      work_fits (work.Descending h d) root once k = rest_fits h.lease d.chart h.deletions.ids k.0 root k.1.rest
+      work_fits (work.TakingPage h c) root once k = come_fits h.lease c.chart c.page c.low c.visited h.deletions.ids k.0 root once k.1
+      work_fits (work.Folding h f) root once k = leaf_fits h f k.0 root once k.1
+      work_fits (work.ReleasingPage h l (onward.Right c)) root once k = come_fits h.lease c.chart c.page c.low c.visited h.deletions.ids k.1.0 root once k.1.1
+      work_fits (work.ReleasingPage h l (onward.Handled c)) root once k = rest_fits h.lease c h.deletions.ids k.1.0 root k.1.1
+      work_fits (work.LeftPage h o) root once k = absurd k
+      work_fits (work.Rising h r) root once k = (
+        next_fits r.chart root,
+        up_fits at now h.lease r r.last k.1.puts,
+      )
+      work_fits (work.Deleting h applied) root once k = tt
+      work_fits (work.Releasing held end) root once k = tt
+      work_fits work.Finished root once k = tt
 
     pub work_new : (w : Work) → KnowsWork at now tree w → IsNew w
     work_new work.TakingTree k = tt

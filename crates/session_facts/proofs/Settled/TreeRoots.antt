@@ -20,6 +20,7 @@ use Rattle.leaf_fold.specs.Folding as fold
 use Rattle.node_codec.specs.Tree.{Tree, tree_of}
 use Rattle.run_cursor.specs.Run.{Taken}
 use Rattle.session_facts.proofs.Settled.TreePieces.{GotLeaf, got_leaf}
+use Rattle.session_facts.specs.TreeCheckpoints.Counting.{HasRoot}
 use Rattle.tree_ckpt.proofs.Charts.{GoesFurther, arrive_further, descent_further}
 use Rattle.tree_descent.specs.declared.descent.Descent.{Descent}
 use Rattle.tree_descent.specs.Descent as way
@@ -40,19 +41,6 @@ use Rattle.tree_rising.specs.declared.root.RootPlan.{RootPlan}
 use Rattle.tree_rising.specs.Nodes.{node_plan}
 use Rattle.tree_parts.specs.Reserve.{version_spent}
 use Rattle.tree_rising.specs.Rising as rise
-
--- the tree object in hand is this one
-abbrev pub HasRoot : Option (List ℕ) → Work → Type 0
-HasRoot got (work.Receiving l root) = root ≡ got
-HasRoot got (work.Descending h d) = d.chart.root ≡ got
-HasRoot got (work.TakingPage h c) = c.chart.root ≡ got
-HasRoot got (work.Folding h f) = f.chart.root ≡ got
-HasRoot got (work.ReleasingPage h l (onward.Right c)) = c.chart.root ≡ got
-HasRoot got (work.ReleasingPage h l (onward.Handled c)) = c.root ≡ got
-HasRoot got (work.LeftPage h (onward.Right c)) = c.chart.root ≡ got
-HasRoot got (work.LeftPage h (onward.Handled c)) = c.root ≡ got
-HasRoot got (work.Rising h r) = r.chart.root ≡ got
-HasRoot got w = Unit {0}
 
 -- and wherever a step leads
 abbrev pub RootNext : Option (List ℕ) → Step → Type 0

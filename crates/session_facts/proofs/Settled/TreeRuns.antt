@@ -2,9 +2,7 @@
 use Rattle.std.proofs.Common.{◌≡◌, ◌+◌, ◌*◌, ◌≤◌, ◌⊎◌, inl, inr, ℕ, List, [], ◌∷◌, length, Option, Some, None, sym, ap, subst, ◌∙◌, arith}
 use Rattle.std.proofs.lemmas.List.{length-map}
 use Rattle.ckpt_parts.specs.Deleting.{next_id}
-use Rattle.cloud_facts.specs.Book.Telling.{roots_of}
 use Rattle.cloud_facts.specs.Calls.Call.{IsCall}
-use Rattle.cloud_facts.specs.Chains.Links.{top_of}
 use Rattle.cloud_trait.proofs.RowLemmas.{row_messages}
 use Rattle.cloud_trait.specs.Ask.{Ask, Get, GetHeld, PutHeld, Send, Receive, Delete, Take, Renew, Release}
 use Rattle.cloud_trait.specs.Caller.{Caller}
@@ -24,11 +22,13 @@ use Rattle.session_facts.proofs.Settled.Stories.{part_known, turn_known, turn_ca
 use Rattle.session_facts.proofs.Settled.TreeDrains.{Delivers, SendsNothing, LedBy, all_drained}
 use Rattle.session_facts.proofs.Settled.TreeReceives.{quiet_kept, IsReceiving}
 use Rattle.session_facts.proofs.Settled.TreeSteps.{IsQuiet, TouchesQueue, work_quiet}
-use Rattle.session_facts.proofs.Settled.TreeTurns.{Stays, stays_first, further, ends_few, stays_on}
-use Rattle.session_facts.specs.Settled.Runs.{AreDelivered, Drains, IsFew, TreeRun, TreesRun}
+use Rattle.session_facts.proofs.Settled.TreeTurns.{first_few, ends_few, few_on}
+use Rattle.session_facts.specs.Few.{distinct, next_page, IsFew}
+use Rattle.session_facts.specs.Settled.Runs.{AreDelivered, Drains, TreeRun, TreesRun}
 use Rattle.session_facts.specs.Settled.Story.{Moment, store_at, IsAtWork, IsTurn, PartStory}
 use Rattle.session_facts.specs.Settlings.Settling.{MakesTree}
 use Rattle.session_facts.specs.TreeCheckpoints.Checkpoint.{KnowsWork}
+use Rattle.session_facts.specs.TreeCheckpoints.Counting.{MadeFew}
 use Rattle.settle_run.specs.Parts.{recovers, makes, pages, PartLeads}
 use Rattle.settle_run.specs.declared.part.Part.{Part}
 use Rattle.settle_run.specs.declared.part.Part.TheVariants.{Client, Tree, Page}
@@ -138,13 +138,13 @@ went_of : (first : Moment) (h : List Deed) (tree : ℕ) (m : Making) (now : Mome
 went_of first h tree m now is story =
     subst (λ (k : ℕ). Came making_ask MakingLeads (new_making k) h m) (sym is) (story_went first h (Tree tree m) now story)
 
-turn_stays : (first : Moment) (d : Deed) (h : List Deed) (tree : ℕ) (was m : Making) (before now : Moment) → IsTurn d (Tree tree was) before now
+turn_few : (first : Moment) (d : Deed) (h : List Deed) (tree : ℕ) (was m : Making) (before now : Moment) → IsTurn d (Tree tree was) before now
     → IsAtWork now (Tree tree m)
-    → MakingLeads was d.answer (Goes m) → PartStory first h (Tree tree was) before → Stays tree (length h) first.state before.state was.work was.received
-    → Stays tree (length h + 1) first.state now.state m.work m.received
-turn_stays first d h tree was m before now turn at leads story k =
-    stays_on tree (length h) first.state before.state now.state d.who d.answer was.work was.received before.book before.order before.stand.cloud
-    (work_known d tree was before now turn) (work_call d tree was before now turn) k m.work m.received now.book now.order now.stand.cloud
+    → MakingLeads was d.answer (Goes m) → PartStory first h (Tree tree was) before → MadeFew tree (length h) before.state was.work was.received
+    → MadeFew tree (length h + 1) now.state m.work m.received
+turn_few first d h tree was m before now turn at leads story k =
+    few_on tree (length h) before.state now.state d.who d.answer was.work was.received before.book before.order before.stand.cloud
+    (work_known d tree was before now turn) (work_call d tree was before now turn) (turn.grows.next tree) k m.work m.received now.book now.order now.stand.cloud
     (subst (λ (t : ℕ). KnowsWork (store_at now) now.state.now t m.work) there.tree_is there.knows.work)
     (work_fit d tree was before now turn)
     (subst (λ (t : ℕ). Leads t was.work d.answer (Goes m.work)) here.tree_is leads.1) leads.0.1
@@ -163,19 +163,27 @@ turn_stays first d h tree was m before now turn at leads story k =
 
 -- ---- a story
 
-story_stays : (first : Moment) (h : List Deed) (tree : ℕ) (m : Making) (now : Moment) → PartStory first h (Tree tree m) now → IsAtWork now (Tree tree m)
-    → Stays tree (length h) first.state now.state m.work m.received
-story_stays first [] tree m now story at =
+story_few : (first : Moment) (h : List Deed) (tree : ℕ) (m : Making) (now : Moment) → PartStory first h (Tree tree m) now → IsAtWork now (Tree tree m)
+    → MadeFew tree (length h) now.state m.work m.received
+story_few first [] tree m now story at =
     let begun : new_making tree ≡ m = cc (story.0) in
-    subst (λ (n : Moment). Stays tree 0 first.state n.state m.work m.received) (sym story.1)
-    (subst (λ (n : Making). Stays tree 0 first.state first.state n.work n.received) begun (stays_first tree first.state))
-story_stays first (d ∷ h) tree m now (from, (before, (story, turn, leads))) at =
+    subst (λ (n : Moment). MadeFew tree 0 n.state m.work m.received) (sym story.1)
+    (subst (λ (n : Making). MadeFew tree 0 first.state n.work n.received) begun (first_few tree first.state))
+story_few first (d ∷ h) tree m now (from, (before, (story, turn, leads))) at =
     let f = goes_from tree m from d.answer leads in
     let told = subst (λ (w : Part). PartStory first h w before) f.is story in
     let turned = subst (λ (w : Part). IsTurn d w before now) f.is turn in
     let long : length h + 1 ≡ length (d ∷ h) = omega arith in
-    subst (λ (n : ℕ). Stays tree n first.state now.state m.work m.received) long
-    (turn_stays first d h tree f.was m before now turned at f.leads told (story_stays first h tree f.was before told turned.at_work))
+    subst (λ (n : ℕ). MadeFew tree n now.state m.work m.received) long
+    (turn_few first d h tree f.was m before now turned at f.leads told (story_few first h tree f.was before told turned.at_work))
+
+-- the next free page never falls
+story_grows : (tree : ℕ) (first : Moment) (h : List Deed) (w : Part) (now : Moment) → PartStory first h w now → next_page first.state tree ≤ next_page now.state tree
+story_grows tree first [] w now story = subst (λ (n : Moment). next_page first.state tree ≤ next_page n.state tree) (sym story.1) (omega arith)
+story_grows tree first (d ∷ h) w now (from, (before, (story, turn, leads))) =
+    let was = story_grows tree first h from before story in
+    let more = turn.grows.next tree in
+    omega (arith, was, more)
 
 -- ---- its calls, as they led from state to state
 
@@ -257,8 +265,8 @@ module _ (tree : ℕ) (m : Making) (first last : Moment) (end : Deed) (earlier :
       let call = subst (λ (ask : Ask). IsCall end.who ask end.answer before.state last.state) done.last (turn_asks end (Tree tree was) before last turn) in
       row_messages end.who (Release done.lease) end.answer call.before call.after (called end.who last.state.now before.state) last.state call.row tt
 
-  stays : Stays tree (length earlier) first.state before.state was.work was.received
-  stays = story_stays first earlier tree was before story turn.at_work
+  made : MadeFew tree (length earlier) before.state was.work was.received
+  made = story_few first earlier tree was before story turn.at_work
 
   whole_drains : AreDelivered (end ∷ earlier) → Drains (queue.TreePu tree) m.received first.state last.state
   whole_drains delivered =
@@ -267,17 +275,15 @@ module _ (tree : ℕ) (m : Making) (first last : Moment) (end : Deed) (earlier :
       (subst (λ (cs : Calls). LedBy first.state cs before.state) done.calls (story_led first earlier tree was before story delivered.1))
       done.covered (sym done.left ∙ left) same_messages m.received (same_received ∙ done.told))
 
-  whole_grows : (top_of (roots_of first.state tree)).next ≤ (top_of (roots_of last.state tree)).next
-  whole_grows =
-      further tree (length earlier) first.state before.state last.state end.who end.answer was.work was.received before.book before.order before.stand.cloud
-      (work_known end tree was before last turn) (work_call end tree was before last turn) stays
+  whole_grows : next_page first.state tree ≤ next_page last.state tree
+  whole_grows = let was = story_grows tree first earlier (Tree tree was) before story in let more = turn.grows.next tree in omega (arith, was, more)
 
   whole_few : IsFew (length (end ∷ earlier)) m.received last.state tree
   whole_few p room =
       let few =
-      ends_few tree (length earlier) first.state before.state last.state end.who end.answer was.work was.received before.book before.order before.stand.cloud
-      (work_known end tree was before last turn) (work_call end tree was before last turn) stays p room in
-      let long = ap (λ (l : List ℕ). length l * (8 * p + 16)) same_received in
+      ends_few tree (length earlier) before.state last.state end.who end.answer was.work was.received before.book before.order before.stand.cloud
+      (work_known end tree was before last turn) (work_call end tree was before last turn) (turn.grows.next tree) made p room in
+      let long = ap (λ (l : List ℕ). length (distinct l) * (8 * p + 16)) same_received in
       omega (arith, few, long)
 
   whole_run : TreeRun tree m (end ∷ earlier) first last

@@ -1,14 +1,12 @@
 -- What each call of a checkpoint of a tree leaves of the tree object and of the queues.
-use Rattle.std.proofs.Common.{◌≡◌, ◌≤◌, ◌⊎◌, inl, inr, ℕ, true, false, List, [], ◌∷◌, ◌++◌, length, Option, Some, None, Ok, refl, sym, ap, subst, ◌∙◌, arith}
+use Rattle.std.proofs.Common.{◌≡◌, ◌⊎◌, inl, inr, ℕ, true, false, List, [], ◌∷◌, ◌++◌, Option, Some, None, Ok, refl, sym, ap, subst, ◌∙◌, arith}
 use Rattle.std.specs.Prelude.{unwrap_or}
 use Rattle.ckpt_parts.specs.Deleting.{next_id}
 use Rattle.ckpt_parts.specs.Leasing.{newest_lease}
 use Rattle.cloud_facts.proofs.Calls.Calls.{landed_or_not, put_cases}
 use Rattle.cloud_facts.proofs.Calls.Heads.{held_seen}
 use Rattle.cloud_facts.specs.Book.Tally.{Store}
-use Rattle.cloud_facts.specs.Book.Telling.{roots_of}
 use Rattle.cloud_facts.specs.Calls.Call.{IsCall}
-use Rattle.cloud_facts.specs.Chains.Links.{top_of}
 use Rattle.cloud_trait.proofs.NameLemmas.{object_cmp-equal, object_cmp-total}
 use Rattle.cloud_trait.proofs.RowLemmas.{row_versions}
 use Rattle.cloud_trait.proofs.StateLemmas.{put_at_by, put_at_same, newest_of-push}
@@ -22,30 +20,16 @@ use Rattle.cloud_trait.specs.declared.answer.Answer.{Answer}
 use Rattle.cloud_trait.specs.declared.state.Version.{Version}
 use Rattle.db_base.specs.declared.names.ObjName.{ObjName}
 use Rattle.db_base.specs.declared.names.ObjName.TheVariants as object
-use Rattle.leaf_fold.specs.Folding.{folding_ask}
-use Rattle.leaf_fold.specs.declared.folding.Folding.{Folding}
-use Rattle.node_codec.specs.Tree.{Tree}
-use Rattle.session_facts.proofs.Settled.TreeCalls.{next_of}
-use Rattle.session_facts.proofs.Settled.TreePieces.{puts_as_many}
-use Rattle.session_facts.proofs.Settled.TreeRoom.{held_top, up_fits, leaf_put_some, leaf_put_reserves}
-use Rattle.session_facts.proofs.Settled.TreeRoots.{HasRoot, NewestBy}
-use Rattle.session_facts.proofs.Trees.Reservations.{held_root}
+use Rattle.session_facts.proofs.Settled.TreeRoots.{NewestBy}
 use Rattle.session_facts.specs.TreeCheckpoints.Checkpoint.{KnowsWork}
-use Rattle.session_facts.specs.Trees.Leaves.{KnowsLeaf}
-use Rattle.session_facts.specs.Trees.Risings.{ReservesRoot, PutsRoot, whole, cut, PutsOf, KnowsRising}
 use Rattle.split_plan.specs.declared.put_list.PagePut.{PagePut}
-use Rattle.split_plan.specs.Plan.{node_bytes, root_above}
 use Rattle.tree_ckpt.proofs.Tours.{page_left as has_page}
 use Rattle.tree_moves.specs.Work.{delete_ask, release_ask, work_ask}
-use Rattle.tree_moves.specs.declared.work.Held.{Held}
 use Rattle.tree_moves.specs.declared.work.Work.{Work}
 use Rattle.tree_moves.specs.declared.work.Work.TheVariants as work
 use Rattle.tree_parts.specs.Placing.{put_first, put_next, put_in_hand, has_nothing, landed_root}
-use Rattle.tree_parts.specs.Read.{tree_held}
-use Rattle.tree_parts.specs.declared.chart.Chart.{Chart}
 use Rattle.tree_parts.specs.declared.placing.Placing.{Placing}
-use Rattle.tree_rising.specs.Rising.{last_ask, rising_ask}
-use Rattle.tree_rising.specs.Root.{new_pages}
+use Rattle.tree_rising.specs.Rising.{last_ask}
 use Rattle.tree_rising.specs.declared.rising.Rising.{Rising}
 
 -- ---- the newest version behind a call
@@ -244,107 +228,3 @@ module _ (who : Caller) (a : Answer) (s t : CloudState) (tree : ℕ) where
   newest_by st (work.Deleting h applied) k call = delete_same (next_id h.deletions.ids) call
   newest_by st (work.Releasing held end) k call = release_same (newest_lease held) call
   newest_by st work.Finished k call = absurd k
-
-  -- ---- the next free page never falls
-
-  abbrev Grown : Type 0
-  Grown = (top_of (roots_of s tree)).next ≤ (top_of (roots_of t tree)).next
-
-  grown_same : newest t (object.Tree tree) ≡ newest s (object.Tree tree) → Grown
-  grown_same same =
-      let one = held_top s tree (newest s (object.Tree tree)) refl in
-      let other = held_top t tree (newest s (object.Tree tree)) (sym same) in
-      omega (arith, one, other)
-
-  grown_put : (c : Chart) (bytes : List ℕ) → c.root ≡ newest s (object.Tree tree) → newest t (object.Tree tree) ≡ Some bytes
-      → next_of c ≤ (tree_held (Some bytes)).next → Grown
-  grown_put c bytes root new more =
-      let one = held_top s tree c.root root in
-      let other = held_top t tree (Some bytes) (sym new) in
-      omega (arith, one, other, more)
-
-  grown_quiet : (ask : Ask) → IsCall who ask a s t → PutsNothing ask → Grown
-  grown_quiet ask call nothing = grown_same (same_for ask call nothing)
-
-  -- a leaf's put
-  grown_leaf : (st : Store) (h : Held) (f : Folding) → f.chart.root ≡ newest s (object.Tree tree) → KnowsLeaf st s.now h.lease f h.deletions.ids
-      → IsCall who (folding_ask f h.lease) a s t → Grown
-  grown_leaf st h f root k call =
-      on (newest_after who (folding_ask f h.lease) a s t (object.Tree tree) call)
-    where
-      none_reserved : (bytes : List ℕ) → KnowsLeaf st s.now h.lease f h.deletions.ids → f.placing.reserved ≡ Some bytes
-          → next_of f.chart ≤ (tree_held (Some bytes)).next
-      none_reserved bytes (inl r) e = absurd (let none : Some bytes ≡ None = sym e ∙ ap (λ (p : Placing). p.reserved) r.placing_is in cc (none))
-      none_reserved bytes (inr r) e =
-          let some = leaf_put_some st s.now h.lease f h.deletions.ids r in
-          let next = leaf_put_reserves st s.now h.lease f h.deletions.ids r bytes e in
-          omega (arith, some, next)
-
-      put : (bytes : List ℕ) → newest t (object.Tree tree) ≡ Some bytes
-          → (f.placing.reserved ≡ Some bytes) ⊎ ((has_nothing f.placing ≡ true) × Puts (GetHeld (object.Page f.chart.tree f.page) f.lease)
-          (object.Tree tree) bytes) → Grown
-      put bytes new (inl e) = grown_put f.chart bytes root new (none_reserved bytes k e)
-      put bytes new (inr never) = absurd never.1
-
-      on : IsAfter s t (object.Tree tree) (folding_ask f h.lease) → Grown
-      on (inl same) = grown_same same
-      on (inr new) =
-          put new.0 new.2 (in_hand_puts f.chart.tree h.lease (Some f.lease) (GetHeld (object.Page f.chart.tree f.page) f.lease) f.placing tree new.0 new.1)
-
-  -- a put of the way up
-  node_more : (st : Store) (l : Claim) (r : Rising) (last : Option (List ℕ)) (bytes : List ℕ) → PutsOf st s.now l r last → r.placing.reserved ≡ Some bytes
-      → next_of r.chart ≤ (tree_held (Some bytes)).next
-  node_more st l r None bytes k e =
-      let many = ap length k.placing.puts_are ∙ puts_as_many node_bytes k.kept.page k.first (k.placing.front ∷ k.placing.middle) in
-      let next = up_fits st s.now l r None k bytes e in
-      omega (arith, many, next)
-  node_more st l r (Some last) bytes k e = let next = up_fits st s.now l r (Some last) k bytes e in omega (arith, next)
-
-  last_more : (st : Store) (l : Claim) (r : Rising) (bytes : List ℕ) → PutsRoot st s.now l r bytes → has_nothing r.placing ≡ true
-      → next_of r.chart ≤ (tree_held (Some bytes)).next
-  last_more st l r bytes (whole k) none =
-      let held = ap (λ (b : List ℕ). (tree_held (Some b)).next) k.bytes_are ∙ ap (λ (x : Tree). x.next) (held_root k.root k.fits) in
-      let same = k.next in
-      omega (arith, held, same)
-  last_more st l r bytes (cut k) none =
-      let held = ap (λ (b : List ℕ). (tree_held (Some b)).next) k.bytes_are ∙ ap (λ (x : Tree). x.next)
-      (held_root (root_above (new_pages k.first k.root) k.root) k.fits) in
-      let reserves = subst (ReservesRoot r.is_spent st s.now l r.chart.tree (tree_held r.chart.root) k.root k.first k.middle k.behind)
-      (nothing_reserved r.placing none) k.reserves in
-      let same = reserves.1 in
-      omega (arith, held, same)
-
-  grown_up : (st : Store) (h : Held) (r : Rising) → r.chart.root ≡ newest s (object.Tree tree) → KnowsRising st s.now h.lease r h.deletions.ids
-      → IsCall who (rising_ask r h.lease) a s t → Grown
-  grown_up st h r root k call = on (newest_after who (rising_ask r h.lease) a s t (object.Tree tree) call)
-    where
-      last : (bytes : List ℕ) (o : Option (List ℕ)) → PutsOf st s.now h.lease r o → has_nothing r.placing ≡ true
-          → Puts (last_ask r h.lease o) (object.Tree tree) bytes
-          → next_of r.chart ≤ (tree_held (Some bytes)).next
-      last bytes (Some b) puts none is =
-          subst (λ (x : List ℕ). next_of r.chart ≤ (tree_held (Some x)).next) is.1 (last_more st h.lease r b puts none)
-      last bytes None puts none is = absurd is
-
-      put : (bytes : List ℕ) → newest t (object.Tree tree) ≡ Some bytes
-          → (r.placing.reserved ≡ Some bytes) ⊎ ((has_nothing r.placing ≡ true) × Puts (last_ask r h.lease r.last) (object.Tree tree) bytes) → Grown
-      put bytes new (inl e) = grown_put r.chart bytes root new (node_more st h.lease r r.last bytes k.puts e)
-      put bytes new (inr e) = grown_put r.chart bytes root new (last bytes r.last k.puts e.0 e.1)
-
-      on : IsAfter s t (object.Tree tree) (rising_ask r h.lease) → Grown
-      on (inl same) = grown_same same
-      on (inr new) = put new.0 new.2 (in_hand_puts r.chart.tree h.lease None (last_ask r h.lease r.last) r.placing tree new.0 new.1)
-
-  pub next_grows : (st : Store) (w : Work) → HasRoot (newest s (object.Tree tree)) w → KnowsWork st s.now tree w → IsCall who (work_ask tree w) a s t
-      → (top_of (roots_of s tree)).next ≤ (top_of (roots_of t tree)).next
-  next_grows st work.TakingTree root k call = grown_quiet (work_ask tree work.TakingTree) call tt
-  next_grows st (work.GettingTree l) root k call = grown_quiet (work_ask tree (work.GettingTree l)) call tt
-  next_grows st (work.Receiving l o) root k call = grown_quiet (work_ask tree (work.Receiving l o)) call tt
-  next_grows st (work.Descending h d) root k call = grown_quiet (work_ask tree (work.Descending h d)) call tt
-  next_grows st (work.TakingPage h c) root k call = grown_quiet (work_ask tree (work.TakingPage h c)) call tt
-  next_grows st (work.Folding h f) root k call = grown_leaf st h f root k.1 call
-  next_grows st (work.ReleasingPage h l o) root k call = grown_quiet (Release l) call tt
-  next_grows st (work.LeftPage h o) root k call = absurd k
-  next_grows st (work.Rising h r) root k call = grown_up st h r root k.1 call
-  next_grows st (work.Deleting h applied) root k call = grown_same (delete_same (next_id h.deletions.ids) call)
-  next_grows st (work.Releasing held end) root k call = grown_same (release_same (newest_lease held) call)
-  next_grows st work.Finished root k call = absurd k

@@ -23,7 +23,8 @@ use Rattle.leaf_fold.specs.declared.folding.Left.TheVariants.{Right, Handled}
 use Rattle.leaf_fold.specs.Folding as fold
 use Rattle.node_codec.specs.Tree.{Tree, tree_of}
 use Rattle.run_cursor.specs.Covered.{is_seen}
-use Rattle.session_facts.proofs.Settled.TreeLists.{Apart, apart_more}
+use Rattle.session_facts.proofs.Settled.TreeLists.{apart_more}
+use Rattle.session_facts.specs.TreeCheckpoints.Counting.{Apart, Once}
 use Rattle.session_facts.proofs.Settled.TreePieces.{GotLeaf, got_leaf}
 use Rattle.tree_descent.specs.declared.descent.Descent.{Descent}
 use Rattle.tree_descent.specs.declared.descent.Reach.{Reach}
@@ -43,15 +44,6 @@ use Rattle.tree_parts.specs.declared.kept.KeptNode.{KeptNode}
 use Rattle.tree_parts.specs.Placing.{has_nothing, has_one_page}
 use Rattle.tree_rising.specs.declared.rising.Rising.{Rising}
 use Rattle.tree_rising.specs.Rising as rise
-
--- no page was visited twice on the way
-abbrev pub Once : Work → Type 0
-Once (work.Descending h d) = Apart d.visited
-Once (work.TakingPage h c) = Apart c.visited
-Once (work.Folding h f) = Apart f.visited
-Once (work.ReleasingPage h l (onward.Right c)) = Apart c.visited
-Once (work.LeftPage h (onward.Right c)) = Apart c.visited
-Once w = Unit {0}
 
 abbrev pub OnceNext : Step → Type 0
 OnceNext (Goes w) = Once w

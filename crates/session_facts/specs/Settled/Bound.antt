@@ -9,7 +9,8 @@ use Rattle.db_base.specs.declared.names.QueueName.TheVariants as queue
 use Rattle.head_codec.specs.Head.{empty_head}
 use Rattle.head_codec.specs.declared.head.Head.{Head}
 use Rattle.recover_run.specs.Gathering.{count_of}
-use Rattle.session_facts.specs.Settled.Runs.{waiting, next_page, right_at}
+use Rattle.session_facts.specs.Few.{next_page}
+use Rattle.session_facts.specs.Settled.Runs.{waiting, right_at}
 
 -- ---- sums
 

@@ -5,7 +5,7 @@ use Rattle.calm_calls.specs.Plenty.{HadMemory}
 use Rattle.ckpt_parts.specs.Intakes.{ids_of}
 use Rattle.cloud_facts.specs.Book.Records.{IsIn}
 use Rattle.cloud_facts.specs.Book.Tally.{right_of}
-use Rattle.cloud_facts.specs.Book.Telling.{nodes_of, roots_of, newest_root}
+use Rattle.cloud_facts.specs.Book.Telling.{nodes_of}
 use Rattle.cloud_facts.specs.Chains.Links.{newest_node}
 use Rattle.cloud_trait.specs.declared.message.Message.{Message}
 use Rattle.cloud_trait.specs.Delivery.{unmarked, IsDelivering}
@@ -17,6 +17,7 @@ use Rattle.head_codec.specs.declared.head.Phase.TheVariants.{Settled}
 use Rattle.page_ckpt.specs.Paging.{Paging}
 use Rattle.recover_run.specs.Gathering.{count_of}
 use Rattle.recover_run.specs.Recovery.{Recovery}
+use Rattle.session_facts.specs.Few.{next_page, IsFew}
 use Rattle.session_facts.specs.Settled.Story.{Moment, store_at, PartRan}
 use Rattle.settle_run.specs.declared.part.Part.TheVariants.{Client, Tree, Page}
 use Rattle.tree_ckpt.specs.Making.{Making}
@@ -41,14 +42,6 @@ pub record Drains (q : QueueName) (received : List ℕ) (first last : CloudState
   pub told : received ≡ ids_of messages
   pub kept : (m : Message) → IsIn (waiting last q) m → IsIn (waiting first q) m × (IsIn received m.id → ⊥)
   pub count : length (waiting last q) + length received ≡ length (waiting first q)
-
--- the least free page of a tree
-abbrev pub next_page : CloudState → ℕ → ℕ
-next_page s tree = (newest_root (roots_of s) tree).next
-
--- so many calls are few for a checkpoint that received these ids, where the tree has so many pages then or later
-abbrev pub IsFew : ℕ → List ℕ → CloudState → ℕ → Type 0
-IsFew calls received last tree = (pages : ℕ) → next_page last tree ≤ pages + 1 → calls ≤ 16 + length received * (8 * pages + 16)
 
 -- the right page of the newest version of a page, 0 where there is none
 abbrev pub right_at : CloudState → ℕ → ℕ → ℕ

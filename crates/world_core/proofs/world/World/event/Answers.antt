@@ -1,4 +1,4 @@
-use Rattle.world_core.proofs.EveryLine.{stands_after}
+use Rattle.world_core.proofs.Counting.{stands_after}
 use Rattle.world_core.proofs.Bounded.{few_calls}
 use Rattle.world_core.proofs.Calm.{well_after}
 use Rattle.world_core.proofs.Explained.{explained}

@@ -1,0 +1,679 @@
+-- Each line leaves each session with as many calls as the lines tell, and those of a tree checkpoint are few.
+use Rattle.std.proofs.Common.{◌≡◌, ◌≢◌, ◌+◌, ◌≤◌, ◌⊎◌, inl, inr, ℕ, Bool, true, false, cond, List, [], ◌∷◌, ◌++◌, length, Option, Some, Result, Ok, Err, refl, sym, ap, subst, ◌∙◌, arith, ne_eqb}
+use Rattle.std.specs.Prelude.{◌==◌}
+use Rattle.std.proofs.lemmas.Bool.{cases_eq, eq-eqb}
+use Rattle.client_work.specs.Session.{Acting, Follows, Begins, BeginsWith, HasInHand, CommitsNoted, CommitsOf, StepsSession, closed_session, settling_session, stopped_work, paging_begun_by, folding_begun_by}
+use Rattle.client_work.specs.declared.answer.Answer.{Answer}
+use Rattle.client_work.specs.declared.answer.Answer.TheVariants as answer
+use Rattle.client_work.specs.declared.answer.Begun.{Begun}
+use Rattle.client_work.specs.declared.answer.Begun.TheVariants.{Working, Answered}
+use Rattle.client_work.specs.declared.listing.Listing.{Listing}
+use Rattle.client_work.specs.declared.op.Op.{Op}
+use Rattle.client_work.specs.declared.op.Op.TheVariants as op
+use Rattle.client_work.specs.declared.shown.Shown.{Shown}
+use Rattle.client_work.specs.declared.work.Work.{Work}
+use Rattle.client_work.specs.declared.work.Work.TheVariants.{Idle, Broken, Committing, Reading, Scanning, Closing, Renewing}
+use Rattle.cloud_facts.proofs.Book.Names.{at_same, at_other}
+use Rattle.cloud_facts.specs.Book.Book.{Book}
+use Rattle.cloud_facts.specs.Book.Tally.{at}
+use Rattle.cloud_trait.specs.Caller.{Caller}
+use Rattle.cloud_trait.specs.Seen.{Seen}
+use Rattle.cloud_trait.proofs.EffectLemmas.{begins_itself, grown_itself}
+use Rattle.cloud_trait.specs.State.{CloudState, greatest, end_after}
+use Rattle.cloud_trait.specs.Upto.{posts_of}
+use Rattle.cloud_trait.specs.declared.turn.Turn.TheVariants.{More, Ended, Stopped}
+use Rattle.cloud_trait.specs.declared.turn.Turn.{Turn}
+use Rattle.db_base.specs.declared.change.Change.{Change}
+use Rattle.db_base.specs.declared.refusal.Refusal.{Refusal}
+use Rattle.db_base.specs.declared.refusal.Refused.{Refused}
+use Rattle.db_base.specs.declared.refusal.Refused.TheVariants as refused
+use Rattle.db_base.specs.declared.trouble.Trouble.{Trouble}
+use Rattle.db_base.specs.declared.trouble.Trouble.TheVariants as trouble
+use Rattle.db_base.specs.declared.wish.Wish.{Wish}
+use Rattle.db_base.specs.declared.wish.Wish.TheVariants.{Plain}
+use Rattle.event_text.specs.declared.event.Event.{Event}
+use Rattle.event_text.specs.declared.event.Event.TheVariants as event
+use Rattle.page_cache.specs.Cache.{Cache}
+use Rattle.recover_run.specs.declared.home.Home.{Home}
+use Rattle.replay_meaning.specs.Standing.{Line, session_of}
+use Rattle.reply_text.specs.declared.reply.Reply.{Reply}
+use Rattle.reply_text.specs.declared.reply.Reply.TheVariants as reply
+use Rattle.report_types.specs.declared.entry.Entry.{Entry}
+use Rattle.session_facts.proofs.LineLemmas.{line_of}
+use Rattle.session_facts.proofs.Sessions.CheckpointCalls.{IsOther, Leads, begun_counts, page_begun, counts_beside, other_counts, session_few, more_counts, end_counts}
+use Rattle.session_facts.proofs.SettlerLemmas.{settler_row}
+use Rattle.session_facts.proofs.Steps.{CallLeaves, CallLeavesUpto, wish_holds}
+use Rattle.session_facts.proofs.CallKinds.{IsSettlersRow}
+use Rattle.session_facts.specs.Counted.{counted, counted_line, counted_from, calls_told, CountsWork, CountsAll, FewFor}
+use Rattle.session_facts.specs.Facts.{session_at, CloudHolds}
+use Rattle.session_facts.specs.Few.{next_page}
+use Rattle.session_facts.specs.Sessions.Sessions.{Sessions, SessionsStand}
+use Rattle.txn_buffer.specs.Noted.{Noted}
+use Rattle.world_core.proofs.Behind.{LinesStand}
+use Rattle.world_core.proofs.EveryLine.{line_leaves}
+use Rattle.world_core.proofs.StandsLemmas.{IsUnderWay, IsNoReport, SettlerGoes, changed_at, changed_was, has_at, way_begins, went_on, call, steps_own, no_stop, no_memory, refused_is, settler, settler_went, settler_own, settler_call, settler_begins, settled_plain}
+use Rattle.world_core.specs.Asked.{Asks}
+use Rattle.world_core.specs.Bounded.{steps_of}
+use Rattle.world_core.specs.Handled.{Declines, Has, MakesNoCall, BeginsOp, NotesChange, DropsChanges, StepsLooked, MakesStep, Went, start, further, ComesTo, Runs, SettlesOn, Settles, Dies, Crashes, Does, Serves, ReportReply, Reports, Answers, Handled}
+use Rattle.world_core.specs.Replying.{declined, done_reply, unsettled_reply, RepliesBegun, RepliesTurn, RepliesSettled}
+use Rattle.world_core.specs.Sessions.{Changes, NotesIn, AbortsIn}
+use Rattle.world_core.specs.Stands.{StandsOn}
+use Rattle.world_core.specs.World.{World}
+use Rattle.world_core.specs.declared.asked.Asked.{Asked}
+use Rattle.world_core.specs.declared.asked.Asked.TheVariants.{Session, Wait, Report, Settle}
+use Rattle.world_core.specs.declared.asked.Request.{Request}
+use Rattle.world_core.specs.declared.asked.Request.TheVariants.{Begin, Note, Abort, Step, Run, Crash}
+use Rattle.world_core.specs.declared.world.WorldFault.{WorldFault}
+
+pub state_is : (x y : CloudState) → Some x ≡ Some y → x ≡ y
+state_is x y e = cc
+
+no_more : (n : ℕ) → n ≤ n
+no_more n = omega arith
+
+end_later : (now ticks after : ℕ) → now ≤ greatest → end_after now ticks ≤ after → now ≤ after
+end_later now ticks after within later = omega arith
+
+-- a wait loses nothing
+wait_leads : (t : CloudState) (now waits : ℕ) → t.now ≤ now → Leads t (record t { now = now; waits = waits })
+wait_leads t now waits later = record {
+  next = λ tree. no_more (next_page t tree);
+  grown = record {
+    versions = λ name. begins_itself (t.versions name);
+    messages = λ queue. begins_itself (posts_of (t.messages queue));
+    trace = begins_itself t.trace;
+    later = later;
+  };
+}
+
+-- ---- counts that agree
+
+counts_like : (c d : ℕ → ℕ) (s : CloudState) (f g : Sessions) → ((n : ℕ) → d n ≡ c n) → ((n : ℕ) → g n ≡ f n) → CountsAll c s f → CountsAll d s g
+counts_like c d s f g same sessions all n =
+    subst (λ (k : ℕ). CountsWork k s (g n).work) (sym (same n)) (subst (λ (a : Acting). CountsWork (c n) s a.work) (sym (sessions n)) (all n))
+
+own_again : (k : ℕ) (c : ℕ → ℕ) (n : ℕ) → at k (c k) c n ≡ c n
+own_again k c n = on (cases_eq n k)
+  where
+    on : (n ≡ k) ⊎ (n ≢ k) → at k (c k) c n ≡ c n
+    on (inl e) = at_same k (c k) c n e ∙ ap c (sym e)
+    on (inr ne) = at_other k (c k) c n ne
+
+own_twice : (k a b : ℕ) (c : ℕ → ℕ) (n : ℕ) → at k b (at k a c) n ≡ at k b c n
+own_twice k a b c n = on (cases_eq n k)
+  where
+    on : (n ≡ k) ⊎ (n ≢ k) → at k b (at k a c) n ≡ at k b c n
+    on (inl e) = at_same k b (at k a c) n e ∙ sym (at_same k b c n e)
+    on (inr ne) = at_other k b (at k a c) n ne ∙ at_other k a c n ne ∙ sym (at_other k b c n ne)
+
+-- ---- one more line
+
+told_push : (session calls : ℕ) (lines : List Line) (line : Line) → counted_from session calls (lines ++ line ∷ []) ≡ counted_line session (counted_from session calls lines) line
+told_push session calls [] line = refl
+told_push session calls (first ∷ lines) line = told_push session (counted_line session calls first) lines line
+
+calls_line : (lines : List Line) (line : Line) (session : ℕ) → calls_told (lines ++ line ∷ []) session ≡ counted_line session (calls_told lines session) line
+calls_line lines line session = told_push session 0 lines line
+
+-- a line of a session
+line_tells : (lines : List Line) (e : Event) (r : Reply) (k : ℕ) → session_of e ≡ k → (n : ℕ)
+    → calls_told (lines ++ line_of e r ∷ []) n ≡ at k (counted r (calls_told lines k)) (calls_told lines) n
+line_tells lines e r k own n = calls_line lines (line_of e r) n ∙ on (cases_eq n k)
+  where
+    on : (n ≡ k) ⊎ (n ≢ k) → counted_line n (calls_told lines n) (line_of e r) ≡ at k (counted r (calls_told lines k)) (calls_told lines) n
+    on (inl same) =
+        ap (λ b. cond b (counted r (calls_told lines n)) (calls_told lines n)) (eq-eqb (session_of e) n (own ∙ sym same))
+        ∙ ap (λ j. counted r (calls_told lines j)) same ∙ sym (at_same k (counted r (calls_told lines k)) (calls_told lines) n same)
+    on (inr other) =
+        ap (λ b. cond b (counted r (calls_told lines n)) (calls_told lines n)) (ne_eqb (session_of e) n (λ q. other (sym q ∙ own)))
+        ∙ sym (at_other k (counted r (calls_told lines k)) (calls_told lines) n other)
+
+-- a line that tells of no call and of no begin
+still_tells : (lines : List Line) (e : Event) (r : Reply) → ((calls : ℕ) → counted r calls ≡ calls) → (n : ℕ) → calls_told (lines ++ line_of e r ∷ []) n ≡ calls_told lines n
+still_tells lines e r still n = calls_line lines (line_of e r) n ∙ on (session_of e == n)
+  where
+    on : (b : Bool) → cond b (counted r (calls_told lines n)) (calls_told lines n) ≡ calls_told lines n
+    on true = still (calls_told lines n)
+    on false = refl
+
+-- ---- a begin
+
+other_by : (calls : ℕ) (s : CloudState) (w v : Work) → w ≡ v → IsOther v → CountsWork calls s w
+other_by calls s w v e is = other_counts calls s w (subst IsOther (sym e) is)
+
+stopped_counts : (calls : ℕ) (s : CloudState) (w : Work) (t : Trouble) (home : Home) → w ≡ stopped_work t home → CountsWork calls s w
+stopped_counts calls s w trouble.Memory home e = other_by calls s w (Broken home.lease) e tt
+stopped_counts calls s w t home e = other_by calls s w (stopped_work t home) e (on t)
+  where
+    on : (k : Trouble) → IsOther (stopped_work k home)
+    on trouble.Memory = tt
+    on k = tt
+
+abbrev IsOkOf : Reply → Result Reply WorldFault → Type 0
+IsOkOf r result = (let own : Result Reply WorldFault = Ok r in own ≡ result)
+
+module _ (r : Reply) (calls : ℕ) (s : CloudState) (a b : Acting) where
+  abbrev Left : Type 0
+  Left = CountsWork (counted r calls) s b.work
+
+  refused_counts : (rule : Refusal) → IsOkOf r (declined (refused.Rule rule)) → b ≡ a → CountsWork calls s a.work → Left
+  refused_counts rule e same k =
+      subst (λ (q : Reply). CountsWork (counted q calls) s b.work) (sym (refused_is r rule e)) (subst (λ (x : Acting). CountsWork calls s x.work) (sym same) k)
+
+  -- what an open client begins that is no checkpoint
+  hand_counts : (own : Home → Work) (begun : Result Begun Refused) → ((home : Home) → IsOther (own home)) → BeginsWith (λ home. HasInHand a (own home)) a b begun
+      → RepliesBegun begun b (Ok r) → CountsWork calls s a.work → Left
+  hand_counts own (Ok begun) is begins e k = other_by (counted r calls) s b.work (own begins.0) (ap (λ (x : Acting). x.work) begins.2.1) (is begins.0)
+  hand_counts own (Err (refused.Rule rule)) is begins e k = refused_counts rule e begins.1 k
+  hand_counts own (Err refused.Memory) is begins e k = absurd begins
+
+  -- a checkpoint has made no call
+  first_counts : (own : Home → Work) → ((home : Home) → CountsWork 0 s (own home)) → (begun : Result Begun Refused) → BeginsWith (λ home. HasInHand a (own home)) a b begun
+      → RepliesBegun begun b (Ok r) → CountsWork calls s a.work → Left
+  first_counts own first (Ok begun) begins e k =
+      let answered : RepliesBegun (Ok Working) b (Ok r) = subst (λ x. RepliesBegun (Ok x) b (Ok r)) begins.2.0 e in
+      let is : r ≡ reply.Begun = cc (answered) in
+      subst (λ (q : Reply). CountsWork (counted q calls) s b.work) (sym is)
+      (subst (λ (x : Acting). CountsWork 0 s x.work) (sym begins.2.1) (first begins.0))
+  first_counts own first (Err (refused.Rule rule)) begins e k = refused_counts rule e begins.1 k
+  first_counts own first (Err refused.Memory) begins e k = absurd begins
+
+  open_counts : (client : ℕ) (begun : Result Begun Refused) → Begins (op.Open client) a b begun → RepliesBegun begun b (Ok r) → CountsWork calls s a.work → Left
+  open_counts client (Ok Working) begins e k = other_by (counted r calls) s b.work _ (ap (λ (x : Acting). x.work) begins.1) tt
+  open_counts client (Ok (Answered x)) begins e k = absurd begins
+  open_counts client (Err (refused.Rule rule)) begins e k = refused_counts rule e begins.1 k
+  open_counts client (Err refused.Memory) begins e k = absurd begins
+
+  commits_counts : (home : Home) (buffer : List Noted) (c d : Cache) (begun : Begun) → CommitsOf home buffer c d b.work begun → Left
+  commits_counts home buffer c d Working commits = other_by (counted r calls) s b.work (Committing commits.0) commits.2 tt
+  commits_counts home buffer c d (Answered (answer.Commit x)) commits = other_by (counted r calls) s b.work (Idle _) commits.2 tt
+  commits_counts home buffer c d (Answered (answer.Trouble t)) commits = other_by (counted r calls) s b.work (Broken home.lease) commits.1 tt
+  commits_counts home buffer c d (Answered x) commits = absurd commits
+
+  commit_counts : (begun : Result Begun Refused) → Begins op.Commit a b begun → RepliesBegun begun b (Ok r) → CountsWork calls s a.work → Left
+  commit_counts (Ok begun) begins e k = on begins.2.1
+    where
+      on : CommitsNoted begins.0 a.buffer a.cache b.cache b.work begun → Left
+      on (inl nothing) = other_by (counted r calls) s b.work (Idle begins.0) nothing.work_is tt
+      on (inr some) = commits_counts begins.0 a.buffer a.cache b.cache begun some.1
+  commit_counts (Err (refused.Rule rule)) begins e k = refused_counts rule e begins.1 k
+  commit_counts (Err refused.Memory) begins e k = absurd begins
+
+  read_counts : (tree : ℕ) (key : List ℕ) (begun : Result Begun Refused) → Begins (op.Read tree key) a b begun → RepliesBegun begun b (Ok r) → CountsWork calls s a.work → Left
+  read_counts tree key (Ok Working) begins e k = other_by (counted r calls) s b.work (Reading begins.0 begins.2.1.0) begins.2.1.2 tt
+  read_counts tree key (Ok (Answered answer.Value)) begins e k = other_by (counted r calls) s b.work (Idle begins.0) begins.2.1.3 tt
+  read_counts tree key (Ok (Answered (answer.Trouble t))) begins e k = stopped_counts (counted r calls) s b.work t begins.0 begins.2.1.2
+  read_counts tree key (Ok (Answered x)) begins e k = absurd begins.2.1
+  read_counts tree key (Err (refused.Rule rule)) begins e k = refused_counts rule e begins.1 k
+  read_counts tree key (Err refused.Memory) begins e k = absurd begins
+
+  follows_counts : (home : Home) (buffer : List Noted) (m : Listing) (c : Cache) (moved : Turn ℕ) (shown : Shown) (turn : Turn Answer)
+      → Follows home buffer m c moved b.work shown turn → Left
+  follows_counts home buffer m c More shown turn f = other_by (counted r calls) s b.work (Scanning home m) f.0 tt
+  follows_counts home buffer m c (Ended page) shown More f = other_by (counted r calls) s b.work (Scanning home _) f.3 tt
+  follows_counts home buffer m c (Ended page) shown (Ended answer.Scan) f = other_by (counted r calls) s b.work (Idle home) f.3 tt
+  follows_counts home buffer m c (Ended page) shown (Ended (answer.Trouble t)) f = other_by (counted r calls) s b.work (Broken home.lease) f.1 tt
+  follows_counts home buffer m c (Ended page) shown turn f = absurd f
+  follows_counts home buffer m c (Stopped t) shown turn f = stopped_counts (counted r calls) s b.work t home f.0
+
+  scan_counts : (tree : ℕ) (from to : Option (List ℕ)) (begun : Result Begun Refused) → Begins (op.Scan tree from to) a b begun → RepliesBegun begun b (Ok r) → CountsWork calls s a.work
+      → Left
+  scan_counts tree from to (Ok begun) begins e k = let f = begins.2.1 in follows_counts begins.0 a.buffer (record { scan = f.scan; pairs = [] }) b.cache f.moved b.shown f.turn f.follows
+  scan_counts tree from to (Err (refused.Rule rule)) begins e k = refused_counts rule e begins.1 k
+  scan_counts tree from to (Err refused.Memory) begins e k = absurd begins
+
+  begin_counts : (o : Op) (begun : Result Begun Refused) → Begins o a b begun → RepliesBegun begun b (Ok r) → CountsWork calls s a.work → Left
+  begin_counts (op.Open client) begun begins e k = open_counts client begun begins e k
+  begin_counts op.Close begun begins e k = hand_counts (λ home. Closing home.lease) begun (λ home. tt) begins e k
+  begin_counts op.Renew begun begins e k = hand_counts (λ home. Renewing home) begun (λ home. tt) begins e k
+  begin_counts op.Commit begun begins e k = commit_counts begun begins e k
+  begin_counts (op.Read tree key) begun begins e k = read_counts tree key begun begins e k
+  begin_counts (op.Scan tree from to) begun begins e k = scan_counts tree from to begun begins e k
+  begin_counts (op.Page tree page) begun begins e k = first_counts (paging_begun_by tree page) (λ home. page_begun s home tree page) begun begins e k
+  begin_counts (op.Tree tree) begun begins e k = first_counts (folding_begun_by tree) (λ home. begun_counts s home tree) begun begins e k
+
+  -- a change that is noted, and changes that are dropped
+  kept_counts : (buffer : List Noted) → ((n : ℕ) → counted r n ≡ n) → b ≡ record a { buffer = buffer } → CountsWork calls s a.work → Left
+  kept_counts buffer still same k =
+      subst (λ (n : ℕ). CountsWork n s b.work) (sym (still calls)) (subst (λ (x : Acting). CountsWork calls s x.work) (sym same) k)
+
+-- ---- one step
+
+module _ (who : Caller) (wish : Wish) (before after : Seen) (old new : World) (turn : Turn Answer) (p : StepsLooked who wish before after old new turn) (x : CloudState)
+    (told : before.state ≡ Some x) (book : Book) (order : List Entry) (stand : SessionsStand book order (record x { wish = wish }) (session_at old.sessions))
+    (own : StepsSession who p.under p.to (session_at old.sessions who.session) p.session.after (Ok turn)) (y : CloudState) (left : p.to.state ≡ Some y)
+    (calls : ℕ → ℕ) (all : CountsAll calls x (session_at old.sessions)) (last : CloudState) (seen : after.state ≡ Some last) where
+  abbrev wished : CloudState
+  wished = record x { wish = wish }
+
+  told_wished : p.under.state ≡ Some wished
+  told_wished = p.wishes.set x (p.look_before.stays x told)
+
+  under_wish : CountsAll calls wished (session_at old.sessions)
+  under_wish n = counts_beside (calls n) x wished (session_at old.sessions n).work
+      (record { next = λ tree. no_more (next_page x tree); grown = grown_itself x wished refl refl refl refl }) (all n)
+
+  last_is : y ≡ last
+  last_is = state_is y last (sym (p.look_after.stays y left) ∙ seen)
+
+  pub step_few : FewFor (calls who.session + 1) last p.session.before.work
+  step_few =
+      subst (λ (a : Acting). FewFor (calls who.session + 1) last a.work) (changed_was who.session _ old.sessions new.sessions p.session)
+      (subst (λ (z : CloudState). FewFor (calls who.session + 1) z (session_at old.sessions who.session).work) last_is
+      (session_few who p.under p.to wished y book order (session_at old.sessions) told_wished left stand calls p.session.after turn under_wish own))
+
+  left_by : (c : ℕ → ℕ) → CountsAll c y (at who.session p.session.after (session_at old.sessions)) → CountsAll c last (session_at new.sessions)
+  left_by c k =
+      subst (λ (z : CloudState). CountsAll c z (session_at new.sessions)) last_is
+      (counts_like c c y (at who.session p.session.after (session_at old.sessions)) (session_at new.sessions) (λ n. refl)
+      (changed_at who.session _ old.sessions new.sessions p.session) k)
+
+  pub step_more : (next : Book) (order_next : List Entry) → SessionsStand next order_next y (at who.session p.session.after (session_at old.sessions)) → turn ≡ More
+      → CountsAll (at who.session (calls who.session + 1) calls) last (session_at new.sessions)
+  step_more next order_next stand_next more =
+      left_by (at who.session (calls who.session + 1) calls)
+      (more_counts who p.under p.to wished y book order (session_at old.sessions) told_wished left stand calls under_wish p.session.after next order_next stand_next
+      (subst (λ (u : Turn Answer). StepsSession who p.under p.to (session_at old.sessions who.session) p.session.after (Ok u)) more own))
+
+  pub step_end : (a : Answer) (mine : ℕ) → turn ≡ Ended a → CountsAll (at who.session mine calls) last (session_at new.sessions)
+  step_end a mine ends =
+      left_by (at who.session mine calls)
+      (end_counts who p.under p.to wished y book order (session_at old.sessions) told_wished left stand calls under_wish p.session.after a mine
+      (subst (λ (u : Turn Answer). StepsSession who p.under p.to (session_at old.sessions who.session) p.session.after (Ok u)) ends own))
+
+-- ---- steps within a line
+
+module _ (lines : List Line) (who : Caller) (number : who.event ≡ length lines + 1) (calls : ℕ → ℕ) where
+  -- so many calls of the session itself
+  abbrev Own : ℕ → CloudState → World → Type 0
+  Own own s world = CountsAll (at who.session own calls) s (session_at world.sessions)
+
+  module _ (wish : Wish) (before after : Seen) (old new : World) (turn : Turn Answer) (way : IsUnderWay lines old before) (p : StepsLooked who wish before after old new turn)
+      (mine : ℕ) (all : Own mine way.after old) (last : CloudState) (seen : after.state ≡ Some last) where
+    held : CloudHolds (length lines + 1) lines (session_at old.sessions) old.audit old.blind (record way.after { wish = wish })
+    held = wish_holds (length lines + 1) lines (session_at old.sessions) old.audit old.blind way.after wish way.goes.holds
+
+    leaves : CallLeaves lines p.to (session_at old.sessions) who.session p.session.after new.audit new.blind
+    leaves = call lines who wish before after old new turn number way p
+
+    steps : StepsSession who p.under p.to (session_at old.sessions who.session) p.session.after (Ok turn)
+    steps = steps_own lines who wish before after old new turn number way p
+
+    mine_is : at who.session mine calls who.session ≡ mine
+    mine_is = at_same who.session mine calls who.session refl
+
+    pub few_of : FewFor (mine + 1) last p.session.before.work
+    few_of =
+        subst (λ (n : ℕ). FewFor (n + 1) last p.session.before.work) mine_is
+        (step_few who wish before after old new turn p way.after way.told held.book held.order held.stand steps leaves.state leaves.told (at who.session mine calls) all last seen)
+
+    pub more_of : turn ≡ More → Own (mine + 1) last new
+    more_of more =
+        counts_like (at who.session (at who.session mine calls who.session + 1) (at who.session mine calls)) (at who.session (mine + 1) calls) last
+        (session_at new.sessions) (session_at new.sessions)
+        (λ n. sym (own_twice who.session mine (mine + 1) calls n) ∙ ap (λ (k : ℕ). at who.session (k + 1) (at who.session mine calls) n) (sym mine_is)) (λ n. refl)
+        (step_more who wish before after old new turn p way.after way.told held.book held.order held.stand steps leaves.state leaves.told (at who.session mine calls) all last seen
+        leaves.holds.book leaves.holds.order leaves.holds.stand more)
+
+    pub end_of : (a : Answer) (k : ℕ) → turn ≡ Ended a → Own k last new
+    end_of a k ends =
+        counts_like (at who.session k (at who.session mine calls)) (at who.session k calls) last (session_at new.sessions) (session_at new.sessions)
+        (λ n. sym (own_twice who.session mine k calls n)) (λ n. refl)
+        (step_end who wish before after old new turn p way.after way.told held.book held.order held.stand steps leaves.state leaves.told (at who.session mine calls) all last seen a k ends)
+
+  -- behind some steps
+  pub went_counts : (before : Seen) (old : World) (after : Seen) (new : World) → (way : IsUnderWay lines old before) → CountsAll calls way.after (session_at old.sessions)
+      → (went : Went who before old after new) (s : CloudState) → after.state ≡ Some s → Own (calls who.session + steps_of who before old after new went) s new
+  went_counts before old after new way all start s seen =
+      subst (λ (z : CloudState). Own (calls who.session + 0) z old) (state_is way.after s (sym way.told ∙ seen))
+      (counts_like calls (at who.session (calls who.session + 0) calls) way.after (session_at old.sessions) (session_at old.sessions)
+      (λ n. ap (λ (k : ℕ). at who.session k calls n) none_more ∙ own_again who.session calls n) (λ n. refl) all)
+    where
+      none_more : calls who.session + 0 ≡ calls who.session
+      none_more = omega arith
+  went_counts before old after new way all (further mid _ world _ went step) s seen =
+      let gone = went_on lines who before old mid world number way went in
+      let was = went_counts before old mid world way all went gone.after gone.told in
+      let one = more_of Plain mid after world new More gone step (calls who.session + steps_of who before old mid world went) was s seen refl in
+      let sum : (calls who.session + steps_of who before old mid world went) + 1 ≡ calls who.session + (steps_of who before old mid world went + 1) = omega arith in
+      subst (λ (k : ℕ). Own k s new) sum one
+
+-- behind these lines, with as many calls of a session as they tell
+pub begins_own : (lines : List Line) (k : ℕ) (old : World) (t : CloudState) → CountsAll (calls_told lines) t (session_at old.sessions)
+    → CountsAll (at k (calls_told lines k) (calls_told lines)) t (session_at old.sessions)
+begins_own lines k old t all =
+    counts_like (calls_told lines) (at k (calls_told lines k) (calls_told lines)) t (session_at old.sessions) (session_at old.sessions)
+    (own_again k (calls_told lines)) (λ m. refl) all
+
+-- the session that a line names is the one that is asked
+own_session : (e : Event) (k : ℕ) (request : Result Request Refused) → Asks e (Session k request) → session_of e ≡ k
+own_session (event.Open session client) k request asks = sym asks.0
+own_session (event.Insert session tree key payload) k request asks = sym asks.0
+own_session (event.Update session tree key payload) k request asks = sym asks.0
+own_session (event.Delete session tree key) k request asks = sym asks.0
+own_session (event.Close session) k request asks = sym asks.0
+own_session (event.Renew session) k request asks = sym asks.0
+own_session (event.Commit session) k request asks = sym asks.0
+own_session (event.Abort session) k request asks = sym asks.0
+own_session (event.Read session tree key) k request asks = sym asks.0
+own_session (event.Scan session tree from to) k request asks = sym asks.0
+own_session (event.Page session tree page) k request asks = sym asks.0
+own_session (event.Tree session tree) k request asks = sym asks.0
+own_session (event.Run session) k request asks = sym asks.0
+own_session (event.Step session wish) k request asks = sym asks.0
+own_session (event.Crash session done) k request asks = sym asks.0
+own_session (event.Wait ticks) k request asks = absurd (cc (asks))
+own_session (event.Report tree) k request asks = absurd (cc (asks))
+own_session event.Settle k request asks = absurd (cc (asks))
+
+-- ---- a line behind lines
+
+module _ (lines : List Line) (n : ℕ) (number : length lines + 1 ≡ n) (before after : Seen) (old new : World) (e : Event) (r : Reply) (t : CloudState) (told : before.state ≡ Some t)
+    (stands : LinesStand lines old t) (all : CountsAll (calls_told lines) t (session_at old.sessions)) (u : CloudState) (seen : after.state ≡ Some u) where
+  abbrev Behind : Type 0
+  Behind = CountsAll (calls_told (lines ++ line_of e r ∷ [])) u (session_at new.sessions)
+
+  way : IsUnderWay lines old before
+  way = way_begins lines before old t told stands
+
+  all_way : CountsAll (calls_told lines) way.after (session_at old.sessions)
+  all_way = subst (λ (z : CloudState). CountsAll (calls_told lines) z (session_at old.sessions)) (state_is t way.after (sym told ∙ way.told)) all
+
+  -- where the cloud stays
+  unmoved : after ≡ before → t ≡ u
+  unmoved same = state_is t u (sym told ∙ (ap (λ (z : Seen). z.state) (sym same) ∙ seen))
+
+  -- nothing is done
+  idle_counts : after ≡ before → new ≡ old → ((calls : ℕ) → counted r calls ≡ calls) → Behind
+  idle_counts same world still =
+      subst (λ (z : CloudState). CountsAll (calls_told (lines ++ line_of e r ∷ [])) z (session_at new.sessions)) (unmoved same)
+      (counts_like (calls_told lines) (calls_told (lines ++ line_of e r ∷ [])) t (session_at old.sessions) (session_at new.sessions) (still_tells lines e r still)
+      (λ k. ap (λ (w : World). session_at w.sessions k) world) all)
+
+  refused_still : (rule : Refusal) → r ≡ reply.Refused rule → (calls : ℕ) → counted r calls ≡ calls
+  refused_still rule is calls = ap (λ (q : Reply). counted q calls) is
+
+  declined_counts : (why : Refused) → Declines why before after old new (Ok r) → Behind
+  declined_counts (refused.Rule rule) d = idle_counts d.seen d.world (refused_still rule (refused_is r rule d.reply))
+  declined_counts refused.Memory d = absurd (cc (d.reply))
+
+  -- one session changes, and makes no call
+  module _ (k : ℕ) (own : session_of e ≡ k) where
+    changed_counts : (Does : Acting → Acting → Type 0) → MakesNoCall before after old new → (c : Changes k Does old.sessions new.sessions)
+        → (CountsWork (calls_told lines k) t c.before.work → CountsWork (counted r (calls_told lines k)) t c.after.work) → Behind
+    changed_counts Does quiet c mine =
+        subst (λ (z : CloudState). CountsAll (calls_told (lines ++ line_of e r ∷ [])) z (session_at new.sessions)) (unmoved quiet.seen)
+        (counts_like (at k (counted r (calls_told lines k)) (calls_told lines)) (calls_told (lines ++ line_of e r ∷ [])) t (at k c.after (session_at old.sessions)) (session_at new.sessions)
+        (line_tells lines e r k own) (changed_at k Does old.sessions new.sessions c) each)
+      where
+        was : CountsWork (calls_told lines k) t c.before.work
+        was = subst (λ (a : Acting). CountsWork (calls_told lines k) t a.work) (changed_was k Does old.sessions new.sessions c) (all k)
+
+        each : CountsAll (at k (counted r (calls_told lines k)) (calls_told lines)) t (at k c.after (session_at old.sessions))
+        each m = on (cases_eq m k)
+          where
+            on : (m ≡ k) ⊎ (m ≢ k) → CountsWork (at k (counted r (calls_told lines k)) (calls_told lines) m) t (at k c.after (session_at old.sessions) m).work
+            on (inl same) =
+                subst (λ (j : ℕ). CountsWork j t (at k c.after (session_at old.sessions) m).work) (sym (at_same k (counted r (calls_told lines k)) (calls_told lines) m same))
+                (subst (λ (a : Acting). CountsWork (counted r (calls_told lines k)) t a.work) (sym (at_same k c.after (session_at old.sessions) m same)) (mine was))
+            on (inr other) =
+                subst (λ (j : ℕ). CountsWork j t (at k c.after (session_at old.sessions) m).work) (sym (at_other k (counted r (calls_told lines k)) (calls_told lines) m other))
+                (subst (λ (a : Acting). CountsWork (calls_told lines m) t a.work) (sym (at_other k c.after (session_at old.sessions) m other)) (all m))
+
+    begun : (o : Op) → MakesNoCall before after old new → Changes k (BeginsOp o (Ok r)) old.sessions new.sessions → Behind
+    begun o quiet c =
+        changed_counts (BeginsOp o (Ok r)) quiet c
+        (λ was. begin_counts r (calls_told lines k) t c.before c.after o c.does.begun c.does.begins c.does.replies was)
+
+    noted : (tree : ℕ) (change : Change) → MakesNoCall before after old new → Changes k (NotesChange tree change (Ok r)) old.sessions new.sessions → Behind
+    noted tree change quiet c = changed_counts (NotesChange tree change (Ok r)) quiet c (λ was. on was c.does.noted c.does.notes c.does.replies)
+      where
+        on : CountsWork (calls_told lines k) t c.before.work → (result : Result (Unit {0}) Refused) → NotesIn tree change c.before c.after result
+            → IsOkOf r (done_reply reply.Noted result) → CountsWork (counted r (calls_told lines k)) t c.after.work
+        on was (Ok done) h q =
+            let is : r ≡ reply.Noted = cc (q) in
+            kept_counts r (calls_told lines k) t c.before c.after _ (λ (calls : ℕ). ap (λ (z : Reply). counted z calls) is) h.0 was
+        on was (Err (refused.Rule rule)) h q = refused_counts r (calls_told lines k) t c.before c.after rule q h.0 was
+        on was (Err refused.Memory) h q = absurd (cc (q))
+
+    aborted : MakesNoCall before after old new → Changes k (DropsChanges (Ok r)) old.sessions new.sessions → Behind
+    aborted quiet c = changed_counts (DropsChanges (Ok r)) quiet c (λ was. on was c.does.dropped c.does.drops c.does.replies)
+      where
+        on : CountsWork (calls_told lines k) t c.before.work → (result : Result (Unit {0}) Refused) → AbortsIn c.before c.after result
+            → IsOkOf r (done_reply reply.Aborted result) → CountsWork (counted r (calls_told lines k)) t c.after.work
+        on was (Ok done) h q =
+            let is : r ≡ reply.Aborted = cc (q) in
+            kept_counts r (calls_told lines k) t c.before c.after [] (λ (calls : ℕ). ap (λ (z : Reply). counted z calls) is) h.0 was
+        on was (Err (refused.Rule rule)) h q = refused_counts r (calls_told lines k) t c.before c.after rule q h.0 was
+        on was (Err refused.Memory) h q = absurd h.1
+
+    -- ---- its steps
+
+    abbrev who : Caller
+    who = record { session = k; event = n }
+
+    -- as many calls of its own as the line tells
+    told_own : (calls : ℕ) → counted r (calls_told lines k) ≡ calls → CountsAll (at k calls (calls_told lines)) u (session_at new.sessions) → Behind
+    told_own calls same mine =
+        counts_like (at k calls (calls_told lines)) (calls_told (lines ++ line_of e r ∷ [])) u (session_at new.sessions) (session_at new.sessions)
+        (λ m. line_tells lines e r k own m ∙ ap (λ (c : ℕ). at k c (calls_told lines) m) same) (λ m. refl) mine
+
+    stepped : (wish : Wish) (turn : Turn Answer) → (p : StepsLooked who wish before after old new turn) → RepliesTurn turn p.session.after (Ok r) → Behind
+    stepped wish More p replies =
+        let is : r ≡ reply.Called = cc (replies) in
+        told_own (calls_told lines k + 1) (ap (λ (q : Reply). counted q (calls_told lines k)) is)
+        (more_of lines who (sym number) (calls_told lines) wish before after old new More way p (calls_told lines k) (begins_own lines k old way.after all_way) u seen refl)
+    stepped wish (Ended a) p replies =
+        told_own (counted r (calls_told lines k)) refl
+        (end_of lines who (sym number) (calls_told lines) wish before after old new (Ended a) way p (calls_told lines k) (begins_own lines k old way.after all_way) u seen a (counted r (calls_told lines k)) refl)
+    stepped wish (Stopped trouble) p replies = absurd (no_stop who p.under p.to p.session.before p.session.after trouble p.session.does)
+
+    makes : (wish : Wish) → MakesStep n k wish before after old new (Ok r) → Behind
+    makes wish (inl refuses) = declined_counts _ refuses.declines
+    makes wish (inr (inl step)) = stepped wish step.turn step.steps step.replies
+    makes wish (inr (inr memory)) = absurd (no_memory r memory.0)
+
+    runs : Runs n k before after old new (Ok r) → Behind
+    runs (inl refuses) = declined_counts _ refuses.declines
+    runs (inr (inl run)) =
+        let c = run.comes in
+        let gone = went_on lines who before old c.mid c.world (sym number) way c.went in
+        told_own (counted r (calls_told lines k)) refl
+        (end_of lines who (sym number) (calls_told lines) Plain c.mid after c.world new (Ended run.answer) gone c.steps
+        (calls_told lines k + steps_of who before old c.mid c.world c.went)
+        (went_counts lines who (sym number) (calls_told lines) before old c.mid c.world way all_way c.went gone.after gone.told) u seen run.answer (counted r (calls_told lines k)) refl)
+    runs (inr (inr memory)) = absurd (no_memory r memory.0)
+
+    dies : Dies k before after old new (Ok r) → Behind
+    dies d =
+        changed_counts (λ a b. b ≡ closed_session) d.quiet d.closed
+        (λ was. subst (λ (a : Acting). CountsWork (counted r (calls_told lines k)) t a.work) (sym d.closed.does) tt)
+
+    -- whatever its call came to, it is closed then
+    closed_counts : (wish : Wish) (world : World) (turn : Turn Answer) (p : StepsLooked who wish before after old world turn) → Has k closed_session world new
+        → (calls : ℕ) → CountsAll (at k calls (calls_told lines)) u (session_at world.sessions) → Behind
+    closed_counts wish world turn p closes calls mine = λ m. on m (cases_eq m k)
+      where
+        on : (m : ℕ) → (m ≡ k) ⊎ (m ≢ k) → CountsWork (calls_told (lines ++ line_of e r ∷ []) m) u (session_at new.sessions m).work
+        on m (inl same) =
+            subst (λ (a : Acting). CountsWork (calls_told (lines ++ line_of e r ∷ []) m) u a.work)
+            (sym (has_at k closed_session world new closes m ∙ at_same k closed_session (session_at world.sessions) m same)) tt
+        on m (inr other) =
+            subst (λ (a : Acting). CountsWork (calls_told (lines ++ line_of e r ∷ []) m) u a.work)
+            (sym (has_at k closed_session world new closes m ∙ at_other k closed_session (session_at world.sessions) m other))
+            (subst (λ (c : ℕ). CountsWork c u (session_at world.sessions m).work)
+            (at_other k calls (calls_told lines) m other ∙ sym (line_tells lines e r k own m ∙ at_other k (counted r (calls_told lines k)) (calls_told lines) m other)) (mine m))
+
+    dies_done : (world : World) (turn : Turn Answer) → StepsLooked who Plain before after old world turn → Has k closed_session world new → Behind
+    dies_done world More p closes =
+        closed_counts Plain world More p closes (calls_told lines k + 1)
+        (more_of lines who (sym number) (calls_told lines) Plain before after old world More way p (calls_told lines k) (begins_own lines k old way.after all_way) u seen refl)
+    dies_done world (Ended a) p closes =
+        closed_counts Plain world (Ended a) p closes 0
+        (end_of lines who (sym number) (calls_told lines) Plain before after old world (Ended a) way p (calls_told lines k) (begins_own lines k old way.after all_way) u seen a 0 refl)
+    dies_done world (Stopped trouble) p closes = absurd (no_stop who p.under p.to p.session.before p.session.after trouble p.session.does)
+
+    crashes : (done : Bool) → Crashes n k done before after old new (Ok r) → Behind
+    crashes false d = dies d
+    crashes true (inl idle) = dies idle.dies
+    crashes true (inr (inl d)) = dies_done d.world d.turn d.steps d.closes
+    crashes true (inr (inr memory)) = absurd (no_memory r memory.0)
+
+    does : (request : Request) → Does n k request before after old new (Ok r) → Behind
+    does (Begin o) h = begun o h.0 h.1
+    does (Note tree change) h = noted tree change h.0 h.1
+    does Abort h = aborted h.0 h.1
+    does (Step wish) h = makes wish h
+    does Run h = runs h
+    does (Crash done) h = crashes done h
+
+    serves : (request : Result Request Refused) → Serves n k request before after old new (Ok r) → Behind
+    serves (Ok request) h = does request h
+    serves (Err why) h = declined_counts why h
+
+  -- ---- a settling
+
+  module _ (begun : World) (begins : Has 0 settling_session old begun) (plain : IsNoReport r) (still : (calls : ℕ) → counted r calls ≡ calls) where
+    abbrev lined : List Line
+    lined = lines ++ line_of event.Settle r ∷ []
+
+    row : IsSettlersRow lined (settler n)
+    row = settler_row lines r (settler n) refl (sym number)
+
+    goes : SettlerGoes n lined (session_at old.sessions) begun before
+    goes = settler_begins lines n before old begun t (sym number) told stands begins r plain
+
+    step_on : (mid end : Seen) (world next : World) (turn : Turn Answer) → (g : SettlerGoes n lined (session_at old.sessions) world mid)
+        → (p : StepsLooked (settler n) Plain mid end world next turn) → (calls : ℕ → ℕ) → CountsAll calls g.state (session_at world.sessions)
+        → (s : CloudState) → end.state ≡ Some s → (turn ≡ More) ⊎ ((a : Answer) × (turn ≡ Ended a))
+        → (own : ℕ) × CountsAll (at 0 own calls) s (session_at next.sessions)
+    step_on mid end world next turn g p calls mine s at_end which = on which
+      where
+        h : CloudHolds n lined (session_at world.sessions) world.audit world.blind (record g.state { wish = Plain })
+        h = wish_holds n lined (session_at world.sessions) world.audit world.blind g.state Plain g.holds
+
+        c : CallLeavesUpto n lined p.to (session_at world.sessions) 0 p.session.after next.audit next.blind
+        c = settler_call n lined (session_at old.sessions) row mid end world next turn g p
+
+        its : StepsSession (settler n) p.under p.to (session_at world.sessions 0) p.session.after (Ok turn)
+        its = settler_own n lined (session_at old.sessions) row mid end world next turn g p
+
+        on : (turn ≡ More) ⊎ ((a : Answer) × (turn ≡ Ended a)) → (own : ℕ) × CountsAll (at 0 own calls) s (session_at next.sessions)
+        on (inl more) = (
+          calls 0 + 1,
+          step_more (settler n) Plain mid end world next turn p g.state g.told h.book h.order h.stand its c.state c.told calls mine s at_end c.holds.book c.holds.order c.holds.stand more,
+        )
+        on (inr ended) = (0, step_end (settler n) Plain mid end world next turn p g.state g.told h.book h.order h.stand its c.state c.told calls mine s at_end ended.0 0 ended.1)
+
+    settler_counts : (end : Seen) (world : World) (went : Went (settler n) before begun end world) (s : CloudState) → end.state ≡ Some s
+        → (own : ℕ) × CountsAll (at 0 own (calls_told lines)) s (session_at world.sessions)
+    settler_counts end world start s at_end = (
+      0,
+      subst (λ (z : CloudState). CountsAll (at 0 0 (calls_told lines)) z (session_at begun.sessions)) (state_is t s (sym told ∙ at_end)) (λ m. on m (cases_eq m 0)),
+    )
+      where
+        on : (m : ℕ) → (m ≡ 0) ⊎ (m ≢ 0) → CountsWork (at 0 0 (calls_told lines) m) t (session_at begun.sessions m).work
+        on m (inl same) =
+            subst (λ (a : Acting). CountsWork (at 0 0 (calls_told lines) m) t a.work)
+            (sym (has_at 0 settling_session old begun begins m ∙ at_same 0 settling_session (session_at old.sessions) m same)) tt
+        on m (inr other) =
+            subst (λ (a : Acting). CountsWork (at 0 0 (calls_told lines) m) t a.work)
+            (sym (has_at 0 settling_session old begun begins m ∙ at_other 0 settling_session (session_at old.sessions) m other))
+            (subst (λ (c : ℕ). CountsWork c t (session_at old.sessions m).work) (sym (at_other 0 0 (calls_told lines) m other)) (all m))
+    settler_counts end world (further mid _ prior _ went step) s at_end =
+        let g = settler_went n lined (session_at old.sessions) row before begun mid prior goes went in
+        let was = settler_counts mid prior went g.state g.told in
+        let one = step_on mid end prior world More g step (at 0 was.0 (calls_told lines)) was.1 s at_end (inl refl) in (
+          one.0,
+          counts_like (at 0 one.0 (at 0 was.0 (calls_told lines))) (at 0 one.0 (calls_told lines)) s (session_at world.sessions) (session_at world.sessions)
+              (λ m. sym (own_twice 0 was.0 one.0 (calls_told lines) m)) (λ m. refl) one.1,
+        )
+
+    settled_counts : (left : World) (a : Answer) → ComesTo (settler n) before after begun left a → Has 0 closed_session left new → Behind
+    settled_counts left a comes closes = λ m. on m (cases_eq m 0)
+      where
+        g : SettlerGoes n lined (session_at old.sessions) comes.world comes.mid
+        g = settler_went n lined (session_at old.sessions) row before begun comes.mid comes.world goes comes.went
+
+        was : (own : ℕ) × CountsAll (at 0 own (calls_told lines)) g.state (session_at comes.world.sessions)
+        was = settler_counts comes.mid comes.world comes.went g.state g.told
+
+        end : (own : ℕ) × CountsAll (at 0 own (at 0 was.0 (calls_told lines))) u (session_at left.sessions)
+        end = step_on comes.mid after comes.world left (Ended a) g comes.steps (at 0 was.0 (calls_told lines)) was.1 u seen (inr (a, refl))
+
+        on : (m : ℕ) → (m ≡ 0) ⊎ (m ≢ 0) → CountsWork (calls_told (lines ++ line_of e r ∷ []) m) u (session_at new.sessions m).work
+        on m (inl same) =
+            subst (λ (a : Acting). CountsWork (calls_told (lines ++ line_of e r ∷ []) m) u a.work)
+            (sym (has_at 0 closed_session left new closes m ∙ at_same 0 closed_session (session_at left.sessions) m same)) tt
+        on m (inr other) =
+            subst (λ (a : Acting). CountsWork (calls_told (lines ++ line_of e r ∷ []) m) u a.work)
+            (sym (has_at 0 closed_session left new closes m ∙ at_other 0 closed_session (session_at left.sessions) m other))
+            (subst (λ (c : ℕ). CountsWork c u (session_at left.sessions m).work)
+            (at_other 0 end.0 (at 0 was.0 (calls_told lines)) m other ∙ at_other 0 was.0 (calls_told lines) m other ∙ sym (still_tells lines e r still m)) (end.1 m))
+
+  -- ---- every line
+
+  waited : (ticks : ℕ) → Answers n (Wait ticks) before after old new (Ok r) → Behind
+  waited ticks (inl h) =
+      let w = h.0.waited t told in
+      let is : r ≡ reply.Waited = cc (h.0.replies) in
+      let same : w.after ≡ u = state_is w.after u (sym w.told ∙ seen) in
+      subst (λ (z : CloudState). CountsAll (calls_told (lines ++ line_of e r ∷ [])) z (session_at new.sessions)) (sym w.rest ∙ same)
+      (counts_like (calls_told lines) (calls_told (lines ++ line_of e r ∷ [])) _ (session_at old.sessions) (session_at new.sessions)
+      (still_tells lines e r (λ (calls : ℕ). ap (λ (q : Reply). counted q calls) is)) (λ k. ap (λ (x : World). session_at x.sessions k) h.1)
+      (λ k. counts_beside (calls_told lines k) t _ (session_at old.sessions k).work (wait_leads t w.after.now _ (end_later t.now ticks w.after.now (h.0.clock t told) w.later)) (all k)))
+  waited ticks (inr long) = declined_counts _ long.declines
+
+  report_still : (q : Reply) (tree : ℕ) → ReportReply tree before after old (Ok q) → (calls : ℕ) → counted q calls ≡ calls
+  report_still (reply.Report x) tree h calls = refl
+  report_still (reply.Trouble k) tree h calls = refl
+  report_still (reply.Refused rule) tree h calls = refl
+  report_still q tree h calls = absurd h
+
+  reported : (tree : ℕ) → Reports tree before after old new (Ok r) → Behind
+  reported tree h =
+      subst (λ (z : CloudState). CountsAll (calls_told (lines ++ line_of e r ∷ [])) z (session_at new.sessions)) (state_is t u (sym (h.looked.stays t told) ∙ seen))
+      (counts_like (calls_told lines) (calls_told (lines ++ line_of e r ∷ [])) t (session_at old.sessions) (session_at new.sessions)
+      (still_tells lines e r (report_still r tree h.reply)) (λ k. ap (λ (w : World). session_at w.sessions k) h.world) all)
+
+  settled_still : (a : Answer) (q : Reply) → RepliesSettled a (Ok q) → (calls : ℕ) → counted q calls ≡ calls
+  settled_still (answer.Settled m) q h calls = let is : q ≡ reply.Settled m.calls = cc (h) in ap (λ (z : Reply). counted z calls) is
+  settled_still (answer.Trouble k) q h calls = on k h
+    where
+      on : (k : Trouble) → IsOkOf q (unsettled_reply k) → counted q calls ≡ calls
+      on trouble.Memory g = absurd (cc (g))
+      on k g = let is : q ≡ reply.NotSettled k = cc (g) in ap (λ (z : Reply). counted z calls) is
+  settled_still a q h calls = absurd h
+
+  settles : Settles n before after old new (Ok r) → Behind
+  settles (inl h) = on h.settles
+    where
+      on : SettlesOn (settler n) before after h.begun new (Ok r) → Behind
+      on (inl s) = settled_counts h.begun h.begins (settled_plain s.answer r s.replies) (settled_still s.answer r s.replies) s.left s.answer s.comes s.closes
+      on (inr memory) = absurd (no_memory r memory.0)
+  settles (inr memory) = absurd (no_memory r memory.0)
+
+  answers_count : (asked : Asked) → Asks e asked → Answers n asked before after old new (Ok r) → Behind
+  answers_count (Session k request) asks (inl served) = serves k (own_session e k request asks) request served.1
+  answers_count (Session k request) asks (inr none) = declined_counts _ none.declines
+  answers_count (Wait ticks) asks h = waited ticks h
+  answers_count (Report tree) asks h = reported tree h
+  answers_count Settle asks h = settles h
+
+-- ---- what stands behind a line
+
+pub stands_after : (n : ℕ) (e : Event) (before after : Seen) (old new : World) (result : Result Reply WorldFault)
+    → Handled n e before after old new result → StandsOn n e before after old new result
+stands_after n e before after old new (Ok r) h = λ lines t at told stands.
+    let l = line_leaves n e before after old new r h lines t at told stands.by_lines in
+    record {
+      after = l.after;
+      told = l.told;
+      stands = record {
+        by_lines = l.stands;
+        counted = answers_count lines n at before after old new e r t told stands.by_lines stands.counted l.after l.told h.asked h.asks h.answers;
+      };
+      right = l.right;
+      left = l.left;
+    }
+stands_after n e before after old new (Err fault) h = tt

@@ -1,3 +1,5 @@
+pub mod Words
+pub mod Outcomes
 pub mod Causing
 pub mod Ending
 pub mod Exact

@@ -105,7 +105,7 @@ below_false a b e = grind (arith, nat_tests)
 same_false : (a b : ℕ) → (a == b) ≡ false → a ≢ b
 same_false a b e = grind (arith, nat_tests)
 
-with_item_rising : (n : ℕ) (kept : List AtomicItem) (x : AtomicItem) → IsRising n kept → n ≤ x.rec.index → IsRising n (with_item kept x)
+pub with_item_rising : (n : ℕ) (kept : List AtomicItem) (x : AtomicItem) → IsRising n kept → n ≤ x.rec.index → IsRising n (with_item kept x)
 with_item_rising n [] x up from = (from, tt)
 with_item_rising n (first ∷ rest) x up from =
     on (nat_lt x.rec.index first.rec.index) refl (x.rec.index == first.rec.index) refl (λ h. with_item_rising (first.rec.index + 1) rest x up.1 h)

@@ -1,6 +1,6 @@
 pub mod Words
 pub mod Outcomes
-pub mod Causing
+pub mod Causes
 pub mod Ending
 pub mod Exact
 pub mod Apart
@@ -16,9 +16,9 @@ pub mod Marks
 pub mod Meaning
 pub mod Missing
 pub mod Reading
-pub mod Seeing
+pub mod Heard
 pub mod Spelled
-pub mod Standing
+pub mod Leases
 pub mod Sifting
 pub mod Sweeping
 pub mod Within

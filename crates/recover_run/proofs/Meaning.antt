@@ -43,8 +43,8 @@ use Rattle.recover_run.specs.Calls.{Calls, Brought, IsStart, Reading, head_in, A
 use Rattle.recover_run.specs.Gathering.{is_lost, is_past, wanted_of, count_of, gathered_with, kept_with, lost_now, lost_ids, past_ids}
 use Rattle.recover_run.specs.Ids.{new_ids}
 use Rattle.recover_run.specs.Items.{items_of, ids_of}
-use Rattle.recover_run.specs.Meaning.{IsKept, IsOpened, IsNothing, IsClosing, Means, MeansTurn, head_behind, put_of}
-use Rattle.recover_run.specs.Recovery.{Recovery, Step, new_recovery, recovery_ask, recovery_next, ask_at, next_at, under, take_lease, receive_next, delete_next, send_next, taken_by, got_by, none_read, bytes_read, head_read, phase_read, behind, stopping, received_by, gathered_by, deleting, next_deletion, decided, deleted_by, send_at, send_or_put, sent_by, with_pending, put_by, clearing_kept, kept_ids, clearing, next_clearing, cleared, swept_by, swept_with, sweeping, next_sweep, opened, released, ended, KeepsLeases}
+use Rattle.recover_run.specs.Meaning.{home_opened, IsKept, IsOpened, IsNothing, IsClosing, Means, MeansTurn, head_behind, put_of}
+use Rattle.recover_run.specs.Recovery.{Recovery, Step, new_recovery, recovery_ask, recovery_next, ask_at, next_at, under, take_lease, receive_next, delete_next, send_next, taken_by, got_by, none_read, bytes_read, head_read, phase_read, behind, stopping, received_by, gathered_by, deleting, next_deletion, decided, deleted_by, send_at, send_or_put, sent_by, with_pending, put_by, clearing_kept, kept_ids, clearing, next_clearing, cleared, swept_by, swept_with, sweeping, next_sweep, opened, released, ended, home_of, home_with, KeepsLeases}
 use Rattle.recover_run.specs.Sending.{pending_with}
 use Rattle.recover_run.proofs.Keeping.{all_so, all_new, all_held, kept_more, named_more, named_ids, kept_all, kept_rising, kept_named, kept_numbered, take_more, pending_more, pending_none}
 use Rattle.recover_run.proofs.Knowing.{IsRising, IsNamed, Known, KnowsGathering, KnowsSent, KnowsPutting, KnowsPut, Gathering, SentSome, SentAll, Put, getting, KnowsTaken, KnowsSending, KnowsNone, KnowsEnding, KnowsDeleting, KnowsClearing, KnowsAt, KnowsNext}
@@ -375,8 +375,9 @@ clearing_at r old cs a (id ∷ ids) k =
     (named_more (is_past r.wanted) c (k.so_far.sweeps ++ k.so_far.known.gathers) ids k.named.1)
 
 opened_means : (r : Recovery) (old : Option Claim) (cs closing : Calls) (all : Calls) (k : Put old cs r) → IsClosing r.aim k.known.reading.lease closing → all ≡ closing ++ cs
-    → (left : Recovery) → left.head ≡ r.head → IsOpened r.client r.aim old all left r.head.epoch
-opened_means r old cs closing all k closes are left same = record {
+    → (left : Recovery) → left.head ≡ r.head → home_of left ≡ home_opened r.aim r.client k.known.reading.lease r.head
+    → IsOpened r.client r.aim old all left r.head.epoch
+opened_means r old cs closing all k closes are left same home = record {
   front = k.known.front;
   reading = k.known.reading;
   gathers = k.known.gathers;
@@ -396,11 +397,13 @@ opened_means r old cs closing all k closes are left same = record {
       ∙ ap (λ h. closing ++ (k.sweeps ++ (put_of r.client k.known.reading.lease h, Done) ∷ (k.sends ++ (k.known.gathers ++ k.known.front)))) k.head_is);
   head = same ∙ k.head_is;
   epoch_is = ap (λ (h : Head). h.epoch) k.head_is;
+  home = home ∙ ap (λ (h : Head). home_opened r.aim r.client k.known.reading.lease h) k.head_is;
 }
 
 opened_known : (r : Recovery) (old : Option Claim) (cs : Calls) (aim : Aim) → r.aim ≡ aim → Put old cs r → KnowsNext r.client r.aim old cs (opened aim r)
 opened_known r old cs Opening e k =
     opened_means r old cs [] cs k (subst (λ aim. IsClosing aim k.known.reading.lease []) (sym e) refl) refl (record r { stage = Finished }) refl
+    (ap (home_with r) k.known.lease_is ∙ ap (λ (m : Aim). home_opened m r.client k.known.reading.lease r.head) (sym e))
 opened_known r old cs Settling e k = (refl, refl, (k, e, refl))
 
 sweeping_known : (r : Recovery) (old : Option Claim) (cs : Calls) (ids : List ℕ) (k : Put old cs r) → AllByRecursion (IsNamed (is_past r.wanted) (k.sweeps ++ k.known.gathers)) ids
@@ -436,7 +439,7 @@ released_known r old cs a (Some (Ok (Opened epoch))) (k, settles, is) =
     let all : Calls = (ask_at Releasing r, a) ∷ cs in
     subst (λ e. IsOpened r.client r.aim old all left e) (sym is)
     (opened_means r old cs ((Release l, a) ∷ []) all k (subst (λ aim. IsClosing aim l ((Release l, a) ∷ [])) (sym settles) (a, refl))
-    (ap (λ q. (q, a) ∷ cs) (released_asked r l k.known.lease_is)) left refl)
+    (ap (λ q. (q, a) ∷ cs) (released_asked r l k.known.lease_is)) left refl (ap (λ (m : Aim). home_opened m r.client l r.head) (sym settles)))
 released_known r old cs a (Some (Ok Nothing)) k = record {
   front = k.front;
   reading = k.reading;

@@ -54,12 +54,3 @@ LeavesNone client first after (Stopped t) = Unit {0}
 -- the call of a step
 abbrev pub deed_of : Caller → Recovery → Answer → Seen → Seen → Deed
 deed_of who r a before after = record { who = who; ask = recovery_ask r; answer = a; before = before; after = after }
-
--- what a step leaves in the queue, where all calls so far with this one were calm and alone
-pub record Emptied (who : Caller) (before after : Seen) (old new : Recovery) (turn : Turn RecoverAnswer) : Type 0 where
-  pub answer : Answer
-  pub made : Makes who (recovery_ask old) answer before after
-  pub empties : (client : ℕ) (aim : Aim) (former : Option Claim) (h : List Deed)
-      → Came recovery_ask (LeadsBy recovery_next) (new_recovery client aim former) h old
-      → HadMemory h → AreCalm (deed_of who old answer before after ∷ h) → AreAlone (deed_of who old answer before after ∷ h)
-      → (first : CloudState) → IsBeginning (deed_of who old answer before after ∷ h) first → LeavesNone client first after turn

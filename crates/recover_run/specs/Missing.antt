@@ -68,12 +68,3 @@ abbrev pub WaitsForNone : Turn RecoverAnswer → Type 0
 WaitsForNone More = Unit {0}
 WaitsForNone (Ended a) = Unit {0}
 WaitsForNone (Stopped t) = IsNoWaiting t
-
--- a step stops for no record, where all calls so far with this one were calm and alone, and none was missing at the beginning
-pub record MissesNone (who : Caller) (before after : Seen) (old new : Recovery) (turn : Turn RecoverAnswer) : Type 0 where
-  pub answer : Answer
-  pub made : Makes who (recovery_ask old) answer before after
-  pub waits : (client : ℕ) (aim : Aim) (former : Option Claim) (h : List Deed)
-      → Came recovery_ask (LeadsBy recovery_next) (new_recovery client aim former) h old
-      → AreCalm (deed_of who old answer before after ∷ h) → AreAlone (deed_of who old answer before after ∷ h)
-      → (first : CloudState) → IsBeginning (deed_of who old answer before after ∷ h) first → NoneMissing client first → WaitsForNone turn

@@ -30,11 +30,3 @@ abbrev pub StopsWell : Turn RecoverAnswer → Type 0
 StopsWell More = Unit {0}
 StopsWell (Ended a) = Unit {0}
 StopsWell (Stopped t) = MayStop t
-
--- why a step may stop where all calls so far with this one were calm
-pub record GoneWell (who : Caller) (before after : Seen) (old new : Recovery) (turn : Turn RecoverAnswer) : Type 0 where
-  pub answer : Answer
-  pub made : Makes who (recovery_ask old) answer before after
-  pub well : (client : ℕ) (aim : Aim) (former : Option Claim) (h : List Deed)
-      → Came recovery_ask (LeadsBy recovery_next) (new_recovery client aim former) h old
-      → AreCalm (deed_of who old answer before after ∷ h) → StopsWell turn

@@ -1,13 +1,13 @@
 pub mod Words
 pub mod Outcomes
 pub mod Causes
-pub mod Ending
+pub mod End
 pub mod Exact
 pub mod Apart
 pub mod Calmly
 pub mod Emptying
 pub mod Finding
-pub mod GoingWell
+pub mod Calm
 pub mod Handing
 pub mod Keeping
 pub mod Knowing

@@ -43,7 +43,7 @@ use Rattle.log_codec.specs.declared.record.AtomicRec.{AtomicRec}
 use Rattle.recover_run.specs.Recovery.{Recovery, Step, new_recovery, recovery_ask, ask_at, next_at, under, delete_next, send_next, taken_by, got_by, none_read, bytes_read, head_read, phase_read, behind, stopping, received_by, gathered_by, deleting, decided, deleted_by, send_at, send_or_put, sent_by, with_pending, put_by, kept_ids, clearing, swept_by, swept_with, sweeping, opened, ended}
 use Rattle.recover_run.specs.Standing.{Went}
 use Rattle.recover_run.specs.Within.{counted, counted_after, count_in, AreFew}
-use Rattle.recover_run.proofs.Ending.{ReadyAt, less_ready}
+use Rattle.recover_run.proofs.End.{ReadyAt, less_ready}
 use Rattle.recover_run.proofs.Keeping.{all_so, all_new, with_item_all}
 use Rattle.recover_run.proofs.Knowing.{KnowsAt}
 use Rattle.recover_run.proofs.Meaning.{came_known}

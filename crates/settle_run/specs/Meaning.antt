@@ -20,6 +20,7 @@ use Rattle.settle_run.specs.declared.part.Part.TheVariants.{Client, Tree, Page}
 use Rattle.settle_run.specs.declared.settled.Settled.{Settled}
 use Rattle.settle_run.specs.Parts.{part_ask, part_again, part_received, PartLeads, PartWent}
 use Rattle.settle_run.specs.Settling.{Settling, new_settling, settle_ask, SettleLeads, passed, is_visited}
+use Rattle.settle_run.specs.Standing.{AreReturned}
 use Rattle.tree_ckpt.specs.Making.{Making}
 
 -- the settling came here from its first call on by these calls, the newest first
@@ -112,12 +113,14 @@ MeansTurn h left More = Unit {0}
 MeansTurn h left (Ended answer) = IsSettled h left answer
 MeansTurn h left (Stopped t) = Unit {0}
 
--- what a step means by the whole run: the calls so far with this step's
+-- what a step means by the whole run, the calls so far with this step's; and before an end each lease that they took was given back by a call
 pub record Meant (who : Caller) (before after : Seen) (old new : Settling) (turn : Turn Settled) : Type 0 where
   pub answer : Answer
   pub made : Makes who (settle_ask old) answer before after
   pub means : (h : List Deed) → Went h old
       → MeansTurn (record { who = who; ask = settle_ask old; answer = answer; before = before; after = after } ∷ h) new turn
+  pub returned : (h : List Deed) → Went h old
+      → AreReturned (record { who = who; ask = settle_ask old; answer = answer; before = before; after = after } ∷ h) turn
 
 -- ---- stops
 

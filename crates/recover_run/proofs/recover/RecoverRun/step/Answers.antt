@@ -1,14 +1,14 @@
 use Rattle.std.proofs.Common.{◌^◌, refl, subst}
 use Rattle.recover_run.specs.Emptying.{deed_of}
 use Rattle.recover_run.specs.Recovery.{IsSound}
-use Rattle.recover_run.proofs.Ending.{took_less}
+use Rattle.recover_run.proofs.End.{took_less}
 use Rattle.recover_run.proofs.Exact.{took_exact, took_nothing, took_answers}
 use Rattle.recover_run.proofs.Handing.{handed_keeps, took_handed}
 use Rattle.recover_run.proofs.Causes.{took_tells}
 use Rattle.recover_run.proofs.Meaning.{came_known, came_means}
 use Rattle.recover_run.proofs.Leases.{stands_leases, stands_names, stands_gives, took_returns, took_hands}
 use Rattle.recover_run.proofs.Emptying.{came_empties}
-use Rattle.recover_run.proofs.GoingWell.{came_well}
+use Rattle.recover_run.proofs.Calm.{came_well}
 use Rattle.recover_run.proofs.Missing.{came_waits}
 use Rattle.recover_run.proofs.Within.{went_few}
 use Rattle.recover_run.proofs.recover.RecoverRun.step.Goals as goal

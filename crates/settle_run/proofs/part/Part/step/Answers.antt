@@ -4,7 +4,7 @@ use Rattle.settle_run.proofs.part.Part.step.Goals as goal
 
 pub returns-in-Client-clause-steps : goal.returns-in-Client-clause-steps
 returns-in-Client-clause-steps g c =
-    recovery_steps c.in-Client.field-0 _ _ _ c.in-Client.machine _ _ _ _ c.in-Client.is c.recovered_turn.ensures c.step.ensures.steps
+    recovery_steps c.in-Client.field-0 _ _ _ c.in-Client.machine _ _ _ _ c.in-Client.is c.recovered_turn.ensures c.step.ensures.steps.did
 
 pub returns-in-Client-clause-less : goal.returns-in-Client-clause-less
 returns-in-Client-clause-less g c = λ h went.

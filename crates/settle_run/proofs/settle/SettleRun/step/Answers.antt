@@ -8,7 +8,7 @@ use Rattle.settle_run.specs.Standing.{GivesBack}
 use Rattle.settle_run.specs.contracts.settle.SettleRun.{the_view}
 use Rattle.settle_run.proofs.Causing.{took_tells, took_exact}
 use Rattle.settle_run.proofs.Ending.{turn_less}
-use Rattle.settle_run.proofs.Holding.{went_holds, took_gives}
+use Rattle.settle_run.proofs.Holding.{went_holds, took_gives, took_returns}
 use Rattle.settle_run.proofs.Ranging.{went_stands, own_calls, took_means}
 use Rattle.settle_run.proofs.Stepping.{followed}
 use Rattle.settle_run.proofs.settle.SettleRun.step.Goals as goal
@@ -61,6 +61,11 @@ returns-clause-means g c =
       made = s.made;
       means = λ h went.
           took_means h
+          (record { who = c.args.who; ask = settle_ask (the_view c.self.inside); answer = s.answer; before = g.C.Cloud.seen c.args.cloud.now; after = g.C.Cloud.seen c.step-turn.new.cloud })
+          (the_view c.self.inside) c.follow-next.new.self c.follow-next.result (went_stands h (the_view c.self.inside) went) refl s.made
+          (followed (the_view c.self.inside) c.follow-next.new.self c.step-turn.new.self s.answer c.step-turn.result c.follow-next.result s.took c.follow-next.ensures);
+      returned = λ h went.
+          took_returns h
           (record { who = c.args.who; ask = settle_ask (the_view c.self.inside); answer = s.answer; before = g.C.Cloud.seen c.args.cloud.now; after = g.C.Cloud.seen c.step-turn.new.cloud })
           (the_view c.self.inside) c.follow-next.new.self c.follow-next.result (went_stands h (the_view c.self.inside) went) refl s.made
           (followed (the_view c.self.inside) c.follow-next.new.self c.step-turn.new.self s.answer c.step-turn.result c.follow-next.result s.took c.follow-next.ensures);

@@ -1,15 +1,13 @@
 -- A recovery whose calls are calm stops for no failed call, no lease that is over and no lock that is held.
-use Rattle.std.proofs.Common.{◌≡◌, ◌≢◌, ◌⊎◌, ℕ, List, [], ◌∷◌, Option, Some, None, Result, Ok, Err, inl, inr, ap, sym, subst}
+use Rattle.std.proofs.Common.{◌≡◌, ◌≢◌, ℕ, List, [], ◌∷◌, Option, Some, None, Err, inl, inr, ap, sym, subst}
 use Rattle.db_base.specs.declared.trouble.Trouble.TheVariants as trouble
 use Rattle.db_base.specs.declared.trouble.Counter.{Counter}
-use Rattle.db_base.specs.declared.trouble.Counter.TheVariants as counter
-use Rattle.cloud_trait.specs.declared.answer.Answer.TheVariants as call
 use Rattle.cloud_trait.specs.Caller.{Caller}
 use Rattle.cloud_trait.specs.Seen.{Seen}
 use Rattle.cloud_trait.specs.Weather.{Makes}
 use Rattle.calm_calls.specs.Calm.{GoesWell, AreCalm}
 use Rattle.calm_calls.proofs.CalmLemmas.{goes_well}
-use Rattle.recover_run.specs.Causing.{Shows, IsShown, Tells}
+use Rattle.recover_run.specs.Causing.{Shows, IsShown}
 use Rattle.recover_run.specs.Emptying.{deed_of}
 use Rattle.recover_run.specs.Recovery.{new_recovery}
 use Rattle.recover_run.specs.Well.{MayStop, StopsWell}

@@ -1,8 +1,7 @@
 -- Why a recovery stops: each trouble is shown by the answer of the step that brings it.
-use Rattle.std.proofs.Common.{◌≡◌, ◌≢◌, ◌<◌, ◌≤◌, ◌+◌, ◌⊎◌, ℕ, List, [], ◌∷◌, length, Bool, true, false, Option, Some, None, Result, Ok, Err, inl, inr, refl, ap, sym, subst, ◌∙◌, arith}
+use Rattle.std.proofs.Common.{◌≡◌, ◌≢◌, ◌≤◌, ℕ, List, [], ◌∷◌, length, Bool, Option, Some, None, Result, Ok, Err, inl, inr, refl, ap, sym, subst, ◌∙◌, arith}
 use Rattle.std.specs.Prelude.{slice_get}
 use Rattle.std.specs.List.{AllByRecursion}
-use Rattle.db_base.specs.declared.names.Lock.{Lock}
 use Rattle.db_base.specs.declared.names.Lock.TheVariants as lock
 use Rattle.db_base.specs.declared.names.ObjName.{ObjName}
 use Rattle.db_base.specs.declared.names.ObjName.TheVariants as object
@@ -11,7 +10,7 @@ use Rattle.db_base.specs.declared.names.QueueName.TheVariants as queue
 use Rattle.db_base.specs.declared.trouble.Trouble.TheVariants as trouble
 use Rattle.route_plan.specs.Queue.{queue_name}
 use Rattle.cloud_trait.specs.declared.answer.Answer.TheVariants as call
-use Rattle.recover_run.specs.Calls.{Brought, HoldsItem, head_in}
+use Rattle.recover_run.specs.Calls.{Brought, HoldsItem}
 use Rattle.recover_run.specs.Causing.{NothingNew, Counts, IsSifted, Shows, IsShown, Tells}
 use Rattle.recover_run.specs.Counting.{known_indices}
 use Rattle.recover_run.specs.Gathering.{kept_with}
@@ -19,12 +18,12 @@ use Rattle.recover_run.specs.Items.{items_of}
 use Rattle.recover_run.specs.Recovery.{under, receive_next, delete_next, send_next, with_pending}
 use Rattle.recover_run.proofs.Heard.{FreshIs, HeardAt, AscendAt, loses_heard, went_heard, went_ascend}
 use Rattle.recover_run.proofs.Keeping.{all_so, all_held, kept_more, kept_all, kept_rising, rising_room}
-use Rattle.recover_run.proofs.Knowing.{KnowsAt, Gathering, KnowsTaken, KnowsSending}
+use Rattle.recover_run.proofs.Knowing.{KnowsAt, Gathering, KnowsTaken}
 use Rattle.recover_run.proofs.Meaning.{came_known}
 use Rattle.recover_run.proofs.Outcomes.{at, Reads, Loses, Readies, Clears, Fails, Comes, comes_to}
 use Rattle.recover_run.proofs.Outcomes as step
 use Rattle.recover_run.proofs.Leases.{EndsAt, stands_ends, went_stands}
-use Rattle.recover_run.proofs.Words.{Trouble, Head, Answer, Message, Turn, More, Ended, Stopped, Ask, GetHeld, PutHeld, Send, Receive, Delete, Take, Claim, Goes, Ends, Stops, LeadsBy, Took, Deed, calls_of, given_of, got_of, sent_of, received_of, done_of, Fits, AtomicItem, Aim, Stage, ReleasingOld, Taking, Getting, Receiving, Deleting, Sending, Putting, Clearing, Sweeping, Releasing, Finished, RecoverAnswer, Calls, Recovery, Step, recovery_ask, recovery_next, KeepsLeases, Went}
+use Rattle.recover_run.proofs.Words.{Trouble, Answer, Message, Turn, More, Ended, Stopped, Ask, GetHeld, PutHeld, Send, Receive, Delete, Take, Claim, Goes, Ends, Stops, LeadsBy, Took, Deed, calls_of, given_of, got_of, sent_of, received_of, done_of, Fits, AtomicItem, Aim, Taking, Getting, Receiving, Deleting, Sending, Putting, Sweeping, RecoverAnswer, Calls, Recovery, Step, recovery_ask, recovery_next, KeepsLeases, Went}
 
 -- ---- calls that brought nothing
 

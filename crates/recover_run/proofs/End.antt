@@ -1,13 +1,13 @@
 -- A recovery ends: each step leaves fewer calls than were left before it.
-use Rattle.std.proofs.Common.{◌≡◌, ◌<◌, ◌≤◌, ◌+◌, ◌-◌, ◌*◌, ℕ, List, [], ◌∷◌, ◌++◌, length, Option, Some, None, refl, sym, subst, ap, Bool, true, false, arith, length-append, drop}
+use Rattle.std.proofs.Common.{◌≡◌, ◌<◌, ◌≤◌, ◌+◌, ◌-◌, ◌*◌, ℕ, List, [], ◌∷◌, length, Option, Some, None, refl, subst, ap, arith, length-append}
 use Rattle.std.specs.Prelude.{slice_get}
 use Rattle.std.proofs.lemmas.List.{length-drop}
 use Rattle.std.proofs.lemmas.Option.{slice_get_within}
-use Rattle.recover_run.specs.Bound.{calls_left, left_at, gathers_left, sweeps_left, put_left, room, again, KnowsAtMost}
+use Rattle.recover_run.specs.Bound.{calls_left, left_at, gathers_left, sweeps_left, put_left, again, KnowsAtMost}
 use Rattle.recover_run.specs.Gathering.{lost_now}
 use Rattle.recover_run.specs.Ids.{new_ids, has_some}
 use Rattle.recover_run.specs.Items.{ids_of}
-use Rattle.recover_run.specs.Recovery.{with_pending, kept_ids, SendsRecord, IsSoundAt, IsSound}
+use Rattle.recover_run.specs.Recovery.{with_pending, SendsRecord, IsSoundAt, IsSound}
 use Rattle.recover_run.proofs.Outcomes.{at, Reads, Loses, Readies, Clears, Fails, Comes, comes_to}
 use Rattle.recover_run.proofs.Outcomes as step
 use Rattle.recover_run.proofs.Words.{Trouble, Head, Answer, Turn, More, Goes, Ends, Stops, LeadsBy, Took, AtomicItem, Stage, ReleasingOld, Taking, Getting, Receiving, Deleting, Sending, Putting, Clearing, Sweeping, Releasing, Finished, RecoverAnswer, Recovery, Step, recovery_next, KeepsLeases}

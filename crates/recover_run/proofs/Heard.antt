@@ -1,12 +1,11 @@
 -- What the calls of a recovery brought is what it has gathered.
 use Rattle.std.proofs.Common.{◌≡◌, ◌<◌, ◌≤◌, ◌+◌, ℕ, List, [], ◌∷◌, ◌++◌, append-nil, length, length-append, Bool, true, false, cond, Option, Some, None, Result, Ok, Err, refl, ap, sym, subst, ◌∙◌, arith}
 use Rattle.std.specs.Prelude.{◌==◌, ◌||◌, nat_lt, map}
-use Rattle.std.specs.List.{AllByRecursion, list_any}
+use Rattle.std.specs.List.{list_any}
 use Rattle.std.specs.declared.cmp.Ordering.TheVariants.{Less, Equal, Greater}
 use Rattle.std.proofs.lemmas.Bool.Decides.{nat_tests}
 use Rattle.db_base.specs.declared.names.ObjName.{ObjName}
 use Rattle.db_base.specs.declared.names.ObjName.TheVariants as object
-use Rattle.head_codec.specs.Spelling.{head_of}
 use Rattle.log_codec.specs.declared.record.AtomicRec.{AtomicRec}
 use Rattle.log_codec.specs.Atomic.{atomic_of}
 use Rattle.cloud_trait.specs.declared.answer.Answer.TheVariants as call
@@ -22,7 +21,7 @@ use Rattle.recover_run.specs.Recovery.{new_recovery, under, delete_next, behind}
 use Rattle.recover_run.proofs.Keeping.{with_item_rising}
 use Rattle.recover_run.proofs.Knowing.{IsRising, KnowsAt}
 use Rattle.recover_run.proofs.Meaning.{came_known}
-use Rattle.recover_run.proofs.Words.{Head, Answer, Message, Ask, GetHeld, PutHeld, Send, Receive, Delete, Take, Release, Claim, Goes, Ends, Stops, Deed, calls_of, Fits, AtomicItem, Aim, Stage, ReleasingOld, Taking, Getting, Receiving, Deleting, Sending, Putting, Clearing, Sweeping, Releasing, Finished, Wanted, Calls, Recovery, Step, recovery_ask, recovery_next, Went}
+use Rattle.recover_run.proofs.Words.{Head, Answer, Message, Ask, GetHeld, PutHeld, Send, Receive, Delete, Take, Release, Claim, Goes, Ends, Stops, Deed, calls_of, Fits, AtomicItem, Aim, Stage, ReleasingOld, Taking, Getting, Receiving, Deleting, Sending, Putting, Clearing, Sweeping, Releasing, Finished, Wanted, Calls, Recovery, Step, recovery_ask, Went}
 use Rattle.recover_run.proofs.Outcomes.{at, Reads, Loses, Readies, Clears, Fails, Comes, comes_to}
 use Rattle.recover_run.proofs.Outcomes as step
 
@@ -176,33 +175,33 @@ with_item_new n [] x up new = refl
 with_item_new n (first ∷ rest) x up new =
     on (nat_lt x.rec.index first.rec.index) (x.rec.index == first.rec.index) refl refl (λ rest_new. with_item_new (first.rec.index + 1) rest x up.1 rest_new)
   where
-  on : (less same : Bool) → nat_lt x.rec.index first.rec.index ≡ less → (x.rec.index == first.rec.index) ≡ same → (has_index rest x.rec.index ≡ false → length (with_item rest x) ≡ length rest + 1)
-      → length (placed (cond less Less (cond same Equal Greater)) x first rest (with_item rest x)) ≡ length (first ∷ rest) + 1
-  on true same l e more = omega arith
-  on false true l e more =
-      let here : (first.rec.index == x.rec.index) ≡ true = turned first.rec.index x.rec.index ∙ e in
-      absurd (cc (new, ap (λ (b : Bool). b || has_index rest x.rec.index) here))
-  on false false l e more =
-      let rest_new : has_index rest x.rec.index ≡ false =
-      sym (or_none (first.rec.index == x.rec.index) (has_index rest x.rec.index) (turned first.rec.index x.rec.index ∙ e)) ∙ new in
-      omega (arith, more rest_new)
+    on : (less same : Bool) → nat_lt x.rec.index first.rec.index ≡ less → (x.rec.index == first.rec.index) ≡ same → (has_index rest x.rec.index ≡ false → length (with_item rest x) ≡ length rest + 1)
+        → length (placed (cond less Less (cond same Equal Greater)) x first rest (with_item rest x)) ≡ length (first ∷ rest) + 1
+    on true same l e more = omega arith
+    on false true l e more =
+        let here : (first.rec.index == x.rec.index) ≡ true = turned first.rec.index x.rec.index ∙ e in
+        absurd (cc (new, ap (λ (b : Bool). b || has_index rest x.rec.index) here))
+    on false false l e more =
+        let rest_new : has_index rest x.rec.index ≡ false =
+        sym (or_none (first.rec.index == x.rec.index) (has_index rest x.rec.index) (turned first.rec.index x.rec.index ∙ e)) ∙ new in
+        omega (arith, more rest_new)
 
 with_item_old : (n : ℕ) (kept : List AtomicItem) (x : AtomicItem) → IsRising n kept → has_index kept x.rec.index ≡ true → length (with_item kept x) ≡ length kept
 with_item_old n [] x up old = absurd (cc (old))
 with_item_old n (first ∷ rest) x up old =
     on (nat_lt x.rec.index first.rec.index) (x.rec.index == first.rec.index) refl refl (λ rest_old. with_item_old (first.rec.index + 1) rest x up.1 rest_old)
   where
-  on : (less same : Bool) → nat_lt x.rec.index first.rec.index ≡ less → (x.rec.index == first.rec.index) ≡ same
-      → (has_index rest x.rec.index ≡ true → length (with_item rest x) ≡ length rest)
-      → length (placed (cond less Less (cond same Equal Greater)) x first rest (with_item rest x)) ≡ length (first ∷ rest)
-  on true same l e more =
-      let none : has_index (first ∷ rest) x.rec.index ≡ false = none_below first.rec.index x.rec.index (first ∷ rest) (omega arith, up.1) (below_true _ _ l) in
-      absurd (cc (none, old))
-  on false true l e more = refl
-  on false false l e more =
-      let rest_old : has_index rest x.rec.index ≡ true =
-      sym (or_none (first.rec.index == x.rec.index) (has_index rest x.rec.index) (turned first.rec.index x.rec.index ∙ e)) ∙ old in
-      omega (arith, more rest_old)
+    on : (less same : Bool) → nat_lt x.rec.index first.rec.index ≡ less → (x.rec.index == first.rec.index) ≡ same
+        → (has_index rest x.rec.index ≡ true → length (with_item rest x) ≡ length rest)
+        → length (placed (cond less Less (cond same Equal Greater)) x first rest (with_item rest x)) ≡ length (first ∷ rest)
+    on true same l e more =
+        let none : has_index (first ∷ rest) x.rec.index ≡ false = none_below first.rec.index x.rec.index (first ∷ rest) (omega arith, up.1) (below_true _ _ l) in
+        absurd (cc (none, old))
+    on false true l e more = refl
+    on false false l e more =
+        let rest_old : has_index rest x.rec.index ≡ true =
+        sym (or_none (first.rec.index == x.rec.index) (has_index rest x.rec.index) (turned first.rec.index x.rec.index ∙ e)) ∙ old in
+        omega (arith, more rest_old)
 
 id_more : (set : List ℕ) (i n : ℕ) → has_id (set ++ i ∷ []) n ≡ (has_id set n || (i == n))
 id_more [] i n = last (i == n) where

@@ -1,16 +1,15 @@
 -- The leases that a recovery holds are those that it was handed and took and has not given back, and its calls name those alone.
-use Rattle.std.proofs.Common.{◌≡◌, ◌≢◌, ◌≤◌, ◌+◌, ◌-◌, ◌^◌, ℕ, List, [], ◌∷◌, length, Option, Some, None, Result, Ok, Err, inl, inr, refl, ap, sym, subst, ◌∙◌, arith}
+use Rattle.std.proofs.Common.{◌≡◌, ◌≢◌, ◌≤◌, ℕ, List, [], ◌∷◌, length, Option, Some, None, Result, Ok, Err, inl, inr, refl, ap, sym, subst, ◌∙◌, arith}
 use Rattle.std.specs.Prelude.{◌++◌, slice_get}
 use Rattle.db_base.specs.declared.names.Lock.{Lock}
 use Rattle.db_base.specs.declared.names.Lock.TheVariants as lock
 use Rattle.db_base.specs.declared.names.ObjName.TheVariants as object
 use Rattle.db_base.specs.declared.names.QueueName.TheVariants as queue
-use Rattle.db_base.specs.declared.trouble.Trouble.TheVariants as trouble
 use Rattle.cloud_trait.specs.declared.answer.Answer.TheVariants as call
 use Rattle.cloud_trait.specs.Seen.{Seen}
 use Rattle.recover_run.specs.Meaning.{HandsNone}
 use Rattle.recover_run.specs.Recovery.{new_recovery, ask_at, under, delete_next, send_next, behind, with_pending, home_at, home_of}
-use Rattle.recover_run.specs.Standing.{leases_of, outstanding_after, outstanding, IsClients, Names, HoldsClients, Leaves, GivesBack, LeavesOf, AreReturned}
+use Rattle.recover_run.specs.Standing.{leases_of, outstanding_after, outstanding, IsClients, Names, Leaves, GivesBack, LeavesOf, AreReturned}
 use Rattle.recover_run.proofs.Knowing.{KnowsAt}
 use Rattle.recover_run.proofs.Meaning.{came_known}
 use Rattle.recover_run.proofs.Outcomes.{at, Reads, Loses, Readies, Clears, Fails, Comes, comes_to}
@@ -249,7 +248,7 @@ stands_after : (client : ℕ) (aim : Aim) (old : Option Claim) (d : Deed) (h : L
 stands_after client aim old d h e s k asks fits (step.gives_old r a) = (
   record { client_is = s.1.client_is; aim_is = s.1.aim_is; former_is = refl; lease_is = s.1.lease_is; ending_is = s.1.ending_is },
   after old d h (Release s.0) (asks ∙ ap (λ (o : Option Claim). under (at r ReleasingOld) o Release) s.1.former_is)
-  ∙ ap (λ (cs : List Claim). outstanding_after (Release s.0) d.answer cs) (ap (λ (g : List Deed). outstanding old g) s.2 ∙ ap (λ (o : Option Claim). outstanding o []) s.3),
+      ∙ ap (λ (cs : List Claim). outstanding_after (Release s.0) d.answer cs) (ap (λ (g : List Deed). outstanding old g) s.2 ∙ ap (λ (o : Option Claim). outstanding o []) s.3),
 )
 stands_after client aim old d h e s k asks fits (step.takes r l) = (
   record {
@@ -271,8 +270,8 @@ stands_after client aim old d h e s k asks fits (step.takes r l) = (
 stands_after client aim old d h e s k asks fits (step.refused r a t u) = (
   free_of (at r Taking) s.0.former_is s.0.lease_is,
   after old d h (Take (lock.Client r.client) 600) asks
-  ∙ (ap (λ (x : Answer). outstanding_after (Take (lock.Client r.client) 600) x (outstanding old h)) e
-  ∙ (not_given (lock.Client r.client) a t (outstanding old h) u ∙ s.1)),
+      ∙ (ap (λ (x : Answer). outstanding_after (Take (lock.Client r.client) 600) x (outstanding old h)) e
+      ∙ (not_given (lock.Client r.client) a t (outstanding old h) u ∙ s.1)),
   refl,
 )
 stands_after client aim old d h {r = r} e s k asks fits (step.stops q t f) = ((worked client aim old d h r q s k asks (fails_works q t f)).0, tt)

@@ -2,7 +2,7 @@ pub mod Words
 pub mod Outcomes
 pub mod Causes
 pub mod End
-pub mod Exact
+pub mod Demands
 pub mod Apart
 pub mod Calmly
 pub mod Emptying

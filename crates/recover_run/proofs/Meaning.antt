@@ -1,5 +1,5 @@
 -- What each step of a recovery makes of what is known.
-use Rattle.std.proofs.Common.{◌≡◌, ◌≢◌, ◌<◌, ◌≤◌, ◌+◌, ◌-◌, ◌^◌, ℕ, zero, suc, List, [], ◌∷◌, ◌++◌, length, take, drop, Bool, true, false, cond, Option, Some, None, Result, Ok, Err, inl, inr, refl, ap, sym, subst, ◌∙◌, arith}
+use Rattle.std.proofs.Common.{◌≡◌, ◌<◌, ◌≤◌, ◌+◌, ◌-◌, ◌^◌, ℕ, suc, List, [], ◌∷◌, ◌++◌, length, take, drop, Bool, true, false, cond, Option, Some, None, Result, Ok, Err, inl, inr, refl, ap, sym, subst, ◌∙◌, arith}
 use Rattle.std.specs.Prelude.{◌==◌, slice_get}
 use Rattle.std.specs.List.{AllByRecursion}
 use Rattle.std.proofs.lemmas.Bool.Decides.{nat_tests}
@@ -15,22 +15,20 @@ use Rattle.db_base.specs.declared.trouble.Counter.TheVariants as counter
 use Rattle.head_codec.specs.declared.head.Head.{Head}
 use Rattle.head_codec.specs.declared.head.Phase.{Phase}
 use Rattle.head_codec.specs.declared.head.Phase.TheVariants.{Settled, Open}
-use Rattle.head_codec.specs.Head.{empty_head, next_head}
+use Rattle.head_codec.specs.Head.{empty_head}
 use Rattle.head_codec.specs.Spelling.{head_bytes, head_of}
-use Rattle.log_codec.specs.declared.record.AtomicRec.{AtomicRec}
 use Rattle.log_codec.specs.Pu.{pu_bytes}
 use Rattle.route_plan.specs.Queue.{queue_name}
 use Rattle.route_plan.specs.Record.{pu_record_of}
 use Rattle.cloud_trait.specs.declared.answer.Answer.{Answer}
-use Rattle.cloud_trait.specs.declared.answer.Answer.TheVariants.{Got, Sent, Received, Done, Given, Held, Late, Failed, Memory}
+use Rattle.cloud_trait.specs.declared.answer.Answer.TheVariants.{Got, Sent, Received, Done, Given, Held}
 use Rattle.cloud_trait.specs.declared.message.Message.{Message}
 use Rattle.cloud_trait.specs.declared.turn.Turn.{Turn}
 use Rattle.cloud_trait.specs.declared.turn.Turn.TheVariants.{More, Ended, Stopped}
 use Rattle.cloud_trait.specs.Ask.{Ask, GetHeld, PutHeld, Send, Delete, Take, Release}
 use Rattle.cloud_trait.specs.Claim.{Claim}
-use Rattle.cloud_trait.specs.Machine.{Next, Goes, Ends, Stops, LeadsBy, Took, Came, Deed, calls_of}
-use Rattle.cloud_trait.specs.Views.{given_of, got_of, sent_of, received_of, done_of, trouble_of}
-use Rattle.cloud_trait.specs.Weather.{Fits}
+use Rattle.cloud_trait.specs.Machine.{Goes, Ends, LeadsBy, Took, Came, Deed, calls_of}
+use Rattle.cloud_trait.specs.Views.{given_of, got_of, sent_of, done_of}
 use Rattle.recover_run.specs.declared.items.AtomicItem.{AtomicItem}
 use Rattle.recover_run.specs.declared.stage.Aim.{Aim}
 use Rattle.recover_run.specs.declared.stage.Aim.TheVariants.{Opening, Settling}
@@ -43,11 +41,11 @@ use Rattle.recover_run.specs.Calls.{Calls, Brought, IsStart, Reading, head_in, A
 use Rattle.recover_run.specs.Gathering.{is_lost, is_past, wanted_of, count_of, gathered_with, kept_with, lost_now, lost_ids, past_ids}
 use Rattle.recover_run.specs.Ids.{new_ids}
 use Rattle.recover_run.specs.Items.{items_of, ids_of}
-use Rattle.recover_run.specs.Meaning.{home_opened, IsKept, IsOpened, IsNothing, IsClosing, Means, MeansTurn, head_behind, put_of}
-use Rattle.recover_run.specs.Recovery.{Recovery, Step, new_recovery, recovery_ask, recovery_next, ask_at, next_at, under, take_lease, receive_next, delete_next, send_next, taken_by, got_by, none_read, bytes_read, head_read, phase_read, behind, stopping, received_by, gathered_by, deleting, next_deletion, decided, deleted_by, send_at, send_or_put, sent_by, with_pending, put_by, clearing_kept, kept_ids, clearing, next_clearing, cleared, swept_by, swept_with, sweeping, next_sweep, opened, released, ended, home_of, home_with, KeepsLeases}
+use Rattle.recover_run.specs.Meaning.{home_opened, IsKept, IsOpened, IsClosing, Means, MeansTurn, head_behind, put_of}
+use Rattle.recover_run.specs.Recovery.{Recovery, Step, new_recovery, recovery_ask, recovery_next, ask_at, next_at, under, receive_next, delete_next, send_next, taken_by, got_by, none_read, bytes_read, head_read, phase_read, behind, stopping, gathered_by, deleting, decided, deleted_by, send_at, send_or_put, sent_by, with_pending, kept_ids, clearing, swept_with, sweeping, opened, ended, home_of, home_with, KeepsLeases}
 use Rattle.recover_run.specs.Sending.{pending_with}
 use Rattle.recover_run.proofs.Keeping.{all_so, all_new, all_held, kept_more, named_more, named_ids, kept_all, kept_rising, kept_named, kept_numbered, take_more, pending_more, pending_none}
-use Rattle.recover_run.proofs.Knowing.{IsRising, IsNamed, Known, KnowsGathering, KnowsSent, KnowsPutting, KnowsPut, Gathering, SentSome, SentAll, Put, getting, KnowsTaken, KnowsSending, KnowsNone, KnowsEnding, KnowsDeleting, KnowsClearing, KnowsAt, KnowsNext}
+use Rattle.recover_run.proofs.Knowing.{IsRising, IsNamed, Known, Gathering, SentSome, SentAll, Put, getting, KnowsTaken, KnowsSending, KnowsEnding, KnowsDeleting, KnowsClearing, KnowsAt, KnowsNext}
 
 -- ---- the head
 

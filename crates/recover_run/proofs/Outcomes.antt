@@ -10,16 +10,15 @@ use Rattle.db_base.specs.declared.trouble.Counter.TheVariants as counter
 use Rattle.head_codec.specs.declared.head.Phase.{Phase}
 use Rattle.head_codec.specs.declared.head.Phase.TheVariants.{Settled, Open}
 use Rattle.head_codec.specs.Head.{empty_head}
-use Rattle.head_codec.specs.Spelling.{head_bytes, head_of, head_offset}
+use Rattle.head_codec.specs.Spelling.{head_of, head_offset}
 use Rattle.log_codec.specs.Pu.{pu_bytes}
 use Rattle.route_plan.specs.Record.{pu_record_of}
 use Rattle.cloud_trait.specs.declared.answer.Answer.TheVariants as call
 use Rattle.cloud_trait.proofs.ViewLemmas.{given_of-ok, got_of-ok, sent_of-ok, received_of-ok, done_of-ok}
-use Rattle.recover_run.specs.Calls.{head_in}
-use Rattle.recover_run.specs.Gathering.{gathered_with, lost_now, past_ids, count_of}
+use Rattle.recover_run.specs.Gathering.{gathered_with, lost_now, past_ids}
 use Rattle.recover_run.specs.Ids.{new_ids, rest_of}
 use Rattle.recover_run.specs.Items.{items_of}
-use Rattle.recover_run.specs.Recovery.{goes_to, releasing, stopping, damaged_message, taken_by, putting, send_or_put, send_at, phase_read, behind, head_read, bytes_read, none_read, got_by, decided, next_deletion, deleting, gathered_by, received_by, deleted_by, with_pending, sent_by, next_clearing, clearing, kept_ids, put_by, opened, next_sweep, sweeping, swept_with, swept_by, ended, next_at}
+use Rattle.recover_run.specs.Recovery.{goes_to, releasing, stopping, damaged_message, taken_by, putting, send_or_put, send_at, phase_read, behind, bytes_read, none_read, got_by, deleting, gathered_by, received_by, deleted_by, with_pending, sent_by, clearing, kept_ids, put_by, opened, sweeping, swept_with, swept_by, ended, next_at}
 use Rattle.recover_run.proofs.Words.{Trouble, Head, Answer, Message, Claim, Goes, Ends, Stops, given_of, got_of, sent_of, received_of, done_of, AtomicItem, Aim, Opening, Settling, Stage, ReleasingOld, Taking, Getting, Receiving, Deleting, Sending, Putting, Clearing, Sweeping, Releasing, Finished, RecoverAnswer, Opened, Nothing, Recovery, Step, recovery_next}
 
 -- ---- local work between the call and where the step ends

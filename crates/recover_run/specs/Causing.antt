@@ -20,13 +20,12 @@ use Rattle.recover_run.specs.declared.stage.Aim.TheVariants.{Settling}
 use Rattle.recover_run.specs.declared.stage.Stage.{Stage}
 use Rattle.recover_run.specs.declared.stage.Stage.TheVariants.{ReleasingOld, Taking, Getting, Receiving, Deleting, Clearing, Sweeping, Releasing, Finished}
 use Rattle.recover_run.specs.declared.stage.RecoverAnswer.{RecoverAnswer}
-use Rattle.recover_run.specs.declared.stage.RecoverAnswer.TheVariants.{Nothing}
 use Rattle.recover_run.specs.Calls.{Calls, head_in}
 use Rattle.recover_run.specs.Counting.{wanted_by, known_indices}
 use Rattle.recover_run.specs.Gathering.{lost_now}
 use Rattle.recover_run.specs.Ids.{new_ids, rest_of}
 use Rattle.recover_run.specs.Items.{items_of}
-use Rattle.recover_run.specs.Recovery.{Recovery, recovery_ask, atomic_queue}
+use Rattle.recover_run.specs.Recovery.{Recovery, atomic_queue}
 
 -- ---- what calls received
 

@@ -1,5 +1,5 @@
 -- What a recovery leaves in its client's ATOMIC queue, where its calls are calm and nobody else acts.
-use Rattle.std.specs.Prelude.{ℕ, ◌≡◌, ◌≢◌, ◌≤◌, ◌+◌, List, [], ◌∷◌, Option, Some}
+use Rattle.std.specs.Prelude.{ℕ, ◌≡◌, ◌≢◌, ◌≤◌, ◌+◌, List, [], ◌∷◌, Some}
 use Rattle.std.specs.List.{AllByRecursion}
 use Rattle.db_base.specs.declared.names.QueueName.TheVariants as queue
 use Rattle.log_codec.specs.declared.record.AtomicRec.{AtomicRec}
@@ -11,17 +11,13 @@ use Rattle.cloud_trait.specs.declared.state.Posted.{Posted}
 use Rattle.cloud_trait.specs.declared.turn.Turn.{Turn}
 use Rattle.cloud_trait.specs.declared.turn.Turn.TheVariants.{More, Ended, Stopped}
 use Rattle.cloud_trait.specs.Caller.{Caller}
-use Rattle.cloud_trait.specs.Claim.{Claim}
 use Rattle.cloud_trait.specs.Delivery.{unmarked}
-use Rattle.cloud_trait.specs.Machine.{LeadsBy, Came, Deed}
+use Rattle.cloud_trait.specs.Machine.{Deed}
 use Rattle.cloud_trait.specs.Seen.{Seen}
 use Rattle.cloud_trait.specs.State.{CloudState}
-use Rattle.cloud_trait.specs.Weather.{Makes}
-use Rattle.calm_calls.specs.Calm.{AreCalm, AreAlone}
-use Rattle.recover_run.specs.declared.stage.Aim.{Aim}
 use Rattle.recover_run.specs.declared.stage.RecoverAnswer.{RecoverAnswer}
 use Rattle.recover_run.specs.declared.stage.RecoverAnswer.TheVariants.{Opened, Nothing}
-use Rattle.recover_run.specs.Recovery.{Recovery, new_recovery, recovery_ask, recovery_next}
+use Rattle.recover_run.specs.Recovery.{Recovery, recovery_ask}
 
 -- the state before the first of the calls, which stand the newest first
 abbrev pub IsBeginning : List Deed → CloudState → Type 0

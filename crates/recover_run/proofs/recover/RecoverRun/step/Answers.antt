@@ -2,7 +2,7 @@ use Rattle.std.proofs.Common.{◌^◌, refl, subst}
 use Rattle.recover_run.specs.Emptying.{deed_of}
 use Rattle.recover_run.specs.Recovery.{IsSound}
 use Rattle.recover_run.proofs.End.{took_less}
-use Rattle.recover_run.proofs.Exact.{took_exact, took_nothing, took_answers}
+use Rattle.recover_run.proofs.Demands.{took_exact, took_nothing, took_answers}
 use Rattle.recover_run.proofs.Handing.{handed_keeps, took_handed}
 use Rattle.recover_run.proofs.Causes.{took_tells}
 use Rattle.recover_run.proofs.Meaning.{came_known, came_means}

@@ -19,7 +19,7 @@ use Rattle.cloud_trait.specs.declared.answer.Answer.TheVariants as call
 use Rattle.cloud_trait.specs.declared.message.Message.{Message}
 use Rattle.cloud_trait.specs.declared.turn.Turn.{Turn}
 use Rattle.cloud_trait.specs.declared.turn.Turn.TheVariants.{More, Ended, Stopped}
-use Rattle.cloud_trait.specs.Ask.{Ask, Release}
+use Rattle.cloud_trait.specs.Ask.{Release}
 use Rattle.cloud_trait.specs.Claim.{Claim}
 use Rattle.cloud_trait.specs.Machine.{Goes, Ends, Stops, LeadsBy, Took, Deed, calls_of}
 use Rattle.cloud_trait.specs.Weather.{Fits}
@@ -35,7 +35,6 @@ use Rattle.recover_run.specs.declared.wanted.Wanted.{Wanted}
 use Rattle.recover_run.specs.Counting.{wanted_by, known_indices}
 use Rattle.recover_run.specs.Gathering.{lost_now}
 use Rattle.recover_run.specs.Ids.{rest_of}
-use Rattle.recover_run.specs.Items.{items_of}
 use Rattle.recover_run.specs.Recovery.{Recovery, Step, recovery_ask, recovery_next, ask_at, next_at, under, delete_next, send_next, atomic_queue, damaged_message, none_read, bytes_read, head_read, phase_read, behind, stopping, gathered_by, deleting, decided, send_at, swept_with, ended, KeepsLeases}
 use Rattle.recover_run.specs.Standing.{Went}
 use Rattle.recover_run.proofs.Heard.{FreshIs, HeardAt, AscendAt, IsHeard, loses_heard, went_heard, went_ascend}

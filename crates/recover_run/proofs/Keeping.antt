@@ -1,11 +1,11 @@
 -- What is kept of the records that calls brought.
 use Rattle.std.proofs.Common.{◌≡◌, ◌≢◌, ◌<◌, ◌≤◌, ◌+◌, ℕ, zero, suc, List, [], ◌∷◌, ◌++◌, length, take, Bool, true, false, cond, Option, Some, None, Result, Ok, Err, inl, inr, refl, ap, sym, subst, ◌∙◌, arith}
-use Rattle.std.specs.Prelude.{map, filter, nat_lt, nat_le, ◌==◌, slice_get}
+use Rattle.std.specs.Prelude.{map, filter, nat_lt, ◌==◌, slice_get}
 use Rattle.std.specs.List.{AllByRecursion}
 use Rattle.std.specs.declared.cmp.Ordering.{Ordering}
 use Rattle.std.specs.declared.cmp.Ordering.TheVariants.{Less, Equal, Greater}
 use Rattle.std.proofs.lemmas.Bool.Decides.{nat_tests}
-use Rattle.std.proofs.lemmas.List.{append-nil, append_assoc, map-append}
+use Rattle.std.proofs.lemmas.List.{append-nil, append_assoc}
 use Rattle.log_codec.proofs.AtomicLaws.{atomic_of-some}
 use Rattle.log_codec.specs.declared.record.AtomicRec.{AtomicRec}
 use Rattle.log_codec.specs.Atomic.{atomic_of}
@@ -16,11 +16,10 @@ use Rattle.route_plan.specs.Record.{pending_of}
 use Rattle.cloud_trait.specs.declared.answer.Answer.{Answer}
 use Rattle.cloud_trait.specs.declared.message.Message.{Message}
 use Rattle.cloud_trait.specs.Ask.{Ask}
-use Rattle.cloud_trait.specs.Views.{received_of}
 use Rattle.recover_run.specs.declared.items.AtomicItem.{AtomicItem}
 use Rattle.recover_run.specs.declared.wanted.Wanted.{Wanted}
-use Rattle.recover_run.specs.Calls.{Calls, HoldsItem, BroughtBy, Brought}
-use Rattle.recover_run.specs.Gathering.{is_of, is_past, is_counted, is_lost, lost_ids, past_ids, kept_with}
+use Rattle.recover_run.specs.Calls.{Calls, HoldsItem, Brought}
+use Rattle.recover_run.specs.Gathering.{is_past, is_counted, kept_with}
 use Rattle.recover_run.specs.Ids.{has_id, new_ids}
 use Rattle.recover_run.specs.Items.{items_of, with_first, item_with, ids_of}
 use Rattle.recover_run.specs.Kept.{with_item, placed}
@@ -105,7 +104,7 @@ below_false a b e = grind (arith, nat_tests)
 same_false : (a b : ℕ) → (a == b) ≡ false → a ≢ b
 same_false a b e = grind (arith, nat_tests)
 
-with_item_rising : (n : ℕ) (kept : List AtomicItem) (x : AtomicItem) → IsRising n kept → n ≤ x.rec.index → IsRising n (with_item kept x)
+pub with_item_rising : (n : ℕ) (kept : List AtomicItem) (x : AtomicItem) → IsRising n kept → n ≤ x.rec.index → IsRising n (with_item kept x)
 with_item_rising n [] x up from = (from, tt)
 with_item_rising n (first ∷ rest) x up from =
     on (nat_lt x.rec.index first.rec.index) refl (x.rec.index == first.rec.index) refl (λ h. with_item_rising (first.rec.index + 1) rest x up.1 h)

@@ -1,5 +1,5 @@
 -- What each step of a recovery makes of what is known.
-use Rattle.std.proofs.Common.{◌≡◌, ◌≢◌, ◌<◌, ◌≤◌, ◌+◌, ◌-◌, ◌^◌, ℕ, zero, suc, List, [], ◌∷◌, ◌++◌, length, take, drop, Bool, true, false, cond, Option, Some, None, Result, Ok, Err, inl, inr, refl, ap, sym, subst, ◌∙◌, arith}
+use Rattle.std.proofs.Common.{◌≡◌, ◌<◌, ◌≤◌, ◌+◌, ◌-◌, ◌^◌, ℕ, suc, List, [], ◌∷◌, ◌++◌, length, take, drop, Bool, true, false, cond, Option, Some, None, Result, Ok, Err, inl, inr, refl, ap, sym, subst, ◌∙◌, arith}
 use Rattle.std.specs.Prelude.{◌==◌, slice_get}
 use Rattle.std.specs.List.{AllByRecursion}
 use Rattle.std.proofs.lemmas.Bool.Decides.{nat_tests}
@@ -15,22 +15,20 @@ use Rattle.db_base.specs.declared.trouble.Counter.TheVariants as counter
 use Rattle.head_codec.specs.declared.head.Head.{Head}
 use Rattle.head_codec.specs.declared.head.Phase.{Phase}
 use Rattle.head_codec.specs.declared.head.Phase.TheVariants.{Settled, Open}
-use Rattle.head_codec.specs.Head.{empty_head, next_head}
+use Rattle.head_codec.specs.Head.{empty_head}
 use Rattle.head_codec.specs.Spelling.{head_bytes, head_of}
-use Rattle.log_codec.specs.declared.record.AtomicRec.{AtomicRec}
 use Rattle.log_codec.specs.Pu.{pu_bytes}
 use Rattle.route_plan.specs.Queue.{queue_name}
 use Rattle.route_plan.specs.Record.{pu_record_of}
 use Rattle.cloud_trait.specs.declared.answer.Answer.{Answer}
-use Rattle.cloud_trait.specs.declared.answer.Answer.TheVariants.{Got, Sent, Received, Done, Given, Held, Late, Failed, Memory}
+use Rattle.cloud_trait.specs.declared.answer.Answer.TheVariants.{Got, Sent, Received, Done, Given, Held}
 use Rattle.cloud_trait.specs.declared.message.Message.{Message}
 use Rattle.cloud_trait.specs.declared.turn.Turn.{Turn}
 use Rattle.cloud_trait.specs.declared.turn.Turn.TheVariants.{More, Ended, Stopped}
 use Rattle.cloud_trait.specs.Ask.{Ask, GetHeld, PutHeld, Send, Delete, Take, Release}
 use Rattle.cloud_trait.specs.Claim.{Claim}
-use Rattle.cloud_trait.specs.Machine.{Next, Goes, Ends, Stops, LeadsBy, Took, Came, Deed, calls_of}
-use Rattle.cloud_trait.specs.Views.{given_of, got_of, sent_of, received_of, done_of, trouble_of}
-use Rattle.cloud_trait.specs.Weather.{Fits}
+use Rattle.cloud_trait.specs.Machine.{Goes, Ends, LeadsBy, Took, Came, Deed, calls_of}
+use Rattle.cloud_trait.specs.Views.{given_of, got_of, sent_of, done_of}
 use Rattle.recover_run.specs.declared.items.AtomicItem.{AtomicItem}
 use Rattle.recover_run.specs.declared.stage.Aim.{Aim}
 use Rattle.recover_run.specs.declared.stage.Aim.TheVariants.{Opening, Settling}
@@ -43,11 +41,11 @@ use Rattle.recover_run.specs.Calls.{Calls, Brought, IsStart, Reading, head_in, A
 use Rattle.recover_run.specs.Gathering.{is_lost, is_past, wanted_of, count_of, gathered_with, kept_with, lost_now, lost_ids, past_ids}
 use Rattle.recover_run.specs.Ids.{new_ids}
 use Rattle.recover_run.specs.Items.{items_of, ids_of}
-use Rattle.recover_run.specs.Meaning.{IsKept, IsOpened, IsNothing, IsClosing, Means, MeansTurn, head_behind, put_of}
-use Rattle.recover_run.specs.Recovery.{Recovery, Step, new_recovery, recovery_ask, recovery_next, ask_at, next_at, under, take_lease, receive_next, delete_next, send_next, taken_by, got_by, none_read, bytes_read, head_read, phase_read, behind, stopping, received_by, gathered_by, deleting, next_deletion, decided, deleted_by, send_at, send_or_put, sent_by, with_pending, put_by, clearing_kept, kept_ids, clearing, next_clearing, cleared, swept_by, swept_with, sweeping, next_sweep, opened, released, ended, KeepsLeases}
+use Rattle.recover_run.specs.Meaning.{home_opened, IsKept, IsOpened, IsClosing, Means, MeansTurn, head_behind, put_of}
+use Rattle.recover_run.specs.Recovery.{Recovery, Step, new_recovery, recovery_ask, recovery_next, ask_at, next_at, under, receive_next, delete_next, send_next, taken_by, got_by, none_read, bytes_read, head_read, phase_read, behind, stopping, gathered_by, deleting, decided, deleted_by, send_at, send_or_put, sent_by, with_pending, kept_ids, clearing, swept_with, sweeping, opened, ended, home_of, home_with, KeepsLeases}
 use Rattle.recover_run.specs.Sending.{pending_with}
 use Rattle.recover_run.proofs.Keeping.{all_so, all_new, all_held, kept_more, named_more, named_ids, kept_all, kept_rising, kept_named, kept_numbered, take_more, pending_more, pending_none}
-use Rattle.recover_run.proofs.Knowing.{IsRising, IsNamed, Known, KnowsGathering, KnowsSent, KnowsPutting, KnowsPut, Gathering, SentSome, SentAll, Put, getting, KnowsTaken, KnowsSending, KnowsNone, KnowsEnding, KnowsDeleting, KnowsClearing, KnowsAt, KnowsNext}
+use Rattle.recover_run.proofs.Knowing.{IsRising, IsNamed, Known, Gathering, SentSome, SentAll, Put, getting, KnowsTaken, KnowsSending, KnowsEnding, KnowsDeleting, KnowsClearing, KnowsAt, KnowsNext}
 
 -- ---- the head
 
@@ -375,8 +373,9 @@ clearing_at r old cs a (id ∷ ids) k =
     (named_more (is_past r.wanted) c (k.so_far.sweeps ++ k.so_far.known.gathers) ids k.named.1)
 
 opened_means : (r : Recovery) (old : Option Claim) (cs closing : Calls) (all : Calls) (k : Put old cs r) → IsClosing r.aim k.known.reading.lease closing → all ≡ closing ++ cs
-    → (left : Recovery) → left.head ≡ r.head → IsOpened r.client r.aim old all left r.head.epoch
-opened_means r old cs closing all k closes are left same = record {
+    → (left : Recovery) → left.head ≡ r.head → home_of left ≡ home_opened r.aim r.client k.known.reading.lease r.head
+    → IsOpened r.client r.aim old all left r.head.epoch
+opened_means r old cs closing all k closes are left same home = record {
   front = k.known.front;
   reading = k.known.reading;
   gathers = k.known.gathers;
@@ -396,11 +395,13 @@ opened_means r old cs closing all k closes are left same = record {
       ∙ ap (λ h. closing ++ (k.sweeps ++ (put_of r.client k.known.reading.lease h, Done) ∷ (k.sends ++ (k.known.gathers ++ k.known.front)))) k.head_is);
   head = same ∙ k.head_is;
   epoch_is = ap (λ (h : Head). h.epoch) k.head_is;
+  home = home ∙ ap (λ (h : Head). home_opened r.aim r.client k.known.reading.lease h) k.head_is;
 }
 
 opened_known : (r : Recovery) (old : Option Claim) (cs : Calls) (aim : Aim) → r.aim ≡ aim → Put old cs r → KnowsNext r.client r.aim old cs (opened aim r)
 opened_known r old cs Opening e k =
     opened_means r old cs [] cs k (subst (λ aim. IsClosing aim k.known.reading.lease []) (sym e) refl) refl (record r { stage = Finished }) refl
+    (ap (home_with r) k.known.lease_is ∙ ap (λ (m : Aim). home_opened m r.client k.known.reading.lease r.head) (sym e))
 opened_known r old cs Settling e k = (refl, refl, (k, e, refl))
 
 sweeping_known : (r : Recovery) (old : Option Claim) (cs : Calls) (ids : List ℕ) (k : Put old cs r) → AllByRecursion (IsNamed (is_past r.wanted) (k.sweeps ++ k.known.gathers)) ids
@@ -436,7 +437,7 @@ released_known r old cs a (Some (Ok (Opened epoch))) (k, settles, is) =
     let all : Calls = (ask_at Releasing r, a) ∷ cs in
     subst (λ e. IsOpened r.client r.aim old all left e) (sym is)
     (opened_means r old cs ((Release l, a) ∷ []) all k (subst (λ aim. IsClosing aim l ((Release l, a) ∷ [])) (sym settles) (a, refl))
-    (ap (λ q. (q, a) ∷ cs) (released_asked r l k.known.lease_is)) left refl)
+    (ap (λ q. (q, a) ∷ cs) (released_asked r l k.known.lease_is)) left refl (ap (λ (m : Aim). home_opened m r.client l r.head) (sym settles)))
 released_known r old cs a (Some (Ok Nothing)) k = record {
   front = k.front;
   reading = k.reading;

@@ -44,7 +44,7 @@ use Rattle.recover_run.specs.Missing.{IsComplete, NoneMissing, IsNoWaiting, Wait
 use Rattle.recover_run.specs.Recovery.{Recovery, Step, new_recovery, recovery_ask, recovery_next, ask_at, next_at, under, delete_next, receive_next, taken_by, got_by, deleting, gathered_by, received_by, deleted_by, with_pending, send_or_put, sent_by, put_by, kept_ids, clearing, opened, sweeping, swept_with, swept_by, ended, KeepsLeases}
 use Rattle.recover_run.proofs.Calmly.{Moves, along}
 use Rattle.recover_run.proofs.Emptying.{delete_marks, row_at, receive_delivers}
-use Rattle.recover_run.proofs.GoingWell.{memory_or}
+use Rattle.recover_run.proofs.Calm.{memory_or}
 use Rattle.recover_run.proofs.Knowing.{KnowsAt, IsRising}
 use Rattle.recover_run.proofs.Leading.{sent_cases, decided_cases, got_cases}
 use Rattle.recover_run.proofs.Meaning.{Knows, came_known}

@@ -43,12 +43,12 @@ use Rattle.log_codec.specs.declared.record.AtomicRec.{AtomicRec}
 use Rattle.recover_run.specs.Recovery.{Recovery, Step, new_recovery, recovery_ask, ask_at, next_at, under, delete_next, send_next, taken_by, got_by, none_read, bytes_read, head_read, phase_read, behind, stopping, received_by, gathered_by, deleting, decided, deleted_by, send_at, send_or_put, sent_by, with_pending, put_by, kept_ids, clearing, swept_by, swept_with, sweeping, opened, ended}
 use Rattle.recover_run.specs.Standing.{Went}
 use Rattle.recover_run.specs.Within.{counted, counted_after, count_in, AreFew}
-use Rattle.recover_run.proofs.Ending.{ReadyAt, less_ready}
+use Rattle.recover_run.proofs.End.{ReadyAt, less_ready}
 use Rattle.recover_run.proofs.Keeping.{all_so, all_new, with_item_all}
 use Rattle.recover_run.proofs.Knowing.{KnowsAt}
 use Rattle.recover_run.proofs.Meaning.{came_known}
-use Rattle.recover_run.proofs.Seeing.{SeenAt, items_ids, received_seen, went_seen}
-use Rattle.recover_run.proofs.Standing.{StandsAt, went_stands}
+use Rattle.recover_run.proofs.Heard.{HeardAt, items_ids, received_seen, went_heard}
+use Rattle.recover_run.proofs.Leases.{StandsAt, went_stands}
 
 -- ---- sets of ids
 
@@ -438,7 +438,7 @@ reached_grows cs q a r few k =
     reached_more (known_ids cs) (new_ids (known_ids cs) (ids_in a)) (counted cs) r.gathered r.swept r.wanted k in
     record { seen = more.seen; lost = more.lost; kept = more.kept; swept_are = more.swept_are; count = omega (arith, more.count, few) }
 
-reach_at : (st : Stage) (client : ℕ) (aim : Aim) (old : Option Claim) (h : List Deed) (r : Recovery) (a : Answer) → StandsAt st client aim old h r → SeenAt st (calls_of h) r
+reach_at : (st : Stage) (client : ℕ) (aim : Aim) (old : Option Claim) (h : List Deed) (r : Recovery) (a : Answer) → StandsAt st client aim old h r → HeardAt st (calls_of h) r
     → Reaches ((ask_at st r, a) ∷ calls_of h) r → NextReaches ((ask_at st r, a) ∷ calls_of h) (next_at st r a)
 reach_at ReleasingOld client aim old h r a st seen k = k
 reach_at Taking client aim old h r a st seen k = reach_taken r ((ask_at Taking r, a) ∷ calls_of h) (given_of (lock.Client r.client) a) k
@@ -446,7 +446,7 @@ reach_at Getting client aim old h r a st seen k =
     let asks : ask_at Getting r ≡ GetHeld (object.Head r.client) st.0.lease = ap (λ (o : Option Claim). under r o (λ l. GetHeld (object.Head r.client) l)) st.0.lease_is in
     subst (λ (q : Ask). NextReaches ((q, a) ∷ calls_of h) (got_by r (got_of a))) (sym asks)
     (reach_got r (calls_of h) st.0.lease a (subst (λ (q : Ask). Reaches ((q, a) ∷ calls_of h) r) asks k))
-reach_at Receiving client aim old h r a st seen k = reach_received r (calls_of h) (ask_at Receiving r) a k seen
+reach_at Receiving client aim old h r a st seen k = reach_received r (calls_of h) (ask_at Receiving r) a k seen.seen
 reach_at Deleting client aim old h r a st seen k = reach_deleted r ((ask_at Deleting r, a) ∷ calls_of h) (done_of a) k
 reach_at Sending client aim old h r a st seen k = reach_sent r ((ask_at Sending r, a) ∷ calls_of h) (sent_of a) k
 reach_at Putting client aim old h r a st seen k = reach_put r ((ask_at Putting r, a) ∷ calls_of h) (done_of a) k
@@ -468,7 +468,7 @@ went_reaches client aim old (d ∷ h) r (from, came, asks, made, leads, follows)
     (counted_grows from.stage old (calls_of h) from d.answer (came_known client aim old h from came).at) before in
     subst (λ (q : Ask). Reaches ((q, d.answer) ∷ calls_of h) r) (sym asks)
     (subst (NextReaches ((recovery_ask from, d.answer) ∷ calls_of h)) leads
-    (reach_at from.stage client aim old h from d.answer (went_stands client aim old h from came) (went_seen client aim old h from came) grown))
+    (reach_at from.stage client aim old h from d.answer (went_stands client aim old h from came) (went_heard client aim old h from came) grown))
 
 -- ---- the bound
 

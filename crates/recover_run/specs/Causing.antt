@@ -15,21 +15,17 @@ use Rattle.cloud_trait.specs.declared.answer.Answer.TheVariants as call
 use Rattle.cloud_trait.specs.declared.message.Message.{Message}
 use Rattle.cloud_trait.specs.declared.turn.Turn.{Turn}
 use Rattle.cloud_trait.specs.declared.turn.Turn.TheVariants.{More, Ended, Stopped}
-use Rattle.cloud_trait.specs.Caller.{Caller}
-use Rattle.cloud_trait.specs.Machine.{Deed, calls_of}
-use Rattle.cloud_trait.specs.Seen.{Seen}
-use Rattle.cloud_trait.specs.Weather.{Makes}
 use Rattle.recover_run.specs.declared.items.AtomicItem.{AtomicItem}
 use Rattle.recover_run.specs.declared.stage.Aim.TheVariants.{Settling}
 use Rattle.recover_run.specs.declared.stage.Stage.{Stage}
 use Rattle.recover_run.specs.declared.stage.Stage.TheVariants.{ReleasingOld, Taking, Getting, Receiving, Deleting, Clearing, Sweeping, Releasing, Finished}
 use Rattle.recover_run.specs.declared.stage.RecoverAnswer.{RecoverAnswer}
-use Rattle.recover_run.specs.declared.stage.RecoverAnswer.TheVariants.{Nothing}
 use Rattle.recover_run.specs.Calls.{Calls, head_in}
-use Rattle.recover_run.specs.Gathering.{Gathered, gathered_with, lost_now}
+use Rattle.recover_run.specs.Counting.{wanted_by, known_indices}
+use Rattle.recover_run.specs.Gathering.{lost_now}
 use Rattle.recover_run.specs.Ids.{new_ids, rest_of}
 use Rattle.recover_run.specs.Items.{items_of}
-use Rattle.recover_run.specs.Recovery.{Recovery, recovery_ask, atomic_queue}
+use Rattle.recover_run.specs.Recovery.{Recovery, atomic_queue}
 
 -- ---- what calls received
 
@@ -77,20 +73,19 @@ BreaksMessage r a where_it_is at =
 abbrev pub IsLastEpoch : Recovery → Answer → Type 0
 IsLastEpoch r a = (r.stage ≡ Getting) × ((v : Option (List ℕ)) × ((h : Head) × (a ≡ call.Got v) × (head_in v ≡ Some h) × (h.epoch ≡ 2 ^ 64 - 1)))
 
--- the step has gathered this, and no lost record is left to be deleted: behind a receive, or behind the last deletion
-abbrev pub HasGathered : Recovery → Answer → Gathered → Type 0
-HasGathered r a g =
+-- no lost record is left to be deleted: behind a receive that brought none that is new, or behind the last deletion
+abbrev pub IsSifted : Recovery → Answer → Type 0
+IsSifted r a =
     ((r.stage ≡ Receiving) × ((ms : List Message) × ((items : List AtomicItem) × (a ≡ call.Received ms) × (items_of ms ≡ Ok items)
-    × (lost_now r.wanted r.gathered items ≡ []) × (g ≡ gathered_with r.wanted r.gathered items))))
-    ⊎ ((r.stage ≡ Deleting) × (a ≡ call.Done) × (rest_of r.ids ≡ []) × (g ≡ r.gathered))
+    × (lost_now r.wanted r.gathered items ≡ []))))
+    ⊎ ((r.stage ≡ Deleting) × (a ≡ call.Done) × (rest_of r.ids ≡ []))
 
--- fewer records are kept than the head counts, and the newest receive brought nothing new
+-- the newest receive brought nothing new, and of the records that the head counts which the calls read, fewer came with the calls, each index once
 pub record IsWaiting (r : Recovery) (a : Answer) (calls : Calls) (have need : ℕ) : Type 0 where
-  pub gathered : Gathered
-  pub is : HasGathered r a gathered
+  pub sifted : IsSifted r a
   pub none : NothingNew calls
-  pub have_is : have ≡ length gathered.kept
-  pub need_is : need ≡ r.wanted.count
+  pub have_is : have ≡ length (known_indices (wanted_by calls) calls)
+  pub need_is : need ≡ (wanted_by calls).count
   pub fewer : have < need
 
 -- what shows this trouble in a step, by the answer to the call in hand and by the calls with it; want of memory is free
@@ -132,13 +127,3 @@ Answers (Stopped t) ending = (t ≢ trouble.Memory → ending ≡ Err t)
 -- the head is absent, and a settling has nothing to do
 abbrev pub IsAbsent : Recovery → Answer → Type 0
 IsAbsent r a = (r.aim ≡ Settling) × (r.stage ≡ Getting) × (a ≡ call.Got None)
-
--- what a step tells of its trouble, by the answer that the cloud gave: it keeps or answers a trouble only where it is shown, and wherever
--- one is shown; it is to answer that there is nothing wherever a settling reads no head; and what it kept it answers
-pub record Causes (who : Caller) (before after : Seen) (h : List Deed) (old new : Recovery) (turn : Turn RecoverAnswer) : Type 0 where
-  pub answer : Answer
-  pub made : Makes who (recovery_ask old) answer before after
-  pub tells : Tells old answer ((recovery_ask old, answer) ∷ calls_of h) new turn
-  pub exact : (t : Trouble) → t ≢ trouble.Memory → Shows old answer ((recovery_ask old, answer) ∷ calls_of h) t → Keeps new turn (Err t)
-  pub nothing : IsAbsent old answer → Keeps new turn (Ok Nothing)
-  pub answers : (ending : Result RecoverAnswer Trouble) → old.ending ≡ Some ending → Answers turn ending

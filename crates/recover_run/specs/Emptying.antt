@@ -1,5 +1,5 @@
 -- What a recovery leaves in its client's ATOMIC queue, where its calls are calm and nobody else acts.
-use Rattle.std.specs.Prelude.{ℕ, ◌≡◌, ◌≢◌, ◌≤◌, ◌+◌, List, [], ◌∷◌, Option, Some}
+use Rattle.std.specs.Prelude.{ℕ, ◌≡◌, ◌≢◌, ◌≤◌, ◌+◌, List, [], ◌∷◌, Some}
 use Rattle.std.specs.List.{AllByRecursion}
 use Rattle.db_base.specs.declared.names.QueueName.TheVariants as queue
 use Rattle.log_codec.specs.declared.record.AtomicRec.{AtomicRec}
@@ -11,17 +11,13 @@ use Rattle.cloud_trait.specs.declared.state.Posted.{Posted}
 use Rattle.cloud_trait.specs.declared.turn.Turn.{Turn}
 use Rattle.cloud_trait.specs.declared.turn.Turn.TheVariants.{More, Ended, Stopped}
 use Rattle.cloud_trait.specs.Caller.{Caller}
-use Rattle.cloud_trait.specs.Claim.{Claim}
 use Rattle.cloud_trait.specs.Delivery.{unmarked}
-use Rattle.cloud_trait.specs.Machine.{LeadsBy, Came, Deed}
+use Rattle.cloud_trait.specs.Machine.{Deed}
 use Rattle.cloud_trait.specs.Seen.{Seen}
 use Rattle.cloud_trait.specs.State.{CloudState}
-use Rattle.cloud_trait.specs.Weather.{Makes}
-use Rattle.calm_calls.specs.Calm.{AreCalm, AreAlone}
-use Rattle.recover_run.specs.declared.stage.Aim.{Aim}
 use Rattle.recover_run.specs.declared.stage.RecoverAnswer.{RecoverAnswer}
 use Rattle.recover_run.specs.declared.stage.RecoverAnswer.TheVariants.{Opened, Nothing}
-use Rattle.recover_run.specs.Recovery.{Recovery, new_recovery, recovery_ask, recovery_next}
+use Rattle.recover_run.specs.Recovery.{Recovery, recovery_ask}
 
 -- the state before the first of the calls, which stand the newest first
 abbrev pub IsBeginning : List Deed → CloudState → Type 0
@@ -54,12 +50,3 @@ LeavesNone client first after (Stopped t) = Unit {0}
 -- the call of a step
 abbrev pub deed_of : Caller → Recovery → Answer → Seen → Seen → Deed
 deed_of who r a before after = record { who = who; ask = recovery_ask r; answer = a; before = before; after = after }
-
--- what a step leaves in the queue, where all calls so far with this one were calm and alone
-pub record Emptied (who : Caller) (before after : Seen) (old new : Recovery) (turn : Turn RecoverAnswer) : Type 0 where
-  pub answer : Answer
-  pub made : Makes who (recovery_ask old) answer before after
-  pub empties : (client : ℕ) (aim : Aim) (former : Option Claim) (h : List Deed)
-      → Came recovery_ask (LeadsBy recovery_next) (new_recovery client aim former) h old
-      → HadMemory h → AreCalm (deed_of who old answer before after ∷ h) → AreAlone (deed_of who old answer before after ∷ h)
-      → (first : CloudState) → IsBeginning (deed_of who old answer before after ∷ h) first → LeavesNone client first after turn

@@ -1,5 +1,6 @@
 pub mod Bound
 pub mod Calls
+pub mod Counting
 pub mod Emptying
 pub mod Gathering
 pub mod Holding
@@ -12,5 +13,6 @@ pub mod Recovery
 pub mod Sending
 pub mod Causing
 pub mod Standing
+pub mod Stepped
 pub mod Well
 pub mod Within

@@ -2,22 +2,18 @@
 use Rattle.std.specs.Prelude.{ℕ, ◌≡◌, ◌≢◌, ◌+◌, true, List, [], ◌∷◌, ◌++◌, length, map, Option, Some, None}
 use Rattle.std.specs.List.{AllByRecursion}
 use Rattle.db_base.specs.declared.names.ObjName.TheVariants as object
-use Rattle.db_base.specs.declared.trouble.Trouble.{Trouble}
+use Rattle.db_base.specs.declared.trouble.Trouble.TheVariants as trouble
 use Rattle.head_codec.specs.declared.head.Head.{Head}
 use Rattle.head_codec.specs.Head.{next_head}
 use Rattle.head_codec.specs.Spelling.{head_bytes}
 use Rattle.route_plan.specs.Heads.{settled_head}
-use Rattle.log_codec.specs.declared.record.AtomicRec.{AtomicRec}
 use Rattle.cloud_trait.specs.declared.answer.Answer.{Answer}
 use Rattle.cloud_trait.specs.declared.answer.Answer.TheVariants.{Done}
 use Rattle.cloud_trait.specs.declared.turn.Turn.{Turn}
 use Rattle.cloud_trait.specs.declared.turn.Turn.TheVariants.{More, Ended, Stopped}
 use Rattle.cloud_trait.specs.Ask.{Ask, PutHeld, Release}
-use Rattle.cloud_trait.specs.Caller.{Caller}
 use Rattle.cloud_trait.specs.Claim.{Claim}
-use Rattle.cloud_trait.specs.Machine.{LeadsBy, Came, Deed, calls_of}
-use Rattle.cloud_trait.specs.Seen.{Seen}
-use Rattle.cloud_trait.specs.Weather.{Makes}
+use Rattle.recover_run.specs.declared.home.Home.{Home}
 use Rattle.recover_run.specs.declared.items.AtomicItem.{AtomicItem}
 use Rattle.recover_run.specs.declared.stage.Aim.{Aim}
 use Rattle.recover_run.specs.declared.stage.Aim.TheVariants.{Opening, Settling}
@@ -26,7 +22,7 @@ use Rattle.recover_run.specs.declared.stage.RecoverAnswer.TheVariants.{Opened, N
 use Rattle.recover_run.specs.declared.wanted.Wanted.{Wanted}
 use Rattle.recover_run.specs.Calls.{Calls, Brought, Reading, AreGathers, AreSends, AreSweeps}
 use Rattle.recover_run.specs.Gathering.{is_counted, wanted_of}
-use Rattle.recover_run.specs.Recovery.{Recovery, new_recovery, recovery_ask, recovery_next}
+use Rattle.recover_run.specs.Recovery.{Recovery, home_of}
 
 -- the records have the indices from n on, one behind the other
 abbrev pub AreNumbered : ℕ → List AtomicItem → Type 0
@@ -49,8 +45,13 @@ abbrev pub IsClosing : Aim → Claim → Calls → Type 0
 IsClosing Opening lease cs = cs ≡ []
 IsClosing Settling lease cs = (a : Answer) × (cs ≡ (Release lease, a) ∷ [])
 
+-- what is handed out behind Opened: in an opening the home of the client, under its lease and with its head, and none in a settling
+abbrev pub home_opened : Aim → ℕ → Claim → Head → Option Home
+home_opened Opening client lease h = Some (record { client = client; lease = lease; head = h; attempt = 0 })
+home_opened Settling client lease h = None
+
 -- the client was opened: every record that its head counts was received and sent on, in order of index, and no other; then the head was
--- put in the next epoch with them pending; and then messages of past epochs were deleted
+-- put in the next epoch with them pending; and then messages of past epochs were deleted; an opening alone hands out a home, which is that client's
 pub record IsOpened (client : ℕ) (aim : Aim) (old : Option Claim) (calls : Calls) (left : Recovery) (epoch : ℕ) : Type 0 where
   pub front : Calls
   pub reading : Reading client old front
@@ -69,6 +70,7 @@ pub record IsOpened (client : ℕ) (aim : Aim) (old : Option Claim) (calls : Cal
   pub are : calls ≡ closing ++ (sweeps ++ (put_of client reading.lease (head_behind reading.head kept), Done) ∷ (sends ++ (gathers ++ front)))
   pub head : left.head ≡ head_behind reading.head kept
   pub epoch_is : epoch ≡ reading.head.epoch + 1
+  pub home : home_of left ≡ home_opened aim client reading.lease (head_behind reading.head kept)
 
 -- a settling found no head, and gave the lease back
 pub record IsNothing (client : ℕ) (aim : Aim) (old : Option Claim) (calls : Calls) : Type 0 where
@@ -89,10 +91,9 @@ MeansTurn client aim old calls left More = Unit {0}
 MeansTurn client aim old calls left (Ended a) = Means client aim old calls left a
 MeansTurn client aim old calls left (Stopped t) = Unit {0}
 
--- what a step means by the whole run: the calls so far with this step's
-pub record Meant (who : Caller) (before after : Seen) (old new : Recovery) (turn : Turn RecoverAnswer) : Type 0 where
-  pub answer : Answer
-  pub made : Makes who (recovery_ask old) answer before after
-  pub means : (client : ℕ) (aim : Aim) (former : Option Claim) (h : List Deed)
-      → Came recovery_ask (LeadsBy recovery_next) (new_recovery client aim former) h old
-      → MeansTurn client aim former ((recovery_ask old, answer) ∷ calls_of h) new turn
+-- no home is handed out but behind Opened
+abbrev pub HandsNone : Recovery → Turn RecoverAnswer → Type 0
+HandsNone left More = home_of left ≡ None
+HandsNone left (Ended (Opened epoch)) = Unit {0}
+HandsNone left (Ended Nothing) = home_of left ≡ None
+HandsNone left (Stopped t) = t ≢ trouble.Memory → home_of left ≡ None

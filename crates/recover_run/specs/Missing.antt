@@ -1,5 +1,5 @@
 -- That a recovery waits for no record where none is missing.
-use Rattle.std.specs.Prelude.{ℕ, ◌≡◌, ◌≤◌, ◌==◌, ◌&&◌, Bool, true, false, List, ◌∷◌, length, filter, Option, Some, None}
+use Rattle.std.specs.Prelude.{ℕ, ◌≡◌, ◌≤◌, ◌==◌, ◌&&◌, Bool, true, false, List, length, filter, Option, Some, None}
 use Rattle.std.specs.List.{list_any}
 use Rattle.db_base.specs.declared.names.ObjName.TheVariants as object
 use Rattle.db_base.specs.declared.names.QueueName.TheVariants as queue
@@ -8,26 +8,17 @@ use Rattle.db_base.specs.declared.trouble.Trouble.TheVariants as trouble
 use Rattle.head_codec.specs.declared.head.Head.{Head}
 use Rattle.log_codec.specs.declared.record.AtomicRec.{AtomicRec}
 use Rattle.log_codec.specs.Atomic.{atomic_of}
-use Rattle.cloud_trait.specs.declared.answer.Answer.{Answer}
 use Rattle.cloud_trait.specs.declared.message.Message.{Message}
 use Rattle.cloud_trait.specs.declared.state.Posted.{Posted}
 use Rattle.cloud_trait.specs.declared.turn.Turn.{Turn}
 use Rattle.cloud_trait.specs.declared.turn.Turn.TheVariants.{More, Ended, Stopped}
-use Rattle.cloud_trait.specs.Caller.{Caller}
-use Rattle.cloud_trait.specs.Claim.{Claim}
 use Rattle.cloud_trait.specs.Delivery.{unmarked}
-use Rattle.cloud_trait.specs.Machine.{LeadsBy, Came, Deed}
-use Rattle.cloud_trait.specs.Seen.{Seen}
 use Rattle.cloud_trait.specs.State.{CloudState, newest}
-use Rattle.cloud_trait.specs.Weather.{Makes}
-use Rattle.calm_calls.specs.Calm.{AreCalm, AreAlone}
-use Rattle.recover_run.specs.declared.stage.Aim.{Aim}
 use Rattle.recover_run.specs.declared.stage.RecoverAnswer.{RecoverAnswer}
 use Rattle.recover_run.specs.declared.wanted.Wanted.{Wanted}
 use Rattle.recover_run.specs.Calls.{head_in}
-use Rattle.recover_run.specs.Emptying.{IsBeginning, HasNoLater, deed_of}
+use Rattle.recover_run.specs.Emptying.{HasNoLater}
 use Rattle.recover_run.specs.Gathering.{is_of, wanted_of}
-use Rattle.recover_run.specs.Recovery.{Recovery, new_recovery, recovery_ask, recovery_next}
 
 -- whether a message is a record of the head's epoch and transaction
 abbrev pub is_of_some : Wanted → Option AtomicRec → Bool
@@ -68,12 +59,3 @@ abbrev pub WaitsForNone : Turn RecoverAnswer → Type 0
 WaitsForNone More = Unit {0}
 WaitsForNone (Ended a) = Unit {0}
 WaitsForNone (Stopped t) = IsNoWaiting t
-
--- a step stops for no record, where all calls so far with this one were calm and alone, and none was missing at the beginning
-pub record MissesNone (who : Caller) (before after : Seen) (old new : Recovery) (turn : Turn RecoverAnswer) : Type 0 where
-  pub answer : Answer
-  pub made : Makes who (recovery_ask old) answer before after
-  pub waits : (client : ℕ) (aim : Aim) (former : Option Claim) (h : List Deed)
-      → Came recovery_ask (LeadsBy recovery_next) (new_recovery client aim former) h old
-      → AreCalm (deed_of who old answer before after ∷ h) → AreAlone (deed_of who old answer before after ∷ h)
-      → (first : CloudState) → IsBeginning (deed_of who old answer before after ∷ h) first → NoneMissing client first → WaitsForNone turn

@@ -86,3 +86,17 @@ abbrev pub GivesBack : ℕ → Aim → List Deed → Recovery → Turn RecoverAn
 GivesBack client aim h n More = Unit {0}
 GivesBack client aim h n (Ended answer) = Leaves client aim h n answer
 GivesBack client aim h n (Stopped t) = t ≢ trouble.Memory → leases_of n ≡ []
+
+-- ---- and what the calls up to it leave
+
+-- of the leases that calls were given and did not give back, an end leaves the client's in an opening, and none else
+abbrev pub LeavesOf : ℕ → Aim → Option Claim → List Deed → RecoverAnswer → Type 0
+LeavesOf client Opening old h (Opened epoch) = (l : Claim) × IsClients client old h l
+LeavesOf client Settling old h (Opened epoch) = outstanding old h ≡ []
+LeavesOf client aim old h Nothing = outstanding old h ≡ []
+
+-- so before an end, and before a stop but for want of memory, each lease was given back by a call, but for the client's at the end of an opening
+abbrev pub AreReturned : ℕ → Aim → Option Claim → List Deed → Turn RecoverAnswer → Type 0
+AreReturned client aim old h More = Unit {0}
+AreReturned client aim old h (Ended answer) = LeavesOf client aim old h answer
+AreReturned client aim old h (Stopped t) = t ≢ trouble.Memory → outstanding old h ≡ []

@@ -1,21 +1,10 @@
 -- That a recovery goes well where its calls are calm.
-use Rattle.std.specs.Prelude.{ℕ, List, ◌∷◌, Option}
 use Rattle.db_base.specs.declared.trouble.Trouble.{Trouble}
 use Rattle.db_base.specs.declared.trouble.Trouble.TheVariants as trouble
 use Rattle.db_base.specs.declared.trouble.Counter.TheVariants as counter
-use Rattle.cloud_trait.specs.declared.answer.Answer.{Answer}
 use Rattle.cloud_trait.specs.declared.turn.Turn.{Turn}
 use Rattle.cloud_trait.specs.declared.turn.Turn.TheVariants.{More, Ended, Stopped}
-use Rattle.cloud_trait.specs.Caller.{Caller}
-use Rattle.cloud_trait.specs.Claim.{Claim}
-use Rattle.cloud_trait.specs.Machine.{LeadsBy, Came, Deed}
-use Rattle.cloud_trait.specs.Seen.{Seen}
-use Rattle.cloud_trait.specs.Weather.{Makes}
-use Rattle.calm_calls.specs.Calm.{AreCalm}
-use Rattle.recover_run.specs.declared.stage.Aim.{Aim}
 use Rattle.recover_run.specs.declared.stage.RecoverAnswer.{RecoverAnswer}
-use Rattle.recover_run.specs.Emptying.{deed_of}
-use Rattle.recover_run.specs.Recovery.{Recovery, new_recovery, recovery_ask, recovery_next}
 
 -- the troubles for which a recovery may stop where its calls are calm: want of memory, a head or a record in no spelling, the last epoch,
 -- and records that are missing
@@ -30,11 +19,3 @@ abbrev pub StopsWell : Turn RecoverAnswer → Type 0
 StopsWell More = Unit {0}
 StopsWell (Ended a) = Unit {0}
 StopsWell (Stopped t) = MayStop t
-
--- why a step may stop where all calls so far with this one were calm
-pub record GoneWell (who : Caller) (before after : Seen) (old new : Recovery) (turn : Turn RecoverAnswer) : Type 0 where
-  pub answer : Answer
-  pub made : Makes who (recovery_ask old) answer before after
-  pub well : (client : ℕ) (aim : Aim) (former : Option Claim) (h : List Deed)
-      → Came recovery_ask (LeadsBy recovery_next) (new_recovery client aim former) h old
-      → AreCalm (deed_of who old answer before after ∷ h) → StopsWell turn

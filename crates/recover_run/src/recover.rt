@@ -6,7 +6,7 @@ ghost use Rattle.head_codec.specs.Spelling.{HasSpelling, head_of};
 ghost use Rattle.cloud_trait.specs.Ask.{Release};
 ghost use Rattle.cloud_trait.specs.Call.{ask_of, Lends};
 ghost use Rattle.cloud_trait.specs.Claim.{Claim};
-ghost use Rattle.cloud_trait.specs.Machine.{LeadsBy, Took, Steps, Deed, calls_of};
+ghost use Rattle.cloud_trait.specs.Machine.{LeadsBy, Took, Deed, calls_of};
 ghost use Rattle.cloud_trait.specs.Weather.{Makes};
 ghost use Rattle.recover_run.specs.Kept.{AllPlaced};
 
@@ -121,13 +121,9 @@ impl Model for RecoverRun {
 impl RecoverRun {
     ghost use Rattle.recover_run.specs.Recovery.{Recovery, new_recovery, recovery_ask, recovery_next, handed_over, SameLeases, KeepsLeases, IsSound, home_of, releasing, stopping, old_released, taken_by, got_by, head_read, bytes_read, none_read, phase_read, putting, send_at, decided, next_deletion, gathered_by, received_by, deleted_by, sent_by, next_clearing, put_by, clearing_kept, cleared, opened, swept_by, swept_with, released, damaged_message, next_sweep, with_pending, delete_next, send_next, take_lease};
     ghost use Rattle.recover_run.specs.Bound.{calls_left, KnowsAtMost};
-    ghost use Rattle.recover_run.specs.Emptying.{Emptied};
-    ghost use Rattle.recover_run.specs.Meaning.{Meant};
-    ghost use Rattle.recover_run.specs.Causing.{Causes};
     ghost use Rattle.recover_run.specs.Within.{AreFew};
     ghost use Rattle.recover_run.specs.Standing.{Went, leases_of, outstanding, Names, GivesBack};
-    ghost use Rattle.recover_run.specs.Missing.{MissesNone};
-    ghost use Rattle.recover_run.specs.Well.{GoneWell};
+    ghost use Rattle.recover_run.specs.Stepped.{Stepped};
     ghost use Rattle.recover_run.specs.Items.{items_of};
 
     /// The recovery of a client. A lease that is handed in is given back first. Takes no memory.
@@ -622,7 +618,8 @@ impl RecoverRun {
     /// Takes the answer of the call in hand. A lease that the call gave back has left.
     fn absorb(&mut self, alloc: Global, answer: Answer) -> Turn<RecoverAnswer>
         requires { KeepsLeases self.old answer self.old }
-        ensures { Took (LeadsBy recovery_next) KeepsLeases self.old answer self.new result }
+        ensures took { Took (LeadsBy recovery_next) KeepsLeases self.old answer self.new result }
+        ensures memory { answer ≡ Answer.Memory → result ≡ Turn.Stopped Trouble.Memory }
     {
         match (self.stage, answer) {
             (_, Answer::Memory) => Turn::Stopped(Trouble::Memory),
@@ -642,11 +639,8 @@ impl RecoverRun {
 
     /// Makes the call in hand, and does the local work up to the next one.
     pub fn step<C: Cloud>(&mut self, alloc: Global, cloud: &mut C, who: Who) -> Turn<RecoverAnswer>
-        ensures steps { Steps recovery_ask (LeadsBy recovery_next) KeepsLeases who (C.seen cloud.old) (C.seen cloud.new) self.old self.new result }
-        ensures means { Meant who (C.seen cloud.old) (C.seen cloud.new) self.old self.new result }
-        ensures empties { Emptied who (C.seen cloud.old) (C.seen cloud.new) self.old self.new result }
-        ensures well { GoneWell who (C.seen cloud.old) (C.seen cloud.new) self.old self.new result }
-        ensures complete { MissesNone who (C.seen cloud.old) (C.seen cloud.new) self.old self.new result }
+        // The call in hand was made, and all that follows from its one answer.
+        ensures steps { Stepped who (C.seen cloud.old) (C.seen cloud.new) self.old self.new result }
         ensures sound { IsSound self.old }
         ensures less { result ≡ Turn.More → calls_left (2 ^ 64) 255 self.new < calls_left (2 ^ 64) 255 self.old }
         // The leases that it holds are the one that was handed in and those that it took, but for those that it gave back.
@@ -655,8 +649,6 @@ impl RecoverRun {
         ensures names { (client : ℕ) (aim : Aim) (former : Option Claim) (h : List Deed) → Went client aim former h self.old → Names client former h (recovery_ask self.old) }
         // Before an end all leases are given back, but for the client's at the end of an opening.
         ensures gives_back { (client : ℕ) (aim : Aim) (former : Option Claim) (h : List Deed) → Went client aim former h self.old → GivesBack client aim h self.new result }
-        // A trouble comes exactly where the answer of a step shows it, and it is to answer Nothing wherever a settling reads no head.
-        ensures causes { (client : ℕ) (aim : Aim) (former : Option Claim) (h : List Deed) → Went client aim former h self.old → Causes who (C.seen cloud.old) (C.seen cloud.new) h self.old self.new result }
         // Seven calls, four for each id that is received, and one for each record that the open head counts, are all.
         ensures within { (client : ℕ) (aim : Aim) (former : Option Claim) (h : List Deed) → Went client aim former h self.old → AreFew (calls_of h) (length h + 1) }
     {

@@ -1,11 +1,12 @@
 -- Why a settling stops.
-use Rattle.std.proofs.Common.{◌≡◌, ◌≢◌, ◌+◌, ℕ, List, [], ◌∷◌, Option, Some, None, refl, sym, subst, inl, inr, Bool, true, false, cond, arith}
+use Rattle.std.proofs.Common.{◌≡◌, ◌≢◌, ◌+◌, ℕ, List, [], ◌∷◌, Option, Some, None, refl, sym, subst, ◌∙◌, inl, inr, Bool, true, false, cond, arith}
 use Rattle.std.specs.Prelude.{◌==◌, nat_lt}
 use Rattle.std.proofs.lemmas.Bool.Decides.{nat_tests}
 use Rattle.leaf_view.specs.Lookup.{page_at}
 use Rattle.db_base.specs.declared.trouble.Trouble.{Trouble}
 use Rattle.db_base.specs.declared.trouble.Trouble.TheVariants as trouble
 use Rattle.cloud_trait.specs.declared.answer.Answer.{Answer}
+use Rattle.cloud_trait.specs.declared.answer.Answer.TheVariants.{Failed}
 use Rattle.cloud_trait.specs.declared.turn.Turn.{Turn}
 use Rattle.cloud_trait.specs.declared.turn.Turn.TheVariants.{More, Ended, Stopped}
 use Rattle.cloud_trait.specs.Machine.{Next, Goes, Ends, Stops, Took}
@@ -14,8 +15,8 @@ use Rattle.settle_run.specs.declared.part.Part.{Part}
 use Rattle.settle_run.specs.declared.part.Part.TheVariants.{Client, Tree, Page}
 use Rattle.settle_run.specs.declared.settled.Settled.{Settled}
 use Rattle.settle_run.specs.Parts.{part_of_tree, part_received, PartLeads}
-use Rattle.settle_run.specs.Settling.{Settling, Step, begins, to_page, behind_tree, is_visited, goes_right, goes_on, passed_with, passed, counted, with_part, moved, SettleLeads, KeepsSettling}
-use Rattle.settle_run.specs.Meaning.{Stopping, Tells, RoundTo, MustStop, StopsExactly}
+use Rattle.settle_run.specs.Settling.{Settling, Step, begins, to_page, behind_tree, is_visited, goes_right, goes_on, passed_with, passed, counted, with_part, after_turn, moved, SettleLeads, KeepsSettling, SamePart}
+use Rattle.settle_run.specs.Meaning.{Stopping, Tells, RoundTo, MustStop, StopsExactly, next_of, Follows}
 
 -- where a step stops, it is told why
 abbrev Told : Settling → Answer → Step → Type 0
@@ -139,3 +140,18 @@ pub took_exact : (s n : Settling) (a : Answer) (turn : Turn Settled) → Took Se
 took_exact s n a More took = (took.0, (took.1, subst (Matched s took.0) (sym took.2) (matched_moved s took.0)))
 took_exact s n a (Ended x) took = (took.0, (took.1, subst (Matched s took.0) (sym took.2) (matched_moved s took.0)))
 took_exact s n a (Stopped t) took = λ k. let leads = took.0 k in (leads.0, (leads.1, subst (Matched s leads.0) (sym leads.2) (matched_moved s leads.0)))
+
+-- the settling follows where the step of its part came to
+moved_by : (s : Settling) (p : Part) (left : Turn ℕ) → moved s (next_of p left) ≡ after_turn (with_part s p) left
+moved_by s p More = refl
+moved_by s p (Ended left) = refl
+moved_by s p (Stopped t) = refl
+
+followed_so : (s : Settling) (p : Part) (left : Turn ℕ) (next : Step) → after_turn (with_part s p) left ≡ next → Matched s (next_of p left) next
+followed_so s p left next e = subst (Matched s (next_of p left)) (moved_by s p left ∙ e) (matched_moved s (next_of p left))
+
+pub took_follows : (s n : Settling) (p : Part) (left : Turn ℕ) (turn : Turn Settled)
+    → Took (λ m x next. after_turn m left ≡ next) SamePart (with_part s p) Failed n turn → Follows s (next_of p left) turn
+took_follows s n p left More took = followed_so s p left (Goes n) took
+took_follows s n p left (Ended x) took = followed_so s p left (Ends n x) took
+took_follows s n p left (Stopped t) took = λ k. followed_so s p left (Stops n t) (took.0 k)

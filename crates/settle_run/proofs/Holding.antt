@@ -1,34 +1,38 @@
 -- What the part at work holds, and that it gives it back.
-use Rattle.std.proofs.Common.{◌≡◌, ◌≢◌, ◌+◌, ℕ, List, [], ◌∷◌, Option, Some, None, refl, sym, subst, Bool, true, false, cond}
+use Rattle.std.proofs.Common.{◌≡◌, ◌≢◌, ◌+◌, ℕ, List, [], ◌∷◌, ◌++◌, Option, Some, None, refl, sym, subst, ap, ◌∙◌, Bool, true, false, cond}
 use Rattle.std.specs.Prelude.{◌==◌, nat_lt}
 use Rattle.leaf_view.specs.Lookup.{page_at}
 use Rattle.db_base.specs.declared.trouble.Trouble.TheVariants as trouble
 use Rattle.cloud_trait.specs.declared.answer.Answer.{Answer}
-use Rattle.cloud_trait.specs.declared.answer.Answer.TheVariants.{Failed}
+use Rattle.cloud_trait.specs.declared.answer.Answer.TheVariants.{Failed, Given}
 use Rattle.cloud_trait.specs.declared.turn.CkptAnswer.{CkptAnswer}
 use Rattle.cloud_trait.specs.declared.turn.Turn.{Turn}
 use Rattle.cloud_trait.specs.declared.turn.Turn.TheVariants.{More, Ended, Stopped}
-use Rattle.cloud_trait.specs.Machine.{Next, Goes, Ends, Stops, LeadsBy, Took, Deed}
+use Rattle.cloud_trait.specs.Ask.{Ask, Get, GetHeld, PutHeld, Send, Receive, Delete, Take, Renew, Release}
+use Rattle.cloud_trait.specs.Claim.{Claim}
+use Rattle.cloud_trait.specs.Machine.{Next, Goes, Ends, Stops, LeadsBy, Took, Deed, IsMade}
 use Rattle.cloud_trait.specs.Weather.{Fits}
 use Rattle.recover_run.specs.declared.stage.Aim.TheVariants as aim
 use Rattle.recover_run.specs.declared.stage.RecoverAnswer.{RecoverAnswer}
 use Rattle.recover_run.specs.declared.stage.RecoverAnswer.TheVariants.{Opened, Nothing}
 use Rattle.recover_run.specs.Ids.{new_ids}
 use Rattle.recover_run.specs.Recovery.{Recovery, recovery_next}
-use Rattle.recover_run.proofs.Standing.{stands_leases as recovery_leases, stands_names as recovery_names, stands_gives as recovery_gives}
-use Rattle.page_ckpt.specs.Paging.{Paging, PagingLeads}
+use Rattle.recover_run.specs.Standing.{outstanding as recovery_outstanding, outstanding_after as recovery_after}
+use Rattle.ckpt_parts.specs.Leasing.{outstanding, outstanding_after}
+use Rattle.recover_run.proofs.Leases.{stands_leases as recovery_leases, stands_names as recovery_names, stands_gives as recovery_gives, took_returns as recovery_returns}
+use Rattle.page_ckpt.specs.Paging.{Paging, paging_ask, PagingLeads}
 use Rattle.page_ckpt.specs.Standing.{Stands as PageStands}
-use Rattle.page_ckpt.proofs.Leases.{came_stands as page_stands, stands_names as page_names, stands_gives as page_gives}
-use Rattle.tree_ckpt.specs.Making.{Making, MakingLeads}
+use Rattle.page_ckpt.proofs.Leases.{came_stands as page_stands, stands_names as page_names, stands_gives as page_gives, stands_returns as page_returns}
+use Rattle.tree_ckpt.specs.Making.{Making, making_ask, MakingLeads}
 use Rattle.tree_ckpt.specs.Standing.{Stands as TreeStands}
-use Rattle.tree_ckpt.proofs.Standing.{came_stands as tree_stands, stands_names as tree_names, stands_gives as tree_gives}
+use Rattle.tree_ckpt.proofs.Standing.{came_stands as tree_stands, stands_names as tree_names, stands_gives as tree_gives, stands_returns as tree_returns}
 use Rattle.settle_run.specs.declared.part.Part.{Part}
 use Rattle.settle_run.specs.declared.part.Part.TheVariants.{Client, Tree, Page}
 use Rattle.settle_run.specs.declared.settled.Settled.{Settled}
 use Rattle.settle_run.specs.Parts.{part_of_tree, part_ask, part_received, recovers, makes, pages, PartLeads, KeepsPart, PartWent}
-use Rattle.settle_run.specs.Settling.{Settling, Step, begins, to_page, behind_tree, is_visited, goes_right, goes_on, passed_with, passed, ended_by, counted, with_part, after_turn, SamePart}
-use Rattle.settle_run.specs.Standing.{PartHolds, Holds, IsFree, GivesBack}
-use Rattle.settle_run.specs.Meaning.{Went, deeds_of}
+use Rattle.settle_run.specs.Settling.{Settling, Step, begins, to_page, behind_tree, is_visited, goes_right, goes_on, passed_with, passed, ended_by, counted, with_part, after_turn, settle_ask, moved, SettleLeads, KeepsSettling, SamePart}
+use Rattle.settle_run.specs.Standing.{PartHolds, Holds, IsFree, GivesBack, AreReturned}
+use Rattle.settle_run.specs.Meaning.{Went, Run, Ran, deeds_of}
 use Rattle.settle_run.proofs.Ranging.{Stands, went_stands}
 
 part_holds : (p : Part) (h : List Deed) → PartWent h p → PartHolds p h
@@ -129,3 +133,97 @@ pub took_gives : (s n : Settling) (p : Part) (own : List Deed) (a : Answer) (tur
 took_gives s n p own a turn More went fits took follow = tt
 took_gives s n p own a turn (Ended x) went fits took follow = subst Freed follow (freed_after s p own a turn went fits took)
 took_gives s n p own a turn (Stopped t) went fits took follow = λ k. subst Freed (follow.0 k) (freed_after s p own a turn went fits took) k
+
+-- ---- .. by its calls
+
+-- both ways to say what calls leave are one
+same_after : (q : Ask) (a : Answer) (cs : List Claim) → recovery_after q a cs ≡ outstanding_after q a cs
+same_after (Take lock ticks) (Given l) cs = refl
+same_after (Take lock ticks) a cs = refl
+same_after (Release l) a [] = refl
+same_after (Release l) a (c ∷ cs) = refl
+same_after (Get name) a cs = refl
+same_after (GetHeld name l) a cs = refl
+same_after (PutHeld name bytes one two) a cs = refl
+same_after (Send queue bytes) a cs = refl
+same_after (Receive queue most) a cs = refl
+same_after (Delete queue id) a cs = refl
+same_after (Renew l ticks) a cs = refl
+
+same_left : (h : List Deed) → recovery_outstanding None h ≡ outstanding h
+same_left [] = refl
+same_left (d ∷ h) = same_after d.ask d.answer (recovery_outstanding None h) ∙ ap (λ (cs : List Claim). outstanding_after d.ask d.answer cs) (same_left h)
+
+-- what calls leave where a step ends or stops
+abbrev Returned : List Deed → Next Part ℕ → Type 0
+Returned h (Goes q) = Unit {0}
+Returned h (Ends q left) = outstanding h ≡ []
+Returned h (Stops q t) = t ≢ trouble.Memory → outstanding h ≡ []
+
+asked_left : (d : Deed) (h : List Deed) (q : Ask) → d.ask ≡ q → outstanding (d ∷ h) ≡ outstanding_after q d.answer (outstanding h)
+asked_left d h q e = ap (λ (p : Ask). outstanding_after p d.answer (outstanding h)) e
+
+part_returns : (p : Part) (own : List Deed) (d : Deed) (next : Next Part ℕ) → PartWent own p → d.ask ≡ part_ask p → Fits (part_ask p) d.answer → PartLeads p d.answer next
+    → Returned (d ∷ own) next
+part_returns (Client client m) own d next went asks fits leads = subst (Returned (d ∷ own)) (sym leads.2) (on leads.0 leads.1) where
+  on : (n : Next Recovery RecoverAnswer) → LeadsBy recovery_next m d.answer n → Returned (d ∷ own) (recovers client n)
+  on (Goes n) l = tt
+  on (Ends n (Opened epoch)) l = sym (same_left (d ∷ own)) ∙ recovery_returns client aim.Settling None own d m n (Ended (Opened epoch)) went asks fits l
+  on (Ends n Nothing) l = sym (same_left (d ∷ own)) ∙ recovery_returns client aim.Settling None own d m n (Ended Nothing) went asks fits l
+  on (Stops n t) l = λ k.
+      sym (same_left (d ∷ own)) ∙ recovery_returns client aim.Settling None own d m n (Stopped t) went asks fits (λ other. l, λ e. absurd (k e)) k
+part_returns (Tree tree m) own d next went asks fits leads = subst (Returned (d ∷ own)) (sym leads.2) (on leads.0 leads.1) where
+  on : (n : Next Making CkptAnswer) → MakingLeads m d.answer n → Returned (d ∷ own) (makes tree n)
+  on (Goes n) l = tt
+  on (Ends n x) l = asked_left d own (making_ask m) asks ∙ tree_returns m n own d.answer (Ended x) (tree_stands tree own m went) fits l
+  on (Stops n t) l = λ k.
+      asked_left d own (making_ask m) asks ∙ tree_returns m n own d.answer (Stopped t) (tree_stands tree own m went) fits (λ other. l, λ e. absurd (k e)) k
+part_returns (Page tree page m) own d next went asks fits leads = subst (Returned (d ∷ own)) (sym leads.2) (on leads.0 leads.1) where
+  on : (n : Next Paging CkptAnswer) → PagingLeads m d.answer n → Returned (d ∷ own) (pages tree page n)
+  on (Goes n) l = tt
+  on (Ends n x) l = asked_left d own (paging_ask m) asks ∙ page_returns m n own d.answer (Ended x) (page_stands tree page own m went) fits l
+  on (Stops n t) l = λ k.
+      asked_left d own (paging_ask m) asks ∙ page_returns m n own d.answer (Stopped t) (page_stands tree page own m went) fits (λ other. l, λ e. absurd (k e)) k
+
+-- calls behind some that left nothing leave what they leave by themselves
+left_behind : (own rest : List Deed) → outstanding rest ≡ [] → outstanding (own ++ rest) ≡ outstanding own
+left_behind [] rest none = none
+left_behind (d ∷ own) rest none = ap (λ (cs : List Claim). outstanding_after d.ask d.answer cs) (left_behind own rest none)
+
+runs_returned : (runs : List Run) (s : Settling) → Ran runs s → outstanding (deeds_of runs) ≡ []
+runs_returned [] s ran = refl
+runs_returned (r ∷ runs) s (from, ran, is, place, passes) =
+    let fits : Fits (part_ask is.before) is.last.answer = subst (λ (q : Ask). Fits q is.last.answer) is.asked is.made.fits in
+    let own : outstanding (is.last ∷ is.earlier) ≡ [] = part_returns is.before is.earlier is.last (Ends r.part 0) is.went is.asked fits is.ended in
+    left_behind r.deeds (deeds_of runs) (runs_returned runs from ran) ∙ (ap outstanding is.deeds ∙ own)
+
+abbrev NextReturned : List Deed → Step → Type 0
+NextReturned h (Goes n) = Unit {0}
+NextReturned h (Ends n x) = outstanding h ≡ []
+NextReturned h (Stops n t) = t ≢ trouble.Memory → outstanding h ≡ []
+
+so_returned : (h : List Deed) (next : Step) → outstanding h ≡ [] → NextReturned h next
+so_returned h (Goes n) none = tt
+so_returned h (Ends n x) none = none
+so_returned h (Stops n t) none = λ k. none
+
+next_returned : (h : List Deed) (d : Deed) (s : Settling) (next : Next Part ℕ) → Stands h s → d.ask ≡ settle_ask s → IsMade d → PartLeads s.part d.answer next
+    → NextReturned (d ∷ h) (moved s next)
+next_returned h d s next st asks made leads = on next (part_returns s.part st.own d next st.went asks (subst (λ (q : Ask). Fits q d.answer) asks made.fits) leads) where
+  whole : outstanding (d ∷ st.own) ≡ [] → outstanding (d ∷ h) ≡ []
+  whole none =
+      ap (λ (g : List Deed). outstanding (d ∷ g)) st.all
+      ∙ (left_behind (d ∷ st.own) (deeds_of st.runs) (runs_returned st.runs st.from st.ran) ∙ none)
+
+  on : (x : Next Part ℕ) → Returned (d ∷ st.own) x → NextReturned (d ∷ h) (moved s x)
+  on (Goes p) none = tt
+  on (Ends p left) none = so_returned (d ∷ h) (ended_by (counted (with_part s p)) left) (whole none)
+  on (Stops p t) none = λ k. whole (none k)
+
+pub took_returns : (h : List Deed) (d : Deed) (s n : Settling) (turn : Turn Settled) → Stands h s → d.ask ≡ settle_ask s → IsMade d
+    → Took SettleLeads KeepsSettling s d.answer n turn → AreReturned (d ∷ h) turn
+took_returns h d s n More st asks made took = tt
+took_returns h d s n (Ended x) st asks made took = subst (NextReturned (d ∷ h)) (sym took.2) (next_returned h d s took.0 st asks made took.1)
+took_returns h d s n (Stopped t) st asks made took = λ k.
+    let leads = took.0 k in
+    subst (NextReturned (d ∷ h)) (sym leads.2) (next_returned h d s leads.0 st asks made leads.1) k

@@ -8,15 +8,19 @@ use Rattle.cloud_trait.specs.declared.turn.Turn.{Turn}
 use Rattle.cloud_trait.specs.declared.turn.Turn.TheVariants.{More, Ended, Stopped}
 use Rattle.cloud_trait.specs.Caller.{Caller}
 use Rattle.cloud_trait.specs.Seen.{Seen}
-use Rattle.cloud_trait.specs.Machine.{Goes, Ends, Stops, LeadsBy, Took, Steps}
+use Rattle.cloud_trait.specs.Machine.{Goes, Ends, Stops, LeadsBy, Took}
 use Rattle.recover_run.specs.declared.stage.RecoverAnswer.{RecoverAnswer}
-use Rattle.recover_run.specs.Recovery.{Recovery, recovery_ask, recovery_next, KeepsLeases as KeepsRecovery}
-use Rattle.page_ckpt.specs.Paging.{Paging, paging_ask, PagingLeads, KeepsLeases as KeepsPaging}
-use Rattle.tree_ckpt.specs.Making.{Making, making_ask, MakingLeads, KeepsLeases as KeepsMaking}
+use Rattle.recover_run.specs.Recovery.{Recovery, recovery_next, KeepsLeases as KeepsRecovery}
+use Rattle.page_ckpt.specs.Paging.{Paging, PagingLeads, KeepsLeases as KeepsPaging}
+use Rattle.tree_ckpt.specs.Making.{Making, MakingLeads, KeepsLeases as KeepsMaking}
 use Rattle.settle_run.specs.declared.part.Part.{Part}
 use Rattle.settle_run.specs.declared.part.Part.TheVariants.{Client, Tree, Page}
 use Rattle.settle_run.specs.declared.settled.Settled.{Settled}
-use Rattle.settle_run.specs.Parts.{recovered_turn, left_turn, part_ask, PartLeads, KeepsPart}
+use Rattle.recover_run.specs.Stepped.{Stepped as RecoveryStepped}
+use Rattle.page_ckpt.specs.Stepped.{Stepped as PagingStepped}
+use Rattle.tree_ckpt.specs.Stepped.{Stepped as MakingStepped}
+use Rattle.settle_run.specs.Parts.{recovered_turn, left_turn, PartLeads, KeepsPart}
+use Rattle.settle_run.specs.Stepped.{PartSteps}
 use Rattle.settle_run.specs.Settling.{Settling, Step, counted, with_part, after_turn, SettleLeads, SamePart, KeepsSettling}
 
 -- ---- a part
@@ -40,28 +44,49 @@ paging_took tree page m n a (Ended x) h = (Ends n x, h, refl)
 paging_took tree page m n a (Stopped t) h = (λ k. (Stops n t, h.0 k, refl), λ k. (refl, refl, h.1 k))
 
 pub recovery_steps : (client : ℕ) (who : Caller) (before after : Seen) (m n : Recovery) (turn : Turn RecoverAnswer) (p : Part) (left : Turn ℕ)
-    → p ≡ Client client m → left ≡ recovered_turn turn → Steps recovery_ask (LeadsBy recovery_next) KeepsRecovery who before after m n turn
-    → Steps part_ask PartLeads KeepsPart who before after p (Client client n) left
+    → p ≡ Client client m → left ≡ recovered_turn turn → RecoveryStepped who before after m n turn → PartSteps who before after p (Client client n) left
 recovery_steps client who before after m n turn p left e f s =
-    subst (λ (q : Part). Steps part_ask PartLeads KeepsPart who before after q (Client client n) left) (sym e)
-    (subst (λ (l : Turn ℕ). Steps part_ask PartLeads KeepsPart who before after (Client client m) (Client client n) l) (sym f)
-    (record { answer = s.answer; made = s.made; took = recovery_took client m n s.answer turn s.took }))
+    subst (λ (q : Part). PartSteps who before after q (Client client n) left) (sym e)
+    (record {
+      did = record {
+        answer = s.did.answer;
+        made = s.did.made;
+        took =
+            subst (λ (l : Turn ℕ). Took PartLeads KeepsPart (Client client m) s.did.answer (Client client n) l) (sym f)
+            (recovery_took client m n s.did.answer turn s.did.took);
+      };
+      stepped = (refl, (turn, f, (s, refl)));
+    })
 
 pub making_steps : (tree : ℕ) (who : Caller) (before after : Seen) (m n : Making) (turn : Turn CkptAnswer) (p : Part) (left : Turn ℕ)
-    → p ≡ Tree tree m → left ≡ left_turn turn → Steps making_ask MakingLeads KeepsMaking who before after m n turn
-    → Steps part_ask PartLeads KeepsPart who before after p (Tree tree n) left
+    → p ≡ Tree tree m → left ≡ left_turn turn → MakingStepped who before after m n turn → PartSteps who before after p (Tree tree n) left
 making_steps tree who before after m n turn p left e f s =
-    subst (λ (q : Part). Steps part_ask PartLeads KeepsPart who before after q (Tree tree n) left) (sym e)
-    (subst (λ (l : Turn ℕ). Steps part_ask PartLeads KeepsPart who before after (Tree tree m) (Tree tree n) l) (sym f)
-    (record { answer = s.answer; made = s.made; took = making_took tree m n s.answer turn s.took }))
+    subst (λ (q : Part). PartSteps who before after q (Tree tree n) left) (sym e)
+    (record {
+      did = record {
+        answer = s.did.answer;
+        made = s.did.made;
+        took =
+            subst (λ (l : Turn ℕ). Took PartLeads KeepsPart (Tree tree m) s.did.answer (Tree tree n) l) (sym f)
+            (making_took tree m n s.did.answer turn s.did.took);
+      };
+      stepped = (refl, (turn, f, (s, refl)));
+    })
 
 pub paging_steps : (tree page : ℕ) (who : Caller) (before after : Seen) (m n : Paging) (turn : Turn CkptAnswer) (p : Part) (left : Turn ℕ)
-    → p ≡ Page tree page m → left ≡ left_turn turn → Steps paging_ask PagingLeads KeepsPaging who before after m n turn
-    → Steps part_ask PartLeads KeepsPart who before after p (Page tree page n) left
+    → p ≡ Page tree page m → left ≡ left_turn turn → PagingStepped who before after m n turn → PartSteps who before after p (Page tree page n) left
 paging_steps tree page who before after m n turn p left e f s =
-    subst (λ (q : Part). Steps part_ask PartLeads KeepsPart who before after q (Page tree page n) left) (sym e)
-    (subst (λ (l : Turn ℕ). Steps part_ask PartLeads KeepsPart who before after (Page tree page m) (Page tree page n) l) (sym f)
-    (record { answer = s.answer; made = s.made; took = paging_took tree page m n s.answer turn s.took }))
+    subst (λ (q : Part). PartSteps who before after q (Page tree page n) left) (sym e)
+    (record {
+      did = record {
+        answer = s.did.answer;
+        made = s.did.made;
+        took =
+            subst (λ (l : Turn ℕ). Took PartLeads KeepsPart (Page tree page m) s.did.answer (Page tree page n) l) (sym f)
+            (paging_took tree page m n s.did.answer turn s.did.took);
+      };
+      stepped = (refl, refl, (turn, f, (s, refl)));
+    })
 
 -- ---- the settling
 

@@ -1,4 +1,5 @@
 pub mod Parts
+pub mod Stepped
 pub mod Settling
 pub mod Ending
 pub mod Standing

@@ -20,6 +20,8 @@ use Rattle.settle_run.specs.declared.part.Part.TheVariants.{Client, Tree, Page}
 use Rattle.settle_run.specs.declared.settled.Settled.{Settled}
 use Rattle.settle_run.specs.Parts.{part_ask, part_again, part_received, PartLeads, PartWent}
 use Rattle.settle_run.specs.Settling.{Settling, new_settling, settle_ask, SettleLeads, passed, is_visited}
+use Rattle.settle_run.specs.Standing.{AreReturned}
+use Rattle.settle_run.specs.Stepped.{PartStepped}
 use Rattle.tree_ckpt.specs.Making.{Making}
 
 -- the settling came here from its first call on by these calls, the newest first
@@ -112,12 +114,14 @@ MeansTurn h left More = Unit {0}
 MeansTurn h left (Ended answer) = IsSettled h left answer
 MeansTurn h left (Stopped t) = Unit {0}
 
--- what a step means by the whole run: the calls so far with this step's
+-- what a step means by the whole run, the calls so far with this step's; and before an end each lease that they took was given back by a call
 pub record Meant (who : Caller) (before after : Seen) (old new : Settling) (turn : Turn Settled) : Type 0 where
   pub answer : Answer
   pub made : Makes who (settle_ask old) answer before after
   pub means : (h : List Deed) → Went h old
       → MeansTurn (record { who = who; ask = settle_ask old; answer = answer; before = before; after = after } ∷ h) new turn
+  pub returned : (h : List Deed) → Went h old
+      → AreReturned (record { who = who; ask = settle_ask old; answer = answer; before = before; after = after } ∷ h) turn
 
 -- ---- stops
 
@@ -172,9 +176,26 @@ StopsExactly s a More = MustNotStop s a
 StopsExactly s a (Ended answer) = MustNotStop s a
 StopsExactly s a (Stopped t) = t ≢ trouble.Memory → HasToStop s a t
 
--- why a step stops, by what the cloud answered; want of memory is free
+-- where a step of the part at work came to
+abbrev pub next_of : Part → Turn ℕ → Next Part ℕ
+next_of p More = Goes p
+next_of p (Ended left) = Ends p left
+next_of p (Stopped t) = Stops p t
+
+-- the settling stops where this has to stop it, and so, and nowhere else
+abbrev pub Follows : Settling → Next Part ℕ → Turn Settled → Type 0
+Follows s next More = (t : Trouble) → MustStop s next t → ⊥
+Follows s next (Ended answer) = (t : Trouble) → MustStop s next t → ⊥
+Follows s next (Stopped t) = t ≢ trouble.Memory → MustStop s next t
+
+-- Why a step stops, by what the cloud answered: the machine of the part at work took its step by that answer, and its contract tells the cause of each
+-- trouble that it keeps or answers (`stepped`); the settling stops by where that step came to (`follows`). Want of memory is free.
 pub record Causes (who : Caller) (before after : Seen) (old : Settling) (turn : Turn Settled) : Type 0 where
   pub answer : Answer
   pub made : Makes who (settle_ask old) answer before after
   pub tells : Tells old answer turn
   pub exact : StopsExactly old answer turn
+  pub part : Part
+  pub part_turn : Turn ℕ
+  pub stepped : PartStepped who before after old.part answer part part_turn
+  pub follows : Follows old (next_of part part_turn) turn

@@ -44,3 +44,9 @@ abbrev pub GivesBack : Settling → Turn Settled → Type 0
 GivesBack n More = Unit {0}
 GivesBack n (Ended x) = IsFree n.part
 GivesBack n (Stopped t) = t ≢ trouble.Memory → IsFree n.part
+
+-- .. by its calls: of the leases that they took none is left that no call gave back
+abbrev pub AreReturned : List Deed → Turn Settled → Type 0
+AreReturned h More = Unit {0}
+AreReturned h (Ended x) = outstanding h ≡ []
+AreReturned h (Stopped t) = t ≢ trouble.Memory → outstanding h ≡ []

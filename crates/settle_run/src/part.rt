@@ -2,7 +2,7 @@
 
 ghost use Rattle.std.specs.Prelude.{◌≡◌, ◌<◌, List};
 ghost use Rattle.cloud_trait.specs.Call.{ask_of};
-ghost use Rattle.cloud_trait.specs.Machine.{Steps, Deed};
+ghost use Rattle.cloud_trait.specs.Machine.{Deed};
 ghost use Rattle.settle_run.specs.Parts.{left_turn, recovered_turn, part_of_client, part_of_tree, part_of_page};
 
 use cloud_trait::call::Call;
@@ -39,7 +39,8 @@ impl Drop for Part {
 }
 
 impl Part {
-    ghost use Rattle.settle_run.specs.Parts.{part_ask, part_applying, part_received, part_again, IsSoundPart, PartLeads, KeepsPart, PartWent};
+    ghost use Rattle.settle_run.specs.Parts.{part_ask, part_applying, part_received, part_again, IsSoundPart, PartWent};
+    ghost use Rattle.settle_run.specs.Stepped.{PartSteps};
     ghost use Rattle.settle_run.specs.Ending.{part_left};
 
     /// The recovery of a client, before its first call.
@@ -110,7 +111,7 @@ impl Part {
     /// Makes the call in hand, and does the local work up to the next one. Ended gives the number of deletions of a checkpoint that
     /// failed.
     pub(crate) fn step<C: Cloud>(&mut self, alloc: Global, cloud: &mut C, who: Who) -> Turn<u64>
-        ensures steps { Steps part_ask PartLeads KeepsPart who (C.seen cloud.old) (C.seen cloud.new) self.old self.new result }
+        ensures steps { PartSteps who (C.seen cloud.old) (C.seen cloud.new) self.old self.new result }
         ensures sound { IsSoundPart self.old }
         // Each step that goes on leaves fewer calls.
         ensures less { (h : List Deed) → PartWent h self.old → result ≡ Turn.More → part_left self.new < part_left self.old }

@@ -43,7 +43,7 @@ use Rattle.recover_run.proofs.Keeping.{all_new}
 use Rattle.recover_run.proofs.Knowing.{KnowsAt, KnowsTaken}
 use Rattle.recover_run.proofs.Marks.{brought_all}
 use Rattle.recover_run.proofs.Meaning.{Knows, came_known}
-use Rattle.recover_run.proofs.Standing.{stands_names}
+use Rattle.recover_run.proofs.Leases.{stands_names}
 use Rattle.recover_run.proofs.Sweeping.{all_has, each_has}
 use Rattle.recover_run.proofs.Within.{went_few}
 

@@ -5,7 +5,7 @@ use Rattle.client_work.proofs.opening.OpeningRun.step.Goals as goal
 
 pub unreachable-requires : goal.unreachable-requires
 unreachable-requires g c =
-    never_nothing c.self.inside.run _ c.step.ensures.steps.answer c.step.result c.step.ensures.steps.took (c.in-Ended-Nothing.is ∙ ap Ended c.in-Ended-Nothing.field-0-is) c.self.invariant
+    never_nothing c.self.inside.run _ c.step.ensures.steps.did.answer c.step.result c.step.ensures.steps.did.took (c.in-Ended-Nothing.is ∙ ap Ended c.in-Ended-Nothing.field-0-is) c.self.invariant
 
 pub invariant_of-result : goal.invariant_of-result
-invariant_of-result g c = goes_on c.self.inside.run _ c.step.ensures.steps.answer c.step.result c.step.ensures.steps.took c.in-More.is c.self.invariant
+invariant_of-result g c = goes_on c.self.inside.run _ c.step.ensures.steps.did.answer c.step.result c.step.ensures.steps.did.took c.in-More.is c.self.invariant

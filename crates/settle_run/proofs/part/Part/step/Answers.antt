@@ -13,7 +13,7 @@ returns-in-Client-clause-less g c = λ h went.
 
 pub returns-in-Tree-clause-steps : goal.returns-in-Tree-clause-steps
 returns-in-Tree-clause-steps g c =
-    making_steps c.in-Tree.field-0 _ _ _ c.in-Tree.machine _ _ _ _ c.in-Tree.is c.left_turn.ensures c.step-in-Tree.ensures.steps.did
+    making_steps c.in-Tree.field-0 _ _ _ c.in-Tree.machine _ _ _ _ c.in-Tree.is c.left_turn.ensures c.step-in-Tree.ensures.steps
 
 pub returns-in-Tree-clause-less : goal.returns-in-Tree-clause-less
 returns-in-Tree-clause-less g c = λ h went.
@@ -22,7 +22,7 @@ returns-in-Tree-clause-less g c = λ h went.
 
 pub returns-in-Page-clause-steps : goal.returns-in-Page-clause-steps
 returns-in-Page-clause-steps g c =
-    paging_steps c.in-Page.field-0 c.in-Page.field-1 _ _ _ c.in-Page.machine _ _ _ _ c.in-Page.is c.left_turn-in-Page.ensures c.step-in-Page.ensures.steps.did
+    paging_steps c.in-Page.field-0 c.in-Page.field-1 _ _ _ c.in-Page.machine _ _ _ _ c.in-Page.is c.left_turn-in-Page.ensures c.step-in-Page.ensures.steps
 
 pub returns-in-Page-clause-less : goal.returns-in-Page-clause-less
 returns-in-Page-clause-less g c = λ h went.

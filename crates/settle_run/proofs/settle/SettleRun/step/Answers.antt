@@ -6,16 +6,16 @@ use Rattle.settle_run.specs.Meaning.{Went, Meant, Causes}
 use Rattle.settle_run.specs.Settling.{Settling, settle_ask, SettleLeads, KeepsSettling}
 use Rattle.settle_run.specs.Standing.{GivesBack}
 use Rattle.settle_run.specs.contracts.settle.SettleRun.{the_view}
-use Rattle.settle_run.proofs.Causing.{took_tells, took_exact}
+use Rattle.settle_run.proofs.Causing.{took_tells, took_exact, took_follows}
 use Rattle.settle_run.proofs.Ending.{turn_less}
-use Rattle.settle_run.proofs.Holding.{went_holds, took_gives}
+use Rattle.settle_run.proofs.Holding.{went_holds, took_gives, took_returns}
 use Rattle.settle_run.proofs.Ranging.{went_stands, own_calls, took_means}
 use Rattle.settle_run.proofs.Stepping.{followed}
 use Rattle.settle_run.proofs.settle.SettleRun.step.Goals as goal
 
 pub returns-clause-steps : goal.returns-clause-steps
 returns-clause-steps g c =
-    let s = c.step-turn.ensures.steps in
+    let s = c.step-turn.ensures.steps.did in
     subst
     (λ (old : Settling). Steps settle_ask SettleLeads KeepsSettling c.args.who (g.C.Cloud.seen c.args.cloud.now) (g.C.Cloud.seen c.step-turn.new.cloud) old c.follow-next.new.self c.follow-next.result)
     c.self.view_is
@@ -27,7 +27,7 @@ returns-clause-steps g c =
 
 pub returns-clause-less : goal.returns-clause-less
 returns-clause-less g c =
-    let s = c.step-turn.ensures.steps in
+    let s = c.step-turn.ensures.steps.did in
     subst
     (λ (old : Settling). (h : List Deed) → Went h old → c.follow-next.result ≡ More → calls_left c.follow-next.new.self < calls_left old)
     c.self.view_is
@@ -41,7 +41,7 @@ returns-clause-holds g c = λ h went. went_holds h c.args.self.now went
 
 pub returns-clause-gives_back : goal.returns-clause-gives_back
 returns-clause-gives_back g c =
-    let s = c.step-turn.ensures.steps in
+    let s = c.step-turn.ensures.steps.did in
     subst
     (λ (old : Settling). (h : List Deed) → Went h old → GivesBack c.follow-next.new.self c.follow-next.result)
     c.self.view_is
@@ -52,7 +52,7 @@ returns-clause-gives_back g c =
 
 pub returns-clause-means : goal.returns-clause-means
 returns-clause-means g c =
-    let s = c.step-turn.ensures.steps in
+    let s = c.step-turn.ensures.steps.did in
     subst
     (λ (old : Settling). Meant c.args.who (g.C.Cloud.seen c.args.cloud.now) (g.C.Cloud.seen c.step-turn.new.cloud) old c.follow-next.new.self c.follow-next.result)
     c.self.view_is
@@ -64,17 +64,26 @@ returns-clause-means g c =
           (record { who = c.args.who; ask = settle_ask (the_view c.self.inside); answer = s.answer; before = g.C.Cloud.seen c.args.cloud.now; after = g.C.Cloud.seen c.step-turn.new.cloud })
           (the_view c.self.inside) c.follow-next.new.self c.follow-next.result (went_stands h (the_view c.self.inside) went) refl s.made
           (followed (the_view c.self.inside) c.follow-next.new.self c.step-turn.new.self s.answer c.step-turn.result c.follow-next.result s.took c.follow-next.ensures);
+      returned = λ h went.
+          took_returns h
+          (record { who = c.args.who; ask = settle_ask (the_view c.self.inside); answer = s.answer; before = g.C.Cloud.seen c.args.cloud.now; after = g.C.Cloud.seen c.step-turn.new.cloud })
+          (the_view c.self.inside) c.follow-next.new.self c.follow-next.result (went_stands h (the_view c.self.inside) went) refl s.made
+          (followed (the_view c.self.inside) c.follow-next.new.self c.step-turn.new.self s.answer c.step-turn.result c.follow-next.result s.took c.follow-next.ensures);
     })
 
 pub returns-clause-causes : goal.returns-clause-causes
 returns-clause-causes g c =
-    let s = c.step-turn.ensures.steps in
+    let s = c.step-turn.ensures.steps.did in
     subst
     (λ (old : Settling). Causes c.args.who (g.C.Cloud.seen c.args.cloud.now) (g.C.Cloud.seen c.step-turn.new.cloud) old c.follow-next.result)
     c.self.view_is
     (record {
       answer = s.answer;
       made = s.made;
+      part = c.step-turn.new.self;
+      part_turn = c.step-turn.result;
+      stepped = c.step-turn.ensures.steps.stepped;
+      follows = took_follows (the_view c.self.inside) c.follow-next.new.self c.step-turn.new.self c.step-turn.result c.follow-next.result c.follow-next.ensures;
       exact = took_exact (the_view c.self.inside) c.follow-next.new.self s.answer c.follow-next.result
           (followed (the_view c.self.inside) c.follow-next.new.self c.step-turn.new.self s.answer c.step-turn.result c.follow-next.result s.took c.follow-next.ensures);
       tells = took_tells (the_view c.self.inside) c.follow-next.new.self s.answer c.follow-next.result

@@ -19,7 +19,7 @@ use Rattle.cloud_trait.specs.declared.answer.Answer.TheVariants as call
 use Rattle.cloud_trait.specs.declared.message.Message.{Message}
 use Rattle.cloud_trait.specs.declared.turn.Turn.{Turn}
 use Rattle.cloud_trait.specs.declared.turn.Turn.TheVariants.{More, Ended, Stopped}
-use Rattle.cloud_trait.specs.Ask.{Ask, Release}
+use Rattle.cloud_trait.specs.Ask.{Release}
 use Rattle.cloud_trait.specs.Claim.{Claim}
 use Rattle.cloud_trait.specs.Machine.{Goes, Ends, Stops, LeadsBy, Took, Deed, calls_of}
 use Rattle.cloud_trait.specs.Weather.{Fits}
@@ -30,14 +30,17 @@ use Rattle.recover_run.specs.declared.stage.Stage.TheVariants.{ReleasingOld, Tak
 use Rattle.recover_run.specs.declared.stage.RecoverAnswer.{RecoverAnswer}
 use Rattle.recover_run.specs.declared.stage.RecoverAnswer.TheVariants.{Nothing}
 use Rattle.recover_run.specs.Calls.{Calls, head_in}
-use Rattle.recover_run.specs.Causing.{known_ids, NothingNew, Counts, BreaksHead, BreaksMessage, HasGathered, IsWaiting, Shows, Keeps, Answers, IsAbsent}
-use Rattle.recover_run.specs.Gathering.{Gathered, gathered_with, lost_now}
-use Rattle.recover_run.specs.Ids.{new_ids, has_some, rest_of}
-use Rattle.recover_run.specs.Items.{items_of, ids_of}
+use Rattle.recover_run.specs.Causing.{NothingNew, Counts, BreaksHead, BreaksMessage, IsSifted, IsWaiting, Shows, Keeps, Answers, IsAbsent}
+use Rattle.recover_run.specs.declared.wanted.Wanted.{Wanted}
+use Rattle.recover_run.specs.Counting.{wanted_by, known_indices}
+use Rattle.recover_run.specs.Gathering.{lost_now}
+use Rattle.recover_run.specs.Ids.{rest_of}
 use Rattle.recover_run.specs.Recovery.{Recovery, Step, recovery_ask, recovery_next, ask_at, next_at, under, delete_next, send_next, atomic_queue, damaged_message, none_read, bytes_read, head_read, phase_read, behind, stopping, gathered_by, deleting, decided, send_at, swept_with, ended, KeepsLeases}
 use Rattle.recover_run.specs.Standing.{Went}
-use Rattle.recover_run.proofs.Seeing.{SeenAt, FreshIs, received_new, went_seen}
-use Rattle.recover_run.proofs.Standing.{StandsAt, went_stands}
+use Rattle.recover_run.proofs.Heard.{FreshIs, HeardAt, AscendAt, IsHeard, loses_heard, went_heard, went_ascend}
+use Rattle.recover_run.proofs.Outcomes.{at, listed, gathered}
+use Rattle.recover_run.proofs.Outcomes as step
+use Rattle.recover_run.proofs.Leases.{EndsAt, stands_ends, went_stands}
 
 -- the step keeps this ending, or stops so
 abbrev pub NextKeeps : Result RecoverAnswer Trouble → Step → Type 0
@@ -165,55 +168,42 @@ stale_is : (b : Bool) (None_new : Type 0) → FreshIs b None_new → None_new �
 stale_is true None_new fresh none = absurd (fresh none)
 stale_is false None_new fresh none = refl
 
-waiting_is : (r : Recovery) (g : Gathered) (have need : ℕ) (next : Step) → have ≡ length g.kept → need ≡ r.wanted.count
-    → NextKeeps (Err (trouble.Waiting (length g.kept) r.wanted.count)) next → NextKeeps (Err (trouble.Waiting have need)) next
-waiting_is r g have need next have_is need_is keeps =
-    subst (λ (n : ℕ). NextKeeps (Err (trouble.Waiting n need)) next) (sym have_is)
-    (subst (λ (n : ℕ). NextKeeps (Err (trouble.Waiting (length g.kept) n)) next) (sym need_is) keeps)
+-- the counted records are what the calls brought, so the step waits with these numbers
+gathered_waits : (q : Recovery) (calls : Calls) (have need : ℕ) → IsHeard q calls → FreshIs q.gathered.fresh (NothingNew calls) → NothingNew calls
+    → have ≡ length (known_indices (wanted_by calls) calls) → need ≡ (wanted_by calls).count → have < need
+    → NextKeeps (Err (trouble.Waiting have need)) (decided (listed q []))
+gathered_waits q calls have need heard fresh none have_is need_is fewer =
+    let kept : have ≡ length q.gathered.kept = have_is ∙ sym (heard.kept.many ∙ ap (λ (w : Wanted). length (known_indices w calls)) heard.wanted) in
+    let count : need ≡ q.wanted.count = need_is ∙ sym (ap (λ (w : Wanted). w.count) heard.wanted) in
+    subst (λ (n : ℕ). NextKeeps (Err (trouble.Waiting n need)) (decided (listed q []))) (sym kept)
+    (subst (λ (n : ℕ). NextKeeps (Err (trouble.Waiting (length q.gathered.kept) n)) (decided (listed q []))) (sym count)
+    (decided_waits (listed q []) (omega (arith, fewer, kept, count)) (stale_is q.gathered.fresh (NothingNew calls) fresh none)))
 
-received_waits : (r : Recovery) (cs : Calls) (q : Ask) (ms : List Message) (items : List AtomicItem) → r.gathered.seen ≡ known_ids cs → items_of ms ≡ Ok items
-    → lost_now r.wanted r.gathered items ≡ [] → NothingNew ((q, call.Received ms) ∷ cs)
-    → length (gathered_with r.wanted r.gathered items).kept < r.wanted.count
-    → NextKeeps (Err (trouble.Waiting (length (gathered_with r.wanted r.gathered items).kept) r.wanted.count)) (next_at Receiving r (call.Received ms))
-received_waits r cs q ms items seen reads lost none fewer =
-    let n : Recovery = record r { gathered = gathered_with r.wanted r.gathered items } in
-    let stale : has_some (new_ids r.gathered.seen (ids_of items)) ≡ false =
-    ap has_some (received_new r.gathered.seen cs ms items reads seen) ∙ ap has_some none in
-    subst (λ (o : Result (List AtomicItem) Message). NextKeeps (Err (trouble.Waiting (length n.gathered.kept) r.wanted.count)) (gathered_by r o)) (sym reads)
-    (subst (λ (l : List ℕ). NextKeeps (Err (trouble.Waiting (length n.gathered.kept) r.wanted.count)) (deleting n l)) (sym lost)
-    (decided_waits (record n { ids = [] }) fewer stale))
-
-deleted_waits : (r : Recovery) → rest_of r.ids ≡ [] → r.gathered.fresh ≡ false → length r.gathered.kept < r.wanted.count
-    → NextKeeps (Err (trouble.Waiting (length r.gathered.kept) r.wanted.count)) (next_at Deleting r call.Done)
-deleted_waits r none stale fewer =
-    subst (λ (l : List ℕ). NextKeeps (Err (trouble.Waiting (length r.gathered.kept) r.wanted.count)) (deleting r l)) (sym none)
-    (decided_waits (record r { ids = [] }) fewer stale)
-
-waiting_kept : (r : Recovery) (cs : Calls) (q : Ask) (a : Answer) (have need : ℕ) → SeenAt r.stage cs r → IsWaiting r a ((q, a) ∷ cs) have need
+-- no lost record is left to be deleted, so it is decided
+sifted_waits : (r : Recovery) (cs : Calls) (a : Answer) (have need : ℕ) → HeardAt r.stage cs r → AscendAt r.stage r → IsWaiting r a ((recovery_ask r, a) ∷ cs) have need
     → NextKeeps (Err (trouble.Waiting have need)) (recovery_next r a)
-waiting_kept r cs q a have need seen w =
-    waiting_is r w.gathered have need (recovery_next r a) w.have_is w.need_is
-    (on w.gathered w.is w.none (subst (λ (n : ℕ). n < r.wanted.count) w.have_is (subst (λ (n : ℕ). have < n) w.need_is w.fewer)))
-  where
-    on : (g : Gathered) → HasGathered r a g → NothingNew ((q, a) ∷ cs) → length g.kept < r.wanted.count
-        → NextKeeps (Err (trouble.Waiting (length g.kept) r.wanted.count)) (recovery_next r a)
-    on g (inl (stage, (ms, (items, is, reads, lost, has)))) none fewer =
-        subst (λ (k : Gathered). NextKeeps (Err (trouble.Waiting (length k.kept) r.wanted.count)) (recovery_next r a)) (sym has)
-        (at_stage (Err (trouble.Waiting (length (gathered_with r.wanted r.gathered items).kept) r.wanted.count)) r a (call.Received ms) Receiving stage is
-        (received_waits r cs q ms items (subst (λ (s : Stage). SeenAt s cs r) stage seen) reads lost
-        (subst (λ (b : Answer). NothingNew ((q, b) ∷ cs)) is none)
-        (subst (λ (k : Gathered). length k.kept < r.wanted.count) has fewer)))
-    on g (inr (stage, is, rest, has)) none fewer =
-        let seen_now : SeenAt Deleting cs r = subst (λ (s : Stage). SeenAt s cs r) stage seen in
-        let none_now : NothingNew ((q, call.Done) ∷ cs) = subst (λ (b : Answer). NothingNew ((q, b) ∷ cs)) is none in
-        subst (λ (k : Gathered). NextKeeps (Err (trouble.Waiting (length k.kept) r.wanted.count)) (recovery_next r a)) (sym has)
-        (at_stage (Err (trouble.Waiting (length r.gathered.kept) r.wanted.count)) r a call.Done Deleting stage is
-        (deleted_waits r rest (stale_is r.gathered.fresh (NothingNew cs) seen_now.1 none_now)
-        (subst (λ (k : Gathered). length k.kept < r.wanted.count) has fewer)))
+sifted_waits r cs a have need heard up w = on w.sifted where
+  Waits : Recovery → Answer → Type 0
+  Waits m b = HeardAt m.stage cs m → AscendAt m.stage m → IsWaiting m b ((recovery_ask m, b) ∷ cs) have need → NextKeeps (Err (trouble.Waiting have need)) (recovery_next m b)
+
+  on : IsSifted r a → NextKeeps (Err (trouble.Waiting have need)) (recovery_next r a)
+  on (inl (stage, (ms, (items, is, reads, lost)))) =
+      let there : Waits (at r Receiving) (call.Received ms) = λ h u v.
+      let heard_now = loses_heard cs (gathered (at r Receiving) items) (lost_now r.wanted r.gathered items) h u (step.received r ms items reads) in
+      subst (λ (o : Result (List AtomicItem) Message). NextKeeps (Err (trouble.Waiting have need)) (gathered_by (at r Receiving) o)) (sym reads)
+      (subst (λ (l : List ℕ). NextKeeps (Err (trouble.Waiting have need)) (deleting (gathered (at r Receiving) items) l)) (sym lost)
+      (gathered_waits (gathered (at r Receiving) items) _ have need heard_now.0 heard_now.1 v.none v.have_is v.need_is v.fewer)) in
+      subst (λ (m : Recovery). Waits m a) (sym (ap (at r) stage)) (subst (Waits (at r Receiving)) (sym is) there) heard up w
+  on (inr (stage, is, rest)) =
+      let there : Waits (at r Deleting) call.Done = λ h u v.
+      let heard_now = loses_heard cs (at r Deleting) (rest_of r.ids) h u (step.one_gone r) in
+      subst (λ (l : List ℕ). NextKeeps (Err (trouble.Waiting have need)) (deleting (at r Deleting) l)) (sym rest)
+      (gathered_waits (at r Deleting) _ have need heard_now.0 heard_now.1 v.none v.have_is v.need_is v.fewer) in
+      subst (λ (m : Recovery). Waits m a) (sym (ap (at r) stage)) (subst (Waits (at r Deleting)) (sym is) there) heard up w
 
 -- ---- every trouble that is shown
 
-shown_kept : (r : Recovery) (cs : Calls) (a : Answer) (t : Trouble) → SeenAt r.stage cs r → Fits (recovery_ask r) a → t ≢ trouble.Memory
+shown_kept : (r : Recovery) (cs : Calls) (a : Answer) (t : Trouble) → HeardAt r.stage cs r × AscendAt r.stage r → Fits (recovery_ask r) a → t ≢ trouble.Memory
     → Shows r a ((recovery_ask r, a) ∷ cs) t → NextKeeps (Err t) (recovery_next r a)
 shown_kept r cs a trouble.Failed seen fits other (counts, is) =
     subst (λ (b : Answer). NextKeeps (Err trouble.Failed) (recovery_next r b)) (sym is) (failed_kept r.stage r counts)
@@ -225,7 +215,7 @@ shown_kept r cs a (trouble.Damaged where_it_is at) seen fits other (inl breaks) 
 shown_kept r cs a (trouble.Damaged where_it_is at) seen fits other (inr breaks) = message_kept r a where_it_is at breaks
 shown_kept r cs a (trouble.Exhausted what) seen fits other (epoch, (stage, (v, (h, is, reads, last)))) =
     subst (λ (c : Counter). NextKeeps (Err (trouble.Exhausted c)) (recovery_next r a)) (sym epoch) (epoch_kept r a v h stage is reads last)
-shown_kept r cs a (trouble.Waiting have need) seen fits other w = waiting_kept r cs (recovery_ask r) a have need seen w
+shown_kept r cs a (trouble.Waiting have need) seen fits other w = sifted_waits r cs a have need seen.0 seen.1 w
 shown_kept r cs a trouble.Memory seen fits other shows = absurd (other refl)
 shown_kept r cs a (trouble.Absent page) seen fits other shows = absurd shows
 shown_kept r cs a (trouble.NotALeaf page) seen fits other shows = absurd shows
@@ -243,7 +233,7 @@ pub took_exact : (client : ℕ) (aim : Aim) (old : Option Claim) (h : List Deed)
     → Fits (recovery_ask r) a → Took (LeadsBy recovery_next) KeepsLeases r a n turn
     → (t : Trouble) → t ≢ trouble.Memory → Shows r a ((recovery_ask r, a) ∷ calls_of h) t → Keeps n turn (Err t)
 took_exact client aim old h r n a turn went fits took t other shows =
-    keeps_so r n a turn (Err t) took (shown_kept r (calls_of h) a t (went_seen client aim old h r went) fits other shows)
+    keeps_so r n a turn (Err t) took (shown_kept r (calls_of h) a t (went_heard client aim old h r went, went_ascend client aim old h r went) fits other shows)
 
 -- ---- an absent head
 
@@ -267,19 +257,18 @@ ended_answers n None ending e = absurd (cc (e))
 never_kept : (r : Recovery) (ending : Result RecoverAnswer Trouble) → r.ending ≡ None → r.ending ≡ Some ending → ⊥
 never_kept r ending none e = absurd (cc (none, e))
 
-answers_at : (st : Stage) (client : ℕ) (aim : Aim) (old : Option Claim) (h : List Deed) (r : Recovery) (a : Answer) (ending : Result RecoverAnswer Trouble)
-    → StandsAt st client aim old h r → r.ending ≡ Some ending → NextAnswers ending (next_at st r a)
-answers_at ReleasingOld client aim old h r a ending (l, none, was, is) e = absurd (never_kept r ending (ap (λ (m : Recovery). m.ending) is) e)
-answers_at Taking client aim old h r a ending (none, is) e = absurd (never_kept r ending (ap (λ (m : Recovery). m.ending) is) e)
-answers_at Getting client aim old h r a ending (has, none) e = absurd (never_kept r ending none e)
-answers_at Receiving client aim old h r a ending (has, none) e = absurd (never_kept r ending none e)
-answers_at Deleting client aim old h r a ending (has, none) e = absurd (never_kept r ending none e)
-answers_at Sending client aim old h r a ending (has, none) e = absurd (never_kept r ending none e)
-answers_at Putting client aim old h r a ending (has, none) e = absurd (never_kept r ending none e)
-answers_at Clearing client aim old h r a ending (has, none) e = absurd (never_kept r ending none e)
-answers_at Sweeping client aim old h r a ending (has, none) e = absurd (never_kept r ending none e)
-answers_at Releasing client aim old h r a ending (has, ends) e = ended_answers (record r { stage = Finished; lease = None; ending = None }) r.ending ending e
-answers_at Finished client aim old h r a ending stands e = absurd stands
+answers_at : (st : Stage) (r : Recovery) (a : Answer) (ending : Result RecoverAnswer Trouble) → EndsAt st r.ending → r.ending ≡ Some ending → NextAnswers ending (next_at st r a)
+answers_at ReleasingOld r a ending none e = absurd (never_kept r ending none e)
+answers_at Taking r a ending none e = absurd (never_kept r ending none e)
+answers_at Getting r a ending none e = absurd (never_kept r ending none e)
+answers_at Receiving r a ending none e = absurd (never_kept r ending none e)
+answers_at Deleting r a ending none e = absurd (never_kept r ending none e)
+answers_at Sending r a ending none e = absurd (never_kept r ending none e)
+answers_at Putting r a ending none e = absurd (never_kept r ending none e)
+answers_at Clearing r a ending none e = absurd (never_kept r ending none e)
+answers_at Sweeping r a ending none e = absurd (never_kept r ending none e)
+answers_at Releasing r a ending some e = ended_answers (record r { stage = Finished; lease = None; ending = None }) r.ending ending e
+answers_at Finished r a ending none e = absurd none
 
 answers_so : (r n : Recovery) (a : Answer) (turn : Turn RecoverAnswer) (ending : Result RecoverAnswer Trouble) → Took (LeadsBy recovery_next) KeepsLeases r a n turn
     → NextAnswers ending (recovery_next r a) → Answers turn ending
@@ -290,4 +279,5 @@ answers_so r n a (Stopped t) ending took answers = λ k. subst (NextAnswers endi
 pub took_answers : (client : ℕ) (aim : Aim) (old : Option Claim) (h : List Deed) (r n : Recovery) (a : Answer) (turn : Turn RecoverAnswer) → Went client aim old h r
     → Took (LeadsBy recovery_next) KeepsLeases r a n turn → (ending : Result RecoverAnswer Trouble) → r.ending ≡ Some ending → Answers turn ending
 took_answers client aim old h r n a turn went took ending e =
-    answers_so r n a turn ending took (answers_at r.stage client aim old h r a ending (went_stands client aim old h r went) e)
+    answers_so r n a turn ending took
+    (answers_at r.stage r a ending (stands_ends r.stage client aim old h r (went_stands client aim old h r went)) e)

@@ -1,0 +1,55 @@
+-- What a step of a recovery is, all of it by the one answer that the cloud gave.
+use Rattle.std.specs.Prelude.{ℕ, ◌≡◌, ◌≢◌, List, ◌∷◌, Option, Some, Result, Ok, Err}
+use Rattle.db_base.specs.declared.trouble.Trouble.{Trouble}
+use Rattle.db_base.specs.declared.trouble.Trouble.TheVariants as trouble
+use Rattle.cloud_trait.specs.declared.answer.Answer.{Answer}
+use Rattle.cloud_trait.specs.declared.answer.Answer.TheVariants as call
+use Rattle.cloud_trait.specs.declared.turn.Turn.{Turn}
+use Rattle.cloud_trait.specs.declared.turn.Turn.TheVariants.{Stopped}
+use Rattle.cloud_trait.specs.Caller.{Caller}
+use Rattle.cloud_trait.specs.Claim.{Claim}
+use Rattle.cloud_trait.specs.Machine.{LeadsBy, Steps, Deed, calls_of}
+use Rattle.cloud_trait.specs.Seen.{Seen}
+use Rattle.cloud_trait.specs.State.{CloudState}
+use Rattle.calm_calls.specs.Calm.{AreCalm, AreAlone}
+use Rattle.recover_run.specs.declared.stage.Aim.{Aim}
+use Rattle.recover_run.specs.declared.stage.RecoverAnswer.{RecoverAnswer}
+use Rattle.recover_run.specs.declared.stage.RecoverAnswer.TheVariants.{Nothing}
+use Rattle.recover_run.specs.Causing.{Shows, Tells, Keeps, Answers, IsAbsent}
+use Rattle.recover_run.specs.Emptying.{IsBeginning, HadMemory, LeavesNone, deed_of}
+use Rattle.recover_run.specs.Meaning.{MeansTurn, HandsNone}
+use Rattle.recover_run.specs.Missing.{NoneMissing, WaitsForNone}
+use Rattle.recover_run.specs.Recovery.{Recovery, recovery_ask, recovery_next, KeepsLeases}
+use Rattle.recover_run.specs.Standing.{Went, AreReturned}
+use Rattle.recover_run.specs.Well.{StopsWell}
+
+-- What this answer came to behind the calls of a client's recovery, which is that client's (`own`) and for that (`aims`). It keeps or answers a
+-- trouble only where it is shown (`tells`), and wherever one is (`owes`); it is to answer that there is nothing wherever a settling reads no head
+-- (`absent`); and what it kept it answers (`answers`). An answer means what the calls were (`done`), no home is handed out but behind Opened
+-- (`hands`), and before an end each lease was given back by a call, but for that of a home (`returned`). Where all calls were calm, it stops for
+-- what the cloud holds alone (`well`); where nobody else acted, it waits for no record if none was missing at the beginning (`waits`), and leaves no
+-- message (`empties`).
+pub record Means (who : Caller) (before after : Seen) (client : ℕ) (aim : Aim) (former : Option Claim) (h : List Deed) (old : Recovery) (answer : Answer)
+    (new : Recovery) (turn : Turn RecoverAnswer) : Type 0 where
+  pub own : old.client ≡ client
+  pub aims : old.aim ≡ aim
+  pub tells : Tells old answer ((recovery_ask old, answer) ∷ calls_of h) new turn
+  pub owes : (t : Trouble) → t ≢ trouble.Memory → Shows old answer ((recovery_ask old, answer) ∷ calls_of h) t → Keeps new turn (Err t)
+  pub absent : IsAbsent old answer → Keeps new turn (Ok Nothing)
+  pub answers : (ending : Result RecoverAnswer Trouble) → old.ending ≡ Some ending → Answers turn ending
+  pub done : MeansTurn client aim former ((recovery_ask old, answer) ∷ calls_of h) new turn
+  pub hands : HandsNone new turn
+  pub returned : AreReturned client aim former (deed_of who old answer before after ∷ h) turn
+  pub well : AreCalm (deed_of who old answer before after ∷ h) → StopsWell turn
+  pub waits : AreCalm (deed_of who old answer before after ∷ h) → AreAlone (deed_of who old answer before after ∷ h)
+      → (first : CloudState) → IsBeginning (deed_of who old answer before after ∷ h) first → NoneMissing client first → WaitsForNone turn
+  pub empties : HadMemory h → AreCalm (deed_of who old answer before after ∷ h) → AreAlone (deed_of who old answer before after ∷ h)
+      → (first : CloudState) → IsBeginning (deed_of who old answer before after ∷ h) first → LeavesNone client first after turn
+
+-- The code made the call in hand and took the step that its answer leads to. Where the answer is want of memory, it stops for it. Whichever calls
+-- the recovery came by, the answer came to this behind them.
+pub record Stepped (who : Caller) (before after : Seen) (old new : Recovery) (turn : Turn RecoverAnswer) : Type 0 where
+  pub did : Steps recovery_ask (LeadsBy recovery_next) KeepsLeases who before after old new turn
+  pub memory : did.answer ≡ call.Memory → turn ≡ Stopped trouble.Memory
+  pub means : (client : ℕ) (aim : Aim) (former : Option Claim) (h : List Deed) → Went client aim former h old
+      → Means who before after client aim former h old did.answer new turn

@@ -3,3 +3,4 @@ pub mod Looks
 pub mod Chains
 pub mod Totals
 pub mod Stops
+pub mod Answered

@@ -5,13 +5,13 @@ use Rattle.std.specs.List.{All, AllPairs, Contains}
 use Rattle.std.proofs.lemmas.List.Elements.{All-head, All-tail, All-cons, All-nil, All-append}
 use Rattle.std.proofs.lemmas.List.Kept.{AllPairs-cons}
 use Rattle.std.proofs.lemmas.Bool.{cases_lt}
-use Rattle.db_base.specs.Ids.{IsClient}
+use Rattle.db_base.specs.Ids.{IsPage}
 use Rattle.db_base.specs.declared.trouble.Trouble.{Trouble}
 use Rattle.db_base.specs.declared.names.ObjName.TheVariants.{Page}
 use Rattle.cloud_trait.specs.State.{CloudState, newest}
 use Rattle.leaf_view.specs.Leaf.{Leaf}
 use Rattle.tree_meaning.specs.Chain.{Leads}
-use Rattle.world_audit.specs.Stop.{pages_of, Meet, Comes, Passes, ChainStops, ChainIsWhole, HeadReads, HeadsRead, AllHeadsRead, HeadIsNone, HeadStops, RootStops, SlipOr, Stopped}
+use Rattle.world_audit.specs.Stop.{pages_of, Meet, Comes, Passes, ChainStops, ChainIsWhole, HeadReads, HeadsRead, AllHeadsRead, HeadStops, RootStops, SlipOr, Stopped}
 use Rattle.tree_meaning.proofs.ChainLemmas.{leads_on, right_page}
 
 meet_on : (low : List ℕ) (leaves : List Leaf) (l : Leaf) (mid high : List ℕ)
@@ -46,26 +46,28 @@ pub comes_first : (s : CloudState) (tree : ℕ) → Comes s tree [] 1 []
 comes_first s tree = record { leaves = []; lead = refl; over = refl; meet = refl; once = λ i j d lt within. absurd (omega arith) }
 
 pub comes_on : (s : CloudState) (tree : ℕ) (pages more : List ℕ) (page to : ℕ) (low high : List ℕ) (next : Option ℕ)
-    → Comes s tree pages page low → next ≡ Some to → Passes (newest s (Page tree page)) tree page pages low high next
+    → Comes s tree pages page low → IsPage page → (Contains pages page → ⊥) → next ≡ Some to → Passes (newest s (Page tree page)) tree page low high next
     → more ≡ pages ++ page ∷ [] → Comes s tree more to high
-comes_on s tree pages more page to low high next c e p m = record {
+comes_on s tree pages more page to low high next c is_page first e p m = record {
   leaves = c.leaves ++ p.leaf ∷ [];
-  lead = subst (λ (n : ℕ). Leads s tree 1 (c.leaves ++ p.leaf ∷ []) n) (right_page p.leaf.right to (sym e ∙ p.right)) (leads_on s tree 1 c.leaves page p.leaf c.lead p.is_page p.read);
+  lead = subst (λ (n : ℕ). Leads s tree 1 (c.leaves ++ p.leaf ∷ []) n) (right_page p.leaf.right to (sym e ∙ p.right)) (leads_on s tree 1 c.leaves page p.leaf c.lead is_page p.read);
   over = m ∙ (ap (λ (ps : List ℕ). ps ++ page ∷ []) c.over ∙ pages_on s tree 1 c.leaves page p.leaf c.lead);
   meet = meet_on [] c.leaves p.leaf low high c.meet p.begins (p.ends to e);
-  once = subst (AllPairs Apart) (sym m) (once_on pages page c.once (all_apart pages page p.first));
+  once = subst (AllPairs Apart) (sym m) (once_on pages page c.once (all_apart pages page first));
 }
 
 -- a walk that passes a page with no right page is over a whole chain
 pub chain_ends : (s : CloudState) (tree : ℕ) (pages : List ℕ) (page : ℕ) (low high : List ℕ) (next : Option ℕ)
-    → Comes s tree pages page low → next ≡ None → Passes (newest s (Page tree page)) tree page pages low high next → ChainIsWhole s tree
-chain_ends s tree pages page low high next c e p = record {
+    → Comes s tree pages page low → IsPage page → (Contains pages page → ⊥) → next ≡ None → Passes (newest s (Page tree page)) tree page low high next → ChainIsWhole s tree
+chain_ends s tree pages page low high next c is_page first e p = record {
   pages = pages;
   page = page;
   low = low;
   high = high;
   comes = c;
-  last = subst (λ (n : Option ℕ). Passes (newest s (Page tree page)) tree page pages low high n) e p;
+  is_page = is_page;
+  first = first;
+  last = subst (λ (n : Option ℕ). Passes (newest s (Page tree page)) tree page low high n) e p;
 }
 
 -- no client is below the first
@@ -82,14 +84,6 @@ heads_on s n client e before here k is less = on (cases_lt k (n + 1))
 
 pub heads_all : (s : CloudState) → HeadsRead s 65 → AllHeadsRead s
 heads_all s below k is = below k is (omega (arith, is.most))
-
--- a head stops, behind those that read
-pub head_stops : (s : CloudState) (n client : ℕ) (e : Trouble) → client ≡ n + 1 → IsClient client → HeadsRead s (n + 1)
-    → SlipOr (HeadIsNone s client e) e → SlipOr (HeadStops s e) e
-head_stops s n client e is valid before (inl failed) = inl failed
-head_stops s n client e is valid before (inr (inl memory)) = inr (inl memory)
-head_stops s n client e is valid before (inr (inr none)) =
-    inr (inr (record { client = client; is_client = valid; is_none = none; earlier = subst (HeadsRead s) (sym is) before }))
 
 -- ---- the parts of a report, in their order
 

@@ -15,6 +15,7 @@ use Rattle.leaf_view.specs.Leaf.{Leaf, IsLeaf, leaf}
 use Rattle.leaf_view.specs.Lookup.{page_at}
 use Rattle.node_codec.specs.Tree.{Tree, IsTree, tree_format}
 use Rattle.tree_meaning.specs.Chain.{IsReadAs, Leads}
+use Rattle.world_audit.specs.Counts.{IsNextPage}
 
 -- the pages of leaves that lead from a page
 abbrev pub pages_of : ℕ → List Leaf → List ℕ
@@ -53,9 +54,13 @@ pub record ChainStops (s : CloudState) (tree : ℕ) (trouble : Trouble) : Type 0
   pub comes : Comes s tree pages page low
   pub why : StopsWalk tree pages page low (newest s (object.Page tree page)) trouble
 
--- the newest version of a client's head can be read: there is none, or it spells a head
+-- a version of a head can be read: there is none, or it spells a head
+abbrev pub IsHeadOrNone : Option (List ℕ) → Type 0
+IsHeadOrNone found = (bytes : List ℕ) → found ≡ Some bytes → (head : Head) × (head_of bytes ≡ Some head)
+
+-- the newest version of a client's head can be read
 abbrev pub HeadReads : CloudState → ℕ → Type 0
-HeadReads s client = (bytes : List ℕ) → newest s (object.Head client) ≡ Some bytes → (head : Head) × (head_of bytes ≡ Some head)
+HeadReads s client = IsHeadOrNone (newest s (object.Head client))
 
 -- so can those of the clients below a number
 abbrev pub HeadsRead : CloudState → ℕ → Type 0
@@ -65,12 +70,16 @@ HeadsRead s n = (client : ℕ) → IsClient client → client < n → HeadReads 
 abbrev pub AllHeadsRead : CloudState → Type 0
 AllHeadsRead s = (client : ℕ) → IsClient client → HeadReads s client
 
--- the newest version of a client's head spells none
-pub record HeadIsNone (s : CloudState) (client : ℕ) (trouble : Trouble) : Type 0 where
+-- a version of a client's head spells none
+pub record SpellsNoHead (found : Option (List ℕ)) (client : ℕ) (trouble : Trouble) : Type 0 where
   pub bytes : List ℕ
-  pub put : newest s (object.Head client) ≡ Some bytes
+  pub put : found ≡ Some bytes
   pub none : head_of bytes ≡ None
   pub is : trouble ≡ Damaged (place.Object (object.Head client)) (head_offset bytes)
+
+-- the newest version of a client's head spells none
+abbrev pub HeadIsNone : CloudState → ℕ → Trouble → Type 0
+HeadIsNone s client trouble = SpellsNoHead (newest s (object.Head client)) client trouble
 
 -- the newest head of a client is none, and he is the first such client
 pub record HeadStops (s : CloudState) (trouble : Trouble) : Type 0 where
@@ -79,12 +88,20 @@ pub record HeadStops (s : CloudState) (trouble : Trouble) : Type 0 where
   pub is_none : HeadIsNone s client trouble
   pub earlier : HeadsRead s client
 
--- the newest root of the tree is none
-pub record RootStops (s : CloudState) (tree : ℕ) (trouble : Trouble) : Type 0 where
+-- a version of the root of a tree spells none
+pub record SpellsNoRoot (found : Option (List ℕ)) (tree : ℕ) (trouble : Trouble) : Type 0 where
   pub bytes : List ℕ
-  pub put : newest s (object.Tree tree) ≡ Some bytes
+  pub put : found ≡ Some bytes
   pub none : (t : Tree) → IsTree bytes t → ⊥
   pub is : trouble ≡ Damaged (place.Object (object.Tree tree)) (offset tree_format bytes)
+
+-- the newest root of the tree is none
+abbrev pub RootStops : CloudState → ℕ → Trouble → Type 0
+RootStops s tree trouble = SpellsNoRoot (newest s (object.Tree tree)) tree trouble
+
+-- the newest root of the tree can be read, or there is none: it tells the least free page
+abbrev pub RootReads : CloudState → ℕ → Type 0
+RootReads s tree = (next : ℕ) × IsNextPage (newest s (object.Tree tree)) next
 
 -- the places that a report of a tree looks at: its pages, its root, and heads
 abbrev pub IsLookedAt : ℕ → Place → Type 0
@@ -103,24 +120,25 @@ MayStop tree (BadFence page expected found) = Unit {0}
 MayStop tree (Loop page) = Unit {0}
 MayStop tree trouble = ⊥
 
--- the walk goes on from a page: its leaf begins at the low key and ends at that of the next page, and was not met before
-pub record Passes (bytes : Option (List ℕ)) (tree page : ℕ) (pages : List ℕ) (low high : List ℕ) (next : Option ℕ) : Type 0 where
+-- the walk goes on from a page: its leaf begins at the low key and ends at that of the next page
+pub record Passes (bytes : Option (List ℕ)) (tree page : ℕ) (low high : List ℕ) (next : Option ℕ) : Type 0 where
   pub leaf : Leaf
-  pub is_page : IsPage page
   pub read : IsReadAs tree page bytes (Ok leaf)
   pub begins : leaf.low ≡ low
   pub ends : (to : ℕ) → next ≡ Some to → leaf.high ≡ Some high
   pub right : next ≡ page_at leaf.right
-  pub first : Contains pages page → ⊥
 
--- the chain of the newest leaves is whole: the walk along them comes to a page that it passes, and that is the last
+-- the chain of the newest leaves is whole: the walk along them comes to a page that it did not meet and that it passes, and
+-- that is the last
 pub record ChainIsWhole (s : CloudState) (tree : ℕ) : Type 0 where
   pub pages : List ℕ
   pub page : ℕ
   pub low : List ℕ
   pub high : List ℕ
   pub comes : Comes s tree pages page low
-  pub last : Passes (newest s (object.Page tree page)) tree page pages low high None
+  pub is_page : IsPage page
+  pub first : Contains pages page → ⊥
+  pub last : Passes (newest s (object.Page tree page)) tree page low high None
 
 -- a look failed, memory ran out, or this is so
 abbrev pub SlipOr : Type 0 → Trouble → Type 0

@@ -3,9 +3,9 @@ ghost use Rattle.cloud_trait.specs.State.{CloudState};
 ghost use Rattle.history.specs.Fold.{of_tree};
 ghost use Rattle.history.specs.Audited.{committed_entry, applied_entry};
 ghost use Rattle.world_audit.specs.Look.{Looked, FailsDark};
-ghost use Rattle.tree_meaning.specs.Chain.{Walked};
-ghost use Rattle.world_audit.specs.Counts.{heads_upto, AreWaiting};
-ghost use Rattle.world_audit.specs.Stop.{ChainIsWhole, AllHeadsRead, Stopped, MayStop};
+ghost use Rattle.world_audit.specs.Counts.{AreWaiting};
+ghost use Rattle.world_audit.specs.Stop.{MayStop};
+ghost use Rattle.world_audit.specs.Finding.{Finds};
 
 use crate::backlogs::messages;
 use crate::entries::{add_applied, add_committed, of_tree};
@@ -169,15 +169,9 @@ impl Audit {
         ensures tree { IfOk result (λ r. r.tree ≡ tree) }
         ensures committed { IfOk result (λ r. r.committed ≡ of_tree tree self.now.committed) }
         ensures order { IfOk result (λ r. r.order ≡ of_tree tree self.now.order) }
-        ensures contents { (s : CloudState) → (C.seen cloud.old).state ≡ Some s
-            → IfOk result (λ r. Walked s tree 0 r.contents) }
-        ensures heads { (s : CloudState) → (C.seen cloud.old).state ≡ Some s
-            → IfOk result (λ r. r.heads ≡ heads_upto s tree (of_tree tree self.now.committed) 64) }
         ensures messages { (s : CloudState) → (C.seen cloud.old).state ≡ Some s
             → IfOk result (λ r. AreWaiting s tree r.messages) }
-        ensures whole { (s : CloudState) → (C.seen cloud.old).state ≡ Some s
-            → OnOk result (ChainIsWhole s tree × AllHeadsRead s) }
-        ensures stopped { (s : CloudState) → (C.seen cloud.old).state ≡ Some s → IfErr result (Stopped s tree) }
+        ensures found { Finds tree (C.seen cloud.old) result }
         ensures looked { Looked (C.seen cloud.old) (C.seen cloud.new) }
         ensures failed { FailsDark result (C.seen cloud.old) (C.seen cloud.new) }
         ensures kinds { IfErr result (MayStop tree) }

@@ -2,16 +2,17 @@
 
 ghost use Rattle.std.specs.Prelude.{◌≡◌, ℕ, ◌≤◌, ◌⊎◌, Some, None, IfOk, OnOk, IfErr};
 ghost use Rattle.std.specs.List.{list_any};
-ghost use Rattle.cloud_trait.specs.State.{CloudState};
 ghost use Rattle.db_base.specs.declared.names.ObjName.TheVariants as object;
 ghost use Rattle.db_base.specs.declared.names.Place.TheVariants as place;
 ghost use Rattle.head_codec.specs.Spelling.{head_of, head_offset};
-ghost use Rattle.world_audit.specs.Counts.{is_under_way, is_of, is_open_in, open_at, heads_upto};
+ghost use Rattle.world_audit.specs.Counts.{is_under_way, is_of, is_open_in, open_count, head_in};
 ghost use Rattle.world_audit.specs.Look.{Looked, FailsDark};
-ghost use Rattle.world_audit.specs.Stop.{SlipOr, HeadReads, AllHeadsRead, HeadIsNone, HeadStops, MayStop};
+ghost use Rattle.world_audit.specs.Stop.{IsHeadOrNone, SpellsNoHead, MayStop};
+ghost use Rattle.world_audit.specs.Finding.{Shown, HeadsFound};
 
 use crate::look::peek;
 use cloud_trait::cloud::Bench;
+use db_base::blob::Blob;
 use db_base::ids::{ClientId, TreeId};
 use db_base::names::{ObjName, Place};
 use db_base::trouble::Trouble;
@@ -66,25 +67,21 @@ fn is_open_in(head: &Head, client: ClientId, tree: TreeId, committed: &[Entry]) 
     is_under_way(head.phase) && has_entry(head, client, tree, committed)
 }
 
-/// 1 where the client's newest head is open with a committed entry of the tree, else 0.
-fn open_head<C: Bench>(
+/// 1 where a version of the client's head is open with a committed entry of the tree, else 0.
+fn open_count(
     alloc: Global,
-    cloud: &mut C,
     client: ClientId,
     tree: TreeId,
     committed: &[Entry],
+    bytes: &Option<Blob>,
 ) -> Result<u64, Trouble>
-    ensures looked { Looked (C.seen cloud.old) (C.seen cloud.new) }
-    ensures failed { FailsDark result (C.seen cloud.old) (C.seen cloud.new) }
     ensures most { IfOk result (λ n. n ≤ 1) }
-    ensures ok { (s : CloudState) → (C.seen cloud.old).state ≡ Some s
-        → IfOk result (λ n. n ≡ open_at s client tree committed.now) }
-    ensures read { (s : CloudState) → (C.seen cloud.old).state ≡ Some s → OnOk result (HeadReads s client) }
-    ensures stopped { (s : CloudState) → (C.seen cloud.old).state ≡ Some s
-        → IfErr result (λ e. SlipOr (HeadIsNone s client e) e) }
+    ensures ok { IfOk result (λ n. n ≡ open_count client tree committed.now (head_in bytes.now)) }
+    ensures read { OnOk result (IsHeadOrNone bytes.now) }
+    ensures stopped { IfErr result (λ e. (e ≡ Trouble.Memory) ⊎ SpellsNoHead bytes.now client e) }
     ensures kinds { IfErr result (MayStop tree) }
 {
-    let Some(bytes) = peek(cloud, ObjName::Head(client))? else {
+    let Some(bytes) = bytes else {
         return Ok(0);
     };
     let head = head_of(alloc, client, bytes.as_slice())?;
@@ -105,11 +102,7 @@ pub(crate) fn open_heads<C: Bench>(
     ensures looked { Looked (C.seen cloud.old) (C.seen cloud.new) }
     ensures failed { FailsDark result (C.seen cloud.old) (C.seen cloud.new) }
     ensures most { IfOk result (λ n. n ≤ 64) }
-    ensures ok { (s : CloudState) → (C.seen cloud.old).state ≡ Some s
-        → IfOk result (λ n. n ≡ heads_upto s tree committed.now 64) }
-    ensures read { (s : CloudState) → (C.seen cloud.old).state ≡ Some s → OnOk result (AllHeadsRead s) }
-    ensures stopped { (s : CloudState) → (C.seen cloud.old).state ≡ Some s
-        → IfErr result (λ e. SlipOr (HeadStops s e) e) }
+    ensures found { Shown (C.seen cloud.old) object.Head (HeadsFound tree committed.now result) }
     ensures kinds { IfErr result (MayStop tree) }
 {
     let mut heads = 0u64;
@@ -117,7 +110,8 @@ pub(crate) fn open_heads<C: Bench>(
         let Ok(client) = ClientId::new(number + 1) else {
             unreachable!();
         };
-        let here = open_head(alloc, cloud, client, tree, committed)?;
+        let bytes = peek(cloud, ObjName::Head(client))?;
+        let here = open_count(alloc, client, tree, committed, &bytes)?;
         heads += here;
     }
     Ok(heads)

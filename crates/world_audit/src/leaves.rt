@@ -1,15 +1,15 @@
 //! The leaves of a tree, from the left.
 
-ghost use Rattle.std.specs.Prelude.{◌≡◌, ℕ, [], ◌∷◌, ◌++◌, ◌⊎◌, map, Some, IfSome, IfOk, IfErr, OnOk};
+ghost use Rattle.std.specs.Prelude.{◌≡◌, ℕ, [], ◌∷◌, ◌++◌, ◌⊎◌, map, List, Some, IfSome, IfOk, IfErr, OnOk};
 ghost use Rattle.std.specs.List.{Contains};
-ghost use Rattle.cloud_trait.specs.State.{CloudState, newest};
 ghost use Rattle.db_base.specs.Ids.{IsPage};
 ghost use Rattle.db_base.specs.declared.names.ObjName.TheVariants.{Page};
 ghost use Rattle.leaf_view.specs.Fits.{IsHigh};
 ghost use Rattle.world_audit.specs.Look.{Looked, FailsDark};
-ghost use Rattle.tree_meaning.specs.Chain.{IsReadAs, Walked, pair_of};
+ghost use Rattle.tree_meaning.specs.Chain.{IsReadAs, pair_of};
 ghost use Rattle.world_audit.specs.Walk.{Adds};
-ghost use Rattle.world_audit.specs.Stop.{StopsWalk, SlipOr, ChainStops, ChainIsWhole, MayStop, Passes};
+ghost use Rattle.world_audit.specs.Stop.{StopsWalk, MayStop, Passes};
+ghost use Rattle.world_audit.specs.Finding.{Shown, LeavesFound};
 
 use crate::look::peek;
 use cloud_trait::cloud::Bench;
@@ -111,7 +111,6 @@ struct Walk {
     // the low key that it must have
     low: Blob,
     contents: PairList,
-    visited: Vec<u64>,
 }
 
 /// Notes the page as visited: Loop where it was, and Memory.
@@ -151,41 +150,17 @@ fn add_leaf(
     walk: &mut Walk,
 ) -> Result<Option<PageId>, Trouble>
     ensures ok { IfOk result (λ next. Adds bytes.now tree page walk.old.contents walk.new.contents next) }
-    ensures err { IfErr result (λ e. e ≡ Trouble.Failed → ⊥) }
-    ensures passes { IfOk result (λ next. Passes bytes.now tree page walk.old.visited.items walk.old.low walk.new.low next) }
-    ensures visited { OnOk result (walk.new.visited.items ≡ walk.old.visited.items ++ page ∷ []) }
-    ensures stopped { IfErr result (λ e. (e ≡ Trouble.Memory) ⊎ StopsWalk tree walk.old.visited.items page walk.old.low bytes.now e) }
+    ensures passes { IfOk result (λ next. Passes bytes.now tree page walk.old.low walk.new.low next) }
+    ensures stopped { (pages : List ℕ) → IfErr result
+        (λ e. (e ≡ Trouble.Memory) ⊎ StopsWalk tree pages page walk.old.low bytes.now e) }
+    ensures failed { IfErr result (λ e. e ≡ Trouble.Failed → ⊥) }
     ensures kinds { IfErr result (MayStop tree) }
 {
     let leaf = leaf_at(tree, page, bytes)?;
-    note_visit(&mut walk.visited, page)?;
     check_low(alloc, page, walk.low.as_slice(), leaf.low())?;
     add_records(alloc, &mut walk.contents, leaf.records())?;
     walk.low = low_behind(alloc, &leaf)?;
     Ok(leaf.right())
-}
-
-/// Looks at a page, adds the records of its leaf, and says which page is the next.
-fn visit<C: Bench>(
-    alloc: Global,
-    cloud: &mut C,
-    tree: TreeId,
-    page: PageId,
-    walk: &mut Walk,
-) -> Result<Option<PageId>, Trouble>
-    ensures looked { Looked (C.seen cloud.old) (C.seen cloud.new) }
-    ensures failed { FailsDark result (C.seen cloud.old) (C.seen cloud.new) }
-    ensures ok { (s : CloudState) → (C.seen cloud.old).state ≡ Some s → IfOk result (λ next. Adds (newest s (Page tree page)) tree page walk.old.contents walk.new.contents next) }
-    ensures passes { (s : CloudState) → (C.seen cloud.old).state ≡ Some s → IfOk result (λ next. Passes (newest s (Page tree page)) tree page walk.old.visited.items walk.old.low walk.new.low next) }
-    ensures visited { OnOk result (walk.new.visited.items ≡ walk.old.visited.items ++ page ∷ []) }
-    ensures stopped { (s : CloudState) → (C.seen cloud.old).state ≡ Some s
-        → IfErr result
-        (λ e. let bytes = newest s (Page tree page) in
-        SlipOr (StopsWalk tree walk.old.visited.items page walk.old.low bytes e) e) }
-    ensures kinds { IfErr result (MayStop tree) }
-{
-    let bytes = peek(cloud, ObjName::Page(tree, page))?;
-    add_leaf(alloc, tree, page, &bytes, walk)
 }
 
 /// The records of the leaves of a tree, in their order: from page 1 along right pages.
@@ -196,20 +171,20 @@ pub(crate) fn contents<C: Bench>(
 ) -> Result<PairList, Trouble>
     ensures looked { Looked (C.seen cloud.old) (C.seen cloud.new) }
     ensures failed { FailsDark result (C.seen cloud.old) (C.seen cloud.new) }
-    ensures ok { (s : CloudState) → (C.seen cloud.old).state ≡ Some s → IfOk result (λ records. Walked s tree 0 records) }
-    ensures whole { (s : CloudState) → (C.seen cloud.old).state ≡ Some s → OnOk result (ChainIsWhole s tree) }
-    ensures stopped { (s : CloudState) → (C.seen cloud.old).state ≡ Some s
-        → IfErr result (λ e. SlipOr (ChainStops s tree e) e) }
+    ensures found { Shown (C.seen cloud.old) (Page tree) (LeavesFound tree result) }
     ensures kinds { IfErr result (MayStop tree) }
 {
     let mut page = PageId::first();
+    let mut visited = Vec::new(alloc);
     let mut walk = Walk {
         low: Blob::new(alloc),
         contents: PairList::new(alloc),
-        visited: Vec::new(alloc),
     };
     loop {
-        match visit(alloc, cloud, tree, page, &mut walk)? {
+        // Asked before the look, which may fail.
+        note_visit(&mut visited, page)?;
+        let bytes = peek(cloud, ObjName::Page(tree, page))?;
+        match add_leaf(alloc, tree, page, &bytes, &mut walk)? {
             Some(next) => page = next,
             None => return Ok(walk.contents),
         }

@@ -28,7 +28,7 @@ use Rattle.client_work.specs.Session.{Acting, closed_session, settling_session, 
 use Rattle.history.specs.Fold.{of_tree}
 use Rattle.history.specs.Audited.{Audited}
 use Rattle.world_audit.specs.Look.{Looked}
-use Rattle.world_audit.specs.Stop.{Stopped as StopsReport}
+use Rattle.world_audit.specs.Finding.{Finds}
 use Rattle.tree_meaning.specs.Chain.{Walked}
 use Rattle.world_audit.specs.Counts.{heads_upto, AreWaiting}
 use Rattle.session_facts.specs.Sessions.Noting.{audited}
@@ -284,15 +284,16 @@ pub record Shows (tree : ℕ) (s : Option CloudState) (audit : Audited) (r : Rep
   pub messages : (x : CloudState) → s ≡ Some x → AreWaiting x tree r.messages
 
 -- why a tree has no report: a trouble stopped it, which is a failure only where a look failed in it or an earlier one blinded the audit, and
--- which else stands in the cloud where it is told; a blinded one failed
+-- which else is by what its looks answered: the newest versions of some state, of the told one where one is told; a blinded one failed
 pub record StopsBy (tree : ℕ) (before after : Seen) (blind : Bool) (t : Trouble) : Type 0 where
   pub failed : t ≡ trouble.Failed → (blind ≡ true) ⊎ Rose before.counts.dark after.counts.dark
-  pub stands : blind ≡ false → (x : CloudState) → before.state ≡ Some x → StopsReport x tree t
+  pub found : blind ≡ false → Finds tree before (Err t)
   pub blinded : blind ≡ true → t ≡ trouble.Failed
 
 -- the reply to the report of a tree; a number that is no tree's is refused, and want of memory is not told
 abbrev pub ReportReply : ℕ → Seen → Seen → World → Result Reply WorldFault → Type 0
-ReportReply tree before after world (Ok (reply.Report r)) = IsTree tree × (world.blind ≡ false) × Shows tree before.state world.audit r
+ReportReply tree before after world (Ok (reply.Report r)) =
+    IsTree tree × (world.blind ≡ false) × Shows tree before.state world.audit r × Finds tree before (Ok r)
 ReportReply tree before after world (Ok (reply.Trouble t)) = IsTree tree × HasText t × StopsBy tree before after world.blind t
 ReportReply tree before after world (Ok (reply.Refused r)) = (r ≡ rule.BadNumber) × (IsTree tree → ⊥)
 ReportReply tree before after world (Ok r) = ⊥

@@ -1,5 +1,6 @@
 use Rattle.std.proofs.Common.{refl, sym, subst, inr}
-use Rattle.world_audit.specs.Stop.{Stopped}
+use Rattle.std.specs.Prelude.{Err}
+use Rattle.world_audit.specs.Finding.{Finds}
 use Rattle.world_core.specs.World.{World}
 use Rattle.world_core.specs.Handled.{ReportReply}
 use Rattle.world_core.proofs.Stopping.{report_stops}
@@ -13,6 +14,6 @@ returns-in-Err-report g c =
       reply = subst (λ r. ReportReply c.args.tree (g.C.Cloud.seen c.args.cloud.now) (g.C.Cloud.seen c.report.new.cloud) world r) (sym c.trouble_reply.ensures) (report_stops c.args.tree (g.C.Cloud.seen c.args.cloud.now) (g.C.Cloud.seen c.report.new.cloud) world c.in-Err-report.trouble (c.in-Ok.ensures.valid.0 refl) (record {
         blinded = λ e. absurd (cc);
         failed = λ e. inr (c.in-Err-report.ensures.failed e);
-        stands = λ sees x told. subst (λ k. Stopped x k c.in-Err-report.trouble) c.in-Ok.ensures.ok (c.in-Err-report.ensures.stopped x told);
+        found = λ sees. subst (λ k. Finds k (g.C.Cloud.seen c.args.cloud.now) (Err c.in-Err-report.trouble)) c.in-Ok.ensures.ok c.in-Err-report.ensures.found;
       }));
     })

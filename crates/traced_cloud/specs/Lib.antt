@@ -1,0 +1,3 @@
+pub mod Note
+pub mod Notes
+pub mod Stamp

@@ -1,9 +1,10 @@
 //! The program: replays a schedule over a cloud in memory, and writes behind each reply the service calls that its line made.
 #![tactic(auto)]
 
+mod command;
 mod trace;
-mod words;
 
+use command::form_of;
 use db_io::std_sink::StdSink;
 use db_io::std_source::StdSource;
 use memory_cloud::memory::MemoryCloud;
@@ -12,7 +13,7 @@ use schedule_run::status::Status;
 use std::io;
 use std::process::ExitCode;
 use trace::trace_replay;
-use words::form_of;
+use traced_cloud::noting::NotingCloud;
 
 fn main(rt: HostRuntime) -> ExitCode {
     let words = match arguments(&rt) {
@@ -24,6 +25,6 @@ fn main(rt: HostRuntime) -> ExitCode {
     };
     let mut source = StdSource::new(rt.reader());
     let mut sink = StdSink::new(io::writer(&rt));
-    let cloud = MemoryCloud::new(rt.alloc());
-    ExitCode::from(trace_replay(rt.alloc(), form, &mut source, &mut sink, cloud).code())
+    let mut cloud = NotingCloud::over(rt.alloc(), MemoryCloud::new(rt.alloc()));
+    ExitCode::from(trace_replay(rt.alloc(), form, &mut source, &mut sink, &mut cloud).code())
 }

@@ -47,23 +47,23 @@ fn write_woven<O: Sink>(
 }
 
 /// Replays the lines of the source over a cloud, and writes behind each reply the service calls that its line made.
-pub(crate) fn trace_replay<I: Source, O: Sink, C: Bench + Drop>(
+pub(crate) fn trace_replay<I: Source, O: Sink, C: Bench>(
     alloc: Global,
     form: Form,
     source: &mut I,
     sink: &mut O,
-    cloud: C,
+    cloud: &mut NotingCloud<C>,
 ) -> Status
-    ensures { Traces form result (I.told source.old) (I.told source.new) (O.told sink.old) (O.told sink.new) (C.seen cloud) }
+    ensures { Traces form result (I.told source.old) (I.told source.new) (O.told sink.old) (O.told sink.new)
+        cloud.new.trace (C.seen cloud.old.cloud) (C.seen cloud.new.cloud) }
 {
     let Ok(words) = replay_word(alloc) else {
         return Status::Memory;
     };
     let mut replies = Replies::new(alloc);
-    let mut noting = NotingCloud::over(alloc, cloud);
-    let status = run(alloc, words.as_slice(), source, &mut replies, &mut noting);
-    if noting.is_short() {
+    let status = run(alloc, words.as_slice(), source, &mut replies, cloud);
+    if cloud.is_short() {
         return Status::Memory;
     }
-    write_woven(alloc, form, status, &replies, noting.notes(), sink)
+    write_woven(alloc, form, status, &replies, cloud.notes(), sink)
 }

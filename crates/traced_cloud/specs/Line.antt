@@ -49,9 +49,29 @@ stamp_text None = []
 stamp_text (Some (Version version)) = 32 ∷ decimal version
 stamp_text (Some (Head epoch txn is_open)) = 32 ∷ decimal epoch ++ 46 ∷ decimal txn ++ phase_text is_open
 
+-- the word before what an object says that was not put
+abbrev pub lead_text : Outcome → List ℕ
+lead_text Read = []
+lead_text Landed = []
+lead_text Absent = codes " of"
+lead_text Done = codes " of"
+lead_text (Sent id) = codes " of"
+lead_text (Received ids) = codes " of"
+lead_text (Given end) = codes " of"
+lead_text (Held until) = codes " of"
+lead_text (Renewed end) = codes " of"
+lead_text (Late end now) = codes " of"
+lead_text Failed = codes " of"
+lead_text Memory = codes " of"
+
+-- what an object says, behind what the call answered
+abbrev pub shown_text : Outcome → Option Stamp → List ℕ
+shown_text outcome None = []
+shown_text outcome (Some stamp) = lead_text outcome ++ stamp_text (Some stamp)
+
 -- what a call answered, and what its object says
 abbrev pub answer_text : Note → List ℕ
-answer_text note = outcome_text note.outcome ++ stamp_text note.stamp
+answer_text note = outcome_text note.outcome ++ shown_text note.outcome note.stamp
 
 -- what a call did, to what, and what it wanted
 abbrev pub named_text : Note → List ℕ

@@ -14,7 +14,6 @@ use Rattle.cloud_trait.specs.declared.answer.Answer.{Answer}
 use Rattle.cloud_trait.specs.declared.answer.Answer.TheVariants as answer
 use Rattle.cloud_trait.specs.declared.message.Message.{Message}
 use Rattle.traced_cloud.specs.Stamp.{stamp_of}
-use Rattle.traced_cloud.specs.declared.stamp.Stamp.{Stamp}
 use Rattle.traced_cloud.specs.declared.note.Note.{Note}
 use Rattle.traced_cloud.specs.declared.note.Outcome.{Outcome}
 use Rattle.traced_cloud.specs.declared.note.Outcome.TheVariants.{Read, Absent, Landed, Done, Sent, Received, Given, Held, Renewed, Late, Failed, Memory}

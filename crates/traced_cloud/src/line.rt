@@ -3,7 +3,7 @@
 ghost use Rattle.std.specs.Prelude.{◌≡◌, ◌∷◌, ◌++◌, [], codes, OnOk};
 ghost use Rattle.std.specs.Fmt.{decimal};
 ghost use Rattle.call_text.specs.Call.{target_word};
-ghost use Rattle.traced_cloud.specs.Line.{limit_text, ids_text, more_text, outcome_text, stamp_text, phase_text, answer_text, named_text, call_line};
+ghost use Rattle.traced_cloud.specs.Line.{limit_text, ids_text, more_text, outcome_text, stamp_text, lead_text, shown_text, phase_text, answer_text, named_text, call_line};
 
 use crate::note::{Note, Outcome};
 use crate::stamp::Stamp;
@@ -133,12 +133,36 @@ fn add_stamp(text: &mut Blob, stamp: Option<Stamp>) -> Result<(), Refused>
     }
 }
 
+/// Adds the word before what an object says of itself that was not put.
+fn add_lead(text: &mut Blob, outcome: &Outcome) -> Result<(), Refused>
+    ensures { OnOk result (text.new ≡ text.old ++ lead_text outcome.now) }
+{
+    match outcome {
+        Outcome::Read => Ok(()),
+        Outcome::Landed => Ok(()),
+        _ => text.add(b" of"),
+    }
+}
+
+/// Adds what an object says of itself, behind what the call answered.
+fn add_shown(text: &mut Blob, outcome: &Outcome, stamp: Option<Stamp>) -> Result<(), Refused>
+    ensures { OnOk result (text.new ≡ text.old ++ shown_text outcome.now stamp) }
+{
+    match stamp {
+        None => Ok(()),
+        Some(stamp) => {
+            add_lead(text, outcome)?;
+            add_stamp(text, Some(stamp))
+        }
+    }
+}
+
 /// Adds what a call answered, and what the object says of itself that it put or got.
 pub(crate) fn add_answer(text: &mut Blob, note: &Note) -> Result<(), Refused>
     ensures { OnOk result (text.new ≡ text.old ++ answer_text note.now) }
 {
     add_outcome(text, &note.outcome)?;
-    add_stamp(text, note.stamp)
+    add_shown(text, &note.outcome, note.stamp)
 }
 
 /// Adds what a call is about, as a word.

@@ -4,6 +4,7 @@
 # Usage: bench/commits.sh [COMMITS]     (500 where none is given; an input may have 262,144 bytes, about 2,800 commits)
 set -u
 top=$(cd "$(dirname "$0")/.." && pwd)
+. "$top/bench/proved.sh"
 commits=${1:-500}
 schedule=$(mktemp)
 trap 'rm -f "$schedule"' EXIT
@@ -18,12 +19,11 @@ timed() {
     }' >"$schedule"
     local start end status
     start=$(date +%s%N)
-    "$top/s3db" replay <"$schedule" >/dev/null
+    "$program" replay <"$schedule" >/dev/null
     status=$?
     end=$(date +%s%N)
     awk -v n="$1" -v ns=$((end - start)) -v status=$status 'BEGIN { printf "%d commits in %.3f s: %.0f a second (status %d)\n", n, ns / 1e9, n / (ns / 1e9), status }'
 }
 
-"$top/s3db" replay </dev/null >/dev/null || exit 1
 timed "$commits"
 timed $((4 * commits))

@@ -4,9 +4,10 @@
 # Usage: bench/generated.sh [COUNT..]
 set -u
 top=$(cd "$(dirname "$0")/.." && pwd)
+. "$top/bench/proved.sh"
 [ $# = 0 ] && set -- 2500 5000 10000
 for count in "$@"; do
-    python3 - "$top/s3db" "$count" "${RUNS:-9}" <<'P'
+    python3 - "$program" "$count" "${RUNS:-9}" <<'P'
 import os, subprocess, sys
 
 program, count, runs = sys.argv[1:]

@@ -22,6 +22,18 @@ kind_word kind.Take = codes "take"
 kind_word kind.Renew = codes "renew"
 kind_word kind.Release = codes "release"
 
+-- the same of a call that was made: there is one kind of put
+abbrev pub made_word : CallKind → List ℕ
+made_word kind.Get = codes "get"
+made_word kind.GetHeld = codes "get_held"
+made_word kind.PutHeld = codes "put"
+made_word kind.Send = codes "send"
+made_word kind.Receive = codes "receive"
+made_word kind.Delete = codes "delete"
+made_word kind.Take = codes "take"
+made_word kind.Renew = codes "renew"
+made_word kind.Release = codes "release"
+
 -- what a call is about
 abbrev pub target_word : Target → List ℕ
 target_word (target.Object name) = object_word name

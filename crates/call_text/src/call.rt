@@ -1,7 +1,7 @@
 ghost use Rattle.std.specs.Prelude.{◌≡◌, IfOk};
 ghost use Rattle.std.specs.String.{string_bytes};
 ghost use Rattle.cloud_trait.specs.Call.{ask_of};
-ghost use Rattle.call_text.specs.Call.{kind_word, target_word, call_text};
+ghost use Rattle.call_text.specs.Call.{kind_word, made_word, target_word, call_text};
 
 use cloud_trait::call::{Call, CallKind, Target};
 use db_base::names::Place;
@@ -25,8 +25,18 @@ fn kind_word(kind: CallKind) -> &'static str
     }
 }
 
+/// The same of a call that was made, among others of its kind: there is one kind of put.
+pub fn made_word(kind: CallKind) -> &'static str
+    ensures { result.now ≡ made_word kind }
+{
+    match kind {
+        CallKind::PutHeld => "put",
+        other => kind_word(other),
+    }
+}
+
 /// What a call is about, as a word.
-fn target_word(alloc: Global, target: Target) -> Result<String, AllocError>
+pub fn target_word(alloc: Global, target: Target) -> Result<String, AllocError>
     ensures { IfOk result (λ word. string_bytes word ≡ target_word target) }
 {
     match target {

@@ -1,0 +1,285 @@
+//! The cloud that notes what is called.
+
+ghost use Rattle.std.specs.Prelude.{◌≡◌, false, [], IfOk, Option, Some, length};
+ghost use Rattle.std.specs.Option.{option_copied};
+ghost use Rattle.cloud_trait.specs.declared.answer.Answer.TheVariants.{Got, Sent, Received};
+ghost use Rattle.cloud_trait.specs.Answers.{answer_of, held_answer_of, done_by, granted_by, renewed_by};
+ghost use Rattle.cloud_trait.specs.Ask.{Get, GetHeld, PutHeld, Send, Receive, Delete, Take, Renew, Release};
+ghost use Rattle.cloud_trait.specs.State.{CloudState, newest};
+ghost use Rattle.cloud_trait.specs.Delivery.{unmarked};
+ghost use Rattle.cloud_trait.specs.Weather.{Makes, RenewsLease};
+ghost use Rattle.cloud_trait.specs.Bench.{Waits, Looks, IsNoCall, has_bytes};
+ghost use Rattle.traced_cloud.specs.Note.{note_of};
+ghost use Rattle.traced_cloud.specs.Notes.{Adds};
+
+use crate::note::Note;
+use crate::trace::Trace;
+use cloud_trait::call::Call;
+use cloud_trait::cloud::{Bench, Cloud};
+use cloud_trait::fault::{CloudFault, HeldFault};
+use cloud_trait::grant::Grant;
+use cloud_trait::lease::Lease;
+use cloud_trait::message::Message;
+use cloud_trait::who::Who;
+use db_base::blob::Blob;
+use db_base::ids::MsgId;
+use db_base::names::{Lock, ObjName, QueueName};
+use db_base::wish::Wish;
+use std::alloc::Global;
+
+/// A copy: what holds a name or a number with a rule is moved where it is passed on.
+fn copy<T: Copy>(value: &T) -> T
+    ensures { result ≡ value.now }
+{
+    *value
+}
+
+/// A cloud that passes each call on to another one, and notes it with what that answered.
+#[derive(Drop)]
+pub struct NotingCloud<C> {
+    cloud: C,
+    trace: Trace,
+}
+
+impl<C> NotingCloud<C> {
+    /// A cloud over this one, that has noted nothing. Takes no memory.
+    pub fn over(alloc: Global, cloud: C) -> NotingCloud<C>
+        ensures cloud { result.cloud ≡ cloud }
+        ensures none { result.trace ≡ record { made = []; short = false } }
+    {
+        NotingCloud {
+            cloud,
+            trace: Trace::new(alloc),
+        }
+    }
+
+    /// The calls that were noted, in their order.
+    pub fn notes(&self) -> &[Note]
+        ensures { result.now ≡ self.now.trace.made }
+    {
+        self.trace.notes()
+    }
+
+    /// Whether memory ran out for a note.
+    pub fn is_short(&self) -> bool
+        ensures { result ≡ self.now.trace.short }
+    {
+        self.trace.is_short()
+    }
+}
+
+impl<C: Bench> Cloud for NotingCloud<C> {
+    ghost seen = { λ c. C.seen c.cloud };
+
+    fn now(&self) -> u64 {
+        self.cloud.now()
+    }
+
+    fn get(&mut self, who: Who, name: ObjName) -> Result<Option<Blob>, CloudFault>
+        ensures made { Makes who (Get name) (answer_of Got result) (C.seen self.old.cloud) (C.seen self.new.cloud) }
+        ensures noted { Adds (note_of who (Get name) (answer_of Got result)) self.old.trace self.new.trace }
+    {
+        let call = Call::Get(copy(&name));
+        match self.cloud.get(who, name) {
+            Ok(bytes) => {
+                self.trace.got(who, &call, &bytes);
+                Ok(bytes)
+            }
+            Err(fault) => {
+                self.trace.failed(who, &call, fault);
+                Err(fault)
+            }
+        }
+    }
+
+    fn get_held(
+        &mut self,
+        who: Who,
+        name: ObjName,
+        lease: &Lease,
+    ) -> Result<Option<Blob>, HeldFault>
+        ensures made { Makes who (GetHeld name lease.now) (held_answer_of Got result) (C.seen self.old.cloud) (C.seen self.new.cloud) }
+        ensures noted { Adds (note_of who (GetHeld name lease.now) (held_answer_of Got result)) self.old.trace self.new.trace }
+    {
+        let call = Call::GetHeld(copy(&name), lease);
+        match self.cloud.get_held(who, name, lease) {
+            Ok(bytes) => {
+                self.trace.got(who, &call, &bytes);
+                Ok(bytes)
+            }
+            Err(fault) => {
+                self.trace.failed_held(who, &call, fault);
+                Err(fault)
+            }
+        }
+    }
+
+    fn put_held(
+        &mut self,
+        who: Who,
+        name: ObjName,
+        bytes: &[u8],
+        first: &Lease,
+        second: Option<&Lease>,
+    ) -> Result<(), HeldFault>
+        ensures made { Makes who (PutHeld name bytes.now first.now (option_copied second.entry)) (held_answer_of done_by result) (C.seen self.old.cloud) (C.seen self.new.cloud) }
+        ensures noted { Adds (note_of who (PutHeld name bytes.now first.now (option_copied second.entry)) (held_answer_of done_by result)) self.old.trace self.new.trace }
+    {
+        let put = copy(&name);
+        match self.cloud.put_held(who, name, bytes, first, second) {
+            Ok(()) => {
+                self.trace.put(who, put, bytes);
+                Ok(())
+            }
+            Err(fault) => {
+                self.trace.not_put(who, put, bytes, fault);
+                Err(fault)
+            }
+        }
+    }
+
+    fn send(&mut self, who: Who, queue: QueueName, bytes: &[u8]) -> Result<MsgId, CloudFault>
+        ensures made { Makes who (Send queue bytes.now) (answer_of Sent result) (C.seen self.old.cloud) (C.seen self.new.cloud) }
+        ensures noted { Adds (note_of who (Send queue bytes.now) (answer_of Sent result)) self.old.trace self.new.trace }
+    {
+        let call = Call::Send(copy(&queue), bytes);
+        match self.cloud.send(who, queue, bytes) {
+            Ok(id) => {
+                self.trace.sent(who, &call, id);
+                Ok(id)
+            }
+            Err(fault) => {
+                self.trace.failed(who, &call, fault);
+                Err(fault)
+            }
+        }
+    }
+
+    fn receive(&mut self, who: Who, queue: QueueName, max: u16) -> Result<Vec<Message>, CloudFault>
+        ensures made { Makes who (Receive queue max) (answer_of (λ ms. Received ms.items) result) (C.seen self.old.cloud) (C.seen self.new.cloud) }
+        ensures noted { Adds (note_of who (Receive queue max) (answer_of (λ ms. Received ms.items) result)) self.old.trace self.new.trace }
+    {
+        let call = Call::Receive(copy(&queue), max);
+        match self.cloud.receive(who, queue, max) {
+            Ok(messages) => {
+                self.trace.received(who, &call, messages.as_slice());
+                Ok(messages)
+            }
+            Err(fault) => {
+                self.trace.failed(who, &call, fault);
+                Err(fault)
+            }
+        }
+    }
+
+    fn delete(&mut self, who: Who, queue: QueueName, id: MsgId) -> Result<(), CloudFault>
+        ensures made { Makes who (Delete queue id) (answer_of done_by result) (C.seen self.old.cloud) (C.seen self.new.cloud) }
+        ensures noted { Adds (note_of who (Delete queue id) (answer_of done_by result)) self.old.trace self.new.trace }
+    {
+        let call = Call::Delete(copy(&queue), copy(&id));
+        match self.cloud.delete(who, queue, id) {
+            Ok(()) => {
+                self.trace.done(who, &call);
+                Ok(())
+            }
+            Err(fault) => {
+                self.trace.failed(who, &call, fault);
+                Err(fault)
+            }
+        }
+    }
+
+    fn take(&mut self, who: Who, lock: Lock, ticks: u64) -> Result<Grant, CloudFault>
+        ensures made { Makes who (Take lock ticks) (answer_of granted_by result) (C.seen self.old.cloud) (C.seen self.new.cloud) }
+        ensures noted { Adds (note_of who (Take lock ticks) (answer_of granted_by result)) self.old.trace self.new.trace }
+    {
+        let call = Call::Take(copy(&lock), ticks);
+        match self.cloud.take(who, lock, ticks) {
+            Ok(grant) => {
+                self.trace.granted(who, &call, &grant);
+                Ok(grant)
+            }
+            Err(fault) => {
+                self.trace.failed(who, &call, fault);
+                Err(fault)
+            }
+        }
+    }
+
+    fn renew(&mut self, who: Who, lease: &mut Lease, ticks: u64) -> Result<(), HeldFault>
+        ensures made { Makes who (Renew lease.old ticks) (held_answer_of (renewed_by lease.new) result) (C.seen self.old.cloud) (C.seen self.new.cloud) }
+        ensures lease { RenewsLease who ticks lease.old lease.new (held_answer_of (renewed_by lease.new) result) (C.seen self.old.cloud) (C.seen self.new.cloud) }
+        ensures noted { Adds (note_of who (Renew lease.old ticks) (held_answer_of (renewed_by lease.new) result)) self.old.trace self.new.trace }
+    {
+        let lock = lease.lock();
+        match self.cloud.renew(who, lease, ticks) {
+            Ok(()) => {
+                self.trace.renewed(who, lock, ticks, lease.end());
+                Ok(())
+            }
+            Err(fault) => {
+                self.trace.not_renewed(who, lock, ticks, fault);
+                Err(fault)
+            }
+        }
+    }
+
+    fn release(&mut self, who: Who, lease: Lease) -> Result<(), CloudFault>
+        ensures made { Makes who (Release lease) (answer_of done_by result) (C.seen self.old.cloud) (C.seen self.new.cloud) }
+        ensures noted { Adds (note_of who (Release lease) (answer_of done_by result)) self.old.trace self.new.trace }
+    {
+        let lock = lease.lock();
+        match self.cloud.release(who, lease) {
+            Ok(()) => {
+                self.trace.released(who, lock);
+                Ok(())
+            }
+            Err(fault) => {
+                self.trace.not_released(who, lock, fault);
+                Err(fault)
+            }
+        }
+    }
+}
+
+impl<C: Bench> Bench for NotingCloud<C> {
+    fn wish(&mut self, wish: Wish)
+        ensures no_call { IsNoCall (C.seen self.old.cloud) (C.seen self.new.cloud) }
+        ensures set { (s : CloudState) → (C.seen self.old.cloud).state ≡ Some s → (C.seen self.new.cloud).state ≡ Some (record s { wish = wish }) }
+        ensures noted { self.new.trace ≡ self.old.trace }
+    {
+        self.cloud.wish(wish);
+    }
+
+    fn wait(&mut self, ticks: u64)
+        ensures no_call { IsNoCall (C.seen self.old.cloud) (C.seen self.new.cloud) }
+        ensures waited { (s : CloudState) → (C.seen self.old.cloud).state ≡ Some s → Waits ticks s (C.seen self.new.cloud).state }
+        ensures noted { self.new.trace ≡ self.old.trace }
+    {
+        self.cloud.wait(ticks);
+    }
+
+    fn peek(&mut self, name: ObjName) -> Result<Option<Blob>, CloudFault>
+        ensures looks { Looks result (C.seen self.old.cloud) (C.seen self.new.cloud) }
+        ensures newest { (s : CloudState) → (C.seen self.old.cloud).state ≡ Some s → IfOk result (λ v. v ≡ newest s name) }
+        ensures noted { self.new.trace ≡ self.old.trace }
+    {
+        self.cloud.peek(name)
+    }
+
+    fn has(&mut self, name: ObjName, bytes: &[u8]) -> Result<bool, CloudFault>
+        ensures looks { Looks result (C.seen self.old.cloud) (C.seen self.new.cloud) }
+        ensures newest { (s : CloudState) → (C.seen self.old.cloud).state ≡ Some s → IfOk result (λ is. is ≡ has_bytes (newest s name) bytes.now) }
+        ensures noted { self.new.trace ≡ self.old.trace }
+    {
+        self.cloud.has(name, bytes)
+    }
+
+    fn backlog(&mut self, queue: QueueName) -> Result<u64, CloudFault>
+        ensures looks { Looks result (C.seen self.old.cloud) (C.seen self.new.cloud) }
+        ensures length { (s : CloudState) → (C.seen self.old.cloud).state ≡ Some s → IfOk result (λ n. n ≡ length (unmarked (s.messages queue))) }
+        ensures noted { self.new.trace ≡ self.old.trace }
+    {
+        self.cloud.backlog(queue)
+    }
+}

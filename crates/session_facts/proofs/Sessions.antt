@@ -17,6 +17,8 @@ pub mod ReadingSteps
 pub mod ScanningSteps
 pub mod SettlingSteps
 pub mod SettlingExplaining
+pub mod Quiet
+pub mod Waiting
 pub mod Calling
 pub mod HeadPuts
 pub mod SettlingStops

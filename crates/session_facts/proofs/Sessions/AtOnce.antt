@@ -33,17 +33,17 @@ use Rattle.session_facts.specs.Sessions.Sessions.{Sessions, SessionsStand, IsRig
 use Rattle.session_facts.specs.Sessions.Untroubled.{IsUntroubled, CommitsWell}
 use Rattle.session_facts.proofs.CommitRuns.Telling.{EndsTold, IsTold, ready_tells}
 use Rattle.session_facts.proofs.Sessions.BeginStops.{begin_stops, begin_spent}
-use Rattle.session_facts.proofs.Sessions.Untroubled.{at_rest, rests_as, idle_rests, stopped_rests}
+use Rattle.session_facts.proofs.Sessions.Untroubled.{IsAtRest, rested, at_rest, rests_as, idle_rests, stopped_rests}
 use Rattle.txn_buffer.specs.Noted.{Noted}
 
 -- ---- what is at work then
 
-opening_rests : (client : ℕ) (old : Option Claim) → IsUntroubled (opening_of client old)
+opening_rests : (client : ℕ) (old : Option Claim) → IsAtRest (opening_of client old)
 opening_rests client (Some l) = at_rest (opening_of client (Some l)) refl refl
 opening_rests client None = at_rest (opening_of client None) refl refl
 
 -- a scan that goes on, or is answered
-listed_rests : (home : Home) (buffer : List Noted) (m : Listing) (c : Cache) (new : Work) (shown : Shown) (turn : Turn Answer) → ListsLeaf home buffer m c new shown turn → IsUntroubled new
+listed_rests : (home : Home) (buffer : List Noted) (m : Listing) (c : Cache) (new : Work) (shown : Shown) (turn : Turn Answer) → ListsLeaf home buffer m c new shown turn → IsAtRest new
 listed_rests home buffer m c new shown More l =
     rests_as new (Scanning home (record { scan = moved_on m.scan; pairs = l.0 })) l.3 (at_rest (Scanning home (record { scan = moved_on m.scan; pairs = l.0 })) refl refl)
 listed_rests home buffer m c new shown (Ended answer.Scan) l = rests_as new (Idle home) l.3 (idle_rests home)
@@ -51,61 +51,62 @@ listed_rests home buffer m c new shown (Ended (answer.Trouble t)) l = rests_as n
 listed_rests home buffer m c new shown turn never = absurd never
 
 scan_rests : (home : Home) (buffer : List Noted) (m : Listing) (c : Cache) (moved : Turn ℕ) (new : Work) (shown : Shown) (turn : Turn Answer) → Follows home buffer m c moved new shown turn
-    → IsUntroubled new
+    → IsAtRest new
 scan_rests home buffer m c More new shown turn f = rests_as new (Scanning home m) f.0 (at_rest (Scanning home m) refl refl)
 scan_rests home buffer m c (Ended page) new shown turn f = listed_rests home buffer m c new shown turn f
 scan_rests home buffer m c (Stopped t) new shown turn f = rests_as new (stopped_work t home) f.0 (stopped_rests t home)
 
-read_rests : (home : Home) (tree : ℕ) (key : List ℕ) (old new : Acting) (begun : Begun) → ReadsIn tree key old home new begun → IsUntroubled new.work
+read_rests : (home : Home) (tree : ℕ) (key : List ℕ) (old new : Acting) (begun : Begun) → ReadsIn tree key old home new begun → IsAtRest new.work
 read_rests home tree key old new Working (same, r) = rests_as new.work (Reading home r.0) r.2 (at_rest (Reading home r.0) refl refl)
 read_rests home tree key old new (Answered answer.Value) (same, r) = rests_as new.work (Idle home) r.3 (idle_rests home)
 read_rests home tree key old new (Answered (answer.Trouble t)) (same, r) = rests_as new.work (stopped_work t home) r.2 (stopped_rests t home)
 read_rests home tree key old new (Answered a) (same, never) = absurd never
 
-committing_rests : (home : Home) (changes : List Noted) (c d : Cache) (new : Work) (begun : Begun) → CommitsOf home changes c d new begun → IsUntroubled new
+committing_rests : (home : Home) (changes : List Noted) (c d : Cache) (new : Work) (begun : Begun) → CommitsOf home changes c d new begun → IsAtRest new
 committing_rests home changes c d new Working r = rests_as new (Committing r.0) r.2 (at_rest (Committing r.0) refl refl)
 committing_rests home changes c d new (Answered (answer.Commit a)) r = rests_as new (Idle (home_of r.0)) r.2 (idle_rests (home_of r.0))
 committing_rests home changes c d new (Answered (answer.Trouble t)) r = rests_as new (Broken home.lease) r.1 (at_rest (Broken home.lease) refl refl)
 committing_rests home changes c d new (Answered a) never = absurd never
 
-commit_rests : (home : Home) (old new : Acting) (begun : Begun) → CommitsNoted home old.buffer old.cache new.cache new.work begun → IsUntroubled new.work
+commit_rests : (home : Home) (old new : Acting) (begun : Begun) → CommitsNoted home old.buffer old.cache new.cache new.work begun → IsAtRest new.work
 commit_rests home old new begun (inl nothing) = rests_as new.work (Idle home) nothing.work_is (idle_rests home)
 commit_rests home old new begun (inr noted) = committing_rests home old.buffer old.cache new.cache new.work begun noted.1
 
 -- an operation of an open client
-begun_rests : (Does : Home → Acting → Begun → Type 0) (old new : Acting) (result : Result Begun Refused) → ((home : Home) (begun : Begun) → Does home new begun → IsUntroubled new.work)
-    → BeginsWith Does old new result → IsUntroubled old.work → IsUntroubled new.work
-begun_rests Does old new (Ok begun) rests (home, idle, does) well = rests home begun does
-begun_rests Does old new (Err (refused.Rule r)) rests (rule, same) well = subst (λ (a : Acting). IsUntroubled a.work) (sym same) well
-begun_rests Does old new (Err refused.Memory) rests never well = absurd never
+begun_rests : (t : CloudState) (Does : Home → Acting → Begun → Type 0) (old new : Acting) (result : Result Begun Refused)
+    → ((home : Home) (begun : Begun) → Does home new begun → IsAtRest new.work)
+    → BeginsWith Does old new result → IsUntroubled t old.work → IsUntroubled t new.work
+begun_rests t Does old new (Ok begun) rests (home, idle, does) well = rested t new.work (rests home begun does)
+begun_rests t Does old new (Err (refused.Rule r)) rests (rule, same) well = subst (λ (a : Acting). IsUntroubled t a.work) (sym same) well
+begun_rests t Does old new (Err refused.Memory) rests never well = absurd never
 
-opened_rests : (client : ℕ) (old new : Acting) (result : Result Begun Refused) → BeginsOpening client old new result → IsUntroubled old.work → IsUntroubled new.work
-opened_rests client old new (Ok Working) (rule, is) well =
-    rests_as new.work (opening_of client (old_lease old.work)) (ap (λ (a : Acting). a.work) is) (opening_rests client (old_lease old.work))
-opened_rests client old new (Ok (Answered a)) never well = absurd never
-opened_rests client old new (Err (refused.Rule r)) (rule, same) well = subst (λ (a : Acting). IsUntroubled a.work) (sym same) well
-opened_rests client old new (Err refused.Memory) never well = absurd never
+opened_rests : (t : CloudState) (client : ℕ) (old new : Acting) (result : Result Begun Refused) → BeginsOpening client old new result → IsUntroubled t old.work → IsUntroubled t new.work
+opened_rests t client old new (Ok Working) (rule, is) well =
+    rested t new.work (rests_as new.work (opening_of client (old_lease old.work)) (ap (λ (a : Acting). a.work) is) (opening_rests client (old_lease old.work)))
+opened_rests t client old new (Ok (Answered a)) never well = absurd never
+opened_rests t client old new (Err (refused.Rule r)) (rule, same) well = subst (λ (a : Acting). IsUntroubled t a.work) (sym same) well
+opened_rests t client old new (Err refused.Memory) never well = absurd never
 
 -- this is in hand then
-in_hand : (old new : Acting) (work : Work) (begun : Begun) → IsUntroubled work → HasInHand old work new begun → IsUntroubled new.work
+in_hand : (old new : Acting) (work : Work) (begun : Begun) → IsAtRest work → HasInHand old work new begun → IsAtRest new.work
 in_hand old new work begun well (working, is) = rests_as new.work work (ap (λ (a : Acting). a.work) is) well
 
-pub begins_untroubled : (o : Op) (old new : Acting) (result : Result Begun Refused) → Begins o old new result → IsUntroubled old.work → IsUntroubled new.work
-begins_untroubled (op.Open client) old new result b well = opened_rests client old new result b well
-begins_untroubled op.Close old new result b well =
-    begun_rests (λ home. HasInHand old (Closing home.lease)) old new result (λ home begun. in_hand old new (Closing home.lease) begun (at_rest (Closing home.lease) refl refl)) b well
-begins_untroubled op.Renew old new result b well =
-    begun_rests (λ home. HasInHand old (Renewing home)) old new result (λ home begun. in_hand old new (Renewing home) begun (at_rest (Renewing home) refl refl)) b well
-begins_untroubled op.Commit old new result b well = begun_rests (CommitsIn old) old new result (λ home begun does. commit_rests home old new begun does.1) b well
-begins_untroubled (op.Read tree key) old new result b well = begun_rests (ReadsIn tree key old) old new result (λ home begun. read_rests home tree key old new begun) b well
-begins_untroubled (op.Scan tree from to) old new result b well =
-    begun_rests (ScansIn tree from to old) old new result
+pub begins_untroubled : (t : CloudState) (o : Op) (old new : Acting) (result : Result Begun Refused) → Begins o old new result → IsUntroubled t old.work → IsUntroubled t new.work
+begins_untroubled t (op.Open client) old new result b well = opened_rests t client old new result b well
+begins_untroubled t op.Close old new result b well =
+    begun_rests t (λ home. HasInHand old (Closing home.lease)) old new result (λ home begun. in_hand old new (Closing home.lease) begun (at_rest (Closing home.lease) refl refl)) b well
+begins_untroubled t op.Renew old new result b well =
+    begun_rests t (λ home. HasInHand old (Renewing home)) old new result (λ home begun. in_hand old new (Renewing home) begun (at_rest (Renewing home) refl refl)) b well
+begins_untroubled t op.Commit old new result b well = begun_rests t (CommitsIn old) old new result (λ home begun does. commit_rests home old new begun does.1) b well
+begins_untroubled t (op.Read tree key) old new result b well = begun_rests t (ReadsIn tree key old) old new result (λ home begun. read_rests home tree key old new begun) b well
+begins_untroubled t (op.Scan tree from to) old new result b well =
+    begun_rests t (ScansIn tree from to old) old new result
     (λ home begun does. scan_rests home old.buffer (record { scan = does.1.scan; pairs = [] }) new.cache does.1.moved new.work new.shown does.1.turn does.1.follows) b well
-begins_untroubled (op.Page tree page) old new result b well =
-    begun_rests (λ home. HasInHand old (paging_begun_by tree page home)) old new result
+begins_untroubled t (op.Page tree page) old new result b well =
+    begun_rests t (λ home. HasInHand old (paging_begun_by tree page home)) old new result
     (λ home begun. in_hand old new (paging_begun_by tree page home) begun (at_rest (paging_begun_by tree page home) refl refl)) b well
-begins_untroubled (op.Tree tree) old new result b well =
-    begun_rests (λ home. HasInHand old (folding_begun_by tree home)) old new result
+begins_untroubled t (op.Tree tree) old new result b well =
+    begun_rests t (λ home. HasInHand old (folding_begun_by tree home)) old new result
     (λ home begun. in_hand old new (folding_begun_by tree home) begun (at_rest (folding_begun_by tree home) refl refl)) b well
 
 -- ---- what is answered at once

@@ -6,24 +6,30 @@ use Rattle.client_work.specs.declared.answer.Answer.{Answer}
 use Rattle.client_work.specs.declared.work.Work.{Work}
 use Rattle.cloud_trait.specs.declared.answer.Answer.TheVariants.{Memory}
 use Rattle.cloud_trait.specs.declared.turn.Turn.{Turn}
-use Rattle.cloud_trait.specs.Ask.{Ask}
+use Rattle.cloud_trait.specs.Ask.{Ask, Release}
 use Rattle.cloud_trait.specs.Caller.{Caller}
+use Rattle.cloud_trait.specs.Claim.{Lasts}
 use Rattle.cloud_trait.specs.Seen.{Seen}
+use Rattle.cloud_trait.specs.State.{CloudState}
 use Rattle.db_base.specs.declared.trouble.CommitAnswer.{CommitAnswer}
 use Rattle.db_base.specs.declared.trouble.CommitAnswer.TheVariants.{Committed, NotCommitted}
 use Rattle.db_base.specs.declared.trouble.Trouble.{Trouble}
 use Rattle.db_base.specs.declared.trouble.Trouble.TheVariants as trouble
-use Rattle.session_facts.specs.Sessions.Calls.{reply_of}
-use Rattle.session_facts.specs.Sessions.Explaining.{ReceivesLate, left_in, trouble_in}
-use Rattle.session_facts.specs.Sessions.Sessions.{leases_of}
+use Rattle.session_facts.specs.Sessions.Calls.{GivesLateBack, reply_of}
+use Rattle.session_facts.specs.Sessions.Explaining.{left_in, trouble_in}
 
--- A step was calm: its call found memory and no count rose in it, the lock that it takes was free, the leases that it names lasted, and where it
--- receives so did those in hand.
+-- the lease that the call gives back lasts at a moment
+abbrev pub GivesBackLasting : Ask → ℕ → Type 0
+GivesBackLasting (Release l) now = Lasts now l
+GivesBackLasting ask now = Unit {0}
+
+-- A step was calm: its call found memory and no count rose in it, the lock that it takes was free, and the leases that it names lasted, also one that
+-- it gives back.
 pub record StepsCalmly (who : Caller) (before after : Seen) (old new : Acting) (turn : Turn Answer) (p : StepsSession who before after old new (Ok turn)) : Type 0 where
   pub ask : Ask
   pub hand : ask_of_work old.work ≡ Some ask
   pub calm : IsCalm (record { who = who; ask = ask; answer = reply_of who before after old new turn p; before = before; after = after })
-  pub received : ReceivesLate ask (leases_of old.work) calm.after.now → ⊥
+  pub returned : GivesBackLasting ask calm.after.now
   pub memory : reply_of who before after old new turn p ≢ Memory
 
 -- no call of the cloud brings such a trouble
@@ -35,9 +41,15 @@ IsOfNoCall (trouble.Waiting have need) = ⊥
 IsOfNoCall (trouble.Stale page least got) = ⊥
 IsOfNoCall t = Unit {0}
 
--- what is at work goes well so far: no call brought it a trouble, and no deletion failed
-pub record IsUntroubled (w : Work) : Type 0 where
-  pub trouble : (t : Trouble) → trouble_in w ≡ Some t → IsOfNoCall t
+-- what is at work may keep such a trouble where a cloud tells this: no call brought it, or it waits for records under a lease that is over and is given
+-- back next
+abbrev pub IsExcused : CloudState → Work → Trouble → Type 0
+IsExcused t w (trouble.Waiting have need) = GivesLateBack w t.now
+IsExcused t w k = IsOfNoCall k
+
+-- what is at work goes well so far: no call brought it a trouble that is not excused, and no deletion failed
+pub record IsUntroubled (t : CloudState) (w : Work) : Type 0 where
+  pub trouble : (k : Trouble) → trouble_in w ≡ Some k → IsExcused t w k
   pub left : left_in w ≡ 0
 
 -- a counter stands at its last value

@@ -1,5 +1,5 @@
 -- A line whose calls are all calm is answered well.
-use Rattle.std.proofs.Common.{◌≡◌, ◌+◌, inl, inr, ℕ, List, [], length, Bool, true, false, Option, Some, None, Result, Ok, Err, refl, sym, ap, subst, ◌∙◌}
+use Rattle.std.proofs.Common.{◌≡◌, ◌≤◌, ◌+◌, arith, inl, inr, ℕ, List, [], length, Bool, true, false, Option, Some, None, Result, Ok, Err, refl, sym, ap, subst, ◌∙◌}
 use Rattle.std.specs.Prelude.{unwrap_or}
 use Rattle.client_work.specs.Session.{Acting, StepsSession, StepsAt, Follows, Begins, closed_session, settling_session, value_of}
 use Rattle.client_work.specs.declared.answer.Answer.{Answer}
@@ -13,6 +13,7 @@ use Rattle.client_work.specs.declared.shown.Shown.{Shown}
 use Rattle.client_work.specs.declared.work.Work.{Work}
 use Rattle.client_work.specs.declared.work.Work.TheVariants as work
 use Rattle.cloud_facts.proofs.Book.Names.{at_same}
+use Rattle.cloud_trait.proofs.EffectLemmas.{begins_itself, begins_same}
 use Rattle.cloud_trait.specs.Caller.{Caller}
 use Rattle.cloud_trait.specs.Seen.{Seen}
 use Rattle.cloud_trait.specs.State.{CloudState}
@@ -47,7 +48,7 @@ use Rattle.session_facts.specs.TreeCheckpoints.Checkpoint.{MayStop as MayStopTre
 use Rattle.session_facts.specs.Walks.Walks.{MayStop as MayStopWalk}
 use Rattle.session_facts.proofs.CommitRuns.Telling.{IsTold}
 use Rattle.session_facts.proofs.Sessions.AtOnce.{IsAtOnce, begins_at_once, begins_untroubled}
-use Rattle.session_facts.proofs.Sessions.Untroubled.{step_untroubled, answer_untroubled, answered_rests, closed_rests, at_rest, commit_tells, commit_well}
+use Rattle.session_facts.proofs.Sessions.Untroubled.{IsAtRest, rested, untroubled_later, step_untroubled, answer_untroubled, answered_rests, closed_rests, at_rest, commit_tells, commit_well}
 use Rattle.tree_walk.specs.Walk.{sought}
 use Rattle.txn_buffer.specs.Noted.{Noted}
 use Rattle.world_core.specs.declared.asked.Asked.{Asked}
@@ -57,7 +58,7 @@ use Rattle.world_core.specs.declared.asked.Request.TheVariants.{Begin, Note, Abo
 use Rattle.world_core.specs.World.{World}
 use Rattle.world_core.specs.declared.world.WorldFault.{WorldFault}
 use Rattle.world_core.specs.Asked.{Asks, OfSession, IsOpening, IsReading, IsScanning, IsPaging, IsFolding, IsInsert, IsUpdate, IsDelete, IsNoted, IsStep, bound_of}
-use Rattle.world_core.specs.Calm.{StepIsCalm, work_at, DoesWell, BeginsWell, RunsWell, StepsWell, SettlesWell, RepliesWell, AnswersWell}
+use Rattle.world_core.specs.Calm.{StepIsCalm, SessionIsUntroubled, work_at, DoesWell, BeginsWell, RunsWell, StepsWell, SettlesWell, RepliesWell, AnswersWell}
 use Rattle.world_core.specs.EachStep.{EachWent, EachMade, EachRun, EachSettlingOn, EachSettling, EachDone, EachAsked}
 use Rattle.world_core.specs.Explained.{StepExplains}
 use Rattle.world_core.specs.Handled.{Declines, Has, BeginsOp, NotesChange, DropsChanges, StepsLooked, MakesStep, Went, start, further, Runs, SettlesOn, Settles, Crashes, Does, Answers}
@@ -68,7 +69,7 @@ use Rattle.world_core.specs.Stands.{WorldStands}
 use Rattle.world_core.proofs.Explained.{explained}
 use Rattle.world_core.proofs.Sound.{sound_after}
 use Rattle.world_core.proofs.Texts.{commit_is}
-use Rattle.world_core.proofs.StandsLemmas.{IsUnderWay, changed_at, changed_was, has_at, way_begins, steps_own, went_on, no_stop, no_memory, replies_to, settler}
+use Rattle.world_core.proofs.StandsLemmas.{IsUnderWay, changed_at, changed_was, has_at, way_begins, steps_own, went_on, no_stop, no_memory, replies_to, end_later, settler}
 
 -- ---- troubles that no call brought
 
@@ -247,21 +248,45 @@ session_is : (who : Caller) (wish : Wish) (before after : Seen) (old new : World
 session_is who wish before after old new turn p =
     changed_at who.session _ old.sessions new.sessions p.session who.session ∙ at_same who.session p.session.after (session_at old.sessions) who.session refl
 
-module _ (who : Caller) (wish : Wish) (before after : Seen) (old new : World) (turn : Turn Answer) (p : StepsLooked who wish before after old new turn) where
-  untroubled_before : IsUntroubled (work_at old who.session) → IsUntroubled p.session.before.work
-  untroubled_before well = subst (λ (a : Acting). IsUntroubled a.work) (changed_was who.session _ old.sessions new.sessions p.session) well
+-- what a cloud tells of which a session in hand goes well
+abbrev GoesWellAt : ℕ → Seen → World → Type 0
+GoesWellAt session seen world = (t : CloudState) × (seen.state ≡ Some t) × IsUntroubled t (work_at world session)
 
-  untroubled_after : IsUntroubled p.session.after.work → IsUntroubled (work_at new who.session)
-  untroubled_after well = subst (λ (a : Acting). IsUntroubled a.work) (sym (session_is who wish before after old new turn p)) well
+state_is : (x y : CloudState) → Some x ≡ Some y → x ≡ y
+state_is x y e = cc
+
+pub goes_in : (session : ℕ) (seen : Seen) (world : World) → GoesWellAt session seen world → SessionIsUntroubled session seen world
+goes_in session seen world (t, told, well) u told_u = subst (λ (x : CloudState). IsUntroubled x (work_at world session)) (state_is t u (sym told ∙ told_u)) well
+
+module _ (who : Caller) (wish : Wish) (before after : Seen) (old new : World) (turn : Turn Answer) (p : StepsLooked who wish before after old new turn) where
+  abbrev Goes : Seen → World → Type 0
+  Goes seen world = GoesWellAt who.session seen world
+
+  -- what was told before its call, and is behind it
+  told_under : (t : CloudState) → before.state ≡ Some t → p.under.state ≡ Some (record t { wish = wish })
+  told_under t told = p.wishes.set t (p.look_before.stays t told)
+
+  untroubled_before : (calm : StepIsCalm who wish before after old new turn p) → Goes before old → IsUntroubled calm.calm.before p.session.before.work
+  untroubled_before calm (t, told, well) =
+      subst (λ (x : CloudState). IsUntroubled x p.session.before.work) (state_is (record t { wish = wish }) calm.calm.before (sym (told_under t told) ∙ calm.calm.told))
+      (untroubled_later t (record t { wish = wish }) p.session.before.work (λ name. begins_itself (t.versions name)) (omega arith)
+      (subst (λ (a : Acting). IsUntroubled t a.work) (changed_was who.session _ old.sessions new.sessions p.session) well))
+
+  untroubled_after : (calm : StepIsCalm who wish before after old new turn p) → IsUntroubled calm.calm.after p.session.after.work → Goes after new
+  untroubled_after calm well = (
+    calm.calm.after,
+    p.look_after.stays calm.calm.after calm.calm.left,
+    subst (λ (a : Acting). IsUntroubled calm.calm.after a.work) (sym (session_is who wish before after old new turn p)) well,
+  )
 
 goes_calmly : (who : Caller) (wish : Wish) (before after : Seen) (old new : World) (p : StepsLooked who wish before after old new More) → StepIsCalm who wish before after old new More p
-    → StepExplains who wish before after old new More p → IsUntroubled (work_at old who.session) → IsUntroubled (work_at new who.session)
+    → StepExplains who wish before after old new More p → GoesWellAt who.session before old → GoesWellAt who.session after new
 goes_calmly who wish before after old new p calm explains well =
-    untroubled_after who wish before after old new More p
-    (step_untroubled who p.under p.to p.session.before p.session.after p.session.does calm explains (untroubled_before who wish before after old new More p well))
+    untroubled_after who wish before after old new More p calm
+    (step_untroubled who p.under p.to p.session.before p.session.after p.session.does calm explains (untroubled_before who wish before after old new More p calm well))
 
 went_calmly : (who : Caller) (before : Seen) (old : World) (after : Seen) (new : World) (went : Went who before old after new) → EachWent StepIsCalm who before old after new went
-    → EachWent StepExplains who before old after new went → IsUntroubled (work_at old who.session) → IsUntroubled (work_at new who.session)
+    → EachWent StepExplains who before old after new went → GoesWellAt who.session before old → GoesWellAt who.session after new
 went_calmly who before old after new start calm explains well = well
 went_calmly who before old after new (further mid _ world _ went step) calm explains well =
     goes_calmly who Plain mid after world new step calm.1 explains.1 (went_calmly who before old mid world went calm.0 explains.0 well)
@@ -273,15 +298,20 @@ tells_any who before after old new a p calm c e = absurd (cc (e))
 
 -- the answer of a calm step
 answers_calmly : (who : Caller) (wish : Wish) (before after : Seen) (old new : World) (a : Answer) (p : StepsLooked who wish before after old new (Ended a))
-    → StepIsCalm who wish before after old new (Ended a) p → StepExplains who wish before after old new (Ended a) p → IsUntroubled (work_at old who.session)
+    → StepIsCalm who wish before after old new (Ended a) p → StepExplains who wish before after old new (Ended a) p → GoesWellAt who.session before old
     → IsOfNone p.session.after.work a
 answers_calmly who wish before after old new a p calm explains well =
-    let is = answer_untroubled who p.under p.to p.session.before p.session.after a p.session.does calm explains (untroubled_before who wish before after old new (Ended a) p well) in
+    let is = answer_untroubled who p.under p.to p.session.before p.session.after a p.session.does calm explains (untroubled_before who wish before after old new (Ended a) p calm well) in
     record { trouble = is.0; left = is.1; told = tells_any who p.under p.to p.session.before p.session.after a p.session.does calm }
 
-answers_rest : (who : Caller) (wish : Wish) (before after : Seen) (old new : World) (a : Answer) (p : StepsLooked who wish before after old new (Ended a)) → IsUntroubled (work_at new who.session)
+answers_rest : (who : Caller) (wish : Wish) (before after : Seen) (old new : World) (a : Answer) (p : StepsLooked who wish before after old new (Ended a)) → IsAtRest (work_at new who.session)
 answers_rest who wish before after old new a p =
-    untroubled_after who wish before after old new (Ended a) p (answered_rests who p.under p.to p.session.before.work p.session.after.work a p.session.does.work)
+    subst (λ (b : Acting). IsAtRest b.work) (sym (session_is who wish before after old new (Ended a) p))
+    (answered_rests who p.under p.to p.session.before.work p.session.after.work a p.session.does.work)
+
+-- what is at rest is untroubled, whatever a cloud tells
+rests_in : (session : ℕ) (seen : Seen) (world : World) → IsAtRest (work_at world session) → SessionIsUntroubled session seen world
+rests_in session seen world rest t told = rested t (work_at world session) rest
 
 -- ---- replies
 
@@ -301,25 +331,32 @@ steps_of posture r runs = runs
 
 -- ---- what a line asks of a session
 
-unchanged : (k : ℕ) (old new : World) → new ≡ old → IsUntroubled (work_at old k) → IsUntroubled (work_at new k)
-unchanged k old new same well = subst (λ (w : World). IsUntroubled (work_at w k)) (sym same) well
+unchanged : (k : ℕ) (before after : Seen) (old new : World) → after ≡ before → new ≡ old → SessionIsUntroubled k before old → SessionIsUntroubled k after new
+unchanged k before after old new seen same well =
+    subst (λ (w : World). SessionIsUntroubled k after w) (sym same) (subst (λ (z : Seen). SessionIsUntroubled k z old) (sym seen) well)
 
 -- where one session changes
 changes_to : (k : ℕ) (Does : Acting → Acting → Type 0) (old new : World) (c : Changes k Does old.sessions new.sessions) → session_at new.sessions k ≡ c.after
 changes_to k Does old new c = changed_at k Does old.sessions new.sessions c k ∙ at_same k c.after (session_at old.sessions) k refl
 
-rests_after : (k : ℕ) (Does : Acting → Acting → Type 0) (old new : World) (c : Changes k Does old.sessions new.sessions) → (IsUntroubled c.before.work → IsUntroubled c.after.work)
-    → IsUntroubled (work_at old k) → IsUntroubled (work_at new k)
-rests_after k Does old new c leaves well =
-    subst (λ (a : Acting). IsUntroubled a.work) (sym (changes_to k Does old new c))
-    (leaves (subst (λ (a : Acting). IsUntroubled a.work) (changed_was k Does old.sessions new.sessions c) well))
+rests_after : (k : ℕ) (before after : Seen) (Does : Acting → Acting → Type 0) (old new : World) (c : Changes k Does old.sessions new.sessions) → after ≡ before
+    → ((t : CloudState) → IsUntroubled t c.before.work → IsUntroubled t c.after.work) → SessionIsUntroubled k before old → SessionIsUntroubled k after new
+rests_after k before after Does old new c seen leaves well t told =
+    subst (λ (a : Acting). IsUntroubled t a.work) (sym (changes_to k Does old new c))
+    (leaves t (subst (λ (a : Acting). IsUntroubled t a.work) (changed_was k Does old.sessions new.sessions c) (well t (ap (λ (z : Seen). z.state) (sym seen) ∙ told))))
 
-has_closed : (k : ℕ) (old new : World) → Has k closed_session old new → IsUntroubled (work_at new k)
+has_closed : (k : ℕ) (old new : World) → Has k closed_session old new → IsAtRest (work_at new k)
 has_closed k old new has =
-    subst (λ (a : Acting). IsUntroubled a.work) (sym (has_at k closed_session old new has k ∙ at_same k closed_session (session_at old.sessions) k refl)) closed_rests
+    subst (λ (a : Acting). IsAtRest a.work) (sym (has_at k closed_session old new has k ∙ at_same k closed_session (session_at old.sessions) k refl)) closed_rests
 
 module _ (lines : List Line) (n k : ℕ) (before after : Seen) (old new : World) (r : Reply) (t : CloudState) (number : length lines + 1 ≡ n) (told : before.state ≡ Some t)
-    (stands : WorldStands lines old t) (well : IsUntroubled (work_at old k)) where
+    (stands : WorldStands lines old t) (well : SessionIsUntroubled k before old) where
+  abbrev Behind : Type 0
+  Behind = SessionIsUntroubled k after new
+
+  here : GoesWellAt k before old
+  here = (t, told, well t told)
+
   abbrev who : Caller
   who = record { session = k; event = n }
 
@@ -331,7 +368,7 @@ module _ (lines : List Line) (n k : ℕ) (before after : Seen) (old new : World)
 
   -- a step that is answered, behind some that went on
   ended_well : (wish : Wish) (mid : Seen) (world : World) (a : Answer) → IsUnderWay lines world mid → (p : StepsLooked who wish mid after world new (Ended a))
-      → StepIsCalm who wish mid after world new (Ended a) p → StepExplains who wish mid after world new (Ended a) p → IsUntroubled (work_at world k)
+      → StepIsCalm who wish mid after world new (Ended a) p → StepExplains who wish mid after world new (Ended a) p → GoesWellAt k mid world
       → IsSoundReply posture r → RepliesTo a p.session.after (Ok r) → RunsWell posture r
   ended_well wish mid world a on p calm explains still sound replies =
       let own = steps_own lines who wish mid after world new (Ended a) (sym number) on p in
@@ -340,58 +377,58 @@ module _ (lines : List Line) (n k : ℕ) (before after : Seen) (old new : World)
       (answer_well said.task a p.session.after r said.of (subst (λ (q : Posture). IsSoundReply q r) said.posture sound) replies
       (answers_calmly who wish mid after world new a p calm explains still))
 
-  not_done : (why : Refused) → Declines why before after old new (Ok r) → IsUntroubled (work_at new k) × ((rule : Refusal) × (r ≡ reply.Refused rule))
-  not_done (refused.Rule rule) h = let is : r ≡ reply.Refused rule = cc (h.reply) in (unchanged k old new h.world well, (rule, is))
+  not_done : (why : Refused) → Declines why before after old new (Ok r) → Behind × ((rule : Refusal) × (r ≡ reply.Refused rule))
+  not_done (refused.Rule rule) h = let is : r ≡ reply.Refused rule = cc (h.reply) in (unchanged k before after old new h.seen h.world well, (rule, is))
   not_done refused.Memory h = absurd (cc (h.reply))
 
   makes_well : (wish : Wish) (h : MakesStep n k wish before after old new (Ok r)) → EachMade StepIsCalm n k wish before after old new (Ok r) h
-      → EachMade StepExplains n k wish before after old new (Ok r) h → IsSoundReply posture r → IsUntroubled (work_at new k) × StepsWell posture r
+      → EachMade StepExplains n k wish before after old new (Ok r) h → IsSoundReply posture r → Behind × StepsWell posture r
   makes_well wish (inl refuses) calm explains sound =
       let is = not_done _ refuses.declines in
       (is.0, steps_of posture r (refused_runs posture r is.1.0 is.1.1))
   makes_well wish (inr (inl step)) calm explains sound = on step.turn step.steps step.replies calm explains
     where
       on : (turn : Turn Answer) (p : StepsLooked who wish before after old new turn) → RepliesTurn turn p.session.after (Ok r) → StepIsCalm who wish before after old new turn p
-          → StepExplains who wish before after old new turn p → IsUntroubled (work_at new k) × StepsWell posture r
-      on More p e calm explains = (goes_calmly who wish before after old new p calm explains well, let is : r ≡ reply.Called = cc in subst (StepsWell posture) (sym is) tt)
+          → StepExplains who wish before after old new turn p → Behind × StepsWell posture r
+      on More p e calm explains = (goes_in k after new (goes_calmly who wish before after old new p calm explains here), let is : r ≡ reply.Called = cc in subst (StepsWell posture) (sym is) tt)
       on (Ended a) p e calm explains =
-          (answers_rest who wish before after old new a p, steps_of posture r (ended_well wish before old a way p calm explains well sound e))
+          (rests_in k after new (answers_rest who wish before after old new a p), steps_of posture r (ended_well wish before old a way p calm explains here sound e))
       on (Stopped q) p e calm explains = absurd (no_stop _ p.under p.to p.session.before p.session.after q p.session.does)
   makes_well wish (inr (inr memory)) calm explains sound = absurd (no_memory r memory.0)
 
   runs_well : (h : Runs n k before after old new (Ok r)) → EachRun StepIsCalm n k before after old new (Ok r) h → EachRun StepExplains n k before after old new (Ok r) h
-      → IsSoundReply posture r → IsUntroubled (work_at new k) × RunsWell posture r
+      → IsSoundReply posture r → Behind × RunsWell posture r
   runs_well (inl refuses) calm explains sound = let is = not_done _ refuses.declines in (is.0, refused_runs posture r is.1.0 is.1.1)
   runs_well (inr (inl run)) calm explains sound =
       let c = run.comes in (
-        answers_rest who Plain c.mid after c.world new run.answer c.steps,
+        rests_in k after new (answers_rest who Plain c.mid after c.world new run.answer c.steps),
         ended_well Plain c.mid c.world run.answer (went_on lines who before old c.mid c.world (sym number) way c.went) c.steps calm.1 explains.1
-            (went_calmly who before old c.mid c.world c.went calm.0 explains.0 well) sound run.replies,
+            (went_calmly who before old c.mid c.world c.went calm.0 explains.0 here) sound run.replies,
       )
   runs_well (inr (inr memory)) calm explains sound = absurd (no_memory r memory.0)
 
-  dies_well : (Changes k (λ a b. b ≡ closed_session) old.sessions new.sessions) → IsUntroubled (work_at new k)
-  dies_well c = rests_after k _ old new c (λ w. subst (λ (a : Acting). IsUntroubled a.work) (sym c.does) closed_rests) well
+  dies_well : (Changes k (λ a b. b ≡ closed_session) old.sessions new.sessions) → Behind
+  dies_well c = rests_in k after new (subst (λ (a : Acting). IsAtRest a.work) (sym (changes_to k _ old new c ∙ c.does)) closed_rests)
 
-  crash_well : (done : Bool) → Crashes n k done before after old new (Ok r) → IsUntroubled (work_at new k)
+  crash_well : (done : Bool) → Crashes n k done before after old new (Ok r) → Behind
   crash_well false h = dies_well h.closed
   crash_well true (inl idle) = dies_well idle.dies.closed
-  crash_well true (inr (inl h)) = has_closed k h.world new h.closes
+  crash_well true (inr (inl h)) = rests_in k after new (has_closed k h.world new h.closes)
   crash_well true (inr (inr memory)) = absurd (no_memory r memory.0)
 
-  notes_well : (tree : ℕ) (change : Change) → Changes k (NotesChange tree change (Ok r)) old.sessions new.sessions → IsUntroubled (work_at new k)
-  notes_well tree change c = rests_after k _ old new c (λ was. on was c.does.noted c.does.notes) well
+  notes_well : (tree : ℕ) (change : Change) → after ≡ before → Changes k (NotesChange tree change (Ok r)) old.sessions new.sessions → Behind
+  notes_well tree change seen c = rests_after k before after _ old new c seen (λ x was. on x was c.does.noted c.does.notes) well
     where
-      on : IsUntroubled c.before.work → (done : Result (Unit {0}) Refused) → NotesIn tree change c.before c.after done → IsUntroubled c.after.work
-      on was (Ok x) notes = subst (λ (a : Acting). IsUntroubled a.work) (sym notes.0) was
-      on was (Err why) notes = subst (λ (a : Acting). IsUntroubled a.work) (sym notes.0) was
+      on : (x : CloudState) → IsUntroubled x c.before.work → (done : Result (Unit {0}) Refused) → NotesIn tree change c.before c.after done → IsUntroubled x c.after.work
+      on x was (Ok done) notes = subst (λ (a : Acting). IsUntroubled x a.work) (sym notes.0) was
+      on x was (Err why) notes = subst (λ (a : Acting). IsUntroubled x a.work) (sym notes.0) was
 
-  aborts_well : Changes k (DropsChanges (Ok r)) old.sessions new.sessions → IsUntroubled (work_at new k)
-  aborts_well c = rests_after k _ old new c (λ was. on was c.does.dropped c.does.drops) well
+  aborts_well : after ≡ before → Changes k (DropsChanges (Ok r)) old.sessions new.sessions → Behind
+  aborts_well seen c = rests_after k before after _ old new c seen (λ x was. on x was c.does.dropped c.does.drops) well
     where
-      on : IsUntroubled c.before.work → (done : Result (Unit {0}) Refused) → AbortsIn c.before c.after done → IsUntroubled c.after.work
-      on was (Ok x) drops = subst (λ (a : Acting). IsUntroubled a.work) (sym drops.0) was
-      on was (Err why) drops = subst (λ (a : Acting). IsUntroubled a.work) (sym drops.0) was
+      on : (x : CloudState) → IsUntroubled x c.before.work → (done : Result (Unit {0}) Refused) → AbortsIn c.before c.after done → IsUntroubled x c.after.work
+      on x was (Ok done) drops = subst (λ (a : Acting). IsUntroubled x a.work) (sym drops.0) was
+      on x was (Err why) drops = subst (λ (a : Acting). IsUntroubled x a.work) (sym drops.0) was
 
   -- ---- begins
 
@@ -453,8 +490,9 @@ module _ (lines : List Line) (n k : ℕ) (before after : Seen) (old new : World)
   op_answered (op.Page tree page) a left is e = absurd is
   op_answered (op.Tree tree) a left is e = absurd is
 
-  begins_well : (o : Op) → IsRightOp o → Changes k (BeginsOp o (Ok r)) old.sessions new.sessions → IsUntroubled (work_at new k) × OpWell o r
-  begins_well o right c = (rests_after k _ old new c (begins_untroubled o c.before c.after c.does.begun c.does.begins) well, on c.does.begun begins c.does.replies)
+  begins_well : (o : Op) → IsRightOp o → after ≡ before → Changes k (BeginsOp o (Ok r)) old.sessions new.sessions → Behind × OpWell o r
+  begins_well o right seen c =
+      (rests_after k before after _ old new c seen (λ x. begins_untroubled x o c.before c.after c.does.begun c.does.begins) well, on c.does.begun begins c.does.replies)
     where
       f : Sessions
       f = session_at old.sessions
@@ -477,7 +515,7 @@ module _ (lines : List Line) (n k : ℕ) (before after : Seen) (old new : World)
 
   request_well : (Well : Reply → Type 0) → ((rule : Refusal) → Well (reply.Refused rule)) → (Is : Result Request Refused → Type 0) (asked : Asked) → OfSession k Is asked
       → (h : Answers n asked before after old new (Ok r)) → EachAsked StepIsCalm n asked before after old new (Ok r) h → EachAsked StepExplains n asked before after old new (Ok r) h
-      → ((request : Request) → Is (Ok request) → DoesCalmly k request → IsUntroubled (work_at new k) × Well r) → IsUntroubled (work_at new k) × Well r
+      → ((request : Request) → Is (Ok request) → DoesCalmly k request → Behind × Well r) → Behind × Well r
   request_well Well rules Is (Session j (Ok request)) belongs (inl p) calm explains served =
       served request belongs.1 (subst (λ i. DoesCalmly i request) belongs.0 (p.1, calm, explains))
   request_well Well rules Is (Session j (Err why)) belongs (inl p) calm explains served = let is = not_done why p.1 in (is.0, subst Well (sym is.1.1) (rules is.1.0))
@@ -491,8 +529,8 @@ module _ (lines : List Line) (n k : ℕ) (before after : Seen) (old new : World)
   as_asked request own e does = let is : request ≡ own = cc (e) in subst (DoesCalmly k) is does
 
   -- a change is noted
-  noted_well : (tree : ℕ) (Is : Result Change Refused → Type 0) (request : Request) → IsNoted tree Is (Ok request) → DoesCalmly k request → IsUntroubled (work_at new k) × Unit {0}
-  noted_well tree Is (Note j change) is does = (notes_well j change does.0.1, tt)
+  noted_well : (tree : ℕ) (Is : Result Change Refused → Type 0) (request : Request) → IsNoted tree Is (Ok request) → DoesCalmly k request → Behind × Unit {0}
+  noted_well tree Is (Note j change) is does = (notes_well j change does.0.0.seen does.0.1, tt)
   noted_well tree Is (Begin o) is does = absurd is
   noted_well tree Is Abort is does = absurd is
   noted_well tree Is (Step wish) is does = absurd is
@@ -501,7 +539,7 @@ module _ (lines : List Line) (n k : ℕ) (before after : Seen) (old new : World)
 
 -- ---- a settling
 
-module _ (lines : List Line) (n : ℕ) (before after : Seen) (old new : World) (r : Reply) (sound : IsSoundReply (standing lines 0).posture r) where
+module _ (lines : List Line) (n : ℕ) (before after : Seen) (old new : World) (r : Reply) (t : CloudState) (told : before.state ≡ Some t) (sound : IsSoundReply (standing lines 0).posture r) where
   abbrev first : Caller
   first = settler n
 
@@ -526,25 +564,25 @@ module _ (lines : List Line) (n : ℕ) (before after : Seen) (old new : World) (
       subst SettlesWell (sym is.0) (settled_spent q (subst (IsSoundReply (standing lines 0).posture) is.0 sound) (none.trouble q refl) is.1)
   settled_as w a none e = absurd e
 
-  begun_untroubled : (begun : World) → Has 0 settling_session old begun → IsUntroubled (work_at begun 0)
+  begun_untroubled : (begun : World) → Has 0 settling_session old begun → IsAtRest (work_at begun 0)
   begun_untroubled begun has =
-      subst (λ (a : Acting). IsUntroubled a.work) (sym (has_at 0 settling_session old begun has 0 ∙ at_same 0 settling_session (session_at old.sessions) 0 refl))
+      subst (λ (a : Acting). IsAtRest a.work) (sym (has_at 0 settling_session old begun has 0 ∙ at_same 0 settling_session (session_at old.sessions) 0 refl))
       (at_rest settling_session.work refl refl)
 
   pub settles_well : (h : Settles n before after old new (Ok r)) → EachSettling StepIsCalm n before after old new (Ok r) h → EachSettling StepExplains n before after old new (Ok r) h
-      → IsUntroubled (work_at new 0) × SettlesWell r
+      → SessionIsUntroubled 0 after new × SettlesWell r
   settles_well (inr memory) calm explains = absurd (no_memory r memory.0)
   settles_well (inl h) calm explains = on h.settles calm explains
     where
       on : (s : SettlesOn first before after h.begun new (Ok r)) → EachSettlingOn StepIsCalm first before after h.begun new (Ok r) s
-          → EachSettlingOn StepExplains first before after h.begun new (Ok r) s → IsUntroubled (work_at new 0) × SettlesWell r
+          → EachSettlingOn StepExplains first before after h.begun new (Ok r) s → SessionIsUntroubled 0 after new × SettlesWell r
       on (inr memory) calm explains = absurd (no_memory r memory.0)
       on (inl s) calm explains =
           let c = s.comes in (
-            has_closed 0 s.left new s.closes,
+            rests_in 0 after new (has_closed 0 s.left new s.closes),
             settled_as c.steps.session.after.work s.answer
                 (answers_calmly first Plain c.mid after c.world s.left s.answer c.steps calm.1 explains.1
-                (went_calmly first before h.begun c.mid c.world c.went calm.0 explains.0 (begun_untroubled h.begun h.begins)))
+                (went_calmly first before h.begun c.mid c.world c.went calm.0 explains.0 (t, told, rested t (work_at h.begun 0) (begun_untroubled h.begun h.begins))))
                 s.replies,
           )
 
@@ -553,40 +591,42 @@ module _ (lines : List Line) (n : ℕ) (before after : Seen) (old new : World) (
 module _ (lines : List Line) (n : ℕ) (before after : Seen) (old new : World) (r : Reply) (t : CloudState) (number : length lines + 1 ≡ n) (told : before.state ≡ Some t)
     (stands : WorldStands lines old t) where
   abbrev Well : Event → Type 0
-  Well e = IsUntroubled (work_at new (session_of e)) × RepliesWell e (standing lines (session_of e)).posture r
+  Well e = SessionIsUntroubled (session_of e) after new × RepliesWell e (standing lines (session_of e)).posture r
 
   -- what is asked is answered, each step of it calm and explained
   abbrev AnswersCalmly : Asked → Type 0
   AnswersCalmly z = (h : Answers n z before after old new (Ok r)) × EachAsked StepIsCalm n z before after old new (Ok r) h × EachAsked StepExplains n z before after old new (Ok r) h
 
   asked_well : (e : Event) (asked : Asked) → Asks e asked → (h : Answers n asked before after old new (Ok r)) → EachAsked StepIsCalm n asked before after old new (Ok r) h
-      → EachAsked StepExplains n asked before after old new (Ok r) h → IsSoundFor e (standing lines (session_of e)).posture r → IsUntroubled (work_at old (session_of e)) → Well e
+      → EachAsked StepExplains n asked before after old new (Ok r) h → IsSoundFor e (standing lines (session_of e)).posture r
+      → SessionIsUntroubled (session_of e) before old → Well e
   asked_well (event.Open k client) asked asks h calm explains sound well =
       request_well lines n k before after old new r t number told stands well (BeginsWell Opening) (λ rule. tt) (IsOpening client) asked asks h calm explains
-      (λ request is does. begins_well lines n k before after old new r t number told stands well (op.Open client) is.0 (as_asked lines n k before after old new r t number told stands well request (Begin (op.Open client)) (ap (λ q. Ok q) is.1) does).0.1)
+      (λ request is does. let d = as_asked lines n k before after old new r t number told stands well request (Begin (op.Open client)) (ap (λ q. Ok q) is.1) does in begins_well lines n k before after old new r t number told stands well (op.Open client) is.0 d.0.0.seen d.0.1)
   asked_well (event.Close k) asked asks h calm explains sound well =
       request_well lines n k before after old new r t number told stands well (BeginsWell Closing) (λ rule. tt) (λ request. request ≡ Ok (Begin op.Close)) asked asks h calm explains
-      (λ request is does. begins_well lines n k before after old new r t number told stands well op.Close tt (as_asked lines n k before after old new r t number told stands well request (Begin op.Close) is does).0.1)
+      (λ request is does. let d = as_asked lines n k before after old new r t number told stands well request (Begin op.Close) is does in begins_well lines n k before after old new r t number told stands well op.Close tt d.0.0.seen d.0.1)
   asked_well (event.Renew k) asked asks h calm explains sound well =
       request_well lines n k before after old new r t number told stands well (BeginsWell Renewing) (λ rule. tt) (λ request. request ≡ Ok (Begin op.Renew)) asked asks h calm explains
-      (λ request is does. begins_well lines n k before after old new r t number told stands well op.Renew tt (as_asked lines n k before after old new r t number told stands well request (Begin op.Renew) is does).0.1)
+      (λ request is does. let d = as_asked lines n k before after old new r t number told stands well request (Begin op.Renew) is does in begins_well lines n k before after old new r t number told stands well op.Renew tt d.0.0.seen d.0.1)
   asked_well (event.Commit k) asked asks h calm explains sound well =
       request_well lines n k before after old new r t number told stands well (BeginsWell (Committing [])) (λ rule. tt) (λ request. request ≡ Ok (Begin op.Commit)) asked asks h calm explains
-      (λ request is does. begins_well lines n k before after old new r t number told stands well op.Commit tt (as_asked lines n k before after old new r t number told stands well request (Begin op.Commit) is does).0.1)
+      (λ request is does. let d = as_asked lines n k before after old new r t number told stands well request (Begin op.Commit) is does in begins_well lines n k before after old new r t number told stands well op.Commit tt d.0.0.seen d.0.1)
   asked_well (event.Read k tree key) asked asks h calm explains sound well =
       request_well lines n k before after old new r t number told stands well (BeginsWell (Reading tree key)) (λ rule. tt) (IsReading tree key) asked asks h calm explains
-      (λ request is does. begins_well lines n k before after old new r t number told stands well (op.Read tree key) is.0 (as_asked lines n k before after old new r t number told stands well request (Begin (op.Read tree key)) (ap (λ q. Ok q) is.2) does).0.1)
+      (λ request is does. let d = as_asked lines n k before after old new r t number told stands well request (Begin (op.Read tree key)) (ap (λ q. Ok q) is.2) does in begins_well lines n k before after old new r t number told stands well (op.Read tree key) is.0 d.0.0.seen d.0.1)
   asked_well (event.Scan k tree from to) asked asks h calm explains sound well =
       request_well lines n k before after old new r t number told stands well (BeginsWell (Scanning tree from to)) (λ rule. tt) (IsScanning tree from to) asked asks h calm explains
       (λ request is does.
-      let w = begins_well lines n k before after old new r t number told stands well (op.Scan tree (bound_of from) (bound_of to)) is.0 (as_asked lines n k before after old new r t number told stands well request (Begin (op.Scan tree (bound_of from) (bound_of to))) (ap (λ q. Ok q) is.3) does).0.1 in
+      let d = as_asked lines n k before after old new r t number told stands well request (Begin (op.Scan tree (bound_of from) (bound_of to))) (ap (λ q. Ok q) is.3) does in
+      let w = begins_well lines n k before after old new r t number told stands well (op.Scan tree (bound_of from) (bound_of to)) is.0 d.0.0.seen d.0.1 in
       (w.0, w.1 from to))
   asked_well (event.Page k tree page) asked asks h calm explains sound well =
       request_well lines n k before after old new r t number told stands well (BeginsWell (Paging tree page)) (λ rule. tt) (IsPaging tree page) asked asks h calm explains
-      (λ request is does. begins_well lines n k before after old new r t number told stands well (op.Page tree page) (is.0, is.1) (as_asked lines n k before after old new r t number told stands well request (Begin (op.Page tree page)) (ap (λ q. Ok q) is.2) does).0.1)
+      (λ request is does. let d = as_asked lines n k before after old new r t number told stands well request (Begin (op.Page tree page)) (ap (λ q. Ok q) is.2) does in begins_well lines n k before after old new r t number told stands well (op.Page tree page) (is.0, is.1) d.0.0.seen d.0.1)
   asked_well (event.Tree k tree) asked asks h calm explains sound well =
       request_well lines n k before after old new r t number told stands well (BeginsWell (Folding tree)) (λ rule. tt) (IsFolding tree) asked asks h calm explains
-      (λ request is does. begins_well lines n k before after old new r t number told stands well (op.Tree tree) is.0 (as_asked lines n k before after old new r t number told stands well request (Begin (op.Tree tree)) (ap (λ q. Ok q) is.1) does).0.1)
+      (λ request is does. let d = as_asked lines n k before after old new r t number told stands well request (Begin (op.Tree tree)) (ap (λ q. Ok q) is.1) does in begins_well lines n k before after old new r t number told stands well (op.Tree tree) is.0 d.0.0.seen d.0.1)
   asked_well (event.Insert k tree key payload) asked asks h calm explains sound well =
       request_well lines n k before after old new r t number told stands well (λ q. Unit {0}) (λ rule. tt) (IsNoted tree (IsInsert key payload)) asked asks h calm explains
       (λ request is does. noted_well lines n k before after old new r t number told stands well tree (IsInsert key payload) request is does)
@@ -598,7 +638,8 @@ module _ (lines : List Line) (n : ℕ) (before after : Seen) (old new : World) (
       (λ request is does. noted_well lines n k before after old new r t number told stands well tree (IsDelete key) request is does)
   asked_well (event.Abort k) asked asks h calm explains sound well =
       request_well lines n k before after old new r t number told stands well (λ q. Unit {0}) (λ rule. tt) (λ request. request ≡ Ok Abort) asked asks h calm explains
-      (λ request is does. (aborts_well lines n k before after old new r t number told stands well (as_asked lines n k before after old new r t number told stands well request Abort is does).0.1, tt))
+      (λ request is does. (aborts_well lines n k before after old new r t number told stands well (as_asked lines n k before after old new r t number told stands well request Abort is does).0.0.seen
+      (as_asked lines n k before after old new r t number told stands well request Abort is does).0.1, tt))
   asked_well (event.Step k wish) asked asks h calm explains sound well =
       request_well lines n k before after old new r t number told stands well (StepsWell (standing lines k).posture) (λ rule. tt) (IsStep wish) asked asks h calm explains
       (λ request is does.
@@ -615,14 +656,23 @@ module _ (lines : List Line) (n : ℕ) (before after : Seen) (old new : World) (
   asked_well (event.Wait ticks) asked asks h calm explains sound well = on (subst (λ z. Answers n z before after old new (Ok r)) asks h)
     where
       on : Answers n (Wait ticks) before after old new (Ok r) → Well (event.Wait ticks)
-      on (inl waits) = (unchanged 0 old new waits.1 well, tt)
-      on (inr long) = (unchanged 0 old new long.declines.world well, tt)
+      on (inl waits) = (goes_in 0 after new (subst (λ (w : World). GoesWellAt 0 after w) (sym waits.1) behind), tt)
+        where
+          behind : GoesWellAt 0 after old
+          behind =
+              let w = waits.0.waited t told in (
+                w.after,
+                w.told,
+                untroubled_later t w.after (work_at old 0) (λ name. begins_same (t.versions name) (w.after.versions name) (ap (λ (x : CloudState). x.versions name) w.rest))
+                    (end_later t.now ticks w.after.now (waits.0.clock t told) w.later) (well t told),
+              )
+      on (inr long) = (unchanged 0 before after old new long.declines.seen long.declines.world well, tt)
   asked_well (event.Report tree) asked asks h calm explains sound well =
       let reports = subst (λ z. Answers n z before after old new (Ok r)) asks h in
-      (unchanged 0 old new reports.world well, tt)
+      (goes_in 0 after new (t, reports.looked.stays t told, subst (λ (w : World). IsUntroubled t (work_at w 0)) (sym reports.world) (well t told)), tt)
   asked_well event.Settle asked asks h calm explains sound well =
       let d = subst AnswersCalmly asks (h, calm, explains) in
-      settles_well lines n before after old new r sound d.0 d.1 d.2
+      settles_well lines n before after old new r t told sound d.0 d.1 d.2
 
 pub well_after : (n : ℕ) (e : Event) (before after : Seen) (old new : World) (result : Result Reply WorldFault) → AnswersWell n e before after old new result
 well_after n e before after old new (Ok r) = λ lines t number told stands handled calm well.

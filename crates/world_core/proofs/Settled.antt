@@ -40,16 +40,15 @@ use Rattle.session_facts.proofs.Sessions.Explaining.{session_explains}
 use Rattle.session_facts.proofs.Sessions.Stopping.{session_stops}
 use Rattle.session_facts.proofs.Steps.{MadeCall, made_call}
 use Rattle.session_facts.specs.Sessions.Answering.{MaySettle, MayAnswer}
-use Rattle.session_facts.specs.Sessions.Explaining.{ReceivesLate}
-use Rattle.session_facts.specs.Sessions.Sessions.{SessionsStand, leases_of}
-use Rattle.session_facts.specs.Sessions.Untroubled.{IsUntroubled}
+use Rattle.session_facts.specs.Sessions.Sessions.{SessionsStand}
+use Rattle.session_facts.specs.Sessions.Untroubled.{GivesBackLasting}
 use Rattle.session_facts.specs.Settled.Bound.{IsWithin}
 use Rattle.session_facts.specs.Settled.Runs.{TreesRun, PagesRun, RecoveriesRun}
 use Rattle.session_facts.specs.Settled.Story.{Moment}
 use Rattle.settle_run.specs.Settling.{Settling, Step, passed, new_settling, settle_ask}
 use Rattle.settle_run.specs.declared.settled.Settled.{Settled as Answered}
 use Rattle.world_core.proofs.Calm.{settles_well}
-use Rattle.world_core.specs.Calm.{StepIsCalm, SettlesWell, work_at}
+use Rattle.world_core.specs.Calm.{StepIsCalm, SessionIsUntroubled, SettlesWell}
 use Rattle.world_core.specs.EachStep.{StepFact, EachWent, EachCome, EachSettlingOn, EachSettling, EachAsked, EachStep}
 use Rattle.world_core.specs.Handled.{Has, StepsLooked, Went, start, further, SettlesTo, SettlesOn, Settles as SettlesLine, Answers, Handled}
 use Rattle.world_core.specs.Replying.{RepliesSettled, unsettled_reply}
@@ -232,8 +231,7 @@ module _ (n : ℕ) where
       ask = settle_ask way.settling;
       hand = ap ask_of_work way.works;
       calm = call_calm;
-      received = λ late. well.received call_calm.after call_calm.left
-          (subst (λ (ask : Ask). ReceivesLate ask (leases_of p.session.before.work) call_calm.after.now) (sym asked) late);
+      returned = subst (λ (ask : Ask). GivesBackLasting ask call_calm.after.now) asked (well.returned call_calm.after call_calm.left);
       memory = well.memory;
     }
 
@@ -461,14 +459,14 @@ asked_calm n before after old new t r told stands free (Report tree) is answers 
 record AsksRightly (n : ℕ) (asked : Asked) (before after : Seen) (old new : World) (r : Reply) (answers : Answers n asked before after old new (Ok r)) : Type 0 where
   sound : (posture : Posture) → IsSoundReply posture r
   explains : EachAsked StepExplains n asked before after old new (Ok r) answers
-  calm : EachAsked StepIsCalm n asked before after old new (Ok r) answers → IsUntroubled (work_at new 0) × SettlesWell r
+  calm : EachAsked StepIsCalm n asked before after old new (Ok r) answers → SessionIsUntroubled 0 after new × SettlesWell r
 
 asked_right : (n : ℕ) (before after : Seen) (old new : World) (t : CloudState) (r : Reply) → before.state ≡ Some t → SomeBookStands (session_at old.sessions) t
     → (asked : Asked) → asked ≡ Settle → (answers : Answers n asked before after old new (Ok r)) → AsksRightly n asked before after old new r answers
 asked_right n before after old new t r told stands Settle is answers =
     let sound = settling_sound n before after old new r t told stands answers in
     let explains = settling_explains n before after old new r t told stands answers in
-    record { sound = sound; explains = explains; calm = λ each. settles_well [] n before after old new r (sound (standing [] 0).posture) answers each explains }
+    record { sound = sound; explains = explains; calm = λ each. settles_well [] n before after old new r t told (sound (standing [] 0).posture) answers each explains }
 asked_right n before after old new t r told stands (Session j request) is answers = absurd (cc (is))
 asked_right n before after old new t r told stands (Wait ticks) is answers = absurd (cc (is))
 asked_right n before after old new t r told stands (Report tree) is answers = absurd (cc (is))

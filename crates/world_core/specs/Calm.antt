@@ -84,11 +84,16 @@ RepliesWell event posture reply = Unit {0}
 
 -- ---- every line
 
+-- what a session of a world has in hand goes well so far, where a cloud tells its state
+abbrev pub SessionIsUntroubled : ℕ → Seen → World → Type 0
+SessionIsUntroubled session seen world = (t : CloudState) → seen.state ≡ Some t → IsUntroubled t (work_at world session)
+
 -- Whatever lines a world and a cloud stood for before a line: where its session was untroubled and each step of the line was calm, however it was
 -- handled, the session is untroubled behind it, and the line is answered well.
 abbrev pub AnswersWell : ℕ → Event → Seen → Seen → World → World → Result Reply WorldFault → Type 0
 AnswersWell n event before after old new (Ok reply) =
     (lines : List Line) (t : CloudState) → length lines + 1 ≡ n → before.state ≡ Some t → WorldStands lines old t
     → (handled : Handled n event before after old new (Ok reply)) → EachStep StepIsCalm n event before after old new (Ok reply) handled
-    → IsUntroubled (work_at old (session_of event)) → IsUntroubled (work_at new (session_of event)) × RepliesWell event (standing lines (session_of event)).posture reply
+    → SessionIsUntroubled (session_of event) before old
+    → SessionIsUntroubled (session_of event) after new × RepliesWell event (standing lines (session_of event)).posture reply
 AnswersWell n event before after old new (Err fault) = Unit {0}

@@ -14,10 +14,11 @@ use Rattle.cloud_trait.specs.declared.turn.Turn.TheVariants.{More, Ended, Stoppe
 use Rattle.cloud_trait.specs.Ask.{Ask, Release}
 use Rattle.cloud_trait.specs.Caller.{Caller}
 use Rattle.cloud_trait.specs.Claim.{Lasts}
-use Rattle.cloud_trait.specs.Growth.{HasGrown}
+use Rattle.cloud_trait.specs.Growth.{BeginsWith}
 use Rattle.cloud_trait.specs.Seen.{Seen}
 use Rattle.cloud_trait.specs.State.{CloudState, Counts}
 use Rattle.cloud_trait.specs.Weather.{Rose}
+use Rattle.db_base.specs.declared.names.ObjName.{ObjName}
 use Rattle.db_base.specs.declared.trouble.CommitAnswer.{CommitAnswer}
 use Rattle.db_base.specs.declared.trouble.CommitAnswer.TheVariants.{Committed, NotCommitted, InDoubt, CommittedOpen}
 use Rattle.db_base.specs.declared.trouble.Trouble.{Trouble}
@@ -223,11 +224,11 @@ answer_untroubled who before after old new a p calm explained well =
 
 -- ---- behind the calls of others
 
-pub untroubled_grows : (s t : CloudState) (w : Work) → HasGrown s t → IsUntroubled s w → IsUntroubled t w
-untroubled_grows s t w grown well = record { trouble = λ k is. on k (well.trouble k is); left = well.left }
+pub untroubled_later : (s t : CloudState) (w : Work) → ((name : ObjName) → BeginsWith (s.versions name) (t.versions name)) → s.now ≤ t.now → IsUntroubled s w → IsUntroubled t w
+untroubled_later s t w grown later well = record { trouble = λ k is. on k (well.trouble k is); left = well.left }
   where
     on : (k : Trouble) → IsExcused s w k → IsExcused t w k
-    on (trouble.Waiting have need) (l, is, over) = let later = grown.later in (l, is, omega (arith, over, later))
+    on (trouble.Waiting have need) (l, is, over) = (l, is, omega (arith, over, later))
     on trouble.Failed is = is
     on (trouble.Late end now) is = is
     on (trouble.Busy lock until) is = is

@@ -22,6 +22,7 @@ use Rattle.db_base.specs.declared.refusal.Refused.{Refused}
 use Rattle.db_base.specs.declared.refusal.Refused.TheVariants as refused
 use Rattle.db_base.specs.declared.trouble.CommitAnswer.{CommitAnswer}
 use Rattle.db_base.specs.declared.trouble.CommitAnswer.TheVariants.{Committed, NotCommitted, InDoubt, CommittedOpen}
+use Rattle.db_base.specs.declared.trouble.Counter.TheVariants as counter
 use Rattle.db_base.specs.declared.trouble.Trouble.{Trouble}
 use Rattle.db_base.specs.declared.trouble.Trouble.TheVariants as trouble
 use Rattle.page_cache.specs.Cache.{Cache}
@@ -112,12 +113,12 @@ begins_untroubled t (op.Tree tree) old new result b well =
 -- ---- what is answered at once
 
 -- a read its value, a scan its records, and a commit is committed or a counter stands at its last value; or memory ran out
-abbrev pub IsAtOnce : Op → Answer → Type 0
-IsAtOnce op.Commit (answer.Commit c) = CommitsWell c
-IsAtOnce (op.Read tree key) answer.Value = Unit {0}
-IsAtOnce (op.Scan tree from to) answer.Scan = Unit {0}
-IsAtOnce o (answer.Trouble t) = t ≡ trouble.Memory
-IsAtOnce o a = ⊥
+abbrev pub IsAtOnce : CloudState → Op → Answer → Type 0
+IsAtOnce s op.Commit (answer.Commit c) = CommitsWell s c
+IsAtOnce s (op.Read tree key) answer.Value = Unit {0}
+IsAtOnce s (op.Scan tree from to) answer.Scan = Unit {0}
+IsAtOnce s o (answer.Trouble t) = t ≡ trouble.Memory
+IsAtOnce s o a = ⊥
 
 no_work : (old new : Acting) (work : Work) (a : Answer) → HasInHand old work new (Answered a) → ⊥
 no_work old new work a (begun, is) = cc
@@ -126,15 +127,17 @@ answer_is : (a b : Answer) → (let x : Begun = Answered a in let y : Begun = An
 answer_is a b e = cc
 
 -- a commit that is refused at once
-spent_well : (c : CommitAnswer) → IsTold c → EndsBy MayStopAtOnce c → CommitsWell c
-spent_well (Committed txn) told may = tt
-spent_well InDoubt told may = may
-spent_well (NotCommitted (trouble.Exhausted what)) told may = tt
-spent_well (NotCommitted trouble.Memory) told may = absurd (told refl)
-spent_well (NotCommitted t) told may = may
-spent_well (CommittedOpen (trouble.Exhausted what)) told may = told tt
-spent_well (CommittedOpen trouble.Memory) told may = told tt
-spent_well (CommittedOpen t) told may = may
+spent_well : (s : CloudState) (c : CommitAnswer) → IsTold c → EndsBy MayStopAtOnce c → CommitsWell s c
+spent_well s (Committed txn) told may = tt
+spent_well s InDoubt told may = may
+spent_well s (NotCommitted (trouble.Exhausted counter.Txn)) told may = (tt, tt)
+spent_well s (NotCommitted (trouble.Exhausted counter.Number)) told may = (tt, tt)
+spent_well s (NotCommitted (trouble.Exhausted what)) told may = absurd may
+spent_well s (NotCommitted trouble.Memory) told may = absurd (told refl)
+spent_well s (NotCommitted t) told may = may
+spent_well s (CommittedOpen (trouble.Exhausted what)) told may = told tt
+spent_well s (CommittedOpen trouble.Memory) told may = told tt
+spent_well s (CommittedOpen t) told may = may
 
 module _ (book : Book) (order : List Entry) (s : CloudState) (sessions : Sessions) (session : ℕ) (new : Acting) (stand : SessionsStand book order s sessions) where
   abbrev old : Acting
@@ -148,40 +151,40 @@ module _ (book : Book) (order : List Entry) (s : CloudState) (sessions : Session
       on e = let is : c ≡ Committed 0 = cc in subst IsTold (sym is) tt
   tells home c (inr (some, (m, leads, left))) = subst EndsTold leads (ready_tells (new_run home old.buffer, old.cache))
 
-  commits_at_once : (home : Home) (a : Answer) → old.work ≡ Idle home → CommitsIn old home new (Answered a) → IsAtOnce op.Commit a
-  commits_at_once home (answer.Commit c) idle does = spent_well c (tells home c does.1) (begin_spent book order s sessions session new stand op.Commit c (home, idle, does))
+  commits_at_once : (home : Home) (a : Answer) → old.work ≡ Idle home → CommitsIn old home new (Answered a) → IsAtOnce s op.Commit a
+  commits_at_once home (answer.Commit c) idle does = spent_well s c (tells home c does.1) (begin_spent book order s sessions session new stand op.Commit c (home, idle, does))
   commits_at_once home (answer.Trouble t) idle does = begin_stops book order s sessions session new stand op.Commit t tt (home, idle, does)
   commits_at_once home a idle (noted, inl nothing, shown) = absurd (cc (nothing.answer))
   commits_at_once home a idle (noted, inr (some, never), shown) = absurd never
 
   -- a read
-  reads_at_once : (tree : ℕ) (key : List ℕ) (home : Home) (a : Answer) → IsTree tree → old.work ≡ Idle home → ReadsIn tree key old home new (Answered a) → IsAtOnce (op.Read tree key) a
+  reads_at_once : (tree : ℕ) (key : List ℕ) (home : Home) (a : Answer) → IsTree tree → old.work ≡ Idle home → ReadsIn tree key old home new (Answered a) → IsAtOnce s (op.Read tree key) a
   reads_at_once tree key home answer.Value is idle does = tt
   reads_at_once tree key home (answer.Trouble t) is idle does = begin_stops book order s sessions session new stand (op.Read tree key) t is (home, idle, does)
   reads_at_once tree key home a is idle (same, never) = absurd never
 
   -- a scan
   scans_at_once : (tree : ℕ) (from to : Option (List ℕ)) (home : Home) (a : Answer) → IsTree tree → old.work ≡ Idle home → ScansIn tree from to old home new (Answered a)
-      → IsAtOnce (op.Scan tree from to) a
+      → IsAtOnce s (op.Scan tree from to) a
   scans_at_once tree from to home a is idle does = on a does does.1.moved does.1.turn does.1.follows does.1.begins
     where
-      same : (b c : Answer) → c ≡ b → IsAtOnce (op.Scan tree from to) b → IsAtOnce (op.Scan tree from to) c
-      same b c e at = subst (IsAtOnce (op.Scan tree from to)) (sym e) at
+      same : (b c : Answer) → c ≡ b → IsAtOnce s (op.Scan tree from to) b → IsAtOnce s (op.Scan tree from to) c
+      same b c e at = subst (IsAtOnce s (op.Scan tree from to)) (sym e) at
 
-      stopped : (c : Answer) (t : Trouble) → ScansIn tree from to old home new (Answered c) → c ≡ answer.Trouble t → IsAtOnce (op.Scan tree from to) c
+      stopped : (c : Answer) (t : Trouble) → ScansIn tree from to old home new (Answered c) → c ≡ answer.Trouble t → IsAtOnce s (op.Scan tree from to) c
       stopped c t does e =
           same (answer.Trouble t) c e
           (begin_stops book order s sessions session new stand (op.Scan tree from to) t is (home, idle, subst (λ x. ScansIn tree from to old home new (Answered x)) e does))
 
       lists : (c : Answer) → ScansIn tree from to old home new (Answered c) → (turn : Turn Answer) → ListsLeaf home old.buffer (record { scan = does.1.scan; pairs = [] }) new.cache new.work new.shown turn
-          → begins_by turn (Answered c) → IsAtOnce (op.Scan tree from to) c
+          → begins_by turn (Answered c) → IsAtOnce s (op.Scan tree from to) c
       lists c does More listed begun = absurd (cc)
       lists c does (Ended answer.Scan) listed begun = same answer.Scan c (answer_is c answer.Scan begun) tt
       lists c does (Ended (answer.Trouble t)) listed begun = stopped c t does (answer_is c (answer.Trouble t) begun)
       lists c does turn never begun = absurd never
 
       on : (c : Answer) → ScansIn tree from to old home new (Answered c) → (moved : Turn ℕ) (turn : Turn Answer)
-          → Follows home old.buffer (record { scan = does.1.scan; pairs = [] }) new.cache moved new.work new.shown turn → begins_by turn (Answered c) → IsAtOnce (op.Scan tree from to) c
+          → Follows home old.buffer (record { scan = does.1.scan; pairs = [] }) new.cache moved new.work new.shown turn → begins_by turn (Answered c) → IsAtOnce s (op.Scan tree from to) c
       on c does More turn (work_is, none, more) begun = absurd (working (subst (λ x. begins_by x (Answered c)) more begun))
         where
           working : (let x : Begun = Answered c in x ≡ Working) → ⊥
@@ -189,7 +192,7 @@ module _ (book : Book) (order : List Entry) (s : CloudState) (sessions : Session
       on c does (Ended page) turn listed begun = lists c does turn listed begun
       on c does (Stopped t) turn (work_is, none, ended) begun = stopped c t does (answer_is c (answer.Trouble t) (subst (λ x. begins_by x (Answered c)) ended begun))
 
-  pub begins_at_once : (o : Op) (a : Answer) → IsRightOp o → Begins o old new (Ok (Answered a)) → IsAtOnce o a
+  pub begins_at_once : (o : Op) (a : Answer) → IsRightOp o → Begins o old new (Ok (Answered a)) → IsAtOnce s o a
   begins_at_once (op.Open client) a is never = absurd never
   begins_at_once op.Close a is (home, idle, does) = absurd (no_work old new (Closing home.lease) a does)
   begins_at_once op.Renew a is (home, idle, does) = absurd (no_work old new (Renewing home) a does)

@@ -1,5 +1,5 @@
 -- A step of a session explains what it brought.
-use Rattle.std.proofs.Common.{◌≡◌, ◌≢◌, ◌≤◌, ◌⊎◌, ℕ, List, Some, None, Ok, refl, subst}
+use Rattle.std.proofs.Common.{◌≡◌, ◌≢◌, ◌≤◌, ◌⊎◌, ℕ, List, Some, None, Ok, refl, sym, subst, ◌∙◌}
 use Rattle.client_work.specs.Session.{Acting, StepsSession, StepsAt, ShowsAt, ask_of_work}
 use Rattle.client_work.specs.declared.answer.Answer.{Answer}
 use Rattle.client_work.specs.declared.shown.Shown.{Shown}
@@ -9,7 +9,9 @@ use Rattle.cloud_trait.specs.declared.answer.Answer.{Answer as Reply}
 use Rattle.cloud_trait.specs.declared.answer.Answer.TheVariants.{Memory}
 use Rattle.cloud_trait.specs.declared.turn.Turn.{Turn}
 use Rattle.cloud_trait.specs.Ask.{Ask, Renew, Release}
+use Rattle.cloud_trait.proofs.RowLemmas.{leaves_grown}
 use Rattle.cloud_trait.specs.Caller.{Caller}
+use Rattle.cloud_trait.specs.Growth.{HasGrown}
 use Rattle.cloud_trait.specs.Seen.{Seen}
 use Rattle.cloud_trait.specs.State.{CloudState}
 use Rattle.cloud_facts.specs.Book.Book.{Book}
@@ -45,6 +47,9 @@ use Rattle.tree_ckpt.specs.Making.{making_ask}
 use Rattle.tree_walk.specs.Walk.{walk_ask}
 use Rattle.txn_buffer.specs.Noted.{Noted}
 
+state_is : (x y : CloudState) → Some x ≡ Some y → x ≡ y
+state_is x y e = cc
+
 module _ (who : Caller) (before after : Seen) (s t : CloudState) (book : Book) (order : List Entry) (sessions : Sessions) (told : before.state ≡ Some s) (told_after : after.state ≡ Some t)
     (stand : SessionsStand book order s sessions) where
   abbrev old : Work
@@ -74,6 +79,12 @@ module _ (who : Caller) (before after : Seen) (s t : CloudState) (book : Book) (
   later_at work new turn steps =
       let c : MadeCall who before after work = made_call who before after work new turn steps in
       (call_of who c.ask c.answer before after s t c.made told told_after).later
+
+  grown_at : (work new : Work) (turn : Turn Answer) → StepsAt who before after work new turn → HasGrown s t
+  grown_at work new turn steps =
+      let c : MadeCall who before after work = made_call who before after work new turn steps in
+      let l = c.made.state s told in
+      subst (HasGrown s) (state_is l.after t (sym l.told ∙ told_after)) (leaves_grown who c.ask c.answer before.counts after.counts s after.state l)
 
   -- where it comes to wait
   abbrev Waits : Work → Work → Turn Answer → Type 0
@@ -152,7 +163,7 @@ module _ (who : Caller) (before after : Seen) (s t : CloudState) (book : Book) (
       record {
         ask = e.0;
         hand = e.1;
-        later = later_at old new.work turn steps.work;
+        grown = grown_at old new.work turn steps.work;
         explains = e.2;
         waits = λ found. waits_at old new.work turn refl steps.work e.0 e.1 (e.2 found);
       }

@@ -14,11 +14,17 @@ use Rattle.cloud_trait.specs.declared.turn.Turn.TheVariants.{More, Ended, Stoppe
 use Rattle.cloud_trait.specs.Ask.{Ask, Release}
 use Rattle.cloud_trait.specs.Caller.{Caller}
 use Rattle.cloud_trait.specs.Claim.{Lasts}
-use Rattle.cloud_trait.specs.Growth.{BeginsWith}
+use Rattle.cloud_trait.specs.Growth.{BeginsWith, HasGrown}
 use Rattle.cloud_trait.specs.Seen.{Seen}
 use Rattle.cloud_trait.specs.State.{CloudState, Counts}
 use Rattle.cloud_trait.specs.Weather.{Rose}
+use Rattle.cloud_facts.proofs.Book.Places.{in_front}
+use Rattle.cloud_facts.specs.Book.Records.{IsIn}
+use Rattle.cloud_trait.specs.declared.state.Version.{Version}
 use Rattle.db_base.specs.declared.names.ObjName.{ObjName}
+use Rattle.db_base.specs.declared.names.ObjName.TheVariants as object
+use Rattle.db_base.specs.declared.trouble.Counter.{Counter}
+use Rattle.db_base.specs.declared.trouble.Counter.TheVariants as counter
 use Rattle.db_base.specs.declared.trouble.CommitAnswer.{CommitAnswer}
 use Rattle.db_base.specs.declared.trouble.CommitAnswer.TheVariants.{Committed, NotCommitted, InDoubt, CommittedOpen}
 use Rattle.db_base.specs.declared.trouble.Trouble.{Trouble}
@@ -32,8 +38,9 @@ use Rattle.session_facts.specs.CommitRuns.Stopping.{MayStop as MayStopCommit, Ma
 use Rattle.session_facts.specs.Sessions.Calls.{GivesLateBack, IsExplained, WaitsLate, reply_at, reply_of}
 use Rattle.session_facts.specs.Sessions.Explaining.{Explains, IsShown, KeepsTrouble, Meets, left_in, left_told, trouble_in, trouble_of_answer, trouble_of_commit}
 use Rattle.session_facts.specs.Sessions.Sessions.{leases_of}
+use Rattle.session_facts.specs.Sessions.Spent.{IsOfCommit, IsSpentIn}
 use Rattle.session_facts.specs.Sessions.Untroubled.{GivesBackLasting, StepsCalmly, IsOfNoCall, IsExcused, IsUntroubled, IsSpent, CommitsWell}
-use Rattle.session_facts.proofs.CommitRuns.Telling.{EndsTold, IsTold, run_tells}
+use Rattle.session_facts.proofs.CommitRuns.Telling.{EndsTold, IsByNoCall, IsTold, run_tells}
 use Rattle.session_facts.proofs.Sessions.Troubles.{memory_or}
 
 -- one trouble is told
@@ -42,6 +49,23 @@ same_trouble a b e = cc
 
 no_trouble : (a : Trouble) → (let none : Option Trouble = None in none ≡ Some a) → ⊥
 no_trouble a e = cc
+
+-- a counter that was told as spent is told so from then on
+pub spent_later : (s t : CloudState) (what : Counter) → ((name : ObjName) → BeginsWith (s.versions name) (t.versions name)) → IsSpentIn s what → IsSpentIn t what
+spent_later s t counter.Epoch grown is =
+    let g = grown (object.Head is.client) in
+    record {
+      client = is.client;
+      version = is.version;
+      head = is.head;
+      landed = subst (λ (vs : List Version). IsIn vs is.version) (sym g.1) (in_front (s.versions (object.Head is.client)) g.0 is.version is.landed);
+      reads = is.reads;
+      last = is.last;
+    }
+spent_later s t counter.Txn grown is = tt
+spent_later s t counter.Number grown is = tt
+spent_later s t counter.Version grown is = tt
+spent_later s t counter.Pages grown is = tt
 
 -- records are waited for
 abbrev IsWait : Trouble → Type 0
@@ -52,7 +76,7 @@ module _ (ask : Ask) (c d : Counts) (s t : CloudState) (old new : Work) (same : 
   steady count rose = omega (arith, rose, ap count same)
 
   -- what a calm call shows is of no call, but that it waits
-  shown_none : (k : Trouble) → IsShown ask (leases_of old) c d s t k → IsWait k ⊎ IsOfNoCall k
+  shown_none : (k : Trouble) → IsShown ask (leases_of old) c d s t k → IsWait k ⊎ IsOfNoCall t k
   shown_none trouble.Failed rose = absurd (steady (λ (x : Counts). x.faults) rose)
   shown_none (trouble.Late end now) late = absurd (late lasting)
   shown_none (trouble.Busy lock until) (inl held) = absurd (held free)
@@ -60,7 +84,7 @@ module _ (ask : Ask) (c d : Counts) (s t : CloudState) (old new : Work) (same : 
   shown_none (trouble.Waiting have need) shown = inl (have, need, refl)
   shown_none (trouble.Stale page least got) rose = absurd (steady (λ (x : Counts). x.stale) rose)
   shown_none trouble.Memory shown = inr tt
-  shown_none (trouble.Exhausted what) shown = inr tt
+  shown_none (trouble.Exhausted what) shown = inr shown
   shown_none (trouble.Absent page) shown = inr tt
   shown_none (trouble.NotALeaf page) shown = inr tt
   shown_none (trouble.Damaged place offset) shown = inr tt
@@ -76,7 +100,7 @@ pub record IsCalmly (ask : Ask) (c d : Counts) (s t : CloudState) (old new : Wor
   pub free : TakesFree ask s t.now
   pub lasting : NamesLasting ask t.now
   pub returned : GivesBackLasting ask t.now
-  pub later : s.now ≤ t.now
+  pub grown : HasGrown s t
   pub explains : Explains ask c d s t old new turn
   pub waits : trouble_in old ≡ None → left_in old ≡ 0 → (have need : ℕ) → Meets new turn (trouble.Waiting have need) → Rose c.withheld d.withheld ⊎ WaitsLate new turn t.now
 
@@ -89,20 +113,20 @@ module _ (ask : Ask) (c d : Counts) (s t : CloudState) (old new : Work) (turn : 
   none_late (l, is, over) = let lasts : Lasts t.now l = subst (λ a. GivesBackLasting a t.now) (same_ask ask (Release l) (sym calm.hand ∙ is)) calm.returned in ends lasts
     where
       ends : t.now < l.end → ⊥
-      ends lasts = let later = calm.later in absurd (omega (arith, over, later, lasts))
+      ends lasts = let later = calm.grown.later in absurd (omega (arith, over, later, lasts))
 
   -- so a trouble that is kept is of no call
-  kept_none : (k : Trouble) → trouble_in old ≡ Some k → IsOfNoCall k
+  kept_none : (k : Trouble) → trouble_in old ≡ Some k → IsOfNoCall t k
   kept_none k was = on k (well.trouble k was)
     where
-      on : (k : Trouble) → IsExcused s old k → IsOfNoCall k
-      on (trouble.Waiting have need) late = none_late late
+      on : (k : Trouble) → IsExcused s old k → IsOfNoCall t k
+      on (trouble.Waiting have need) late = absurd (none_late late)
       on trouble.Failed is = is
       on (trouble.Late end now) is = is
       on (trouble.Busy lock until) is = is
       on (trouble.Stale page least got) is = is
       on trouble.Memory is = tt
-      on (trouble.Exhausted what) is = tt
+      on (trouble.Exhausted what) is = spent_later s t what calm.grown.versions is
       on (trouble.Absent page) is = tt
       on (trouble.NotALeaf page) is = tt
       on (trouble.Damaged place offset) is = tt
@@ -110,22 +134,22 @@ module _ (ask : Ask) (c d : Counts) (s t : CloudState) (old new : Work) (turn : 
       on (trouble.Loop page) is = tt
 
   -- a trouble that is met where none waited
-  met_none : trouble_in old ≡ None → (k : Trouble) → Meets new turn k → (IsWait k × WaitsLate new turn t.now) ⊎ IsOfNoCall k
+  met_none : trouble_in old ≡ None → (k : Trouble) → Meets new turn k → (IsWait k × WaitsLate new turn t.now) ⊎ IsOfNoCall t k
   met_none none k meets = on (memory_or k)
     where
-      waits : IsWait k → (IsWait k × WaitsLate new turn t.now) ⊎ IsOfNoCall k
+      waits : IsWait k → (IsWait k × WaitsLate new turn t.now) ⊎ IsOfNoCall t k
       waits (have, need, is) = by (calm.waits none well.left have need (subst (Meets new turn) is meets))
         where
-          by : Rose c.withheld d.withheld ⊎ WaitsLate new turn t.now → (IsWait k × WaitsLate new turn t.now) ⊎ IsOfNoCall k
+          by : Rose c.withheld d.withheld ⊎ WaitsLate new turn t.now → (IsWait k × WaitsLate new turn t.now) ⊎ IsOfNoCall t k
           by (inl rose) = absurd (steady ask c d s t old new calm.same calm.free calm.lasting (λ (x : Counts). x.withheld) rose)
           by (inr late) = inl ((have, need, is), late)
 
-      shown : IsWait k ⊎ IsOfNoCall k → (IsWait k × WaitsLate new turn t.now) ⊎ IsOfNoCall k
+      shown : IsWait k ⊎ IsOfNoCall t k → (IsWait k × WaitsLate new turn t.now) ⊎ IsOfNoCall t k
       shown (inl wait) = waits wait
       shown (inr none) = inr none
 
-      on : (k ≡ trouble.Memory) ⊎ (k ≢ trouble.Memory) → (IsWait k × WaitsLate new turn t.now) ⊎ IsOfNoCall k
-      on (inl e) = inr (subst IsOfNoCall (sym e) tt)
+      on : (k ≡ trouble.Memory) ⊎ (k ≢ trouble.Memory) → (IsWait k × WaitsLate new turn t.now) ⊎ IsOfNoCall t k
+      on (inl e) = inr (subst (IsOfNoCall t) (sym e) tt)
       on (inr other) = shown (shown_none ask c d s t old new calm.same calm.free calm.lasting k (calm.explains.shown none well.left k other meets))
 
   no_left : left_told new turn ≡ 0
@@ -135,14 +159,14 @@ module _ (ask : Ask) (c d : Counts) (s t : CloudState) (old new : Work) (turn : 
       on (inl less) = let none = well.left in omega (arith, less, none)
       on (inr rose) = absurd (steady ask c d s t old new calm.same calm.free calm.lasting (λ (y : Counts). y.faults) rose)
 
-excused : (t : CloudState) (w : Work) (k : Trouble) → IsOfNoCall k → IsExcused t w k
+excused : (t : CloudState) (w : Work) (k : Trouble) → IsOfNoCall t k → IsExcused t w k
 excused t w trouble.Failed none = none
 excused t w (trouble.Late end now) none = none
 excused t w (trouble.Busy lock until) none = none
 excused t w (trouble.Waiting have need) none = absurd none
 excused t w (trouble.Stale page least got) none = none
 excused t w trouble.Memory none = tt
-excused t w (trouble.Exhausted what) none = tt
+excused t w (trouble.Exhausted what) none = none
 excused t w (trouble.Absent page) none = tt
 excused t w (trouble.NotALeaf page) none = tt
 excused t w (trouble.Damaged place offset) none = tt
@@ -153,7 +177,7 @@ module _ (ask : Ask) (c d : Counts) (s t : CloudState) (old new : Work) where
   goes_untroubled : IsCalmly ask c d s t old new More → IsUntroubled s old → IsUntroubled t new
   goes_untroubled calm well = record { trouble = λ k is. on k is (trouble_in old) refl; left = no_left ask c d s t old new More calm well }
     where
-      met : (k : Trouble) → (IsWait k × WaitsLate new More t.now) ⊎ IsOfNoCall k → IsExcused t new k
+      met : (k : Trouble) → (IsWait k × WaitsLate new More t.now) ⊎ IsOfNoCall t k → IsExcused t new k
       met k (inl ((have, need, is), late)) = subst (IsExcused t new) (sym is) late
       met k (inr none) = excused t new k none
 
@@ -161,20 +185,20 @@ module _ (ask : Ask) (c d : Counts) (s t : CloudState) (old new : Work) where
       on k is None none = met k (met_none ask c d s t old new More calm well none k (inl is))
       on k is (Some j) was =
           excused t new k
-          (subst IsOfNoCall (same_trouble j k (sym (calm.explains.kept j was) ∙ is)) (kept_none ask c d s t old new More calm well j was))
+          (subst (IsOfNoCall t) (same_trouble j k (sym (calm.explains.kept j was) ∙ is)) (kept_none ask c d s t old new More calm well j was))
 
-  answers_untroubled : (a : Answer) → IsCalmly ask c d s t old new (Ended a) → IsUntroubled s old → (k : Trouble) → trouble_of_answer a ≡ Some k → IsOfNoCall k
+  answers_untroubled : (a : Answer) → IsCalmly ask c d s t old new (Ended a) → IsUntroubled s old → (k : Trouble) → trouble_of_answer a ≡ Some k → IsOfNoCall t k
   answers_untroubled a calm well k is = on (trouble_in old) refl
     where
-      kept : (j : Trouble) → trouble_in old ≡ Some j → KeepsTrouble new (Ended a) j → IsOfNoCall k
-      kept j was (inl same) = subst IsOfNoCall (same_trouble j k (sym same ∙ is)) (kept_none ask c d s t old new (Ended a) calm well j was)
-      kept j was (inr memory) = subst IsOfNoCall (same_trouble trouble.Memory k (sym memory ∙ is)) tt
+      kept : (j : Trouble) → trouble_in old ≡ Some j → KeepsTrouble new (Ended a) j → IsOfNoCall t k
+      kept j was (inl same) = subst (IsOfNoCall t) (same_trouble j k (sym same ∙ is)) (kept_none ask c d s t old new (Ended a) calm well j was)
+      kept j was (inr memory) = subst (IsOfNoCall t) (same_trouble trouble.Memory k (sym memory ∙ is)) tt
 
-      met : (IsWait k × ⊥) ⊎ IsOfNoCall k → IsOfNoCall k
+      met : (IsWait k × ⊥) ⊎ IsOfNoCall t k → IsOfNoCall t k
       met (inl (wait, late)) = absurd late
       met (inr none) = none
 
-      on : (was : Option Trouble) → trouble_in old ≡ was → IsOfNoCall k
+      on : (was : Option Trouble) → trouble_in old ≡ was → IsOfNoCall t k
       on None none = met (met_none ask c d s t old new (Ended a) calm well none k (inr is))
       on (Some j) was = kept j was (calm.explains.kept j was)
 
@@ -199,7 +223,7 @@ module _ (who : Caller) (before after : Seen) (old new : Acting) (turn : Turn An
     free = calm.calm.free;
     lasting = calm.calm.lasting;
     returned = calm.returned;
-    later = x.later;
+    grown = x.grown;
     explains = subst (λ a. Explains a before.counts after.counts s t old.work new.work turn) one (x.explains calm.memory);
     waits = x.waits calm.memory;
   }
@@ -215,7 +239,7 @@ step_untroubled who before after old new p calm explained well =
 pub answer_untroubled : (who : Caller) (before after : Seen) (old new : Acting) (a : Answer) (p : StepsSession who before after old new (Ok (Ended a)))
     → (calm : StepsCalmly who before after old new (Ended a) p)
     → ((s t : CloudState) → before.state ≡ Some s → after.state ≡ Some t → IsExplained who before after old new (Ended a) s t p) → IsUntroubled calm.calm.before old.work
-    → ((k : Trouble) → trouble_of_answer a ≡ Some k → IsOfNoCall k) × (left_told new.work (Ended a) ≡ 0)
+    → ((k : Trouble) → trouble_of_answer a ≡ Some k → IsOfNoCall calm.calm.after k) × (left_told new.work (Ended a) ≡ 0)
 answer_untroubled who before after old new a p calm explained well =
     let c = calmly who before after old new (Ended a) p calm explained in (
       answers_untroubled calm.ask before.counts after.counts calm.calm.before calm.calm.after old.work new.work a c well,
@@ -234,7 +258,7 @@ untroubled_later s t w grown later well = record { trouble = λ k is. on k (well
     on (trouble.Busy lock until) is = is
     on (trouble.Stale page least got) is = is
     on trouble.Memory is = tt
-    on (trouble.Exhausted what) is = tt
+    on (trouble.Exhausted what) is = spent_later s t what grown is
     on (trouble.Absent page) is = tt
     on (trouble.NotALeaf page) is = tt
     on (trouble.Damaged place offset) is = tt
@@ -354,17 +378,31 @@ pub commit_tells : (who : Caller) (before after : Seen) (old new : Acting) (a : 
 commit_tells who before after old new a p found = tells_at who before after new.buffer old.work old.cache p.shown.0 new.work new.shown a p.work p.shown.1 found
 
 -- a commit that is refused for no call, or stays open for none
-abbrev pub IsOfNone : CommitAnswer → Type 0
-IsOfNone c = (k : Trouble) → trouble_of_commit c ≡ Some k → IsOfNoCall k
+abbrev pub IsOfNone : CloudState → CommitAnswer → Type 0
+IsOfNone t c = (k : Trouble) → trouble_of_commit c ≡ Some k → IsOfNoCall t k
 
-pub commit_well : (c : CommitAnswer) → IsTold c → IsOfNone c → MayEnd c → CommitsWell c
-commit_well (Committed txn) told none may = tt
-commit_well InDoubt told none may = none trouble.Failed refl
-commit_well (CommittedOpen t) told none may = told (none t refl)
-commit_well (NotCommitted t) told none may = on t told (none t refl) may
+pub commit_well : (t : CloudState) (c : CommitAnswer) → IsTold c → IsOfNone t c → MayEnd c → CommitsWell t c
+commit_well t (Committed txn) told none may = tt
+commit_well t InDoubt told none may = none trouble.Failed refl
+commit_well t (CommittedOpen k) told none may = told (by_none k (none k refl))
   where
-    on : (k : Trouble) → (k ≢ trouble.Memory) → IsOfNoCall k → MayStopCommit k → IsSpent k
-    on (trouble.Exhausted what) told none may = tt
+    by_none : (k : Trouble) → IsOfNoCall t k → IsByNoCall k
+    by_none trouble.Failed none = none
+    by_none (trouble.Late end now) none = none
+    by_none (trouble.Busy lock until) none = none
+    by_none (trouble.Waiting have need) none = none
+    by_none (trouble.Stale page least got) none = none
+    by_none trouble.Memory none = tt
+    by_none (trouble.Exhausted what) none = tt
+    by_none (trouble.Absent page) none = tt
+    by_none (trouble.NotALeaf page) none = tt
+    by_none (trouble.Damaged place offset) none = tt
+    by_none (trouble.BadFence page expected found) none = tt
+    by_none (trouble.Loop page) none = tt
+commit_well t (NotCommitted k) told none may = on k told (none k refl) may
+  where
+    on : (k : Trouble) → (k ≢ trouble.Memory) → IsOfNoCall t k → MayStopCommit k → IsSpent IsOfCommit t k
+    on (trouble.Exhausted what) told none may = (may, none)
     on trouble.Memory told none may = absurd (told refl)
     on trouble.Failed told none may = none
     on (trouble.Late end now) told none may = none

@@ -17,6 +17,7 @@ use Rattle.page_ckpt.specs.Paging.{Paging, Step, PagingLeads}
 use Rattle.page_ckpt.specs.declared.stage.Stage.{Stage}
 use Rattle.page_ckpt.specs.declared.stage.Stage.TheVariants.{TakingHome, GettingHome, Receiving, TakingRight, GettingRight, PuttingRight, ReleasingRight, PuttingHome, Deleting as DeletingNext, Releasing, Finished}
 use Rattle.session_facts.specs.Runs.Runs.{MayDelete}
+use Rattle.session_facts.specs.Sessions.Spent.{IsOfPaging}
 use Rattle.cloud_facts.specs.Book.Tally.{Store}
 use Rattle.session_facts.specs.PageCheckpoints.Rights.{ReadLeaf, ComesRight, PutsRight, LeavesRight, PutsHome}
 
@@ -60,7 +61,7 @@ MayStop page (trouble.NotALeaf named) = named ≡ page
 MayStop page (trouble.Damaged place offset) = ⊥
 MayStop page (trouble.BadFence named expected found) = ⊥
 MayStop page (trouble.Loop named) = ⊥
-MayStop page (trouble.Exhausted what) = Unit {0}
+MayStop page (trouble.Exhausted what) = IsOfPaging what
 MayStop page (trouble.Waiting have need) = ⊥
 MayStop page (trouble.Stale named least got) = ⊥
 MayStop page trouble.Memory = Unit {0}

@@ -1,5 +1,5 @@
 -- The one service call of a step of a session, and what the step explains of it.
-use Rattle.std.specs.Prelude.{ℕ, ◌≡◌, ◌≢◌, ◌≤◌, ◌⊎◌, List, Some, None, Ok}
+use Rattle.std.specs.Prelude.{ℕ, ◌≡◌, ◌≢◌, ◌⊎◌, List, Some, None, Ok}
 use Rattle.client_work.specs.Session.{Acting, StepsSession, StepsAt, ShowsAt, StepsOpening, StepsCommit, ReadsBy, StepsPaging, StepsFolding, StepsClosing, StepsRenewing, StepsSettling, ask_of_work}
 use Rattle.client_work.specs.declared.answer.Answer.{Answer}
 use Rattle.client_work.specs.declared.answer.Answer.TheVariants as answer
@@ -13,6 +13,7 @@ use Rattle.cloud_trait.specs.declared.turn.Turn.TheVariants.{More, Ended}
 use Rattle.cloud_trait.specs.Ask.{Ask, Release}
 use Rattle.cloud_trait.specs.Caller.{Caller}
 use Rattle.cloud_trait.specs.Claim.{Claim, IsOver}
+use Rattle.cloud_trait.specs.Growth.{HasGrown}
 use Rattle.cloud_trait.specs.Seen.{Seen}
 use Rattle.cloud_trait.specs.State.{CloudState}
 use Rattle.cloud_trait.specs.Weather.{Rose}
@@ -113,7 +114,7 @@ WaitsLate new turn now = ⊥
 pub record IsExplained (who : Caller) (before after : Seen) (old new : Acting) (turn : Turn Answer) (s t : CloudState) (p : StepsSession who before after old new (Ok turn)) : Type 0 where
   pub ask : Ask
   pub hand : ask_of_work old.work ≡ Some ask
-  pub later : s.now ≤ t.now
+  pub grown : HasGrown s t
   pub explains : reply_of who before after old new turn p ≢ Memory → Explains ask before.counts after.counts s t old.work new.work turn
   pub waits : reply_of who before after old new turn p ≢ Memory → trouble_in old.work ≡ None → left_in old.work ≡ 0 → (have need : ℕ) → Meets new.work turn (Waiting have need)
       → Rose before.counts.withheld after.counts.withheld ⊎ WaitsLate new.work turn t.now

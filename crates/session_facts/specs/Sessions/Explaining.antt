@@ -24,6 +24,7 @@ use Rattle.recover_run.specs.declared.stage.RecoverAnswer.{RecoverAnswer}
 use Rattle.recover_run.specs.declared.stage.Stage.{Stage}
 use Rattle.recover_run.specs.declared.stage.Stage.TheVariants as stage
 use Rattle.session_facts.specs.Sessions.Sessions.{leases_of}
+use Rattle.session_facts.specs.Sessions.Spent.{IsSpentIn}
 use Rattle.settle_run.specs.declared.part.Part.{Part}
 use Rattle.settle_run.specs.declared.part.Part.TheVariants.{Client, Tree, Page}
 use Rattle.tree_ckpt.specs.Making.{Making}
@@ -181,7 +182,7 @@ IsShown ask held c d s t (trouble.Busy lock until) = (TakesFree ask s t.now → 
 IsShown ask held c d s t (trouble.Waiting have need) = Rose c.withheld d.withheld ⊎ ReceivesLate ask held t.now
 IsShown ask held c d s t (trouble.Stale page least got) = Rose c.stale d.stale
 IsShown ask held c d s t trouble.Memory = Unit {0}
-IsShown ask held c d s t (trouble.Exhausted what) = Unit {0}
+IsShown ask held c d s t (trouble.Exhausted what) = IsSpentIn t what
 IsShown ask held c d s t (trouble.Absent page) = Unit {0}
 IsShown ask held c d s t (trouble.NotALeaf page) = Unit {0}
 IsShown ask held c d s t (trouble.Damaged place offset) = Unit {0}

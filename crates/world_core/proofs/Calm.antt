@@ -43,6 +43,7 @@ use Rattle.session_facts.specs.PageCheckpoints.Checkpoint.{MayStop as MayStopPag
 use Rattle.session_facts.specs.Sessions.Answering.{MayRefuse, MaySettle}
 use Rattle.session_facts.specs.Sessions.Explaining.{left_told, trouble_of_answer}
 use Rattle.session_facts.specs.Sessions.Sessions.{Sessions, IsRightOp}
+use Rattle.session_facts.specs.Sessions.Spent.{IsOfOpening, IsOfCommit, IsOfFolding, IsOfSettling}
 use Rattle.session_facts.specs.Sessions.Untroubled.{StepsCalmly, IsOfNoCall, IsUntroubled, IsSpent, IsSpentOrOf}
 use Rattle.session_facts.specs.TreeCheckpoints.Checkpoint.{MayStop as MayStopTree}
 use Rattle.session_facts.specs.Walks.Walks.{MayStop as MayStopWalk}
@@ -58,7 +59,7 @@ use Rattle.world_core.specs.declared.asked.Request.TheVariants.{Begin, Note, Abo
 use Rattle.world_core.specs.World.{World}
 use Rattle.world_core.specs.declared.world.WorldFault.{WorldFault}
 use Rattle.world_core.specs.Asked.{Asks, OfSession, IsOpening, IsReading, IsScanning, IsPaging, IsFolding, IsInsert, IsUpdate, IsDelete, IsNoted, IsStep, bound_of}
-use Rattle.world_core.specs.Calm.{StepIsCalm, SessionIsUntroubled, work_at, DoesWell, BeginsWell, RunsWell, StepsWell, SettlesWell, RepliesWell, AnswersWell}
+use Rattle.world_core.specs.Calm.{StepIsCalm, work_at, DoesWell, BeginsWell, RunsWell, StepsWell, SettlesWell, RepliesWell, AnswersWell}
 use Rattle.world_core.specs.EachStep.{EachWent, EachMade, EachRun, EachSettlingOn, EachSettling, EachDone, EachAsked}
 use Rattle.world_core.specs.Explained.{StepExplains}
 use Rattle.world_core.specs.Handled.{Declines, Has, BeginsOp, NotesChange, DropsChanges, StepsLooked, MakesStep, Went, start, further, Runs, SettlesOn, Settles, Crashes, Does, Answers}
@@ -73,60 +74,60 @@ use Rattle.world_core.proofs.StandsLemmas.{IsUnderWay, changed_at, changed_was, 
 
 -- ---- troubles that no call brought
 
-opening_spent : (k : Trouble) → MayStopOpening k → IsOfNoCall k → (k ≡ trouble.Memory → ⊥) → IsSpent k
-opening_spent (trouble.Exhausted what) may none other = tt
-opening_spent trouble.Memory may none other = other refl
-opening_spent trouble.Failed may none other = none
-opening_spent (trouble.Late end now) may none other = none
-opening_spent (trouble.Busy lock until) may none other = none
-opening_spent (trouble.Waiting have need) may none other = none
-opening_spent k may none other = may
+opening_spent : (u : CloudState) (k : Trouble) → MayStopOpening k → IsOfNoCall u k → (k ≡ trouble.Memory → ⊥) → IsSpent IsOfOpening u k
+opening_spent u (trouble.Exhausted what) may none other = (may, none)
+opening_spent u trouble.Memory may none other = other refl
+opening_spent u trouble.Failed may none other = none
+opening_spent u (trouble.Late end now) may none other = none
+opening_spent u (trouble.Busy lock until) may none other = none
+opening_spent u (trouble.Waiting have need) may none other = none
+opening_spent u k may none other = may
 
-commit_spent : (k : Trouble) → MayStopCommit k → IsOfNoCall k → (k ≡ trouble.Memory → ⊥) → IsSpent k
-commit_spent (trouble.Exhausted what) may none other = tt
-commit_spent trouble.Memory may none other = other refl
-commit_spent trouble.Failed may none other = none
-commit_spent (trouble.Late end now) may none other = none
-commit_spent k may none other = may
+commit_spent : (u : CloudState) (k : Trouble) → MayStopCommit k → IsOfNoCall u k → (k ≡ trouble.Memory → ⊥) → IsSpent IsOfCommit u k
+commit_spent u (trouble.Exhausted what) may none other = (may, none)
+commit_spent u trouble.Memory may none other = other refl
+commit_spent u trouble.Failed may none other = none
+commit_spent u (trouble.Late end now) may none other = none
+commit_spent u k may none other = may
 
-tree_spent : (k : Trouble) → MayStopTree k → IsOfNoCall k → (k ≡ trouble.Memory → ⊥) → IsSpent k
-tree_spent (trouble.Exhausted what) may none other = tt
-tree_spent trouble.Memory may none other = other refl
-tree_spent trouble.Failed may none other = none
-tree_spent (trouble.Late end now) may none other = none
-tree_spent (trouble.Busy lock until) may none other = none
-tree_spent k may none other = may
+tree_spent : (u : CloudState) (k : Trouble) → MayStopTree k → IsOfNoCall u k → (k ≡ trouble.Memory → ⊥) → IsSpent IsOfFolding u k
+tree_spent u (trouble.Exhausted what) may none other = (may, none)
+tree_spent u trouble.Memory may none other = other refl
+tree_spent u trouble.Failed may none other = none
+tree_spent u (trouble.Late end now) may none other = none
+tree_spent u (trouble.Busy lock until) may none other = none
+tree_spent u k may none other = may
 
-settled_spent : (k : Trouble) → MaySettle k → IsOfNoCall k → (k ≡ trouble.Memory → ⊥) → IsSpent k
-settled_spent (trouble.Exhausted what) may none other = tt
-settled_spent trouble.Memory may none other = other refl
-settled_spent trouble.Failed may none other = none
-settled_spent (trouble.Late end now) may none other = none
-settled_spent (trouble.Busy lock until) may none other = none
-settled_spent (trouble.Waiting have need) may none other = none
-settled_spent k may none other = may
+settled_spent : (u : CloudState) (k : Trouble) → MaySettle k → IsOfNoCall u k → (k ≡ trouble.Memory → ⊥) → IsSpent IsOfSettling u k
+settled_spent u (trouble.Exhausted what) may none other = (may, none)
+settled_spent u trouble.Memory may none other = other refl
+settled_spent u trouble.Failed may none other = none
+settled_spent u (trouble.Late end now) may none other = none
+settled_spent u (trouble.Busy lock until) may none other = none
+settled_spent u (trouble.Waiting have need) may none other = none
+settled_spent u k may none other = may
 
-page_spent : (page : ℕ) (k : Trouble) → MayStopPage page k → IsOfNoCall k → (k ≡ trouble.Memory → ⊥) → IsSpentOrOf page k
-page_spent page (trouble.Exhausted what) may none other = tt
-page_spent page (trouble.Absent named) may none other = may
-page_spent page (trouble.NotALeaf named) may none other = may
-page_spent page trouble.Memory may none other = other refl
-page_spent page trouble.Failed may none other = none
-page_spent page (trouble.Late end now) may none other = none
-page_spent page (trouble.Busy lock until) may none other = none
-page_spent page k may none other = may
+page_spent : (u : CloudState) (page : ℕ) (k : Trouble) → MayStopPage page k → IsOfNoCall u k → (k ≡ trouble.Memory → ⊥) → IsSpentOrOf page u k
+page_spent u page (trouble.Exhausted what) may none other = (may, none)
+page_spent u page (trouble.Absent named) may none other = may
+page_spent u page (trouble.NotALeaf named) may none other = may
+page_spent u page trouble.Memory may none other = other refl
+page_spent u page trouble.Failed may none other = none
+page_spent u page (trouble.Late end now) may none other = none
+page_spent u page (trouble.Busy lock until) may none other = none
+page_spent u page k may none other = may
 
-refuse_never : (k : Trouble) → MayRefuse k → IsOfNoCall k → (k ≡ trouble.Memory → ⊥) → ⊥
-refuse_never trouble.Memory may none other = other refl
-refuse_never trouble.Failed may none other = none
-refuse_never (trouble.Late end now) may none other = none
-refuse_never k may none other = may
+refuse_never : (u : CloudState) (k : Trouble) → MayRefuse k → IsOfNoCall u k → (k ≡ trouble.Memory → ⊥) → ⊥
+refuse_never u trouble.Memory may none other = other refl
+refuse_never u trouble.Failed may none other = none
+refuse_never u (trouble.Late end now) may none other = none
+refuse_never u k may none other = may
 
-walk_never : (k : Trouble) → MayStopWalk k → IsOfNoCall k → (k ≡ trouble.Memory → ⊥) → ⊥
-walk_never trouble.Memory may none other = other refl
-walk_never trouble.Failed may none other = none
-walk_never (trouble.Stale page least got) may none other = none
-walk_never k may none other = may
+walk_never : (u : CloudState) (k : Trouble) → MayStopWalk k → IsOfNoCall u k → (k ≡ trouble.Memory → ⊥) → ⊥
+walk_never u trouble.Memory may none other = other refl
+walk_never u trouble.Failed may none other = none
+walk_never u (trouble.Stale page least got) may none other = none
+walk_never u k may none other = may
 
 -- ---- the answer of an operation
 
@@ -190,55 +191,55 @@ answers_as who before after (work.Idle home) new s a p acts = absurd p
 answers_as who before after (work.Broken lease) new s a p acts = absurd p
 
 -- what is known of an answer: no call brought its trouble, no deletion failed, and what a commit tells
-record IsOfNone (w : Work) (a : Answer) : Type 0 where
-  trouble : (k : Trouble) → trouble_of_answer a ≡ Some k → IsOfNoCall k
+record IsOfNone (u : CloudState) (w : Work) (a : Answer) : Type 0 where
+  trouble : (k : Trouble) → trouble_of_answer a ≡ Some k → IsOfNoCall u k
   left : left_told w (Ended a) ≡ 0
   told : (c : CommitAnswer) → a ≡ answer.Commit c → IsTold c
 
 -- a sound reply to it is one that the operation did well
-trouble_well : (task : Task) (k : Trouble) → IsSoundReply (Working task) (reply.Trouble k) → IsOfNoCall k → (k ≡ trouble.Memory → ⊥) → DoesWell task (reply.Trouble k)
-trouble_well Opening k may none other = opening_spent k may none other
-trouble_well Closing k may none other = refuse_never k may none other
-trouble_well Renewing k may none other = refuse_never k may none other
-trouble_well (Committing changes) k may none other = commit_spent k may none other
-trouble_well (Reading tree key) k may none other = walk_never k may none other
-trouble_well (Scanning tree from to) k may none other = walk_never k may none other
-trouble_well (Paging tree page) k may none other = page_spent page k may none other
-trouble_well (Folding tree) k may none other = tree_spent k may none other
+trouble_well : (u : CloudState) (task : Task) (k : Trouble) → IsSoundReply (Working task) (reply.Trouble k) → IsOfNoCall u k → (k ≡ trouble.Memory → ⊥) → DoesWell u task (reply.Trouble k)
+trouble_well u Opening k may none other = opening_spent u k may none other
+trouble_well u Closing k may none other = refuse_never u k may none other
+trouble_well u Renewing k may none other = refuse_never u k may none other
+trouble_well u (Committing changes) k may none other = commit_spent u k may none other
+trouble_well u (Reading tree key) k may none other = walk_never u k may none other
+trouble_well u (Scanning tree from to) k may none other = walk_never u k may none other
+trouble_well u (Paging tree page) k may none other = page_spent u page k may none other
+trouble_well u (Folding tree) k may none other = tree_spent u k may none other
 
-value_well : (tree : ℕ) (key : List ℕ) (value : Option (List ℕ)) (r : Reply) → r ≡ value_reply value → DoesWell (Reading tree key) r
-value_well tree key None r e = subst (DoesWell (Reading tree key)) (sym e) tt
-value_well tree key (Some payload) r e = subst (DoesWell (Reading tree key)) (sym e) tt
+value_well : (u : CloudState) (tree : ℕ) (key : List ℕ) (value : Option (List ℕ)) (r : Reply) → r ≡ value_reply value → DoesWell u (Reading tree key) r
+value_well u tree key None r e = subst (DoesWell u (Reading tree key)) (sym e) tt
+value_well u tree key (Some payload) r e = subst (DoesWell u (Reading tree key)) (sym e) tt
 
-troubled : (task : Task) (k : Trouble) (left : Acting) (r : Reply) → IsSoundReply (Working task) r → RepliesTo (answer.Trouble k) left (Ok r) → IsOfNoCall k → DoesWell task r
-troubled task k left r sound e none =
+troubled : (u : CloudState) (task : Task) (k : Trouble) (left : Acting) (r : Reply) → IsSoundReply (Working task) r → RepliesTo (answer.Trouble k) left (Ok r) → IsOfNoCall u k → DoesWell u task r
+troubled u task k left r sound e none =
     let is = replies_to (answer.Trouble k) left r e in
-    subst (DoesWell task) (sym is.0.0) (trouble_well task k (subst (IsSoundReply (Working task)) is.0.0 sound) none is.0.1)
+    subst (DoesWell u task) (sym is.0.0) (trouble_well u task k (subst (IsSoundReply (Working task)) is.0.0 sound) none is.0.1)
 
-answer_well : (task : Task) (a : Answer) (left : Acting) (r : Reply) → IsAnswerOf task a → IsSoundReply (Working task) r → RepliesTo a left (Ok r) → IsOfNone left.work a → DoesWell task r
-answer_well task (answer.Trouble k) left r of sound e none = troubled task k left r sound e (none.trouble k refl)
-answer_well Opening (answer.Opened epoch) left r of sound e none = let is : r ≡ reply.Opened epoch = cc in subst (DoesWell Opening) (sym is) tt
-answer_well Closing answer.Closed left r of sound e none = let is : r ≡ reply.Closed = cc in subst (DoesWell Closing) (sym is) tt
-answer_well Renewing (answer.Renewed end) left r of sound e none = let is : r ≡ reply.Renewed end = cc in subst (DoesWell Renewing) (sym is) tt
-answer_well (Committing changes) (answer.Commit c) left r of sound e none =
+answer_well : (u : CloudState) (task : Task) (a : Answer) (left : Acting) (r : Reply) → IsAnswerOf task a → IsSoundReply (Working task) r → RepliesTo a left (Ok r) → IsOfNone u left.work a → DoesWell u task r
+answer_well u task (answer.Trouble k) left r of sound e none = troubled u task k left r sound e (none.trouble k refl)
+answer_well u Opening (answer.Opened epoch) left r of sound e none = let is : r ≡ reply.Opened epoch = cc in subst (DoesWell u Opening) (sym is) tt
+answer_well u Closing answer.Closed left r of sound e none = let is : r ≡ reply.Closed = cc in subst (DoesWell u Closing) (sym is) tt
+answer_well u Renewing (answer.Renewed end) left r of sound e none = let is : r ≡ reply.Renewed end = cc in subst (DoesWell u Renewing) (sym is) tt
+answer_well u (Committing changes) (answer.Commit c) left r of sound e none =
     let is = (commit_is c r e).0 in
-    subst (DoesWell (Committing changes)) (sym is) (commit_well c (none.told c refl) none.trouble (subst (IsSoundReply (Working (Committing changes))) is sound))
-answer_well (Reading tree key) answer.Value left r of sound e none = value_well tree key (value_of left) r e
-answer_well (Scanning tree from to) answer.Scan left r of sound e none = subst (DoesWell (Scanning tree from to)) (sym e) tt
-answer_well (Paging tree page) (answer.Done n) left r of sound e none =
+    subst (DoesWell u (Committing changes)) (sym is) (commit_well u c (none.told c refl) none.trouble (subst (IsSoundReply (Working (Committing changes))) is sound))
+answer_well u (Reading tree key) answer.Value left r of sound e none = value_well u tree key (value_of left) r e
+answer_well u (Scanning tree from to) answer.Scan left r of sound e none = subst (DoesWell u (Scanning tree from to)) (sym e) tt
+answer_well u (Paging tree page) (answer.Done n) left r of sound e none =
     let is : r ≡ reply.Done n = cc in
-    subst (DoesWell (Paging tree page)) (sym is) none.left
-answer_well (Folding tree) (answer.Done n) left r of sound e none =
+    subst (DoesWell u (Paging tree page)) (sym is) none.left
+answer_well u (Folding tree) (answer.Done n) left r of sound e none =
     let is : r ≡ reply.Done n = cc in
-    subst (DoesWell (Folding tree)) (sym is) none.left
-answer_well Opening a left r of sound e none = absurd of
-answer_well Closing a left r of sound e none = absurd of
-answer_well Renewing a left r of sound e none = absurd of
-answer_well (Committing changes) a left r of sound e none = absurd of
-answer_well (Reading tree key) a left r of sound e none = absurd of
-answer_well (Scanning tree from to) a left r of sound e none = absurd of
-answer_well (Paging tree page) a left r of sound e none = absurd of
-answer_well (Folding tree) a left r of sound e none = absurd of
+    subst (DoesWell u (Folding tree)) (sym is) none.left
+answer_well u Opening a left r of sound e none = absurd of
+answer_well u Closing a left r of sound e none = absurd of
+answer_well u Renewing a left r of sound e none = absurd of
+answer_well u (Committing changes) a left r of sound e none = absurd of
+answer_well u (Reading tree key) a left r of sound e none = absurd of
+answer_well u (Scanning tree from to) a left r of sound e none = absurd of
+answer_well u (Paging tree page) a left r of sound e none = absurd of
+answer_well u (Folding tree) a left r of sound e none = absurd of
 
 -- ---- steps
 
@@ -248,7 +249,11 @@ session_is : (who : Caller) (wish : Wish) (before after : Seen) (old new : World
 session_is who wish before after old new turn p =
     changed_at who.session _ old.sessions new.sessions p.session who.session ∙ at_same who.session p.session.after (session_at old.sessions) who.session refl
 
--- what a cloud tells of which a session in hand goes well
+-- what a session of a world has in hand goes well so far, where a cloud tells its state
+abbrev pub SessionIsUntroubled : ℕ → Seen → World → Type 0
+SessionIsUntroubled session seen world = (t : CloudState) → seen.state ≡ Some t → IsUntroubled t (work_at world session)
+
+-- or it tells one, and the session goes well
 abbrev GoesWellAt : ℕ → Seen → World → Type 0
 GoesWellAt session seen world = (t : CloudState) × (seen.state ≡ Some t) × IsUntroubled t (work_at world session)
 
@@ -298,8 +303,8 @@ tells_any who before after old new a p calm c e = absurd (cc (e))
 
 -- the answer of a calm step
 answers_calmly : (who : Caller) (wish : Wish) (before after : Seen) (old new : World) (a : Answer) (p : StepsLooked who wish before after old new (Ended a))
-    → StepIsCalm who wish before after old new (Ended a) p → StepExplains who wish before after old new (Ended a) p → GoesWellAt who.session before old
-    → IsOfNone p.session.after.work a
+    → (calm : StepIsCalm who wish before after old new (Ended a) p) → StepExplains who wish before after old new (Ended a) p → GoesWellAt who.session before old
+    → IsOfNone calm.calm.after p.session.after.work a
 answers_calmly who wish before after old new a p calm explains well =
     let is = answer_untroubled who p.under p.to p.session.before p.session.after a p.session.does calm explains (untroubled_before who wish before after old new (Ended a) p calm well) in
     record { trouble = is.0; left = is.1; told = tells_any who p.under p.to p.session.before p.session.after a p.session.does calm }
@@ -315,19 +320,19 @@ rests_in session seen world rest t told = rested t (work_at world session) rest
 
 -- ---- replies
 
-refused_runs : (posture : Posture) (r : Reply) (rule : Refusal) → r ≡ reply.Refused rule → RunsWell posture r
-refused_runs posture r rule e = subst (RunsWell posture) (sym e) tt
+refused_runs : (u : CloudState) (posture : Posture) (r : Reply) (rule : Refusal) → r ≡ reply.Refused rule → RunsWell u posture r
+refused_runs u posture r rule e = subst (RunsWell u posture) (sym e) tt
 
-runs_of : (posture : Posture) (task : Task) (r : Reply) → posture ≡ Working task → DoesWell task r → RunsWell posture r
-runs_of posture task r is does = subst (λ (q : Posture). RunsWell q r) (sym is) (on r does)
+runs_of : (u : CloudState) (posture : Posture) (task : Task) (r : Reply) → posture ≡ Working task → DoesWell u task r → RunsWell u posture r
+runs_of u posture task r is does = subst (λ (q : Posture). RunsWell u q r) (sym is) (on r does)
   where
-    on : (q : Reply) → DoesWell task q → RunsWell (Working task) q
+    on : (q : Reply) → DoesWell u task q → RunsWell u (Working task) q
     on (reply.Refused rule) does = tt
     on q does = does
 
-steps_of : (posture : Posture) (r : Reply) → RunsWell posture r → StepsWell posture r
-steps_of posture reply.Called runs = tt
-steps_of posture r runs = runs
+steps_of : (u : CloudState) (posture : Posture) (r : Reply) → RunsWell u posture r → StepsWell u posture r
+steps_of u posture reply.Called runs = tt
+steps_of u posture r runs = runs
 
 -- ---- what a line asks of a session
 
@@ -350,7 +355,7 @@ has_closed k old new has =
     subst (λ (a : Acting). IsAtRest a.work) (sym (has_at k closed_session old new has k ∙ at_same k closed_session (session_at old.sessions) k refl)) closed_rests
 
 module _ (lines : List Line) (n k : ℕ) (before after : Seen) (old new : World) (r : Reply) (t : CloudState) (number : length lines + 1 ≡ n) (told : before.state ≡ Some t)
-    (stands : WorldStands lines old t) (well : SessionIsUntroubled k before old) where
+    (stands : WorldStands lines old t) (well : SessionIsUntroubled k before old) (u : CloudState) (told_after : after.state ≡ Some u) where
   abbrev Behind : Type 0
   Behind = SessionIsUntroubled k after new
 
@@ -368,37 +373,38 @@ module _ (lines : List Line) (n k : ℕ) (before after : Seen) (old new : World)
 
   -- a step that is answered, behind some that went on
   ended_well : (wish : Wish) (mid : Seen) (world : World) (a : Answer) → IsUnderWay lines world mid → (p : StepsLooked who wish mid after world new (Ended a))
-      → StepIsCalm who wish mid after world new (Ended a) p → StepExplains who wish mid after world new (Ended a) p → GoesWellAt k mid world
-      → IsSoundReply posture r → RepliesTo a p.session.after (Ok r) → RunsWell posture r
+      → (calm : StepIsCalm who wish mid after world new (Ended a) p) → StepExplains who wish mid after world new (Ended a) p → GoesWellAt k mid world
+      → IsSoundReply posture r → RepliesTo a p.session.after (Ok r) → RunsWell u posture r
   ended_well wish mid world a on p calm explains still sound replies =
       let own = steps_own lines who wish mid after world new (Ended a) (sym number) on p in
       let said = answers_as who p.under p.to (session_at world.sessions k).work p.session.after.work (standing lines k) a own.work (on.goes.acts k).work in
-      runs_of posture said.task r said.posture
-      (answer_well said.task a p.session.after r said.of (subst (λ (q : Posture). IsSoundReply q r) said.posture sound) replies
-      (answers_calmly who wish mid after world new a p calm explains still))
+      runs_of u posture said.task r said.posture
+      (answer_well u said.task a p.session.after r said.of (subst (λ (q : Posture). IsSoundReply q r) said.posture sound) replies
+      (subst (λ (x : CloudState). IsOfNone x p.session.after.work a)
+      (state_is calm.calm.after u (sym (p.look_after.stays calm.calm.after calm.calm.left) ∙ told_after)) (answers_calmly who wish mid after world new a p calm explains still)))
 
   not_done : (why : Refused) → Declines why before after old new (Ok r) → Behind × ((rule : Refusal) × (r ≡ reply.Refused rule))
   not_done (refused.Rule rule) h = let is : r ≡ reply.Refused rule = cc (h.reply) in (unchanged k before after old new h.seen h.world well, (rule, is))
   not_done refused.Memory h = absurd (cc (h.reply))
 
   makes_well : (wish : Wish) (h : MakesStep n k wish before after old new (Ok r)) → EachMade StepIsCalm n k wish before after old new (Ok r) h
-      → EachMade StepExplains n k wish before after old new (Ok r) h → IsSoundReply posture r → Behind × StepsWell posture r
+      → EachMade StepExplains n k wish before after old new (Ok r) h → IsSoundReply posture r → Behind × StepsWell u posture r
   makes_well wish (inl refuses) calm explains sound =
       let is = not_done _ refuses.declines in
-      (is.0, steps_of posture r (refused_runs posture r is.1.0 is.1.1))
+      (is.0, steps_of u posture r (refused_runs u posture r is.1.0 is.1.1))
   makes_well wish (inr (inl step)) calm explains sound = on step.turn step.steps step.replies calm explains
     where
       on : (turn : Turn Answer) (p : StepsLooked who wish before after old new turn) → RepliesTurn turn p.session.after (Ok r) → StepIsCalm who wish before after old new turn p
-          → StepExplains who wish before after old new turn p → Behind × StepsWell posture r
-      on More p e calm explains = (goes_in k after new (goes_calmly who wish before after old new p calm explains here), let is : r ≡ reply.Called = cc in subst (StepsWell posture) (sym is) tt)
+          → StepExplains who wish before after old new turn p → Behind × StepsWell u posture r
+      on More p e calm explains = (goes_in k after new (goes_calmly who wish before after old new p calm explains here), let is : r ≡ reply.Called = cc in subst (StepsWell u posture) (sym is) tt)
       on (Ended a) p e calm explains =
-          (rests_in k after new (answers_rest who wish before after old new a p), steps_of posture r (ended_well wish before old a way p calm explains here sound e))
+          (rests_in k after new (answers_rest who wish before after old new a p), steps_of u posture r (ended_well wish before old a way p calm explains here sound e))
       on (Stopped q) p e calm explains = absurd (no_stop _ p.under p.to p.session.before p.session.after q p.session.does)
   makes_well wish (inr (inr memory)) calm explains sound = absurd (no_memory r memory.0)
 
   runs_well : (h : Runs n k before after old new (Ok r)) → EachRun StepIsCalm n k before after old new (Ok r) h → EachRun StepExplains n k before after old new (Ok r) h
-      → IsSoundReply posture r → Behind × RunsWell posture r
-  runs_well (inl refuses) calm explains sound = let is = not_done _ refuses.declines in (is.0, refused_runs posture r is.1.0 is.1.1)
+      → IsSoundReply posture r → Behind × RunsWell u posture r
+  runs_well (inl refuses) calm explains sound = let is = not_done _ refuses.declines in (is.0, refused_runs u posture r is.1.0 is.1.1)
   runs_well (inr (inl run)) calm explains sound =
       let c = run.comes in (
         rests_in k after new (answers_rest who Plain c.mid after c.world new run.answer c.steps),
@@ -433,14 +439,14 @@ module _ (lines : List Line) (n k : ℕ) (before after : Seen) (old new : World)
   -- ---- begins
 
   abbrev OpWell : Op → Reply → Type 0
-  OpWell (op.Open client) q = BeginsWell Opening q
-  OpWell op.Close q = BeginsWell Closing q
-  OpWell op.Renew q = BeginsWell Renewing q
-  OpWell op.Commit q = BeginsWell (Committing []) q
-  OpWell (op.Read tree key) q = BeginsWell (Reading tree key) q
-  OpWell (op.Scan tree from to) q = (first last : List ℕ) → BeginsWell (Scanning tree first last) q
-  OpWell (op.Page tree page) q = BeginsWell (Paging tree page) q
-  OpWell (op.Tree tree) q = BeginsWell (Folding tree) q
+  OpWell (op.Open client) q = BeginsWell u Opening q
+  OpWell op.Close q = BeginsWell u Closing q
+  OpWell op.Renew q = BeginsWell u Renewing q
+  OpWell op.Commit q = BeginsWell u (Committing []) q
+  OpWell (op.Read tree key) q = BeginsWell u (Reading tree key) q
+  OpWell (op.Scan tree from to) q = (first last : List ℕ) → BeginsWell u (Scanning tree first last) q
+  OpWell (op.Page tree page) q = BeginsWell u (Paging tree page) q
+  OpWell (op.Tree tree) q = BeginsWell u (Folding tree) q
 
   op_begun : (o : Op) → OpWell o reply.Begun
   op_begun (op.Open client) = tt
@@ -462,7 +468,7 @@ module _ (lines : List Line) (n k : ℕ) (before after : Seen) (old new : World)
   op_refused (op.Page tree page) rule = tt
   op_refused (op.Tree tree) rule = tt
 
-  memory_at_once : (o : Op) (q : Trouble) → IsAtOnce o (answer.Trouble q) → q ≡ trouble.Memory
+  memory_at_once : (o : Op) (q : Trouble) → IsAtOnce u o (answer.Trouble q) → q ≡ trouble.Memory
   memory_at_once (op.Open client) q e = e
   memory_at_once op.Close q e = e
   memory_at_once op.Renew q e = e
@@ -472,15 +478,15 @@ module _ (lines : List Line) (n k : ℕ) (before after : Seen) (old new : World)
   memory_at_once (op.Page tree page) q e = e
   memory_at_once (op.Tree tree) q e = e
 
-  value_begins : (tree : ℕ) (key : List ℕ) (value : Option (List ℕ)) → r ≡ value_reply value → BeginsWell (Reading tree key) r
-  value_begins tree key None e = subst (BeginsWell (Reading tree key)) (sym e) tt
-  value_begins tree key (Some payload) e = subst (BeginsWell (Reading tree key)) (sym e) tt
+  value_begins : (tree : ℕ) (key : List ℕ) (value : Option (List ℕ)) → r ≡ value_reply value → BeginsWell u (Reading tree key) r
+  value_begins tree key None e = subst (BeginsWell u (Reading tree key)) (sym e) tt
+  value_begins tree key (Some payload) e = subst (BeginsWell u (Reading tree key)) (sym e) tt
 
-  op_answered : (o : Op) (a : Answer) (left : Acting) → IsAtOnce o a → RepliesTo a left (Ok r) → OpWell o r
+  op_answered : (o : Op) (a : Answer) (left : Acting) → IsAtOnce u o a → RepliesTo a left (Ok r) → OpWell o r
   op_answered o (answer.Trouble q) left is e = absurd ((replies_to (answer.Trouble q) left r e).0.1 (memory_at_once o q is))
-  op_answered op.Commit (answer.Commit c) left is e = subst (BeginsWell (Committing [])) (sym (commit_is c r e).0) is
+  op_answered op.Commit (answer.Commit c) left is e = subst (BeginsWell u (Committing [])) (sym (commit_is c r e).0) is
   op_answered (op.Read tree key) answer.Value left is e = value_begins tree key (value_of left) e
-  op_answered (op.Scan tree from to) answer.Scan left is e = λ first last. subst (BeginsWell (Scanning tree first last)) (sym e) tt
+  op_answered (op.Scan tree from to) answer.Scan left is e = λ first last. subst (BeginsWell u (Scanning tree first last)) (sym e) tt
   op_answered (op.Open client) a left is e = absurd is
   op_answered op.Close a left is e = absurd is
   op_answered op.Renew a left is e = absurd is
@@ -502,7 +508,7 @@ module _ (lines : List Line) (n k : ℕ) (before after : Seen) (old new : World)
 
       on : (begun : Result Begun Refused) → Begins o (f k) c.after begun → RepliesBegun begun c.after (Ok r) → OpWell o r
       on (Ok BegunWorking) does e = let is : r ≡ reply.Begun = cc (e) in subst (OpWell o) (sym is) (op_begun o)
-      on (Ok (Answered a)) does e = op_answered o a c.after (begins_at_once stands.holds.book stands.holds.order t f k c.after stands.holds.stand o a right does) e
+      on (Ok (Answered a)) does e = op_answered o a c.after (subst (λ (x : CloudState). IsAtOnce x o a) (state_is t u (sym told ∙ (sym (ap (λ (z : Seen). z.state) seen) ∙ told_after))) (begins_at_once stands.holds.book stands.holds.order t f k c.after stands.holds.stand o a right does)) e
       on (Err (refused.Rule rule)) does e = let is : r ≡ reply.Refused rule = cc (e) in subst (OpWell o) (sym is) (op_refused o rule)
       on (Err refused.Memory) does e = absurd (cc (e))
 
@@ -539,7 +545,8 @@ module _ (lines : List Line) (n k : ℕ) (before after : Seen) (old new : World)
 
 -- ---- a settling
 
-module _ (lines : List Line) (n : ℕ) (before after : Seen) (old new : World) (r : Reply) (t : CloudState) (told : before.state ≡ Some t) (sound : IsSoundReply (standing lines 0).posture r) where
+module _ (lines : List Line) (n : ℕ) (before after : Seen) (old new : World) (r : Reply) (t u : CloudState) (told : before.state ≡ Some t)
+    (told_after : after.state ≡ Some u) (sound : IsSoundReply (standing lines 0).posture r) where
   abbrev first : Caller
   first = settler n
 
@@ -557,11 +564,11 @@ module _ (lines : List Line) (n : ℕ) (before after : Seen) (old new : World) (
   unsettled_is (trouble.Loop page) e = (cc (e), λ m. absurd (cc (m)))
   unsettled_is (trouble.Exhausted what) e = (cc (e), λ m. absurd (cc (m)))
 
-  settled_as : (w : Work) (a : Answer) → IsOfNone w a → RepliesSettled a (Ok r) → SettlesWell r
-  settled_as w (answer.Settled x) none e = let is : r ≡ reply.Settled x.calls = cc (e) in subst SettlesWell (sym is) tt
+  settled_as : (w : Work) (a : Answer) → IsOfNone u w a → RepliesSettled a (Ok r) → SettlesWell u r
+  settled_as w (answer.Settled x) none e = let is : r ≡ reply.Settled x.calls = cc (e) in subst (SettlesWell u) (sym is) tt
   settled_as w (answer.Trouble q) none e =
       let is = unsettled_is q e in
-      subst SettlesWell (sym is.0) (settled_spent q (subst (IsSoundReply (standing lines 0).posture) is.0 sound) (none.trouble q refl) is.1)
+      subst (SettlesWell u) (sym is.0) (settled_spent u q (subst (IsSoundReply (standing lines 0).posture) is.0 sound) (none.trouble q refl) is.1)
   settled_as w a none e = absurd e
 
   begun_untroubled : (begun : World) → Has 0 settling_session old begun → IsAtRest (work_at begun 0)
@@ -570,28 +577,30 @@ module _ (lines : List Line) (n : ℕ) (before after : Seen) (old new : World) (
       (at_rest settling_session.work refl refl)
 
   pub settles_well : (h : Settles n before after old new (Ok r)) → EachSettling StepIsCalm n before after old new (Ok r) h → EachSettling StepExplains n before after old new (Ok r) h
-      → SessionIsUntroubled 0 after new × SettlesWell r
+      → SessionIsUntroubled 0 after new × SettlesWell u r
   settles_well (inr memory) calm explains = absurd (no_memory r memory.0)
   settles_well (inl h) calm explains = on h.settles calm explains
     where
       on : (s : SettlesOn first before after h.begun new (Ok r)) → EachSettlingOn StepIsCalm first before after h.begun new (Ok r) s
-          → EachSettlingOn StepExplains first before after h.begun new (Ok r) s → SessionIsUntroubled 0 after new × SettlesWell r
+          → EachSettlingOn StepExplains first before after h.begun new (Ok r) s → SessionIsUntroubled 0 after new × SettlesWell u r
       on (inr memory) calm explains = absurd (no_memory r memory.0)
       on (inl s) calm explains =
           let c = s.comes in (
             rests_in 0 after new (has_closed 0 s.left new s.closes),
             settled_as c.steps.session.after.work s.answer
+                (subst (λ (x : CloudState). IsOfNone x c.steps.session.after.work s.answer)
+                (state_is calm.1.calm.after u (sym (c.steps.look_after.stays calm.1.calm.after calm.1.calm.left) ∙ told_after))
                 (answers_calmly first Plain c.mid after c.world s.left s.answer c.steps calm.1 explains.1
-                (went_calmly first before h.begun c.mid c.world c.went calm.0 explains.0 (t, told, rested t (work_at h.begun 0) (begun_untroubled h.begun h.begins))))
+                (went_calmly first before h.begun c.mid c.world c.went calm.0 explains.0 (t, told, rested t (work_at h.begun 0) (begun_untroubled h.begun h.begins)))))
                 s.replies,
           )
 
 -- ---- every line
 
 module _ (lines : List Line) (n : ℕ) (before after : Seen) (old new : World) (r : Reply) (t : CloudState) (number : length lines + 1 ≡ n) (told : before.state ≡ Some t)
-    (stands : WorldStands lines old t) where
+    (stands : WorldStands lines old t) (u : CloudState) (told_after : after.state ≡ Some u) where
   abbrev Well : Event → Type 0
-  Well e = SessionIsUntroubled (session_of e) after new × RepliesWell e (standing lines (session_of e)).posture r
+  Well e = SessionIsUntroubled (session_of e) after new × RepliesWell u e (standing lines (session_of e)).posture r
 
   -- what is asked is answered, each step of it calm and explained
   abbrev AnswersCalmly : Asked → Type 0
@@ -601,58 +610,58 @@ module _ (lines : List Line) (n : ℕ) (before after : Seen) (old new : World) (
       → EachAsked StepExplains n asked before after old new (Ok r) h → IsSoundFor e (standing lines (session_of e)).posture r
       → SessionIsUntroubled (session_of e) before old → Well e
   asked_well (event.Open k client) asked asks h calm explains sound well =
-      request_well lines n k before after old new r t number told stands well (BeginsWell Opening) (λ rule. tt) (IsOpening client) asked asks h calm explains
-      (λ request is does. let d = as_asked lines n k before after old new r t number told stands well request (Begin (op.Open client)) (ap (λ q. Ok q) is.1) does in begins_well lines n k before after old new r t number told stands well (op.Open client) is.0 d.0.0.seen d.0.1)
+      request_well lines n k before after old new r t number told stands well u told_after (BeginsWell u Opening) (λ rule. tt) (IsOpening client) asked asks h calm explains
+      (λ request is does. let d = as_asked lines n k before after old new r t number told stands well u told_after request (Begin (op.Open client)) (ap (λ q. Ok q) is.1) does in begins_well lines n k before after old new r t number told stands well u told_after (op.Open client) is.0 d.0.0.seen d.0.1)
   asked_well (event.Close k) asked asks h calm explains sound well =
-      request_well lines n k before after old new r t number told stands well (BeginsWell Closing) (λ rule. tt) (λ request. request ≡ Ok (Begin op.Close)) asked asks h calm explains
-      (λ request is does. let d = as_asked lines n k before after old new r t number told stands well request (Begin op.Close) is does in begins_well lines n k before after old new r t number told stands well op.Close tt d.0.0.seen d.0.1)
+      request_well lines n k before after old new r t number told stands well u told_after (BeginsWell u Closing) (λ rule. tt) (λ request. request ≡ Ok (Begin op.Close)) asked asks h calm explains
+      (λ request is does. let d = as_asked lines n k before after old new r t number told stands well u told_after request (Begin op.Close) is does in begins_well lines n k before after old new r t number told stands well u told_after op.Close tt d.0.0.seen d.0.1)
   asked_well (event.Renew k) asked asks h calm explains sound well =
-      request_well lines n k before after old new r t number told stands well (BeginsWell Renewing) (λ rule. tt) (λ request. request ≡ Ok (Begin op.Renew)) asked asks h calm explains
-      (λ request is does. let d = as_asked lines n k before after old new r t number told stands well request (Begin op.Renew) is does in begins_well lines n k before after old new r t number told stands well op.Renew tt d.0.0.seen d.0.1)
+      request_well lines n k before after old new r t number told stands well u told_after (BeginsWell u Renewing) (λ rule. tt) (λ request. request ≡ Ok (Begin op.Renew)) asked asks h calm explains
+      (λ request is does. let d = as_asked lines n k before after old new r t number told stands well u told_after request (Begin op.Renew) is does in begins_well lines n k before after old new r t number told stands well u told_after op.Renew tt d.0.0.seen d.0.1)
   asked_well (event.Commit k) asked asks h calm explains sound well =
-      request_well lines n k before after old new r t number told stands well (BeginsWell (Committing [])) (λ rule. tt) (λ request. request ≡ Ok (Begin op.Commit)) asked asks h calm explains
-      (λ request is does. let d = as_asked lines n k before after old new r t number told stands well request (Begin op.Commit) is does in begins_well lines n k before after old new r t number told stands well op.Commit tt d.0.0.seen d.0.1)
+      request_well lines n k before after old new r t number told stands well u told_after (BeginsWell u (Committing [])) (λ rule. tt) (λ request. request ≡ Ok (Begin op.Commit)) asked asks h calm explains
+      (λ request is does. let d = as_asked lines n k before after old new r t number told stands well u told_after request (Begin op.Commit) is does in begins_well lines n k before after old new r t number told stands well u told_after op.Commit tt d.0.0.seen d.0.1)
   asked_well (event.Read k tree key) asked asks h calm explains sound well =
-      request_well lines n k before after old new r t number told stands well (BeginsWell (Reading tree key)) (λ rule. tt) (IsReading tree key) asked asks h calm explains
-      (λ request is does. let d = as_asked lines n k before after old new r t number told stands well request (Begin (op.Read tree key)) (ap (λ q. Ok q) is.2) does in begins_well lines n k before after old new r t number told stands well (op.Read tree key) is.0 d.0.0.seen d.0.1)
+      request_well lines n k before after old new r t number told stands well u told_after (BeginsWell u (Reading tree key)) (λ rule. tt) (IsReading tree key) asked asks h calm explains
+      (λ request is does. let d = as_asked lines n k before after old new r t number told stands well u told_after request (Begin (op.Read tree key)) (ap (λ q. Ok q) is.2) does in begins_well lines n k before after old new r t number told stands well u told_after (op.Read tree key) is.0 d.0.0.seen d.0.1)
   asked_well (event.Scan k tree from to) asked asks h calm explains sound well =
-      request_well lines n k before after old new r t number told stands well (BeginsWell (Scanning tree from to)) (λ rule. tt) (IsScanning tree from to) asked asks h calm explains
+      request_well lines n k before after old new r t number told stands well u told_after (BeginsWell u (Scanning tree from to)) (λ rule. tt) (IsScanning tree from to) asked asks h calm explains
       (λ request is does.
-      let d = as_asked lines n k before after old new r t number told stands well request (Begin (op.Scan tree (bound_of from) (bound_of to))) (ap (λ q. Ok q) is.3) does in
-      let w = begins_well lines n k before after old new r t number told stands well (op.Scan tree (bound_of from) (bound_of to)) is.0 d.0.0.seen d.0.1 in
+      let d = as_asked lines n k before after old new r t number told stands well u told_after request (Begin (op.Scan tree (bound_of from) (bound_of to))) (ap (λ q. Ok q) is.3) does in
+      let w = begins_well lines n k before after old new r t number told stands well u told_after (op.Scan tree (bound_of from) (bound_of to)) is.0 d.0.0.seen d.0.1 in
       (w.0, w.1 from to))
   asked_well (event.Page k tree page) asked asks h calm explains sound well =
-      request_well lines n k before after old new r t number told stands well (BeginsWell (Paging tree page)) (λ rule. tt) (IsPaging tree page) asked asks h calm explains
-      (λ request is does. let d = as_asked lines n k before after old new r t number told stands well request (Begin (op.Page tree page)) (ap (λ q. Ok q) is.2) does in begins_well lines n k before after old new r t number told stands well (op.Page tree page) (is.0, is.1) d.0.0.seen d.0.1)
+      request_well lines n k before after old new r t number told stands well u told_after (BeginsWell u (Paging tree page)) (λ rule. tt) (IsPaging tree page) asked asks h calm explains
+      (λ request is does. let d = as_asked lines n k before after old new r t number told stands well u told_after request (Begin (op.Page tree page)) (ap (λ q. Ok q) is.2) does in begins_well lines n k before after old new r t number told stands well u told_after (op.Page tree page) (is.0, is.1) d.0.0.seen d.0.1)
   asked_well (event.Tree k tree) asked asks h calm explains sound well =
-      request_well lines n k before after old new r t number told stands well (BeginsWell (Folding tree)) (λ rule. tt) (IsFolding tree) asked asks h calm explains
-      (λ request is does. let d = as_asked lines n k before after old new r t number told stands well request (Begin (op.Tree tree)) (ap (λ q. Ok q) is.1) does in begins_well lines n k before after old new r t number told stands well (op.Tree tree) is.0 d.0.0.seen d.0.1)
+      request_well lines n k before after old new r t number told stands well u told_after (BeginsWell u (Folding tree)) (λ rule. tt) (IsFolding tree) asked asks h calm explains
+      (λ request is does. let d = as_asked lines n k before after old new r t number told stands well u told_after request (Begin (op.Tree tree)) (ap (λ q. Ok q) is.1) does in begins_well lines n k before after old new r t number told stands well u told_after (op.Tree tree) is.0 d.0.0.seen d.0.1)
   asked_well (event.Insert k tree key payload) asked asks h calm explains sound well =
-      request_well lines n k before after old new r t number told stands well (λ q. Unit {0}) (λ rule. tt) (IsNoted tree (IsInsert key payload)) asked asks h calm explains
-      (λ request is does. noted_well lines n k before after old new r t number told stands well tree (IsInsert key payload) request is does)
+      request_well lines n k before after old new r t number told stands well u told_after (λ q. Unit {0}) (λ rule. tt) (IsNoted tree (IsInsert key payload)) asked asks h calm explains
+      (λ request is does. noted_well lines n k before after old new r t number told stands well u told_after tree (IsInsert key payload) request is does)
   asked_well (event.Update k tree key payload) asked asks h calm explains sound well =
-      request_well lines n k before after old new r t number told stands well (λ q. Unit {0}) (λ rule. tt) (IsNoted tree (IsUpdate key payload)) asked asks h calm explains
-      (λ request is does. noted_well lines n k before after old new r t number told stands well tree (IsUpdate key payload) request is does)
+      request_well lines n k before after old new r t number told stands well u told_after (λ q. Unit {0}) (λ rule. tt) (IsNoted tree (IsUpdate key payload)) asked asks h calm explains
+      (λ request is does. noted_well lines n k before after old new r t number told stands well u told_after tree (IsUpdate key payload) request is does)
   asked_well (event.Delete k tree key) asked asks h calm explains sound well =
-      request_well lines n k before after old new r t number told stands well (λ q. Unit {0}) (λ rule. tt) (IsNoted tree (IsDelete key)) asked asks h calm explains
-      (λ request is does. noted_well lines n k before after old new r t number told stands well tree (IsDelete key) request is does)
+      request_well lines n k before after old new r t number told stands well u told_after (λ q. Unit {0}) (λ rule. tt) (IsNoted tree (IsDelete key)) asked asks h calm explains
+      (λ request is does. noted_well lines n k before after old new r t number told stands well u told_after tree (IsDelete key) request is does)
   asked_well (event.Abort k) asked asks h calm explains sound well =
-      request_well lines n k before after old new r t number told stands well (λ q. Unit {0}) (λ rule. tt) (λ request. request ≡ Ok Abort) asked asks h calm explains
-      (λ request is does. (aborts_well lines n k before after old new r t number told stands well (as_asked lines n k before after old new r t number told stands well request Abort is does).0.0.seen
-      (as_asked lines n k before after old new r t number told stands well request Abort is does).0.1, tt))
+      request_well lines n k before after old new r t number told stands well u told_after (λ q. Unit {0}) (λ rule. tt) (λ request. request ≡ Ok Abort) asked asks h calm explains
+      (λ request is does. (aborts_well lines n k before after old new r t number told stands well u told_after (as_asked lines n k before after old new r t number told stands well u told_after request Abort is does).0.0.seen
+      (as_asked lines n k before after old new r t number told stands well u told_after request Abort is does).0.1, tt))
   asked_well (event.Step k wish) asked asks h calm explains sound well =
-      request_well lines n k before after old new r t number told stands well (StepsWell (standing lines k).posture) (λ rule. tt) (IsStep wish) asked asks h calm explains
+      request_well lines n k before after old new r t number told stands well u told_after (StepsWell u (standing lines k).posture) (λ rule. tt) (IsStep wish) asked asks h calm explains
       (λ request is does.
-      let d = as_asked lines n k before after old new r t number told stands well request (Step wish) (ap (λ q. Ok q) is) does in
-      makes_well lines n k before after old new r t number told stands well wish d.0 d.1 d.2 sound)
+      let d = as_asked lines n k before after old new r t number told stands well u told_after request (Step wish) (ap (λ q. Ok q) is) does in
+      makes_well lines n k before after old new r t number told stands well u told_after wish d.0 d.1 d.2 sound)
   asked_well (event.Run k) asked asks h calm explains sound well =
-      request_well lines n k before after old new r t number told stands well (RunsWell (standing lines k).posture) (λ rule. tt) (λ request. request ≡ Ok Run) asked asks h calm explains
+      request_well lines n k before after old new r t number told stands well u told_after (RunsWell u (standing lines k).posture) (λ rule. tt) (λ request. request ≡ Ok Run) asked asks h calm explains
       (λ request is does.
-      let d = as_asked lines n k before after old new r t number told stands well request Run is does in
-      runs_well lines n k before after old new r t number told stands well d.0 d.1 d.2 sound)
+      let d = as_asked lines n k before after old new r t number told stands well u told_after request Run is does in
+      runs_well lines n k before after old new r t number told stands well u told_after d.0 d.1 d.2 sound)
   asked_well (event.Crash k done) asked asks h calm explains sound well =
-      request_well lines n k before after old new r t number told stands well (λ q. Unit {0}) (λ rule. tt) (λ request. request ≡ Ok (Crash done)) asked asks h calm explains
-      (λ request is does. (crash_well lines n k before after old new r t number told stands well done (as_asked lines n k before after old new r t number told stands well request (Crash done) is does).0, tt))
+      request_well lines n k before after old new r t number told stands well u told_after (λ q. Unit {0}) (λ rule. tt) (λ request. request ≡ Ok (Crash done)) asked asks h calm explains
+      (λ request is does. (crash_well lines n k before after old new r t number told stands well u told_after done (as_asked lines n k before after old new r t number told stands well u told_after request (Crash done) is does).0, tt))
   asked_well (event.Wait ticks) asked asks h calm explains sound well = on (subst (λ z. Answers n z before after old new (Ok r)) asks h)
     where
       on : Answers n (Wait ticks) before after old new (Ok r) → Well (event.Wait ticks)
@@ -672,11 +681,14 @@ module _ (lines : List Line) (n : ℕ) (before after : Seen) (old new : World) (
       (goes_in 0 after new (t, reports.looked.stays t told, subst (λ (w : World). IsUntroubled t (work_at w 0)) (sym reports.world) (well t told)), tt)
   asked_well event.Settle asked asks h calm explains sound well =
       let d = subst AnswersCalmly asks (h, calm, explains) in
-      settles_well lines n before after old new r t told sound d.0 d.1 d.2
+      settles_well lines n before after old new r t u told told_after sound d.0 d.1 d.2
 
 pub well_after : (n : ℕ) (e : Event) (before after : Seen) (old new : World) (result : Result Reply WorldFault) → AnswersWell n e before after old new result
-well_after n e before after old new (Ok r) = λ lines t number told stands handled calm well.
-    asked_well lines n before after old new r t number told stands e handled.asked handled.asks handled.answers calm
+well_after n e before after old new (Ok r) = λ lines t u number told told_after stands handled calm well.
+    let is =
+    asked_well lines n before after old new r t number told stands u told_after e handled.asked handled.asks handled.answers calm
     (explained n e before after old new (Ok r) lines t number told stands handled)
-    (sound_after n e before after old new (Ok r) handled lines t number told stands) well
+    (sound_after n e before after old new (Ok r) handled lines t number told stands)
+    (λ x told_x. subst (λ (y : CloudState). IsUntroubled y (work_at old (session_of e))) (state_is t x (sym told ∙ told_x)) well) in
+    (is.0 u told_after, is.1)
 well_after n e before after old new (Err fault) = tt

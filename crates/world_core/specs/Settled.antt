@@ -22,10 +22,11 @@ use Rattle.report_types.specs.declared.entry.Entry.{Entry}
 use Rattle.session_facts.specs.Answers.{IsSoundReply}
 use Rattle.session_facts.specs.Facts.{session_at, SomeBookStands}
 use Rattle.session_facts.specs.Sessions.Calls.{reply_of}
-use Rattle.session_facts.specs.Sessions.Untroubled.{GivesBackLasting, IsSpent}
+use Rattle.session_facts.specs.Sessions.Spent.{IsOfSettling}
+use Rattle.session_facts.specs.Sessions.Untroubled.{GivesBackLasting, IsSpent, IsUntroubled}
 use Rattle.session_facts.specs.Settled.Bound.{IsWithin}
 use Rattle.world_audit.specs.Counts.{heads_upto, AreWaiting}
-use Rattle.world_core.specs.Calm.{StepIsCalm, SessionIsUntroubled, SettlesWell}
+use Rattle.world_core.specs.Calm.{StepIsCalm, SettlesWell, work_at}
 use Rattle.world_core.specs.EachStep.{StepFact, EachStep}
 use Rattle.world_core.specs.Explained.{StepExplains}
 use Rattle.world_core.specs.Handled.{Handled}
@@ -91,14 +92,14 @@ SettledLeaves n calls before after old new handled = EachStep StepDelivers n eve
 -- its last value
 abbrev pub AnswersSettled : CloudState → Seen → Reply → Type 0
 AnswersSettled t after (reply.Settled calls) = SettledWithin t after calls
-AnswersSettled t after (reply.NotSettled k) = IsSpent k
+AnswersSettled t after (reply.NotSettled k) = (u : CloudState) × (after.state ≡ Some u) × IsSpent IsOfSettling u k
 AnswersSettled t after r = ⊥
 
 -- It shows no trouble that only damage could cause, each of its steps explains what it brought, and where each was calm it comes to its end.
 pub record SettlesRightly (n : ℕ) (before after : Seen) (old new : World) (r : Reply) (handled : Handled n event.Settle before after old new (Ok r)) : Type 0 where
   pub sound : (posture : Posture) → IsSoundReply posture r
   pub explains : EachStep StepExplains n event.Settle before after old new (Ok r) handled
-  pub calm : EachStep StepIsCalm n event.Settle before after old new (Ok r) handled → SessionIsUntroubled 0 after new × SettlesWell r
+  pub calm : EachStep StepIsCalm n event.Settle before after old new (Ok r) handled → (u : CloudState) → after.state ≡ Some u → IsUntroubled u (work_at new 0) × SettlesWell u r
 
 -- Whatever lines led to a world and a cloud for which some book stands before a settling, however it was handled: where in no step a message was
 -- withheld a settling that came to its end left nothing; where no lock was held and every step went well it came to its end so; and it was right.

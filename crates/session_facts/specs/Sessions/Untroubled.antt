@@ -16,6 +16,7 @@ use Rattle.db_base.specs.declared.trouble.CommitAnswer.TheVariants.{Committed, N
 use Rattle.db_base.specs.declared.trouble.Counter.{Counter}
 use Rattle.db_base.specs.declared.trouble.Trouble.{Trouble}
 use Rattle.db_base.specs.declared.trouble.Trouble.TheVariants as trouble
+use Rattle.session_facts.specs.PageCheckpoints.Checkpoint.{IsNamedOne}
 use Rattle.session_facts.specs.Sessions.Calls.{GivesLateBack, reply_of}
 use Rattle.session_facts.specs.Sessions.Explaining.{left_in, trouble_in}
 use Rattle.session_facts.specs.Sessions.Spent.{IsOfCommit, IsOfPaging, IsSpentIn}
@@ -60,10 +61,10 @@ abbrev pub IsSpent : (Counter → Type 0) → CloudState → Trouble → Type 0
 IsSpent Own t (trouble.Exhausted what) = Own what × IsSpentIn t what
 IsSpent Own t k = ⊥
 
--- or the page that was named is absent or no leaf
+-- or the page that was named is absent or no leaf, unless it is page 1
 abbrev pub IsSpentOrOf : ℕ → CloudState → Trouble → Type 0
-IsSpentOrOf page t (trouble.Absent named) = named ≡ page
-IsSpentOrOf page t (trouble.NotALeaf named) = named ≡ page
+IsSpentOrOf page t (trouble.Absent named) = IsNamedOne page named
+IsSpentOrOf page t (trouble.NotALeaf named) = IsNamedOne page named
 IsSpentOrOf page t k = IsSpent IsOfPaging t k
 
 -- it is committed, unless a counter stands at its last value

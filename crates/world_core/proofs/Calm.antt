@@ -647,8 +647,11 @@ module _ (lines : List Line) (n : ℕ) (before after : Seen) (old new : World) (
       (λ request is does. noted_well lines n k before after old new r t number told stands well u told_after tree (IsDelete key) request is does)
   asked_well (event.Abort k) asked asks h calm explains sound well =
       request_well lines n k before after old new r t number told stands well u told_after (λ q. Unit {0}) (λ rule. tt) (λ request. request ≡ Ok Abort) asked asks h calm explains
-      (λ request is does. (aborts_well lines n k before after old new r t number told stands well u told_after (as_asked lines n k before after old new r t number told stands well u told_after request Abort is does).0.0.seen
-      (as_asked lines n k before after old new r t number told stands well u told_after request Abort is does).0.1, tt))
+      (λ request is does. (
+        aborts_well lines n k before after old new r t number told stands well u told_after (as_asked lines n k before after old new r t number told stands well u told_after request Abort is does).0.0.seen
+            (as_asked lines n k before after old new r t number told stands well u told_after request Abort is does).0.1,
+        tt,
+      ))
   asked_well (event.Step k wish) asked asks h calm explains sound well =
       request_well lines n k before after old new r t number told stands well u told_after (StepsWell u (standing lines k).posture) (λ rule. tt) (IsStep wish) asked asks h calm explains
       (λ request is does.

@@ -12,8 +12,6 @@ use Rattle.commit_writes.specs.Writing.{Writing, send_ask, delete_ask as commit_
 use Rattle.commit_writes.specs.declared.stage.Stage.{Stage as Writes_at}
 use Rattle.commit_writes.specs.declared.stage.Stage.TheVariants as writes
 use Rattle.db_base.specs.declared.names.ObjName.TheVariants as object
-use Rattle.leaf_fold.specs.Folding.{folding_ask}
-use Rattle.leaf_fold.specs.declared.folding.Folding.{Folding}
 use Rattle.log_codec.specs.declared.record.AtomicRec.{AtomicRec}
 use Rattle.page_ckpt.specs.Paging.{Paging, ask_at, paging_ask, under, delete_next, right_name, home_name}
 use Rattle.page_ckpt.specs.declared.stage.Stage.{Stage}
@@ -25,8 +23,7 @@ use Rattle.tree_moves.specs.Work.{delete_ask, release_ask, work_ask}
 use Rattle.tree_moves.specs.declared.work.Work.{Work}
 use Rattle.tree_moves.specs.declared.work.Work.TheVariants as work
 use Rattle.tree_parts.specs.Placing.{put_in_hand}
-use Rattle.tree_parts.specs.declared.placing.Placing.{Placing}
-use Rattle.tree_rising.specs.Rising.{rising_ask, last_ask}
+use Rattle.tree_rising.specs.Rising.{last_ask}
 use Rattle.tree_rising.specs.declared.rising.Rising.{Rising}
 
 module _ (held : List Claim) (now : ℕ) where

@@ -24,7 +24,7 @@ use Rattle.report_types.specs.declared.entry.Entry.{Entry}
 use Rattle.session_facts.specs.Openings.Opening.{KnowsOpening, leases_of_recovery}
 use Rattle.session_facts.specs.PageCheckpoints.Checkpoint.{KnowsPaging, leases_of_paging}
 use Rattle.session_facts.specs.Sessions.Explaining.{trouble_of_recovery, trouble_of_making, trouble_of_part, MeetsNext, ReceivesLate}
-use Rattle.session_facts.specs.Settlings.Settling.{KnowsAtWork, leases_at_work}
+use Rattle.session_facts.specs.Settlings.Settling.{KnowsAtWork}
 use Rattle.session_facts.specs.TreeCheckpoints.Checkpoint.{KnowsMaking, leases_of_making}
 use Rattle.session_facts.proofs.Openings.Late.{GivesLateBack, recovery_late}
 use Rattle.session_facts.proofs.Openings.Showing.{recovery_shows}
